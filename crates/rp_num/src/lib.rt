@@ -1,0 +1,23 @@
+//! The types and exact numbers that every crate of the suite shares.
+#![tactic(auto)]
+
+mod list;
+
+pub use list::Seq;
+use std::alloc::{AllocError, AllocFailed};
+
+/// Memory ran out. Nothing else is ever reported as this.
+#[derive(Clone, Copy, Debug, PartialEq, Eq)]
+pub struct NoMemory;
+
+impl From<AllocError> for NoMemory {
+    fn from(_error: AllocError) -> NoMemory {
+        NoMemory
+    }
+}
+
+impl<T: Drop> From<AllocFailed<T>> for NoMemory {
+    fn from(_error: AllocFailed<T>) -> NoMemory {
+        NoMemory
+    }
+}
