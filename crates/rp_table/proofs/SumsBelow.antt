@@ -20,3 +20,8 @@ one_more_good p q k total a b so_far at_least at_most is_a is_b low high small =
   omega (arith, sum_below-more q k, mul-le 1 b a b low (omega arith)),
   omega (arith, mul-le a b 9999999 9999999 high small),
 )
+
+-- a sum of the same terms is the same
+pub sum_below-same : (f h : ℕ → ℕ) (k : ℕ) → ((i : ℕ) → i < k → f i ≡ h i) → sum_below k f ≡ sum_below k h
+sum_below-same f h zero same = refl
+sum_below-same f h (suc k) same = rw (sum_below-same f h k (λ i lt. same i (omega arith)), same k (omega arith)) refl
