@@ -1,0 +1,6 @@
+pub mod Count
+pub mod Garp
+pub mod Preference
+pub mod Ranks
+pub mod Walk
+pub mod Withheld
