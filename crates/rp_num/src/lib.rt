@@ -2,8 +2,10 @@
 #![tactic(auto)]
 
 mod list;
+mod print;
 
 pub use list::Seq;
+pub use print::{print_i128, print_u128};
 use std::alloc::{AllocError, AllocFailed};
 
 /// Memory ran out. Nothing else is ever reported as this.
