@@ -1,9 +1,13 @@
 //! The types and exact numbers that every crate of the suite shares.
 #![tactic(auto)]
 
+mod frac;
+mod laws;
 mod list;
 mod print;
 
+pub use frac::{Frac, gcd};
+pub use laws::{cross_products_decide, lowest_terms_are_unique, lowest_terms_decide_width};
 pub use list::Seq;
 pub use print::{print_i128, print_u128};
 use std::alloc::{AllocError, AllocFailed};
@@ -11,6 +15,10 @@ use std::alloc::{AllocError, AllocFailed};
 /// Memory ran out. Nothing else is ever reported as this.
 #[derive(Clone, Copy, Debug, PartialEq, Eq)]
 pub struct NoMemory;
+
+/// A number passes the width that its type has.
+#[derive(Clone, Copy, Debug, PartialEq, Eq)]
+pub struct Wide;
 
 impl From<AllocError> for NoMemory {
     fn from(_error: AllocError) -> NoMemory {

@@ -1,7 +1,8 @@
 ghost use Rattle.std.specs.Prelude.{◌≡◌, ◌++◌, OnOk, OnErr};
 ghost use Rattle.std.specs.Fmt.{decimal, signed_decimal};
+ghost use Rattle.rp_num.specs.Fraction.{fraction_text};
 
-use crate::NoMemory;
+use crate::{Frac, NoMemory};
 use std::alloc::Global;
 
 /// Appends `n` in plain decimal digits, as Rust's `{n}` writes it.
@@ -20,6 +21,22 @@ pub fn print_i128(alloc: Global, out: &mut Vec<u8>, n: i128) -> Result<(), NoMem
     ensures err { OnErr result (out.new.items ≡ out.old.items) }
 {
     let text = n.to_string(alloc)?;
+    out.extend_from_slice(text.as_bytes())?;
+    Ok(())
+}
+
+/// Appends `num/den` in lowest terms, or `num` alone where the denominator is 1.
+pub fn print_frac(alloc: Global, out: &mut Vec<u8>, f: Frac) -> Result<(), NoMemory>
+    ensures ok { OnOk result (out.new.items ≡ out.old.items ++ fraction_text f) }
+    ensures err { OnErr result (out.new.items ≡ out.old.items) }
+{
+    let num = f.num();
+    let den = f.den();
+    let text = if den == 1 {
+        num.to_string(alloc)?
+    } else {
+        format!(in alloc; "{num}/{den}")?
+    };
     out.extend_from_slice(text.as_bytes())?;
     Ok(())
 }

@@ -1,0 +1,3 @@
+pub mod Coprime
+pub mod Compare
+pub mod Lowest
