@@ -1,7 +1,7 @@
 use Rattle.std.proofs.Common.{arith}
 use Rattle.std.proofs.lemmas.Nat.Gcd.{IsGcd-from_zero, IsGcd-from_mod}
 use Rattle.rp_num.proofs.Coprime.{IsGcd-zero}
-use Rattle.rp_num.proofs.frac.gcd.Goals as goal
+use Rattle.rp_num.proofs.euclid.gcd.Goals as goal
 
 pub loop-y-preserved : goal.loop-y-preserved
 loop-y-preserved c g h = c.loop-y.invariant g (IsGcd-from_mod _ _ g h)

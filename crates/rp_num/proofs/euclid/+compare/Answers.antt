@@ -1,6 +1,6 @@
 use Rattle.std.proofs.Common.{◌∙◌}
 use Rattle.rp_num.proofs.Compare.{nat_cmp-wholes, nat_cmp-turned, nat_cmp-ended}
-use Rattle.rp_num.proofs.frac.+compare.Goals as goal
+use Rattle.rp_num.proofs.euclid.+compare.Goals as goal
 
 pub returns-then-left_whole-right_whole : goal.returns-then-left_whole-right_whole
 returns-then-left_whole-right_whole t c =
