@@ -1,14 +1,28 @@
 //! The types and exact numbers that every crate of the suite shares.
 #![tactic(auto)]
 
+mod decimal;
+mod euclid;
+mod frac;
+mod laws;
 mod list;
+mod print;
 
+pub use decimal::{Decimal, NumFault, read_decimal};
+pub use euclid::gcd;
+pub use frac::Frac;
+pub use laws::{cross_products_decide, lowest_terms_are_unique, lowest_terms_decide_width};
 pub use list::Seq;
+pub use print::{print_frac, print_i128, print_u128};
 use std::alloc::{AllocError, AllocFailed};
 
 /// Memory ran out. Nothing else is ever reported as this.
 #[derive(Clone, Copy, Debug, PartialEq, Eq)]
 pub struct NoMemory;
+
+/// A number passes the width that its type has.
+#[derive(Clone, Copy, Debug, PartialEq, Eq)]
+pub struct Wide;
 
 impl From<AllocError> for NoMemory {
     fn from(_error: AllocError) -> NoMemory {

@@ -1,0 +1,5 @@
+pub mod Coprime
+pub mod Compare
+pub mod DecimalText
+pub mod Lowest
+mod Worked

@@ -1,0 +1,99 @@
+ghost use Rattle.std.specs.Prelude.{◌≡◌, ℕ, ◌*◌, ◌^◌, ◌<◌, ◌≤◌, ◌↔◌, IfOk, OnErr, IsErr};
+ghost use Rattle.rp_num.specs.Fraction.{Fraction, IsLowestTerms, FitsWidth, PassesWidth, fraction_cmp};
+
+use crate::Wide;
+use crate::euclid::{compare, gcd};
+use std::cmp::Ordering;
+use std::marker::Model;
+
+/// The greatest part that a fraction may have, 2^127 - 1.
+const WIDTH: u128 = (1 << 127) - 1;
+
+/// A fraction in lowest terms. Its denominator is positive, and both parts are at most 2^127 - 1.
+#[derive(Clone, Copy, Debug, PartialEq, Eq)]
+pub struct Frac {
+    num: u128,
+    den: u128,
+}
+
+impl Model for Frac {
+    ghost use Rattle.rp_num.specs.Fraction.{Fraction, IsLowestTerms, FitsWidth};
+
+    ghost Value = { Fraction };
+
+    ghost view = { λ f. record { num = f.num; den = f.den } };
+
+    ghost invariant = { λ f. IsLowestTerms f.num f.den (record { num = f.num; den = f.den })
+        × FitsWidth (record { num = f.num; den = f.den }) };
+
+    ghost inverse = { λ f. record { num = f.num; den = f.den } };
+}
+
+impl Frac {
+    /// The fraction `num/den`, brought to lowest terms.
+    pub fn new(num: u128, den: u128) -> Frac
+        requires positive { 1 ≤ den }
+        requires num_fits { num < 2 ^ 127 }
+        requires den_fits { den < 2 ^ 127 }
+        ensures lowest { IsLowestTerms num den result }
+        ensures fits { FitsWidth result }
+    {
+        let common = gcd(num, den);
+        Frac {
+            num: num / common,
+            den: den / common,
+        }
+    }
+
+    /// The numerator in lowest terms.
+    pub fn num(self) -> u128
+        ensures value { result ≡ self.num }
+        ensures lowest { IsLowestTerms self.num self.den self }
+        ensures fits { FitsWidth self }
+    {
+        self.num
+    }
+
+    /// The denominator in lowest terms.
+    pub fn den(self) -> u128
+        ensures value { result ≡ self.den }
+        ensures lowest { IsLowestTerms self.num self.den self }
+        ensures fits { FitsWidth self }
+    {
+        self.den
+    }
+
+    /// The exact product in lowest terms. `Wide` where that passes the width of a fraction;
+    /// common factors are cancelled across before anything is multiplied.
+    pub fn mul(self, other: Frac) -> Result<Frac, Wide>
+        ensures product { IfOk result (λ p.
+            IsLowestTerms (self.num * other.num) (self.den * other.den) p) }
+        ensures fits { IfOk result FitsWidth }
+        ensures wide { IsErr result ↔ (PassesWidth (self.num * other.num) (self.den * other.den)) }
+    {
+        let down = gcd(self.num, other.den);
+        let up = gcd(other.num, self.den);
+        let num = product(self.num / down, other.num / up)?;
+        let den = product(self.den / up, other.den / down)?;
+        Ok(Frac { num, den })
+    }
+
+    /// The exact order of the two numbers, by Euclid's steps, so that no product is formed.
+    pub fn cmp(self, other: Frac) -> Ordering
+        ensures { result ≡ fraction_cmp self other }
+    {
+        compare(self.num, self.den, other.num, other.den)
+    }
+}
+
+/// The product of two parts, within the width.
+fn product(a: u128, b: u128) -> Result<u128, Wide>
+    ensures value { IfOk result (λ p. p ≡ a * b) }
+    ensures fits { IfOk result (λ p. p < 2 ^ 127) }
+    ensures wide { OnErr result (2 ^ 127 ≤ a * b) }
+{
+    match a.checked_mul(b) {
+        Some(p) if p <= WIDTH => Ok(p),
+        _ => Err(Wide),
+    }
+}
