@@ -5,11 +5,20 @@
 mod counting;
 mod desks;
 mod loading;
+mod memory_desk;
+mod memory_files;
+mod memory_sink;
+mod planned;
 mod pouring;
+mod sure;
 mod sinks;
 
 pub use counting::Steps;
 pub use desks::{Desk, DeskFault};
 pub use loading::{LoadFault, load, load_counted};
+pub use memory_desk::MemDesk;
+pub use memory_files::MemFile;
+pub use memory_sink::MemSink;
 pub use pouring::{WriteFault, pour, pour_counted};
 pub use sinks::{Failed, Sink};
+pub use sure::{SureDesk, SureSink};
