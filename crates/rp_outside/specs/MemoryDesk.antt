@@ -20,5 +20,5 @@ after_read desk answered = record {
   files = desk.files;
   fails = desk.fails;
   calls = next_count desk.calls;
-  faults = if answered then desk.faults else next_count desk.faults
+  faults = if answered then desk.faults else next_count desk.faults;
 }

@@ -21,12 +21,12 @@ after_write sink piece (Ok n) = record {
   limit = sink.limit;
   fails = sink.fails;
   calls = next_count sink.calls;
-  faults = sink.faults
+  faults = sink.faults;
 }
 after_write sink piece (Err e) = record {
   written = sink.written;
   limit = sink.limit;
   fails = sink.fails;
   calls = next_count sink.calls;
-  faults = next_count sink.faults
+  faults = next_count sink.faults;
 }

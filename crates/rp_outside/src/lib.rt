@@ -10,8 +10,8 @@ mod memory_files;
 mod memory_sink;
 mod planned;
 mod pouring;
-mod sure;
 mod sinks;
+mod sure;
 
 pub use counting::Steps;
 pub use desks::{Desk, DeskFault};

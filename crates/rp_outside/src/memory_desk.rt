@@ -1,4 +1,4 @@
-ghost use Rattle.std.specs.Prelude.{◌≡◌, ◌≤◌, ◌⊎◌, ◌↔◌, ℕ, Contains, List, None, IfOk, IfSome, IsErr, IsErrOf, IsNone, IsOkUnless, drop, is_ok, length, map, take};
+ghost use Rattle.std.specs.Prelude.{◌≡◌, ◌≤◌, ◌⊎◌, ◌↔◌, ℕ, Contains, List, None, IfOk, IfSome, IsErr, IsErrOf, IsNone, IsOkUnless, IsSomeAnd, drop, is_ok, length, map, take};
 ghost use Rattle.std.specs.Option.{ForSome};
 ghost use Rattle.rp_outside.specs.Faults.{HasRisen};
 ghost use Rattle.rp_outside.specs.Files.{ReadsAll, bytes_under};
@@ -30,10 +30,10 @@ impl Model for MemDesk {
     ghost Value = { DeskState };
 
     ghost view = { λ d. record {
-        files = map named_bytes d.files.items;
-        fails = d.fails.items;
-        calls = d.calls;
-        faults = d.faults
+      files = map named_bytes d.files.items;
+      fails = d.fails.items;
+      calls = d.calls;
+      faults = d.faults;
     } };
 }
 
@@ -68,23 +68,11 @@ impl Desk for MemDesk {
     ghost faults = { λ d _. d.faults };
 
     fn read_at(&mut self, name: &str, at: u64, into: &mut [u8]) -> Result<u64, DeskFault>
-        ensures within { IfOk result (λ n. n ≤ length into.new) }
-        ensures told_bytes { IfOk result (λ n. ForSome (bytes_under self.old.files name.now)
-            (λ bs. (take n into.new ≡ take n (drop at bs)) × (n ≤ length (drop at bs)))) }
-        ensures none_only_at_end { IfOk result (λ n.
-            n ≡ 0 → ForSome (bytes_under self.old.files name.now)
-                (λ bs. (length into.new ≡ 0) ⊎ (length bs ≤ at))) }
-        ensures failed_counted { IsErrOf result DeskFault.Failed
-            → HasRisen self.old.faults self.new.faults }
-        ensures bytes_stay { (other : List ℕ)
-            → bytes_under self.new.files other ≡ bytes_under self.old.files other }
-        ensures never_falls { (other : List ℕ) → self.old.faults ≤ self.new.faults }
-
-        // Beyond what every desk does.
         ensures fails { IsErr result ↔ ReadFails self.old name.now }
         ensures only_failed { IsOkUnless result DeskFault.Failed }
-        ensures reads_all { IfOk result (λ n. ForSome (bytes_under self.old.files name.now)
+        ensures reads_all { IfOk result (λ n. IsSomeAnd (bytes_under self.old.files name.now)
             (λ bs. ReadsAll bs at into.new n)) }
+        ensures never_falls { (other : List ℕ) → self.old.faults ≤ self.new.faults }
         ensures after { self.new ≡ after_read self.old (is_ok result) }
     {
         self.calls = self.calls.saturating_add(1);
@@ -107,10 +95,10 @@ fn read_planned(
     at: u64,
     into: &mut [u8],
 ) -> Option<u64>
-    ensures within { IfSome result (λ n. n ≤ length into.new) }
     ensures refused { IsNone result ↔ (Contains fails.now number
         ⊎ (bytes_under (map named_bytes files.now) name.now ≡ None)) }
-    ensures read { IfSome result (λ n. ForSome (bytes_under (map named_bytes files.now) name.now)
+    ensures read { IfSome result (λ n.
+        IsSomeAnd (bytes_under (map named_bytes files.now) name.now)
         (λ bs. ReadsAll bs at into.new n)) }
 {
     if is_listed(fails, number) {

@@ -1,4 +1,4 @@
-ghost use Rattle.std.specs.Prelude.{◌≡◌, ◌≤◌, ◌↔◌, None, IfSome, IsNone, length, map};
+ghost use Rattle.std.specs.Prelude.{◌≡◌, ◌≤◌, ◌↔◌, None, IfSome, IsNone, IsSomeAnd, length, map};
 ghost use Rattle.std.specs.Option.{ForSome, option_copied};
 ghost use Rattle.rp_outside.specs.Files.{ReadsAll, bytes_under};
 ghost use Rattle.rp_outside.specs.NamedFile.{named_bytes};
@@ -12,9 +12,9 @@ pub struct MemFile {
 
 /// Reads the first file of a name as far as `into` has room; `None` where there is none.
 pub(crate) fn read_file(files: &[MemFile], name: &str, at: u64, into: &mut [u8]) -> Option<u64>
-    ensures within { IfSome result (λ n. n ≤ length into.new) }
     ensures missing { IsNone result ↔ (bytes_under (map named_bytes files.now) name.now ≡ None) }
-    ensures read { IfSome result (λ n. ForSome (bytes_under (map named_bytes files.now) name.now)
+    ensures read { IfSome result (λ n.
+        IsSomeAnd (bytes_under (map named_bytes files.now) name.now)
         (λ bs. ReadsAll bs at into.new n)) }
 {
     match find_bytes(files, name) {

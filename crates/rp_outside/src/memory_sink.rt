@@ -29,11 +29,11 @@ impl Model for MemSink {
     ghost Value = { SinkState };
 
     ghost view = { λ s. record {
-        written = s.bytes.items;
-        limit = s.limit;
-        fails = s.fails.items;
-        calls = s.calls;
-        faults = s.faults
+      written = s.bytes.items;
+      limit = s.limit;
+      fails = s.fails.items;
+      calls = s.calls;
+      faults = s.faults;
     } };
 
     ghost invariant = { λ s. (vec_len s.bytes ≤ s.limit) × (s.limit ≤ vec_capacity s.bytes) };
@@ -81,19 +81,10 @@ impl Sink for MemSink {
     ghost faults = { λ s. s.faults };
 
     fn write(&mut self, piece: &[u8]) -> Result<u64, Failed>
-        ensures within { IfOk result (λ n. n ≤ length piece.now) }
-        ensures progress { IfOk result (λ n. 0 < length piece.now → 0 < n) }
-        ensures grows { IfOk result (λ n.
-            Grows (Some self.old.written) (Some self.new.written) (take n piece.now)) }
-        ensures failed_stays { OnErr result
-            (Stays (Some self.old.written) (Some self.new.written)) }
-        ensures failed_counted { OnErr result (HasRisen self.old.faults self.new.faults) }
-        ensures never_falls { self.old.faults ≤ self.new.faults }
-
-        // Beyond what every sink does.
         ensures fails { IsErr result ↔ WriteFails self.old piece.now }
         ensures takes_what_fits { IfOk result (λ n.
             n ≡ min (length piece.now) (self.old.limit - length self.old.written)) }
+        ensures never_falls { self.old.faults ≤ self.new.faults }
         ensures after { self.new ≡ after_write self.old piece.now result }
     {
         self.calls = self.calls.saturating_add(1);

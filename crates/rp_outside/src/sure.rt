@@ -42,18 +42,6 @@ impl Desk for SureDesk {
     ghost faults = { λ _ _. 0 };
 
     fn read_at(&mut self, name: &str, at: u64, into: &mut [u8]) -> Result<u64, DeskFault>
-        ensures within { IfOk result (λ n. n ≤ length into.new) }
-        ensures told_bytes { IfOk result (λ n. ForSome (Some (bytes_or_none self.old name.now))
-            (λ bs. (take n into.new ≡ take n (drop at bs)) × (n ≤ length (drop at bs)))) }
-        ensures none_only_at_end { IfOk result (λ n.
-            n ≡ 0 → ForSome (Some (bytes_or_none self.old name.now))
-                (λ bs. (length into.new ≡ 0) ⊎ (length bs ≤ at))) }
-        ensures failed_counted { IsErrOf result DeskFault.Failed → HasRisen 0 0 }
-        ensures bytes_stay { (other : List ℕ)
-            → Some (bytes_or_none self.new other) ≡ Some (bytes_or_none self.old other) }
-        ensures never_falls { (other : List ℕ) → 0 ≤ 0 }
-
-        // Beyond what every desk does.
         ensures sure { IsOk result }
         ensures reads_all { IfOk result (λ n. ReadsAll (bytes_or_none self.old name.now) at into.new n) }
         ensures after { self.new ≡ self.old }
@@ -78,14 +66,6 @@ impl Sink for SureSink {
     ghost faults = { λ _. 0 };
 
     fn write(&mut self, piece: &[u8]) -> Result<u64, Failed>
-        ensures within { IfOk result (λ n. n ≤ length piece.now) }
-        ensures progress { IfOk result (λ n. 0 < length piece.now → 0 < n) }
-        ensures grows { IfOk result (λ n. Grows None None (take n piece.now)) }
-        ensures failed_stays { OnErr result (Stays None None) }
-        ensures failed_counted { OnErr result (HasRisen 0 0) }
-        ensures never_falls { 0 ≤ 0 }
-
-        // Beyond what every sink does.
         ensures whole { result ≡ Ok (length piece.now) }
     {
         Ok(piece.len() as u64)
