@@ -1,5 +1,6 @@
-ghost use Rattle.std.specs.Prelude.{◌≡◌, ◌+◌, ◌≤◌, ℕ, List, None, IfOk, length, min};
-ghost use Rattle.rp_outside.specs.Faults.{next_count};
+ghost use Rattle.std.specs.Prelude.{◌≡◌, ◌≤◌, ◌⊎◌, ℕ, List, None, IfOk, IsErrOf, drop, length, take};
+ghost use Rattle.std.specs.Option.{ForSome};
+ghost use Rattle.rp_outside.specs.Faults.{HasRisen, next_count};
 
 use crate::desks::{Desk, DeskFault};
 use std::alloc::Global;
@@ -63,7 +64,19 @@ impl<R: Files> Desk for FileDesk<'_, R> {
 
     ghost faults = { λ d _. d };
 
-    fn read_at(&mut self, name: &str, at: u64, into: &mut [u8]) -> Result<u64, DeskFault> {
+    fn read_at(&mut self, name: &str, at: u64, into: &mut [u8]) -> Result<u64, DeskFault>
+        ensures within { IfOk result (λ n. n ≤ length into.new) }
+        ensures told_bytes { IfOk result (λ n. ForSome None
+            (λ bs. (take n into.new ≡ take n (drop at bs)) × (n ≤ length (drop at bs)))) }
+        ensures none_only_at_end { IfOk result (λ n. n ≡ 0 → ForSome None
+            (λ bs. (length into.new ≡ 0) ⊎ (length {A = ℕ} bs ≤ at))) }
+        ensures never_falls { (other : List ℕ) → self.old ≤ self.new }
+        ensures failed_counted { IsErrOf result DeskFault.Failed → HasRisen self.old self.new }
+
+        // Beyond what every desk does.
+        ensures failed_counts { IsErrOf result DeskFault.Failed → self.new ≡ next_count self.old }
+        ensures else_stays { IsErrOf result DeskFault.Failed ⊎ (self.new ≡ self.old) }
+    {
         match read_kept(self.rt, self.alloc, &mut self.kept, name, at, into) {
             Ok(count) => Ok(count),
             Err(error) => {

@@ -1,4 +1,5 @@
-ghost use Rattle.std.specs.Prelude.{◌≡◌, ◌<◌, ◌≤◌, None, IfSome, length};
+ghost use Rattle.std.specs.Prelude.{◌≡◌, ◌<◌, ◌≤◌, None, IfOk, IfSome, if◌then◌else◌, is_ok, length};
+ghost use Rattle.rp_outside.specs.Faults.{next_count};
 
 use crate::sinks::{Failed, Sink};
 use std::io::Write;
@@ -42,7 +43,14 @@ impl<W: Write + Drop> Sink for StdSink<W> {
 
     ghost faults = { λ s. s };
 
-    fn write(&mut self, piece: &[u8]) -> Result<u64, Failed> {
+    fn write(&mut self, piece: &[u8]) -> Result<u64, Failed>
+        ensures within { IfOk result (λ n. n ≤ length piece.now) }
+        ensures progress { IfOk result (λ n. 0 < length piece.now → 0 < n) }
+        ensures never_falls { self.old ≤ self.new }
+
+        // Beyond what every sink does.
+        ensures faults { self.new ≡ (if is_ok result then self.old else next_count self.old) }
+    {
         match write_out(&mut self.writer, piece) {
             Some(count) => Ok(count),
             None => {
