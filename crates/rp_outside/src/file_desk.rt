@@ -4,11 +4,10 @@ ghost use Rattle.rp_outside.specs.Faults.{HasRisen, next_count};
 
 use crate::desks::{Desk, DeskFault};
 use std::alloc::Global;
-use std::fs;
-use std::io;
 use std::io::{ErrorKind, Read, Seek, SeekFrom};
 use std::marker::Model;
 use std::rt::Files;
+use std::{fs, io};
 
 /// The files of the system, opened by name. A contract sees the count of faults alone.
 ///

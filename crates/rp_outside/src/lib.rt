@@ -26,3 +26,6 @@ pub use pouring::{WriteFault, pour, pour_counted};
 pub use sinks::{Failed, Sink};
 pub use streams::StdSink;
 pub use sure::{SureDesk, SureSink};
+
+#[cfg(test)]
+mod tests;
