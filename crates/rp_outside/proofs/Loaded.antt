@@ -1,0 +1,14 @@
+use Rattle.std.proofs.Common.{◌≡◌, ℕ, ◌+◌, ◌≤◌, List, Option, length}
+use Rattle.rp_outside.specs.Told.{BeginsWith}
+
+-- what a load keeps: it has the first bytes of its name, and has counted each of them
+pub record IsLoadedSoFar (told : Option (List ℕ)) (front : List ℕ) (limit turns_before turns taken_before taken : ℕ) : Type 0 where
+  pub in_limit : length front ≤ limit
+  pub begins : BeginsWith told front
+  pub turns_counted : turns ≤ turns_before + length front
+  pub taken_counted : taken ≡ taken_before + length front
+
+-- what each read of a desk keeps, for every name
+pub record KeepsNames (bytes_before bytes : List ℕ → Option (List ℕ)) (faults_before faults : List ℕ → ℕ) : Type 0 where
+  pub bytes_stay : (name : List ℕ) → bytes name ≡ bytes_before name
+  pub never_falls : (name : List ℕ) → faults_before name ≤ faults name
