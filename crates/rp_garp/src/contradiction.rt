@@ -1,13 +1,13 @@
 ghost use Rattle.std.specs.Prelude.{ℕ, ◌<◌, MatchOption};
 ghost use Rattle.rp_table.specs.Cost.{cost_at};
-ghost use Rattle.rp_garp.specs.Pairs.{Contradict, HasNoPair, IsFirstPair};
+ghost use Rattle.rp_garp.specs.Pairs.{Contradict, IsPairs};
 
 use rp_table::Costs;
 
 /// The first two observations, by the first and then by the second, of which the first is weakly
 /// preferred to the second and the second strictly to the first (Varian 1982).
 pub fn pairs(costs: &Costs) -> Option<(u32, u32)>
-    ensures { MatchOption result (HasNoPair costs.now.n (cost_at costs.now)) (λ p. IsFirstPair costs.now.n (cost_at costs.now) p.0 p.1) }
+    ensures { IsPairs costs.now.n (cost_at costs.now) result }
 {
     for s in 0..costs.n() {
         if let Some(t) = first_contradicted(costs, s) {
