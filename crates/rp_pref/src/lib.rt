@@ -1,0 +1,7 @@
+//! Walks of revealed preference: single steps, what reaches what, and shortest walks.
+#![tactic(auto)]
+
+mod search;
+mod steps;
+
+pub use steps::{Steps, strict, weak};
