@@ -1,9 +1,9 @@
 -- The search, one depth after another: what it finds are the least numbers of steps.
-use Rattle.std.proofs.Common.{◌≡◌, ◌≢◌, ◌<◌, ◌≤◌, ◌+◌, ◌*◌, ◌⊎◌, inl, inr, ℕ, zero, suc, Bool, true, false, ◌||◌, List, [], ◌∷◌, ◌++◌, length, length-append, refl, sym, ap, subst, ◌∙◌, arith, get_or, eqb}
+use Rattle.std.proofs.Common.{◌≡◌, ◌≢◌, ◌<◌, ◌≤◌, ◌+◌, inl, inr, ℕ, zero, suc, Bool, true, false, List, [], ◌∷◌, ◌++◌, length, length-append, refl, sym, ap, subst, ◌∙◌, arith, get_or, eqb}
 use Rattle.std.proofs.lemmas.Bool.{cases_eq, cases_lt, false≢true}
 use Rattle.std.proofs.lemmas.List.Sums.{count_by-le-length}
 use Rattle.rp_evidence.specs.Walk.{LeadsTo, IsWalk}
-use Rattle.rp_evidence.proofs.Walks.{starts_below, ends_below, leads_by_step, leads_more}
+use Rattle.rp_evidence.proofs.Walks.{ends_below, leads_by_step, leads_more}
 use Rattle.rp_pref.specs.Search.{IsStepIn, AddsDepth, AreDepths, AreFirst, AreLeastDepths, AreLeastUpTo, AreLookedFrom, Deepens, FindsMore, GoesTo, IsLookedFrom, left_of}
 
 -- ---- one observation after another is looked from
@@ -15,7 +15,7 @@ module _ (table : List Bool) (n s depth u : ℕ) (old depths before : List ℕ) 
     where
       looked : AreLookedFrom table n depth (u + 1) depths
       looked v l e = elim (cases_eq v u) [
-          inl h ↦ absurd (other (ap (λ x. get_or depths x 0) (sym h) ∙ e))
+        | inl h ↦ absurd (other (ap (λ x. get_or depths x 0) (sym h) ∙ e))
         | inr h ↦ state.looked v (omega arith) e
       ]
 
@@ -24,30 +24,36 @@ module _ (table : List Bool) (n s depth u : ℕ) (old depths before : List ℕ) 
     where
       one : AddsDepth n (depth + 1) depths new
       one v l = elim (adds v l) [ inl e ↦ inl e | inr e ↦ inr (e.0, e.1 ∙ ap (λ x. x + 1) at) ]
+
       all : AddsDepth n (depth + 1) old new
       all v l = elim (one v l) [
-          inl e ↦ elim (state.adds v l) [ inl h ↦ inl (e ∙ h) | inr h ↦ inr (h.0, e ∙ h.1) ]
+        | inl e ↦ elim (state.adds v l) [ inl h ↦ inl (e ∙ h) | inr h ↦ inr (h.0, e ∙ h.1) ]
         | inr e ↦ elim (state.adds v l) [ inl h ↦ inr (sym h ∙ e.0, e.1) | inr h ↦ inr (h.0, e.1) ]
       ]
+
       kept : (v : ℕ) → v < n → get_or depths v 0 ≢ 0 → get_or new v 0 ≢ 0
       kept v l h e = elim (one v l) [ inl k ↦ h (sym k ∙ e) | inr k ↦ absurd (omega (arith, k.1)) ]
+
       looked : AreLookedFrom table n depth (u + 1) new
       looked v l e t k step = elim (cases_eq v u) [
-          inl h ↦ from t k (subst (λ x. IsStepIn table n x t) h step)
+        | inl h ↦ from t k (subst (λ x. IsStepIn table n x t) h step)
         | inr h ↦ kept t k (state.looked v (omega arith) (same_depth v (omega arith) e) t k step)
       ]
         where
           same_depth : (v : ℕ) → v < n → get_or new v 0 ≡ depth → get_or depths v 0 ≡ depth
           same_depth v l e = elim (one v l) [ inl k ↦ sym k ∙ e | inr k ↦ absurd (omega (arith, k.1)) ]
+
       at_most : (b : Bool) → found ≡ b → left_of depths ≤ left_of old
       at_most true e = let h = state.finds.fewer e in omega arith
       at_most false e = let h = ap left_of (state.finds.same e) in omega arith
+
       fewer : either ≡ true → left_of new < left_of old
       fewer e = go more refl
         where
           go : (b : Bool) → more ≡ b → left_of new < left_of old
           go true k = let h = finds.fewer k in let a = at_most found refl in omega arith
           go false k = let h = ap left_of (finds.same k) in let a = state.finds.fewer (sym (if_none k) ∙ e) in omega arith
+
       same : either ≡ false → new ≡ old
       same e = go more refl
         where
@@ -64,11 +70,10 @@ module _ (table : List Bool) (n s : ℕ) (depths before : List ℕ) (are : AreDe
       let h : 1 < get_or depths t 0 = omega arith in
       let p = get_or before t 0 in
       let d : get_or depths p 0 ≡ suc k = omega (arith, are.later_depth t l h) in
-      let r = walk_of k p (are.later_below t l h) d in
-      (
-          r.0 ++ t ∷ [],
-          leads_more n (IsStepIn table n) s p t r.0 r.1 l (are.later_step t l h),
-          omega (arith, length-append r.0 (t ∷ []), r.2)
+      let r = walk_of k p (are.later_below t l h) d in (
+        r.0 ++ t ∷ [],
+        leads_more n (IsStepIn table n) s p t r.0 r.1 l (are.later_step t l h),
+        omega (arith, length-append r.0 (t ∷ []), r.2),
       )
 
   -- a walk of as many steps as the depth
@@ -103,7 +108,7 @@ module _ (table : List Bool) (n s depth : ℕ) (depths before : List ℕ) (are :
       let a = up p (s ∷ r.1) (refl, r.2) (omega arith) (omega arith) in
       let b : get_or depths p 0 ≤ depth = near p inside (omega (arith, a.1)) in
       elim (cases_eq (get_or depths p 0) depth) [
-          inl k ↦
+        | inl k ↦
             let c = looked p inside k t below r.3 in
             let d = top t below in
             (omega arith, omega arith)
@@ -116,7 +121,7 @@ module _ (table : List Bool) (n s depth : ℕ) (depths before : List ℕ) (are :
 
   pub least_one_more : (m : ℕ) → 0 < m → AreLeastUpTo table n s m depths → ((v : ℕ) → v < n → get_or depths v 0 ≤ m → get_or depths v 0 ≤ depth) → ((v : ℕ) → v < n → get_or depths v 0 ≤ m + 1) → AreLeastUpTo table n s (m + 1) depths
   least_one_more m pos up near top t walk h l k = elim (cases_lt (m + 1) (length walk)) [
-      inl d ↦ longest walk h (omega arith)
+    | inl d ↦ longest walk h (omega arith)
     | inr d ↦ up t walk h l (omega arith)
   ]
     where
@@ -191,13 +196,15 @@ goes_to_first table n s depths before d b first = record {
   where
     deepest : (t : ℕ) → t < n → get_or depths t 0 ≤ 1
     deepest t l = elim (first t l) [ inl h ↦ omega (arith, h.0) | inr h ↦ omega (arith, h.0) ]
+
     none : (t : ℕ) → t < n → ¬ (1 < get_or depths t 0)
     none t l h = let e = deepest t l in absurd (omega arith)
+
     least : AreLeastUpTo table n s 1 depths
     least t [] h l k = absurd h
     least t (x ∷ []) h l k = absurd (omega arith)
     least t (x ∷ y ∷ z ∷ w) h l k = absurd (omega arith)
     least t (x ∷ y ∷ []) h l k = elim (first t (ends_below n (IsStepIn table n) x t (y ∷ []) h.1)) [
-        inl e ↦ (omega (arith, e.0), omega (arith, e.0))
+      | inl e ↦ (omega (arith, e.0), omega (arith, e.0))
       | inr e ↦ absurd (e.1 (subst (λ a. IsStepIn table n a t) h.0 (subst (λ a. IsStepIn table n x a) h.1.2.1 h.1.1)))
     ]

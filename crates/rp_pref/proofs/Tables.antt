@@ -1,5 +1,5 @@
 -- Tables of truth values by rows.
-use Rattle.std.proofs.Common.{◌≡◌, ◌<◌, ◌≤◌, ◌+◌, ◌*◌, ◌/◌, ◌%◌, ◌↔◌, ℕ, Bool, true, false, List, IsTrue, subst, sym, arith, get_or}
+use Rattle.std.proofs.Common.{◌<◌, ◌≤◌, ◌+◌, ◌*◌, ◌/◌, ◌%◌, ◌↔◌, ℕ, Bool, false, List, IsTrue, subst, arith, get_or}
 use Rattle.std.proofs.lemmas.Nat.{div-mul-add, mod-mul-add, mul-add-lt}
 use Rattle.rp_pref.specs.Search.{IsStepIn}
 

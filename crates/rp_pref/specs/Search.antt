@@ -15,6 +15,18 @@ pub record AreDepths (table : List Bool) (n s : ℕ) (depths before : List ℕ) 
   pub later_depth : (t : ℕ) → t < n → 1 < slice_index depths t → slice_index depths (slice_index before t) + 1 ≡ slice_index depths t
   pub later_step : (t : ℕ) → t < n → 1 < slice_index depths t → IsStepIn table n (slice_index before t) t
 
+-- What is noted before an observation of a depth above 1 is an observation of one depth less.
+pub record LeadBack (n : ℕ) (depths before : List ℕ) : Type 0 where
+  pub depth_each : length depths ≡ n
+  pub before_each : length before ≡ n
+  pub later_below : (t : ℕ) → t < n → 1 < slice_index depths t → slice_index before t < n
+  pub later_depth : (t : ℕ) → t < n → 1 < slice_index depths t → slice_index depths (slice_index before t) + 1 ≡ slice_index depths t
+
+-- p is noted as the last before t, or t has the depth 1 and p is the start s.
+abbrev pub IsNoted : ℕ → List ℕ → List ℕ → ℕ → ℕ → Type 0
+IsNoted s depths before p t =
+    ((slice_index depths t ≡ 1) × (p ≡ s)) ⊎ ((1 < slice_index depths t) × (p ≡ slice_index before t))
+
 -- Some observations without a depth got this one, and no other depth changed.
 abbrev pub AddsDepth : ℕ → ℕ → List ℕ → List ℕ → Type 0
 AddsDepth n depth old new =
@@ -41,13 +53,13 @@ AreLookedFrom table n depth end depths = (u : ℕ) → u < end → slice_index d
 abbrev pub AreLeastUpTo : List Bool → ℕ → ℕ → ℕ → List ℕ → Type 0
 AreLeastUpTo table n s most depths =
     (t : ℕ) (walk : List ℕ) → IsWalk n (IsStepIn table n) s t walk → 1 < length walk → length walk ≤ most + 1
-        → (0 < slice_index depths t) × (slice_index depths t < length walk)
+    → (0 < slice_index depths t) × (slice_index depths t < length walk)
 
 -- Every observation that a walk of one or more steps reaches from s has a depth, and no walk there is shorter.
 abbrev pub AreLeastDepths : List Bool → ℕ → ℕ → List ℕ → Type 0
 AreLeastDepths table n s depths =
     (t : ℕ) (walk : List ℕ) → IsWalk n (IsStepIn table n) s t walk → 1 < length walk
-        → (0 < slice_index depths t) × (slice_index depths t < length walk)
+    → (0 < slice_index depths t) × (slice_index depths t < length walk)
 
 -- Looking from u has come as far as end: what was noted is sound, got one depth more than u, and leaves none out.
 pub record LooksFrom (table : List Bool) (n s u end : ℕ) (old new before : List ℕ) (found : Bool) : Type 0 where

@@ -4,7 +4,7 @@ use Rattle.rp_evidence.specs.Preference.{IsWeak, IsStrict}
 use Rattle.rp_pref.specs.declared.steps.Steps.{Steps}
 use Rattle.rp_pref.specs.declared.steps.Steps.TheVariants.{Weak, Strict}
 
--- There is a step from s to t of the chosen kind at the level num/den.
+-- There is a step of the chosen kind at the level num/den.
 abbrev pub IsStep : Steps → (ℕ → ℕ → ℕ) → ℕ → ℕ → ℕ → ℕ → Type 0
-IsStep Weak c num den s t = IsWeak c num den s t
-IsStep Strict c num den s t = IsStrict c num den s t
+IsStep Weak c num den = IsWeak c num den
+IsStep Strict c num den = IsStrict c num den

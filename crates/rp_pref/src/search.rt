@@ -13,7 +13,14 @@ pub struct ShortestWalks {
 }
 
 /// Notes what `u` has a step to and has no depth yet; says whether there was any.
-fn look(table: &[bool], n: usize, s: usize, u: usize, depths: &mut [u32], before: &mut [u32]) -> bool
+fn look(
+    table: &[bool],
+    n: usize,
+    s: usize,
+    u: usize,
+    depths: &mut [u32],
+    before: &mut [u32],
+) -> bool
     requires size { length table.now ≡ n * n }
     requires small { n ≤ 1024 }
     requires sound { AreDepths table.now n s depths.old before.old }
@@ -38,7 +45,14 @@ fn look(table: &[bool], n: usize, s: usize, u: usize, depths: &mut [u32], before
 }
 
 /// Looks from every observation of this depth; says whether that gave any other a depth.
-fn deepen(table: &[bool], n: usize, s: usize, depth: u32, depths: &mut [u32], before: &mut [u32]) -> bool
+fn deepen(
+    table: &[bool],
+    n: usize,
+    s: usize,
+    depth: u32,
+    depths: &mut [u32],
+    before: &mut [u32],
+) -> bool
     requires size { length table.now ≡ n * n }
     requires small { n ≤ 1024 }
     requires sound { AreDepths table.now n s depths.old before.old }
@@ -89,7 +103,12 @@ fn deepen_all(table: &[bool], n: usize, s: usize, depths: &mut [u32], before: &m
 }
 
 /// The shortest walks of one or more steps from `s`.
-pub fn walks_from(alloc: Global, table: &[bool], n: usize, s: usize) -> Result<ShortestWalks, NoMemory>
+pub fn walks_from(
+    alloc: Global,
+    table: &[bool],
+    n: usize,
+    s: usize,
+) -> Result<ShortestWalks, NoMemory>
     requires size { length table.now ≡ n * n }
     requires small { n ≤ 1024 }
     requires start { s < n }

@@ -59,7 +59,12 @@ fn is_step(costs: &Costs, level: Level, steps: Steps, s: u32, t: u32) -> bool
 }
 
 /// All steps of the chosen kind, by start and then by end.
-pub fn step_table(alloc: Global, costs: &Costs, level: Level, steps: Steps) -> Result<Vec<bool>, NoMemory>
+pub fn step_table(
+    alloc: Global,
+    costs: &Costs,
+    level: Level,
+    steps: Steps,
+) -> Result<Vec<bool>, NoMemory>
     requires { IsLevel level.num level.den }
     ensures size { IfOk result (λ table. length table.items ≡ costs.now.n * costs.now.n) }
     ensures exact { IfOk result (λ table. (s t : ℕ) → s < costs.now.n → t < costs.now.n
