@@ -1,5 +1,5 @@
 -- How many observations meet a condition, by lists that have none twice.
-use Rattle.std.proofs.Common.{◌≡◌, ◌≢◌, ◌<◌, ◌≤◌, ◌+◌, ◌⊎◌, inl, inr, ℕ, zero, suc, List, ◌∷◌, length, refl, sym, ap, subst, ◌∙◌, arith, Contains, AllPairs, get_or, Bool, true, false, cond, filter, count_by}
+use Rattle.std.proofs.Common.{◌↔◌, ◌≡◌, ◌≢◌, ◌<◌, ◌≤◌, ◌+◌, ◌⊎◌, inl, inr, ℕ, zero, suc, List, ◌∷◌, length, refl, sym, ap, subst, ◌∙◌, arith, Contains, AllPairs, get_or, Bool, true, false, cond, filter, count_by}
 use Rattle.std.specs.List.{range_with_len}
 use Rattle.std.specs.Cmp.{nat_eq_equiv}
 use Rattle.std.proofs.lemmas.Bool.{cases_eq, false≢true}
@@ -41,6 +41,15 @@ number_is_one n P j k p q =
     let a = number_grows n P P (λ t l h. h) j k p q in
     let b = number_grows n P P (λ t l h. h) k j q p in
     omega arith
+
+-- the number is the same for a condition that says the same
+pub number_same : (n : ℕ) (P Q : ℕ → Type 0) (k : ℕ) → ((t : ℕ) → t < n → P t ↔ Q t) → IsNumberOf n P k → IsNumberOf n Q k
+number_same n P Q k same p = (
+  p.0,
+  p.1,
+  λ t. (λ c. let h = (p.2 t).0 c in (h.0, (same t h.0).0 h.1), λ h. (p.2 t).1 (h.0, (same t h.0).1 h.1)),
+  p.3,
+)
 
 -- ---- from a test
 

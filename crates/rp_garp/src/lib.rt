@@ -2,5 +2,7 @@
 #![tactic(auto)]
 
 mod contradiction;
+mod verdict;
 
 pub use contradiction::pairs;
+pub use verdict::garp;
