@@ -7,7 +7,7 @@ use Rattle.rp_run.specs.declared.status.Status.TheVariants.{Done, Rejected, Usag
 
 -- how the program is called
 abbrev pub usage_text : List ℕ
-usage_text = codes "usage: rp pairs TABLE" ++ 10 ∷ []
+usage_text = codes "usage: rp pairs TABLE" ++ 10 ∷ codes "       rp analyse TABLE" ++ 10 ∷ []
 
 -- what is wrong with a file
 abbrev pub file_line : List ℕ → List ℕ → List ℕ

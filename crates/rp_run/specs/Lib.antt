@@ -1,5 +1,6 @@
 pub mod Plain
 pub mod PairsText
+pub mod Analysis
 pub mod CommandLine
 pub mod NamedLine
 pub mod Answers

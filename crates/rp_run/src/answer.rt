@@ -3,17 +3,17 @@ ghost use Rattle.std.specs.Option.{ForSome};
 ghost use Rattle.rp_table.specs.Tables.{Observations};
 ghost use Rattle.rp_outside.specs.Faults.{HasRisen};
 ghost use Rattle.rp_run.specs.Plain.{IsPlainTable};
-ghost use Rattle.rp_run.specs.PairsText.{IsPairsText};
-ghost use Rattle.rp_run.specs.Answers.{IsContent, IsTableFile};
+ghost use Rattle.rp_run.specs.Answers.{AnswersTable, IsText};
+ghost use Rattle.rp_run.specs.NamedLine.{named_line};
 
 use crate::TABLE_BYTES;
 use crate::fault::TableFault;
 use crate::plain::read_table;
-use crate::text::pairs_text;
-use rp_garp::pairs;
+use crate::line::Line;
+use crate::text::{analysis_text, pairs_text};
 use rp_num::NoMemory;
 use rp_outside::{Desk, LoadFault, load};
-use rp_table::Costs;
+use rp_table::{Costs, Table};
 use std::alloc::Global;
 
 /// Why a file gives no answer.
@@ -25,9 +25,14 @@ pub(crate) enum Cause {
     NoMemory,
 }
 
-/// What `pairs` prints for a table file.
-pub(crate) fn answer_pairs<D: Desk>(alloc: Global, desk: &mut D, name: &str) -> Result<Vec<u8>, Cause>
-    ensures answered { IfOk result (λ text. (bytes : List ℕ) × (table : Observations) × IsContent (D.bytes desk.old) name.now bytes × IsTableFile bytes table × IsPairsText table text.items) }
+/// What answers a line over the table of its file.
+pub(crate) fn answer<D: Desk>(
+    alloc: Global,
+    desk: &mut D,
+    line: Line<'_>,
+    name: &str,
+) -> Result<Vec<u8>, Cause>
+    ensures answered { IfOk result (λ text. AnswersTable (D.bytes desk.old) name.now (named_line line.entry) text.items) }
     ensures read { IsErrOf result Cause.Read → HasRisen (D.faults desk.old name.now) (D.faults desk.new name.now) }
     ensures too_long { IsErrOf result Cause.TooLong → ForSome (D.bytes desk.old name.now) (λ bytes. TABLE_BYTES < length bytes) }
     ensures not_plain { IsErrOf result Cause.NotPlain → ForSome (D.bytes desk.old name.now) (λ bytes. (length bytes ≤ TABLE_BYTES) × ((table : Observations) → ¬ IsPlainTable bytes table)) }
@@ -36,8 +41,18 @@ pub(crate) fn answer_pairs<D: Desk>(alloc: Global, desk: &mut D, name: &str) -> 
 {
     let bytes = load(alloc, desk, name, TABLE_BYTES)?;
     let table = read_table(alloc, bytes.as_slice())?;
-    let costs = Costs::of(alloc, &table)?;
-    Ok(pairs_text(alloc, pairs(&costs))?)
+    Ok(text_of(alloc, line, &table)?)
+}
+
+/// The text that answers a line over a table.
+fn text_of(alloc: Global, line: Line<'_>, table: &Table) -> Result<Vec<u8>, NoMemory>
+    ensures { IfOk result (λ text. IsText (named_line line.entry) table.now text.items) }
+{
+    let costs = Costs::of(alloc, table)?;
+    match line {
+        Line::Pairs { .. } => pairs_text(alloc, table, &costs),
+        Line::Analyse { .. } => analysis_text(alloc, table, &costs),
+    }
 }
 
 impl From<LoadFault> for Cause {

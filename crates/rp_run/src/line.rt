@@ -1,22 +1,22 @@
-ghost use Rattle.std.specs.Prelude.{◌≡◌, IsTrue, ◌↔◌, map, option_map, string_bytes};
-ghost use Rattle.rp_run.specs.CommandLine.{line_of, is_file_name};
+ghost use Rattle.std.specs.Prelude.{◌≡◌, map, option_map, string_bytes};
+ghost use Rattle.rp_run.specs.CommandLine.{line_of, table_line, table_of, is_file_name};
 ghost use Rattle.rp_run.specs.NamedLine.{named_line};
 
 /// A command with its files, as the words name them.
 #[derive(Clone, Copy)]
 pub(crate) enum Line<'a> {
     Pairs { table: &'a str },
+    Analyse { table: &'a str },
 }
 
 impl<'a> Line<'a> {
-    ghost use Rattle.rp_run.specs.CommandLine.{Pairs};
-
-    /// The table file.
+    /// The file of the table that the line is about.
     pub(crate) fn table(self) -> &'a str
-        ensures { named_line self.entry ≡ Pairs result.now }
+        ensures { table_of (named_line self.entry) ≡ result.now }
     {
         match self {
             Line::Pairs { table } => table,
+            Line::Analyse { table } => table,
         }
     }
 }
@@ -26,12 +26,23 @@ pub(crate) fn read_line(words: &[String]) -> Option<Line<'_>>
     ensures { option_map named_line result ≡ line_of (map string_bytes words.now) }
 {
     match words {
-        [_, command, file] if command.as_str() == "pairs" && names_file(file.as_str()) => {
-            Some(Line::Pairs {
-                table: file.as_str(),
-            })
+        [_, command, file] if names_file(file.as_str()) => {
+            read_table_line(command.as_str(), file.as_str())
         }
         _ => None,
+    }
+}
+
+/// The line of a command over one table.
+fn read_table_line<'a>(command: &str, file: &'a str) -> Option<Line<'a>>
+    ensures { option_map named_line result ≡ table_line command.now file.now }
+{
+    if command == "pairs" {
+        Some(Line::Pairs { table: file })
+    } else if command == "analyse" {
+        Some(Line::Analyse { table: file })
+    } else {
+        None
     }
 }
 

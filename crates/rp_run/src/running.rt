@@ -7,7 +7,7 @@ ghost use Rattle.rp_run.specs.FaultLines.{IsFaultLine, IsSilent};
 ghost use Rattle.rp_run.specs.Gains.{Gains};
 ghost use Rattle.rp_run.specs.Causes.{status_of_cause, cause_line};
 
-use crate::answer::{Cause, answer_pairs};
+use crate::answer::{Cause, answer};
 use crate::line::read_line;
 use crate::status::Status;
 use crate::telling::{tell, tell_file};
@@ -48,11 +48,11 @@ pub fn run<D: Desk, O: Sink, E: Sink>(
     ensures faults_of_err { E.faults err.old ≤ E.faults err.new }
 {
     let Some(line) = read_line(words.as_slice()) else {
-        tell(err, &[b"usage: rp pairs TABLE\n"]);
+        tell(err, &[b"usage: rp pairs TABLE\n", b"       rp analyse TABLE\n"]);
         return Status::Usage;
     };
     let table = line.table();
-    match answer_pairs(alloc, desk, table) {
+    match answer(alloc, desk, line, table) {
         Ok(text) => finish(text.as_slice(), out, err),
         Err(cause) => refuse(cause, table, err),
     }
