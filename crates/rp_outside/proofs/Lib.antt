@@ -1,3 +1,3 @@
 pub mod Fronts
 pub mod Growth
-pub mod Loaded
+pub mod Progress

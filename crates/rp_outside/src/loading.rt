@@ -116,9 +116,13 @@ pub fn load_counted<D: Desk, T: Ledger, B: Ledger>(
     ensures bytes_stay { (other : List ℕ) → D.bytes desk.new other ≡ D.bytes desk.old other }
     ensures never_falls { (other : List ℕ) → D.faults desk.old other ≤ D.faults desk.new other }
 
-    // What it costs.
+    // What it costs: each read but the last gives at least one byte.
     ensures turns { turns.new ≤ turns.old + limit + 2 }
     ensures taken { taken.new ≤ taken.old + limit + 1 }
+    ensures a_byte_a_turn { turns.new + taken.old ≤ turns.old + taken.new + 1 }
+    ensures some_turn { turns.old < turns.new }
+    ensures all_given { IfOk result (λ v. taken.new ≡ taken.old + vec_len v) }
+    ensures all_room { IsErrOf result LoadFault.TooLong → taken.new ≡ taken.old + limit + 1 }
 {
     let mut bytes = Vec::new(alloc);
     let mut chunk = [0u8; CHUNK as usize];
@@ -159,8 +163,11 @@ fn take_turn<D: Desk, T: Ledger, B: Ledger>(
     ensures bytes_stay { (other : List ℕ) → D.bytes desk.new other ≡ D.bytes desk.old other }
     ensures never_falls { (other : List ℕ) → D.faults desk.old other ≤ D.faults desk.new other }
     ensures turns { turns.new ≡ turns.old + 1 }
-    ensures taken { taken.new + vec_len bytes.old ≤ taken.old + limit + 1 }
+    ensures taken { taken.old ≤ taken.new }
+    ensures in_room { taken.new + vec_len bytes.old ≤ taken.old + limit + 1 }
     ensures kept { IfOk result (λ _. taken.new + vec_len bytes.old ≡ taken.old + vec_len bytes.new) }
+    ensures all_room { IsErrOf result LoadFault.TooLong
+        → taken.new + vec_len bytes.old ≡ taken.old + limit + 1 }
 {
     let at = bytes.len() as u64;
     turns.add(1);

@@ -50,6 +50,7 @@ pub fn pour_counted<O: Sink, T: Ledger>(
 
     // What it costs.
     ensures turns { turns.new ≤ turns.old + length bytes.now }
+    ensures some_turn { 0 < length bytes.now → turns.old < turns.new }
 {
     let mut at = 0;
     while at < bytes.len() {
