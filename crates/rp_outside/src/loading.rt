@@ -1,4 +1,4 @@
-ghost use Rattle.std.specs.Prelude.{◌≡◌, ◌+◌, ◌^◌, ◌<◌, ◌≤◌, ℕ, List, IfOk, IsErrOf, Ok, length, vec_len};
+ghost use Rattle.std.specs.Prelude.{◌≡◌, ◌+◌, ◌^◌, ◌<◌, ◌≤◌, ℕ, List, IfOk, IsErr, IsErrOf, Ok, length, vec_len};
 ghost use Rattle.std.specs.Option.{ForSome};
 ghost use Rattle.rp_outside.specs.Faults.{HasRisen};
 ghost use Rattle.rp_outside.specs.Told.{BeginsWith};
@@ -45,6 +45,9 @@ pub fn load<D: Desk>(
     ensures too_long_only { IsErrOf result LoadFault.TooLong
         → ForSome (D.bytes desk.old name.now) (λ bs. limit < length bs) }
 
+    // So more bytes than the limit are `TooLong`, unless a read failed or memory ran out.
+    ensures past_limit { ForSome (D.bytes desk.old name.now) (λ bs. limit < length bs → IsErr result) }
+
     // In every outcome, for every name.
     ensures bytes_stay { (other : List ℕ) → D.bytes desk.new other ≡ D.bytes desk.old other }
     ensures never_falls { (other : List ℕ) → D.faults desk.old other ≤ D.faults desk.new other }
@@ -68,7 +71,7 @@ impl AsStr for Named<'_> {
 }
 
 /// `load` over two new counts, which nobody reads.
-fn load_over<D: Desk, N: AsStr, T: Ledger, B: Ledger>(
+fn load_over<D: Desk, N: AsStr + Drop, T: Ledger, B: Ledger>(
     alloc: Global,
     desk: &mut D,
     name: N,
@@ -76,8 +79,6 @@ fn load_over<D: Desk, N: AsStr, T: Ledger, B: Ledger>(
     turns: Blank,
     taken: Blank,
 ) -> Result<Vec<u8>, LoadFault>
-where
-    N: Drop,
     requires limit { limit < 2 ^ 32 }
     requires turns_name { turns.name ≡ T.name }
     requires turns_parts { (turns.parts ≡ T.parts) × (0 < T.parts) }
@@ -89,6 +90,8 @@ where
         → HasRisen (D.faults desk.old (N.text name)) (D.faults desk.new (N.text name)) }
     ensures too_long_only { IsErrOf result LoadFault.TooLong
         → ForSome (D.bytes desk.old (N.text name)) (λ bs. limit < length bs) }
+    ensures past_limit { ForSome (D.bytes desk.old (N.text name))
+        (λ bs. limit < length bs → IsErr result) }
     ensures bytes_stay { (other : List ℕ) → D.bytes desk.new other ≡ D.bytes desk.old other }
     ensures never_falls { (other : List ℕ) → D.faults desk.old other ≤ D.faults desk.new other }
 {
@@ -113,6 +116,7 @@ pub fn load_counted<D: Desk, T: Ledger, B: Ledger>(
         → HasRisen (D.faults desk.old name.now) (D.faults desk.new name.now) }
     ensures too_long_only { IsErrOf result LoadFault.TooLong
         → ForSome (D.bytes desk.old name.now) (λ bs. limit < length bs) }
+    ensures past_limit { ForSome (D.bytes desk.old name.now) (λ bs. limit < length bs → IsErr result) }
     ensures bytes_stay { (other : List ℕ) → D.bytes desk.new other ≡ D.bytes desk.old other }
     ensures never_falls { (other : List ℕ) → D.faults desk.old other ≤ D.faults desk.new other }
 
