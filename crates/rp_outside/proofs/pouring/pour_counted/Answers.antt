@@ -1,6 +1,6 @@
 use Rattle.std.proofs.Common.{arith, length-drop}
 use Rattle.std.proofs.lemmas.List.{take_rest}
-use Rattle.rp_outside.proofs.Growth.{Grows-more}
+use Rattle.rp_outside.proofs.Growth.{FallsShort-front, Grows-more}
 use Rattle.rp_outside.proofs.pouring.pour_counted.Goals as goal
 
 pub loop-at-preserved : goal.loop-at-preserved
@@ -15,3 +15,7 @@ loop-at-preserved g c =
       turns_counted = omega (arith, length-drop c.loop-at.at c.args.bytes.now, on);
       never_falls = omega (arith, c.in-Ok.ensures.never_falls);
     }
+
+pub returns-in-Err-clause-falls_short : goal.returns-in-Err-clause-falls_short
+returns-in-Err-clause-falls_short g c =
+    FallsShort-front _ _ c.args.bytes.now c.loop-at.at c.loop-at-test.true (λ w told. c.in-Err.ensures.failed_stays _ (c.loop-at.invariant.gone_out w told))
