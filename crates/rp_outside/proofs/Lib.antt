@@ -1,3 +1,4 @@
 pub mod Fronts
 pub mod Growth
-pub mod Loaded
+pub mod Progress
+mod Tries

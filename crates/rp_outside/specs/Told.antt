@@ -1,5 +1,5 @@
 -- Bytes that are told or not told. Where they are not told, nothing is said of them.
-use Rattle.std.specs.Prelude.{ℕ, ◌≡◌, ◌≤◌, List, ◌++◌, Option, Some, length, take}
+use Rattle.std.specs.Prelude.{ℕ, ◌≡◌, ◌≢◌, ◌≤◌, List, ◌++◌, Option, Some, length, take}
 use Rattle.std.specs.Option.{ForSome}
 
 -- the told bytes begin with these
@@ -17,3 +17,7 @@ Grows old new bs = ForSome old (λ w. new ≡ Some (w ++ bs))
 -- told bytes grow by some of these, from their front, and by nothing else
 abbrev pub GrowsByPrefix : Option (List ℕ) → Option (List ℕ) → List ℕ → Type 0
 GrowsByPrefix old new bs = ForSome old (λ w. (k : ℕ) × (k ≤ length bs) × (new ≡ Some (w ++ take k bs)))
+
+-- told bytes do not grow by all of these
+abbrev pub FallsShort : Option (List ℕ) → Option (List ℕ) → List ℕ → Type 0
+FallsShort old new bs = ForSome old (λ w. new ≢ Some (w ++ bs))

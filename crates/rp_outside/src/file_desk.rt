@@ -1,4 +1,4 @@
-ghost use Rattle.std.specs.Prelude.{◌≡◌, ◌≤◌, ◌⊎◌, ℕ, List, None, IfOk, IsErrOf, drop, length, take};
+ghost use Rattle.std.specs.Prelude.{◌≡◌, ◌≢◌, ◌≤◌, ◌⊎◌, ◌↔◌, ℕ, List, None, IfOk, IsErrOf, drop, length, take};
 ghost use Rattle.std.specs.Option.{ForSome};
 ghost use Rattle.rp_outside.specs.Faults.{HasRisen, next_count};
 
@@ -79,11 +79,11 @@ impl<R: Files> Desk for FileDesk<'_, R> {
         match read_kept(self.rt, self.alloc, &mut self.kept, name, at, into) {
             Ok(count) => Ok(count),
             Err(error) => {
-                if error.kind() == ErrorKind::OutOfMemory {
-                    return Err(DeskFault::NoMemory);
+                let fault = fault_of(error.kind());
+                if fault == DeskFault::Failed {
+                    self.faults = self.faults.saturating_add(1);
                 }
-                self.faults = self.faults.saturating_add(1);
-                Err(DeskFault::Failed)
+                Err(fault)
             }
         }
     }
@@ -127,4 +127,15 @@ fn reopened<R: Files>(
         file: fs::open(rt, name)?,
         place: 0,
     })
+}
+
+/// What an error of the system is to a desk.
+fn fault_of(kind: ErrorKind) -> DeskFault
+    ensures no_memory { result ≡ DeskFault.NoMemory ↔ (kind ≡ ErrorKind.OutOfMemory) }
+    ensures failed { kind ≢ ErrorKind.OutOfMemory → result ≡ DeskFault.Failed }
+{
+    match kind {
+        ErrorKind::OutOfMemory => DeskFault::NoMemory,
+        _ => DeskFault::Failed,
+    }
 }

@@ -1,4 +1,4 @@
-ghost use Rattle.std.specs.Prelude.{◌≡◌, ◌+◌, ◌^◌, ◌<◌, ◌≤◌, ℕ, List, IfOk, IsErrOf, Ok, length, vec_len};
+ghost use Rattle.std.specs.Prelude.{◌≡◌, ◌+◌, ◌^◌, ◌<◌, ◌≤◌, ℕ, List, IfOk, IsErr, IsErrOf, Ok, length, vec_len};
 ghost use Rattle.std.specs.Option.{ForSome};
 ghost use Rattle.rp_outside.specs.Faults.{HasRisen};
 ghost use Rattle.rp_outside.specs.Told.{BeginsWith};
@@ -45,6 +45,9 @@ pub fn load<D: Desk>(
     ensures too_long_only { IsErrOf result LoadFault.TooLong
         → ForSome (D.bytes desk.old name.now) (λ bs. limit < length bs) }
 
+    // So more bytes than the limit are `TooLong`, unless a read failed or memory ran out.
+    ensures past_limit { ForSome (D.bytes desk.old name.now) (λ bs. limit < length bs → IsErr result) }
+
     // In every outcome, for every name.
     ensures bytes_stay { (other : List ℕ) → D.bytes desk.new other ≡ D.bytes desk.old other }
     ensures never_falls { (other : List ℕ) → D.faults desk.old other ≤ D.faults desk.new other }
@@ -68,7 +71,7 @@ impl AsStr for Named<'_> {
 }
 
 /// `load` over two new counts, which nobody reads.
-fn load_over<D: Desk, N: AsStr, T: Ledger, B: Ledger>(
+fn load_over<D: Desk, N: AsStr + Drop, T: Ledger, B: Ledger>(
     alloc: Global,
     desk: &mut D,
     name: N,
@@ -76,8 +79,6 @@ fn load_over<D: Desk, N: AsStr, T: Ledger, B: Ledger>(
     turns: Blank,
     taken: Blank,
 ) -> Result<Vec<u8>, LoadFault>
-where
-    N: Drop,
     requires limit { limit < 2 ^ 32 }
     requires turns_name { turns.name ≡ T.name }
     requires turns_parts { (turns.parts ≡ T.parts) × (0 < T.parts) }
@@ -89,6 +90,8 @@ where
         → HasRisen (D.faults desk.old (N.text name)) (D.faults desk.new (N.text name)) }
     ensures too_long_only { IsErrOf result LoadFault.TooLong
         → ForSome (D.bytes desk.old (N.text name)) (λ bs. limit < length bs) }
+    ensures past_limit { ForSome (D.bytes desk.old (N.text name))
+        (λ bs. limit < length bs → IsErr result) }
     ensures bytes_stay { (other : List ℕ) → D.bytes desk.new other ≡ D.bytes desk.old other }
     ensures never_falls { (other : List ℕ) → D.faults desk.old other ≤ D.faults desk.new other }
 {
@@ -113,12 +116,17 @@ pub fn load_counted<D: Desk, T: Ledger, B: Ledger>(
         → HasRisen (D.faults desk.old name.now) (D.faults desk.new name.now) }
     ensures too_long_only { IsErrOf result LoadFault.TooLong
         → ForSome (D.bytes desk.old name.now) (λ bs. limit < length bs) }
+    ensures past_limit { ForSome (D.bytes desk.old name.now) (λ bs. limit < length bs → IsErr result) }
     ensures bytes_stay { (other : List ℕ) → D.bytes desk.new other ≡ D.bytes desk.old other }
     ensures never_falls { (other : List ℕ) → D.faults desk.old other ≤ D.faults desk.new other }
 
-    // What it costs.
+    // What it costs: each read but the last gives at least one byte.
     ensures turns { turns.new ≤ turns.old + limit + 2 }
     ensures taken { taken.new ≤ taken.old + limit + 1 }
+    ensures a_byte_a_turn { turns.new + taken.old ≤ turns.old + taken.new + 1 }
+    ensures some_turn { turns.old < turns.new }
+    ensures all_given { IfOk result (λ v. taken.new ≡ taken.old + vec_len v) }
+    ensures all_room { IsErrOf result LoadFault.TooLong → taken.new ≡ taken.old + limit + 1 }
 {
     let mut bytes = Vec::new(alloc);
     let mut chunk = [0u8; CHUNK as usize];
@@ -159,8 +167,11 @@ fn take_turn<D: Desk, T: Ledger, B: Ledger>(
     ensures bytes_stay { (other : List ℕ) → D.bytes desk.new other ≡ D.bytes desk.old other }
     ensures never_falls { (other : List ℕ) → D.faults desk.old other ≤ D.faults desk.new other }
     ensures turns { turns.new ≡ turns.old + 1 }
-    ensures taken { taken.new + vec_len bytes.old ≤ taken.old + limit + 1 }
+    ensures taken { taken.old ≤ taken.new }
+    ensures in_room { taken.new + vec_len bytes.old ≤ taken.old + limit + 1 }
     ensures kept { IfOk result (λ _. taken.new + vec_len bytes.old ≡ taken.old + vec_len bytes.new) }
+    ensures all_room { IsErrOf result LoadFault.TooLong
+        → taken.new + vec_len bytes.old ≡ taken.old + limit + 1 }
 {
     let at = bytes.len() as u64;
     turns.add(1);

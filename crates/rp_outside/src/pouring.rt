@@ -1,6 +1,6 @@
 ghost use Rattle.std.specs.Prelude.{◌≡◌, ◌+◌, ◌<◌, ◌≤◌, OnErr, OnOk, length};
 ghost use Rattle.rp_outside.specs.Faults.{HasRisen};
-ghost use Rattle.rp_outside.specs.Told.{Grows, GrowsByPrefix};
+ghost use Rattle.rp_outside.specs.Told.{FallsShort, Grows, GrowsByPrefix};
 
 use crate::counting::Steps;
 use crate::sinks::{Failed, Sink};
@@ -16,6 +16,7 @@ pub fn pour<O: Sink>(sink: &mut O, bytes: &[u8]) -> Result<(), WriteFault>
     ensures whole { OnOk result (Grows (O.written sink.old) (O.written sink.new) bytes.now) }
     ensures prefix { OnErr result
         (GrowsByPrefix (O.written sink.old) (O.written sink.new) bytes.now) }
+    ensures falls_short { OnErr result (FallsShort (O.written sink.old) (O.written sink.new) bytes.now) }
     ensures fault_counted { OnErr result (HasRisen (O.faults sink.old) (O.faults sink.new)) }
     ensures never_falls { O.faults sink.old ≤ O.faults sink.new }
 {
@@ -29,6 +30,7 @@ fn pour_over<O: Sink, T: Ledger>(sink: &mut O, bytes: &[u8], turns: Blank) -> Re
     ensures whole { OnOk result (Grows (O.written sink.old) (O.written sink.new) bytes.now) }
     ensures prefix { OnErr result
         (GrowsByPrefix (O.written sink.old) (O.written sink.new) bytes.now) }
+    ensures falls_short { OnErr result (FallsShort (O.written sink.old) (O.written sink.new) bytes.now) }
     ensures fault_counted { OnErr result (HasRisen (O.faults sink.old) (O.faults sink.new)) }
     ensures never_falls { O.faults sink.old ≤ O.faults sink.new }
 {
@@ -45,11 +47,13 @@ pub fn pour_counted<O: Sink, T: Ledger>(
     ensures whole { OnOk result (Grows (O.written sink.old) (O.written sink.new) bytes.now) }
     ensures prefix { OnErr result
         (GrowsByPrefix (O.written sink.old) (O.written sink.new) bytes.now) }
+    ensures falls_short { OnErr result (FallsShort (O.written sink.old) (O.written sink.new) bytes.now) }
     ensures fault_counted { OnErr result (HasRisen (O.faults sink.old) (O.faults sink.new)) }
     ensures never_falls { O.faults sink.old ≤ O.faults sink.new }
 
     // What it costs.
     ensures turns { turns.new ≤ turns.old + length bytes.now }
+    ensures some_turn { 0 < length bytes.now → turns.old < turns.new }
 {
     let mut at = 0;
     while at < bytes.len() {

@@ -1,5 +1,5 @@
 use Rattle.std.proofs.Common.{◌+◌, ◌-◌, length}
-use Rattle.rp_outside.proofs.Loaded.{IsLoadedSoFar, KeepsNames}
+use Rattle.rp_outside.proofs.Progress.{IsLoadedSoFar, KeepsNames}
 use Rattle.rp_outside.proofs.loading.load_counted.Given as goal
 
 abbrev pub invariant-loop-bytes : goal.invariant-loop-bytes
