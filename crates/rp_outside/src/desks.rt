@@ -1,4 +1,4 @@
-ghost use Rattle.std.specs.Prelude.{◌≡◌, ◌≤◌, ◌⊎◌, ℕ, List, [], Option, IfOk, IsErrOf, drop, length, take};
+ghost use Rattle.std.specs.Prelude.{◌≡◌, ◌≤◌, ◌⊎◌, ℕ, List, Option, IfOk, IsErrOf, drop, length, take};
 ghost use Rattle.std.specs.Option.{ForSome};
 ghost use Rattle.rp_outside.specs.Faults.{HasRisen};
 

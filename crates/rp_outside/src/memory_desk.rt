@@ -1,6 +1,4 @@
-ghost use Rattle.std.specs.Prelude.{◌≡◌, ◌≤◌, ◌⊎◌, ◌↔◌, ℕ, Contains, List, None, IfOk, IfSome, IsErr, IsErrOf, IsNone, IsOkUnless, IsSomeAnd, drop, is_ok, length, map, take};
-ghost use Rattle.std.specs.Option.{ForSome};
-ghost use Rattle.rp_outside.specs.Faults.{HasRisen};
+ghost use Rattle.std.specs.Prelude.{◌≡◌, ◌≤◌, ◌⊎◌, ◌↔◌, ℕ, Contains, List, None, IfOk, IfSome, IsErr, IsNone, IsOkUnless, IsSomeAnd, is_ok, map};
 ghost use Rattle.rp_outside.specs.Files.{ReadsAll, bytes_under};
 ghost use Rattle.rp_outside.specs.MemoryDesk.{ReadFails, after_read};
 ghost use Rattle.rp_outside.specs.NamedFile.{named_bytes};

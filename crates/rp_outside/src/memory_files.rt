@@ -1,5 +1,5 @@
-ghost use Rattle.std.specs.Prelude.{◌≡◌, ◌≤◌, ◌↔◌, None, IfSome, IsNone, IsSomeAnd, length, map};
-ghost use Rattle.std.specs.Option.{ForSome, option_copied};
+ghost use Rattle.std.specs.Prelude.{◌≡◌, ◌↔◌, None, IfSome, IsNone, IsSomeAnd, map};
+ghost use Rattle.std.specs.Option.{option_copied};
 ghost use Rattle.rp_outside.specs.Files.{ReadsAll, bytes_under};
 ghost use Rattle.rp_outside.specs.NamedFile.{named_bytes};
 

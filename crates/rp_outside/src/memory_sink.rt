@@ -1,7 +1,5 @@
-ghost use Rattle.std.specs.Prelude.{◌≡◌, ◌-◌, ◌<◌, ◌≤◌, ◌⊎◌, ◌↔◌, [], Some, Contains, IfOk, IsErr, IsTrue, OnErr, length, min, take};
-ghost use Rattle.rp_outside.specs.Faults.{HasRisen};
+ghost use Rattle.std.specs.Prelude.{◌≡◌, ◌-◌, ◌<◌, ◌≤◌, ◌⊎◌, ◌↔◌, [], Some, Contains, IfOk, IsErr, IsTrue, length, min};
 ghost use Rattle.rp_outside.specs.MemorySink.{WriteFails, after_write};
-ghost use Rattle.rp_outside.specs.Told.{Grows, Stays};
 
 use crate::planned::is_listed;
 use crate::sinks::{Failed, Sink};

@@ -1,9 +1,6 @@
-ghost use Rattle.std.specs.Prelude.{◌≡◌, ◌<◌, ◌≤◌, ◌⊎◌, ℕ, List, Option, None, Ok, Some, IfOk, IsErrOf, IsOk, OnErr, drop, length, map, take};
-ghost use Rattle.std.specs.Option.{ForSome};
-ghost use Rattle.rp_outside.specs.Faults.{HasRisen};
+ghost use Rattle.std.specs.Prelude.{◌≡◌, None, Ok, Some, IfOk, IsOk, length, map};
 ghost use Rattle.rp_outside.specs.Files.{ReadsAll, bytes_or_none};
 ghost use Rattle.rp_outside.specs.NamedFile.{named_bytes};
-ghost use Rattle.rp_outside.specs.Told.{Grows, Stays};
 
 use crate::desks::{Desk, DeskFault};
 use crate::memory_files::{MemFile, read_file};
