@@ -1,5 +1,5 @@
 -- The pairs and the verdict of one table of costs are those of every other that agrees on its observations.
-use Rattle.std.proofs.Common.{◌≡◌, ℕ, ◌*◌, ◌<◌, ◌≤◌, List, Option, Some, None, sym, arith, inl, inr}
+use Rattle.std.proofs.Common.{◌≡◌, ℕ, ◌<◌, List, Option, Some, None, sym, arith, inl, inr}
 use Rattle.rp_evidence.specs.Preference.{IsWeak, IsStrict}
 use Rattle.rp_evidence.specs.Garp.{IsViolationAt, ReachesAt}
 use Rattle.rp_evidence.specs.Count.{IsCount}
@@ -9,7 +9,7 @@ use Rattle.rp_evidence.specs.declared.certificate.Garp.TheVariants.{Ranks, Cycle
 use Rattle.rp_evidence.proofs.Violations.{violates_by_weaker}
 use Rattle.rp_evidence.proofs.Walks.{walks_by_weaker}
 use Rattle.rp_evidence.proofs.Counting.{number_same}
-use Rattle.rp_garp.specs.Pairs.{Contradict, HasNoPair, IsFirstPair, IsPairs}
+use Rattle.rp_garp.specs.Pairs.{Contradict, IsPairs}
 use Rattle.rp_garp.specs.Verdict.{IsGiven, IsLoop}
 
 same_contradiction : (n : ℕ) (c d : ℕ → ℕ → ℕ) → ((s t : ℕ) → s < n → t < n → c s t ≡ d s t) → (s t : ℕ) → s < n → t < n → Contradict c s t → Contradict d s t
@@ -27,7 +27,7 @@ same_pairs n c d same (Some p) first = record {
   second = first.second;
   contradict = same_contradiction n c d same p.0 p.1 first.first first.second first.contradict;
   no_earlier_first = λ i j earlier j_in q. first.no_earlier_first i j earlier j_in (same_contradiction n d c (λ x y x_in y_in. sym (same x y x_in y_in)) i j (omega (arith, first.first, earlier)) j_in q);
-  no_earlier_second = λ j earlier q. first.no_earlier_second j earlier (same_contradiction n d c (λ x y x_in y_in. sym (same x y x_in y_in)) p.0 j first.first (omega (arith, first.second, earlier)) q)
+  no_earlier_second = λ j earlier q. first.no_earlier_second j earlier (same_contradiction n d c (λ x y x_in y_in. sym (same x y x_in y_in)) p.0 j first.first (omega (arith, first.second, earlier)) q);
 }
 
 -- costs that agree on n observations
@@ -54,12 +54,14 @@ same_violation n c d same walk v = violates_by_weaker n (IsWeak c 1 1) (IsStrict
 
 -- evidence about one table of costs is evidence about every other that agrees with it
 pub same_proof : (n : ℕ) (c d : ℕ → ℕ → ℕ) → SameBelow n c d → (verdict : Garp) → ProvesGarp n c verdict → ProvesGarp n d verdict
-same_proof n c d same (Ranks ranks) proof =
-    (record {
-      one_each = proof.0.one_each;
-      weak_never_rises = λ s t s_in t_in w. proof.0.weak_never_rises s t s_in t_in (same_weak n d c (other_way n c d same) s t s_in t_in w);
-      strict_falls = λ s t s_in t_in w. proof.0.strict_falls s t s_in t_in (same_strict n d c (other_way n c d same) s t s_in t_in w)
-    }, λ walk v. proof.1 walk (same_violation n d c (other_way n c d same) walk v))
+same_proof n c d same (Ranks ranks) proof = (
+  record {
+    one_each = proof.0.one_each;
+    weak_never_rises = λ s t s_in t_in w. proof.0.weak_never_rises s t s_in t_in (same_weak n d c (other_way n c d same) s t s_in t_in w);
+    strict_falls = λ s t s_in t_in w. proof.0.strict_falls s t s_in t_in (same_strict n d c (other_way n c d same) s t s_in t_in w);
+  },
+  λ walk v. proof.1 walk (same_violation n d c (other_way n c d same) walk v),
+)
 same_proof n c d same (Cycle cycle) proof = same_violation n c d same cycle proof
 
 same_reach : (n : ℕ) (c d : ℕ → ℕ → ℕ) → SameBelow n c d → (s t : ℕ) → ReachesAt n c 1 1 s t → ReachesAt n d 1 1 s t
@@ -72,27 +74,32 @@ same_count : (n : ℕ) (c d : ℕ → ℕ → ℕ) → SameBelow n c d → (s k 
 same_count n c d same s k count =
     number_same n _ _ k (λ t t_in. record {
       0 = elim [ inl is ↦ inl is | inr reach ↦ inr (same_reach n c d same s t reach) ];
-      1 = elim [ inl is ↦ inl is | inr reach ↦ inr (same_reach n d c (other_way n c d same) s t reach) ]
+      1 = elim [ inl is ↦ inl is | inr reach ↦ inr (same_reach n d c (other_way n c d same) s t reach) ];
     }) count
 
 -- what is given for one table of costs is given for every other that agrees with it
 pub same_given : (n : ℕ) (c d : ℕ → ℕ → ℕ) → SameBelow n c d → (verdict : Garp) → IsGiven n c verdict → IsGiven n d verdict
 same_given n c d same (Ranks ranks) counts = record {
   one_each = counts.one_each;
-  each = λ s s_in. same_count n c d same s _ (counts.each s s_in)
+  each = λ s s_in. same_count n c d same s _ (counts.each s s_in);
 }
-same_given n c d same (Cycle cycle) (s, t, first, (walk, shortest, is)) =
-    (s, t,
-     record {
-       first = first.first;
-       second = first.second;
-       loops = same_loop n c d same s t first.first first.second first.loops;
-       no_earlier_first = λ i j earlier j_in q. first.no_earlier_first i j earlier j_in (same_loop n d c (other_way n c d same) i j (omega (arith, first.first, earlier)) j_in q);
-       no_earlier_second = λ j earlier q. first.no_earlier_second j earlier (same_loop n d c (other_way n c d same) s j first.first (omega (arith, first.second, earlier)) q)
-     },
-     (walk,
-      record {
-        leads = walks_by_weaker n (IsWeak c 1 1) (IsWeak d 1 1) (same_weak n c d same) s t walk shortest.leads;
-        has_step = shortest.has_step;
-        fewest = λ other leads long. shortest.fewest other (walks_by_weaker n (IsWeak d 1 1) (IsWeak c 1 1) (same_weak n d c (other_way n c d same)) s t other leads) long
-      }, is))
+same_given n c d same (Cycle cycle) (s, t, first, (walk, shortest, is)) = (
+  s,
+  t,
+  record {
+    first = first.first;
+    second = first.second;
+    loops = same_loop n c d same s t first.first first.second first.loops;
+    no_earlier_first = λ i j earlier j_in q. first.no_earlier_first i j earlier j_in (same_loop n d c (other_way n c d same) i j (omega (arith, first.first, earlier)) j_in q);
+    no_earlier_second = λ j earlier q. first.no_earlier_second j earlier (same_loop n d c (other_way n c d same) s j first.first (omega (arith, first.second, earlier)) q);
+  },
+  (
+    walk,
+    record {
+      leads = walks_by_weaker n (IsWeak c 1 1) (IsWeak d 1 1) (same_weak n c d same) s t walk shortest.leads;
+      has_step = shortest.has_step;
+      fewest = λ other leads long. shortest.fewest other (walks_by_weaker n (IsWeak d 1 1) (IsWeak c 1 1) (same_weak n d c (other_way n c d same)) s t other leads) long;
+    },
+    is,
+  ),
+)

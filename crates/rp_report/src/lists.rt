@@ -59,12 +59,7 @@ pub(crate) fn push_observations(
 }
 
 /// Appends numbers, each greater by `more`, with one space between them; `none` for no numbers.
-fn push_numbers(
-    alloc: Global,
-    out: &mut Vec<u8>,
-    numbers: &[u32],
-    more: u8,
-) -> Result<(), NoMemory>
+fn push_numbers(alloc: Global, out: &mut Vec<u8>, numbers: &[u32], more: u8) -> Result<(), NoMemory>
     ensures { OnOk result (out.new.items ≡ out.old.items ++ list_text (λ number. decimal (number + more)) numbers.now) }
 {
     match numbers {
@@ -80,12 +75,7 @@ fn push_numbers(
 }
 
 /// Appends numbers, each greater by `more` and after a space.
-fn push_others(
-    alloc: Global,
-    out: &mut Vec<u8>,
-    numbers: &[u32],
-    more: u8,
-) -> Result<(), NoMemory>
+fn push_others(alloc: Global, out: &mut Vec<u8>, numbers: &[u32], more: u8) -> Result<(), NoMemory>
     ensures { OnOk result (out.new.items ≡ out.old.items ++ flat_map (λ number. codes " " ++ decimal (number + more)) numbers.now) }
 {
     for number in numbers {

@@ -8,11 +8,7 @@ use rp_table::Table;
 use std::alloc::Global;
 
 /// The report of a certificate on a table: a line on the table, and then the lines of each item.
-pub fn report(
-    alloc: Global,
-    certificate: &Certificate,
-    table: &Table,
-) -> Result<Vec<u8>, NoMemory>
+pub fn report(alloc: Global, certificate: &Certificate, table: &Table) -> Result<Vec<u8>, NoMemory>
     requires { certificate.now.kind ≡ Kind.Table }
     ensures { IfOk result (λ text. text.items ≡ report_text table.now certificate.now.items) }
 {

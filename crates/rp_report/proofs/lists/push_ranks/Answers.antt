@@ -1,4 +1,3 @@
-use Rattle.std.proofs.Common.{rules, ◌∙◌}
 use Rattle.rp_report.proofs.Texts.{numbers_as_they_are, word_and_list}
 use Rattle.rp_report.specs.ReportText.{numbers_text}
 use Rattle.rp_report.proofs.lists.push_ranks.Goals as goal
