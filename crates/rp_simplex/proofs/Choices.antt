@@ -1,13 +1,13 @@
 -- Choosing the row that leaves, row by row.
-use Rattle.std.proofs.Common.{◌≡◌, ◌≢◌, ℕ, zero, suc, ◌+◌, ◌<◌, ◌≤◌, ℤ, pos, ◌*ℤ◌, ◌<ℤ◌, ◌≤ℤ◌, Bool, ◌⊎◌, true, false, inl, inr, refl, sym, ◌∙◌, ap, subst, arith, Option, None, Some, MatchOption, MatchBool}
+use Rattle.std.proofs.Common.{◌≡◌, ◌≢◌, ℕ, ◌+◌, ◌<◌, ℤ, pos, ◌*ℤ◌, ◌<ℤ◌, ◌≤ℤ◌, Bool, ◌⊎◌, true, false, inl, inr, refl, sym, ◌∙◌, ap, subst, arith, Option, None, Some, MatchBool}
 use Rattle.std.proofs.lemmas.Int.{ints}
 use Rattle.std.proofs.lemmas.Bool.{cases_eq, cases_lt}
 use lib.Signed.{lt_z}
 use Rattle.rp_simplex.specs.ExactTableau.{ExactTableau}
 use Rattle.rp_simplex.specs.Lexicographic.{IsLexLess}
 use Rattle.rp_simplex.specs.Choice.{IsLeaving, IsUnbounded, HasNoTies, LeavesBelow}
-use Rattle.rp_simplex.proofs.Ring.{Term, at, ◌⊕◌, ◌⊖◌, ◌⊗◌, ring}
-use Rattle.rp_simplex.proofs.Linear.{cancel, cancel_less, as_pos, positive_times}
+use Rattle.rp_simplex.proofs.Ring.{at, ◌⊗◌, ring}
+use Rattle.rp_simplex.proofs.Linear.{cancel, cancel_less, as_pos}
 use Rattle.rp_farkas.proofs.Integers.{times_strict}
 use borrow.Author.Differences.{up, down, same_in, below_in}
 

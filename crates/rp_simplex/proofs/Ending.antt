@@ -1,12 +1,10 @@
 -- How the run ends, from what the code's calls give.
-use Rattle.std.proofs.Common.{◌≡◌, ℕ, suc, ◌+◌, ◌-◌, ◌^◌, ◌<◌, ◌≤◌, min, List, length, slice_index, ℤ, pos, neg_ℤ, ◌≤ℤ◌, refl, sym, ◌∙◌, ap, subst, arith}
+use Rattle.std.proofs.Common.{◌≡◌, ℕ, suc, ◌+◌, ◌-◌, ◌^◌, ◌<◌, min, List, length, slice_index, ℤ, pos, neg_ℤ, refl, ◌∙◌, subst, arith}
 use Rattle.rp_farkas.specs.declared.entry.Entry.{Entry}
-use Rattle.rp_farkas.specs.declared.entry.Pair.{Pair}
 use Rattle.rp_farkas.specs.LinearProgram.{LinearProgram}
 use Rattle.rp_farkas.specs.Limits.{IsWithinLimits}
 use Rattle.rp_farkas.specs.Listing.{IsListing, numerator_at}
 use Rattle.rp_simplex.specs.declared.tableau.Tableau.{Tableau}
-use Rattle.rp_simplex.specs.ExactTableau.{ExactTableau, width_of}
 use Rattle.rp_simplex.specs.Choice.{IsEntering, IsOptimal, IsLeaving, IsUnbounded}
 use Rattle.rp_simplex.specs.Width.{IsWithinWidth}
 use Rattle.rp_simplex.specs.Pivot.{PivotPasses}

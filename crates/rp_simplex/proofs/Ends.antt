@@ -2,19 +2,18 @@
 -- fractions with denominators of at most W are at least 1/W^2 apart, so the whole parts of W^2 (N/D + W) keep their
 -- order strictly, and they are at most 2 W^3. The objective row of these whole parts, read as one number in the base
 -- 2 W^3 + 1, rises with each pivot and is bounded.
-use Rattle.std.proofs.Common.{◌≡◌, ℕ, zero, suc, ◌+◌, ◌-◌, ◌*◌, ◌/◌, ◌^◌, ◌<◌, ◌≤◌, ℤ, pos, negsuc, ◌+ℤ◌, ◌*ℤ◌, ◌<ℤ◌, ◌≤ℤ◌, ◌⊎◌, inl, inr, refl, sym, ◌∙◌, ap, subst, arith, pow-suc}
+use Rattle.std.proofs.Common.{◌≡◌, ℕ, zero, suc, ◌+◌, ◌-◌, ◌*◌, ◌/◌, ◌^◌, ◌<◌, ◌≤◌, ℤ, pos, negsuc, ◌+ℤ◌, ◌*ℤ◌, ◌<ℤ◌, ◌≤ℤ◌, inl, inr, refl, sym, ◌∙◌, ap, subst, arith, pow-suc}
 use Rattle.std.proofs.Math.Nat.{pow-zero}
 use Rattle.std.specs.Int.RustNames.{unsigned_abs}
 use Rattle.std.proofs.lemmas.Int.{ints}
 use Rattle.std.proofs.lemmas.Bool.{cases_eq, cases_lt}
 use Rattle.std.proofs.lemmas.Nat.{le-div, div_below, mul-le}
-use Rattle.std.proofs.Math.Nat.{mul-le-mul_left, mul-le-mul_right, mul-lt-mul_of_pos_right, lt_of_mul-lt-mul_right, div-mul-le_self}
-use borrow.Author.Differences.{up, down, same_out, lt_out, product_is, sum_is_lem}
-use Rattle.rp_farkas.specs.LinearProgram.{LinearProgram}
-use Rattle.rp_simplex.specs.ExactTableau.{ExactTableau, width_of}
+use Rattle.std.proofs.Math.Nat.{mul-le-mul_left, mul-le-mul_right, mul-lt-mul_of_pos_right, div-mul-le_self}
+use borrow.Author.Differences.{up}
+use Rattle.rp_simplex.specs.ExactTableau.{ExactTableau}
 use Rattle.rp_simplex.specs.Lexicographic.{IsLexLess}
 use Rattle.rp_simplex.specs.Width.{IsWithinWidth}
-use Rattle.rp_simplex.proofs.Ring.{Term, at, ◌⊕◌, ◌⊖◌, ◌⊗◌, ring}
+use Rattle.rp_simplex.proofs.Ring.{at, ◌⊕◌, ◌⊗◌, ring}
 
 -- ---- numbers in a base
 number : ℕ → (ℕ → ℕ) → ℕ → ℕ

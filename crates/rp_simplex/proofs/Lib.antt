@@ -13,3 +13,5 @@ pub mod Pivoted
 pub mod Entries
 pub mod Runs
 pub mod Ending
+pub mod Determined
+pub mod Outcomes

@@ -1,13 +1,13 @@
 -- Sums of whole numbers whose terms change as rows do in a pivot.
-use Rattle.std.proofs.Common.{◌≡◌, ◌≢◌, ℕ, zero, suc, ◌+◌, ◌*◌, ◌<◌, ◌≤◌, ℤ, pos, negsuc, ◌+ℤ◌, ◌-ℤ◌, ◌*ℤ◌, ◌<ℤ◌, ◌≤ℤ◌, cond, eqb, true, false, inl, inr, refl, sym, ◌∙◌, ap, subst, arith}
+use Rattle.std.proofs.Common.{◌≡◌, ◌≢◌, ℕ, zero, suc, ◌+◌, ◌*◌, ◌<◌, ◌≤◌, ℤ, pos, negsuc, ◌+ℤ◌, ◌-ℤ◌, ◌*ℤ◌, ◌<ℤ◌, cond, eqb, true, false, inl, inr, refl, sym, ◌∙◌, ap, subst, arith}
 use Rattle.std.proofs.lemmas.Int.{ints}
 use Rattle.std.proofs.lemmas.Bool.{cases_eq, eq-eqb, ne_eqb}
 use Rattle.std.proofs.Math.Nat.{eq_of_mul-eq-mul_right, lt_of_mul-lt-mul_right}
-use borrow.Author.Differences.{up, down, same_in, same_out, product_is, lt_out, le_out, below_in, at_most_in}
+use borrow.Author.Differences.{up, down, same_in, same_out, product_is, lt_out, below_in}
 use Rattle.rp_farkas.specs.Total.{total}
 use Rattle.rp_farkas.proofs.Integers.{times_strict}
 use Rattle.rp_farkas.proofs.Totals.{total-same, total-zero, total-add, total-scale}
-use Rattle.rp_simplex.proofs.Ring.{Term, at, ◌⊕◌, ◌⊖◌, ◌⊗◌, ring}
+use Rattle.rp_simplex.proofs.Ring.{at, ◌⊕◌, ◌⊖◌, ◌⊗◌, ring}
 
 -- 1 at the place i, and 0 elsewhere
 abbrev pub delta : ℕ → ℕ → ℤ

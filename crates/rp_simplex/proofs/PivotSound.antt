@@ -1,8 +1,7 @@
 -- A pivot keeps what every tableau of a run keeps.
-use Rattle.std.proofs.Common.{◌≡◌, ◌≢◌, ℕ, zero, suc, ◌+◌, ◌-◌, ◌*◌, ◌<◌, ◌≤◌, ℤ, pos, negsuc, ◌+ℤ◌, ◌-ℤ◌, ◌*ℤ◌, neg_ℤ, ◌<ℤ◌, ◌≤ℤ◌, Bool, ◌⊎◌, cond, eqb, true, false, inl, inr, refl, sym, ◌∙◌, ap, subst, arith}
+use Rattle.std.proofs.Common.{◌≡◌, ◌≢◌, ℕ, zero, suc, ◌*◌, ◌<◌, ◌≤◌, ℤ, pos, negsuc, ◌+ℤ◌, ◌-ℤ◌, ◌*ℤ◌, neg_ℤ, ◌<ℤ◌, ◌≤ℤ◌, ◌⊎◌, eqb, true, false, inl, inr, refl, sym, ◌∙◌, ap, subst, arith}
 use Rattle.std.proofs.lemmas.Int.{ints}
 use Rattle.std.proofs.lemmas.Bool.{cases_eq, cases_lt, eq-eqb, ne_eqb}
-use borrow.Author.Differences.{up}
 use Rattle.rp_farkas.specs.Total.{total}
 use Rattle.rp_farkas.specs.LinearProgram.{LinearProgram}
 use Rattle.rp_farkas.proofs.Totals.{total-same, total-scale}
@@ -11,7 +10,7 @@ use Rattle.rp_simplex.specs.FirstTableau.{first_entry}
 use Rattle.rp_simplex.specs.Lexicographic.{IsLexLess}
 use Rattle.rp_simplex.specs.Choice.{IsEntering, IsLeaving}
 use Rattle.rp_simplex.specs.Pivot.{cleared, IsPivot}
-use Rattle.rp_simplex.proofs.Ring.{Term, at, ◌⊕◌, ◌⊖◌, ◌⊗◌, ring}
+use Rattle.rp_simplex.proofs.Ring.{at, ◌⊕◌, ◌⊖◌, ◌⊗◌, ring}
 use Rattle.rp_simplex.proofs.Linear.{delta, delta-same, delta-other, total-cleared, total-weighed, total-scaled, total-changed, cancel, cancel_less, as_pos, positive_times}
 use Rattle.rp_simplex.proofs.Sound.{IsSound, sign_cases}
 

@@ -2,14 +2,13 @@
 use Prim.Native.Nat.{◌∣◌}
 use Rattle.std.proofs.Common.{◌≡◌, ◌≢◌, ℕ, ◌+◌, ◌*◌, ◌/◌, ◌%◌, ◌^◌, ◌<◌, ◌≤◌, List, length, get_or, All, ℤ, pos, ◌*ℤ◌, cond, eqb, true, false, refl, sym, ◌∙◌, ap, subst, arith}
 use Rattle.std.specs.Int.RustNames.{unsigned_abs, int_div}
-use Rattle.std.proofs.lemmas.Int.{ints, unsigned_abs-mul}
+use Rattle.std.proofs.lemmas.Int.{unsigned_abs-mul}
 use Rattle.std.proofs.lemmas.Bool.{eq-eqb, ne_eqb}
 use Rattle.std.proofs.lemmas.List.Elements.{All-from_get_or}
 use Rattle.std.proofs.lemmas.Nat.{div-add-mod', mod_below, div_below}
 use Rattle.std.proofs.lemmas.Nat.Gcd.{mod-eq-zero_of_dvd, le_of_dvd}
 use Rattle.std.proofs.Math.Nat.{mul-lt-mul_of_pos_right}
 use Rattle.rp_simplex.specs.ExactTableau.{ExactTableau}
-use Rattle.rp_simplex.specs.Width.{IsWithinWidth}
 use Rattle.rp_simplex.specs.Pivot.{cleared, DividesAll, IsPivot, PivotPasses}
 use Rattle.rp_simplex.proofs.Divisors.{divided}
 use Rattle.rp_simplex.proofs.Pushed.{place_below, not_zero}

@@ -1,8 +1,7 @@
 -- What the last tableau shows is an equal pair, or a feasible point and a ray.
-use Rattle.std.proofs.Common.{◌≡◌, ◌≢◌, ℕ, zero, suc, ◌+◌, ◌-◌, ◌*◌, ◌<◌, ◌≤◌, ℤ, pos, negsuc, ◌+ℤ◌, ◌-ℤ◌, ◌*ℤ◌, neg_ℤ, ◌<ℤ◌, ◌≤ℤ◌, Bool, ◌⊎◌, cond, eqb, ltb, true, false, inl, inr, refl, sym, ◌∙◌, ap, subst, arith}
+use Rattle.std.proofs.Common.{◌≡◌, ◌≢◌, ℕ, zero, suc, ◌+◌, ◌-◌, ◌<◌, ◌≤◌, ℤ, pos, negsuc, ◌+ℤ◌, ◌-ℤ◌, ◌*ℤ◌, neg_ℤ, ◌<ℤ◌, ◌≤ℤ◌, ◌⊎◌, ltb, true, false, inl, inr, refl, sym, ◌∙◌, ap, subst, arith}
 use Rattle.std.proofs.lemmas.Int.{ints}
 use Rattle.std.proofs.lemmas.Bool.{cases_eq, cases_lt, lt-ltb, le-ltb}
-use borrow.Author.Differences.{up}
 use Rattle.rp_farkas.specs.Total.{total}
 use Rattle.rp_farkas.specs.LinearProgram.{LinearProgram}
 use Rattle.rp_farkas.specs.Point.{IsFeasiblePoint, row_times, value_of}
@@ -16,8 +15,8 @@ use Rattle.rp_simplex.specs.FirstTableau.{first_entry}
 use Rattle.rp_simplex.specs.Lexicographic.{IsLexLess}
 use Rattle.rp_simplex.specs.Choice.{IsEntering, IsOptimal, IsUnbounded}
 use Rattle.rp_simplex.specs.Readout.{IsReadAt, ShowsPoint, ShowsPrices, ShowsRay}
-use Rattle.rp_simplex.proofs.Ring.{Term, at, ◌⊕◌, ◌⊖◌, ◌⊗◌, ring}
-use Rattle.rp_simplex.proofs.Linear.{delta, delta-same, delta-other, total-delta, cancel}
+use Rattle.rp_simplex.proofs.Ring.{at, ◌⊕◌, ◌⊖◌, ◌⊗◌, ring}
+use Rattle.rp_simplex.proofs.Linear.{delta, delta-same, delta-other, total-delta}
 use Rattle.rp_simplex.proofs.Sound.{IsSound}
 
 -- the row whose number is x, or none

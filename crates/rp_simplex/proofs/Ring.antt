@@ -1,6 +1,5 @@
 -- Identities of the ring of whole numbers: both sides as terms, and one equation of natural numbers that `omega` decides.
-use Rattle.std.proofs.Common.{◌≡◌, ℕ, ◌+◌, ◌*◌, ◌<◌, ℤ, pos, ◌+ℤ◌, ◌-ℤ◌, ◌*ℤ◌, neg_ℤ, refl, ap, arith}
-use Rattle.std.proofs.lemmas.Int.{ints}
+use Rattle.std.proofs.Common.{◌≡◌, ℕ, ◌+◌, ◌*◌, ℤ, ◌+ℤ◌, ◌-ℤ◌, ◌*ℤ◌, neg_ℤ, ap, arith}
 use borrow.Author.Differences.{up, down, same_in, product_is, sum_is_lem, neg_is}
 
 infixl 6 ◌⊕◌ ◌⊖◌

@@ -1,6 +1,5 @@
 -- Where the code's loop stands in the run.
-use Rattle.std.proofs.Common.{◌≡◌, ◌≢◌, ℕ, zero, suc, ◌+◌, ◌-◌, ◌*◌, ◌^◌, ◌<◌, ◌≤◌, min, List, length, get_or, slice_index, All, ℤ, pos, ◌*ℤ◌, ◌<ℤ◌, ◌≤ℤ◌, ◌⊎◌, inl, inr, refl, sym, ◌∙◌, ap, subst, arith, vec_len}
-use Rattle.std.specs.Int.RustNames.{unsigned_abs}
+use Rattle.std.proofs.Common.{◌≡◌, ◌≢◌, ℕ, suc, ◌+◌, ◌-◌, ◌*◌, ◌^◌, ◌<◌, min, pos, ◌*ℤ◌, ◌≤ℤ◌, inl, inr, sym, ◌∙◌, ap, subst, arith, vec_len}
 use Rattle.std.proofs.lemmas.Int.{ints}
 use Rattle.std.proofs.lemmas.Bool.{cases_eq}
 use Rattle.rp_farkas.specs.LinearProgram.{LinearProgram}
@@ -8,7 +7,7 @@ use Rattle.rp_farkas.specs.Limits.{IsWithinLimits}
 use Rattle.rp_simplex.specs.declared.tableau.Tableau.{Tableau}
 use Rattle.rp_simplex.specs.ExactTableau.{ExactTableau, width_of}
 use Rattle.rp_simplex.specs.FirstTableau.{IsFirstTableau}
-use Rattle.rp_simplex.specs.Choice.{IsEntering, IsOptimal, IsLeaving, IsUnbounded, HasNoTies}
+use Rattle.rp_simplex.specs.Choice.{IsEntering, IsLeaving, HasNoTies}
 use Rattle.rp_simplex.specs.Width.{IsWithinWidth}
 use Rattle.rp_simplex.specs.Pivot.{IsPivot}
 use Rattle.rp_simplex.specs.Run.{Reaches, begins, pivots}
@@ -16,7 +15,7 @@ use Rattle.rp_simplex.specs.Shown.{exact, IsShapedFor}
 use Rattle.rp_simplex.specs.Readout.{HasDistinctBasis}
 use Rattle.rp_simplex.proofs.Linear.{delta-other}
 use Rattle.rp_simplex.proofs.Sound.{IsSound}
-use Rattle.rp_simplex.proofs.PivotSound.{objective_rises, next_den_positive}
+use Rattle.rp_simplex.proofs.PivotSound.{objective_rises}
 use Rattle.rp_simplex.proofs.Reading.{distinct, right_side}
 use Rattle.rp_simplex.proofs.Steps.{reached_sound, no_tie}
 use Rattle.rp_simplex.proofs.Ends.{distance, distance_falls}

@@ -1,20 +1,11 @@
 -- The tableaus of a run are sound, and the run is determined.
-use Prim.Native.Nat.{◌∣◌}
-use Rattle.std.proofs.Common.{◌≡◌, ◌≢◌, ℕ, zero, suc, ◌+◌, ◌*◌, ◌<◌, ◌≤◌, ℤ, pos, negsuc, ◌+ℤ◌, ◌-ℤ◌, ◌*ℤ◌, ◌<ℤ◌, ◌≤ℤ◌, Bool, ◌⊎◌, cond, eqb, true, false, inl, inr, refl, sym, ◌∙◌, ap, subst, arith}
-use Rattle.std.specs.Int.RustNames.{unsigned_abs}
+use Rattle.std.proofs.Common.{◌≡◌, ◌≢◌, ℕ, ◌<◌, pos, ◌*ℤ◌, ◌<ℤ◌, sym, ◌∙◌, ap, arith}
 use Rattle.std.proofs.lemmas.Int.{ints}
-use Rattle.std.proofs.lemmas.Bool.{cases_eq, cases_lt}
-use Rattle.std.proofs.lemmas.Nat.Gcd.{dvd_antisymm}
 use Rattle.rp_farkas.specs.LinearProgram.{LinearProgram}
 use Rattle.rp_farkas.specs.Limits.{IsWithinLimits}
 use Rattle.rp_simplex.specs.ExactTableau.{ExactTableau, width_of}
-use Rattle.rp_simplex.specs.FirstTableau.{IsFirstTableau, first_entry}
-use Rattle.rp_simplex.specs.Lexicographic.{IsLexLess}
-use Rattle.rp_simplex.specs.Choice.{IsEntering, IsOptimal, IsLeaving, IsUnbounded}
-use Rattle.rp_simplex.specs.Pivot.{cleared, DividesAll, IsPivot}
 use Rattle.rp_simplex.specs.Run.{Reaches, begins, pivots}
-use Rattle.rp_simplex.specs.Width.{IsWithinWidth}
-use Rattle.rp_simplex.proofs.Linear.{delta, delta-same, delta-other, cancel, positive_times}
+use Rattle.rp_simplex.proofs.Linear.{delta-same, delta-other, positive_times}
 use Rattle.rp_simplex.proofs.Sound.{IsSound, first_sound}
 use Rattle.rp_simplex.proofs.PivotSound.{pivot_sound}
 

@@ -1,5 +1,5 @@
 -- Which column enters, and which row leaves.
-use Rattle.std.specs.Prelude.{ℕ, ◌≡◌, ◌≢◌, ◌<◌, ◌≤◌, ℤ, pos, ◌*ℤ◌, ◌≤ℤ◌, ◌<ℤ◌, Option, MatchOption}
+use Rattle.std.specs.Prelude.{ℕ, ◌≡◌, ◌≢◌, ◌<◌, ◌≤◌, pos, ◌*ℤ◌, ◌≤ℤ◌, ◌<ℤ◌, Option, MatchOption}
 use Rattle.rp_simplex.specs.ExactTableau.{ExactTableau}
 use Rattle.rp_simplex.specs.Lexicographic.{IsLexLess}
 

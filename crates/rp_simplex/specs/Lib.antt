@@ -8,3 +8,5 @@ pub mod Run
 pub mod Shown
 pub mod Readout
 pub mod Outcome
+pub mod SameOutcome
+pub mod Evidence

@@ -1,9 +1,9 @@
-use Rattle.std.proofs.Common.{subst, Option, Some}
+use Rattle.std.proofs.Common.{subst, Option}
 use Rattle.std.proofs.Common.{ℕ}
 use Rattle.rp_simplex.specs.Shown.{exact}
 use Rattle.rp_simplex.specs.Choice.{LeavesBelow}
 use Rattle.rp_simplex.proofs.Bits.{at_most_zero, above_zero}
-use Rattle.rp_simplex.proofs.Choices.{keep, first_row, replaced, kept}
+use Rattle.rp_simplex.proofs.Choices.{keep, replaced, kept}
 use Rattle.rp_simplex.proofs.choice.better_row.Goals as goal
 
 pub returns-then-entry-le0 : goal.returns-then-entry-le0

@@ -1,4 +1,4 @@
-use Rattle.rp_simplex.proofs.Divisors.{divided, quotient_read}
+use Rattle.rp_simplex.proofs.Divisors.{quotient_read}
 use Rattle.rp_simplex.proofs.pivot.quotient.Goals as goal
 
 pub returns-clause-value : goal.returns-clause-value

@@ -1,9 +1,8 @@
 use Prim.Native.Nat.{◌∣◌}
-use Rattle.std.proofs.Common.{◌≡◌, ℕ, ◌+◌, ◌<◌, ◌^◌, ℤ, pos, ◌*ℤ◌, get_or, sym, ◌∙◌, ap, subst, arith}
+use Rattle.std.proofs.Common.{◌≡◌, ◌+◌, ◌<◌, ◌^◌, ℤ, pos, ◌*ℤ◌, get_or, sym, ◌∙◌, ap, subst, arith}
 use Rattle.std.specs.Int.{w128}
 use Rattle.std.specs.Int.RustNames.{unsigned_abs}
 use Rattle.std.proofs.lemmas.Int.{to_z-of_z, fits_signed_from_abs}
-use Rattle.rp_simplex.proofs.Bits.{back128}
 use Rattle.rp_simplex.proofs.Divisors.{quotient_wide, quotient_kept, quotient_fits}
 use Rattle.rp_simplex.proofs.Pushed.{pushed, pushed_all}
 use Rattle.rp_simplex.proofs.pivot.quotients.Goals as goal

@@ -1,4 +1,4 @@
-use Rattle.std.proofs.Common.{◌≡◌, ℕ, ◌<◌, ◌^◌, pos, All, vec_len, slice_index}
+use Rattle.std.proofs.Common.{◌≡◌, ◌<◌, ◌^◌, pos, All, vec_len, slice_index}
 use Rattle.rp_simplex.specs.Shown.{exact}
 use Rattle.rp_simplex.specs.Readout.{IsReadAt}
 use Rattle.rp_simplex.proofs.readout.point_numerators.Given as goal
