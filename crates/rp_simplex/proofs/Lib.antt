@@ -1,0 +1,17 @@
+pub mod Ring
+pub mod Linear
+pub mod Sound
+pub mod PivotSound
+pub mod Reading
+pub mod Ends
+pub mod Steps
+pub mod Choices
+pub mod Bits
+pub mod Divisors
+pub mod Pushed
+pub mod Pivoted
+pub mod Entries
+pub mod Runs
+pub mod Ending
+pub mod Determined
+pub mod Outcomes
