@@ -39,7 +39,10 @@ fn pairs_over_worked_tables_and_tables_of_another_form(rt: HostRuntime) -> Resul
         ("p_a,q_a,p_b,q_b\n1,1,2,2\n2,2,1,1\n", "pair 1 2\n"),
         ("p_a,q_a,p_b,q_b\n1,2,2,1\n2,1,1,2\n", "pair none\n"),
         ("p_a,q_a\n3,2\n", "pair none\n"),
-        ("p_a,q_a,p_b,q_b,p_c,q_c\n2,1,1,0,3,0\n3,0,2,1,1,0\n1,0,3,0,2,1\n", "pair none\n"),
+        (
+            "p_a,q_a,p_b,q_b,p_c,q_c\n2,1,1,0,3,0\n3,0,2,1,1,0\n1,0,3,0,2,1\n",
+            "pair none\n",
+        ),
         ("p_a,q_a,p_b,q_b\n1.0,1,2,2\n2,2,1,1\n", ""),
         ("p_a,q_a,p_b,q_b\n0,1,2,2\n2,2,1,1\n", ""),
         ("p_a,q_a,p_b,q_b\n1,0,2,0\n2,2,1,1\n", ""),
@@ -86,8 +89,18 @@ fn words_files_and_sinks_that_fail(rt: HostRuntime) -> Result<(), Fail> {
     let none: &[u64] = &[];
     let first: &[u64] = &[1];
     for (words, fails, status, err) in [
-        (["rp", "pairs", "no.csv"], none, Status::ReadFault, "rp: no.csv: read failed\n"),
-        (["rp", "pairs", "t.csv"], first, Status::WriteFault, "rp: write failed\n"),
+        (
+            ["rp", "pairs", "no.csv"],
+            none,
+            Status::ReadFault,
+            "rp: no.csv: read failed\n",
+        ),
+        (
+            ["rp", "pairs", "t.csv"],
+            first,
+            Status::WriteFault,
+            "rp: write failed\n",
+        ),
         (["rp", "pair", "t.csv"], none, Status::Usage, usage),
         (["rp", "pairs", "-t.csv"], none, Status::Usage, usage),
         (["rp", "pairs", ""], none, Status::Usage, usage),
@@ -97,7 +110,12 @@ fn words_files_and_sinks_that_fail(rt: HostRuntime) -> Result<(), Fail> {
         assert_eq!(rt; got.out.as_str(), "", "output of {words:?}");
         assert_eq!(rt; got.err.as_str(), err, "errors of {words:?}");
     }
-    for few in [&["rp"] as &[&str], &["rp", "pairs"], &["rp", "pairs", "t.csv", "t.csv"], &[]] {
+    for few in [
+        &["rp"] as &[&str],
+        &["rp", "pairs"],
+        &["rp", "pairs", "t.csv", "t.csv"],
+        &[],
+    ] {
         let got = answer(alloc, few, file, &[])?;
         assert_eq!(rt; got.status, Status::Usage, "status of {few:?}");
         assert_eq!(rt; got.err.as_str(), usage, "errors of {few:?}");
@@ -132,7 +150,10 @@ fn analyse_reports_the_verdict_on_garp(rt: HostRuntime) -> Result<(), Fail> {
             "p_a,q_a,p_b,q_b,p_c,q_c\n2,1,1,0,3,0\n3,0,2,1,1,0\n1,0,3,0,2,1\n",
             "observations 3 goods 3 places 0 0\ngarp violated\ncycle 1 2 3 1\n",
         ),
-        ("p_a,q_a\n3,2\n", "observations 1 goods 1 places 0 0\ngarp holds\nranks 1\n"),
+        (
+            "p_a,q_a\n3,2\n",
+            "observations 1 goods 1 places 0 0\ngarp holds\nranks 1\n",
+        ),
         (
             "p_a,q_a,p_b,q_b\n2,3,1,2\n1,0,2,3\n2,1,1,0\n",
             "observations 3 goods 2 places 0 0\ngarp holds\nranks 3 2 1\n",
@@ -150,7 +171,10 @@ fn analyse_reports_the_verdict_on_garp(rt: HostRuntime) -> Result<(), Fail> {
 fn analyse_of_the_most_observations(rt: HostRuntime) -> Result<(), Fail> {
     let alloc = rt.alloc();
     let mut chain = String::from_str(alloc, "p_a,q_a\n")?;
-    let mut ranks = String::from_str(alloc, "observations 256 goods 1 places 0 0\ngarp holds\nranks")?;
+    let mut ranks = String::from_str(
+        alloc,
+        "observations 256 goods 1 places 0 0\ngarp holds\nranks",
+    )?;
     for k in 0..256u32 {
         let left = 256 - k;
         chain.push_str(format!(in alloc; "1,{left}\n")?.as_str())?;
@@ -169,9 +193,16 @@ fn analyse_of_the_most_observations(rt: HostRuntime) -> Result<(), Fail> {
 fn analyse_finds_the_one_violation_that_runs_through_all(rt: HostRuntime) -> Result<(), Fail> {
     let alloc = rt.alloc();
     let mut file = String::from_str(alloc, "p_a,q_a,p_b,q_b,p_c,q_c\n")?;
-    let mut cycle = String::from_str(alloc, "observations 256 goods 3 places 0 0\ngarp violated\ncycle")?;
+    let mut cycle = String::from_str(
+        alloc,
+        "observations 256 goods 3 places 0 0\ngarp violated\ncycle",
+    )?;
     for t in 0..256u32 {
-        let (first, second) = if t < 255 { (511 - 2 * t, 513) } else { (1023, 510) };
+        let (first, second) = if t < 255 {
+            (511 - 2 * t, 513)
+        } else {
+            (1023, 510)
+        };
         let square = t * t;
         let rest = 65_280 - t - square;
         file.push_str(format!(in alloc; "{first},{t},{second},{square},512,{rest}\n")?.as_str())?;

@@ -3,3 +3,9 @@
 
 #[cfg(test)]
 mod command;
+#[cfg(test)]
+mod numbers;
+#[cfg(test)]
+mod outside;
+#[cfg(test)]
+mod preference;
