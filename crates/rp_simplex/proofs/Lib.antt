@@ -15,3 +15,4 @@ pub mod Runs
 pub mod Ending
 pub mod Determined
 pub mod Outcomes
+pub mod Worked
