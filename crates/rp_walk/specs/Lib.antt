@@ -1,0 +1,4 @@
+pub mod ExactTotal
+pub mod Walk
+pub mod LeastTotals
+pub mod Settled
