@@ -1,4 +1,4 @@
-use Rattle.std.proofs.Common.{◌≡◌, ℕ, ◌+◌, ◌*◌, ◌<◌, ◌≤◌, arith, ◌⊎◌, inl, inr, ◌↔◌, ap, sym, ◌∙◌, refl}
+use Rattle.std.proofs.Common.{◌≡◌, ℕ, ◌+◌, ◌*◌, ◌<◌, ◌≤◌, arith, ◌⊎◌, inl, inr, sym, refl}
 use Rattle.std.proofs.lemmas.Int.{ints}
 use Rattle.std.proofs.lemmas.Bool.{cases_lt}
 use Rattle.std.proofs.Math.Nat.{mul-lt-mul_of_pos_right, mul-le-mul_right, lt_of_mul-lt-mul_right, le_of_mul-le-mul_right}
@@ -58,17 +58,17 @@ IsLess-irrefl x h =
 pub less_not_more : (x y z : ExactTotal) → IsLess x y → ¬ (IsLess z y) → IsLess x z
 less_not_more x y z h g =
     from_nat x.num z.num x.den z.den
-        (less_then_not_more (up x.num) (down x.num) x.den (up y.num) (down y.num) y.den (up z.num) (down z.num) z.den
-            x.positive y.positive z.positive
-            (to_nat x.num y.num x.den y.den h) (not_to_nat z.num y.num z.den y.den g))
+    (less_then_not_more (up x.num) (down x.num) x.den (up y.num) (down y.num) y.den (up z.num) (down z.num) z.den
+    x.positive y.positive z.positive
+    (to_nat x.num y.num x.den y.den h) (not_to_nat z.num y.num z.den y.den g))
 
 -- not more, and then less
 pub not_more_less : (x y z : ExactTotal) → ¬ (IsLess y x) → IsLess y z → IsLess x z
 not_more_less x y z h g =
     from_nat x.num z.num x.den z.den
-        (not_more_then_less (up x.num) (down x.num) x.den (up y.num) (down y.num) y.den (up z.num) (down z.num) z.den
-            x.positive y.positive z.positive
-            (not_to_nat y.num x.num y.den x.den h) (to_nat y.num z.num y.den z.den g))
+    (not_more_then_less (up x.num) (down x.num) x.den (up y.num) (down y.num) y.den (up z.num) (down z.num) z.den
+    x.positive y.positive z.positive
+    (not_to_nat y.num x.num y.den x.den h) (to_nat y.num z.num y.den z.den g))
 
 -- not more, and then not more
 pub not_more_trans : (x y z : ExactTotal) → ¬ (IsLess y x) → ¬ (IsLess z y) → ¬ (IsLess z x)

@@ -2,3 +2,4 @@ pub mod ExactTotal
 pub mod Walk
 pub mod LeastTotals
 pub mod Settled
+pub mod Level

@@ -1,7 +1,7 @@
-use Rattle.std.specs.Prelude.{◌≡◌, ℕ, ◌<◌, ◌⊎◌, List, [], ◌∷◌, length, slice_index_or}
+use Rattle.std.specs.Prelude.{◌≡◌, ℕ, ◌<◌, ◌⊎◌, List, [], ◌∷◌, length}
 use Rattle.rp_walk.specs.ExactTotal.{ExactTotal, IsLess, SameTotal}
 use Rattle.rp_walk.specs.Walk.{Steps, IsWalk, IsTotal, end_of, total_after}
-use Rattle.rp_walk.specs.LeastTotals.{IsLeast, IsFirstTooWide, NoneTooWide}
+use Rattle.rp_walk.specs.LeastTotals.{IsLeast}
 
 -- The closed walk s, t, s ends below its start, for every start that a walk reaches at s.
 abbrev pub PairBreaks : Steps → ℕ → ℕ → Type 0
