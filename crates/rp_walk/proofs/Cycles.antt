@@ -4,16 +4,10 @@ use Rattle.rp_walk.specs.ExactTotal.{ExactTotal, IsLess, SameTotal}
 use Rattle.rp_walk.specs.Walk.{Steps, end_of, total_after}
 use Rattle.rp_walk.specs.LeastTotals.{IsLeastWithin, IsLive, NoneTooWide}
 use Rattle.rp_walk.specs.Settled.{IsViolation}
-use Rattle.rp_walk.specs.Level.{CameFrom}
+use Rattle.rp_walk.specs.Level.{IsFound, prefix_total}
 use Rattle.rp_walk.proofs.Order.{less_not_more, not_more_less, not_less-same}
-use Rattle.rp_walk.proofs.Paths.{KeepsOrder, after-same, prefix_total, IsTotal-prefix, closed_part_below}
+use Rattle.rp_walk.proofs.Paths.{KeepsOrder, after-same, IsTotal-prefix, closed_part_below}
 use Rattle.rp_walk.proofs.Levels.{IsLeastWithin-zero}
-
--- a walk that the levels found: p 0, p 1, .. to p k
-pub record IsFound (w : Steps) (k : ℕ) (p : ℕ → ℕ) : Type 0 where
-  pub ends_within : p k < w.count
-  pub live : IsLive w k (p k)
-  pub came : (m : ℕ) → m < k → CameFrom w m (p (suc m)) (p m)
 
 pub found_within : (w : Steps) (k : ℕ) (p : ℕ → ℕ) → IsFound w k p → (m : ℕ) → m ≤ k → p m < w.count
 found_within w k p found m h = by_cases (cases_lt m k)
@@ -43,11 +37,11 @@ found_least w k p found (suc m) h =
 pub found_fits : (w : Steps) (fits : ExactTotal → Type 0) (k : ℕ) (p : ℕ → ℕ) → IsFound w k p → k ≤ w.count → NoneTooWide w fits → (m : ℕ) → m < k → ¬ (¬ (fits (w.after (prefix_total w p m) (p m) (p (suc m)))))
 found_fits w fits k p found few none m h nofit =
     none m (p m) (p (suc m)) (record {
-        level_within = omega arith;
-        from_within = found_within w k p found m (omega arith);
-        to_within = found_within w k p found (suc m) (omega arith);
-        live = found_live w k p found m (omega arith);
-        not_fit = (prefix_total w p m, found_least w k p found m (omega arith), nofit)
+      level_within = omega arith;
+      from_within = found_within w k p found m (omega arith);
+      to_within = found_within w k p found (suc m) (omega arith);
+      live = found_live w k p found m (omega arith);
+      not_fit = (prefix_total w p m, found_least w k p found m (omega arith), nofit);
     })
 
 -- the observations that a walk goes on to after p a, for d steps
@@ -80,39 +74,41 @@ segment-within P p a (suc d) h (suc k) e below =
     segment-within P p (suc a) d (λ m l u. h m (omega arith) (omega arith)) k e (omega arith)
 
 -- from the same number, a walk ends at the same number
-total_after-same : (w : Steps) (keeps : KeepsOrder w) (x y : ExactTotal) (s : ℕ) (rest : List ℕ) → s < w.count → All (λ n. n < w.count) rest → SameTotal x y → SameTotal (total_after w x s rest) (total_after w y s rest)
+pub total_after-same : (w : Steps) (keeps : KeepsOrder w) (x y : ExactTotal) (s : ℕ) (rest : List ℕ) → s < w.count → All (λ n. n < w.count) rest → SameTotal x y → SameTotal (total_after w x s rest) (total_after w y s rest)
 total_after-same w keeps x y s [] hs within h = h
 total_after-same w keeps x y s (t ∷ rest) hs within h =
     let ht : t < w.count = within 0 t (omega arith) in
     total_after-same w keeps (w.after x s t) (w.after y s t) t rest ht
-        (λ k d below. within (suc k) d (omega arith))
-        (after-same w keeps x y s t hs ht h)
+    (λ k d below. within (suc k) d (omega arith))
+    (after-same w keeps x y s t hs ht h)
 
 -- a closed part of a found walk is a violation, from its total at that place
 pub IsViolation-part : (w : Steps) (keeps : KeepsOrder w) (k : ℕ) (p : ℕ → ℕ) (a d : ℕ) (start : ExactTotal) → IsFound w k p → 0 < d → a + d ≤ k → p a ≡ p (a + d) → SameTotal (prefix_total w p a) start → IsViolation w start (p a ∷ segment p a d)
 IsViolation-part w keeps k p a d start found some few same is_start = record {
-    first = p a;
-    rest = segment p a d;
-    is_walk = record { begins_within = within a (omega arith); goes_within = inside };
-    walk_is = refl;
-    has_step = omega (arith, length-segment p a d);
-    closed = end_of-segment p a d ∙ sym same;
-    start_reached = (a, prefix_total w p a, IsTotal-prefix w p a (λ m h. within m (omega arith)), is_start);
-    ends_below = below
+  first = p a;
+  rest = segment p a d;
+  is_walk = record { begins_within = within a (omega arith); goes_within = inside };
+  walk_is = refl;
+  has_step = omega (arith, length-segment p a d);
+  closed = end_of-segment p a d ∙ sym same;
+  start_reached = (a, prefix_total w p a, IsTotal-prefix w p a (λ m h. within m (omega arith)), is_start);
+  ends_below = below;
 }
   where
     within : (m : ℕ) → m ≤ k → p m < w.count
     within = found_within w k p found
+
     inside : All (λ n. n < w.count) (segment p a d)
     inside = segment-within (λ n. n < w.count) p a d (λ m l u. within m (omega arith))
+
     below : IsLess (total_after w start (p a) (segment p a d)) start
     below =
         let less = closed_part_below w keeps p k a (a + d) within (found_least w k p found k (omega arith)) found.live (omega arith) few same in
         let ends = total_after-same w keeps (prefix_total w p a) start (p a) (segment p a d) (within a (omega arith)) inside is_start in
         let ends_at = subst (λ (x : ExactTotal). SameTotal x (total_after w start (p a) (segment p a d))) (total_after-segment w p a d) ends in
         not_more_less (total_after w start (p a) (segment p a d)) (prefix_total w p (a + d)) start
-            (not_less-same (prefix_total w p (a + d)) (total_after w start (p a) (segment p a d)) ends_at)
-            (less_not_more (prefix_total w p (a + d)) (prefix_total w p a) start less (not_less-same start (prefix_total w p a) (sym is_start)))
+        (not_less-same (prefix_total w p (a + d)) (total_after w start (p a) (segment p a d)) ends_at)
+        (less_not_more (prefix_total w p (a + d)) (prefix_total w p a) start less (not_less-same start (prefix_total w p a) (sym is_start)))
 
 -- the part of a list from a place on, as a walk
 pub drop-segment : (xs : List ℕ) (a d : ℕ) → a + d < length xs → take (suc d) (drop a xs) ≡ get_or xs a 0 ∷ segment (λ m. get_or xs m 0) a d

@@ -11,14 +11,14 @@ use Rattle.rp_walk.proofs.Paths.{KeepsOrder, after-not_less, after-same}
 pub SameTotal-trans : (x y z : ExactTotal) → SameTotal x y → SameTotal y z → SameTotal x z
 SameTotal-trans x y z h g =
     same_not_less x z
-        (not_more_trans z y x (not_less-same y z g) (not_less-same x y h))
-        (not_more_trans x y z (not_less-same y x (sym h)) (not_less-same z y (sym g)))
+    (not_more_trans z y x (not_less-same y z g) (not_less-same x y h))
+    (not_more_trans x y z (not_less-same y x (sym h)) (not_less-same z y (sym g)))
 
 -- level 0
 pub IsLeastWithin-zero : (w : Steps) (s : ℕ) → s < w.count → IsLeastWithin w 0 s w.empty
 IsLeastWithin-zero w s h = record {
-    reached = (0, w.empty, omega arith, IsTotal-here w s h, refl);
-    lowest = λ j y few reached. refuted j y few reached
+  reached = (0, w.empty, omega arith, IsTotal-here w s h, refl);
+  lowest = λ j y few reached. refuted j y few reached;
 }
   where
     refuted : (j : ℕ) (y : ExactTotal) → j ≤ 0 → IsTotal w j s y → ¬ (IsLess y w.empty)
@@ -27,7 +27,7 @@ IsLeastWithin-zero w s h = record {
     refuted (suc j) y few reached less = absurd (omega arith)
 
 -- a level is not above the one before it
-not_above : (w : Steps) (f g : ℕ → ExactTotal) (from came : ℕ → ℕ) (tried s : ℕ) → IsNext w f from tried g came → s < w.count → ¬ (IsLess (f s) (g s))
+pub not_above : (w : Steps) (f g : ℕ → ExactTotal) (from came : ℕ → ℕ) (tried s : ℕ) → IsNext w f from tried g came → s < w.count → ¬ (IsLess (f s) (g s))
 not_above w f g from came tried s next below =
     by_cases (cases_lt (came s) w.count)
   where
@@ -64,6 +64,7 @@ next_lowest w keeps k f g from came s level next hs j y few reached =
         let below = step_not_below w keeps k f g from came s parts.0 level next hs ht in
         let all = not_more_trans (g s) (w.after (f parts.0) parts.0 s) (w.after parts.1 parts.0 s) below up in
         subst (λ (x : ExactTotal). ¬ (IsLess x (g s))) parts.4 all
+
     by_cases : (k < j) ⊎ (j ≤ k) → ¬ (IsLess y (g s))
     by_cases (inl h) =
         let e : j ≡ suc k = omega arith in
@@ -74,8 +75,8 @@ next_lowest w keeps k f g from came s level next hs j y few reached =
 pub next_least : (w : Steps) (keeps : KeepsOrder w) (k : ℕ) (f g : ℕ → ExactTotal) (from came : ℕ → ℕ) (s : ℕ) → IsLevel w k f from → IsNext w f from w.count g came → s < w.count → IsLeastWithin w (suc k) s (g s)
 next_least w keeps k f g from came s level next hs =
     record {
-        reached = by_cases (cases_lt (came s) w.count);
-        lowest = next_lowest w keeps k f g from came s level next hs
+      reached = by_cases (cases_lt (came s) w.count);
+      lowest = next_lowest w keeps k f g from came s level next hs;
     }
   where
     by_cases : (came s < w.count) ⊎ (w.count ≤ came s) → (j : ℕ) × (y : ExactTotal) × (j ≤ suc k) × IsTotal w j s y × SameTotal y (g s)
@@ -83,9 +84,13 @@ next_least w keeps k f g from came s level next hs =
         let t = came s in
         let r = (level.least t h).reached in
         let longer = IsTotal-further w r.0 t s r.1 r.3 hs in
-        let same = after-same w keeps r.1 (f t) t s h hs r.4 in
-        (suc r.0, w.after r.1 t s, omega (arith, r.2), longer,
-            SameTotal-trans (w.after r.1 t s) (w.after (f t) t s) (g s) same (sym (next.taken s hs h)))
+        let same = after-same w keeps r.1 (f t) t s h hs r.4 in (
+          suc r.0,
+          w.after r.1 t s,
+          omega (arith, r.2),
+          longer,
+          SameTotal-trans (w.after r.1 t s) (w.after (f t) t s) (g s) same (sym (next.taken s hs h)),
+        )
     by_cases (inr h) =
         let r = (level.least s hs).reached in
         (r.0, r.1, omega (arith, r.2), r.3, subst (λ (x : ExactTotal). SameTotal r.1 x) (sym (next.kept s hs h)) r.4)
@@ -93,12 +98,19 @@ next_least w keeps k f g from came s level next hs =
 -- the next level is one
 pub IsLevel-next : (w : Steps) (keeps : KeepsOrder w) (k : ℕ) (f g : ℕ → ExactTotal) (from came : ℕ → ℕ) → IsLevel w k f from → IsNext w f from w.count g came → IsLevel w (suc k) g came
 IsLevel-next w keeps k f g from came level next = record {
-    least = λ s hs. next_least w keeps k f g from came s level next hs;
-    live = λ s hs h. inr (g s, f s, next_least w keeps k f g from came s level next hs,
-        subst (λ n. IsLeastWithin w n s (f s)) back (level.least s hs), next.less s hs h);
-    idle = λ s hs h. (omega arith,
-        subst (λ n. IsLeastWithin w n s (g s)) back
-            (subst (λ (x : ExactTotal). IsLeastWithin w k s x) (sym (next.kept s hs h)) (level.least s hs)))
+  least = λ s hs. next_least w keeps k f g from came s level next hs;
+  live = λ s hs h. inr (
+    g s,
+    f s,
+    next_least w keeps k f g from came s level next hs,
+    subst (λ n. IsLeastWithin w n s (f s)) back (level.least s hs),
+    next.less s hs h,
+  );
+  idle = λ s hs h. (
+    omega arith,
+    subst (λ n. IsLeastWithin w n s (g s)) back
+        (subst (λ (x : ExactTotal). IsLeastWithin w k s x) (sym (next.kept s hs h)) (level.least s hs)),
+  );
 }
   where
     back : k ≡ suc k - 1

@@ -2,6 +2,7 @@ use Rattle.std.proofs.Common.{◌≡◌, ℕ, zero, suc, ◌+◌, ◌-◌, ◌<�
 use Rattle.rp_walk.specs.ExactTotal.{ExactTotal, IsLess, SameTotal}
 use Rattle.rp_walk.specs.Walk.{Steps, IsTotal}
 use Rattle.rp_walk.specs.LeastTotals.{IsLeastWithin, IsLive}
+use Rattle.rp_walk.specs.Level.{prefix_total}
 use Rattle.rp_walk.proofs.Order.{not_more_less, not_more_trans, less_or_not, not_less-same, same_not_less}
 use Rattle.rp_walk.proofs.Walks.{IsTotal-here, IsTotal-further}
 
@@ -41,11 +42,6 @@ IsLeastWithin-same w k s x y h e = record {
   );
   lowest = λ j z few reached. not_more_trans y x z (not_less-same x y e) (h.lowest j z few reached);
 }
-
--- the total of a walk that goes through p 0, p 1, .. to p m
-abbrev pub prefix_total : Steps → (ℕ → ℕ) → ℕ → ExactTotal
-prefix_total w p zero = w.empty
-prefix_total w p (suc m) = w.after (prefix_total w p m) (p m) (p (suc m))
 
 pub IsTotal-prefix : (w : Steps) (p : ℕ → ℕ) (k : ℕ) → ((m : ℕ) → m ≤ k → p m < w.count) → IsTotal w k (p k) (prefix_total w p k)
 IsTotal-prefix w p zero within = IsTotal-here w (p 0) (within 0 (omega arith))

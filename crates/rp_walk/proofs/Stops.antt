@@ -22,9 +22,9 @@ pub idle_not_live : (w : Steps) (k : ℕ) (f : ℕ → ExactTotal) (from : ℕ �
 idle_not_live w k f from t level ht idle (inl e) = absurd (omega (arith, e, (level.idle t ht idle).0))
 idle_not_live w k f from t level ht idle (inr (x, y, hx, hy, less)) =
     not_less-of_same x y (f t)
-        (same_least w k t x (f t) hx (level.least t ht))
-        (same_least w (k - 1) t y (f t) hy (level.idle t ht idle).1)
-        less
+    (same_least w k t x (f t) hx (level.least t ht))
+    (same_least w (k - 1) t y (f t) hy (level.idle t ht idle).1)
+    less
 
 -- where the step fits if it can matter, the triple is not too wide
 pub not_wide-fits : (w : Steps) (keeps : KeepsOrder w) (fits : ExactTotal → Type 0) (alike : FitsAlike fits) (k : ℕ) (f : ℕ → ExactTotal) (from : ℕ → ℕ) (t s : ℕ) → IsLevel w k f from → (t < w.count → s < w.count → from t < w.count → ¬ (¬ (fits (w.after (f t) t s)))) → ¬ (IsTooWide w fits k t s)
@@ -42,9 +42,11 @@ not_wide-fits w keeps fits alike k f from t s level fit wide =
 -- where it does not, the triple is
 pub IsTooWide-not_fit : (w : Steps) (fits : ExactTotal → Type 0) (k : ℕ) (f : ℕ → ExactTotal) (from : ℕ → ℕ) (t s : ℕ) → IsLevel w k f from → k < w.count → t < w.count → s < w.count → from t < w.count → ¬ (fits (w.after (f t) t s)) → IsTooWide w fits k t s
 IsTooWide-not_fit w fits k f from t s level hk ht hs h nofit = record {
-    level_within = hk; from_within = ht; to_within = hs;
-    live = level.live t ht h;
-    not_fit = (f t, level.least t ht, nofit)
+  level_within = hk;
+  from_within = ht;
+  to_within = hs;
+  live = level.live t ht h;
+  not_fit = (f t, level.least t ht, nofit);
 }
 
 -- no triple of the levels below k is too wide
@@ -60,13 +62,13 @@ NoneBelow-next w keeps fits alike k f from level fit none k' t s below =
     by_cases (inr h) =
         let e : k ≡ k' = omega arith in
         subst (λ n. ¬ (IsTooWide w fits n t s)) e
-            (not_wide-fits w keeps fits alike k f from t s level (λ ht hs p. fit t s ht hs p))
+        (not_wide-fits w keeps fits alike k f from t s level (λ ht hs p. fit t s ht hs p))
 
 -- the first step that does not fit, in the order of the levels and then of t and s
 pub IsFirstTooWide-found : (w : Steps) (keeps : KeepsOrder w) (fits : ExactTotal → Type 0) (alike : FitsAlike fits) (k : ℕ) (f : ℕ → ExactTotal) (from : ℕ → ℕ) (t s : ℕ) → IsLevel w k f from → NoneBelow w fits k → k < w.count → t < w.count → s < w.count → from t < w.count → TriedFits w fits f from t → ((s' : ℕ) → s' < s → ¬ (¬ (fits (w.after (f t) t s')))) → ¬ (fits (w.after (f t) t s)) → IsFirstTooWide w fits k t s
 IsFirstTooWide-found w keeps fits alike k f from t s level none hk ht hs h fit_t fit_s nofit = record {
-    too_wide = IsTooWide-not_fit w fits k f from t s level hk ht hs h nofit;
-    none_before = before
+  too_wide = IsTooWide-not_fit w fits k f from t s level hk ht hs h nofit;
+  none_before = before;
 }
   where
     at_level : (t' s' : ℕ) → (t' < t) ⊎ ((t' ≡ t) × (s' < s)) → ¬ (IsTooWide w fits k t' s')
@@ -74,7 +76,8 @@ IsFirstTooWide-found w keeps fits alike k f from t s level none hk ht hs h fit_t
         not_wide-fits w keeps fits alike k f from t' s' level (λ ht' hs' p. fit_t t' s' b hs' p)
     at_level t' s' (inr (e, b)) =
         subst (λ n. ¬ (IsTooWide w fits k n s')) (sym e)
-            (not_wide-fits w keeps fits alike k f from t s' level (λ ht' hs' p. fit_s s' b))
+        (not_wide-fits w keeps fits alike k f from t s' level (λ ht' hs' p. fit_s s' b))
+
     before : (k' t' s' : ℕ) → ComesBefore k' t' s' k t s → ¬ (IsTooWide w fits k' t' s')
     before k' t' s' (inl b) = none k' t' s' b
     before k' t' s' (inr (e, b)) = subst (λ n. ¬ (IsTooWide w fits n t' s')) (sym e) (at_level t' s' b)
@@ -105,8 +108,8 @@ IsLeast-stable w keeps k f g from came level next still s hs =
     let r = (level.least s hs).reached in
     let e = next.kept s hs (still s hs) in
     record {
-        reached = (r.0, r.1, r.3, subst (λ (x : ExactTotal). SameTotal r.1 x) (sym e) r.4);
-        lowest = λ j y reached. subst (λ (x : ExactTotal). ¬ (IsLess y x)) (sym e) (stable_lowest w keeps k f g from came level next still j s y reached)
+      reached = (r.0, r.1, r.3, subst (λ (x : ExactTotal). SameTotal r.1 x) (sym e) r.4);
+      lowest = λ j y reached. subst (λ (x : ExactTotal). ¬ (IsLess y x)) (sym e) (stable_lowest w keeps k f g from came level next still j s y reached);
     }
 
 -- and no later level is gone on from
@@ -137,11 +140,11 @@ NoneTooWide-all w fits k all none k' t s wide = none k' t s (omega (arith, wide.
 
 pub CameFrom-next : (w : Steps) (keeps : KeepsOrder w) (k : ℕ) (f g : ℕ → ExactTotal) (from came : ℕ → ℕ) (s : ℕ) → IsLevel w k f from → IsNext w f from w.count g came → s < w.count → came s < w.count → CameFrom w k s (came s)
 CameFrom-next w keeps k f g from came s level next hs h = record {
-    within = h;
-    live = level.live (came s) h (next.live_from s hs h);
-    carries = λ x hx.
-        let same_x = same_least w k (came s) (f (came s)) x (level.least (came s) h) hx in
-        let steps = after-same w keeps (f (came s)) x (came s) s h hs same_x in
-        let all = SameTotal-trans (g s) (w.after (f (came s)) (came s) s) (w.after x (came s) s) (next.taken s hs h) steps in
-        IsLeastWithin-same w (suc k) s (g s) (w.after x (came s) s) (next_least w keeps k f g from came s level next hs) all
+  within = h;
+  live = level.live (came s) h (next.live_from s hs h);
+  carries = λ x hx.
+      let same_x = same_least w k (came s) (f (came s)) x (level.least (came s) h) hx in
+      let steps = after-same w keeps (f (came s)) x (came s) s h hs same_x in
+      let all = SameTotal-trans (g s) (w.after (f (came s)) (came s) s) (w.after x (came s) s) (next.taken s hs h) steps in
+      IsLeastWithin-same w (suc k) s (g s) (w.after x (came s) s) (next_least w keeps k f g from came s level next hs) all;
 }

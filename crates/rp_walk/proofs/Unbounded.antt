@@ -5,9 +5,10 @@ use Rattle.rp_walk.specs.ExactTotal.{ExactTotal, IsLess}
 use Rattle.rp_walk.specs.Walk.{Steps, IsTotal, end_of, total_after}
 use Rattle.rp_walk.specs.LeastTotals.{IsLive}
 use Rattle.rp_walk.specs.Settled.{HasLeastTotals}
+use Rattle.rp_walk.specs.Level.{prefix_total}
 use Rattle.rp_walk.proofs.Order.{IsLess-irrefl, not_more_trans, not_less-same}
 use Rattle.rp_walk.proofs.Walks.{All-cons}
-use Rattle.rp_walk.proofs.Paths.{KeepsOrder, prefix_total, IsTotal-prefix, follow}
+use Rattle.rp_walk.proofs.Paths.{KeepsOrder, IsTotal-prefix, follow}
 use Rattle.rp_walk.proofs.Cycles.{segment, drop-segment, end_of-segment, total_after-segment}
 use Rattle.rp_walk.proofs.Repeats.{Repeats, repeats}
 
@@ -62,7 +63,7 @@ shortened w keeps p a d e within same lowest =
         let rest = follow w keeps p (a + d + e) a (d + e) (a + d) (prefix_total w p (a + d)) within (omega arith) long in
         let n : a + (d + e) ≡ a + d + e = omega arith in
         lowest (a + d + (d + e)) rest.total (subst (λ m. IsTotal w (a + d + (d + e)) (p m) rest.total) n rest.is_total)
-            (subst (λ m. IsLess rest.total (prefix_total w p m)) n (rest.less less))
+        (subst (λ m. IsLess rest.total (prefix_total w p m)) n (rest.less less))
 
 HasShort-lowest : (w : Steps) (keeps : KeepsOrder w) (fuel j s : ℕ) (y : ExactTotal) → j < fuel → IsTotal w j s y → IsLowest w s y → HasShort w s y
 HasShort-lowest w keeps zero j s y few reached lowest = absurd (omega arith)
@@ -71,8 +72,10 @@ HasShort-lowest w keeps (suc fuel) j s y few reached lowest =
   where
     further : (i : ℕ) (z : ExactTotal) → ¬ (IsLess y z) → HasShort w s z → HasShort w s y
     further i z kept short = (short.0, short.1, short.2, short.3, not_more_trans short.1 z y short.4 kept)
+
     p : ℕ → ℕ
     p = place_of reached.first reached.rest
+
     cut : (a d e : ℕ) → 0 < d → a + d + e ≡ j → p a ≡ p (a + d) → ((i : ℕ) (z : ExactTotal) → i < j → IsTotal w i s z → IsLowest w s z → HasShort w s z) → HasShort w s y
     cut a d e some whole same recurse =
         let steps : a + d + e ≡ length reached.rest = omega (arith, reached.steps) in
@@ -81,21 +84,23 @@ HasShort-lowest w keeps (suc fuel) j s y few reached lowest =
         let lowest_end = subst (λ n. IsLowest w n y) (sym end) lowest in
         let lowest_total = subst (λ (x : ExactTotal). IsLowest w (p (a + d + e)) x) (sym total) lowest_end in
         let part = shortened w keeps p a d e
-                (λ m h. place_of-within w.count reached.first reached.rest reached.walk.begins_within reached.walk.goes_within m (omega arith))
-                same lowest_total in
+        (λ m h. place_of-within w.count reached.first reached.rest reached.walk.begins_within reached.walk.goes_within m (omega arith))
+        same lowest_total in
         let part_to = subst (λ n. IsTotal w (a + e) n part.0) end part.1 in
         let kept = subst (λ (x : ExactTotal). ¬ (IsLess x part.0)) total part.2 in
         further (a + e) part.0 kept
-            (recurse (a + e) part.0 (omega arith) part_to (λ i z r. not_more_trans part.0 y z kept (lowest i z r)))
+        (recurse (a + e) part.0 (omega arith) part_to (λ i z r. not_more_trans part.0 y z kept (lowest i z r)))
+
     repeated : Repeats (reached.first ∷ reached.rest) → ((i : ℕ) (z : ExactTotal) → i < j → IsTotal w i s z → IsLowest w s z → HasShort w s z) → HasShort w s y
     repeated r recurse =
         cut r.0 r.1 (j - (r.0 + r.1)) r.2 (omega (arith, r.3, reached.steps)) r.4 recurse
+
     by_cases : (j < w.count) ⊎ (w.count ≤ j) → ((i : ℕ) (z : ExactTotal) → i < j → IsTotal w i s z → IsLowest w s z → HasShort w s z) → HasShort w s y
     by_cases (inl h) recurse = (j, y, h, reached, IsLess-irrefl y)
     by_cases (inr h) recurse =
         repeated (repeats w.count (reached.first ∷ reached.rest)
-            (All-cons (λ x. x < w.count) reached.first reached.rest reached.walk.begins_within reached.walk.goes_within)
-            (omega (arith, reached.steps))) recurse
+        (All-cons (λ x. x < w.count) reached.first reached.rest reached.walk.begins_within reached.walk.goes_within)
+        (omega (arith, reached.steps))) recurse
 
 -- where the last level made a total less, some observation has no least total over the walks of any length
 pub no_least_totals : (w : Steps) (keeps : KeepsOrder w) (s : ℕ) → s < w.count → IsLive w w.count s → ¬ (HasLeastTotals w)

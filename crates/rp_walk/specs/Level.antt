@@ -1,4 +1,4 @@
-use Rattle.std.specs.Prelude.{◌≡◌, ℕ, suc, ◌-◌, ◌<◌, ◌≤◌, List, map, slice_index_or}
+use Rattle.std.specs.Prelude.{◌≡◌, ℕ, zero, suc, ◌+◌, ◌*◌, ◌-◌, ◌<◌, ◌≤◌, List, length, map, slice_index, slice_index_or}
 use Rattle.rp_walk.specs.ExactTotal.{ExactTotal, IsLess, SameTotal}
 use Rattle.rp_walk.specs.Walk.{Steps}
 use Rattle.rp_walk.specs.LeastTotals.{IsLeastWithin, IsLive}
@@ -33,3 +33,36 @@ pub record CameFrom (w : Steps) (k s t : ℕ) : Type 0 where
   pub within : t < w.count
   pub live : IsLive w k t
   pub carries : (x : ExactTotal) → IsLeastWithin w k t x → IsLeastWithin w (suc k) s (w.after x t s)
+
+-- The steps from t with the total x were tried to the observations below `tried`: each is taken where
+-- it is less than what stood there.
+pub record IsTried {V : Type 0} (w : Steps) (exact : V → ExactTotal) (x : ExactTotal) (t : ℕ) (old : List V) (old_from : List ℕ) (tried : ℕ) (new : List V) (new_from : List ℕ) : Type 0 where
+  pub values_len : length new ≡ length old
+  pub from_len : length new_from ≡ length old_from
+  pub kept : (s : ℕ) → s < tried → ¬ (IsLess (w.after x t s) (totals_of exact w.empty old s))
+      → (totals_of exact w.empty new s ≡ totals_of exact w.empty old s) × (slice_index new_from s ≡ slice_index old_from s)
+  pub taken : (s : ℕ) → s < tried → IsLess (w.after x t s) (totals_of exact w.empty old s)
+      → SameTotal (totals_of exact w.empty new s) (w.after x t s) × (slice_index new_from s ≡ t)
+  pub rest : (s : ℕ) → tried ≤ s
+      → (totals_of exact w.empty new s ≡ totals_of exact w.empty old s) × (slice_index new_from s ≡ slice_index old_from s)
+
+-- The steps from t with the total x to the observations below `tried` fit.
+abbrev pub StepsFit : Steps → (ExactTotal → Type 0) → ExactTotal → ℕ → ℕ → Type 0
+StepsFit w fits x t tried = (s : ℕ) → s < tried → ¬ (¬ (fits (w.after x t s)))
+
+-- What the levels remember: entry k * count + s says where a least walk of k + 1 steps to s comes from,
+-- if it is less than all with fewer steps.
+abbrev pub Remembers : Steps → ℕ → List ℕ → Type 0
+Remembers w levels history =
+    (k s : ℕ) → k < levels → s < w.count → IsLive w (suc k) s → CameFrom w k s (slice_index history (k * w.count + s))
+
+-- A walk that the levels found: p 0, p 1, .. to p k.
+pub record IsFound (w : Steps) (k : ℕ) (p : ℕ → ℕ) : Type 0 where
+  pub ends_within : p k < w.count
+  pub live : IsLive w k (p k)
+  pub came : (m : ℕ) → m < k → CameFrom w m (p (suc m)) (p m)
+
+-- The total of the walk that goes through p 0, p 1, .. to p m.
+abbrev pub prefix_total : Steps → (ℕ → ℕ) → ℕ → ExactTotal
+prefix_total w p zero = w.empty
+prefix_total w p (suc m) = w.after (prefix_total w p m) (p m) (p (suc m))

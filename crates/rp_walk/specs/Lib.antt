@@ -3,3 +3,5 @@ pub mod Walk
 pub mod LeastTotals
 pub mod Settled
 pub mod Level
+pub mod Advance
+pub mod Outcome
