@@ -1,12 +1,12 @@
 use Rattle.std.proofs.Common.{◌≡◌, ℕ, zero, suc, ◌+◌, ◌<◌, ◌≤◌, arith, ◌⊎◌, inl, inr, ap, sym, ◌∙◌, refl, subst, List, [], ◌∷◌, length, get_or, take, drop, All, drop-cons}
 use Rattle.std.proofs.lemmas.Bool.{cases_lt}
 use Rattle.rp_walk.specs.ExactTotal.{ExactTotal, IsLess, SameTotal}
-use Rattle.rp_walk.specs.Walk.{Steps, end_of, total_after}
+use Rattle.rp_walk.specs.Walk.{Steps, end_of, total_after, KeepsOrder}
 use Rattle.rp_walk.specs.LeastTotals.{IsLeastWithin, IsLive, NoneTooWide}
 use Rattle.rp_walk.specs.Settled.{IsViolation}
 use Rattle.rp_walk.specs.Level.{IsFound, prefix_total}
 use Rattle.rp_walk.proofs.Order.{less_not_more, not_more_less, not_less-same}
-use Rattle.rp_walk.proofs.Paths.{KeepsOrder, after-same, IsTotal-prefix, closed_part_below}
+use Rattle.rp_walk.proofs.Paths.{after-same, IsTotal-prefix, closed_part_below, live_less_shorter}
 use Rattle.rp_walk.proofs.Levels.{IsLeastWithin-zero}
 
 pub found_within : (w : Steps) (k : ℕ) (p : ℕ → ℕ) → IsFound w k p → (m : ℕ) → m ≤ k → p m < w.count
@@ -82,9 +82,9 @@ total_after-same w keeps x y s (t ∷ rest) hs within h =
     (λ k d below. within (suc k) d (omega arith))
     (after-same w keeps x y s t hs ht h)
 
--- a closed part of a found walk is a violation, from its total at that place
-pub IsViolation-part : (w : Steps) (keeps : KeepsOrder w) (k : ℕ) (p : ℕ → ℕ) (a d : ℕ) (start : ExactTotal) → IsFound w k p → 0 < d → a + d ≤ k → p a ≡ p (a + d) → SameTotal (prefix_total w p a) start → IsViolation w start (p a ∷ segment p a d)
-IsViolation-part w keeps k p a d start found some few same is_start = record {
+-- a closed part that ends below its total at the beginning is a violation
+pub IsViolation-below : (w : Steps) (keeps : KeepsOrder w) (k : ℕ) (p : ℕ → ℕ) (a d : ℕ) (start : ExactTotal) → ((m : ℕ) → m ≤ k → p m < w.count) → 0 < d → a + d ≤ k → p a ≡ p (a + d) → SameTotal (prefix_total w p a) start → IsLess (prefix_total w p (a + d)) (prefix_total w p a) → IsViolation w start (p a ∷ segment p a d)
+IsViolation-below w keeps k p a d start within some few same is_start less = record {
   first = p a;
   rest = segment p a d;
   is_walk = record { begins_within = within a (omega arith); goes_within = inside };
@@ -95,20 +95,24 @@ IsViolation-part w keeps k p a d start found some few same is_start = record {
   ends_below = below;
 }
   where
-    within : (m : ℕ) → m ≤ k → p m < w.count
-    within = found_within w k p found
-
     inside : All (λ n. n < w.count) (segment p a d)
     inside = segment-within (λ n. n < w.count) p a d (λ m l u. within m (omega arith))
 
     below : IsLess (total_after w start (p a) (segment p a d)) start
     below =
-        let less = closed_part_below w keeps p k a (a + d) within (found_least w k p found k (omega arith)) found.live (omega arith) few same in
         let ends = total_after-same w keeps (prefix_total w p a) start (p a) (segment p a d) (within a (omega arith)) inside is_start in
         let ends_at = subst (λ (x : ExactTotal). SameTotal x (total_after w start (p a) (segment p a d))) (total_after-segment w p a d) ends in
         not_more_less (total_after w start (p a) (segment p a d)) (prefix_total w p (a + d)) start
         (not_less-same (prefix_total w p (a + d)) (total_after w start (p a) (segment p a d)) ends_at)
         (less_not_more (prefix_total w p (a + d)) (prefix_total w p a) start less (not_less-same start (prefix_total w p a) (sym is_start)))
+
+-- a closed part of a found walk is a violation, from its total at that place
+pub IsViolation-part : (w : Steps) (keeps : KeepsOrder w) (k : ℕ) (p : ℕ → ℕ) (a d : ℕ) (start : ExactTotal) → IsFound w k p → 0 < d → a + d ≤ k → p a ≡ p (a + d) → SameTotal (prefix_total w p a) start → IsViolation w start (p a ∷ segment p a d)
+IsViolation-part w keeps k p a d start found some few same is_start =
+    let within = found_within w k p found in
+    let shorter = live_less_shorter w k (p k) (prefix_total w p k) (found_least w k p found k (omega arith)) found.live in
+    let less = closed_part_below w keeps p k a (a + d) within shorter (omega arith) few same in
+    IsViolation-below w keeps k p a d start within some few same is_start less
 
 -- the part of a list from a place on, as a walk
 pub drop-segment : (xs : List ℕ) (a d : ℕ) → a + d < length xs → take (suc d) (drop a xs) ≡ get_or xs a 0 ∷ segment (λ m. get_or xs m 0) a d

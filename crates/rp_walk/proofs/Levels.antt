@@ -1,12 +1,12 @@
 use Rattle.std.proofs.Common.{◌≡◌, ℕ, zero, suc, ◌-◌, ◌<◌, ◌≤◌, arith, ◌⊎◌, inl, inr, sym, refl, subst}
 use Rattle.std.proofs.lemmas.Bool.{cases_lt}
 use Rattle.rp_walk.specs.ExactTotal.{ExactTotal, IsLess, SameTotal}
-use Rattle.rp_walk.specs.Walk.{Steps, IsTotal}
+use Rattle.rp_walk.specs.Walk.{Steps, IsTotal, KeepsOrder}
 use Rattle.rp_walk.specs.LeastTotals.{IsLeastWithin}
 use Rattle.rp_walk.specs.Level.{IsLevel, IsNext}
 use Rattle.rp_walk.proofs.Order.{IsLess-irrefl, IsLess-asym, not_more_trans, not_less-same, same_not_less}
 use Rattle.rp_walk.proofs.Walks.{IsTotal-here, IsTotal-further, IsTotal-parts, IsTotal-within}
-use Rattle.rp_walk.proofs.Paths.{KeepsOrder, after-not_less, after-same}
+use Rattle.rp_walk.proofs.Paths.{after-not_less, after-same}
 
 pub SameTotal-trans : (x y z : ExactTotal) → SameTotal x y → SameTotal y z → SameTotal x z
 SameTotal-trans x y z h g =

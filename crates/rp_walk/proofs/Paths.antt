@@ -1,14 +1,10 @@
-use Rattle.std.proofs.Common.{◌≡◌, ℕ, zero, suc, ◌+◌, ◌-◌, ◌<◌, ◌≤◌, arith, ◌⊎◌, inl, inr, ◌↔◌, sym, subst}
+use Rattle.std.proofs.Common.{◌≡◌, ℕ, zero, suc, ◌+◌, ◌-◌, ◌<◌, ◌≤◌, arith, ◌⊎◌, inl, inr, sym, subst}
 use Rattle.rp_walk.specs.ExactTotal.{ExactTotal, IsLess, SameTotal}
-use Rattle.rp_walk.specs.Walk.{Steps, IsTotal}
-use Rattle.rp_walk.specs.LeastTotals.{IsLeastWithin, IsLive}
+use Rattle.rp_walk.specs.Walk.{Steps, IsTotal, KeepsOrder}
+use Rattle.rp_walk.specs.LeastTotals.{IsLessThanShorter, IsLeastWithin, IsLive}
 use Rattle.rp_walk.specs.Level.{prefix_total}
-use Rattle.rp_walk.proofs.Order.{not_more_less, not_more_trans, less_or_not, not_less-same, same_not_less}
+use Rattle.rp_walk.proofs.Order.{not_more_less, not_more_trans, less_or_not, not_less-same, same_not_less, less_not_more}
 use Rattle.rp_walk.proofs.Walks.{IsTotal-here, IsTotal-further}
-
--- a step keeps the order of exact totals
-abbrev pub KeepsOrder : Steps → Type 0
-KeepsOrder w = (x y : ExactTotal) (t s : ℕ) → t < w.count → s < w.count → IsLess x y ↔ IsLess (w.after x t s) (w.after y t s)
 
 pub after-not_less : (w : Steps) (keeps : KeepsOrder w) (x y : ExactTotal) (t s : ℕ) → t < w.count → s < w.count → ¬ (IsLess x y) → ¬ (IsLess (w.after x t s) (w.after y t s))
 after-not_less w keeps x y t s ht hs h less = h ((keeps x y t s ht hs).1 less)
@@ -83,24 +79,29 @@ follow w keeps p k b (suc d) i z within h reached =
           (λ q. (keeps shorter.total (prefix_total w p (b + d)) (p (b + d)) (p (suc (b + d))) here there).0 (shorter.less q));
     }
 
--- a closed part of a least walk that is less than all with fewer steps ends below its start
-pub closed_part_below : (w : Steps) (keeps : KeepsOrder w) (p : ℕ → ℕ) (k a b : ℕ) → ((m : ℕ) → m ≤ k → p m < w.count) → IsLeastWithin w k (p k) (prefix_total w p k) → IsLive w k (p k) → a < b → b ≤ k → p a ≡ p b → IsLess (prefix_total w p b) (prefix_total w p a)
-closed_part_below w keeps p k a b within least live before below same =
+-- a closed part of a walk whose total is less than that of every walk with fewer steps ends below its start
+pub closed_part_below : (w : Steps) (keeps : KeepsOrder w) (p : ℕ → ℕ) (k a b : ℕ) → ((m : ℕ) → m ≤ k → p m < w.count) → IsLessThanShorter w k (p k) (prefix_total w p k) → a < b → b ≤ k → p a ≡ p b → IsLess (prefix_total w p b) (prefix_total w p a)
+closed_part_below w keeps p k a b within shorter before below same =
     decided (less_or_not (prefix_total w p b) (prefix_total w p a))
   where
-    refuted : ¬ (IsLess (prefix_total w p b) (prefix_total w p a)) → IsLive w k (p k) → ⊥
-    refuted kept (inl none) = absurd (omega arith)
-    refuted kept (inr (x, y, hx, hy, less)) =
+    refuted : ¬ (IsLess (prefix_total w p b) (prefix_total w p a)) → ⊥
+    refuted kept =
         let front = subst (λ n. IsTotal w a n (prefix_total w p a)) same
         (IsTotal-prefix w p a (λ m h. within m (omega arith))) in
         let d : (d : ℕ) × (b + d ≡ k) = (k - b, omega arith) in
         let rest = follow w keeps p k b d.0 a (prefix_total w p a) within (omega arith) front in
         let reached : IsTotal w (a + d.0) (p k) rest.total = subst (λ n. IsTotal w (a + d.0) (p n) rest.total) d.1 rest.is_total in
         let no_more : ¬ (IsLess (prefix_total w p k) rest.total) = subst (λ n. ¬ (IsLess (prefix_total w p n) rest.total)) d.1 (rest.not_more kept) in
-        let same_x = same_least w k (p k) x (prefix_total w p k) hx least in
-        let not_x : ¬ (IsLess x rest.total) = not_more_trans rest.total (prefix_total w p k) x no_more (not_less-same x (prefix_total w p k) same_x) in
-        hy.lowest (a + d.0) rest.total (omega arith) reached (not_more_less rest.total x y not_x less)
+        no_more (shorter (a + d.0) rest.total (omega arith) reached)
 
     decided : IsLess (prefix_total w p b) (prefix_total w p a) ⊎ (¬ (IsLess (prefix_total w p b) (prefix_total w p a))) → IsLess (prefix_total w p b) (prefix_total w p a)
     decided (inl h) = h
-    decided (inr kept) = absurd (refuted kept live)
+    decided (inr kept) = absurd (refuted kept)
+
+-- the least total at a level that made it less is less than that of every walk with fewer steps
+pub live_less_shorter : (w : Steps) (k s : ℕ) (x : ExactTotal) → IsLeastWithin w k s x → IsLive w k s → IsLessThanShorter w k s x
+live_less_shorter w k s x least (inl e) j y few reached = absurd (omega arith)
+live_less_shorter w k s x least (inr (x', y', hx, hy, less)) j y few reached =
+    let same = same_least w k s x x' least hx in
+    less_not_more x y' y (not_more_less x x' y' (not_less-same x' x (sym same)) less)
+    (hy.lowest j y (omega arith) reached)

@@ -3,15 +3,15 @@ use Rattle.std.proofs.lemmas.List.{get_or-replicate, length-replicate, get_or_ap
 use Rattle.std.proofs.lemmas.Bool.{cases_lt}
 use Rattle.std.proofs.Math.Nat.{mul-le-mul_right}
 use Rattle.rp_walk.specs.ExactTotal.{ExactTotal, SameTotal}
-use Rattle.rp_walk.specs.Walk.{Steps}
-use Rattle.rp_walk.specs.LeastTotals.{IsLive, IsLeast, IsLeastWithin, NoneTooWide}
+use Rattle.rp_walk.specs.Walk.{Steps, KeepsOrder}
+use Rattle.rp_walk.specs.LeastTotals.{IsLive, IsLeast, IsLeastWithin, NoneTooWide, FitsAlike}
 use Rattle.rp_walk.specs.Level.{CameFrom, Remembers, IsLevel, totals_of}
 use Rattle.rp_walk.specs.Advance.{IsNextLevel, StopsAt}
 use Rattle.rp_walk.specs.Settled.{NoPairBreaks}
 use Rattle.rp_walk.specs.Outcome.{SettlesInValues, SettlesInWide}
-use Rattle.rp_walk.proofs.Paths.{KeepsOrder, IsLeastWithin-same}
+use Rattle.rp_walk.proofs.Paths.{IsLeastWithin-same}
 use Rattle.rp_walk.proofs.Levels.{IsLevel-next, IsLeastWithin-zero}
-use Rattle.rp_walk.proofs.Stops.{FitsAlike, NoneBelow, NoneBelow-next, NoneTooWide-stable, NoneTooWide-all, IsFirstTooWide-found, IsLeast-stable, CameFrom-next, idle_not_live}
+use Rattle.rp_walk.proofs.Stops.{NoneBelow, NoneBelow-next, NoneTooWide-stable, NoneTooWide-all, IsFirstTooWide-found, IsLeast-stable, CameFrom-next, idle_not_live}
 use Rattle.rp_walk.proofs.Tries.{totals_of-at}
 
 -- what the computation keeps when it comes to level k

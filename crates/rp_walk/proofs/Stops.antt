@@ -1,17 +1,13 @@
 use Rattle.std.proofs.Common.{◌≡◌, ℕ, zero, suc, ◌-◌, ◌<◌, ◌≤◌, arith, ◌⊎◌, inl, inr, sym, subst}
 use Rattle.std.proofs.lemmas.Bool.{cases_lt}
 use Rattle.rp_walk.specs.ExactTotal.{ExactTotal, IsLess, SameTotal}
-use Rattle.rp_walk.specs.Walk.{Steps, IsTotal}
-use Rattle.rp_walk.specs.LeastTotals.{IsLeast, IsLive, IsTooWide, NoneTooWide, ComesBefore, IsFirstTooWide}
+use Rattle.rp_walk.specs.Walk.{Steps, IsTotal, KeepsOrder}
+use Rattle.rp_walk.specs.LeastTotals.{IsLeast, IsLive, IsTooWide, NoneTooWide, ComesBefore, IsFirstTooWide, FitsAlike}
 use Rattle.rp_walk.specs.Level.{IsLevel, IsNext, TriedFits, CameFrom}
 use Rattle.rp_walk.proofs.Order.{not_more_trans, not_less-same}
 use Rattle.rp_walk.proofs.Walks.{IsTotal-further, IsTotal-parts, IsTotal-within}
-use Rattle.rp_walk.proofs.Paths.{KeepsOrder, after-not_less, after-same, same_least, IsLeastWithin-same}
+use Rattle.rp_walk.proofs.Paths.{after-not_less, after-same, same_least, IsLeastWithin-same}
 use Rattle.rp_walk.proofs.Levels.{SameTotal-trans, next_least}
-
--- what fits is a matter of the number alone
-abbrev pub FitsAlike : (ExactTotal → Type 0) → Type 0
-FitsAlike fits = (x y : ExactTotal) → SameTotal x y → fits x → fits y
 
 -- numbers that are the same are in the same order
 not_less-of_same : (x y z : ExactTotal) → SameTotal x z → SameTotal y z → ¬ (IsLess x y)

@@ -2,15 +2,14 @@ use Rattle.std.proofs.Common.{◌≡◌, ℕ, zero, suc, ◌+◌, ◌-◌, ◌*�
 use Rattle.std.proofs.lemmas.List.{get_or-replicate, length-replicate}
 use Rattle.std.proofs.lemmas.Bool.{cases_lt}
 use Rattle.rp_walk.specs.ExactTotal.{ExactTotal, IsLess, SameTotal}
-use Rattle.rp_walk.specs.Walk.{Steps, total_after}
-use Rattle.rp_walk.specs.LeastTotals.{IsLive, NoneTooWide}
+use Rattle.rp_walk.specs.Walk.{Steps, total_after, KeepsOrder}
+use Rattle.rp_walk.specs.LeastTotals.{IsLive, NoneTooWide, FitsAlike}
 use Rattle.rp_walk.specs.Level.{CameFrom, Remembers, IsFound, prefix_total}
 use Rattle.rp_walk.specs.Settled.{IsFirstPair, NoPairBreaks, NoPartnerBelow, PairBreaks, IsViolation}
 use Rattle.rp_walk.specs.Outcome.{SettlesInCycle}
 use Rattle.rp_walk.proofs.Order.{less_not_more, not_more_less, not_less-same}
 use Rattle.rp_walk.proofs.Walks.{IsTotal-here}
-use Rattle.rp_walk.proofs.Paths.{KeepsOrder, after-same}
-use Rattle.rp_walk.proofs.Stops.{FitsAlike}
+use Rattle.rp_walk.proofs.Paths.{after-same}
 use Rattle.rp_walk.proofs.Levels.{SameTotal-trans}
 use Rattle.rp_walk.proofs.Cycles.{segment, drop-segment, IsViolation-part, total_after-same}
 use Rattle.rp_walk.proofs.Unbounded.{no_least_totals}

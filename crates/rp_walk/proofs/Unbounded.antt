@@ -2,13 +2,13 @@ use Rattle.std.proofs.Common.{◌≡◌, ℕ, zero, suc, ◌+◌, ◌-◌, ◌<�
 use Rattle.std.proofs.Math.Seq.{take-length}
 use Rattle.std.proofs.lemmas.Bool.{cases_lt}
 use Rattle.rp_walk.specs.ExactTotal.{ExactTotal, IsLess}
-use Rattle.rp_walk.specs.Walk.{Steps, IsTotal, end_of, total_after}
+use Rattle.rp_walk.specs.Walk.{Steps, IsTotal, end_of, total_after, KeepsOrder}
 use Rattle.rp_walk.specs.LeastTotals.{IsLive}
 use Rattle.rp_walk.specs.Settled.{HasLeastTotals}
 use Rattle.rp_walk.specs.Level.{prefix_total}
 use Rattle.rp_walk.proofs.Order.{IsLess-irrefl, not_more_trans, not_less-same}
 use Rattle.rp_walk.proofs.Walks.{All-cons}
-use Rattle.rp_walk.proofs.Paths.{KeepsOrder, IsTotal-prefix, follow}
+use Rattle.rp_walk.proofs.Paths.{IsTotal-prefix, follow}
 use Rattle.rp_walk.proofs.Cycles.{segment, drop-segment, end_of-segment, total_after-segment}
 use Rattle.rp_walk.proofs.Repeats.{Repeats, repeats}
 

@@ -12,6 +12,14 @@ pub record IsLeast (w : Steps) (s : ℕ) (x : ExactTotal) : Type 0 where
   pub reached : (j : ℕ) × (y : ExactTotal) × IsTotal w j s y × SameTotal y x
   pub lowest : (j : ℕ) (y : ExactTotal) → IsTotal w j s y → ¬ (IsLess y x)
 
+-- What fits is a matter of the number alone.
+abbrev pub FitsAlike : (ExactTotal → Type 0) → Type 0
+FitsAlike fits = (x y : ExactTotal) → SameTotal x y → fits x → fits y
+
+-- The total x at s over k steps is less than that of every walk to s with fewer steps.
+abbrev pub IsLessThanShorter : Steps → ℕ → ℕ → ExactTotal → Type 0
+IsLessThanShorter w k s x = (j : ℕ) (y : ExactTotal) → j < k → IsTotal w j s y → IsLess x y
+
 -- A step from t after at most k steps can matter: k is 0, or the least total to t over at most k steps
 -- is less than that over at most k - 1.
 abbrev pub IsLive : Steps → ℕ → ℕ → Type 0

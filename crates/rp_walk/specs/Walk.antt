@@ -1,5 +1,5 @@
-use Rattle.std.specs.Prelude.{◌≡◌, ℕ, ◌<◌, List, [], ◌∷◌, length, All}
-use Rattle.rp_walk.specs.ExactTotal.{ExactTotal}
+use Rattle.std.specs.Prelude.{◌≡◌, ℕ, ◌<◌, ◌↔◌, List, [], ◌∷◌, length, All}
+use Rattle.rp_walk.specs.ExactTotal.{ExactTotal, IsLess}
 
 -- What a kind of total says of walks over `count` observations: the total of a walk of no step, and
 -- `after x t s`, the total x taken on by a step from t to s.
@@ -7,6 +7,10 @@ pub record Steps : Type 0 where
   pub count : ℕ
   pub empty : ExactTotal
   pub after : ExactTotal → ℕ → ℕ → ExactTotal
+
+-- A step keeps the order of exact totals.
+abbrev pub KeepsOrder : Steps → Type 0
+KeepsOrder w = (x y : ExactTotal) (t s : ℕ) → t < w.count → s < w.count → IsLess x y ↔ IsLess (w.after x t s) (w.after y t s)
 
 -- A walk is the observation at which it begins and the list of those that it goes on to, so it has as
 -- many steps as that list has entries.
@@ -32,3 +36,11 @@ pub record IsTotal (w : Steps) (k s : ℕ) (x : ExactTotal) : Type 0 where
   pub steps : length rest ≡ k
   pub ends : end_of first rest ≡ s
   pub total : total_after w w.empty first rest ≡ x
+
+-- Whether a closed walk ends below its start is the same for every start that a walk reaches, as it is
+-- for sums and for products of positive numbers.
+abbrev pub StartsAlike : Steps → Type 0
+StartsAlike w =
+    (first : ℕ) (rest : List ℕ) → IsWalk w first rest → end_of first rest ≡ first
+    → (k j : ℕ) (x y : ExactTotal) → IsTotal w k first x → IsTotal w j first y
+    → IsLess (total_after w x first rest) x → IsLess (total_after w y first rest) y

@@ -1,6 +1,7 @@
 ghost use Rattle.std.specs.Prelude.{◌≡◌, ℕ, ◌<◌, ◌≤◌, ◌↔◌, IsTrue, IfOk, IsErr};
 ghost use Rattle.rp_walk.specs.ExactTotal.{ExactTotal, IsLess, SameTotal};
-ghost use Rattle.rp_walk.specs.Walk.{Steps};
+ghost use Rattle.rp_walk.specs.Walk.{KeepsOrder, Steps};
+ghost use Rattle.rp_walk.specs.LeastTotals.{FitsAlike};
 ghost use Rattle.rp_walk.specs.Settled.{PairBreaks};
 
 use rp_num::Wide;
@@ -49,14 +50,12 @@ pub trait Total {
         ensures { IsTrue result ↔ PairBreaks (steps self.now) s t };
 
     /// A step keeps the order of exact totals.
-    ghost keeps_order: { (a : Self) (x y : ExactTotal) (t s : ℕ)
-        → t < (steps a).count → s < (steps a).count
-        → IsLess x y ↔ IsLess ((steps a).after x t s) ((steps a).after y t s) };
+    ghost keeps_order: { (a : Self) → KeepsOrder (steps a) };
 
     /// A step from an observation to itself changes nothing.
     ghost stays: { (a : Self) (x : ExactTotal) (t : ℕ)
         → t < (steps a).count → SameTotal ((steps a).after x t t) x };
 
     /// What fits is a matter of the number alone.
-    ghost fits_alike: { (x y : ExactTotal) → SameTotal x y → fits x → fits y };
+    ghost fits_alike: { FitsAlike fits };
 }

@@ -7,21 +7,21 @@ use Rattle.rp_walk.proofs.outcome.settle_by_levels.Goals as goal
 pub loop-steps-init : goal.loop-steps-init
 loop-steps-init g c =
     IsRun-start (g.T.Total.steps c.args.total.now) g.T.Total.fits g.T.Total.exact c.start.result c.n-n.result _ _ _
-        c.n-n.ensures.value c.start.ensures.value c.in_ok-level.ensures.values c.in_ok-level.ensures.from c.new-history.ensures.items
+    c.n-n.ensures.value c.start.ensures.value c.in_ok-level.ensures.values c.in_ok-level.ensures.from c.new-history.ensures.items
 
 pub returns-in-TooWide : goal.returns-in-TooWide
 returns-in-TooWide g c =
     let stops = rw c.in-TooWide.is at c.in_ok-from.ensures in
     SettlesInWide-run (g.T.Total.steps c.args.total.now) (g.met.T.Total.keeps_order c.args.total.now) g.T.Total.fits g.met.T.Total.fits_alike
-        g.T.Total.exact c.loop-steps.steps c.in-TooWide.from c.in-TooWide.to _ _ _
-        (omega (arith, c.loop-steps-test.true, c.n-n.ensures.value)) c.loop-steps.invariant stops c.requires
+    g.T.Total.exact c.loop-steps.steps c.in-TooWide.from c.in-TooWide.to _ _ _
+    (omega (arith, c.loop-steps-test.true, c.n-n.ensures.value)) c.loop-steps.invariant stops c.requires
 
 pub returns-in-None : goal.returns-in-None
 returns-in-None g c =
     let next = rw c.in-Level.is at c.in_ok-from.ensures in
     SettlesInValues-run (g.T.Total.steps c.args.total.now) (g.met.T.Total.keeps_order c.args.total.now) g.T.Total.fits g.met.T.Total.fits_alike
-        g.T.Total.exact c.loop-steps.steps c.n-n.result _ _ _ _ _ _ c.n-n.ensures.value c.loop-steps.invariant next
-        c.in-None.ensures.none c.from_vec.ensures c.requires
+    g.T.Total.exact c.loop-steps.steps c.n-n.result _ _ _ _ _ _ c.n-n.ensures.value c.loop-steps.invariant next
+    c.in-None.ensures.none c.from_vec.ensures c.requires
 
 pub loop-steps-preserved : goal.loop-steps-preserved
 loop-steps-preserved g c =
@@ -31,8 +31,8 @@ loop-steps-preserved g c =
     let below : s < w.count = omega (arith, c.in-Some.ensures.within, c.n-n.ensures.value) in
     let better : get_or c.in-Level.next.from.items s 0 < w.count = omega (arith, c.in-Some.ensures.improved, c.n-n.ensures.value) in
     IsRun-next w (g.met.T.Total.keeps_order c.args.total.now) g.T.Total.fits g.met.T.Total.fits_alike g.T.Total.exact
-        c.loop-steps.steps (c.loop-steps.steps + 1) _ _ _ _ c.loop-steps.history.items _ (add-one c.loop-steps.steps) c.loop-steps.invariant next
-        (c.in_ok-extend_from_slice-in-Level.ensures.items ∙ ap (λ (xs : List ℕ). c.loop-steps.history.items ++ xs) c.as_slice.ensures.value) s below better
+    c.loop-steps.steps (c.loop-steps.steps + 1) _ _ _ _ c.loop-steps.history.items _ (add-one c.loop-steps.steps) c.loop-steps.invariant next
+    (c.in_ok-extend_from_slice-in-Level.ensures.items ∙ ap (λ (xs : List ℕ). c.loop-steps.history.items ++ xs) c.as_slice.ensures.value) s below better
 
 pub cycle_within-requires-clause-remembers : goal.cycle_within-requires-clause-remembers
 cycle_within-requires-clause-remembers g c =
@@ -54,4 +54,4 @@ pub cycle_within-requires-clause-none_too_wide : goal.cycle_within-requires-clau
 cycle_within-requires-clause-none_too_wide g c =
     let w = g.T.Total.steps c.args.total.now in
     NoneTooWide-run w g.T.Total.fits g.T.Total.exact c.loop-steps.steps _ _ _
-        (omega (arith, c.loop-steps-test.false, c.loop-steps.auto.steps-end, c.n-n.ensures.value)) c.loop-steps.invariant
+    (omega (arith, c.loop-steps-test.false, c.loop-steps.auto.steps-end, c.n-n.ensures.value)) c.loop-steps.invariant
