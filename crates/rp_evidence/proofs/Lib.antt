@@ -1,0 +1,7 @@
+pub mod Counting
+pub mod Counts
+pub mod Levels
+pub mod Places
+mod Tries
+pub mod Violations
+pub mod Walks

@@ -1,0 +1,61 @@
+ghost use Rattle.std.specs.Prelude.{◌≡◌, ◌-◌, ◌^◌, min, sum_by};
+ghost use Rattle.rp_evidence.specs.Withheld.{withheld_in};
+
+use rp_num::Seq;
+
+/// A level of efficiency num/den between 0 and 1: the part of its expenditure that an observation counts as.
+#[derive(Clone, Copy, Debug, PartialEq, Eq)]
+pub struct Level {
+    pub num: u64,
+    pub den: u64,
+}
+
+/// Evidence for the generalized axiom of revealed preference: ranks by observation, or a violation as the
+/// observations that it walks through, the first again at its end. Observations are numbered from 0.
+#[derive(Debug, Drop)]
+pub enum Garp {
+    Ranks(Seq<u32>),
+    Cycle(Seq<u32>),
+}
+
+/// One verdict with its evidence.
+#[derive(Debug, Drop)]
+pub enum Item {
+    Garp(Garp),
+}
+
+/// What a certificate is about: a table of prices and bundles, or random choices from budgets.
+#[derive(Clone, Copy, Debug, PartialEq, Eq)]
+pub enum Kind {
+    Table,
+    Random,
+}
+
+/// Verdicts with their evidence, in the order in which they are printed.
+#[derive(Debug, Drop)]
+pub struct Certificate {
+    pub kind: Kind,
+    pub version: u32,
+    pub items: Seq<Item>,
+}
+
+/// How many values an item leaves out because their computation passed its width.
+fn withheld_in_item(item: &Item) -> u32
+    ensures { result ≡ withheld_in item.now }
+{
+    match item {
+        Item::Garp(_) => 0,
+    }
+}
+
+/// The number of values that the certificate leaves out because their computation passed its width; 2^32 - 1 stands
+/// for that number and every greater one.
+pub fn withheld(c: &Certificate) -> u32
+    ensures { result ≡ min (sum_by withheld_in c.now.items) (2 ^ 32 - 1) }
+{
+    let mut total: u32 = 0;
+    for item in c.items.as_slice() {
+        total = total.saturating_add(withheld_in_item(item));
+    }
+    total
+}

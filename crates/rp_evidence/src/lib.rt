@@ -1,0 +1,13 @@
+//! The evidence that a verdict comes with, and the definitions that every verdict is judged by.
+#![tactic(auto)]
+
+mod certificate;
+mod laws;
+
+pub use certificate::{Certificate, Garp, Item, Kind, Level, withheld};
+pub use laws::{
+    counts_are_unique, counts_respect, ordering_ranks_exclude_violations_below,
+    ranks_exclude_violations, strict_counts_order, strict_is_weak, violations_by_places,
+    violations_have_walk_and_strict_step, violations_last_above, violations_turn,
+    walk_and_strict_step_violate, weak_cycles_violate_above, weak_to_itself,
+};

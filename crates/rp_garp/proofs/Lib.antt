@@ -1,0 +1,2 @@
+pub mod SameCosts
+pub mod Verdicts

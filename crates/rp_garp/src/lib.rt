@@ -1,0 +1,8 @@
+//! The generalized axiom of revealed preference, with evidence for each verdict.
+#![tactic(auto)]
+
+mod contradiction;
+mod verdict;
+
+pub use contradiction::pairs;
+pub use verdict::garp;

@@ -1,0 +1,4 @@
+pub mod Fronts
+pub mod Growth
+pub mod Progress
+mod Tries

@@ -1,0 +1,11 @@
+use Rattle.std.proofs.Common.{◌+◌, ◌-◌, length}
+use Rattle.rp_outside.proofs.Progress.{IsLoadedSoFar, KeepsNames}
+use Rattle.rp_outside.proofs.loading.load_counted.Given as goal
+
+abbrev pub invariant-loop-bytes : goal.invariant-loop-bytes
+invariant-loop-bytes g l =
+    IsLoadedSoFar (g.D.Desk.bytes l.initial.desk l.name) l.bytes.items l.limit l.initial.turns l.turns l.initial.taken l.taken
+    × KeepsNames (g.D.Desk.bytes l.initial.desk) (g.D.Desk.bytes l.desk) (g.D.Desk.faults l.initial.desk) (g.D.Desk.faults l.desk)
+
+abbrev pub decreases-loop-bytes : goal.decreases-loop-bytes
+decreases-loop-bytes g l = l.limit + 1 - length l.bytes.items

@@ -1,0 +1,6 @@
+pub mod Faults
+pub mod Files
+pub mod MemoryDesk
+pub mod MemorySink
+pub mod NamedFile
+pub mod Told

@@ -1,0 +1,38 @@
+ghost use Rattle.std.specs.Prelude.{◌≡◌, ◌≤◌, ◌⊎◌, ℕ, List, Option, IfOk, IsErrOf, drop, length, take};
+ghost use Rattle.std.specs.Option.{ForSome};
+ghost use Rattle.rp_outside.specs.Faults.{HasRisen};
+
+/// Why a read gave nothing.
+#[derive(Clone, Copy, Debug, PartialEq, Eq)]
+pub enum DeskFault {
+    /// The outside failed, and the count of the name rose.
+    Failed,
+    /// Memory ran out.
+    NoMemory,
+}
+
+/// Files that are read by name, at any place in them.
+///
+/// The bytes of a name are told or not told: a clause on content holds where they are told. Each
+/// name has a count of faults.
+pub trait Desk {
+    /// The bytes of each name, where they are told.
+    ghost bytes: { Self → List ℕ → Option (List ℕ) };
+
+    /// The count of faults of each name.
+    ghost faults: { Self → List ℕ → ℕ };
+
+    /// Reads bytes of `name` from the place `at` on into the front of `into`, and gives how many.
+    fn read_at(&mut self, name: &str, at: u64, into: &mut [u8]) -> Result<u64, DeskFault>
+        ensures within { IfOk result (λ n. n ≤ length into.new) }
+        ensures told_bytes { IfOk result (λ n. ForSome (bytes self.old name.now)
+            (λ bs. (take n into.new ≡ take n (drop at bs)) × (n ≤ length (drop at bs)))) }
+        ensures none_only_at_end { IfOk result (λ n. n ≡ 0 → ForSome (bytes self.old name.now)
+            (λ bs. (length into.new ≡ 0) ⊎ (length bs ≤ at))) }
+        ensures failed_counted { IsErrOf result DeskFault.Failed
+            → HasRisen (faults self.old name.now) (faults self.new name.now) }
+
+        // In every outcome, for every name.
+        ensures bytes_stay { (other : List ℕ) → bytes self.new other ≡ bytes self.old other }
+        ensures never_falls { (other : List ℕ) → faults self.old other ≤ faults self.new other };
+}

@@ -1,0 +1,31 @@
+//! The outside of the program: files that are read by name, places that text goes to, and every
+//! failure of them counted.
+#![tactic(auto)]
+
+mod counting;
+mod desks;
+mod file_desk;
+mod loading;
+mod memory_desk;
+mod memory_files;
+mod memory_sink;
+mod planned;
+mod pouring;
+mod sinks;
+mod streams;
+mod sure;
+
+pub use counting::Steps;
+pub use desks::{Desk, DeskFault};
+pub use file_desk::FileDesk;
+pub use loading::{LoadFault, load, load_counted};
+pub use memory_desk::MemDesk;
+pub use memory_files::MemFile;
+pub use memory_sink::MemSink;
+pub use pouring::{WriteFault, pour, pour_counted};
+pub use sinks::{Failed, Sink};
+pub use streams::StdSink;
+pub use sure::{SureDesk, SureSink};
+
+#[cfg(test)]
+mod tests;

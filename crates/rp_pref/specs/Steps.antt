@@ -1,0 +1,10 @@
+-- The steps of which walks are made.
+use Rattle.std.specs.Prelude.{ℕ}
+use Rattle.rp_evidence.specs.Preference.{IsWeak, IsStrict}
+use Rattle.rp_pref.specs.declared.steps.Steps.{Steps}
+use Rattle.rp_pref.specs.declared.steps.Steps.TheVariants.{Weak, Strict}
+
+-- There is a step of the chosen kind at the level num/den.
+abbrev pub IsStep : Steps → (ℕ → ℕ → ℕ) → ℕ → ℕ → ℕ → ℕ → Type 0
+IsStep Weak c num den = IsWeak c num den
+IsStep Strict c num den = IsStrict c num den

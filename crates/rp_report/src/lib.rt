@@ -1,0 +1,7 @@
+//! The report that a certificate is printed as.
+#![tactic(auto)]
+
+mod lists;
+mod tables;
+
+pub use tables::report;

@@ -1,0 +1,25 @@
+-- What `analyse` prints: the report of a certificate that has one item for each test, in a fixed order, each
+-- with evidence that proves its verdict.
+use Rattle.std.specs.Prelude.{◌≡◌, ℕ, List, [], ◌∷◌}
+use Rattle.rp_table.specs.Tables.{Observations, records_of}
+use Rattle.rp_table.specs.Cost.{cost_of}
+use Rattle.rp_evidence.specs.Proves.{Proves}
+use Rattle.rp_evidence.specs.declared.certificate.Certificate.{Certificate}
+use Rattle.rp_evidence.specs.declared.certificate.Garp.{Garp}
+use Rattle.rp_evidence.specs.declared.certificate.Item.TheVariants.{Garp as GarpItem}
+use Rattle.rp_evidence.specs.declared.certificate.Kind.TheVariants.{Table}
+use Rattle.rp_garp.specs.Verdict.{IsGiven}
+use Rattle.rp_report.specs.ReportText.{report_text}
+
+-- the certificate of n observations with these costs: the verdict on the generalized axiom of revealed preference (Varian 1982)
+pub record IsAnalysis (n : ℕ) (c : ℕ → ℕ → ℕ) (certificate : Certificate) : Type 0 where
+  pub garp : Garp
+  pub kind : certificate.kind ≡ Table
+  pub version : certificate.version ≡ 1
+  pub items : certificate.items ≡ GarpItem garp ∷ []
+  pub proves : Proves n c (GarpItem garp)
+  pub given : IsGiven n c garp
+
+-- the text is the report of such a certificate
+abbrev pub IsAnalysisText : Observations → List ℕ → Type 0
+IsAnalysisText table text = (certificate : Certificate) × IsAnalysis (records_of table) (cost_of table) certificate × (text ≡ report_text table certificate.items)

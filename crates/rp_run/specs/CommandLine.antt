@@ -1,0 +1,36 @@
+-- What a list of words asks for (this program's own commands). The first word is the program's name.
+use Rattle.std.specs.Prelude.{ℕ, Bool, true, false, not, ◌&&◌, ◌==◌, List, [], ◌∷◌, Option, Some, None, if◌then◌else◌, codes}
+use Rattle.std.specs.Str.{bytes_eq}
+
+-- a command with its files
+pub data Line : Type 0 where
+  -- the first two observations of a table that contradict each other
+  Pairs : (table : List ℕ) → Line
+  -- the verdicts on a table, with their evidence
+  Analyse : (table : List ℕ) → Line
+
+-- the file of the table that a line is about
+abbrev pub table_of : Line → List ℕ
+table_of (Pairs table) = table
+table_of (Analyse table) = table
+
+-- the files of a line, in the order of the words
+abbrev pub files_of : Line → List (List ℕ)
+files_of (Pairs table) = table ∷ []
+files_of (Analyse table) = table ∷ []
+
+-- a word that names a file: it is not empty and begins with no minus sign
+abbrev pub is_file_name : List ℕ → Bool
+is_file_name [] = false
+is_file_name (byte ∷ _) = not (byte == 45)
+
+-- the line of a command over one table
+abbrev pub table_line : List ℕ → List ℕ → Option Line
+table_line command file =
+    if bytes_eq command (codes "pairs") then Some (Pairs file)
+    else (if bytes_eq command (codes "analyse") then Some (Analyse file) else None)
+
+-- the line that the words denote, or none
+abbrev pub line_of : List (List ℕ) → Option Line
+line_of (_ ∷ command ∷ file ∷ []) = if is_file_name file then table_line command file else None
+line_of _ = None

@@ -1,0 +1,10 @@
+pub mod Plain
+pub mod PairsText
+pub mod Analysis
+pub mod CommandLine
+pub mod NamedLine
+pub mod Answers
+pub mod Gains
+pub mod FaultLines
+pub mod Causes
+pub mod Conversions

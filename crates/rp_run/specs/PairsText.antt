@@ -1,0 +1,15 @@
+-- The line of the command `pairs` (this program's own text).
+use Rattle.std.specs.Prelude.{◌≡◌, ℕ, ◌+◌, List, [], ◌∷◌, ◌++◌, Option, Some, None, MatchOption, codes}
+use Rattle.std.specs.Fmt.{decimal}
+use Rattle.rp_table.specs.Tables.{Observations, records_of}
+use Rattle.rp_table.specs.Cost.{cost_of}
+use Rattle.rp_garp.specs.Pairs.{IsPairs}
+
+-- `pair S T`, with the observations counted from 1, or `pair none`
+abbrev pub pairs_line : Option (ℕ × ℕ) → List ℕ
+pairs_line None = codes "pair none" ++ 10 ∷ []
+pairs_line (Some p) = codes "pair " ++ decimal (p.0 + 1) ++ codes " " ++ decimal (p.1 + 1) ++ 10 ∷ []
+
+-- the text names the first two observations of the table that contradict each other, or none where there are none
+abbrev pub IsPairsText : Observations → List ℕ → Type 0
+IsPairsText table text = (found : Option (ℕ × ℕ)) × IsPairs (records_of table) (cost_of table) found × (text ≡ pairs_line found)

@@ -1,0 +1,20 @@
+//! The top of the suite: what a command line answers, from the words and the files that they name.
+#![tactic(auto)]
+
+mod answer;
+mod fault;
+mod line;
+mod parts;
+mod plain;
+mod running;
+mod status;
+mod telling;
+mod text;
+
+pub use fault::TableFault;
+pub use plain::read_table;
+pub use running::run;
+pub use status::Status;
+
+/// The most bytes of a table file.
+pub const TABLE_BYTES: u64 = 4_194_304;

@@ -1,0 +1,57 @@
+ghost use Rattle.std.specs.Prelude.{◌≡◌, map, option_map, string_bytes};
+ghost use Rattle.rp_run.specs.CommandLine.{line_of, table_line, table_of, is_file_name};
+ghost use Rattle.rp_run.specs.NamedLine.{named_line};
+
+/// A command with its files, as the words name them.
+#[derive(Clone, Copy)]
+pub(crate) enum Line<'a> {
+    Pairs { table: &'a str },
+    Analyse { table: &'a str },
+}
+
+impl<'a> Line<'a> {
+    /// The file of the table that the line is about.
+    pub(crate) fn table(self) -> &'a str
+        ensures { table_of (named_line self.entry) ≡ result.now }
+    {
+        match self {
+            Line::Pairs { table } => table,
+            Line::Analyse { table } => table,
+        }
+    }
+}
+
+/// The line that the words denote. The first word is the program's name.
+pub(crate) fn read_line(words: &[String]) -> Option<Line<'_>>
+    ensures { option_map named_line result ≡ line_of (map string_bytes words.now) }
+{
+    match words {
+        [_, command, file] if names_file(file.as_str()) => {
+            read_table_line(command.as_str(), file.as_str())
+        }
+        _ => None,
+    }
+}
+
+/// The line of a command over one table.
+fn read_table_line<'a>(command: &str, file: &'a str) -> Option<Line<'a>>
+    ensures { option_map named_line result ≡ table_line command.now file.now }
+{
+    if command == "pairs" {
+        Some(Line::Pairs { table: file })
+    } else if command == "analyse" {
+        Some(Line::Analyse { table: file })
+    } else {
+        None
+    }
+}
+
+/// Whether a word names a file: it is not empty and begins with no minus sign.
+fn names_file(word: &str) -> bool
+    ensures { result ≡ is_file_name word.now }
+{
+    match word.as_bytes() {
+        [] => false,
+        [first, ..] => *first != b'-',
+    }
+}

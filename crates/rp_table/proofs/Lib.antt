@@ -1,0 +1,2 @@
+pub mod SumsBelow
+mod Tried

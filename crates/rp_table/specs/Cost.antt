@@ -1,0 +1,32 @@
+-- What one observation's bundle costs at another's prices (Varian 1982, "The Nonparametric Approach to
+-- Demand Analysis", section 1).
+use Rattle.std.specs.Prelude.{◌≡◌, ℕ, ◌+◌, ◌*◌, ◌^◌, ◌<◌, ◌≤◌, List, length, All, slice_index}
+use Rattle.rp_table.specs.Sums.{sum_below}
+use Rattle.rp_table.specs.declared.TheConstants.{RECORDS}
+use Rattle.rp_table.specs.Tables.{Observations, goods_of, records_of, price_of, quantity_of}
+
+-- the cost of the bundle of observation t at the prices of observation s: the sum over the goods of price
+-- times quantity
+abbrev pub cost_of : Observations → ℕ → ℕ → ℕ
+cost_of table s t = sum_below (goods_of table) (λ g. price_of table s g * quantity_of table t g)
+
+-- the costs of n observations, by prices and then bundles
+pub record CostTable : Type 0 where
+  pub n : ℕ
+  pub entries : List ℕ
+
+-- the cost of bundle t at prices s
+abbrev pub cost_at : CostTable → ℕ → ℕ → ℕ
+cost_at costs s t = slice_index costs.entries (s * costs.n + t)
+
+-- costs of 1 to RECORDS observations, each at least 1, since prices are positive and no bundle is empty
+pub record IsCostTable (costs : CostTable) : Type 0 where
+  pub some : 1 ≤ costs.n
+  pub few : costs.n ≤ RECORDS
+  pub all : length costs.entries ≡ costs.n * costs.n
+  pub limits : All (λ cost. (1 ≤ cost) × (cost < 2 ^ 51)) costs.entries
+
+-- these are the costs of that table
+pub record IsCostsOf (costs : CostTable) (table : Observations) : Type 0 where
+  pub size : costs.n ≡ records_of table
+  pub each : (s t : ℕ) → s < records_of table → t < records_of table → cost_at costs s t ≡ cost_of table s t

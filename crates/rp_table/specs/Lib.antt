@@ -1,0 +1,4 @@
+pub mod Sums
+pub mod Names
+pub mod Tables
+pub mod Cost

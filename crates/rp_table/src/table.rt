@@ -1,0 +1,106 @@
+ghost use Rattle.std.specs.Prelude.{◌≡◌, ℕ, ◌<◌, ◌≤◌, Some, slice_get};
+ghost use Rattle.rp_table.specs.Tables.{IsTable, goods_of, records_of, price_of, quantity_of};
+
+use crate::{LARGEST, Name};
+use std::marker::Model;
+
+/// Observed prices and purchases, in scaled whole numbers, within the limits of this crate.
+#[derive(Debug, Drop)]
+pub struct Table {
+    names: Vec<Name>,
+    prices: Vec<u32>,
+    quantities: Vec<u32>,
+    price_places: u8,
+    quantity_places: u8,
+}
+
+impl Model for Table {
+    ghost use Rattle.rp_table.specs.Tables.{Observations, IsTable};
+
+    ghost Value = { Observations };
+
+    ghost view = { λ t. record { names = t.names.items; prices = t.prices.items; quantities = t.quantities.items; price_places = t.price_places; quantity_places = t.quantity_places } };
+
+    ghost invariant = { λ t. IsTable (record { names = t.names.items; prices = t.prices.items; quantities = t.quantities.items; price_places = t.price_places; quantity_places = t.quantity_places }) };
+}
+
+impl Table {
+    /// Prices and quantities stand by observation and then by good. No memory is taken.
+    pub fn make(
+        names: Vec<Name>,
+        prices: Vec<u32>,
+        quantities: Vec<u32>,
+        price_places: u8,
+        quantity_places: u8,
+    ) -> Table
+        requires { IsTable (record { names = names.items; prices = prices.items; quantities = quantities.items; price_places = price_places; quantity_places = quantity_places }) }
+        ensures { result ≡ record { names = names.items; prices = prices.items; quantities = quantities.items; price_places = price_places; quantity_places = quantity_places } }
+    {
+        Table {
+            names,
+            prices,
+            quantities,
+            price_places,
+            quantity_places,
+        }
+    }
+
+    /// How many observations there are.
+    pub fn n(&self) -> u32
+        ensures count { result ≡ records_of self.now }
+        ensures valid { IsTable self.now }
+    {
+        (self.prices.len() / self.names.len()) as u32
+    }
+
+    /// How many goods there are.
+    pub fn goods(&self) -> u32
+        ensures count { result ≡ goods_of self.now }
+        ensures valid { IsTable self.now }
+    {
+        self.names.len() as u32
+    }
+
+    /// The name of good `g`.
+    pub fn name(&self, g: u32) -> &Name
+        requires { g < goods_of self.now }
+        ensures { slice_get self.now.names g ≡ Some result.now }
+    {
+        &self.names[g as usize]
+    }
+
+    /// The scaled price of good `g` at observation `t`.
+    pub fn price(&self, t: u32, g: u32) -> u32
+        requires observed { t < records_of self.now }
+        requires listed { g < goods_of self.now }
+        ensures exact { result ≡ price_of self.now t g }
+        ensures positive { 1 ≤ result }
+        ensures within { result ≤ LARGEST }
+    {
+        self.prices[t as usize * self.names.len() + g as usize]
+    }
+
+    /// The scaled quantity of good `g` that was bought at observation `t`.
+    pub fn quantity(&self, t: u32, g: u32) -> u32
+        requires observed { t < records_of self.now }
+        requires listed { g < goods_of self.now }
+        ensures exact { result ≡ quantity_of self.now t g }
+        ensures within { result ≤ LARGEST }
+    {
+        self.quantities[t as usize * self.names.len() + g as usize]
+    }
+
+    /// A scaled price is the price times 10 to this power.
+    pub fn price_places(&self) -> u8
+        ensures { result ≡ self.now.price_places }
+    {
+        self.price_places
+    }
+
+    /// A scaled quantity is the quantity times 10 to this power.
+    pub fn quantity_places(&self) -> u8
+        ensures { result ≡ self.now.quantity_places }
+    {
+        self.quantity_places
+    }
+}
