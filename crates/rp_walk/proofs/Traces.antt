@@ -1,0 +1,175 @@
+use Rattle.std.proofs.Common.{◌≡◌, ℕ, zero, suc, ◌+◌, ◌-◌, ◌*◌, ◌<◌, ◌≤◌, arith, ◌⊎◌, inl, inr, ap, sym, ◌∙◌, refl, subst, List, [], ◌∷◌, length, get_or, set, take, drop, replicate, get_or-set_same, get_or-set_other, length-set}
+use Rattle.std.proofs.lemmas.List.{get_or-replicate, length-replicate}
+use Rattle.std.proofs.lemmas.Bool.{cases_lt}
+use Rattle.rp_walk.specs.ExactTotal.{ExactTotal, IsLess, SameTotal}
+use Rattle.rp_walk.specs.Walk.{Steps, total_after, KeepsOrder}
+use Rattle.rp_walk.specs.LeastTotals.{IsLive, NoneTooWide, FitsAlike}
+use Rattle.rp_walk.specs.Level.{CameFrom, Remembers, IsFound, prefix_total}
+use Rattle.rp_walk.specs.Settled.{IsFirstPair, NoPairBreaks, NoPartnerBelow, PairBreaks, IsViolation}
+use Rattle.rp_walk.specs.Outcome.{SettlesInCycle}
+use Rattle.rp_walk.proofs.Order.{less_not_more, not_more_less, not_less-same}
+use Rattle.rp_walk.proofs.Walks.{IsTotal-here}
+use Rattle.rp_walk.proofs.Paths.{after-same}
+use Rattle.rp_walk.proofs.Levels.{SameTotal-trans}
+use Rattle.rp_walk.proofs.Cycles.{segment, drop-segment, IsViolation-part, total_after-same}
+use Rattle.rp_walk.proofs.Unbounded.{no_least_totals}
+
+-- ---- pairs
+
+pub NoPartnerBelow-more : (w : Steps) (s n : ℕ) → NoPartnerBelow w s n → ¬ (PairBreaks w s n) → NoPartnerBelow w s (n + 1)
+NoPartnerBelow-more w s n h here t after below = by_cases (cases_lt t n)
+  where
+    by_cases : (t < n) ⊎ (n ≤ t) → ¬ (PairBreaks w s t)
+    by_cases (inl b) = h t after b
+    by_cases (inr b) =
+        let e : n ≡ t = omega arith in
+        subst (λ m. ¬ (PairBreaks w s m)) e here
+
+pub IsFirstPair-found : (w : Steps) (s t : ℕ) → s < t → t < w.count → PairBreaks w s t → NoPartnerBelow w s t → ((s' : ℕ) → s' < s → NoPartnerBelow w s' w.count) → IsFirstPair w s t
+IsFirstPair-found w s t order below breaks first before = record {
+  in_order = order;
+  within = below;
+  breaks = breaks;
+  none_before = λ s' t' earlier order' below'. none s' t' order' below' earlier;
+}
+  where
+    none : (s' t' : ℕ) → s' < t' → t' < w.count → (s' < s) ⊎ ((s' ≡ s) × (t' < t)) → ¬ (PairBreaks w s' t')
+    none s' t' order' below' (inl b) = before s' b t' order' below'
+    none s' t' order' below' (inr (e, b)) =
+        subst (λ n. ¬ (PairBreaks w n t')) (sym e) (first t' (subst (λ n. n < t') e order') b)
+
+-- the walk s, t, s from the empty total
+pub SettlesInCycle-pair : (w : Steps) (keeps : KeepsOrder w) (fits : ExactTotal → Type 0) (start : ExactTotal) (s t : ℕ) → IsFirstPair w s t → SameTotal start w.empty → SettlesInCycle w fits start (s ∷ t ∷ s ∷ [])
+SettlesInCycle-pair w keeps fits start s t pair is_empty = record {
+  violation = record {
+    first = s;
+    rest = t ∷ s ∷ [];
+    is_walk = record { begins_within = hs; goes_within = λ k d below. inside k d below };
+    walk_is = refl;
+    has_step = omega arith;
+    closed = refl;
+    start_reached = (0, w.empty, IsTotal-here w s hs, sym is_empty);
+    ends_below = below;
+  };
+  comes = inl (record { s = s; t = t; first_pair = pair; start_empty = is_empty; walk_is = refl });
+}
+  where
+    hs : s < w.count
+    hs = omega (arith, pair.in_order, pair.within)
+
+    inside : (k d : ℕ) → k < 2 → get_or (t ∷ s ∷ []) k d < w.count
+    inside zero d b = pair.within
+    inside (suc zero) d b = hs
+    inside (suc (suc k)) d b = absurd (omega arith)
+
+    below : IsLess (total_after w start s (t ∷ s ∷ [])) start
+    below =
+        let less = pair.breaks 0 w.empty (IsTotal-here w s hs) in
+        let ends = total_after-same w keeps start w.empty s (t ∷ s ∷ []) hs (λ k d b. inside k d b) is_empty in
+        not_more_less (total_after w start s (t ∷ s ∷ [])) (total_after w w.empty s (t ∷ s ∷ [])) start
+        (not_less-same (total_after w w.empty s (t ∷ s ∷ [])) (total_after w start s (t ∷ s ∷ [])) (sym ends))
+        (less_not_more (total_after w w.empty s (t ∷ s ∷ [])) w.empty start less (not_less-same start w.empty is_empty))
+
+-- ---- the way back
+
+-- from a level on, the list holds a walk that the levels found
+pub record IsTraced (w : Steps) (level : ℕ) (walk : List ℕ) : Type 0 where
+  pub len : length walk ≡ w.count + 1
+  pub level_in : level ≤ w.count
+  pub ends_within : get_or walk w.count 0 < w.count
+  pub ends_live : IsLive w w.count (get_or walk w.count 0)
+  pub within : get_or walk level 0 < w.count
+  pub live : IsLive w level (get_or walk level 0)
+  pub came : (m : ℕ) → level ≤ m → m < w.count → CameFrom w m (get_or walk (suc m) 0) (get_or walk m 0)
+
+pub IsTraced-none : (w : Steps) (end : ℕ) → end < w.count → IsLive w w.count end → IsTraced w w.count (replicate (w.count + 1) end)
+IsTraced-none w end below live =
+    let e : get_or (replicate (w.count + 1) end) w.count 0 ≡ end = get_or-replicate (w.count + 1) w.count end 0 (omega arith) in
+    let inside : get_or (replicate (w.count + 1) end) w.count 0 < w.count = omega arith in
+    let lives = subst (λ n. IsLive w w.count n) (sym e) live in
+    record {
+      len = length-replicate (w.count + 1) end;
+      level_in = omega arith;
+      ends_within = inside;
+      ends_live = lives;
+      within = inside;
+      live = lives;
+      came = λ m from below. absurd (omega arith);
+    }
+
+pub IsTraced-start : (w : Steps) (walk : List ℕ) (n m end : ℕ) → n ≡ w.count → m ≡ w.count → walk ≡ replicate (m + 1) end → end < w.count → IsLive w w.count end → IsTraced w n walk
+IsTraced-start w walk n m end is_n is_m is_walk below live =
+    let whole = is_walk ∙ ap (λ k. replicate (k + 1) end) is_m in
+    subst (λ k. IsTraced w k walk) (sym is_n)
+    (subst (λ (xs : List ℕ). IsTraced w w.count xs) (sym whole) (IsTraced-none w end below live))
+
+pub IsTraced-back : (w : Steps) (history walk : List ℕ) (level from to v : ℕ) → IsTraced w level walk → 0 < level → from ≡ level - 1 → Remembers w w.count history → to ≡ get_or walk (from + 1) 0 → v ≡ get_or history (from * w.count + to) 0 → IsTraced w from (set walk from v)
+IsTraced-back w history walk level from to v h some is_from remembers is_to is_v =
+    let n : level ≡ suc from = omega arith in
+    let next : from + 1 ≡ suc from = omega arith in
+    let to_is : get_or walk (suc from) 0 ≡ to = ap (λ m. get_or walk m 0) (sym next) ∙ sym is_to in
+    let to_in : to < w.count = subst (λ m. m < w.count) to_is (subst (λ m. get_or walk m 0 < w.count) n h.within) in
+    let live_to : IsLive w (suc from) to = subst (λ m. IsLive w (suc from) m) to_is (subst (λ m. IsLive w m (get_or walk m 0)) n h.live) in
+    let from_in : from < w.count = omega (arith, h.level_in) in
+    let came = subst (λ m. CameFrom w from to m) (sym is_v) (remembers from to from_in to_in live_to) in
+    let inside : from < length walk = omega (arith, h.len) in
+    let here : get_or (set walk from v) from 0 ≡ v = get_or-set_same walk from v 0 inside in
+    let end_same : get_or (set walk from v) w.count 0 ≡ get_or walk w.count 0 = get_or-set_other walk from w.count v 0 (λ e. absurd (omega arith)) in
+    let to_same : get_or (set walk from v) (suc from) 0 ≡ to = get_or-set_other walk from (suc from) v 0 (λ e. absurd (omega arith)) ∙ to_is in
+    record {
+      len = length-set walk from v ∙ h.len;
+      level_in = omega arith;
+      ends_within = subst (λ m. m < w.count) (sym end_same) h.ends_within;
+      ends_live = subst (λ m. IsLive w w.count m) (sym end_same) h.ends_live;
+      within = subst (λ m. m < w.count) (sym here) came.within;
+      live = subst (λ m. IsLive w from m) (sym here) came.live;
+      came = λ m lo hi. by_cases m lo hi (cases_lt from m)
+          (subst (λ k. CameFrom w from (get_or (set walk from v) (suc from) 0) k) (sym here) (subst (λ k. CameFrom w from k v) (sym to_same) came));
+    }
+  where
+    by_cases : (m : ℕ) → from ≤ m → m < w.count → (from < m) ⊎ (m ≤ from) → CameFrom w from (get_or (set walk from v) (suc from) 0) (get_or (set walk from v) from 0) → CameFrom w m (get_or (set walk from v) (suc m) 0) (get_or (set walk from v) m 0)
+    by_cases m lo hi (inl b) came =
+        let a = get_or-set_other walk from (suc m) v 0 (λ e. absurd (omega arith)) in
+        let c = get_or-set_other walk from m v 0 (λ e. absurd (omega arith)) in
+        subst (λ k. CameFrom w m (get_or (set walk from v) (suc m) 0) k) (sym c)
+        (subst (λ k. CameFrom w m k (get_or walk m 0)) (sym a) (h.came m (omega arith) hi))
+    by_cases m lo hi (inr b) came =
+        let e : from ≡ m = omega arith in
+        subst (λ k. CameFrom w k (get_or (set walk from v) (suc k) 0) (get_or (set walk from v) k 0)) e came
+
+pub IsFound-traced : (w : Steps) (walk : List ℕ) (level : ℕ) → level ≡ 0 → IsTraced w level walk → IsFound w w.count (λ m. get_or walk m 0)
+IsFound-traced w walk level e h = record {
+  ends_within = h.ends_within;
+  live = h.ends_live;
+  came = λ m below. h.came m (omega arith) below;
+}
+
+-- ---- the total along the way
+
+pub step_fits : (w : Steps) (keeps : KeepsOrder w) (fits : ExactTotal → Type 0) (alike : FitsAlike fits) (p : ℕ → ℕ) (i j : ℕ) (x : ExactTotal) → j ≡ suc i → SameTotal (prefix_total w p i) x → p i < w.count → p j < w.count → ¬ (¬ (fits (w.after (prefix_total w p i) (p i) (p (suc i))))) → ¬ (fits (w.after x (p i) (p j))) → ⊥
+step_fits w keeps fits alike p i j x e same hi hj fit nofit =
+    let steps = after-same w keeps (prefix_total w p i) x (p i) (p j) hi hj same in
+    let fit_j = subst (λ n. ¬ (¬ (fits (w.after (prefix_total w p i) (p i) (p n))))) (sym e) fit in
+    fit_j (λ q. nofit (alike (w.after (prefix_total w p i) (p i) (p j)) (w.after x (p i) (p j)) steps q))
+
+pub prefix_more : (w : Steps) (keeps : KeepsOrder w) (p : ℕ → ℕ) (i j : ℕ) (x y : ExactTotal) → j ≡ suc i → SameTotal (prefix_total w p i) x → p i < w.count → p j < w.count → SameTotal y (w.after x (p i) (p j)) → SameTotal (prefix_total w p j) y
+prefix_more w keeps p i j x y e same hi hj is_y =
+    let steps = after-same w keeps (prefix_total w p i) x (p i) (p j) hi hj same in
+    let all = SameTotal-trans (w.after (prefix_total w p i) (p i) (p j)) (w.after x (p i) (p j)) y steps (sym is_y) in
+    let at_suc = subst (λ n. SameTotal (w.after (prefix_total w p i) (p i) (p n)) y) e all in
+    subst (λ n. SameTotal (prefix_total w p n) y) (sym e) at_suc
+
+-- ---- the cycle that is cut
+
+pub SettlesInCycle-cut : (w : Steps) (keeps : KeepsOrder w) (fits : ExactTotal → Type 0) (start : ExactTotal) (walk steps : List ℕ) (a b end : ℕ) → IsFound w w.count (λ m. get_or walk m 0) → length walk ≡ w.count + 1 → a < b → b < length walk → get_or walk a 0 ≡ get_or walk b 0 → SameTotal (prefix_total w (λ m. get_or walk m 0) a) start → steps ≡ take (b + 1 - a) (drop a walk) → NoPairBreaks w → NoneTooWide w fits → end < w.count → IsLive w w.count end → SettlesInCycle w fits start steps
+SettlesInCycle-cut w keeps fits start walk steps a b end found len order inside same is_start is_steps no_pair none hs live =
+    let d : ℕ = b - a in
+    let e : b ≡ a + d = omega arith in
+    let n : b + 1 - a ≡ suc d = omega arith in
+    let part = IsViolation-part w keeps w.count (λ m. get_or walk m 0) a d start found (omega arith) (omega arith) (same ∙ ap (λ m. get_or walk m 0) e) is_start in
+    let list : steps ≡ get_or walk a 0 ∷ segment (λ m. get_or walk m 0) a d =
+    is_steps ∙ ap (λ m. take m (drop a walk)) n ∙ drop-segment walk a d (omega arith) in
+    record {
+      violation = subst (λ (xs : List ℕ). IsViolation w start xs) (sym list) part;
+      comes = inr (record { no_pair = no_pair; none_too_wide = none; no_least = no_least_totals w keeps end hs live });
+    }

@@ -1,0 +1,7 @@
+pub mod ExactTotal
+pub mod Walk
+pub mod LeastTotals
+pub mod Settled
+pub mod Level
+pub mod Advance
+pub mod Outcome

@@ -1,0 +1,46 @@
+use Rattle.std.specs.Prelude.{◌≡◌, ℕ, ◌<◌, ◌↔◌, List, [], ◌∷◌, length, All}
+use Rattle.rp_walk.specs.ExactTotal.{ExactTotal, IsLess}
+
+-- What a kind of total says of walks over `count` observations: the total of a walk of no step, and
+-- `after x t s`, the total x taken on by a step from t to s.
+pub record Steps : Type 0 where
+  pub count : ℕ
+  pub empty : ExactTotal
+  pub after : ExactTotal → ℕ → ℕ → ExactTotal
+
+-- A step keeps the order of exact totals.
+abbrev pub KeepsOrder : Steps → Type 0
+KeepsOrder w = (x y : ExactTotal) (t s : ℕ) → t < w.count → s < w.count → IsLess x y ↔ IsLess (w.after x t s) (w.after y t s)
+
+-- A walk is the observation at which it begins and the list of those that it goes on to, so it has as
+-- many steps as that list has entries.
+pub record IsWalk (w : Steps) (first : ℕ) (rest : List ℕ) : Type 0 where
+  pub begins_within : first < w.count
+  pub goes_within : All (λ s. s < w.count) rest
+
+-- Where a walk ends.
+abbrev pub end_of : ℕ → List ℕ → ℕ
+end_of s [] = s
+end_of s (t ∷ rest) = end_of t rest
+
+-- The total at a walk's end, from the total x at its beginning.
+abbrev pub total_after : Steps → ExactTotal → ℕ → List ℕ → ExactTotal
+total_after w x s [] = x
+total_after w x s (t ∷ rest) = total_after w (w.after x s t) t rest
+
+-- Some walk of k steps ends at s with the total x, from the empty total at its beginning.
+pub record IsTotal (w : Steps) (k s : ℕ) (x : ExactTotal) : Type 0 where
+  pub first : ℕ
+  pub rest : List ℕ
+  pub walk : IsWalk w first rest
+  pub steps : length rest ≡ k
+  pub ends : end_of first rest ≡ s
+  pub total : total_after w w.empty first rest ≡ x
+
+-- Whether a closed walk ends below its start is the same for every start that a walk reaches, as it is
+-- for sums and for products of positive numbers.
+abbrev pub StartsAlike : Steps → Type 0
+StartsAlike w =
+    (first : ℕ) (rest : List ℕ) → IsWalk w first rest → end_of first rest ≡ first
+    → (k j : ℕ) (x y : ExactTotal) → IsTotal w k first x → IsTotal w j first y
+    → IsLess (total_after w x first rest) x → IsLess (total_after w y first rest) y

@@ -1,0 +1,154 @@
+ghost use Rattle.std.specs.Prelude.{◌≡◌, ◌≢◌, ℕ, suc, ◌+◌, ◌*◌, ◌<◌, ◌≤◌, IfOk, IfSome, IfNone, All, length, slice_index};
+ghost use Rattle.rp_walk.specs.ExactTotal.{SameTotal};
+ghost use Rattle.rp_walk.specs.Level.{IsFound, Remembers, prefix_total};
+ghost use Rattle.rp_walk.specs.LeastTotals.{IsLive, NoneTooWide};
+ghost use Rattle.rp_walk.specs.Outcome.{IsSettled};
+ghost use Rattle.rp_walk.specs.Settled.{IsFirstPair, NoPairBreaks, NoPartnerBelow, PairBreaks};
+
+use crate::level::filled;
+use crate::outcome::Settled;
+use crate::total::Total;
+use rp_num::{NoMemory, Seq};
+use std::alloc::Global;
+
+/// The first pair that breaks, in the order of s and then t, with s < t.
+pub(crate) fn first_breaking_pair<T: Total>(total: &T) -> Option<(u32, u32)>
+    ensures first { IfSome result (λ pair. IsFirstPair (T.steps total.now) pair.0 pair.1) }
+    ensures none { IfNone result (NoPairBreaks (T.steps total.now)) }
+{
+    for s in 0..total.n() {
+        match first_breaking_partner(total, s) {
+            Some(t) => return Some((s, t)),
+            None => {}
+        }
+    }
+    None
+}
+
+/// The first t after s with which s breaks.
+fn first_breaking_partner<T: Total>(total: &T, s: u32) -> Option<u32>
+    requires { s < (T.steps total.now).count }
+    ensures after { IfSome result (λ t. s < t) }
+    ensures within { IfSome result (λ t. t < (T.steps total.now).count) }
+    ensures breaks { IfSome result (PairBreaks (T.steps total.now) s) }
+    ensures first { IfSome result (NoPartnerBelow (T.steps total.now) s) }
+    ensures none { IfNone result (NoPartnerBelow (T.steps total.now) s (T.steps total.now).count) }
+{
+    let n = total.n();
+    for t in s + 1..n {
+        if total.pair_breaks(s, t) {
+            return Some(t);
+        }
+    }
+    None
+}
+
+/// The closed walk s, t, s from the empty total.
+pub(crate) fn cycle_of_pair<T: Total>(
+    alloc: Global,
+    total: &T,
+    s: u32,
+    t: u32,
+) -> Result<Settled<T::Value>, NoMemory>
+    requires { IsFirstPair (T.steps total.now) s t }
+    ensures { IfOk result (IsSettled (T.steps total.now) T.fits T.exact) }
+{
+    let start = total.start();
+    let steps = vec![in alloc; s, t, s]?;
+    Ok(Settled::Cycle {
+        start,
+        steps: Seq::from_vec(steps),
+    })
+}
+
+/// The first closed part of the walk of as many steps as there are observations that the levels found
+/// to `end`.
+pub(crate) fn cycle_within<T: Total>(
+    alloc: Global,
+    total: &T,
+    history: &[u32],
+    end: u32,
+) -> Result<Settled<T::Value>, NoMemory>
+    requires history_len { length history.now ≡ (T.steps total.now).count * (T.steps total.now).count }
+    requires remembers { Remembers (T.steps total.now) (T.steps total.now).count history.now }
+    requires end_in { end < (T.steps total.now).count }
+    requires end_live { IsLive (T.steps total.now) (T.steps total.now).count end }
+    requires no_pair { NoPairBreaks (T.steps total.now) }
+    requires none_too_wide { NoneTooWide (T.steps total.now) T.fits }
+    ensures { IfOk result (IsSettled (T.steps total.now) T.fits T.exact) }
+{
+    let walk = walk_back(alloc, total, history, end)?;
+    let (first, last) = first_closed_part(alloc, walk.as_slice(), total.n())?;
+    let start = total_at(total, walk.as_slice(), first);
+    let steps = Vec::from_slice(alloc, &walk[first..last + 1])?;
+    Ok(Settled::Cycle {
+        start,
+        steps: Seq::from_vec(steps),
+    })
+}
+
+/// The walk that the levels found to `end`, from its last observation back to its first.
+fn walk_back<T: Total>(
+    alloc: Global,
+    total: &T,
+    history: &[u32],
+    end: u32,
+) -> Result<Vec<u32>, NoMemory>
+    requires history_len { length history.now ≡ (T.steps total.now).count * (T.steps total.now).count }
+    requires remembers { Remembers (T.steps total.now) (T.steps total.now).count history.now }
+    requires end_in { end < (T.steps total.now).count }
+    requires end_live { IsLive (T.steps total.now) (T.steps total.now).count end }
+    ensures len { IfOk result (λ walk. length walk.items ≡ (T.steps total.now).count + 1) }
+    ensures found { IfOk result (λ walk.
+        IsFound (T.steps total.now) (T.steps total.now).count (slice_index walk.items)) }
+{
+    let n = total.n() as usize;
+    let mut walk = filled(alloc, total.n() + 1, end)?;
+    let mut level = n;
+    while level > 0 {
+        level -= 1;
+        let to = walk[level + 1] as usize;
+        walk[level] = history[level * n + to];
+    }
+    Ok(walk)
+}
+
+/// The places of the first closed part from the walk's beginning.
+fn first_closed_part(alloc: Global, walk: &[u32], n: u32) -> Result<(usize, usize), NoMemory>
+    requires within { All (λ s. s < n) walk.now }
+    requires long { n < length walk.now }
+    ensures in_order { IfOk result (λ part. part.0 < part.1) }
+    ensures in_walk { IfOk result (λ part. part.1 < length walk.now) }
+    ensures closed { IfOk result (λ part. slice_index walk.now part.0 ≡ slice_index walk.now part.1) }
+    ensures first { IfOk result (λ part. (i j : ℕ) → i < j → j < part.1
+        → slice_index walk.now i ≢ slice_index walk.now j) }
+{
+    let mut place = vec![in alloc; walk.len(); n as usize]?;
+    for i in 0..walk.len() {
+        let s = walk[i] as usize;
+        let before = place[s];
+        if before < walk.len() {
+            return Ok((before, i));
+        }
+        place[s] = i;
+    }
+    unreachable!()
+}
+
+/// The total of a walk as far as one of its places, where its steps fit.
+fn total_at<T: Total>(total: &T, walk: &[u32], place: usize) -> T::Value
+    requires in_walk { place < length walk.now }
+    requires within { All (λ s. s < (T.steps total.now).count) walk.now }
+    requires fit { let w = T.steps total.now in let p = slice_index walk.now in
+        (m : ℕ) → m < place → ¬ (¬ (T.fits (w.after (prefix_total w p m) (p m) (p (suc m))))) }
+    ensures { SameTotal (prefix_total (T.steps total.now) (slice_index walk.now) place) (T.exact result) }
+{
+    let mut value = total.start();
+    for i in 0..place {
+        value = match total.step(value, walk[i], walk[i + 1]) {
+            Ok(next) => next,
+            Err(_) => unreachable!(),
+        };
+    }
+    value
+}

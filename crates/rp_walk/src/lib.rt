@@ -1,0 +1,12 @@
+//! Least totals over walks, level by level, for every kind of total.
+#![tactic(auto)]
+
+mod cycle;
+mod laws;
+mod level;
+mod outcome;
+mod total;
+
+pub use laws::{least_totals_exclude_violations, long_walk_holds_closed_part};
+pub use outcome::{Settled, settle};
+pub use total::Total;

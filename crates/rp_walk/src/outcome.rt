@@ -1,0 +1,58 @@
+ghost use Rattle.std.specs.Prelude.{IfOk};
+ghost use Rattle.rp_walk.specs.Outcome.{IsSettled};
+ghost use Rattle.rp_walk.specs.Settled.{NoPairBreaks};
+
+use crate::cycle::{cycle_of_pair, cycle_within, first_breaking_pair};
+use crate::level::{Advance, Level, next_level};
+use crate::total::Total;
+use rp_num::{NoMemory, Seq};
+use std::alloc::Global;
+
+/// What the levelled computation of least totals comes to.
+#[derive(Debug, Drop)]
+pub enum Settled<V> {
+    /// The least total over the walks of any length that end at each observation.
+    Values(Seq<V>),
+    /// A closed walk that ends below its start, the total of some walk to its beginning.
+    Cycle { start: V, steps: Seq<u32> },
+    /// The least total over at most `steps` steps to `from`, taken on to `to`, passes the width.
+    Wide { steps: u32, from: u32, to: u32 },
+}
+
+/// The least totals over walks of any length, a closed walk that ends below its start, or the first
+/// step whose total passes the width, level by level (Bellman 1958; Ford 1956).
+pub fn settle<T: Total>(alloc: Global, total: &T) -> Result<Settled<T::Value>, NoMemory>
+    ensures { IfOk result (IsSettled (T.steps total.now) T.fits T.exact) }
+{
+    match first_breaking_pair(total) {
+        Some((s, t)) => cycle_of_pair(alloc, total, s, t),
+        None => settle_by_levels(alloc, total),
+    }
+}
+
+/// The same, where no pair breaks.
+fn settle_by_levels<T: Total>(alloc: Global, total: &T) -> Result<Settled<T::Value>, NoMemory>
+    requires { NoPairBreaks (T.steps total.now) }
+    ensures { IfOk result (IsSettled (T.steps total.now) T.fits T.exact) }
+{
+    let n = total.n();
+    let mut level = Level::at_zero(alloc, n, total.start())?;
+    let mut history = Vec::new(alloc);
+    for steps in 0..n {
+        match next_level(alloc, total, &level)? {
+            Advance::TooWide { from, to } => return Ok(Settled::Wide { steps, from, to }),
+            Advance::Level(next) => {
+                match next.first_improved(n) {
+                    None => return Ok(Settled::Values(Seq::from_vec(next.values))),
+                    Some(_) => {}
+                }
+                history.extend_from_slice(next.from.as_slice())?;
+                level = next;
+            }
+        }
+    }
+    match level.first_improved(n) {
+        Some(end) => cycle_within(alloc, total, history.as_slice(), end),
+        None => unreachable!(),
+    }
+}

@@ -1,0 +1,61 @@
+ghost use Rattle.std.specs.Prelude.{◌≡◌, ℕ, ◌<◌, ◌≤◌, ◌↔◌, IsTrue, IfOk, IsErr};
+ghost use Rattle.rp_walk.specs.ExactTotal.{ExactTotal, IsLess, SameTotal};
+ghost use Rattle.rp_walk.specs.Walk.{KeepsOrder, Steps};
+ghost use Rattle.rp_walk.specs.LeastTotals.{FitsAlike};
+ghost use Rattle.rp_walk.specs.Settled.{PairBreaks};
+
+use rp_num::Wide;
+
+/// A kind of total of walks over some observations, as a sum or a product over the steps. Each value
+/// stands for one exact total. A step may pass what values can stand for.
+pub trait Total {
+    type Value: Copy;
+
+    /// The observations, and what a step does to an exact total.
+    ghost steps: { Self → Steps };
+
+    /// The exact total that a value stands for.
+    ghost exact: { Self.Value → ExactTotal };
+
+    /// Which exact totals a value can stand for.
+    ghost fits: { ExactTotal → Type 0 };
+
+    /// How many observations there are.
+    fn n(&self) -> u32
+        ensures value { result ≡ (steps self.now).count }
+        ensures some { 1 ≤ result }
+        ensures limit { result ≤ 4096 };
+
+    /// The total of a walk of no step.
+    fn start(&self) -> Self::Value
+        ensures value { SameTotal (exact result) (steps self.now).empty }
+        ensures fits { fits (exact result) };
+
+    /// The total `v` after a further step from `t` to `s`.
+    fn step(&self, v: Self::Value, t: u32, s: u32) -> Result<Self::Value, Wide>
+        requires from { t < (steps self.now).count }
+        requires to { s < (steps self.now).count }
+        ensures value { IfOk result (λ r. SameTotal (exact r) ((steps self.now).after (exact v) t s)) }
+        ensures fits { IfOk result (λ r. fits (exact r)) }
+        ensures wide { IsErr result ↔ (¬ (fits ((steps self.now).after (exact v) t s))) };
+
+    /// The strict order of the exact totals.
+    fn less(&self, a: Self::Value, b: Self::Value) -> bool
+        ensures { IsTrue result ↔ IsLess (exact a) (exact b) };
+
+    /// Whether the closed walk s, t, s ends below its start, for every start that a walk reaches.
+    fn pair_breaks(&self, s: u32, t: u32) -> bool
+        requires from { s < (steps self.now).count }
+        requires to { t < (steps self.now).count }
+        ensures { IsTrue result ↔ PairBreaks (steps self.now) s t };
+
+    /// A step keeps the order of exact totals.
+    ghost keeps_order: { (a : Self) → KeepsOrder (steps a) };
+
+    /// A step from an observation to itself changes nothing.
+    ghost stays: { (a : Self) (x : ExactTotal) (t : ℕ)
+        → t < (steps a).count → SameTotal ((steps a).after x t t) x };
+
+    /// What fits is a matter of the number alone.
+    ghost fits_alike: { FitsAlike fits };
+}
