@@ -38,7 +38,11 @@ fn line_of_pair(alloc: Global, found: Option<(u32, u32)>) -> Result<Vec<u8>, NoM
 }
 
 /// The report of the verdicts on a table.
-pub(crate) fn analysis_text(alloc: Global, table: &Table, costs: &Costs) -> Result<Vec<u8>, NoMemory>
+pub(crate) fn analysis_text(
+    alloc: Global,
+    table: &Table,
+    costs: &Costs,
+) -> Result<Vec<u8>, NoMemory>
     requires { IsCostsOf costs.now table.now }
     ensures { IfOk result (λ text. IsAnalysisText table.now text.items) }
 {

@@ -6,14 +6,15 @@ pub returns : goal.returns
 returns c =
     let costs = c.requires in
     let same : SameBelow c.args.costs.now.n (cost_at c.args.costs.now) (cost_of c.args.table.now) = λ s t s_in t_in. costs.each s t (rw costs.size at s_in) (rw costs.size at t_in) in
-    let made = c.in_ok-certificate.ensures in
-    (c.in_ok-certificate.certificate,
-     record {
-       garp = made.garp;
-       kind = made.kind;
-       version = made.version;
-       items = made.items;
-       proves = rw (← costs.size) (same_proof c.args.costs.now.n (cost_at c.args.costs.now) (cost_of c.args.table.now) same made.garp made.proves);
-       given = rw (← costs.size) (same_given c.args.costs.now.n (cost_at c.args.costs.now) (cost_of c.args.table.now) same made.garp made.given)
-     },
-     c.in_ok-text.ensures)
+    let made = c.in_ok-certificate.ensures in (
+      c.in_ok-certificate.certificate,
+      record {
+        garp = made.garp;
+        kind = made.kind;
+        version = made.version;
+        items = made.items;
+        proves = rw (← costs.size) (same_proof c.args.costs.now.n (cost_at c.args.costs.now) (cost_of c.args.table.now) same made.garp made.proves);
+        given = rw (← costs.size) (same_given c.args.costs.now.n (cost_at c.args.costs.now) (cost_of c.args.table.now) same made.garp made.given);
+      },
+      c.in_ok-text.ensures,
+    )
