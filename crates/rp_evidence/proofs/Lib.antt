@@ -3,6 +3,8 @@ pub mod Counts
 pub mod Levels
 pub mod Places
 pub mod SameCosts
+pub mod SameItems
+pub mod SameSums
 mod Tries
 pub mod Violations
 pub mod Walks

@@ -3,13 +3,11 @@ use Rattle.std.proofs.Common.{◌≡◌, ◌<◌, ◌≤◌, ◌*◌, ◌⊎◌,
 use Rattle.rp_evidence.specs.Count.{AreCounts, IsCount}
 use Rattle.rp_evidence.specs.Garp.{IsViolationAt, MeetsGarp}
 use Rattle.rp_evidence.specs.Preference.{AgreeBelow, IsStrict, IsWeak}
-use Rattle.rp_evidence.specs.Proves.{Proves, ProvesGarp}
+use Rattle.rp_evidence.specs.Proves.{ProvesGarp}
 use Rattle.rp_evidence.specs.Ranks.{OrderStrictSteps, RespectLevel}
 use Rattle.rp_evidence.specs.Walk.{IsShortestWalk, IsWalk, Reaches}
 use Rattle.rp_evidence.specs.declared.certificate.Garp.{Garp}
 use Rattle.rp_evidence.specs.declared.certificate.Garp.TheVariants.{Ranks, Cycle}
-use Rattle.rp_evidence.specs.declared.certificate.Item.{Item}
-use Rattle.rp_evidence.specs.declared.certificate.Item.TheVariants.{Garp as GarpItem}
 use Rattle.rp_evidence.proofs.Counting.{number_same}
 use Rattle.rp_evidence.proofs.Violations.{violates_by_weaker}
 use Rattle.rp_evidence.proofs.Walks.{walks_by_weaker}
@@ -89,6 +87,3 @@ module _ (n : ℕ) (c d : ℕ → ℕ → ℕ) (num den : ℕ) (same : AgreeBelo
 pub garp_same : (n : ℕ) (c d : ℕ → ℕ → ℕ) (verdict : Garp) → AgreeBelow n c d → ProvesGarp n c verdict → ProvesGarp n d verdict
 garp_same n c d (Ranks ranks) same p = (respect_same n c d 1 1 same ranks p.0, meets_same n c d 1 1 same p.1)
 garp_same n c d (Cycle walk) same p = violation_same n c d 1 1 same walk p
-
-pub item_same : (n : ℕ) (c d : ℕ → ℕ → ℕ) (item : Item) → AgreeBelow n c d → Proves n c item → Proves n d item
-item_same n c d (GarpItem verdict) same p = garp_same n c d verdict same p

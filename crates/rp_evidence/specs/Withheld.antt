@@ -1,8 +1,9 @@
 -- What a certificate leaves out.
 use Rattle.std.specs.Prelude.{ℕ}
 use Rattle.rp_evidence.specs.declared.certificate.Item.{Item}
-use Rattle.rp_evidence.specs.declared.certificate.Item.TheVariants.{Garp}
+use Rattle.rp_evidence.specs.declared.certificate.Item.TheVariants.{Garp, Quasi}
 
 -- How many values of an item are withheld.
 abbrev pub withheld_in : Item → ℕ
 withheld_in (Garp _) = 0
+withheld_in (Quasi _) = 0

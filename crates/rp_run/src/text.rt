@@ -6,6 +6,7 @@ ghost use Rattle.rp_run.specs.PairsText.{IsPairsText, pairs_line};
 use rp_evidence::{Certificate, Item, Kind};
 use rp_garp::{garp, pairs};
 use rp_num::{NoMemory, Seq, print_u128};
+use rp_quasi::quasilinear;
 use rp_report::report;
 use rp_table::{Costs, Table};
 use std::alloc::Global;
@@ -57,6 +58,7 @@ fn analyse(alloc: Global, costs: &Costs) -> Result<Certificate, NoMemory>
 {
     let mut items = Vec::new(alloc);
     items.push(Item::Garp(garp(alloc, costs)?))?;
+    items.push(Item::Quasi(quasilinear(alloc, costs)?))?;
     Ok(Certificate {
         kind: Kind::Table,
         version: 1,

@@ -1,4 +1,4 @@
-use Rattle.rp_evidence.proofs.SameCosts.{item_same}
+use Rattle.rp_evidence.proofs.SameItems.{item_same}
 use Rattle.rp_evidence.proofs.laws.evidence_depends_on_observed_costs.Goals as goal
 
 pub returns : goal.returns
