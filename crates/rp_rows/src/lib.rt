@@ -9,3 +9,5 @@ mod numbers;
 mod outside;
 #[cfg(test)]
 mod preference;
+#[cfg(test)]
+mod walks;
