@@ -11,3 +11,5 @@ mod outside;
 mod preference;
 #[cfg(test)]
 mod programs;
+#[cfg(test)]
+mod walks;
