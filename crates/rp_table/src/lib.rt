@@ -17,3 +17,5 @@ pub const GOODS: u32 = 16;
 pub const PLACES: u8 = 6;
 /// The largest scaled price, and the largest scaled quantity.
 pub const LARGEST: u32 = 9_999_999;
+/// The largest scaled expenditure: 16 goods at the largest price and the largest quantity are below it.
+pub const LARGEST_EXPENDITURE: u64 = 1_600_000_000_000_000;
