@@ -1,5 +1,5 @@
 -- The columns that a map keeps in order, by their headers.
-use Rattle.std.proofs.Common.{◌≡◌, ℕ, zero, suc, ◌<◌, Bool, true, false, not, nat_lt, cond, List, [], ◌∷◌, ◌++◌, length, map, get_or, position, Option, Some, None, is_some, Bor, refl, sym, ap, ◌∙◌}
+use Rattle.std.proofs.Common.{◌≡◌, ℕ, zero, suc, Bool, false, List, [], ◌∷◌, ◌++◌, map, get_or, position, Option, Some, None, is_some, Bor, refl, sym, ap, ◌∙◌}
 use Rattle.std.specs.List.{All, position_or_len, slice_get}
 use Rattle.std.specs.Map.{keys_of}
 use Rattle.std.specs.Str.{bytes_eq}

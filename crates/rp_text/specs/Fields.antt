@@ -7,7 +7,7 @@ use Rattle.rp_num.specs.Decimal.{decimal_of}
 use Rattle.rp_num.specs.declared.decimal.Decimal.{Decimal}
 use Rattle.rp_num.specs.declared.decimal.NumFault.{NumFault}
 use Rattle.rp_num.specs.declared.decimal.NumFault.TheVariants.{Bad, Decimals}
-use Rattle.rp_text.specs.Below.{first_of, any_below}
+use Rattle.rp_text.specs.Below.{first_of, any_below, listed}
 use Rattle.rp_text.specs.Texts.{trimmed, text_at, number_of}
 use Rattle.rp_text.specs.Records.{record_at}
 use Rattle.rp_text.specs.Columns.{role_at, measures}
@@ -68,6 +68,10 @@ field_at form headers records t c =
 -- the number at a record and a column
 abbrev pub figure : Form → List (List ℕ) → List (List (List ℕ)) → ℕ → ℕ → Decimal
 figure form headers records t c = result_unwrap_or (field_at form headers records t c) nothing
+
+-- the numbers of all records
+abbrev pub figures_of : Form → List (List ℕ) → List (List (List ℕ)) → List (List Decimal)
+figures_of form headers records = listed (rows_in records) (λ t. listed (length headers) (figure form headers records t))
 
 -- whether some column says how much is bought, and each says 0
 abbrev pub buys_nothing : List (List ℕ) → (ℕ → Decimal) → Bool

@@ -1,10 +1,10 @@
 -- The first fault in the headers of a file: a header that this kind of file has not or has already, a good
 -- whose partner is missing or that is not given, a column that is missing, and too many goods.
-use Rattle.std.specs.Prelude.{ℕ, ◌<◌, Bool, true, false, not, ◌&&◌, ◌||◌, ◌==◌, nat_lt, if◌then◌else◌, List, ◌++◌, length, map, take, codes, Option, None, Some, is_some, is_none}
+use Rattle.std.specs.Prelude.{ℕ, Bool, false, not, ◌&&◌, ◌||◌, ◌==◌, nat_lt, if◌then◌else◌, List, [], ◌∷◌, ◌++◌, length, map, take, codes, Option, None, Some, is_some}
 use Rattle.std.specs.List.{list_all}
 use Rattle.std.specs.Option.{option_map_or}
 use Rattle.rp_table.specs.declared.TheConstants.{GOODS}
-use Rattle.rp_text.specs.Below.{first_of}
+use Rattle.rp_text.specs.Below.{first_of, first_there}
 use Rattle.rp_text.specs.Texts.{trimmed, text_at, place_of, number_of}
 use Rattle.rp_text.specs.Columns.{role_of, role_at, takes, is_price, is_quantity, names_with, name_in, price_mark, quantity_mark}
 use Rattle.rp_text.specs.declared.form.Form.{Form}
@@ -50,8 +50,8 @@ given_fault goods headers c =
     else None
 
 -- the columns of goods that are there, in order
-unfoldable pub goods_stage : Form → List (List ℕ) → List (List ℕ) → Option TableFault
-goods_stage form goods headers =
+unfoldable pub present_fault : Form → List (List ℕ) → List (List ℕ) → Option TableFault
+present_fault form goods headers =
     if form.given_goods then first_of (length headers) (given_fault goods headers)
     else if form.prices && form.quantities then first_of (length headers) (pair_fault headers)
     else None
@@ -67,12 +67,17 @@ lacks_column form headers =
     || (form.choices && not (has headers (codes "budget") && has headers (codes "n")))
 
 -- columns that are missing: every good or another needed one, and then one of the goods that are given
-unfoldable pub missing_stage : Form → List (List ℕ) → List (List ℕ) → Option TableFault
-missing_stage form goods headers =
+unfoldable pub missing_fault : Form → List (List ℕ) → List (List ℕ) → Option TableFault
+missing_fault form goods headers =
     if (length (names_of form headers) == 0) || lacks_column form headers then Some (fault.Unpaired 0)
     else if form.given_goods && not (list_all (λ name. has headers ((if form.prices then price_mark else quantity_mark) ++ name)) goods) then Some (fault.OtherGoods 0)
     else None
 
 -- more goods than the limit
-unfoldable pub goods_count_stage : Form → List (List ℕ) → Option TableFault
-goods_count_stage form headers = if nat_lt GOODS (length (names_of form headers)) then Some fault.TooManyGoods else None
+unfoldable pub goods_count_fault : Form → List (List ℕ) → Option TableFault
+goods_count_fault form headers = if nat_lt GOODS (length (names_of form headers)) then Some fault.TooManyGoods else None
+
+-- the goods: their columns that are there, the columns that are missing, and how many goods there are
+unfoldable pub goods_stage : Form → List (List ℕ) → List (List ℕ) → Option TableFault
+goods_stage form goods headers =
+    first_there (present_fault form goods headers ∷ missing_fault form goods headers ∷ goods_count_fault form headers ∷ [])

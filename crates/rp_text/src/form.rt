@@ -1,5 +1,9 @@
 ghost use Rattle.std.specs.Prelude.{◌≡◌};
-ghost use Rattle.rp_text.specs.Columns.{takes, measures};
+ghost use Rattle.rp_text.specs.Columns.{takes, measures, is_price};
+ghost use Rattle.rp_text.specs.Forms.{table_form};
+ghost use Rattle.rp_text.specs.Sizes.{shares_scale, limit_of};
+
+use rp_table::{LARGEST, LARGEST_EXPENDITURE, RECORDS};
 
 /// What the fields of a column say.
 #[derive(Clone, Copy, Debug, PartialEq, Eq)]
@@ -39,6 +43,24 @@ pub struct Form {
 }
 
 impl Form {
+    /// A table has prices and quantities of the goods that it names.
+    pub fn table() -> Form
+        ensures { result ≡ table_form }
+    {
+        Form {
+            prices: true,
+            quantities: true,
+            expenditure: false,
+            income: false,
+            choices: false,
+            given_goods: false,
+            given_places: false,
+            places: 0,
+            budgets: 0,
+            most: RECORDS,
+        }
+    }
+
     /// Whether this kind of file has such columns.
     pub fn takes(&self, role: Role) -> bool
         ensures { result ≡ takes self.now role }
@@ -56,6 +78,38 @@ impl Form {
 }
 
 impl Role {
+    /// Whether the fields are prices.
+    pub fn is_price(self) -> bool
+        ensures { result ≡ is_price self }
+    {
+        match self {
+            Role::Price => true,
+            _ => false,
+        }
+    }
+
+    /// Whether columns of the two roles have one scale of the file's own.
+    pub fn shares_scale(self, other: Role) -> bool
+        ensures { result ≡ shares_scale self other }
+    {
+        match (self, other) {
+            (Role::Price, Role::Price) => true,
+            (Role::Quantity, Role::Quantity) => true,
+            (Role::Income, Role::Income) => true,
+            _ => false,
+        }
+    }
+
+    /// The largest scaled number.
+    pub fn limit(self) -> u64
+        ensures { result ≡ limit_of self }
+    {
+        match self {
+            Role::Expenditure | Role::Income => LARGEST_EXPENDITURE,
+            _ => u64::from(LARGEST),
+        }
+    }
+
     /// Whether the fields say how much is bought.
     pub fn measures(self) -> bool
         ensures { result ≡ measures self }

@@ -24,8 +24,8 @@ pub fn read_columns<'a>(
     ensures refused { IfErr result (λ fault. fault ≢ TableFault.NoMemory → headers_stage form.now (headers_in (record_at records.now 0)) ≡ Some fault) }
 {
     let mut columns = Columns::new(alloc);
-    for c in 0..records.width(0) {
-        let header = trimmed(records.field(0, c));
+    for c in 0..records.headers() {
+        let header = trimmed(records.header(c));
         let Some(role) = role_taken(form, header) else {
             return Err(TableFault::BadHeader {
                 column: number_of(c),

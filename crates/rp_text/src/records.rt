@@ -1,5 +1,7 @@
-ghost use Rattle.std.specs.Prelude.{◌≡◌, ℕ, ◌<◌, List, [], IfOk, length, take, slice_index_or};
+ghost use Rattle.std.specs.Prelude.{◌≡◌, ◌+◌, ◌<◌, IfOk, length, take};
+ghost use Rattle.csv.specs.Records.{fields_of};
 ghost use Rattle.rp_text.specs.Records.{records_of, record_at};
+ghost use Rattle.rp_text.specs.Fields.{row_at};
 ghost use Rattle.rp_text.specs.Texts.{text_at};
 
 use csv::{ByteRecord, ReaderBuilder};
@@ -50,22 +52,45 @@ impl Records {
         self.records.len()
     }
 
-    /// How many fields a record has.
-    pub fn width(&self, k: usize) -> usize
-        requires { k < length self.now }
-        ensures { result ≡ length (record_at self.now k) }
+    /// How many headers there are.
+    pub fn headers(&self) -> usize
+        requires { 0 < length self.now }
+        ensures { result ≡ length (record_at self.now 0) }
     {
-        self.records[k].len()
+        self.records[0].len()
     }
 
-    /// A field of a record, both from 0.
-    pub fn field(&self, k: usize, c: usize) -> &[u8]
-        requires { k < length self.now }
-        ensures { result.now ≡ text_at (record_at self.now k) c }
+    /// The header of column `c`, from 0.
+    pub fn header(&self, c: usize) -> &[u8]
+        requires { 0 < length self.now }
+        ensures { result.now ≡ text_at (record_at self.now 0) c }
     {
-        match self.records[k].get(c) {
-            Some(field) => field,
-            None => b"",
-        }
+        field_of(&self.records[0], c)
+    }
+
+    /// How many fields the t-th record after the headers has, from 0.
+    pub fn row_width(&self, t: usize) -> usize
+        requires { t + 1 < length self.now }
+        ensures { result ≡ length (row_at self.now t) }
+    {
+        self.records[t + 1].len()
+    }
+
+    /// A field of the t-th record after the headers.
+    pub fn row_field(&self, t: usize, c: usize) -> &[u8]
+        requires { t + 1 < length self.now }
+        ensures { result.now ≡ text_at (row_at self.now t) c }
+    {
+        field_of(&self.records[t + 1], c)
+    }
+}
+
+/// A field of a record, from 0.
+fn field_of(record: &ByteRecord, c: usize) -> &[u8]
+    ensures { result.now ≡ text_at (fields_of record.now) c }
+{
+    match record.get(c) {
+        Some(field) => field,
+        None => b"",
     }
 }

@@ -1,5 +1,4 @@
-use Rattle.std.proofs.Common.{Bor, List, ℕ, ◌≡◌, ◌∙◌, ◌+◌, ◌≤◌, sym, refl, arith, inl, inr, true, map, length, Some, ◌∷◌, [], length-append}
-use Rattle.std.specs.Result.{is_ok}
+use Rattle.std.proofs.Common.{Bor, List, ℕ, ◌≡◌, ◌∙◌, ◌≤◌, sym, refl, arith, inl, inr, map, length, Some, ◌∷◌, [], length-append}
 use Rattle.std.proofs.lemmas.List.{map_push, length-map}
 use Rattle.csv.specs.Reading.{Reached, default_config, strip_bom}
 use Rattle.csv.specs.Records.{fields_of}

@@ -1,4 +1,4 @@
-use Rattle.std.proofs.Common.{◌≡◌, ℕ, List, Some, true, length, map}
+use Rattle.std.proofs.Common.{◌≡◌, ℕ, List, Some, length, map}
 use Rattle.csv.specs.Reading.{Reached, Ready, default_config, source_of, strip_bom}
 use Rattle.csv.specs.Records.{fields_of}
 use Rattle.csv.specs.declared.parser.State.TheVariants as st
