@@ -2,3 +2,8 @@ pub mod Sums
 pub mod Names
 pub mod Tables
 pub mod Cost
+pub mod Rows
+pub mod PriceLists
+pub mod BundleLists
+pub mod BudgetLists
+pub mod ChoiceLists

@@ -1,12 +1,21 @@
 //! Tables of prices and quantities within their limits, and what each bundle costs at each price.
 #![tactic(auto)]
 
+mod budgets;
+mod bundles;
+mod choices;
 mod costs;
 mod name;
+mod prices;
+mod rows;
 mod table;
 
+pub use budgets::Budgets;
+pub use bundles::Bundles;
+pub use choices::Choices;
 pub use costs::Costs;
 pub use name::Name;
+pub use prices::Prices;
 pub use table::Table;
 
 /// The most observations that a table has.
@@ -17,3 +26,11 @@ pub const GOODS: u32 = 16;
 pub const PLACES: u8 = 6;
 /// The largest scaled price, and the largest scaled quantity.
 pub const LARGEST: u32 = 9_999_999;
+/// The largest scaled expenditure: 16 goods at the largest price and the largest quantity are below it.
+pub const LARGEST_EXPENDITURE: u64 = 1_600_000_000_000_000;
+/// The most records of new prices or of bundles.
+pub const NEW_RECORDS: u32 = 16;
+/// The most budgets.
+pub const BUDGETS: u32 = 48;
+/// The most records of choices.
+pub const CHOICES: u32 = 4_096;

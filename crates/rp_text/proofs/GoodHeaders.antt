@@ -1,0 +1,253 @@
+-- The headers of a table that have no fault: each good has its two columns, once.
+use Rattle.std.proofs.Common.{◌≡◌, ◌≢◌, ℕ, zero, suc, ◌<◌, ◌≤◌, Bool, true, false, not, ◌&&◌, ◌||◌, ◌==◌, nat_lt, nat_eq, if◌then◌else◌, cond, List, [], ◌∷◌, ◌++◌, length, get_or, take, map, filter, Option, Some, None, is_some, refl, sym, ap, ◌∙◌, arith}
+use Rattle.std.specs.Prelude.{codes, unwrap_or}
+use Rattle.std.specs.List.{AllPairs, Contains, starts_with}
+use Rattle.std.specs.Option.{option_map_or}
+use Rattle.std.specs.Str.{bytes_eq}
+use Rattle.std.proofs.lemmas.Bool.Decides.{nat_tests, Decides-eqb}
+use Rattle.std.proofs.lemmas.List.{get_or-take, get_or-map, get_or_default, length-take, length-map}
+use Rattle.std.proofs.lemmas.List.Elements.{filter_passes, All-filter, All-contains_itself}
+use Rattle.std.proofs.lemmas.List.Kept.{AllPairs-filter}
+use Rattle.std.proofs.lemmas.Slice.Eq.{starts_is}
+use Rattle.rp_text.specs.Texts.{text_at, place_of}
+use Rattle.rp_text.specs.Columns.{role_of, good_role, role_at, takes, measures, is_name, is_price, is_quantity, name_in, names_with, price_mark, quantity_mark}
+use Rattle.rp_text.specs.Forms.{table_form}
+use Rattle.rp_text.specs.Headers.{has, partner_of, header_fault, headers_stage, pair_fault, present_fault, missing_fault, goods_count_fault, goods_stage}
+use Rattle.rp_text.specs.Sizes.{limit_of}
+use Rattle.rp_text.specs.declared.form.Role.{Role}
+use Rattle.rp_text.specs.declared.form.Role.TheVariants.{Observation, Price, Quantity, Expenditure, Income, Budget, Times}
+use Rattle.rp_text.specs.declared.fault.TableFault.{TableFault}
+use Rattle.rp_text.proofs.NameLemmas.{price_header}
+use Rattle.rp_text.proofs.PlaceLemmas.{absent, found_at, present, none_or, none_below}
+
+-- headers without a fault
+pub record GoodHeaders (headers : List (List ℕ)) : Type 0 where
+  pub taken : (c : ℕ) → c < length headers → option_map_or (takes table_form) (role_of (text_at headers c)) false ≡ true
+  pub distinct : (i j : ℕ) → i < j → j < length headers → text_at headers i ≡ text_at headers j → ⊥
+  pub paired : (c : ℕ) → c < length headers → (is_price (role_at headers c) || is_quantity (role_at headers c)) ≡ true → has headers (partner_of (role_at headers c) (text_at headers c)) ≡ true
+  pub some : 1 ≤ length (names_with is_price headers)
+  pub few : length (names_with is_price headers) ≤ 16
+
+tests : (a b : Bool) (f g : TableFault) → (if not a then Some f else if b then Some g else None) ≡ None → (a ≡ true) × (b ≡ false)
+tests true true f g e = cc e
+tests true false f g e = (refl, refl)
+tests false b f g e = cc e
+
+absent_from : {A : Type 0} (o : Option A) → is_some o ≡ false → o ≡ None
+absent_from None e = refl
+absent_from (Some x) e = cc e
+
+pub there_from : {A : Type 0} (o : Option A) → is_some o ≡ true → (x : A) × (o ≡ Some x)
+there_from None e = cc e
+there_from (Some x) e = (x, refl)
+
+fine_header : (headers : List (List ℕ)) (c : ℕ) → header_fault table_form headers c ≡ None → (option_map_or (takes table_form) (role_of (text_at headers c)) false ≡ true) × (place_of (take c headers) (text_at headers c) ≡ None)
+unfolding header_fault
+fine_header headers c fine =
+    let both = tests (option_map_or (takes table_form) (role_of (text_at headers c)) false) (has (take c headers) (text_at headers c)) _ _ fine in
+    (both.0, absent_from (place_of (take c headers) (text_at headers c)) both.1)
+
+pair_test : (a b : Bool) (f : TableFault) → (if a && not b then Some f else None) ≡ None → a ≡ true → b ≡ true
+pair_test true true f e h = refl
+pair_test true false f e h = cc e
+pair_test false b f e h = cc h
+
+fine_pair : (headers : List (List ℕ)) (c : ℕ) → pair_fault headers c ≡ None → (is_price (role_at headers c) || is_quantity (role_at headers c)) ≡ true → has headers (partner_of (role_at headers c) (text_at headers c)) ≡ true
+unfolding pair_fault
+fine_pair headers c fine good =
+    pair_test (is_price (role_at headers c) || is_quantity (role_at headers c)) (has headers (partner_of (role_at headers c) (text_at headers c))) _ fine good
+
+some_test : (a b : Bool) (f : TableFault) (rest : Option TableFault) → (if a || b then Some f else rest) ≡ None → a ≡ false
+some_test true b f rest e = cc e
+some_test false b f rest e = refl
+
+few_test : (a : Bool) (f : TableFault) → (if a then Some f else None) ≡ None → a ≡ false
+few_test true f e = cc e
+few_test false f e = refl
+
+not_zero : (n : ℕ) → (n == 0) ≡ false → 1 ≤ n
+not_zero n e = grind (arith, nat_tests)
+
+not_more : (n : ℕ) → nat_lt 16 n ≡ false → n ≤ 16
+not_more n e = grind (arith, nat_tests)
+
+pub good_headers : (headers : List (List ℕ)) → headers_stage table_form headers ≡ None → goods_stage table_form [] headers ≡ None → GoodHeaders headers
+unfolding headers_stage goods_stage present_fault missing_fault goods_count_fault
+good_headers headers fine goods =
+    let each : (c : ℕ) → c < length headers → (option_map_or (takes table_form) (role_of (text_at headers c)) false ≡ true) × (place_of (take c headers) (text_at headers c) ≡ None) =
+    λ c within. fine_header headers c (none_below (header_fault table_form headers) (length headers) c fine within) in
+    let first = none_or (present_fault table_form [] headers) _ goods in
+    let second = none_or (missing_fault table_form [] headers) _ first.1 in
+    let third = none_or (goods_count_fault table_form headers) None second.1 in
+    record {
+      taken = λ c within. (each c within).0;
+      distinct = λ i j earlier within same.
+          absent (take j headers) (text_at headers j) i (each j within).1 (omega (arith, length-take j headers)) (get_or-take j headers i [] earlier ∙ same);
+      paired = λ c within. fine_pair headers c (none_below (pair_fault headers) (length headers) c first.0 within);
+      some = not_zero (length (names_with is_price headers)) (some_test _ _ _ _ second.0);
+      few = not_more (length (names_with is_price headers)) (few_test _ _ third.0);
+    }
+
+-- one place has each header
+pub same_place : (headers : List (List ℕ)) → GoodHeaders headers → (i j : ℕ) → i < length headers → j < length headers → text_at headers i ≡ text_at headers j → i ≡ j
+same_place headers good i j within_i within_j same = by (nat_lt i j) refl (nat_lt j i) refl
+  where
+    yes_lt : (a b : ℕ) → nat_lt a b ≡ true → a < b
+    yes_lt a b e = grind (arith, nat_tests)
+
+    neither : (a b : ℕ) → nat_lt a b ≡ false → nat_lt b a ≡ false → a ≡ b
+    neither a b e f = grind (arith, nat_tests)
+
+    by : (x : Bool) → nat_lt i j ≡ x → (y : Bool) → nat_lt j i ≡ y → i ≡ j
+    by true e y f = absurd (good.distinct i j (yes_lt i j e) within_j same)
+    by false e true f = absurd (good.distinct j i (yes_lt j i f) within_i (sym same))
+    by false e false f = neither i j e f
+
+pub is_price_role : (o : Option Role) → option_map_or is_price o false ≡ true → o ≡ Some Price
+is_price_role None e = cc e
+is_price_role (Some Observation) e = cc e
+is_price_role (Some Price) e = refl
+is_price_role (Some Quantity) e = cc e
+is_price_role (Some Expenditure) e = cc e
+is_price_role (Some Income) e = cc e
+is_price_role (Some Budget) e = cc e
+is_price_role (Some Times) e = cc e
+
+pub measured_role : (o : Option Role) → option_map_or (takes table_form) o false ≡ true → measures (unwrap_or o Observation) ≡ true → o ≡ Some Quantity
+measured_role None e m = cc e
+measured_role (Some Observation) e m = cc m
+measured_role (Some Price) e m = cc m
+measured_role (Some Quantity) e m = refl
+measured_role (Some Expenditure) e m = cc e
+measured_role (Some Income) e m = cc e
+measured_role (Some Budget) e m = cc e
+measured_role (Some Times) e m = cc e
+
+pub limit_is : (o : Option Role) → option_map_or (takes table_form) o false ≡ true → limit_of (unwrap_or o Observation) ≡ 9999999
+limit_is None e = cc e
+limit_is (Some Observation) e = refl
+limit_is (Some Price) e = refl
+limit_is (Some Quantity) e = refl
+limit_is (Some Expenditure) e = cc e
+limit_is (Some Income) e = cc e
+limit_is (Some Budget) e = refl
+limit_is (Some Times) e = refl
+
+quantity_good : (named p q : Bool) → option_map_or is_quantity (if not named then None else if p then Some Price else if q then Some Quantity else None) false ≡ true → (named ≡ true) × (q ≡ true)
+quantity_good true true q e = cc e
+quantity_good true false true e = (refl, refl)
+quantity_good true false false e = cc e
+quantity_good false p q e = cc e
+
+quantity_role : (a b c d e named p q : Bool)
+    → option_map_or is_quantity (if a then Some Observation else if b then Some Expenditure else if c then Some Income else if d then Some Budget else if e then Some Times
+    else if not named then None else if p then Some Price else if q then Some Quantity else None) false ≡ true
+    → (named ≡ true) × (q ≡ true)
+quantity_role true b c d e named p q h = cc h
+quantity_role false true c d e named p q h = cc h
+quantity_role false false true d e named p q h = cc h
+quantity_role false false false true e named p q h = cc h
+quantity_role false false false false true named p q h = cc h
+quantity_role false false false false false named p q h = quantity_good named p q h
+
+-- a header of quantities has a mark and a name
+pub quantity_header : (header : List ℕ) → option_map_or is_quantity (role_of header) false ≡ true → (is_name (name_in header) ≡ true) × (starts_with nat_eq header quantity_mark ≡ true)
+unfolding role_of good_role
+quantity_header header e =
+    quantity_role (bytes_eq header (codes "obs")) (bytes_eq header (codes "m")) (bytes_eq header (codes "w")) (bytes_eq header (codes "budget")) (bytes_eq header (codes "n"))
+    (is_name (name_in header)) (starts_with nat_eq header price_mark) (starts_with nat_eq header quantity_mark) e
+
+pub marked_price : (header : List ℕ) → starts_with nat_eq header price_mark ≡ true → header ≡ price_mark ++ name_in header
+marked_price header e = (starts_is Decides-eqb header price_mark (starts_with nat_eq header price_mark) refl).0 e
+
+pub marked_quantity : (header : List ℕ) → starts_with nat_eq header quantity_mark ≡ true → header ≡ quantity_mark ++ name_in header
+marked_quantity header e = (starts_is Decides-eqb header quantity_mark (starts_with nat_eq header quantity_mark) refl).0 e
+
+-- what a mark and a name say
+pub price_says : (name : List ℕ) → is_name name ≡ true → role_of (price_mark ++ name) ≡ Some Price
+unfolding role_of good_role
+price_says name e = rw e refl
+
+pub quantity_says : (name : List ℕ) → is_name name ≡ true → role_of (quantity_mark ++ name) ≡ Some Quantity
+unfolding role_of good_role
+quantity_says name e = rw e refl
+
+says_price : List ℕ → Bool
+says_price header = option_map_or is_price (role_of header) false
+
+-- the column of prices of a good
+pub price_column : (headers : List (List ℕ)) (g : ℕ) → g < length (names_with is_price headers)
+    → (c : ℕ) × (c < length headers) × (place_of headers (price_mark ++ text_at (names_with is_price headers) g) ≡ Some c) × (role_of (text_at headers c) ≡ Some Price)
+price_column headers g within =
+    let says : List ℕ → Bool = λ (header : List ℕ). option_map_or is_price (role_of header) false in
+    let inside : g < length (filter says headers) = omega (arith, length-map (filter says headers) name_in) in
+    let header = get_or (filter says headers) g [] in
+    let name : text_at (names_with is_price headers) g ≡ name_in header = get_or-map name_in (filter says headers) g [] [] inside in
+    let passes : says header ≡ true = filter_passes says headers g [] inside in
+    let there : Contains headers header = All-filter says (Contains headers) headers (All-contains_itself headers) g [] inside in
+    let at_place : text_at headers there.0 ≡ header = get_or_default headers there.0 [] header there.1 ∙ there.2 in
+    let spelled : price_mark ++ text_at (names_with is_price headers) g ≡ header = ap (λ n. price_mark ++ n) name ∙ sym (marked_price header (price_header header passes).1) in
+    let found = present headers (price_mark ++ text_at (names_with is_price headers) g) there.0 there.1 (at_place ∙ sym spelled) in
+    let place = found_at headers (price_mark ++ text_at (names_with is_price headers) g) found.0 found.1 in
+    (found.0, place.0, found.1, ap role_of (place.1 ∙ spelled) ∙ is_price_role (role_of header) passes)
+
+-- a header of prices gives a good
+pub named_good : (headers : List (List ℕ)) (c : ℕ) → c < length headers → option_map_or is_price (role_of (text_at headers c)) false ≡ true
+    → (g : ℕ) × (g < length (names_with is_price headers)) × (text_at (names_with is_price headers) g ≡ name_in (text_at headers c))
+named_good [] c within says = absurd (omega arith)
+named_good (header ∷ headers) zero within says = rw says (0, omega arith, refl)
+named_good (header ∷ headers) (suc c) within says = by (option_map_or is_price (role_of header) false) (named_good headers c (omega arith) says)
+  where
+    by : (b : Bool) → (g : ℕ) × (g < length (names_with is_price headers)) × (text_at (names_with is_price headers) g ≡ name_in (text_at headers c))
+        → (g : ℕ) × (g < length (map name_in (cond b (header ∷ filter (λ h. option_map_or is_price (role_of h) false) headers) (filter (λ h. option_map_or is_price (role_of h) false) headers))))
+        × (text_at (map name_in (cond b (header ∷ filter (λ h. option_map_or is_price (role_of h) false) headers) (filter (λ h. option_map_or is_price (role_of h) false) headers))) g ≡ name_in (text_at headers c))
+    by true good = (suc good.0, omega (arith, good.1), good.2)
+    by false good = good
+
+-- a column of quantities is that of a good
+pub quantity_good_of : (headers : List (List ℕ)) → GoodHeaders headers → (c : ℕ) → c < length headers → role_of (text_at headers c) ≡ Some Quantity
+    → (g : ℕ) × (g < length (names_with is_price headers)) × (place_of headers (quantity_mark ++ text_at (names_with is_price headers) g) ≡ Some c)
+quantity_good_of headers good c within says =
+    let quantity : option_map_or is_quantity (role_of (text_at headers c)) false ≡ true = rw says refl in
+    let name = quantity_header (text_at headers c) quantity in
+    let is_good : (is_price (role_at headers c) || is_quantity (role_at headers c)) ≡ true = rw says refl in
+    let partner : has headers (price_mark ++ name_in (text_at headers c)) ≡ true = rw says at (good.paired c within is_good) in
+    let found = there_from (place_of headers (price_mark ++ name_in (text_at headers c))) partner in
+    let place = found_at headers (price_mark ++ name_in (text_at headers c)) found.0 found.1 in
+    let priced : option_map_or is_price (role_of (text_at headers found.0)) false ≡ true = rw (place.1, price_says (name_in (text_at headers c)) name.0) refl in
+    let named = named_good headers found.0 place.0 priced in
+    let same_name : text_at (names_with is_price headers) named.0 ≡ name_in (text_at headers c) = named.2 ∙ ap name_in place.1 in
+    let spelled : quantity_mark ++ text_at (names_with is_price headers) named.0 ≡ text_at headers c = ap (λ n. quantity_mark ++ n) same_name ∙ sym (marked_quantity (text_at headers c) name.1) in
+    let at_column = present headers (quantity_mark ++ text_at (names_with is_price headers) named.0) c within (sym spelled) in
+    let back = found_at headers (quantity_mark ++ text_at (names_with is_price headers) named.0) at_column.0 at_column.1 in
+    let same = same_place headers good at_column.0 c back.0 within (back.1 ∙ spelled) in
+    (named.0, named.1, at_column.1 ∙ ap Some same)
+
+-- some column has quantities
+pub some_quantity : (headers : List (List ℕ)) → GoodHeaders headers → (c : ℕ) × (c < length headers) × (role_of (text_at headers c) ≡ Some Quantity)
+some_quantity headers good =
+    let price = price_column headers 0 good.some in
+    let priced : option_map_or is_price (role_of (text_at headers price.0)) false ≡ true = rw price.3 refl in
+    let name = price_header (text_at headers price.0) priced in
+    let is_good : (is_price (role_at headers price.0) || is_quantity (role_at headers price.0)) ≡ true = rw price.3 refl in
+    let partner : has headers (quantity_mark ++ name_in (text_at headers price.0)) ≡ true = rw price.3 at (good.paired price.0 price.1 is_good) in
+    let found = there_from (place_of headers (quantity_mark ++ name_in (text_at headers price.0))) partner in
+    let place = found_at headers (quantity_mark ++ name_in (text_at headers price.0)) found.0 found.1 in
+    (found.0, place.0, ap role_of place.1 ∙ quantity_says (name_in (text_at headers price.0)) name.0)
+
+all_distinct : (headers : List (List ℕ)) → GoodHeaders headers → AllPairs (λ a b. a ≢ b) headers
+all_distinct headers good i j d earlier within same =
+    good.distinct i j earlier within (get_or_default headers i [] d (omega arith) ∙ same ∙ get_or_default headers j d [] within)
+
+-- no two goods have one name
+pub distinct_names : (headers : List (List ℕ)) → GoodHeaders headers → AllPairs (λ a b. a ≢ b) (names_with is_price headers)
+distinct_names headers good i j d earlier within same =
+    let says : List ℕ → Bool = λ (header : List ℕ). option_map_or is_price (role_of header) false in
+    let inside : j < length (filter says headers) = omega (arith, length-map (filter says headers) name_in) in
+    let before : i < length (filter says headers) = omega arith in
+    let a = get_or (filter says headers) i [] in
+    let b = get_or (filter says headers) j [] in
+    let names : name_in a ≡ name_in b = sym (get_or-map name_in (filter says headers) i [] d before) ∙ same ∙ get_or-map name_in (filter says headers) j [] d inside in
+    let spelled_a = marked_price a (price_header a (filter_passes says headers i [] before)).1 in
+    let spelled_b = marked_price b (price_header b (filter_passes says headers j [] inside)).1 in
+    AllPairs-filter (λ x y. x ≢ y) says headers (all_distinct headers good) i j [] earlier inside (spelled_a ∙ ap (λ n. price_mark ++ n) names ∙ sym spelled_b)

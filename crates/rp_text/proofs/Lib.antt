@@ -1,0 +1,20 @@
+pub mod TextLemmas
+pub mod CsvLemmas
+pub mod FieldLemmas
+pub mod ColumnLemmas
+pub mod BelowLemmas
+pub mod HeaderLemmas
+mod Tried
+pub mod FieldFaults
+pub mod PassedOn
+pub mod NameLemmas
+pub mod SizeLemmas
+pub mod StageLemmas
+pub mod PlaceLemmas
+pub mod RowLemmas
+pub mod TableStages
+pub mod GoodHeaders
+pub mod FigureLemmas
+pub mod TableFacts
+pub mod RowMore
+pub mod TableMade

@@ -1,0 +1,154 @@
+-- Records without a fault make a table within the limits.
+use Rattle.std.proofs.Common.{◌≡◌, ℕ, ◌+◌, ◌*◌, ◌/◌, ◌<◌, ◌≤◌, Bool, true, false, not, ◌&&◌, nat_lt, List, ◌++◌, length, slice_index, Option, Some, None, refl, ap, ◌∙◌, arith}
+use Rattle.std.specs.Prelude.{unwrap_or}
+use Rattle.std.proofs.lemmas.Bool.Decides.{nat_tests}
+use Rattle.std.proofs.lemmas.Nat.{mul-add-lt}
+use Rattle.std.proofs.Math.Nat.{mul_comm, mul-div_cancel}
+use Rattle.rp_num.specs.declared.decimal.Decimal.{Decimal}
+use Rattle.rp_table.specs.Tables.{IsTable, records_of, quantity_of}
+use Rattle.rp_text.specs.Below.{any_below}
+use Rattle.rp_text.specs.Texts.{text_at, place_of}
+use Rattle.rp_text.specs.Columns.{role_of, role_at, measures, names_with, is_price, price_mark, quantity_mark}
+use Rattle.rp_text.specs.Forms.{table_form}
+use Rattle.rp_text.specs.Fields.{figure, figures_of, rows_in, fields_stage}
+use Rattle.rp_text.specs.Sizes.{figure_at, places_of, sizes_of, sizes_stage}
+use Rattle.rp_text.specs.Denotation.{column_of, numbers_under, table_of}
+use Rattle.rp_text.specs.declared.form.Role.TheVariants.{Price, Quantity}
+use Rattle.rp_text.proofs.BelowLemmas.{length-listed, one_holds}
+use Rattle.rp_text.proofs.PlaceLemmas.{found_at, one_below}
+use Rattle.rp_text.proofs.RowLemmas.{length-rows, row_number, all_rows, sum_at_least}
+use Rattle.rp_text.proofs.GoodHeaders.{GoodHeaders, price_column, quantity_good_of, some_quantity, measured_role, limit_is, distinct_names}
+use Rattle.rp_text.proofs.FigureLemmas.{figure_there, rows_are, few_places, good_record, price_units, good_size, some_size, size_listed}
+
+-- how many rows of scaled numbers there are
+pub sizes_are : (headers : List (List ℕ)) (figures : List (List Decimal)) → length (sizes_of table_form headers figures) ≡ length figures
+sizes_are headers figures = length-listed _ (length figures)
+
+first_column : (headers : List (List ℕ)) → GoodHeaders headers → 0 < length headers
+first_column headers good = let price = price_column headers 0 good.some in omega (arith, price.1)
+
+within_headers : (headers : List (List ℕ)) → 0 < length headers → (text : List ℕ) → unwrap_or (place_of headers text) 0 < length headers
+within_headers headers some text = by (place_of headers text) refl
+  where
+    by : (o : Option ℕ) → place_of headers text ≡ o → unwrap_or o 0 < length headers
+    by None e = some
+    by (Some c) e = (found_at headers text c e).0
+
+and_left : (a b : Bool) → (a && b) ≡ true → a ≡ true
+and_left true b e = refl
+and_left false b e = cc e
+
+and_right : (a b : Bool) → (a && b) ≡ true → b ≡ true
+and_right true b e = e
+and_right false b e = cc e
+
+bought_test : (a b : Bool) → (a && not b) ≡ false → a ≡ true → b ≡ true
+bought_test true true e h = refl
+bought_test true false e h = cc e
+bought_test false b e h = cc h
+
+over_zero : (n : ℕ) → nat_lt 0 n ≡ true → 1 ≤ n
+over_zero n e = grind (arith, nat_tests)
+
+module _ (headers : List (List ℕ)) (records : List (List (List ℕ))) (good : GoodHeaders headers) (fine_fields : fields_stage table_form headers records ≡ None) (fine_sizes : sizes_stage table_form headers (figures_of table_form headers records) ≡ None) where
+  -- a scaled number is within the limit
+  number_within : (t g : ℕ) (mark : List ℕ) → t < rows_in records → slice_index (text_at (sizes_of table_form headers (figures_of table_form headers records)) t) (column_of mark headers (names_with is_price headers) g) ≤ 9999999
+  number_within t g mark row =
+      let c = column_of mark headers (names_with is_price headers) g in
+      let column = within_headers headers (first_column headers good) (mark ++ text_at (names_with is_price headers) g) in
+      let inside : t < length (figures_of table_form headers records) = omega (arith, rows_are table_form headers records) in
+      let most = (good_size table_form headers (figures_of table_form headers records) t c inside column fine_sizes).1 in
+      let limit = limit_is (role_of (text_at headers c)) (good.taken c column) in
+      rw (size_listed table_form headers (figures_of table_form headers records) t c inside column, ← limit) most
+
+  -- a price is not 0
+  price_positive : (t g : ℕ) → t < rows_in records → g < length (names_with is_price headers) → 1 ≤ slice_index (text_at (sizes_of table_form headers (figures_of table_form headers records)) t) (column_of price_mark headers (names_with is_price headers) g)
+  price_positive t g row place =
+      let price = price_column headers g place in
+      let at_column : column_of price_mark headers (names_with is_price headers) g ≡ price.0 = ap (λ o. unwrap_or o 0) price.2 in
+      let inside : t < length (figures_of table_form headers records) = omega (arith, rows_are table_form headers records) in
+      let units = price_units table_form headers records t price.0 row price.1 fine_fields price.3 in
+      rw (at_column, size_listed table_form headers (figures_of table_form headers records) t price.0 inside price.1) (some_size table_form headers (figures_of table_form headers records) t price.0 inside price.1 fine_sizes units)
+
+  -- some good is bought
+  some_bought : (t : ℕ) → t < rows_in records → (g : ℕ) × (g < length (names_with is_price headers)) × (1 ≤ slice_index (text_at (sizes_of table_form headers (figures_of table_form headers records)) t) (column_of quantity_mark headers (names_with is_price headers) g))
+  some_bought t row =
+      let quantity = some_quantity headers good in
+      let says : any_below (length headers) (λ c. measures (role_at headers c)) ≡ true = one_holds (λ c. measures (role_at headers c)) quantity.0 (length headers) quantity.1 (rw quantity.2 refl) in
+      let bought = bought_test _ _ (good_record table_form headers records t row fine_fields).1 says in
+      let column = one_below (λ c. measures (role_at headers c) && nat_lt 0 (figure table_form headers records t c).units) (length headers) bought in
+      let measured = and_left (measures (role_at headers column.0)) _ column.2 in
+      let some = over_zero (figure table_form headers records t column.0).units (and_right (measures (role_at headers column.0)) _ column.2) in
+      let role = measured_role (role_of (text_at headers column.0)) (good.taken column.0 column.1) measured in
+      let of_good = quantity_good_of headers good column.0 column.1 role in
+      let at_column : column_of quantity_mark headers (names_with is_price headers) of_good.0 ≡ column.0 = ap (λ o. unwrap_or o 0) of_good.2 in
+      let inside : t < length (figures_of table_form headers records) = omega (arith, rows_are table_form headers records) in
+      let units : 1 ≤ (figure_at (figures_of table_form headers records) t column.0).units = rw (figure_there table_form headers records t column.0 row column.1) some in
+      (of_good.0, of_good.1, rw (at_column, size_listed table_form headers (figures_of table_form headers records) t column.0 inside column.1) (some_size table_form headers (figures_of table_form headers records) t column.0 inside column.1 fine_sizes units))
+
+  rows_count : length (sizes_of table_form headers (figures_of table_form headers records)) ≡ rows_in records
+  rows_count = sizes_are headers (figures_of table_form headers records) ∙ rows_are table_form headers records
+
+  price_number : ℕ → ℕ → ℕ
+  price_number t g = slice_index (text_at (sizes_of table_form headers (figures_of table_form headers records)) t) (column_of price_mark headers (names_with is_price headers) g)
+
+  records_are : records_of (table_of headers (figures_of table_form headers records)) ≡ rows_in records
+  unfolding table_of
+  records_are =
+      ap (λ (k : ℕ). k / length (names_with is_price headers)) (length-rows (length (sizes_of table_form headers (figures_of table_form headers records))) (length (names_with is_price headers)) _)
+      ∙ mul-div_cancel (length (sizes_of table_form headers (figures_of table_form headers records))) good.some ∙ rows_count
+
+  -- the table is within the limits
+  pub table_is : 1 ≤ rows_in records → rows_in records ≤ 256 → IsTable (table_of headers (figures_of table_form headers records))
+  unfolding table_of places_of
+  table_is some few = record {
+    some_goods = good.some;
+    few_goods = good.few;
+    distinct = distinct_names headers good;
+    some_records = rw records_are some;
+    few_records = rw records_are few;
+    all_prices = rw records_are (length-rows (length (sizes_of table_form headers (figures_of table_form headers records))) (length (names_with is_price headers)) _ ∙ ap (λ (k : ℕ). k * length (names_with is_price headers)) rows_count);
+    all_quantities = rw records_are (length-rows (length (sizes_of table_form headers (figures_of table_form headers records))) (length (names_with is_price headers)) _ ∙ ap (λ (k : ℕ). k * length (names_with is_price headers)) rows_count);
+    price_limits = all_rows (λ p. (1 ≤ p) × (p ≤ 9999999)) (length (sizes_of table_form headers (figures_of table_form headers records))) (length (names_with is_price headers)) _
+        (λ t g row place. let inside : t < rows_in records = omega (arith, rows_count) in (price_positive t g inside place, number_within t g price_mark inside));
+    quantity_limits = all_rows (λ q. q ≤ 9999999) (length (sizes_of table_form headers (figures_of table_form headers records))) (length (names_with is_price headers)) _
+        (λ t g row place. let inside : t < rows_in records = omega (arith, rows_count) in number_within t g quantity_mark inside);
+    bought = λ t row.
+        let inside : t < rows_in records = rw records_are at row in
+        let some_good = some_bought t inside in
+        let at_row : t < length (sizes_of table_form headers (figures_of table_form headers records)) = omega (arith, rows_count) in
+        let number = row_number (length (sizes_of table_form headers (figures_of table_form headers records))) (length (names_with is_price headers)) (λ s g. slice_index (text_at (sizes_of table_form headers (figures_of table_form headers records)) s) (column_of quantity_mark headers (names_with is_price headers) g)) t some_good.0 at_row some_good.1 in
+        let least = sum_at_least (quantity_of (table_of headers (figures_of table_form headers records)) t) (length (names_with is_price headers)) some_good.0 some_good.1 in
+        let one = some_good.2 in
+        omega (arith, least, number, one);
+    few_price_places = few_places table_form headers records Price;
+    few_quantity_places = few_places table_form headers records Quantity;
+  }
+
+-- the numbers of a table within the limits
+pub number_limits : (headers : List (List ℕ)) (figures : List (List Decimal)) → IsTable (table_of headers figures) → (t g : ℕ) → t < length (sizes_of table_form headers figures) → g < length (names_with is_price headers)
+    → (slice_index (text_at (sizes_of table_form headers figures) t) (column_of price_mark headers (names_with is_price headers) g) ≤ 9999999)
+    × (slice_index (text_at (sizes_of table_form headers figures) t) (column_of quantity_mark headers (names_with is_price headers) g) ≤ 9999999)
+unfolding table_of
+number_limits headers figures within t g row place =
+    let n = length (sizes_of table_form headers figures) in
+    let goods = length (names_with is_price headers) in
+    let prices = λ (s k : ℕ). slice_index (text_at (sizes_of table_form headers figures) s) (column_of price_mark headers (names_with is_price headers) k) in
+    let quantities = λ (s k : ℕ). slice_index (text_at (sizes_of table_form headers figures) s) (column_of quantity_mark headers (names_with is_price headers) k) in
+    let below = mul-add-lt t goods g n row place in
+    let turned = mul_comm goods n in
+    let price = (within.price_limits (t * goods + g) 0 (omega (arith, length-rows n goods prices, below, turned))).1 in
+    let quantity = within.quantity_limits (t * goods + g) 0 (omega (arith, length-rows n goods quantities, below, turned)) in
+    (rw (← row_number n goods prices t g row place) price, rw (← row_number n goods quantities t g row place) quantity)
+
+-- a table from its parts
+pub table_made : (headers : List (List ℕ)) (figures : List (List Decimal)) (given named : List (List ℕ)) (sizes : List (List ℕ)) (prices quantities : List ℕ) (a b : ℕ)
+    → given ≡ names_with is_price headers → named ≡ names_with is_price headers → sizes ≡ sizes_of table_form headers figures
+    → prices ≡ numbers_under price_mark headers given sizes → quantities ≡ numbers_under quantity_mark headers given sizes
+    → a ≡ places_of table_form headers figures Price → b ≡ places_of table_form headers figures Quantity
+    → record { names = named; prices = prices; quantities = quantities; price_places = a; quantity_places = b } ≡ table_of headers figures
+unfolding table_of
+table_made headers figures given named sizes prices quantities a b is_given is_named sized priced counted at_a at_b =
+    let p = priced ∙ ap (λ goods. numbers_under price_mark headers goods sizes) is_given ∙ ap (λ rows. numbers_under price_mark headers (names_with is_price headers) rows) sized in
+    let q = counted ∙ ap (λ goods. numbers_under quantity_mark headers goods sizes) is_given ∙ ap (λ rows. numbers_under quantity_mark headers (names_with is_price headers) rows) sized in
+    rw (p, q, is_named, at_a, at_b) refl

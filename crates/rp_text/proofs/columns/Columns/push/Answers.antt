@@ -1,0 +1,16 @@
+use Rattle.std.proofs.Common.{◌≡◌, ℕ, List, None, [], ◌∷◌, ◌++◌, ap, ◌∙◌, subst, sym}
+use Rattle.rp_text.specs.Texts.{place_of}
+use Rattle.rp_text.proofs.ColumnLemmas.{headers_of, added, headers-more, agrees-more}
+use Rattle.rp_text.proofs.columns.Columns.push.Goals as goal
+
+pub invariant_of-self-2 : goal.invariant_of-self-2
+invariant_of-self-2 c =
+    let new = subst (λ (headers : List (List ℕ)). place_of headers c.args.header.now ≡ None) (sym c.self.view_is) c.requires.other in
+    let entries = c.in_ok-insert.ensures.entries ∙ added c.self.inside.roles c.args.header c.args.role new in
+    agrees-more c.self.inside.roles.entries c.insert.new.self.entries c.args.header c.args.role entries c.self.invariant c.requires.says
+
+pub returns : goal.returns
+returns c =
+    let new = subst (λ (headers : List (List ℕ)). place_of headers c.args.header.now ≡ None) (sym c.self.view_is) c.requires.other in
+    let entries = c.in_ok-insert.ensures.entries ∙ added c.self.inside.roles c.args.header c.args.role new in
+    ap headers_of entries ∙ headers-more c.self.inside.roles.entries c.args.header c.args.role ∙ ap (λ headers. headers ++ c.args.header.now ∷ []) c.self.view_is

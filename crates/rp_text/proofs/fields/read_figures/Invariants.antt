@@ -1,0 +1,10 @@
+use Rattle.std.proofs.Common.{◌≡◌, None, length}
+use Rattle.rp_text.specs.Below.{first_of, listed}
+use Rattle.rp_text.specs.Fields.{figure, record_fault}
+use Rattle.rp_text.proofs.fields.read_figures.Given as goal
+
+abbrev pub invariant-loop-t : goal.invariant-loop-t
+invariant-loop-t l = record {
+  so_far : l.rows.items ≡ listed l.t (λ t. listed (length l.columns) (figure l.form l.columns l.records t));
+  faultless : first_of l.t (record_fault l.form l.columns l.records) ≡ None;
+}

@@ -1,0 +1,11 @@
+use Rattle.std.proofs.Common.{◌≡◌, None, take}
+use Rattle.rp_text.specs.Below.{first_of}
+use Rattle.rp_text.specs.Records.{record_at}
+use Rattle.rp_text.specs.Headers.{headers_in, header_fault}
+use Rattle.rp_text.proofs.headers.read_columns.Given as goal
+
+abbrev pub invariant-loop-c : goal.invariant-loop-c
+invariant-loop-c l = record {
+  so_far : l.columns ≡ take l.c (headers_in (record_at l.records 0));
+  faultless : first_of l.c (header_fault l.form (headers_in (record_at l.records 0))) ≡ None;
+}

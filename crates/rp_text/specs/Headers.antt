@@ -1,0 +1,83 @@
+-- The first fault in the headers of a file: a header that this kind of file has not or has already, a good
+-- whose partner is missing or that is not given, a column that is missing, and too many goods.
+use Rattle.std.specs.Prelude.{ℕ, Bool, false, not, ◌&&◌, ◌||◌, ◌==◌, nat_lt, if◌then◌else◌, List, [], ◌∷◌, ◌++◌, length, map, take, codes, Option, None, Some, is_some}
+use Rattle.std.specs.List.{list_all}
+use Rattle.std.specs.Option.{option_map_or}
+use Rattle.rp_table.specs.declared.TheConstants.{GOODS}
+use Rattle.rp_text.specs.Below.{first_of, first_there}
+use Rattle.rp_text.specs.Texts.{trimmed, text_at, place_of, number_of}
+use Rattle.rp_text.specs.Columns.{role_of, role_at, takes, is_price, is_quantity, names_with, name_in, price_mark, quantity_mark}
+use Rattle.rp_text.specs.declared.form.Form.{Form}
+use Rattle.rp_text.specs.declared.form.Role.{Role}
+use Rattle.rp_text.specs.declared.fault.TableFault.{TableFault}
+use Rattle.rp_text.specs.declared.fault.TableFault.TheVariants as fault
+
+-- the headers in a record, without the blanks round them
+abbrev pub headers_in : List (List ℕ) → List (List ℕ)
+headers_in fields = map trimmed fields
+
+-- whether a column has that header
+abbrev pub has : List (List ℕ) → List ℕ → Bool
+has headers header = is_some (place_of headers header)
+
+-- the fault of the c-th header
+unfoldable pub header_fault : Form → List (List ℕ) → ℕ → Option TableFault
+header_fault form headers c =
+    if not (option_map_or (takes form) (role_of (text_at headers c)) false) then Some (fault.BadHeader (number_of c))
+    else if has (take c headers) (text_at headers c) then Some (fault.TwiceNamed (number_of c))
+    else None
+
+-- headers that this kind of file has not, and headers that stand twice, in the order of the columns
+unfoldable pub headers_stage : Form → List (List ℕ) → Option TableFault
+headers_stage form headers = first_of (length headers) (header_fault form headers)
+
+-- the header of the other column of a good
+abbrev pub partner_of : Role → List ℕ → List ℕ
+partner_of role header = (if is_price role then quantity_mark else price_mark) ++ name_in header
+
+-- a column of a good that has no partner
+unfoldable pub pair_fault : List (List ℕ) → ℕ → Option TableFault
+pair_fault headers c =
+    if (is_price (role_at headers c) || is_quantity (role_at headers c)) && not (has headers (partner_of (role_at headers c) (text_at headers c)))
+    then Some (fault.Unpaired (number_of c))
+    else None
+
+-- a column of a good that is not among those given
+unfoldable pub given_fault : List (List ℕ) → List (List ℕ) → ℕ → Option TableFault
+given_fault goods headers c =
+    if (is_price (role_at headers c) || is_quantity (role_at headers c)) && not (has goods (name_in (text_at headers c)))
+    then Some (fault.OtherGoods (number_of c))
+    else None
+
+-- the columns of goods that are there, in order
+unfoldable pub present_fault : Form → List (List ℕ) → List (List ℕ) → Option TableFault
+present_fault form goods headers =
+    if form.given_goods then first_of (length headers) (given_fault goods headers)
+    else if form.prices && form.quantities then first_of (length headers) (pair_fault headers)
+    else None
+
+-- the names of the goods, in the order of their prices, or of their quantities where there are no prices
+abbrev pub names_of : Form → List (List ℕ) → List (List ℕ)
+names_of form headers = names_with (if form.prices then is_price else is_quantity) headers
+
+-- whether a column is missing that is no good's
+abbrev pub lacks_column : Form → List (List ℕ) → Bool
+lacks_column form headers =
+    (form.expenditure && not (has headers (codes "m"))) || (form.income && not (has headers (codes "w")))
+    || (form.choices && not (has headers (codes "budget") && has headers (codes "n")))
+
+-- columns that are missing: every good or another needed one, and then one of the goods that are given
+unfoldable pub missing_fault : Form → List (List ℕ) → List (List ℕ) → Option TableFault
+missing_fault form goods headers =
+    if (length (names_of form headers) == 0) || lacks_column form headers then Some (fault.Unpaired 0)
+    else if form.given_goods && not (list_all (λ name. has headers ((if form.prices then price_mark else quantity_mark) ++ name)) goods) then Some (fault.OtherGoods 0)
+    else None
+
+-- more goods than the limit
+unfoldable pub goods_count_fault : Form → List (List ℕ) → Option TableFault
+goods_count_fault form headers = if nat_lt GOODS (length (names_of form headers)) then Some fault.TooManyGoods else None
+
+-- the goods: their columns that are there, the columns that are missing, and how many goods there are
+unfoldable pub goods_stage : Form → List (List ℕ) → List (List ℕ) → Option TableFault
+goods_stage form goods headers =
+    first_there (present_fault form goods headers ∷ missing_fault form goods headers ∷ goods_count_fault form headers ∷ [])

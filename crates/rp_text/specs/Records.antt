@@ -1,0 +1,11 @@
+-- The records of a file, as text of comma-separated values (RFC 4180): the first one has the headers.
+use Rattle.std.specs.Prelude.{ℕ, List, [], slice_index_or}
+use Rattle.csv.specs.Reading.{default_config, records, strip_bom}
+
+-- the records of a file's bytes, each a list of fields, without a byte order mark at the beginning
+unfoldable pub records_of : List ℕ → List (List (List ℕ))
+records_of bytes = records default_config (strip_bom bytes)
+
+-- the k-th record, from 0
+abbrev pub record_at : List (List (List ℕ)) → ℕ → List (List ℕ)
+record_at records k = slice_index_or records k []

@@ -1,0 +1,122 @@
+ghost use Rattle.std.specs.Prelude.{◌≡◌};
+ghost use Rattle.rp_text.specs.Columns.{takes, measures, is_price};
+ghost use Rattle.rp_text.specs.Forms.{table_form};
+ghost use Rattle.rp_text.specs.Sizes.{shares_scale, limit_of};
+
+use rp_table::{LARGEST, LARGEST_EXPENDITURE, RECORDS};
+
+/// What the fields of a column say.
+#[derive(Clone, Copy, Debug, PartialEq, Eq)]
+pub enum Role {
+    Observation,
+    Price,
+    Quantity,
+    Expenditure,
+    Income,
+    Budget,
+    Times,
+}
+
+/// What a kind of file has: its columns, its limits, and what it is read beside.
+#[derive(Clone, Copy, Debug)]
+pub struct Form {
+    /// Whether a good has a column of prices.
+    pub prices: bool,
+    /// Whether a good has a column of quantities.
+    pub quantities: bool,
+    /// Whether there is a column `m`.
+    pub expenditure: bool,
+    /// Whether there is a column `w`.
+    pub income: bool,
+    /// Whether there are the columns `budget` and `n`.
+    pub choices: bool,
+    /// Whether the goods are given, and not named by the file.
+    pub given_goods: bool,
+    /// Whether quantities have the scale that is given, and not one of their own.
+    pub given_places: bool,
+    /// The decimal places of the scale of quantities that is given.
+    pub places: u8,
+    /// How many budgets are given.
+    pub budgets: u32,
+    /// The most records.
+    pub most: u32,
+}
+
+impl Form {
+    /// A table has prices and quantities of the goods that it names.
+    pub fn table() -> Form
+        ensures { result ≡ table_form }
+    {
+        Form {
+            prices: true,
+            quantities: true,
+            expenditure: false,
+            income: false,
+            choices: false,
+            given_goods: false,
+            given_places: false,
+            places: 0,
+            budgets: 0,
+            most: RECORDS,
+        }
+    }
+
+    /// Whether this kind of file has such columns.
+    pub fn takes(&self, role: Role) -> bool
+        ensures { result ≡ takes self.now role }
+    {
+        match role {
+            Role::Observation => true,
+            Role::Price => self.prices,
+            Role::Quantity => self.quantities,
+            Role::Expenditure => self.expenditure,
+            Role::Income => self.income,
+            Role::Budget => self.choices,
+            Role::Times => self.choices,
+        }
+    }
+}
+
+impl Role {
+    /// Whether the fields are prices.
+    pub fn is_price(self) -> bool
+        ensures { result ≡ is_price self }
+    {
+        match self {
+            Role::Price => true,
+            _ => false,
+        }
+    }
+
+    /// Whether columns of the two roles have one scale of the file's own.
+    pub fn shares_scale(self, other: Role) -> bool
+        ensures { result ≡ shares_scale self other }
+    {
+        match (self, other) {
+            (Role::Price, Role::Price) => true,
+            (Role::Quantity, Role::Quantity) => true,
+            (Role::Income, Role::Income) => true,
+            _ => false,
+        }
+    }
+
+    /// The largest scaled number.
+    pub fn limit(self) -> u64
+        ensures { result ≡ limit_of self }
+    {
+        match self {
+            Role::Expenditure | Role::Income => LARGEST_EXPENDITURE,
+            _ => u64::from(LARGEST),
+        }
+    }
+
+    /// Whether the fields say how much is bought.
+    pub fn measures(self) -> bool
+        ensures { result ≡ measures self }
+    {
+        match self {
+            Role::Quantity | Role::Expenditure | Role::Income => true,
+            Role::Observation | Role::Price | Role::Budget | Role::Times => false,
+        }
+    }
+}

@@ -1,0 +1,52 @@
+ghost use Rattle.std.specs.Prelude.{◌≡◌, ◌≢◌, ◌<◌, Some, None, true, false, IfOk, IfErr, MatchOption, length};
+ghost use Rattle.std.specs.Option.{option_map_or};
+ghost use Rattle.rp_text.specs.Records.{record_at};
+ghost use Rattle.rp_text.specs.Columns.{role_of, takes};
+ghost use Rattle.rp_text.specs.Headers.{headers_in, headers_stage};
+
+use crate::TableFault;
+use crate::columns::Columns;
+use crate::form::{Form, Role};
+use crate::records::Records;
+use crate::roles::role_of;
+use crate::texts::{number_of, trimmed};
+use std::alloc::Global;
+
+/// The columns of a file, each with a header that this kind of file has, and no two with the same.
+pub fn read_columns<'a>(
+    alloc: Global,
+    form: &Form,
+    records: &'a Records,
+) -> Result<Columns<'a>, TableFault>
+    requires { 0 < length records.now }
+    ensures read { IfOk result (λ columns. columns ≡ headers_in (record_at records.now 0)) }
+    ensures faultless { IfOk result (λ _. headers_stage form.now (headers_in (record_at records.now 0)) ≡ None) }
+    ensures refused { IfErr result (λ fault. fault ≢ TableFault.NoMemory → headers_stage form.now (headers_in (record_at records.now 0)) ≡ Some fault) }
+{
+    let mut columns = Columns::new(alloc);
+    for c in 0..records.headers() {
+        let header = trimmed(records.header(c));
+        let Some(role) = role_taken(form, header) else {
+            return Err(TableFault::BadHeader {
+                column: number_of(c),
+            });
+        };
+        if columns.find(header).is_some() {
+            return Err(TableFault::TwiceNamed {
+                column: number_of(c),
+            });
+        }
+        columns.push(header, role)?;
+    }
+    Ok(columns)
+}
+
+/// What a column with that header says, where this kind of file has it.
+fn role_taken(form: &Form, header: &[u8]) -> Option<Role>
+    ensures { MatchOption result (option_map_or (takes form.now) (role_of header.now) false ≡ false) (λ role. (role_of header.now ≡ Some role) × (takes form.now role ≡ true)) }
+{
+    match role_of(header) {
+        Some(role) if form.takes(role) => Some(role),
+        _ => None,
+    }
+}

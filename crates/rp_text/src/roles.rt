@@ -1,0 +1,68 @@
+ghost use Rattle.std.specs.Prelude.{◌≡◌, nat_le};
+ghost use Rattle.std.specs.List.{list_all};
+ghost use Rattle.rp_text.specs.Columns.{role_of, good_role, is_name, name_in};
+
+use crate::form::Role;
+
+/// What a column with that header says, in the files that have one.
+#[tactic(auto, unfolding(crate::specs::Columns::role_of))]
+pub fn role_of(header: &[u8]) -> Option<Role>
+    ensures { result ≡ role_of header.now }
+{
+    if header == b"obs".as_slice() {
+        Some(Role::Observation)
+    } else if header == b"m".as_slice() {
+        Some(Role::Expenditure)
+    } else if header == b"w".as_slice() {
+        Some(Role::Income)
+    } else if header == b"budget".as_slice() {
+        Some(Role::Budget)
+    } else if header == b"n".as_slice() {
+        Some(Role::Times)
+    } else {
+        good_role(header)
+    }
+}
+
+/// What the column of a good says.
+#[tactic(auto, unfolding(crate::specs::Columns::good_role))]
+fn good_role(header: &[u8]) -> Option<Role>
+    ensures { result ≡ good_role header.now }
+{
+    if !is_name(name_in(header)) {
+        None
+    } else if header.starts_with(b"p_") {
+        Some(Role::Price)
+    } else if header.starts_with(b"q_") {
+        Some(Role::Quantity)
+    } else {
+        None
+    }
+}
+
+/// The name of a good, after `p_` or `q_`.
+pub fn name_in(header: &[u8]) -> &[u8]
+    ensures { result.now ≡ name_in header.now }
+{
+    if header.len() < 2 { b"" } else { &header[2..] }
+}
+
+/// Whether the bytes can name a good.
+fn is_name(name: &[u8]) -> bool
+    ensures { result ≡ is_name name.now }
+{
+    if name.is_empty() {
+        return false;
+    }
+    if name.len() > 64 {
+        return false;
+    }
+    has_no_control(name)
+}
+
+/// Whether no byte is a control character.
+fn has_no_control(name: &[u8]) -> bool
+    ensures { result ≡ list_all (λ byte. nat_le 32 byte) name.now }
+{
+    name.iter().all(|byte| *byte >= 0x20)
+}
