@@ -1,5 +1,6 @@
 pub mod Counting
 pub mod Counts
+mod HomotheticTries
 pub mod Levels
 pub mod Places
 mod Tries

@@ -1,6 +1,7 @@
 ghost use Rattle.std.specs.Prelude.{◌≡◌, ◌-◌, ◌^◌, min, sum_by};
 ghost use Rattle.rp_evidence.specs.Withheld.{withheld_in};
 
+use crate::Homothetic;
 use rp_num::Seq;
 
 /// A level of efficiency num/den between 0 and 1: the part of its expenditure that an observation counts as.
@@ -22,6 +23,7 @@ pub enum Garp {
 #[derive(Debug, Drop)]
 pub enum Item {
     Garp(Garp),
+    Homothetic(Homothetic),
 }
 
 /// What a certificate is about: a table of prices and bundles, or random choices from budgets.
@@ -45,6 +47,10 @@ fn withheld_in_item(item: &Item) -> u32
 {
     match item {
         Item::Garp(_) => 0,
+        Item::Homothetic(verdict) => match verdict {
+            Homothetic::Withheld { .. } => 1,
+            _ => 0,
+        },
     }
 }
 
