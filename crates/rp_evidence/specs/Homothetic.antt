@@ -1,7 +1,7 @@
 -- The homothetic test (Varian 1983, "Non-parametric Tests of Consumer Behaviour", the homothetic axiom).
 -- `c t s` is what the bundle of observation s costs at the prices of observation t.
 use Rattle.std.specs.Prelude.{◌≡◌, ℕ, ◌*◌, ◌<◌, ◌≤◌, List, [], ◌∷◌, length, slice_index_or}
-use Rattle.rp_num.specs.Fraction.{Fraction, IsLowestTerms}
+use Rattle.rp_num.specs.Fraction.{Fraction, IsLowestTerms, PassesWidth}
 use Rattle.rp_evidence.specs.Walk.{IsWalk, IsClosedWalk}
 use Rattle.rp_evidence.specs.Quasilinear.{AnyStep}
 use Rattle.rp_evidence.specs.declared.products.Homothetic.{Homothetic}
@@ -37,6 +37,17 @@ pub record IsFallingCycle (n : ℕ) (c : ℕ → ℕ → ℕ) (walk : List ℕ) 
 -- The start, multiplied by c(t,s)/c(t,t) at each step of the walk, ends below itself. No start of 0 does.
 abbrev pub EndsBelow : (ℕ → ℕ → ℕ) → Fraction → List ℕ → Type 0
 EndsBelow c start walk = (start.num * next_costs c walk) * start.den < start.num * (start.den * own_costs c walk)
+
+-- From num/den, multiplied by c(t,s)/c(t,t) at each step from t to the first of the list and so on, each product in
+-- lowest terms is within the width of fractions.
+abbrev pub StepsFitFrom : (ℕ → ℕ → ℕ) → ℕ → ℕ → ℕ → List ℕ → Type 0
+StepsFitFrom c num den t [] = Unit {0}
+StepsFitFrom c num den t (s ∷ rest) = (¬ (PassesWidth (num * c t s) (den * c t t))) × StepsFitFrom c (num * c t s) (den * c t t) s rest
+
+-- Each product from the start along the walk is within the width.
+abbrev pub ProductsFit : (ℕ → ℕ → ℕ) → Fraction → List ℕ → Type 0
+ProductsFit c start [] = Unit {0}
+ProductsFit c start (t ∷ rest) = StepsFitFrom c start.num start.den t rest
 
 -- The fraction x is the least product of the c(t,s)/c(t,t) over all walks that end at s, in lowest terms.
 pub record IsLeastProduct (n : ℕ) (c : ℕ → ℕ → ℕ) (s : ℕ) (x : Fraction) : Type 0 where

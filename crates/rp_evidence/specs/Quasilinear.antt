@@ -41,7 +41,7 @@ pub record IsLeastSum (n : ℕ) (c : ℕ → ℕ → ℕ) (s : ℕ) (x : ℤ) : 
 pub record BoundSteps (n : ℕ) (c : ℕ → ℕ → ℕ) (values : List ℤ) : Type 0 where
   pub one_each : length values ≡ n
   pub each : (t s : ℕ) → t < n → s < n
-    → slice_index_or values s (pos 0) ≤ℤ (slice_index_or values t (pos 0) +ℤ step_sum c t s)
+      → slice_index_or values s (pos 0) ≤ℤ (slice_index_or values t (pos 0) +ℤ step_sum c t s)
 
 -- Values prove that the test holds: it does, and they bound the steps. A cycle proves that it fails: it
 -- is closed and its sum is negative.

@@ -1,7 +1,8 @@
 ghost use Rattle.std.specs.Prelude.{◌≡◌, ◌-◌, ◌^◌, min, sum_by};
 ghost use Rattle.rp_evidence.specs.Withheld.{withheld_in};
 
-use crate::Homothetic;
+use crate::products::Homothetic;
+use crate::quasilinear::Quasi;
 use rp_num::Seq;
 
 /// A level of efficiency num/den between 0 and 1: the part of its expenditure that an observation counts as.
@@ -24,6 +25,7 @@ pub enum Garp {
 pub enum Item {
     Garp(Garp),
     Homothetic(Homothetic),
+    Quasi(Quasi),
 }
 
 /// What a certificate is about: a table of prices and bundles, or random choices from budgets.
@@ -51,6 +53,7 @@ fn withheld_in_item(item: &Item) -> u32
             Homothetic::Withheld { .. } => 1,
             _ => 0,
         },
+        Item::Quasi(_) => 0,
     }
 }
 

@@ -1,9 +1,11 @@
 ghost use Rattle.std.specs.Prelude.{◌≡◌, ◌↔◌, ◌<◌, ◌≤◌, ◌*◌, ◌++◌, ◌∷◌, [], ℕ, List, length, Contains, slice_index};
 ghost use Rattle.rp_evidence.specs.Count.{AreCounts, IsCount};
 ghost use Rattle.rp_evidence.specs.Garp.{IsViolationAt, MeetsGarp, ReachesAt, ViolatesByPlaces};
-ghost use Rattle.rp_evidence.specs.Preference.{IsStrict, IsWeak};
+ghost use Rattle.rp_evidence.specs.Preference.{AgreeBelow, IsStrict, IsWeak};
+ghost use Rattle.rp_evidence.specs.Proves.{Proves};
 ghost use Rattle.rp_evidence.specs.Ranks.{OrderStrictSteps, RespectLevel};
 ghost use Rattle.rp_evidence.specs.Walk.{IsClosedWalk, IsWalk};
+ghost use Rattle.rp_evidence.specs.declared.certificate.Item.{Item};
 
 /// Ranks that respect a level exclude every violation at it.
 pub fn ranks_exclude_violations()
@@ -89,4 +91,9 @@ pub fn strict_counts_order()
         → AreCounts n (IsStrict c num den) counts
         → ((walk : List ℕ) → ¬ IsClosedWalk n (IsStrict c num den) walk)
         → OrderStrictSteps n c num den counts }
+{}
+
+/// Evidence depends on the costs between observations alone.
+pub fn evidence_depends_on_observed_costs()
+    ensures { (n : ℕ) (c d : ℕ → ℕ → ℕ) (item : Item) → AgreeBelow n c d → Proves n c item → Proves n d item }
 {}

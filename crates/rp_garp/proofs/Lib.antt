@@ -1,2 +1,3 @@
 pub mod SameCosts
+pub mod SameVerdicts
 pub mod Verdicts

@@ -2,7 +2,9 @@
 #![tactic(auto)]
 
 mod contradiction;
+mod laws;
 mod verdict;
 
 pub use contradiction::pairs;
+pub use laws::given_evidence_depends_on_observed_costs;
 pub use verdict::garp;

@@ -1,4 +1,4 @@
 pub mod Steps
 pub mod Walks
 pub mod Verdicts
-pub mod SameCosts
+pub mod SameVerdicts

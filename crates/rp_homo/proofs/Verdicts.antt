@@ -1,14 +1,15 @@
-use Rattle.std.proofs.Common.{◌+◌, ◌*◌, ap, subst, ◌≡◌, ℕ, zero, suc, ◌<◌, ◌≤◌, ◌↔◌, arith, refl, sym, ◌∙◌, List, [], ◌∷◌, length, ◌⊎◌, inl, inr}
+use Rattle.std.proofs.Common.{All, ◌+◌, ◌*◌, ap, subst, ◌≡◌, ℕ, zero, suc, ◌<◌, ◌≤◌, ◌↔◌, arith, refl, sym, ◌∙◌, List, [], ◌∷◌, length, ◌⊎◌, inl, inr, ◌/◌, ◌^◌}
 use Rattle.std.proofs.lemmas.Int.{ints}
 use Rattle.std.proofs.lemmas.Bool.{cases_lt}
 use Rattle.std.proofs.lemmas.Nat.{mul-add-lt}
-use Rattle.std.proofs.Math.Nat.{eq-one_of_dvd-one, one-le-mul, mul-lt-mul_of_pos_right}
+use Rattle.std.proofs.Math.Nat.{eq-one_of_dvd-one, one-le-mul, mul-le-mul_left, mul-lt-mul_of_pos_right}
 use Rattle.std.specs.Prelude.{ℤ, pos, ◌*ℤ◌, ◌<ℤ◌}
-use Rattle.rp_num.specs.Fraction.{Fraction, IsLowestTerms}
-use Rattle.rp_num.proofs.Lowest.{same_lowest}
+use Rattle.rp_num.specs.Fraction.{Fraction, IsLowestTerms, PassesWidth}
+use Rattle.rp_num.proofs.Lowest.{FitsWidth-divided, IsLowestTerms-divided, not_PassesWidth, same_lowest}
+use Rattle.rp_num.proofs.Coprime.{IsGcd-exists}
 use Rattle.rp_walk.specs.ExactTotal.{ExactTotal, IsLess, SameTotal}
 use Rattle.rp_walk.specs.Walk.{IsWalk, total_after}
-use Rattle.rp_walk.specs.LeastTotals.{IsLeast}
+use Rattle.rp_walk.specs.LeastTotals.{IsLeast, StepsFitAlong, WalkFits}
 use Rattle.rp_walk.specs.Settled.{HasLeastTotals, IsFirstPair, IsViolation, NoPairBreaks, PairBreaks}
 use Rattle.rp_walk.specs.Outcome.{SettlesInCycle, SettlesInValues, SettlesInWide, IsPairCycle as IsBreakingCycle, IsLongCycle as IsUnbounded}
 use Rattle.rp_walk.proofs.Order.{not_more_trans, not_less-same}
@@ -17,9 +18,9 @@ use Rattle.rp_walk.proofs.Paths.{after-same}
 use Rattle.rp_walk.proofs.Central.{no_violation}
 use Rattle.rp_evidence.specs.Walk.{IsClosedWalk, LeadsTo, IsWalk as AnyWalk}
 use Rattle.rp_evidence.specs.Quasilinear.{AnyStep}
-use Rattle.rp_evidence.specs.Homothetic.{BoundProducts, EndsBelow, IsFallingCycle, IsLeastProduct, MeetsHomotheticTest, next_costs, own_costs, product_from, value_at}
+use Rattle.rp_evidence.specs.Homothetic.{BoundProducts, EndsBelow, IsFallingCycle, IsLeastProduct, MeetsHomotheticTest, ProductsFit, StepsFitFrom, next_costs, own_costs, product_from, value_at}
 use Rattle.rp_table.specs.Cost.{CostTable, IsCostTable, cost_at}
-use Rattle.rp_homo.specs.Products.{FitsFraction, as_total, at_least_one, products}
+use Rattle.rp_homo.specs.Products.{FitsFraction, as_total, at_least_one, products, times}
 use Rattle.rp_homo.specs.ProductLaws.{products_keep_order}
 use Rattle.rp_homo.specs.Verdict.{GivesCycle, GivesValues, GivesWithheld, IsFirstFall, IsLongCycle, IsPairCycle, NoPairFalls, PairFalls}
 use Rattle.rp_homo.proofs.Steps.{at_least_one-is, same_pos}
@@ -232,6 +233,65 @@ IsFallingCycle-violation n c positive start walk v = record {
   falls = (falls_along n c positive start walk v).1;
 }
 
+-- ---- products within the width
+
+within_width : (x : ExactTotal) (m d a b : ℕ) → x.num ≡ pos m → x.den ≡ d → 1 ≤ a → 1 ≤ b → ¬ (¬ (FitsFraction (times x a b))) → ¬ (PassesWidth (m * a) (d * b))
+within_width x m d a b em ed ha hb fits wide = fits (λ f. not_PassesWidth (m * a) (d * b) f.0 (one-le-mul (subst (λ k. 1 ≤ k) ed x.positive) hb) (is_lowest f.0 f.1 f.3) f.2 wide)
+  where
+    is_lowest : (f : Fraction) → IsLowestTerms f.num f.den f → SameTotal (times x a b) (as_total f) → IsLowestTerms (m * a) (d * b) f
+    is_lowest f terms same = record {
+      positive = terms.positive;
+      coprime = terms.coprime;
+      same_number = same_fraction (x.num *ℤ pos (at_least_one a)) (x.den * at_least_one b) (m * a) (d * b) (at_least_one f.den) f.den f.num
+          (λ i. em i *ℤ pos (at_least_one-is a ha i)) (λ i. ed i * at_least_one-is b hb i) (at_least_one-is f.den terms.positive) same;
+    }
+
+steps_fit_along : (n : ℕ) (c : ℕ → ℕ → ℕ) → Positive n c → (x : ExactTotal) (m d t : ℕ) (rest : List ℕ) → x.num ≡ pos m → x.den ≡ d → t < n → All (λ s. s < n) rest → StepsFitAlong (products n c) FitsFraction x t rest → StepsFitFrom c m d t rest
+steps_fit_along n c positive x m d t [] em ed ht within fit = tt
+steps_fit_along n c positive x m d t (s ∷ rest) em ed ht within fit =
+    let hs : s < n = within 0 s (omega arith) in (
+      within_width x m d (c t s) (c t t) em ed (positive t s ht hs) (positive t t ht ht) fit.0,
+      steps_fit_along n c positive (times x (c t s) (c t t)) (m * c t s) (d * c t t) s rest
+          (λ i. em i *ℤ pos (at_least_one-is (c t s) (positive t s ht hs) i)) (λ i. ed i * at_least_one-is (c t t) (positive t t ht ht) i)
+          hs (λ k e below. within (suc k) e (omega arith)) fit.1,
+    )
+
+walk_fits : (n : ℕ) (c : ℕ → ℕ → ℕ) → Positive n c → (start : Fraction) (walk : List ℕ) → 1 ≤ start.den → IsClosedWalk n AnyStep walk → WalkFits (products n c) FitsFraction (as_total start) walk → ProductsFit c start walk
+walk_fits n c positive start [] hd closed fit = tt
+walk_fits n c positive start (x ∷ rest) hd closed fit =
+    let way = leads_to n c x closed.0 rest closed.1.1 in
+    steps_fit_along n c positive (as_total start) start.num start.den x rest refl (at_least_one-is start.den hd) way.0.begins_within way.0.goes_within fit
+
+-- numbers within the width have lowest terms within it
+small_fits : (a b : ℕ) → 1 ≤ b → a < 2 ^ 127 → b < 2 ^ 127 → ¬ (PassesWidth a b)
+small_fits a b hb fa fb =
+    let g = IsGcd-exists a b in
+    not_PassesWidth a b (record { num = a / g.0; den = b / g.0 }) hb (IsLowestTerms-divided a b g.0 hb g.1) (FitsWidth-divided a b g.0 fa fb)
+
+-- costs of n observations are below 2^51
+abbrev pub Limited : ℕ → (ℕ → ℕ → ℕ) → Type 0
+Limited n c = (t s : ℕ) → t < n → s < n → c t s < 2 ^ 51
+
+small_product : (a b : ℕ) → a < 2 ^ 51 → b < 2 ^ 51 → a * b < 2 ^ 127
+small_product a b ha hb =
+    let h : b ≤ 2 ^ 51 = omega arith in
+    omega (arith, mul-le-mul_left a h)
+
+-- the products of two steps from 1 are within the width
+pair_fits : (n : ℕ) (c : ℕ → ℕ → ℕ) → Positive n c → Limited n c → (s t : ℕ) → s < n → t < n → ProductsFit c (record { num = 1; den = 1 }) (s ∷ t ∷ s ∷ [])
+pair_fits n c positive limited s t hs ht = (
+  one_step (c s t) (c s s) (positive s s hs hs) (limited s t hs ht) (limited s s hs hs),
+  (two_steps (c s t) (c t s) (c s s) (c t t) (positive s s hs hs) (positive t t ht ht) (limited s t hs ht) (limited t s ht hs) (limited s s hs hs) (limited t t ht ht), tt),
+)
+  where
+    one_step : (a b : ℕ) → 1 ≤ b → a < 2 ^ 51 → b < 2 ^ 51 → ¬ (PassesWidth (1 * a) (1 * b))
+    one_step a b hb la lb = small_fits (1 * a) (1 * b) (omega arith) (omega arith) (omega arith)
+
+    two_steps : (a b d e : ℕ) → 1 ≤ d → 1 ≤ e → a < 2 ^ 51 → b < 2 ^ 51 → d < 2 ^ 51 → e < 2 ^ 51 → ¬ (PassesWidth (1 * a * b) (1 * d * e))
+    two_steps a b d e hd he la lb ld le =
+        let den = one-le-mul hd he in
+        small_fits (1 * a * b) (1 * d * e) (omega (arith, den)) (omega (arith, small_product a b la lb)) (omega (arith, small_product d e ld le))
+
 -- ---- the verdicts
 
 pub GivesValues-settled : (n : ℕ) (c : ℕ → ℕ → ℕ) → Positive n c → (values : List Fraction) → AllLowest n values → SettlesInValues (products n c) FitsFraction as_total values → GivesValues n c values
@@ -241,15 +301,19 @@ GivesValues-settled n c positive values terms h = record {
   holds = MeetsHomotheticTest-least n c positive (HasLeastTotals-values n c values (λ s hs. h.least s _ hs));
   one_each = h.one_each;
   least = λ s hs. IsLeastProduct-least n c positive s (value_at values s) (terms s hs) (h.least s _ hs);
+  steps_fit = λ t s ht hs.
+      within_width (as_total (value_at values t)) (value_at values t).num (value_at values t).den (c t s) (c t t) refl
+      (at_least_one-is (value_at values t).den (terms t ht).positive) (positive t s ht hs) (positive t t ht ht) (h.steps_fit t s _ ht hs);
 }
 
-pub GivesCycle-settled : (n : ℕ) (c : ℕ → ℕ → ℕ) → Positive n c → (start : Fraction) (walk : List ℕ) → IsLowestTerms start.num start.den start → SettlesInCycle (products n c) FitsFraction (as_total start) walk → GivesCycle n c start walk
-GivesCycle-settled n c positive start walk terms h =
+pub GivesCycle-settled : (n : ℕ) (c : ℕ → ℕ → ℕ) → Positive n c → Limited n c → (start : Fraction) (walk : List ℕ) → IsLowestTerms start.num start.den start → SettlesInCycle (products n c) FitsFraction (as_total start) walk → GivesCycle n c start walk
+GivesCycle-settled n c positive limited start walk terms h =
     let falls = falls_along n c positive start walk h.violation in
     record {
       closed = IsClosedWalk-violation n c (as_total start) walk h.violation;
       lowest_terms = terms;
       ends_below = ends_below_start c start walk falls.0 terms.positive falls.1;
+      products_fit = products_fit h.comes;
       comes = comes h.comes;
     }
   where
@@ -258,7 +322,7 @@ GivesCycle-settled n c positive start walk terms h =
         same_lowest start (record { num = 1; den = 1 }) terms.positive (omega arith) terms.coprime (λ d left right. eq-one_of_dvd-one left)
         (same_pos (start.num * 1) (1 * start.den) (same ∙ (λ i. pos (1 * at_least_one-is start.den terms.positive i))))
 
-    comes : IsBreakingCycle (products n c) (as_total start) walk ⊎ IsUnbounded (products n c) FitsFraction → IsPairCycle n c start walk ⊎ IsLongCycle n c
+    comes : IsBreakingCycle (products n c) (as_total start) walk ⊎ IsUnbounded (products n c) FitsFraction (as_total start) walk → IsPairCycle n c start walk ⊎ IsLongCycle n c
     comes (inl p) = inl (record {
       s = p.s;
       t = p.t;
@@ -268,6 +332,13 @@ GivesCycle-settled n c positive start walk terms h =
     })
     comes (inr l) = inr (record { no_pair = NoPairFalls-breaks n c positive l.no_pair; none_too_wide = l.none_too_wide })
 
+    products_fit : IsBreakingCycle (products n c) (as_total start) walk ⊎ IsUnbounded (products n c) FitsFraction (as_total start) walk → ProductsFit c start walk
+    products_fit (inl p) =
+        let hs : p.s < n = omega (arith, p.first_pair.in_order, p.first_pair.within) in
+        subst (λ (xs : List ℕ). ProductsFit c start xs) (sym p.walk_is)
+        (subst (λ (f : Fraction). ProductsFit c f (p.s ∷ p.t ∷ p.s ∷ [])) (sym (one_lowest start terms p.start_empty)) (pair_fits n c positive limited p.s p.t hs p.first_pair.within))
+    products_fit (inr l) = walk_fits n c positive start walk terms.positive (IsClosedWalk-violation n c (as_total start) walk h.violation) l.steps_fit
+
 pub GivesWithheld-settled : (n : ℕ) (c : ℕ → ℕ → ℕ) → Positive n c → (k t s : ℕ) → SettlesInWide (products n c) FitsFraction k t s → GivesWithheld n c k t s
 GivesWithheld-settled n c positive k t s h = record { no_pair = NoPairFalls-breaks n c positive h.no_pair; first = h.first }
 
@@ -276,3 +347,7 @@ GivesWithheld-settled n c positive k t s h = record { no_pair = NoPairFalls-brea
 pub positive_costs : (costs : CostTable) → IsCostTable costs → Positive costs.n (cost_at costs)
 positive_costs costs h t s ht hs =
     (h.limits (t * costs.n + s) 0 (omega (arith, mul-add-lt t costs.n s costs.n ht hs, h.all))).0
+
+pub limited_costs : (costs : CostTable) → IsCostTable costs → Limited costs.n (cost_at costs)
+limited_costs costs h t s ht hs =
+    (h.limits (t * costs.n + s) 0 (omega (arith, mul-add-lt t costs.n s costs.n ht hs, h.all))).1

@@ -1,2 +1,3 @@
+pub mod SameVerdicts
 pub mod Steps
 pub mod Verdicts

@@ -1,9 +1,9 @@
 ghost use Rattle.std.specs.Prelude.{◌≡◌, ◌+◌, ◌++◌, ◌∷◌, [], OnOk, codes};
 ghost use Rattle.std.specs.List.{flat_map};
-ghost use Rattle.std.specs.Fmt.{decimal};
-ghost use Rattle.rp_report.specs.ReportText.{line_of, list_text, numbers_text, observations_text};
+ghost use Rattle.std.specs.Fmt.{decimal, signed_decimal};
+ghost use Rattle.rp_report.specs.ReportText.{line_of, list_text, numbers_text, observations_text, sums_text};
 
-use rp_num::{NoMemory, print_u128};
+use rp_num::{NoMemory, print_i128, print_u128};
 use std::alloc::Global;
 
 /// Appends a text and a line feed.
@@ -55,6 +55,48 @@ pub(crate) fn push_observations(
     out.extend_from_slice(word)?;
     push_numbers(alloc, out, observations, 1)?;
     out.push(b'\n')?;
+    Ok(())
+}
+
+/// Appends a line that lists whole numbers after a word.
+pub(crate) fn push_sums(
+    alloc: Global,
+    out: &mut Vec<u8>,
+    word: &[u8],
+    sums: &[i128],
+) -> Result<(), NoMemory>
+    ensures { OnOk result (out.new.items ≡ out.old.items ++ line_of (word.now ++ sums_text sums.now)) }
+{
+    out.extend_from_slice(word)?;
+    push_signed(alloc, out, sums)?;
+    out.push(b'\n')?;
+    Ok(())
+}
+
+/// Appends whole numbers with one space between them; `none` for no numbers.
+fn push_signed(alloc: Global, out: &mut Vec<u8>, numbers: &[i128]) -> Result<(), NoMemory>
+    ensures { OnOk result (out.new.items ≡ out.old.items ++ sums_text numbers.now) }
+{
+    match numbers {
+        [] => {
+            out.extend_from_slice(b"none")?;
+            Ok(())
+        }
+        [first, others @ ..] => {
+            print_i128(alloc, out, *first)?;
+            push_other_signed(alloc, out, others)
+        }
+    }
+}
+
+/// Appends whole numbers, each after a space.
+fn push_other_signed(alloc: Global, out: &mut Vec<u8>, numbers: &[i128]) -> Result<(), NoMemory>
+    ensures { OnOk result (out.new.items ≡ out.old.items ++ flat_map (λ number. codes " " ++ signed_decimal number) numbers.now) }
+{
+    for number in numbers {
+        out.extend_from_slice(b" ")?;
+        print_i128(alloc, out, *number)?;
+    }
     Ok(())
 }
 

@@ -1,8 +1,9 @@
 ghost use Rattle.std.specs.Prelude.{◌≡◌, ◌++◌, IfOk, OnOk};
-ghost use Rattle.rp_report.specs.ReportText.{garp_text, head_text, item_text, report_text};
+ghost use Rattle.rp_report.specs.ReportText.{garp_text, head_text, item_text, quasilinear_text, report_text};
 
-use crate::lists::{push_line, push_number, push_observations, push_ranks};
-use rp_evidence::{Certificate, Garp, Item, Kind};
+use crate::lists::{push_line, push_number, push_observations, push_ranks, push_sums};
+use crate::products::push_homothetic;
+use rp_evidence::{Certificate, Garp, Item, Kind, Quasi};
 use rp_num::NoMemory;
 use rp_table::Table;
 use std::alloc::Global;
@@ -38,6 +39,8 @@ fn push_item(alloc: Global, out: &mut Vec<u8>, item: &Item) -> Result<(), NoMemo
 {
     match item {
         Item::Garp(verdict) => push_garp(alloc, out, verdict),
+        Item::Homothetic(verdict) => push_homothetic(alloc, out, verdict),
+        Item::Quasi(verdict) => push_quasilinear(alloc, out, verdict),
     }
 }
 
@@ -52,6 +55,22 @@ fn push_garp(alloc: Global, out: &mut Vec<u8>, verdict: &Garp) -> Result<(), NoM
         }
         Garp::Cycle(cycle) => {
             push_line(out, b"garp violated")?;
+            push_observations(alloc, out, b"cycle ", cycle.as_slice())
+        }
+    }
+}
+
+/// Appends the lines of a verdict of the quasilinear test.
+fn push_quasilinear(alloc: Global, out: &mut Vec<u8>, verdict: &Quasi) -> Result<(), NoMemory>
+    ensures { OnOk result (out.new.items ≡ out.old.items ++ quasilinear_text verdict.now) }
+{
+    match verdict {
+        Quasi::Values(values) => {
+            push_line(out, b"quasilinear holds")?;
+            push_sums(alloc, out, b"values ", values.as_slice())
+        }
+        Quasi::Cycle(cycle) => {
+            push_line(out, b"quasilinear violated")?;
             push_observations(alloc, out, b"cycle ", cycle.as_slice())
         }
     }

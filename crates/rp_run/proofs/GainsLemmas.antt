@@ -1,5 +1,5 @@
 -- What a sink gains from texts that are written one after another.
-use Rattle.std.proofs.Common.{◌≡◌, ℕ, suc, ◌+◌, ◌<◌, ◌≤◌, List, [], ◌∷◌, ◌++◌, Option, Some, length, get_or, take, drop, refl, sym, ◌∙◌, ap, arith, append_assoc, append-nil, length-append, add-one, drop-cons, inl, inr}
+use Rattle.std.proofs.Common.{◌≡◌, ℕ, suc, ◌+◌, ◌<◌, ◌≤◌, List, [], ◌∷◌, ◌++◌, Option, Some, length, get_or, take, drop, sym, ◌∙◌, ap, arith, append_assoc, append-nil, length-append, drop-cons, inl, inr}
 use Rattle.std.proofs.lemmas.List.{take-append-drop, take_more}
 use Rattle.std.proofs.Math.Seq.{take-append-add}
 use Rattle.std.proofs.lemmas.List.{take-append-le}
@@ -20,9 +20,11 @@ grows_then old mid new x y first second w is = second (w ++ x) (first w is) ∙ 
 -- a text, and then a part of another that stands before a third
 pub grows_then_part : (old mid new : Option (List ℕ)) (x y z : List ℕ) → Grows old mid x → GrowsByPrefix mid new y → GrowsByPrefix old new (x ++ (y ++ z))
 grows_then_part old mid new x y z first second w is =
-    let p = second (w ++ x) (first w is) in
-    (length x + p.0, omega (arith, p.1, length-append x (y ++ z), length-append y z),
-     p.2 ∙ ap Some (append_assoc w x (take p.0 y) ∙ ap (λ (v : List ℕ). w ++ v) (sym (take-append-add x (y ++ z) p.0 ∙ ap (λ (v : List ℕ). x ++ v) (take-append-le p.0 y z p.1)))))
+    let p = second (w ++ x) (first w is) in (
+      length x + p.0,
+      omega (arith, p.1, length-append x (y ++ z), length-append y z),
+      p.2 ∙ ap Some (append_assoc w x (take p.0 y) ∙ ap (λ (v : List ℕ). w ++ v) (sym (take-append-add x (y ++ z) p.0 ∙ ap (λ (v : List ℕ). x ++ v) (take-append-le p.0 y z p.1)))),
+    )
 
 -- a list of pieces at one of them
 pub at_piece : {X : Type 0} (f : X → List ℕ) (xs : List X) (i : ℕ) (d : X) → i < length xs → flat_map f xs ≡ flat_map f (take i xs) ++ (f (get_or xs i d) ++ flat_map f (drop (suc i) xs))

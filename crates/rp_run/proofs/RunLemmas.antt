@@ -1,12 +1,12 @@
 -- The fault line of each cause, and what answers or refuses a line over one table.
-use Rattle.std.proofs.Common.{◌≡◌, ℕ, ◌<◌, ◌≤◌, List, [], ◌∷◌, Option, Some, length, refl, sym, lit<, arith, inl, inr, subst}
+use Rattle.std.proofs.Common.{◌≡◌, ℕ, ◌<◌, ◌≤◌, List, Some, length, refl, lit<, arith, inl, inr, subst}
 use Rattle.std.specs.Prelude.{codes}
 use Rattle.std.specs.Option.{ForSome}
 use Rattle.std.specs.List.{Contains}
 use Rattle.rp_table.specs.Tables.{Observations}
 use Rattle.rp_run.specs.Plain.{IsPlainTable}
 use Rattle.rp_run.specs.CommandLine.{Line, Pairs, Analyse, table_of, files_of, line_of}
-use Rattle.rp_run.specs.Answers.{Files, Answers, AnswersTable, IsContent, IsTableFile, IsAccepted, IsAcceptedTable, IsRefused, IsRefusedTable, RefusesTable, RefusesTold, Refuses}
+use Rattle.rp_run.specs.Answers.{Files, Answers, AnswersTable, IsTableFile, IsAccepted, IsAcceptedTable, IsRefused, IsRefusedTable, RefusesTable, RefusesTold, Refuses}
 use Rattle.rp_run.specs.FaultLines.{IsFaultLine}
 use Rattle.rp_run.specs.Causes.{status_of_cause, cause_line}
 use Rattle.rp_run.specs.declared.TheConstants.{TABLE_BYTES}
@@ -40,10 +40,10 @@ refused_table files (Analyse table) r = r
 
 -- the line of a cause that holds is the fault line of its status
 pub cause_told : (files : Files) (rose : List ℕ → Type 0) (words : List (List ℕ)) (line : Line) (file : List ℕ) (why : Cause) → line_of words ≡ Some line → table_of line ≡ file
-  → (why ≡ cause.Read → rose file)
-  → (why ≡ cause.TooLong → ForSome (files file) (λ bytes. TABLE_BYTES < length bytes))
-  → (why ≡ cause.NotPlain → ForSome (files file) (λ bytes. (length bytes ≤ TABLE_BYTES) × ((table : Observations) → IsPlainTable bytes table → ⊥)))
-  → IsFaultLine files rose words (status_of_cause why) (cause_line file why)
+    → (why ≡ cause.Read → rose file)
+    → (why ≡ cause.TooLong → ForSome (files file) (λ bytes. TABLE_BYTES < length bytes))
+    → (why ≡ cause.NotPlain → ForSome (files file) (λ bytes. (length bytes ≤ TABLE_BYTES) × ((table : Observations) → IsPlainTable bytes table → ⊥)))
+    → IsFaultLine files rose words (status_of_cause why) (cause_line file why)
 cause_told files rose words line file cause.Read is named read long plain = (line, file, is, subst (Contains (files_of line)) named (names_table line), read refl, refl)
 cause_told files rose words line file cause.TooLong is named read long plain =
     (line, file, codes "TooLong", is, subst (λ (f : List ℕ). Refuses files line f (codes "TooLong")) named (refuses_line files line (codes "TooLong") (λ bytes told. inl (refl, long refl bytes (subst (λ (f : List ℕ). files f ≡ Some bytes) named told)))), refl)

@@ -1,5 +1,4 @@
 -- Which cause a fault of a lower layer is.
-use Rattle.std.specs.Prelude.{◌≡◌}
 use Rattle.rp_outside.specs.declared.loading.LoadFault.{LoadFault}
 use Rattle.rp_outside.specs.declared.loading.LoadFault.TheVariants as load
 use Rattle.rp_run.specs.declared.fault.TableFault.{TableFault}

@@ -1,5 +1,5 @@
 -- The line of the command `pairs` (this program's own text).
-use Rattle.std.specs.Prelude.{◌≡◌, ℕ, ◌+◌, List, [], ◌∷◌, ◌++◌, Option, Some, None, MatchOption, codes}
+use Rattle.std.specs.Prelude.{◌≡◌, ℕ, ◌+◌, List, [], ◌∷◌, ◌++◌, Option, Some, None, codes}
 use Rattle.std.specs.Fmt.{decimal}
 use Rattle.rp_table.specs.Tables.{Observations, records_of}
 use Rattle.rp_table.specs.Cost.{cost_of}

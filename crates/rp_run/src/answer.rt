@@ -8,8 +8,8 @@ ghost use Rattle.rp_run.specs.NamedLine.{named_line};
 
 use crate::TABLE_BYTES;
 use crate::fault::TableFault;
-use crate::plain::read_table;
 use crate::line::Line;
+use crate::plain::read_table;
 use crate::text::{analysis_text, pairs_text};
 use rp_num::NoMemory;
 use rp_outside::{Desk, LoadFault, load};

@@ -8,6 +8,7 @@ mod parts;
 mod plain;
 mod running;
 mod status;
+mod sure;
 mod telling;
 mod text;
 
@@ -15,6 +16,7 @@ pub use fault::TableFault;
 pub use plain::read_table;
 pub use running::run;
 pub use status::Status;
+pub use sure::run_surely;
 
 /// The most bytes of a table file.
 pub const TABLE_BYTES: u64 = 4_194_304;

@@ -48,7 +48,10 @@ pub fn run<D: Desk, O: Sink, E: Sink>(
     ensures faults_of_err { E.faults err.old ≤ E.faults err.new }
 {
     let Some(line) = read_line(words.as_slice()) else {
-        tell(err, &[b"usage: rp pairs TABLE\n", b"       rp analyse TABLE\n"]);
+        tell(
+            err,
+            &[b"usage: rp pairs TABLE\n", b"       rp analyse TABLE\n"],
+        );
         return Status::Usage;
     };
     let table = line.table();

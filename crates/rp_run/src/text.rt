@@ -6,6 +6,7 @@ ghost use Rattle.rp_run.specs.PairsText.{IsPairsText, pairs_line};
 use rp_evidence::{Certificate, Item, Kind};
 use rp_garp::{garp, pairs};
 use rp_num::{NoMemory, Seq, print_u128};
+use rp_quasi::quasilinear;
 use rp_report::report;
 use rp_table::{Costs, Table};
 use std::alloc::Global;
@@ -38,7 +39,11 @@ fn line_of_pair(alloc: Global, found: Option<(u32, u32)>) -> Result<Vec<u8>, NoM
 }
 
 /// The report of the verdicts on a table.
-pub(crate) fn analysis_text(alloc: Global, table: &Table, costs: &Costs) -> Result<Vec<u8>, NoMemory>
+pub(crate) fn analysis_text(
+    alloc: Global,
+    table: &Table,
+    costs: &Costs,
+) -> Result<Vec<u8>, NoMemory>
     requires { IsCostsOf costs.now table.now }
     ensures { IfOk result (λ text. IsAnalysisText table.now text.items) }
 {
@@ -53,6 +58,7 @@ fn analyse(alloc: Global, costs: &Costs) -> Result<Certificate, NoMemory>
 {
     let mut items = Vec::new(alloc);
     items.push(Item::Garp(garp(alloc, costs)?))?;
+    items.push(Item::Quasi(quasilinear(alloc, costs)?))?;
     Ok(Certificate {
         kind: Kind::Table,
         version: 1,

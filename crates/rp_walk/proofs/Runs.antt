@@ -22,6 +22,7 @@ pub record IsRun {V : Type 0} (w : Steps) (fits : ExactTotal → Type 0) (exact 
   pub none_below : NoneBelow w fits k
   pub history_len : length history ≡ k * w.count
   pub remembers : Remembers w k history
+  pub idle_fit : (t s : ℕ) → t < w.count → s < w.count → w.count ≤ get_or from t 0 → ¬ (¬ (fits (w.after (totals_of exact w.empty values t) t s)))
   pub improved : 0 < k → (s : ℕ) × (s < w.count) × (get_or from s 0 < w.count)
 
 pub IsRun-start : {V : Type 0} (w : Steps) (fits : ExactTotal → Type 0) (exact : V → ExactTotal) (start : V) (n : ℕ) (values : List V) (from history : List ℕ) → n ≡ w.count → SameTotal (exact start) w.empty → values ≡ replicate n start → from ≡ replicate n 0 → history ≡ [] → IsRun w fits exact 0 values from history
@@ -37,6 +38,7 @@ IsRun-start {V} w fits exact start n values from history is_n is_start is_values
   none_below = λ k t s below. absurd (omega arith);
   history_len = ap length is_history ∙ omega arith;
   remembers = λ k s below. absurd (omega arith);
+  idle_fit = λ t s ht hs h. absurd (omega (arith, entry t ht));
   improved = λ h. absurd (omega arith);
 }
   where
@@ -67,6 +69,15 @@ Remembers-more w k history came len h here k' s below hs live = by_cases (cases_
         let at_k = subst (λ n. CameFrom w k s n) (sym entry) (here s hs live_k) in
         subst (λ n. CameFrom w n s (get_or (history ++ came) (k' * w.count + s) 0)) e at_k
 
+-- where the next level makes no total less, each step from it fits
+next_fit : {V : Type 0} (w : Steps) (fits : ExactTotal → Type 0) (exact : V → ExactTotal) (k : ℕ) (values next : List V) (from came history : List ℕ) → IsRun w fits exact k values from history → IsNextLevel w fits exact values from next came → (t s : ℕ) → t < w.count → s < w.count → w.count ≤ get_or came t 0 → ¬ (¬ (fits (w.after (totals_of exact w.empty next t) t s)))
+next_fit w fits exact k values next from came history run h t s ht hs idle =
+    subst (λ (x : ExactTotal). ¬ (¬ (fits (w.after x t s)))) (sym (h.next.kept t ht idle)) (by_cases (cases_lt (get_or from t 0) w.count))
+  where
+    by_cases : (get_or from t 0 < w.count) ⊎ (w.count ≤ get_or from t 0) → ¬ (¬ (fits (w.after (totals_of exact w.empty values t) t s)))
+    by_cases (inl b) = h.fit t s ht hs b
+    by_cases (inr b) = run.idle_fit t s ht hs b
+
 pub IsRun-next : {V : Type 0} (w : Steps) (keeps : KeepsOrder w) (fits : ExactTotal → Type 0) (alike : FitsAlike fits) (exact : V → ExactTotal) (k j : ℕ) (values next : List V) (from came history all : List ℕ) → j ≡ suc k → IsRun w fits exact k values from history → IsNextLevel w fits exact values from next came → all ≡ history ++ came → (s : ℕ) → s < w.count → get_or came s 0 < w.count → IsRun w fits exact j next came all
 IsRun-next w keeps fits alike exact k j values next from came history all is_j run h is_all s hs better =
     subst (λ n. IsRun w fits exact n next came all) (sym is_j) (record {
@@ -76,6 +87,7 @@ IsRun-next w keeps fits alike exact k j values next from came history all is_j r
       none_below = NoneBelow-next w keeps fits alike k (totals_of exact w.empty values) (λ i. get_or from i 0) run.level h.fit run.none_below;
       history_len = ap length is_all ∙ omega (arith, length-append history came, run.history_len, h.from_len);
       remembers = subst (λ (xs : List ℕ). Remembers w (suc k) xs) (sym is_all) (Remembers-more w k history came run.history_len run.remembers came_from);
+      idle_fit = λ t i ht hi idle. next_fit w fits exact k values next from came history run h t i ht hi idle;
       improved = λ p. (s, hs, better);
     })
   where
@@ -97,6 +109,8 @@ SettlesInValues-run {V} w keeps fits alike exact k n values next result from cam
       none_too_wide = NoneTooWide-stable w keeps fits k (totals_of exact w.empty values) (totals_of exact w.empty next) (λ i. get_or from i 0) (λ i. get_or came i 0) run.level h.next none
           (NoneBelow-next w keeps fits alike k (totals_of exact w.empty values) (λ i. get_or from i 0) run.level h.fit run.none_below);
       one_each = h.values_len;
+      steps_fit = λ t s d ht hs. subst (λ (x : ExactTotal). ¬ (¬ (fits (w.after x t s)))) (totals_of-at exact w.empty next t d (omega (arith, h.values_len)))
+          (next_fit w fits exact k values next from came history run h t s ht hs (none t ht));
       least = λ s d hs. subst (λ (x : ExactTotal). IsLeast w s x) (totals_of-at exact w.empty next s d (omega (arith, h.values_len)))
           (IsLeast-stable w keeps k (totals_of exact w.empty values) (totals_of exact w.empty next) (λ i. get_or from i 0) (λ i. get_or came i 0) run.level h.next none s hs);
     })

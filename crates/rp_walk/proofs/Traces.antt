@@ -3,7 +3,7 @@ use Rattle.std.proofs.lemmas.List.{get_or-replicate, length-replicate}
 use Rattle.std.proofs.lemmas.Bool.{cases_lt}
 use Rattle.rp_walk.specs.ExactTotal.{ExactTotal, IsLess, SameTotal}
 use Rattle.rp_walk.specs.Walk.{Steps, total_after, KeepsOrder}
-use Rattle.rp_walk.specs.LeastTotals.{IsLive, NoneTooWide, FitsAlike}
+use Rattle.rp_walk.specs.LeastTotals.{IsLive, NoneTooWide, FitsAlike, StepsFitAlong, WalkFits}
 use Rattle.rp_walk.specs.Level.{CameFrom, Remembers, IsFound, prefix_total}
 use Rattle.rp_walk.specs.Settled.{IsFirstPair, NoPairBreaks, NoPartnerBelow, PairBreaks, IsViolation}
 use Rattle.rp_walk.specs.Outcome.{SettlesInCycle}
@@ -11,7 +11,7 @@ use Rattle.rp_walk.proofs.Order.{less_not_more, not_more_less, not_less-same}
 use Rattle.rp_walk.proofs.Walks.{IsTotal-here}
 use Rattle.rp_walk.proofs.Paths.{after-same}
 use Rattle.rp_walk.proofs.Levels.{SameTotal-trans}
-use Rattle.rp_walk.proofs.Cycles.{segment, drop-segment, IsViolation-part, total_after-same}
+use Rattle.rp_walk.proofs.Cycles.{found_within, found_fits, segment, drop-segment, IsViolation-part, total_after-same}
 use Rattle.rp_walk.proofs.Unbounded.{no_least_totals}
 
 -- ---- pairs
@@ -161,8 +161,20 @@ prefix_more w keeps p i j x y e same hi hj is_y =
 
 -- ---- the cycle that is cut
 
-pub SettlesInCycle-cut : (w : Steps) (keeps : KeepsOrder w) (fits : ExactTotal → Type 0) (start : ExactTotal) (walk steps : List ℕ) (a b end : ℕ) → IsFound w w.count (λ m. get_or walk m 0) → length walk ≡ w.count + 1 → a < b → b < length walk → get_or walk a 0 ≡ get_or walk b 0 → SameTotal (prefix_total w (λ m. get_or walk m 0) a) start → steps ≡ take (b + 1 - a) (drop a walk) → NoPairBreaks w → NoneTooWide w fits → end < w.count → IsLive w w.count end → SettlesInCycle w fits start steps
-SettlesInCycle-cut w keeps fits start walk steps a b end found len order inside same is_start is_steps no_pair none hs live =
+-- each step of a part of a found walk fits, from the same number at its beginning
+StepsFitAlong-part : (w : Steps) (keeps : KeepsOrder w) (fits : ExactTotal → Type 0) (alike : FitsAlike fits) (p : ℕ → ℕ) → IsFound w w.count p → NoneTooWide w fits → (a d : ℕ) (x : ExactTotal) → a + d ≤ w.count → SameTotal (prefix_total w p a) x → StepsFitAlong w fits x (p a) (segment p a d)
+StepsFitAlong-part w keeps fits alike p found none a zero x few same = tt
+StepsFitAlong-part w keeps fits alike p found none a (suc d) x few same =
+    let here = found_within w w.count p found a (omega arith) in
+    let there = found_within w w.count p found (suc a) (omega arith) in
+    let steps = after-same w keeps (prefix_total w p a) x (p a) (p (suc a)) here there same in
+    let fit = found_fits w fits w.count p found (omega arith) none a (omega arith) in (
+      (λ nofit. fit (λ q. nofit (alike (prefix_total w p (suc a)) (w.after x (p a) (p (suc a))) steps q))),
+      StepsFitAlong-part w keeps fits alike p found none (suc a) d (w.after x (p a) (p (suc a))) (omega arith) steps,
+    )
+
+pub SettlesInCycle-cut : (w : Steps) (keeps : KeepsOrder w) (fits : ExactTotal → Type 0) (alike : FitsAlike fits) (start : ExactTotal) (walk steps : List ℕ) (a b end : ℕ) → IsFound w w.count (λ m. get_or walk m 0) → length walk ≡ w.count + 1 → a < b → b < length walk → get_or walk a 0 ≡ get_or walk b 0 → SameTotal (prefix_total w (λ m. get_or walk m 0) a) start → steps ≡ take (b + 1 - a) (drop a walk) → NoPairBreaks w → NoneTooWide w fits → end < w.count → IsLive w w.count end → SettlesInCycle w fits start steps
+SettlesInCycle-cut w keeps fits alike start walk steps a b end found len order inside same is_start is_steps no_pair none hs live =
     let d : ℕ = b - a in
     let e : b ≡ a + d = omega arith in
     let n : b + 1 - a ≡ suc d = omega arith in
@@ -171,5 +183,11 @@ SettlesInCycle-cut w keeps fits start walk steps a b end found len order inside 
     is_steps ∙ ap (λ m. take m (drop a walk)) n ∙ drop-segment walk a d (omega arith) in
     record {
       violation = subst (λ (xs : List ℕ). IsViolation w start xs) (sym list) part;
-      comes = inr (record { no_pair = no_pair; none_too_wide = none; no_least = no_least_totals w keeps end hs live });
+      comes = inr (record {
+        no_pair = no_pair;
+        none_too_wide = none;
+        no_least = no_least_totals w keeps end hs live;
+        steps_fit = subst (λ (xs : List ℕ). WalkFits w fits start xs) (sym list)
+            (StepsFitAlong-part w keeps fits alike (λ m. get_or walk m 0) found none a d start (omega arith) is_start);
+      });
     }

@@ -1,4 +1,4 @@
-use Rattle.std.specs.Prelude.{◌≡◌, ℕ, ◌-◌, ◌<◌, ◌≤◌, ◌⊎◌}
+use Rattle.std.specs.Prelude.{List, [], ◌∷◌, ◌≡◌, ℕ, ◌-◌, ◌<◌, ◌≤◌, ◌⊎◌}
 use Rattle.rp_walk.specs.ExactTotal.{ExactTotal, IsLess, SameTotal}
 use Rattle.rp_walk.specs.Walk.{Steps, IsTotal}
 
@@ -46,3 +46,13 @@ pub record IsFirstTooWide (w : Steps) (fits : ExactTotal → Type 0) (k t s : �
 -- No triple is too wide.
 abbrev pub NoneTooWide : Steps → (ExactTotal → Type 0) → Type 0
 NoneTooWide w fits = (k t s : ℕ) → ¬ (IsTooWide w fits k t s)
+
+-- Each step of a walk from s, with the total x at its beginning, fits.
+abbrev pub StepsFitAlong : Steps → (ExactTotal → Type 0) → ExactTotal → ℕ → List ℕ → Type 0
+StepsFitAlong w fits x s [] = Unit {0}
+StepsFitAlong w fits x s (t ∷ rest) = (¬ (¬ (fits (w.after x s t)))) × StepsFitAlong w fits (w.after x s t) t rest
+
+-- The same, of a walk as the list of its observations.
+abbrev pub WalkFits : Steps → (ExactTotal → Type 0) → ExactTotal → List ℕ → Type 0
+WalkFits w fits x [] = Unit {0}
+WalkFits w fits x (s ∷ rest) = StepsFitAlong w fits x s rest

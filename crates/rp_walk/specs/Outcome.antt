@@ -1,18 +1,19 @@
 use Rattle.std.specs.Prelude.{◌≡◌, ℕ, ◌<◌, ◌⊎◌, List, [], ◌∷◌, length, slice_index_or}
 use Rattle.rp_walk.specs.ExactTotal.{ExactTotal, SameTotal}
 use Rattle.rp_walk.specs.Walk.{Steps}
-use Rattle.rp_walk.specs.LeastTotals.{IsLeast, IsFirstTooWide, NoneTooWide}
+use Rattle.rp_walk.specs.LeastTotals.{IsLeast, IsFirstTooWide, NoneTooWide, WalkFits}
 use Rattle.rp_walk.specs.Settled.{IsFirstPair, NoPairBreaks, IsViolation, HasLeastTotals}
 use Rattle.rp_walk.specs.declared.outcome.Settled.{Settled}
 use Rattle.rp_walk.specs.declared.outcome.Settled.TheVariants.{Values, Cycle, Wide}
 
--- The values are the least totals over the walks of any length, by the observation where they end. No
--- pair breaks, and no triple is too wide.
+-- The values are the least totals over the walks of any length, by the observation where they end, and
+-- every step from them fits. No pair breaks, and no triple is too wide.
 pub record SettlesInValues {V : Type 0} (w : Steps) (fits : ExactTotal → Type 0) (exact : V → ExactTotal) (values : List V) : Type 0 where
   pub no_pair : NoPairBreaks w
   pub none_too_wide : NoneTooWide w fits
   pub one_each : length values ≡ w.count
   pub least : (s : ℕ) (d : V) → s < w.count → IsLeast w s (exact (slice_index_or values s d))
+  pub steps_fit : (t s : ℕ) (d : V) → t < w.count → s < w.count → ¬ (¬ (fits (w.after (exact (slice_index_or values t d)) t s)))
 
 -- The cycle is the walk s, t, s from the empty total for the first pair that breaks.
 pub record IsPairCycle (w : Steps) (start : ExactTotal) (walk : List ℕ) : Type 0 where
@@ -23,16 +24,17 @@ pub record IsPairCycle (w : Steps) (start : ExactTotal) (walk : List ℕ) : Type
   pub walk_is : walk ≡ s ∷ t ∷ s ∷ []
 
 -- No pair breaks and no triple is too wide, but some observation has no least total over the walks of
--- any length.
-pub record IsLongCycle (w : Steps) (fits : ExactTotal → Type 0) : Type 0 where
+-- any length. Each step along the cycle fits.
+pub record IsLongCycle (w : Steps) (fits : ExactTotal → Type 0) (start : ExactTotal) (walk : List ℕ) : Type 0 where
   pub no_pair : NoPairBreaks w
   pub none_too_wide : NoneTooWide w fits
   pub no_least : ¬ (HasLeastTotals w)
+  pub steps_fit : WalkFits w fits start walk
 
 -- A closed walk that ends below its start, and when it comes.
 pub record SettlesInCycle (w : Steps) (fits : ExactTotal → Type 0) (start : ExactTotal) (walk : List ℕ) : Type 0 where
   pub violation : IsViolation w start walk
-  pub comes : IsPairCycle w start walk ⊎ IsLongCycle w fits
+  pub comes : IsPairCycle w start walk ⊎ IsLongCycle w fits start walk
 
 -- No pair breaks, and this is the first triple that is too wide.
 pub record SettlesInWide (w : Steps) (fits : ExactTotal → Type 0) (k t s : ℕ) : Type 0 where

@@ -1,7 +1,7 @@
-use Rattle.std.proofs.Common.{rules, ◌≡◌, ℕ, List, Some, Err, map, string_bytes, sym, refl, ◌∙◌, ap, inl, inr, subst}
-use Rattle.rp_run.specs.CommandLine.{Line, line_of, table_of}
+use Rattle.std.proofs.Common.{◌≡◌, Some, Err, map, string_bytes, sym, ◌∙◌, ap}
+use Rattle.rp_run.specs.CommandLine.{line_of, table_of}
 use Rattle.rp_run.specs.NamedLine.{named_line}
-use Rattle.rp_run.specs.Answers.{AnswersTable, IsRefused, IsRefusedTable}
+use Rattle.rp_run.specs.Answers.{AnswersTable, IsRefusedTable}
 use Rattle.rp_run.proofs.RunLemmas.{cause_told, answers_line, refused_table, answered_not_refused}
 use Rattle.rp_run.specs.declared.status.Status.TheVariants as status
 use Rattle.rp_run.proofs.running.run.Goals as goal

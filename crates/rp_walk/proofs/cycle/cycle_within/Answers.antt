@@ -23,6 +23,6 @@ returns g c =
     let closed = subst (λ (xs : List ℕ). get_or xs first 0 ≡ get_or xs last 0) c.as_slice.ensures.value c.in_ok-first.ensures.closed in
     let inside = subst (λ (xs : List ℕ). last < length xs) c.as_slice.ensures.value c.in_ok-first.ensures.in_walk in
     let steps = c.from_vec.ensures ∙ c.in_ok-steps.ensures.items ∙ ap (λ (xs : List ℕ). take (last + 1 - first) (drop first xs)) c.deref.ensures.value in
-    SettlesInCycle-cut w (g.met.T.Total.keeps_order c.args.total.now) g.T.Total.fits (g.T.Total.exact c.total_at-start.result) walk
+    SettlesInCycle-cut w (g.met.T.Total.keeps_order c.args.total.now) g.T.Total.fits g.met.T.Total.fits_alike (g.T.Total.exact c.total_at-start.result) walk
     c.from_vec.result first last c.args.end c.in_ok-walk.ensures.found c.in_ok-walk.ensures.len c.in_ok-first.ensures.in_order inside closed
     start steps c.requires.no_pair c.requires.none_too_wide c.requires.end_in c.requires.end_live

@@ -1,0 +1,89 @@
+-- What holds for some costs holds for all that are the same between the observations.
+use Rattle.std.proofs.Common.{◌≡◌, ◌<◌, ◌≤◌, ◌*◌, ◌⊎◌, ◌↔◌, ℕ, List, inl, inr, sym, subst}
+use Rattle.rp_evidence.specs.Count.{AreCounts, IsCount}
+use Rattle.rp_evidence.specs.Garp.{IsViolationAt, MeetsGarp}
+use Rattle.rp_evidence.specs.Preference.{AgreeBelow, IsStrict, IsWeak}
+use Rattle.rp_evidence.specs.Proves.{ProvesGarp}
+use Rattle.rp_evidence.specs.Ranks.{OrderStrictSteps, RespectLevel}
+use Rattle.rp_evidence.specs.Walk.{IsShortestWalk, IsWalk, Reaches}
+use Rattle.rp_evidence.specs.declared.certificate.Garp.{Garp}
+use Rattle.rp_evidence.specs.declared.certificate.Garp.TheVariants.{Ranks, Cycle}
+use Rattle.rp_evidence.proofs.Counting.{number_same}
+use Rattle.rp_evidence.proofs.Violations.{violates_by_weaker}
+use Rattle.rp_evidence.proofs.Walks.{walks_by_weaker}
+
+pub agree_back : (n : ℕ) (c d : ℕ → ℕ → ℕ) → AgreeBelow n c d → AgreeBelow n d c
+agree_back n c d same s t a b = sym (same s t a b)
+
+-- ---- walks by steps that are the same
+
+module _ (n : ℕ) (step other : ℕ → ℕ → Type 0) (same : (s t : ℕ) → s < n → t < n → step s t ↔ other s t) where
+  pub walk_same : (s t : ℕ) (walk : List ℕ) → IsWalk n step s t walk → IsWalk n other s t walk
+  walk_same = walks_by_weaker n step other (λ s t a b. (same s t a b).0)
+
+  pub walk_same_back : (s t : ℕ) (walk : List ℕ) → IsWalk n other s t walk → IsWalk n step s t walk
+  walk_same_back = walks_by_weaker n other step (λ s t a b. (same s t a b).1)
+
+  pub reach_same : (s t : ℕ) → Reaches n step s t ↔ Reaches n other s t
+  reach_same s t = (λ r. (r.0, walk_same s t r.0 r.1, r.2), λ r. (r.0, walk_same_back s t r.0 r.1, r.2))
+
+  pub shortest_same : (s t : ℕ) (walk : List ℕ) → IsShortestWalk n step s t walk → IsShortestWalk n other s t walk
+  shortest_same s t walk h = record {
+    leads = walk_same s t walk h.leads;
+    has_step = h.has_step;
+    fewest = λ w k l. h.fewest w (walk_same_back s t w k) l;
+  }
+
+  pub count_same : (s k : ℕ) → IsCount n step s k → IsCount n other s k
+  count_same s k = number_same n (λ t. (t ≡ s) ⊎ Reaches n step s t) (λ t. (t ≡ s) ⊎ Reaches n other s t) k (λ t l. (there t, back t))
+    where
+      there : (t : ℕ) → (t ≡ s) ⊎ Reaches n step s t → (t ≡ s) ⊎ Reaches n other s t
+      there t (inl e) = inl e
+      there t (inr r) = inr ((reach_same s t).0 r)
+
+      back : (t : ℕ) → (t ≡ s) ⊎ Reaches n other s t → (t ≡ s) ⊎ Reaches n step s t
+      back t (inl e) = inl e
+      back t (inr r) = inr ((reach_same s t).1 r)
+
+  pub counts_same : (counts : List ℕ) → AreCounts n step counts → AreCounts n other counts
+  counts_same counts are = record { one_each = are.one_each; each = λ s l. count_same s _ (are.each s l) }
+
+-- ---- costs that are the same
+
+module _ (n : ℕ) (c d : ℕ → ℕ → ℕ) (num den : ℕ) (same : AgreeBelow n c d) where
+  weak_there : (s t : ℕ) → s < n → t < n → IsWeak c num den s t → IsWeak d num den s t
+  weak_there s t a b h =
+      subst (λ y. den * d s t ≤ num * y) (same s s a a) (subst (λ x. den * x ≤ num * c s s) (same s t a b) h)
+
+  strict_there : (s t : ℕ) → s < n → t < n → IsStrict c num den s t → IsStrict d num den s t
+  strict_there s t a b h =
+      subst (λ y. den * d s t < num * y) (same s s a a) (subst (λ x. den * x < num * c s s) (same s t a b) h)
+
+  pub violation_same : (walk : List ℕ) → IsViolationAt n c num den walk → IsViolationAt n d num den walk
+  violation_same = violates_by_weaker n (IsWeak c num den) (IsStrict c num den) (IsWeak d num den) (IsStrict d num den) weak_there strict_there
+
+module _ (n : ℕ) (c d : ℕ → ℕ → ℕ) (num den : ℕ) (same : AgreeBelow n c d) where
+  pub weak_same : (s t : ℕ) → s < n → t < n → IsWeak c num den s t ↔ IsWeak d num den s t
+  weak_same s t a b = (weak_there n c d num den same s t a b, weak_there n d c num den (agree_back n c d same) s t a b)
+
+  pub strict_same : (s t : ℕ) → s < n → t < n → IsStrict c num den s t ↔ IsStrict d num den s t
+  strict_same s t a b = (strict_there n c d num den same s t a b, strict_there n d c num den (agree_back n c d same) s t a b)
+
+  pub meets_same : MeetsGarp n c num den → MeetsGarp n d num den
+  meets_same meets walk v = meets walk (violation_same n d c num den (agree_back n c d same) walk v)
+
+  pub respect_same : (ranks : List ℕ) → RespectLevel n c num den ranks → RespectLevel n d num den ranks
+  respect_same ranks r = record {
+    one_each = r.one_each;
+    weak_never_rises = λ s t a b h. r.weak_never_rises s t a b ((weak_same s t a b).1 h);
+    strict_falls = λ s t a b h. r.strict_falls s t a b ((strict_same s t a b).1 h);
+  }
+
+  pub order_same : (ranks : List ℕ) → OrderStrictSteps n c num den ranks → OrderStrictSteps n d num den ranks
+  order_same ranks r = record { one_each = r.one_each; step_falls = λ s t a b h. r.step_falls s t a b ((strict_same s t a b).1 h) }
+
+-- ---- evidence
+
+pub garp_same : (n : ℕ) (c d : ℕ → ℕ → ℕ) (verdict : Garp) → AgreeBelow n c d → ProvesGarp n c verdict → ProvesGarp n d verdict
+garp_same n c d (Ranks ranks) same p = (respect_same n c d 1 1 same ranks p.0, meets_same n c d 1 1 same p.1)
+garp_same n c d (Cycle walk) same p = violation_same n c d 1 1 same walk p

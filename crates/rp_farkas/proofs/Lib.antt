@@ -1,0 +1,6 @@
+pub mod Integers
+pub mod Totals
+pub mod Duality
+pub mod Listings
+pub mod SumSteps
+pub mod Worked

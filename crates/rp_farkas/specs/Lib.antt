@@ -1,0 +1,11 @@
+pub mod Total
+pub mod LinearProgram
+pub mod Limits
+pub mod Listed
+pub mod Point
+pub mod Prices
+pub mod EqualPair
+pub mod Ray
+pub mod Best
+pub mod Listing
+pub mod PairCheck

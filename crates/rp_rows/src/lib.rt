@@ -1,0 +1,11 @@
+//! Tests of the suite: worked tables, happy paths with ample memory, printed texts and faults.
+#![tactic(auto)]
+
+#[cfg(test)]
+mod command;
+#[cfg(test)]
+mod numbers;
+#[cfg(test)]
+mod outside;
+#[cfg(test)]
+mod preference;

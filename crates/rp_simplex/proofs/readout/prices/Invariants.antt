@@ -1,0 +1,9 @@
+use Rattle.std.proofs.Common.{◌≡◌, ℕ, suc, ◌<◌, pos, vec_len, slice_index}
+use Rattle.rp_simplex.specs.Shown.{exact}
+use Rattle.rp_simplex.proofs.readout.prices.Given as goal
+
+abbrev pub invariant-loop-s : goal.invariant-loop-s
+invariant-loop-s l = record {
+  length_is : vec_len l.prices ≡ l.s;
+  read : (k : ℕ) → k < l.s → pos (slice_index l.prices.items k) ≡ (exact l.t).at l.t.rows (suc k);
+}

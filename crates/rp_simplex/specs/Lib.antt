@@ -1,0 +1,12 @@
+pub mod ExactTableau
+pub mod FirstTableau
+pub mod Lexicographic
+pub mod Choice
+pub mod Width
+pub mod Pivot
+pub mod Run
+pub mod Shown
+pub mod Readout
+pub mod Outcome
+pub mod SameOutcome
+pub mod Evidence

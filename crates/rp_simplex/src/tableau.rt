@@ -1,0 +1,56 @@
+ghost use Rattle.std.specs.Prelude.{◌≡◌, ◌+◌, ◌*◌, ◌^◌, ◌<◌, ◌≤◌, ℤ, ◌*ℤ◌, All, vec_len};
+ghost use Rattle.std.specs.Int.RustNames.{unsigned_abs};
+
+/// A tableau: its entries over one denominator, by row and then by column, and the basic column of each row. The
+/// last row is the objective; column 0 has the right sides, then come the slacks and the program's columns.
+#[derive(Drop)]
+pub struct Tableau {
+    pub rows: usize,
+    pub width: usize,
+    pub den: u64,
+    pub entries: Vec<i64>,
+    pub basis: Vec<usize>,
+    ghost few_rows: { rows ≤ 64 },
+    ghost few_columns: { width ≤ 8257 },
+    ghost shape: { vec_len entries ≡ (rows + 1) * width },
+    ghost basis_length: { vec_len basis ≡ rows },
+    ghost den_positive: { 0 < den },
+    ghost den_fits: { den < 2 ^ 63 },
+    ghost entries_fit: { All (λ z. unsigned_abs z < 2 ^ 63) entries.items },
+}
+
+/// The product of two numbers below 2^63 in absolute value, which is below 2^126.
+pub fn product(a: i64, b: i64) -> i128
+    requires first { unsigned_abs a < 2 ^ 63 }
+    requires second { unsigned_abs b < 2 ^ 63 }
+    ensures value { result ≡ a *ℤ b }
+    ensures fits { unsigned_abs result < 2 ^ 126 }
+{
+    i128::from(a) * i128::from(b)
+}
+
+impl Tableau {
+    ghost use Rattle.rp_simplex.specs.Shown.{exact};
+
+    /// The numerator in row i and column j.
+    pub fn entry(&self, i: usize, j: usize) -> i64
+        requires row { i ≤ self.now.rows }
+        requires column { j < self.now.width }
+        ensures value { result ≡ (exact self.now).at i j }
+        ensures fits { unsigned_abs result < 2 ^ 63 }
+    {
+        self.entries[i * self.width + j]
+    }
+
+    /// The product of the numerators in row i, column c and in row k, column j.
+    pub fn cross(&self, i: usize, c: usize, k: usize, j: usize) -> i128
+        requires first_row { i ≤ self.now.rows }
+        requires first_column { c < self.now.width }
+        requires second_row { k ≤ self.now.rows }
+        requires second_column { j < self.now.width }
+        ensures value { result ≡ (exact self.now).at i c *ℤ (exact self.now).at k j }
+        ensures fits { unsigned_abs result < 2 ^ 126 }
+    {
+        product(self.entry(i, c), self.entry(k, j))
+    }
+}
