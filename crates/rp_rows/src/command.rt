@@ -124,39 +124,39 @@ fn words_files_and_sinks_that_fail(rt: HostRuntime) -> Result<(), Fail> {
 }
 
 #[test]
-fn analyse_reports_the_verdict_on_garp(rt: HostRuntime) -> Result<(), Fail> {
+fn analyse_reports_the_verdicts_on_worked_tables(rt: HostRuntime) -> Result<(), Fail> {
     for (file, out) in [
         (
             "p_a,q_a,p_b,q_b\n1,1,2,2\n2,2,1,1\n",
-            "observations 2 goods 2 places 0 0\ngarp violated\ncycle 1 2 1\n",
+            "observations 2 goods 2 places 0 0\ngarp violated\ncycle 1 2 1\nquasilinear violated\ncycle 1 2 1\n",
         ),
         (
             "p_a,q_a,p_b,q_b\n1,2,2,1\n2,1,1,2\n",
-            "observations 2 goods 2 places 0 0\ngarp holds\nranks 1 1\n",
+            "observations 2 goods 2 places 0 0\ngarp holds\nranks 1 1\nquasilinear holds\nvalues 0 0\n",
         ),
         (
             "p_a,q_a,p_b,q_b\n1,4,1,4\n1,2,1,2\n",
-            "observations 2 goods 2 places 0 0\ngarp holds\nranks 2 1\n",
+            "observations 2 goods 2 places 0 0\ngarp holds\nranks 2 1\nquasilinear holds\nvalues 0 -4\n",
         ),
         (
             "p_a,q_a,p_b,q_b\n1,2,1,2\n1,3,1,1\n",
-            "observations 2 goods 2 places 0 0\ngarp holds\nranks 2 2\n",
+            "observations 2 goods 2 places 0 0\ngarp holds\nranks 2 2\nquasilinear holds\nvalues 0 0\n",
         ),
         (
             "p_a,q_a,p_b,q_b\n1,1,3,3\n21,2,8,1\n",
-            "observations 2 goods 2 places 0 0\ngarp violated\ncycle 1 2 1\n",
+            "observations 2 goods 2 places 0 0\ngarp violated\ncycle 1 2 1\nquasilinear violated\ncycle 1 2 1\n",
         ),
         (
             "p_a,q_a,p_b,q_b,p_c,q_c\n2,1,1,0,3,0\n3,0,2,1,1,0\n1,0,3,0,2,1\n",
-            "observations 3 goods 3 places 0 0\ngarp violated\ncycle 1 2 3 1\n",
+            "observations 3 goods 3 places 0 0\ngarp violated\ncycle 1 2 3 1\nquasilinear violated\ncycle 1 2 3 1\n",
         ),
         (
             "p_a,q_a\n3,2\n",
-            "observations 1 goods 1 places 0 0\ngarp holds\nranks 1\n",
+            "observations 1 goods 1 places 0 0\ngarp holds\nranks 1\nquasilinear holds\nvalues 0\n",
         ),
         (
             "p_a,q_a,p_b,q_b\n2,3,1,2\n1,0,2,3\n2,1,1,0\n",
-            "observations 3 goods 2 places 0 0\ngarp holds\nranks 3 2 1\n",
+            "observations 3 goods 2 places 0 0\ngarp holds\nranks 3 2 1\nquasilinear violated\ncycle 1 2 1\n",
         ),
     ] {
         let got = answer(rt.alloc(), &["rp", "analyse", "t.csv"], file, &[])?;
@@ -180,6 +180,10 @@ fn analyse_of_the_most_observations(rt: HostRuntime) -> Result<(), Fail> {
         chain.push_str(format!(in alloc; "1,{left}\n")?.as_str())?;
         ranks.push_str(format!(in alloc; " {left}")?.as_str())?;
     }
+    ranks.push_str("\nquasilinear holds\nvalues 0")?;
+    for k in 1..256u32 {
+        ranks.push_str(format!(in alloc; " -{k}")?.as_str())?;
+    }
     ranks.push_str("\n")?;
     let got = answer(alloc, &["rp", "analyse", "t.csv"], chain.as_str(), &[])?;
     assert_eq!(rt; got.status, Status::Done);
@@ -188,31 +192,34 @@ fn analyse_of_the_most_observations(rt: HostRuntime) -> Result<(), Fail> {
 }
 
 /// Bundles on a curve in the plane where three quantities sum to 65,280. At each price the own bundle and the
-/// next one are equally cheap and all others dearer; at the last price the first bundle is cheaper still.
+/// next one are equally cheap and all others dearer; at the last price the first bundle is cheaper by 255. So each
+/// other closed walk of weak steps has no strict one, and each that leaves a bundle out has a positive sum.
 #[test]
 fn analyse_finds_the_one_violation_that_runs_through_all(rt: HostRuntime) -> Result<(), Fail> {
     let alloc = rt.alloc();
     let mut file = String::from_str(alloc, "p_a,q_a,p_b,q_b,p_c,q_c\n")?;
-    let mut cycle = String::from_str(
-        alloc,
-        "observations 256 goods 3 places 0 0\ngarp violated\ncycle",
-    )?;
+    let mut ring = String::from_str(alloc, "")?;
     for t in 0..256u32 {
         let (first, second) = if t < 255 {
-            (511 - 2 * t, 513)
+            (131_072 - 256 * (2 * t + 1), 131_328)
         } else {
-            (1023, 510)
+            (131_583, 131_070)
         };
         let square = t * t;
         let rest = 65_280 - t - square;
-        file.push_str(format!(in alloc; "{first},{t},{second},{square},512,{rest}\n")?.as_str())?;
+        file.push_str(format!(in alloc;
+            "{first},{t},{second},{square},131072,{rest}\n"
+        )?.as_str())?;
         let number = t + 1;
-        cycle.push_str(format!(in alloc; " {number}")?.as_str())?;
+        ring.push_str(format!(in alloc; " {number}")?.as_str())?;
     }
-    cycle.push_str(" 1\n")?;
+    let ring = ring.as_str();
+    let report = format!(in alloc;
+        "observations 256 goods 3 places 0 0\ngarp violated\ncycle{ring} 1\nquasilinear violated\ncycle 256{ring}\n"
+    )?;
     let got = answer(alloc, &["rp", "analyse", "t.csv"], file.as_str(), &[])?;
     assert_eq!(rt; got.status, Status::Done);
-    assert_eq!(rt; got.out.as_str(), cycle.as_str());
+    assert_eq!(rt; got.out.as_str(), report.as_str());
     Ok(())
 }
 

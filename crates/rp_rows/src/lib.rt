@@ -9,3 +9,7 @@ mod numbers;
 mod outside;
 #[cfg(test)]
 mod preference;
+#[cfg(test)]
+mod programs;
+#[cfg(test)]
+mod walks;
