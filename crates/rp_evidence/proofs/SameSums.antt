@@ -38,9 +38,11 @@ least_sum_same n c d same s x least =
     }
 
 pub quasilinear_same : (n : ℕ) (c d : ℕ → ℕ → ℕ) (verdict : Quasi) → AgreeBelow n c d → ProvesQuasilinear n c verdict → ProvesQuasilinear n d verdict
-quasilinear_same n c d (Values values) same p =
-    (record {
-      one_each = p.0.one_each;
-      each = λ t s t_in s_in. rw (← step_sum_same n c d same t s t_in s_in) (p.0.each t s t_in s_in);
-    }, meets_test_same n c d same p.1)
+quasilinear_same n c d (Values values) same p = (
+  record {
+    one_each = p.0.one_each;
+    each = λ t s t_in s_in. rw (← step_sum_same n c d same t s t_in s_in) (p.0.each t s t_in s_in);
+  },
+  meets_test_same n c d same p.1,
+)
 quasilinear_same n c d (Cycle walk) same p = negative_same n c d same walk p

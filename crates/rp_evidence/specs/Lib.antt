@@ -1,5 +1,6 @@
 pub mod Count
 pub mod Garp
+pub mod Homothetic
 pub mod Preference
 pub mod Proves
 pub mod Quasilinear

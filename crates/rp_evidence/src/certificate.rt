@@ -1,6 +1,7 @@
 ghost use Rattle.std.specs.Prelude.{◌≡◌, ◌-◌, ◌^◌, min, sum_by};
 ghost use Rattle.rp_evidence.specs.Withheld.{withheld_in};
 
+use crate::products::Homothetic;
 use crate::quasilinear::Quasi;
 use rp_num::Seq;
 
@@ -23,6 +24,7 @@ pub enum Garp {
 #[derive(Debug, Drop)]
 pub enum Item {
     Garp(Garp),
+    Homothetic(Homothetic),
     Quasi(Quasi),
 }
 
@@ -47,6 +49,10 @@ fn withheld_in_item(item: &Item) -> u32
 {
     match item {
         Item::Garp(_) => 0,
+        Item::Homothetic(verdict) => match verdict {
+            Homothetic::Withheld { .. } => 1,
+            _ => 0,
+        },
         Item::Quasi(_) => 0,
     }
 }

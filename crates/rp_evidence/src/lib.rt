@@ -3,6 +3,7 @@
 
 mod certificate;
 mod laws;
+mod products;
 mod quasilinear;
 
 pub use certificate::{Certificate, Garp, Item, Kind, Level, withheld};
@@ -13,4 +14,5 @@ pub use laws::{
     violations_last_above, violations_turn, walk_and_strict_step_violate,
     weak_cycles_violate_above, weak_to_itself,
 };
+pub use products::Homothetic;
 pub use quasilinear::Quasi;

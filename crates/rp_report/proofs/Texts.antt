@@ -21,3 +21,7 @@ word_and_list old word list = simp append_assoc
 -- a line of four numbers with their words
 pub four_numbers : (old w1 n1 w2 n2 w3 n3 w4 n4 : List ℕ) → ((((((((old ++ w1) ++ n1) ++ w2) ++ n2) ++ w3) ++ n3) ++ w4) ++ n4) ++ 10 ∷ [] ≡ old ++ line_of (w1 ++ n1 ++ w2 ++ n2 ++ w3 ++ n3 ++ w4 ++ n4)
 four_numbers old w1 n1 w2 n2 w3 n3 w4 n4 = simp append_assoc
+
+-- a line of three numbers with their words
+pub three_numbers : (old w1 n1 w2 n2 w3 n3 : List ℕ) → ((((((old ++ w1) ++ n1) ++ w2) ++ n2) ++ w3) ++ n3) ++ 10 ∷ [] ≡ old ++ line_of (w1 ++ n1 ++ w2 ++ n2 ++ w3 ++ n3)
+three_numbers old w1 n1 w2 n2 w3 n3 = simp append_assoc

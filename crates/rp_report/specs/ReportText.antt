@@ -2,13 +2,16 @@
 use Rattle.std.specs.Prelude.{ℕ, ℤ, ◌+◌, List, [], ◌∷◌, ◌++◌, codes}
 use Rattle.std.specs.List.{flat_map}
 use Rattle.std.specs.Fmt.{decimal, signed_decimal}
+use Rattle.rp_num.specs.Fraction.{Fraction, fraction_text}
 use Rattle.rp_table.specs.Tables.{Observations, goods_of, records_of}
 use Rattle.rp_evidence.specs.declared.certificate.Garp.{Garp}
 use Rattle.rp_evidence.specs.declared.certificate.Garp.TheVariants.{Ranks, Cycle}
+use Rattle.rp_evidence.specs.declared.products.Homothetic.{Homothetic}
+use Rattle.rp_evidence.specs.declared.products.Homothetic.TheVariants.{Values as ProductValues, Cycle as FallingCycle, Withheld}
 use Rattle.rp_evidence.specs.declared.quasilinear.Quasi.{Quasi}
 use Rattle.rp_evidence.specs.declared.quasilinear.Quasi.TheVariants.{Values, Cycle as NegativeCycle}
 use Rattle.rp_evidence.specs.declared.certificate.Item.{Item}
-use Rattle.rp_evidence.specs.declared.certificate.Item.TheVariants.{Garp as GarpItem, Quasi as QuasiItem}
+use Rattle.rp_evidence.specs.declared.certificate.Item.TheVariants.{Garp as GarpItem, Homothetic as HomotheticItem, Quasi as QuasiItem}
 
 -- a line
 abbrev pub line_of : List ℕ → List ℕ
@@ -31,6 +34,10 @@ observations_text observations = list_text (λ s. decimal (s + 1)) observations
 abbrev pub sums_text : List ℤ → List ℕ
 sums_text sums = list_text signed_decimal sums
 
+-- fractions in lowest terms
+abbrev pub fractions_text : List Fraction → List ℕ
+fractions_text fractions = list_text fraction_text fractions
+
 -- what the report is about
 abbrev pub head_text : Observations → List ℕ
 head_text table = line_of (codes "observations " ++ decimal (records_of table) ++ codes " goods " ++ decimal (goods_of table)
@@ -41,6 +48,14 @@ abbrev pub garp_text : Garp → List ℕ
 garp_text (Ranks ranks) = line_of (codes "garp holds") ++ line_of (codes "ranks " ++ numbers_text ranks)
 garp_text (Cycle cycle) = line_of (codes "garp violated") ++ line_of (codes "cycle " ++ observations_text cycle)
 
+-- a verdict of the homothetic test
+abbrev pub homothetic_text : Homothetic → List ℕ
+homothetic_text (ProductValues values) = line_of (codes "homothetic holds") ++ line_of (codes "values " ++ fractions_text values)
+homothetic_text (FallingCycle start cycle) = line_of (codes "homothetic violated") ++ line_of (codes "start " ++ fraction_text start)
+    ++ line_of (codes "cycle " ++ observations_text cycle)
+homothetic_text (Withheld steps from to) = line_of (codes "homothetic withheld steps " ++ decimal steps ++ codes " from " ++ decimal (from + 1)
+    ++ codes " to " ++ decimal (to + 1))
+
 -- a verdict of the quasilinear test
 abbrev pub quasilinear_text : Quasi → List ℕ
 quasilinear_text (Values values) = line_of (codes "quasilinear holds") ++ line_of (codes "values " ++ sums_text values)
@@ -49,6 +64,7 @@ quasilinear_text (NegativeCycle cycle) = line_of (codes "quasilinear violated") 
 -- an item
 abbrev pub item_text : Item → List ℕ
 item_text (GarpItem verdict) = garp_text verdict
+item_text (HomotheticItem verdict) = homothetic_text verdict
 item_text (QuasiItem verdict) = quasilinear_text verdict
 
 -- the report of these items on a table

@@ -2,6 +2,7 @@
 #![tactic(auto)]
 
 mod lists;
+mod products;
 mod tables;
 
 pub use tables::report;

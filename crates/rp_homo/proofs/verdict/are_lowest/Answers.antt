@@ -1,0 +1,10 @@
+use Rattle.std.proofs.Common.{subst, below_more, arith}
+use Rattle.std.proofs.lemmas.List.{get_or_read}
+use Rattle.rp_num.specs.Fraction.{Fraction, IsLowestTerms}
+use Rattle.rp_homo.proofs.verdict.are_lowest.Goals as goal
+
+pub loop-fraction-preserved : goal.loop-fraction-preserved
+loop-fraction-preserved c = below_more _ _ c.loop-fraction.invariant
+    (λ d. subst (λ (f : Fraction). IsLowestTerms f.num f.den f)
+    (get_or_read c.args.fractions.now c.loop-fraction.fraction-index c.fraction-item.result (omega arith) c.fraction-item.is d)
+    c.den.ensures.lowest)

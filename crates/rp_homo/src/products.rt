@@ -1,0 +1,84 @@
+ghost use Rattle.std.specs.Prelude.{◌≡◌, ◌<◌, ◌≤◌, ◌*◌, ◌^◌};
+ghost use Rattle.rp_num.specs.Fraction.{IsLowestTerms};
+ghost use Rattle.rp_table.specs.Cost.{cost_at};
+
+use rp_num::{Frac, Wide};
+use rp_table::Costs;
+use rp_walk::Total;
+use std::cmp::Ordering;
+
+/// Products of what the steps of walks multiply by, over the costs of a table.
+#[derive(Drop)]
+pub(crate) struct Products<'a> {
+    pub(crate) costs: &'a Costs,
+}
+
+impl Products<'_> {
+    /// What a step from `t` to `s` multiplies by.
+    fn factor(&self, t: u32, s: u32) -> Frac
+        requires from { t < self.now.costs.now.n }
+        requires to { s < self.now.costs.now.n }
+        ensures lowest { IsLowestTerms (cost_at self.now.costs.now t s) (cost_at self.now.costs.now t t) result }
+        ensures across { 1 ≤ cost_at self.now.costs.now t s }
+        ensures own { 1 ≤ cost_at self.now.costs.now t t }
+    {
+        let across = self.costs.cost(t, s);
+        let own = self.costs.cost(t, t);
+        Frac::new(u128::from(across), u128::from(own))
+    }
+}
+
+impl Total for Products<'_> {
+    type Value = Frac;
+
+    ghost use Rattle.rp_table.specs.Cost.{cost_at};
+    ghost use Rattle.rp_homo.specs.Products.{FitsFraction, as_total, products};
+
+    ghost steps = { λ a. products a.costs.now.n (cost_at a.costs.now) };
+
+    ghost exact = { as_total };
+
+    ghost fits = { FitsFraction };
+
+    fn n(&self) -> u32 {
+        self.costs.n()
+    }
+
+    fn start(&self) -> Frac {
+        Frac::new(1, 1)
+    }
+
+    fn step(&self, v: Frac, t: u32, s: u32) -> Result<Frac, Wide> {
+        prove!(v.den() > 0);
+        v.mul(self.factor(t, s))
+    }
+
+    fn less(&self, a: Frac, b: Frac) -> bool {
+        prove!(a.den() > 0);
+        prove!(b.den() > 0);
+        a.cmp(b) == Ordering::Less
+    }
+
+    fn pair_breaks(&self, s: u32, t: u32) -> bool {
+        let across = product(self.costs.cost(s, t), self.costs.cost(t, s));
+        let own = product(self.costs.cost(s, s), self.costs.cost(t, t));
+        across < own
+    }
+
+    ghost use Rattle.rp_homo.specs.ProductLaws.{products_fit_alike, products_keep_order, products_stay};
+
+    ghost keeps_order = { λ a. products_keep_order a.costs.now.n (cost_at a.costs.now) };
+
+    ghost stays = { λ a. products_stay a.costs.now.n (cost_at a.costs.now) };
+
+    ghost fits_alike = { products_fit_alike };
+}
+
+/// The product of two costs.
+fn product(a: u64, b: u64) -> u128
+    requires first { a < 2 ^ 51 }
+    requires second { b < 2 ^ 51 }
+    ensures { result ≡ a * b }
+{
+    u128::from(a) * u128::from(b)
+}
