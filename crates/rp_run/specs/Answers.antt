@@ -1,9 +1,11 @@
 -- What the program answers to a line, over the bytes of its files. A desk may keep the bytes of a file to
 -- itself; where it tells them, the answer is about these bytes.
-use Rattle.std.specs.Prelude.{◌≡◌, ℕ, ◌<◌, ◌≤◌, ◌⊎◌, List, length, Option, Some, codes}
+use Rattle.std.specs.Prelude.{◌≡◌, ℕ, ◌<◌, ◌≤◌, ◌⊎◌, List, length, Option, Some, Ok, Err, codes}
 use Rattle.std.specs.Option.{ForSome}
 use Rattle.rp_table.specs.Tables.{Observations}
-use Rattle.rp_run.specs.Plain.{IsPlainTable}
+use Rattle.rp_text.specs.Denotation.{table_in}
+use Rattle.rp_text.specs.declared.fault.TableFault.{TableFault}
+use Rattle.rp_run.specs.FaultTexts.{fault_text}
 use Rattle.rp_run.specs.PairsText.{IsPairsText}
 use Rattle.rp_run.specs.Analysis.{IsAnalysisText}
 use Rattle.rp_run.specs.CommandLine.{Line, Pairs, Analyse, line_of}
@@ -21,7 +23,7 @@ IsContent files file bytes = ForSome (files file) (λ told. told ≡ bytes)
 
 -- the bytes are within the limit of a table file and denote that table
 abbrev pub IsTableFile : List ℕ → Observations → Type 0
-IsTableFile bytes table = (length bytes ≤ TABLE_BYTES) × IsPlainTable bytes table
+IsTableFile bytes table = (length bytes ≤ TABLE_BYTES) × (table_in bytes ≡ Ok table)
 
 -- the text is one that answers a line over this table
 abbrev pub IsText : Line → Observations → List ℕ → Type 0
@@ -51,11 +53,11 @@ abbrev pub IsAccepted : Files → Line → Type 0
 IsAccepted files (Pairs file) = IsAcceptedTable files file
 IsAccepted files (Analyse file) = IsAcceptedTable files file
 
--- why the bytes of a table file are refused: the name of the fault
+-- why the bytes of a table file are refused: the text of the fault
 abbrev pub RefusesTable : List ℕ → List ℕ → Type 0
 RefusesTable bytes fault =
     ((fault ≡ codes "TooLong") × (TABLE_BYTES < length bytes))
-    ⊎ ((fault ≡ codes "NotPlain") × (length bytes ≤ TABLE_BYTES) × ((table : Observations) → ¬ IsPlainTable bytes table))
+    ⊎ ((f : TableFault) × (fault ≡ fault_text f) × (length bytes ≤ TABLE_BYTES) × (table_in bytes ≡ Err f))
 
 -- the told bytes of a file are refused with that fault
 abbrev pub RefusesTold : Files → List ℕ → List ℕ → Type 0

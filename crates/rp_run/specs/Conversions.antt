@@ -1,8 +1,6 @@
 -- Which cause a fault of a lower layer is.
 use Rattle.rp_outside.specs.declared.loading.LoadFault.{LoadFault}
 use Rattle.rp_outside.specs.declared.loading.LoadFault.TheVariants as load
-use Rattle.rp_run.specs.declared.fault.TableFault.{TableFault}
-use Rattle.rp_run.specs.declared.fault.TableFault.TheVariants as table
 use Rattle.rp_run.specs.declared.answer.Cause.{Cause}
 use Rattle.rp_run.specs.declared.answer.Cause.TheVariants as cause
 
@@ -10,7 +8,3 @@ abbrev pub cause_of_load : LoadFault → Cause
 cause_of_load load.Read = cause.Read
 cause_of_load load.TooLong = cause.TooLong
 cause_of_load load.NoMemory = cause.NoMemory
-
-abbrev pub cause_of_table : TableFault → Cause
-cause_of_table table.NotPlain = cause.NotPlain
-cause_of_table table.NoMemory = cause.NoMemory

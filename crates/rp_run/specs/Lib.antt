@@ -1,4 +1,4 @@
-pub mod Plain
+pub mod FaultTexts
 pub mod PairsText
 pub mod Analysis
 pub mod CommandLine

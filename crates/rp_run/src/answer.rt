@@ -1,27 +1,26 @@
-ghost use Rattle.std.specs.Prelude.{◌≡◌, ℕ, ◌<◌, ◌≤◌, List, IfOk, IsErrOf, length};
+ghost use Rattle.std.specs.Prelude.{◌≡◌, ℕ, ◌<◌, ◌≤◌, List, IfOk, IfErr, IsErrOf, length};
 ghost use Rattle.std.specs.Option.{ForSome};
-ghost use Rattle.rp_table.specs.Tables.{Observations};
 ghost use Rattle.rp_outside.specs.Faults.{HasRisen};
-ghost use Rattle.rp_run.specs.Plain.{IsPlainTable};
-ghost use Rattle.rp_run.specs.Answers.{AnswersTable, IsText};
+ghost use Rattle.rp_run.specs.Causes.{IfRefused, IsRefusal};
+ghost use Rattle.rp_run.specs.Answers.{AnswersTable, IsText, RefusesTold};
 ghost use Rattle.rp_run.specs.NamedLine.{named_line};
 
 use crate::TABLE_BYTES;
-use crate::fault::TableFault;
+use crate::fault_text::text_of_fault;
 use crate::line::Line;
-use crate::plain::read_table;
 use crate::text::{analysis_text, pairs_text};
 use rp_num::NoMemory;
 use rp_outside::{Desk, LoadFault, load};
 use rp_table::{Costs, Table};
+use rp_text::{TableFault, read_table};
 use std::alloc::Global;
 
-/// Why a file gives no answer.
-#[derive(Clone, Copy)]
+/// Why a file gives no answer; of a table that is refused the text of its fault.
+#[derive(Drop)]
 pub(crate) enum Cause {
     Read,
     TooLong,
-    NotPlain,
+    Refused(Vec<u8>),
     NoMemory,
 }
 
@@ -35,13 +34,28 @@ pub(crate) fn answer<D: Desk>(
     ensures answered { IfOk result (λ text. AnswersTable (D.bytes desk.old) name.now (named_line line.entry) text.items) }
     ensures read { IsErrOf result Cause.Read → HasRisen (D.faults desk.old name.now) (D.faults desk.new name.now) }
     ensures too_long { IsErrOf result Cause.TooLong → ForSome (D.bytes desk.old name.now) (λ bytes. TABLE_BYTES < length bytes) }
-    ensures not_plain { IsErrOf result Cause.NotPlain → ForSome (D.bytes desk.old name.now) (λ bytes. (length bytes ≤ TABLE_BYTES) × ((table : Observations) → ¬ IsPlainTable bytes table)) }
+    ensures refused { IfErr result (λ cause. IfRefused cause (RefusesTold (D.bytes desk.old) name.now)) }
     ensures bytes_stay { (other : List ℕ) → D.bytes desk.new other ≡ D.bytes desk.old other }
     ensures never_falls { (other : List ℕ) → D.faults desk.old other ≤ D.faults desk.new other }
 {
     let bytes = load(alloc, desk, name, TABLE_BYTES)?;
-    let table = read_table(alloc, bytes.as_slice())?;
-    Ok(text_of(alloc, line, &table)?)
+    match read_table(alloc, bytes.as_slice()) {
+        Ok(table) => Ok(text_of(alloc, line, &table)?),
+        Err(fault) => Err(refusal(alloc, fault)),
+    }
+}
+
+/// The cause that a fault of a table is, with its text.
+fn refusal(alloc: Global, fault: TableFault) -> Cause
+    ensures { IsRefusal fault result }
+{
+    match fault {
+        TableFault::NoMemory => Cause::NoMemory,
+        other => match text_of_fault(alloc, other) {
+            Ok(text) => Cause::Refused(text),
+            Err(_) => Cause::NoMemory,
+        },
+    }
 }
 
 /// The text that answers a line over a table.
@@ -66,20 +80,6 @@ impl From<LoadFault> for Cause {
             LoadFault::Read => Cause::Read,
             LoadFault::TooLong => Cause::TooLong,
             LoadFault::NoMemory => Cause::NoMemory,
-        }
-    }
-}
-
-impl From<TableFault> for Cause {
-    ghost use Rattle.std.specs.Prelude.{◌≡◌};
-    ghost use Rattle.rp_run.specs.Conversions.{cause_of_table};
-
-    ghost from_gives = { λ fault cause. cause ≡ cause_of_table fault };
-
-    fn from(fault: TableFault) -> Cause {
-        match fault {
-            TableFault::NotPlain => Cause::NotPlain,
-            TableFault::NoMemory => Cause::NoMemory,
         }
     }
 }

@@ -2,18 +2,14 @@
 #![tactic(auto)]
 
 mod answer;
-mod fault;
+mod fault_text;
 mod line;
-mod parts;
-mod plain;
 mod running;
 mod status;
 mod sure;
 mod telling;
 mod text;
 
-pub use fault::TableFault;
-pub use plain::read_table;
 pub use running::run;
 pub use status::Status;
 pub use sure::run_surely;

@@ -94,8 +94,8 @@ fn refuse<E: Sink>(cause: Cause, name: &str, err: &mut E) -> Status
             tell_file(err, name, b"TooLong");
             Status::Refused
         }
-        Cause::NotPlain => {
-            tell_file(err, name, b"NotPlain");
+        Cause::Refused(fault) => {
+            tell_file(err, name, fault.as_slice());
             Status::Refused
         }
         Cause::NoMemory => {

@@ -28,4 +28,4 @@ returns-in-Ok-clause-refused g c = λ line is refused calm.
 pub returns-in-Err-clause-told : goal.returns-in-Err-clause-told
 returns-in-Err-clause-told g c = λ _.
     let words : line_of (map string_bytes c.args.words.now.items) ≡ Some (named_line c.in-Some.line) = rw (← c.as_slice.ensures.value) (sym c.in-Some.ensures) in
-    (_, rw c.refuse.ensures.status (cause_told _ _ (map string_bytes c.args.words.now.items) (named_line c.in-Some.line) c.table-table.result.now c.in-Err.cause words c.table-table.ensures (λ is. c.in-Err.ensures.read (ap Err is)) (λ is. c.in-Err.ensures.too_long (ap Err is)) (λ is. c.in-Err.ensures.not_plain (ap Err is))), c.refuse.ensures.told)
+    (_, rw c.refuse.ensures.status (cause_told _ _ (map string_bytes c.args.words.now.items) (named_line c.in-Some.line) c.table-table.result.now c.in-Err.cause words c.table-table.ensures (λ is. c.in-Err.ensures.read (ap Err is)) (λ is. c.in-Err.ensures.too_long (ap Err is)) c.in-Err.ensures.refused), c.refuse.ensures.told)

@@ -1,0 +1,99 @@
+ghost use Rattle.std.specs.Prelude.{◌≡◌, ◌++◌, IfOk, OnOk};
+ghost use Rattle.rp_run.specs.FaultTexts as text;
+
+use rp_num::{NoMemory, print_u128};
+use rp_text::TableFault;
+use std::alloc::Global;
+
+/// The text of a fault: its name and its places.
+pub(crate) fn text_of_fault(alloc: Global, fault: TableFault) -> Result<Vec<u8>, NoMemory>
+    ensures { IfOk result (λ t. t.items ≡ text.fault_text fault) }
+{
+    let mut out = Vec::from_slice(alloc, name_of(fault))?;
+    push_places(alloc, &mut out, fault)?;
+    Ok(out)
+}
+
+fn name_of(fault: TableFault) -> &'static [u8]
+    ensures { result.now ≡ text.fault_name fault }
+{
+    match fault {
+        TableFault::Empty => b"Empty",
+        TableFault::Ragged { .. } => b"Ragged",
+        TableFault::BadHeader { .. } => b"BadHeader",
+        TableFault::TwiceNamed { .. } => b"TwiceNamed",
+        TableFault::Unpaired { .. } => b"Unpaired",
+        TableFault::TooManyGoods => b"TooManyGoods",
+        TableFault::NoRecords => b"NoRecords",
+        TableFault::TooManyRecords => b"TooManyRecords",
+        TableFault::BadNumber { .. } => b"BadNumber",
+        TableFault::TooManyDecimals { .. } => b"TooManyDecimals",
+        TableFault::ZeroPrice { .. } => b"ZeroPrice",
+        TableFault::ZeroBundle { .. } => b"ZeroBundle",
+        TableFault::TooLarge { .. } => b"TooLarge",
+        TableFault::OtherGoods { .. } => b"OtherGoods",
+        TableFault::TooFine { .. } => b"TooFine",
+        TableFault::UnknownBudget { .. } => b"UnknownBudget",
+        TableFault::NoChoices { .. } => b"NoChoices",
+        TableFault::NoMemory => b"NoMemory",
+    }
+}
+
+/// Appends the record, the column and the budget of a fault, as far as it has them.
+fn push_places(alloc: Global, out: &mut Vec<u8>, fault: TableFault) -> Result<(), NoMemory>
+    ensures { OnOk result (out.new.items ≡ out.old.items ++ text.places_text fault) }
+{
+    match fault {
+        TableFault::Ragged { row } => push_record(alloc, out, row),
+        TableFault::ZeroBundle { row } => push_record(alloc, out, row),
+        TableFault::UnknownBudget { row } => push_record(alloc, out, row),
+        TableFault::BadHeader { column } => push_column(alloc, out, column),
+        TableFault::TwiceNamed { column } => push_column(alloc, out, column),
+        TableFault::Unpaired { column } => push_column(alloc, out, column),
+        TableFault::OtherGoods { column } => push_column(alloc, out, column),
+        TableFault::BadNumber { row, column } => push_cell(alloc, out, row, column),
+        TableFault::TooManyDecimals { row, column } => push_cell(alloc, out, row, column),
+        TableFault::ZeroPrice { row, column } => push_cell(alloc, out, row, column),
+        TableFault::TooLarge { row, column } => push_cell(alloc, out, row, column),
+        TableFault::TooFine { row, column } => push_cell(alloc, out, row, column),
+        TableFault::NoChoices { budget } => push_budget(alloc, out, budget),
+        TableFault::Empty => Ok(()),
+        TableFault::TooManyGoods => Ok(()),
+        TableFault::NoRecords => Ok(()),
+        TableFault::TooManyRecords => Ok(()),
+        TableFault::NoMemory => Ok(()),
+    }
+}
+
+fn push_record(alloc: Global, out: &mut Vec<u8>, row: u32) -> Result<(), NoMemory>
+    ensures { OnOk result (out.new.items ≡ out.old.items ++ text.record_text row) }
+{
+    out.extend_from_slice(b" record ")?;
+    print_u128(alloc, out, u128::from(row))?;
+    Ok(())
+}
+
+fn push_column(alloc: Global, out: &mut Vec<u8>, column: u32) -> Result<(), NoMemory>
+    ensures { OnOk result (out.new.items ≡ out.old.items ++ text.column_text column) }
+{
+    out.extend_from_slice(b" column ")?;
+    print_u128(alloc, out, u128::from(column))?;
+    Ok(())
+}
+
+fn push_budget(alloc: Global, out: &mut Vec<u8>, budget: u32) -> Result<(), NoMemory>
+    ensures { OnOk result (out.new.items ≡ out.old.items ++ text.budget_text budget) }
+{
+    out.extend_from_slice(b" budget ")?;
+    print_u128(alloc, out, u128::from(budget))?;
+    Ok(())
+}
+
+/// Appends a record and a column.
+fn push_cell(alloc: Global, out: &mut Vec<u8>, row: u32, column: u32) -> Result<(), NoMemory>
+    ensures { OnOk result (out.new.items ≡ out.old.items ++ (text.record_text row ++ text.column_text column)) }
+{
+    push_record(alloc, out, row)?;
+    push_column(alloc, out, column)?;
+    Ok(())
+}
