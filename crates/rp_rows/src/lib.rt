@@ -2,7 +2,11 @@
 #![tactic(auto)]
 
 #[cfg(test)]
+mod analyses;
+#[cfg(test)]
 mod command;
+#[cfg(test)]
+mod faults;
 #[cfg(test)]
 mod numbers;
 #[cfg(test)]

@@ -1,7 +1,7 @@
 use rp_evidence::Level;
 use rp_pref::{Closure, Steps, walk_between};
-use rp_run::read_table;
 use rp_table::Costs;
+use rp_text::read_table;
 use std::alloc::Global;
 use std::test::Fail;
 

@@ -4,8 +4,8 @@ ghost use Rattle.rp_rows.specs.Ladder.{ladder_cost};
 use rp_evidence::Quasi;
 use rp_num::Wide;
 use rp_quasi::quasilinear;
-use rp_run::read_table;
 use rp_table::Costs;
+use rp_text::read_table;
 use rp_walk::{Settled, Total, settle};
 use std::test::Fail;
 

@@ -39,10 +39,10 @@ refused_table files (Analyse table) r = r
 
 -- the line of a cause that holds is the fault line of its status
 pub cause_told : (files : Files) (rose : List ℕ → Type 0) (words : List (List ℕ)) (line : Line) (file : List ℕ) (why : Cause) → line_of words ≡ Some line → table_of line ≡ file
-  → (why ≡ cause.Read → rose file)
-  → (why ≡ cause.TooLong → ForSome (files file) (λ bytes. TABLE_BYTES < length bytes))
-  → IfRefused why (RefusesTold files file)
-  → IsFaultLine files rose words (status_of_cause why) (cause_line file why)
+    → (why ≡ cause.Read → rose file)
+    → (why ≡ cause.TooLong → ForSome (files file) (λ bytes. TABLE_BYTES < length bytes))
+    → IfRefused why (RefusesTold files file)
+    → IsFaultLine files rose words (status_of_cause why) (cause_line file why)
 cause_told files rose words line file cause.Read is named read long refused = (line, file, is, subst (Contains (files_of line)) named (names_table line), read refl, refl)
 cause_told files rose words line file cause.TooLong is named read long refused =
     (line, file, codes "TooLong", is, subst (λ (f : List ℕ). Refuses files line f (codes "TooLong")) named (refuses_line files line (codes "TooLong") (λ bytes told. inl (refl, long refl bytes (subst (λ (f : List ℕ). files f ≡ Some bytes) named told)))), refl)

@@ -5,6 +5,7 @@ ghost use Rattle.rp_run.specs.PairsText.{IsPairsText, pairs_line};
 
 use rp_evidence::{Certificate, Item, Kind};
 use rp_garp::{garp, pairs};
+use rp_homo::homothetic;
 use rp_num::{NoMemory, Seq, print_u128};
 use rp_quasi::quasilinear;
 use rp_report::report;
@@ -58,6 +59,7 @@ fn analyse(alloc: Global, costs: &Costs) -> Result<Certificate, NoMemory>
 {
     let mut items = Vec::new(alloc);
     items.push(Item::Garp(garp(alloc, costs)?))?;
+    items.push(Item::Homothetic(homothetic(alloc, costs)?))?;
     items.push(Item::Quasi(quasilinear(alloc, costs)?))?;
     Ok(Certificate {
         kind: Kind::Table,
