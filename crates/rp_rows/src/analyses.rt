@@ -1,6 +1,17 @@
 use crate::command::answer;
 use rp_run::Status;
+use std::alloc::Global;
+use std::process::Abort;
 use std::test::Fail;
+
+/// The report on the file is that text.
+fn reports(rt: &impl Abort, alloc: Global, file: &str, out: &str) -> Result<(), Fail> {
+    let got = answer(alloc, &["rp", "analyse", "t.csv"], file, &[])?;
+    assert_eq!(rt; got.status, Status::Done, "status of {file}");
+    assert_eq!(rt; got.out.as_str(), out, "output of {file}");
+    assert_eq!(rt; got.err.as_str(), "", "errors of {file}");
+    Ok(())
+}
 
 #[test]
 fn analyse_reports_the_verdicts_on_worked_tables(rt: HostRuntime) -> Result<(), Fail> {
@@ -37,6 +48,15 @@ fn analyse_reports_the_verdicts_on_worked_tables(rt: HostRuntime) -> Result<(), 
             "p_a,q_a,p_b,q_b\n2,3,1,2\n1,0,2,3\n2,1,1,0\n",
             "observations 3 goods 2 places 0 0\ngarp holds\nranks 3 2 1\nhomothetic violated\nstart 1\ncycle 1 2 1\nquasilinear violated\ncycle 1 2 1\n",
         ),
+    ] {
+        reports(&rt, rt.alloc(), file, out)?;
+    }
+    Ok(())
+}
+
+#[test]
+fn analyse_at_the_width_and_with_decimals(rt: HostRuntime) -> Result<(), Fail> {
+    for (file, out) in [
         (
             "p_a,q_a,p_b,q_b\n1048576,1048577,1,1048576\n1,0,1048576,1048577\n1048576,1,1,0\n",
             "observations 3 goods 2 places 0 0\ngarp holds\nranks 3 2 1\nhomothetic violated\nstart 1\ncycle 1 2 1\nquasilinear violated\ncycle 1 2 1\n",
@@ -50,10 +70,7 @@ fn analyse_reports_the_verdicts_on_worked_tables(rt: HostRuntime) -> Result<(), 
             "observations 2 goods 2 places 2 0\ngarp holds\nranks 1 1\nhomothetic holds\nvalues 1 1\nquasilinear holds\nvalues 0 0\n",
         ),
     ] {
-        let got = answer(rt.alloc(), &["rp", "analyse", "t.csv"], file, &[])?;
-        assert_eq!(rt; got.status, Status::Done, "status of {file}");
-        assert_eq!(rt; got.out.as_str(), out, "output of {file}");
-        assert_eq!(rt; got.err.as_str(), "", "errors of {file}");
+        reports(&rt, rt.alloc(), file, out)?;
     }
     Ok(())
 }

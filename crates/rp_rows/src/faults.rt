@@ -1,10 +1,22 @@
 use crate::command::answer;
 use rp_run::Status;
 use rp_text::TableFault;
+use std::alloc::Global;
+use std::process::Abort;
 use std::test::Fail;
 
+/// The file is refused with that fault, and nothing is printed.
+fn refuses(rt: &impl Abort, alloc: Global, file: &str, fault: &str) -> Result<(), Fail> {
+    let got = answer(alloc, &["rp", "pairs", "t.csv"], file, &[])?;
+    let line = format!(in alloc; "rp: t.csv: {fault}\n")?;
+    assert_eq!(rt; got.status, Status::Refused, "status of {file}");
+    assert_eq!(rt; got.out.as_str(), "", "output of {file}");
+    assert_eq!(rt; got.err.as_str(), line.as_str(), "errors of {file}");
+    Ok(())
+}
+
 #[test]
-fn a_refused_table_is_told_with_its_place(rt: HostRuntime) -> Result<(), Fail> {
+fn refused_column_names_are_told_with_their_column(rt: HostRuntime) -> Result<(), Fail> {
     for (file, fault) in [
         ("", "Empty"),
         ("\u{feff}", "Empty"),
@@ -17,6 +29,15 @@ fn a_refused_table_is_told_with_its_place(rt: HostRuntime) -> Result<(), Fail> {
         ("p_a,q_b\n1,1\n", "Unpaired column 1"),
         ("obs\n1\n", "Unpaired column 0"),
         ("p_a,q_a\n", "NoRecords"),
+    ] {
+        refuses(&rt, rt.alloc(), file, fault)?;
+    }
+    Ok(())
+}
+
+#[test]
+fn refused_records_are_told_with_their_place(rt: HostRuntime) -> Result<(), Fail> {
+    for (file, fault) in [
         ("p_a,q_a,p_b,q_b\n1,2,3\n", "Ragged record 1"),
         ("p_a,q_a,p_b,q_b\nx,2,3\n", "Ragged record 1"),
         (
@@ -51,11 +72,7 @@ fn a_refused_table_is_told_with_its_place(rt: HostRuntime) -> Result<(), Fail> {
             "BadNumber record 2 column 5",
         ),
     ] {
-        let got = answer(rt.alloc(), &["rp", "pairs", "t.csv"], file, &[])?;
-        let line = format!(in rt.alloc(); "rp: t.csv: {fault}\n")?;
-        assert_eq!(rt; got.status, Status::Refused, "status of {file}");
-        assert_eq!(rt; got.out.as_str(), "", "output of {file}");
-        assert_eq!(rt; got.err.as_str(), line.as_str(), "errors of {file}");
+        refuses(&rt, rt.alloc(), file, fault)?;
     }
     Ok(())
 }
