@@ -75,13 +75,17 @@ fn analyse_at_the_width_and_with_decimals(rt: HostRuntime) -> Result<(), Fail> {
     Ok(())
 }
 
-/// A fraction of which the parts are halved as long as both are even.
-fn lowest(mut part: u32, mut whole: u32) -> (u32, u32) {
-    while part % 2 == 0 && whole % 2 == 0 && whole > 0 {
-        part = part / 2;
-        whole = whole / 2;
+/// A fraction over 256, halved above and below as long as both are even.
+fn lowest(part: u32) -> (u32, u32) {
+    let mut above = part;
+    let mut below = 256;
+    for _ in 0..8 {
+        if above % 2 == 0 && below % 2 == 0 {
+            above = above / 2;
+            below = below / 2;
+        }
     }
-    (part, whole)
+    (above, below)
 }
 
 #[test]
@@ -99,8 +103,8 @@ fn analyse_of_the_most_observations(rt: HostRuntime) -> Result<(), Fail> {
     }
     ranks.push_str("\nhomothetic holds\nvalues 1")?;
     for k in 1..256u32 {
-        let (part, whole) = lowest(256 - k, 256);
-        ranks.push_str(format!(in alloc; " {part}/{whole}")?.as_str())?;
+        let (above, below) = lowest(256 - k);
+        ranks.push_str(format!(in alloc; " {above}/{below}")?.as_str())?;
     }
     ranks.push_str("\nquasilinear holds\nvalues 0")?;
     for k in 1..256u32 {
