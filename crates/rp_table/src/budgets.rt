@@ -49,6 +49,13 @@ impl Budgets {
         self.names.len() as u32
     }
 
+    /// The names of the goods, in order.
+    pub fn names(&self) -> &[Name]
+        ensures { result.now ≡ self.now.names }
+    {
+        self.names.as_slice()
+    }
+
     /// The name of good `g`.
     pub fn name(&self, g: u32) -> &Name
         requires { g < length self.now.names }
