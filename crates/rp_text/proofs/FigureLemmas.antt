@@ -166,6 +166,30 @@ price_units form headers records t c row column fine_fields says =
     let some = some_units (measured (decimal_of (trimmed (text_at (row_at records t) c))) (number_of t) (number_of c)) (number_of t) (number_of c) (figure form headers records t c) price in
     rw (figure_there form headers records t c row column) some
 
+known_units : (budgets : ℕ) (r : Result Decimal TableFault) (row : ℕ) (d : Decimal) → budgeted budgets r row ≡ Ok d → d.units ≤ budgets
+known_units budgets (Ok e) row d is = by (nat_le 1 e.units) (nat_le e.units budgets) refl (fault.UnknownBudget row) is
+  where
+    at_most : (n most : ℕ) → nat_le n most ≡ true → n ≤ most
+    at_most n most q = grind (arith, nat_tests)
+
+    by : (a b : Bool) → nat_le e.units budgets ≡ b → (f : TableFault) → (if a && b then Ok e else Err f) ≡ Ok d → d.units ≤ budgets
+    by true true q f h =
+        let same : e ≡ d = cc h in
+        subst (λ (x : Decimal). x.units ≤ budgets) same (at_most e.units budgets q)
+    by true false q f h = cc h
+    by false b q f h = cc h
+known_units budgets (Err e) row d is = cc is
+
+-- the number of a budget is that of one there is
+pub budget_units : (form : Form) (headers : List (List ℕ)) (records : List (List (List ℕ))) (t c : ℕ) → t < rows_in records → c < length headers → fields_stage form headers records ≡ None → role_of (text_at headers c) ≡ Some Budget
+    → (figure_at (figures_of form headers records) t c).units ≤ form.budgets
+unfolding field_at field_of
+budget_units form headers records t c row column fine_fields says =
+    let ok = fine (field_at form headers records t c) nothing (none_below (λ k. result_err (field_at form headers records t k)) (length headers) c (good_record form headers records t row fine_fields).0 column) in
+    let budget = subst (λ (role : Role). field_of form.budgets role (trimmed (text_at (row_at records t) c)) (number_of t) (number_of c) ≡ Ok (figure form headers records t c)) (role_is headers c Budget says) ok in
+    let known = known_units form.budgets (whole (decimal_of (trimmed (text_at (row_at records t) c))) (number_of t) (number_of c)) (number_of t) (figure form headers records t c) budget in
+    rw (figure_there form headers records t c row column) known
+
 size_tests : (d : Decimal) (places limit row column v : ℕ) → size_of d places limit row column ≡ Ok v → (v ≡ d.units * 10 ^ (places - d.places)) × (v ≤ limit)
 size_tests d places limit row column v is = by (nat_lt places d.places) (nat_lt limit (d.units * 10 ^ (places - d.places))) refl (fault.TooFine row column) (fault.TooLarge row column) is
   where

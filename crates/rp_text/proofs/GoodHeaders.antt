@@ -1,51 +1,31 @@
 -- The headers of a table that have no fault: each good has its two columns, once.
-use Rattle.std.proofs.Common.{◌≡◌, ◌≢◌, ℕ, zero, suc, ◌<◌, ◌≤◌, Bool, true, false, not, ◌&&◌, ◌||◌, ◌==◌, nat_lt, nat_eq, if◌then◌else◌, cond, List, [], ◌∷◌, ◌++◌, length, get_or, take, map, filter, Option, Some, None, is_some, refl, sym, ap, ◌∙◌, arith}
+use Rattle.std.proofs.Common.{◌≡◌, ◌≢◌, ℕ, zero, suc, ◌<◌, Bool, true, false, not, ◌&&◌, ◌||◌, nat_eq, if◌then◌else◌, cond, List, [], ◌∷◌, ◌++◌, length, get_or, map, filter, Option, Some, None, refl, sym, ap, ◌∙◌, arith}
 use Rattle.std.specs.Prelude.{codes, unwrap_or}
 use Rattle.std.specs.List.{AllPairs, Contains, starts_with}
 use Rattle.std.specs.Option.{option_map_or}
 use Rattle.std.specs.Str.{bytes_eq}
-use Rattle.std.proofs.lemmas.Bool.Decides.{nat_tests, Decides-eqb}
-use Rattle.std.proofs.lemmas.List.{get_or-take, get_or-map, get_or_default, length-take, length-map}
+use Rattle.std.proofs.lemmas.Bool.Decides.{Decides-eqb}
+use Rattle.std.proofs.lemmas.List.{get_or-map, get_or_default, length-map}
 use Rattle.std.proofs.lemmas.List.Elements.{filter_passes, All-filter, All-contains_itself}
 use Rattle.std.proofs.lemmas.List.Kept.{AllPairs-filter}
 use Rattle.std.proofs.lemmas.Slice.Eq.{starts_is}
 use Rattle.rp_text.specs.Texts.{text_at, place_of}
 use Rattle.rp_text.specs.Columns.{role_of, good_role, role_at, takes, measures, is_name, is_price, is_quantity, name_in, names_with, price_mark, quantity_mark}
 use Rattle.rp_text.specs.Forms.{table_form}
-use Rattle.rp_text.specs.Headers.{has, partner_of, header_fault, headers_stage, pair_fault, present_fault, missing_fault, goods_count_fault, goods_stage}
+use Rattle.rp_text.specs.Headers.{has, partner_of, headers_stage, pair_fault, present_fault, goods_stage}
 use Rattle.rp_text.specs.Sizes.{limit_of}
+use Rattle.rp_text.specs.declared.form.Form.{Form}
 use Rattle.rp_text.specs.declared.form.Role.{Role}
 use Rattle.rp_text.specs.declared.form.Role.TheVariants.{Observation, Price, Quantity, Expenditure, Income, Budget, Times}
 use Rattle.rp_text.specs.declared.fault.TableFault.{TableFault}
 use Rattle.rp_text.proofs.NameLemmas.{price_header}
-use Rattle.rp_text.proofs.PlaceLemmas.{absent, found_at, present, none_or, none_below}
+use Rattle.rp_text.proofs.PlaceLemmas.{found_at, present, none_below}
+use Rattle.rp_text.proofs.FineHeaders.{FineHeaders, fine_goods, fine_headers, same_place, all_distinct, there_from}
 
--- headers without a fault
+-- headers without a fault, of which each good's has a partner
 pub record GoodHeaders (headers : List (List ℕ)) : Type 0 where
-  pub taken : (c : ℕ) → c < length headers → option_map_or (takes table_form) (role_of (text_at headers c)) false ≡ true
-  pub distinct : (i j : ℕ) → i < j → j < length headers → text_at headers i ≡ text_at headers j → ⊥
+  pub fine : FineHeaders table_form headers
   pub paired : (c : ℕ) → c < length headers → (is_price (role_at headers c) || is_quantity (role_at headers c)) ≡ true → has headers (partner_of (role_at headers c) (text_at headers c)) ≡ true
-  pub some : 1 ≤ length (names_with is_price headers)
-  pub few : length (names_with is_price headers) ≤ 16
-
-tests : (a b : Bool) (f g : TableFault) → (if not a then Some f else if b then Some g else None) ≡ None → (a ≡ true) × (b ≡ false)
-tests true true f g e = cc e
-tests true false f g e = (refl, refl)
-tests false b f g e = cc e
-
-absent_from : {A : Type 0} (o : Option A) → is_some o ≡ false → o ≡ None
-absent_from None e = refl
-absent_from (Some x) e = cc e
-
-pub there_from : {A : Type 0} (o : Option A) → is_some o ≡ true → (x : A) × (o ≡ Some x)
-there_from None e = cc e
-there_from (Some x) e = (x, refl)
-
-fine_header : (headers : List (List ℕ)) (c : ℕ) → header_fault table_form headers c ≡ None → (option_map_or (takes table_form) (role_of (text_at headers c)) false ≡ true) × (place_of (take c headers) (text_at headers c) ≡ None)
-unfolding header_fault
-fine_header headers c fine =
-    let both = tests (option_map_or (takes table_form) (role_of (text_at headers c)) false) (has (take c headers) (text_at headers c)) _ _ fine in
-    (both.0, absent_from (place_of (take c headers) (text_at headers c)) both.1)
 
 pair_test : (a b : Bool) (f : TableFault) → (if a && not b then Some f else None) ≡ None → a ≡ true → b ≡ true
 pair_test true true f e h = refl
@@ -57,51 +37,12 @@ unfolding pair_fault
 fine_pair headers c fine good =
     pair_test (is_price (role_at headers c) || is_quantity (role_at headers c)) (has headers (partner_of (role_at headers c) (text_at headers c))) _ fine good
 
-some_test : (a b : Bool) (f : TableFault) (rest : Option TableFault) → (if a || b then Some f else rest) ≡ None → a ≡ false
-some_test true b f rest e = cc e
-some_test false b f rest e = refl
-
-few_test : (a : Bool) (f : TableFault) → (if a then Some f else None) ≡ None → a ≡ false
-few_test true f e = cc e
-few_test false f e = refl
-
-not_zero : (n : ℕ) → (n == 0) ≡ false → 1 ≤ n
-not_zero n e = grind (arith, nat_tests)
-
-not_more : (n : ℕ) → nat_lt 16 n ≡ false → n ≤ 16
-not_more n e = grind (arith, nat_tests)
-
 pub good_headers : (headers : List (List ℕ)) → headers_stage table_form headers ≡ None → goods_stage table_form [] headers ≡ None → GoodHeaders headers
-unfolding headers_stage goods_stage present_fault missing_fault goods_count_fault
-good_headers headers fine goods =
-    let each : (c : ℕ) → c < length headers → (option_map_or (takes table_form) (role_of (text_at headers c)) false ≡ true) × (place_of (take c headers) (text_at headers c) ≡ None) =
-    λ c within. fine_header headers c (none_below (header_fault table_form headers) (length headers) c fine within) in
-    let first = none_or (present_fault table_form [] headers) _ goods in
-    let second = none_or (missing_fault table_form [] headers) _ first.1 in
-    let third = none_or (goods_count_fault table_form headers) None second.1 in
-    record {
-      taken = λ c within. (each c within).0;
-      distinct = λ i j earlier within same.
-          absent (take j headers) (text_at headers j) i (each j within).1 (omega (arith, length-take j headers)) (get_or-take j headers i [] earlier ∙ same);
-      paired = λ c within. fine_pair headers c (none_below (pair_fault headers) (length headers) c first.0 within);
-      some = not_zero (length (names_with is_price headers)) (some_test _ _ _ _ second.0);
-      few = not_more (length (names_with is_price headers)) (few_test _ _ third.0);
-    }
-
--- one place has each header
-pub same_place : (headers : List (List ℕ)) → GoodHeaders headers → (i j : ℕ) → i < length headers → j < length headers → text_at headers i ≡ text_at headers j → i ≡ j
-same_place headers good i j within_i within_j same = by (nat_lt i j) refl (nat_lt j i) refl
-  where
-    yes_lt : (a b : ℕ) → nat_lt a b ≡ true → a < b
-    yes_lt a b e = grind (arith, nat_tests)
-
-    neither : (a b : ℕ) → nat_lt a b ≡ false → nat_lt b a ≡ false → a ≡ b
-    neither a b e f = grind (arith, nat_tests)
-
-    by : (x : Bool) → nat_lt i j ≡ x → (y : Bool) → nat_lt j i ≡ y → i ≡ j
-    by true e y f = absurd (good.distinct i j (yes_lt i j e) within_j same)
-    by false e true f = absurd (good.distinct j i (yes_lt j i f) within_i (sym same))
-    by false e false f = neither i j e f
+unfolding present_fault
+good_headers headers fine goods = record {
+  fine = fine_headers table_form [] headers fine goods;
+  paired = λ c within. fine_pair headers c (none_below (pair_fault headers) (length headers) c (fine_goods table_form [] headers goods).0 within);
+}
 
 pub is_price_role : (o : Option Role) → option_map_or is_price o false ≡ true → o ≡ Some Price
 is_price_role None e = cc e
@@ -172,9 +113,6 @@ pub quantity_says : (name : List ℕ) → is_name name ≡ true → role_of (qua
 unfolding role_of good_role
 quantity_says name e = rw e refl
 
-says_price : List ℕ → Bool
-says_price header = option_map_or is_price (role_of header) false
-
 -- the column of prices of a good
 pub price_column : (headers : List (List ℕ)) (g : ℕ) → g < length (names_with is_price headers)
     → (c : ℕ) × (c < length headers) × (place_of headers (price_mark ++ text_at (names_with is_price headers) g) ≡ Some c) × (role_of (text_at headers c) ≡ Some Price)
@@ -220,13 +158,13 @@ quantity_good_of headers good c within says =
     let spelled : quantity_mark ++ text_at (names_with is_price headers) named.0 ≡ text_at headers c = ap (λ n. quantity_mark ++ n) same_name ∙ sym (marked_quantity (text_at headers c) name.1) in
     let at_column = present headers (quantity_mark ++ text_at (names_with is_price headers) named.0) c within (sym spelled) in
     let back = found_at headers (quantity_mark ++ text_at (names_with is_price headers) named.0) at_column.0 at_column.1 in
-    let same = same_place headers good at_column.0 c back.0 within (back.1 ∙ spelled) in
+    let same = same_place headers good.fine at_column.0 c back.0 within (back.1 ∙ spelled) in
     (named.0, named.1, at_column.1 ∙ ap Some same)
 
 -- some column has quantities
 pub some_quantity : (headers : List (List ℕ)) → GoodHeaders headers → (c : ℕ) × (c < length headers) × (role_of (text_at headers c) ≡ Some Quantity)
 some_quantity headers good =
-    let price = price_column headers 0 good.some in
+    let price = price_column headers 0 good.fine.some in
     let priced : option_map_or is_price (role_of (text_at headers price.0)) false ≡ true = rw price.3 refl in
     let name = price_header (text_at headers price.0) priced in
     let is_good : (is_price (role_at headers price.0) || is_quantity (role_at headers price.0)) ≡ true = rw price.3 refl in
@@ -235,13 +173,9 @@ some_quantity headers good =
     let place = found_at headers (quantity_mark ++ name_in (text_at headers price.0)) found.0 found.1 in
     (found.0, place.0, ap role_of place.1 ∙ quantity_says (name_in (text_at headers price.0)) name.0)
 
-all_distinct : (headers : List (List ℕ)) → GoodHeaders headers → AllPairs (λ a b. a ≢ b) headers
-all_distinct headers good i j d earlier within same =
-    good.distinct i j earlier within (get_or_default headers i [] d (omega arith) ∙ same ∙ get_or_default headers j d [] within)
-
 -- no two goods have one name
-pub distinct_names : (headers : List (List ℕ)) → GoodHeaders headers → AllPairs (λ a b. a ≢ b) (names_with is_price headers)
-distinct_names headers good i j d earlier within same =
+pub distinct_names : {form : Form} (headers : List (List ℕ)) → FineHeaders form headers → AllPairs (λ a b. a ≢ b) (names_with is_price headers)
+distinct_names headers fine i j d earlier within same =
     let says : List ℕ → Bool = λ (header : List ℕ). option_map_or is_price (role_of header) false in
     let inside : j < length (filter says headers) = omega (arith, length-map (filter says headers) name_in) in
     let before : i < length (filter says headers) = omega arith in
@@ -250,4 +184,4 @@ distinct_names headers good i j d earlier within same =
     let names : name_in a ≡ name_in b = sym (get_or-map name_in (filter says headers) i [] d before) ∙ same ∙ get_or-map name_in (filter says headers) j [] d inside in
     let spelled_a = marked_price a (price_header a (filter_passes says headers i [] before)).1 in
     let spelled_b = marked_price b (price_header b (filter_passes says headers j [] inside)).1 in
-    AllPairs-filter (λ x y. x ≢ y) says headers (all_distinct headers good) i j [] earlier inside (spelled_a ∙ ap (λ n. price_mark ++ n) names ∙ sym spelled_b)
+    AllPairs-filter (λ x y. x ≢ y) says headers (all_distinct headers fine) i j [] earlier inside (spelled_a ∙ ap (λ n. price_mark ++ n) names ∙ sym spelled_b)

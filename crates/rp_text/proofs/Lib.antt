@@ -12,9 +12,25 @@ pub mod SizeLemmas
 pub mod StageLemmas
 pub mod PlaceLemmas
 pub mod RowLemmas
-pub mod TableStages
+pub mod FineHeaders
 pub mod GoodHeaders
 pub mod FigureLemmas
+pub mod ColumnSizes
 pub mod TableFacts
 pub mod RowMore
 pub mod TableMade
+pub mod GivenHeaders
+pub mod AmountColumns
+pub mod PriceFacts
+pub mod BundleFacts
+pub mod GivenLemmas
+pub mod SheetStages
+pub mod PlainNumbers
+pub mod PlainHeaders
+pub mod PlainRecords
+pub mod PlainTables
+pub mod PlainLines
+pub mod PlainBytes
+mod PlainTried
+pub mod BudgetFacts
+pub mod ChoiceFacts

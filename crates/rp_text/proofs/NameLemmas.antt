@@ -37,7 +37,7 @@ price_header header e =
     price_role (bytes_eq header (codes "obs")) (bytes_eq header (codes "m")) (bytes_eq header (codes "w")) (bytes_eq header (codes "budget")) (bytes_eq header (codes "n"))
     (is_name (name_in header)) (starts_with nat_eq header price_mark) (starts_with nat_eq header quantity_mark) e
 
-and_both : (a b : Bool) → (a && b) ≡ true → (a ≡ true) × (b ≡ true)
+pub and_both : (a b : Bool) → (a && b) ≡ true → (a ≡ true) × (b ≡ true)
 and_both true true e = (refl, refl)
 and_both true false e = cc e
 and_both false b e = cc e

@@ -1,5 +1,5 @@
 -- Where a text stands among others, and what a run of tests below a bound left.
-use Rattle.std.proofs.Common.{◌≡◌, ℕ, zero, suc, ◌<◌, ◌≤◌, ◌||◌, Bool, true, false, not, cond, nat_lt, List, [], length, get_or, Option, Some, None, Result, Ok, Err, refl, sym, ap, ◌∙◌, arith, below_more}
+use Rattle.std.proofs.Common.{◌≡◌, ℕ, zero, suc, ◌<◌, ◌≤◌, ◌||◌, Bool, true, false, not, cond, nat_lt, List, [], length, get_or, Option, Some, None, Result, Ok, Err, refl, sym, ap, ◌∙◌, arith, below_more, is_some}
 use Rattle.std.specs.List.{position_or_len}
 use Rattle.std.specs.Option.{option_or}
 use Rattle.std.specs.Result.{result_err, result_unwrap_or}
@@ -13,10 +13,13 @@ use Rattle.rp_text.specs.Texts.{text_at, place_of}
 lt_true : (n m : ℕ) → nat_lt n m ≡ true → n < m
 lt_true n m e = grind (arith, nat_tests)
 
-lt_false : (n m : ℕ) → nat_lt n m ≡ false → m ≤ n
+pub lt_false : (n m : ℕ) → nat_lt n m ≡ false → m ≤ n
 lt_false n m e = grind (arith, nat_tests)
 
-not_false : (b : Bool) → not b ≡ false → b ≡ true
+neither : (n m : ℕ) → nat_lt n m ≡ false → nat_lt m n ≡ false → n ≡ m
+neither n m e f = grind (arith, nat_tests)
+
+pub not_false : (b : Bool) → not b ≡ false → b ≡ true
 not_false true e = refl
 not_false false e = cc e
 
@@ -82,3 +85,20 @@ one_below f (suc n) e = by (any_below n f) refl (λ b. one_below f n b)
 pub greatest_at_most : (f : ℕ → ℕ) (n most : ℕ) → ((k : ℕ) → k < n → f k ≤ most) → greatest_below n f ≤ most
 greatest_at_most f zero most each = omega arith
 greatest_at_most f (suc n) most each = omega (arith, greatest_at_most f n most (λ k below. each k (omega arith)), each n (omega arith))
+
+-- a text that does not stand among others
+pub not_listed : (texts : List (List ℕ)) (text : List ℕ) → ((k : ℕ) → k < length texts → text_at texts k ≡ text → ⊥) → is_some (place_of texts text) ≡ false
+not_listed texts text none = by (place_of texts text) (λ c there. let place = found_at texts text c there in none c place.0 place.1)
+  where
+    by : (o : Option ℕ) → ((c : ℕ) → o ≡ Some c → ⊥) → is_some o ≡ false
+    by None h = refl
+    by (Some c) h = absurd (h c refl)
+
+-- where no text stands twice, one place has each
+pub one_place : (texts : List (List ℕ)) → ((i j : ℕ) → i < j → j < length texts → text_at texts i ≡ text_at texts j → ⊥) → (i j : ℕ) → i < length texts → j < length texts → text_at texts i ≡ text_at texts j → i ≡ j
+one_place texts distinct i j within_i within_j same = by (nat_lt i j) refl (nat_lt j i) refl
+  where
+    by : (x : Bool) → nat_lt i j ≡ x → (y : Bool) → nat_lt j i ≡ y → i ≡ j
+    by true e y f = absurd (distinct i j (lt_true i j e) within_j same)
+    by false e true f = absurd (distinct j i (lt_true j i f) within_i (sym same))
+    by false e false f = neither i j e f

@@ -25,7 +25,8 @@ row_number (suc n) width f t g row place =
     (get_or-append-add (rows_below n width f) (listed width (f n)) g 0 ∙ get-listed (f n) width g 0 place))
     t (omega arith)
 
-all_listed : (P : ℕ → Type 0) (n : ℕ) (f : ℕ → ℕ) → ((k : ℕ) → k < n → P (f k)) → All P (listed n f)
+-- what holds of each number holds of the list
+pub all_listed : (P : ℕ → Type 0) (n : ℕ) (f : ℕ → ℕ) → ((k : ℕ) → k < n → P (f k)) → All P (listed n f)
 all_listed P zero f each = All-nil P
 all_listed P (suc n) f each = All-push P (listed n f) (f n) (all_listed P n f (λ k below. each k (omega arith))) (each n (omega arith))
 
@@ -34,6 +35,13 @@ pub all_rows : (P : ℕ → Type 0) (n width : ℕ) (f : ℕ → ℕ → ℕ) �
 all_rows P zero width f each = All-nil P
 all_rows P (suc n) width f each =
     All-append P (rows_below n width f) (listed width (f n)) (all_rows P n width f (λ t g row place. each t g (omega arith) place)) (all_listed P width (f n) (λ g place. each n g (omega arith) place))
+
+-- what holds of the rows holds of each number
+pub each_row : (P : ℕ → Type 0) (n width : ℕ) (f : ℕ → ℕ → ℕ) → All P (rows_below n width f) → (t g : ℕ) → t < n → g < width → P (f t g)
+each_row P n width f all t g row place =
+    let below = mul-add-lt t width g n row place in
+    let turned = mul_comm width n in
+    subst P (row_number n width f t g row place) (all (t * width + g) 0 (omega (arith, length-rows n width f, below, turned)))
 
 -- a sum is at least each of its terms
 pub sum_at_least : (f : ℕ → ℕ) (n k : ℕ) → k < n → f k ≤ sum_below n f

@@ -1,31 +1,25 @@
 -- Records without a fault make a table within the limits.
-use Rattle.std.proofs.Common.{◌≡◌, ℕ, ◌+◌, ◌*◌, ◌/◌, ◌<◌, ◌≤◌, Bool, true, false, not, ◌&&◌, nat_lt, List, ◌++◌, length, slice_index, Option, Some, None, refl, ap, ◌∙◌, arith}
+use Rattle.std.proofs.Common.{◌≡◌, ℕ, ◌+◌, ◌*◌, ◌/◌, ◌<◌, ◌≤◌, List, ◌++◌, length, slice_index, Option, Some, None, refl, ap, ◌∙◌, arith}
 use Rattle.std.specs.Prelude.{unwrap_or}
-use Rattle.std.proofs.lemmas.Bool.Decides.{nat_tests}
 use Rattle.std.proofs.lemmas.Nat.{mul-add-lt}
 use Rattle.std.proofs.Math.Nat.{mul_comm, mul-div_cancel}
 use Rattle.rp_num.specs.declared.decimal.Decimal.{Decimal}
 use Rattle.rp_table.specs.Tables.{IsTable, records_of, quantity_of}
-use Rattle.rp_text.specs.Below.{any_below}
 use Rattle.rp_text.specs.Texts.{text_at, place_of}
-use Rattle.rp_text.specs.Columns.{role_of, role_at, measures, names_with, is_price, price_mark, quantity_mark}
+use Rattle.rp_text.specs.Columns.{role_of, names_with, is_price, price_mark, quantity_mark}
 use Rattle.rp_text.specs.Forms.{table_form}
-use Rattle.rp_text.specs.Fields.{figure, figures_of, rows_in, fields_stage}
-use Rattle.rp_text.specs.Sizes.{figure_at, places_of, sizes_of, sizes_stage}
+use Rattle.rp_text.specs.Fields.{figures_of, rows_in, fields_stage}
+use Rattle.rp_text.specs.Sizes.{places_of, sizes_of, sizes_stage}
 use Rattle.rp_text.specs.Denotation.{column_of, numbers_under, table_of}
 use Rattle.rp_text.specs.declared.form.Role.TheVariants.{Price, Quantity}
-use Rattle.rp_text.proofs.BelowLemmas.{length-listed, one_holds}
-use Rattle.rp_text.proofs.PlaceLemmas.{found_at, one_below}
+use Rattle.rp_text.proofs.PlaceLemmas.{found_at}
 use Rattle.rp_text.proofs.RowLemmas.{length-rows, row_number, all_rows, sum_at_least}
 use Rattle.rp_text.proofs.GoodHeaders.{GoodHeaders, price_column, quantity_good_of, some_quantity, measured_role, limit_is, distinct_names}
-use Rattle.rp_text.proofs.FigureLemmas.{figure_there, rows_are, few_places, good_record, price_units, good_size, some_size, size_listed}
-
--- how many rows of scaled numbers there are
-pub sizes_are : (headers : List (List ℕ)) (figures : List (List Decimal)) → length (sizes_of table_form headers figures) ≡ length figures
-sizes_are headers figures = length-listed _ (length figures)
+use Rattle.rp_text.proofs.FigureLemmas.{few_places}
+use Rattle.rp_text.proofs.ColumnSizes.{sizes_are, within_limit, price_at, bought_at}
 
 first_column : (headers : List (List ℕ)) → GoodHeaders headers → 0 < length headers
-first_column headers good = let price = price_column headers 0 good.some in omega (arith, price.1)
+first_column headers good = let price = price_column headers 0 good.fine.some in omega (arith, price.1)
 
 within_headers : (headers : List (List ℕ)) → 0 < length headers → (text : List ℕ) → unwrap_or (place_of headers text) 0 < length headers
 within_headers headers some text = by (place_of headers text) refl
@@ -34,60 +28,34 @@ within_headers headers some text = by (place_of headers text) refl
     by None e = some
     by (Some c) e = (found_at headers text c e).0
 
-and_left : (a b : Bool) → (a && b) ≡ true → a ≡ true
-and_left true b e = refl
-and_left false b e = cc e
-
-and_right : (a b : Bool) → (a && b) ≡ true → b ≡ true
-and_right true b e = e
-and_right false b e = cc e
-
-bought_test : (a b : Bool) → (a && not b) ≡ false → a ≡ true → b ≡ true
-bought_test true true e h = refl
-bought_test true false e h = cc e
-bought_test false b e h = cc h
-
-over_zero : (n : ℕ) → nat_lt 0 n ≡ true → 1 ≤ n
-over_zero n e = grind (arith, nat_tests)
-
 module _ (headers : List (List ℕ)) (records : List (List (List ℕ))) (good : GoodHeaders headers) (fine_fields : fields_stage table_form headers records ≡ None) (fine_sizes : sizes_stage table_form headers (figures_of table_form headers records) ≡ None) where
   -- a scaled number is within the limit
   number_within : (t g : ℕ) (mark : List ℕ) → t < rows_in records → slice_index (text_at (sizes_of table_form headers (figures_of table_form headers records)) t) (column_of mark headers (names_with is_price headers) g) ≤ 9999999
   number_within t g mark row =
       let c = column_of mark headers (names_with is_price headers) g in
       let column = within_headers headers (first_column headers good) (mark ++ text_at (names_with is_price headers) g) in
-      let inside : t < length (figures_of table_form headers records) = omega (arith, rows_are table_form headers records) in
-      let most = (good_size table_form headers (figures_of table_form headers records) t c inside column fine_sizes).1 in
-      let limit = limit_is (role_of (text_at headers c)) (good.taken c column) in
-      rw (size_listed table_form headers (figures_of table_form headers records) t c inside column, ← limit) most
+      let limit = limit_is (role_of (text_at headers c)) (good.fine.taken c column) in
+      rw (← limit) (within_limit table_form headers records fine_fields fine_sizes t c row column)
 
   -- a price is not 0
   price_positive : (t g : ℕ) → t < rows_in records → g < length (names_with is_price headers) → 1 ≤ slice_index (text_at (sizes_of table_form headers (figures_of table_form headers records)) t) (column_of price_mark headers (names_with is_price headers) g)
   price_positive t g row place =
       let price = price_column headers g place in
       let at_column : column_of price_mark headers (names_with is_price headers) g ≡ price.0 = ap (λ o. unwrap_or o 0) price.2 in
-      let inside : t < length (figures_of table_form headers records) = omega (arith, rows_are table_form headers records) in
-      let units = price_units table_form headers records t price.0 row price.1 fine_fields price.3 in
-      rw (at_column, size_listed table_form headers (figures_of table_form headers records) t price.0 inside price.1) (some_size table_form headers (figures_of table_form headers records) t price.0 inside price.1 fine_sizes units)
+      rw at_column (price_at table_form headers records fine_fields fine_sizes t price.0 row price.1 price.3).0
 
   -- some good is bought
   some_bought : (t : ℕ) → t < rows_in records → (g : ℕ) × (g < length (names_with is_price headers)) × (1 ≤ slice_index (text_at (sizes_of table_form headers (figures_of table_form headers records)) t) (column_of quantity_mark headers (names_with is_price headers) g))
   some_bought t row =
       let quantity = some_quantity headers good in
-      let says : any_below (length headers) (λ c. measures (role_at headers c)) ≡ true = one_holds (λ c. measures (role_at headers c)) quantity.0 (length headers) quantity.1 (rw quantity.2 refl) in
-      let bought = bought_test _ _ (good_record table_form headers records t row fine_fields).1 says in
-      let column = one_below (λ c. measures (role_at headers c) && nat_lt 0 (figure table_form headers records t c).units) (length headers) bought in
-      let measured = and_left (measures (role_at headers column.0)) _ column.2 in
-      let some = over_zero (figure table_form headers records t column.0).units (and_right (measures (role_at headers column.0)) _ column.2) in
-      let role = measured_role (role_of (text_at headers column.0)) (good.taken column.0 column.1) measured in
+      let column = bought_at table_form headers records fine_fields fine_sizes t quantity.0 row quantity.1 (rw quantity.2 refl) in
+      let role = measured_role (role_of (text_at headers column.0)) (good.fine.taken column.0 column.1) column.2 in
       let of_good = quantity_good_of headers good column.0 column.1 role in
       let at_column : column_of quantity_mark headers (names_with is_price headers) of_good.0 ≡ column.0 = ap (λ o. unwrap_or o 0) of_good.2 in
-      let inside : t < length (figures_of table_form headers records) = omega (arith, rows_are table_form headers records) in
-      let units : 1 ≤ (figure_at (figures_of table_form headers records) t column.0).units = rw (figure_there table_form headers records t column.0 row column.1) some in
-      (of_good.0, of_good.1, rw (at_column, size_listed table_form headers (figures_of table_form headers records) t column.0 inside column.1) (some_size table_form headers (figures_of table_form headers records) t column.0 inside column.1 fine_sizes units))
+      (of_good.0, of_good.1, rw at_column column.3)
 
   rows_count : length (sizes_of table_form headers (figures_of table_form headers records)) ≡ rows_in records
-  rows_count = sizes_are headers (figures_of table_form headers records) ∙ rows_are table_form headers records
+  rows_count = sizes_are table_form headers records
 
   price_number : ℕ → ℕ → ℕ
   price_number t g = slice_index (text_at (sizes_of table_form headers (figures_of table_form headers records)) t) (column_of price_mark headers (names_with is_price headers) g)
@@ -96,15 +64,15 @@ module _ (headers : List (List ℕ)) (records : List (List (List ℕ))) (good : 
   unfolding table_of
   records_are =
       ap (λ (k : ℕ). k / length (names_with is_price headers)) (length-rows (length (sizes_of table_form headers (figures_of table_form headers records))) (length (names_with is_price headers)) _)
-      ∙ mul-div_cancel (length (sizes_of table_form headers (figures_of table_form headers records))) good.some ∙ rows_count
+      ∙ mul-div_cancel (length (sizes_of table_form headers (figures_of table_form headers records))) good.fine.some ∙ rows_count
 
   -- the table is within the limits
   pub table_is : 1 ≤ rows_in records → rows_in records ≤ 256 → IsTable (table_of headers (figures_of table_form headers records))
   unfolding table_of places_of
   table_is some few = record {
-    some_goods = good.some;
-    few_goods = good.few;
-    distinct = distinct_names headers good;
+    some_goods = good.fine.some;
+    few_goods = good.fine.few;
+    distinct = distinct_names headers good.fine;
     some_records = rw records_are some;
     few_records = rw records_are few;
     all_prices = rw records_are (length-rows (length (sizes_of table_form headers (figures_of table_form headers records))) (length (names_with is_price headers)) _ ∙ ap (λ (k : ℕ). k * length (names_with is_price headers)) rows_count);

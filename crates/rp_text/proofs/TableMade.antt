@@ -1,6 +1,5 @@
 -- The table of records that passed every stage is within the limits.
-use Rattle.std.proofs.Common.{◌≡◌, ℕ, ◌≤◌, Bool, true, false, ◌==◌, nat_lt, if◌then◌else◌, List, [], Some, None, refl, sym, subst}
-use Rattle.std.proofs.lemmas.Bool.Decides.{nat_tests}
+use Rattle.std.proofs.Common.{◌≡◌, ℕ, ◌<◌, ◌≤◌, Bool, true, false, ◌==◌, nat_lt, if◌then◌else◌, List, [], ◌∷◌, length, Some, None, Ok, Err, refl}
 use Rattle.std.proofs.Common.{arith}
 use Rattle.rp_table.specs.Tables.{IsTable}
 use Rattle.rp_text.specs.Forms.{table_form}
@@ -8,11 +7,14 @@ use Rattle.rp_text.specs.Records.{record_at}
 use Rattle.rp_text.specs.Headers.{headers_in, headers_stage, goods_stage}
 use Rattle.rp_text.specs.Fields.{rows_in, figures_of, count_stage, fields_stage}
 use Rattle.rp_text.specs.Sizes.{sizes_stage}
-use Rattle.rp_text.specs.Denotation.{table_of}
+use Rattle.rp_text.specs.Denotation.{fault_under, first_fault, table_of, table_under, denoted_table}
+use Rattle.rp_text.proofs.PlaceLemmas.{lt_false, none_or}
 use Rattle.rp_text.specs.declared.form.Form.{Form}
 use Rattle.rp_text.specs.declared.fault.TableFault.{TableFault}
 use Rattle.rp_text.specs.declared.fault.TableFault.TheVariants as fault
+use Rattle.rp_text.proofs.FineHeaders.{not_zero}
 use Rattle.rp_text.proofs.GoodHeaders.{good_headers}
+use Rattle.rp_text.proofs.StageLemmas.{value_denoted, fault_denoted}
 use Rattle.rp_text.proofs.TableFacts.{table_is}
 
 count_tests : (a b : Bool) (f g : TableFault) → (if a then Some f else if b then Some g else None) ≡ None → (a ≡ false) × (b ≡ false)
@@ -20,22 +22,38 @@ count_tests true b f g e = cc e
 count_tests false true f g e = cc e
 count_tests false false f g e = (refl, refl)
 
-not_zero : (n : ℕ) → (n == 0) ≡ false → 1 ≤ n
-not_zero n e = grind (arith, nat_tests)
-
-not_more : (most n : ℕ) → nat_lt most n ≡ false → n ≤ most
-not_more most n e = grind (arith, nat_tests)
-
-pub counted : (records : List (List (List ℕ))) → count_stage table_form records ≡ None → (1 ≤ rows_in records) × (rows_in records ≤ 256)
+-- how many records there are
+pub counted : (form : Form) (records : List (List (List ℕ))) → count_stage form records ≡ None → (1 ≤ rows_in records) × (rows_in records ≤ form.most)
 unfolding count_stage
-counted records fine =
-    let both = count_tests (rows_in records == 0) (nat_lt 256 (rows_in records)) fault.NoRecords fault.TooManyRecords fine in
-    (not_zero (rows_in records) both.0, not_more 256 (rows_in records) both.1)
+counted form records fine =
+    let both = count_tests (rows_in records == 0) (nat_lt form.most (rows_in records)) fault.NoRecords fault.TooManyRecords fine in
+    (not_zero (rows_in records) both.0, lt_false form.most (rows_in records) both.1)
 
-pub table_within : (records : List (List (List ℕ))) (form : Form) (columns : List (List ℕ)) → form ≡ table_form → columns ≡ headers_in (record_at records 0)
-    → headers_stage form (headers_in (record_at records 0)) ≡ None → goods_stage table_form [] columns ≡ None → count_stage form records ≡ None → fields_stage form columns records ≡ None → sizes_stage form columns (figures_of form columns records) ≡ None
-    → IsTable (table_of columns (figures_of form columns records))
-table_within records form columns kind read a b c d f =
-    let headers = subst (λ (h : List (List ℕ)). headers_stage table_form h ≡ None) (sym read) (rw kind at a) in
-    let count = counted records (rw kind at c) in
-    rw kind (table_is columns records (good_headers columns headers b) (rw kind at d) (rw kind at f) count.0 count.1)
+-- what a file without a fault passed
+pub passed : (form : Form) (goods : List (List ℕ)) (records : List (List (List ℕ))) → first_fault form goods records ≡ None
+    → (0 < length records) × (headers_stage form (headers_in (record_at records 0)) ≡ None) × (goods_stage form goods (headers_in (record_at records 0)) ≡ None) × (count_stage form records ≡ None)
+    × (fields_stage form (headers_in (record_at records 0)) records ≡ None) × (sizes_stage form (headers_in (record_at records 0)) (figures_of form (headers_in (record_at records 0)) records) ≡ None)
+unfolding first_fault fault_under
+passed form goods [] fine = cc fine
+passed form goods (header ∷ rows) fine =
+    let a = none_or (headers_stage form (headers_in header)) _ fine in
+    let b = none_or (goods_stage form goods (headers_in header)) _ a.1 in
+    let c = none_or (count_stage form (header ∷ rows)) _ b.1 in
+    let d = none_or (fields_stage form (headers_in header) (header ∷ rows)) _ c.1 in
+    let e = none_or (sizes_stage form (headers_in header) (figures_of form (headers_in header) (header ∷ rows))) _ d.1 in
+    (omega arith, a.0, b.0, c.0, d.0, e.0)
+
+pub table_within : (records : List (List (List ℕ))) → first_fault table_form [] records ≡ None → IsTable (table_of (headers_in (record_at records 0)) (figures_of table_form (headers_in (record_at records 0)) records))
+table_within records fine =
+    let stages = passed table_form [] records fine in
+    let count = counted table_form records stages.3 in
+    table_is (headers_in (record_at records 0)) records (good_headers (headers_in (record_at records 0)) stages.1 stages.2) stages.4 stages.5 count.0 count.1
+
+-- what a file denotes as a table, by its first fault
+pub refused_table : (records : List (List (List ℕ))) (e : TableFault) → first_fault table_form [] records ≡ Some e → denoted_table records ≡ Err e
+unfolding denoted_table
+refused_table records e faulty = fault_denoted (first_fault table_form [] records) _ e faulty
+
+pub table_there : (records : List (List (List ℕ))) → first_fault table_form [] records ≡ None → denoted_table records ≡ Ok (table_of (headers_in (record_at records 0)) (figures_of table_form (headers_in (record_at records 0)) records))
+unfolding denoted_table table_under
+table_there records fine = value_denoted (first_fault table_form [] records) _ fine

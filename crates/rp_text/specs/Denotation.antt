@@ -1,10 +1,15 @@
 -- What a file of numbers denotes: its first fault in the order of the stages, or its value.
-use Rattle.std.specs.Prelude.{ℕ, List, [], ◌∷◌, ◌++◌, length, Option, None, Some, Result, Ok, Err, unwrap_or, slice_index}
+use Rattle.std.specs.Prelude.{Bool, ◌-◌, if◌then◌else◌, map, codes, ℕ, List, [], ◌∷◌, ◌++◌, length, Option, None, Some, Result, Ok, Err, unwrap_or, slice_index}
 use Rattle.rp_num.specs.declared.decimal.Decimal.{Decimal}
 use Rattle.rp_table.specs.Tables.{Observations}
-use Rattle.rp_text.specs.Below.{first_there, rows_below}
+use Rattle.rp_table.specs.PriceLists.{PriceList}
+use Rattle.rp_table.specs.BundleLists.{BundleList}
+use Rattle.rp_table.specs.BudgetLists.{BudgetList}
+use Rattle.rp_table.specs.ChoiceLists.{ChoiceList}
+use Rattle.rp_text.specs.Below.{first_there, rows_below, listed}
 use Rattle.rp_text.specs.Texts.{text_at, place_of}
-use Rattle.rp_text.specs.Forms.{table_form}
+use Rattle.rp_text.specs.ChoiceCounts.{column_named, choices_stage}
+use Rattle.rp_text.specs.Forms.{table_form, prices_form, bundles_form, budgets_form, choices_form}
 use Rattle.rp_text.specs.Records.{records_of, record_at}
 use Rattle.rp_text.specs.Columns.{names_with, is_price, price_mark, quantity_mark}
 use Rattle.rp_text.specs.Headers.{headers_in, headers_stage, goods_stage}
@@ -16,7 +21,7 @@ use Rattle.rp_text.specs.declared.fault.TableFault.{TableFault}
 use Rattle.rp_text.specs.declared.fault.TableFault.TheVariants as fault
 
 -- the first fault of a file with these headers: the headers in order, the goods, the number of records, the
--- records in order, and the scaled numbers in order
+-- records in order, the scaled numbers in order, and the budgets on which nothing was chosen
 unfoldable pub fault_under : Form → List (List ℕ) → List (List ℕ) → List (List (List ℕ)) → Option TableFault
 fault_under form goods headers records = first_there (
     headers_stage form headers
@@ -24,6 +29,7 @@ fault_under form goods headers records = first_there (
     ∷ count_stage form records
     ∷ fields_stage form headers records
     ∷ sizes_stage form headers (figures_of form headers records)
+    ∷ choices_stage form headers (figures_of form headers records)
     ∷ [])
 
 -- the first fault of a file, which may have no record at all
@@ -66,3 +72,95 @@ denoted_table records = unless_fault (first_fault table_form [] records) (table_
 -- what the bytes of a file denote as a table
 abbrev pub table_in : List ℕ → Result Observations TableFault
 table_in bytes = denoted_table (records_of bytes)
+
+-- the numbers in the column with that header, by record
+abbrev pub column_numbers : List ℕ → List (List ℕ) → List (List ℕ) → List ℕ
+column_numbers header headers sizes = listed (length sizes) (λ t. slice_index (text_at sizes t) (column_named header headers))
+
+-- new prices of these goods, in scaled numbers
+abbrev pub price_list : Bool → List (List ℕ) → List (List ℕ) → List (List ℕ) → PriceList
+price_list with_m headers goods sizes = record {
+  goods = length goods;
+  prices = numbers_under price_mark headers goods sizes;
+  m = if with_m then column_numbers (codes "m") headers sizes else [];
+}
+
+-- new prices beside a table whose quantities have these places
+unfoldable pub prices_of : Bool → ℕ → List (List ℕ) → List (List ℕ) → List (List Decimal) → PriceList
+prices_of with_m places goods headers figures = price_list with_m headers goods (sizes_of (prices_form with_m places) headers figures)
+
+-- what records denote as new prices of these goods, beside a table whose quantities have these places
+unfoldable pub denoted_prices : Bool → ℕ → List (List ℕ) → List (List (List ℕ)) → Result PriceList TableFault
+denoted_prices with_m places goods records =
+    let headers = headers_in (record_at records 0) in
+    unless_fault (first_fault (prices_form with_m places) goods records) (prices_of with_m places goods headers (figures_of (prices_form with_m places) headers records))
+
+-- what the bytes of a file denote as new prices of these goods
+abbrev pub prices_in : Bool → ℕ → List (List ℕ) → List ℕ → Result PriceList TableFault
+prices_in with_m places goods bytes = denoted_prices with_m places goods (records_of bytes)
+
+-- bundles of these goods, in scaled numbers
+abbrev pub bundle_list : List (List ℕ) → List (List ℕ) → List (List ℕ) → BundleList
+bundle_list headers goods sizes = record {
+  goods = length goods;
+  quantities = numbers_under quantity_mark headers goods sizes;
+}
+
+-- bundles beside a table whose quantities have these places
+unfoldable pub bundles_of : ℕ → List (List ℕ) → List (List ℕ) → List (List Decimal) → BundleList
+bundles_of places goods headers figures = bundle_list headers goods (sizes_of (bundles_form places) headers figures)
+
+-- what records denote as bundles of these goods, beside a table whose quantities have these places
+unfoldable pub denoted_bundles : ℕ → List (List ℕ) → List (List (List ℕ)) → Result BundleList TableFault
+denoted_bundles places goods records =
+    let headers = headers_in (record_at records 0) in
+    unless_fault (first_fault (bundles_form places) goods records) (bundles_of places goods headers (figures_of (bundles_form places) headers records))
+
+-- what the bytes of a file denote as bundles of these goods
+abbrev pub bundles_in : ℕ → List (List ℕ) → List ℕ → Result BundleList TableFault
+bundles_in places goods bytes = denoted_bundles places goods (records_of bytes)
+
+-- budgets over the goods with these names, in scaled numbers
+abbrev pub budget_list : List (List ℕ) → List (List ℕ) → List (List ℕ) → BudgetList
+budget_list headers names sizes = record {
+  names = names;
+  prices = numbers_under price_mark headers names sizes;
+  w = column_numbers (codes "w") headers sizes;
+}
+
+-- budgets
+unfoldable pub budgets_of : List (List ℕ) → List (List Decimal) → BudgetList
+budgets_of headers figures = budget_list headers (names_with is_price headers) (sizes_of budgets_form headers figures)
+
+-- what records denote as budgets
+unfoldable pub denoted_budgets : List (List (List ℕ)) → Result BudgetList TableFault
+denoted_budgets records =
+    let headers = headers_in (record_at records 0) in
+    unless_fault (first_fault budgets_form [] records) (budgets_of headers (figures_of budgets_form headers records))
+
+-- what the bytes of a file denote as budgets
+abbrev pub budgets_in : List ℕ → Result BudgetList TableFault
+budgets_in bytes = denoted_budgets (records_of bytes)
+
+-- choices of bundles of these goods, in scaled numbers. In code budgets are numbered from 0
+abbrev pub choice_list : List (List ℕ) → List (List ℕ) → List (List ℕ) → ChoiceList
+choice_list headers goods sizes = record {
+  goods = length goods;
+  budget = map (λ number. number - 1) (column_numbers (codes "budget") headers sizes);
+  quantities = numbers_under quantity_mark headers goods sizes;
+  times = column_numbers (codes "n") headers sizes;
+}
+
+-- choices on so many budgets
+unfoldable pub choices_of : ℕ → List (List ℕ) → List (List ℕ) → List (List Decimal) → ChoiceList
+choices_of budgets goods headers figures = choice_list headers goods (sizes_of (choices_form budgets) headers figures)
+
+-- what records denote as choices on so many budgets over these goods
+unfoldable pub denoted_choices : ℕ → List (List ℕ) → List (List (List ℕ)) → Result ChoiceList TableFault
+denoted_choices budgets goods records =
+    let headers = headers_in (record_at records 0) in
+    unless_fault (first_fault (choices_form budgets) goods records) (choices_of budgets goods headers (figures_of (choices_form budgets) headers records))
+
+-- what the bytes of a file denote as choices on so many budgets over these goods
+abbrev pub choices_in : ℕ → List (List ℕ) → List ℕ → Result ChoiceList TableFault
+choices_in budgets goods bytes = denoted_choices budgets goods (records_of bytes)

@@ -1,10 +1,9 @@
 -- The first fault in the headers of a file: a header that this kind of file has not or has already, a good
 -- whose partner is missing or that is not given, a column that is missing, and too many goods.
 use Rattle.std.specs.Prelude.{ℕ, Bool, false, not, ◌&&◌, ◌||◌, ◌==◌, nat_lt, if◌then◌else◌, List, [], ◌∷◌, ◌++◌, length, map, take, codes, Option, None, Some, is_some}
-use Rattle.std.specs.List.{list_all}
 use Rattle.std.specs.Option.{option_map_or}
 use Rattle.rp_table.specs.declared.TheConstants.{GOODS}
-use Rattle.rp_text.specs.Below.{first_of, first_there}
+use Rattle.rp_text.specs.Below.{first_of, first_there, any_below}
 use Rattle.rp_text.specs.Texts.{trimmed, text_at, place_of, number_of}
 use Rattle.rp_text.specs.Columns.{role_of, role_at, takes, is_price, is_quantity, names_with, name_in, price_mark, quantity_mark}
 use Rattle.rp_text.specs.declared.form.Form.{Form}
@@ -64,13 +63,22 @@ names_of form headers = names_with (if form.prices then is_price else is_quantit
 abbrev pub lacks_column : Form → List (List ℕ) → Bool
 lacks_column form headers =
     (form.expenditure && not (has headers (codes "m"))) || (form.income && not (has headers (codes "w")))
-    || (form.choices && not (has headers (codes "budget") && has headers (codes "n")))
+    || (form.choices && not (has headers (codes "budget"))) || (form.choices && not (has headers (codes "n")))
+
+-- what the column of a good is headed by in such a file, before its name: its prices, or its quantities
+-- where there are no prices
+abbrev pub good_mark : Form → List ℕ
+good_mark form = if form.prices then price_mark else quantity_mark
+
+-- whether one of the given goods has no column
+abbrev pub lacks_good : Form → List (List ℕ) → List (List ℕ) → Bool
+lacks_good form goods headers = any_below (length goods) (λ g. not (has headers (good_mark form ++ text_at goods g)))
 
 -- columns that are missing: every good or another needed one, and then one of the goods that are given
 unfoldable pub missing_fault : Form → List (List ℕ) → List (List ℕ) → Option TableFault
 missing_fault form goods headers =
     if (length (names_of form headers) == 0) || lacks_column form headers then Some (fault.Unpaired 0)
-    else if form.given_goods && not (list_all (λ name. has headers ((if form.prices then price_mark else quantity_mark) ++ name)) goods) then Some (fault.OtherGoods 0)
+    else if form.given_goods && lacks_good form goods headers then Some (fault.OtherGoods 0)
     else None
 
 -- more goods than the limit

@@ -6,4 +6,6 @@ pub mod Forms
 pub mod Headers
 pub mod Fields
 pub mod Sizes
+pub mod ChoiceCounts
 pub mod Denotation
+pub mod Plain

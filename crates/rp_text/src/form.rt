@@ -1,9 +1,9 @@
 ghost use Rattle.std.specs.Prelude.{◌≡◌};
-ghost use Rattle.rp_text.specs.Columns.{takes, measures, is_price};
-ghost use Rattle.rp_text.specs.Forms.{table_form};
+ghost use Rattle.rp_text.specs.Columns.{takes, measures, is_price, is_quantity};
+ghost use Rattle.rp_text.specs.Forms.{table_form, prices_form, bundles_form, budgets_form, choices_form};
 ghost use Rattle.rp_text.specs.Sizes.{shares_scale, limit_of};
 
-use rp_table::{LARGEST, LARGEST_EXPENDITURE, RECORDS};
+use rp_table::{BUDGETS, CHOICES, LARGEST, LARGEST_EXPENDITURE, NEW_RECORDS, RECORDS};
 
 /// What the fields of a column say.
 #[derive(Clone, Copy, Debug, PartialEq, Eq)]
@@ -61,6 +61,80 @@ impl Form {
         }
     }
 
+    /// New prices are those of a table's goods, with an expenditure or without one. An expenditure is scaled
+    /// with these places of the table's quantities.
+    pub fn prices(with_m: bool, places: u8) -> Form
+        ensures { result ≡ prices_form with_m places }
+    {
+        Form {
+            prices: true,
+            quantities: false,
+            expenditure: with_m,
+            income: false,
+            choices: false,
+            given_goods: true,
+            given_places: true,
+            places,
+            budgets: 0,
+            most: NEW_RECORDS,
+        }
+    }
+
+    /// Bundles are quantities of a table's goods, scaled as the table's quantities with these places.
+    pub fn bundles(places: u8) -> Form
+        ensures { result ≡ bundles_form places }
+    {
+        Form {
+            prices: false,
+            quantities: true,
+            expenditure: false,
+            income: false,
+            choices: false,
+            given_goods: true,
+            given_places: true,
+            places,
+            budgets: 0,
+            most: NEW_RECORDS,
+        }
+    }
+
+    /// Budgets have prices of the goods that they name, and an income.
+    pub fn budgets() -> Form
+        ensures { result ≡ budgets_form }
+    {
+        Form {
+            prices: true,
+            quantities: false,
+            expenditure: false,
+            income: true,
+            choices: false,
+            given_goods: false,
+            given_places: false,
+            places: 0,
+            budgets: 0,
+            most: BUDGETS,
+        }
+    }
+
+    /// Choices on so many budgets have quantities of the goods of those budgets, the number of a budget
+    /// and a count.
+    pub fn choices(budgets: u32) -> Form
+        ensures { result ≡ choices_form budgets }
+    {
+        Form {
+            prices: false,
+            quantities: true,
+            expenditure: false,
+            income: false,
+            choices: true,
+            given_goods: true,
+            given_places: false,
+            places: 0,
+            budgets,
+            most: CHOICES,
+        }
+    }
+
     /// Whether this kind of file has such columns.
     pub fn takes(&self, role: Role) -> bool
         ensures { result ≡ takes self.now role }
@@ -84,6 +158,16 @@ impl Role {
     {
         match self {
             Role::Price => true,
+            _ => false,
+        }
+    }
+
+    /// Whether the fields are quantities.
+    pub fn is_quantity(self) -> bool
+        ensures { result ≡ is_quantity self }
+    {
+        match self {
+            Role::Quantity => true,
             _ => false,
         }
     }

@@ -1,9 +1,8 @@
-ghost use Rattle.std.specs.Prelude.{◌≡◌, ◌≢◌, ◌<◌, ◌||◌, ◌&&◌, ◌++◌, [], Some, None, not, OnOk, IfOk, IfErr, length};
+ghost use Rattle.std.specs.Prelude.{◌≡◌, ◌≢◌, ◌<◌, ◌||◌, ◌&&◌, ◌++◌, Some, None, not, OnOk, IfOk, IfErr, length};
 ghost use Rattle.rp_text.specs.Below.{first_of, listed};
 ghost use Rattle.rp_text.specs.Texts.{text_at, place_of};
 ghost use Rattle.rp_text.specs.Columns.{role_at, is_price, is_quantity, names_with};
-ghost use Rattle.rp_text.specs.Forms.{table_form};
-ghost use Rattle.rp_text.specs.Headers.{has, partner_of, pair_fault, goods_stage};
+ghost use Rattle.rp_text.specs.Headers.{has, partner_of, pair_fault};
 ghost use Rattle.rp_text.specs.Denotation.{column_of};
 
 use crate::TableFault;
@@ -12,28 +11,11 @@ use crate::form::Role;
 use crate::roles::name_in;
 use crate::texts::number_of;
 use rp_num::NoMemory;
-use rp_table::{GOODS, Name};
+use rp_table::Name;
 use std::alloc::Global;
 
-/// The names of a table's goods, each with its two columns, and at most as many as a table has.
-pub fn read_goods(alloc: Global, columns: &Columns<'_>) -> Result<Vec<Name>, TableFault>
-    ensures read { IfOk result (λ names. names.items ≡ names_with is_price columns.now) }
-    ensures faultless { IfOk result (λ _. goods_stage table_form [] columns.now ≡ None) }
-    ensures refused { IfErr result (λ fault. fault ≢ TableFault.NoMemory → goods_stage table_form [] columns.now ≡ Some fault) }
-{
-    check_pairs(alloc, columns)?;
-    let names = read_names(alloc, columns)?;
-    if names.is_empty() {
-        return Err(TableFault::Unpaired { column: 0 });
-    }
-    if names.len() > GOODS as usize {
-        return Err(TableFault::TooManyGoods);
-    }
-    Ok(names)
-}
-
 /// Looks for the first column of a good that has no partner.
-fn check_pairs(alloc: Global, columns: &Columns<'_>) -> Result<(), TableFault>
+pub fn check_pairs(alloc: Global, columns: &Columns<'_>) -> Result<(), TableFault>
     ensures paired { OnOk result (first_of (length columns.now) (pair_fault columns.now) ≡ None) }
     ensures refused { IfErr result (λ fault. fault ≢ TableFault.NoMemory → first_of (length columns.now) (pair_fault columns.now) ≡ Some fault) }
 {
@@ -61,7 +43,12 @@ fn lacks_partner(alloc: Global, columns: &Columns<'_>, c: usize) -> Result<bool,
 }
 
 /// Whether no column is headed by that mark and name.
-fn lacks(alloc: Global, columns: &Columns<'_>, mark: &[u8], name: &[u8]) -> Result<bool, NoMemory>
+pub fn lacks(
+    alloc: Global,
+    columns: &Columns<'_>,
+    mark: &[u8],
+    name: &[u8],
+) -> Result<bool, NoMemory>
     ensures { IfOk result (λ lacks. lacks ≡ not (has columns.now (mark.now ++ name.now))) }
 {
     Ok(find_good(alloc, columns, mark, name)?.is_none())
@@ -82,7 +69,7 @@ fn find_good(
 }
 
 /// The names of the goods, in the order of their prices.
-fn read_names(alloc: Global, columns: &Columns<'_>) -> Result<Vec<Name>, NoMemory>
+pub fn read_names(alloc: Global, columns: &Columns<'_>) -> Result<Vec<Name>, NoMemory>
     ensures { IfOk result (λ names. names.items ≡ names_with is_price columns.now) }
 {
     let mut names = Vec::new(alloc);

@@ -1,17 +1,30 @@
 //! What a file of numbers denotes, or its first fault: tables, and the files that are read beside them.
 #![tactic(auto)]
 
+mod budgets;
+mod bundles;
+mod choices;
 mod columns;
 mod fault;
 mod fields;
 mod form;
+mod given;
 mod goods;
 mod headers;
+mod numbers;
+mod plain;
+mod prices;
 mod records;
 mod roles;
+mod sheet;
 mod sizes;
 mod tables;
 mod texts;
 
+pub use budgets::read_budgets;
+pub use bundles::read_bundles;
+pub use choices::read_choices;
 pub use fault::TableFault;
+pub use plain::plain_tables;
+pub use prices::read_prices;
 pub use tables::read_table;

@@ -35,9 +35,9 @@ impl Records {
             .from_reader(alloc, bytes);
         let mut records = Vec::new(alloc);
         for _ in 0..most {
-            let mut record = ByteRecord::new(alloc);
-            match reader.read_byte_record(&mut record) {
-                Ok(true) => records.push(record)?,
+            let mut row = ByteRecord::new(alloc);
+            match reader.read_byte_record(&mut row) {
+                Ok(true) => records.push(row)?,
                 Ok(false) => return Ok(Records { records }),
                 Err(_) => return Err(NoMemory),
             }
@@ -86,10 +86,10 @@ impl Records {
 }
 
 /// A field of a record, from 0.
-fn field_of(record: &ByteRecord, c: usize) -> &[u8]
-    ensures { result.now ≡ text_at (fields_of record.now) c }
+fn field_of(row: &ByteRecord, c: usize) -> &[u8]
+    ensures { result.now ≡ text_at (fields_of row.now) c }
 {
-    match record.get(c) {
+    match row.get(c) {
         Some(field) => field,
         None => b"",
     }

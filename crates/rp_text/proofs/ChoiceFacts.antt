@@ -1,0 +1,101 @@
+-- Records without a fault make choices within the limits.
+use Rattle.std.proofs.Common.{◌≡◌, ℕ, ◌-◌, ◌*◌, ◌<◌, ◌≤◌, Bool, true, false, not, ◌&&◌, ◌||◌, List, length, map, slice_index, Some, None, Ok, Err, refl, sym, ap, ◌∙◌, subst, arith}
+use Rattle.std.specs.Prelude.{codes, unwrap_or}
+use Rattle.std.proofs.lemmas.List.{length-map}
+use Rattle.std.proofs.lemmas.List.Elements.{All-map}
+use Rattle.rp_table.specs.ChoiceLists.{IsChoiceList}
+use Rattle.rp_text.specs.Texts.{text_at}
+use Rattle.rp_text.specs.Columns.{role_of, role_at, quantity_mark}
+use Rattle.rp_text.specs.Forms.{choices_form}
+use Rattle.rp_text.specs.Records.{record_at}
+use Rattle.rp_text.specs.Headers.{headers_in, has, goods_stage}
+use Rattle.rp_text.specs.Fields.{rows_in, fields_stage, figures_of}
+use Rattle.rp_text.specs.Sizes.{limit_of, sizes_stage}
+use Rattle.rp_text.specs.ChoiceCounts.{column_named}
+use Rattle.rp_text.specs.Denotation.{first_fault, column_numbers, choice_list, choices_of, denoted_choices}
+use Rattle.rp_text.specs.declared.form.Role.{Role}
+use Rattle.rp_text.specs.declared.form.Role.TheVariants.{Budget, Times}
+use Rattle.rp_text.specs.declared.fault.TableFault.{TableFault}
+use Rattle.rp_text.proofs.BelowLemmas.{length-listed}
+use Rattle.rp_text.proofs.RowLemmas.{all_listed}
+use Rattle.rp_text.proofs.FieldFaults.{role_is}
+use Rattle.rp_text.proofs.FineHeaders.{FineHeaders, fine_headers, column_there}
+use Rattle.rp_text.proofs.ColumnSizes.{sizes_in, sizes_are, within_limit, budget_at}
+use Rattle.rp_text.proofs.GivenHeaders.{numbers_within, numbers_of_goods}
+use Rattle.rp_text.proofs.StageLemmas.{value_denoted, fault_denoted}
+use Rattle.rp_text.proofs.TableMade.{counted, passed}
+
+choice_tests : (m w b n : Bool) → ((false && not m) || (false && not w) || (true && not b) || (true && not n)) ≡ false → (b ≡ true) × (n ≡ true)
+choice_tests m w true true e = (refl, refl)
+choice_tests m w true false e = cc e
+choice_tests m w false n e = cc e
+
+budget_says : role_of (codes "budget") ≡ Some Budget
+unfolding role_of
+budget_says = refl
+
+times_say : role_of (codes "n") ≡ Some Times
+unfolding role_of
+times_say = refl
+
+less_one : (n budgets : ℕ) → n ≤ budgets → budgets ≤ 48 → n - 1 < 48
+less_one n budgets within few = omega arith
+
+module _ (budgets : ℕ) (goods headers : List (List ℕ)) (records : List (List (List ℕ))) (fine : FineHeaders (choices_form budgets) headers) (sound : goods_stage (choices_form budgets) goods headers ≡ None)
+    (fine_fields : fields_stage (choices_form budgets) headers records ≡ None) (fine_sizes : sizes_stage (choices_form budgets) headers (figures_of (choices_form budgets) headers records) ≡ None) where
+  both_there : (has headers (codes "budget") ≡ true) × (has headers (codes "n") ≡ true)
+  both_there = choice_tests (has headers (codes "m")) (has headers (codes "w")) (has headers (codes "budget")) (has headers (codes "n")) fine.columns
+
+  budget_within : (t : ℕ) → t < rows_in records → slice_index (text_at (sizes_in (choices_form budgets) headers records) t) (column_named (codes "budget") headers) ≤ budgets
+  budget_within t row =
+      let column = column_there headers (codes "budget") both_there.0 in
+      let at_column : column_named (codes "budget") headers ≡ column.0 = ap (λ o. unwrap_or o 0) column.2 in
+      rw at_column (budget_at (choices_form budgets) headers records fine_fields fine_sizes t column.0 row column.1 (ap role_of column.3 ∙ budget_says))
+
+  times_within : (t : ℕ) → t < rows_in records → slice_index (text_at (sizes_in (choices_form budgets) headers records) t) (column_named (codes "n") headers) ≤ 9999999
+  times_within t row =
+      let column = column_there headers (codes "n") both_there.1 in
+      let at_column : column_named (codes "n") headers ≡ column.0 = ap (λ o. unwrap_or o 0) column.2 in
+      let role : role_at headers column.0 ≡ Times = role_is headers column.0 Times (ap role_of column.3 ∙ times_say) in
+      let most = subst (λ (r : Role). slice_index (text_at (sizes_in (choices_form budgets) headers records) t) column.0 ≤ limit_of r) role (within_limit (choices_form budgets) headers records fine_fields fine_sizes t column.0 row column.1) in
+      rw at_column most
+
+  rows_count : length (sizes_in (choices_form budgets) headers records) ≡ rows_in records
+  rows_count = sizes_are (choices_form budgets) headers records
+
+  count : length (map (λ number. number - 1) (column_numbers (codes "budget") headers (sizes_in (choices_form budgets) headers records))) ≡ length (sizes_in (choices_form budgets) headers records)
+  count = length-map (column_numbers (codes "budget") headers (sizes_in (choices_form budgets) headers records)) (λ number. number - 1) ∙ length-listed _ (length (sizes_in (choices_form budgets) headers records))
+
+  -- the choices are within the limits
+  pub choices_are : 1 ≤ rows_in records → rows_in records ≤ 4096 → 1 ≤ length goods → length goods ≤ 16 → budgets ≤ 48 → IsChoiceList (choice_list headers goods (sizes_in (choices_form budgets) headers records))
+  choices_are some few some_goods few_goods few_budgets = record {
+    some_goods = some_goods;
+    few_goods = few_goods;
+    some_choices = rw (count, rows_count) some;
+    few_choices = rw (count, rows_count) few;
+    all_quantities = numbers_of_goods quantity_mark headers goods (sizes_in (choices_form budgets) headers records) ∙ ap (λ (k : ℕ). k * length goods) (sym count);
+    all_times = length-listed _ (length (sizes_in (choices_form budgets) headers records)) ∙ sym count;
+    budget_limits = All-map (λ j. j < 48) (λ number. number - 1) (column_numbers (codes "budget") headers (sizes_in (choices_form budgets) headers records))
+        (all_listed (λ number. number - 1 < 48) (length (sizes_in (choices_form budgets) headers records)) _
+        (λ t row. let inside : t < rows_in records = omega (arith, rows_count) in less_one _ budgets (budget_within t inside) few_budgets));
+    quantity_limits = numbers_within (choices_form budgets) goods headers records fine refl sound fine_fields fine_sizes;
+    times_limits = all_listed (λ n. n ≤ 9999999) (length (sizes_in (choices_form budgets) headers records)) _
+        (λ t row. let inside : t < rows_in records = omega (arith, rows_count) in times_within t inside);
+  }
+
+pub choices_within : (budgets : ℕ) (goods : List (List ℕ)) (records : List (List (List ℕ))) → 1 ≤ length goods → length goods ≤ 16 → budgets ≤ 48 → first_fault (choices_form budgets) goods records ≡ None
+    → IsChoiceList (choice_list (headers_in (record_at records 0)) goods (sizes_in (choices_form budgets) (headers_in (record_at records 0)) records))
+choices_within budgets goods records some_goods few_goods few_budgets fine =
+    let stages = passed (choices_form budgets) goods records fine in
+    let count = counted (choices_form budgets) records stages.3 in
+    choices_are budgets goods (headers_in (record_at records 0)) records (fine_headers (choices_form budgets) goods (headers_in (record_at records 0)) stages.1 stages.2) stages.2 stages.4 stages.5 count.0 count.1 some_goods few_goods few_budgets
+
+-- what a file denotes as choices, by its first fault
+pub refused_choices : (budgets : ℕ) (goods : List (List ℕ)) (records : List (List (List ℕ))) (e : TableFault) → first_fault (choices_form budgets) goods records ≡ Some e → denoted_choices budgets goods records ≡ Err e
+unfolding denoted_choices
+refused_choices budgets goods records e faulty = fault_denoted (first_fault (choices_form budgets) goods records) _ e faulty
+
+pub choices_there : (budgets : ℕ) (goods : List (List ℕ)) (records : List (List (List ℕ))) → first_fault (choices_form budgets) goods records ≡ None
+    → denoted_choices budgets goods records ≡ Ok (choice_list (headers_in (record_at records 0)) goods (sizes_in (choices_form budgets) (headers_in (record_at records 0)) records))
+unfolding denoted_choices choices_of
+choices_there budgets goods records fine = value_denoted (first_fault (choices_form budgets) goods records) _ fine

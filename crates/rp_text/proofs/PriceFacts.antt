@@ -1,0 +1,112 @@
+-- Records without a fault make new prices within the limits.
+use Rattle.std.proofs.Common.{◌≡◌, ℕ, ◌*◌, ◌<◌, ◌≤◌, Bool, true, false, not, ◌&&◌, ◌||◌, if◌then◌else◌, ◌⊎◌, inl, inr, List, [], length, slice_index, Option, Some, None, Ok, Err, refl, sym, ap, ◌∙◌, arith}
+use Rattle.std.specs.Prelude.{codes, unwrap_or}
+use Rattle.std.specs.List.{All}
+use Rattle.std.specs.Option.{option_map_or}
+use Rattle.std.proofs.lemmas.List.Elements.{All-nil}
+use Rattle.rp_table.specs.declared.TheConstants.{LARGEST_EXPENDITURE}
+use Rattle.rp_table.specs.Rows.{rows_count}
+use Rattle.rp_table.specs.PriceLists.{IsPriceList}
+use Rattle.rp_text.specs.Texts.{text_at}
+use Rattle.rp_text.specs.Columns.{role_of, takes, measures, price_mark}
+use Rattle.rp_text.specs.Forms.{prices_form}
+use Rattle.rp_text.specs.Records.{record_at}
+use Rattle.rp_text.specs.Headers.{headers_in, has, goods_stage}
+use Rattle.rp_text.specs.Fields.{figures_of, rows_in, fields_stage}
+use Rattle.rp_text.specs.Sizes.{sizes_stage}
+use Rattle.rp_text.specs.ChoiceCounts.{column_named}
+use Rattle.rp_text.specs.Denotation.{first_fault, column_numbers, numbers_under, price_list, prices_of, denoted_prices}
+use Rattle.rp_text.specs.declared.form.Role.{Role}
+use Rattle.rp_text.specs.declared.form.Role.TheVariants.{Observation, Price, Quantity, Expenditure, Income, Budget, Times}
+use Rattle.rp_text.specs.declared.fault.TableFault.{TableFault}
+use Rattle.rp_text.proofs.BelowLemmas.{length-listed}
+use Rattle.rp_text.proofs.RowLemmas.{all_listed}
+use Rattle.rp_text.proofs.FineHeaders.{FineHeaders, fine_headers}
+use Rattle.rp_text.proofs.ColumnSizes.{sizes_in, sizes_are}
+use Rattle.rp_text.proofs.AmountColumns.{expenditure_header, expenditure_says, amount_within}
+use Rattle.rp_text.proofs.GivenHeaders.{prices_within, rows_of_goods, numbers_of_goods}
+use Rattle.rp_text.proofs.StageLemmas.{value_denoted, fault_denoted}
+use Rattle.rp_text.proofs.TableMade.{counted, passed}
+
+-- only an expenditure says how much is bought
+measured_role : (places : ℕ) (o : Option Role) → option_map_or (takes (prices_form true places)) o false ≡ true → measures (unwrap_or o Observation) ≡ true → o ≡ Some Expenditure
+measured_role places None e m = cc e
+measured_role places (Some Observation) e m = cc m
+measured_role places (Some Price) e m = cc m
+measured_role places (Some Quantity) e m = cc e
+measured_role places (Some Expenditure) e m = refl
+measured_role places (Some Income) e m = cc e
+measured_role places (Some Budget) e m = cc m
+measured_role places (Some Times) e m = cc m
+
+expenditure_test : (m w b n : Bool) → ((true && not m) || (false && not w) || (false && not b) || (false && not n)) ≡ false → m ≡ true
+expenditure_test true w b n e = refl
+expenditure_test false w b n e = cc e
+
+module _ (places : ℕ) (headers : List (List ℕ)) (records : List (List (List ℕ))) (fine : FineHeaders (prices_form true places) headers)
+    (fine_fields : fields_stage (prices_form true places) headers records ≡ None) (fine_sizes : sizes_stage (prices_form true places) headers (figures_of (prices_form true places) headers records) ≡ None) where
+  expenditure_within : (t : ℕ) → t < rows_in records
+      → (1 ≤ slice_index (text_at (sizes_in (prices_form true places) headers records) t) (column_named (codes "m") headers))
+      × (slice_index (text_at (sizes_in (prices_form true places) headers records) t) (column_named (codes "m") headers) ≤ LARGEST_EXPENDITURE)
+  expenditure_within =
+      amount_within (prices_form true places) headers records fine fine_fields fine_sizes (codes "m") Expenditure
+      (expenditure_test (has headers (codes "m")) (has headers (codes "w")) (has headers (codes "budget")) (has headers (codes "n")) fine.columns)
+      expenditure_says refl
+      (λ c column measured. expenditure_header (text_at headers c) (measured_role places (role_of (text_at headers c)) (fine.taken c column) measured))
+
+  expenditures_within : All (λ m. (1 ≤ m) × (m ≤ LARGEST_EXPENDITURE)) (column_numbers (codes "m") headers (sizes_in (prices_form true places) headers records))
+  expenditures_within =
+      all_listed (λ m. (1 ≤ m) × (m ≤ LARGEST_EXPENDITURE)) (length (sizes_in (prices_form true places) headers records)) _
+      (λ t row. expenditure_within t (omega (arith, sizes_are (prices_form true places) headers records)))
+
+module _ (places : ℕ) (headers : List (List ℕ)) (records : List (List (List ℕ))) where
+  -- expenditures that are asked for are within the limits
+  all_expenditures : (with_m : Bool) → FineHeaders (prices_form with_m places) headers → fields_stage (prices_form with_m places) headers records ≡ None
+      → sizes_stage (prices_form with_m places) headers (figures_of (prices_form with_m places) headers records) ≡ None
+      → All (λ m. (1 ≤ m) × (m ≤ LARGEST_EXPENDITURE)) (if with_m then column_numbers (codes "m") headers (sizes_in (prices_form with_m places) headers records) else [])
+  all_expenditures true fine fine_fields fine_sizes = expenditures_within places headers records fine fine_fields fine_sizes
+  all_expenditures false fine fine_fields fine_sizes = All-nil (λ m. (1 ≤ m) × (m ≤ LARGEST_EXPENDITURE))
+
+  -- there are as many as records, or none
+  count_expenditures : (with_m : Bool) (sizes : List (List ℕ)) (n : ℕ) → n ≡ length sizes
+      → (length (if with_m then column_numbers (codes "m") headers sizes else []) ≡ 0) ⊎ (length (if with_m then column_numbers (codes "m") headers sizes else []) ≡ n)
+  count_expenditures true sizes n is = inr (length-listed _ (length sizes) ∙ sym is)
+  count_expenditures false sizes n is = inl refl
+
+-- the prices are within the limits
+pub prices_are : (with_m : Bool) (places : ℕ) (goods headers : List (List ℕ)) (records : List (List (List ℕ))) → FineHeaders (prices_form with_m places) headers → goods_stage (prices_form with_m places) goods headers ≡ None
+    → fields_stage (prices_form with_m places) headers records ≡ None → sizes_stage (prices_form with_m places) headers (figures_of (prices_form with_m places) headers records) ≡ None
+    → 1 ≤ length goods → length goods ≤ 16 → 1 ≤ rows_in records → rows_in records ≤ 16
+    → IsPriceList (price_list with_m headers goods (sizes_in (prices_form with_m places) headers records))
+prices_are with_m places goods headers records fine sound fine_fields fine_sizes some few some_rows few_rows =
+    let sizes = sizes_in (prices_form with_m places) headers records in
+    let rows = rows_of_goods price_mark headers goods sizes some in
+    let counted_rows = rows ∙ sizes_are (prices_form with_m places) headers records in
+    record {
+      some_goods = some;
+      few_goods = few;
+      some_records = rw counted_rows some_rows;
+      few_records = rw counted_rows few_rows;
+      all_prices = numbers_of_goods price_mark headers goods sizes ∙ ap (λ (k : ℕ). k * length goods) (sym rows);
+      all_expenditures = count_expenditures places headers records with_m sizes (rows_count (numbers_under price_mark headers goods sizes) (length goods)) rows;
+      price_limits = prices_within (prices_form with_m places) goods headers records fine refl sound fine_fields fine_sizes refl;
+      expenditure_limits = all_expenditures places headers records with_m fine fine_fields fine_sizes;
+    }
+
+pub prices_made : (with_m : Bool) (places : ℕ) (goods : List (List ℕ)) (records : List (List (List ℕ))) → 1 ≤ length goods → length goods ≤ 16 → first_fault (prices_form with_m places) goods records ≡ None
+    → IsPriceList (price_list with_m (headers_in (record_at records 0)) goods (sizes_in (prices_form with_m places) (headers_in (record_at records 0)) records))
+prices_made with_m places goods records some few faultless =
+    let stages = passed (prices_form with_m places) goods records faultless in
+    let count = counted (prices_form with_m places) records stages.3 in
+    let fine = fine_headers (prices_form with_m places) goods (headers_in (record_at records 0)) stages.1 stages.2 in
+    prices_are with_m places goods (headers_in (record_at records 0)) records fine stages.2 stages.4 stages.5 some few count.0 count.1
+
+-- what a file denotes as new prices, by its first fault
+pub refused_prices : (with_m : Bool) (places : ℕ) (goods : List (List ℕ)) (records : List (List (List ℕ))) (e : TableFault) → first_fault (prices_form with_m places) goods records ≡ Some e → denoted_prices with_m places goods records ≡ Err e
+unfolding denoted_prices
+refused_prices with_m places goods records e faulty = fault_denoted (first_fault (prices_form with_m places) goods records) _ e faulty
+
+pub prices_there : (with_m : Bool) (places : ℕ) (goods : List (List ℕ)) (records : List (List (List ℕ))) → first_fault (prices_form with_m places) goods records ≡ None
+    → denoted_prices with_m places goods records ≡ Ok (price_list with_m (headers_in (record_at records 0)) goods (sizes_in (prices_form with_m places) (headers_in (record_at records 0)) records))
+unfolding denoted_prices prices_of
+prices_there with_m places goods records faultless = value_denoted (first_fault (prices_form with_m places) goods records) _ faultless

@@ -1,0 +1,10 @@
+use Rattle.std.proofs.Common.{◌≡◌, ◌+◌, ◌==◌, ◌&&◌, nat_lt, false}
+use Rattle.std.specs.Prelude.{codes}
+use Rattle.rp_text.specs.Below.{any_below}
+use Rattle.rp_text.specs.Sizes.{figure_at}
+use Rattle.rp_text.specs.ChoiceCounts.{column_named}
+use Rattle.rp_text.proofs.sheet.is_chosen.Given as goal
+
+abbrev pub invariant-loop-row : goal.invariant-loop-row
+invariant-loop-row l =
+    any_below l.row-index (λ t. ((figure_at l.figures t (column_named (codes "budget") l.fn.columns)).units == l.j + 1) && nat_lt 0 (figure_at l.figures t (column_named (codes "n") l.fn.columns)).units) ≡ false

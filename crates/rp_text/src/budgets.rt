@@ -1,0 +1,50 @@
+ghost use Rattle.std.specs.Prelude.{◌≡◌, ◌≢◌, Ok, Err, IfOk, IfErr};
+ghost use Rattle.rp_table.specs.BudgetLists.{IsBudgetList};
+ghost use Rattle.rp_text.specs.Denotation.{budget_list, denoted_budgets, budgets_in};
+
+use crate::TableFault;
+use crate::columns::Columns;
+use crate::form::Form;
+use crate::goods::read_names;
+use crate::numbers::{column_numbers, numbers_under};
+use crate::records::Records;
+use crate::sheet::read_sheet;
+use rp_num::{NoMemory, Seq};
+use rp_table::{BUDGETS, Budgets, Name};
+use std::alloc::Global;
+
+/// Reads budgets: a column `p_NAME` of prices for each good, a column `w` of incomes, and possibly a column
+/// `obs` that says nothing. Prices are scaled by the power of ten of their greatest number of places, and
+/// incomes by that of theirs.
+pub fn read_budgets(alloc: Global, bytes: &[u8]) -> Result<Budgets, TableFault>
+    ensures denoted { IfOk result (λ budgets. budgets_in bytes.now ≡ Ok budgets) }
+    ensures refused { IfErr result (λ fault. fault ≢ TableFault.NoMemory → budgets_in bytes.now ≡ Err fault) }
+{
+    let records = Records::of(alloc, bytes, BUDGETS as usize + 2)?;
+    budgets_from(alloc, &records)
+}
+
+/// The budgets in these records.
+fn budgets_from(alloc: Global, records: &Records) -> Result<Budgets, TableFault>
+    ensures denoted { IfOk result (λ budgets. denoted_budgets records.now ≡ Ok budgets) }
+    ensures refused { IfErr result (λ fault. fault ≢ TableFault.NoMemory → denoted_budgets records.now ≡ Err fault) }
+{
+    let sheet = read_sheet(alloc, &Form::budgets(), &[], records)?;
+    let names = read_names(alloc, &sheet.columns)?;
+    Ok(fill_budgets(alloc, &sheet.columns, names, sheet.sizes.as_slice())?)
+}
+
+/// The budgets of these scaled numbers.
+fn fill_budgets(
+    alloc: Global,
+    columns: &Columns<'_>,
+    names: Vec<Name>,
+    sizes: &[Seq<u64>],
+) -> Result<Budgets, NoMemory>
+    requires { IsBudgetList (budget_list columns.now names.items sizes.now) }
+    ensures { IfOk result (λ budgets. budgets ≡ budget_list columns.now names.items sizes.now) }
+{
+    let prices = numbers_under(alloc, columns, b"p_", names.as_slice(), sizes)?;
+    let w = column_numbers(alloc, columns, b"w", sizes)?;
+    Ok(Budgets::make(names, prices, w))
+}

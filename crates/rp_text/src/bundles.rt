@@ -1,0 +1,52 @@
+ghost use Rattle.std.specs.Prelude.{◌≡◌, ◌≢◌, Ok, Err, IfOk, IfErr, length};
+ghost use Rattle.rp_table.specs.BundleLists.{IsBundleList};
+ghost use Rattle.rp_text.specs.Denotation.{bundle_list, denoted_bundles, bundles_in};
+
+use crate::TableFault;
+use crate::columns::Columns;
+use crate::form::Form;
+use crate::numbers::numbers_under;
+use crate::records::Records;
+use crate::sheet::read_sheet;
+use rp_num::{NoMemory, Seq};
+use rp_table::{Bundles, NEW_RECORDS, Name, Table};
+use std::alloc::Global;
+
+/// Reads bundles beside a table: a column `q_NAME` of quantities for each good of the table, and possibly a
+/// column `obs` that says nothing. Quantities are scaled by the power of ten of the table's quantities.
+pub fn read_bundles(alloc: Global, bytes: &[u8], table: &Table) -> Result<Bundles, TableFault>
+    ensures denoted { IfOk result (λ bundles. bundles_in table.now.quantity_places table.now.names bytes.now ≡ Ok bundles) }
+    ensures refused { IfErr result (λ fault. fault ≢ TableFault.NoMemory → bundles_in table.now.quantity_places table.now.names bytes.now ≡ Err fault) }
+{
+    let records = Records::of(alloc, bytes, NEW_RECORDS as usize + 2)?;
+    bundles_from(alloc, table, &records)
+}
+
+/// The bundles in these records.
+fn bundles_from(alloc: Global, table: &Table, records: &Records) -> Result<Bundles, TableFault>
+    ensures denoted { IfOk result (λ bundles. denoted_bundles table.now.quantity_places table.now.names records.now ≡ Ok bundles) }
+    ensures refused { IfErr result (λ fault. fault ≢ TableFault.NoMemory → denoted_bundles table.now.quantity_places table.now.names records.now ≡ Err fault) }
+{
+    let form = Form::bundles(table.quantity_places());
+    let names = table.names();
+    let goods = table.goods();
+    let sheet = read_sheet(alloc, &form, names, records)?;
+    let sizes = sheet.sizes.as_slice();
+    Ok(fill_bundles(alloc, &sheet.columns, names, goods, sizes)?)
+}
+
+/// The bundles with these scaled numbers.
+fn fill_bundles(
+    alloc: Global,
+    columns: &Columns<'_>,
+    names: &[Name],
+    goods: u32,
+    sizes: &[Seq<u64>],
+) -> Result<Bundles, NoMemory>
+    requires counted { goods ≡ length names.now }
+    requires within { IsBundleList (bundle_list columns.now names.now sizes.now) }
+    ensures { IfOk result (λ bundles. bundles ≡ bundle_list columns.now names.now sizes.now) }
+{
+    let quantities = numbers_under(alloc, columns, b"q_", names, sizes)?;
+    Ok(Bundles::make(goods, quantities))
+}

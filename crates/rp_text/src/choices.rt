@@ -1,0 +1,69 @@
+ghost use Rattle.std.specs.Prelude.{◌≡◌, ◌≢◌, ◌-◌, ◌<◌, Ok, Err, IfOk, IfErr, All, map, length};
+ghost use Rattle.rp_table.specs.ChoiceLists.{IsChoiceList};
+ghost use Rattle.rp_text.specs.Denotation.{choice_list, denoted_choices, choices_in};
+
+use crate::TableFault;
+use crate::columns::Columns;
+use crate::form::Form;
+use crate::numbers::{column_numbers, narrowed, numbers_under};
+use crate::records::Records;
+use crate::sheet::read_sheet;
+use rp_num::{NoMemory, Seq};
+use rp_table::{BUDGETS, Budgets, CHOICES, Choices, Name};
+use std::alloc::Global;
+
+/// Reads choices on these budgets: a column `budget` with the number of a budget, from 1, a column
+/// `q_NAME` of quantities for each good, a column `n` of counts, and possibly a column `obs` that says
+/// nothing. Quantities are scaled by the power of ten of their greatest number of places.
+pub fn read_choices(alloc: Global, bytes: &[u8], budgets: &Budgets) -> Result<Choices, TableFault>
+    ensures denoted { IfOk result (λ choices. choices_in (length budgets.now.w) budgets.now.names bytes.now ≡ Ok choices) }
+    ensures refused { IfErr result (λ fault. fault ≢ TableFault.NoMemory → choices_in (length budgets.now.w) budgets.now.names bytes.now ≡ Err fault) }
+{
+    let records = Records::of(alloc, bytes, CHOICES as usize + 2)?;
+    choices_from(alloc, budgets, &records)
+}
+
+/// The choices in these records.
+fn choices_from(alloc: Global, budgets: &Budgets, records: &Records) -> Result<Choices, TableFault>
+    ensures denoted { IfOk result (λ choices. denoted_choices (length budgets.now.w) budgets.now.names records.now ≡ Ok choices) }
+    ensures refused { IfErr result (λ fault. fault ≢ TableFault.NoMemory → denoted_choices (length budgets.now.w) budgets.now.names records.now ≡ Err fault) }
+{
+    let form = Form::choices(budgets.count());
+    let sheet = read_sheet(alloc, &form, budgets.names(), records)?;
+    Ok(fill_choices(
+        alloc,
+        &sheet.columns,
+        budgets.names(),
+        sheet.sizes.as_slice(),
+    )?)
+}
+
+/// The choices of these scaled numbers.
+fn fill_choices(
+    alloc: Global,
+    columns: &Columns<'_>,
+    goods: &[Name],
+    sizes: &[Seq<u64>],
+) -> Result<Choices, NoMemory>
+    requires { IsChoiceList (choice_list columns.now goods.now sizes.now) }
+    ensures { IfOk result (λ choices. choices ≡ choice_list columns.now goods.now sizes.now) }
+{
+    let numbers = column_numbers(alloc, columns, b"budget", sizes)?;
+    let counts = column_numbers(alloc, columns, b"n", sizes)?;
+    let budget = from_zero(alloc, numbers.as_slice())?;
+    let quantities = numbers_under(alloc, columns, b"q_", goods, sizes)?;
+    let times = narrowed(alloc, counts.as_slice())?;
+    Ok(Choices::make(goods.len() as u32, budget, quantities, times))
+}
+
+/// Numbers from 1 of budgets, as numbers from 0.
+fn from_zero(alloc: Global, numbers: &[u64]) -> Result<Vec<u32>, NoMemory>
+    requires { All (λ j. j < BUDGETS) (map (λ number. number - 1) numbers.now) }
+    ensures { IfOk result (λ budget. budget.items ≡ map (λ number. number - 1) numbers.now) }
+{
+    let mut budget = Vec::new(alloc);
+    for number in numbers {
+        budget.push(number.saturating_sub(1) as u32)?;
+    }
+    Ok(budget)
+}

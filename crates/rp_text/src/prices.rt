@@ -1,0 +1,83 @@
+ghost use Rattle.std.specs.Prelude.{◌≡◌, ◌≢◌, [], Ok, Err, IfOk, IfErr, length, codes, if◌then◌else◌};
+ghost use Rattle.rp_table.specs.PriceLists.{IsPriceList};
+ghost use Rattle.rp_text.specs.Denotation as Denotation;
+ghost use Rattle.rp_text.specs.Denotation.{price_list, denoted_prices, prices_in};
+
+use crate::TableFault;
+use crate::columns::Columns;
+use crate::form::Form;
+use crate::numbers::{column_numbers, numbers_under};
+use crate::records::Records;
+use crate::sheet::read_sheet;
+use rp_num::{NoMemory, Seq};
+use rp_table::{NEW_RECORDS, Name, Prices, Table};
+use std::alloc::Global;
+
+/// Reads new prices beside a table: a column `p_NAME` of prices for each good of the table, a column `m` of
+/// expenditures where they are asked for, and possibly a column `obs` that says nothing. Prices are scaled
+/// by the power of ten of their greatest number of places, and expenditures by that power times the one of
+/// the table's quantities.
+pub fn read_prices(
+    alloc: Global,
+    bytes: &[u8],
+    table: &Table,
+    with_m: bool,
+) -> Result<Prices, TableFault>
+    ensures denoted { IfOk result (λ prices. prices_in with_m table.now.quantity_places table.now.names bytes.now ≡ Ok prices) }
+    ensures refused { IfErr result (λ fault. fault ≢ TableFault.NoMemory → prices_in with_m table.now.quantity_places table.now.names bytes.now ≡ Err fault) }
+{
+    let records = Records::of(alloc, bytes, NEW_RECORDS as usize + 2)?;
+    prices_from(alloc, table, with_m, &records)
+}
+
+/// The prices in these records.
+fn prices_from(
+    alloc: Global,
+    table: &Table,
+    with_m: bool,
+    records: &Records,
+) -> Result<Prices, TableFault>
+    ensures denoted { IfOk result (λ prices. denoted_prices with_m table.now.quantity_places table.now.names records.now ≡ Ok prices) }
+    ensures refused { IfErr result (λ fault. fault ≢ TableFault.NoMemory → denoted_prices with_m table.now.quantity_places table.now.names records.now ≡ Err fault) }
+{
+    let form = Form::prices(with_m, table.quantity_places());
+    let names = table.names();
+    let goods = table.goods();
+    let sheet = read_sheet(alloc, &form, names, records)?;
+    let sizes = sheet.sizes.as_slice();
+    Ok(fill_prices(alloc, &sheet.columns, names, goods, sizes, with_m)?)
+}
+
+/// The prices with these scaled numbers.
+fn fill_prices(
+    alloc: Global,
+    columns: &Columns<'_>,
+    names: &[Name],
+    goods: u32,
+    sizes: &[Seq<u64>],
+    with_m: bool,
+) -> Result<Prices, NoMemory>
+    requires counted { goods ≡ length names.now }
+    requires within { IsPriceList (price_list with_m columns.now names.now sizes.now) }
+    ensures { IfOk result (λ prices. prices ≡ price_list with_m columns.now names.now sizes.now) }
+{
+    let prices = numbers_under(alloc, columns, b"p_", names, sizes)?;
+    let m = expenditures(alloc, columns, sizes, with_m)?;
+    Ok(Prices::make(goods, prices, m))
+}
+
+/// The scaled expenditures where they are asked for, by record.
+fn expenditures(
+    alloc: Global,
+    columns: &Columns<'_>,
+    sizes: &[Seq<u64>],
+    with_m: bool,
+) -> Result<Vec<u64>, NoMemory>
+    ensures { IfOk result (λ m. m.items ≡ (if with_m then Denotation.column_numbers (codes "m") columns.now sizes.now else [])) }
+{
+    if with_m {
+        column_numbers(alloc, columns, b"m", sizes)
+    } else {
+        Ok(Vec::new(alloc))
+    }
+}

@@ -1,0 +1,121 @@
+ghost use Rattle.std.specs.Prelude.{◌≡◌, ◌≢◌, ◌+◌, ◌<◌, ◌==◌, ◌&&◌, Some, None, nat_lt, OnOk, IfOk, IfErr, All, length, codes, slice_index_or};
+ghost use Rattle.rp_text.specs.Records.{record_at};
+ghost use Rattle.rp_text.specs.Headers.{headers_in};
+ghost use Rattle.rp_text.specs.Fields.{nothing, figures_of, count_stage};
+ghost use Rattle.rp_text.specs.Sizes.{sizes_of, figure_at};
+ghost use Rattle.rp_text.specs.Below.{any_below};
+ghost use Rattle.rp_text.specs.ChoiceCounts.{choices_stage, is_chosen};
+ghost use Rattle.rp_text.specs.Denotation.{first_fault};
+
+use crate::TableFault;
+use crate::columns::Columns;
+use crate::fields::read_figures;
+use crate::form::Form;
+use crate::given::check_goods;
+use crate::headers::read_columns;
+use crate::records::Records;
+use crate::sizes::read_sizes;
+use crate::texts::number_of;
+use rp_num::{Decimal, Seq};
+use rp_table::Name;
+use std::alloc::Global;
+
+/// What a file holds that no stage refuses: its columns, its numbers and its scaled numbers.
+#[derive(Drop)]
+pub struct Sheet<'a> {
+    pub columns: Columns<'a>,
+    pub figures: Vec<Seq<Decimal>>,
+    pub sizes: Vec<Seq<u64>>,
+}
+
+/// Takes a file of that kind through all stages.
+pub fn read_sheet<'a>(
+    alloc: Global,
+    form: &Form,
+    goods: &[Name],
+    records: &'a Records,
+) -> Result<Sheet<'a>, TableFault>
+    ensures columns { IfOk result (λ sheet. sheet.columns ≡ headers_in (record_at records.now 0)) }
+    ensures figures { IfOk result (λ sheet. sheet.figures.items ≡ figures_of form.now (headers_in (record_at records.now 0)) records.now) }
+    ensures sizes { IfOk result (λ sheet. sheet.sizes.items ≡ sizes_of form.now (headers_in (record_at records.now 0)) (figures_of form.now (headers_in (record_at records.now 0)) records.now)) }
+    ensures faultless { IfOk result (λ _. first_fault form.now goods.now records.now ≡ None) }
+    ensures refused { IfErr result (λ fault. fault ≢ TableFault.NoMemory → first_fault form.now goods.now records.now ≡ Some fault) }
+{
+    if records.len() == 0 {
+        return Err(TableFault::Empty);
+    }
+    let columns = read_columns(alloc, form, records)?;
+    check_goods(alloc, form, goods, &columns)?;
+    check_count(form, records)?;
+    let figures = read_figures(alloc, form, &columns, records)?;
+    let sizes = read_sizes(alloc, form, &columns, figures.as_slice())?;
+    check_choices(form, &columns, figures.as_slice())?;
+    Ok(Sheet {
+        columns,
+        figures,
+        sizes,
+    })
+}
+
+/// Whether there are records after the headers, and no more than the limit.
+fn check_count(form: &Form, records: &Records) -> Result<(), TableFault>
+    requires { 0 < length records.now }
+    ensures fine { OnOk result (count_stage form.now records.now ≡ None) }
+    ensures refused { IfErr result (λ fault. count_stage form.now records.now ≡ Some fault) }
+{
+    if records.len() == 1 {
+        return Err(TableFault::NoRecords);
+    }
+    if records.len() - 1 > form.most as usize {
+        return Err(TableFault::TooManyRecords);
+    }
+    Ok(())
+}
+
+/// Looks for the first budget on which nothing was chosen, in files of choices.
+fn check_choices(
+    form: &Form,
+    columns: &Columns<'_>,
+    figures: &[Seq<Decimal>],
+) -> Result<(), TableFault>
+    ensures fine { OnOk result (choices_stage form.now columns.now figures.now ≡ None) }
+    ensures refused { IfErr result (λ fault. choices_stage form.now columns.now figures.now ≡ Some fault) }
+{
+    if !form.choices {
+        return Ok(());
+    }
+    for j in 0..form.budgets {
+        if !is_chosen(columns, figures, j) {
+            return Err(TableFault::NoChoices {
+                budget: number_of(j as usize),
+            });
+        }
+    }
+    Ok(())
+}
+
+/// Whether something was chosen on budget `j`, from 0.
+fn is_chosen(columns: &Columns<'_>, figures: &[Seq<Decimal>], j: u32) -> bool
+    ensures { result ≡ is_chosen columns.now figures.now j }
+{
+    let budget = columns.find(b"budget").unwrap_or(0);
+    let times = columns.find(b"n").unwrap_or(0);
+    for row in figures {
+        if units_at(row.as_slice(), budget) == u64::from(j) + 1
+            && units_at(row.as_slice(), times) > 0
+        {
+            return true;
+        }
+    }
+    false
+}
+
+/// The units of the number at place `c`, or 0 where there is none.
+fn units_at(row: &[Decimal], c: usize) -> u64
+    ensures { result ≡ (slice_index_or row.now c nothing).units }
+{
+    match row.get(c) {
+        Some(figure) => figure.units,
+        None => 0,
+    }
+}
