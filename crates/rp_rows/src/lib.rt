@@ -16,4 +16,6 @@ mod preference;
 #[cfg(test)]
 mod programs;
 #[cfg(test)]
+mod readers;
+#[cfg(test)]
 mod walks;

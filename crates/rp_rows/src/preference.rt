@@ -62,13 +62,8 @@ fn closures_at_several_levels(rt: HostRuntime) -> Result<(), Fail> {
             counted.push_str(closure.count(s).to_string(alloc)?.as_str())?;
         }
         assert_eq!(rt;
-            reached.as_str(),
-            rows,
-            "{text} at {num}/{den} by {steps:?}"
-        );
-        assert_eq!(rt;
-            counted.as_str(),
-            counts,
+            (reached.as_str(), counted.as_str()),
+            (rows, counts),
             "{text} at {num}/{den} by {steps:?}"
         );
     }
