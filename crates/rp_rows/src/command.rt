@@ -1,5 +1,5 @@
-use rp_outside::{MemDesk, MemFile, MemSink};
-use rp_run::{Status, run};
+use rp_outside::{MemDesk, MemFile, MemSink, SureDesk, SureSink};
+use rp_run::{Status, run, run_surely};
 use std::alloc::Global;
 use std::test::Fail;
 
@@ -11,6 +11,25 @@ pub(crate) struct Outcome {
     pub(crate) err: String,
 }
 
+/// The words of a command line.
+fn owned(alloc: Global, words: &[&str]) -> Result<Vec<String>, Fail> {
+    let mut all = Vec::new(alloc);
+    for word in words {
+        all.push(String::from_str(alloc, word)?)?;
+    }
+    Ok(all)
+}
+
+/// A file `t.csv` and no other.
+fn only_file(alloc: Global, file: &str) -> Result<Vec<MemFile>, Fail> {
+    let mut files = Vec::new(alloc);
+    files.push(MemFile {
+        name: String::from_str(alloc, "t.csv")?,
+        bytes: Vec::from_slice(alloc, file.as_bytes())?,
+    })?;
+    Ok(files)
+}
+
 /// Runs the words over a file `t.csv`. Of the sink for the answer the listed calls fail.
 pub(crate) fn answer(
     alloc: Global,
@@ -18,16 +37,8 @@ pub(crate) fn answer(
     file: &str,
     fails: &[u64],
 ) -> Result<Outcome, Fail> {
-    let mut all = Vec::new(alloc);
-    for word in words {
-        all.push(String::from_str(alloc, word)?)?;
-    }
-    let mut files = Vec::new(alloc);
-    files.push(MemFile {
-        name: String::from_str(alloc, "t.csv")?,
-        bytes: Vec::from_slice(alloc, file.as_bytes())?,
-    })?;
-    let mut desk = MemDesk::new(files, Vec::new(alloc));
+    let all = owned(alloc, words)?;
+    let mut desk = MemDesk::new(only_file(alloc, file)?, Vec::new(alloc));
     let mut out = MemSink::new(alloc, 65_536, Vec::from_slice(alloc, fails)?)?;
     let mut err = MemSink::new(alloc, 65_536, Vec::new(alloc))?;
     let status = run(alloc, &all, &mut desk, &mut out, &mut err);
@@ -108,6 +119,29 @@ fn words_files_and_sinks_that_fail(rt: HostRuntime) -> Result<(), Fail> {
         let got = answer(alloc, few, file, &[])?;
         assert_eq!(rt; got.status, Status::Usage, "status of {few:?}");
         assert_eq!(rt; got.err.as_str(), usage, "errors of {few:?}");
+    }
+    Ok(())
+}
+
+#[test]
+fn an_outside_that_never_fails_leaves_the_words_and_the_files(rt: HostRuntime) -> Result<(), Fail> {
+    let alloc = rt.alloc();
+    for (words, status) in [
+        (["rp", "pairs", "t.csv"], Status::Done),
+        (["rp", "analyse", "t.csv"], Status::Done),
+        (["rp", "pairs", "no.csv"], Status::Refused),
+        (["rp", "pair", "t.csv"], Status::Usage),
+    ] {
+        let all = owned(alloc, &words)?;
+        let mut desk = SureDesk::new(only_file(alloc, "p_a,q_a\n3,2\n")?);
+        let got = run_surely(
+            alloc,
+            &all,
+            &mut desk,
+            &mut SureSink::new(),
+            &mut SureSink::new(),
+        );
+        assert_eq!(rt; got, status, "{words:?}");
     }
     Ok(())
 }
