@@ -267,13 +267,13 @@ fn choices_count_on_each_budget(rt: HostRuntime) -> Result<(), Fail> {
     Ok(())
 }
 
-/// Column names, and then so many times the record.
-fn repeated(alloc: Global, names: &str, record: &str, times: u32) -> Result<String, Fail> {
-    let mut file = String::from_str(alloc, names)?;
+/// A text, and then so many times another.
+fn repeated(alloc: Global, first: &str, then: &str, times: u32) -> Result<String, Fail> {
+    let mut text = String::from_str(alloc, first)?;
     for _ in 0..times {
-        file.push_str(record)?;
+        text.push_str(then)?;
     }
-    Ok(file)
+    Ok(text)
 }
 
 #[test]
@@ -281,24 +281,35 @@ fn as_many_records_as_each_limit_and_one_more(rt: HostRuntime) -> Result<(), Fai
     let alloc = rt.alloc();
     let table = whole_table(alloc)?;
     let one = read_budgets(alloc, b"p_a,w\n1,10\n")?;
-    for (times, taken) in [(16, true), (17, false)] {
-        let prices = repeated(alloc, "p_a,p_b\n", "1,2\n", times)?;
-        let got = new_prices(alloc, prices.as_str(), &table, false)?;
-        assert_eq!(rt; got.as_str() != "TooManyRecords", taken, "{times}");
-        let file = repeated(alloc, "q_a,q_b\n", "1,2\n", times)?;
-        let got = bundles(alloc, file.as_str(), &table)?;
-        assert_eq!(rt; got.as_str() != "TooManyRecords", taken, "{times}");
-    }
-    for (times, taken) in [(48, true), (49, false)] {
-        let file = repeated(alloc, "p_a,w\n", "1,2\n", times)?;
-        let got = budgets(alloc, file.as_str())?;
-        assert_eq!(rt; got.as_str() != "TooManyRecords", taken, "{times}");
-    }
-    for (times, taken) in [(4_096, true), (4_097, false)] {
-        let file = repeated(alloc, "budget,q_a,n\n", "1,1,1\n", times)?;
-        let got = choices(alloc, file.as_str(), &one)?;
-        assert_eq!(rt; got.as_str() != "TooManyRecords", taken, "{times}");
-    }
+    let file = repeated(alloc, "p_a,p_b\n", "1,2\n", 16)?;
+    let all = repeated(alloc, "", "[1, 2] 0 ", 16)?;
+    assert_eq!(rt; new_prices(alloc, file.as_str(), &table, false)?, all);
+    let file = repeated(alloc, "p_a,p_b\n", "1,2\n", 17)?;
+    assert_eq!(rt;
+        new_prices(alloc, file.as_str(), &table, false)?.as_str(),
+        "TooManyRecords"
+    );
+    let file = repeated(alloc, "q_a,q_b\n", "1,2\n", 16)?;
+    let all = repeated(alloc, "", "[1, 2] ", 16)?;
+    assert_eq!(rt; bundles(alloc, file.as_str(), &table)?, all);
+    let file = repeated(alloc, "q_a,q_b\n", "1,2\n", 17)?;
+    assert_eq!(rt;
+        bundles(alloc, file.as_str(), &table)?.as_str(),
+        "TooManyRecords"
+    );
+    let file = repeated(alloc, "p_a,w\n", "1,2\n", 48)?;
+    let all = repeated(alloc, "a ", "[1] 2 ", 48)?;
+    assert_eq!(rt; budgets(alloc, file.as_str())?, all);
+    let file = repeated(alloc, "p_a,w\n", "1,2\n", 49)?;
+    assert_eq!(rt; budgets(alloc, file.as_str())?.as_str(), "TooManyRecords");
+    let file = repeated(alloc, "budget,q_a,n\n", "1,1,1\n", 4_096)?;
+    let all = repeated(alloc, "", "0 [1] 1 ", 4_096)?;
+    assert_eq!(rt; choices(alloc, file.as_str(), &one)?, all);
+    let file = repeated(alloc, "budget,q_a,n\n", "1,1,1\n", 4_097)?;
+    assert_eq!(rt;
+        choices(alloc, file.as_str(), &one)?.as_str(),
+        "TooManyRecords"
+    );
     Ok(())
 }
 
