@@ -5,6 +5,7 @@ mod certificate;
 mod laws;
 mod products;
 mod quasilinear;
+mod value_laws;
 
 pub use certificate::{Certificate, Garp, Item, Kind, Level, withheld};
 pub use laws::{
@@ -16,3 +17,4 @@ pub use laws::{
 };
 pub use products::Homothetic;
 pub use quasilinear::Quasi;
+pub use value_laws::{bound_products_meet_homothetic_test, bound_steps_meet_quasilinear_test};
