@@ -8,5 +8,6 @@ pub mod SameItems
 pub mod SameProducts
 pub mod SameSums
 mod Tries
+pub mod Values
 pub mod Violations
 pub mod Walks

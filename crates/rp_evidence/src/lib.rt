@@ -6,6 +6,7 @@ mod laws;
 mod products;
 mod quasilinear;
 mod relations;
+mod value_laws;
 
 pub use certificate::{Certificate, Garp, Item, Kind, Level, withheld};
 pub use laws::{
@@ -18,3 +19,4 @@ pub use laws::{
 pub use products::Homothetic;
 pub use quasilinear::Quasi;
 pub use relations::{Preference, Relation};
+pub use value_laws::{bound_products_meet_homothetic_test, bound_steps_meet_quasilinear_test};
