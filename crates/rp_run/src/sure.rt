@@ -1,5 +1,5 @@
 ghost use Rattle.std.specs.Prelude.{◌≡◌, ◌↔◌, ◌⊎◌, Some, None, map, string_bytes};
-ghost use Rattle.rp_outside.specs.Files.{bytes_or_none};
+ghost use Rattle.rp_outside.specs.SureDesk.{bytes_or_none};
 ghost use Rattle.rp_run.specs.CommandLine.{Line as Asked, line_of};
 ghost use Rattle.rp_run.specs.Answers.{IsAccepted, IsRefused};
 
