@@ -96,7 +96,8 @@ fn names_found<'a>(alloc: Global, names: &'a [Name]) -> Result<IndexSet<&'a [u8]
 fn is_other_good(given: &IndexSet<&[u8]>, columns: &Columns<'_>, c: usize) -> bool
     requires { c < length columns.now }
     ensures { result ≡ ((is_price (role_at columns.now c) || is_quantity (role_at columns.now c))
-        && not (contains_by (λ key. bytes_eq (name_in (text_at columns.now c)) key.now) given.now)) }
+        && not (contains_by (λ key. bytes_eq (name_in (text_at columns.now c)) key.now)
+        given.now)) }
 {
     let listed = given.contains(name_in(columns.header(c)));
     match columns.role(c) {
