@@ -1,8 +1,15 @@
+pub mod AfriatClasses
+pub mod AfriatModels
+pub mod AfriatStages
+pub mod AfriatSums
+pub mod AfriatTheorem
+mod AfriatTries
 pub mod Counting
 pub mod Counts
 mod HomotheticTries
 pub mod Levels
 pub mod Places
+pub mod Reaching
 pub mod SameCosts
 pub mod SameItems
 pub mod SameProducts

@@ -1,3 +1,5 @@
+pub mod Afriat
+pub mod AfriatEvidence
 pub mod Count
 pub mod First
 pub mod Garp
@@ -7,5 +9,6 @@ pub mod Preference
 pub mod Proves
 pub mod Quasilinear
 pub mod Ranks
+pub mod StandardNumbers
 pub mod Walk
 pub mod Withheld

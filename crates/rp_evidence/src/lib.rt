@@ -1,6 +1,8 @@
 //! The evidence that a verdict comes with, and the definitions that every verdict is judged by.
 #![tactic(auto)]
 
+mod afriat;
+mod afriat_laws;
 mod certificate;
 mod laws;
 mod products;
@@ -8,6 +10,12 @@ mod quasilinear;
 mod relations;
 mod value_laws;
 
+pub use afriat::{AfriatPart, Numbers};
+pub use afriat_laws::{
+    fitting_numbers_pass_nowhere, models_exclude_violations, models_exist, observed_utilities,
+    standard_numbers_are_a_model, standard_numbers_are_unique, standard_numbers_exist,
+    utilities_are_unique, width_is_passed_first_once,
+};
 pub use certificate::{Certificate, Garp, Item, Kind, Level, withheld};
 pub use laws::{
     counts_are_unique, counts_respect, evidence_depends_on_observations,
