@@ -1,4 +1,5 @@
 pub mod Count
+pub mod Efficiency
 pub mod Garp
 pub mod Homothetic
 pub mod Preference

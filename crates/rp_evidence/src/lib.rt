@@ -2,11 +2,15 @@
 #![tactic(auto)]
 
 mod certificate;
+mod efficiency;
+mod efficiency_laws;
 mod laws;
 mod products;
 mod quasilinear;
 
 pub use certificate::{Certificate, Garp, Item, Kind, Level, withheld};
+pub use efficiency::Efficiency;
+pub use efficiency_laws::{efficiency_index_is_threshold, efficiency_index_is_unique};
 pub use laws::{
     counts_are_unique, counts_respect, evidence_depends_on_observed_costs,
     ordering_ranks_exclude_violations_below, ranks_exclude_violations, strict_counts_order,
