@@ -1,0 +1,6 @@
+//! The critical cost efficiency index, found by halving, with its evidence.
+#![tactic(auto)]
+
+mod ask;
+
+pub use ask::{Ask, first_true};
