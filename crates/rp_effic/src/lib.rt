@@ -2,5 +2,7 @@
 #![tactic(auto)]
 
 mod ask;
+mod ratio;
+mod ratios;
 
 pub use ask::{Ask, first_true};

@@ -1,20 +1,13 @@
 -- The efficiency index is the least greatest ratio over all closed walks.
-use Rattle.std.proofs.Common.{◌≡◌, ◌<◌, ◌≤◌, ◌*◌, ◌↔◌, inl, inr, ℕ, List, [], ◌∷◌, refl, ap, arith}
-use Rattle.std.proofs.Math.Nat.{lt_of_mul-lt-mul_left, mul-lt-mul_of_pos_left, eq_of_mul-eq-mul_right}
+use Rattle.std.proofs.Common.{◌≡◌, ◌<◌, ◌≤◌, ◌*◌, ◌↔◌, inl, inr, ℕ, List, [], ◌∷◌, refl, arith}
+use Rattle.std.proofs.Math.Nat.{lt_of_mul-lt-mul_left, mul-lt-mul_of_pos_left}
 use Rattle.rp_evidence.specs.Efficiency.{HasGreatestRatio, IsEfficiencyIndex, IsLeastGreatestRatio, IsRatio}
 use Rattle.rp_evidence.specs.Preference.{IsWeak}
 use Rattle.rp_evidence.specs.Walk.{IsClosedWalk, HasStep, HasStepFrom, LeadsTo}
 use Rattle.rp_evidence.proofs.Index.{NoLowerCycle, closed_rises, index_at_most, index_by_cycle, index_is_one}
 use Rattle.rp_evidence.proofs.IndexExists.{index_exists}
-use Rattle.rp_evidence.proofs.Ratios.{greatest_ratio, greatest_within, ratio_then_less}
+use Rattle.rp_evidence.proofs.Ratios.{greatest_ratio, greatest_within, ratio_same, ratio_then_less}
 use Rattle.rp_evidence.proofs.Walks.{has_weaker_step, starts_below}
-
--- a ratio that is one number with another
-ratio_same : (c : ℕ → ℕ → ℕ) (a b num den s t : ℕ) → 0 < b → a * den ≡ num * b → IsRatio c a b s t → IsRatio c num den s t
-ratio_same c a b num den s t pos same e =
-    let k : den * (b * c s t) ≡ den * (a * c s s) = ap (λ x. den * x) e in
-    let j : c s s * (a * den) ≡ c s s * (num * b) = ap (λ x. c s s * x) same in
-    eq_of_mul-eq-mul_right b pos (den * c s t) (num * c s s) (omega arith)
 
 module _ (n : ℕ) (c : ℕ → ℕ → ℕ) (some : 1 ≤ n) (positive : (s t : ℕ) → s < n → t < n → 0 < c s t) where
   own : (s : ℕ) → s < n → 0 < c s s

@@ -1,6 +1,6 @@
 -- The greatest ratio on a closed walk, and what follows from it at a level.
-use Rattle.std.proofs.Common.{◌≡◌, ◌<◌, ◌≤◌, ◌*◌, inl, inr, ℕ, List, [], ◌∷◌, refl, arith}
-use Rattle.std.proofs.Math.Nat.{le_of_mul-le-mul_left, lt_of_mul-lt-mul_left, mul-le-mul_left, mul-lt-mul_of_pos_left}
+use Rattle.std.proofs.Common.{◌≡◌, ◌<◌, ◌≤◌, ◌*◌, inl, inr, ℕ, List, [], ◌∷◌, refl, ap, arith}
+use Rattle.std.proofs.Math.Nat.{le_of_mul-le-mul_left, lt_of_mul-lt-mul_left, mul-le-mul_left, mul-lt-mul_of_pos_left, eq_of_mul-eq-mul_right}
 use Rattle.std.proofs.lemmas.Bool.{cases_lt}
 use Rattle.rp_evidence.specs.Efficiency.{HasGreatestRatio, IsRatio}
 use Rattle.rp_evidence.specs.Preference.{IsWeak}
@@ -21,6 +21,13 @@ ratio_then_less a b x y p q pos l m =
     let k : q * (a * y) ≤ q * (x * b) = mul-le-mul_left q l in
     let j : b * (x * q) < b * (p * y) = mul-lt-mul_of_pos_left m pos in
     lt_of_mul-lt-mul_left y (omega arith)
+
+-- a ratio that is one number with another
+pub ratio_same : (c : ℕ → ℕ → ℕ) (a b num den s t : ℕ) → 0 < b → a * den ≡ num * b → IsRatio c a b s t → IsRatio c num den s t
+ratio_same c a b num den s t pos same e =
+    let k : den * (b * c s t) ≡ den * (a * c s s) = ap (λ x. den * x) e in
+    let j : c s s * (a * den) ≡ c s s * (num * b) = ap (λ x. c s s * x) same in
+    eq_of_mul-eq-mul_right b pos (den * c s t) (num * c s s) (omega arith)
 
 module _ (n : ℕ) (c : ℕ → ℕ → ℕ) (positive : (s : ℕ) → s < n → 0 < c s s) where
   -- a step whose ratio is the greatest
