@@ -7,9 +7,15 @@ mod AfriatTries
 pub mod Counting
 pub mod Counts
 mod HomotheticTries
+pub mod Index
+pub mod IndexExists
+pub mod IndexThreshold
+mod IndexTries
 pub mod Levels
+pub mod Loops
 pub mod Places
 pub mod Reaching
+pub mod Ratios
 pub mod SameCosts
 pub mod SameItems
 pub mod SameProducts

@@ -2,6 +2,7 @@ pub mod Afriat
 pub mod AfriatEvidence
 pub mod Count
 pub mod First
+pub mod Efficiency
 pub mod Garp
 pub mod Homothetic
 pub mod Input

@@ -4,6 +4,8 @@
 mod afriat;
 mod afriat_laws;
 mod certificate;
+mod efficiency;
+mod efficiency_laws;
 mod laws;
 mod products;
 mod quasilinear;
@@ -17,6 +19,8 @@ pub use afriat_laws::{
     utilities_are_unique, width_is_passed_first_once,
 };
 pub use certificate::{Certificate, Garp, Item, Kind, Level, withheld};
+pub use efficiency::Efficiency;
+pub use efficiency_laws::{efficiency_index_is_threshold, efficiency_index_is_unique};
 pub use laws::{
     counts_are_unique, counts_respect, evidence_depends_on_observations,
     evidence_depends_on_observed_costs, ordering_ranks_exclude_violations_below,
