@@ -2,7 +2,7 @@
 -- itself; where it tells them, the content is these bytes.
 use Rattle.std.specs.Prelude.{◌≡◌, ℕ, ◌<◌, List, length, Option, Some, Ok, Err, IsOk, IsErr}
 use Rattle.std.specs.Option.{ForSome}
-use Rattle.rp_outside.specs.Files.{bytes_or_none}
+use Rattle.rp_outside.specs.SureDesk.{SureState, bytes_or_none}
 use Rattle.rp_run.specs.PairsText.{IsPairsText}
 use Rattle.rp_run.specs.Analysis.{IsAnalysisText}
 use Rattle.rp_run.specs.CommandLine.{Line, files_of, file_at}
@@ -15,8 +15,8 @@ abbrev pub Files : Type 0
 Files = List ℕ → Option (List ℕ)
 
 -- every file told, and one that is not there as empty
-abbrev pub all_told : List (List ℕ × List ℕ) → Files
-all_told files name = Some (bytes_or_none files name)
+abbrev pub all_told : SureState → Files
+all_told desk name = Some (bytes_or_none desk name)
 
 -- the file may hold these bytes: where its bytes are told, these are they
 abbrev pub IsContent : Files → List ℕ → List ℕ → Type 0
