@@ -1,6 +1,7 @@
 pub mod Count
 pub mod Garp
 pub mod Homothetic
+pub mod Demand
 pub mod Preference
 pub mod Proves
 pub mod Quasilinear
