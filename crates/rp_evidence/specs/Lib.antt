@@ -1,10 +1,16 @@
+pub mod Afriat
+pub mod AfriatEvidence
 pub mod Count
+pub mod First
+pub mod Efficiency
 pub mod Garp
 pub mod Homothetic
 pub mod Demand
+pub mod Input
 pub mod Preference
 pub mod Proves
 pub mod Quasilinear
 pub mod Ranks
+pub mod StandardNumbers
 pub mod Walk
 pub mod Withheld

@@ -4,7 +4,7 @@ use Rattle.std.proofs.lemmas.Bool.{cases_lt}
 use Rattle.std.proofs.lemmas.Nat.{mul-add-lt}
 use Rattle.std.proofs.Math.Nat.{eq-one_of_dvd-one, one-le-mul, mul-le-mul_left, mul-lt-mul_of_pos_right}
 use Rattle.std.specs.Prelude.{ℤ, pos, ◌*ℤ◌, ◌<ℤ◌}
-use Rattle.rp_num.specs.Fraction.{Fraction, IsLowestTerms, PassesWidth}
+use Rattle.rp_num.specs.Fraction.{Fraction, FitsWidth, IsLowestTerms, PassesWidth}
 use Rattle.rp_num.proofs.Lowest.{FitsWidth-divided, IsLowestTerms-divided, not_PassesWidth, same_lowest}
 use Rattle.rp_num.proofs.Coprime.{IsGcd-exists}
 use Rattle.rp_walk.specs.ExactTotal.{ExactTotal, IsLess, SameTotal}
@@ -98,6 +98,9 @@ IsLeastProduct-least n c positive s f terms least =
 
 abbrev pub AllLowest : ℕ → List Fraction → Type 0
 AllLowest n values = (s : ℕ) → s < n → IsLowestTerms (value_at values s).num (value_at values s).den (value_at values s)
+
+abbrev pub AllFit : ℕ → List Fraction → Type 0
+AllFit n values = (s : ℕ) → s < n → FitsWidth (value_at values s)
 
 abbrev pub AllLeast : ℕ → (ℕ → ℕ → ℕ) → List Fraction → Type 0
 AllLeast n c values = (s : ℕ) → s < n → IsLeast (products n c) s (as_total (value_at values s))
@@ -294,24 +297,27 @@ pair_fits n c positive limited s t hs ht = (
 
 -- ---- the verdicts
 
-pub GivesValues-settled : (n : ℕ) (c : ℕ → ℕ → ℕ) → Positive n c → (values : List Fraction) → AllLowest n values → SettlesInValues (products n c) FitsFraction as_total values → GivesValues n c values
-GivesValues-settled n c positive values terms h = record {
+pub GivesValues-settled : (n : ℕ) (c : ℕ → ℕ → ℕ) → Positive n c → (values : List Fraction) → AllLowest n values → AllFit n values → SettlesInValues (products n c) FitsFraction as_total values → GivesValues n c values
+GivesValues-settled n c positive values terms fit h = record {
   no_pair = NoPairFalls-breaks n c positive h.no_pair;
   none_too_wide = h.none_too_wide;
   holds = MeetsHomotheticTest-least n c positive (HasLeastTotals-values n c values (λ s hs. h.least s _ hs));
   one_each = h.one_each;
+  fit = fit;
   least = λ s hs. IsLeastProduct-least n c positive s (value_at values s) (terms s hs) (h.least s _ hs);
   steps_fit = λ t s ht hs.
       within_width (as_total (value_at values t)) (value_at values t).num (value_at values t).den (c t s) (c t t) refl
       (at_least_one-is (value_at values t).den (terms t ht).positive) (positive t s ht hs) (positive t t ht ht) (h.steps_fit t s _ ht hs);
 }
 
-pub GivesCycle-settled : (n : ℕ) (c : ℕ → ℕ → ℕ) → Positive n c → Limited n c → (start : Fraction) (walk : List ℕ) → IsLowestTerms start.num start.den start → SettlesInCycle (products n c) FitsFraction (as_total start) walk → GivesCycle n c start walk
-GivesCycle-settled n c positive limited start walk terms h =
+pub GivesCycle-settled : (n : ℕ) (c : ℕ → ℕ → ℕ) → Positive n c → Limited n c → (start : Fraction) (walk : List ℕ) → IsLowestTerms start.num start.den start → FitsWidth start → SettlesInCycle (products n c) FitsFraction (as_total start) walk → GivesCycle n c start walk
+GivesCycle-settled n c positive limited start walk terms fits h =
     let falls = falls_along n c positive start walk h.violation in
     record {
       closed = IsClosedWalk-violation n c (as_total start) walk h.violation;
+      simple = h.simple;
       lowest_terms = terms;
+      fits = fits;
       ends_below = ends_below_start c start walk falls.0 terms.positive falls.1;
       products_fit = products_fit h.comes;
       comes = comes h.comes;

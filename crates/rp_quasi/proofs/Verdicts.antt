@@ -2,10 +2,10 @@ use borrow.Author.Differences.{up, down}
 use mir.Syntax.{w128}
 use Rattle.std.proofs.Common.{◌+◌, ◌*◌, ◌^◌, ap, subst, ◌≡◌, ℕ, zero, suc, ◌<◌, ◌≤◌, arith, refl, sym, ◌∙◌, List, [], ◌∷◌, length, get_or, All, ◌⊎◌, inl, inr, lit<}
 use Rattle.std.proofs.lemmas.Int.{ints, by_lt_z}
-use Rattle.std.specs.Prelude.{ℤ, pos, negsuc, ◌+ℤ◌, ◌*ℤ◌, ◌<ℤ◌, ◌≤ℤ◌, FitsSigned}
+use Rattle.std.specs.Prelude.{ℤ, pos, neg_ℤ, negsuc, ◌+ℤ◌, ◌*ℤ◌, ◌<ℤ◌, ◌≤ℤ◌, FitsSigned}
 use Rattle.std.proofs.Math.Nat.{mul-lt-mul_of_pos_right, lt_of_mul-lt-mul_right, mul-le-mul_right}
 use Rattle.rp_walk.specs.ExactTotal.{ExactTotal, IsLess, SameTotal}
-use Rattle.rp_walk.specs.Walk.{IsWalk, StartsAlike, end_of, total_after}
+use Rattle.rp_walk.specs.Walk.{IsTotal, IsWalk, StartsAlike, end_of, total_after}
 use Rattle.rp_walk.specs.LeastTotals.{IsLeast}
 use Rattle.rp_walk.specs.Settled.{HasLeastTotals, IsViolation}
 use Rattle.rp_walk.specs.Outcome.{SettlesInWide}
@@ -13,10 +13,12 @@ use Rattle.rp_walk.proofs.Order.{not_more_trans, not_less-same}
 use Rattle.rp_walk.proofs.Walks.{IsTotal-here, IsTotal-further}
 use Rattle.rp_walk.proofs.Paths.{after-same}
 use Rattle.rp_walk.proofs.Central.{no_violation}
+use Rattle.rp_walk.proofs.Unbounded.{IsLeast-short}
 use Rattle.rp_evidence.specs.Walk.{IsClosedWalk, LeadsTo, IsWalk as AnyWalk}
 use Rattle.rp_evidence.specs.Quasilinear.{AnyStep, step_sum, sum_from, walk_sum, IsNegativeCycle, MeetsQuasilinearTest, IsLeastSum, BoundSteps}
 use Rattle.rp_quasi.specs.Sums.{FitsSum, sums, whole}
 use Rattle.rp_quasi.specs.SumLaws.{parts_of_sum, parts_times, sums_keep_order, sums_fit_alike}
+use Rattle.rp_quasi.specs.Verdict.{IsLimitedSum}
 use Rattle.rp_table.specs.Cost.{CostTable, IsCostTable, cost_at}
 use Rattle.std.proofs.lemmas.Bool.{cases_lt}
 use Rattle.std.proofs.lemmas.List.{get_or_past}
@@ -236,6 +238,30 @@ never_wide n c few limit k t s wide =
           fits_bound (sum_from c first rest +ℤ step_sum c t s) (omega (arith, ints)) (omega (arith, ints)),
           same total.num (step_sum c t s) (sum_from c first rest) total.den (den_after n c (whole (pos 0)) first rest) (num_after n c (whole (pos 0)) first rest),
         )
+
+-- a least sum is that of a walk with fewer steps than observations
+pub IsLimitedSum-least : (n : ℕ) (c : ℕ → ℕ → ℕ) → n ≤ 512 → ((i j : ℕ) → c i j < 2 ^ 51) → (s : ℕ) (z : ℤ) → s < n → IsLeast (sums n c) s (whole z) → IsLimitedSum z
+IsLimitedSum-least n c few limit s z hs least = record {
+  at_most_zero = at_most (pos 0) z (pos 0) 1 refl refl (least.lowest 0 (whole (pos 0)) (IsTotal-here (sums n c) s hs));
+  above = above short.1 short.2 short.3 short.4;
+}
+  where
+    short : (i : ℕ) × (y : ExactTotal) × (i < n) × IsTotal (sums n c) i s y × SameTotal y (whole z)
+    short = IsLeast-short (sums n c) (sums_keep_order n c) s (whole z) least
+
+    bounded : (v : ℤ) (k : ℕ) → k ≤ 511 → down v ≤ up v + k * 2 ^ 51 → neg_ℤ (pos (2 ^ 100)) <ℤ v
+    bounded v k few h =
+        let rows = mul-le-mul_right {m = k} {n = 511} (2 ^ 51) few in
+        omega (arith, ints)
+
+    above : {i : ℕ} (y : ExactTotal) → i < n → IsTotal (sums n c) i s y → SameTotal y (whole z) → neg_ℤ (pos (2 ^ 100)) <ℤ z
+    above y less total same =
+        let end = total_after (sums n c) (whole (pos 0)) total.first total.rest in
+        let sum = same_sum end.num z (sum_from c total.first total.rest) end.den
+        (den_after n c (whole (pos 0)) total.first total.rest) (num_after n c (whole (pos 0)) total.first total.rest)
+        (subst (λ (x : ExactTotal). SameTotal x (whole z)) (sym total.total) same) in
+        subst (λ v. neg_ℤ (pos (2 ^ 100)) <ℤ v) sum
+        (bounded (sum_from c total.first total.rest) (length total.rest) (omega (arith, total.steps)) (sum_bound c limit total.first total.rest).1)
 
 -- the costs of a table are below 2^51, wherever they are read
 pub costs_below : (costs : CostTable) → IsCostTable costs → (i j : ℕ) → cost_at costs i j < 2 ^ 51

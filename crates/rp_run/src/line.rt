@@ -1,24 +1,12 @@
 ghost use Rattle.std.specs.Prelude.{◌≡◌, map, option_map, string_bytes};
-ghost use Rattle.rp_run.specs.CommandLine.{line_of, table_line, table_of, is_file_name};
-ghost use Rattle.rp_run.specs.NamedLine.{named_line};
+ghost use Rattle.rp_run.specs.CommandLine.{line_of, table_line, is_file_name};
+ghost use Rattle.rp_run.specs.Named.{named_line};
 
 /// A command with its files, as the words name them.
 #[derive(Clone, Copy)]
 pub(crate) enum Line<'a> {
     Pairs { table: &'a str },
     Analyse { table: &'a str },
-}
-
-impl<'a> Line<'a> {
-    /// The file of the table that the line is about.
-    pub(crate) fn table(self) -> &'a str
-        ensures { table_of (named_line self.entry) ≡ result.now }
-    {
-        match self {
-            Line::Pairs { table } => table,
-            Line::Analyse { table } => table,
-        }
-    }
 }
 
 /// The line that the words denote. The first word is the program's name.

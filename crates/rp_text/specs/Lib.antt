@@ -2,6 +2,7 @@ pub mod Below
 pub mod Texts
 pub mod Columns
 pub mod Records
+pub mod Refusals
 pub mod Forms
 pub mod Headers
 pub mod Fields

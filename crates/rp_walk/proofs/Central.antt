@@ -1,8 +1,7 @@
 use Rattle.std.proofs.Common.{◌≡◌, ℕ, zero, suc, ◌+◌, ◌<◌, ◌≤◌, arith, ap, sym, ◌∙◌, refl, subst, List, [], ◌∷◌, length, get_or, All}
 use Rattle.rp_walk.specs.ExactTotal.{ExactTotal, IsLess}
-use Rattle.rp_walk.specs.Walk.{Steps, IsTotal, KeepsOrder, StartsAlike, end_of, total_after}
+use Rattle.rp_walk.specs.Walk.{prefix_total, Steps, IsTotal, KeepsOrder, StartsAlike, end_of, total_after}
 use Rattle.rp_walk.specs.LeastTotals.{IsLessThanShorter}
-use Rattle.rp_walk.specs.Level.{prefix_total}
 use Rattle.rp_walk.specs.Settled.{HasLeastTotals, IsViolation}
 use Rattle.rp_walk.proofs.Order.{less_not_more, not_more_less, not_less-same}
 use Rattle.rp_walk.proofs.Walks.{IsTotal-further}

@@ -1,13 +1,26 @@
 use Rattle.std.proofs.Common.{◌≡◌, ℕ, zero, suc, ◌+◌, ◌<◌, ◌≤◌, arith, ◌⊎◌, inl, inr, ap, sym, ◌∙◌, refl, subst, List, [], ◌∷◌, length, get_or, take, drop, All, drop-cons}
 use Rattle.std.proofs.lemmas.Bool.{cases_lt}
 use Rattle.rp_walk.specs.ExactTotal.{ExactTotal, IsLess, SameTotal}
-use Rattle.rp_walk.specs.Walk.{Steps, end_of, total_after, KeepsOrder}
+use Rattle.rp_walk.specs.Walk.{IsSimpleCycle, Steps, end_of, prefix_total, total_after, KeepsOrder}
 use Rattle.rp_walk.specs.LeastTotals.{IsLeastWithin, IsLive, NoneTooWide}
 use Rattle.rp_walk.specs.Settled.{IsViolation}
-use Rattle.rp_walk.specs.Level.{IsFound, prefix_total}
+use Rattle.rp_walk.specs.LevelWalk.{CameFrom, IsLevelWalk}
 use Rattle.rp_walk.proofs.Order.{less_not_more, not_more_less, not_less-same}
 use Rattle.rp_walk.proofs.Paths.{after-same, IsTotal-prefix, closed_part_below, live_less_shorter}
 use Rattle.rp_walk.proofs.Levels.{IsLeastWithin-zero}
+
+-- A walk that the levels found: p 0, p 1, .. to p k.
+pub record IsFound (w : Steps) (k : ℕ) (p : ℕ → ℕ) : Type 0 where
+  pub ends_within : p k < w.count
+  pub live : IsLive w k (p k)
+  pub came : (m : ℕ) → m < k → CameFrom w m (p (suc m)) (p m)
+
+pub IsFound-given : (w : Steps) (walk : List ℕ) → IsLevelWalk w walk → IsFound w w.count (λ m. get_or walk m 0)
+IsFound-given w walk given = record {
+  ends_within = given.ends.within;
+  live = given.ends.live;
+  came = given.came;
+}
 
 pub found_within : (w : Steps) (k : ℕ) (p : ℕ → ℕ) → IsFound w k p → (m : ℕ) → m ≤ k → p m < w.count
 found_within w k p found m h = by_cases (cases_lt m k)
@@ -123,3 +136,21 @@ drop-segment xs a (suc d) h =
     let below : a < length xs = omega arith in
     let rest = drop-segment xs (suc a) d (omega arith) in
     rw (drop-cons xs a 0) (ap (λ ys. get_or xs a 0 ∷ ys) rest)
+
+pub get_or-segment : (p : ℕ → ℕ) (a d i : ℕ) → i ≤ d → get_or (p a ∷ segment p a d) i 0 ≡ p (a + i)
+get_or-segment p a d zero few =
+    let e : a ≡ a + 0 = omega arith in ap p e
+get_or-segment p a zero (suc i) few = absurd (omega arith)
+get_or-segment p a (suc d) (suc i) few =
+    let e : suc a + i ≡ a + suc i = omega arith in
+    get_or-segment p (suc a) d i (omega arith) ∙ ap p e
+
+-- a closed part before whose end nothing repeats is a simple cycle
+pub IsSimpleCycle-part : (n : ℕ) (p : ℕ → ℕ) (a d : ℕ) → a + d ≤ n → ((i j : ℕ) → i < j → j < a + d → p i ≡ p j → ⊥) → IsSimpleCycle n (p a ∷ segment p a d)
+IsSimpleCycle-part n p a d few distinct = record {
+  few = omega (arith, length-segment p a d);
+  distinct = λ i j order inside same.
+      let below : j < d = omega (arith, length-segment p a d) in
+      distinct (a + i) (a + j) (omega arith) (omega arith)
+      (sym (get_or-segment p a d i (omega arith)) ∙ same ∙ get_or-segment p a d j (omega arith));
+}

@@ -15,6 +15,7 @@ IsNext-none w f from came still = record {
   taken = λ s hs h. absurd (clash s hs h);
   less = λ s hs h. absurd (clash s hs h);
   lowest = λ s t hs h live. absurd (omega arith);
+  first = λ s t hs h. absurd (clash s hs h);
 }
   where
     clash : (s : ℕ) → s < w.count → came s < w.count → ⊥
@@ -29,6 +30,7 @@ IsNext-idle w f from t g came next idle = record {
   taken = next.taken;
   less = next.less;
   lowest = λ s t' hs h live. lowest s t' hs h live (cases_lt t' t);
+  first = next.first;
 }
   where
     lowest : (s t' : ℕ) → s < w.count → t' < t + 1 → from t' < w.count → (t' < t) ⊎ (t ≤ t') → ¬ (IsLess (w.after (f t') t' s) (g s))
@@ -47,6 +49,7 @@ IsNext-more {V} w exact f from t old old_from new new_from x next ht live is_x t
   taken = λ s hs h. taken s hs h (choice s hs);
   less = λ s hs h. less s hs h (choice s hs);
   lowest = λ s t' hs h l. lowest s t' hs h l (cases_lt t' t);
+  first = λ s t' hs h before l. first s t' hs h before l (choice s hs);
 }
   where
     g : ℕ → ExactTotal
@@ -106,6 +109,15 @@ IsNext-more {V} w exact f from t old old_from new new_from x next ht live is_x t
     below_old s (inl p) =
         IsLess-asym (g' s) (g s) (not_more_less (g' s) (w.after x t s) (g s) (not_less-same (w.after x t s) (g' s) (sym p.1)) p.0)
     below_old s (inr p) = subst (λ (y : ExactTotal). ¬ (IsLess (g s) y)) (sym p.1) (IsLess-irrefl (g s))
+
+    first : (s t' : ℕ) → s < w.count → came' s < w.count → t' < came' s → from t' < w.count → Taken s ⊎ Kept s → IsLess (g' s) (w.after (f t') t' s)
+    first s t' hs h before l (inl p) =
+        less_not_more (g' s) (g s) (w.after (f t') t' s)
+        (not_more_less (g' s) (w.after x t s) (g s) (not_less-same (w.after x t s) (g' s) (sym p.1)) p.0)
+        (next.lowest s t' hs (omega (arith, p.2)) l)
+    first s t' hs h before l (inr p) =
+        subst (λ (y : ExactTotal). IsLess y (w.after (f t') t' s)) (sym p.1)
+        (next.first s t' hs (omega (arith, p.2)) (omega (arith, p.2)) l)
 
     at_t : (s : ℕ) → Taken s ⊎ Kept s → ¬ (IsLess (w.after x t s) (g' s))
     at_t s (inl p) = not_less-same (w.after x t s) (g' s) (sym p.1)

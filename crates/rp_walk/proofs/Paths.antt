@@ -1,8 +1,7 @@
 use Rattle.std.proofs.Common.{◌≡◌, ℕ, zero, suc, ◌+◌, ◌-◌, ◌<◌, ◌≤◌, arith, ◌⊎◌, inl, inr, sym, subst}
 use Rattle.rp_walk.specs.ExactTotal.{ExactTotal, IsLess, SameTotal}
-use Rattle.rp_walk.specs.Walk.{Steps, IsTotal, KeepsOrder}
+use Rattle.rp_walk.specs.Walk.{prefix_total, Steps, IsTotal, KeepsOrder}
 use Rattle.rp_walk.specs.LeastTotals.{IsLessThanShorter, IsLeastWithin, IsLive}
-use Rattle.rp_walk.specs.Level.{prefix_total}
 use Rattle.rp_walk.proofs.Order.{not_more_less, not_more_trans, less_or_not, not_less-same, same_not_less, less_not_more}
 use Rattle.rp_walk.proofs.Walks.{IsTotal-here, IsTotal-further}
 

@@ -5,7 +5,8 @@ use Rattle.std.proofs.Math.Nat.{mul-le-mul_right}
 use Rattle.rp_walk.specs.ExactTotal.{ExactTotal, SameTotal}
 use Rattle.rp_walk.specs.Walk.{Steps, KeepsOrder}
 use Rattle.rp_walk.specs.LeastTotals.{IsLive, IsLeast, IsLeastWithin, NoneTooWide, FitsAlike}
-use Rattle.rp_walk.specs.Level.{CameFrom, Remembers, IsLevel, totals_of}
+use Rattle.rp_walk.specs.Level.{Remembers, IsLevel, totals_of}
+use Rattle.rp_walk.specs.LevelWalk.{CameFrom, IsFirstLive}
 use Rattle.rp_walk.specs.Advance.{IsNextLevel, StopsAt}
 use Rattle.rp_walk.specs.Settled.{NoPairBreaks}
 use Rattle.rp_walk.specs.Outcome.{SettlesInValues, SettlesInWide}
@@ -129,3 +130,11 @@ SettlesInWide-run w keeps fits alike exact k t s values from history hk run h no
 -- past the last level
 pub NoneTooWide-run : {V : Type 0} (w : Steps) (fits : ExactTotal → Type 0) (exact : V → ExactTotal) (k : ℕ) (values : List V) (from history : List ℕ) → w.count ≤ k → IsRun w fits exact k values from history → NoneTooWide w fits
 NoneTooWide-run w fits exact k values from history past run = NoneTooWide-all w fits k past run.none_below
+
+-- the first observation that a level made less
+pub IsFirstLive-run : {V : Type 0} (w : Steps) (fits : ExactTotal → Type 0) (exact : V → ExactTotal) (k s : ℕ) (values : List V) (from history : List ℕ) → IsRun w fits exact k values from history → s < w.count → get_or from s 0 < w.count → ((i : ℕ) → i < s → w.count ≤ get_or from i 0) → IsFirstLive w k s
+IsFirstLive-run w fits exact k s values from history run hs better before = record {
+  within = hs;
+  live = run.level.live s hs better;
+  none_before = λ i i_before. idle_not_live w k (totals_of exact w.empty values) (λ m. get_or from m 0) i run.level (omega arith) (before i i_before);
+}

@@ -3,7 +3,8 @@ use Rattle.std.proofs.lemmas.Bool.{cases_lt}
 use Rattle.rp_walk.specs.ExactTotal.{ExactTotal, IsLess, SameTotal}
 use Rattle.rp_walk.specs.Walk.{Steps, IsTotal, KeepsOrder}
 use Rattle.rp_walk.specs.LeastTotals.{IsLeast, IsLive, IsTooWide, NoneTooWide, ComesBefore, IsFirstTooWide, FitsAlike}
-use Rattle.rp_walk.specs.Level.{IsLevel, IsNext, TriedFits, CameFrom}
+use Rattle.rp_walk.specs.Level.{IsLevel, IsNext, TriedFits}
+use Rattle.rp_walk.specs.LevelWalk.{CameFrom, Carries}
 use Rattle.rp_walk.proofs.Order.{not_more_trans, not_less-same}
 use Rattle.rp_walk.proofs.Walks.{IsTotal-further, IsTotal-parts, IsTotal-within}
 use Rattle.rp_walk.proofs.Paths.{after-not_less, after-same, same_least, IsLeastWithin-same}
@@ -143,4 +144,15 @@ CameFrom-next w keeps k f g from came s level next hs h = record {
       let steps = after-same w keeps (f (came s)) x (came s) s h hs same_x in
       let all = SameTotal-trans (g s) (w.after (f (came s)) (came s) s) (w.after x (came s) s) (next.taken s hs h) steps in
       IsLeastWithin-same w (suc k) s (g s) (w.after x (came s) s) (next_least w keeps k f g from came s level next hs) all;
+  first = λ t before live carries. first t before live carries (cases_lt (from t) w.count);
 }
+  where
+    -- what an earlier observation carries on is more than what was taken
+    first : (t : ℕ) → t < came s → IsLive w k t → Carries w k t s → (from t < w.count) ⊎ (w.count ≤ from t) → ⊥
+    first t before live carries (inl b) =
+        let ht : t < w.count = omega arith in
+        let here = carries (f t) (level.least t ht) in
+        let same = same_least w (suc k) s (g s) (w.after (f t) t s) (next_least w keeps k f g from came s level next hs) here in
+        not_less-same (g s) (w.after (f t) t s) same (next.first s t hs h before b)
+    first t before live carries (inr b) =
+        idle_not_live w k f from t level (omega arith) b live

@@ -2,16 +2,17 @@ use Rattle.std.proofs.Common.{◌≡◌, ℕ, zero, suc, ◌+◌, ◌-◌, ◌*�
 use Rattle.std.proofs.lemmas.List.{get_or-replicate, length-replicate}
 use Rattle.std.proofs.lemmas.Bool.{cases_lt}
 use Rattle.rp_walk.specs.ExactTotal.{ExactTotal, IsLess, SameTotal}
-use Rattle.rp_walk.specs.Walk.{Steps, total_after, KeepsOrder}
+use Rattle.rp_walk.specs.Walk.{IsSimpleCycle, Steps, prefix_total, total_after, KeepsOrder}
 use Rattle.rp_walk.specs.LeastTotals.{IsLive, NoneTooWide, FitsAlike, StepsFitAlong, WalkFits}
-use Rattle.rp_walk.specs.Level.{CameFrom, Remembers, IsFound, prefix_total}
+use Rattle.rp_walk.specs.Level.{Remembers}
+use Rattle.rp_walk.specs.LevelWalk.{CameFrom, IsFirstClosedPart, IsFirstLive, IsLevelWalk}
 use Rattle.rp_walk.specs.Settled.{IsFirstPair, NoPairBreaks, NoPartnerBelow, PairBreaks, IsViolation}
 use Rattle.rp_walk.specs.Outcome.{SettlesInCycle}
 use Rattle.rp_walk.proofs.Order.{less_not_more, not_more_less, not_less-same}
 use Rattle.rp_walk.proofs.Walks.{IsTotal-here}
 use Rattle.rp_walk.proofs.Paths.{after-same}
 use Rattle.rp_walk.proofs.Levels.{SameTotal-trans}
-use Rattle.rp_walk.proofs.Cycles.{found_within, found_fits, segment, drop-segment, IsViolation-part, total_after-same}
+use Rattle.rp_walk.proofs.Cycles.{IsFound, IsFound-given, IsSimpleCycle-part, found_within, found_fits, segment, drop-segment, IsViolation-part, total_after-same}
 use Rattle.rp_walk.proofs.Unbounded.{no_least_totals}
 
 -- ---- pairs
@@ -51,6 +52,7 @@ SettlesInCycle-pair w keeps fits start s t pair is_empty = record {
     start_reached = (0, w.empty, IsTotal-here w s hs, sym is_empty);
     ends_below = below;
   };
+  simple = record { few = omega (arith, pair.in_order, pair.within); distinct = apart };
   comes = inl (record { s = s; t = t; first_pair = pair; start_empty = is_empty; walk_is = refl });
 }
   where
@@ -61,6 +63,13 @@ SettlesInCycle-pair w keeps fits start s t pair is_empty = record {
     inside zero d b = pair.within
     inside (suc zero) d b = hs
     inside (suc (suc k)) d b = absurd (omega arith)
+
+    apart : (i j : ℕ) → i < j → j + 1 < 3 → get_or (s ∷ t ∷ s ∷ []) i 0 ≡ get_or (s ∷ t ∷ s ∷ []) j 0 → ⊥
+    apart zero zero order few same = absurd (omega arith)
+    apart zero (suc zero) order few same = omega (arith, pair.in_order, same)
+    apart zero (suc (suc j)) order few same = absurd (omega arith)
+    apart (suc i) zero order few same = absurd (omega arith)
+    apart (suc i) (suc j) order few same = absurd (omega arith)
 
     below : IsLess (total_after w start s (t ∷ s ∷ [])) start
     below =
@@ -76,32 +85,29 @@ SettlesInCycle-pair w keeps fits start s t pair is_empty = record {
 pub record IsTraced (w : Steps) (level : ℕ) (walk : List ℕ) : Type 0 where
   pub len : length walk ≡ w.count + 1
   pub level_in : level ≤ w.count
-  pub ends_within : get_or walk w.count 0 < w.count
-  pub ends_live : IsLive w w.count (get_or walk w.count 0)
+  pub ends : IsFirstLive w w.count (get_or walk w.count 0)
   pub within : get_or walk level 0 < w.count
   pub live : IsLive w level (get_or walk level 0)
   pub came : (m : ℕ) → level ≤ m → m < w.count → CameFrom w m (get_or walk (suc m) 0) (get_or walk m 0)
 
-pub IsTraced-none : (w : Steps) (end : ℕ) → end < w.count → IsLive w w.count end → IsTraced w w.count (replicate (w.count + 1) end)
-IsTraced-none w end below live =
+pub IsTraced-none : (w : Steps) (end : ℕ) → IsFirstLive w w.count end → IsTraced w w.count (replicate (w.count + 1) end)
+IsTraced-none w end first =
     let e : get_or (replicate (w.count + 1) end) w.count 0 ≡ end = get_or-replicate (w.count + 1) w.count end 0 (omega arith) in
-    let inside : get_or (replicate (w.count + 1) end) w.count 0 < w.count = omega arith in
-    let lives = subst (λ n. IsLive w w.count n) (sym e) live in
+    let ends = subst (λ n. IsFirstLive w w.count n) (sym e) first in
     record {
       len = length-replicate (w.count + 1) end;
       level_in = omega arith;
-      ends_within = inside;
-      ends_live = lives;
-      within = inside;
-      live = lives;
+      ends = ends;
+      within = ends.within;
+      live = ends.live;
       came = λ m from below. absurd (omega arith);
     }
 
-pub IsTraced-start : (w : Steps) (walk : List ℕ) (n m end : ℕ) → n ≡ w.count → m ≡ w.count → walk ≡ replicate (m + 1) end → end < w.count → IsLive w w.count end → IsTraced w n walk
-IsTraced-start w walk n m end is_n is_m is_walk below live =
+pub IsTraced-start : (w : Steps) (walk : List ℕ) (n m end : ℕ) → n ≡ w.count → m ≡ w.count → walk ≡ replicate (m + 1) end → IsFirstLive w w.count end → IsTraced w n walk
+IsTraced-start w walk n m end is_n is_m is_walk first =
     let whole = is_walk ∙ ap (λ k. replicate (k + 1) end) is_m in
     subst (λ k. IsTraced w k walk) (sym is_n)
-    (subst (λ (xs : List ℕ). IsTraced w w.count xs) (sym whole) (IsTraced-none w end below live))
+    (subst (λ (xs : List ℕ). IsTraced w w.count xs) (sym whole) (IsTraced-none w end first))
 
 pub IsTraced-back : (w : Steps) (history walk : List ℕ) (level from to v : ℕ) → IsTraced w level walk → 0 < level → from ≡ level - 1 → Remembers w w.count history → to ≡ get_or walk (from + 1) 0 → v ≡ get_or history (from * w.count + to) 0 → IsTraced w from (set walk from v)
 IsTraced-back w history walk level from to v h some is_from remembers is_to is_v =
@@ -119,8 +125,7 @@ IsTraced-back w history walk level from to v h some is_from remembers is_to is_v
     record {
       len = length-set walk from v ∙ h.len;
       level_in = omega arith;
-      ends_within = subst (λ m. m < w.count) (sym end_same) h.ends_within;
-      ends_live = subst (λ m. IsLive w w.count m) (sym end_same) h.ends_live;
+      ends = subst (λ m. IsFirstLive w w.count m) (sym end_same) h.ends;
       within = subst (λ m. m < w.count) (sym here) came.within;
       live = subst (λ m. IsLive w from m) (sym here) came.live;
       came = λ m lo hi. by_cases m lo hi (cases_lt from m)
@@ -137,10 +142,10 @@ IsTraced-back w history walk level from to v h some is_from remembers is_to is_v
         let e : from ≡ m = omega arith in
         subst (λ k. CameFrom w k (get_or (set walk from v) (suc k) 0) (get_or (set walk from v) k 0)) e came
 
-pub IsFound-traced : (w : Steps) (walk : List ℕ) (level : ℕ) → level ≡ 0 → IsTraced w level walk → IsFound w w.count (λ m. get_or walk m 0)
-IsFound-traced w walk level e h = record {
-  ends_within = h.ends_within;
-  live = h.ends_live;
+pub IsLevelWalk-traced : (w : Steps) (walk : List ℕ) (level : ℕ) → level ≡ 0 → IsTraced w level walk → IsLevelWalk w walk
+IsLevelWalk-traced w walk level e h = record {
+  one_more = h.len;
+  ends = h.ends;
   came = λ m below. h.came m (omega arith) below;
 }
 
@@ -173,8 +178,13 @@ StepsFitAlong-part w keeps fits alike p found none a (suc d) x few same =
       StepsFitAlong-part w keeps fits alike p found none (suc a) d (w.after x (p a) (p (suc a))) (omega arith) steps,
     )
 
-pub SettlesInCycle-cut : (w : Steps) (keeps : KeepsOrder w) (fits : ExactTotal → Type 0) (alike : FitsAlike fits) (start : ExactTotal) (walk steps : List ℕ) (a b end : ℕ) → IsFound w w.count (λ m. get_or walk m 0) → length walk ≡ w.count + 1 → a < b → b < length walk → get_or walk a 0 ≡ get_or walk b 0 → SameTotal (prefix_total w (λ m. get_or walk m 0) a) start → steps ≡ take (b + 1 - a) (drop a walk) → NoPairBreaks w → NoneTooWide w fits → end < w.count → IsLive w w.count end → SettlesInCycle w fits start steps
-SettlesInCycle-cut w keeps fits alike start walk steps a b end found len order inside same is_start is_steps no_pair none hs live =
+pub SettlesInCycle-cut : (w : Steps) (keeps : KeepsOrder w) (fits : ExactTotal → Type 0) (alike : FitsAlike fits) (start : ExactTotal) (walk steps : List ℕ) (a b : ℕ) → IsLevelWalk w walk → IsFirstClosedPart walk a b → SameTotal (prefix_total w (λ m. get_or walk m 0) a) start → steps ≡ take (b + 1 - a) (drop a walk) → NoPairBreaks w → NoneTooWide w fits → SettlesInCycle w fits start steps
+SettlesInCycle-cut w keeps fits alike start walk steps a b given first is_start is_steps no_pair none =
+    let found = IsFound-given w walk given in
+    let len = given.one_more in
+    let order = first.in_order in
+    let inside = first.in_walk in
+    let same = first.closed in
     let d : ℕ = b - a in
     let e : b ≡ a + d = omega arith in
     let n : b + 1 - a ≡ suc d = omega arith in
@@ -183,11 +193,14 @@ SettlesInCycle-cut w keeps fits alike start walk steps a b end found len order i
     is_steps ∙ ap (λ m. take m (drop a walk)) n ∙ drop-segment walk a d (omega arith) in
     record {
       violation = subst (λ (xs : List ℕ). IsViolation w start xs) (sym list) part;
+      simple = subst (λ (xs : List ℕ). IsSimpleCycle w.count xs) (sym list)
+          (IsSimpleCycle-part w.count (λ m. get_or walk m 0) a d (omega arith) (λ i j i_first below. first.first i j i_first (omega arith)));
       comes = inr (record {
         no_pair = no_pair;
         none_too_wide = none;
-        no_least = no_least_totals w keeps end hs live;
+        no_least = no_least_totals w keeps (get_or walk w.count 0) given.ends.within given.ends.live;
         steps_fit = subst (λ (xs : List ℕ). WalkFits w fits start xs) (sym list)
             (StepsFitAlong-part w keeps fits alike (λ m. get_or walk m 0) found none a d start (omega arith) is_start);
+        first_part = record { walk = walk; is_given = given; a = a; b = b; first_part = first; cycle_is = is_steps; start_is = is_start };
       });
     }

@@ -1,12 +1,11 @@
 use Rattle.std.proofs.Common.{◌≡◌, ℕ, zero, suc, ◌+◌, ◌-◌, ◌<◌, ◌≤◌, arith, ◌⊎◌, inl, inr, ap, sym, ◌∙◌, subst, List, [], ◌∷◌, length, get_or, take, All}
 use Rattle.std.proofs.Math.Seq.{take-length}
 use Rattle.std.proofs.lemmas.Bool.{cases_lt}
-use Rattle.rp_walk.specs.ExactTotal.{ExactTotal, IsLess}
-use Rattle.rp_walk.specs.Walk.{Steps, IsTotal, end_of, total_after, KeepsOrder}
-use Rattle.rp_walk.specs.LeastTotals.{IsLive}
+use Rattle.rp_walk.specs.ExactTotal.{ExactTotal, IsLess, SameTotal}
+use Rattle.rp_walk.specs.Walk.{prefix_total, Steps, IsTotal, end_of, total_after, KeepsOrder}
+use Rattle.rp_walk.specs.LeastTotals.{IsLeast, IsLive}
 use Rattle.rp_walk.specs.Settled.{HasLeastTotals}
-use Rattle.rp_walk.specs.Level.{prefix_total}
-use Rattle.rp_walk.proofs.Order.{IsLess-irrefl, not_more_trans, not_less-same}
+use Rattle.rp_walk.proofs.Order.{IsLess-irrefl, not_more_trans, not_less-same, same_not_less}
 use Rattle.rp_walk.proofs.Walks.{All-cons}
 use Rattle.rp_walk.proofs.Paths.{IsTotal-prefix, follow}
 use Rattle.rp_walk.proofs.Cycles.{segment, drop-segment, end_of-segment, total_after-segment}
@@ -116,3 +115,12 @@ no_least_totals w keeps s hs (inr (x, y, hx, hy, less)) all =
     let a = not_more_trans r.1 q.1 x above (not_less-same x q.1 (sym q.4)) in
     let b = not_more_trans short.1 r.1 x short.4 a in
     not_more_trans y short.1 x not_y b less
+
+-- a least total is that of a walk with fewer steps than there are observations
+pub IsLeast-short : (w : Steps) (keeps : KeepsOrder w) (s : ℕ) (x : ExactTotal) → IsLeast w s x → (i : ℕ) × (z : ExactTotal) × (i < w.count) × IsTotal w i s z × SameTotal z x
+IsLeast-short w keeps s x least =
+    let r = least.reached in
+    let lowest : IsLowest w s r.1 = λ j z reached. not_more_trans r.1 x z (not_less-same x r.1 (sym r.3)) (least.lowest j z reached) in
+    let short = HasShort-lowest w keeps (suc r.0) r.0 s r.1 (omega arith) r.2 lowest in
+    let above = not_more_trans short.1 r.1 x short.4 (not_less-same x r.1 (sym r.3)) in
+    (short.0, short.1, short.2, short.3, same_not_less short.1 x (least.lowest short.0 short.1 short.3) above)

@@ -1,7 +1,8 @@
-use Rattle.std.specs.Prelude.{◌≡◌, ℕ, zero, suc, ◌+◌, ◌*◌, ◌-◌, ◌<◌, ◌≤◌, List, length, map, slice_index, slice_index_or}
+use Rattle.std.specs.Prelude.{◌≡◌, ℕ, suc, ◌+◌, ◌*◌, ◌-◌, ◌<◌, ◌≤◌, List, length, map, slice_index, slice_index_or}
 use Rattle.rp_walk.specs.ExactTotal.{ExactTotal, IsLess, SameTotal}
 use Rattle.rp_walk.specs.Walk.{Steps}
 use Rattle.rp_walk.specs.LeastTotals.{IsLeastWithin, IsLive}
+use Rattle.rp_walk.specs.LevelWalk.{CameFrom}
 
 -- The exact totals that a list of values stands for, by observation.
 abbrev pub totals_of : {V : Type 0} → (V → ExactTotal) → ExactTotal → List V → ℕ → ExactTotal
@@ -22,17 +23,12 @@ pub record IsNext (w : Steps) (total : ℕ → ExactTotal) (from : ℕ → ℕ) 
   pub taken : (s : ℕ) → s < w.count → came s < w.count → SameTotal (next s) (w.after (total (came s)) (came s) s)
   pub less : (s : ℕ) → s < w.count → came s < w.count → IsLess (next s) (total s)
   pub lowest : (s t : ℕ) → s < w.count → t < tried → from t < w.count → ¬ (IsLess (w.after (total t) t s) (next s))
+  pub first : (s t : ℕ) → s < w.count → came s < w.count → t < came s → from t < w.count → IsLess (next s) (w.after (total t) t s)
 
 -- The steps from the observations below `tried` that can matter fit.
 abbrev pub TriedFits : Steps → (ExactTotal → Type 0) → (ℕ → ExactTotal) → (ℕ → ℕ) → ℕ → Type 0
 TriedFits w fits total from tried =
     (t s : ℕ) → t < tried → s < w.count → from t < w.count → ¬ (¬ (fits (w.after (total t) t s)))
-
--- A least walk of k + 1 steps to s comes from t.
-pub record CameFrom (w : Steps) (k s t : ℕ) : Type 0 where
-  pub within : t < w.count
-  pub live : IsLive w k t
-  pub carries : (x : ExactTotal) → IsLeastWithin w k t x → IsLeastWithin w (suc k) s (w.after x t s)
 
 -- The steps from t with the total x were tried to the observations below `tried`: each is taken where
 -- it is less than what stood there.
@@ -55,14 +51,3 @@ StepsFit w fits x t tried = (s : ℕ) → s < tried → ¬ (¬ (fits (w.after x 
 abbrev pub Remembers : Steps → ℕ → List ℕ → Type 0
 Remembers w levels history =
     (k s : ℕ) → k < levels → s < w.count → IsLive w (suc k) s → CameFrom w k s (slice_index history (k * w.count + s))
-
--- A walk that the levels found: p 0, p 1, .. to p k.
-pub record IsFound (w : Steps) (k : ℕ) (p : ℕ → ℕ) : Type 0 where
-  pub ends_within : p k < w.count
-  pub live : IsLive w k (p k)
-  pub came : (m : ℕ) → m < k → CameFrom w m (p (suc m)) (p m)
-
--- The total of the walk that goes through p 0, p 1, .. to p m.
-abbrev pub prefix_total : Steps → (ℕ → ℕ) → ℕ → ExactTotal
-prefix_total w p zero = w.empty
-prefix_total w p (suc m) = w.after (prefix_total w p m) (p m) (p (suc m))

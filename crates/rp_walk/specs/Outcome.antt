@@ -1,7 +1,8 @@
 use Rattle.std.specs.Prelude.{◌≡◌, ℕ, ◌<◌, ◌⊎◌, List, [], ◌∷◌, length, slice_index_or}
 use Rattle.rp_walk.specs.ExactTotal.{ExactTotal, SameTotal}
-use Rattle.rp_walk.specs.Walk.{Steps}
+use Rattle.rp_walk.specs.Walk.{IsSimpleCycle, Steps}
 use Rattle.rp_walk.specs.LeastTotals.{IsLeast, IsFirstTooWide, NoneTooWide, WalkFits}
+use Rattle.rp_walk.specs.LevelWalk.{IsCutFromLevels}
 use Rattle.rp_walk.specs.Settled.{IsFirstPair, NoPairBreaks, IsViolation, HasLeastTotals}
 use Rattle.rp_walk.specs.declared.outcome.Settled.{Settled}
 use Rattle.rp_walk.specs.declared.outcome.Settled.TheVariants.{Values, Cycle, Wide}
@@ -24,16 +25,18 @@ pub record IsPairCycle (w : Steps) (start : ExactTotal) (walk : List ℕ) : Type
   pub walk_is : walk ≡ s ∷ t ∷ s ∷ []
 
 -- No pair breaks and no triple is too wide, but some observation has no least total over the walks of
--- any length. Each step along the cycle fits.
+-- any length. Each step along the cycle fits. It is the first closed part of the walk that the levels give.
 pub record IsLongCycle (w : Steps) (fits : ExactTotal → Type 0) (start : ExactTotal) (walk : List ℕ) : Type 0 where
   pub no_pair : NoPairBreaks w
   pub none_too_wide : NoneTooWide w fits
   pub no_least : ¬ (HasLeastTotals w)
   pub steps_fit : WalkFits w fits start walk
+  pub first_part : IsCutFromLevels w start walk
 
--- A closed walk that ends below its start, and when it comes.
+-- A closed walk that ends below its start and goes through no observation twice, and when it comes.
 pub record SettlesInCycle (w : Steps) (fits : ExactTotal → Type 0) (start : ExactTotal) (walk : List ℕ) : Type 0 where
   pub violation : IsViolation w start walk
+  pub simple : IsSimpleCycle w.count walk
   pub comes : IsPairCycle w start walk ⊎ IsLongCycle w fits start walk
 
 -- No pair breaks, and this is the first triple that is too wide.

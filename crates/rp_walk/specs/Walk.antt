@@ -1,4 +1,4 @@
-use Rattle.std.specs.Prelude.{◌≡◌, ℕ, ◌<◌, ◌↔◌, List, [], ◌∷◌, length, All}
+use Rattle.std.specs.Prelude.{◌≡◌, ◌≢◌, ℕ, zero, suc, ◌+◌, ◌<◌, ◌≤◌, ◌↔◌, List, [], ◌∷◌, length, All, slice_index}
 use Rattle.rp_walk.specs.ExactTotal.{ExactTotal, IsLess}
 
 -- What a kind of total says of walks over `count` observations: the total of a walk of no step, and
@@ -28,6 +28,11 @@ abbrev pub total_after : Steps → ExactTotal → ℕ → List ℕ → ExactTota
 total_after w x s [] = x
 total_after w x s (t ∷ rest) = total_after w (w.after x s t) t rest
 
+-- The total of the walk that goes through p 0, p 1, .. to p m.
+abbrev pub prefix_total : Steps → (ℕ → ℕ) → ℕ → ExactTotal
+prefix_total w p zero = w.empty
+prefix_total w p (suc m) = w.after (prefix_total w p m) (p m) (p (suc m))
+
 -- Some walk of k steps ends at s with the total x, from the empty total at its beginning.
 pub record IsTotal (w : Steps) (k s : ℕ) (x : ExactTotal) : Type 0 where
   pub first : ℕ
@@ -36,6 +41,12 @@ pub record IsTotal (w : Steps) (k s : ℕ) (x : ExactTotal) : Type 0 where
   pub steps : length rest ≡ k
   pub ends : end_of first rest ≡ s
   pub total : total_after w w.empty first rest ≡ x
+
+-- A cycle over n observations goes through none twice: its entries before the last differ, and there are at most
+-- n + 1 with the last.
+pub record IsSimpleCycle (n : ℕ) (walk : List ℕ) : Type 0 where
+  pub few : length walk ≤ n + 1
+  pub distinct : (i j : ℕ) → i < j → j + 1 < length walk → slice_index walk i ≢ slice_index walk j
 
 -- Whether a closed walk ends below its start is the same for every start that a walk reaches, as it is
 -- for sums and for products of positive numbers.

@@ -1,9 +1,11 @@
-ghost use Rattle.std.specs.Prelude.{◌≡◌, ◌≢◌, ℕ, suc, ◌+◌, ◌*◌, ◌<◌, ◌≤◌, IfOk, IfSome, IfNone, All, length, slice_index};
+ghost use Rattle.std.specs.Prelude.{◌≡◌, ℕ, suc, ◌*◌, ◌<◌, IfOk, IfSome, IfNone, All, length, slice_index};
 ghost use Rattle.rp_walk.specs.ExactTotal.{SameTotal};
-ghost use Rattle.rp_walk.specs.Level.{IsFound, Remembers, prefix_total};
-ghost use Rattle.rp_walk.specs.LeastTotals.{IsLive, NoneTooWide};
+ghost use Rattle.rp_walk.specs.Level.{Remembers};
+ghost use Rattle.rp_walk.specs.LeastTotals.{NoneTooWide};
+ghost use Rattle.rp_walk.specs.LevelWalk.{IsFirstClosedPart, IsFirstLive, IsLevelWalk};
 ghost use Rattle.rp_walk.specs.Outcome.{IsSettled};
 ghost use Rattle.rp_walk.specs.Settled.{IsFirstPair, NoPairBreaks, NoPartnerBelow, PairBreaks};
+ghost use Rattle.rp_walk.specs.Walk.{prefix_total};
 
 use crate::level::filled;
 use crate::outcome::Settled;
@@ -71,8 +73,7 @@ pub(crate) fn cycle_within<T: Total>(
 ) -> Result<Settled<T::Value>, NoMemory>
     requires history_len { length history.now ≡ (T.steps total.now).count * (T.steps total.now).count }
     requires remembers { Remembers (T.steps total.now) (T.steps total.now).count history.now }
-    requires end_in { end < (T.steps total.now).count }
-    requires end_live { IsLive (T.steps total.now) (T.steps total.now).count end }
+    requires end_first { IsFirstLive (T.steps total.now) (T.steps total.now).count end }
     requires no_pair { NoPairBreaks (T.steps total.now) }
     requires none_too_wide { NoneTooWide (T.steps total.now) T.fits }
     ensures { IfOk result (IsSettled (T.steps total.now) T.fits T.exact) }
@@ -96,11 +97,8 @@ fn walk_back<T: Total>(
 ) -> Result<Vec<u32>, NoMemory>
     requires history_len { length history.now ≡ (T.steps total.now).count * (T.steps total.now).count }
     requires remembers { Remembers (T.steps total.now) (T.steps total.now).count history.now }
-    requires end_in { end < (T.steps total.now).count }
-    requires end_live { IsLive (T.steps total.now) (T.steps total.now).count end }
-    ensures len { IfOk result (λ walk. length walk.items ≡ (T.steps total.now).count + 1) }
-    ensures found { IfOk result (λ walk.
-        IsFound (T.steps total.now) (T.steps total.now).count (slice_index walk.items)) }
+    requires end_first { IsFirstLive (T.steps total.now) (T.steps total.now).count end }
+    ensures { IfOk result (λ walk. IsLevelWalk (T.steps total.now) walk.items) }
 {
     let n = total.n() as usize;
     let mut walk = filled(alloc, total.n() + 1, end)?;
@@ -117,11 +115,7 @@ fn walk_back<T: Total>(
 fn first_closed_part(alloc: Global, walk: &[u32], n: u32) -> Result<(usize, usize), NoMemory>
     requires within { All (λ s. s < n) walk.now }
     requires long { n < length walk.now }
-    ensures in_order { IfOk result (λ part. part.0 < part.1) }
-    ensures in_walk { IfOk result (λ part. part.1 < length walk.now) }
-    ensures closed { IfOk result (λ part. slice_index walk.now part.0 ≡ slice_index walk.now part.1) }
-    ensures first { IfOk result (λ part. (i j : ℕ) → i < j → j < part.1
-        → slice_index walk.now i ≢ slice_index walk.now j) }
+    ensures { IfOk result (λ part. IsFirstClosedPart walk.now part.0 part.1) }
 {
     let mut place = vec![in alloc; walk.len(); n as usize]?;
     for i in 0..walk.len() {

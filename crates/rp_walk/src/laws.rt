@@ -2,9 +2,8 @@
 ghost use Rattle.std.specs.Prelude.{◌≡◌, ℕ, ◌+◌, ◌<◌, ◌≤◌, List};
 ghost use Rattle.rp_walk.specs.ExactTotal.{ExactTotal, IsLess};
 ghost use Rattle.rp_walk.specs.LeastTotals.{IsLessThanShorter};
-ghost use Rattle.rp_walk.specs.Level.{prefix_total};
 ghost use Rattle.rp_walk.specs.Settled.{HasLeastTotals, IsViolation};
-ghost use Rattle.rp_walk.specs.Walk.{KeepsOrder, StartsAlike, Steps};
+ghost use Rattle.rp_walk.specs.Walk.{KeepsOrder, StartsAlike, Steps, prefix_total};
 
 /// A walk of as many steps as there are observations, p 0, p 1, .. to p n, whose total is less than
 /// that of every walk with fewer steps to its end, holds a closed part that ends below its start.

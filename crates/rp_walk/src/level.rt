@@ -50,6 +50,7 @@ impl<V: Copy> Level<V> {
         requires { vec_len self.now.from ≡ n }
         ensures within { IfSome result (λ s. s < n) }
         ensures improved { IfSome result (λ s. slice_index self.now.from.items s < n) }
+        ensures first { IfSome result (λ s. (i : ℕ) → i < s → n ≤ slice_index self.now.from.items i) }
         ensures none { IfNone result ((s : ℕ) → s < n → n ≤ slice_index self.now.from.items s) }
     {
         for s in 0..n {

@@ -1,6 +1,6 @@
 use Rattle.std.proofs.Common.{arith, ◌≤◌}
 use Rattle.rp_table.specs.Cost.{cost_at}
-use Rattle.rp_quasi.proofs.Verdicts.{IsLeastSum-least, HasLeastTotals-values, MeetsQuasilinearTest-least, IsNegativeCycle-violation, BoundSteps-least, never_wide, costs_below}
+use Rattle.rp_quasi.proofs.Verdicts.{IsLeastSum-least, HasLeastTotals-values, MeetsQuasilinearTest-least, IsNegativeCycle-violation, BoundSteps-least, IsLimitedSum-least, never_wide, costs_below}
 use Rattle.rp_quasi.proofs.verdict.quasilinear.Goals as goal
 
 pub unreachable-requires : goal.unreachable-requires
@@ -13,8 +13,13 @@ unreachable-requires c =
 pub returns-in-Values-clause-verdict : goal.returns-in-Values-clause-verdict
 returns-in-Values-clause-verdict c =
     let costs = c.args.costs.now in
+    let few : costs.n ≤ 512 = omega (arith, c.n-n.ensures.valid.few) in
     let h = rw c.in-Values.is at c.in_ok-values.ensures in (
-      record { one_each = h.one_each; least = λ s hs. IsLeastSum-least costs.n (cost_at costs) s _ (h.least s _ hs) },
+      record {
+        one_each = h.one_each;
+        least = λ s hs. IsLeastSum-least costs.n (cost_at costs) s _ (h.least s _ hs);
+        limits = λ s hs. IsLimitedSum-least costs.n (cost_at costs) few (costs_below costs c.n-n.ensures.valid) s _ hs (h.least s _ hs);
+      },
       MeetsQuasilinearTest-least costs.n (cost_at costs) (HasLeastTotals-values costs.n (cost_at costs) c.in-Values.values h.least),
     )
 
@@ -30,7 +35,7 @@ pub returns-in-Cycle-clause-verdict : goal.returns-in-Cycle-clause-verdict
 returns-in-Cycle-clause-verdict c =
     let costs = c.args.costs.now in
     let h = rw c.in-Cycle.is at c.in_ok-values.ensures in
-    IsNegativeCycle-violation costs.n (cost_at costs) _ c.in-Cycle.steps h.violation
+    (IsNegativeCycle-violation costs.n (cost_at costs) _ c.in-Cycle.steps h.violation, h.simple)
 
 pub returns-in-Cycle-clause-proves : goal.returns-in-Cycle-clause-proves
 returns-in-Cycle-clause-proves c =

@@ -1,6 +1,6 @@
 use Rattle.std.proofs.Common.{get_or}
 use Rattle.rp_walk.specs.ExactTotal.{SameTotal}
-use Rattle.rp_walk.specs.Level.{prefix_total}
+use Rattle.rp_walk.specs.Walk.{prefix_total}
 use Rattle.rp_walk.proofs.cycle.total_at.Given as goal
 
 abbrev pub invariant-loop-i : goal.invariant-loop-i

@@ -6,7 +6,7 @@ use Rattle.rp_walk.proofs.cycle.walk_back.Goals as goal
 pub loop-level-init : goal.loop-level-init
 loop-level-init g c =
     IsTraced-start (g.T.Total.steps c.args.total.now) _ _ _ c.args.end c.n-n.ensures.value c.n.ensures.value c.in_ok-walk.ensures
-    c.requires.end_in c.requires.end_live
+    c.requires.end_first
 
 pub loop-level-preserved : goal.loop-level-preserved
 loop-level-preserved g c =

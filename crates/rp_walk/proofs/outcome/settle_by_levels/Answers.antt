@@ -1,7 +1,7 @@
 use Rattle.std.proofs.Common.{arith, ◌≡◌, ◌<◌, get_or, sym, subst, List, ℕ, ◌+◌, ◌++◌, ◌∙◌, ap, add-one}
-use Rattle.rp_walk.specs.LeastTotals.{IsLive}
+use Rattle.rp_walk.specs.LevelWalk.{IsFirstLive}
 use Rattle.rp_walk.specs.Level.{Remembers}
-use Rattle.rp_walk.proofs.Runs.{IsRun-start, IsRun-next, SettlesInValues-run, SettlesInWide-run, NoneTooWide-run}
+use Rattle.rp_walk.proofs.Runs.{IsRun-start, IsRun-next, SettlesInValues-run, SettlesInWide-run, NoneTooWide-run, IsFirstLive-run}
 use Rattle.rp_walk.proofs.outcome.settle_by_levels.Goals as goal
 
 pub loop-steps-init : goal.loop-steps-init
@@ -41,14 +41,16 @@ cycle_within-requires-clause-remembers g c =
     let all = subst (λ k. Remembers w k c.loop-steps.history.items) e c.loop-steps.invariant.remembers in
     subst (λ (xs : List ℕ). Remembers w w.count xs) (sym c.as_slice-in-Some-first_improved.ensures.value) all
 
-pub cycle_within-requires-clause-end_live : goal.cycle_within-requires-clause-end_live
-cycle_within-requires-clause-end_live g c =
+pub cycle_within-requires-clause-end_first : goal.cycle_within-requires-clause-end_first
+cycle_within-requires-clause-end_first g c =
     let w = g.T.Total.steps c.args.total.now in
     let end = c.in-Some-first_improved.end in
     let e : c.loop-steps.steps ≡ w.count = omega (arith, c.loop-steps-test.false, c.loop-steps.auto.steps-end, c.n-n.ensures.value) in
     let below : end < w.count = omega (arith, c.in-Some-first_improved.ensures.within, c.n-n.ensures.value) in
     let better : get_or c.loop-steps.level.from.items end 0 < w.count = omega (arith, c.in-Some-first_improved.ensures.improved, c.n-n.ensures.value) in
-    subst (λ k. IsLive w k end) e (c.loop-steps.invariant.level.live end below better)
+    subst (λ k. IsFirstLive w k end) e
+    (IsFirstLive-run w g.T.Total.fits g.T.Total.exact c.loop-steps.steps end _ _ _ c.loop-steps.invariant below better
+    (λ i before. omega (arith, c.in-Some-first_improved.ensures.first i before, c.n-n.ensures.value)))
 
 pub cycle_within-requires-clause-none_too_wide : goal.cycle_within-requires-clause-none_too_wide
 cycle_within-requires-clause-none_too_wide g c =

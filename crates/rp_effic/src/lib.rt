@@ -1,0 +1,8 @@
+//! The critical cost efficiency index, found by halving, with its evidence.
+#![tactic(auto)]
+
+mod ask;
+mod ratio;
+mod ratios;
+
+pub use ask::{Ask, first_true};
