@@ -48,7 +48,7 @@ module _ (input : TableInput) (budget : NewBudget) (sound : MeetsGarp input.n in
         omega arith
 
     respect : RespectPreference input.n (IsWeak input.cost 1 1) (IsStrict input.cost 1 1) counts
-    respect = counts_respect_preference input.n (IsWeak input.cost 1 1) (IsStrict input.cost 1 1) (λ a b. strict_to_weak input.cost 1 1 a b) counts are sound
+    respect = counts_respect_preference input.n (IsWeak input.cost 1 1) (IsStrict input.cost 1 1) (λ a b a_in b_in. strict_to_weak input.cost 1 1 a b) counts are sound
 
     -- what leads to t has at least its count, and more where a step is strict
     led : (t : ℕ) (below : IsBelow input budget t) → (below.from < input.n) × (slice_index counts t ≤ slice_index counts below.from)
