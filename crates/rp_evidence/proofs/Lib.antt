@@ -9,6 +9,7 @@ pub mod Counts
 mod HomotheticTries
 pub mod DemandLaws
 pub mod DemandMixtures
+mod DemandTries
 pub mod InnerDemand
 pub mod Index
 pub mod IndexExists
