@@ -1,8 +1,8 @@
 -- The laws of supporting demand, in the words of its definitions.
-use Rattle.std.proofs.Common.{◌≡◌, ◌<◌, ◌≤◌, ◌+◌, ◌*◌, ◌⊎◌, ◌↔◌, inl, inr, ℕ, List, [], ◌∷◌, ◌++◌, refl, sym, subst, ◌∙◌, ap, arith, ltb, cond, Bool, true, false}
-use Rattle.std.proofs.lemmas.Bool.{cases_lt, lt-ltb, le-ltb}
-use Rattle.rp_evidence.specs.Demand.{NewBudget, FractionBundle, IsOnBudget, IsSupportingDemand, IsBelow, IsStrictlyBelow, CostsEnough, CostsMore, Buys, BuysWithRest, enlarged, spending}
-use Rattle.rp_evidence.specs.Garp.{IsViolationAt, MeetsGarp}
+use Rattle.std.proofs.Common.{◌≡◌, ◌<◌, ◌⊎◌, ◌↔◌, inl, inr, ℕ, List, [], ◌∷◌, refl, subst, ◌∙◌, ap, arith, ltb, cond, Bool, true, false}
+use Rattle.std.proofs.lemmas.Bool.{lt-ltb, le-ltb}
+use Rattle.rp_evidence.specs.Demand.{NewBudget, FractionBundle, IsOnBudget, IsSupportingDemand, IsBelow, IsStrictlyBelow, CostsEnough, CostsMore, BuysWithRest, enlarged, spending}
+use Rattle.rp_evidence.specs.Garp.{MeetsGarp}
 use Rattle.rp_evidence.specs.Input.{TableInput}
 use Rattle.rp_evidence.specs.Preference.{IsWeak, IsStrict}
 use Rattle.rp_evidence.specs.Walk.{LeadsTo, IsWalk, HasStep, HasStepFrom}
@@ -55,7 +55,7 @@ module _ (input : TableInput) (budget : NewBudget) (bundle : FractionBundle) whe
     on_budget = on;
     meets = only_in_table input.n bundle.den budget.expenditure input.cost (enlarged input budget bundle) (λ t. spending input.goods (input.price t) bundle.num) (λ t. spending input.goods budget.prices (input.quantity t)) (is_enlarged on.fraction)
         (λ w. (clear input.n bundle.den budget.expenditure input.cost (enlarged input budget bundle) (λ t. spending input.goods (input.price t) bundle.num) (λ t. spending input.goods budget.prices (input.quantity t)) (is_enlarged on.fraction)
-            (λ t a l. enough t a (is_below t l)) (λ t a l. more t a (is_strictly_below t l)) w).0)
+        (λ t a l. enough t a (is_below t l)) (λ t a l. more t a (is_strictly_below t l)) w).0)
         sound;
   }
 

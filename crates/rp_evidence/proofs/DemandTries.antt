@@ -1,11 +1,10 @@
 -- Supporting demand, tried at a small table: two consistent observations, and a new budget at the prices 1 and 1.
-use Rattle.std.proofs.Common.{◌≡◌, ◌<◌, ◌≤◌, ◌+◌, ◌*◌, ℕ, zero, suc, List, [], ◌∷◌, inl, inr, refl, arith, slice_index, slice_index_or}
+use Rattle.std.proofs.Common.{◌<◌, ◌≤◌, ◌*◌, ℕ, zero, suc, List, [], ◌∷◌, inl, refl, arith, slice_index, slice_index_or}
 use Rattle.rp_table.specs.Sums.{sum_below}
 use Rattle.rp_evidence.specs.Demand.{NewBudget, FractionBundle, IsBelow, IsStrictlyBelow, IsSupportingDemand, enlarged}
 use Rattle.rp_evidence.specs.Garp.{IsViolationAt}
 use Rattle.rp_evidence.specs.Input.{TableInput}
 use Rattle.rp_evidence.specs.Preference.{IsWeak, IsStrict}
-use Rattle.rp_evidence.specs.Ranks.{RespectLevel}
 use Rattle.rp_evidence.proofs.Violations.{no_violation_under_ranks}
 
 abbrev rows : List (List ℕ) → ℕ → ℕ → ℕ
@@ -50,6 +49,7 @@ inner_supports = record {
     weak (suc (suc zero)) (suc (suc zero)) a b h = omega arith
     weak s (suc (suc (suc t))) a b h = absurd (omega arith)
     weak (suc (suc (suc s))) t a b h = absurd (omega arith)
+
     strict : (s t : ℕ) → s < 3 → t < 3 → IsStrict wide 1 1 s t → slice_index (1 ∷ 1 ∷ 2 ∷ []) t < slice_index (1 ∷ 1 ∷ 2 ∷ []) s
     strict zero zero a b h = absurd (omega arith)
     strict zero (suc zero) a b h = absurd (omega arith)

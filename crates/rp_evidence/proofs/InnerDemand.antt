@@ -1,11 +1,10 @@
 -- The inner demand is a supporting demand: nothing below costs more than what its start costs there, since the count would
 -- be greater; and where it costs the same at an observation strictly below, money is left for good 0.
-use Rattle.std.proofs.Common.{◌≡◌, ◌<◌, ◌≤◌, ◌+◌, ◌*◌, ◌-◌, ◌⊎◌, inl, inr, ℕ, zero, suc, List, [], ◌∷◌, refl, sym, subst, ◌∙◌, ap, arith, slice_index, eqb, cond}
+use Rattle.std.proofs.Common.{◌≡◌, ◌<◌, ◌≤◌, ◌+◌, ◌*◌, ◌-◌, inl, inr, ℕ, zero, suc, List, [], ◌∷◌, sym, subst, ◌∙◌, ap, arith, slice_index, eqb, cond}
 use Rattle.std.proofs.Math.Nat.{mul-le-mul_left, mul-lt-mul_of_pos_left, mul-pos}
 use Rattle.std.proofs.lemmas.Bool.{cases_lt}
 use Rattle.std.proofs.Math.Dec.{eqb-suc-zero}
-use Rattle.rp_table.specs.Sums.{sum_below}
-use Rattle.rp_evidence.specs.Count.{AreCounts, IsCount}
+use Rattle.rp_evidence.specs.Count.{AreCounts}
 use Rattle.rp_evidence.specs.Demand.{NewBudget, FractionBundle, IsOnBudget, IsSupportingDemand, IsBelow, IsStrictlyBelow, IsInnerStart, IsInnerDemand, CostsEnough, CostsMore, Buys, all_on_first, spending, with_rest_on_first}
 use Rattle.rp_evidence.specs.Garp.{MeetsGarp}
 use Rattle.rp_evidence.specs.Input.{TableInput}
@@ -31,13 +30,11 @@ spending_first (suc (suc j)) prices k some =
 
 module _ (input : TableInput) (budget : NewBudget) (sound : MeetsGarp input.n input.cost 1 1) (some_goods : 0 < input.goods)
     (new_prices : 0 < budget.prices 0) (old_prices : (t : ℕ) → t < input.n → 0 < input.price t 0) where
-
   -- ---- from a bundle of the table, with the rest on good 0
 
   module _ (s : ℕ) (counts : List ℕ) (are : AreCounts input.n (IsWeak input.cost 1 1) counts) (start : IsInnerStart input budget counts s)
       (bundle : FractionBundle) (over : bundle.den ≡ budget.prices 0)
       (parts : (g : ℕ) → g < input.goods → bundle.num g ≡ with_rest_on_first input budget s g) where
-
     spent_there : (prices : ℕ → ℕ) → spending input.goods prices bundle.num
         ≡ budget.prices 0 * spending input.goods prices (input.quantity s) + prices 0 * (budget.expenditure - spending input.goods budget.prices (input.quantity s))
     spent_there prices =
@@ -109,6 +106,7 @@ module _ (input : TableInput) (budget : NewBudget) (sound : MeetsGarp input.n in
               let f : budget.prices 0 * budget.expenditure ≡ budget.prices 0 * (spending input.goods budget.prices (input.quantity s) + r) = ap (λ v. budget.prices 0 * v) (omega arith) in
               omega arith;
         }
+
         enough : CostsEnough input budget bundle
         enough t t_in below =
             let e = spent_there (input.price t) in
@@ -117,6 +115,7 @@ module _ (input : TableInput) (budget : NewBudget) (sound : MeetsGarp input.n in
             let b : budget.prices 0 * input.cost t s ≡ budget.prices 0 * spending input.goods (input.price t) (input.quantity s) = ap (λ v. budget.prices 0 * v) u in
             let d : bundle.den * input.cost t t ≡ budget.prices 0 * input.cost t t = ap (λ v. v * input.cost t t) over in
             omega arith
+
         more : CostsMore input budget bundle
         more t t_in below =
             let e = spent_there (input.price t) in
@@ -145,6 +144,7 @@ module _ (input : TableInput) (budget : NewBudget) (sound : MeetsGarp input.n in
       nothing : (t s : ℕ) (w : List ℕ) → IsWalk input.n (IsWeak input.cost 1 1) s t w → Buys input budget s → ⊥
       nothing t s [] l b = absurd l
       nothing t s (x ∷ w) l b = none s (subst (λ z. z < input.n) l.0 (starts_below input.n (IsWeak input.cost 1 1) x t w l.1)) b
+
       on : IsOnBudget input budget bundle
       on = record {
         fraction = subst (λ v. 0 < v) (sym over) new_prices;

@@ -7,6 +7,7 @@ mod AfriatTries
 pub mod Counting
 pub mod Counts
 mod HomotheticTries
+pub mod DemandBounds
 pub mod DemandLaws
 pub mod DemandMixtures
 mod DemandTries

@@ -1,15 +1,13 @@
 -- A bundle on a new budget keeps the axiom exactly where it costs enough at each observation below the budget, and more at
 -- each one strictly below: a violation through the new observation is cut where it returns there.
-use Rattle.std.proofs.Common.{◌≡◌, ◌<◌, ◌≤◌, ◌+◌, ◌*◌, ◌⊎◌, inl, inr, ℕ, List, [], ◌∷◌, ◌++◌, refl, sym, subst, ◌∙◌, ap, arith, Contains, length, slice_index, ltb, cond, true, false}
+use Rattle.std.proofs.Common.{◌≡◌, ◌<◌, ◌≤◌, ◌+◌, ◌*◌, ◌⊎◌, inl, inr, ℕ, List, [], ◌∷◌, ◌++◌, refl, subst, ap, arith}
 use Rattle.std.proofs.Math.Nat.{le_of_mul-le-mul_left, lt_of_mul-lt-mul_left, mul-le-mul_left, mul-lt-mul_of_pos_left}
-use Rattle.std.proofs.lemmas.Bool.{cases_lt, lt-ltb, le-ltb, cond-true}
-use Rattle.rp_evidence.specs.Demand.{NewBudget, FractionBundle, IsOnBudget, IsSupportingDemand, IsBelow, IsStrictlyBelow, CostsEnough, CostsMore, Buys, BuysWithRest, enlarged, spending}
-use Rattle.rp_evidence.specs.Garp.{IsViolation, IsViolationAt, MeetsGarp}
-use Rattle.rp_evidence.specs.Input.{TableInput}
+use Rattle.std.proofs.lemmas.Bool.{cases_lt}
+use Rattle.rp_evidence.specs.Garp.{IsViolation}
 use Rattle.rp_evidence.specs.Preference.{IsWeak, IsStrict}
-use Rattle.rp_evidence.specs.Walk.{LeadsTo, IsWalk, IsClosedWalk, HasStep, HasStepFrom}
+use Rattle.rp_evidence.specs.Walk.{LeadsTo, HasStepFrom}
 use Rattle.rp_evidence.proofs.Violations.{turns, violates_by, violation_leads}
-use Rattle.rp_evidence.proofs.Walks.{starts_below, ends_below, leads_by_step, leads_on, leads_more, leads_by_weaker, has_step_left, has_step_right, has_weaker_step}
+use Rattle.rp_evidence.proofs.Walks.{starts_below, ends_below, leads_by_step, leads_on, leads_more, has_step_left, has_step_right, has_weaker_step}
 
 -- ---- a table of costs with one observation more, all of them times a denominator
 
@@ -236,7 +234,7 @@ module _ (n den m : ℕ) (costs wide : ℕ → ℕ → ℕ) (out into : ℕ → 
           let j = e.within t t a a in
           let around = back l.from t l.walk l.leads l.bought (omega arith) in
           let strict : HasStepFrom StrictWide n (l.from ∷ (l.walk ++ n ∷ [])) =
-              inr (has_step_right n Weak StrictWide l.from t l.walk (n ∷ []) l.leads (inl (omega arith))) in
+          inr (has_step_right n Weak StrictWide l.from t l.walk (n ∷ []) l.leads (inl (omega arith))) in
           absurd (sound (n ∷ l.from ∷ (l.walk ++ n ∷ [])) (violates_by (n + 1) WeakWide StrictWide n l.from (l.walk ++ n ∷ []) around strict))
       | inr enough ↦ enough
     ]
@@ -252,9 +250,9 @@ module _ (n den m : ℕ) (costs wide : ℕ → ℕ → ℕ) (out into : ℕ → 
           let q = e.itself in
           let around = back l.from t l.walk l.leads l.bought (omega arith) in
           let strict : HasStepFrom StrictWide n (l.from ∷ (l.walk ++ n ∷ [])) =
-              elim l.strict [
-                | inl k ↦ inl (let r : den * into l.from < den * m = mul-lt-mul_of_pos_left k e.some in omega (arith, r))
-                | inr k ↦ inr (has_step_left StrictWide l.from l.walk (n ∷ []) (wide_strict l.from t l.walk l.leads k))
-              ] in
+          elim l.strict [
+            | inl k ↦ inl (let r : den * into l.from < den * m = mul-lt-mul_of_pos_left k e.some in omega (arith, r))
+            | inr k ↦ inr (has_step_left StrictWide l.from l.walk (n ∷ []) (wide_strict l.from t l.walk l.leads k))
+          ] in
           absurd (sound (n ∷ l.from ∷ (l.walk ++ n ∷ [])) (violates_by (n + 1) WeakWide StrictWide n l.from (l.walk ++ n ∷ []) around strict))
     ]

@@ -103,9 +103,9 @@ pub record IsInnerDemand (input : TableInput) (budget : NewBudget) (bundle : Fra
   pub over : bundle.den ≡ budget.prices 0
   pub parts :
       ((s : ℕ) × (counts : List ℕ) × AreCounts input.n (IsWeak input.cost 1 1) counts × IsInnerStart input budget counts s
-          × ((g : ℕ) → g < input.goods → bundle.num g ≡ with_rest_on_first input budget s g))
+      × ((g : ℕ) → g < input.goods → bundle.num g ≡ with_rest_on_first input budget s g))
       ⊎ (((s : ℕ) → s < input.n → ¬ Buys input budget s)
-          × ((g : ℕ) → g < input.goods → bundle.num g ≡ all_on_first budget g))
+      × ((g : ℕ) → g < input.goods → bundle.num g ≡ all_on_first budget g))
 
 -- ---- how much of a good supporting demands have
 
