@@ -7,6 +7,11 @@ mod AfriatTries
 pub mod Counting
 pub mod Counts
 mod HomotheticTries
+pub mod DemandBounds
+pub mod DemandLaws
+pub mod DemandMixtures
+mod DemandTries
+pub mod InnerDemand
 pub mod Index
 pub mod IndexExists
 pub mod IndexThreshold
@@ -14,6 +19,7 @@ mod IndexTries
 pub mod Levels
 pub mod Loops
 pub mod Places
+pub mod Supporting
 pub mod Reaching
 pub mod Ratios
 pub mod SameCosts

@@ -5,6 +5,8 @@ pub mod First
 pub mod Efficiency
 pub mod Garp
 pub mod Homothetic
+pub mod Demand
+pub mod DemandPrograms
 pub mod Input
 pub mod Preference
 pub mod Proves

@@ -4,6 +4,7 @@
 mod afriat;
 mod afriat_laws;
 mod certificate;
+mod demand_laws;
 mod efficiency;
 mod efficiency_laws;
 mod laws;
@@ -19,6 +20,10 @@ pub use afriat_laws::{
     utilities_are_unique, width_is_passed_first_once,
 };
 pub use certificate::{Certificate, Garp, Item, Kind, Level, withheld};
+pub use demand_laws::{
+    equal_pairs_bound_goods, inner_demands_support, mixtures_support,
+    supporting_demands_cost_enough,
+};
 pub use efficiency::Efficiency;
 pub use efficiency_laws::{efficiency_index_is_threshold, efficiency_index_is_unique};
 pub use laws::{
