@@ -4,8 +4,8 @@ use Rattle.std.proofs.lemmas.Int.{ints}
 use Rattle.std.proofs.Math.Nat.{le_of_mul-le-mul_right, mul-le-mul, one-le-mul}
 use Rattle.rp_num.specs.Fraction.{Fraction}
 use Rattle.rp_evidence.specs.Homothetic.{BoundProducts, MeetsHomotheticTest, product_from, value_at}
-use Rattle.rp_evidence.specs.Quasilinear.{AnyStep, BoundSteps, MeetsQuasilinearTest, step_sum, sum_from}
-use Rattle.rp_evidence.specs.Walk.{LeadsTo}
+use Rattle.rp_evidence.specs.Quasilinear.{BoundSteps, MeetsQuasilinearTest, step_sum, sum_from}
+use Rattle.rp_evidence.specs.Walk.{AnyStep, LeadsTo}
 use Rattle.rp_evidence.proofs.Walks.{starts_below}
 
 -- ---- sums

@@ -3,8 +3,7 @@ use Rattle.std.specs.Prelude.{◌≡◌, ℕ, ◌*◌, ◌<◌, ◌⊎◌, List,
 use Rattle.rp_num.specs.Fraction.{Fraction, FitsWidth, IsLowestTerms, PassesWidth}
 use Rattle.rp_walk.specs.LeastTotals.{IsFirstTooWide, NoneTooWide}
 use Rattle.rp_walk.specs.Walk.{IsSimpleCycle}
-use Rattle.rp_evidence.specs.Walk.{IsClosedWalk}
-use Rattle.rp_evidence.specs.Quasilinear.{AnyStep}
+use Rattle.rp_evidence.specs.Walk.{AnyStep, IsClosedWalk}
 use Rattle.rp_evidence.specs.Homothetic.{EndsBelow, IsLeastProduct, MeetsHomotheticTest, ProductsFit, value_at}
 use Rattle.rp_evidence.specs.declared.products.Homothetic.{Homothetic}
 use Rattle.rp_evidence.specs.declared.products.Homothetic.TheVariants.{Values, Cycle, Withheld}

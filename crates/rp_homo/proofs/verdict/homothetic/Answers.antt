@@ -1,7 +1,7 @@
 use Rattle.std.proofs.Common.{arith, subst, List, All, ◌≡◌, ℕ, length}
 use Rattle.rp_num.specs.Fraction.{Fraction, FitsWidth, IsLowestTerms}
 use Rattle.rp_table.specs.Cost.{cost_at}
-use Rattle.rp_homo.proofs.Verdicts.{AllFit, AllLowest, BoundProducts-least, GivesCycle-settled, GivesValues-settled, GivesWithheld-settled, IsFallingCycle-violation, limited_costs, positive_costs}
+use Rattle.rp_homo.proofs.Verdicts.{AllFit, AllLowest, BoundProducts-least, GivesCycle-settled, GivesValues-settled, GivesWithheld-settled, IsFallingCycle-falls, limited_costs, positive_costs}
 use Rattle.rp_homo.proofs.verdict.homothetic.Goals as goal
 
 lowest : (n : ℕ) (values slice : List Fraction) → length values ≡ n → slice ≡ values → All (λ (f : Fraction). IsLowestTerms f.num f.den f) slice → AllLowest n values
@@ -38,7 +38,7 @@ pub returns-in-Cycle-clause-proves : goal.returns-in-Cycle-clause-proves
 returns-in-Cycle-clause-proves c =
     let costs = c.args.costs.now in
     let h = rw c.in-Cycle.is at c.in_ok-values.ensures in
-    IsFallingCycle-violation costs.n (cost_at costs) (positive_costs costs c.n-n.ensures.valid) c.in-Cycle.start c.in-Cycle.steps h.violation
+    IsFallingCycle-falls costs.n (cost_at costs) (positive_costs costs c.n-n.ensures.valid) c.in-Cycle.start c.in-Cycle.steps h.falls
 
 pub returns-in-Wide-clause-verdict : goal.returns-in-Wide-clause-verdict
 returns-in-Wide-clause-verdict c =

@@ -8,14 +8,14 @@ use Rattle.rp_walk.proofs.cycle.cycle_within.Goals as goal
 
 pub total_at-start-requires-clause-fit : goal.total_at-start-requires-clause-fit
 total_at-start-requires-clause-fit g c m below =
-    let w = g.T.Total.steps c.args.total.now in
+    let w = g.T.Total.rule c.args.total.now in
     rw c.as_slice-2.ensures.value
     (found_fits w g.T.Total.fits w.count (λ k. get_or c.in_ok-walk.walk.items k 0) (IsFound-given w c.in_ok-walk.walk.items c.in_ok-walk.ensures) (omega arith) c.requires.none_too_wide m
     (omega (arith, below, c.in_ok-first.ensures.in_order, c.in_ok-first.ensures.in_walk, c.in_ok-walk.ensures.one_more, ap length c.as_slice.ensures.value)))
 
 pub returns : goal.returns
 returns g c =
-    let w = g.T.Total.steps c.args.total.now in
+    let w = g.T.Total.rule c.args.total.now in
     let walk = c.in_ok-walk.walk.items in
     let first = c.in_ok-first.first in
     let last = c.in_ok-first.last in

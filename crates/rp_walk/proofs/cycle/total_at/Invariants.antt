@@ -5,4 +5,4 @@ use Rattle.rp_walk.proofs.cycle.total_at.Given as goal
 
 abbrev pub invariant-loop-i : goal.invariant-loop-i
 invariant-loop-i g l =
-    SameTotal (prefix_total (g.T.Total.steps l.total) (λ m. get_or l.walk m 0) l.i) (g.T.Total.exact l.value)
+    SameTotal (prefix_total (g.T.Total.rule l.total) (λ m. get_or l.walk m 0) l.i) (g.T.Total.exact l.value)
