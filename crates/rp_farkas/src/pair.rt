@@ -1,4 +1,5 @@
-ghost use Rattle.std.specs.Prelude.{◌≡◌, ◌<◌, ◌^◌, ◌↔◌, ℕ, pos, ◌*ℤ◌, ◌≤ℤ◌, IsTrue, All, length, slice_index};
+ghost use Rattle.std.specs.Prelude.{◌≡◌, ◌<◌, ◌↔◌, ℕ, pos, ◌*ℤ◌, ◌≤ℤ◌, IsTrue, All, length, slice_index};
+ghost use Rattle.rp_farkas.specs.Limits.{FitsEvidence};
 ghost use Rattle.rp_farkas.specs.Listing.{IsListing, numerator_at};
 ghost use Rattle.rp_farkas.specs.Point.{row_times};
 ghost use Rattle.rp_farkas.specs.Prices.{column_times};
@@ -11,7 +12,7 @@ use crate::sums::{column_sum, cost_sum, row_sum, value_sum};
 
 /// Whether each row of A times the listed point is at most its right side, over the denominator.
 pub fn rows_hold<P: Lp>(p: &P, den: u64, y: &[Entry]) -> bool
-    requires den { den < 2 ^ 63 }
+    requires den { FitsEvidence den }
     requires listed { IsListing (P.program p.now).cols y.now }
     ensures { IsTrue result ↔ ((i : ℕ) → i < (P.program p.now).rows
         → row_times (P.program p.now) i (numerator_at y.now) ≤ℤ ((P.program p.now).b i *ℤ pos den)) }
@@ -26,9 +27,9 @@ pub fn rows_hold<P: Lp>(p: &P, den: u64, y: &[Entry]) -> bool
 
 /// Whether each column of A times the prices is at least its objective, over the denominator.
 fn columns_hold<P: Lp>(p: &P, den: u64, x: &[u64]) -> bool
-    requires den { den < 2 ^ 63 }
+    requires den { FitsEvidence den }
     requires rows { length x.now ≡ (P.program p.now).rows }
-    requires fits { All (λ v. v < 2 ^ 63) x.now }
+    requires fits { All FitsEvidence x.now }
     ensures { IsTrue result ↔ ((j : ℕ) → j < (P.program p.now).cols
         → ((P.program p.now).c j *ℤ pos den) ≤ℤ column_times (P.program p.now) j (slice_index x.now)) }
 {

@@ -1,3 +1,4 @@
+-- Fractions in lowest terms and within a width, their order and their text (arithmetic; Hardy and Wright).
 use Rattle.std.specs.Prelude.{◌≡◌, ℕ, ◌*◌, ◌^◌, ◌<◌, ◌≤◌, ◌==◌, if◌then◌else◌, List, ◌∷◌, ◌++◌}
 use Prim.Native.Nat.{◌∣◌}
 use Rattle.std.specs.Fmt.{decimal}
