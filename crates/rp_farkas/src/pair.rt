@@ -6,7 +6,7 @@ ghost use Rattle.rp_farkas.specs.Prices.{column_times};
 ghost use Rattle.rp_farkas.specs.PairCheck.{IsShownPair};
 
 use crate::entry::{Entry, Pair};
-use crate::listing::{WIDTH, all_fit, is_listing};
+use crate::listing::{EVIDENCE_WIDTH, all_fit, is_listing};
 use crate::program::Lp;
 use crate::sums::{column_sum, cost_sum, row_sum, value_sum};
 
@@ -47,7 +47,7 @@ pub fn check_pair<P: Lp>(p: &P, pair: &Pair) -> bool
 {
     let y = pair.y.as_slice();
     let x = pair.x.as_slice();
-    if pair.den == 0 || pair.den > WIDTH || !is_listing(p.cols(), y) {
+    if pair.den == 0 || pair.den > EVIDENCE_WIDTH || !is_listing(p.cols(), y) {
         return false;
     }
     if x.len() != p.rows() as usize || !all_fit(x) {

@@ -10,7 +10,7 @@ use rp_num::{NoMemory, gcd};
 use std::alloc::Global;
 
 /// The width of evidence, for numbers before the common divisor is taken out.
-const WIDTH: u128 = rp_farkas::WIDTH as u128;
+const WIDTH: u128 = rp_farkas::EVIDENCE_WIDTH as u128;
 
 /// The difference of two products.
 fn difference(a: i128, b: i128) -> i128
