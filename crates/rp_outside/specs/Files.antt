@@ -1,4 +1,4 @@
--- Files in memory, as pairs of a name and the bytes under it.
+-- Files in memory, as pairs of a name and the bytes under it (this project's own form).
 use Rattle.std.specs.Prelude.{ℕ, ◌≡◌, ◌-◌, List, Option, drop, length, min, take}
 use Rattle.std.specs.Map.{lookup}
 use Rattle.std.specs.Str.{bytes_eq}
