@@ -1,5 +1,6 @@
 ghost use Rattle.std.specs.Prelude.{◌≡◌, map, option_map, string_bytes};
 ghost use Rattle.rp_run.specs.CommandLine.{line_of, table_line, is_file_name};
+ghost use Rattle.rp_run.specs.FaultLines.{usage_text};
 ghost use Rattle.rp_run.specs.Named.{named_line};
 
 /// A command with its files, as the words name them.
@@ -7,6 +8,13 @@ ghost use Rattle.rp_run.specs.Named.{named_line};
 pub(crate) enum Line<'a> {
     Pairs { table: &'a str },
     Analyse { table: &'a str },
+}
+
+/// How the program is called.
+pub(crate) fn usage() -> &'static [u8]
+    ensures { result.now ≡ usage_text }
+{
+    b"usage: rp pairs TABLE\n       rp analyse TABLE\n"
 }
 
 /// The line that the words denote. The first word is the program's name.

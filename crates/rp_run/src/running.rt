@@ -10,7 +10,7 @@ ghost use Rattle.rp_run.specs.Causes.{status_of_cause, cause_line};
 
 use crate::answer::{Answer, answer_line};
 use crate::files::Cause;
-use crate::line::read_line;
+use crate::line::{read_line, usage};
 use crate::status::Status;
 use crate::telling::tell;
 use rp_outside::{Desk, Sink, pour};
@@ -65,10 +65,7 @@ pub fn run<D: Desk, O: Sink, E: Sink>(
     ensures faults_of_err { E.faults err.old ≤ E.faults err.new }
 {
     let Some(line) = read_line(words.as_slice()) else {
-        tell(
-            err,
-            &[b"usage: rp pairs TABLE\n", b"       rp analyse TABLE\n"],
-        );
+        tell(err, &[usage()]);
         return Status::Usage;
     };
     match answer_line(alloc, desk, line) {

@@ -8,5 +8,6 @@ pub mod Headers
 pub mod Fields
 pub mod Sizes
 pub mod ChoiceCounts
+pub mod Chosen
 pub mod Denotation
 pub mod Plain

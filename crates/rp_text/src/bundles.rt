@@ -1,4 +1,6 @@
-ghost use Rattle.std.specs.Prelude.{◌≡◌, Ok, IfOk, length};
+ghost use Rattle.std.specs.Prelude.{◌≡◌, ◌≤◌, Ok, IfOk, length};
+ghost use Rattle.rp_table.specs.Rows.{rows_count};
+ghost use Rattle.rp_table.specs.Tables.{goods_of};
 ghost use Rattle.rp_table.specs.BundleLists.{IsBundleList};
 ghost use Rattle.rp_text.specs.Denotation.{bundle_list, denoted_bundles, bundles_beside};
 ghost use Rattle.rp_text.specs.Refusals.{RefusedAs};
@@ -18,6 +20,9 @@ use std::alloc::Global;
 pub fn read_bundles(alloc: Global, bytes: &[u8], table: &Table) -> Result<Bundles, TableFault>
     ensures denoted { IfOk result (λ bundles. bundles_beside table.now bytes.now ≡ Ok bundles) }
     ensures refused { RefusedAs result (bundles_beside table.now bytes.now) }
+    ensures goods { IfOk result (λ bundles. bundles.goods ≡ goods_of table.now) }
+    ensures some_records { IfOk result
+        (λ bundles. 1 ≤ rows_count bundles.quantities bundles.goods) }
 {
     let records = Records::of(alloc, bytes, NEW_RECORDS as usize + 2)?;
     bundles_from(alloc, table, &records)
@@ -30,6 +35,9 @@ fn bundles_from(alloc: Global, table: &Table, records: &Records) -> Result<Bundl
         ≡ Ok bundles) }
     ensures refused { RefusedAs result
         (denoted_bundles table.now.quantity_places table.now.names records.now) }
+    ensures goods { IfOk result (λ bundles. bundles.goods ≡ goods_of table.now) }
+    ensures some_records { IfOk result
+        (λ bundles. 1 ≤ rows_count bundles.quantities bundles.goods) }
 {
     let form = Form::bundles(table.quantity_places());
     let names = table.names();

@@ -1,4 +1,6 @@
-ghost use Rattle.std.specs.Prelude.{◌≡◌, [], Ok, IfOk, length, codes, if◌then◌else◌};
+ghost use Rattle.std.specs.Prelude.{◌≡◌, ◌≤◌, [], Ok, IfOk, IsTrue, length, codes, if◌then◌else◌};
+ghost use Rattle.rp_table.specs.Rows.{rows_count};
+ghost use Rattle.rp_table.specs.Tables.{goods_of};
 ghost use Rattle.rp_table.specs.PriceLists.{IsPriceList};
 ghost use Rattle.rp_text.specs.Denotation as Denotation;
 ghost use Rattle.rp_text.specs.Denotation.{price_list, denoted_prices, prices_beside};
@@ -26,6 +28,10 @@ pub fn read_prices(
 ) -> Result<Prices, TableFault>
     ensures denoted { IfOk result (λ prices. prices_beside with_m table.now bytes.now ≡ Ok prices) }
     ensures refused { RefusedAs result (prices_beside with_m table.now bytes.now) }
+    ensures goods { IfOk result (λ prices. prices.goods ≡ goods_of table.now) }
+    ensures some_records { IfOk result (λ prices. 1 ≤ rows_count prices.prices prices.goods) }
+    ensures each_spent { IsTrue with_m
+        → IfOk result (λ prices. length prices.m ≡ rows_count prices.prices prices.goods) }
 {
     let records = Records::of(alloc, bytes, NEW_RECORDS as usize + 2)?;
     prices_from(alloc, table, with_m, &records)
@@ -43,6 +49,10 @@ fn prices_from(
         ≡ Ok prices) }
     ensures refused { RefusedAs result
         (denoted_prices with_m table.now.quantity_places table.now.names records.now) }
+    ensures goods { IfOk result (λ prices. prices.goods ≡ goods_of table.now) }
+    ensures some_records { IfOk result (λ prices. 1 ≤ rows_count prices.prices prices.goods) }
+    ensures each_spent { IsTrue with_m
+        → IfOk result (λ prices. length prices.m ≡ rows_count prices.prices prices.goods) }
 {
     let form = Form::prices(with_m, table.quantity_places());
     let names = table.names();
