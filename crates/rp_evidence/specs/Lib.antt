@@ -1,6 +1,8 @@
 pub mod Count
+pub mod First
 pub mod Garp
 pub mod Homothetic
+pub mod Input
 pub mod Preference
 pub mod Proves
 pub mod Quasilinear
