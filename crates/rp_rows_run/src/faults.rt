@@ -1,6 +1,5 @@
 use crate::command::answer;
 use rp_run::Status;
-use rp_text::TableFault;
 use std::alloc::Global;
 use std::process::Abort;
 use std::test::Fail;
@@ -127,36 +126,5 @@ fn as_many_goods_as_the_limit_and_one_more(rt: HostRuntime) -> Result<(), Fail> 
     let more = answer(alloc, &["rp", "pairs", "t.csv"], file.as_str(), &[])?;
     assert_eq!(rt; more.status, Status::Refused);
     assert_eq!(rt; more.err.as_str(), "rp: t.csv: TooManyGoods\n");
-    Ok(())
-}
-
-#[test]
-fn table_faults_are_told_by_their_names(rt: HostRuntime) -> Result<(), Fail> {
-    let (row, column) = (1, 2);
-    for (fault, name) in [
-        (TableFault::Empty, "Empty"),
-        (TableFault::Ragged { row }, "Ragged"),
-        (TableFault::BadHeader { column }, "BadHeader"),
-        (TableFault::TwiceNamed { column }, "TwiceNamed"),
-        (TableFault::Unpaired { column }, "Unpaired"),
-        (TableFault::TooManyGoods, "TooManyGoods"),
-        (TableFault::NoRecords, "NoRecords"),
-        (TableFault::TooManyRecords, "TooManyRecords"),
-        (TableFault::BadNumber { row, column }, "BadNumber"),
-        (
-            TableFault::TooManyDecimals { row, column },
-            "TooManyDecimals",
-        ),
-        (TableFault::ZeroPrice { row, column }, "ZeroPrice"),
-        (TableFault::ZeroBundle { row }, "ZeroBundle"),
-        (TableFault::TooLarge { row, column }, "TooLarge"),
-        (TableFault::OtherGoods { column }, "OtherGoods"),
-        (TableFault::TooFine { row, column }, "TooFine"),
-        (TableFault::UnknownBudget { row }, "UnknownBudget"),
-        (TableFault::NoChoices { budget: 1 }, "NoChoices"),
-        (TableFault::NoMemory, "NoMemory"),
-    ] {
-        assert_eq!(rt; fault.to_string(rt.alloc())?.as_str(), name);
-    }
     Ok(())
 }

@@ -1,5 +1,5 @@
 ghost use Rattle.std.specs.Prelude.{◌≡◌, ◌<◌, ◌≤◌};
-ghost use Rattle.rp_rows.specs.Ladder.{ladder_cost};
+ghost use Rattle.rp_rows_calls.specs.Ladder.{ladder_cost};
 
 use rp_evidence::Quasi;
 use rp_num::Wide;
@@ -38,8 +38,8 @@ impl Total for Ladder {
 
     ghost use Rattle.rp_quasi.specs.Sums.{sums, whole};
     ghost use Rattle.rp_quasi.specs.SumLaws.{sums_keep_order, sums_stay};
-    ghost use Rattle.rp_rows.specs.Ladder.{FitsOne, ladder_cost};
-    ghost use Rattle.rp_rows.specs.LadderLaws.{ones_fit_alike};
+    ghost use Rattle.rp_rows_calls.specs.Ladder.{FitsOne, ladder_cost};
+    ghost use Rattle.rp_rows_calls.specs.LadderLaws.{ones_fit_alike};
 
     ghost steps = { λ a. sums a.n ladder_cost };
 
