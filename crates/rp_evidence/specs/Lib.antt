@@ -1,7 +1,10 @@
 pub mod Count
 pub mod Efficiency
+pub mod First
 pub mod Garp
+pub mod GarpEvidence
 pub mod Homothetic
+pub mod Input
 pub mod Preference
 pub mod Proves
 pub mod Quasilinear

@@ -7,16 +7,18 @@ mod efficiency_laws;
 mod laws;
 mod products;
 mod quasilinear;
+mod relations;
 
 pub use certificate::{Certificate, Garp, Item, Kind, Level, withheld};
 pub use efficiency::Efficiency;
 pub use efficiency_laws::{efficiency_index_is_threshold, efficiency_index_is_unique};
 pub use laws::{
-    counts_are_unique, counts_respect, evidence_depends_on_observed_costs,
-    ordering_ranks_exclude_violations_below, ranks_exclude_violations, strict_counts_order,
-    strict_is_weak, violations_by_places, violations_have_walk_and_strict_step,
-    violations_last_above, violations_turn, walk_and_strict_step_violate,
-    weak_cycles_violate_above, weak_to_itself,
+    counts_are_unique, counts_respect, evidence_depends_on_observations,
+    evidence_depends_on_observed_costs, ordering_ranks_exclude_violations_below,
+    ranks_exclude_violations, step_counts_order, strict_is_weak, violations_by_places,
+    violations_have_walk_and_strict_step, violations_last_above, violations_turn,
+    walk_and_strict_step_violate, weak_cycles_violate_above, weak_to_itself,
 };
 pub use products::Homothetic;
 pub use quasilinear::Quasi;
+pub use relations::{Preference, Relation};
