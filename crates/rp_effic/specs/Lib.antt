@@ -1,3 +1,4 @@
+pub mod Cycles
 pub mod Places
 pub mod RatioOrder
 pub mod Ratios

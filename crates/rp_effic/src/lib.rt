@@ -4,5 +4,7 @@
 mod ask;
 mod ratio;
 mod ratios;
+mod returning;
+mod thresholds;
 
 pub use ask::{Ask, first_true};
