@@ -2,3 +2,4 @@ pub mod Cycles
 pub mod Places
 pub mod RatioOrder
 pub mod Ratios
+pub mod Verdict

@@ -2,6 +2,7 @@
 #![tactic(auto)]
 
 mod ask;
+mod index;
 mod ratio;
 mod ratios;
 mod returning;

@@ -11,6 +11,7 @@ use rp_table::Costs;
 use std::alloc::Global;
 
 /// Asks of rising ratios whether a closed walk of weak steps exists at each.
+#[derive(Drop)]
 pub struct Thresholds<'a> {
     pub costs: &'a Costs,
     pub ratios: &'a [Ratio],
