@@ -1,2 +1,4 @@
+pub mod Asked
 pub mod Collected
 pub mod Halving
+pub mod Indexed

@@ -1,3 +1,5 @@
+pub mod Cycles
 pub mod Places
 pub mod RatioOrder
 pub mod Ratios
+pub mod Verdict

@@ -2,7 +2,10 @@
 #![tactic(auto)]
 
 mod ask;
+mod index;
 mod ratio;
 mod ratios;
+mod returning;
+mod thresholds;
 
 pub use ask::{Ask, first_true};

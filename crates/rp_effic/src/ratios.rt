@@ -1,4 +1,4 @@
-ghost use Rattle.std.specs.Prelude.{◌≡◌, ◌<◌, ◌≤◌, ◌*◌, IfNone, IfOk, IfSome, length};
+ghost use Rattle.std.specs.Prelude.{◌≡◌, ◌<◌, ◌≤◌, ◌*◌, ◌^◌, IfNone, IfOk, IfSome, length};
 ghost use Rattle.rp_table.specs.Cost.{cost_at};
 ghost use Rattle.rp_effic.specs.Ratios.{AreRatios, HasRatios};
 
@@ -9,7 +9,8 @@ use std::alloc::Global;
 
 /// The distinct ratios up to 1, in rising order.
 pub fn ratios(alloc: Global, costs: &Costs) -> Result<Vec<Ratio>, NoMemory>
-    ensures { IfOk result (λ ratios. AreRatios costs.now.n (cost_at costs.now) ratios.items) }
+    ensures all { IfOk result (λ ratios. AreRatios costs.now.n (cost_at costs.now) ratios.items) }
+    ensures small { IfOk result (λ ratios. length ratios.items < 2 ^ 32) }
 {
     let mut ratios = all_ratios(alloc, costs)?;
     ratios.sort_unstable();
@@ -21,6 +22,7 @@ pub fn ratios(alloc: Global, costs: &Costs) -> Result<Vec<Ratio>, NoMemory>
 fn all_ratios(alloc: Global, costs: &Costs) -> Result<Vec<Ratio>, NoMemory>
     ensures complete { IfOk result (λ ratios. HasRatios costs.now.n (cost_at costs.now) ratios.items) }
     ensures few { IfOk result (λ ratios. length ratios.items ≤ costs.now.n * costs.now.n) }
+    ensures small { IfOk result (λ ratios. length ratios.items < 2 ^ 32) }
 {
     let n = costs.n();
     let mut ratios = Vec::new(alloc);

@@ -1,11 +1,10 @@
 -- The critical cost efficiency index (Afriat 1973, "On a System of Inequalities in Demand Analysis").
 use Rattle.std.specs.Prelude.{◌≡◌, ◌≢◌, ℕ, ◌*◌, ◌<◌, ◌≤◌, List, []}
 use Rattle.rp_evidence.specs.Garp.{IsViolationAt, MeetsGarp}
-use Rattle.rp_evidence.specs.Preference.{IsLevel, IsWeak}
-use Rattle.rp_evidence.specs.Ranks.{OrderStrictSteps, RespectLevel}
+use Rattle.rp_evidence.specs.GarpEvidence.{ProvesOfPreference}
+use Rattle.rp_evidence.specs.Preference.{IsLevel, IsStrict, IsWeak}
+use Rattle.rp_evidence.specs.Ranks.{OrderStrictSteps}
 use Rattle.rp_evidence.specs.Walk.{IsClosedWalk, HasStep}
-use Rattle.rp_evidence.specs.declared.certificate.Garp.{Garp}
-use Rattle.rp_evidence.specs.declared.certificate.Garp.TheVariants.{Ranks, Cycle}
 use Rattle.rp_evidence.specs.declared.efficiency.Efficiency.{Efficiency}
 
 -- Some walk is a violation at the level num/den.
@@ -38,11 +37,6 @@ pub record IsLeastGreatestRatio (n : ℕ) (c : ℕ → ℕ → ℕ) (num den : �
 
 -- ---- evidence
 
--- Ranks prove that the axiom holds at the level num/den: it does, and they respect it. A cycle proves that it fails there.
-abbrev pub ProvesAt : ℕ → (ℕ → ℕ → ℕ) → ℕ → ℕ → Garp → Type 0
-ProvesAt n c num den (Ranks ranks) = RespectLevel n c num den ranks × MeetsGarp n c num den
-ProvesAt n c num den (Cycle walk) = IsViolationAt n c num den walk
-
 -- At the level 1 the walk is empty; at every other it is closed and its steps are weak at it.
 pub record BoundsFromAbove (n : ℕ) (c : ℕ → ℕ → ℕ) (num den : ℕ) (walk : List ℕ) : Type 0 where
   pub none_at_one : num ≡ den → walk ≡ []
@@ -54,4 +48,4 @@ pub record ProvesEfficiency (n : ℕ) (c : ℕ → ℕ → ℕ) (evidence : Effi
   pub index : IsEfficiencyIndex n c evidence.level.num evidence.level.den
   pub below : OrderStrictSteps n c evidence.level.num evidence.level.den evidence.below
   pub above : BoundsFromAbove n c evidence.level.num evidence.level.den evidence.above
-  pub at : ProvesAt n c evidence.level.num evidence.level.den evidence.at
+  pub at : ProvesOfPreference n (IsWeak c evidence.level.num evidence.level.den) (IsStrict c evidence.level.num evidence.level.den) evidence.at

@@ -4,8 +4,8 @@ use Rattle.rp_table.specs.Cost.{cost_at}
 use Rattle.rp_effic.proofs.Collected.{kept_complete, kept_rise}
 use Rattle.rp_effic.proofs.ratios.ratios.Goals as goal
 
-pub returns : goal.returns
-returns c =
+pub returns-clause-all : goal.returns-clause-all
+returns-clause-all c =
     let n = c.args.costs.now.n in
     let costs = cost_at c.args.costs.now in
     let collected = c.in_ok-ratios.ratios.items in
