@@ -22,7 +22,7 @@ use Rattle.rp_evidence.proofs.DemandMixtures.{mixture_supports}
 
 -- ---- sums over goods as totals
 
-total_of_sum : (k : ℕ) (f x : ℕ → ℕ) → total k (λ i. pos (f i) *ℤ pos (x i)) ≡ pos (sum_below k (λ i. f i * x i))
+pub total_of_sum : (k : ℕ) (f x : ℕ → ℕ) → total k (λ i. pos (f i) *ℤ pos (x i)) ≡ pos (sum_below k (λ i. f i * x i))
 unfolding total
 total_of_sum zero f x = refl
 total_of_sum (suc k) f x = ap (λ v. v +ℤ pos (f k * x k)) (total_of_sum k f x)

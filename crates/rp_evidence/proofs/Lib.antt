@@ -30,3 +30,4 @@ mod Tries
 pub mod Values
 pub mod Violations
 pub mod Walks
+pub mod WelfareLaws

@@ -15,4 +15,5 @@ pub mod Quasilinear
 pub mod Ranks
 pub mod StandardNumbers
 pub mod Walk
+pub mod Welfare
 pub mod Withheld

@@ -12,6 +12,7 @@ mod products;
 mod quasilinear;
 mod relations;
 mod value_laws;
+mod welfare_laws;
 
 pub use afriat::{AfriatPart, Numbers};
 pub use afriat_laws::{
@@ -37,3 +38,6 @@ pub use products::Homothetic;
 pub use quasilinear::Quasi;
 pub use relations::{Preference, Relation};
 pub use value_laws::{bound_products_meet_homothetic_test, bound_steps_meet_quasilinear_test};
+pub use welfare_laws::{
+    equal_pairs_bound_welfare, reaching_bundles_are_in_region, welfare_bounds_hold,
+};
