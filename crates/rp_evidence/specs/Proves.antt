@@ -1,24 +1,10 @@
--- What evidence has to be to prove its verdict on what a table says.
-use Rattle.std.specs.Prelude.{ℕ}
-use Rattle.rp_evidence.specs.Garp.{HasNoViolation, IsViolation}
+-- What evidence has to be to prove its verdict on what a table says (sources at each kind of evidence).
+use Rattle.rp_evidence.specs.Garp.{ProvesGarp}
 use Rattle.rp_evidence.specs.Homothetic.{ProvesHomothetic}
 use Rattle.rp_evidence.specs.Input.{TableInput}
-use Rattle.rp_evidence.specs.Preference.{IsStrict, IsWeak}
 use Rattle.rp_evidence.specs.Quasilinear.{ProvesQuasilinear}
-use Rattle.rp_evidence.specs.Ranks.{RespectPreference}
-use Rattle.rp_evidence.specs.declared.certificate.Garp.{Garp}
-use Rattle.rp_evidence.specs.declared.certificate.Garp.TheVariants.{Ranks, Cycle}
 use Rattle.rp_evidence.specs.declared.certificate.Item.{Item}
 use Rattle.rp_evidence.specs.declared.certificate.Item.TheVariants.{Garp as GarpItem, Homothetic as HomotheticItem, Quasi as QuasiItem}
-
--- Ranks prove that a preference has no violation: it has none, and they respect it. A cycle proves that it has one.
-abbrev pub ProvesOfPreference : ℕ → (ℕ → ℕ → Type 0) → (ℕ → ℕ → Type 0) → Garp → Type 0
-ProvesOfPreference n weak strict (Ranks ranks) = RespectPreference n weak strict ranks × HasNoViolation n weak strict
-ProvesOfPreference n weak strict (Cycle walk) = IsViolation n weak strict walk
-
--- The generalized axiom is about the preference at the level 1 (Varian 1982).
-abbrev pub ProvesGarp : ℕ → (ℕ → ℕ → ℕ) → Garp → Type 0
-ProvesGarp n c verdict = ProvesOfPreference n (IsWeak c 1 1) (IsStrict c 1 1) verdict
 
 -- An item proves its verdict.
 abbrev pub Proves : TableInput → Item → Type 0

@@ -2,12 +2,16 @@
 #![tactic(auto)]
 
 mod certificate;
+mod garp;
+mod homothetic;
 mod laws;
-mod products;
+mod level;
 mod quasilinear;
 mod relations;
 
-pub use certificate::{Certificate, Garp, Item, Kind, Level, withheld};
+pub use certificate::{Certificate, Item, Kind, withheld};
+pub use garp::Garp;
+pub use homothetic::Homothetic;
 pub use laws::{
     counts_are_unique, counts_respect, evidence_depends_on_observations,
     evidence_depends_on_observed_costs, ordering_ranks_exclude_violations_below,
@@ -15,6 +19,6 @@ pub use laws::{
     violations_have_walk_and_strict_step, violations_last_above, violations_turn,
     walk_and_strict_step_violate, weak_cycles_violate_above, weak_to_itself,
 };
-pub use products::Homothetic;
+pub use level::Level;
 pub use quasilinear::Quasi;
 pub use relations::{Preference, Relation};

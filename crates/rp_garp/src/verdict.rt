@@ -2,7 +2,7 @@ ghost use Rattle.std.specs.Prelude.{◌≡◌, ◌<◌, IfOk};
 ghost use Rattle.rp_evidence.specs.Count.{AreCounts};
 ghost use Rattle.rp_evidence.specs.First.{AreFirstRelated, IsFirstOf};
 ghost use Rattle.rp_evidence.specs.Preference.{IsStrict, IsWeak};
-ghost use Rattle.rp_evidence.specs.Proves.{ProvesGarp};
+ghost use Rattle.rp_evidence.specs.Garp.{ProvesGarp};
 ghost use Rattle.rp_pref.specs.Closure.{IsClosureOf};
 ghost use Rattle.rp_table.specs.Cost.{cost_at};
 ghost use Rattle.rp_garp.specs.Verdict.{IsCycleOf, IsGarpVerdict, IsLoop};
