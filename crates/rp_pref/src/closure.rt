@@ -3,6 +3,7 @@ ghost use Rattle.rp_evidence.specs.Count.{IsCount, IsNumberOf};
 ghost use Rattle.rp_evidence.specs.Preference.{IsLevel};
 ghost use Rattle.rp_evidence.specs.Walk.{Reaches};
 ghost use Rattle.rp_table.specs.Cost.{CostTable, cost_at};
+ghost use Rattle.rp_table.specs.declared.TheConstants.{RECORDS};
 ghost use Rattle.rp_pref.specs.Closure.{IsClosureOf, Reached, counts_in, reaches_in};
 ghost use Rattle.rp_pref.specs.Search.{IsStepIn};
 ghost use Rattle.rp_pref.specs.Steps.{IsStep};
@@ -91,7 +92,7 @@ pub fn closures_count()
 /// Which observations reach which by the steps of the table, by start and then by end.
 fn reached_pairs(alloc: Global, table: &[bool], n: u32) -> Result<Vec<bool>, NoMemory>
     requires size { length table.now ≡ n * n }
-    requires small { n ≤ 1024 }
+    requires small { n ≤ RECORDS }
     ensures size { IfOk result (λ pairs. length pairs.items ≡ n * n) }
     ensures exact { IfOk result (λ pairs. (s t : ℕ) → s < n → t < n
         → IsStepIn pairs.items n s t ↔ Reaches n (IsStepIn table.now n) s t) }
