@@ -1,21 +1,19 @@
 -- The first ratio with a closed walk of weak steps is the index.
-use Rattle.std.proofs.Common.{◌≡◌, ◌<◌, ◌≤◌, ◌*◌, ◌+◌, ◌^◌, ℕ, Bool, true, false, List, [], ◌∷◌, length, map, get_or, inl, inr, refl, sym, ap, subst, ◌∙◌, arith}
+use Rattle.std.proofs.Common.{◌≡◌, ◌<◌, ◌≤◌, ◌*◌, ◌+◌, ℕ, Bool, List, [], ◌∷◌, length, get_or, inl, inr, refl, sym, ap, subst, ◌∙◌, arith}
 use Rattle.std.proofs.Math.Nat.{mul-le-mul_left, mul-lt-mul_of_pos_left, lt_of_mul-lt-mul_left}
 use Rattle.std.proofs.lemmas.Bool.{cases_lt, cases_order, false≢true}
-use Rattle.std.proofs.lemmas.List.{length-map}
+use Rattle.std.proofs.lemmas.List.{get_or_default, length-map}
 use Rattle.std.proofs.lemmas.Nat.{mul-add-lt}
-use Rattle.rp_num.specs.Fraction.{Fraction, IsLowestTerms}
+use Rattle.rp_num.specs.Fraction.{IsLowestTerms}
 use Rattle.rp_evidence.specs.Efficiency.{IsEfficiencyIndex, IsRatio}
-use Rattle.rp_evidence.specs.Preference.{IsLevel, IsWeak}
-use Rattle.rp_evidence.specs.Walk.{IsClosedWalk}
 use Rattle.rp_evidence.proofs.Index.{NoLowerCycle, closed_rises, index_by_cycle, index_same}
 use Rattle.rp_table.specs.Cost.{CostTable, IsCostTable, cost_at}
 use Rattle.rp_effic.specs.Cycles.{HasCycle, cycle_values, has_cycle, has_cycle-true, true-has_cycle}
-use Rattle.rp_effic.specs.Places.{IsFirstTrue, value_at}
+use Rattle.rp_effic.specs.Places.{IsFirstTrue}
 use Rattle.rp_effic.specs.RatioOrder.{level_den}
 use Rattle.rp_effic.specs.Ratios.{AreRatios}
 use Rattle.rp_effic.specs.declared.ratio.Ratio.{Ratio}
-use Rattle.rp_effic.proofs.Asked.{element, value_is, value_there}
+use Rattle.rp_effic.proofs.Asked.{value_is}
 
 -- every cost between observations is positive
 pub cost_positive : (costs : CostTable) → IsCostTable costs → (s t : ℕ) → s < costs.n → t < costs.n → 0 < cost_at costs s t
@@ -76,8 +74,7 @@ module _ (costs : CostTable) (valid : IsCostTable costs) (ratios : List Ratio) (
       let cycle = has_cycle-true costs.n (cost_at costs) r.part r.whole (sym (value_is costs ratios place r within (there r)) ∙ first.true_there (omega (arith, long))) in
       index_by_cycle costs.n (cost_at costs) own r.part r.whole cycle.0 r.level cycle.1 (none_lower r there)
 
-  pub index_at_place : (d : Ratio) (num den : ℕ) → IsLowestTerms (get_or ratios place d).part (get_or ratios place d).whole (record { num = num; den = den }) → IsEfficiencyIndex costs.n (cost_at costs) num den
-  index_at_place d num den lowest =
-      let e = element ratios place place_within in
-      let at_e = rw (e.1 d) at lowest in
-      index_same costs.n e.0.part e.0.whole num den (cost_at costs) at_e.positive at_e.same_number (index_there e.0 e.1)
+  pub index_at_place : (r : Ratio) (num den : ℕ) → get_or ratios place r ≡ r → IsLowestTerms r.part r.whole (record { num = num; den = den }) → IsEfficiencyIndex costs.n (cost_at costs) num den
+  index_at_place r num den there lowest =
+      index_same costs.n r.part r.whole num den (cost_at costs) lowest.positive lowest.same_number
+      (index_there r (λ d. get_or_default ratios place d r place_within ∙ there))

@@ -1,3 +1,4 @@
+pub mod Counted
 pub mod Cycles
 pub mod Places
 pub mod RatioOrder

@@ -1,7 +1,7 @@
 -- The exact order of ratios of positive numbers, by their cross products.
-use Rattle.std.specs.Prelude.{◌≡◌, ℕ, ◌*◌, ◌<◌, refl}
+use Rattle.std.specs.Prelude.{◌≡◌, ℕ, ◌*◌, ◌<◌}
 use Rattle.std.proofs.Common.{sym, ap, ◌∙◌, arith}
-use Rattle.std.proofs.Math.Nat.{lt_of_mul-lt-mul_left, mul-lt-mul_of_pos_left, eq_of_mul-eq-mul_right}
+use Rattle.std.proofs.Math.Nat.{lt_of_mul-lt-mul_left, mul-lt-mul_of_pos_left}
 use Rattle.std.specs.Cmp.{IsTotalOrder, nat_cmp_is, nat_cmp_total, ranked, ranks}
 use Rattle.std.specs.Ordering.{MatchOrdering, nat_cmp}
 use Rattle.rp_evidence.specs.Preference.{IsLevel}

@@ -19,7 +19,7 @@ module _ (n : ℕ) (c : ℕ → ℕ → ℕ) (some : 1 ≤ n) (positive : (s t :
       has_weaker_step n (IsWeak c num den) (IsRatio c a b) (IsRatio c num den) (λ s t s_in t_in e. ratio_same c a b num den s t pos same e) x l.0 w l.1.1 h
 
   -- the index has a closed walk of weak steps at it
-  walk_at_index : (num den : ℕ) → IsEfficiencyIndex n c num den → (walk : List ℕ) × IsClosedWalk n (IsWeak c num den) walk
+  pub walk_at_index : (num den : ℕ) → IsEfficiencyIndex n c num den → (walk : List ℕ) × IsClosedWalk n (IsWeak c num den) walk
   walk_at_index num den index =
       let r = index_exists n c some positive in
       let same = index_is_one n r.0 r.1 num den c r.4 index in

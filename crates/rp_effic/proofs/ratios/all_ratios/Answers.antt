@@ -1,4 +1,4 @@
-use Rattle.std.proofs.Common.{◌≡◌, ◌<◌, ◌≤◌, ◌*◌, arith}
+use Rattle.std.proofs.Common.{arith}
 use Rattle.std.proofs.lemmas.List.{length_push}
 use Rattle.rp_table.specs.Cost.{cost_at}
 use Rattle.rp_effic.proofs.Collected.{all_seen, seen_with, seen_without}
