@@ -22,14 +22,13 @@ pub use afriat_laws::{
     standard_numbers_are_a_model, standard_numbers_are_unique, standard_numbers_exist,
     utilities_are_unique, width_is_passed_first_once,
 };
-pub use certificate::{Certificate, Garp, Item, Kind, Level, withheld};
+pub use certificate::{Certificate, Item, Kind, withheld};
 pub use demand_laws::{
     equal_pairs_bound_goods, inner_demands_support, mixtures_support,
     supporting_demands_cost_enough,
 };
 pub use efficiency::Efficiency;
 pub use efficiency_laws::{efficiency_index_is_threshold, efficiency_index_is_unique};
-pub use certificate::{Certificate, Item, Kind, withheld};
 pub use garp::Garp;
 pub use homothetic::Homothetic;
 pub use laws::{
