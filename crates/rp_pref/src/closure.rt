@@ -39,7 +39,8 @@ impl Closure {
     pub fn of(alloc: Global, costs: &Costs, level: Level, steps: Steps) -> Result<Closure, NoMemory>
         requires { IsLevel level.num level.den }
         ensures { IfOk result (λ closure.
-            IsClosureOf closure costs.now.n (IsStep steps (cost_at costs.now) level.num level.den)) }
+            IsClosureOf closure costs.now.n
+            (IsStep steps (cost_at costs.now) level.num level.den)) }
     {
         let n = costs.n();
         let table = step_table(alloc, costs, level, steps)?;
@@ -106,7 +107,8 @@ fn reached_pairs(alloc: Global, table: &[bool], n: u32) -> Result<Vec<bool>, NoM
 
 /// Appends a truth value for each depth, false where it is 0.
 fn append_reached(pairs: &mut Vec<bool>, depths: &[u32]) -> Result<(), NoMemory>
-    ensures { OnOk result (pairs.new.items ≡ pairs.old.items ++ map (λ d. not (d == 0)) depths.now) }
+    ensures { OnOk result (
+        pairs.new.items ≡ pairs.old.items ++ map (λ d. not (d == 0)) depths.now) }
 {
     for depth in depths {
         pairs.push(*depth != 0)?;
