@@ -8,3 +8,4 @@ pub mod Gains
 pub mod FaultLines
 pub mod Causes
 pub mod Conversions
+pub mod StatusNumbers
