@@ -1,1 +1,5 @@
+pub mod GarpText
+pub mod HomotheticText
+pub mod ListText
+pub mod QuasilinearText
 pub mod ReportText

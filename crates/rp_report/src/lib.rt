@@ -1,8 +1,10 @@
 //! The report that a certificate is printed as.
 #![tactic(auto)]
 
+mod garp;
+mod homothetic;
 mod lists;
-mod products;
+mod quasilinear;
 mod tables;
 
 pub use tables::report;

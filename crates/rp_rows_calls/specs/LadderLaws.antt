@@ -4,8 +4,8 @@ use Rattle.std.proofs.lemmas.Int.{ints}
 use Rattle.rp_walk.specs.ExactTotal.{ExactTotal, SameTotal}
 use Rattle.rp_walk.specs.LeastTotals.{FitsAlike}
 use Rattle.rp_walk.proofs.Levels.{SameTotal-trans}
-use Rattle.rp_quasi.specs.Sums.{whole}
+use Rattle.rp_walk.specs.Sums.{whole_total}
 use Rattle.rp_rows_calls.specs.Ladder.{FitsOne}
 
 pub ones_fit_alike : FitsAlike FitsOne
-ones_fit_alike x y h (z, high, low, same) = (z, high, low, SameTotal-trans y x (whole z) (sym h) same)
+ones_fit_alike x y h (z, high, low, same) = (z, high, low, SameTotal-trans y x (whole_total z) (sym h) same)

@@ -1,5 +1,6 @@
 ghost use Rattle.std.specs.Prelude.{◌≡◌, ◌<◌, ◌≤◌};
 ghost use Rattle.rp_rows_calls.specs.Ladder.{ladder_cost};
+ghost use Rattle.rp_walk.specs.declared.TheConstants.{MOST_OBSERVATIONS};
 
 use rp_evidence::Quasi;
 use rp_num::Wide;
@@ -13,7 +14,7 @@ use std::test::Fail;
 #[derive(Drop)]
 struct Ladder {
     n: u32,
-    ghost few: { (1 ≤ n) × (n ≤ 4096) },
+    ghost few: { (1 ≤ n) × (n ≤ MOST_OBSERVATIONS) },
 }
 
 impl Ladder {
@@ -36,14 +37,15 @@ impl Ladder {
 impl Total for Ladder {
     type Value = i8;
 
-    ghost use Rattle.rp_quasi.specs.Sums.{sums, whole};
-    ghost use Rattle.rp_quasi.specs.SumLaws.{sums_keep_order, sums_stay};
+    ghost use Rattle.rp_evidence.specs.Quasilinear.{step_sum};
+    ghost use Rattle.rp_quasi.specs.SumLaws.{costs_keep_order, costs_stay};
     ghost use Rattle.rp_rows_calls.specs.Ladder.{FitsOne, ladder_cost};
     ghost use Rattle.rp_rows_calls.specs.LadderLaws.{ones_fit_alike};
+    ghost use Rattle.rp_walk.specs.Sums.{sums, whole_total};
 
-    ghost steps = { λ a. sums a.n ladder_cost };
+    ghost rule = { λ a. sums a.n (step_sum ladder_cost) };
 
-    ghost exact = { whole };
+    ghost exact = { whole_total };
 
     ghost fits = { FitsOne };
 
@@ -72,9 +74,9 @@ impl Total for Ladder {
         self.cost(s, t) + self.cost(t, s) < self.cost(s, s) + self.cost(t, t)
     }
 
-    ghost keeps_order = { λ a. sums_keep_order a.n ladder_cost };
+    ghost keeps_order = { λ a. costs_keep_order a.n ladder_cost };
 
-    ghost stays = { λ a. sums_stay a.n ladder_cost };
+    ghost stays = { λ a. costs_stay a.n ladder_cost };
 
     ghost fits_alike = { ones_fit_alike };
 }
