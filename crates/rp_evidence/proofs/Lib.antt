@@ -10,6 +10,7 @@ pub mod Loops
 pub mod Places
 pub mod Ratios
 pub mod SameCosts
+pub mod SameIndex
 pub mod SameItems
 pub mod SameProducts
 pub mod SameSums

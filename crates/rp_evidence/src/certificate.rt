@@ -1,6 +1,7 @@
 ghost use Rattle.std.specs.Prelude.{◌≡◌, ◌-◌, ◌^◌, min, sum_by};
 ghost use Rattle.rp_evidence.specs.Withheld.{withheld_in};
 
+use crate::efficiency::Efficiency;
 use crate::products::Homothetic;
 use crate::quasilinear::Quasi;
 use rp_num::Seq;
@@ -24,6 +25,7 @@ pub enum Garp {
 #[derive(Debug, Drop)]
 pub enum Item {
     Garp(Garp),
+    Efficiency(Efficiency),
     Homothetic(Homothetic),
     Quasi(Quasi),
 }
@@ -49,6 +51,7 @@ fn withheld_in_item(item: &Item) -> u32
 {
     match item {
         Item::Garp(_) => 0,
+        Item::Efficiency(_) => 0,
         Item::Homothetic(verdict) => match verdict {
             Homothetic::Withheld { .. } => 1,
             _ => 0,

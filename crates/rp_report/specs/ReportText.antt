@@ -1,17 +1,19 @@
 -- The report of a certificate as text (this program's own format). Each line ends with a line feed.
-use Rattle.std.specs.Prelude.{ℕ, ℤ, ◌+◌, List, [], ◌∷◌, ◌++◌, codes}
+use Rattle.std.specs.Prelude.{ℕ, ℤ, ◌+◌, ◌==◌, if◌then◌else◌, List, [], ◌∷◌, ◌++◌, codes}
 use Rattle.std.specs.List.{flat_map}
 use Rattle.std.specs.Fmt.{decimal, signed_decimal}
 use Rattle.rp_num.specs.Fraction.{Fraction, fraction_text}
 use Rattle.rp_table.specs.Tables.{Observations, goods_of, records_of}
 use Rattle.rp_evidence.specs.declared.certificate.Garp.{Garp}
 use Rattle.rp_evidence.specs.declared.certificate.Garp.TheVariants.{Ranks, Cycle}
+use Rattle.rp_evidence.specs.declared.certificate.Level.{Level}
+use Rattle.rp_evidence.specs.declared.efficiency.Efficiency.{Efficiency}
 use Rattle.rp_evidence.specs.declared.products.Homothetic.{Homothetic}
 use Rattle.rp_evidence.specs.declared.products.Homothetic.TheVariants.{Values as ProductValues, Cycle as FallingCycle, Withheld}
 use Rattle.rp_evidence.specs.declared.quasilinear.Quasi.{Quasi}
 use Rattle.rp_evidence.specs.declared.quasilinear.Quasi.TheVariants.{Values, Cycle as NegativeCycle}
 use Rattle.rp_evidence.specs.declared.certificate.Item.{Item}
-use Rattle.rp_evidence.specs.declared.certificate.Item.TheVariants.{Garp as GarpItem, Homothetic as HomotheticItem, Quasi as QuasiItem}
+use Rattle.rp_evidence.specs.declared.certificate.Item.TheVariants.{Garp as GarpItem, Efficiency as EfficiencyItem, Homothetic as HomotheticItem, Quasi as QuasiItem}
 
 -- a line
 abbrev pub line_of : List ℕ → List ℕ
@@ -48,6 +50,29 @@ abbrev pub garp_text : Garp → List ℕ
 garp_text (Ranks ranks) = line_of (codes "garp holds") ++ line_of (codes "ranks " ++ numbers_text ranks)
 garp_text (Cycle cycle) = line_of (codes "garp violated") ++ line_of (codes "cycle " ++ observations_text cycle)
 
+-- a level with its parts as they stand
+abbrev pub level_text : Level → List ℕ
+level_text level = fraction_text (record { num = level.num; den = level.den })
+
+-- whether the index is attained
+abbrev pub attained_text : Garp → List ℕ
+attained_text (Ranks ranks) = codes "yes"
+attained_text (Cycle cycle) = codes "no"
+
+-- the evidence at the index
+abbrev pub at_text : Garp → List ℕ
+at_text (Ranks ranks) = line_of (codes "at ranks " ++ numbers_text ranks)
+at_text (Cycle cycle) = line_of (codes "at cycle " ++ observations_text cycle)
+
+-- the evidence above a level whose parts differ
+abbrev pub above_text : Level → List ℕ → List ℕ
+above_text level walk = if level.num == level.den then [] else line_of (codes "above " ++ observations_text walk)
+
+-- the efficiency index
+abbrev pub efficiency_text : Efficiency → List ℕ
+efficiency_text evidence = line_of (codes "efficiency " ++ level_text evidence.level ++ codes " attained " ++ attained_text evidence.at)
+    ++ line_of (codes "below " ++ numbers_text evidence.below) ++ above_text evidence.level evidence.above ++ at_text evidence.at
+
 -- a verdict of the homothetic test
 abbrev pub homothetic_text : Homothetic → List ℕ
 homothetic_text (ProductValues values) = line_of (codes "homothetic holds") ++ line_of (codes "values " ++ fractions_text values)
@@ -64,6 +89,7 @@ quasilinear_text (NegativeCycle cycle) = line_of (codes "quasilinear violated") 
 -- an item
 abbrev pub item_text : Item → List ℕ
 item_text (GarpItem verdict) = garp_text verdict
+item_text (EfficiencyItem evidence) = efficiency_text evidence
 item_text (HomotheticItem verdict) = homothetic_text verdict
 item_text (QuasiItem verdict) = quasilinear_text verdict
 

@@ -1,6 +1,7 @@
 ghost use Rattle.std.specs.Prelude.{◌≡◌, ◌++◌, IfOk, OnOk};
 ghost use Rattle.rp_report.specs.ReportText.{garp_text, head_text, item_text, quasilinear_text, report_text};
 
+use crate::efficiency::push_efficiency;
 use crate::lists::{push_line, push_number, push_observations, push_ranks, push_sums};
 use crate::products::push_homothetic;
 use rp_evidence::{Certificate, Garp, Item, Kind, Quasi};
@@ -39,6 +40,7 @@ fn push_item(alloc: Global, out: &mut Vec<u8>, item: &Item) -> Result<(), NoMemo
 {
     match item {
         Item::Garp(verdict) => push_garp(alloc, out, verdict),
+        Item::Efficiency(evidence) => push_efficiency(alloc, out, evidence),
         Item::Homothetic(verdict) => push_homothetic(alloc, out, verdict),
         Item::Quasi(verdict) => push_quasilinear(alloc, out, verdict),
     }
