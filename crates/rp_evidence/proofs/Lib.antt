@@ -1,6 +1,17 @@
+pub mod AfriatClasses
+pub mod AfriatModels
+pub mod AfriatStages
+pub mod AfriatSums
+pub mod AfriatTheorem
+mod AfriatTries
 pub mod Counting
 pub mod Counts
 mod HomotheticTries
+pub mod DemandBounds
+pub mod DemandLaws
+pub mod DemandMixtures
+mod DemandTries
+pub mod InnerDemand
 pub mod Index
 pub mod IndexExists
 pub mod IndexThreshold
@@ -8,6 +19,8 @@ mod IndexTries
 pub mod Levels
 pub mod Loops
 pub mod Places
+pub mod Supporting
+pub mod Reaching
 pub mod Ratios
 pub mod SameCosts
 pub mod SameIndex
@@ -15,5 +28,7 @@ pub mod SameItems
 pub mod SameProducts
 pub mod SameSums
 mod Tries
+pub mod Values
 pub mod Violations
 pub mod Walks
+pub mod WelfareLaws

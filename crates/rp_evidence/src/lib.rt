@@ -1,15 +1,30 @@
 //! The evidence that a verdict comes with, and the definitions that every verdict is judged by.
 #![tactic(auto)]
 
+mod afriat;
+mod afriat_laws;
 mod certificate;
+mod demand_laws;
 mod efficiency;
 mod efficiency_laws;
 mod laws;
 mod products;
 mod quasilinear;
 mod relations;
+mod value_laws;
+mod welfare_laws;
 
+pub use afriat::{AfriatPart, Numbers};
+pub use afriat_laws::{
+    fitting_numbers_pass_nowhere, models_exclude_violations, models_exist, observed_utilities,
+    standard_numbers_are_a_model, standard_numbers_are_unique, standard_numbers_exist,
+    utilities_are_unique, width_is_passed_first_once,
+};
 pub use certificate::{Certificate, Garp, Item, Kind, Level, withheld};
+pub use demand_laws::{
+    equal_pairs_bound_goods, inner_demands_support, mixtures_support,
+    supporting_demands_cost_enough,
+};
 pub use efficiency::Efficiency;
 pub use efficiency_laws::{efficiency_index_is_threshold, efficiency_index_is_unique};
 pub use laws::{
@@ -22,3 +37,7 @@ pub use laws::{
 pub use products::Homothetic;
 pub use quasilinear::Quasi;
 pub use relations::{Preference, Relation};
+pub use value_laws::{bound_products_meet_homothetic_test, bound_steps_meet_quasilinear_test};
+pub use welfare_laws::{
+    equal_pairs_bound_welfare, reaching_bundles_are_in_region, welfare_bounds_hold,
+};

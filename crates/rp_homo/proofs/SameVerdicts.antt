@@ -80,12 +80,15 @@ verdict_same n c d (Values values) same h = record {
   none_too_wide = same_none_wide n c d same h.none_too_wide;
   holds = meets_homothetic_same n c d same h.holds;
   one_each = h.one_each;
+  fit = h.fit;
   least = λ s hs. least_product_same n c d same s (value_at values s) (h.least s hs);
   steps_fit = λ t s ht hs. rw (← same t s ht hs, ← same t t ht ht) (h.steps_fit t s ht hs);
 }
 verdict_same n c d (Cycle start walk) same h = record {
   closed = h.closed;
+  simple = h.simple;
   lowest_terms = h.lowest_terms;
+  fits = h.fits;
   ends_below = ends_below_same n c d same start walk h.closed h.ends_below;
   products_fit = products_fit_same n c d same start walk h.closed h.products_fit;
   comes = comes h.comes;

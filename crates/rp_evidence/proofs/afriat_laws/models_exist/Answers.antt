@@ -1,0 +1,5 @@
+use Rattle.rp_evidence.proofs.AfriatTheorem.{model_exists}
+use Rattle.rp_evidence.proofs.afriat_laws.models_exist.Goals as goal
+
+pub returns : goal.returns
+returns c = model_exists

@@ -1,0 +1,37 @@
+-- What evidence for Afriat's theorem has to be to prove its verdict.
+use Rattle.std.specs.Prelude.{◌≡◌, ℕ, ℤ, pos, length, slice_index, slice_index_or}
+use Rattle.rp_evidence.specs.Afriat.{IsAfriatModel}
+use Rattle.rp_evidence.specs.Garp.{IsViolationAt, MeetsGarp}
+use Rattle.rp_evidence.specs.StandardNumbers.{AllFit, AreStandardNumbers, PassWidthFirstAt}
+use Rattle.rp_evidence.specs.declared.afriat.AfriatPart.{AfriatPart}
+use Rattle.rp_evidence.specs.declared.afriat.AfriatPart.TheVariants.{Model, NoModel, Wide}
+use Rattle.rp_evidence.specs.declared.afriat.Numbers.{Numbers}
+
+-- The utility and the multiplier of an observation; past the last they are 0.
+abbrev pub utility_in : Numbers → ℕ → ℤ
+utility_in numbers s = slice_index_or numbers.u s (pos 0)
+
+abbrev pub multiplier_in : Numbers → ℕ → ℕ
+multiplier_in numbers s = slice_index numbers.lambda s
+
+-- One utility and one multiplier for each of n observations.
+pub record AreOneEach (n : ℕ) (numbers : Numbers) : Type 0 where
+  pub utilities : length numbers.u ≡ n
+  pub multipliers : length numbers.lambda ≡ n
+
+-- A model proves its verdict where it is one, and a violation where it is one. What is withheld claims nothing.
+abbrev pub ProvesAfriat : ℕ → (ℕ → ℕ → ℕ) → AfriatPart → Type 0
+ProvesAfriat n c (Model numbers) = AreOneEach n numbers × IsAfriatModel n c (utility_in numbers) (multiplier_in numbers)
+ProvesAfriat n c (NoModel walk) = IsViolationAt n c 1 1 walk
+ProvesAfriat n c (Wide at) = Unit {0}
+
+-- What is given: where the axiom holds the standard numbers, or where they first pass their width; else a violation.
+abbrev pub IsAfriatGiven : ℕ → (ℕ → ℕ → ℕ) → AfriatPart → Type 0
+IsAfriatGiven n c (Model numbers) =
+    MeetsGarp n c 1 1 × AreOneEach n numbers × AllFit n (utility_in numbers) (multiplier_in numbers)
+    × ((count : ℕ → ℕ) × AreStandardNumbers n c count (utility_in numbers) (multiplier_in numbers))
+IsAfriatGiven n c (NoModel walk) = IsViolationAt n c 1 1 walk
+IsAfriatGiven n c (Wide at) =
+    MeetsGarp n c 1 1
+    × ((count : ℕ → ℕ) × (utility : ℕ → ℤ) × (multiplier : ℕ → ℕ)
+    × AreStandardNumbers n c count utility multiplier × PassWidthFirstAt n count utility multiplier at)

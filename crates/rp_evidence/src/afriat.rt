@@ -1,0 +1,19 @@
+use rp_num::Seq;
+
+/// The numbers of an Afriat model (Afriat 1967; Varian 1982): by observation the utility `u` and the multiplier
+/// `lambda`, which is the marginal utility of expenditure there.
+#[derive(Debug, Drop)]
+pub struct Numbers {
+    pub u: Seq<i128>,
+    pub lambda: Seq<u64>,
+}
+
+/// Evidence for a utility that rationalizes the choices: the numbers of an Afriat model, a violation of the
+/// generalized axiom as the observations that it walks through, the first again at its end, or the first observation
+/// whose number passed its width. Observations are numbered from 0.
+#[derive(Debug, Drop)]
+pub enum AfriatPart {
+    Model(Numbers),
+    NoModel(Seq<u32>),
+    Wide { at: u32 },
+}
