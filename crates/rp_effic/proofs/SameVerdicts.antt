@@ -2,8 +2,8 @@
 use Rattle.std.proofs.Common.{◌<◌, ◌↔◌, ℕ, List, arith}
 use Rattle.rp_evidence.specs.First.{IsFirstRelated}
 use Rattle.rp_evidence.specs.Preference.{AgreeBelow, IsStrict, IsWeak}
-use Rattle.rp_evidence.specs.declared.certificate.Garp.{Garp}
-use Rattle.rp_evidence.specs.declared.certificate.Garp.TheVariants.{Ranks, Cycle}
+use Rattle.rp_evidence.specs.declared.garp.Garp.{Garp}
+use Rattle.rp_evidence.specs.declared.garp.Garp.TheVariants.{Ranks, Cycle}
 use Rattle.rp_evidence.specs.declared.efficiency.Efficiency.{Efficiency}
 use Rattle.rp_evidence.proofs.SameCosts.{counts_same, reach_same, shortest_same, strict_same, weak_same}
 use Rattle.rp_effic.specs.Verdict.{IsAbove, IsAt, IsEfficiencyVerdict, IsFirstReturn, IsLoop}

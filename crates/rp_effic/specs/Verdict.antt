@@ -5,9 +5,9 @@ use Rattle.rp_evidence.specs.Count.{AreCounts}
 use Rattle.rp_evidence.specs.First.{IsFirstRelated}
 use Rattle.rp_evidence.specs.Preference.{IsStrict, IsWeak}
 use Rattle.rp_evidence.specs.Walk.{IsShortestWalk, Reaches}
-use Rattle.rp_evidence.specs.declared.certificate.Garp.{Garp}
-use Rattle.rp_evidence.specs.declared.certificate.Garp.TheVariants.{Ranks, Cycle}
-use Rattle.rp_evidence.specs.declared.certificate.Level.{Level}
+use Rattle.rp_evidence.specs.declared.garp.Garp.{Garp}
+use Rattle.rp_evidence.specs.declared.garp.Garp.TheVariants.{Ranks, Cycle}
+use Rattle.rp_evidence.specs.declared.level.Level.{Level}
 use Rattle.rp_evidence.specs.declared.efficiency.Efficiency.{Efficiency}
 
 -- The level is in lowest terms, and its parts are below 2^51, as costs are.

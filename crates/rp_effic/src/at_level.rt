@@ -1,7 +1,7 @@
 ghost use Rattle.std.specs.Prelude.{◌≡◌, ◌≢◌, ◌<◌, ◌⊎◌, ◌++◌, ◌∷◌, [], ℕ, List, IfOk, IsTrue, length, slice_index};
 ghost use Rattle.rp_evidence.specs.Count.{IsNumberOf};
 ghost use Rattle.rp_evidence.specs.First.{AreFirstRelated, IsFirstOf};
-ghost use Rattle.rp_evidence.specs.GarpEvidence.{ProvesOfPreference};
+ghost use Rattle.rp_evidence.specs.Garp.{ProvesOfPreference};
 ghost use Rattle.rp_evidence.specs.Preference.{IsLevel, IsStrict, IsWeak};
 ghost use Rattle.rp_evidence.specs.Walk.{IsShortestWalk, Reaches};
 ghost use Rattle.rp_pref.specs.Closure.{IsClosureOf, reaches_in};

@@ -1,10 +1,10 @@
 -- Evidence for the efficiency index on some costs is evidence on all that are the same between the observations.
 use Rattle.std.proofs.Common.{ℕ, List}
 use Rattle.rp_evidence.specs.Efficiency.{BoundsFromAbove, IsEfficiencyIndex, ProvesEfficiency}
-use Rattle.rp_evidence.specs.GarpEvidence.{ProvesOfPreference}
+use Rattle.rp_evidence.specs.Garp.{ProvesOfPreference}
 use Rattle.rp_evidence.specs.Preference.{AgreeBelow, IsStrict, IsWeak}
-use Rattle.rp_evidence.specs.declared.certificate.Garp.{Garp}
-use Rattle.rp_evidence.specs.declared.certificate.Garp.TheVariants.{Ranks, Cycle}
+use Rattle.rp_evidence.specs.declared.garp.Garp.{Garp}
+use Rattle.rp_evidence.specs.declared.garp.Garp.TheVariants.{Ranks, Cycle}
 use Rattle.rp_evidence.specs.declared.efficiency.Efficiency.{Efficiency}
 use Rattle.rp_evidence.proofs.SameCosts.{meets_same, order_same, respect_same, violation_same, walk_same, weak_same}
 

@@ -6,7 +6,8 @@ use Rattle.rp_evidence.specs.Efficiency.{ProvesEfficiency}
 use Rattle.rp_evidence.specs.Homothetic.{ProvesHomothetic}
 use Rattle.rp_evidence.specs.Input.{AgreeInputs, TableInput}
 use Rattle.rp_evidence.specs.Preference.{AgreeBelow}
-use Rattle.rp_evidence.specs.Proves.{Proves, ProvesGarp}
+use Rattle.rp_evidence.specs.Garp.{ProvesGarp}
+use Rattle.rp_evidence.specs.Proves.{Proves}
 use Rattle.rp_evidence.specs.Quasilinear.{ProvesQuasilinear}
 use Rattle.rp_evidence.specs.declared.certificate.Item.{Item}
 use Rattle.rp_evidence.specs.declared.certificate.Item.TheVariants.{Garp as GarpItem, Efficiency as EfficiencyItem, Homothetic as HomotheticItem, Quasi as QuasiItem}

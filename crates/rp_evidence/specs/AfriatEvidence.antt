@@ -1,8 +1,7 @@
 -- What evidence for Afriat's theorem has to be to prove its verdict.
 use Rattle.std.specs.Prelude.{◌≡◌, ℕ, ℤ, pos, length, slice_index, slice_index_or}
 use Rattle.rp_evidence.specs.Afriat.{IsAfriatModel}
-use Rattle.rp_evidence.specs.Garp.{IsViolationAt, MeetsGarp}
-use Rattle.rp_evidence.specs.StandardNumbers.{AllFit, AreStandardNumbers, PassWidthFirstAt}
+use Rattle.rp_evidence.specs.Garp.{IsViolationAt}
 use Rattle.rp_evidence.specs.declared.afriat.AfriatPart.{AfriatPart}
 use Rattle.rp_evidence.specs.declared.afriat.AfriatPart.TheVariants.{Model, NoModel, Wide}
 use Rattle.rp_evidence.specs.declared.afriat.Numbers.{Numbers}
@@ -24,14 +23,3 @@ abbrev pub ProvesAfriat : ℕ → (ℕ → ℕ → ℕ) → AfriatPart → Type 
 ProvesAfriat n c (Model numbers) = AreOneEach n numbers × IsAfriatModel n c (utility_in numbers) (multiplier_in numbers)
 ProvesAfriat n c (NoModel walk) = IsViolationAt n c 1 1 walk
 ProvesAfriat n c (Wide at) = Unit {0}
-
--- What is given: where the axiom holds the standard numbers, or where they first pass their width; else a violation.
-abbrev pub IsAfriatGiven : ℕ → (ℕ → ℕ → ℕ) → AfriatPart → Type 0
-IsAfriatGiven n c (Model numbers) =
-    MeetsGarp n c 1 1 × AreOneEach n numbers × AllFit n (utility_in numbers) (multiplier_in numbers)
-    × ((count : ℕ → ℕ) × AreStandardNumbers n c count (utility_in numbers) (multiplier_in numbers))
-IsAfriatGiven n c (NoModel walk) = IsViolationAt n c 1 1 walk
-IsAfriatGiven n c (Wide at) =
-    MeetsGarp n c 1 1
-    × ((count : ℕ → ℕ) × (utility : ℕ → ℤ) × (multiplier : ℕ → ℕ)
-    × AreStandardNumbers n c count utility multiplier × PassWidthFirstAt n count utility multiplier at)

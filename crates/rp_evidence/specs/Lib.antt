@@ -4,7 +4,6 @@ pub mod Count
 pub mod First
 pub mod Efficiency
 pub mod Garp
-pub mod GarpEvidence
 pub mod Homothetic
 pub mod Demand
 pub mod DemandPrograms

@@ -1,4 +1,5 @@
-use crate::certificate::{Garp, Level};
+use crate::garp::Garp;
+use crate::level::Level;
 use rp_num::Seq;
 
 /// Evidence for the critical cost efficiency index (Afriat 1973): the index; ranks that order the strict steps at it; a closed

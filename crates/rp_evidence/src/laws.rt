@@ -1,18 +1,18 @@
 ghost use Rattle.std.specs.Prelude.{◌≡◌, ◌↔◌, ◌<◌, ◌≤◌, ◌*◌, ◌++◌, ◌∷◌, [], ℕ, List, length, Contains, slice_index};
 ghost use Rattle.rp_evidence.specs.Count.{AreCounts, IsCount};
 ghost use Rattle.rp_evidence.specs.Efficiency.{ProvesEfficiency};
-ghost use Rattle.rp_evidence.specs.Garp.{HasNoViolation, IsViolation, IsViolationAt, ViolatesByPlaces};
+ghost use Rattle.rp_evidence.specs.Garp.{HasNoViolation, IsViolation, IsViolationAt, ProvesGarp, ViolatesByPlaces};
 ghost use Rattle.rp_evidence.specs.Homothetic.{ProvesHomothetic};
 ghost use Rattle.rp_evidence.specs.Input.{AgreeInputs, TableInput};
 ghost use Rattle.rp_evidence.specs.Preference.{AgreeBelow, IsStrict, IsWeak};
-ghost use Rattle.rp_evidence.specs.Proves.{Proves, ProvesGarp};
+ghost use Rattle.rp_evidence.specs.Proves.{Proves};
 ghost use Rattle.rp_evidence.specs.Quasilinear.{ProvesQuasilinear};
 ghost use Rattle.rp_evidence.specs.Ranks.{OrderSteps, OrderStrictSteps, RespectPreference};
 ghost use Rattle.rp_evidence.specs.Walk.{IsClosedWalk, IsWalk, Reaches};
-ghost use Rattle.rp_evidence.specs.declared.certificate.Garp.{Garp};
+ghost use Rattle.rp_evidence.specs.declared.garp.Garp.{Garp};
 ghost use Rattle.rp_evidence.specs.declared.certificate.Item.{Item};
 ghost use Rattle.rp_evidence.specs.declared.efficiency.Efficiency.{Efficiency};
-ghost use Rattle.rp_evidence.specs.declared.products.Homothetic.{Homothetic};
+ghost use Rattle.rp_evidence.specs.declared.homothetic.Homothetic.{Homothetic};
 ghost use Rattle.rp_evidence.specs.declared.quasilinear.Quasi.{Quasi};
 
 use crate::relations::{Preference, Relation};

@@ -7,8 +7,10 @@ mod certificate;
 mod demand_laws;
 mod efficiency;
 mod efficiency_laws;
+mod garp;
+mod homothetic;
 mod laws;
-mod products;
+mod level;
 mod quasilinear;
 mod relations;
 mod value_laws;
@@ -20,13 +22,15 @@ pub use afriat_laws::{
     standard_numbers_are_a_model, standard_numbers_are_unique, standard_numbers_exist,
     utilities_are_unique, width_is_passed_first_once,
 };
-pub use certificate::{Certificate, Garp, Item, Kind, Level, withheld};
+pub use certificate::{Certificate, Item, Kind, withheld};
 pub use demand_laws::{
     equal_pairs_bound_goods, inner_demands_support, mixtures_support,
     supporting_demands_cost_enough,
 };
 pub use efficiency::Efficiency;
 pub use efficiency_laws::{efficiency_index_is_threshold, efficiency_index_is_unique};
+pub use garp::Garp;
+pub use homothetic::Homothetic;
 pub use laws::{
     counts_are_unique, counts_respect, evidence_depends_on_observations,
     evidence_depends_on_observed_costs, ordering_ranks_exclude_violations_below,
@@ -34,7 +38,7 @@ pub use laws::{
     violations_have_walk_and_strict_step, violations_last_above, violations_turn,
     walk_and_strict_step_violate, weak_cycles_violate_above, weak_to_itself,
 };
-pub use products::Homothetic;
+pub use level::Level;
 pub use quasilinear::Quasi;
 pub use relations::{Preference, Relation};
 pub use value_laws::{bound_products_meet_homothetic_test, bound_steps_meet_quasilinear_test};

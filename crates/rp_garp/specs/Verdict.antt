@@ -5,8 +5,8 @@ use Rattle.rp_evidence.specs.Count.{AreCounts}
 use Rattle.rp_evidence.specs.First.{IsFirstRelated}
 use Rattle.rp_evidence.specs.Preference.{IsStrict, IsWeak}
 use Rattle.rp_evidence.specs.Walk.{IsShortestWalk, Reaches}
-use Rattle.rp_evidence.specs.declared.certificate.Garp.{Garp}
-use Rattle.rp_evidence.specs.declared.certificate.Garp.TheVariants.{Ranks, Cycle}
+use Rattle.rp_evidence.specs.declared.garp.Garp.{Garp}
+use Rattle.rp_evidence.specs.declared.garp.Garp.TheVariants.{Ranks, Cycle}
 
 -- s reaches t, and t is strictly preferred to s: a violation goes from s to t and back
 abbrev pub IsLoop : ℕ → (ℕ → ℕ → Type 0) → (ℕ → ℕ → Type 0) → ℕ → ℕ → Type 0

@@ -1,6 +1,6 @@
 ghost use Rattle.std.specs.Prelude.{ℕ};
 ghost use Rattle.rp_evidence.specs.Preference.{AgreeBelow};
-ghost use Rattle.rp_evidence.specs.declared.certificate.Garp.{Garp};
+ghost use Rattle.rp_evidence.specs.declared.garp.Garp.{Garp};
 ghost use Rattle.rp_garp.specs.Verdict.{IsGarpVerdict};
 
 /// The evidence that is given depends on the costs between observations alone.

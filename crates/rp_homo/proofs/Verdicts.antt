@@ -319,7 +319,7 @@ GivesCycle-settled n c positive limited start walk terms fits h =
         same_lowest start (record { num = 1; den = 1 }) terms.positive (omega arith) terms.coprime (λ d left right. eq-one_of_dvd-one left)
         (same_pos (start.num * 1) (1 * start.den) (same ∙ (λ i. pos (1 * at_least_one-is start.den terms.positive i))))
 
-    comes : IsBreakingCycle (products n c) (as_total start) walk ⊎ IsLevelCycle (products n c) FitsFraction (as_total start) walk → IsPairCycle n c start walk ⊎ IsLongCycle n c
+    comes : IsBreakingCycle (products n c) (as_total start) walk ⊎ IsLevelCycle (products n c) FitsFraction (as_total start) walk → IsPairCycle n c start walk ⊎ IsLongCycle n c start walk
     comes (inl p) = inl (record {
       s = p.s;
       t = p.t;
@@ -327,7 +327,7 @@ GivesCycle-settled n c positive limited start walk terms fits h =
       start_is = one_lowest start terms p.start_empty;
       walk_is = p.walk_is;
     })
-    comes (inr l) = inr (record { no_pair = NoPairFalls-breaks n c positive l.no_pair; none_too_wide = l.none_too_wide })
+    comes (inr l) = inr (record { no_pair = NoPairFalls-breaks n c positive l.no_pair; none_too_wide = l.none_too_wide; first_part = l.first_part })
 
     products_fit : IsBreakingCycle (products n c) (as_total start) walk ⊎ IsLevelCycle (products n c) FitsFraction (as_total start) walk → ProductsFit c start walk
     products_fit (inl p) =

@@ -2,12 +2,13 @@
 use Rattle.std.specs.Prelude.{◌≡◌, ℕ, ◌*◌, ◌<◌, ◌⊎◌, List, [], ◌∷◌, length}
 use Rattle.rp_num.specs.Fraction.{Fraction, FitsWidth, IsLowestTerms, PassesWidth}
 use Rattle.rp_walk.specs.LeastTotals.{IsFirstTooWide, NoneTooWide}
+use Rattle.rp_walk.specs.LevelWalk.{IsCutFromLevels}
 use Rattle.rp_walk.specs.Walk.{IsSimpleCycle}
 use Rattle.rp_evidence.specs.Walk.{AnyStep, IsClosedWalk}
 use Rattle.rp_evidence.specs.Homothetic.{EndsBelow, IsLeastProduct, MeetsHomotheticTest, ProductsFit, value_at}
-use Rattle.rp_evidence.specs.declared.products.Homothetic.{Homothetic}
-use Rattle.rp_evidence.specs.declared.products.Homothetic.TheVariants.{Values, Cycle, Withheld}
-use Rattle.rp_homo.specs.Products.{FitsFraction, products}
+use Rattle.rp_evidence.specs.declared.homothetic.Homothetic.{Homothetic}
+use Rattle.rp_evidence.specs.declared.homothetic.Homothetic.TheVariants.{Values, Cycle, Withheld}
+use Rattle.rp_homo.specs.Products.{FitsFraction, as_total, products}
 
 -- On the closed walk s, t, s the product is below 1.
 abbrev pub PairFalls : (ℕ → ℕ → ℕ) → ℕ → ℕ → Type 0
@@ -42,10 +43,12 @@ pub record IsPairCycle (n : ℕ) (c : ℕ → ℕ → ℕ) (start : Fraction) (w
   pub start_is : start ≡ record { num = 1; den = 1 }
   pub walk_is : walk ≡ s ∷ t ∷ s ∷ []
 
--- No pair falls, and no product is too wide.
-pub record IsLongCycle (n : ℕ) (c : ℕ → ℕ → ℕ) : Type 0 where
+-- No pair falls, and no product is too wide. The cycle is the first closed part of the walk that the levels give, and
+-- the start is the product there.
+pub record IsLongCycle (n : ℕ) (c : ℕ → ℕ → ℕ) (start : Fraction) (walk : List ℕ) : Type 0 where
   pub no_pair : NoPairFalls n c
   pub none_too_wide : NoneTooWide (products n c) FitsFraction
+  pub first_part : IsCutFromLevels (products n c) (as_total start) walk
 
 -- A closed walk that goes through no observation twice, along which the start is multiplied below itself, and when it
 -- comes. The start, in lowest terms, and the products along the walk are within the width.
@@ -56,7 +59,7 @@ pub record GivesCycle (n : ℕ) (c : ℕ → ℕ → ℕ) (start : Fraction) (wa
   pub fits : FitsWidth start
   pub ends_below : EndsBelow c start walk
   pub products_fit : ProductsFit c start walk
-  pub comes : IsPairCycle n c start walk ⊎ IsLongCycle n c
+  pub comes : IsPairCycle n c start walk ⊎ IsLongCycle n c start walk
 
 -- No pair falls, and this is the first triple that is too wide.
 pub record GivesWithheld (n : ℕ) (c : ℕ → ℕ → ℕ) (k t s : ℕ) : Type 0 where

@@ -6,14 +6,15 @@ use Rattle.std.proofs.Math.Nat.{mul-le-mul_right}
 use Rattle.std.specs.Prelude.{ℤ, pos, neg_ℤ, ◌+ℤ◌, ◌-ℤ◌, ◌<ℤ◌, ◌≤ℤ◌}
 use Rattle.rp_walk.specs.ExactTotal.{ExactTotal}
 use Rattle.rp_walk.specs.LeastTotals.{IsLeast}
-use Rattle.rp_walk.specs.Settled.{FallsBelowStart, HasLeastTotals}
-use Rattle.rp_walk.specs.Outcome.{SettlesInWide}
+use Rattle.rp_walk.specs.LevelWalk.{IsCutFromLevels}
+use Rattle.rp_walk.specs.Settled.{FallsBelowStart, HasLeastTotals, NoPairBreaks}
+use Rattle.rp_walk.specs.Outcome.{IsBreakingCycle, IsLevelCycle, SettlesInCycle, SettlesInWide}
 use Rattle.rp_walk.specs.Sums.{AddsWithin, FitsSum, added_along, sums, whole_total}
 use Rattle.rp_walk.proofs.Leads.{leads_from, leads_to}
 use Rattle.rp_walk.proofs.SumWalks.{least_sum_limits, negative_from, never_wide, no_negative_walk, sum_bound, sum_is, sum_lowest}
 use Rattle.rp_evidence.specs.Walk.{AnyStep, IsWalk}
 use Rattle.rp_evidence.specs.Quasilinear.{step_sum, sum_from, walk_sum, IsNegativeCycle, MeetsQuasilinearTest, IsLeastSum, BoundSteps}
-use Rattle.rp_quasi.specs.Verdict.{IsLimitedSum}
+use Rattle.rp_quasi.specs.Verdict.{GivesNegativeCycle, IsLimitedSum}
 use Rattle.rp_table.specs.Cost.{CostTable, IsCostTable, cost_at}
 use Rattle.rp_table.specs.declared.TheConstants.{RECORDS}
 
@@ -60,6 +61,18 @@ IsNegativeCycle-falls n c start walk v =
       closed = (v.first, (refl, leads_from n v.first v.first v.rest v.is_walk.begins_within v.is_walk.goes_within v.closed), omega (arith, v.has_step));
       negative = subst (λ z. z <ℤ pos 0) (along_is c v.first v.rest) (negative_from n (step_sum c) start v.first v.rest v.ends_below);
     })
+
+pub GivesNegativeCycle-settled : (n : ℕ) (c : ℕ → ℕ → ℕ) (start : ExactTotal) (walk : List ℕ) → SettlesInCycle (sums n (step_sum c)) FitsSum start walk → GivesNegativeCycle n c walk
+GivesNegativeCycle-settled n c start walk h = record {
+  negative = IsNegativeCycle-falls n c start walk h.falls;
+  simple = h.simple;
+  start = start;
+  comes = comes h.comes;
+}
+  where
+    comes : IsBreakingCycle (sums n (step_sum c)) start walk ⊎ IsLevelCycle (sums n (step_sum c)) FitsSum start walk → IsBreakingCycle (sums n (step_sum c)) start walk ⊎ (NoPairBreaks (sums n (step_sum c)) × IsCutFromLevels (sums n (step_sum c)) start walk)
+    comes (inl p) = inl p
+    comes (inr l) = inr (l.no_pair, l.first_part)
 
 pub BoundSteps-least : (n : ℕ) (c : ℕ → ℕ → ℕ) (values : List ℤ) → length values ≡ n → ((s : ℕ) (d : ℤ) → s < n → IsLeast (sums n (step_sum c)) s (whole_total (get_or values s d))) → BoundSteps n c values
 BoundSteps-least n c values len least = record {

@@ -1,7 +1,8 @@
 ghost use Rattle.std.specs.Prelude.{◌≡◌, ◌++◌, OnOk, codes};
-ghost use Rattle.rp_report.specs.ReportText.{above_text, at_text, attained_text, efficiency_text, level_text, line_of};
+ghost use Rattle.rp_report.specs.EfficiencyText.{above_text, at_text, attained_text, efficiency_text, level_text};
+ghost use Rattle.rp_report.specs.ListText.{line_of};
 
-use crate::lists::{push_line, push_observations, push_ranks};
+use crate::lists::{push_line, push_numbers, push_observations};
 use rp_evidence::{Efficiency, Garp, Level};
 use rp_num::{NoMemory, print_u128};
 use std::alloc::Global;
@@ -15,7 +16,7 @@ pub(crate) fn push_efficiency(
     ensures { OnOk result (out.new.items ≡ out.old.items ++ efficiency_text evidence.now) }
 {
     push_index(alloc, out, evidence.level, &evidence.at)?;
-    push_ranks(alloc, out, b"below ", evidence.below.as_slice())?;
+    push_numbers(alloc, out, b"below ", evidence.below.as_slice())?;
     push_above(alloc, out, evidence.level, evidence.above.as_slice())?;
     push_at(alloc, out, &evidence.at)
 }
@@ -73,7 +74,7 @@ fn push_at(alloc: Global, out: &mut Vec<u8>, at: &Garp) -> Result<(), NoMemory>
     ensures { OnOk result (out.new.items ≡ out.old.items ++ at_text at.now) }
 {
     match at {
-        Garp::Ranks(ranks) => push_ranks(alloc, out, b"at ranks ", ranks.as_slice()),
+        Garp::Ranks(ranks) => push_numbers(alloc, out, b"at ranks ", ranks.as_slice()),
         Garp::Cycle(cycle) => push_observations(alloc, out, b"at cycle ", cycle.as_slice()),
     }
 }

@@ -2,8 +2,10 @@
 #![tactic(auto)]
 
 mod efficiency;
+mod garp;
+mod homothetic;
 mod lists;
-mod products;
+mod quasilinear;
 mod tables;
 
 pub use tables::report;

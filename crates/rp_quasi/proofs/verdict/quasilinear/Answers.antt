@@ -1,7 +1,7 @@
 use Rattle.std.proofs.Common.{arith, ◌≤◌}
 use Rattle.rp_table.specs.Cost.{cost_at}
 use Rattle.rp_table.specs.declared.TheConstants.{RECORDS}
-use Rattle.rp_quasi.proofs.Verdicts.{IsLeastSum-least, HasLeastTotals-values, MeetsQuasilinearTest-least, IsNegativeCycle-falls, BoundSteps-least, IsLimitedSum-least, sums_stay_narrow, costs_below}
+use Rattle.rp_quasi.proofs.Verdicts.{IsLeastSum-least, HasLeastTotals-values, MeetsQuasilinearTest-least, GivesNegativeCycle-settled, IsNegativeCycle-falls, BoundSteps-least, IsLimitedSum-least, sums_stay_narrow, costs_below}
 use Rattle.rp_quasi.proofs.verdict.quasilinear.Goals as goal
 
 pub unreachable-requires : goal.unreachable-requires
@@ -36,7 +36,7 @@ pub returns-in-Cycle-clause-verdict : goal.returns-in-Cycle-clause-verdict
 returns-in-Cycle-clause-verdict c =
     let costs = c.args.costs.now in
     let h = rw c.in-Cycle.is at c.in_ok-values.ensures in
-    (IsNegativeCycle-falls costs.n (cost_at costs) _ c.in-Cycle.steps h.falls, h.simple)
+    GivesNegativeCycle-settled costs.n (cost_at costs) _ c.in-Cycle.steps h
 
 pub returns-in-Cycle-clause-proves : goal.returns-in-Cycle-clause-proves
 returns-in-Cycle-clause-proves c =

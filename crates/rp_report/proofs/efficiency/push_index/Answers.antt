@@ -1,7 +1,7 @@
 use Rattle.std.proofs.lemmas.Result.{IfOk-equal}
 use Rattle.std.specs.Prelude.{codes}
 use Rattle.rp_report.proofs.Texts.{index_line}
-use Rattle.rp_report.specs.ReportText.{attained_text, level_text, line_of}
+use Rattle.rp_report.specs.EfficiencyText.{attained_text, level_text}
 use Rattle.rp_report.proofs.efficiency.push_index.Goals as goal
 
 pub returns : goal.returns

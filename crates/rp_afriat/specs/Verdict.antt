@@ -1,0 +1,19 @@
+-- What is given for Afriat's theorem: evidence for the axiom, or against it, or the place where a width is passed.
+use Rattle.std.specs.Prelude.{ℕ, ℤ}
+use Rattle.rp_evidence.specs.AfriatEvidence.{AreOneEach, multiplier_in, utility_in}
+use Rattle.rp_evidence.specs.Garp.{IsViolationAt, MeetsGarp}
+use Rattle.rp_evidence.specs.StandardNumbers.{AllFit, AreStandardNumbers, PassWidthFirstAt}
+use Rattle.rp_evidence.specs.declared.afriat.AfriatPart.{AfriatPart}
+use Rattle.rp_evidence.specs.declared.afriat.AfriatPart.TheVariants.{Model, NoModel, Wide}
+
+-- Where the axiom holds and no standard number passes its width, the standard numbers; where it holds and one does,
+-- the place of the first that does; where it fails, a violation.
+abbrev pub IsAfriatVerdict : ℕ → (ℕ → ℕ → ℕ) → AfriatPart → Type 0
+IsAfriatVerdict n c (Model numbers) =
+    MeetsGarp n c 1 1 × AreOneEach n numbers × AllFit n (utility_in numbers) (multiplier_in numbers)
+    × ((count : ℕ → ℕ) × AreStandardNumbers n c count (utility_in numbers) (multiplier_in numbers))
+IsAfriatVerdict n c (NoModel walk) = IsViolationAt n c 1 1 walk
+IsAfriatVerdict n c (Wide at) =
+    MeetsGarp n c 1 1
+    × ((count : ℕ → ℕ) × (utility : ℕ → ℤ) × (multiplier : ℕ → ℕ)
+    × AreStandardNumbers n c count utility multiplier × PassWidthFirstAt n count utility multiplier at)

@@ -1,0 +1,11 @@
+//! Afriat's numbers, which show that choices maximize a utility, and the utility that they give.
+#![tactic(auto)]
+
+mod bounds;
+mod classes;
+mod multipliers;
+mod utility;
+mod verdict;
+
+pub use utility::utility_at;
+pub use verdict::afriat;

@@ -1,0 +1,121 @@
+ghost use Rattle.std.specs.Prelude.{◌≡◌, ◌<◌, ◌≤◌, ◌-◌, ◌↔◌, ℕ, IsTrue, IfNone, IfOk, IfSome, length};
+ghost use Rattle.rp_evidence.specs.AfriatEvidence.{ProvesAfriat};
+ghost use Rattle.rp_evidence.specs.Count.{AreCounts};
+ghost use Rattle.rp_evidence.specs.Garp.{MeetsGarp};
+ghost use Rattle.rp_evidence.specs.Preference.{IsWeak};
+ghost use Rattle.rp_evidence.specs.Proves.{ProvesGarp};
+ghost use Rattle.rp_evidence.specs.StandardNumbers.{FitsUtility};
+ghost use Rattle.rp_table.specs.Cost.{cost_at};
+ghost use Rattle.rp_afriat.specs.Filling.{AreFilledAbove, AreForEach, FitAbove, StandardNumbersPassAt};
+ghost use Rattle.rp_afriat.specs.Verdict.{IsAfriatVerdict};
+
+use crate::bounds::WIDEST_UTILITY;
+use crate::classes::{class_utility, first_of, set_utility};
+use crate::multipliers::set_multipliers;
+use rp_evidence::{AfriatPart, Garp, Level, Numbers};
+use rp_num::{NoMemory, Seq};
+use rp_pref::{Closure, Steps};
+use rp_table::Costs;
+use std::alloc::Global;
+
+/// Evidence by Afriat's theorem, from a true verdict on the generalized axiom: whole numbers of an Afriat model where
+/// it holds, class by class of the counts, unless one passes its width; else the violation.
+pub fn afriat(alloc: Global, costs: &Costs, verdict: &Garp) -> Result<AfriatPart, NoMemory>
+    requires { ProvesGarp costs.now.n (cost_at costs.now) verdict.now }
+    ensures proves { IfOk result (λ part. ProvesAfriat costs.now.n (cost_at costs.now) part) }
+    ensures given { IfOk result (λ part. IsAfriatVerdict costs.now.n (cost_at costs.now) part) }
+{
+    match verdict {
+        Garp::Ranks(_) => standard(alloc, costs),
+        Garp::Cycle(walk) => {
+            let walk = Vec::from_slice(alloc, walk.as_slice())?;
+            Ok(AfriatPart::NoModel(Seq::from_vec(walk)))
+        }
+    }
+}
+
+/// The standard numbers, or the place where they first pass their width.
+fn standard(alloc: Global, costs: &Costs) -> Result<AfriatPart, NoMemory>
+    requires { MeetsGarp costs.now.n (cost_at costs.now) 1 1 }
+    ensures proves { IfOk result (λ part. ProvesAfriat costs.now.n (cost_at costs.now) part) }
+    ensures given { IfOk result (λ part. IsAfriatVerdict costs.now.n (cost_at costs.now) part) }
+{
+    let n = costs.n() as usize;
+    let counts = counts(alloc, costs)?;
+    let mut u = vec![in alloc; 0i128; n]?;
+    let mut lambda = vec![in alloc; 0u64; n]?;
+    match fill(costs, &counts, &mut u, &mut lambda) {
+        Some(at) => Ok(AfriatPart::Wide { at }),
+        None => Ok(AfriatPart::Model(Numbers {
+            u: Seq::from_vec(u),
+            lambda: Seq::from_vec(lambda),
+        })),
+    }
+}
+
+/// The counts of the observations.
+fn counts(alloc: Global, costs: &Costs) -> Result<Vec<u32>, NoMemory>
+    ensures { IfOk result (λ counts. AreCounts costs.now.n (IsWeak (cost_at costs.now) 1 1) counts.items) }
+{
+    let closure = Closure::of(alloc, costs, Level { num: 1, den: 1 }, Steps::Weak)?;
+    let mut counts = Vec::new(alloc);
+    for s in 0..costs.n() {
+        counts.push(closure.count(s))?;
+    }
+    Ok(counts)
+}
+
+/// Fills in the numbers from the highest class down, as far as they keep their widths; says where one does not.
+fn fill(costs: &Costs, counts: &[u32], u: &mut [i128], lambda: &mut [u64]) -> Option<u32>
+    requires counted { AreCounts costs.now.n (IsWeak (cost_at costs.now) 1 1) counts.now }
+    requires each { AreForEach costs.now.n counts.now u.old lambda.old }
+    ensures each { AreForEach costs.now.n counts.now u.new lambda.new }
+    ensures filled { IfNone result (AreFilledAbove costs.now.n (cost_at costs.now) counts.now u.new lambda.new 0) }
+    ensures fit { IfNone result (FitAbove costs.now.n counts.now u.new lambda.new 0) }
+    ensures stops { IfSome result (StandardNumbersPassAt costs.now.n (cost_at costs.now) counts.now) }
+{
+    let n = costs.n();
+    for done in 0..n {
+        if let Some(at) = fill_class(costs, counts, n - done, u, lambda) {
+            return Some(at);
+        }
+    }
+    None
+}
+
+/// Fills in the numbers of a class, those of all higher classes being there; says where one passes its width.
+fn fill_class(
+    costs: &Costs,
+    counts: &[u32],
+    class: u32,
+    u: &mut [i128],
+    lambda: &mut [u64],
+) -> Option<u32>
+    requires counted { AreCounts costs.now.n (IsWeak (cost_at costs.now) 1 1) counts.now }
+    requires each { AreForEach costs.now.n counts.now u.old lambda.old }
+    requires filled { AreFilledAbove costs.now.n (cost_at costs.now) counts.now u.old lambda.old class }
+    requires fit { FitAbove costs.now.n counts.now u.old lambda.old class }
+    ensures each { AreForEach costs.now.n counts.now u.new lambda.new }
+    ensures filled { IfNone result (AreFilledAbove costs.now.n (cost_at costs.now) counts.now u.new lambda.new (class - 1)) }
+    ensures fit { IfNone result (FitAbove costs.now.n counts.now u.new lambda.new (class - 1)) }
+    ensures stops { IfSome result (StandardNumbersPassAt costs.now.n (cost_at costs.now) counts.now) }
+{
+    match first_of(costs.n(), counts, class) {
+        None => None,
+        Some(first) => {
+            let x = class_utility(costs, counts, class, u, lambda);
+            if !utility_fits(x) {
+                return Some(first);
+            }
+            set_utility(counts, class, x, u);
+            set_multipliers(costs, counts, class, u, lambda)
+        }
+    }
+}
+
+/// Whether a utility is within its width.
+fn utility_fits(x: i128) -> bool
+    ensures { IsTrue result ↔ FitsUtility x }
+{
+    -WIDEST_UTILITY <= x && x <= WIDEST_UTILITY
+}
