@@ -10,6 +10,7 @@ mod HomotheticTries
 pub mod Levels
 pub mod Places
 pub mod Reaching
+pub mod SameAfriat
 pub mod SameCosts
 pub mod SameItems
 pub mod SameProducts

@@ -3,11 +3,11 @@ use Rattle.std.proofs.Common.{◌≡◌, ◌<◌, ◌≤◌, ◌*◌, ◌⊎◌,
 use Rattle.rp_evidence.specs.Count.{AreCounts, IsCount}
 use Rattle.rp_evidence.specs.Garp.{IsViolationAt, MeetsGarp}
 use Rattle.rp_evidence.specs.Preference.{AgreeBelow, IsStrict, IsWeak}
-use Rattle.rp_evidence.specs.Proves.{ProvesGarp}
+use Rattle.rp_evidence.specs.Garp.{ProvesGarp}
 use Rattle.rp_evidence.specs.Ranks.{OrderStrictSteps, RespectLevel}
 use Rattle.rp_evidence.specs.Walk.{IsShortestWalk, IsWalk, Reaches}
-use Rattle.rp_evidence.specs.declared.certificate.Garp.{Garp}
-use Rattle.rp_evidence.specs.declared.certificate.Garp.TheVariants.{Ranks, Cycle}
+use Rattle.rp_evidence.specs.declared.garp.Garp.{Garp}
+use Rattle.rp_evidence.specs.declared.garp.Garp.TheVariants.{Ranks, Cycle}
 use Rattle.rp_evidence.proofs.Counting.{number_same}
 use Rattle.rp_evidence.proofs.Violations.{violates_by_weaker}
 use Rattle.rp_evidence.proofs.Walks.{walks_by_weaker}

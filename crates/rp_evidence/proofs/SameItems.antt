@@ -1,14 +1,34 @@
--- Evidence for some costs is evidence for all that are the same between the observations.
-use Rattle.std.proofs.Common.{ℕ}
+-- Evidence for one input is evidence for every other that agrees with it.
+use Rattle.std.proofs.Common.{◌≡◌, ◌<◌, ◌*◌, ℕ, sym, ap, subst, ◌∙◌}
+use Rattle.rp_table.specs.Sums.{sum_below}
+use Rattle.rp_table.proofs.SumsBelow.{sum_below-same}
+use Rattle.rp_evidence.specs.AfriatEvidence.{ProvesAfriat}
+use Rattle.rp_evidence.specs.Homothetic.{ProvesHomothetic}
+use Rattle.rp_evidence.specs.Input.{AgreeInputs, TableInput}
 use Rattle.rp_evidence.specs.Preference.{AgreeBelow}
+use Rattle.rp_evidence.specs.Garp.{ProvesGarp}
 use Rattle.rp_evidence.specs.Proves.{Proves}
+use Rattle.rp_evidence.specs.Quasilinear.{ProvesQuasilinear}
 use Rattle.rp_evidence.specs.declared.certificate.Item.{Item}
-use Rattle.rp_evidence.specs.declared.certificate.Item.TheVariants.{Garp as GarpItem, Homothetic as HomotheticItem, Quasi as QuasiItem}
+use Rattle.rp_evidence.specs.declared.certificate.Item.TheVariants.{Garp as GarpItem, Afriat as AfriatItem, Homothetic as HomotheticItem, Quasi as QuasiItem}
+use Rattle.rp_evidence.proofs.SameAfriat.{afriat_same}
 use Rattle.rp_evidence.proofs.SameCosts.{garp_same}
 use Rattle.rp_evidence.proofs.SameProducts.{homothetic_same}
 use Rattle.rp_evidence.proofs.SameSums.{quasilinear_same}
 
-pub item_same : (n : ℕ) (c d : ℕ → ℕ → ℕ) (item : Item) → AgreeBelow n c d → Proves n c item → Proves n d item
-item_same n c d (GarpItem verdict) same p = garp_same n c d verdict same p
-item_same n c d (HomotheticItem verdict) same p = homothetic_same n c d verdict same p
-item_same n c d (QuasiItem verdict) same p = quasilinear_same n c d verdict same p
+module _ (input other : TableInput) (agree : AgreeInputs input other) where
+  costs_agree : AgreeBelow input.n input.cost other.cost
+  costs_agree s t s_in t_in =
+      input.sums s t s_in t_in
+      ∙ (sum_below-same (λ g. input.price s g * input.quantity t g) (λ g. other.price s g * other.quantity t g) input.goods bought
+      ∙ (ap (λ k. sum_below k (λ g. other.price s g * other.quantity t g)) agree.goods
+      ∙ sym (other.sums s t (subst (λ m. s < m) agree.n s_in) (subst (λ m. t < m) agree.n t_in))))
+    where
+      bought : (g : ℕ) → g < input.goods → input.price s g * input.quantity t g ≡ other.price s g * other.quantity t g
+      bought g g_in = let p = agree.prices s g s_in g_in in let q = agree.quantities t g t_in g_in in λ i. p i * q i
+
+  pub item_same : (item : Item) → Proves input item → Proves other item
+  item_same (GarpItem verdict) p = subst (λ m. ProvesGarp m other.cost verdict) agree.n (garp_same input.n input.cost other.cost verdict costs_agree p)
+  item_same (AfriatItem part) p = subst (λ m. ProvesAfriat m other.cost part) agree.n (afriat_same input.n input.cost other.cost part costs_agree p)
+  item_same (HomotheticItem verdict) p = subst (λ m. ProvesHomothetic m other.cost verdict) agree.n (homothetic_same input.n input.cost other.cost verdict costs_agree p)
+  item_same (QuasiItem verdict) p = subst (λ m. ProvesQuasilinear m other.cost verdict) agree.n (quasilinear_same input.n input.cost other.cost verdict costs_agree p)

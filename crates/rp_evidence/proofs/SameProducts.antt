@@ -5,8 +5,8 @@ use Rattle.rp_evidence.specs.Preference.{AgreeBelow}
 use Rattle.rp_evidence.specs.Homothetic.{EndsBelow, IsFallingCycle, IsLeastProduct, MeetsHomotheticTest, ProductsFit, ProvesHomothetic, StepsFitFrom, next_costs, own_costs, product_from, value_at}
 use Rattle.rp_evidence.specs.Quasilinear.{AnyStep}
 use Rattle.rp_evidence.specs.Walk.{IsClosedWalk, IsWalk, LeadsTo}
-use Rattle.rp_evidence.specs.declared.products.Homothetic.{Homothetic}
-use Rattle.rp_evidence.specs.declared.products.Homothetic.TheVariants.{Values, Cycle, Withheld}
+use Rattle.rp_evidence.specs.declared.homothetic.Homothetic.{Homothetic}
+use Rattle.rp_evidence.specs.declared.homothetic.Homothetic.TheVariants.{Values, Cycle, Withheld}
 use Rattle.rp_evidence.proofs.Walks.{starts_below}
 
 product_from_same : (n : ℕ) (f g : ℕ → ℕ → ℕ) → AgreeBelow n f g → (t e : ℕ) (rest : List ℕ) → LeadsTo n AnyStep t e rest → product_from f t rest ≡ product_from g t rest

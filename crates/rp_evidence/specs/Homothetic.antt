@@ -4,8 +4,8 @@ use Rattle.std.specs.Prelude.{◌≡◌, ℕ, ◌*◌, ◌<◌, ◌≤◌, List,
 use Rattle.rp_num.specs.Fraction.{Fraction, IsLowestTerms, PassesWidth}
 use Rattle.rp_evidence.specs.Walk.{IsWalk, IsClosedWalk}
 use Rattle.rp_evidence.specs.Quasilinear.{AnyStep}
-use Rattle.rp_evidence.specs.declared.products.Homothetic.{Homothetic}
-use Rattle.rp_evidence.specs.declared.products.Homothetic.TheVariants.{Values, Cycle, Withheld}
+use Rattle.rp_evidence.specs.declared.homothetic.Homothetic.{Homothetic}
+use Rattle.rp_evidence.specs.declared.homothetic.Homothetic.TheVariants.{Values, Cycle, Withheld}
 
 -- The product of the numbers f t s over the steps from t to the first of the list, and so on.
 abbrev pub product_from : (ℕ → ℕ → ℕ) → ℕ → List ℕ → ℕ
@@ -72,3 +72,8 @@ abbrev pub ProvesHomothetic : ℕ → (ℕ → ℕ → ℕ) → Homothetic → T
 ProvesHomothetic n c (Values values) = BoundProducts n c values × MeetsHomotheticTest n c
 ProvesHomothetic n c (Cycle start walk) = IsFallingCycle n c walk
 ProvesHomothetic n c (Withheld steps from to) = Unit {0}
+
+-- How many of its values a verdict leaves out.
+abbrev pub withheld_homothetic : Homothetic → ℕ
+withheld_homothetic (Withheld steps from to) = 1
+withheld_homothetic _ = 0

@@ -1,8 +1,10 @@
 pub mod Afriat
 pub mod AfriatEvidence
 pub mod Count
+pub mod First
 pub mod Garp
 pub mod Homothetic
+pub mod Input
 pub mod Preference
 pub mod Proves
 pub mod Quasilinear

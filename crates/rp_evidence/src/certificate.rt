@@ -1,29 +1,17 @@
 ghost use Rattle.std.specs.Prelude.{◌≡◌, ◌-◌, ◌^◌, min, sum_by};
 ghost use Rattle.rp_evidence.specs.Withheld.{withheld_in};
 
-use crate::products::Homothetic;
+use crate::afriat::AfriatPart;
+use crate::garp::Garp;
+use crate::homothetic::Homothetic;
 use crate::quasilinear::Quasi;
 use rp_num::Seq;
-
-/// A level of efficiency num/den between 0 and 1: the part of its expenditure that an observation counts as.
-#[derive(Clone, Copy, Debug, PartialEq, Eq)]
-pub struct Level {
-    pub num: u64,
-    pub den: u64,
-}
-
-/// Evidence for the generalized axiom of revealed preference: ranks by observation, or a violation as the
-/// observations that it walks through, the first again at its end. Observations are numbered from 0.
-#[derive(Debug, Drop)]
-pub enum Garp {
-    Ranks(Seq<u32>),
-    Cycle(Seq<u32>),
-}
 
 /// One verdict with its evidence.
 #[derive(Debug, Drop)]
 pub enum Item {
     Garp(Garp),
+    Afriat(AfriatPart),
     Homothetic(Homothetic),
     Quasi(Quasi),
 }
@@ -49,10 +37,8 @@ fn withheld_in_item(item: &Item) -> u32
 {
     match item {
         Item::Garp(_) => 0,
-        Item::Homothetic(verdict) => match verdict {
-            Homothetic::Withheld { .. } => 1,
-            _ => 0,
-        },
+        Item::Afriat(part) => part.withheld(),
+        Item::Homothetic(verdict) => verdict.withheld(),
         Item::Quasi(_) => 0,
     }
 }

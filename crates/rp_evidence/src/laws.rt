@@ -1,16 +1,26 @@
 ghost use Rattle.std.specs.Prelude.{◌≡◌, ◌↔◌, ◌<◌, ◌≤◌, ◌*◌, ◌++◌, ◌∷◌, [], ℕ, List, length, Contains, slice_index};
+ghost use Rattle.rp_evidence.specs.AfriatEvidence.{ProvesAfriat};
 ghost use Rattle.rp_evidence.specs.Count.{AreCounts, IsCount};
-ghost use Rattle.rp_evidence.specs.Garp.{IsViolationAt, MeetsGarp, ReachesAt, ViolatesByPlaces};
+ghost use Rattle.rp_evidence.specs.Garp.{HasNoViolation, IsViolation, IsViolationAt, ProvesGarp, ViolatesByPlaces};
+ghost use Rattle.rp_evidence.specs.Homothetic.{ProvesHomothetic};
+ghost use Rattle.rp_evidence.specs.Input.{AgreeInputs, TableInput};
 ghost use Rattle.rp_evidence.specs.Preference.{AgreeBelow, IsStrict, IsWeak};
 ghost use Rattle.rp_evidence.specs.Proves.{Proves};
-ghost use Rattle.rp_evidence.specs.Ranks.{OrderStrictSteps, RespectLevel};
-ghost use Rattle.rp_evidence.specs.Walk.{IsClosedWalk, IsWalk};
+ghost use Rattle.rp_evidence.specs.Quasilinear.{ProvesQuasilinear};
+ghost use Rattle.rp_evidence.specs.Ranks.{OrderSteps, OrderStrictSteps, RespectPreference};
+ghost use Rattle.rp_evidence.specs.Walk.{IsClosedWalk, IsWalk, Reaches};
+ghost use Rattle.rp_evidence.specs.declared.afriat.AfriatPart.{AfriatPart};
+ghost use Rattle.rp_evidence.specs.declared.garp.Garp.{Garp};
 ghost use Rattle.rp_evidence.specs.declared.certificate.Item.{Item};
+ghost use Rattle.rp_evidence.specs.declared.homothetic.Homothetic.{Homothetic};
+ghost use Rattle.rp_evidence.specs.declared.quasilinear.Quasi.{Quasi};
 
-/// Ranks that respect a level exclude every violation at it.
-pub fn ranks_exclude_violations()
-    ensures { (n num den : ℕ) (c : ℕ → ℕ → ℕ) (ranks walk : List ℕ)
-        → RespectLevel n c num den ranks → ¬ IsViolationAt n c num den walk }
+use crate::relations::{Preference, Relation};
+
+/// Ranks that respect a preference exclude every violation of it.
+pub fn ranks_exclude_violations<P: Preference>()
+    ensures { (n : ℕ) (ranks walk : List ℕ)
+        → RespectPreference n P.weak P.strict ranks → ¬ IsViolation n P.weak P.strict walk }
 {}
 
 /// Ranks that order the strict steps of a level exclude every violation at each smaller level.
@@ -35,17 +45,16 @@ pub fn weak_cycles_violate_above()
 {}
 
 /// A walk is a violation exactly where it is one by places.
-pub fn violations_by_places()
-    ensures { (n num den : ℕ) (c : ℕ → ℕ → ℕ) (walk : List ℕ)
-        → IsViolationAt n c num den walk
-        ↔ ViolatesByPlaces n (IsWeak c num den) (IsStrict c num den) walk }
+pub fn violations_by_places<P: Preference>()
+    ensures { (n : ℕ) (walk : List ℕ)
+        → IsViolation n P.weak P.strict walk ↔ ViolatesByPlaces n P.weak P.strict walk }
 {}
 
 /// A violation can be walked from each observation on it: turned so, it is a violation of the same length.
-pub fn violations_turn()
-    ensures { (n num den : ℕ) (c : ℕ → ℕ → ℕ) (walk : List ℕ) (s : ℕ)
-        → IsViolationAt n c num den walk → Contains walk s
-        → (turned : List ℕ) × IsViolationAt n c num den turned
+pub fn violations_turn<P: Preference>()
+    ensures { (n : ℕ) (walk : List ℕ) (s : ℕ)
+        → IsViolation n P.weak P.strict walk → Contains walk s
+        → (turned : List ℕ) × IsViolation n P.weak P.strict turned
         × (slice_index turned 0 ≡ s) × (length turned ≡ length walk) }
 {}
 
@@ -54,46 +63,58 @@ pub fn weak_to_itself()
     ensures { (c : ℕ → ℕ → ℕ) (s : ℕ) → IsWeak c 1 1 s s }
 {}
 
-/// What is strictly preferred is weakly preferred.
+/// What is strictly preferred at a level is weakly preferred at it.
 pub fn strict_is_weak()
     ensures { (num den s t : ℕ) (c : ℕ → ℕ → ℕ) → IsStrict c num den s t → IsWeak c num den s t }
 {}
 
-/// A walk of weak steps and a strict step from its end back to its beginning make a violation.
-pub fn walk_and_strict_step_violate()
-    ensures { (n num den s t : ℕ) (c : ℕ → ℕ → ℕ) (walk : List ℕ)
-        → IsWalk n (IsWeak c num den) s t walk → IsStrict c num den t s
-        → IsViolationAt n c num den (walk ++ s ∷ []) }
+/// A walk of weak steps and a strict step, which is a weak one too, from its end back to its beginning make a violation.
+pub fn walk_and_strict_step_violate<P: Preference>()
+    ensures { (n s t : ℕ) (walk : List ℕ)
+        → IsWalk n P.weak s t walk → P.weak t s → P.strict t s
+        → IsViolation n P.weak P.strict (walk ++ s ∷ []) }
 {}
 
 /// Where there is a violation, some observation reaches one that is strictly preferred to it.
-pub fn violations_have_walk_and_strict_step()
-    ensures { (n num den : ℕ) (c : ℕ → ℕ → ℕ) (walk : List ℕ) → IsViolationAt n c num den walk
-        → (s : ℕ) × (t : ℕ) × ReachesAt n c num den s t × IsStrict c num den t s }
+pub fn violations_have_walk_and_strict_step<P: Preference>()
+    ensures { (n : ℕ) (walk : List ℕ) → IsViolation n P.weak P.strict walk
+        → (s : ℕ) × (t : ℕ) × Reaches n P.weak s t × P.strict t s }
 {}
 
 /// An observation has one count only.
-pub fn counts_are_unique()
-    ensures { (n num den s j k : ℕ) (c : ℕ → ℕ → ℕ)
-        → IsCount n (IsWeak c num den) s j → IsCount n (IsWeak c num den) s k → j ≡ k }
+pub fn counts_are_unique<R: Relation>()
+    ensures { (n s j k : ℕ) → IsCount n R.step s j → IsCount n R.step s k → j ≡ k }
 {}
 
-/// The counts respect a level at which no violation exists.
-pub fn counts_respect()
-    ensures { (n num den : ℕ) (c : ℕ → ℕ → ℕ) (counts : List ℕ)
-        → AreCounts n (IsWeak c num den) counts → MeetsGarp n c num den
-        → RespectLevel n c num den counts }
+/// The counts respect a preference, of which strict steps are weak, where it has no violation.
+pub fn counts_respect<P: Preference>()
+    ensures { (n : ℕ) (counts : List ℕ)
+        → ((s t : ℕ) → s < n → t < n → P.strict s t → P.weak s t)
+        → AreCounts n P.weak counts → HasNoViolation n P.weak P.strict
+        → RespectPreference n P.weak P.strict counts }
 {}
 
-/// The counts over the strict steps order them where no closed walk of strict steps exists.
-pub fn strict_counts_order()
-    ensures { (n num den : ℕ) (c : ℕ → ℕ → ℕ) (counts : List ℕ)
-        → AreCounts n (IsStrict c num den) counts
-        → ((walk : List ℕ) → ¬ IsClosedWalk n (IsStrict c num den) walk)
-        → OrderStrictSteps n c num den counts }
+/// The counts over the steps of a relation order these where no closed walk of them exists.
+pub fn step_counts_order<R: Relation>()
+    ensures { (n : ℕ) (counts : List ℕ)
+        → AreCounts n R.step counts → ((walk : List ℕ) → ¬ IsClosedWalk n R.step walk)
+        → OrderSteps n R.step counts }
 {}
 
-/// Evidence depends on the costs between observations alone.
+/// Evidence on costs depends on those between observations alone.
 pub fn evidence_depends_on_observed_costs()
-    ensures { (n : ℕ) (c d : ℕ → ℕ → ℕ) (item : Item) → AgreeBelow n c d → Proves n c item → Proves n d item }
+    ensures garp { (n : ℕ) (c d : ℕ → ℕ → ℕ) (verdict : Garp)
+        → AgreeBelow n c d → ProvesGarp n c verdict → ProvesGarp n d verdict }
+    ensures afriat { (n : ℕ) (c d : ℕ → ℕ → ℕ) (part : AfriatPart)
+        → AgreeBelow n c d → ProvesAfriat n c part → ProvesAfriat n d part }
+    ensures homothetic { (n : ℕ) (c d : ℕ → ℕ → ℕ) (verdict : Homothetic)
+        → AgreeBelow n c d → ProvesHomothetic n c verdict → ProvesHomothetic n d verdict }
+    ensures quasilinear { (n : ℕ) (c d : ℕ → ℕ → ℕ) (verdict : Quasi)
+        → AgreeBelow n c d → ProvesQuasilinear n c verdict → ProvesQuasilinear n d verdict }
+{}
+
+/// Evidence depends on the prices and the quantities of the observations alone.
+pub fn evidence_depends_on_observations()
+    ensures { (input other : TableInput) (item : Item)
+        → AgreeInputs input other → Proves input item → Proves other item }
 {}

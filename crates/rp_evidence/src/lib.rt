@@ -4,9 +4,12 @@
 mod afriat;
 mod afriat_laws;
 mod certificate;
+mod garp;
+mod homothetic;
 mod laws;
-mod products;
+mod level;
 mod quasilinear;
+mod relations;
 
 pub use afriat::{AfriatPart, Numbers};
 pub use afriat_laws::{
@@ -14,13 +17,16 @@ pub use afriat_laws::{
     standard_numbers_are_a_model, standard_numbers_are_unique, standard_numbers_exist,
     utilities_are_unique, width_is_passed_first_once,
 };
-pub use certificate::{Certificate, Garp, Item, Kind, Level, withheld};
+pub use certificate::{Certificate, Item, Kind, withheld};
+pub use garp::Garp;
+pub use homothetic::Homothetic;
 pub use laws::{
-    counts_are_unique, counts_respect, evidence_depends_on_observed_costs,
-    ordering_ranks_exclude_violations_below, ranks_exclude_violations, strict_counts_order,
-    strict_is_weak, violations_by_places, violations_have_walk_and_strict_step,
-    violations_last_above, violations_turn, walk_and_strict_step_violate,
-    weak_cycles_violate_above, weak_to_itself,
+    counts_are_unique, counts_respect, evidence_depends_on_observations,
+    evidence_depends_on_observed_costs, ordering_ranks_exclude_violations_below,
+    ranks_exclude_violations, step_counts_order, strict_is_weak, violations_by_places,
+    violations_have_walk_and_strict_step, violations_last_above, violations_turn,
+    walk_and_strict_step_violate, weak_cycles_violate_above, weak_to_itself,
 };
-pub use products::Homothetic;
+pub use level::Level;
 pub use quasilinear::Quasi;
+pub use relations::{Preference, Relation};

@@ -1,3 +1,2 @@
-pub mod SameCosts
 pub mod SameVerdicts
 pub mod Verdicts

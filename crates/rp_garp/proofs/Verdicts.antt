@@ -3,31 +3,31 @@ use Rattle.std.proofs.Common.{◌≡◌, ◌<◌, ◌+◌, ◌++◌, ◌∷◌, 
 use Rattle.std.proofs.lemmas.Bool.{cases_eq}
 use Rattle.std.proofs.lemmas.List.{get_or_append_left, get_or_push, length_push}
 use Rattle.rp_evidence.specs.Count.{AreCounts}
-use Rattle.rp_evidence.specs.Garp.{IsViolationAt, MeetsGarp}
-use Rattle.rp_evidence.specs.Preference.{IsStrict, IsWeak}
-use Rattle.rp_evidence.specs.Ranks.{RespectLevel}
+use Rattle.rp_evidence.specs.First.{NoneRelated}
+use Rattle.rp_evidence.specs.Garp.{HasNoViolation, IsViolation}
+use Rattle.rp_evidence.specs.Garp.{ProvesOfPreference}
+use Rattle.rp_evidence.specs.declared.garp.Garp.TheVariants.{Ranks, Cycle}
 use Rattle.rp_evidence.proofs.Counts.{counts_respect_preference}
-use Rattle.rp_evidence.proofs.Levels.{strict_to_weak}
 use Rattle.rp_evidence.proofs.Violations.{has_reach_and_strict, reach_and_strict}
 use Rattle.rp_evidence.proofs.Walks.{reach_ends_below, reach_starts_below}
-use Rattle.rp_garp.specs.Verdict.{HasNoLoop, IsCycleOf, IsLoop}
+use Rattle.rp_garp.specs.Verdict.{IsCycleOf, IsLoop}
 
-module _ (n : ℕ) (c : ℕ → ℕ → ℕ) where
-  pub meets_without_loop : HasNoLoop n c → MeetsGarp n c 1 1
+module _ (n : ℕ) (weak strict : ℕ → ℕ → Type 0) (is_weak : (s t : ℕ) → s < n → t < n → strict s t → weak s t) where
+  pub meets_without_loop : NoneRelated n (IsLoop n weak strict) → HasNoViolation n weak strict
   meets_without_loop none walk v =
-      let r = has_reach_and_strict n (IsWeak c 1 1) (IsStrict c 1 1) walk v in
-      none r.0 r.1 (reach_starts_below n (IsWeak c 1 1) r.0 r.1 r.2) (reach_ends_below n (IsWeak c 1 1) r.0 r.1 r.2) (r.2, r.3)
+      let r = has_reach_and_strict n weak strict walk v in
+      none r.0 r.1 (reach_starts_below n weak r.0 r.1 r.2) (reach_ends_below n weak r.0 r.1 r.2) (r.2, r.3)
 
-  pub counts_prove : (ranks : List ℕ) → AreCounts n (IsWeak c 1 1) ranks → HasNoLoop n c → RespectLevel n c 1 1 ranks × MeetsGarp n c 1 1
-  counts_prove ranks are none = (
-    counts_respect_preference n (IsWeak c 1 1) (IsStrict c 1 1) (λ s t. strict_to_weak c 1 1 s t) ranks are (meets_without_loop none),
-    meets_without_loop none,
-  )
+  pub counts_prove : (ranks : List ℕ) → AreCounts n weak ranks → NoneRelated n (IsLoop n weak strict) → ProvesOfPreference n weak strict (Ranks ranks)
+  counts_prove ranks are none =
+      (counts_respect_preference n weak strict is_weak ranks are (meets_without_loop none), meets_without_loop none)
 
-  pub cycle_proves : (s t : ℕ) (cycle : List ℕ) → IsLoop n c s t → IsCycleOf n c s t cycle → IsViolationAt n c 1 1 cycle
+  pub cycle_proves : (s t : ℕ) (cycle : List ℕ) → IsLoop n weak strict s t → IsCycleOf n weak s t cycle → ProvesOfPreference n weak strict (Cycle cycle)
   cycle_proves s t cycle loop of =
-      subst (λ w. IsViolationAt n c 1 1 w) (sym of.2)
-      (reach_and_strict n (IsWeak c 1 1) (IsStrict c 1 1) s t of.0 of.1.leads (strict_to_weak c 1 1 t s loop.1) loop.1)
+      let from = reach_starts_below n weak s t loop.0 in
+      let to = reach_ends_below n weak s t loop.0 in
+      subst (λ w. IsViolation n weak strict w) (sym of.2)
+      (reach_and_strict n weak strict s t of.0 of.1.leads (is_weak t s to from loop.1) loop.1)
 
 -- one more entry at the end of a list
 module _ (R : ℕ → ℕ → Type 0) (xs : List ℕ) (s y : ℕ) (each : length xs ≡ s) (all : (t : ℕ) → t < s → R t (slice_index xs t)) (last : R s y) where

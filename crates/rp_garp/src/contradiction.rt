@@ -1,4 +1,6 @@
-ghost use Rattle.std.specs.Prelude.{ℕ, ◌<◌, MatchOption};
+ghost use Rattle.std.specs.Prelude.{ℕ, ◌<◌};
+ghost use Rattle.rp_evidence.specs.First.{IsFirstOf};
+ghost use Rattle.rp_evidence.specs.Preference.{IsStrict, IsWeak};
 ghost use Rattle.rp_table.specs.Cost.{cost_at};
 ghost use Rattle.rp_garp.specs.Pairs.{Contradict, IsPairs};
 
@@ -20,7 +22,8 @@ pub fn pairs(costs: &Costs) -> Option<(u32, u32)>
 /// The first observation that `s` contradicts.
 fn first_contradicted(costs: &Costs, s: u32) -> Option<u32>
     requires { s < costs.now.n }
-    ensures { MatchOption result ((t : ℕ) → t < costs.now.n → ¬ Contradict (cost_at costs.now) s t) (λ t. (t < costs.now.n) × Contradict (cost_at costs.now) s t × ((j : ℕ) → j < t → ¬ Contradict (cost_at costs.now) s j)) }
+    ensures { IsFirstOf costs.now.n
+        (Contradict (IsWeak (cost_at costs.now) 1 1) (IsStrict (cost_at costs.now) 1 1) s) result }
 {
     for t in 0..costs.n() {
         if costs.cost(s, t) <= costs.cost(s, s) && costs.cost(t, s) < costs.cost(t, t) {

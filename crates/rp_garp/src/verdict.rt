@@ -1,10 +1,11 @@
-ghost use Rattle.std.specs.Prelude.{◌≡◌, ◌<◌, ℕ, IfOk, MatchOption};
+ghost use Rattle.std.specs.Prelude.{◌≡◌, ◌<◌, IfOk};
 ghost use Rattle.rp_evidence.specs.Count.{AreCounts};
-ghost use Rattle.rp_evidence.specs.Preference.{IsWeak};
-ghost use Rattle.rp_evidence.specs.Proves.{ProvesGarp};
+ghost use Rattle.rp_evidence.specs.First.{AreFirstRelated, IsFirstOf};
+ghost use Rattle.rp_evidence.specs.Preference.{IsStrict, IsWeak};
+ghost use Rattle.rp_evidence.specs.Garp.{ProvesGarp};
 ghost use Rattle.rp_pref.specs.Closure.{IsClosureOf};
 ghost use Rattle.rp_table.specs.Cost.{cost_at};
-ghost use Rattle.rp_garp.specs.Verdict.{HasNoLoop, IsCycleOf, IsFirstLoop, IsGiven, IsLoop};
+ghost use Rattle.rp_garp.specs.Verdict.{IsCycleOf, IsGarpVerdict, IsLoop};
 
 use rp_evidence::{Garp, Level};
 use rp_num::{NoMemory, Seq};
@@ -17,7 +18,7 @@ use std::alloc::Global;
 /// preferred to the first.
 pub fn garp(alloc: Global, costs: &Costs) -> Result<Garp, NoMemory>
     ensures proves { IfOk result (λ verdict. ProvesGarp costs.now.n (cost_at costs.now) verdict) }
-    ensures given { IfOk result (λ verdict. IsGiven costs.now.n (cost_at costs.now) verdict) }
+    ensures given { IfOk result (λ verdict. IsGarpVerdict costs.now.n (cost_at costs.now) verdict) }
 {
     let closure = Closure::of(alloc, costs, whole(), Steps::Weak)?;
     match first_loop(costs, &closure) {
@@ -42,8 +43,8 @@ fn whole() -> Level
 /// The first two observations, by the first and then by the second, that make a loop.
 fn first_loop(costs: &Costs, closure: &Closure) -> Option<(u32, u32)>
     requires { IsClosureOf closure.now costs.now.n (IsWeak (cost_at costs.now) 1 1) }
-    ensures { MatchOption result (HasNoLoop costs.now.n (cost_at costs.now))
-        (λ p. IsFirstLoop costs.now.n (cost_at costs.now) p.0 p.1) }
+    ensures { AreFirstRelated costs.now.n (IsLoop costs.now.n
+        (IsWeak (cost_at costs.now) 1 1) (IsStrict (cost_at costs.now) 1 1)) result }
 {
     for s in 0..costs.n() {
         if let Some(t) = first_back(costs, closure, s) {
@@ -57,9 +58,8 @@ fn first_loop(costs: &Costs, closure: &Closure) -> Option<(u32, u32)>
 fn first_back(costs: &Costs, closure: &Closure, s: u32) -> Option<u32>
     requires closed { IsClosureOf closure.now costs.now.n (IsWeak (cost_at costs.now) 1 1) }
     requires start { s < costs.now.n }
-    ensures { MatchOption result ((t : ℕ) → t < costs.now.n → ¬ IsLoop costs.now.n (cost_at costs.now) s t)
-        (λ t. (t < costs.now.n) × IsLoop costs.now.n (cost_at costs.now) s t
-        × ((j : ℕ) → j < t → ¬ IsLoop costs.now.n (cost_at costs.now) s j)) }
+    ensures { IsFirstOf costs.now.n (IsLoop costs.now.n
+        (IsWeak (cost_at costs.now) 1 1) (IsStrict (cost_at costs.now) 1 1) s) result }
 {
     for t in 0..costs.n() {
         if closure.reaches(s, t) && strict(costs, whole(), t, s) {
@@ -85,8 +85,9 @@ fn counts(alloc: Global, costs: &Costs, closure: &Closure) -> Result<Seq<u32>, N
 fn cycle(alloc: Global, costs: &Costs, s: u32, t: u32) -> Result<Seq<u32>, NoMemory>
     requires from { s < costs.now.n }
     requires to { t < costs.now.n }
-    requires loops { IsLoop costs.now.n (cost_at costs.now) s t }
-    ensures { IfOk result (λ steps. IsCycleOf costs.now.n (cost_at costs.now) s t steps) }
+    requires loops { IsLoop costs.now.n
+        (IsWeak (cost_at costs.now) 1 1) (IsStrict (cost_at costs.now) 1 1) s t }
+    ensures { IfOk result (λ steps. IsCycleOf costs.now.n (IsWeak (cost_at costs.now) 1 1) s t steps) }
 {
     match walk_between(alloc, costs, whole(), Steps::Weak, s, t)? {
         Some(walk) => {

@@ -5,8 +5,8 @@ use Rattle.rp_walk.specs.Walk.{IsTotal, total_after}
 use Rattle.rp_walk.specs.LeastTotals.{IsLeastWithin, IsLive, IsTooWide, NoneTooWide}
 use Rattle.rp_evidence.specs.Preference.{AgreeBelow}
 use Rattle.rp_evidence.specs.Homothetic.{value_at}
-use Rattle.rp_evidence.specs.declared.products.Homothetic.{Homothetic}
-use Rattle.rp_evidence.specs.declared.products.Homothetic.TheVariants.{Values, Cycle, Withheld}
+use Rattle.rp_evidence.specs.declared.homothetic.Homothetic.{Homothetic}
+use Rattle.rp_evidence.specs.declared.homothetic.Homothetic.TheVariants.{Values, Cycle, Withheld}
 use Rattle.rp_evidence.proofs.SameCosts.{agree_back}
 use Rattle.rp_evidence.proofs.SameProducts.{ends_below_same, least_product_same, meets_homothetic_same, products_fit_same}
 use Rattle.rp_homo.specs.Products.{FitsFraction, products, times}

@@ -4,8 +4,8 @@ use Rattle.rp_walk.specs.LeastTotals.{IsFirstTooWide, NoneTooWide}
 use Rattle.rp_evidence.specs.Walk.{IsClosedWalk}
 use Rattle.rp_evidence.specs.Quasilinear.{AnyStep}
 use Rattle.rp_evidence.specs.Homothetic.{EndsBelow, IsLeastProduct, MeetsHomotheticTest, ProductsFit, value_at}
-use Rattle.rp_evidence.specs.declared.products.Homothetic.{Homothetic}
-use Rattle.rp_evidence.specs.declared.products.Homothetic.TheVariants.{Values, Cycle, Withheld}
+use Rattle.rp_evidence.specs.declared.homothetic.Homothetic.{Homothetic}
+use Rattle.rp_evidence.specs.declared.homothetic.Homothetic.TheVariants.{Values, Cycle, Withheld}
 use Rattle.rp_homo.specs.Products.{FitsFraction, products}
 
 -- On the closed walk s, t, s the product is below 1.

@@ -1,9 +1,10 @@
 -- What a finished search says of walks.
-use Rattle.std.proofs.Common.{◌≡◌, ◌≢◌, ◌<◌, ◌+◌, ◌↔◌, ℕ, Bool, List, ◌∷◌, length, inl, inr, refl, sym, subst, arith, get_or}
+use Rattle.std.proofs.Common.{◌≡◌, ◌≢◌, ◌<◌, ◌+◌, ◌*◌, ◌↔◌, ℕ, Bool, false, IsTrue, List, ◌∷◌, length, inl, inr, refl, sym, subst, arith, get_or}
 use Rattle.rp_evidence.specs.Walk.{IsWalk, IsShortestWalk, Reaches}
 use Rattle.rp_evidence.proofs.Walks.{walks_by_weaker}
-use Rattle.rp_pref.specs.Closure.{IsClosureOf}
+use Rattle.rp_pref.specs.Closure.{IsClosureOf, reached_by}
 use Rattle.rp_pref.specs.Search.{IsStepIn, AreDepths, AreLeastDepths, IsNoted, LeadBack}
+use Rattle.rp_pref.proofs.Tables.{reaches_in_by}
 use Rattle.rp_pref.proofs.Deepening.{walk_of_depth}
 
 -- ---- what has a depth is what is reached
@@ -68,12 +69,12 @@ module _ (n m s t : ℕ) (size : n ≡ m) (told table : List Bool) (is_table : t
       shortest_by_depth table m s t depths step same least_here walk
       (walks_by_notes table m s depths before are_here s t walk (subst (λ k. IsWalk k (IsNoted s depths before) s t walk) size h)) e (omega arith)
 
-pub closure_by_table : (n m : ℕ) → n ≡ m → (told table pairs : List Bool) → told ≡ table → (step : ℕ → ℕ → Type 0) → ((s t : ℕ) → s < m → t < m → IsStepIn table m s t ↔ step s t) → ((s t : ℕ) → s < n → t < n → IsStepIn pairs n s t ↔ Reaches n (IsStepIn told n) s t) → IsClosureOf (record { n = n; pairs = pairs }) m step
+pub closure_by_table : (n m : ℕ) → n ≡ m → (told table pairs : List Bool) → told ≡ table → (step : ℕ → ℕ → Type 0) → ((s t : ℕ) → s < m → t < m → IsStepIn table m s t ↔ step s t) → ((s t : ℕ) → s < n → t < n → IsStepIn pairs n s t ↔ Reaches n (IsStepIn told n) s t) → IsClosureOf (reached_by n (λ s t. get_or pairs (s * n + t) false)) m step
 closure_by_table n m size told table pairs is_table step same exact =
     subst Claim (sym size) closed (subst (λ x. (s t : ℕ) → s < n → t < n → IsStepIn pairs n s t ↔ Reaches n (IsStepIn x n) s t) is_table exact)
   where
     Claim : ℕ → Type 0
-    Claim k = ((s t : ℕ) → s < k → t < k → IsStepIn pairs k s t ↔ Reaches k (IsStepIn table k) s t) → IsClosureOf (record { n = k; pairs = pairs }) m step
+    Claim k = ((s t : ℕ) → s < k → t < k → IsStepIn pairs k s t ↔ Reaches k (IsStepIn table k) s t) → IsClosureOf (reached_by k (λ s t. get_or pairs (s * k + t) false)) m step
 
     closed : Claim m
     closed all = record {
@@ -81,5 +82,6 @@ closure_by_table n m size told table pairs is_table step same exact =
       exact = λ s t a b.
           let r = reaches_there m (IsStepIn table m) step same s t in
           let k = all s t a b in
+          subst (λ x. IsTrue x ↔ Reaches m step s t) (sym (reaches_in_by m (λ a b. get_or pairs (a * m + b) false) s t a b))
           (λ h. r.0 (k.0 h), λ h. k.1 (r.1 h));
     }

@@ -1,19 +1,20 @@
--- Which observations reach which.
-use Rattle.std.specs.Prelude.{◌≡◌, ◌<◌, ◌+◌, ◌*◌, ◌↔◌, ◌==◌, ◌||◌, ℕ, Bool, false, List, IsTrue, length, slice_index_or}
+-- Which observations reach which (the transitive closure of revealed preference, Varian 1982).
+use Rattle.std.specs.Prelude.{◌≡◌, ◌<◌, ◌↔◌, ◌==◌, ◌||◌, ℕ, Bool, false, List, [], IsTrue, map, slice_index_or}
+use Rattle.std.specs.List.{range_with_len}
 use Rattle.rp_evidence.specs.Walk.{Reaches}
 
--- For n observations a truth value for each pair, by start and then by end.
+-- For n observations a row of n truth values for each.
 pub record Reached : Type 0 where
   pub n : ℕ
-  pub pairs : List Bool
+  pub rows : List (List Bool)
 
--- There is one truth value for each pair.
-abbrev pub IsReached : Reached → Type 0
-IsReached reached = length reached.pairs ≡ reached.n * reached.n
+-- The function of two observations, tabulated below n.
+abbrev pub reached_by : ℕ → (ℕ → ℕ → Bool) → Reached
+reached_by n f = record { n = n; rows = map (λ s. map (f s) (range_with_len 0 n)) (range_with_len 0 n) }
 
 -- The truth value of the pair s, t.
 abbrev pub reaches_in : Reached → ℕ → ℕ → Bool
-reaches_in reached s t = slice_index_or reached.pairs (s * reached.n + t) false
+reaches_in reached s t = slice_index_or (slice_index_or reached.rows s []) t false
 
 -- t is s or is reached from it.
 abbrev pub counts_in : Reached → ℕ → ℕ → Bool

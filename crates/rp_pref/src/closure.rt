@@ -16,7 +16,7 @@ use rp_table::Costs;
 use std::alloc::Global;
 use std::marker::Model;
 
-/// Which observations reach which by walks of one or more steps.
+/// Which observations reach which by walks of one or more steps: a truth value for each pair, by start and then by end.
 #[derive(Debug, Drop)]
 pub struct Closure {
     n: u32,
@@ -24,13 +24,14 @@ pub struct Closure {
 }
 
 impl Model for Closure {
-    ghost use Rattle.rp_pref.specs.Closure.{IsReached, Reached};
+    ghost use Rattle.std.specs.Prelude.{◌≡◌, ◌+◌, ◌*◌, false, length, slice_index_or};
+    ghost use Rattle.rp_pref.specs.Closure.{Reached, reached_by};
 
     ghost Value = { Reached };
 
-    ghost view = { λ c. record { n = c.n; pairs = c.pairs.items } };
+    ghost view = { λ c. reached_by c.n (λ s t. slice_index_or c.pairs.items (s * c.n + t) false) };
 
-    ghost invariant = { λ c. IsReached (record { n = c.n; pairs = c.pairs.items }) };
+    ghost invariant = { λ c. length c.pairs.items ≡ c.n * c.n };
 }
 
 impl Closure {

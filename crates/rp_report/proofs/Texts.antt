@@ -1,22 +1,6 @@
 -- Texts that are made piece by piece.
-use Rattle.std.proofs.Common.{◌≡◌, ℕ, ◌+◌, List, [], ◌∷◌, ◌++◌, refl, append_assoc, add-zero}
-use Rattle.std.specs.Fmt.{decimal}
-use Rattle.std.specs.List.{flat_map}
-use Rattle.std.specs.Prelude.{codes}
-use Rattle.rp_report.specs.ReportText.{list_text, numbers_text, line_of}
-
-others_as_they_are : (xs : List ℕ) → flat_map (λ x. codes " " ++ decimal (x + 0)) xs ≡ flat_map (λ x. codes " " ++ decimal x) xs
-others_as_they_are [] = refl
-others_as_they_are (x ∷ xs) = rw (add-zero x, others_as_they_are xs) refl
-
--- numbers that are greater by 0
-pub numbers_as_they_are : (xs : List ℕ) → list_text (λ x. decimal (x + 0)) xs ≡ numbers_text xs
-numbers_as_they_are [] = refl
-numbers_as_they_are (x ∷ xs) = rw (add-zero x, others_as_they_are xs) refl
-
--- a line of a word and a list
-pub word_and_list : (old word list : List ℕ) → (((old ++ word) ++ list) ++ 10 ∷ []) ≡ old ++ line_of (word ++ list)
-word_and_list old word list = simp append_assoc
+use Rattle.std.proofs.Common.{◌≡◌, ℕ, List, [], ◌∷◌, ◌++◌, append_assoc, OnOk, Result, Ok, Err}
+use Rattle.rp_report.specs.ListText.{line_of}
 
 -- a line of four numbers with their words
 pub four_numbers : (old w1 n1 w2 n2 w3 n3 w4 n4 : List ℕ) → ((((((((old ++ w1) ++ n1) ++ w2) ++ n2) ++ w3) ++ n3) ++ w4) ++ n4) ++ 10 ∷ [] ≡ old ++ line_of (w1 ++ n1 ++ w2 ++ n2 ++ w3 ++ n3 ++ w4 ++ n4)
@@ -25,3 +9,15 @@ four_numbers old w1 n1 w2 n2 w3 n3 w4 n4 = simp append_assoc
 -- a line of three numbers with their words
 pub three_numbers : (old w1 n1 w2 n2 w3 n3 : List ℕ) → ((((((old ++ w1) ++ n1) ++ w2) ++ n2) ++ w3) ++ n3) ++ 10 ∷ [] ≡ old ++ line_of (w1 ++ n1 ++ w2 ++ n2 ++ w3 ++ n3)
 three_numbers old w1 n1 w2 n2 w3 n3 = simp append_assoc
+
+-- a line of one number with its words
+pub one_number : (old w1 n1 : List ℕ) → ((old ++ w1) ++ n1) ++ 10 ∷ [] ≡ old ++ line_of (w1 ++ n1)
+one_number old w1 n1 = simp append_assoc
+
+-- three pieces, of which two come after the first
+pub three_pieces : (old a b c : List ℕ) → ((old ++ a) ++ b) ++ c ≡ old ++ ((a ++ b) ++ c)
+three_pieces old a b c = simp append_assoc
+
+pub on_ok : {A E : Type 0} (P Q : Type 0) → (P → Q) → (r : Result A E) → OnOk r P → OnOk r Q
+on_ok P Q f (Ok x) h = f h
+on_ok P Q f (Err e) h = h

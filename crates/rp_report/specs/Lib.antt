@@ -1,1 +1,6 @@
+pub mod AfriatText
+pub mod GarpText
+pub mod HomotheticText
+pub mod ListText
+pub mod QuasilinearText
 pub mod ReportText

@@ -1,8 +1,11 @@
 //! The report that a certificate is printed as.
 #![tactic(auto)]
 
+mod afriat;
+mod garp;
+mod homothetic;
 mod lists;
-mod products;
+mod quasilinear;
 mod tables;
 
 pub use tables::report;

@@ -1,10 +1,88 @@
-ghost use Rattle.std.specs.Prelude.{◌≡◌, ◌+◌, ◌++◌, ◌∷◌, [], OnOk, codes};
+ghost use Rattle.std.specs.Prelude.{◌≡◌, ◌+◌, ◌++◌, ◌∷◌, [], ℕ, List, OnOk, codes};
 ghost use Rattle.std.specs.List.{flat_map};
 ghost use Rattle.std.specs.Fmt.{decimal, signed_decimal};
-ghost use Rattle.rp_report.specs.ReportText.{line_of, list_text, numbers_text, observations_text, sums_text};
+ghost use Rattle.rp_num.specs.Fraction.{fraction_text};
+ghost use Rattle.rp_report.specs.ListText.{fractions_text, line_of, list_text, numbers_text, observation_text, observations_text, sums_text};
 
-use rp_num::{NoMemory, print_i128, print_u128};
+use rp_num::{Frac, NoMemory, print_frac, print_i128, print_u128};
 use std::alloc::Global;
+
+/// How one kind of entry is printed.
+pub(crate) trait Print {
+    type Entry: Copy;
+
+    /// The text of an entry.
+    ghost shown: { Self.Entry → List ℕ };
+
+    /// Appends an entry.
+    fn push(alloc: Global, out: &mut Vec<u8>, entry: Self::Entry) -> Result<(), NoMemory>
+        ensures { OnOk result (out.new.items ≡ out.old.items ++ shown entry) };
+}
+
+/// A number as it is.
+pub(crate) struct Number;
+
+impl Print for Number {
+    type Entry = u32;
+
+    ghost shown = { decimal };
+
+    fn push(alloc: Global, out: &mut Vec<u8>, entry: u32) -> Result<(), NoMemory> {
+        print_u128(alloc, out, u128::from(entry))
+    }
+}
+
+/// A number of 64 bits as it is.
+pub(crate) struct LongNumber;
+
+impl Print for LongNumber {
+    type Entry = u64;
+
+    ghost shown = { decimal };
+
+    fn push(alloc: Global, out: &mut Vec<u8>, entry: u64) -> Result<(), NoMemory> {
+        print_u128(alloc, out, u128::from(entry))
+    }
+}
+
+/// An observation, which is counted from 1.
+pub(crate) struct Observation;
+
+impl Print for Observation {
+    type Entry = u32;
+
+    ghost shown = { observation_text };
+
+    fn push(alloc: Global, out: &mut Vec<u8>, entry: u32) -> Result<(), NoMemory> {
+        print_u128(alloc, out, u128::from(entry) + 1)
+    }
+}
+
+/// A whole number with its sign.
+pub(crate) struct Signed;
+
+impl Print for Signed {
+    type Entry = i128;
+
+    ghost shown = { signed_decimal };
+
+    fn push(alloc: Global, out: &mut Vec<u8>, entry: i128) -> Result<(), NoMemory> {
+        print_i128(alloc, out, entry)
+    }
+}
+
+/// A fraction in lowest terms.
+pub(crate) struct Fraction;
+
+impl Print for Fraction {
+    type Entry = Frac;
+
+    ghost shown = { fraction_text };
+
+    fn push(alloc: Global, out: &mut Vec<u8>, entry: Frac) -> Result<(), NoMemory> {
+        print_frac(alloc, out, entry)
+    }
+}
 
 /// Appends a text and a line feed.
 pub(crate) fn push_line(out: &mut Vec<u8>, text: &[u8]) -> Result<(), NoMemory>
@@ -15,47 +93,56 @@ pub(crate) fn push_line(out: &mut Vec<u8>, text: &[u8]) -> Result<(), NoMemory>
     Ok(())
 }
 
-/// Appends a number after a text.
-pub(crate) fn push_number(
+/// Appends an entry after a text.
+pub(crate) fn push_after<P: Print>(
     alloc: Global,
     out: &mut Vec<u8>,
     before: &[u8],
-    number: u32,
+    entry: P::Entry,
 ) -> Result<(), NoMemory>
-    ensures { OnOk result (out.new.items ≡ out.old.items ++ before.now ++ decimal number) }
+    ensures { OnOk result (out.new.items ≡ out.old.items ++ before.now ++ P.shown entry) }
 {
     out.extend_from_slice(before)?;
-    print_u128(alloc, out, u128::from(number))
+    P::push(alloc, out, entry)
 }
 
-/// Appends a line that lists ranks after a word.
-pub(crate) fn push_ranks(
+/// Appends a line that lists numbers after a word.
+pub(crate) fn push_numbers(
     alloc: Global,
     out: &mut Vec<u8>,
     word: &[u8],
-    ranks: &[u32],
+    numbers: &[u32],
 ) -> Result<(), NoMemory>
-    ensures { OnOk result (out.new.items ≡ out.old.items ++ line_of (word.now ++ numbers_text ranks.now)) }
+    ensures { OnOk result (
+        out.new.items ≡ out.old.items ++ line_of (word.now ++ numbers_text numbers.now)) }
 {
-    out.extend_from_slice(word)?;
-    push_numbers(alloc, out, ranks, 0)?;
-    out.push(b'\n')?;
-    Ok(())
+    push_list_line::<Number>(alloc, out, word, numbers)
 }
 
-/// Appends a line that lists observations, counted from 1, after a word.
+/// Appends a line that lists numbers of 64 bits after a word.
+pub(crate) fn push_long_numbers(
+    alloc: Global,
+    out: &mut Vec<u8>,
+    word: &[u8],
+    numbers: &[u64],
+) -> Result<(), NoMemory>
+    ensures { OnOk result (
+        out.new.items ≡ out.old.items ++ line_of (word.now ++ numbers_text numbers.now)) }
+{
+    push_list_line::<LongNumber>(alloc, out, word, numbers)
+}
+
+/// Appends a line that lists observations after a word.
 pub(crate) fn push_observations(
     alloc: Global,
     out: &mut Vec<u8>,
     word: &[u8],
     observations: &[u32],
 ) -> Result<(), NoMemory>
-    ensures { OnOk result (out.new.items ≡ out.old.items ++ line_of (word.now ++ observations_text observations.now)) }
+    ensures { OnOk result (
+        out.new.items ≡ out.old.items ++ line_of (word.now ++ observations_text observations.now)) }
 {
-    out.extend_from_slice(word)?;
-    push_numbers(alloc, out, observations, 1)?;
-    out.push(b'\n')?;
-    Ok(())
+    push_list_line::<Observation>(alloc, out, word, observations)
 }
 
 /// Appends a line that lists whole numbers after a word.
@@ -65,64 +152,73 @@ pub(crate) fn push_sums(
     word: &[u8],
     sums: &[i128],
 ) -> Result<(), NoMemory>
-    ensures { OnOk result (out.new.items ≡ out.old.items ++ line_of (word.now ++ sums_text sums.now)) }
+    ensures { OnOk result (
+        out.new.items ≡ out.old.items ++ line_of (word.now ++ sums_text sums.now)) }
+{
+    push_list_line::<Signed>(alloc, out, word, sums)
+}
+
+/// Appends a line that lists fractions after a word.
+pub(crate) fn push_fractions(
+    alloc: Global,
+    out: &mut Vec<u8>,
+    word: &[u8],
+    fractions: &[Frac],
+) -> Result<(), NoMemory>
+    ensures { OnOk result (
+        out.new.items ≡ out.old.items ++ line_of (word.now ++ fractions_text fractions.now)) }
+{
+    push_list_line::<Fraction>(alloc, out, word, fractions)
+}
+
+/// Appends a line that lists entries after a word.
+fn push_list_line<P: Print>(
+    alloc: Global,
+    out: &mut Vec<u8>,
+    word: &[u8],
+    entries: &[P::Entry],
+) -> Result<(), NoMemory>
+    ensures { OnOk result (
+        out.new.items ≡ out.old.items ++ line_of (word.now ++ list_text P.shown entries.now)) }
 {
     out.extend_from_slice(word)?;
-    push_signed(alloc, out, sums)?;
+    push_list::<P>(alloc, out, entries)?;
     out.push(b'\n')?;
     Ok(())
 }
 
-/// Appends whole numbers with one space between them; `none` for no numbers.
-fn push_signed(alloc: Global, out: &mut Vec<u8>, numbers: &[i128]) -> Result<(), NoMemory>
-    ensures { OnOk result (out.new.items ≡ out.old.items ++ sums_text numbers.now) }
+/// Appends entries with one space between them; `none` for no entries.
+fn push_list<P: Print>(
+    alloc: Global,
+    out: &mut Vec<u8>,
+    entries: &[P::Entry],
+) -> Result<(), NoMemory>
+    ensures { OnOk result (out.new.items ≡ out.old.items ++ list_text P.shown entries.now) }
 {
-    match numbers {
+    match entries {
         [] => {
             out.extend_from_slice(b"none")?;
             Ok(())
         }
         [first, others @ ..] => {
-            print_i128(alloc, out, *first)?;
-            push_other_signed(alloc, out, others)
+            P::push(alloc, out, *first)?;
+            push_others::<P>(alloc, out, others)
         }
     }
 }
 
-/// Appends whole numbers, each after a space.
-fn push_other_signed(alloc: Global, out: &mut Vec<u8>, numbers: &[i128]) -> Result<(), NoMemory>
-    ensures { OnOk result (out.new.items ≡ out.old.items ++ flat_map (λ number. codes " " ++ signed_decimal number) numbers.now) }
+/// Appends entries, each after a space.
+fn push_others<P: Print>(
+    alloc: Global,
+    out: &mut Vec<u8>,
+    entries: &[P::Entry],
+) -> Result<(), NoMemory>
+    ensures { OnOk result (
+        out.new.items ≡ out.old.items ++ flat_map (λ entry. codes " " ++ P.shown entry) entries.now) }
 {
-    for number in numbers {
+    for entry in entries {
         out.extend_from_slice(b" ")?;
-        print_i128(alloc, out, *number)?;
-    }
-    Ok(())
-}
-
-/// Appends numbers, each greater by `more`, with one space between them; `none` for no numbers.
-fn push_numbers(alloc: Global, out: &mut Vec<u8>, numbers: &[u32], more: u8) -> Result<(), NoMemory>
-    ensures { OnOk result (out.new.items ≡ out.old.items ++ list_text (λ number. decimal (number + more)) numbers.now) }
-{
-    match numbers {
-        [] => {
-            out.extend_from_slice(b"none")?;
-            Ok(())
-        }
-        [first, others @ ..] => {
-            print_u128(alloc, out, u128::from(*first) + u128::from(more))?;
-            push_others(alloc, out, others, more)
-        }
-    }
-}
-
-/// Appends numbers, each greater by `more` and after a space.
-fn push_others(alloc: Global, out: &mut Vec<u8>, numbers: &[u32], more: u8) -> Result<(), NoMemory>
-    ensures { OnOk result (out.new.items ≡ out.old.items ++ flat_map (λ number. codes " " ++ decimal (number + more)) numbers.now) }
-{
-    for number in numbers {
-        out.extend_from_slice(b" ")?;
-        print_u128(alloc, out, u128::from(*number) + u128::from(more))?;
+        P::push(alloc, out, *entry)?;
     }
     Ok(())
 }

@@ -1,9 +1,12 @@
 ghost use Rattle.std.specs.Prelude.{◌≡◌, ◌++◌, IfOk, OnOk};
-ghost use Rattle.rp_report.specs.ReportText.{garp_text, head_text, item_text, quasilinear_text, report_text};
+ghost use Rattle.rp_report.specs.ReportText.{head_text, item_text, report_text};
 
-use crate::lists::{push_line, push_number, push_observations, push_ranks, push_sums};
-use crate::products::push_homothetic;
-use rp_evidence::{Certificate, Garp, Item, Kind, Quasi};
+use crate::afriat::push_afriat;
+use crate::garp::push_garp;
+use crate::homothetic::push_homothetic;
+use crate::lists::{Number, push_after};
+use crate::quasilinear::push_quasilinear;
+use rp_evidence::{Certificate, Item, Kind};
 use rp_num::NoMemory;
 use rp_table::Table;
 use std::alloc::Global;
@@ -25,10 +28,10 @@ pub fn report(alloc: Global, certificate: &Certificate, table: &Table) -> Result
 fn push_head(alloc: Global, out: &mut Vec<u8>, table: &Table) -> Result<(), NoMemory>
     ensures { OnOk result (out.new.items ≡ out.old.items ++ head_text table.now) }
 {
-    push_number(alloc, out, b"observations ", table.n())?;
-    push_number(alloc, out, b" goods ", table.goods())?;
-    push_number(alloc, out, b" places ", u32::from(table.price_places()))?;
-    push_number(alloc, out, b" ", u32::from(table.quantity_places()))?;
+    push_after::<Number>(alloc, out, b"observations ", table.n())?;
+    push_after::<Number>(alloc, out, b" goods ", table.goods())?;
+    push_after::<Number>(alloc, out, b" places ", u32::from(table.price_places()))?;
+    push_after::<Number>(alloc, out, b" ", u32::from(table.quantity_places()))?;
     out.push(b'\n')?;
     Ok(())
 }
@@ -39,39 +42,8 @@ fn push_item(alloc: Global, out: &mut Vec<u8>, item: &Item) -> Result<(), NoMemo
 {
     match item {
         Item::Garp(verdict) => push_garp(alloc, out, verdict),
+        Item::Afriat(part) => push_afriat(alloc, out, part),
         Item::Homothetic(verdict) => push_homothetic(alloc, out, verdict),
         Item::Quasi(verdict) => push_quasilinear(alloc, out, verdict),
-    }
-}
-
-/// Appends the lines of a verdict on the generalized axiom of revealed preference.
-fn push_garp(alloc: Global, out: &mut Vec<u8>, verdict: &Garp) -> Result<(), NoMemory>
-    ensures { OnOk result (out.new.items ≡ out.old.items ++ garp_text verdict.now) }
-{
-    match verdict {
-        Garp::Ranks(ranks) => {
-            push_line(out, b"garp holds")?;
-            push_ranks(alloc, out, b"ranks ", ranks.as_slice())
-        }
-        Garp::Cycle(cycle) => {
-            push_line(out, b"garp violated")?;
-            push_observations(alloc, out, b"cycle ", cycle.as_slice())
-        }
-    }
-}
-
-/// Appends the lines of a verdict of the quasilinear test.
-fn push_quasilinear(alloc: Global, out: &mut Vec<u8>, verdict: &Quasi) -> Result<(), NoMemory>
-    ensures { OnOk result (out.new.items ≡ out.old.items ++ quasilinear_text verdict.now) }
-{
-    match verdict {
-        Quasi::Values(values) => {
-            push_line(out, b"quasilinear holds")?;
-            push_sums(alloc, out, b"values ", values.as_slice())
-        }
-        Quasi::Cycle(cycle) => {
-            push_line(out, b"quasilinear violated")?;
-            push_observations(alloc, out, b"cycle ", cycle.as_slice())
-        }
     }
 }

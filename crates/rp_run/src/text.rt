@@ -1,9 +1,10 @@
 ghost use Rattle.std.specs.Prelude.{◌≡◌, IfOk};
-ghost use Rattle.rp_table.specs.Cost.{IsCostsOf, cost_at};
-ghost use Rattle.rp_run.specs.Analysis.{IsAnalysis, IsAnalysisText};
+ghost use Rattle.rp_evidence.specs.Input.{input_of_table};
+ghost use Rattle.rp_table.specs.Cost.{IsCostsOf};
+ghost use Rattle.rp_run.specs.Analysis.{IsAnalysis, IsAnalysisText, certificate_of};
 ghost use Rattle.rp_run.specs.PairsText.{IsPairsText, pairs_line};
 
-use rp_evidence::{Certificate, Item, Kind};
+use rp_evidence::{Certificate, Garp, Homothetic, Item, Kind, Quasi};
 use rp_garp::{garp, pairs};
 use rp_homo::homothetic;
 use rp_num::{NoMemory, Seq, print_u128};
@@ -48,19 +49,36 @@ pub(crate) fn analysis_text(
     requires { IsCostsOf costs.now table.now }
     ensures { IfOk result (λ text. IsAnalysisText table.now text.items) }
 {
-    let certificate = analyse(alloc, costs)?;
+    let certificate = analyse(alloc, table, costs)?;
     let text = report(alloc, &certificate, table)?;
     Ok(text)
 }
 
 /// The certificate of the verdicts on a table.
-fn analyse(alloc: Global, costs: &Costs) -> Result<Certificate, NoMemory>
-    ensures { IfOk result (λ certificate. IsAnalysis costs.now.n (cost_at costs.now) certificate) }
+fn analyse(alloc: Global, table: &Table, costs: &Costs) -> Result<Certificate, NoMemory>
+    requires { IsCostsOf costs.now table.now }
+    ensures { IfOk result (IsAnalysis (input_of_table table.now)) }
+{
+    let garp = garp(alloc, costs)?;
+    let homothetic = homothetic(alloc, costs)?;
+    let quasilinear = quasilinear(alloc, costs)?;
+    let certificate = certificate(alloc, garp, homothetic, quasilinear)?;
+    Ok(certificate)
+}
+
+/// The certificate with these three items.
+fn certificate(
+    alloc: Global,
+    garp: Garp,
+    homothetic: Homothetic,
+    quasilinear: Quasi,
+) -> Result<Certificate, NoMemory>
+    ensures { IfOk result (λ made. made ≡ certificate_of garp homothetic quasilinear) }
 {
     let mut items = Vec::new(alloc);
-    items.push(Item::Garp(garp(alloc, costs)?))?;
-    items.push(Item::Homothetic(homothetic(alloc, costs)?))?;
-    items.push(Item::Quasi(quasilinear(alloc, costs)?))?;
+    items.push(Item::Garp(garp))?;
+    items.push(Item::Homothetic(homothetic))?;
+    items.push(Item::Quasi(quasilinear))?;
     Ok(Certificate {
         kind: Kind::Table,
         version: 1,

@@ -1,3 +1,5 @@
+ghost use Rattle.std.specs.Prelude.{◌≡◌};
+
 use rp_num::{Frac, Seq};
 
 /// Evidence for the homothetic test: a positive value for each observation, a start and a closed walk along which
@@ -8,4 +10,18 @@ pub enum Homothetic {
     Values(Seq<Frac>),
     Cycle { start: Frac, steps: Seq<u32> },
     Withheld { steps: u32, from: u32, to: u32 },
+}
+
+impl Homothetic {
+    ghost use Rattle.rp_evidence.specs.Homothetic.{withheld_homothetic};
+
+    /// How many values are left out because their computation passed its width.
+    pub(crate) fn withheld(&self) -> u32
+        ensures { result ≡ withheld_homothetic self.now }
+    {
+        match self {
+            Homothetic::Withheld { .. } => 1,
+            _ => 0,
+        }
+    }
 }

@@ -1,0 +1,27 @@
+ghost use Rattle.std.specs.Prelude.{◌≡◌, ◌++◌, OnOk};
+ghost use Rattle.rp_report.specs.QuasilinearText.{quasilinear_text};
+
+use crate::lists::{push_line, push_observations, push_sums};
+use rp_evidence::Quasi;
+use rp_num::NoMemory;
+use std::alloc::Global;
+
+/// Appends the lines of a verdict of the quasilinear test.
+pub(crate) fn push_quasilinear(
+    alloc: Global,
+    out: &mut Vec<u8>,
+    verdict: &Quasi,
+) -> Result<(), NoMemory>
+    ensures { OnOk result (out.new.items ≡ out.old.items ++ quasilinear_text verdict.now) }
+{
+    match verdict {
+        Quasi::Values(values) => {
+            push_line(out, b"quasilinear holds")?;
+            push_sums(alloc, out, b"values ", values.as_slice())
+        }
+        Quasi::Cycle(cycle) => {
+            push_line(out, b"quasilinear violated")?;
+            push_observations(alloc, out, b"cycle ", cycle.as_slice())
+        }
+    }
+}
