@@ -1,8 +1,7 @@
 -- The homothetic test at worked values.
 use Rattle.std.proofs.Common.{◌≡◌, ℕ, zero, suc, ◌+◌, ◌*◌, ◌<◌, ◌≤◌, List, [], ◌∷◌, get_or, arith, refl}
 use Rattle.rp_num.specs.Fraction.{Fraction}
-use Rattle.rp_evidence.specs.Walk.{LeadsTo}
-use Rattle.rp_evidence.specs.Quasilinear.{AnyStep}
+use Rattle.rp_evidence.specs.Walk.{AnyStep, LeadsTo}
 use Rattle.rp_evidence.specs.Homothetic.{BoundProducts, EndsBelow, IsFallingCycle, MeetsHomotheticTest, next_costs, own_costs, product_from, value_at}
 
 abbrev costs : List ℕ → ℕ → ℕ → ℕ

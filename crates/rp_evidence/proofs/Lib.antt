@@ -7,14 +7,28 @@ mod AfriatTries
 pub mod Counting
 pub mod Counts
 mod HomotheticTries
+pub mod DemandBounds
+pub mod DemandLaws
+pub mod DemandMixtures
+mod DemandTries
+pub mod InnerDemand
+pub mod Index
+pub mod IndexExists
+pub mod IndexThreshold
+mod IndexTries
 pub mod Levels
+pub mod Loops
 pub mod Places
+pub mod Supporting
 pub mod Reaching
 pub mod SameAfriat
+pub mod Ratios
 pub mod SameCosts
 pub mod SameItems
 pub mod SameProducts
 pub mod SameSums
 mod Tries
+pub mod Values
 pub mod Violations
 pub mod Walks
+pub mod WelfareLaws

@@ -1,10 +1,9 @@
--- What holds for some costs holds for all that are the same between the observations.
+-- What holds for some steps or costs holds for all that are the same between the observations.
 use Rattle.std.proofs.Common.{◌≡◌, ◌<◌, ◌≤◌, ◌*◌, ◌⊎◌, ◌↔◌, ℕ, List, inl, inr, sym, subst}
 use Rattle.rp_evidence.specs.Count.{AreCounts, IsCount}
-use Rattle.rp_evidence.specs.Garp.{IsViolationAt, MeetsGarp}
+use Rattle.rp_evidence.specs.Garp.{HasNoViolation, IsViolation, IsViolationAt, MeetsGarp, ProvesGarp, ProvesOfPreference}
 use Rattle.rp_evidence.specs.Preference.{AgreeBelow, IsStrict, IsWeak}
-use Rattle.rp_evidence.specs.Garp.{ProvesGarp}
-use Rattle.rp_evidence.specs.Ranks.{OrderStrictSteps, RespectLevel}
+use Rattle.rp_evidence.specs.Ranks.{OrderSteps, OrderStrictSteps, RespectLevel, RespectPreference}
 use Rattle.rp_evidence.specs.Walk.{IsShortestWalk, IsWalk, Reaches}
 use Rattle.rp_evidence.specs.declared.garp.Garp.{Garp}
 use Rattle.rp_evidence.specs.declared.garp.Garp.TheVariants.{Ranks, Cycle}
@@ -48,6 +47,31 @@ module _ (n : ℕ) (step other : ℕ → ℕ → Type 0) (same : (s t : ℕ) →
   pub counts_same : (counts : List ℕ) → AreCounts n step counts → AreCounts n other counts
   counts_same counts are = record { one_each = are.one_each; each = λ s l. count_same s _ (are.each s l) }
 
+  pub order_steps_same : (ranks : List ℕ) → OrderSteps n step ranks → OrderSteps n other ranks
+  order_steps_same ranks r = record { one_each = r.one_each; step_falls = λ s t a b h. r.step_falls s t a b ((same s t a b).1 h) }
+
+-- ---- preferences that are the same
+
+module _ (n : ℕ) (weak strict weak' strict' : ℕ → ℕ → Type 0) (weak_is : (s t : ℕ) → s < n → t < n → weak s t ↔ weak' s t) (strict_is : (s t : ℕ) → s < n → t < n → strict s t ↔ strict' s t) where
+  pub preference_violation_same : (walk : List ℕ) → IsViolation n weak strict walk → IsViolation n weak' strict' walk
+  preference_violation_same =
+      violates_by_weaker n weak strict weak' strict' (λ s t a b. (weak_is s t a b).0) (λ s t a b. (strict_is s t a b).0)
+
+  pub no_violation_same : HasNoViolation n weak strict → HasNoViolation n weak' strict'
+  no_violation_same none walk v =
+      none walk (violates_by_weaker n weak' strict' weak strict (λ s t a b. (weak_is s t a b).1) (λ s t a b. (strict_is s t a b).1) walk v)
+
+  pub respect_preference_same : (ranks : List ℕ) → RespectPreference n weak strict ranks → RespectPreference n weak' strict' ranks
+  respect_preference_same ranks r = record {
+    one_each = r.one_each;
+    weak_never_rises = λ s t a b h. r.weak_never_rises s t a b ((weak_is s t a b).1 h);
+    strict_falls = λ s t a b h. r.strict_falls s t a b ((strict_is s t a b).1 h);
+  }
+
+  pub proves_of_preference_same : (verdict : Garp) → ProvesOfPreference n weak strict verdict → ProvesOfPreference n weak' strict' verdict
+  proves_of_preference_same (Ranks ranks) p = (respect_preference_same ranks p.0, no_violation_same p.1)
+  proves_of_preference_same (Cycle walk) p = preference_violation_same walk p
+
 -- ---- costs that are the same
 
 module _ (n : ℕ) (c d : ℕ → ℕ → ℕ) (num den : ℕ) (same : AgreeBelow n c d) where
@@ -59,9 +83,6 @@ module _ (n : ℕ) (c d : ℕ → ℕ → ℕ) (num den : ℕ) (same : AgreeBelo
   strict_there s t a b h =
       subst (λ y. den * d s t < num * y) (same s s a a) (subst (λ x. den * x < num * c s s) (same s t a b) h)
 
-  pub violation_same : (walk : List ℕ) → IsViolationAt n c num den walk → IsViolationAt n d num den walk
-  violation_same = violates_by_weaker n (IsWeak c num den) (IsStrict c num den) (IsWeak d num den) (IsStrict d num den) weak_there strict_there
-
 module _ (n : ℕ) (c d : ℕ → ℕ → ℕ) (num den : ℕ) (same : AgreeBelow n c d) where
   pub weak_same : (s t : ℕ) → s < n → t < n → IsWeak c num den s t ↔ IsWeak d num den s t
   weak_same s t a b = (weak_there n c d num den same s t a b, weak_there n d c num den (agree_back n c d same) s t a b)
@@ -69,21 +90,20 @@ module _ (n : ℕ) (c d : ℕ → ℕ → ℕ) (num den : ℕ) (same : AgreeBelo
   pub strict_same : (s t : ℕ) → s < n → t < n → IsStrict c num den s t ↔ IsStrict d num den s t
   strict_same s t a b = (strict_there n c d num den same s t a b, strict_there n d c num den (agree_back n c d same) s t a b)
 
+  pub violation_same : (walk : List ℕ) → IsViolationAt n c num den walk → IsViolationAt n d num den walk
+  violation_same = preference_violation_same n (IsWeak c num den) (IsStrict c num den) (IsWeak d num den) (IsStrict d num den) weak_same strict_same
+
   pub meets_same : MeetsGarp n c num den → MeetsGarp n d num den
-  meets_same meets walk v = meets walk (violation_same n d c num den (agree_back n c d same) walk v)
+  meets_same = no_violation_same n (IsWeak c num den) (IsStrict c num den) (IsWeak d num den) (IsStrict d num den) weak_same strict_same
 
   pub respect_same : (ranks : List ℕ) → RespectLevel n c num den ranks → RespectLevel n d num den ranks
-  respect_same ranks r = record {
-    one_each = r.one_each;
-    weak_never_rises = λ s t a b h. r.weak_never_rises s t a b ((weak_same s t a b).1 h);
-    strict_falls = λ s t a b h. r.strict_falls s t a b ((strict_same s t a b).1 h);
-  }
+  respect_same = respect_preference_same n (IsWeak c num den) (IsStrict c num den) (IsWeak d num den) (IsStrict d num den) weak_same strict_same
 
   pub order_same : (ranks : List ℕ) → OrderStrictSteps n c num den ranks → OrderStrictSteps n d num den ranks
-  order_same ranks r = record { one_each = r.one_each; step_falls = λ s t a b h. r.step_falls s t a b ((strict_same s t a b).1 h) }
+  order_same = order_steps_same n (IsStrict c num den) (IsStrict d num den) strict_same
 
 -- ---- evidence
 
 pub garp_same : (n : ℕ) (c d : ℕ → ℕ → ℕ) (verdict : Garp) → AgreeBelow n c d → ProvesGarp n c verdict → ProvesGarp n d verdict
-garp_same n c d (Ranks ranks) same p = (respect_same n c d 1 1 same ranks p.0, meets_same n c d 1 1 same p.1)
-garp_same n c d (Cycle walk) same p = violation_same n c d 1 1 same walk p
+garp_same n c d verdict same =
+    proves_of_preference_same n (IsWeak c 1 1) (IsStrict c 1 1) (IsWeak d 1 1) (IsStrict d 1 1) (weak_same n c d 1 1 same) (strict_same n c d 1 1 same) verdict

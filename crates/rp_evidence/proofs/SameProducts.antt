@@ -3,8 +3,7 @@ use Rattle.std.proofs.Common.{◌≡◌, ◌*◌, ◌≤◌, ℕ, List, [], ◌�
 use Rattle.rp_num.specs.Fraction.{Fraction, PassesWidth}
 use Rattle.rp_evidence.specs.Preference.{AgreeBelow}
 use Rattle.rp_evidence.specs.Homothetic.{EndsBelow, IsFallingCycle, IsLeastProduct, MeetsHomotheticTest, ProductsFit, ProvesHomothetic, StepsFitFrom, next_costs, own_costs, product_from, value_at}
-use Rattle.rp_evidence.specs.Quasilinear.{AnyStep}
-use Rattle.rp_evidence.specs.Walk.{IsClosedWalk, IsWalk, LeadsTo}
+use Rattle.rp_evidence.specs.Walk.{AnyStep, IsClosedWalk, IsWalk, LeadsTo}
 use Rattle.rp_evidence.specs.declared.homothetic.Homothetic.{Homothetic}
 use Rattle.rp_evidence.specs.declared.homothetic.Homothetic.TheVariants.{Values, Cycle, Withheld}
 use Rattle.rp_evidence.proofs.Walks.{starts_below}

@@ -1,8 +1,8 @@
 -- Sums along walks are the same for all costs that are the same between the observations.
 use Rattle.std.proofs.Common.{◌≡◌, ◌<◌, ℕ, ℤ, pos, ◌<ℤ◌, ◌≤ℤ◌, List, [], ◌∷◌, refl, sym, subst, ◌∙◌}
 use Rattle.rp_evidence.specs.Preference.{AgreeBelow}
-use Rattle.rp_evidence.specs.Quasilinear.{AnyStep, step_sum, sum_from, walk_sum, IsNegativeCycle, MeetsQuasilinearTest, IsLeastSum, ProvesQuasilinear}
-use Rattle.rp_evidence.specs.Walk.{LeadsTo, IsWalk}
+use Rattle.rp_evidence.specs.Quasilinear.{step_sum, sum_from, walk_sum, IsNegativeCycle, MeetsQuasilinearTest, IsLeastSum, ProvesQuasilinear}
+use Rattle.rp_evidence.specs.Walk.{AnyStep, LeadsTo, IsWalk}
 use Rattle.rp_evidence.specs.declared.quasilinear.Quasi.{Quasi}
 use Rattle.rp_evidence.specs.declared.quasilinear.Quasi.TheVariants.{Values, Cycle}
 use Rattle.rp_evidence.proofs.SameCosts.{agree_back}

@@ -8,14 +8,14 @@ use Rattle.rp_evidence.proofs.Walks.{starts_below, ends_below, leads_on, leads_b
 -- ---- ranks
 
 module _ (n : ℕ) (weak strict : ℕ → ℕ → Type 0) (ranks : List ℕ) (respect : RespectPreference n weak strict ranks) where
-  never_rises : (s t : ℕ) (w : List ℕ) → LeadsTo n weak s t w → slice_index ranks t ≤ slice_index ranks s
+  pub never_rises : (s t : ℕ) (w : List ℕ) → LeadsTo n weak s t w → slice_index ranks t ≤ slice_index ranks s
   never_rises s t [] h = subst (λ x. slice_index ranks x ≤ slice_index ranks s) h.1 (omega arith)
   never_rises s t (x ∷ w) h =
       let a = never_rises x t w h.2 in
       let b = respect.weak_never_rises s x h.0 (starts_below n weak x t w h.2) h.1 in
       omega arith
 
-  falls : (s t : ℕ) (w : List ℕ) → LeadsTo n weak s t w → HasStepFrom strict s w → slice_index ranks t < slice_index ranks s
+  pub falls : (s t : ℕ) (w : List ℕ) → LeadsTo n weak s t w → HasStepFrom strict s w → slice_index ranks t < slice_index ranks s
   falls s t [] h k = absurd k
   falls s t (x ∷ w) h (inl k) =
       let a = never_rises x t w h.2 in

@@ -1,4 +1,4 @@
--- How many observations an observation stands above, itself among them.
+-- How many observations an observation stands above, itself among them (this program's own ranks).
 use Rattle.std.specs.Prelude.{◌≡◌, ◌≢◌, ◌<◌, ◌⊎◌, ◌↔◌, ℕ, List, length, AllPairs, Contains, slice_index}
 use Rattle.rp_evidence.specs.Walk.{Reaches}
 

@@ -2,8 +2,7 @@
 -- `c t s` is what the bundle of observation s costs at the prices of observation t.
 use Rattle.std.specs.Prelude.{◌≡◌, ℕ, ◌*◌, ◌<◌, ◌≤◌, List, [], ◌∷◌, length, slice_index_or}
 use Rattle.rp_num.specs.Fraction.{Fraction, IsLowestTerms, PassesWidth}
-use Rattle.rp_evidence.specs.Walk.{IsWalk, IsClosedWalk}
-use Rattle.rp_evidence.specs.Quasilinear.{AnyStep}
+use Rattle.rp_evidence.specs.Walk.{AnyStep, IsWalk, IsClosedWalk}
 use Rattle.rp_evidence.specs.declared.homothetic.Homothetic.{Homothetic}
 use Rattle.rp_evidence.specs.declared.homothetic.Homothetic.TheVariants.{Values, Cycle, Withheld}
 

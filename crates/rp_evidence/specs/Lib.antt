@@ -2,8 +2,11 @@ pub mod Afriat
 pub mod AfriatEvidence
 pub mod Count
 pub mod First
+pub mod Efficiency
 pub mod Garp
 pub mod Homothetic
+pub mod Demand
+pub mod DemandPrograms
 pub mod Input
 pub mod Preference
 pub mod Proves
@@ -11,4 +14,5 @@ pub mod Quasilinear
 pub mod Ranks
 pub mod StandardNumbers
 pub mod Walk
+pub mod Welfare
 pub mod Withheld

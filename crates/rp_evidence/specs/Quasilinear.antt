@@ -1,13 +1,9 @@
 -- The test for a utility that is linear in money: cyclical monotonicity of expenditures (Rockafellar 1970,
 -- Convex Analysis, section 24; Brown and Calsamiglia 2007).
 use Rattle.std.specs.Prelude.{◌≡◌, ℕ, ◌<◌, ℤ, pos, ◌+ℤ◌, ◌-ℤ◌, ◌<ℤ◌, ◌≤ℤ◌, List, [], ◌∷◌, length, slice_index_or}
-use Rattle.rp_evidence.specs.Walk.{IsWalk, IsClosedWalk}
+use Rattle.rp_evidence.specs.Walk.{AnyStep, IsWalk, IsClosedWalk}
 use Rattle.rp_evidence.specs.declared.quasilinear.Quasi.{Quasi}
 use Rattle.rp_evidence.specs.declared.quasilinear.Quasi.TheVariants.{Values, Cycle}
-
--- On these walks every observation may follow every observation.
-abbrev pub AnyStep : ℕ → ℕ → Type 0
-AnyStep t s = Unit {0}
 
 -- A step from t to s adds what the bundle of s costs at the prices of t, less what that of t costs.
 abbrev pub step_sum : (ℕ → ℕ → ℕ) → ℕ → ℕ → ℤ

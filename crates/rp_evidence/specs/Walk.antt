@@ -1,6 +1,10 @@
 -- Walks over the observations 0, .., n - 1 by the steps of a relation (Varian 1982: chains of revealed preference).
 use Rattle.std.specs.Prelude.{◌≡◌, ◌<◌, ◌≤◌, ◌⊎◌, ℕ, List, [], ◌∷◌, length}
 
+-- The steps of a walk that may go from every observation to every observation.
+abbrev pub AnyStep : ℕ → ℕ → Type 0
+AnyStep s t = Unit {0}
+
 -- From s the listed observations, each by a step from the one before it, lead to t.
 abbrev pub LeadsTo : ℕ → (ℕ → ℕ → Type 0) → ℕ → ℕ → List ℕ → Type 0
 LeadsTo n step s t [] = (s < n) × (s ≡ t)

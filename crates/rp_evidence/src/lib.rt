@@ -4,12 +4,17 @@
 mod afriat;
 mod afriat_laws;
 mod certificate;
+mod demand_laws;
+mod efficiency;
+mod efficiency_laws;
 mod garp;
 mod homothetic;
 mod laws;
 mod level;
 mod quasilinear;
 mod relations;
+mod value_laws;
+mod welfare_laws;
 
 pub use afriat::{AfriatPart, Numbers};
 pub use afriat_laws::{
@@ -18,6 +23,12 @@ pub use afriat_laws::{
     utilities_are_unique, width_is_passed_first_once,
 };
 pub use certificate::{Certificate, Item, Kind, withheld};
+pub use demand_laws::{
+    equal_pairs_bound_goods, inner_demands_support, mixtures_support,
+    supporting_demands_cost_enough,
+};
+pub use efficiency::Efficiency;
+pub use efficiency_laws::{efficiency_index_is_threshold, efficiency_index_is_unique};
 pub use garp::Garp;
 pub use homothetic::Homothetic;
 pub use laws::{
@@ -30,3 +41,7 @@ pub use laws::{
 pub use level::Level;
 pub use quasilinear::Quasi;
 pub use relations::{Preference, Relation};
+pub use value_laws::{bound_products_meet_homothetic_test, bound_steps_meet_quasilinear_test};
+pub use welfare_laws::{
+    equal_pairs_bound_welfare, reaching_bundles_are_in_region, welfare_bounds_hold,
+};

@@ -1,4 +1,4 @@
--- What the evidence on a linear program shows, over all fractions.
+-- What the evidence on a linear program shows, over all fractions (Gale, Kuhn and Tucker 1951; Farkas 1902).
 use Rattle.std.specs.Prelude.{ℕ, ◌<◌, ℤ, pos, ◌*ℤ◌, ◌≤ℤ◌, ◌<ℤ◌}
 use Rattle.rp_farkas.specs.LinearProgram.{LinearProgram}
 use Rattle.rp_farkas.specs.Point.{IsFeasiblePoint, value_of}

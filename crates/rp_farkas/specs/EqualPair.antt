@@ -1,4 +1,4 @@
--- Equal pairs: the evidence that a point and a price vector are both best.
+-- Equal pairs: the evidence that a point and a price vector are both best (Gale, Kuhn and Tucker 1951).
 use Rattle.std.specs.Prelude.{ℕ, ◌≡◌}
 use Rattle.rp_farkas.specs.LinearProgram.{LinearProgram}
 use Rattle.rp_farkas.specs.Point.{IsFeasiblePoint, value_of}

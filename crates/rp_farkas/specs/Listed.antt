@@ -1,4 +1,4 @@
--- A program read from lists.
+-- A program read from lists, A by row and then by column (this project's own form).
 use Rattle.std.specs.Prelude.{ℕ, ◌+◌, ◌*◌, ℤ, pos, List, slice_index_or}
 use Rattle.rp_farkas.specs.LinearProgram.{LinearProgram}
 

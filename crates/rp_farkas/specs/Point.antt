@@ -1,4 +1,4 @@
--- Feasible points of a linear program, over fractions.
+-- Feasible points of a linear program, over fractions (Dantzig 1963).
 use Rattle.std.specs.Prelude.{ℕ, ◌<◌, ℤ, pos, ◌*ℤ◌, ◌≤ℤ◌}
 use Rattle.rp_farkas.specs.Total.{total}
 use Rattle.rp_farkas.specs.LinearProgram.{LinearProgram}

@@ -1,4 +1,4 @@
--- Rays: the evidence that a program with a feasible point has no greatest value.
+-- Rays: the evidence that a program with a feasible point has no greatest value (Farkas 1902).
 use Rattle.std.specs.Prelude.{ℕ, ◌<◌, pos, ◌≤ℤ◌, ◌<ℤ◌}
 use Rattle.rp_farkas.specs.LinearProgram.{LinearProgram}
 use Rattle.rp_farkas.specs.Point.{row_times, value_of}

@@ -1,4 +1,4 @@
--- Finite sums of whole numbers.
+-- Finite sums of whole numbers (arithmetic).
 use Rattle.std.specs.Prelude.{ℕ, zero, suc, ℤ, pos, ◌+ℤ◌}
 
 -- f 0 + f 1 + .. + f (n - 1)

@@ -11,6 +11,7 @@ mod sums;
 
 pub use entry::{Entry, Pair};
 pub use laws::{equal_pairs_are_best, rays_leave_no_bound};
+pub use listing::EVIDENCE_WIDTH;
 pub use pair::check_pair;
 pub use program::{Lp, Program};
 pub use ray::check_ray;

@@ -1,17 +1,18 @@
-ghost use Rattle.std.specs.Prelude.{◌≡◌, ◌<◌, ◌^◌, ◌↔◌, ℕ, pos, ◌*ℤ◌, ◌≤ℤ◌, IsTrue, All, length, slice_index};
+ghost use Rattle.std.specs.Prelude.{◌≡◌, ◌<◌, ◌↔◌, ℕ, pos, ◌*ℤ◌, ◌≤ℤ◌, IsTrue, All, length, slice_index};
+ghost use Rattle.rp_farkas.specs.Limits.{FitsEvidence};
 ghost use Rattle.rp_farkas.specs.Listing.{IsListing, numerator_at};
 ghost use Rattle.rp_farkas.specs.Point.{row_times};
 ghost use Rattle.rp_farkas.specs.Prices.{column_times};
 ghost use Rattle.rp_farkas.specs.PairCheck.{IsShownPair};
 
 use crate::entry::{Entry, Pair};
-use crate::listing::{WIDTH, all_fit, is_listing};
+use crate::listing::{EVIDENCE_WIDTH, all_fit, is_listing};
 use crate::program::Lp;
 use crate::sums::{column_sum, cost_sum, row_sum, value_sum};
 
 /// Whether each row of A times the listed point is at most its right side, over the denominator.
 pub fn rows_hold<P: Lp>(p: &P, den: u64, y: &[Entry]) -> bool
-    requires den { den < 2 ^ 63 }
+    requires den { FitsEvidence den }
     requires listed { IsListing (P.program p.now).cols y.now }
     ensures { IsTrue result ↔ ((i : ℕ) → i < (P.program p.now).rows
         → row_times (P.program p.now) i (numerator_at y.now) ≤ℤ ((P.program p.now).b i *ℤ pos den)) }
@@ -26,9 +27,9 @@ pub fn rows_hold<P: Lp>(p: &P, den: u64, y: &[Entry]) -> bool
 
 /// Whether each column of A times the prices is at least its objective, over the denominator.
 fn columns_hold<P: Lp>(p: &P, den: u64, x: &[u64]) -> bool
-    requires den { den < 2 ^ 63 }
+    requires den { FitsEvidence den }
     requires rows { length x.now ≡ (P.program p.now).rows }
-    requires fits { All (λ v. v < 2 ^ 63) x.now }
+    requires fits { All FitsEvidence x.now }
     ensures { IsTrue result ↔ ((j : ℕ) → j < (P.program p.now).cols
         → ((P.program p.now).c j *ℤ pos den) ≤ℤ column_times (P.program p.now) j (slice_index x.now)) }
 {
@@ -46,7 +47,7 @@ pub fn check_pair<P: Lp>(p: &P, pair: &Pair) -> bool
 {
     let y = pair.y.as_slice();
     let x = pair.x.as_slice();
-    if pair.den == 0 || pair.den > WIDTH || !is_listing(p.cols(), y) {
+    if pair.den == 0 || pair.den > EVIDENCE_WIDTH || !is_listing(p.cols(), y) {
         return false;
     }
     if x.len() != p.rows() as usize || !all_fit(x) {

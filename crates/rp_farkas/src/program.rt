@@ -1,7 +1,7 @@
-ghost use Rattle.std.specs.Prelude.{◌≡◌, ℕ, ◌*◌, ◌^◌, ◌<◌, ◌≤◌, ℤ, pos, ◌≤ℤ◌, All, vec_len};
+ghost use Rattle.std.specs.Prelude.{◌≡◌, ℕ, ◌*◌, ◌<◌, ◌≤◌, ℤ, pos, ◌≤ℤ◌, All, vec_len};
 ghost use Rattle.std.specs.Int.RustNames.{unsigned_abs};
 ghost use Rattle.rp_farkas.specs.LinearProgram.{LinearProgram};
-ghost use Rattle.rp_farkas.specs.Limits.{IsWithinLimits};
+ghost use Rattle.rp_farkas.specs.Limits.{IsWithinLimits, largest_entry, most_columns, most_rows};
 ghost use Rattle.rp_farkas.specs.Listed.{listed_program};
 
 /// A linear program: greatest c·y over A y ≤ b and y ≥ 0, with b ≥ 0, within the limits of `IsWithinLimits`.
@@ -52,14 +52,14 @@ pub struct Program {
 impl Program {
     /// The program of these lists, `a` by row and then by column; no memory is taken.
     pub fn make(rows: u32, cols: u32, a: Vec<i64>, b: Vec<i64>, c: Vec<i64>) -> Program
-        requires rows_at_most { rows ≤ 64 }
-        requires cols_at_most { cols ≤ 8192 }
+        requires rows_at_most { rows ≤ most_rows }
+        requires cols_at_most { cols ≤ most_columns }
         requires a_length { vec_len a ≡ rows * cols }
         requires b_length { vec_len b ≡ rows }
         requires c_length { vec_len c ≡ cols }
-        requires a_bounded { All (λ z. unsigned_abs z ≤ 2 ^ 51) a.items }
-        requires b_bounded { All (λ z. unsigned_abs z ≤ 2 ^ 51) b.items }
-        requires c_bounded { All (λ z. unsigned_abs z ≤ 2 ^ 51) c.items }
+        requires a_bounded { All (λ z. unsigned_abs z ≤ largest_entry) a.items }
+        requires b_bounded { All (λ z. unsigned_abs z ≤ largest_entry) b.items }
+        requires c_bounded { All (λ z. unsigned_abs z ≤ largest_entry) c.items }
         requires b_not_negative { All (λ z. pos 0 ≤ℤ z) b.items }
         ensures { ⟦<Program as Lp>⟧.program result ≡ listed_program rows cols a.items b.items c.items }
     {

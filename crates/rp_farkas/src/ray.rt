@@ -4,7 +4,7 @@ ghost use Rattle.rp_farkas.specs.Point.{row_times};
 ghost use Rattle.rp_farkas.specs.PairCheck.{IsShownRay};
 
 use crate::entry::Entry;
-use crate::listing::{WIDTH, is_listing};
+use crate::listing::{EVIDENCE_WIDTH, is_listing};
 use crate::pair::rows_hold;
 use crate::program::Lp;
 use crate::sums::{row_sum, value_sum};
@@ -31,7 +31,7 @@ pub fn check_ray<P: Lp>(p: &P, den: u64, point: &Seq<Entry>, ray: &Seq<Entry>) -
 {
     let point = point.as_slice();
     let ray = ray.as_slice();
-    if den == 0 || den > WIDTH || !is_listing(p.cols(), point) || !is_listing(p.cols(), ray) {
+    if den == 0 || den > EVIDENCE_WIDTH || !is_listing(p.cols(), point) || !is_listing(p.cols(), ray) {
         return false;
     }
     rows_hold(p, den, point) && no_row_rises(p, ray) && value_sum(p, ray) > 0

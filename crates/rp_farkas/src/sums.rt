@@ -1,5 +1,6 @@
 ghost use Rattle.std.specs.Prelude.{◌≡◌, ◌-◌, ◌*◌, ◌^◌, ◌<◌, ◌≤◌, pos, ◌+ℤ◌, ◌*ℤ◌, All, length, slice_index};
 ghost use Rattle.std.specs.Int.RustNames.{unsigned_abs};
+ghost use Rattle.rp_farkas.specs.Limits.{FitsEvidence, largest_entry, most_columns};
 ghost use Rattle.rp_farkas.specs.Listing.{IsListing, numerator_at};
 ghost use Rattle.rp_farkas.specs.Point.{row_times, value_of};
 ghost use Rattle.rp_farkas.specs.Prices.{column_times, cost_of};
@@ -10,9 +11,9 @@ use crate::program::Lp;
 /// A running sum of at most 8,191 products of an entry and a number, and one more: it stays within 128 bits, since
 /// 2^13 · 2^51 · (2^63 - 1) is below 2^127.
 fn plus_product(sum: i128, entry: i64, number: u64) -> i128
-    requires room { unsigned_abs sum ≤ 8191 * (2 ^ 51 * (2 ^ 63 - 1)) }
-    requires entry { unsigned_abs entry ≤ 2 ^ 51 }
-    requires number { number < 2 ^ 63 }
+    requires room { unsigned_abs sum ≤ (most_columns - 1) * (largest_entry * (2 ^ 63 - 1)) }
+    requires entry { unsigned_abs entry ≤ largest_entry }
+    requires number { FitsEvidence number }
     ensures { result ≡ sum +ℤ entry *ℤ pos number }
 {
     sum + i128::from(entry) * i128::from(number)
@@ -47,7 +48,7 @@ pub fn value_sum<P: Lp>(p: &P, y: &[Entry]) -> i128
 pub fn column_sum<P: Lp>(p: &P, j: u32, x: &[u64]) -> i128
     requires column { j < (P.program p.now).cols }
     requires rows { length x.now ≡ (P.program p.now).rows }
-    requires fits { All (λ v. v < 2 ^ 63) x.now }
+    requires fits { All FitsEvidence x.now }
     ensures { result ≡ column_times (P.program p.now) j (slice_index x.now) }
 {
     let mut sum = 0;
@@ -60,7 +61,7 @@ pub fn column_sum<P: Lp>(p: &P, j: u32, x: &[u64]) -> i128
 /// The cost of the prices.
 pub fn cost_sum<P: Lp>(p: &P, x: &[u64]) -> i128
     requires rows { length x.now ≡ (P.program p.now).rows }
-    requires fits { All (λ v. v < 2 ^ 63) x.now }
+    requires fits { All FitsEvidence x.now }
     ensures { result ≡ cost_of (P.program p.now) (slice_index x.now) }
 {
     let mut sum = 0;

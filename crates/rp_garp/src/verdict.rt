@@ -20,7 +20,7 @@ pub fn garp(alloc: Global, costs: &Costs) -> Result<Garp, NoMemory>
     ensures proves { IfOk result (λ verdict. ProvesGarp costs.now.n (cost_at costs.now) verdict) }
     ensures given { IfOk result (λ verdict. IsGarpVerdict costs.now.n (cost_at costs.now) verdict) }
 {
-    let closure = Closure::of(alloc, costs, whole(), Steps::Weak)?;
+    let closure = Closure::of(alloc, costs, level_one(), Steps::Weak)?;
     match first_loop(costs, &closure) {
         None => {
             let ranks = counts(alloc, costs, &closure)?;
@@ -34,7 +34,7 @@ pub fn garp(alloc: Global, costs: &Costs) -> Result<Garp, NoMemory>
 }
 
 /// The level 1, at which an observation counts as all of its expenditure.
-fn whole() -> Level
+fn level_one() -> Level
     ensures { result ≡ record { num = 1; den = 1 } }
 {
     Level { num: 1, den: 1 }
@@ -62,7 +62,7 @@ fn first_back(costs: &Costs, closure: &Closure, s: u32) -> Option<u32>
         (IsWeak (cost_at costs.now) 1 1) (IsStrict (cost_at costs.now) 1 1) s) result }
 {
     for t in 0..costs.n() {
-        if closure.reaches(s, t) && strict(costs, whole(), t, s) {
+        if closure.reaches(s, t) && strict(costs, level_one(), t, s) {
             return Some(t);
         }
     }
@@ -89,7 +89,7 @@ fn cycle(alloc: Global, costs: &Costs, s: u32, t: u32) -> Result<Seq<u32>, NoMem
         (IsWeak (cost_at costs.now) 1 1) (IsStrict (cost_at costs.now) 1 1) s t }
     ensures { IfOk result (λ steps. IsCycleOf costs.now.n (IsWeak (cost_at costs.now) 1 1) s t steps) }
 {
-    match walk_between(alloc, costs, whole(), Steps::Weak, s, t)? {
+    match walk_between(alloc, costs, level_one(), Steps::Weak, s, t)? {
         Some(walk) => {
             let mut steps = walk.into_vec();
             steps.push(s)?;

@@ -1,17 +1,14 @@
 use Rattle.std.proofs.Common.{◌*◌, ap, ◌≡◌, ℕ, ◌≤◌, ◌↔◌, arith, sym, ◌∙◌}
-use Rattle.std.proofs.lemmas.Int.{ints}
 use Rattle.std.proofs.Math.Nat.{one-le-mul, eq_of_mul-eq-mul_right}
 use Rattle.std.specs.Prelude.{pos}
 use Rattle.rp_num.specs.Fraction.{Fraction, IsLowestTerms, PassesWidth}
 use Rattle.rp_num.proofs.Lowest.{IsLowestTerms-exists, IsLowestTerms-itself, not_PassesWidth}
 use Rattle.rp_walk.specs.ExactTotal.{SameTotal}
+use Rattle.rp_walk.proofs.Numbers.{same_pos}
 use Rattle.rp_homo.specs.Products.{FitsFraction, as_total, at_least_one, times}
 
 pub at_least_one-is : (k : ℕ) → 1 ≤ k → at_least_one k ≡ k
 at_least_one-is k h = omega arith
-
-pub same_pos : (m n : ℕ) → pos m ≡ pos n → m ≡ n
-same_pos m n h = omega (arith, ints)
 
 -- v times k, in lowest terms p, where k is a/b in lowest terms
 product_is : (v w k l p q a b : ℕ) → 1 ≤ l → k * b ≡ a * l → p * (w * l) ≡ (v * k) * q → p * (w * b) ≡ (v * a) * q

@@ -1,38 +1,33 @@
 use Rattle.std.proofs.Common.{All, ◌+◌, ◌*◌, ap, subst, ◌≡◌, ℕ, zero, suc, ◌<◌, ◌≤◌, ◌↔◌, arith, refl, sym, ◌∙◌, List, [], ◌∷◌, length, ◌⊎◌, inl, inr, ◌/◌, ◌^◌}
-use Rattle.std.proofs.lemmas.Int.{ints}
 use Rattle.std.proofs.lemmas.Bool.{cases_lt}
 use Rattle.std.proofs.lemmas.Nat.{mul-add-lt}
 use Rattle.std.proofs.Math.Nat.{eq-one_of_dvd-one, one-le-mul, mul-le-mul_left, mul-lt-mul_of_pos_right}
 use Rattle.std.specs.Prelude.{ℤ, pos, ◌*ℤ◌, ◌<ℤ◌}
-use Rattle.rp_num.specs.Fraction.{Fraction, IsLowestTerms, PassesWidth}
+use Rattle.rp_num.specs.Fraction.{Fraction, FitsWidth, IsLowestTerms, PassesWidth}
 use Rattle.rp_num.proofs.Lowest.{FitsWidth-divided, IsLowestTerms-divided, not_PassesWidth, same_lowest}
 use Rattle.rp_num.proofs.Coprime.{IsGcd-exists}
 use Rattle.rp_walk.specs.ExactTotal.{ExactTotal, IsLess, SameTotal}
-use Rattle.rp_walk.specs.Walk.{IsWalk, total_after}
+use Rattle.rp_walk.specs.Walk.{AreObservations, total_after}
 use Rattle.rp_walk.specs.LeastTotals.{IsLeast, StepsFitAlong, WalkFits}
-use Rattle.rp_walk.specs.Settled.{HasLeastTotals, IsFirstPair, IsViolation, NoPairBreaks, PairBreaks}
-use Rattle.rp_walk.specs.Outcome.{SettlesInCycle, SettlesInValues, SettlesInWide, IsPairCycle as IsBreakingCycle, IsLongCycle as IsUnbounded}
+use Rattle.rp_walk.specs.Settled.{HasLeastTotals, IsFirstBreakingPair, FallsBelowStart, NoPairBreaks, PairBreaks}
+use Rattle.rp_walk.specs.Outcome.{SettlesInCycle, SettlesInValues, SettlesInWide, IsBreakingCycle, IsLevelCycle}
 use Rattle.rp_walk.proofs.Order.{not_more_trans, not_less-same}
+use Rattle.rp_walk.proofs.Leads.{leads_from, leads_to}
+use Rattle.rp_walk.proofs.Numbers.{less-pos, pos-less, same_pos}
 use Rattle.rp_walk.proofs.Walks.{IsTotal-here, IsTotal-further}
 use Rattle.rp_walk.proofs.Paths.{after-same}
-use Rattle.rp_walk.proofs.Central.{no_violation}
-use Rattle.rp_evidence.specs.Walk.{IsClosedWalk, LeadsTo, IsWalk as AnyWalk}
-use Rattle.rp_evidence.specs.Quasilinear.{AnyStep}
+use Rattle.rp_walk.proofs.Central.{no_walk_falls}
+use Rattle.rp_evidence.specs.Walk.{AnyStep, IsClosedWalk, IsWalk, LeadsTo}
 use Rattle.rp_evidence.specs.Homothetic.{BoundProducts, EndsBelow, IsFallingCycle, IsLeastProduct, MeetsHomotheticTest, ProductsFit, StepsFitFrom, next_costs, own_costs, product_from, value_at}
+use Rattle.rp_evidence.proofs.Walks.{starts_below}
 use Rattle.rp_table.specs.Cost.{CostTable, IsCostTable, cost_at}
 use Rattle.rp_homo.specs.Products.{FitsFraction, as_total, at_least_one, products, times}
 use Rattle.rp_homo.specs.ProductLaws.{products_keep_order}
 use Rattle.rp_homo.specs.Verdict.{GivesCycle, GivesValues, GivesWithheld, IsFirstFall, IsLongCycle, IsPairCycle, NoPairFalls, PairFalls}
-use Rattle.rp_homo.proofs.Steps.{at_least_one-is, same_pos}
-use Rattle.rp_homo.proofs.Walks.{Positive, across, own, breaks_by_costs, den_after, ends_below, falls_from, leads_from, leads_to, num_after, product_from-across, product_from-own, products_treat_starts_alike}
+use Rattle.rp_homo.proofs.Steps.{at_least_one-is}
+use Rattle.rp_homo.proofs.Walks.{Positive, across, own, breaks_by_costs, den_after, ends_below, falls_from, num_after, product_from-across, product_from-own, products_treat_starts_alike}
 
 -- ---- fractions of whole numbers, in the two ways of writing them
-
-pos-less : (i j : ℕ) → i < j → pos i <ℤ pos j
-pos-less i j l = omega (arith, ints)
-
-less-pos : (i j : ℕ) → pos i <ℤ pos j → i < j
-less-pos i j l = omega (arith, ints)
 
 same_fraction : (z : ℤ) (d p q e f : ℕ) (m : ℕ) → z ≡ pos p → d ≡ q → e ≡ f → z *ℤ pos e ≡ pos m *ℤ pos d → m * q ≡ p * f
 same_fraction z d p q e f m ez ed ee h =
@@ -51,7 +46,7 @@ at_most_fraction z d p q e f m ez ed ee h = decided (cases_lt (p * f) (m * q))
 
 -- ---- the total of a walk from no step
 
-num_of_walk : (n : ℕ) (c : ℕ → ℕ → ℕ) → Positive n c → (t : ℕ) (rest : List ℕ) → IsWalk (products n c) t rest → (total_after (products n c) (products n c).empty t rest).num ≡ pos (product_from c t rest)
+num_of_walk : (n : ℕ) (c : ℕ → ℕ → ℕ) → Positive n c → (t : ℕ) (rest : List ℕ) → AreObservations (products n c) t rest → (total_after (products n c) (products n c).empty t rest).num ≡ pos (product_from c t rest)
 num_of_walk n c positive t rest walk =
     num_after n c (products n c).empty 1 t rest refl ∙ ap pos (one_times (product_from (across c) t rest))
     ∙ ap pos (product_from-across n c positive t rest walk.begins_within walk.goes_within)
@@ -59,7 +54,7 @@ num_of_walk n c positive t rest walk =
     one_times : (a : ℕ) → 1 * a ≡ a
     one_times a = omega arith
 
-den_of_walk : (n : ℕ) (c : ℕ → ℕ → ℕ) → Positive n c → (t : ℕ) (rest : List ℕ) → IsWalk (products n c) t rest → (total_after (products n c) (products n c).empty t rest).den ≡ product_from (λ i j. c i i) t rest
+den_of_walk : (n : ℕ) (c : ℕ → ℕ → ℕ) → Positive n c → (t : ℕ) (rest : List ℕ) → AreObservations (products n c) t rest → (total_after (products n c) (products n c).empty t rest).den ≡ product_from (λ i j. c i i) t rest
 den_of_walk n c positive t rest walk =
     den_after n c (products n c).empty t rest ∙ one_times (product_from (own c) t rest)
     ∙ product_from-own n c positive t rest walk.begins_within walk.goes_within
@@ -87,10 +82,10 @@ IsLeastProduct-least n c positive s f terms least =
       lowest = λ t walk h. lowest t walk h;
     }
   where
-    lowest : (t : ℕ) (walk : List ℕ) → AnyWalk n AnyStep t s walk → f.num * own_costs c walk ≤ next_costs c walk * f.den
+    lowest : (t : ℕ) (walk : List ℕ) → IsWalk n AnyStep t s walk → f.num * own_costs c walk ≤ next_costs c walk * f.den
     lowest t [] h = absurd h
     lowest t (x ∷ rest) h =
-        let way = leads_to n c x s rest h.1 in
+        let way = leads_to (products n c) x s rest h.1 in
         let w = total_after (products n c) (products n c).empty x rest in
         let kept = least.lowest (length rest) w (record { first = x; rest = rest; walk = way.0; steps = refl; ends = way.1; total = refl }) in
         at_most_fraction w.num w.den (product_from c x rest) (product_from (λ i j. c i i) x rest) (at_least_one f.den) f.den f.num
@@ -98,6 +93,9 @@ IsLeastProduct-least n c positive s f terms least =
 
 abbrev pub AllLowest : ℕ → List Fraction → Type 0
 AllLowest n values = (s : ℕ) → s < n → IsLowestTerms (value_at values s).num (value_at values s).den (value_at values s)
+
+abbrev pub AllFit : ℕ → List Fraction → Type 0
+AllFit n values = (s : ℕ) → s < n → FitsWidth (value_at values s)
 
 abbrev pub AllLeast : ℕ → (ℕ → ℕ → ℕ) → List Fraction → Type 0
 AllLeast n c values = (s : ℕ) → s < n → IsLeast (products n c) s (as_total (value_at values s))
@@ -108,10 +106,10 @@ HasLeastTotals-values n c values least s hs = (as_total (value_at values s), lea
 pub MeetsHomotheticTest-least : (n : ℕ) (c : ℕ → ℕ → ℕ) → Positive n c → HasLeastTotals (products n c) → MeetsHomotheticTest n c
 MeetsHomotheticTest-least n c positive all walk closed = decided (cases_lt (next_costs c walk) (own_costs c walk))
   where
-    violation : (walk : List ℕ) → IsClosedWalk n AnyStep walk → next_costs c walk < own_costs c walk → IsViolation (products n c) (products n c).empty walk
+    violation : (walk : List ℕ) → IsClosedWalk n AnyStep walk → next_costs c walk < own_costs c walk → FallsBelowStart (products n c) (products n c).empty walk
     violation [] closed falls = absurd closed.1
     violation (x ∷ rest) closed falls =
-        let way = leads_to n c x closed.0 rest closed.1.1 in
+        let way = leads_to (products n c) x closed.0 rest closed.1.1 in
         let ea = product_from-across n c positive x rest way.0.begins_within way.0.goes_within in
         let eo = product_from-own n c positive x rest way.0.begins_within way.0.goes_within in
         record {
@@ -127,7 +125,7 @@ MeetsHomotheticTest-least n c positive all walk closed = decided (cases_lt (next
 
     decided : (next_costs c walk < own_costs c walk) ⊎ (own_costs c walk ≤ next_costs c walk) → own_costs c walk ≤ next_costs c walk
     decided (inr l) = l
-    decided (inl l) = absurd (no_violation (products n c) (products_keep_order n c) (products_treat_starts_alike n c) all (products n c).empty walk (violation walk closed l))
+    decided (inl l) = absurd (no_walk_falls (products n c) (products_keep_order n c) (products_treat_starts_alike n c) all (products n c).empty walk (violation walk closed l))
 
 -- ---- the values bound the products
 
@@ -140,18 +138,14 @@ positive_value p q (suc m) d hp hd e = omega arith
 next_costs-positive : (n : ℕ) (c : ℕ → ℕ → ℕ) → Positive n c → (t s : ℕ) (rest : List ℕ) → LeadsTo n AnyStep t s rest → 1 ≤ product_from c t rest
 next_costs-positive n c positive t s [] h = omega arith
 next_costs-positive n c positive t s (x ∷ rest) h =
-    one-le-mul (positive t x h.0 (begins x rest h.2)) (next_costs-positive n c positive x s rest h.2)
-  where
-    begins : (x : ℕ) (rest : List ℕ) → LeadsTo n AnyStep x s rest → x < n
-    begins x [] h = h.0
-    begins x (y ∷ rest) h = h.0
+    one-le-mul (positive t x h.0 (starts_below n AnyStep x s rest h.2)) (next_costs-positive n c positive x s rest h.2)
 
 num_positive : (n : ℕ) (c : ℕ → ℕ → ℕ) → Positive n c → (s : ℕ) (f : Fraction) → IsLeastProduct n c s f → 1 ≤ f.num
 num_positive n c positive s f least =
     let r = least.reached in
     go r.0 r.1 r.2 r.3
   where
-    go : (t : ℕ) (walk : List ℕ) → AnyWalk n AnyStep t s walk → f.num * own_costs c walk ≡ next_costs c walk * f.den → 1 ≤ f.num
+    go : (t : ℕ) (walk : List ℕ) → IsWalk n AnyStep t s walk → f.num * own_costs c walk ≡ next_costs c walk * f.den → 1 ≤ f.num
     go t [] h e = absurd h
     go t (x ∷ rest) h e =
         positive_value (product_from c x rest) (product_from (λ i j. c i i) x rest) f.num f.den (next_costs-positive n c positive x s rest h.1) least.lowest_terms.positive e
@@ -183,7 +177,7 @@ NoPairFalls-breaks n c positive none s t order ht falls =
     let hs : s < n = omega (arith, order, ht) in
     none s t order ht ((breaks_by_costs n c s t hs (positive s t hs ht) (positive t s ht hs) (positive s s hs hs) (positive t t ht ht)).0 falls)
 
-IsFirstFall-pair : (n : ℕ) (c : ℕ → ℕ → ℕ) → Positive n c → (s t : ℕ) → IsFirstPair (products n c) s t → IsFirstFall n c s t
+IsFirstFall-pair : (n : ℕ) (c : ℕ → ℕ → ℕ) → Positive n c → (s t : ℕ) → IsFirstBreakingPair (products n c) s t → IsFirstFall n c s t
 IsFirstFall-pair n c positive s t first = record {
   in_order = first.in_order;
   within = first.within;
@@ -196,13 +190,13 @@ IsFirstFall-pair n c positive s t first = record {
         let hi : i < n = omega (arith, order, hj) in
         breaks_by_costs n c i j hi (positive i j hi hj) (positive j i hj hi) (positive i i hi hi) (positive j j hj hj)
 
-pub IsClosedWalk-violation : (n : ℕ) (c : ℕ → ℕ → ℕ) (start : ExactTotal) (walk : List ℕ) → IsViolation (products n c) start walk → IsClosedWalk n AnyStep walk
-IsClosedWalk-violation n c start walk v =
+pub IsClosedWalk-falls : (n : ℕ) (c : ℕ → ℕ → ℕ) (start : ExactTotal) (walk : List ℕ) → FallsBelowStart (products n c) start walk → IsClosedWalk n AnyStep walk
+IsClosedWalk-falls n c start walk v =
     subst (λ (xs : List ℕ). IsClosedWalk n AnyStep xs) (sym v.walk_is)
     (v.first, (refl, leads_from n v.first v.first v.rest v.is_walk.begins_within v.is_walk.goes_within v.closed), omega (arith, v.has_step))
 
 -- what the start is multiplied by along the walk is below 1, and the start is not 0
-falls_along : (n : ℕ) (c : ℕ → ℕ → ℕ) → Positive n c → (start : Fraction) (walk : List ℕ) → IsViolation (products n c) (as_total start) walk → (1 ≤ start.num) × (next_costs c walk < own_costs c walk)
+falls_along : (n : ℕ) (c : ℕ → ℕ → ℕ) → Positive n c → (start : Fraction) (walk : List ℕ) → FallsBelowStart (products n c) (as_total start) walk → (1 ≤ start.num) × (next_costs c walk < own_costs c walk)
 falls_along n c positive start walk v =
     let ea = product_from-across n c positive v.first v.rest v.is_walk.begins_within v.is_walk.goes_within in
     let eo = product_from-own n c positive v.first v.rest v.is_walk.begins_within v.is_walk.goes_within in
@@ -227,9 +221,9 @@ ends_below_start c start walk hn hd h = scaled start.num start.den (next_costs c
         let h2 = mul-lt-mul_of_pos_right {k = d} h1 hd in
         omega (arith, h2)
 
-pub IsFallingCycle-violation : (n : ℕ) (c : ℕ → ℕ → ℕ) → Positive n c → (start : Fraction) (walk : List ℕ) → IsViolation (products n c) (as_total start) walk → IsFallingCycle n c walk
-IsFallingCycle-violation n c positive start walk v = record {
-  closed = IsClosedWalk-violation n c (as_total start) walk v;
+pub IsFallingCycle-falls : (n : ℕ) (c : ℕ → ℕ → ℕ) → Positive n c → (start : Fraction) (walk : List ℕ) → FallsBelowStart (products n c) (as_total start) walk → IsFallingCycle n c walk
+IsFallingCycle-falls n c positive start walk v = record {
+  closed = IsClosedWalk-falls n c (as_total start) walk v;
   falls = (falls_along n c positive start walk v).1;
 }
 
@@ -259,7 +253,7 @@ steps_fit_along n c positive x m d t (s ∷ rest) em ed ht within fit =
 walk_fits : (n : ℕ) (c : ℕ → ℕ → ℕ) → Positive n c → (start : Fraction) (walk : List ℕ) → 1 ≤ start.den → IsClosedWalk n AnyStep walk → WalkFits (products n c) FitsFraction (as_total start) walk → ProductsFit c start walk
 walk_fits n c positive start [] hd closed fit = tt
 walk_fits n c positive start (x ∷ rest) hd closed fit =
-    let way = leads_to n c x closed.0 rest closed.1.1 in
+    let way = leads_to (products n c) x closed.0 rest closed.1.1 in
     steps_fit_along n c positive (as_total start) start.num start.den x rest refl (at_least_one-is start.den hd) way.0.begins_within way.0.goes_within fit
 
 -- numbers within the width have lowest terms within it
@@ -294,24 +288,27 @@ pair_fits n c positive limited s t hs ht = (
 
 -- ---- the verdicts
 
-pub GivesValues-settled : (n : ℕ) (c : ℕ → ℕ → ℕ) → Positive n c → (values : List Fraction) → AllLowest n values → SettlesInValues (products n c) FitsFraction as_total values → GivesValues n c values
-GivesValues-settled n c positive values terms h = record {
+pub GivesValues-settled : (n : ℕ) (c : ℕ → ℕ → ℕ) → Positive n c → (values : List Fraction) → AllLowest n values → AllFit n values → SettlesInValues (products n c) FitsFraction as_total values → GivesValues n c values
+GivesValues-settled n c positive values terms fit h = record {
   no_pair = NoPairFalls-breaks n c positive h.no_pair;
   none_too_wide = h.none_too_wide;
   holds = MeetsHomotheticTest-least n c positive (HasLeastTotals-values n c values (λ s hs. h.least s _ hs));
   one_each = h.one_each;
+  fit = fit;
   least = λ s hs. IsLeastProduct-least n c positive s (value_at values s) (terms s hs) (h.least s _ hs);
   steps_fit = λ t s ht hs.
       within_width (as_total (value_at values t)) (value_at values t).num (value_at values t).den (c t s) (c t t) refl
       (at_least_one-is (value_at values t).den (terms t ht).positive) (positive t s ht hs) (positive t t ht ht) (h.steps_fit t s _ ht hs);
 }
 
-pub GivesCycle-settled : (n : ℕ) (c : ℕ → ℕ → ℕ) → Positive n c → Limited n c → (start : Fraction) (walk : List ℕ) → IsLowestTerms start.num start.den start → SettlesInCycle (products n c) FitsFraction (as_total start) walk → GivesCycle n c start walk
-GivesCycle-settled n c positive limited start walk terms h =
-    let falls = falls_along n c positive start walk h.violation in
+pub GivesCycle-settled : (n : ℕ) (c : ℕ → ℕ → ℕ) → Positive n c → Limited n c → (start : Fraction) (walk : List ℕ) → IsLowestTerms start.num start.den start → FitsWidth start → SettlesInCycle (products n c) FitsFraction (as_total start) walk → GivesCycle n c start walk
+GivesCycle-settled n c positive limited start walk terms fits h =
+    let falls = falls_along n c positive start walk h.falls in
     record {
-      closed = IsClosedWalk-violation n c (as_total start) walk h.violation;
+      closed = IsClosedWalk-falls n c (as_total start) walk h.falls;
+      simple = h.simple;
       lowest_terms = terms;
+      fits = fits;
       ends_below = ends_below_start c start walk falls.0 terms.positive falls.1;
       products_fit = products_fit h.comes;
       comes = comes h.comes;
@@ -322,7 +319,7 @@ GivesCycle-settled n c positive limited start walk terms h =
         same_lowest start (record { num = 1; den = 1 }) terms.positive (omega arith) terms.coprime (λ d left right. eq-one_of_dvd-one left)
         (same_pos (start.num * 1) (1 * start.den) (same ∙ (λ i. pos (1 * at_least_one-is start.den terms.positive i))))
 
-    comes : IsBreakingCycle (products n c) (as_total start) walk ⊎ IsUnbounded (products n c) FitsFraction (as_total start) walk → IsPairCycle n c start walk ⊎ IsLongCycle n c
+    comes : IsBreakingCycle (products n c) (as_total start) walk ⊎ IsLevelCycle (products n c) FitsFraction (as_total start) walk → IsPairCycle n c start walk ⊎ IsLongCycle n c start walk
     comes (inl p) = inl (record {
       s = p.s;
       t = p.t;
@@ -330,14 +327,14 @@ GivesCycle-settled n c positive limited start walk terms h =
       start_is = one_lowest start terms p.start_empty;
       walk_is = p.walk_is;
     })
-    comes (inr l) = inr (record { no_pair = NoPairFalls-breaks n c positive l.no_pair; none_too_wide = l.none_too_wide })
+    comes (inr l) = inr (record { no_pair = NoPairFalls-breaks n c positive l.no_pair; none_too_wide = l.none_too_wide; first_part = l.first_part })
 
-    products_fit : IsBreakingCycle (products n c) (as_total start) walk ⊎ IsUnbounded (products n c) FitsFraction (as_total start) walk → ProductsFit c start walk
+    products_fit : IsBreakingCycle (products n c) (as_total start) walk ⊎ IsLevelCycle (products n c) FitsFraction (as_total start) walk → ProductsFit c start walk
     products_fit (inl p) =
         let hs : p.s < n = omega (arith, p.first_pair.in_order, p.first_pair.within) in
         subst (λ (xs : List ℕ). ProductsFit c start xs) (sym p.walk_is)
         (subst (λ (f : Fraction). ProductsFit c f (p.s ∷ p.t ∷ p.s ∷ [])) (sym (one_lowest start terms p.start_empty)) (pair_fits n c positive limited p.s p.t hs p.first_pair.within))
-    products_fit (inr l) = walk_fits n c positive start walk terms.positive (IsClosedWalk-violation n c (as_total start) walk h.violation) l.steps_fit
+    products_fit (inr l) = walk_fits n c positive start walk terms.positive (IsClosedWalk-falls n c (as_total start) walk h.falls) l.steps_fit
 
 pub GivesWithheld-settled : (n : ℕ) (c : ℕ → ℕ → ℕ) → Positive n c → (k t s : ℕ) → SettlesInWide (products n c) FitsFraction k t s → GivesWithheld n c k t s
 GivesWithheld-settled n c positive k t s h = record { no_pair = NoPairFalls-breaks n c positive h.no_pair; first = h.first }

@@ -1,14 +1,11 @@
-use Rattle.std.proofs.Common.{IsTrue, nat_lt, ◌*◌, ap, subst, ◌≡◌, ℕ, zero, suc, ◌<◌, ◌≤◌, ◌↔◌, arith, refl, ◌∙◌, List, [], ◌∷◌, All}
-use Rattle.std.proofs.lemmas.Int.{ints}
-use Rattle.std.proofs.lemmas.Bool.Decides.{nat_tests}
+use Rattle.std.proofs.Common.{IsTrue, nat_lt, ◌*◌, ap, subst, ◌≡◌, ℕ, suc, ◌<◌, ◌≤◌, ◌↔◌, arith, refl, ◌∙◌, List, [], ◌∷◌, All}
 use Rattle.std.proofs.Math.Nat.{le-max_left, one-le-mul, mul-lt-mul_of_pos_right, lt_of_mul-lt-mul_right}
 use Rattle.std.specs.Prelude.{ℤ, pos, ◌*ℤ◌, ◌<ℤ◌}
 use Rattle.rp_walk.specs.ExactTotal.{ExactTotal, IsLess}
-use Rattle.rp_walk.specs.Walk.{IsWalk, IsTotal, StartsAlike, end_of, total_after}
+use Rattle.rp_walk.specs.Walk.{IsTotal, StartsAlike, total_after}
 use Rattle.rp_walk.specs.Settled.{PairBreaks}
+use Rattle.rp_walk.proofs.Numbers.{less-pos, pos-less, test, tested}
 use Rattle.rp_walk.proofs.Walks.{IsTotal-here}
-use Rattle.rp_evidence.specs.Walk.{LeadsTo}
-use Rattle.rp_evidence.specs.Quasilinear.{AnyStep}
 use Rattle.rp_evidence.specs.Homothetic.{product_from}
 use Rattle.rp_homo.specs.Products.{at_least_one, products}
 use Rattle.rp_homo.specs.Verdict.{PairFalls}
@@ -84,20 +81,14 @@ below : (z w : ℤ) (m p q a d : ℕ) → 1 ≤ m → 1 ≤ a → z ≡ pos (m *
 below z w m p q a d hm ha ez ew ed h =
     let h1 = mul-lt-mul_of_pos_right {k = m} h hm in
     let h2 = mul-lt-mul_of_pos_right {k = a} h1 ha in
-    rw (ez, ew, ed) (less (m * p * a) (m * (a * q)) (omega (arith, h2)))
-  where
-    less : (i j : ℕ) → i < j → pos i <ℤ pos j
-    less i j l = omega (arith, ints)
+    rw (ez, ew, ed) (pos-less (m * p * a) (m * (a * q)) (omega (arith, h2)))
 
 less_of_below : (z w : ℤ) (m p q a d : ℕ) → z ≡ pos (m * p) → w ≡ pos m → d ≡ a * q → (z *ℤ pos a) <ℤ (w *ℤ pos d) → p < q
 less_of_below z w m p q a d ez ew ed h =
     let g : pos (m * p * a) <ℤ pos (m * (a * q)) = rw (ez, ew, ed) at h in
-    let l = less (m * p * a) (m * (a * q)) g in
+    let l = less-pos (m * p * a) (m * (a * q)) g in
     let h2 : p * m * a < q * m * a = omega (arith, l) in
     lt_of_mul-lt-mul_right m (lt_of_mul-lt-mul_right a h2)
-  where
-    less : (i j : ℕ) → pos i <ℤ pos j → i < j
-    less i j l = omega (arith, ints)
 
 pub ends_below : (n : ℕ) (c : ℕ → ℕ → ℕ) (x : ExactTotal) (m t : ℕ) (rest : List ℕ) → 1 ≤ m → x.num ≡ pos m → product_from (across c) t rest < product_from (own c) t rest → IsLess (total_after (products n c) x t rest) x
 ends_below n c x m t rest hm e h =
@@ -143,31 +134,8 @@ breaks_tested n c s t a b d e ab de hs ht ea eb ed ee ha hb hd he eab ede =
     let all = breaks_by_costs n c s t hs (omega (arith, ea, ha)) (omega (arith, eb, hb)) (omega (arith, ed, hd)) (omega (arith, ee, he)) in
     (λ h. all.0 (less (tested ab de h)), λ breaks. test ab de (more (all.1 breaks)))
   where
-    tested : (x y : ℕ) → IsTrue (nat_lt x y) → x < y
-    tested x y h = grind (arith, nat_tests)
-
-    test : (x y : ℕ) → x < y → IsTrue (nat_lt x y)
-    test x y h = grind (arith, nat_tests)
-
     less : ab < de → c s t * c t s < c s s * c t t
     less h = rw (← ea, ← eb, ← ed, ← ee, ← eab, ← ede) h
 
     more : c s t * c t s < c s s * c t t → ab < de
     more h = rw (eab, ede, ea, eb, ed, ee) h
-
--- ---- walks in the two ways of writing them
-
-pub leads_to : (n : ℕ) (c : ℕ → ℕ → ℕ) (t s : ℕ) (rest : List ℕ) → LeadsTo n AnyStep t s rest → IsWalk (products n c) t rest × (end_of t rest ≡ s)
-leads_to n c t s [] h = (record { begins_within = h.0; goes_within = λ k d below. absurd (omega arith) }, h.1)
-leads_to n c t s (x ∷ rest) h =
-    let further = leads_to n c x s rest h.2 in
-    (record { begins_within = h.0; goes_within = within further.0.begins_within further.0.goes_within }, further.1)
-  where
-    within : x < n → All (λ m. m < n) rest → All (λ m. m < n) (x ∷ rest)
-    within hx h zero d below = hx
-    within hx h (suc k) d below = h k d (omega arith)
-
-pub leads_from : (n : ℕ) (t s : ℕ) (rest : List ℕ) → t < n → All (λ m. m < n) rest → end_of t rest ≡ s → LeadsTo n AnyStep t s rest
-leads_from n t s [] ht within e = (ht, e)
-leads_from n t s (x ∷ rest) ht within e =
-    (ht, tt, leads_from n x s rest (within 0 x (omega arith)) (λ k d below. within (suc k) d (omega arith)) e)

@@ -1,32 +1,14 @@
+-- Proofs and no definitions: products keep the laws of a kind of total, and these stand here since the code cites them.
 use borrow.Author.Differences.{up, down}
 use Rattle.std.proofs.Common.{◌+◌, ◌*◌, ap, ◌≡◌, ℕ, ◌<◌, ◌≤◌, arith, sym}
-use Rattle.std.proofs.lemmas.Int.{ints}
 use Rattle.std.proofs.Math.Nat.{le-max_left, mul-lt-mul_of_pos_right, lt_of_mul-lt-mul_right}
-use Rattle.std.specs.Prelude.{ℤ, pos, ◌*ℤ◌, ◌<ℤ◌}
+use Rattle.std.specs.Prelude.{pos, ◌*ℤ◌}
 use Rattle.rp_walk.specs.ExactTotal.{ExactTotal, SameTotal}
 use Rattle.rp_walk.specs.Walk.{KeepsOrder}
 use Rattle.rp_walk.specs.LeastTotals.{FitsAlike}
 use Rattle.rp_walk.proofs.Levels.{SameTotal-trans}
+use Rattle.rp_walk.proofs.Numbers.{from_nat, parts_of_product, same_from_nat, to_nat}
 use Rattle.rp_homo.specs.Products.{FitsFraction, as_total, at_least_one, products}
-
--- an integer z is read as `up z - down z`
-pub parts_of_product : (k : ℤ) (b : ℕ) → up (k *ℤ pos b) + down k * b ≡ down (k *ℤ pos b) + up k * b
-parts_of_product k b = omega (arith, ints)
-
--- the same, all times d
-pub parts_times : (k : ℤ) (b d : ℕ) → up (k *ℤ pos b) * d + down k * b * d ≡ down (k *ℤ pos b) * d + up k * b * d
-parts_times k b d =
-    let e = ap (λ n. n * d) (parts_of_product k b) in
-    omega (arith, e)
-
-to_nat : (a c : ℤ) (b d : ℕ) → (a *ℤ pos d) <ℤ (c *ℤ pos b) → up a * d + down c * b < up c * b + down a * d
-to_nat a c b d h = omega (arith, ints)
-
-from_nat : (a c : ℤ) (b d : ℕ) → up a * d + down c * b < up c * b + down a * d → (a *ℤ pos d) <ℤ (c *ℤ pos b)
-from_nat a c b d h = omega (arith, ints)
-
-same_from_nat : (a c : ℤ) (b d : ℕ) → up a * d + down c * b ≡ up c * b + down a * d → a *ℤ pos d ≡ c *ℤ pos b
-same_from_nat a c b d h = omega (arith, ints)
 
 multiplied : (u v u' v' p q p' q' b d k m : ℕ) → 1 ≤ k → 1 ≤ m → p + v * k ≡ q + u * k → p' + v' * k ≡ q' + u' * k → u * d + v' * b < u' * b + v * d → p * (d * m) + q' * (b * m) < p' * (b * m) + q * (d * m)
 multiplied u v u' v' p q p' q' b d k m hk hm e e' h =

@@ -1,8 +1,9 @@
+-- Products of fractions over the steps of walks, as a kind of total (Varian 1983).
 use Rattle.std.specs.Prelude.{ℕ, ◌*◌, pos, ◌*ℤ◌, max}
 use Rattle.std.proofs.Math.Nat.{le-max_left, one-le-mul}
 use Rattle.rp_num.specs.Fraction.{Fraction, IsLowestTerms, FitsWidth}
 use Rattle.rp_walk.specs.ExactTotal.{ExactTotal, SameTotal}
-use Rattle.rp_walk.specs.Walk.{Steps}
+use Rattle.rp_walk.specs.Walk.{TotalRule}
 
 -- A number, and 1 in place of 0.
 abbrev pub at_least_one : ℕ → ℕ
@@ -22,7 +23,7 @@ times x a b = record {
 
 -- Products over the steps of walks: a step from t to s multiplies by c(t,s)/c(t,t) (Varian 1983). A walk of no
 -- step has the product 1.
-abbrev pub products : ℕ → (ℕ → ℕ → ℕ) → Steps
+abbrev pub products : ℕ → (ℕ → ℕ → ℕ) → TotalRule
 products n c = record {
   count = n;
   empty = as_total (record { num = 1; den = 1 });

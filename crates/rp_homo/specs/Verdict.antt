@@ -1,12 +1,14 @@
+-- The verdict of the homothetic test, with its evidence (Varian 1983).
 use Rattle.std.specs.Prelude.{◌≡◌, ℕ, ◌*◌, ◌<◌, ◌⊎◌, List, [], ◌∷◌, length}
-use Rattle.rp_num.specs.Fraction.{Fraction, IsLowestTerms, PassesWidth}
+use Rattle.rp_num.specs.Fraction.{Fraction, FitsWidth, IsLowestTerms, PassesWidth}
 use Rattle.rp_walk.specs.LeastTotals.{IsFirstTooWide, NoneTooWide}
-use Rattle.rp_evidence.specs.Walk.{IsClosedWalk}
-use Rattle.rp_evidence.specs.Quasilinear.{AnyStep}
+use Rattle.rp_walk.specs.LevelWalk.{IsCutFromLevels}
+use Rattle.rp_walk.specs.Walk.{IsSimpleCycle}
+use Rattle.rp_evidence.specs.Walk.{AnyStep, IsClosedWalk}
 use Rattle.rp_evidence.specs.Homothetic.{EndsBelow, IsLeastProduct, MeetsHomotheticTest, ProductsFit, value_at}
 use Rattle.rp_evidence.specs.declared.homothetic.Homothetic.{Homothetic}
 use Rattle.rp_evidence.specs.declared.homothetic.Homothetic.TheVariants.{Values, Cycle, Withheld}
-use Rattle.rp_homo.specs.Products.{FitsFraction, products}
+use Rattle.rp_homo.specs.Products.{FitsFraction, as_total, products}
 
 -- On the closed walk s, t, s the product is below 1.
 abbrev pub PairFalls : (ℕ → ℕ → ℕ) → ℕ → ℕ → Type 0
@@ -22,13 +24,14 @@ pub record IsFirstFall (n : ℕ) (c : ℕ → ℕ → ℕ) (s t : ℕ) : Type 0 
 abbrev pub NoPairFalls : ℕ → (ℕ → ℕ → ℕ) → Type 0
 NoPairFalls n c = (s t : ℕ) → s < t → t < n → ¬ (PairFalls c s t)
 
--- The values are the least products over all walks, by the observation where they end, and each step from them is
--- within the width. No pair falls, no product is too wide, and the test holds.
+-- The values are the least products over all walks, by the observation where they end. They and each step from them
+-- are within the width. No pair falls, no product is too wide, and the test holds.
 pub record GivesValues (n : ℕ) (c : ℕ → ℕ → ℕ) (values : List Fraction) : Type 0 where
   pub no_pair : NoPairFalls n c
   pub none_too_wide : NoneTooWide (products n c) FitsFraction
   pub holds : MeetsHomotheticTest n c
   pub one_each : length values ≡ n
+  pub fit : (s : ℕ) → s < n → FitsWidth (value_at values s)
   pub least : (s : ℕ) → s < n → IsLeastProduct n c s (value_at values s)
   pub steps_fit : (t s : ℕ) → t < n → s < n → ¬ (PassesWidth ((value_at values t).num * c t s) ((value_at values t).den * c t t))
 
@@ -40,18 +43,23 @@ pub record IsPairCycle (n : ℕ) (c : ℕ → ℕ → ℕ) (start : Fraction) (w
   pub start_is : start ≡ record { num = 1; den = 1 }
   pub walk_is : walk ≡ s ∷ t ∷ s ∷ []
 
--- No pair falls, and no product is too wide.
-pub record IsLongCycle (n : ℕ) (c : ℕ → ℕ → ℕ) : Type 0 where
+-- No pair falls, and no product is too wide. The cycle is the first closed part of the walk that the levels give, and
+-- the start is the product there.
+pub record IsLongCycle (n : ℕ) (c : ℕ → ℕ → ℕ) (start : Fraction) (walk : List ℕ) : Type 0 where
   pub no_pair : NoPairFalls n c
   pub none_too_wide : NoneTooWide (products n c) FitsFraction
+  pub first_part : IsCutFromLevels (products n c) (as_total start) walk
 
--- A closed walk along which the start is multiplied below itself, by products within the width, and when it comes.
+-- A closed walk that goes through no observation twice, along which the start is multiplied below itself, and when it
+-- comes. The start, in lowest terms, and the products along the walk are within the width.
 pub record GivesCycle (n : ℕ) (c : ℕ → ℕ → ℕ) (start : Fraction) (walk : List ℕ) : Type 0 where
   pub closed : IsClosedWalk n AnyStep walk
+  pub simple : IsSimpleCycle n walk
   pub lowest_terms : IsLowestTerms start.num start.den start
+  pub fits : FitsWidth start
   pub ends_below : EndsBelow c start walk
   pub products_fit : ProductsFit c start walk
-  pub comes : IsPairCycle n c start walk ⊎ IsLongCycle n c
+  pub comes : IsPairCycle n c start walk ⊎ IsLongCycle n c start walk
 
 -- No pair falls, and this is the first triple that is too wide.
 pub record GivesWithheld (n : ℕ) (c : ℕ → ℕ → ℕ) (k t s : ℕ) : Type 0 where

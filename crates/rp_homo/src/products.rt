@@ -18,7 +18,8 @@ impl Products<'_> {
     fn factor(&self, t: u32, s: u32) -> Frac
         requires from { t < self.now.costs.now.n }
         requires to { s < self.now.costs.now.n }
-        ensures lowest { IsLowestTerms (cost_at self.now.costs.now t s) (cost_at self.now.costs.now t t) result }
+        ensures lowest { let c = cost_at self.now.costs.now in
+            IsLowestTerms (c t s) (c t t) result }
         ensures across { 1 ≤ cost_at self.now.costs.now t s }
         ensures own { 1 ≤ cost_at self.now.costs.now t t }
     {
@@ -34,7 +35,7 @@ impl Total for Products<'_> {
     ghost use Rattle.rp_table.specs.Cost.{cost_at};
     ghost use Rattle.rp_homo.specs.Products.{FitsFraction, as_total, products};
 
-    ghost steps = { λ a. products a.costs.now.n (cost_at a.costs.now) };
+    ghost rule = { λ a. products a.costs.now.n (cost_at a.costs.now) };
 
     ghost exact = { as_total };
 

@@ -1,5 +1,5 @@
 ghost use Rattle.std.specs.Prelude.{IfOk, All};
-ghost use Rattle.rp_num.specs.Fraction.{Fraction, IsLowestTerms};
+ghost use Rattle.rp_num.specs.Fraction.{Fraction, FitsWidth, IsLowestTerms};
 ghost use Rattle.rp_evidence.specs.Homothetic.{ProvesHomothetic};
 ghost use Rattle.rp_homo.specs.Verdict.{IsHomotheticVerdict};
 ghost use Rattle.rp_table.specs.Cost.{cost_at};
@@ -33,9 +33,10 @@ pub fn homothetic(alloc: Global, costs: &Costs) -> Result<Homothetic, NoMemory>
     }
 }
 
-/// Shows callers that the fractions are in lowest terms, as every fraction is.
+/// Shows callers that the fractions are in lowest terms and within the width, as every fraction is.
 fn are_lowest(fractions: &[Frac])
-    ensures { All (λ (f : Fraction). IsLowestTerms f.num f.den f) fractions.now }
+    ensures lowest { All (λ (f : Fraction). IsLowestTerms f.num f.den f) fractions.now }
+    ensures fit { All FitsWidth fractions.now }
 {
     for fraction in fractions {
         prove!(fraction.den() > 0);

@@ -1,3 +1,4 @@
+-- Fractions in lowest terms and within a width, their order and their text (arithmetic; Hardy and Wright).
 use Rattle.std.specs.Prelude.{◌≡◌, ℕ, ◌*◌, ◌^◌, ◌<◌, ◌≤◌, ◌==◌, if◌then◌else◌, List, ◌∷◌, ◌++◌}
 use Prim.Native.Nat.{◌∣◌}
 use Rattle.std.specs.Fmt.{decimal}
@@ -23,10 +24,14 @@ pub record IsLowestTerms (num den : ℕ) (f : Fraction) : Type 0 where
   pub coprime : IsCoprime f.num f.den
   pub same_number : f.num * den ≡ num * f.den
 
--- Both parts are within the width of fractions, 2^127 - 1.
+-- A part of a fraction is within its width, 2^127 - 1.
+abbrev pub FitsPart : ℕ → Type 0
+FitsPart n = n < 2 ^ 127
+
+-- Both parts are within the width of fractions.
 pub record FitsWidth (f : Fraction) : Type 0 where
-  pub num_fits : f.num < 2 ^ 127
-  pub den_fits : f.den < 2 ^ 127
+  pub num_fits : FitsPart f.num
+  pub den_fits : FitsPart f.den
 
 -- num/den in lowest terms has a part past the width.
 abbrev pub PassesWidth : ℕ → ℕ → Type 0

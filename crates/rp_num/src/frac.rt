@@ -1,5 +1,5 @@
 ghost use Rattle.std.specs.Prelude.{◌≡◌, ℕ, ◌*◌, ◌^◌, ◌<◌, ◌≤◌, ◌↔◌, IfOk, OnErr, IsErr};
-ghost use Rattle.rp_num.specs.Fraction.{Fraction, IsLowestTerms, FitsWidth, PassesWidth, fraction_cmp};
+ghost use Rattle.rp_num.specs.Fraction.{FitsPart, Fraction, IsLowestTerms, FitsWidth, PassesWidth, fraction_cmp};
 
 use crate::Wide;
 use crate::euclid::{compare, gcd};
@@ -7,9 +7,9 @@ use std::cmp::Ordering;
 use std::marker::Model;
 
 /// The greatest part that a fraction may have, 2^127 - 1.
-const WIDTH: u128 = (1 << 127) - 1;
+pub const FRACTION_WIDTH: u128 = (1 << 127) - 1;
 
-/// A fraction in lowest terms. Its denominator is positive, and both parts are at most 2^127 - 1.
+/// A fraction in lowest terms. Its denominator is positive, and both parts are at most `FRACTION_WIDTH`.
 #[derive(Clone, Copy, Debug, PartialEq, Eq)]
 pub struct Frac {
     num: u128,
@@ -33,8 +33,8 @@ impl Frac {
     /// The fraction `num/den`, brought to lowest terms.
     pub fn new(num: u128, den: u128) -> Frac
         requires positive { 1 ≤ den }
-        requires num_fits { num < 2 ^ 127 }
-        requires den_fits { den < 2 ^ 127 }
+        requires num_fits { FitsPart num }
+        requires den_fits { FitsPart den }
         ensures lowest { IsLowestTerms num den result }
         ensures fits { FitsWidth result }
     {
@@ -89,11 +89,11 @@ impl Frac {
 /// The product of two parts, within the width.
 fn product(a: u128, b: u128) -> Result<u128, Wide>
     ensures value { IfOk result (λ p. p ≡ a * b) }
-    ensures fits { IfOk result (λ p. p < 2 ^ 127) }
-    ensures wide { OnErr result (2 ^ 127 ≤ a * b) }
+    ensures fits { IfOk result FitsPart }
+    ensures wide { OnErr result (¬ (FitsPart (a * b))) }
 {
     match a.checked_mul(b) {
-        Some(p) if p <= WIDTH => Ok(p),
+        Some(p) if p <= FRACTION_WIDTH => Ok(p),
         _ => Err(Wide),
     }
 }

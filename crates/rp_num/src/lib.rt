@@ -10,7 +10,7 @@ mod print;
 
 pub use decimal::{Decimal, NumFault, read_decimal};
 pub use euclid::gcd;
-pub use frac::Frac;
+pub use frac::{FRACTION_WIDTH, Frac};
 pub use laws::{cross_products_decide, lowest_terms_are_unique, lowest_terms_decide_width};
 pub use list::Seq;
 pub use print::{print_frac, print_i128, print_u128};

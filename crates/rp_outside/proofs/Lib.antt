@@ -1,3 +1,4 @@
+pub mod Counts
 pub mod Fronts
 pub mod Growth
 pub mod Progress

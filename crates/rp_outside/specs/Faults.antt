@@ -1,5 +1,5 @@
--- A count of faults, as this project keeps one: a number of 64 bits that never falls and stands
--- still at its last value.
+-- A count of faults or of calls, as this project keeps one: a number of 64 bits that never falls and
+-- stands still at its last value.
 use Rattle.std.specs.Prelude.{ℕ, ◌+◌, ◌-◌, ◌^◌, ◌<◌, ◌≤◌, ◌⊎◌, min}
 
 -- the last value of a count

@@ -1,5 +1,5 @@
--- Files in memory, as pairs of a name and the bytes under it.
-use Rattle.std.specs.Prelude.{ℕ, ◌≡◌, ◌-◌, List, [], Option, drop, length, min, take, unwrap_or}
+-- Files in memory, as pairs of a name and the bytes under it (this project's own form).
+use Rattle.std.specs.Prelude.{ℕ, ◌≡◌, ◌-◌, List, Option, drop, length, min, take}
 use Rattle.std.specs.Map.{lookup}
 use Rattle.std.specs.Str.{bytes_eq}
 
@@ -10,7 +10,3 @@ bytes_under files name = lookup (bytes_eq name) files
 -- n bytes from the place `at` on stand at the front of `into`: as many as there are and as have room
 abbrev pub ReadsAll : List ℕ → ℕ → List ℕ → ℕ → Type 0
 ReadsAll bs at into n = (n ≡ min (length into) (length bs - at)) × (take n into ≡ take n (drop at bs))
-
--- the bytes under a name, and none where there is no such file
-abbrev pub bytes_or_none : List (List ℕ × List ℕ) → List ℕ → List ℕ
-bytes_or_none files name = unwrap_or (bytes_under files name) []

@@ -1,4 +1,4 @@
--- A desk in memory whose failures are planned: what it holds, and what a read does to it.
+-- A desk in memory whose failures are planned: what it holds, and what a read does to it (this project's own).
 use Rattle.std.specs.Prelude.{ℕ, ◌≡◌, ◌⊎◌, Bool, List, Contains, None, if◌then◌else◌}
 use Rattle.rp_outside.specs.Faults.{next_count}
 use Rattle.rp_outside.specs.Files.{bytes_under}

@@ -1,4 +1,4 @@
--- A sink in memory with a limit, whose failures are planned: what it holds, and what a write does to it.
+-- A sink in memory with a limit, whose failures are planned: what it holds, and what a write does to it (this project's own).
 use Rattle.std.specs.Prelude.{ℕ, ◌<◌, ◌≤◌, ◌⊎◌, List, ◌++◌, Contains, Result, Ok, Err, length, take}
 use Rattle.rp_outside.specs.Faults.{next_count}
 

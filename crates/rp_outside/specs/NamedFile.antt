@@ -1,4 +1,4 @@
--- A file in memory of `src/`, as the pair of its name and its bytes.
+-- A file in memory of `src/`, as the pair of its name and its bytes (this project's own form).
 use Rattle.std.specs.Prelude.{ℕ, List, string_bytes}
 use Rattle.rp_outside.specs.declared.memory_files.MemFile.{MemFile}
 

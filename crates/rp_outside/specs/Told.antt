@@ -1,4 +1,4 @@
--- Bytes that are told or not told. Where they are not told, nothing is said of them.
+-- Bytes that are told or not told, of which nothing is said where they are not told (this project's own).
 use Rattle.std.specs.Prelude.{ℕ, ◌≡◌, ◌≢◌, ◌≤◌, List, ◌++◌, Option, Some, length, take}
 use Rattle.std.specs.Option.{ForSome}
 

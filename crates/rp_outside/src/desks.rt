@@ -1,6 +1,6 @@
 ghost use Rattle.std.specs.Prelude.{◌≡◌, ◌≤◌, ◌⊎◌, ℕ, List, Option, IfOk, IsErrOf, drop, length, take};
 ghost use Rattle.std.specs.Option.{ForSome};
-ghost use Rattle.rp_outside.specs.Faults.{HasRisen};
+ghost use Rattle.rp_outside.specs.Faults.{HasRisen, next_count};
 
 /// Why a read gave nothing.
 #[derive(Clone, Copy, Debug, PartialEq, Eq)]
@@ -14,13 +14,16 @@ pub enum DeskFault {
 /// Files that are read by name, at any place in them.
 ///
 /// The bytes of a name are told or not told: a clause on content holds where they are told. Each
-/// name has a count of faults.
+/// name has a count of faults, and the desk has a count of its calls.
 pub trait Desk {
     /// The bytes of each name, where they are told.
     ghost bytes: { Self → List ℕ → Option (List ℕ) };
 
     /// The count of faults of each name.
     ghost faults: { Self → List ℕ → ℕ };
+
+    /// The count of calls, for whatever name and with whatever answer.
+    ghost calls: { Self → ℕ };
 
     /// Reads bytes of `name` from the place `at` on into the front of `into`, and gives how many.
     fn read_at(&mut self, name: &str, at: u64, into: &mut [u8]) -> Result<u64, DeskFault>
@@ -34,5 +37,6 @@ pub trait Desk {
 
         // In every outcome, for every name.
         ensures bytes_stay { (other : List ℕ) → bytes self.new other ≡ bytes self.old other }
-        ensures never_falls { (other : List ℕ) → faults self.old other ≤ faults self.new other };
+        ensures never_falls { (other : List ℕ) → faults self.old other ≤ faults self.new other }
+        ensures call_counted { calls self.new ≡ next_count (calls self.old) };
 }

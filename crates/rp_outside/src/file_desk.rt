@@ -9,7 +9,7 @@ use std::marker::Model;
 use std::rt::Files;
 use std::{fs, io};
 
-/// The files of the system, opened by name. A contract sees the count of faults alone.
+/// The files of the system, opened by name. A contract sees the counts of calls and of faults alone.
 ///
 /// The last file that was read stays open. Want of memory is never a fault; whatever else the
 /// system answers is one, and the file is then closed.
@@ -18,6 +18,7 @@ pub struct FileDesk<'a, R: Files> {
     rt: &'a R,
     alloc: Global,
     kept: Option<OpenFile<R::File>>,
+    calls: u64,
     faults: u64,
 }
 
@@ -30,29 +31,34 @@ struct OpenFile<F> {
 }
 
 impl<'a, R: Files> Model for FileDesk<'a, R> {
-    ghost use Rattle.std.specs.Prelude.{ℕ};
+    ghost use Rattle.rp_outside.specs.SystemCounts.{SystemCounts};
 
-    ghost Value = { ℕ };
+    ghost Value = { SystemCounts };
 
-    ghost view = { λ d. d.faults };
+    ghost view = { λ d. record {
+      calls = d.calls;
+      faults = d.faults;
+    } };
 }
 
 impl<'a, R: Files> FileDesk<'a, R> {
     /// A desk with no file open.
     pub fn new(rt: &'a R, alloc: Global) -> FileDesk<'a, R>
-        ensures { result ≡ 0 }
+        ensures calls { result.calls ≡ 0 }
+        ensures faults { result.faults ≡ 0 }
     {
         FileDesk {
             rt,
             alloc,
             kept: None,
+            calls: 0,
             faults: 0,
         }
     }
 
     /// How many reads failed.
     pub fn faults(&self) -> u64
-        ensures { result ≡ self.now }
+        ensures { result ≡ self.now.faults }
     {
         self.faults
     }
@@ -61,7 +67,9 @@ impl<'a, R: Files> FileDesk<'a, R> {
 impl<R: Files> Desk for FileDesk<'_, R> {
     ghost bytes = { λ _ _. None };
 
-    ghost faults = { λ d _. d };
+    ghost faults = { λ d _. d.faults };
+
+    ghost calls = { λ d. d.calls };
 
     fn read_at(&mut self, name: &str, at: u64, into: &mut [u8]) -> Result<u64, DeskFault>
         ensures within { IfOk result (λ n. n ≤ length into.new) }
@@ -69,13 +77,17 @@ impl<R: Files> Desk for FileDesk<'_, R> {
             (λ bs. (take n into.new ≡ take n (drop at bs)) × (n ≤ length (drop at bs)))) }
         ensures none_only_at_end { IfOk result (λ n. n ≡ 0 → ForSome None
             (λ bs. (length into.new ≡ 0) ⊎ (length {A = ℕ} bs ≤ at))) }
-        ensures never_falls { (other : List ℕ) → self.old ≤ self.new }
-        ensures failed_counted { IsErrOf result DeskFault.Failed → HasRisen self.old self.new }
+        ensures never_falls { (other : List ℕ) → self.old.faults ≤ self.new.faults }
+        ensures failed_counted { IsErrOf result DeskFault.Failed
+            → HasRisen self.old.faults self.new.faults }
+        ensures call_counted { self.new.calls ≡ next_count self.old.calls }
 
         // Beyond what every desk does.
-        ensures failed_counts { IsErrOf result DeskFault.Failed → self.new ≡ next_count self.old }
-        ensures else_stays { IsErrOf result DeskFault.Failed ⊎ (self.new ≡ self.old) }
+        ensures failed_counts { IsErrOf result DeskFault.Failed
+            → self.new.faults ≡ next_count self.old.faults }
+        ensures else_stays { IsErrOf result DeskFault.Failed ⊎ (self.new.faults ≡ self.old.faults) }
     {
+        self.calls = self.calls.saturating_add(1);
         match read_kept(self.rt, self.alloc, &mut self.kept, name, at, into) {
             Ok(count) => Ok(count),
             Err(error) => {

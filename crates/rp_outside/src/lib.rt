@@ -2,7 +2,6 @@
 //! failure of them counted.
 #![tactic(auto)]
 
-mod counting;
 mod desks;
 mod file_desk;
 mod loading;
@@ -15,14 +14,13 @@ mod sinks;
 mod streams;
 mod sure;
 
-pub use counting::Steps;
 pub use desks::{Desk, DeskFault};
 pub use file_desk::FileDesk;
-pub use loading::{LoadFault, load, load_counted};
+pub use loading::{LoadFault, load};
 pub use memory_desk::MemDesk;
 pub use memory_files::MemFile;
 pub use memory_sink::MemSink;
-pub use pouring::{WriteFault, pour, pour_counted};
+pub use pouring::{WriteFault, pour};
 pub use sinks::{Failed, Sink};
 pub use streams::StdSink;
 pub use sure::{SureDesk, SureSink};

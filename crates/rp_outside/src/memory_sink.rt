@@ -78,6 +78,8 @@ impl Sink for MemSink {
 
     ghost faults = { λ s. s.faults };
 
+    ghost calls = { λ s. s.calls };
+
     fn write(&mut self, piece: &[u8]) -> Result<u64, Failed>
         ensures fails { IsErr result ↔ WriteFails self.old piece.now }
         ensures takes_what_fits { IfOk result (λ n.

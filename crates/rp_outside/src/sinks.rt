@@ -1,5 +1,5 @@
-ghost use Rattle.std.specs.Prelude.{◌<◌, ◌≤◌, ℕ, List, Option, IfOk, OnErr, length, take};
-ghost use Rattle.rp_outside.specs.Faults.{HasRisen};
+ghost use Rattle.std.specs.Prelude.{◌≡◌, ◌<◌, ◌≤◌, ℕ, List, Option, IfOk, OnErr, length, take};
+ghost use Rattle.rp_outside.specs.Faults.{HasRisen, next_count};
 ghost use Rattle.rp_outside.specs.Told.{Grows, Stays};
 
 /// A write that the outside refused; the count of its sink rose.
@@ -16,6 +16,9 @@ pub trait Sink {
     /// The count of faults.
     ghost faults: { Self → ℕ };
 
+    /// The count of calls, whatever they answer.
+    ghost calls: { Self → ℕ };
+
     /// Takes bytes from the front of `piece`, and gives how many.
     fn write(&mut self, piece: &[u8]) -> Result<u64, Failed>
         ensures within { IfOk result (λ n. n ≤ length piece.now) }
@@ -24,5 +27,6 @@ pub trait Sink {
             Grows (written self.old) (written self.new) (take n piece.now)) }
         ensures failed_stays { OnErr result (Stays (written self.old) (written self.new)) }
         ensures failed_counted { OnErr result (HasRisen (faults self.old) (faults self.new)) }
-        ensures never_falls { faults self.old ≤ faults self.new };
+        ensures never_falls { faults self.old ≤ faults self.new }
+        ensures call_counted { calls self.new ≡ next_count (calls self.old) };
 }

@@ -1,5 +1,9 @@
 pub mod Closing
 pub mod Deepening
+pub mod Noted
+pub mod Rounds
 pub mod Searching
 pub mod Tables
+pub mod Throughs
 pub mod Walking
+pub mod Words

@@ -1,6 +1,7 @@
 -- What a finished search says of walks.
 use Rattle.std.proofs.Common.{◌≡◌, ◌≢◌, ◌<◌, ◌+◌, ◌*◌, ◌↔◌, ℕ, Bool, false, IsTrue, List, ◌∷◌, length, inl, inr, refl, sym, subst, arith, get_or}
 use Rattle.rp_evidence.specs.Walk.{IsWalk, IsShortestWalk, Reaches}
+use Rattle.rp_evidence.proofs.SameCosts.{reach_same, walk_same, walk_same_back}
 use Rattle.rp_evidence.proofs.Walks.{walks_by_weaker}
 use Rattle.rp_pref.specs.Closure.{IsClosureOf, reached_by}
 use Rattle.rp_pref.specs.Search.{IsStepIn, AreDepths, AreLeastDepths, IsNoted, LeadBack}
@@ -20,22 +21,12 @@ module _ (table : List Bool) (n s : ℕ) (depths before : List ℕ) (are : AreDe
 
 -- ---- walks by the table are walks by the steps that it tells
 
-module _ (n : ℕ) (here there : ℕ → ℕ → Type 0) (same : (s t : ℕ) → s < n → t < n → here s t ↔ there s t) where
-  pub walks_there : (s t : ℕ) (walk : List ℕ) → IsWalk n here s t walk → IsWalk n there s t walk
-  walks_there = walks_by_weaker n here there (λ s t a b. (same s t a b).0)
-
-  pub walks_here : (s t : ℕ) (walk : List ℕ) → IsWalk n there s t walk → IsWalk n here s t walk
-  walks_here = walks_by_weaker n there here (λ s t a b. (same s t a b).1)
-
-  pub reaches_there : (s t : ℕ) → Reaches n here s t ↔ Reaches n there s t
-  reaches_there s t = (λ r. (r.0, walks_there s t r.0 r.1, r.2), λ r. (r.0, walks_here s t r.0 r.1, r.2))
-
 -- a walk of as many steps as the least depth is a shortest one
 pub shortest_by_depth : (table : List Bool) (n s t : ℕ) (depths : List ℕ) (step : ℕ → ℕ → Type 0) → ((a b : ℕ) → a < n → b < n → IsStepIn table n a b ↔ step a b) → AreLeastDepths table n s depths → (walk : List ℕ) → IsWalk n (IsStepIn table n) s t walk → length walk ≡ get_or depths t 0 + 1 → 0 < get_or depths t 0 → IsShortestWalk n step s t walk
 shortest_by_depth table n s t depths step same least walk h e p = record {
-  leads = walks_there n (IsStepIn table n) step same s t walk h;
+  leads = walk_same n (IsStepIn table n) step same s t walk h;
   has_step = omega arith;
-  fewest = λ other k l. let r = least t other (walks_here n (IsStepIn table n) step same s t other k) l in omega (arith, r.1);
+  fewest = λ other k l. let r = least t other (walk_same_back n (IsStepIn table n) step same s t other k) l in omega (arith, r.1);
 }
 
 -- ---- walks by what was noted are walks by the table
@@ -62,7 +53,7 @@ module _ (n m s t : ℕ) (size : n ≡ m) (told table : List Bool) (is_table : t
 
   pub none_by_search : get_or depths t 0 ≡ 0 → ¬ Reaches m step s t
   none_by_search none r =
-      absurd (omega (arith, (least_here t r.0 (walks_here m (IsStepIn table m) step same s t r.0 r.1) r.2).0))
+      absurd (omega (arith, (least_here t r.0 (walk_same_back m (IsStepIn table m) step same s t r.0 r.1) r.2).0))
 
   pub shortest_by_search : (walk : List ℕ) → IsWalk n (IsNoted s depths before) s t walk → length walk ≡ get_or depths t 0 + 1 → get_or depths t 0 ≢ 0 → IsShortestWalk m step s t walk
   shortest_by_search walk h e p =
@@ -80,7 +71,7 @@ closure_by_table n m size told table pairs is_table step same exact =
     closed all = record {
       size = refl;
       exact = λ s t a b.
-          let r = reaches_there m (IsStepIn table m) step same s t in
+          let r = reach_same m (IsStepIn table m) step same s t in
           let k = all s t a b in
           subst (λ x. IsTrue x ↔ Reaches m step s t) (sym (reaches_in_by m (λ a b. get_or pairs (a * m + b) false) s t a b))
           (λ h. r.0 (k.0 h), λ h. k.1 (r.1 h));

@@ -1,3 +1,5 @@
+pub mod Bits
 pub mod Closure
 pub mod Search
 pub mod Steps
+pub mod Through

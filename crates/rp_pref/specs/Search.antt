@@ -1,4 +1,5 @@
--- A search for shortest walks from one observation, level by level: what it keeps.
+-- Words that only proofs need, and no definition rests on: what a search for shortest walks from one observation keeps,
+-- one number of steps after another.
 use Rattle.std.specs.Prelude.{◌≡◌, ◌≢◌, ◌<◌, ◌≤◌, ◌+◌, ◌*◌, ◌==◌, ◌⊎◌, ℕ, Bool, true, false, List, IsTrue, length, slice_index, slice_index_or, count_by}
 use Rattle.rp_evidence.specs.Walk.{IsWalk}
 

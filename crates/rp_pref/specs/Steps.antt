@@ -1,4 +1,4 @@
--- The steps of which walks are made.
+-- The steps of which walks are made: all weak ones of a level, or all strict ones (Varian 1982; levels after Afriat).
 use Rattle.std.specs.Prelude.{ℕ}
 use Rattle.rp_evidence.specs.Preference.{IsWeak, IsStrict}
 use Rattle.rp_pref.specs.declared.steps.Steps.{Steps}

@@ -1,37 +1,38 @@
-ghost use Rattle.std.specs.Prelude.{◌≡◌, ◌<◌, ◌≤◌, ◌+◌, ◌*◌, ◌⊎◌, ◌↔◌, ◌++◌, ◌==◌, ℕ, Bool, List, IsTrue, IfOk, OnOk, length, map, not};
+ghost use Rattle.std.specs.Prelude.{◌≡◌, ◌≢◌, ◌<◌, ◌≤◌, ◌*◌, ◌⊎◌, ◌↔◌, ℕ, false, IsTrue, IfOk, length};
 ghost use Rattle.rp_evidence.specs.Count.{IsCount, IsNumberOf};
 ghost use Rattle.rp_evidence.specs.Preference.{IsLevel};
 ghost use Rattle.rp_evidence.specs.Walk.{Reaches};
 ghost use Rattle.rp_table.specs.Cost.{CostTable, cost_at};
-ghost use Rattle.rp_pref.specs.Closure.{IsClosureOf, Reached, counts_in, reaches_in};
-ghost use Rattle.rp_pref.specs.Search.{IsStepIn};
+ghost use Rattle.rp_pref.specs.Bits.{has_bit};
+ghost use Rattle.rp_pref.specs.Closure.{IsClosureOf, Reached, reaches_in};
 ghost use Rattle.rp_pref.specs.Steps.{IsStep};
 ghost use Rattle.rp_pref.specs.declared.steps.Steps.{Steps};
 
-use crate::search::walks_from;
-use crate::steps::{Steps, step_table};
+use crate::bits::{close, count_set, is_set, set, words_for};
+use crate::steps::{Steps, is_step};
 use rp_evidence::Level;
+use rp_grid::Grid;
 use rp_num::NoMemory;
 use rp_table::Costs;
 use std::alloc::Global;
 use std::marker::Model;
 
-/// Which observations reach which by walks of one or more steps: a truth value for each pair, by start and then by end.
-#[derive(Debug, Drop)]
+/// Which observations reach which by walks of one or more steps: a row of bits for each.
+#[derive(Drop)]
 pub struct Closure {
     n: u32,
-    pairs: Vec<bool>,
+    bits: Grid<u64>,
 }
 
 impl Model for Closure {
-    ghost use Rattle.std.specs.Prelude.{◌≡◌, ◌+◌, ◌*◌, false, length, slice_index_or};
+    ghost use Rattle.rp_pref.specs.Bits.{HoldsBits, has_bit};
     ghost use Rattle.rp_pref.specs.Closure.{Reached, reached_by};
 
     ghost Value = { Reached };
 
-    ghost view = { λ c. reached_by c.n (λ s t. slice_index_or c.pairs.items (s * c.n + t) false) };
+    ghost view = { λ c. reached_by c.n (has_bit c.bits) };
 
-    ghost invariant = { λ c. length c.pairs.items ≡ c.n * c.n };
+    ghost invariant = { λ c. HoldsBits c.n c.bits };
 }
 
 impl Closure {
@@ -42,9 +43,10 @@ impl Closure {
             IsClosureOf closure costs.now.n (IsStep steps (cost_at costs.now) level.num level.den)) }
     {
         let n = costs.n();
-        let table = step_table(alloc, costs, level, steps)?;
-        let pairs = reached_pairs(alloc, &table, n)?;
-        Ok(Closure { n, pairs })
+        let mut bits = Grid::new(alloc, n, words_for(n), 0u64)?;
+        note_steps(&mut bits, costs, level, steps);
+        close(&mut bits);
+        Ok(Closure { n, bits })
     }
 
     /// Whether a walk of one or more steps leads from `s` to `t`.
@@ -53,7 +55,7 @@ impl Closure {
         requires to { t < self.now.n }
         ensures { result ≡ reaches_in self.now s t }
     {
-        self.pairs[s as usize * self.n as usize + t as usize]
+        is_set(&self.bits, s, t)
     }
 
     /// How many observations are `s` or are reached from `s`.
@@ -61,22 +63,7 @@ impl Closure {
         requires { s < self.now.n }
         ensures { IsNumberOf self.now.n (λ t. (t ≡ s) ⊎ IsTrue (reaches_in self.now s t)) result }
     {
-        let mut total = 0;
-        for t in 0..self.n {
-            if self.counts(s, t) {
-                total += 1;
-            }
-        }
-        total
-    }
-
-    /// Whether `t` is `s` or is reached from it.
-    fn counts(&self, s: u32, t: u32) -> bool
-        requires from { s < self.now.n }
-        requires to { t < self.now.n }
-        ensures { result ≡ counts_in self.now s t }
-    {
-        t == s || self.reaches(s, t)
+        count_set(self.bits.row(s)) + u32::from(!is_set(&self.bits, s, s))
     }
 }
 
@@ -88,28 +75,38 @@ pub fn closures_count()
         → IsCount costs.n (IsStep steps (cost_at costs) num den) s k }
 {}
 
-/// Which observations reach which by the steps of the table, by start and then by end.
-fn reached_pairs(alloc: Global, table: &[bool], n: u32) -> Result<Vec<bool>, NoMemory>
-    requires size { length table.now ≡ n * n }
-    requires small { n ≤ 1024 }
-    ensures size { IfOk result (λ pairs. length pairs.items ≡ n * n) }
-    ensures exact { IfOk result (λ pairs. (s t : ℕ) → s < n → t < n
-        → IsStepIn pairs.items n s t ↔ Reaches n (IsStepIn table.now n) s t) }
+/// Notes the chosen steps from every observation.
+fn note_steps(bits: &mut Grid<u64>, costs: &Costs, level: Level, steps: Steps)
+    requires level { IsLevel level.num level.den }
+    requires rows { length bits.old.rows ≡ costs.now.n }
+    requires enough { costs.now.n ≤ bits.old.cols * 64 }
+    requires clear { (s t : ℕ) → has_bit bits.old s t ≡ false }
+    ensures count { length bits.new.rows ≡ length bits.old.rows }
+    ensures cols { bits.new.cols ≡ bits.old.cols }
+    ensures exact { (s t : ℕ) → s < costs.now.n → IsTrue (has_bit bits.new s t)
+        ↔ ((t < costs.now.n) × IsStep steps (cost_at costs.now) level.num level.den s t) }
 {
-    let mut pairs = Vec::new(alloc);
-    for s in 0..n {
-        let walks = walks_from(alloc, table, n as usize, s as usize)?;
-        append_reached(&mut pairs, &walks.depths)?;
+    for s in 0..costs.n() {
+        note_steps_from(bits, costs, level, steps, s);
     }
-    Ok(pairs)
 }
 
-/// Appends a truth value for each depth, false where it is 0.
-fn append_reached(pairs: &mut Vec<bool>, depths: &[u32]) -> Result<(), NoMemory>
-    ensures { OnOk result (pairs.new.items ≡ pairs.old.items ++ map (λ d. not (d == 0)) depths.now) }
+/// Notes the chosen steps from `s`.
+fn note_steps_from(bits: &mut Grid<u64>, costs: &Costs, level: Level, steps: Steps, s: u32)
+    requires level { IsLevel level.num level.den }
+    requires rows { length bits.old.rows ≡ costs.now.n }
+    requires enough { costs.now.n ≤ bits.old.cols * 64 }
+    requires from { s < costs.now.n }
+    requires clear { (t : ℕ) → has_bit bits.old s t ≡ false }
+    ensures count { length bits.new.rows ≡ length bits.old.rows }
+    ensures cols { bits.new.cols ≡ bits.old.cols }
+    ensures row { (t : ℕ) → IsTrue (has_bit bits.new s t)
+        ↔ ((t < costs.now.n) × IsStep steps (cost_at costs.now) level.num level.den s t) }
+    ensures others { (a t : ℕ) → a ≢ s → has_bit bits.new a t ≡ has_bit bits.old a t }
 {
-    for depth in depths {
-        pairs.push(*depth != 0)?;
+    for t in 0..costs.n() {
+        if is_step(costs, level, steps, s, t) {
+            set(bits, s, t);
+        }
     }
-    Ok(())
 }

@@ -1,6 +1,7 @@
 //! Walks of revealed preference: single steps, what reaches what, and shortest walks.
 #![tactic(auto)]
 
+mod bits;
 mod closure;
 mod search;
 mod steps;

@@ -1,4 +1,5 @@
 ghost use Rattle.std.specs.Prelude.{◌≡◌, ◌≢◌, ◌<◌, ◌≤◌, ◌+◌, ◌*◌, ◌^◌, ℕ, IsTrue, IfOk, false, length, slice_index};
+ghost use Rattle.rp_table.specs.declared.TheConstants.{RECORDS};
 ghost use Rattle.rp_pref.specs.Search.{AddsDepth, AreDepths, AreFirst, AreLeastDepths, AreLookedFrom, FindsMore, GoesTo, IsLookedFrom};
 
 use rp_num::NoMemory;
@@ -22,7 +23,7 @@ fn look(
     before: &mut [u32],
 ) -> bool
     requires size { length table.now ≡ n * n }
-    requires small { n ≤ 1024 }
+    requires small { n ≤ RECORDS }
     requires sound { AreDepths table.now n s depths.old before.old }
     requires from { u < n }
     requires walked { 0 < slice_index depths.old u }
@@ -54,7 +55,7 @@ fn deepen(
     before: &mut [u32],
 ) -> bool
     requires size { length table.now ≡ n * n }
-    requires small { n ≤ 1024 }
+    requires small { n ≤ RECORDS }
     requires sound { AreDepths table.now n s depths.old before.old }
     requires walked { 0 < depth }
     requires fits { depth ≤ n + 1 }
@@ -75,7 +76,7 @@ fn deepen(
 /// The depths of what one step from `s` leads to; 0 for the rest.
 fn first_depths(alloc: Global, table: &[bool], n: usize, s: usize) -> Result<Vec<u32>, NoMemory>
     requires size { length table.now ≡ n * n }
-    requires small { n ≤ 1024 }
+    requires small { n ≤ RECORDS }
     requires start { s < n }
     ensures length { IfOk result (λ depths. length depths.items ≡ n) }
     ensures first { IfOk result (λ depths. AreFirst table.now n s n depths.items) }
@@ -90,7 +91,7 @@ fn first_depths(alloc: Global, table: &[bool], n: usize, s: usize) -> Result<Vec
 /// Deepens the first depths until nothing more is found.
 fn deepen_all(table: &[bool], n: usize, s: usize, depths: &mut [u32], before: &mut [u32])
     requires size { length table.now ≡ n * n }
-    requires small { n ≤ 1024 }
+    requires small { n ≤ RECORDS }
     requires start { s < n }
     requires first { GoesTo table.now n s 1 depths.old before.old }
     ensures sound { AreDepths table.now n s depths.new before.new }
@@ -110,7 +111,7 @@ pub fn walks_from(
     s: usize,
 ) -> Result<ShortestWalks, NoMemory>
     requires size { length table.now ≡ n * n }
-    requires small { n ≤ 1024 }
+    requires small { n ≤ RECORDS }
     requires start { s < n }
     ensures sound { IfOk result (λ found. AreDepths table.now n s found.depths.items found.before.items) }
     ensures least { IfOk result (λ found. AreLeastDepths table.now n s found.depths.items) }

@@ -46,7 +46,7 @@ fn part(part: u64, cost: u64) -> u128
 }
 
 /// Whether there is a step of the chosen kind from `s` to `t`.
-fn is_step(costs: &Costs, level: Level, steps: Steps, s: u32, t: u32) -> bool
+pub fn is_step(costs: &Costs, level: Level, steps: Steps, s: u32, t: u32) -> bool
     requires level { IsLevel level.num level.den }
     requires from { s < costs.now.n }
     requires to { t < costs.now.n }

@@ -1,30 +1,11 @@
-use borrow.Author.Differences.{up, down}
-use mir.Syntax.{w128}
-use mir.Val.{of_z, to_z}
-use Rattle.std.proofs.lemmas.Bool.Decides.{nat_tests}
-use Rattle.std.proofs.Common.{IsTrue, nat_lt, ◌+◌, ap, subst, ◌≡◌, ℕ, ◌<◌, ◌≤◌, ◌↔◌, arith, refl, sym, ◌∙◌}
-use Rattle.std.proofs.lemmas.Int.{ints, to_z-of_z}
-use Rattle.std.specs.Prelude.{ℤ, pos, ◌+ℤ◌, ◌-ℤ◌, ◌*ℤ◌, ◌<ℤ◌, FitsSigned}
-use Rattle.std.proofs.Math.Nat.{mul-lt-mul_of_pos_right}
-use Rattle.rp_walk.specs.ExactTotal.{ExactTotal}
+use Rattle.std.proofs.Common.{IsTrue, nat_lt, ◌+◌, ◌≡◌, ℕ, ◌<◌, ◌↔◌, arith}
+use Rattle.std.proofs.lemmas.Int.{ints}
+use Rattle.std.specs.Prelude.{pos, ◌+ℤ◌, ◌-ℤ◌, ◌<ℤ◌}
 use Rattle.rp_walk.specs.Settled.{PairBreaks}
-use Rattle.rp_walk.proofs.Walks.{IsTotal-here}
+use Rattle.rp_walk.specs.Sums.{sums}
+use Rattle.rp_walk.proofs.Numbers.{test, tested}
+use Rattle.rp_walk.proofs.SumSteps.{breaks_by_sum}
 use Rattle.rp_evidence.specs.Quasilinear.{step_sum}
-use Rattle.rp_quasi.specs.Sums.{FitsSum, sums, whole}
-use Rattle.rp_quasi.specs.SumLaws.{parts_times}
-
--- two steps that together add less than nothing lead below any total
-below_around : (a k j : ℤ) (b : ℕ) → 1 ≤ b → (k +ℤ j) <ℤ pos 0 → (((a +ℤ (k *ℤ pos b)) +ℤ (j *ℤ pos b)) *ℤ pos b) <ℤ (a *ℤ pos b)
-below_around a k j b hb h =
-    let e = parts_times (a +ℤ (k *ℤ pos b)) j b b in
-    let f = parts_times a k b b in
-    let less : up k + up j < down k + down j = omega (arith, ints) in
-    let less_b = mul-lt-mul_of_pos_right {k = b} less hb in
-    let less_bb = mul-lt-mul_of_pos_right {k = b} less_b hb in
-    omega (arith, ints)
-
-around_below : (k j : ℤ) → (((pos 0 +ℤ (k *ℤ pos 1)) +ℤ (j *ℤ pos 1)) *ℤ pos 1) <ℤ (pos 0 *ℤ pos 1) → (k +ℤ j) <ℤ pos 0
-around_below k j h = omega (arith, ints)
 
 around_costs : (a b c d : ℕ) → a + c < b + d → ((pos a -ℤ pos b) +ℤ (pos c -ℤ pos d)) <ℤ pos 0
 around_costs a b c d h = omega (arith, ints)
@@ -33,47 +14,19 @@ costs_around : (a b c d : ℕ) → ((pos a -ℤ pos b) +ℤ (pos c -ℤ pos d)) 
 costs_around a b c d h = omega (arith, ints)
 
 -- the walk s, t, s ends below every start exactly where the costs across are less than the own costs
-pub breaks_by_costs : (n : ℕ) (c : ℕ → ℕ → ℕ) (s t : ℕ) → s < n → (c s t + c t s < c s s + c t t) ↔ PairBreaks (sums n c) s t
-breaks_by_costs n c s t hs = (
-  λ h k x reached. below_around x.num (step_sum c s t) (step_sum c t s) x.den x.positive (around_costs (c s t) (c s s) (c t s) (c t t) h),
-  λ breaks. costs_around (c s t) (c s s) (c t s) (c t t)
-      (around_below (step_sum c s t) (step_sum c t s) (breaks 0 (whole (pos 0)) (IsTotal-here (sums n c) s hs))),
-)
-
--- the exact total after a step from a whole number
-abbrev pub after_whole : ℤ → ℤ → ExactTotal
-after_whole v k = record { num = v +ℤ (k *ℤ pos 1); den = 1; positive = (whole v).positive }
-
-same_number : (v k z : ℤ) → (v +ℤ (k *ℤ pos 1)) *ℤ pos 1 ≡ z *ℤ pos 1 → z ≡ v +ℤ k
-same_number v k z h = omega (arith, ints)
-
--- a sum that some `i128` stands for is found
-pub sum_fits : (v k k' : ℤ) → FitsSigned w128 v → FitsSigned w128 k → k ≡ k' → FitsSum ((after_whole v k')) → FitsSigned w128 (to_z w128 (of_z w128 v) +ℤ to_z w128 (of_z w128 k))
-sum_fits v k k' hv hk e (z, fits, same) =
-    let sum : z ≡ v +ℤ k = same_number v k' z same ∙ ap (λ n. v +ℤ n) (sym e) in
-    rw (to_z-of_z w128 v hv, to_z-of_z w128 k hk) (subst (λ n. FitsSigned w128 n) sum fits)
-
--- and what is found stands for the sum
-pub found_fits : (v k k' : ℤ) → FitsSigned w128 v → FitsSigned w128 k → k ≡ k' → FitsSigned w128 (to_z w128 (of_z w128 v) +ℤ to_z w128 (of_z w128 k)) → FitsSum (after_whole v k')
-found_fits v k k' hv hk e fits =
-    let sum : to_z w128 (of_z w128 v) +ℤ to_z w128 (of_z w128 k) ≡ v +ℤ k = rw (to_z-of_z w128 v hv, to_z-of_z w128 k hk) refl in
-    (v +ℤ k, subst (λ n. FitsSigned w128 n) sum fits, same_from v k' k e)
-  where
-    same_from : (v k' k : ℤ) → k ≡ k' → (v +ℤ (k' *ℤ pos 1)) *ℤ pos 1 ≡ (v +ℤ k) *ℤ pos 1
-    same_from v k' k e = omega (arith, ints)
+pub breaks_by_costs : (n : ℕ) (c : ℕ → ℕ → ℕ) (s t : ℕ) → s < n → (c s t + c t s < c s s + c t t) ↔ PairBreaks (sums n (step_sum c)) s t
+breaks_by_costs n c s t hs =
+    let by_sum = breaks_by_sum n (step_sum c) s t hs in (
+      λ h. by_sum.0 (around_costs (c s t) (c s s) (c t s) (c t t) h),
+      λ breaks. costs_around (c s t) (c s s) (c t s) (c t t) (by_sum.1 breaks),
+    )
 
 -- the test of the code, on what the calls of `cost` gave
-pub breaks_tested : (n : ℕ) (c : ℕ → ℕ → ℕ) (s t a b d e : ℕ) → s < n → a ≡ c s t → b ≡ c t s → d ≡ c s s → e ≡ c t t → IsTrue (nat_lt (a + b) (d + e)) ↔ PairBreaks (sums n c) s t
+pub breaks_tested : (n : ℕ) (c : ℕ → ℕ → ℕ) (s t a b d e : ℕ) → s < n → a ≡ c s t → b ≡ c t s → d ≡ c s s → e ≡ c t t → IsTrue (nat_lt (a + b) (d + e)) ↔ PairBreaks (sums n (step_sum c)) s t
 breaks_tested n c s t a b d e hs ea eb ed ee =
     let all = breaks_by_costs n c s t hs in
     (λ h. all.0 (less (tested (a + b) (d + e) h)), λ breaks. test (a + b) (d + e) (more (all.1 breaks)))
   where
-    tested : (x y : ℕ) → IsTrue (nat_lt x y) → x < y
-    tested x y h = grind (arith, nat_tests)
-
-    test : (x y : ℕ) → x < y → IsTrue (nat_lt x y)
-    test x y h = grind (arith, nat_tests)
-
     less : a + b < d + e → c s t + c t s < c s s + c t t
     less h = omega arith
 

@@ -4,8 +4,8 @@ use Rattle.std.proofs.Common.{◌≡◌, ℕ, ◌+◌, ◌*◌, [], ◌∷◌, g
 use Rattle.std.proofs.lemmas.Int.{ints}
 use Rattle.std.specs.Prelude.{pos, negsuc}
 use Rattle.rp_walk.specs.Walk.{total_after}
-use Rattle.rp_evidence.specs.Quasilinear.{walk_sum, IsNegativeCycle}
-use Rattle.rp_quasi.specs.Sums.{sums, whole}
+use Rattle.rp_evidence.specs.Quasilinear.{step_sum, walk_sum, IsNegativeCycle}
+use Rattle.rp_walk.specs.Sums.{sums, whole_total}
 
 three_goods : ℕ → ℕ → ℕ
 three_goods s t = get_or (2 ∷ 1 ∷ 3 ∷ 3 ∷ 2 ∷ 1 ∷ 1 ∷ 3 ∷ 2 ∷ []) (s * 3 + t) 0
@@ -32,6 +32,6 @@ a_cycle = record {
   negative = omega (arith, ints);
 }
 
-total_of_the_round : (total_after (sums 3 three_goods) (whole (pos 0)) 0 (1 ∷ 2 ∷ 0 ∷ [])).num ≡ negsuc 2
+total_of_the_round : (total_after (sums 3 (step_sum three_goods)) (whole_total (pos 0)) 0 (1 ∷ 2 ∷ 0 ∷ [])).num ≡ negsuc 2
 unfolding three_goods
 total_of_the_round = refl

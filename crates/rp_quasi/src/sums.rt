@@ -29,11 +29,12 @@ impl Total for Sums<'_> {
     type Value = i128;
 
     ghost use Rattle.rp_table.specs.Cost.{cost_at};
-    ghost use Rattle.rp_quasi.specs.Sums.{FitsSum, sums, whole};
+    ghost use Rattle.rp_evidence.specs.Quasilinear.{step_sum};
+    ghost use Rattle.rp_walk.specs.Sums.{FitsSum, sums, whole_total};
 
-    ghost steps = { λ a. sums a.costs.now.n (cost_at a.costs.now) };
+    ghost rule = { λ a. sums a.costs.now.n (step_sum (cost_at a.costs.now)) };
 
-    ghost exact = { whole };
+    ghost exact = { whole_total };
 
     ghost fits = { FitsSum };
 
@@ -62,11 +63,11 @@ impl Total for Sums<'_> {
         across < own
     }
 
-    ghost use Rattle.rp_quasi.specs.SumLaws.{sums_fit_alike, sums_keep_order, sums_stay};
+    ghost use Rattle.rp_quasi.specs.SumLaws.{costs_fit_alike, costs_keep_order, costs_stay};
 
-    ghost keeps_order = { λ a. sums_keep_order a.costs.now.n (cost_at a.costs.now) };
+    ghost keeps_order = { λ a. costs_keep_order a.costs.now.n (cost_at a.costs.now) };
 
-    ghost stays = { λ a. sums_stay a.costs.now.n (cost_at a.costs.now) };
+    ghost stays = { λ a. costs_stay a.costs.now.n (cost_at a.costs.now) };
 
-    ghost fits_alike = { sums_fit_alike };
+    ghost fits_alike = { costs_fit_alike };
 }

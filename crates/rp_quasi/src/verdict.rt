@@ -6,7 +6,7 @@ ghost use Rattle.rp_table.specs.Cost.{cost_at};
 use crate::sums::Sums;
 use rp_evidence::Quasi;
 use rp_num::NoMemory;
-use rp_table::Costs;
+use rp_table::{Costs, RECORDS};
 use rp_walk::{Settled, settle};
 use std::alloc::Global;
 
@@ -17,7 +17,7 @@ pub fn quasilinear(alloc: Global, costs: &Costs) -> Result<Quasi, NoMemory>
 {
     // As many steps as there are observations, of less than 2^51 each, stay far within an `i128`.
     let n = costs.n();
-    prove!(n <= 512);
+    prove!(n <= RECORDS);
     let sums = Sums { costs };
     match settle(alloc, &sums)? {
         Settled::Values(values) => Ok(Quasi::Values(values)),

@@ -1,2 +1,4 @@
+pub mod FileLemmas
 pub mod GainsLemmas
+pub mod PassedOn
 pub mod RunLemmas

@@ -1,67 +1,58 @@
--- The fault line of each cause, and what answers or refuses a line over one table.
-use Rattle.std.proofs.Common.{◌≡◌, ℕ, ◌<◌, ◌≤◌, List, Some, length, refl, lit<, arith, inl, inr, subst, ◌∙◌, Ok, Err, sym}
-use Rattle.std.specs.Prelude.{codes}
-use Rattle.std.specs.Option.{ForSome}
+-- What a cause tells of what was asked, when there is none, and that no line is both answered and refused.
+use Rattle.std.proofs.Common.{◌≡◌, ◌⊎◌, inl, inr, List, ℕ, Option, Some, Ok, Err, sym, subst, refl}
 use Rattle.std.specs.List.{Contains}
-use Rattle.rp_table.specs.Tables.{Observations}
-use Rattle.rp_run.specs.CommandLine.{Line, Pairs, Analyse, table_of, files_of, line_of}
-use Rattle.rp_run.specs.Answers.{Files, Answers, AnswersTable, IsTableFile, IsAccepted, IsAcceptedTable, IsRefused, IsRefusedTable, RefusesTable, RefusesTold, Refuses}
-use Rattle.rp_run.specs.FaultLines.{IsFaultLine}
-use Rattle.rp_run.specs.Causes.{status_of_cause, cause_line, IfRefused}
-use Rattle.rp_run.specs.declared.TheConstants.{TABLE_BYTES}
+use Rattle.std.specs.Result.{IsOk, IsErr}
+use Rattle.rp_run.specs.CommandLine.{Line, files_of}
+use Rattle.rp_run.specs.Inputs.{Input, PairsOver, AnalyseOver}
+use Rattle.rp_run.specs.Answers.{Files, Answers, AnswersLine, IsAccepted, IsRefused}
+use Rattle.rp_run.specs.Endings.{IsFaultLine, Rose, NoneRose}
+use Rattle.rp_run.specs.Causes.{status_of_cause, cause_line, IsCause}
+use Rattle.rp_run.specs.declared.status.Status.{Status}
 use Rattle.rp_run.specs.declared.status.Status.TheVariants as status
-use Rattle.rp_run.specs.declared.answer.Cause.{Cause}
-use Rattle.rp_run.specs.declared.answer.Cause.TheVariants as cause
-
--- the table is a file of the line
-pub names_table : (line : Line) → Contains (files_of line) (table_of line)
-names_table (Pairs table) = (0, lit< tt, refl)
-names_table (Analyse table) = (0, lit< tt, refl)
-
--- what refuses the table refuses the line
-pub refuses_line : (files : Files) (line : Line) (fault : List ℕ) → RefusesTold files (table_of line) fault → Refuses files line (table_of line) fault
-refuses_line files (Pairs table) fault told = (refl, told)
-refuses_line files (Analyse table) fault told = (refl, told)
-
--- what answers a line over its table answers the line
-pub answers_line : (files : Files) (line : Line) (text : List ℕ) → AnswersTable files (table_of line) line text → Answers files line status.Done text
-answers_line files (Pairs table) text a = (refl, a)
-answers_line files (Analyse table) text a = (refl, a)
-
--- a line whose table is accepted, or refused
-pub accepted_table : (files : Files) (line : Line) → IsAccepted files line → IsAcceptedTable files (table_of line)
-accepted_table files (Pairs table) a = a
-accepted_table files (Analyse table) a = a
-
-pub refused_table : (files : Files) (line : Line) → IsRefused files line → IsRefusedTable files (table_of line)
-refused_table files (Pairs table) r = r
-refused_table files (Analyse table) r = r
+use Rattle.rp_run.specs.declared.files.Cause.{Cause}
+use Rattle.rp_run.specs.declared.files.Cause.TheVariants.{Read, Refused, NoMemory}
 
 -- the line of a cause that holds is the fault line of its status
-pub cause_told : (files : Files) (rose : List ℕ → Type 0) (words : List (List ℕ)) (line : Line) (file : List ℕ) (why : Cause) → line_of words ≡ Some line → table_of line ≡ file
-    → (why ≡ cause.Read → rose file)
-    → (why ≡ cause.TooLong → ForSome (files file) (λ bytes. TABLE_BYTES < length bytes))
-    → IfRefused why (RefusesTold files file)
-    → IsFaultLine files rose words (status_of_cause why) (cause_line file why)
-cause_told files rose words line file cause.Read is named read long refused = (line, file, is, subst (Contains (files_of line)) named (names_table line), read refl, refl)
-cause_told files rose words line file cause.TooLong is named read long refused =
-    (line, file, codes "TooLong", is, subst (λ (f : List ℕ). Refuses files line f (codes "TooLong")) named (refuses_line files line (codes "TooLong") (λ bytes told. inl (refl, long refl bytes (subst (λ (f : List ℕ). files f ≡ Some bytes) named told)))), refl)
-cause_told files rose words line file (cause.Refused fault) is named read long refused =
-    (line, file, fault.items, is, subst (λ (f : List ℕ). Refuses files line f fault.items) named (refuses_line files line fault.items (λ bytes told. refused bytes (subst (λ (f : List ℕ). files f ≡ Some bytes) named told))), refl)
-cause_told files rose words line file cause.NoMemory is named read long refused = refl
+pub cause_told : (files : Files) (rose : List ℕ → Type 0) (asked : Option Line) (line : Line) (why : Cause) → asked ≡ Some line
+    → IsCause files rose line why → IsFaultLine files rose asked (status_of_cause why) (cause_line why)
+cause_told files rose asked line (Read file) is (its, up) = (line, file.now, is, its, up, refl)
+cause_told files rose asked line (Refused text) is refused = (line, is, refused)
+cause_told files rose asked line NoMemory is none = refl
 
--- no bytes denote a table and are refused
-pub not_both : (bytes same : List ℕ) (table : Observations) (fault : List ℕ) → bytes ≡ same → IsTableFile same table → RefusesTable bytes fault → ⊥
-not_both bytes same table fault is (few, denoted) (inl (_, long)) = let few' : length bytes ≤ TABLE_BYTES = rw is few in omega (arith, few', long)
-not_both bytes same table fault is (few, denoted) (inr (f, _, _, refused)) = let both : Ok table ≡ Err f = sym denoted ∙ (rw is at refused) in cc
+-- a line that is answered is not refused
+pub not_both : (files : Files) (asked : Option Line) (line other : Line) (s : Status) (text : List ℕ) → asked ≡ Some line → asked ≡ Some other
+    → AnswersLine files line s text → IsRefused files other → ⊥
+not_both files asked line other s text is also answers refused =
+    let same : line ≡ other = cc in
+    let had = answers.1 in
+    let err = subst (λ (l : Line). IsRefused files l) (sym same) refused had.0 had.1 in
+    let wrong : IsErr {E = List ℕ} (Ok answers.0) = rw had.2 at err in cc
 
--- a file with an answer is not refused
-pub answered_not_refused : (files : Files) (file : List ℕ) (line : Line) (text : List ℕ) → AnswersTable files file line text → IsRefusedTable files file → ⊥
-answered_not_refused files file line text a (bytes, fault, told, why) = not_both bytes a.0 a.1 fault (a.2 bytes told) a.3 why
+-- a cause of a line that nothing refuses, while no count of its files rose, is want of memory
+pub cause_of_accepted : (files : Files) (before after : List ℕ → ℕ) (asked : Option Line) (line other : Line) (why : Cause) → asked ≡ Some line → asked ≡ Some other
+    → IsAccepted files other → NoneRose other before after → IsCause files (Rose before after) line why → status_of_cause why ≡ status.NoMemory
+cause_of_accepted files before after asked line other (Read file) is also accepted calm (its, up) =
+    let same : line ≡ other = cc in
+    absurd (calm file.now (subst (λ (l : Line). Contains (files_of l) file.now) same its) up)
+cause_of_accepted files before after asked line other (Refused text) is also accepted calm (bytes, contents, refused) =
+    let same : line ≡ other = cc in
+    let ok = subst (λ (l : Line). IsAccepted files l) (sym same) accepted bytes contents in
+    let wrong : IsOk {T = Input} (Err text.items) = rw refused at ok in cc
+cause_of_accepted files before after asked line other NoMemory is also accepted calm none = refl
 
--- told bytes that denote a table are not too long, and not refused
-pub accepted_not_long : (files : Files) (file : List ℕ) → IsAcceptedTable files file → ForSome (files file) (λ bytes. TABLE_BYTES < length bytes) → ⊥
-accepted_not_long files file (bytes, table, told, fits) long = omega (arith, fits.0, long bytes told)
+-- a cause while no count of the line's files rose is a refusal or want of memory
+pub cause_of_calm : (files : Files) (before after : List ℕ → ℕ) (asked : Option Line) (line other : Line) (why : Cause) → asked ≡ Some line → asked ≡ Some other
+    → NoneRose other before after → IsCause files (Rose before after) line why → (status_of_cause why ≡ status.Refused) ⊎ (status_of_cause why ≡ status.NoMemory)
+cause_of_calm files before after asked line other (Read file) is also calm (its, up) =
+    let same : line ≡ other = cc in
+    absurd (calm file.now (subst (λ (l : Line). Contains (files_of l) file.now) same its) up)
+cause_of_calm files before after asked line other (Refused text) is also calm refused = inl refl
+cause_of_calm files before after asked line other NoMemory is also calm none = inr refl
 
-pub accepted_not_refused : (files : Files) (file fault : List ℕ) → IsAcceptedTable files file → RefusesTold files file fault → ⊥
-accepted_not_refused files file fault (bytes, table, told, fits) refused = not_both bytes bytes table fault refl fits (refused bytes told)
+-- every answer so far is done
+pub answer_done : (input : Input) (s : Status) (text : List ℕ) → Answers input s text → s ≡ status.Done
+answer_done (PairsOver table) s text answers = answers.0
+answer_done (AnalyseOver table) s text answers = answers.0
+
+pub line_done : (files : Files) (line : Line) (s : Status) (text : List ℕ) → AnswersLine files line s text → s ≡ status.Done
+line_done files line s text answers = answer_done answers.0 s text answers.2

@@ -1,15 +1,12 @@
--- What the program answers to a line, over the bytes of its files. A desk may keep the bytes of a file to
--- itself; where it tells them, the answer is about these bytes.
-use Rattle.std.specs.Prelude.{◌≡◌, ℕ, ◌<◌, ◌≤◌, ◌⊎◌, List, length, Option, Some, Ok, Err, codes}
+-- What the program answers to a line, over the contents of its files. A desk may keep the bytes of a file to
+-- itself; where it tells them, the content is these bytes.
+use Rattle.std.specs.Prelude.{◌≡◌, ℕ, ◌<◌, List, length, Option, Some, Ok, Err, IsOk, IsErr}
 use Rattle.std.specs.Option.{ForSome}
-use Rattle.rp_table.specs.Tables.{Observations}
-use Rattle.rp_text.specs.Denotation.{table_in}
-use Rattle.rp_text.specs.declared.fault.TableFault.{TableFault}
-use Rattle.rp_run.specs.FaultTexts.{fault_text}
+use Rattle.rp_outside.specs.SureDesk.{SureState, bytes_or_none}
 use Rattle.rp_run.specs.PairsText.{IsPairsText}
 use Rattle.rp_run.specs.Analysis.{IsAnalysisText}
-use Rattle.rp_run.specs.CommandLine.{Line, Pairs, Analyse, line_of}
-use Rattle.rp_run.specs.declared.TheConstants.{TABLE_BYTES}
+use Rattle.rp_run.specs.CommandLine.{Line, files_of, file_at}
+use Rattle.rp_run.specs.Inputs.{Input, PairsOver, AnalyseOver, input_of}
 use Rattle.rp_run.specs.declared.status.Status.{Status}
 use Rattle.rp_run.specs.declared.status.Status.TheVariants as status
 
@@ -17,62 +14,43 @@ use Rattle.rp_run.specs.declared.status.Status.TheVariants as status
 abbrev pub Files : Type 0
 Files = List ℕ → Option (List ℕ)
 
--- the bytes are those of the file, where these are told
+-- every file told, and one that is not there as empty
+abbrev pub all_told : SureState → Files
+all_told desk name = Some (bytes_or_none desk name)
+
+-- the file may hold these bytes: where its bytes are told, these are they
 abbrev pub IsContent : Files → List ℕ → List ℕ → Type 0
-IsContent files file bytes = ForSome (files file) (λ told. told ≡ bytes)
+IsContent files file bytes = ForSome (files file) (λ told. bytes ≡ told)
 
--- the bytes are within the limit of a table file and denote that table
-abbrev pub IsTableFile : List ℕ → Observations → Type 0
-IsTableFile bytes table = (length bytes ≤ TABLE_BYTES) × (table_in bytes ≡ Ok table)
+-- the files of a line may hold these bytes, each its own
+abbrev pub AreContents : Files → Line → (ℕ → List ℕ) → Type 0
+AreContents files line bytes = (k : ℕ) → k < length (files_of line) → IsContent files (file_at line k) (bytes k)
 
--- the text is one that answers a line over this table
-abbrev pub IsText : Line → Observations → List ℕ → Type 0
-IsText (Pairs _) table text = IsPairsText table text
-IsText (Analyse _) table text = IsAnalysisText table text
+-- the text and the status that answer an input
+abbrev pub Answers : Input → Status → List ℕ → Type 0
+Answers (PairsOver table) s text = (s ≡ status.Done) × IsPairsText table text
+Answers (AnalyseOver table) s text = (s ≡ status.Done) × IsAnalysisText table text
 
--- the text is one that answers a line over the table of a file
-abbrev pub AnswersTable : Files → List ℕ → Line → List ℕ → Type 0
-AnswersTable files file line text =
-    (bytes : List ℕ) × (table : Observations) × IsContent files file bytes × IsTableFile bytes table × IsText line table text
+-- some content of a line's files denotes that input
+abbrev pub HasInput : Files → Line → Input → Type 0
+HasInput files line input = (bytes : ℕ → List ℕ) × AreContents files line bytes × (input_of line bytes ≡ Ok input)
 
--- the text and the status that answer a line
-abbrev pub Answers : Files → Line → Status → List ℕ → Type 0
-Answers files (Pairs file) s text = (s ≡ status.Done) × AnswersTable files file (Pairs file) text
-Answers files (Analyse file) s text = (s ≡ status.Done) × AnswersTable files file (Analyse file) text
+-- the text and the status answer a line, over some content of its files
+abbrev pub AnswersLine : Files → Line → Status → List ℕ → Type 0
+AnswersLine files line s text = (input : Input) × HasInput files line input × Answers input s text
 
--- the text and the status that answer the words
-abbrev pub AnswersWords : Files → List (List ℕ) → Status → List ℕ → Type 0
-AnswersWords files words s text = (line : Line) × (line_of words ≡ Some line) × Answers files line s text
+-- the text and the status answer what is asked
+abbrev pub AnswersAsked : Files → Option Line → Status → List ℕ → Type 0
+AnswersAsked files asked s text = (line : Line) × (asked ≡ Some line) × AnswersLine files line s text
 
--- the told bytes of a file denote a table
-abbrev pub IsAcceptedTable : Files → List ℕ → Type 0
-IsAcceptedTable files file = (bytes : List ℕ) × (table : Observations) × (files file ≡ Some bytes) × IsTableFile bytes table
+-- some content of a line's files is refused with that line of text
+abbrev pub RefusesWith : Files → Line → List ℕ → Type 0
+RefusesWith files line text = (bytes : ℕ → List ℕ) × AreContents files line bytes × (input_of line bytes ≡ Err text)
 
--- the told bytes of a line's files are such that nothing refuses them
+-- nothing refuses a line: whatever its files may hold denotes an input
 abbrev pub IsAccepted : Files → Line → Type 0
-IsAccepted files (Pairs file) = IsAcceptedTable files file
-IsAccepted files (Analyse file) = IsAcceptedTable files file
+IsAccepted files line = (bytes : ℕ → List ℕ) → AreContents files line bytes → IsOk (input_of line bytes)
 
--- why the bytes of a table file are refused: the text of the fault
-abbrev pub RefusesTable : List ℕ → List ℕ → Type 0
-RefusesTable bytes fault =
-    ((fault ≡ codes "TooLong") × (TABLE_BYTES < length bytes))
-    ⊎ ((f : TableFault) × (fault ≡ fault_text f) × (length bytes ≤ TABLE_BYTES) × (table_in bytes ≡ Err f))
-
--- the told bytes of a file are refused with that fault
-abbrev pub RefusesTold : Files → List ℕ → List ℕ → Type 0
-RefusesTold files file fault = ForSome (files file) (λ bytes. RefusesTable bytes fault)
-
--- the fault that refuses the told bytes of one of a line's files
-abbrev pub Refuses : Files → Line → List ℕ → List ℕ → Type 0
-Refuses files (Pairs table) file fault = (file ≡ table) × RefusesTold files table fault
-Refuses files (Analyse table) file fault = (file ≡ table) × RefusesTold files table fault
-
--- the told bytes of a file are refused
-abbrev pub IsRefusedTable : Files → List ℕ → Type 0
-IsRefusedTable files file = (bytes : List ℕ) × (fault : List ℕ) × (files file ≡ Some bytes) × RefusesTable bytes fault
-
--- the told bytes of a line's files are refused
+-- a line is refused, whatever its files may hold
 abbrev pub IsRefused : Files → Line → Type 0
-IsRefused files (Pairs file) = IsRefusedTable files file
-IsRefused files (Analyse file) = IsRefusedTable files file
+IsRefused files line = (bytes : ℕ → List ℕ) → AreContents files line bytes → IsErr (input_of line bytes)

@@ -1,33 +1,55 @@
--- The status and the line of each cause for which a file gives no answer, and what it says of a table.
-use Rattle.std.specs.Prelude.{◌≡◌, ◌≢◌, ℕ, List, [], ◌∷◌, ◌++◌, codes}
+-- Why there is no answer, as the code says it: what each cause stands for, its status and its line.
+use Rattle.std.specs.Prelude.{◌≡◌, ◌≢◌, ℕ, List, Result, Ok, Err, Contains, MatchResult}
 use Rattle.rp_text.specs.declared.fault.TableFault.{TableFault}
 use Rattle.rp_text.specs.declared.fault.TableFault.TheVariants as fault
 use Rattle.rp_run.specs.FaultTexts.{fault_text}
-use Rattle.rp_run.specs.FaultLines.{file_line}
-use Rattle.rp_run.specs.declared.answer.Cause.{Cause}
-use Rattle.rp_run.specs.declared.answer.Cause.TheVariants.{Read, TooLong, Refused, NoMemory}
+use Rattle.rp_run.specs.CommandLine.{Line, files_of}
+use Rattle.rp_run.specs.Answers.{Files, IsContent, RefusesWith}
+use Rattle.rp_run.specs.FaultLines.{file_line, read_line, memory_line}
+use Rattle.rp_run.specs.declared.files.Cause.{Cause}
+use Rattle.rp_run.specs.declared.files.Cause.TheVariants.{Read, Refused, NoMemory}
 use Rattle.rp_run.specs.declared.status.Status.{Status}
 use Rattle.rp_run.specs.declared.status.Status.TheVariants as status
 
 abbrev pub status_of_cause : Cause → Status
-status_of_cause Read = status.ReadFault
-status_of_cause TooLong = status.Refused
-status_of_cause (Refused fault) = status.Refused
+status_of_cause (Read file) = status.ReadFault
+status_of_cause (Refused line) = status.Refused
 status_of_cause NoMemory = status.NoMemory
 
-abbrev pub cause_line : List ℕ → Cause → List ℕ
-cause_line file Read = file_line file (codes "read failed")
-cause_line file TooLong = file_line file (codes "TooLong")
-cause_line file (Refused fault) = file_line file fault.items
-cause_line file NoMemory = codes "rp: out of memory" ++ 10 ∷ []
+abbrev pub cause_line : Cause → List ℕ
+cause_line (Read file) = read_line file.now
+cause_line (Refused line) = line.items
+cause_line NoMemory = memory_line
 
--- what holds of the text where a table is refused
-abbrev pub IfRefused : Cause → (List ℕ → Type 0) → Type 0
-IfRefused (Refused fault) P = P fault.items
-IfRefused _ P = Unit {0}
+-- a refusal with that line, or want of memory
+abbrev pub IsRefusal : List ℕ → Cause → Type 0
+IsRefusal line (Read file) = ⊥
+IsRefusal line (Refused text) = text.items ≡ line
+IsRefusal line NoMemory = Unit {0}
 
--- the cause of a table's fault: its text, or want of memory
-abbrev pub IsRefusal : TableFault → Cause → Type 0
-IsRefusal f (Refused text) = (f ≢ fault.NoMemory) × (text.items ≡ fault_text f)
-IsRefusal f NoMemory = Unit {0}
-IsRefusal f _ = ⊥
+-- a fault of a file as a cause: its line, or want of memory
+abbrev pub IsRefusalOf : List ℕ → TableFault → Cause → Type 0
+IsRefusalOf file f (Read name) = ⊥
+IsRefusalOf file f (Refused text) = (f ≢ fault.NoMemory) × (text.items ≡ file_line file (fault_text f))
+IsRefusalOf file f NoMemory = Unit {0}
+
+-- why a file gives no value: its count of faults rose, or some content of it is refused by that reading
+abbrev pub IsFileCause : {A : Type 0} → Files → (List ℕ → Type 0) → List ℕ → (List ℕ → Result A (List ℕ)) → Cause → Type 0
+IsFileCause files rose file reading (Read name) = (name.now ≡ file) × rose file
+IsFileCause files rose file reading (Refused line) = (bytes : List ℕ) × IsContent files file bytes × (reading bytes ≡ Err line.items)
+IsFileCause files rose file reading NoMemory = Unit {0}
+
+-- some content of a file has that value
+abbrev pub HoldsValue : {A : Type 0} → Files → List ℕ → (List ℕ → Result A (List ℕ)) → A → Type 0
+HoldsValue files file reading value = (bytes : List ℕ) × IsContent files file bytes × (reading bytes ≡ Ok value)
+
+-- what a loader gives: the value of some content of its file, or why there is none
+abbrev pub IsLoaded : {A : Type 0} → Files → (List ℕ → Type 0) → List ℕ → (List ℕ → Result A (List ℕ)) → Result A Cause → Type 0
+IsLoaded files rose file reading result =
+    MatchResult result (HoldsValue files file reading) (IsFileCause files rose file reading)
+
+-- why a line has no input: a count of one of its files rose, or some content of them is refused
+abbrev pub IsCause : Files → (List ℕ → Type 0) → Line → Cause → Type 0
+IsCause files rose line (Read file) = Contains (files_of line) file.now × rose file.now
+IsCause files rose line (Refused text) = RefusesWith files line text.items
+IsCause files rose line NoMemory = Unit {0}

@@ -1,6 +1,7 @@
 -- What a list of words asks for (this program's own commands). The first word is the program's name.
-use Rattle.std.specs.Prelude.{ℕ, Bool, false, not, ◌==◌, List, [], ◌∷◌, Option, Some, None, if◌then◌else◌, codes}
+use Rattle.std.specs.Prelude.{ℕ, Bool, false, not, ◌==◌, List, [], ◌∷◌, Option, Some, None, if◌then◌else◌, codes, map, slice_index_or, string_bytes}
 use Rattle.std.specs.Str.{bytes_eq}
+use Rattle.std.specs.declared.string.String.{String}
 
 -- a command with its files
 pub data Line : Type 0 where
@@ -9,15 +10,14 @@ pub data Line : Type 0 where
   -- the verdicts on a table, with their evidence
   Analyse : (table : List ℕ) → Line
 
--- the file of the table that a line is about
-abbrev pub table_of : Line → List ℕ
-table_of (Pairs table) = table
-table_of (Analyse table) = table
-
 -- the files of a line, in the order of the words
 abbrev pub files_of : Line → List (List ℕ)
 files_of (Pairs table) = table ∷ []
 files_of (Analyse table) = table ∷ []
+
+-- the k-th file of a line, from 0
+abbrev pub file_at : Line → ℕ → List ℕ
+file_at line k = slice_index_or (files_of line) k []
 
 -- a word that names a file: it is not empty and begins with no minus sign
 abbrev pub is_file_name : List ℕ → Bool
@@ -34,3 +34,7 @@ table_line command file =
 abbrev pub line_of : List (List ℕ) → Option Line
 line_of (_ ∷ command ∷ file ∷ []) = if is_file_name file then table_line command file else None
 line_of _ = None
+
+-- the same of words as strings
+abbrev pub line_in : {Z : Type 0} → List (String Z) → Option Line
+line_in words = line_of (map string_bytes words)

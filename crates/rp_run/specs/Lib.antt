@@ -1,10 +1,11 @@
 pub mod FaultTexts
+pub mod FaultLines
 pub mod PairsText
 pub mod Analysis
 pub mod CommandLine
-pub mod NamedLine
+pub mod Inputs
 pub mod Answers
+pub mod Endings
 pub mod Gains
-pub mod FaultLines
 pub mod Causes
-pub mod Conversions
+pub mod Named

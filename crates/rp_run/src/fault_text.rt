@@ -91,7 +91,8 @@ fn push_budget(alloc: Global, out: &mut Vec<u8>, budget: u32) -> Result<(), NoMe
 
 /// Appends a record and a column.
 fn push_cell(alloc: Global, out: &mut Vec<u8>, row: u32, column: u32) -> Result<(), NoMemory>
-    ensures { OnOk result (out.new.items ≡ out.old.items ++ (text.record_text row ++ text.column_text column)) }
+    ensures { OnOk result
+        (out.new.items ≡ out.old.items ++ (text.record_text row ++ text.column_text column)) }
 {
     push_record(alloc, out, row)?;
     push_column(alloc, out, column)?;

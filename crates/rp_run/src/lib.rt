@@ -3,6 +3,8 @@
 
 mod answer;
 mod fault_text;
+mod files;
+mod input;
 mod line;
 mod running;
 mod status;
@@ -13,6 +15,3 @@ mod text;
 pub use running::run;
 pub use status::Status;
 pub use sure::run_surely;
-
-/// The most bytes of a table file.
-pub const TABLE_BYTES: u64 = 4_194_304;

@@ -1,6 +1,7 @@
 ghost use Rattle.std.specs.Prelude.{◌≡◌, map, option_map, string_bytes};
-ghost use Rattle.rp_run.specs.CommandLine.{line_of, table_line, table_of, is_file_name};
-ghost use Rattle.rp_run.specs.NamedLine.{named_line};
+ghost use Rattle.rp_run.specs.CommandLine.{line_of, table_line, is_file_name};
+ghost use Rattle.rp_run.specs.FaultLines.{usage_text};
+ghost use Rattle.rp_run.specs.Named.{named_line};
 
 /// A command with its files, as the words name them.
 #[derive(Clone, Copy)]
@@ -9,16 +10,11 @@ pub(crate) enum Line<'a> {
     Analyse { table: &'a str },
 }
 
-impl<'a> Line<'a> {
-    /// The file of the table that the line is about.
-    pub(crate) fn table(self) -> &'a str
-        ensures { table_of (named_line self.entry) ≡ result.now }
-    {
-        match self {
-            Line::Pairs { table } => table,
-            Line::Analyse { table } => table,
-        }
-    }
+/// How the program is called.
+pub(crate) fn usage() -> &'static [u8]
+    ensures { result.now ≡ usage_text }
+{
+    b"usage: rp pairs TABLE\n       rp analyse TABLE\n"
 }
 
 /// The line that the words denote. The first word is the program's name.

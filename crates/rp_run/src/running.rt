@@ -1,16 +1,18 @@
-ghost use Rattle.std.specs.Prelude.{◌≡◌, ◌↔◌, ◌⊎◌, ◌≤◌, ℕ, List, [], ◌∷◌, ◌++◌, Some, None, Contains, map, codes, string_bytes};
+ghost use Rattle.std.specs.Prelude.{◌≡◌, ◌↔◌, ◌⊎◌, ◌≤◌, ℕ, List, Some, None};
 ghost use Rattle.rp_outside.specs.Faults.{HasRisen};
 ghost use Rattle.rp_outside.specs.Told.{Stays, Grows, GrowsByPrefix};
-ghost use Rattle.rp_run.specs.CommandLine.{Line as Asked, files_of, line_of};
-ghost use Rattle.rp_run.specs.Answers.{AnswersWords, IsAccepted, IsRefused};
-ghost use Rattle.rp_run.specs.FaultLines.{IsFaultLine, IsSilent};
+ghost use Rattle.rp_run.specs.CommandLine.{Line as Asked, line_in};
+ghost use Rattle.rp_run.specs.Answers.{AnswersAsked, IsAccepted, IsRefused};
+ghost use Rattle.rp_run.specs.FaultLines.{write_line};
+ghost use Rattle.rp_run.specs.Endings.{IsEnd, IsSilent, IsFaultLine, Rose, NoneRose};
 ghost use Rattle.rp_run.specs.Gains.{Gains};
 ghost use Rattle.rp_run.specs.Causes.{status_of_cause, cause_line};
 
-use crate::answer::{Cause, answer};
-use crate::line::read_line;
+use crate::answer::{Answer, answer_line};
+use crate::files::Cause;
+use crate::line::{read_line, usage};
 use crate::status::Status;
-use crate::telling::{tell, tell_file};
+use crate::telling::tell;
 use rp_outside::{Desk, Sink, pour};
 use std::alloc::Global;
 
@@ -24,22 +26,37 @@ pub fn run<D: Desk, O: Sink, E: Sink>(
     err: &mut E,
 ) -> Status
     // The words.
-    ensures usage { (result ≡ Status.Usage) ↔ (line_of (map string_bytes words.now.items) ≡ None) }
+    ensures usage { (result ≡ Status.Usage) ↔ (line_in words.now.items ≡ None) }
 
     // The answer, and what the output gains.
-    ensures answered { result ≡ Status.Done → (text : List ℕ) × AnswersWords (D.bytes desk.old) (map string_bytes words.now.items) result text × Grows (O.written out.old) (O.written out.new) text }
-    ensures cut_short { result ≡ Status.WriteFault → (s : Status) × (text : List ℕ) × AnswersWords (D.bytes desk.old) (map string_bytes words.now.items) s text × GrowsByPrefix (O.written out.old) (O.written out.new) text }
+    ensures answered { IsEnd result → (text : List ℕ)
+        × AnswersAsked (D.bytes desk.old) (line_in words.now.items) result text
+        × Grows (O.written out.old) (O.written out.new) text }
+    ensures cut_short { result ≡ Status.WriteFault → (s : Status) × (text : List ℕ)
+        × AnswersAsked (D.bytes desk.old) (line_in words.now.items) s text
+        × GrowsByPrefix (O.written out.old) (O.written out.new) text }
     ensures silent { IsSilent result → Stays (O.written out.old) (O.written out.new) }
-    ensures write_counted { result ≡ Status.WriteFault → HasRisen (O.faults out.old) (O.faults out.new) }
+    ensures write_counted { result ≡ Status.WriteFault
+        → HasRisen (O.faults out.old) (O.faults out.new) }
     ensures never_rejected { ¬ (result ≡ Status.Rejected) }
 
     // Why there is no answer.
-    ensures quiet { result ≡ Status.Done → Stays (E.written err.old) (E.written err.new) }
-    ensures told { ¬ (result ≡ Status.Done) → (line : List ℕ) × IsFaultLine (D.bytes desk.old) (λ file. HasRisen (D.faults desk.old file) (D.faults desk.new file)) (map string_bytes words.now.items) result line × Gains (E.written err.old) (E.written err.new) (E.faults err.old) (E.faults err.new) line }
+    ensures quiet { IsEnd result → Stays (E.written err.old) (E.written err.new) }
+    ensures told { ¬ IsEnd result → (line : List ℕ)
+        × IsFaultLine (D.bytes desk.old) (Rose (D.faults desk.old) (D.faults desk.new))
+        (line_in words.now.items) result line
+        × Gains (E.written err.old) (E.written err.new) (E.faults err.old) (E.faults err.new) line }
 
     // When there is one.
-    ensures complete { (line : Asked) → line_of (map string_bytes words.now.items) ≡ Some line → IsAccepted (D.bytes desk.old) line → ((file : List ℕ) → Contains (files_of line) file → ¬ HasRisen (D.faults desk.old file) (D.faults desk.new file)) → ¬ HasRisen (O.faults out.old) (O.faults out.new) → (result ≡ Status.Done) ⊎ (result ≡ Status.NoMemory) }
-    ensures refused { (line : Asked) → line_of (map string_bytes words.now.items) ≡ Some line → IsRefused (D.bytes desk.old) line → ((file : List ℕ) → Contains (files_of line) file → ¬ HasRisen (D.faults desk.old file) (D.faults desk.new file)) → (result ≡ Status.Refused) ⊎ (result ≡ Status.NoMemory) }
+    ensures complete { (line : Asked) → line_in words.now.items ≡ Some line
+        → IsAccepted (D.bytes desk.old) line
+        → NoneRose line (D.faults desk.old) (D.faults desk.new)
+        → ¬ HasRisen (O.faults out.old) (O.faults out.new)
+        → IsEnd result ⊎ (result ≡ Status.NoMemory) }
+    ensures refused { (line : Asked) → line_in words.now.items ≡ Some line
+        → IsRefused (D.bytes desk.old) line
+        → NoneRose line (D.faults desk.old) (D.faults desk.new)
+        → (result ≡ Status.Refused) ⊎ (result ≡ Status.NoMemory) }
 
     // What is left as it was.
     ensures bytes_stay { (file : List ℕ) → D.bytes desk.new file ≡ D.bytes desk.old file }
@@ -48,30 +65,32 @@ pub fn run<D: Desk, O: Sink, E: Sink>(
     ensures faults_of_err { E.faults err.old ≤ E.faults err.new }
 {
     let Some(line) = read_line(words.as_slice()) else {
-        tell(
-            err,
-            &[b"usage: rp pairs TABLE\n", b"       rp analyse TABLE\n"],
-        );
+        tell(err, &[usage()]);
         return Status::Usage;
     };
-    let table = line.table();
-    match answer(alloc, desk, line, table) {
-        Ok(text) => finish(text.as_slice(), out, err),
-        Err(cause) => refuse(cause, table, err),
+    match answer_line(alloc, desk, line) {
+        Ok(answer) => finish(&answer, out, err),
+        Err(cause) => refuse(&cause, err),
     }
 }
 
 /// Writes the whole answer, or tells that it could not be written.
-fn finish<O: Sink, E: Sink>(text: &[u8], out: &mut O, err: &mut E) -> Status
-    ensures either { (result ≡ Status.Done) ⊎ (result ≡ Status.WriteFault) }
-    ensures whole { result ≡ Status.Done → Grows (O.written out.old) (O.written out.new) text.now × Stays (E.written err.old) (E.written err.new) }
-    ensures part { result ≡ Status.WriteFault → GrowsByPrefix (O.written out.old) (O.written out.new) text.now × HasRisen (O.faults out.old) (O.faults out.new) }
-    ensures told { result ≡ Status.WriteFault → Gains (E.written err.old) (E.written err.new) (E.faults err.old) (E.faults err.new) (codes "rp: write failed" ++ 10 ∷ []) }
+fn finish<O: Sink, E: Sink>(answer: &Answer, out: &mut O, err: &mut E) -> Status
+    requires { IsEnd answer.now.status }
+    ensures either { (result ≡ answer.now.status) ⊎ (result ≡ Status.WriteFault) }
+    ensures whole { IsEnd result
+        → Grows (O.written out.old) (O.written out.new) answer.now.text.items
+        × Stays (E.written err.old) (E.written err.new) }
+    ensures part { result ≡ Status.WriteFault
+        → GrowsByPrefix (O.written out.old) (O.written out.new) answer.now.text.items
+        × HasRisen (O.faults out.old) (O.faults out.new) }
+    ensures told { result ≡ Status.WriteFault → Gains (E.written err.old) (E.written err.new)
+        (E.faults err.old) (E.faults err.new) write_line }
     ensures faults_of_out { O.faults out.old ≤ O.faults out.new }
     ensures faults_of_err { E.faults err.old ≤ E.faults err.new }
 {
-    match pour(out, text) {
-        Ok(()) => Status::Done,
+    match pour(out, answer.text.as_slice()) {
+        Ok(()) => answer.status,
         Err(_) => {
             tell(err, &[b"rp: write failed\n"]);
             Status::WriteFault
@@ -79,23 +98,20 @@ fn finish<O: Sink, E: Sink>(text: &[u8], out: &mut O, err: &mut E) -> Status
     }
 }
 
-/// Tells why a file gives no answer.
-fn refuse<E: Sink>(cause: Cause, name: &str, err: &mut E) -> Status
-    ensures status { result ≡ status_of_cause cause }
-    ensures told { Gains (E.written err.old) (E.written err.new) (E.faults err.old) (E.faults err.new) (cause_line name.now cause) }
+/// Tells why there is no answer.
+fn refuse<E: Sink>(cause: &Cause<'_>, err: &mut E) -> Status
+    ensures status { result ≡ status_of_cause cause.now }
+    ensures told { Gains (E.written err.old) (E.written err.new)
+        (E.faults err.old) (E.faults err.new) (cause_line cause.now) }
     ensures faults_of_err { E.faults err.old ≤ E.faults err.new }
 {
     match cause {
-        Cause::Read => {
-            tell_file(err, name, b"read failed");
+        Cause::Read(file) => {
+            tell(err, &[b"rp: ", file.as_bytes(), b": read failed\n"]);
             Status::ReadFault
         }
-        Cause::TooLong => {
-            tell_file(err, name, b"TooLong");
-            Status::Refused
-        }
-        Cause::Refused(fault) => {
-            tell_file(err, name, fault.as_slice());
+        Cause::Refused(line) => {
+            tell(err, &[line.as_slice()]);
             Status::Refused
         }
         Cause::NoMemory => {

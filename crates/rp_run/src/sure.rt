@@ -1,7 +1,7 @@
-ghost use Rattle.std.specs.Prelude.{◌≡◌, ◌↔◌, ◌⊎◌, Some, None, map, string_bytes};
-ghost use Rattle.rp_outside.specs.Files.{bytes_or_none};
-ghost use Rattle.rp_run.specs.CommandLine.{Line as Asked, line_of};
-ghost use Rattle.rp_run.specs.Answers.{IsAccepted, IsRefused};
+ghost use Rattle.std.specs.Prelude.{◌≡◌, ◌↔◌, ◌⊎◌, Some, None};
+ghost use Rattle.rp_run.specs.CommandLine.{Line as Asked, line_in};
+ghost use Rattle.rp_run.specs.Answers.{IsAccepted, IsRefused, all_told};
+ghost use Rattle.rp_run.specs.Endings.{IsEnd};
 
 use crate::running::run;
 use crate::status::Status;
@@ -19,9 +19,13 @@ pub fn run_surely(
     ensures every_file_is_read { ¬ (result ≡ Status.ReadFault) }
     ensures every_answer_is_written { ¬ (result ≡ Status.WriteFault) }
     ensures never_rejected { ¬ (result ≡ Status.Rejected) }
-    ensures usage { (result ≡ Status.Usage) ↔ (line_of (map string_bytes words.now.items) ≡ None) }
-    ensures accepted { (line : Asked) → line_of (map string_bytes words.now.items) ≡ Some line → IsAccepted (λ name. Some (bytes_or_none desk.old name)) line → (result ≡ Status.Done) ⊎ (result ≡ Status.NoMemory) }
-    ensures refused { (line : Asked) → line_of (map string_bytes words.now.items) ≡ Some line → IsRefused (λ name. Some (bytes_or_none desk.old name)) line → (result ≡ Status.Refused) ⊎ (result ≡ Status.NoMemory) }
+    ensures usage { (result ≡ Status.Usage) ↔ (line_in words.now.items ≡ None) }
+    ensures accepted { (line : Asked) → line_in words.now.items ≡ Some line
+        → IsAccepted (all_told desk.old) line
+        → IsEnd result ⊎ (result ≡ Status.NoMemory) }
+    ensures refused { (line : Asked) → line_in words.now.items ≡ Some line
+        → IsRefused (all_told desk.old) line
+        → (result ≡ Status.Refused) ⊎ (result ≡ Status.NoMemory) }
 {
     run(alloc, words, desk, out, err)
 }

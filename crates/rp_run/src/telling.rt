@@ -1,6 +1,5 @@
 ghost use Rattle.std.specs.Prelude.{◌≤◌};
 ghost use Rattle.std.specs.List.{flat_map};
-ghost use Rattle.rp_run.specs.FaultLines.{file_line};
 ghost use Rattle.rp_run.specs.Gains.{Gains};
 
 use rp_outside::{Sink, pour};
@@ -8,7 +7,8 @@ use rp_outside::{Sink, pour};
 /// Writes the pieces one after another, as far as the sink takes them. A failure is told by the sink's
 /// count of faults alone.
 pub(crate) fn tell<E: Sink>(err: &mut E, pieces: &[&[u8]])
-    ensures gains { Gains (E.written err.old) (E.written err.new) (E.faults err.old) (E.faults err.new) (flat_map (λ piece. piece.now) pieces.now) }
+    ensures gains { Gains (E.written err.old) (E.written err.new)
+        (E.faults err.old) (E.faults err.new) (flat_map (λ piece. piece.now) pieces.now) }
     ensures never_falls { E.faults err.old ≤ E.faults err.new }
 {
     for piece in pieces {
@@ -16,12 +16,4 @@ pub(crate) fn tell<E: Sink>(err: &mut E, pieces: &[&[u8]])
             return;
         };
     }
-}
-
-/// Writes the line of a fault of a file.
-pub(crate) fn tell_file<E: Sink>(err: &mut E, name: &str, fault: &[u8])
-    ensures gains { Gains (E.written err.old) (E.written err.new) (E.faults err.old) (E.faults err.new) (file_line name.now fault.now) }
-    ensures never_falls { E.faults err.old ≤ E.faults err.new }
-{
-    tell(err, &[b"rp: ", name.as_bytes(), b": ", fault, b"\n"]);
 }

@@ -7,12 +7,12 @@ use Rattle.rp_farkas.specs.Limits.{IsWithinLimits}
 use Rattle.rp_simplex.specs.declared.tableau.Tableau.{Tableau}
 use Rattle.rp_simplex.specs.ExactTableau.{ExactTableau, width_of}
 use Rattle.rp_simplex.specs.FirstTableau.{IsFirstTableau}
-use Rattle.rp_simplex.specs.Choice.{IsEntering, IsLeaving, HasNoTies}
+use Rattle.rp_simplex.specs.Choice.{IsEntering, IsLeaving}
 use Rattle.rp_simplex.specs.Width.{IsWithinWidth}
 use Rattle.rp_simplex.specs.Pivot.{IsPivot}
 use Rattle.rp_simplex.specs.Run.{Reaches, begins, pivots}
 use Rattle.rp_simplex.specs.Shown.{exact, IsShapedFor}
-use Rattle.rp_simplex.specs.Readout.{HasDistinctBasis}
+use Rattle.rp_simplex.specs.Inner.{HasDistinctBasis, HasNoTies}
 use Rattle.rp_simplex.proofs.Linear.{delta-other}
 use Rattle.rp_simplex.proofs.Sound.{IsSound}
 use Rattle.rp_simplex.proofs.PivotSound.{objective_rises}

@@ -1,5 +1,5 @@
--- Which column enters, and which row leaves.
-use Rattle.std.specs.Prelude.{ℕ, ◌≡◌, ◌≢◌, ◌<◌, ◌≤◌, pos, ◌*ℤ◌, ◌≤ℤ◌, ◌<ℤ◌, Option, MatchOption}
+-- Which column enters (Bland 1977), and which row leaves (Dantzig, Orden and Wolfe 1955).
+use Rattle.std.specs.Prelude.{ℕ, ◌≡◌, ◌≢◌, ◌<◌, ◌≤◌, pos, ◌*ℤ◌, ◌≤ℤ◌, ◌<ℤ◌}
 use Rattle.rp_simplex.specs.ExactTableau.{ExactTableau}
 use Rattle.rp_simplex.specs.Lexicographic.{IsLexLess}
 
@@ -25,12 +25,3 @@ pub record IsLeaving (rows width : ℕ) (t : ExactTableau) (c r : ℕ) : Type 0 
 -- No row can leave: no row has a positive entry in column c.
 abbrev pub IsUnbounded : ℕ → ExactTableau → ℕ → Type 0
 IsUnbounded rows t c = (i : ℕ) → i < rows → t.at i c ≤ℤ pos 0
-
--- No two rows have one ratio to their entries in column c.
-abbrev pub HasNoTies : ℕ → ℕ → ExactTableau → ℕ → Type 0
-HasNoTies rows width t c = (i r : ℕ) → i < rows → r < rows → i ≢ r → pos 0 <ℤ t.at i c
-    → ((j : ℕ) → j < width → t.at i c *ℤ t.at r j ≡ t.at r c *ℤ t.at i j) → ⊥
-
--- The row that would leave among the first n, or none where none of them has a positive entry in column c.
-abbrev pub LeavesBelow : ℕ → ℕ → ExactTableau → ℕ → Option ℕ → Type 0
-LeavesBelow n width t c best = MatchOption best (IsUnbounded n t c) (λ r. IsLeaving n width t c r)

@@ -1,4 +1,4 @@
--- What an outcome shows of its program.
+-- What an outcome shows of its program (Gale, Kuhn and Tucker 1951; Farkas 1902).
 use Rattle.std.specs.Prelude.{slice_index}
 use Rattle.rp_farkas.specs.LinearProgram.{LinearProgram}
 use Rattle.rp_farkas.specs.Listing.{numerator_at}

@@ -1,4 +1,4 @@
--- Simplex tableaus over whole numbers without bound.
+-- Simplex tableaus over whole numbers without bound (after Dantzig 1963).
 use Rattle.std.specs.Prelude.{ℕ, ◌+◌, ℤ}
 use Rattle.rp_farkas.specs.LinearProgram.{LinearProgram}
 

@@ -1,4 +1,4 @@
--- The tableau that the run begins with.
+-- The tableau that the run begins with (Dantzig 1963).
 use Rattle.std.specs.Prelude.{ℕ, zero, suc, ◌≡◌, ◌-◌, ◌<◌, ◌≤◌, ℤ, pos, neg_ℤ, if◌then◌else◌, ◌==◌, nat_lt}
 use Rattle.rp_farkas.specs.LinearProgram.{LinearProgram}
 use Rattle.rp_simplex.specs.ExactTableau.{ExactTableau, width_of}

@@ -1,4 +1,4 @@
--- The lexicographic order of rows of whole numbers.
+-- The lexicographic order of rows of whole numbers (Dantzig, Orden and Wolfe 1955).
 use Rattle.std.specs.Prelude.{ℕ, ◌≡◌, ◌<◌, ℤ, ◌<ℤ◌}
 
 -- f is less than g at the first of the places below n where they differ.

@@ -10,3 +10,4 @@ pub mod Readout
 pub mod Outcome
 pub mod SameOutcome
 pub mod Evidence
+pub mod Inner

@@ -1,4 +1,4 @@
--- The outcomes of the run.
+-- The outcomes of the run: the last tableau of the simplex (Dantzig 1963), or a passed width (this project's own).
 use Rattle.std.specs.Prelude.{ℕ, ◌≡◌, ◌-◌, ◌^◌, min, List, length, slice_index}
 use Rattle.rp_farkas.specs.declared.entry.Entry.{Entry}
 use Rattle.rp_farkas.specs.declared.entry.Pair.{Pair}

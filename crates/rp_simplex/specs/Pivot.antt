@@ -1,4 +1,4 @@
--- One pivot, over whole numbers without bound.
+-- One pivot (Dantzig 1963), over whole numbers without bound and one denominator in lowest terms.
 use Prim.Native.Nat.{◌∣◌}
 use Rattle.std.specs.Prelude.{ℕ, ◌≡◌, ◌≢◌, ◌*◌, ◌<◌, ◌≤◌, ℤ, pos, ◌*ℤ◌, ◌-ℤ◌, if◌then◌else◌, ◌==◌}
 use Rattle.std.specs.Int.RustNames.{unsigned_abs}

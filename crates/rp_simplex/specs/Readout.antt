@@ -1,4 +1,4 @@
--- What the last tableau shows.
+-- What the last tableau shows: a point, its prices, a ray (Dantzig 1963).
 use Rattle.std.specs.Prelude.{ℕ, suc, ◌≡◌, ◌≢◌, ◌+◌, ◌<◌, ℤ, pos, neg_ℤ}
 use Rattle.rp_farkas.specs.LinearProgram.{LinearProgram}
 use Rattle.rp_simplex.specs.ExactTableau.{ExactTableau}
@@ -23,7 +23,3 @@ ShowsPrices p t x = (s : ℕ) → s < p.rows → pos (x s) ≡ t.at p.rows (suc 
 -- columns.
 abbrev pub ShowsRay : LinearProgram → ExactTableau → ℕ → (ℕ → ℕ) → Type 0
 ShowsRay p t c r = IsReadAt p.rows p.cols t (λ i. neg_ℤ (t.at i c)) c (pos t.den) r
-
--- No two rows have one basic column.
-abbrev pub HasDistinctBasis : ℕ → ExactTableau → Type 0
-HasDistinctBasis rows t = (i k : ℕ) → i < rows → k < rows → t.basis i ≡ t.basis k → i ≡ k

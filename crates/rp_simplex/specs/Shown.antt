@@ -1,4 +1,4 @@
--- What the tableau in memory stands for.
+-- What the tableau in memory stands for (this project's own form).
 use Rattle.std.specs.Prelude.{◌≡◌, ◌+◌, ◌*◌, pos, slice_index, slice_index_or}
 use Rattle.rp_farkas.specs.LinearProgram.{LinearProgram}
 use Rattle.rp_simplex.specs.ExactTableau.{ExactTableau, width_of}

@@ -1,5 +1,6 @@
-ghost use Rattle.std.specs.Prelude.{◌≡◌, ℕ, suc, ◌+◌, ◌*◌, ◌^◌, ◌<◌, ◌≤◌, pos, All, IfOk, vec_len, slice_index, slice_index_or};
+ghost use Rattle.std.specs.Prelude.{◌≡◌, ℕ, suc, ◌+◌, ◌*◌, ◌<◌, ◌≤◌, pos, All, IfOk, vec_len, slice_index, slice_index_or};
 ghost use Rattle.std.specs.Int.RustNames.{unsigned_abs};
+ghost use Rattle.rp_farkas.specs.Limits.{FitsEvidence, largest_entry, most_rows};
 ghost use Rattle.rp_simplex.specs.ExactTableau.{width_of};
 ghost use Rattle.rp_simplex.specs.FirstTableau.{IsFirstTableau, first_entry};
 ghost use Rattle.rp_simplex.specs.Shown.{exact, IsShapedFor};
@@ -14,7 +15,7 @@ fn program_entry<P: Lp>(p: &P, i: usize, j: usize) -> i64
     requires row { i ≤ (P.program p.now).rows }
     requires column { j < (P.program p.now).cols }
     ensures value { result ≡ first_entry (P.program p.now) i (suc ((P.program p.now).rows + j)) }
-    ensures fits { unsigned_abs result ≤ 2 ^ 51 }
+    ensures fits { unsigned_abs result ≤ largest_entry }
 {
     if i < p.rows() as usize {
         p.a(i as u32, j as u32)
@@ -28,7 +29,7 @@ fn starting_entry<P: Lp>(p: &P, i: usize, j: usize) -> i64
     requires row { i ≤ (P.program p.now).rows }
     requires column { j < width_of (P.program p.now) }
     ensures value { result ≡ first_entry (P.program p.now) i j }
-    ensures fits { unsigned_abs result ≤ 2 ^ 51 }
+    ensures fits { unsigned_abs result ≤ largest_entry }
 {
     let rows = p.rows() as usize;
     if j == 0 {
@@ -52,7 +53,7 @@ fn starting_entries<P: Lp>(
     ensures length { IfOk result (λ v. vec_len v ≡ size) }
     ensures entries { IfOk result (λ v. (i j : ℕ) → i ≤ (P.program p.now).rows → j < width
         → slice_index_or v.items (i * width + j) (pos 0) ≡ first_entry (P.program p.now) i j) }
-    ensures fit { IfOk result (λ v. All (λ z. unsigned_abs z < 2 ^ 63) v.items) }
+    ensures fit { IfOk result (λ v. All (λ z. FitsEvidence (unsigned_abs z)) v.items) }
 {
     let mut entries = Vec::new(alloc);
     for place in 0..size {
@@ -63,7 +64,7 @@ fn starting_entries<P: Lp>(
 
 /// The slack columns, one for each row.
 fn slack_columns(alloc: Global, rows: usize) -> Result<Vec<usize>, NoMemory>
-    requires { rows ≤ 64 }
+    requires { rows ≤ most_rows }
     ensures length { IfOk result (λ v. vec_len v ≡ rows) }
     ensures slacks { IfOk result (λ v. (i : ℕ) → i < rows → slice_index v.items i ≡ suc i) }
 {

@@ -1,6 +1,7 @@
 ghost use Prim.Native.Nat.{◌∣◌};
 ghost use Rattle.std.specs.Prelude.{◌≡◌, ◌≢◌, ℕ, ◌+◌, ◌*◌, ◌^◌, ◌<◌, ◌≤◌, ℤ, pos, ◌-ℤ◌, ◌*ℤ◌, ◌<ℤ◌, All, IfOk, MatchOption, length, vec_len, slice_index, slice_index_or};
 ghost use Rattle.std.specs.Int.RustNames.{unsigned_abs};
+ghost use Rattle.rp_farkas.specs.Limits.{FitsEvidence};
 ghost use Rattle.rp_simplex.specs.Pivot.{cleared, IsPivot, PivotPasses};
 ghost use Rattle.rp_simplex.specs.Shown.{exact};
 
@@ -8,8 +9,8 @@ use crate::tableau::{Tableau, product};
 use rp_num::{NoMemory, gcd};
 use std::alloc::Global;
 
-/// The greatest numerator and denominator, 2^63 - 1.
-const WIDTH: u128 = 9_223_372_036_854_775_807;
+/// The width of evidence, for numbers before the common divisor is taken out.
+const WIDTH: u128 = rp_farkas::EVIDENCE_WIDTH as u128;
 
 /// The difference of two products.
 fn difference(a: i128, b: i128) -> i128
@@ -92,7 +93,7 @@ fn quotients(alloc: Global, entries: &[i128], divisor: u128) -> Result<Option<Ve
         ((k : ℕ) × (k < length entries.now) × (2 ^ 63 * divisor ≤ unsigned_abs (slice_index_or entries.now k (pos 0))))
         (λ v. (k : ℕ) → k < length entries.now
         → slice_index_or entries.now k (pos 0) ≡ slice_index_or v.items k (pos 0) *ℤ pos divisor)) }
-    ensures fit { IfOk result (λ o. MatchOption o Unit (λ v. All (λ z. unsigned_abs z < 2 ^ 63) v.items)) }
+    ensures fit { IfOk result (λ o. MatchOption o Unit (λ v. All (λ z. FitsEvidence (unsigned_abs z)) v.items)) }
 {
     let mut reduced = Vec::new(alloc);
     for entry in entries {

@@ -1,6 +1,8 @@
-ghost use Rattle.std.specs.Prelude.{◌≡◌, ◌≢◌, ℕ, suc, ◌+◌, ◌^◌, ◌<◌, ◌≤◌, pos, neg_ℤ, ◌≤ℤ◌, All, IfOk, MatchOption, length, vec_len, slice_index};
+ghost use Rattle.std.specs.Prelude.{◌≡◌, ◌≢◌, ℕ, suc, ◌+◌, ◌<◌, ◌≤◌, pos, neg_ℤ, ◌≤ℤ◌, All, IfOk, MatchOption, length, vec_len, slice_index};
+ghost use Rattle.rp_farkas.specs.Limits.{FitsEvidence, most_columns};
 ghost use Rattle.rp_farkas.specs.Listing.{IsListing, numerator_at};
-ghost use Rattle.rp_simplex.specs.Readout.{IsReadAt, HasDistinctBasis};
+ghost use Rattle.rp_simplex.specs.Inner.{HasDistinctBasis};
+ghost use Rattle.rp_simplex.specs.Readout.{IsReadAt};
 ghost use Rattle.rp_simplex.specs.Shown.{exact};
 
 use crate::tableau::Tableau;
@@ -29,7 +31,7 @@ fn point_at(t: &Tableau, column: usize) -> u64
     requires sides { (i : ℕ) → i < t.now.rows → pos 0 ≤ℤ (exact t.now).at i 0 }
     ensures basic { (i : ℕ) → i < t.now.rows → (exact t.now).basis i ≡ column → pos result ≡ (exact t.now).at i 0 }
     ensures others { ((i : ℕ) → i < t.now.rows → (exact t.now).basis i ≢ column) → result ≡ 0 }
-    ensures fits { result < 2 ^ 63 }
+    ensures fits { FitsEvidence result }
 {
     match row_of(t, column) {
         Some(i) => t.entry(i, 0) as u64,
@@ -47,7 +49,7 @@ fn ray_at(t: &Tableau, c: usize, column: usize) -> u64
         → pos result ≡ neg_ℤ ((exact t.now).at i c) }
     ensures entering { c ≡ column → pos result ≡ pos t.now.den }
     ensures others { ((i : ℕ) → i < t.now.rows → (exact t.now).basis i ≢ column) → c ≢ column → result ≡ 0 }
-    ensures fits { result < 2 ^ 63 }
+    ensures fits { FitsEvidence result }
 {
     if column == c {
         return t.den;
@@ -66,7 +68,7 @@ fn point_numerators(alloc: Global, t: &Tableau, cols: usize) -> Result<Vec<u64>,
     ensures length { IfOk result (λ v. vec_len v ≡ cols) }
     ensures read { IfOk result (λ v. IsReadAt t.now.rows cols (exact t.now)
         (λ i. (exact t.now).at i 0) 0 (pos 0) (slice_index v.items)) }
-    ensures fit { IfOk result (λ v. All (λ n. n < 2 ^ 63) v.items) }
+    ensures fit { IfOk result (λ v. All FitsEvidence v.items) }
 {
     let mut numerators = Vec::new(alloc);
     for j in 0..cols {
@@ -85,7 +87,7 @@ fn ray_numerators(alloc: Global, t: &Tableau, c: usize, cols: usize) -> Result<V
     ensures length { IfOk result (λ v. vec_len v ≡ cols) }
     ensures read { IfOk result (λ v. IsReadAt t.now.rows cols (exact t.now)
         (λ i. neg_ℤ ((exact t.now).at i c)) c (pos t.now.den) (slice_index v.items)) }
-    ensures fit { IfOk result (λ v. All (λ n. n < 2 ^ 63) v.items) }
+    ensures fit { IfOk result (λ v. All FitsEvidence v.items) }
 {
     let mut numerators = Vec::new(alloc);
     for j in 0..cols {
@@ -96,8 +98,8 @@ fn ray_numerators(alloc: Global, t: &Tableau, c: usize, cols: usize) -> Result<V
 
 /// The positive numerators with their columns.
 fn listing(alloc: Global, numerators: &[u64]) -> Result<Vec<Entry>, NoMemory>
-    requires short { length numerators.now ≤ 8192 }
-    requires fit { All (λ n. n < 2 ^ 63) numerators.now }
+    requires short { length numerators.now ≤ most_columns }
+    requires fit { All FitsEvidence numerators.now }
     ensures listed { IfOk result (λ v. IsListing (length numerators.now) v.items) }
     ensures read { IfOk result (λ v. (j : ℕ) → j < length numerators.now
         → numerator_at v.items j ≡ slice_index numerators.now j) }
@@ -117,7 +119,7 @@ fn listing(alloc: Global, numerators: &[u64]) -> Result<Vec<Entry>, NoMemory>
 /// The point that the tableau shows, listed.
 pub fn point(alloc: Global, t: &Tableau, cols: usize) -> Result<Seq<Entry>, NoMemory>
     requires cols_are { t.now.width ≡ 1 + t.now.rows + cols }
-    requires few { cols ≤ 8192 }
+    requires few { cols ≤ most_columns }
     requires distinct { HasDistinctBasis t.now.rows (exact t.now) }
     requires sides { (i : ℕ) → i < t.now.rows → pos 0 ≤ℤ (exact t.now).at i 0 }
     ensures listed { IfOk result (λ y. IsListing cols y) }
@@ -131,7 +133,7 @@ pub fn point(alloc: Global, t: &Tableau, cols: usize) -> Result<Seq<Entry>, NoMe
 /// The ray that the tableau shows, listed, where column c enters.
 pub fn ray(alloc: Global, t: &Tableau, c: usize, cols: usize) -> Result<Seq<Entry>, NoMemory>
     requires cols_are { t.now.width ≡ 1 + t.now.rows + cols }
-    requires few { cols ≤ 8192 }
+    requires few { cols ≤ most_columns }
     requires enters { c < t.now.width }
     requires distinct { HasDistinctBasis t.now.rows (exact t.now) }
     requires fresh { (i : ℕ) → i < t.now.rows → (exact t.now).basis i ≢ c }

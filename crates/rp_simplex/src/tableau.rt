@@ -1,5 +1,6 @@
 ghost use Rattle.std.specs.Prelude.{◌≡◌, ◌+◌, ◌*◌, ◌^◌, ◌<◌, ◌≤◌, ℤ, ◌*ℤ◌, All, vec_len};
 ghost use Rattle.std.specs.Int.RustNames.{unsigned_abs};
+ghost use Rattle.rp_farkas.specs.Limits.{FitsEvidence, most_columns, most_rows};
 
 /// A tableau: its entries over one denominator, by row and then by column, and the basic column of each row. The
 /// last row is the objective; column 0 has the right sides, then come the slacks and the program's columns.
@@ -10,19 +11,19 @@ pub struct Tableau {
     pub den: u64,
     pub entries: Vec<i64>,
     pub basis: Vec<usize>,
-    ghost few_rows: { rows ≤ 64 },
-    ghost few_columns: { width ≤ 8257 },
+    ghost few_rows: { rows ≤ most_rows },
+    ghost few_columns: { width ≤ 1 + most_rows + most_columns },
     ghost shape: { vec_len entries ≡ (rows + 1) * width },
     ghost basis_length: { vec_len basis ≡ rows },
     ghost den_positive: { 0 < den },
-    ghost den_fits: { den < 2 ^ 63 },
-    ghost entries_fit: { All (λ z. unsigned_abs z < 2 ^ 63) entries.items },
+    ghost den_fits: { FitsEvidence den },
+    ghost entries_fit: { All (λ z. FitsEvidence (unsigned_abs z)) entries.items },
 }
 
 /// The product of two numbers below 2^63 in absolute value, which is below 2^126.
 pub fn product(a: i64, b: i64) -> i128
-    requires first { unsigned_abs a < 2 ^ 63 }
-    requires second { unsigned_abs b < 2 ^ 63 }
+    requires first { FitsEvidence (unsigned_abs a) }
+    requires second { FitsEvidence (unsigned_abs b) }
     ensures value { result ≡ a *ℤ b }
     ensures fits { unsigned_abs result < 2 ^ 126 }
 {
@@ -37,7 +38,7 @@ impl Tableau {
         requires row { i ≤ self.now.rows }
         requires column { j < self.now.width }
         ensures value { result ≡ (exact self.now).at i j }
-        ensures fits { unsigned_abs result < 2 ^ 63 }
+        ensures fits { FitsEvidence (unsigned_abs result) }
     {
         self.entries[i * self.width + j]
     }

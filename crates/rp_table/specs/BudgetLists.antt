@@ -1,4 +1,4 @@
--- Budgets: prices of goods, and what there is to spend at them, in scaled whole numbers.
+-- Budgets: prices of goods, and what there is to spend at them (Kitamura and Stoye 2018), in scaled whole numbers.
 use Rattle.std.specs.Prelude.{◌≡◌, ℕ, ◌*◌, ◌≤◌, List, length, All}
 use Rattle.rp_table.specs.declared.TheConstants.{GOODS, LARGEST, LARGEST_EXPENDITURE, BUDGETS}
 

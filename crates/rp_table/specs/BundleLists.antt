@@ -1,4 +1,4 @@
--- Bundles of goods, in scaled whole numbers.
+-- Bundles of goods, in scaled whole numbers (this project's own form).
 use Rattle.std.specs.Prelude.{◌≡◌, ℕ, ◌*◌, ◌≤◌, List, length, All}
 use Rattle.rp_table.specs.Rows.{rows_count}
 use Rattle.rp_table.specs.declared.TheConstants.{GOODS, LARGEST, NEW_RECORDS}

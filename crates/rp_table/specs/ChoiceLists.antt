@@ -1,4 +1,4 @@
--- Choices from budgets: which bundle was chosen on which budget, and how many times.
+-- Choices from budgets: which bundle on which budget, and how many times (Kitamura and Stoye 2018).
 use Rattle.std.specs.Prelude.{◌≡◌, ℕ, ◌*◌, ◌<◌, ◌≤◌, List, length, All}
 use Rattle.rp_table.specs.declared.TheConstants.{GOODS, LARGEST, BUDGETS, CHOICES}
 

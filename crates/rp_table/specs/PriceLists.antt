@@ -1,4 +1,4 @@
--- Prices at which something is asked, and what is spent at them, in scaled whole numbers.
+-- Prices at which something is asked, and what is spent at them, in scaled whole numbers (this project's own form).
 use Rattle.std.specs.Prelude.{◌≡◌, ℕ, ◌*◌, ◌≤◌, ◌⊎◌, List, length, All}
 use Rattle.rp_table.specs.Rows.{rows_count}
 use Rattle.rp_table.specs.declared.TheConstants.{GOODS, LARGEST, LARGEST_EXPENDITURE, NEW_RECORDS}

@@ -1,4 +1,4 @@
--- Rows of numbers of one width, in one list.
+-- Rows of numbers of one width, in one list (this project's own form).
 use Rattle.std.specs.Prelude.{ℕ, ◌*◌, ◌/◌, List, length, take, drop}
 
 -- how many rows of that width there are

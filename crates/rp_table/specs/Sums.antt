@@ -1,4 +1,4 @@
--- Sums over the numbers below a bound.
+-- Sums over the numbers below a bound (arithmetic).
 use Rattle.std.specs.Prelude.{ℕ, zero, suc, ◌+◌}
 
 -- f 0 + f 1 + .. + f (k - 1)

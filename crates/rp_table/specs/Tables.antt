@@ -1,5 +1,5 @@
--- Tables of observations: at each observation a price and a quantity of each good, in scaled whole
--- numbers. A price of 125 with two places stands for 1.25.
+-- Tables of observations (Varian 1982): at each a price and a quantity of each good, in scaled whole numbers.
+-- A price of 125 with two places stands for 1.25.
 use Rattle.std.specs.Prelude.{◌≡◌, ◌≢◌, ℕ, ◌+◌, ◌*◌, ◌/◌, ◌<◌, ◌≤◌, List, length, All, AllPairs, slice_index}
 use Rattle.rp_table.specs.Sums.{sum_below}
 use Rattle.rp_table.specs.declared.TheConstants.{RECORDS, GOODS, PLACES, LARGEST}

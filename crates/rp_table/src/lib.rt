@@ -5,6 +5,7 @@ mod budgets;
 mod bundles;
 mod choices;
 mod costs;
+mod limits;
 mod name;
 mod prices;
 mod rows;
@@ -14,10 +15,13 @@ pub use budgets::Budgets;
 pub use bundles::Bundles;
 pub use choices::Choices;
 pub use costs::Costs;
+pub use limits::limits_in_numbers;
 pub use name::Name;
 pub use prices::Prices;
 pub use table::Table;
 
+/// The most bytes of the name of a good.
+pub const NAME_BYTES: u32 = 64;
 /// The most observations that a table has.
 pub const RECORDS: u32 = 256;
 /// The most goods that a table has.

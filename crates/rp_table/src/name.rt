@@ -3,7 +3,7 @@ ghost use Rattle.rp_table.specs.Names.{IsName};
 
 use std::marker::Model;
 
-/// The name of a good: 1 to 64 bytes, each at least 0x20. It need not be text.
+/// The name of a good: 1 to `NAME_BYTES` bytes, each at least 0x20. It need not be text.
 #[derive(Debug, Drop)]
 pub struct Name {
     bytes: Vec<u8>,

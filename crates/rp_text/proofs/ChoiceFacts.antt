@@ -30,11 +30,11 @@ choice_tests m w true true e = (refl, refl)
 choice_tests m w true false e = cc e
 choice_tests m w false n e = cc e
 
-budget_says : role_of (codes "budget") ≡ Some Budget
+pub budget_says : role_of (codes "budget") ≡ Some Budget
 unfolding role_of
 budget_says = refl
 
-times_say : role_of (codes "n") ≡ Some Times
+pub times_say : role_of (codes "n") ≡ Some Times
 unfolding role_of
 times_say = refl
 
@@ -43,10 +43,10 @@ less_one n budgets within few = omega arith
 
 module _ (budgets : ℕ) (goods headers : List (List ℕ)) (records : List (List (List ℕ))) (fine : FineHeaders (choices_form budgets) headers) (sound : goods_stage (choices_form budgets) goods headers ≡ None)
     (fine_fields : fields_stage (choices_form budgets) headers records ≡ None) (fine_sizes : sizes_stage (choices_form budgets) headers (figures_of (choices_form budgets) headers records) ≡ None) where
-  both_there : (has headers (codes "budget") ≡ true) × (has headers (codes "n") ≡ true)
+  pub both_there : (has headers (codes "budget") ≡ true) × (has headers (codes "n") ≡ true)
   both_there = choice_tests (has headers (codes "m")) (has headers (codes "w")) (has headers (codes "budget")) (has headers (codes "n")) fine.columns
 
-  budget_within : (t : ℕ) → t < rows_in records → slice_index (text_at (sizes_in (choices_form budgets) headers records) t) (column_named (codes "budget") headers) ≤ budgets
+  pub budget_within : (t : ℕ) → t < rows_in records → slice_index (text_at (sizes_in (choices_form budgets) headers records) t) (column_named (codes "budget") headers) ≤ budgets
   budget_within t row =
       let column = column_there headers (codes "budget") both_there.0 in
       let at_column : column_named (codes "budget") headers ≡ column.0 = ap (λ o. unwrap_or o 0) column.2 in

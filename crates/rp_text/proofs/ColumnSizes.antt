@@ -62,18 +62,23 @@ module _ (form : Form) (headers : List (List ℕ)) (records : List (List (List �
       let limit : limit_of (role_at headers c) ≡ 9999999 = ap limit_of (role_is headers c Price says) in
       (some_at t c row column (price_units form headers records t c row column fine_fields says), rw (← limit) (within_limit t c row column))
 
-  -- the number of a budget is that of one there is
-  pub budget_at : (t c : ℕ) → t < rows_in records → c < length headers → role_of (text_at headers c) ≡ Some Budget → slice_index (text_at (sizes_in form headers records) t) c ≤ form.budgets
-  unfolding places_of
-  budget_at t c row column says =
+  -- a number of a role without places is what was written
+  pub unscaled : (t c : ℕ) (role : Role) → t < rows_in records → c < length headers → role_of (text_at headers c) ≡ Some role → places_of form headers (figures_of form headers records) role ≡ 0
+      → slice_index (text_at (sizes_in form headers records) t) c ≡ (figure_at (figures_of form headers records) t c).units
+  unscaled t c role row column says whole =
       let figures = figures_of form headers records in
       let inside : t < length figures = omega (arith, rows_are form headers records) in
       let size = (good_size form headers figures t c inside column fine_sizes).0 in
-      let none : 0 - (figure_at figures t c).places ≡ 0 = omega arith in
-      let exact = ap (λ (role : Role). (figure_at figures t c).units * 10 ^ (places_of form headers figures role - (figure_at figures t c).places)) (role_is headers c Budget says) in
+      let places : places_of form headers figures (role_at headers c) ≡ 0 = ap (λ (r : Role). places_of form headers figures r) (role_is headers c role says) ∙ whole in
+      let none : places_of form headers figures (role_at headers c) - (figure_at figures t c).places ≡ 0 = omega (arith, places) in
       let one = ap (λ (k : ℕ). (figure_at figures t c).units * 10 ^ k) none in
       let units : (figure_at figures t c).units * 10 ^ 0 ≡ (figure_at figures t c).units = omega arith in
-      rw (size_listed form headers figures t c inside column ∙ size ∙ exact ∙ one ∙ units) (budget_units form headers records t c row column fine_fields says)
+      size_listed form headers figures t c inside column ∙ size ∙ one ∙ units
+
+  -- the number of a budget is that of one there is
+  pub budget_at : (t c : ℕ) → t < rows_in records → c < length headers → role_of (text_at headers c) ≡ Some Budget → slice_index (text_at (sizes_in form headers records) t) c ≤ form.budgets
+  unfolding places_of
+  budget_at t c row column says = rw (unscaled t c Budget row column says refl) (budget_units form headers records t c row column fine_fields says)
 
   -- where a column says how much is bought, some such number is not 0
   pub bought_at : (t c : ℕ) → t < rows_in records → c < length headers → measures (role_at headers c) ≡ true

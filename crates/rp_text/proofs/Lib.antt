@@ -34,3 +34,4 @@ pub mod PlainBytes
 mod PlainTried
 pub mod BudgetFacts
 pub mod ChoiceFacts
+pub mod ChosenFacts

@@ -73,6 +73,12 @@ module _ (places : ℕ) (headers : List (List ℕ)) (records : List (List (List 
   count_expenditures true sizes n is = inr (length-listed _ (length sizes) ∙ sym is)
   count_expenditures false sizes n is = inl refl
 
+-- an expenditure for each record, where they are asked for
+pub spent_each : (with_m : Bool) (headers goods sizes : List (List ℕ)) → 1 ≤ length goods → with_m ≡ true
+    → length (price_list with_m headers goods sizes).m ≡ rows_count (price_list with_m headers goods sizes).prices (price_list with_m headers goods sizes).goods
+spent_each true headers goods sizes some is = length-listed _ (length sizes) ∙ sym (rows_of_goods price_mark headers goods sizes some)
+spent_each false headers goods sizes some is = cc is
+
 -- the prices are within the limits
 pub prices_are : (with_m : Bool) (places : ℕ) (goods headers : List (List ℕ)) (records : List (List (List ℕ))) → FineHeaders (prices_form with_m places) headers → goods_stage (prices_form with_m places) goods headers ≡ None
     → fields_stage (prices_form with_m places) headers records ≡ None → sizes_stage (prices_form with_m places) headers (figures_of (prices_form with_m places) headers records) ≡ None

@@ -4,14 +4,15 @@ use Rattle.std.specs.Prelude.{ℕ, Bool, true, false, not, ◌&&◌, nat_eq, nat
 use Rattle.std.specs.List.{list_all, starts_with}
 use Rattle.std.specs.Option.{option_map_or}
 use Rattle.std.specs.Str.{bytes_eq}
+use Rattle.rp_table.specs.declared.TheConstants.{NAME_BYTES}
 use Rattle.rp_text.specs.Texts.{text_at}
 use Rattle.rp_text.specs.declared.form.Form.{Form}
 use Rattle.rp_text.specs.declared.form.Role.{Role}
 use Rattle.rp_text.specs.declared.form.Role.TheVariants.{Observation, Price, Quantity, Expenditure, Income, Budget, Times}
 
--- a good's name: 1 to 64 bytes, none of them a control character
+-- a good's name: 1 to NAME_BYTES bytes, none of them a control character
 abbrev pub is_name : List ℕ → Bool
-is_name name = nat_le 1 (length name) && nat_le (length name) 64 && list_all (λ byte. nat_le 32 byte) name
+is_name name = nat_le 1 (length name) && nat_le (length name) NAME_BYTES && list_all (λ byte. nat_le 32 byte) name
 
 -- what the prices of a good are headed by, before its name
 abbrev pub price_mark : List ℕ

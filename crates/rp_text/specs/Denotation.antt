@@ -99,6 +99,10 @@ denoted_prices with_m places goods records =
 abbrev pub prices_in : Bool → ℕ → List (List ℕ) → List ℕ → Result PriceList TableFault
 prices_in with_m places goods bytes = denoted_prices with_m places goods (records_of bytes)
 
+-- the same of the goods and the scale of a table
+abbrev pub prices_beside : Bool → Observations → List ℕ → Result PriceList TableFault
+prices_beside with_m table bytes = prices_in with_m table.quantity_places table.names bytes
+
 -- bundles of these goods, in scaled numbers
 abbrev pub bundle_list : List (List ℕ) → List (List ℕ) → List (List ℕ) → BundleList
 bundle_list headers goods sizes = record {
@@ -119,6 +123,10 @@ denoted_bundles places goods records =
 -- what the bytes of a file denote as bundles of these goods
 abbrev pub bundles_in : ℕ → List (List ℕ) → List ℕ → Result BundleList TableFault
 bundles_in places goods bytes = denoted_bundles places goods (records_of bytes)
+
+-- the same of the goods and the scale of a table
+abbrev pub bundles_beside : Observations → List ℕ → Result BundleList TableFault
+bundles_beside table bytes = bundles_in table.quantity_places table.names bytes
 
 -- budgets over the goods with these names, in scaled numbers
 abbrev pub budget_list : List (List ℕ) → List (List ℕ) → List (List ℕ) → BudgetList
@@ -164,3 +172,7 @@ denoted_choices budgets goods records =
 -- what the bytes of a file denote as choices on so many budgets over these goods
 abbrev pub choices_in : ℕ → List (List ℕ) → List ℕ → Result ChoiceList TableFault
 choices_in budgets goods bytes = denoted_choices budgets goods (records_of bytes)
+
+-- the same on these budgets
+abbrev pub choices_on : BudgetList → List ℕ → Result ChoiceList TableFault
+choices_on budgets bytes = choices_in (length budgets.w) budgets.names bytes

@@ -1,12 +1,12 @@
 -- The plain form of a table file (a format of this project's own), and the table that it denotes. Each
 -- line ends with a line feed, and fields are separated by commas. The first line has p_NAME,q_NAME for
--- each good, NAME being 1 to 64 letters a to z. Each other line is an observation: a price and a quantity
+-- each good, NAME being 1 to NAME_BYTES letters a to z. Each other line is an observation: a price and a quantity
 -- of each good, in 1 to 7 digits.
 use Rattle.std.specs.Prelude.{◌≡◌, ◌≢◌, ℕ, ◌+◌, ◌-◌, ◌*◌, ◌<◌, ◌≤◌, ◌==◌, List, [], ◌++◌, length, All, AllPairs, fold, codes}
 use Rattle.std.specs.List.{slice_split}
 use Rattle.rp_table.specs.Sums.{sum_below}
 use Rattle.rp_table.specs.Tables.{Observations, IsTable, goods_of, records_of, price_of, quantity_of}
-use Rattle.rp_table.specs.declared.TheConstants.{GOODS}
+use Rattle.rp_table.specs.declared.TheConstants.{GOODS, NAME_BYTES}
 use Rattle.rp_text.specs.Texts.{text_at}
 
 -- the parts between the line feeds: the last one comes after the last line feed
@@ -17,10 +17,10 @@ parts_of bytes = slice_split (λ byte. byte == 10) bytes
 abbrev pub parts_in : List ℕ → List (List ℕ)
 parts_in line = slice_split (λ byte. byte == 44) line
 
--- 1 to 64 letters a to z
+-- 1 to NAME_BYTES letters a to z
 pub record IsPlainName (name : List ℕ) : Type 0 where
   pub some : 1 ≤ length name
-  pub few : length name ≤ 64
+  pub few : length name ≤ NAME_BYTES
   pub letters : All (λ byte. (97 ≤ byte) × (byte ≤ 122)) name
 
 -- the fields of the first line, for goods of these names: p_NAME and q_NAME for each in turn

@@ -1,6 +1,7 @@
-ghost use Rattle.std.specs.Prelude.{◌≡◌, ◌≢◌, Ok, Err, IfOk, IfErr};
+ghost use Rattle.std.specs.Prelude.{◌≡◌, Ok, IfOk};
 ghost use Rattle.rp_table.specs.BudgetLists.{IsBudgetList};
 ghost use Rattle.rp_text.specs.Denotation.{budget_list, denoted_budgets, budgets_in};
+ghost use Rattle.rp_text.specs.Refusals.{RefusedAs};
 
 use crate::TableFault;
 use crate::columns::Columns;
@@ -18,7 +19,7 @@ use std::alloc::Global;
 /// incomes by that of theirs.
 pub fn read_budgets(alloc: Global, bytes: &[u8]) -> Result<Budgets, TableFault>
     ensures denoted { IfOk result (λ budgets. budgets_in bytes.now ≡ Ok budgets) }
-    ensures refused { IfErr result (λ fault. fault ≢ TableFault.NoMemory → budgets_in bytes.now ≡ Err fault) }
+    ensures refused { RefusedAs result (budgets_in bytes.now) }
 {
     let records = Records::of(alloc, bytes, BUDGETS as usize + 2)?;
     budgets_from(alloc, &records)
@@ -27,7 +28,7 @@ pub fn read_budgets(alloc: Global, bytes: &[u8]) -> Result<Budgets, TableFault>
 /// The budgets in these records.
 fn budgets_from(alloc: Global, records: &Records) -> Result<Budgets, TableFault>
     ensures denoted { IfOk result (λ budgets. denoted_budgets records.now ≡ Ok budgets) }
-    ensures refused { IfErr result (λ fault. fault ≢ TableFault.NoMemory → denoted_budgets records.now ≡ Err fault) }
+    ensures refused { RefusedAs result (denoted_budgets records.now) }
 {
     let sheet = read_sheet(alloc, &Form::budgets(), &[], records)?;
     let names = read_names(alloc, &sheet.columns)?;

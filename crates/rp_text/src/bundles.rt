@@ -1,6 +1,9 @@
-ghost use Rattle.std.specs.Prelude.{◌≡◌, ◌≢◌, Ok, Err, IfOk, IfErr, length};
+ghost use Rattle.std.specs.Prelude.{◌≡◌, ◌≤◌, Ok, IfOk, length};
+ghost use Rattle.rp_table.specs.Rows.{rows_count};
+ghost use Rattle.rp_table.specs.Tables.{goods_of};
 ghost use Rattle.rp_table.specs.BundleLists.{IsBundleList};
-ghost use Rattle.rp_text.specs.Denotation.{bundle_list, denoted_bundles, bundles_in};
+ghost use Rattle.rp_text.specs.Denotation.{bundle_list, denoted_bundles, bundles_beside};
+ghost use Rattle.rp_text.specs.Refusals.{RefusedAs};
 
 use crate::TableFault;
 use crate::columns::Columns;
@@ -15,8 +18,11 @@ use std::alloc::Global;
 /// Reads bundles beside a table: a column `q_NAME` of quantities for each good of the table, and possibly a
 /// column `obs` that says nothing. Quantities are scaled by the power of ten of the table's quantities.
 pub fn read_bundles(alloc: Global, bytes: &[u8], table: &Table) -> Result<Bundles, TableFault>
-    ensures denoted { IfOk result (λ bundles. bundles_in table.now.quantity_places table.now.names bytes.now ≡ Ok bundles) }
-    ensures refused { IfErr result (λ fault. fault ≢ TableFault.NoMemory → bundles_in table.now.quantity_places table.now.names bytes.now ≡ Err fault) }
+    ensures denoted { IfOk result (λ bundles. bundles_beside table.now bytes.now ≡ Ok bundles) }
+    ensures refused { RefusedAs result (bundles_beside table.now bytes.now) }
+    ensures goods { IfOk result (λ bundles. bundles.goods ≡ goods_of table.now) }
+    ensures some_records { IfOk result
+        (λ bundles. 1 ≤ rows_count bundles.quantities bundles.goods) }
 {
     let records = Records::of(alloc, bytes, NEW_RECORDS as usize + 2)?;
     bundles_from(alloc, table, &records)
@@ -24,8 +30,14 @@ pub fn read_bundles(alloc: Global, bytes: &[u8], table: &Table) -> Result<Bundle
 
 /// The bundles in these records.
 fn bundles_from(alloc: Global, table: &Table, records: &Records) -> Result<Bundles, TableFault>
-    ensures denoted { IfOk result (λ bundles. denoted_bundles table.now.quantity_places table.now.names records.now ≡ Ok bundles) }
-    ensures refused { IfErr result (λ fault. fault ≢ TableFault.NoMemory → denoted_bundles table.now.quantity_places table.now.names records.now ≡ Err fault) }
+    ensures denoted { IfOk result
+        (λ bundles. denoted_bundles table.now.quantity_places table.now.names records.now
+        ≡ Ok bundles) }
+    ensures refused { RefusedAs result
+        (denoted_bundles table.now.quantity_places table.now.names records.now) }
+    ensures goods { IfOk result (λ bundles. bundles.goods ≡ goods_of table.now) }
+    ensures some_records { IfOk result
+        (λ bundles. 1 ≤ rows_count bundles.quantities bundles.goods) }
 {
     let form = Form::bundles(table.quantity_places());
     let names = table.names();

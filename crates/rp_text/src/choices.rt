@@ -1,6 +1,8 @@
-ghost use Rattle.std.specs.Prelude.{◌≡◌, ◌≢◌, ◌-◌, ◌<◌, Ok, Err, IfOk, IfErr, All, map, length};
+ghost use Rattle.std.specs.Prelude.{◌≡◌, ℕ, ◌-◌, ◌<◌, ◌≤◌, Ok, IfOk, All, map, length};
+ghost use Rattle.rp_text.specs.Chosen.{IsChosenFrom};
 ghost use Rattle.rp_table.specs.ChoiceLists.{IsChoiceList};
-ghost use Rattle.rp_text.specs.Denotation.{choice_list, denoted_choices, choices_in};
+ghost use Rattle.rp_text.specs.Denotation.{choice_list, denoted_choices, choices_on};
+ghost use Rattle.rp_text.specs.Refusals.{RefusedAs};
 
 use crate::TableFault;
 use crate::columns::Columns;
@@ -16,8 +18,14 @@ use std::alloc::Global;
 /// `q_NAME` of quantities for each good, a column `n` of counts, and possibly a column `obs` that says
 /// nothing. Quantities are scaled by the power of ten of their greatest number of places.
 pub fn read_choices(alloc: Global, bytes: &[u8], budgets: &Budgets) -> Result<Choices, TableFault>
-    ensures denoted { IfOk result (λ choices. choices_in (length budgets.now.w) budgets.now.names bytes.now ≡ Ok choices) }
-    ensures refused { IfErr result (λ fault. fault ≢ TableFault.NoMemory → choices_in (length budgets.now.w) budgets.now.names bytes.now ≡ Err fault) }
+    ensures denoted { IfOk result (λ choices. choices_on budgets.now bytes.now ≡ Ok choices) }
+    ensures refused { RefusedAs result (choices_on budgets.now bytes.now) }
+    ensures goods { IfOk result (λ choices. choices.goods ≡ length budgets.now.names) }
+    ensures some_choices { IfOk result (λ choices. 1 ≤ length choices.budget) }
+    ensures on_budgets { IfOk result
+        (λ choices. All (λ j. j < length budgets.now.w) choices.budget) }
+    ensures every_budget { IfOk result
+        (λ choices. (j : ℕ) → j < length budgets.now.w → IsChosenFrom choices j) }
 {
     let records = Records::of(alloc, bytes, CHOICES as usize + 2)?;
     choices_from(alloc, budgets, &records)
@@ -25,8 +33,17 @@ pub fn read_choices(alloc: Global, bytes: &[u8], budgets: &Budgets) -> Result<Ch
 
 /// The choices in these records.
 fn choices_from(alloc: Global, budgets: &Budgets, records: &Records) -> Result<Choices, TableFault>
-    ensures denoted { IfOk result (λ choices. denoted_choices (length budgets.now.w) budgets.now.names records.now ≡ Ok choices) }
-    ensures refused { IfErr result (λ fault. fault ≢ TableFault.NoMemory → denoted_choices (length budgets.now.w) budgets.now.names records.now ≡ Err fault) }
+    ensures denoted { IfOk result
+        (λ choices. denoted_choices (length budgets.now.w) budgets.now.names records.now
+        ≡ Ok choices) }
+    ensures refused { RefusedAs result
+        (denoted_choices (length budgets.now.w) budgets.now.names records.now) }
+    ensures goods { IfOk result (λ choices. choices.goods ≡ length budgets.now.names) }
+    ensures some_choices { IfOk result (λ choices. 1 ≤ length choices.budget) }
+    ensures on_budgets { IfOk result
+        (λ choices. All (λ j. j < length budgets.now.w) choices.budget) }
+    ensures every_budget { IfOk result
+        (λ choices. (j : ℕ) → j < length budgets.now.w → IsChosenFrom choices j) }
 {
     let form = Form::choices(budgets.count());
     let sheet = read_sheet(alloc, &form, budgets.names(), records)?;

@@ -8,40 +8,59 @@ use thiserror::Error;
 /// Why a file is refused. Records count from 1 after the header, and columns and budgets from 1.
 #[derive(Clone, Copy, Debug, PartialEq, Eq, Error)]
 pub enum TableFault {
+    /// There is no line at all.
     #[error("Empty")]
     Empty,
+    /// A record with more or fewer fields than there are column names.
     #[error("Ragged")]
     Ragged { row: u32 },
+    /// A column name that this kind of file has not.
     #[error("BadHeader")]
     BadHeader { column: u32 },
+    /// A column name that an earlier column has.
     #[error("TwiceNamed")]
     TwiceNamed { column: u32 },
+    /// A good whose price or quantity has no column of its own; column 0 where there is no good, or where another
+    /// column is missing.
     #[error("Unpaired")]
     Unpaired { column: u32 },
+    /// More goods than `GOODS`.
     #[error("TooManyGoods")]
     TooManyGoods,
+    /// Column names and nothing else.
     #[error("NoRecords")]
     NoRecords,
+    /// More records than this kind of file may have.
     #[error("TooManyRecords")]
     TooManyRecords,
+    /// A field that is no number, or that is not whole where it has to be.
     #[error("BadNumber")]
     BadNumber { row: u32, column: u32 },
+    /// A number of more places than `PLACES`.
     #[error("TooManyDecimals")]
     TooManyDecimals { row: u32, column: u32 },
+    /// A price of 0.
     #[error("ZeroPrice")]
     ZeroPrice { row: u32, column: u32 },
+    /// A record whose quantities are all 0, or whose expenditure or income is.
     #[error("ZeroBundle")]
     ZeroBundle { row: u32 },
+    /// A scaled number above the largest of its kind.
     #[error("TooLarge")]
     TooLarge { row: u32, column: u32 },
+    /// A good that the table or the budgets have not; column 0 where one of theirs is missing.
     #[error("OtherGoods")]
     OtherGoods { column: u32 },
+    /// A number of more places than the scale that is given.
     #[error("TooFine")]
     TooFine { row: u32, column: u32 },
+    /// A choice on a budget that there is not.
     #[error("UnknownBudget")]
     UnknownBudget { row: u32 },
+    /// A budget on which nothing was chosen.
     #[error("NoChoices")]
     NoChoices { budget: u32 },
+    /// Memory ran out.
     #[error("NoMemory")]
     NoMemory,
 }

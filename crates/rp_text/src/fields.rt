@@ -1,11 +1,14 @@
-ghost use Rattle.std.specs.Prelude.{◌≡◌, ◌≢◌, ◌+◌, ◌<◌, ◌&&◌, Some, None, OnOk, IfOk, IfErr, length, nat_lt, slice_index_or};
+ghost use Rattle.std.specs.Prelude.{◌≡◌, ◌+◌, ◌<◌, ◌&&◌, None, OnOk, IfOk, length, nat_lt};
+ghost use Rattle.std.specs.Prelude.{slice_index_or};
 ghost use Rattle.rp_text.specs.Below.{first_of, listed, any_below};
 ghost use Rattle.rp_text.specs.Texts.{trimmed, text_at};
 ghost use Rattle.rp_text.specs.Columns.{role_at, measures};
 ghost use Rattle.std.specs.Result.{result_err};
 ghost use Rattle.rp_num.specs.Decimal.{decimal_of};
 ghost use Rattle.rp_text.specs.Fields as Fields;
-ghost use Rattle.rp_text.specs.Fields.{nothing, field_of, field_at, figure, figures_of, record_fault, fields_stage};
+ghost use Rattle.rp_text.specs.Fields.{nothing, field_of, field_at, figure, figures_of};
+ghost use Rattle.rp_text.specs.Fields.{record_fault, fields_stage};
+ghost use Rattle.rp_text.specs.Refusals.{RefusedAt};
 
 use crate::TableFault;
 use crate::columns::Columns;
@@ -94,9 +97,10 @@ fn read_record(
     t: usize,
 ) -> Result<Seq<Decimal>, TableFault>
     requires { t + 1 < length records.now }
-    ensures read { IfOk result (λ row. row ≡ listed (length columns.now) (figure form.now columns.now records.now t)) }
+    ensures read { IfOk result
+        (λ row. row ≡ listed (length columns.now) (figure form.now columns.now records.now t)) }
     ensures faultless { IfOk result (λ _. record_fault form.now columns.now records.now t ≡ None) }
-    ensures refused { IfErr result (λ fault. fault ≢ TableFault.NoMemory → record_fault form.now columns.now records.now t ≡ Some fault) }
+    ensures refused { RefusedAt result (record_fault form.now columns.now records.now t) }
 {
     if records.row_width(t) != columns.len() {
         return Err(TableFault::Ragged { row: number_of(t) });
@@ -117,9 +121,15 @@ fn read_columns(
     t: usize,
 ) -> Result<Vec<Decimal>, TableFault>
     requires { t + 1 < length records.now }
-    ensures read { IfOk result (λ row. row.items ≡ listed (length columns.now) (figure form.now columns.now records.now t)) }
-    ensures faultless { IfOk result (λ _. first_of (length columns.now) (λ c. result_err (field_at form.now columns.now records.now t c)) ≡ None) }
-    ensures refused { IfErr result (λ fault. fault ≢ TableFault.NoMemory → first_of (length columns.now) (λ c. result_err (field_at form.now columns.now records.now t c)) ≡ Some fault) }
+    ensures read { IfOk result
+        (λ row. row.items ≡ listed (length columns.now)
+        (figure form.now columns.now records.now t)) }
+    ensures faultless { IfOk result
+        (λ _. first_of (length columns.now)
+        (λ c. result_err (field_at form.now columns.now records.now t c)) ≡ None) }
+    ensures refused { RefusedAt result
+        (first_of (length columns.now)
+        (λ c. result_err (field_at form.now columns.now records.now t c))) }
 {
     let mut figures = Vec::new(alloc);
     for c in 0..columns.len() {
@@ -158,7 +168,9 @@ fn says_how_much(columns: &Columns<'_>) -> bool
 /// Whether something is bought by a record of these numbers.
 fn buys(columns: &Columns<'_>, figures: &[Decimal]) -> bool
     requires { length figures.now ≡ length columns.now }
-    ensures { result ≡ any_below (length columns.now) (λ c. measures (role_at columns.now c) && nat_lt 0 (slice_index_or figures.now c nothing).units) }
+    ensures { result ≡ any_below (length columns.now)
+        (λ c. measures (role_at columns.now c)
+        && nat_lt 0 (slice_index_or figures.now c nothing).units) }
 {
     for c in 0..columns.len() {
         if columns.role(c).measures() && figures[c].units > 0 {
@@ -178,7 +190,7 @@ pub fn read_figures(
     requires { 0 < length records.now }
     ensures read { IfOk result (λ rows. rows.items ≡ figures_of form.now columns.now records.now) }
     ensures faultless { IfOk result (λ _. fields_stage form.now columns.now records.now ≡ None) }
-    ensures refused { IfErr result (λ fault. fault ≢ TableFault.NoMemory → fields_stage form.now columns.now records.now ≡ Some fault) }
+    ensures refused { RefusedAt result (fields_stage form.now columns.now records.now) }
 {
     let mut rows = Vec::new(alloc);
     for t in 0..records.len() - 1 {

@@ -1,6 +1,7 @@
 ghost use Rattle.std.specs.Prelude.{◌≡◌};
 ghost use Rattle.rp_text.specs.Columns.{takes, measures, is_price, is_quantity};
-ghost use Rattle.rp_text.specs.Forms.{table_form, prices_form, bundles_form, budgets_form, choices_form};
+ghost use Rattle.rp_text.specs.Forms.{table_form, prices_form, bundles_form, budgets_form};
+ghost use Rattle.rp_text.specs.Forms.{choices_form};
 ghost use Rattle.rp_text.specs.Sizes.{shares_scale, limit_of};
 
 use rp_table::{BUDGETS, CHOICES, LARGEST, LARGEST_EXPENDITURE, NEW_RECORDS, RECORDS};

@@ -1,11 +1,14 @@
-ghost use Rattle.std.specs.Prelude.{◌≡◌, ◌≢◌, ◌<◌, ◌||◌, ◌&&◌, ℕ, List, Some, None, not, if◌then◌else◌, OnOk, IfOk, IfErr, length};
+ghost use Rattle.std.specs.Prelude.{◌≡◌, ◌<◌, ◌||◌, ◌&&◌, ℕ, List, None, not, if◌then◌else◌, OnOk};
+ghost use Rattle.std.specs.Prelude.{IfOk, length};
 ghost use Rattle.std.specs.Str.{bytes_eq};
 ghost use Rattle.indexmap.specs.IndexSet.{contains_by};
 ghost use Rattle.rp_text.specs.Below.{first_of};
 ghost use Rattle.rp_text.specs.Texts.{text_at};
 ghost use Rattle.rp_text.specs.Columns.{role_at, name_in, is_price, is_quantity};
 ghost use Rattle.rp_text.specs.Headers as Headers;
-ghost use Rattle.rp_text.specs.Headers.{has, names_of, given_fault, present_fault, missing_fault, goods_stage};
+ghost use Rattle.rp_text.specs.Headers.{has, names_of, given_fault, present_fault, missing_fault};
+ghost use Rattle.rp_text.specs.Headers.{goods_stage};
+ghost use Rattle.rp_text.specs.Refusals.{RefusedAt};
 
 use crate::TableFault;
 use crate::columns::Columns;
@@ -26,7 +29,7 @@ pub fn check_goods(
     columns: &Columns<'_>,
 ) -> Result<(), TableFault>
     ensures fine { OnOk result (goods_stage form.now goods.now columns.now ≡ None) }
-    ensures refused { IfErr result (λ fault. fault ≢ TableFault.NoMemory → goods_stage form.now goods.now columns.now ≡ Some fault) }
+    ensures refused { RefusedAt result (goods_stage form.now goods.now columns.now) }
 {
     check_present(alloc, form, goods, columns)?;
     check_missing(alloc, form, goods, columns)?;
@@ -45,7 +48,7 @@ fn check_present(
     columns: &Columns<'_>,
 ) -> Result<(), TableFault>
     ensures fine { OnOk result (present_fault form.now goods.now columns.now ≡ None) }
-    ensures refused { IfErr result (λ fault. fault ≢ TableFault.NoMemory → present_fault form.now goods.now columns.now ≡ Some fault) }
+    ensures refused { RefusedAt result (present_fault form.now goods.now columns.now) }
 {
     if form.given_goods {
         return check_given(alloc, goods, columns);
@@ -61,8 +64,10 @@ fn check_present(
 
 /// Looks for the first column of a good that is not among those given.
 fn check_given(alloc: Global, goods: &[Name], columns: &Columns<'_>) -> Result<(), TableFault>
-    ensures fine { OnOk result (first_of (length columns.now) (given_fault goods.now columns.now) ≡ None) }
-    ensures refused { IfErr result (λ fault. fault ≢ TableFault.NoMemory → first_of (length columns.now) (given_fault goods.now columns.now) ≡ Some fault) }
+    ensures fine { OnOk result
+        (first_of (length columns.now) (given_fault goods.now columns.now) ≡ None) }
+    ensures refused { RefusedAt result
+        (first_of (length columns.now) (given_fault goods.now columns.now)) }
 {
     let given = names_found(alloc, goods)?;
     for c in 0..columns.len() {
@@ -77,7 +82,8 @@ fn check_given(alloc: Global, goods: &[Name], columns: &Columns<'_>) -> Result<(
 
 /// The names of goods, to be found by name.
 fn names_found<'a>(alloc: Global, names: &'a [Name]) -> Result<IndexSet<&'a [u8]>, NoMemory>
-    ensures { IfOk result (λ found. (name : List ℕ) → contains_by (λ key. bytes_eq name key.now) found ≡ has names.now name) }
+    ensures { IfOk result (λ found. (name : List ℕ)
+        → contains_by (λ key. bytes_eq name key.now) found ≡ has names.now name) }
 {
     let mut found = IndexSet::new(alloc);
     for name in names {
@@ -89,7 +95,9 @@ fn names_found<'a>(alloc: Global, names: &'a [Name]) -> Result<IndexSet<&'a [u8]
 /// Whether column `c` is that of a good that is not among those given.
 fn is_other_good(given: &IndexSet<&[u8]>, columns: &Columns<'_>, c: usize) -> bool
     requires { c < length columns.now }
-    ensures { result ≡ ((is_price (role_at columns.now c) || is_quantity (role_at columns.now c)) && not (contains_by (λ key. bytes_eq (name_in (text_at columns.now c)) key.now) given.now)) }
+    ensures { result ≡ ((is_price (role_at columns.now c) || is_quantity (role_at columns.now c))
+        && not (contains_by (λ key. bytes_eq (name_in (text_at columns.now c)) key.now)
+        given.now)) }
 {
     let listed = given.contains(name_in(columns.header(c)));
     match columns.role(c) {
@@ -106,7 +114,7 @@ fn check_missing(
     columns: &Columns<'_>,
 ) -> Result<(), TableFault>
     ensures fine { OnOk result (missing_fault form.now goods.now columns.now ≡ None) }
-    ensures refused { IfErr result (λ fault. fault ≢ TableFault.NoMemory → missing_fault form.now goods.now columns.now ≡ Some fault) }
+    ensures refused { RefusedAt result (missing_fault form.now goods.now columns.now) }
 {
     if count_goods(form, columns) == 0 {
         return Err(TableFault::Unpaired { column: 0 });

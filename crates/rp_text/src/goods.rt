@@ -1,9 +1,10 @@
-ghost use Rattle.std.specs.Prelude.{◌≡◌, ◌≢◌, ◌<◌, ◌||◌, ◌&&◌, ◌++◌, Some, None, not, OnOk, IfOk, IfErr, length};
+ghost use Rattle.std.specs.Prelude.{◌≡◌, ◌<◌, ◌||◌, ◌&&◌, ◌++◌, None, not, OnOk, IfOk, length};
 ghost use Rattle.rp_text.specs.Below.{first_of, listed};
 ghost use Rattle.rp_text.specs.Texts.{text_at, place_of};
 ghost use Rattle.rp_text.specs.Columns.{role_at, is_price, is_quantity, names_with};
 ghost use Rattle.rp_text.specs.Headers.{has, partner_of, pair_fault};
 ghost use Rattle.rp_text.specs.Denotation.{column_of};
+ghost use Rattle.rp_text.specs.Refusals.{RefusedAt};
 
 use crate::TableFault;
 use crate::columns::Columns;
@@ -17,7 +18,7 @@ use std::alloc::Global;
 /// Looks for the first column of a good that has no partner.
 pub fn check_pairs(alloc: Global, columns: &Columns<'_>) -> Result<(), TableFault>
     ensures paired { OnOk result (first_of (length columns.now) (pair_fault columns.now) ≡ None) }
-    ensures refused { IfErr result (λ fault. fault ≢ TableFault.NoMemory → first_of (length columns.now) (pair_fault columns.now) ≡ Some fault) }
+    ensures refused { RefusedAt result (first_of (length columns.now) (pair_fault columns.now)) }
 {
     for c in 0..columns.len() {
         if lacks_partner(alloc, columns, c)? {
@@ -32,7 +33,9 @@ pub fn check_pairs(alloc: Global, columns: &Columns<'_>) -> Result<(), TableFaul
 /// Whether column `c` is a good's and the other column of that good is missing.
 fn lacks_partner(alloc: Global, columns: &Columns<'_>, c: usize) -> Result<bool, NoMemory>
     requires { c < length columns.now }
-    ensures { IfOk result (λ lacks. lacks ≡ ((is_price (role_at columns.now c) || is_quantity (role_at columns.now c)) && not (has columns.now (partner_of (role_at columns.now c) (text_at columns.now c))))) }
+    ensures { IfOk result (λ lacks. lacks
+        ≡ ((is_price (role_at columns.now c) || is_quantity (role_at columns.now c))
+        && not (has columns.now (partner_of (role_at columns.now c) (text_at columns.now c))))) }
 {
     let name = name_in(columns.header(c));
     match columns.role(c) {
@@ -88,7 +91,8 @@ pub fn columns_of(
     mark: &[u8],
     names: &[Name],
 ) -> Result<Vec<usize>, NoMemory>
-    ensures { IfOk result (λ found. found.items ≡ listed (length names.now) (column_of mark.now columns.now names.now)) }
+    ensures { IfOk result (λ found. found.items
+        ≡ listed (length names.now) (column_of mark.now columns.now names.now)) }
 {
     let mut found = Vec::new(alloc);
     for name in names {

@@ -1,8 +1,9 @@
-ghost use Rattle.std.specs.Prelude.{◌≡◌, ◌≢◌, ◌<◌, Some, None, true, false, IfOk, IfErr, MatchOption, length};
+ghost use Rattle.std.specs.Prelude.{◌≡◌, ◌<◌, Some, None, true, false, IfOk, MatchOption, length};
 ghost use Rattle.std.specs.Option.{option_map_or};
 ghost use Rattle.rp_text.specs.Records.{record_at};
 ghost use Rattle.rp_text.specs.Columns.{role_of, takes};
 ghost use Rattle.rp_text.specs.Headers.{headers_in, headers_stage};
+ghost use Rattle.rp_text.specs.Refusals.{RefusedAt};
 
 use crate::TableFault;
 use crate::columns::Columns;
@@ -20,8 +21,10 @@ pub fn read_columns<'a>(
 ) -> Result<Columns<'a>, TableFault>
     requires { 0 < length records.now }
     ensures read { IfOk result (λ columns. columns ≡ headers_in (record_at records.now 0)) }
-    ensures faultless { IfOk result (λ _. headers_stage form.now (headers_in (record_at records.now 0)) ≡ None) }
-    ensures refused { IfErr result (λ fault. fault ≢ TableFault.NoMemory → headers_stage form.now (headers_in (record_at records.now 0)) ≡ Some fault) }
+    ensures faultless { IfOk result
+        (λ _. headers_stage form.now (headers_in (record_at records.now 0)) ≡ None) }
+    ensures refused { RefusedAt result
+        (headers_stage form.now (headers_in (record_at records.now 0))) }
 {
     let mut columns = Columns::new(alloc);
     for c in 0..records.headers() {
@@ -43,7 +46,8 @@ pub fn read_columns<'a>(
 
 /// What a column with that header says, where this kind of file has it.
 fn role_taken(form: &Form, header: &[u8]) -> Option<Role>
-    ensures { MatchOption result (option_map_or (takes form.now) (role_of header.now) false ≡ false) (λ role. (role_of header.now ≡ Some role) × (takes form.now role ≡ true)) }
+    ensures { MatchOption result (option_map_or (takes form.now) (role_of header.now) false ≡ false)
+        (λ role. (role_of header.now ≡ Some role) × (takes form.now role ≡ true)) }
 {
     match role_of(header) {
         Some(role) if form.takes(role) => Some(role),

@@ -19,8 +19,10 @@ pub fn numbers_under(
     names: &[Name],
     sizes: &[Seq<u64>],
 ) -> Result<Vec<u32>, NoMemory>
-    requires { (t g : ℕ) → t < length sizes.now → g < length names.now → slice_index (text_at sizes.now t) (column_of mark.now columns.now names.now g) ≤ LARGEST }
-    ensures { IfOk result (λ numbers. numbers.items ≡ numbers_under mark.now columns.now names.now sizes.now) }
+    requires { (t g : ℕ) → t < length sizes.now → g < length names.now
+        → slice_index (text_at sizes.now t) (column_of mark.now columns.now names.now g) ≤ LARGEST }
+    ensures { IfOk result (λ numbers. numbers.items
+        ≡ numbers_under mark.now columns.now names.now sizes.now) }
 {
     let places = columns_of(alloc, columns, mark, names)?;
     let mut numbers = Vec::new(alloc);
@@ -33,8 +35,10 @@ pub fn numbers_under(
 
 /// The numbers of a record at these places.
 fn numbers_at(alloc: Global, row: &[u64], places: &[usize]) -> Result<Vec<u32>, NoMemory>
-    requires { (g : ℕ) → g < length places.now → slice_index row.now (slice_index places.now g) ≤ LARGEST }
-    ensures { IfOk result (λ numbers. numbers.items ≡ listed (length places.now) (λ g. slice_index row.now (slice_index places.now g))) }
+    requires { (g : ℕ) → g < length places.now
+        → slice_index row.now (slice_index places.now g) ≤ LARGEST }
+    ensures { IfOk result (λ numbers. numbers.items ≡ listed (length places.now)
+        (λ g. slice_index row.now (slice_index places.now g))) }
 {
     let mut numbers = Vec::new(alloc);
     for place in places {
@@ -50,7 +54,8 @@ pub fn column_numbers(
     header: &[u8],
     sizes: &[Seq<u64>],
 ) -> Result<Vec<u64>, NoMemory>
-    ensures { IfOk result (λ numbers. numbers.items ≡ Denotation.column_numbers header.now columns.now sizes.now) }
+    ensures { IfOk result (λ numbers. numbers.items
+        ≡ Denotation.column_numbers header.now columns.now sizes.now) }
 {
     let place = columns.find(header).unwrap_or(0);
     let mut numbers = Vec::new(alloc);

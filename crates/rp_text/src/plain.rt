@@ -6,5 +6,6 @@ ghost use Rattle.rp_text.specs.Denotation.{table_in};
 /// Does nothing: a law says that each table in the plain form, lines of letters, digits and commas
 /// alone, is read as the table that it lists.
 pub fn plain_tables(bytes: &[u8])
-    ensures { (table : Observations) → IsPlainTable bytes.now table → table_in bytes.now ≡ Ok table }
+    ensures { (table : Observations) → IsPlainTable bytes.now table
+        → table_in bytes.now ≡ Ok table }
 {}

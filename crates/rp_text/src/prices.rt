@@ -1,7 +1,10 @@
-ghost use Rattle.std.specs.Prelude.{◌≡◌, ◌≢◌, [], Ok, Err, IfOk, IfErr, length, codes, if◌then◌else◌};
+ghost use Rattle.std.specs.Prelude.{◌≡◌, ◌≤◌, [], Ok, IfOk, IsTrue, length, codes, if◌then◌else◌};
+ghost use Rattle.rp_table.specs.Rows.{rows_count};
+ghost use Rattle.rp_table.specs.Tables.{goods_of};
 ghost use Rattle.rp_table.specs.PriceLists.{IsPriceList};
 ghost use Rattle.rp_text.specs.Denotation as Denotation;
-ghost use Rattle.rp_text.specs.Denotation.{price_list, denoted_prices, prices_in};
+ghost use Rattle.rp_text.specs.Denotation.{price_list, denoted_prices, prices_beside};
+ghost use Rattle.rp_text.specs.Refusals.{RefusedAs};
 
 use crate::TableFault;
 use crate::columns::Columns;
@@ -23,8 +26,12 @@ pub fn read_prices(
     table: &Table,
     with_m: bool,
 ) -> Result<Prices, TableFault>
-    ensures denoted { IfOk result (λ prices. prices_in with_m table.now.quantity_places table.now.names bytes.now ≡ Ok prices) }
-    ensures refused { IfErr result (λ fault. fault ≢ TableFault.NoMemory → prices_in with_m table.now.quantity_places table.now.names bytes.now ≡ Err fault) }
+    ensures denoted { IfOk result (λ prices. prices_beside with_m table.now bytes.now ≡ Ok prices) }
+    ensures refused { RefusedAs result (prices_beside with_m table.now bytes.now) }
+    ensures goods { IfOk result (λ prices. prices.goods ≡ goods_of table.now) }
+    ensures some_records { IfOk result (λ prices. 1 ≤ rows_count prices.prices prices.goods) }
+    ensures each_spent { IsTrue with_m
+        → IfOk result (λ prices. length prices.m ≡ rows_count prices.prices prices.goods) }
 {
     let records = Records::of(alloc, bytes, NEW_RECORDS as usize + 2)?;
     prices_from(alloc, table, with_m, &records)
@@ -37,8 +44,15 @@ fn prices_from(
     with_m: bool,
     records: &Records,
 ) -> Result<Prices, TableFault>
-    ensures denoted { IfOk result (λ prices. denoted_prices with_m table.now.quantity_places table.now.names records.now ≡ Ok prices) }
-    ensures refused { IfErr result (λ fault. fault ≢ TableFault.NoMemory → denoted_prices with_m table.now.quantity_places table.now.names records.now ≡ Err fault) }
+    ensures denoted { IfOk result
+        (λ prices. denoted_prices with_m table.now.quantity_places table.now.names records.now
+        ≡ Ok prices) }
+    ensures refused { RefusedAs result
+        (denoted_prices with_m table.now.quantity_places table.now.names records.now) }
+    ensures goods { IfOk result (λ prices. prices.goods ≡ goods_of table.now) }
+    ensures some_records { IfOk result (λ prices. 1 ≤ rows_count prices.prices prices.goods) }
+    ensures each_spent { IsTrue with_m
+        → IfOk result (λ prices. length prices.m ≡ rows_count prices.prices prices.goods) }
 {
     let form = Form::prices(with_m, table.quantity_places());
     let names = table.names();
@@ -73,7 +87,8 @@ fn expenditures(
     sizes: &[Seq<u64>],
     with_m: bool,
 ) -> Result<Vec<u64>, NoMemory>
-    ensures { IfOk result (λ m. m.items ≡ (if with_m then Denotation.column_numbers (codes "m") columns.now sizes.now else [])) }
+    ensures { IfOk result (λ m. m.items
+        ≡ (if with_m then Denotation.column_numbers (codes "m") columns.now sizes.now else [])) }
 {
     if with_m {
         column_numbers(alloc, columns, b"m", sizes)

@@ -3,6 +3,7 @@ ghost use Rattle.std.specs.List.{list_all};
 ghost use Rattle.rp_text.specs.Columns.{role_of, good_role, is_name, name_in};
 
 use crate::form::Role;
+use rp_table::NAME_BYTES;
 
 /// What a column with that header says, in the files that have one.
 #[tactic(auto, unfolding(crate::specs::Columns::role_of))]
@@ -54,7 +55,7 @@ fn is_name(name: &[u8]) -> bool
     if name.is_empty() {
         return false;
     }
-    if name.len() > 64 {
+    if name.len() > NAME_BYTES as usize {
         return false;
     }
     has_no_control(name)

@@ -1,4 +1,5 @@
-ghost use Rattle.std.specs.Prelude.{◌≡◌, ◌≢◌, ◌+◌, ◌<◌, ◌==◌, ◌&&◌, Some, None, nat_lt, OnOk, IfOk, IfErr, All, length, codes, slice_index_or};
+ghost use Rattle.std.specs.Prelude.{◌≡◌, ◌+◌, ◌<◌, ◌==◌, ◌&&◌, Some, None, nat_lt, OnOk, IfOk};
+ghost use Rattle.std.specs.Prelude.{IfErr, All, length, codes, slice_index_or};
 ghost use Rattle.rp_text.specs.Records.{record_at};
 ghost use Rattle.rp_text.specs.Headers.{headers_in};
 ghost use Rattle.rp_text.specs.Fields.{nothing, figures_of, count_stage};
@@ -6,6 +7,7 @@ ghost use Rattle.rp_text.specs.Sizes.{sizes_of, figure_at};
 ghost use Rattle.rp_text.specs.Below.{any_below};
 ghost use Rattle.rp_text.specs.ChoiceCounts.{choices_stage, is_chosen};
 ghost use Rattle.rp_text.specs.Denotation.{first_fault};
+ghost use Rattle.rp_text.specs.Refusals.{RefusedAt};
 
 use crate::TableFault;
 use crate::columns::Columns;
@@ -36,10 +38,15 @@ pub fn read_sheet<'a>(
     records: &'a Records,
 ) -> Result<Sheet<'a>, TableFault>
     ensures columns { IfOk result (λ sheet. sheet.columns ≡ headers_in (record_at records.now 0)) }
-    ensures figures { IfOk result (λ sheet. sheet.figures.items ≡ figures_of form.now (headers_in (record_at records.now 0)) records.now) }
-    ensures sizes { IfOk result (λ sheet. sheet.sizes.items ≡ sizes_of form.now (headers_in (record_at records.now 0)) (figures_of form.now (headers_in (record_at records.now 0)) records.now)) }
+    ensures figures { IfOk result
+        (λ sheet. sheet.figures.items
+        ≡ figures_of form.now (headers_in (record_at records.now 0)) records.now) }
+    ensures sizes { IfOk result
+        (λ sheet. sheet.sizes.items
+        ≡ sizes_of form.now (headers_in (record_at records.now 0))
+        (figures_of form.now (headers_in (record_at records.now 0)) records.now)) }
     ensures faultless { IfOk result (λ _. first_fault form.now goods.now records.now ≡ None) }
-    ensures refused { IfErr result (λ fault. fault ≢ TableFault.NoMemory → first_fault form.now goods.now records.now ≡ Some fault) }
+    ensures refused { RefusedAt result (first_fault form.now goods.now records.now) }
 {
     if records.len() == 0 {
         return Err(TableFault::Empty);
@@ -79,7 +86,8 @@ fn check_choices(
     figures: &[Seq<Decimal>],
 ) -> Result<(), TableFault>
     ensures fine { OnOk result (choices_stage form.now columns.now figures.now ≡ None) }
-    ensures refused { IfErr result (λ fault. choices_stage form.now columns.now figures.now ≡ Some fault) }
+    ensures refused { IfErr result
+        (λ fault. choices_stage form.now columns.now figures.now ≡ Some fault) }
 {
     if !form.choices {
         return Ok(());

@@ -1,11 +1,14 @@
-ghost use Rattle.std.specs.Prelude.{◌≡◌, ◌≢◌, ◌+◌, ◌*◌, ◌^◌, ◌<◌, ◌≤◌, [], Some, None, IfOk, IfErr, MatchOption, All, length, slice_index_or, if◌then◌else◌};
+ghost use Rattle.std.specs.Prelude.{◌≡◌, ◌+◌, ◌*◌, ◌^◌, ◌<◌, ◌≤◌, [], None, IfOk, MatchOption, All};
+ghost use Rattle.std.specs.Prelude.{length, slice_index_or, if◌then◌else◌};
 ghost use Rattle.std.specs.Result.{result_err};
 ghost use Rattle.rp_table.specs.declared.TheConstants.{LARGEST_EXPENDITURE};
 ghost use Rattle.rp_text.specs.Below.{first_of, listed, greatest_below};
 ghost use Rattle.rp_text.specs.Columns.{role_at};
 ghost use Rattle.rp_text.specs.Fields.{nothing};
 ghost use Rattle.rp_text.specs.Sizes as Sizes;
-ghost use Rattle.rp_text.specs.Sizes.{shares_scale, greatest_places, size_at, scaled, sizes_of, sizes_stage};
+ghost use Rattle.rp_text.specs.Sizes.{shares_scale, greatest_places, size_at, scaled, sizes_of};
+ghost use Rattle.rp_text.specs.Sizes.{sizes_stage};
+ghost use Rattle.rp_text.specs.Refusals.{RefusedAt};
 
 use crate::TableFault;
 use crate::columns::Columns;
@@ -40,7 +43,8 @@ fn column_places(
     figures: &[Seq<Decimal>],
 ) -> Result<Vec<u32>, NoMemory>
     requires { All (λ row. length row ≡ length columns.now) figures.now }
-    ensures { IfOk result (λ places. places.items ≡ listed (length columns.now) (λ c. Sizes.places_of form.now columns.now figures.now (role_at columns.now c))) }
+    ensures { IfOk result (λ places. places.items ≡ listed (length columns.now)
+        (λ c. Sizes.places_of form.now columns.now figures.now (role_at columns.now c))) }
 {
     let mut places = Vec::new(alloc);
     for c in 0..columns.len() {
@@ -64,7 +68,9 @@ fn greatest_places(columns: &Columns<'_>, figures: &[Seq<Decimal>], role: Role) 
 /// The same in one record.
 fn greatest_in(columns: &Columns<'_>, figures: &[Decimal], role: Role) -> u8
     requires { length figures.now ≡ length columns.now }
-    ensures { result ≡ greatest_below (length columns.now) (λ c. if shares_scale role (role_at columns.now c) then (slice_index_or figures.now c nothing).places else 0) }
+    ensures { result ≡ greatest_below (length columns.now)
+        (λ c. if shares_scale role (role_at columns.now c) then
+        (slice_index_or figures.now c nothing).places else 0) }
 {
     let mut greatest = 0;
     for c in 0..columns.len() {
@@ -107,7 +113,8 @@ fn size_of(
 /// The number times that power of ten, where it is at most the limit.
 fn times_power(units: u64, power: u32, limit: u64) -> Option<u64>
     requires { limit ≤ LARGEST_EXPENDITURE }
-    ensures { MatchOption result (limit < units * 10 ^ power) (λ size. (size ≡ units * 10 ^ power) × (size ≤ limit)) }
+    ensures { MatchOption result (limit < units * 10 ^ power)
+        (λ size. (size ≡ units * 10 ^ power) × (size ≤ limit)) }
 {
     let mut size = units;
     for _ in 0..power {
@@ -128,12 +135,18 @@ fn read_sizes_in(
     places: &[u32],
     t: usize,
 ) -> Result<Seq<u64>, TableFault>
-    requires scales { places.now ≡ listed (length columns.now) (λ c. Sizes.places_of form.now columns.now figures.now (role_at columns.now c)) }
+    requires scales { places.now ≡ listed (length columns.now)
+        (λ c. Sizes.places_of form.now columns.now figures.now (role_at columns.now c)) }
     requires whole { All (λ row. length row ≡ length columns.now) figures.now }
     requires within { t < length figures.now }
-    ensures read { IfOk result (λ row. row ≡ listed (length columns.now) (scaled form.now columns.now figures.now t)) }
-    ensures faultless { IfOk result (λ _. first_of (length columns.now) (λ c. result_err (size_at form.now columns.now figures.now t c)) ≡ None) }
-    ensures refused { IfErr result (λ fault. fault ≢ TableFault.NoMemory → first_of (length columns.now) (λ c. result_err (size_at form.now columns.now figures.now t c)) ≡ Some fault) }
+    ensures read { IfOk result
+        (λ row. row ≡ listed (length columns.now) (scaled form.now columns.now figures.now t)) }
+    ensures faultless { IfOk result
+        (λ _. first_of (length columns.now)
+        (λ c. result_err (size_at form.now columns.now figures.now t c)) ≡ None) }
+    ensures refused { RefusedAt result
+        (first_of (length columns.now)
+        (λ c. result_err (size_at form.now columns.now figures.now t c))) }
 {
     let row = figures[t].as_slice();
     let mut sizes = Vec::new(alloc);
@@ -159,7 +172,7 @@ pub fn read_sizes(
     requires { All (λ row. length row ≡ length columns.now) figures.now }
     ensures read { IfOk result (λ rows. rows.items ≡ sizes_of form.now columns.now figures.now) }
     ensures faultless { IfOk result (λ _. sizes_stage form.now columns.now figures.now ≡ None) }
-    ensures refused { IfErr result (λ fault. fault ≢ TableFault.NoMemory → sizes_stage form.now columns.now figures.now ≡ Some fault) }
+    ensures refused { RefusedAt result (sizes_stage form.now columns.now figures.now) }
 {
     let places = column_places(alloc, form, columns, figures)?;
     let mut rows = Vec::new(alloc);

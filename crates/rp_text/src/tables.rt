@@ -1,9 +1,10 @@
-ghost use Rattle.std.specs.Prelude.{◌≡◌, ◌≢◌, [], Ok, Err, Some, None, OnOk, IfOk, IfErr, All, length};
+ghost use Rattle.std.specs.Prelude.{◌≡◌, [], Ok, None, OnOk, IfOk, All, length};
 ghost use Rattle.rp_table.specs.Tables.{IsTable};
 ghost use Rattle.rp_text.specs.Columns.{names_with, is_price};
 ghost use Rattle.rp_text.specs.Forms.{table_form};
 ghost use Rattle.rp_text.specs.Sizes.{sizes_of};
 ghost use Rattle.rp_text.specs.Denotation.{table_of, denoted_table, table_in};
+ghost use Rattle.rp_text.specs.Refusals.{RefusedAs};
 
 use crate::TableFault;
 use crate::columns::Columns;
@@ -22,7 +23,7 @@ use std::alloc::Global;
 /// number of places, and quantities by that of theirs.
 pub fn read_table(alloc: Global, bytes: &[u8]) -> Result<Table, TableFault>
     ensures denoted { IfOk result (λ table. table_in bytes.now ≡ Ok table) }
-    ensures refused { IfErr result (λ fault. fault ≢ TableFault.NoMemory → table_in bytes.now ≡ Err fault) }
+    ensures refused { RefusedAs result (table_in bytes.now) }
 {
     let records = Records::of(alloc, bytes, RECORDS as usize + 2)?;
     table_from(alloc, &records)
@@ -31,7 +32,7 @@ pub fn read_table(alloc: Global, bytes: &[u8]) -> Result<Table, TableFault>
 /// The table in these records.
 fn table_from(alloc: Global, records: &Records) -> Result<Table, TableFault>
     ensures denoted { IfOk result (λ table. denoted_table records.now ≡ Ok table) }
-    ensures refused { IfErr result (λ fault. fault ≢ TableFault.NoMemory → denoted_table records.now ≡ Err fault) }
+    ensures refused { RefusedAs result (denoted_table records.now) }
 {
     let sheet = read_sheet(alloc, &Form::table(), &[], records)?;
     let names = read_names(alloc, &sheet.columns)?;

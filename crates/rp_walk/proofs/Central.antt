@@ -1,9 +1,8 @@
 use Rattle.std.proofs.Common.{◌≡◌, ℕ, zero, suc, ◌+◌, ◌<◌, ◌≤◌, arith, ap, sym, ◌∙◌, refl, subst, List, [], ◌∷◌, length, get_or, All}
 use Rattle.rp_walk.specs.ExactTotal.{ExactTotal, IsLess}
-use Rattle.rp_walk.specs.Walk.{Steps, IsTotal, KeepsOrder, StartsAlike, end_of, total_after}
+use Rattle.rp_walk.specs.Walk.{prefix_total, TotalRule, IsTotal, KeepsOrder, StartsAlike, end_of, total_after}
 use Rattle.rp_walk.specs.LeastTotals.{IsLessThanShorter}
-use Rattle.rp_walk.specs.Level.{prefix_total}
-use Rattle.rp_walk.specs.Settled.{HasLeastTotals, IsViolation}
+use Rattle.rp_walk.specs.Settled.{HasLeastTotals, FallsBelowStart}
 use Rattle.rp_walk.proofs.Order.{less_not_more, not_more_less, not_less-same}
 use Rattle.rp_walk.proofs.Walks.{IsTotal-further}
 use Rattle.rp_walk.proofs.Paths.{closed_part_below}
@@ -31,7 +30,7 @@ get_or-values p a (suc n) (suc m) d h =
 
 -- a walk of as many steps as there are observations, whose total is less than that of every walk with
 -- fewer steps to its end, holds a closed part that ends below its start
-pub holds_closed_part : (w : Steps) (p : ℕ → ℕ) → KeepsOrder w → ((m : ℕ) → m ≤ w.count → p m < w.count) → IsLessThanShorter w w.count (p w.count) (prefix_total w p w.count) → (a d : ℕ) × (0 < d) × (a + d ≤ w.count) × (p a ≡ p (a + d)) × IsLess (prefix_total w p (a + d)) (prefix_total w p a)
+pub holds_closed_part : (w : TotalRule) (p : ℕ → ℕ) → KeepsOrder w → ((m : ℕ) → m ≤ w.count → p m < w.count) → IsLessThanShorter w w.count (p w.count) (prefix_total w p w.count) → (a d : ℕ) × (0 < d) × (a + d ≤ w.count) × (p a ≡ p (a + d)) × IsLess (prefix_total w p (a + d)) (prefix_total w p a)
 holds_closed_part w p keeps within shorter =
     let len = length-values p 0 w.count in
     let r = repeats w.count (values p 0 w.count) inside (omega arith) in
@@ -53,7 +52,7 @@ holds_closed_part w p keeps within shorter =
         let v = get_or-values p 0 w.count m d h ∙ ap p e in
         subst (λ n. n < w.count) (sym v) (within m h)
 
-IsTotal-along : (w : Steps) (j s : ℕ) (x : ExactTotal) (rest : List ℕ) → IsTotal w j s x → All (λ n. n < w.count) rest → IsTotal w (j + length rest) (end_of s rest) (total_after w x s rest)
+IsTotal-along : (w : TotalRule) (j s : ℕ) (x : ExactTotal) (rest : List ℕ) → IsTotal w j s x → All (λ n. n < w.count) rest → IsTotal w (j + length rest) (end_of s rest) (total_after w x s rest)
 IsTotal-along w j s x [] h within =
     let e : j ≡ j + 0 = omega arith in
     subst (λ k. IsTotal w k s x) e h
@@ -63,9 +62,9 @@ IsTotal-along w j s x (t ∷ rest) h within =
     (IsTotal-along w (suc j) t (w.after x s t) rest (IsTotal-further w j s t x h (within 0 t (omega arith)))
     (λ k d below. within (suc k) d (omega arith)))
 
--- where closed walks treat all starts alike, least totals leave no violation
-pub no_violation : (w : Steps) → KeepsOrder w → StartsAlike w → HasLeastTotals w → (start : ExactTotal) (walk : List ℕ) → ¬ (IsViolation w start walk)
-no_violation w keeps starts all start walk v =
+-- where closed walks treat all starts alike, least totals leave no walk that does
+pub no_walk_falls : (w : TotalRule) → KeepsOrder w → StartsAlike w → HasLeastTotals w → (start : ExactTotal) (walk : List ℕ) → ¬ (FallsBelowStart w start walk)
+no_walk_falls w keeps starts all start walk v =
     let hs = v.is_walk.begins_within in
     let least = all v.first hs in
     let r = least.1.reached in

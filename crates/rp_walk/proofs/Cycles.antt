@@ -1,15 +1,28 @@
 use Rattle.std.proofs.Common.{◌≡◌, ℕ, zero, suc, ◌+◌, ◌<◌, ◌≤◌, arith, ◌⊎◌, inl, inr, ap, sym, ◌∙◌, refl, subst, List, [], ◌∷◌, length, get_or, take, drop, All, drop-cons}
 use Rattle.std.proofs.lemmas.Bool.{cases_lt}
 use Rattle.rp_walk.specs.ExactTotal.{ExactTotal, IsLess, SameTotal}
-use Rattle.rp_walk.specs.Walk.{Steps, end_of, total_after, KeepsOrder}
+use Rattle.rp_walk.specs.Walk.{IsSimpleCycle, TotalRule, end_of, prefix_total, total_after, KeepsOrder}
 use Rattle.rp_walk.specs.LeastTotals.{IsLeastWithin, IsLive, NoneTooWide}
-use Rattle.rp_walk.specs.Settled.{IsViolation}
-use Rattle.rp_walk.specs.Level.{IsFound, prefix_total}
+use Rattle.rp_walk.specs.Settled.{FallsBelowStart}
+use Rattle.rp_walk.specs.LevelWalk.{CameFrom, IsLevelWalk}
 use Rattle.rp_walk.proofs.Order.{less_not_more, not_more_less, not_less-same}
 use Rattle.rp_walk.proofs.Paths.{after-same, IsTotal-prefix, closed_part_below, live_less_shorter}
 use Rattle.rp_walk.proofs.Levels.{IsLeastWithin-zero}
 
-pub found_within : (w : Steps) (k : ℕ) (p : ℕ → ℕ) → IsFound w k p → (m : ℕ) → m ≤ k → p m < w.count
+-- A walk that the levels found: p 0, p 1, .. to p k.
+pub record IsFound (w : TotalRule) (k : ℕ) (p : ℕ → ℕ) : Type 0 where
+  pub ends_within : p k < w.count
+  pub live : IsLive w k (p k)
+  pub came : (m : ℕ) → m < k → CameFrom w m (p (suc m)) (p m)
+
+pub IsFound-given : (w : TotalRule) (walk : List ℕ) → IsLevelWalk w walk → IsFound w w.count (λ m. get_or walk m 0)
+IsFound-given w walk given = record {
+  ends_within = given.ends.within;
+  live = given.ends.live;
+  came = given.came;
+}
+
+pub found_within : (w : TotalRule) (k : ℕ) (p : ℕ → ℕ) → IsFound w k p → (m : ℕ) → m ≤ k → p m < w.count
 found_within w k p found m h = by_cases (cases_lt m k)
   where
     by_cases : (m < k) ⊎ (k ≤ m) → p m < w.count
@@ -18,7 +31,7 @@ found_within w k p found m h = by_cases (cases_lt m k)
         let e : k ≡ m = omega arith in
         subst (λ n. p n < w.count) e found.ends_within
 
-pub found_live : (w : Steps) (k : ℕ) (p : ℕ → ℕ) → IsFound w k p → (m : ℕ) → m ≤ k → IsLive w m (p m)
+pub found_live : (w : TotalRule) (k : ℕ) (p : ℕ → ℕ) → IsFound w k p → (m : ℕ) → m ≤ k → IsLive w m (p m)
 found_live w k p found m h = by_cases (cases_lt m k)
   where
     by_cases : (m < k) ⊎ (k ≤ m) → IsLive w m (p m)
@@ -28,13 +41,13 @@ found_live w k p found m h = by_cases (cases_lt m k)
         subst (λ n. IsLive w n (p n)) e found.live
 
 -- each of its parts from the beginning is a least walk
-pub found_least : (w : Steps) (k : ℕ) (p : ℕ → ℕ) → IsFound w k p → (m : ℕ) → m ≤ k → IsLeastWithin w m (p m) (prefix_total w p m)
+pub found_least : (w : TotalRule) (k : ℕ) (p : ℕ → ℕ) → IsFound w k p → (m : ℕ) → m ≤ k → IsLeastWithin w m (p m) (prefix_total w p m)
 found_least w k p found zero h = IsLeastWithin-zero w (p 0) (found_within w k p found 0 h)
 found_least w k p found (suc m) h =
     (found.came m (omega arith)).carries (prefix_total w p m) (found_least w k p found m (omega arith))
 
 -- the steps of a found walk fit, where no triple is too wide
-pub found_fits : (w : Steps) (fits : ExactTotal → Type 0) (k : ℕ) (p : ℕ → ℕ) → IsFound w k p → k ≤ w.count → NoneTooWide w fits → (m : ℕ) → m < k → ¬ (¬ (fits (w.after (prefix_total w p m) (p m) (p (suc m)))))
+pub found_fits : (w : TotalRule) (fits : ExactTotal → Type 0) (k : ℕ) (p : ℕ → ℕ) → IsFound w k p → k ≤ w.count → NoneTooWide w fits → (m : ℕ) → m < k → ¬ (¬ (fits (w.after (prefix_total w p m) (p m) (p (suc m)))))
 found_fits w fits k p found few none m h nofit =
     none m (p m) (p (suc m)) (record {
       level_within = omega arith;
@@ -60,7 +73,7 @@ end_of-segment p a (suc d) =
     let e : suc a + d ≡ a + suc d = omega arith in
     end_of-segment p (suc a) d ∙ ap p e
 
-pub total_after-segment : (w : Steps) (p : ℕ → ℕ) (a d : ℕ) → total_after w (prefix_total w p a) (p a) (segment p a d) ≡ prefix_total w p (a + d)
+pub total_after-segment : (w : TotalRule) (p : ℕ → ℕ) (a d : ℕ) → total_after w (prefix_total w p a) (p a) (segment p a d) ≡ prefix_total w p (a + d)
 total_after-segment w p a zero =
     let e : a ≡ a + 0 = omega arith in ap (prefix_total w p) e
 total_after-segment w p a (suc d) =
@@ -74,7 +87,7 @@ segment-within P p a (suc d) h (suc k) e below =
     segment-within P p (suc a) d (λ m l u. h m (omega arith) (omega arith)) k e (omega arith)
 
 -- from the same number, a walk ends at the same number
-pub total_after-same : (w : Steps) (keeps : KeepsOrder w) (x y : ExactTotal) (s : ℕ) (rest : List ℕ) → s < w.count → All (λ n. n < w.count) rest → SameTotal x y → SameTotal (total_after w x s rest) (total_after w y s rest)
+pub total_after-same : (w : TotalRule) (keeps : KeepsOrder w) (x y : ExactTotal) (s : ℕ) (rest : List ℕ) → s < w.count → All (λ n. n < w.count) rest → SameTotal x y → SameTotal (total_after w x s rest) (total_after w y s rest)
 total_after-same w keeps x y s [] hs within h = h
 total_after-same w keeps x y s (t ∷ rest) hs within h =
     let ht : t < w.count = within 0 t (omega arith) in
@@ -82,9 +95,9 @@ total_after-same w keeps x y s (t ∷ rest) hs within h =
     (λ k d below. within (suc k) d (omega arith))
     (after-same w keeps x y s t hs ht h)
 
--- a closed part that ends below its total at the beginning is a violation
-pub IsViolation-below : (w : Steps) (keeps : KeepsOrder w) (k : ℕ) (p : ℕ → ℕ) (a d : ℕ) (start : ExactTotal) → ((m : ℕ) → m ≤ k → p m < w.count) → 0 < d → a + d ≤ k → p a ≡ p (a + d) → SameTotal (prefix_total w p a) start → IsLess (prefix_total w p (a + d)) (prefix_total w p a) → IsViolation w start (p a ∷ segment p a d)
-IsViolation-below w keeps k p a d start within some few same is_start less = record {
+-- a closed part that ends below its total at the beginning falls below its start
+pub FallsBelowStart-below : (w : TotalRule) (keeps : KeepsOrder w) (k : ℕ) (p : ℕ → ℕ) (a d : ℕ) (start : ExactTotal) → ((m : ℕ) → m ≤ k → p m < w.count) → 0 < d → a + d ≤ k → p a ≡ p (a + d) → SameTotal (prefix_total w p a) start → IsLess (prefix_total w p (a + d)) (prefix_total w p a) → FallsBelowStart w start (p a ∷ segment p a d)
+FallsBelowStart-below w keeps k p a d start within some few same is_start less = record {
   first = p a;
   rest = segment p a d;
   is_walk = record { begins_within = within a (omega arith); goes_within = inside };
@@ -106,13 +119,13 @@ IsViolation-below w keeps k p a d start within some few same is_start less = rec
         (not_less-same (prefix_total w p (a + d)) (total_after w start (p a) (segment p a d)) ends_at)
         (less_not_more (prefix_total w p (a + d)) (prefix_total w p a) start less (not_less-same start (prefix_total w p a) (sym is_start)))
 
--- a closed part of a found walk is a violation, from its total at that place
-pub IsViolation-part : (w : Steps) (keeps : KeepsOrder w) (k : ℕ) (p : ℕ → ℕ) (a d : ℕ) (start : ExactTotal) → IsFound w k p → 0 < d → a + d ≤ k → p a ≡ p (a + d) → SameTotal (prefix_total w p a) start → IsViolation w start (p a ∷ segment p a d)
-IsViolation-part w keeps k p a d start found some few same is_start =
+-- a closed part of a found walk falls below its start, from its total at that place
+pub FallsBelowStart-part : (w : TotalRule) (keeps : KeepsOrder w) (k : ℕ) (p : ℕ → ℕ) (a d : ℕ) (start : ExactTotal) → IsFound w k p → 0 < d → a + d ≤ k → p a ≡ p (a + d) → SameTotal (prefix_total w p a) start → FallsBelowStart w start (p a ∷ segment p a d)
+FallsBelowStart-part w keeps k p a d start found some few same is_start =
     let within = found_within w k p found in
     let shorter = live_less_shorter w k (p k) (prefix_total w p k) (found_least w k p found k (omega arith)) found.live in
     let less = closed_part_below w keeps p k a (a + d) within shorter (omega arith) few same in
-    IsViolation-below w keeps k p a d start within some few same is_start less
+    FallsBelowStart-below w keeps k p a d start within some few same is_start less
 
 -- the part of a list from a place on, as a walk
 pub drop-segment : (xs : List ℕ) (a d : ℕ) → a + d < length xs → take (suc d) (drop a xs) ≡ get_or xs a 0 ∷ segment (λ m. get_or xs m 0) a d
@@ -123,3 +136,21 @@ drop-segment xs a (suc d) h =
     let below : a < length xs = omega arith in
     let rest = drop-segment xs (suc a) d (omega arith) in
     rw (drop-cons xs a 0) (ap (λ ys. get_or xs a 0 ∷ ys) rest)
+
+pub get_or-segment : (p : ℕ → ℕ) (a d i : ℕ) → i ≤ d → get_or (p a ∷ segment p a d) i 0 ≡ p (a + i)
+get_or-segment p a d zero few =
+    let e : a ≡ a + 0 = omega arith in ap p e
+get_or-segment p a zero (suc i) few = absurd (omega arith)
+get_or-segment p a (suc d) (suc i) few =
+    let e : suc a + i ≡ a + suc i = omega arith in
+    get_or-segment p (suc a) d i (omega arith) ∙ ap p e
+
+-- a closed part before whose end nothing repeats is a simple cycle
+pub IsSimpleCycle-part : (n : ℕ) (p : ℕ → ℕ) (a d : ℕ) → a + d ≤ n → ((i j : ℕ) → i < j → j < a + d → p i ≡ p j → ⊥) → IsSimpleCycle n (p a ∷ segment p a d)
+IsSimpleCycle-part n p a d few distinct = record {
+  few = omega (arith, length-segment p a d);
+  distinct = λ i j order inside same.
+      let below : j < d = omega (arith, length-segment p a d) in
+      distinct (a + i) (a + j) (omega arith) (omega arith)
+      (sym (get_or-segment p a d i (omega arith)) ∙ same ∙ get_or-segment p a d j (omega arith));
+}

@@ -1,9 +1,9 @@
 use Rattle.std.proofs.Common.{◌≡◌, ℕ, zero, suc, ◌-◌, ◌<◌, ◌≤◌, arith, ◌⊎◌, inl, inr, sym, refl, subst}
 use Rattle.std.proofs.lemmas.Bool.{cases_lt}
 use Rattle.rp_walk.specs.ExactTotal.{ExactTotal, IsLess, SameTotal}
-use Rattle.rp_walk.specs.Walk.{Steps, IsTotal, KeepsOrder}
+use Rattle.rp_walk.specs.Walk.{TotalRule, IsTotal, KeepsOrder}
 use Rattle.rp_walk.specs.LeastTotals.{IsLeastWithin}
-use Rattle.rp_walk.specs.Level.{IsLevel, IsNext}
+use Rattle.rp_walk.specs.InnerLevels.{AreLevelTotals, IsNext}
 use Rattle.rp_walk.proofs.Order.{IsLess-irrefl, IsLess-asym, not_more_trans, not_less-same, same_not_less}
 use Rattle.rp_walk.proofs.Walks.{IsTotal-here, IsTotal-further, IsTotal-parts, IsTotal-within}
 use Rattle.rp_walk.proofs.Paths.{after-not_less, after-same}
@@ -15,7 +15,7 @@ SameTotal-trans x y z h g =
     (not_more_trans x y z (not_less-same y x (sym h)) (not_less-same z y (sym g)))
 
 -- level 0
-pub IsLeastWithin-zero : (w : Steps) (s : ℕ) → s < w.count → IsLeastWithin w 0 s w.empty
+pub IsLeastWithin-zero : (w : TotalRule) (s : ℕ) → s < w.count → IsLeastWithin w 0 s w.empty
 IsLeastWithin-zero w s h = record {
   reached = (0, w.empty, omega arith, IsTotal-here w s h, refl);
   lowest = λ j y few reached. refuted j y few reached;
@@ -27,7 +27,7 @@ IsLeastWithin-zero w s h = record {
     refuted (suc j) y few reached less = absurd (omega arith)
 
 -- a level is not above the one before it
-pub not_above : (w : Steps) (f g : ℕ → ExactTotal) (from came : ℕ → ℕ) (tried s : ℕ) → IsNext w f from tried g came → s < w.count → ¬ (IsLess (f s) (g s))
+pub not_above : (w : TotalRule) (f g : ℕ → ExactTotal) (from came : ℕ → ℕ) (tried s : ℕ) → IsNext w f from tried g came → s < w.count → ¬ (IsLess (f s) (g s))
 not_above w f g from came tried s next below =
     by_cases (cases_lt (came s) w.count)
   where
@@ -36,7 +36,7 @@ not_above w f g from came tried s next below =
     by_cases (inr h) less = IsLess-irrefl (f s) (subst (λ (x : ExactTotal). IsLess (f s) x) (next.kept s below h) less)
 
 -- the step from an observation is not below the next level, whether it was tried or not
-step_not_below : (w : Steps) (keeps : KeepsOrder w) (k : ℕ) (f g : ℕ → ExactTotal) (from came : ℕ → ℕ) (s t : ℕ) → IsLevel w k f from → IsNext w f from w.count g came → s < w.count → t < w.count → ¬ (IsLess (w.after (f t) t s) (g s))
+step_not_below : (w : TotalRule) (keeps : KeepsOrder w) (k : ℕ) (f g : ℕ → ExactTotal) (from came : ℕ → ℕ) (s t : ℕ) → AreLevelTotals w k f from → IsNext w f from w.count g came → s < w.count → t < w.count → ¬ (IsLess (w.after (f t) t s) (g s))
 step_not_below w keeps k f g from came s t level next hs ht =
     by_cases (cases_lt (from t) w.count)
   where
@@ -51,7 +51,7 @@ step_not_below w keeps k f g from came s t level next hs ht =
         let not_here : ¬ (IsLess (w.after (f t) t s) (f s)) = not_more_trans (f s) (w.after r.1 t s) (w.after (f t) t s) not_f (not_less-same (w.after (f t) t s) (w.after r.1 t s) (sym same)) in
         not_more_trans (g s) (f s) (w.after (f t) t s) (not_above w f g from came w.count s next hs) not_here
 
-next_lowest : (w : Steps) (keeps : KeepsOrder w) (k : ℕ) (f g : ℕ → ExactTotal) (from came : ℕ → ℕ) (s : ℕ) → IsLevel w k f from → IsNext w f from w.count g came → s < w.count → (j : ℕ) (y : ExactTotal) → j ≤ suc k → IsTotal w j s y → ¬ (IsLess y (g s))
+next_lowest : (w : TotalRule) (keeps : KeepsOrder w) (k : ℕ) (f g : ℕ → ExactTotal) (from came : ℕ → ℕ) (s : ℕ) → AreLevelTotals w k f from → IsNext w f from w.count g came → s < w.count → (j : ℕ) (y : ExactTotal) → j ≤ suc k → IsTotal w j s y → ¬ (IsLess y (g s))
 next_lowest w keeps k f g from came s level next hs j y few reached =
     by_cases (cases_lt k j)
   where
@@ -72,7 +72,7 @@ next_lowest w keeps k f g from came s level next hs j y few reached =
     by_cases (inr h) =
         not_more_trans (g s) (f s) y (not_above w f g from came w.count s next hs) ((level.least s hs).lowest j y h reached)
 
-pub next_least : (w : Steps) (keeps : KeepsOrder w) (k : ℕ) (f g : ℕ → ExactTotal) (from came : ℕ → ℕ) (s : ℕ) → IsLevel w k f from → IsNext w f from w.count g came → s < w.count → IsLeastWithin w (suc k) s (g s)
+pub next_least : (w : TotalRule) (keeps : KeepsOrder w) (k : ℕ) (f g : ℕ → ExactTotal) (from came : ℕ → ℕ) (s : ℕ) → AreLevelTotals w k f from → IsNext w f from w.count g came → s < w.count → IsLeastWithin w (suc k) s (g s)
 next_least w keeps k f g from came s level next hs =
     record {
       reached = by_cases (cases_lt (came s) w.count);
@@ -96,8 +96,8 @@ next_least w keeps k f g from came s level next hs =
         (r.0, r.1, omega (arith, r.2), r.3, subst (λ (x : ExactTotal). SameTotal r.1 x) (sym (next.kept s hs h)) r.4)
 
 -- the next level is one
-pub IsLevel-next : (w : Steps) (keeps : KeepsOrder w) (k : ℕ) (f g : ℕ → ExactTotal) (from came : ℕ → ℕ) → IsLevel w k f from → IsNext w f from w.count g came → IsLevel w (suc k) g came
-IsLevel-next w keeps k f g from came level next = record {
+pub AreLevelTotals-next : (w : TotalRule) (keeps : KeepsOrder w) (k : ℕ) (f g : ℕ → ExactTotal) (from came : ℕ → ℕ) → AreLevelTotals w k f from → IsNext w f from w.count g came → AreLevelTotals w (suc k) g came
+AreLevelTotals-next w keeps k f g from came level next = record {
   least = λ s hs. next_least w keeps k f g from came s level next hs;
   live = λ s hs h. inr (
     g s,

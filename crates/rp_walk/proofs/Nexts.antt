@@ -1,13 +1,13 @@
 use Rattle.std.proofs.Common.{◌≡◌, ℕ, zero, suc, ◌+◌, ◌<◌, ◌≤◌, arith, ◌⊎◌, inl, inr, sym, ◌∙◌, refl, subst, List, get_or, replicate}
 use Rattle.std.proofs.lemmas.Bool.{cases_lt}
 use Rattle.rp_walk.specs.ExactTotal.{ExactTotal, IsLess, SameTotal}
-use Rattle.rp_walk.specs.Walk.{Steps}
-use Rattle.rp_walk.specs.Level.{totals_of, IsNext, IsTried, StepsFit, TriedFits}
+use Rattle.rp_walk.specs.Walk.{TotalRule}
+use Rattle.rp_walk.specs.InnerLevels.{totals_of, IsNext, IsTried, StepsFit, TriedFits}
 use Rattle.rp_walk.proofs.Order.{IsLess-irrefl, IsLess-asym, less_not_more, not_more_less, not_more_trans, less_or_not, not_less-same}
 use Rattle.rp_walk.proofs.Levels.{not_above}
 
 -- before any step is tried, the next level is this one
-pub IsNext-none : (w : Steps) (f : ℕ → ExactTotal) (from came : ℕ → ℕ) → ((s : ℕ) → s < w.count → w.count ≤ came s) → IsNext w f from 0 f came
+pub IsNext-none : (w : TotalRule) (f : ℕ → ExactTotal) (from came : ℕ → ℕ) → ((s : ℕ) → s < w.count → w.count ≤ came s) → IsNext w f from 0 f came
 IsNext-none w f from came still = record {
   kept = λ s hs h. refl;
   tried_from = λ s hs h. absurd (clash s hs h);
@@ -15,13 +15,14 @@ IsNext-none w f from came still = record {
   taken = λ s hs h. absurd (clash s hs h);
   less = λ s hs h. absurd (clash s hs h);
   lowest = λ s t hs h live. absurd (omega arith);
+  first = λ s t hs h. absurd (clash s hs h);
 }
   where
     clash : (s : ℕ) → s < w.count → came s < w.count → ⊥
     clash s hs h = omega (arith, still s hs)
 
 -- an observation that is not gone on from changes nothing
-pub IsNext-idle : (w : Steps) (f : ℕ → ExactTotal) (from : ℕ → ℕ) (t : ℕ) (g : ℕ → ExactTotal) (came : ℕ → ℕ) → IsNext w f from t g came → w.count ≤ from t → IsNext w f from (t + 1) g came
+pub IsNext-idle : (w : TotalRule) (f : ℕ → ExactTotal) (from : ℕ → ℕ) (t : ℕ) (g : ℕ → ExactTotal) (came : ℕ → ℕ) → IsNext w f from t g came → w.count ≤ from t → IsNext w f from (t + 1) g came
 IsNext-idle w f from t g came next idle = record {
   kept = next.kept;
   tried_from = λ s hs h. omega (arith, next.tried_from s hs h);
@@ -29,6 +30,7 @@ IsNext-idle w f from t g came next idle = record {
   taken = next.taken;
   less = next.less;
   lowest = λ s t' hs h live. lowest s t' hs h live (cases_lt t' t);
+  first = next.first;
 }
   where
     lowest : (s t' : ℕ) → s < w.count → t' < t + 1 → from t' < w.count → (t' < t) ⊎ (t ≤ t') → ¬ (IsLess (w.after (f t') t' s) (g s))
@@ -39,7 +41,7 @@ IsNext-idle w f from t g came next idle = record {
         absurd (omega arith)
 
 -- the steps from one more observation
-pub IsNext-more : {V : Type 0} (w : Steps) (exact : V → ExactTotal) (f : ℕ → ExactTotal) (from : ℕ → ℕ) (t : ℕ) (old : List V) (old_from : List ℕ) (new : List V) (new_from : List ℕ) (x : ExactTotal) → IsNext w f from t (totals_of exact w.empty old) (λ s. get_or old_from s 0) → t < w.count → from t < w.count → f t ≡ x → IsTried w exact x t old old_from w.count new new_from → IsNext w f from (t + 1) (totals_of exact w.empty new) (λ s. get_or new_from s 0)
+pub IsNext-more : {V : Type 0} (w : TotalRule) (exact : V → ExactTotal) (f : ℕ → ExactTotal) (from : ℕ → ℕ) (t : ℕ) (old : List V) (old_from : List ℕ) (new : List V) (new_from : List ℕ) (x : ExactTotal) → IsNext w f from t (totals_of exact w.empty old) (λ s. get_or old_from s 0) → t < w.count → from t < w.count → f t ≡ x → IsTried w exact x t old old_from w.count new new_from → IsNext w f from (t + 1) (totals_of exact w.empty new) (λ s. get_or new_from s 0)
 IsNext-more {V} w exact f from t old old_from new new_from x next ht live is_x tried = record {
   kept = λ s hs h. kept s hs h (choice s hs);
   tried_from = λ s hs h. tried_from s hs h (choice s hs);
@@ -47,6 +49,7 @@ IsNext-more {V} w exact f from t old old_from new new_from x next ht live is_x t
   taken = λ s hs h. taken s hs h (choice s hs);
   less = λ s hs h. less s hs h (choice s hs);
   lowest = λ s t' hs h l. lowest s t' hs h l (cases_lt t' t);
+  first = λ s t' hs h before l. first s t' hs h before l (choice s hs);
 }
   where
     g : ℕ → ExactTotal
@@ -107,6 +110,15 @@ IsNext-more {V} w exact f from t old old_from new new_from x next ht live is_x t
         IsLess-asym (g' s) (g s) (not_more_less (g' s) (w.after x t s) (g s) (not_less-same (w.after x t s) (g' s) (sym p.1)) p.0)
     below_old s (inr p) = subst (λ (y : ExactTotal). ¬ (IsLess (g s) y)) (sym p.1) (IsLess-irrefl (g s))
 
+    first : (s t' : ℕ) → s < w.count → came' s < w.count → t' < came' s → from t' < w.count → Taken s ⊎ Kept s → IsLess (g' s) (w.after (f t') t' s)
+    first s t' hs h before l (inl p) =
+        less_not_more (g' s) (g s) (w.after (f t') t' s)
+        (not_more_less (g' s) (w.after x t s) (g s) (not_less-same (w.after x t s) (g' s) (sym p.1)) p.0)
+        (next.lowest s t' hs (omega (arith, p.2)) l)
+    first s t' hs h before l (inr p) =
+        subst (λ (y : ExactTotal). IsLess y (w.after (f t') t' s)) (sym p.1)
+        (next.first s t' hs (omega (arith, p.2)) (omega (arith, p.2)) l)
+
     at_t : (s : ℕ) → Taken s ⊎ Kept s → ¬ (IsLess (w.after x t s) (g' s))
     at_t s (inl p) = not_less-same (w.after x t s) (g' s) (sym p.1)
     at_t s (inr p) = subst (λ (y : ExactTotal). ¬ (IsLess (w.after x t s) y)) (sym p.1) p.0
@@ -119,7 +131,7 @@ IsNext-more {V} w exact f from t old old_from new new_from x next ht live is_x t
         let here = subst (λ (y : ExactTotal). ¬ (IsLess (w.after y t s) (g' s))) (sym is_x) (at_t s (choice s hs)) in
         subst (λ n. ¬ (IsLess (w.after (f n) n s) (g' s))) e here
 
-pub TriedFits-more : (w : Steps) (fits : ExactTotal → Type 0) (f : ℕ → ExactTotal) (from : ℕ → ℕ) (t : ℕ) (x : ExactTotal) → TriedFits w fits f from t → f t ≡ x → StepsFit w fits x t w.count → TriedFits w fits f from (t + 1)
+pub TriedFits-more : (w : TotalRule) (fits : ExactTotal → Type 0) (f : ℕ → ExactTotal) (from : ℕ → ℕ) (t : ℕ) (x : ExactTotal) → TriedFits w fits f from t → f t ≡ x → StepsFit w fits x t w.count → TriedFits w fits f from (t + 1)
 TriedFits-more w fits f from t x h is_x fit t' s below hs live = by_cases (cases_lt t' t)
   where
     by_cases : (t' < t) ⊎ (t ≤ t') → ¬ (¬ (fits (w.after (f t') t' s)))
@@ -129,7 +141,7 @@ TriedFits-more w fits f from t x h is_x fit t' s below hs live = by_cases (cases
         let here = subst (λ (y : ExactTotal). ¬ (¬ (fits (w.after y t s)))) (sym is_x) (fit s hs) in
         subst (λ n. ¬ (¬ (fits (w.after (f n) n s)))) e here
 
-pub TriedFits-idle : (w : Steps) (fits : ExactTotal → Type 0) (f : ℕ → ExactTotal) (from : ℕ → ℕ) (t : ℕ) → TriedFits w fits f from t → w.count ≤ from t → TriedFits w fits f from (t + 1)
+pub TriedFits-idle : (w : TotalRule) (fits : ExactTotal → Type 0) (f : ℕ → ExactTotal) (from : ℕ → ℕ) (t : ℕ) → TriedFits w fits f from t → w.count ≤ from t → TriedFits w fits f from (t + 1)
 TriedFits-idle w fits f from t h idle t' s below hs live = by_cases (cases_lt t' t)
   where
     by_cases : (t' < t) ⊎ (t ≤ t') → ¬ (¬ (fits (w.after (f t') t' s)))

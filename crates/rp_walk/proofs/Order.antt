@@ -1,16 +1,11 @@
-use Rattle.std.proofs.Common.{◌≡◌, ℕ, ◌+◌, ◌*◌, ◌<◌, ◌≤◌, arith, ◌⊎◌, inl, inr, sym, refl}
+use Rattle.std.proofs.Common.{ℕ, ◌+◌, ◌*◌, ◌<◌, ◌≤◌, arith, ◌⊎◌, inl, inr, sym, refl}
 use Rattle.std.proofs.lemmas.Int.{ints}
 use Rattle.std.proofs.lemmas.Bool.{cases_lt}
 use Rattle.std.proofs.Math.Nat.{mul-lt-mul_of_pos_right, mul-le-mul_right, lt_of_mul-lt-mul_right, le_of_mul-le-mul_right}
 use Rattle.std.specs.Prelude.{ℤ, pos, ◌*ℤ◌, ◌<ℤ◌}
 use borrow.Author.Differences.{up, down}
 use Rattle.rp_walk.specs.ExactTotal.{ExactTotal, IsLess, SameTotal}
-
-to_nat : (a c : ℤ) (b d : ℕ) → (a *ℤ pos d) <ℤ (c *ℤ pos b) → up a * d + down c * b < up c * b + down a * d
-to_nat a c b d h = omega (arith, ints)
-
-from_nat : (a c : ℤ) (b d : ℕ) → up a * d + down c * b < up c * b + down a * d → (a *ℤ pos d) <ℤ (c *ℤ pos b)
-from_nat a c b d h = omega (arith, ints)
+use Rattle.rp_walk.proofs.Numbers.{from_nat, same_from_nat, same_to_nat, to_nat}
 
 not_to_nat : (a c : ℤ) (b d : ℕ) → ¬ ((a *ℤ pos d) <ℤ (c *ℤ pos b)) → up c * b + down a * d ≤ up a * d + down c * b
 not_to_nat a c b d h =
@@ -22,12 +17,6 @@ not_to_nat a c b d h =
 
 not_from_nat : (a c : ℤ) (b d : ℕ) → up c * b + down a * d ≤ up a * d + down c * b → ¬ ((a *ℤ pos d) <ℤ (c *ℤ pos b))
 not_from_nat a c b d h less = omega (arith, ints)
-
-same_to_nat : (a c : ℤ) (b d : ℕ) → a *ℤ pos d ≡ c *ℤ pos b → up a * d + down c * b ≡ up c * b + down a * d
-same_to_nat a c b d h = omega (arith, ints)
-
-same_from_nat : (a c : ℤ) (b d : ℕ) → up a * d + down c * b ≡ up c * b + down a * d → a *ℤ pos d ≡ c *ℤ pos b
-same_from_nat a c b d h = omega (arith, ints)
 
 -- cross products in a chain, for fractions (a - a')/b, (c - c')/d and (e - e')/f
 less_then_not_more : (a a' b c c' d e e' f : ℕ) → 1 ≤ b → 1 ≤ d → 1 ≤ f → a * d + c' * b < c * b + a' * d → c * f + e' * d ≤ e * d + c' * f → a * f + e' * b < e * b + a' * f

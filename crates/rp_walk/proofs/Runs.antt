@@ -3,29 +3,30 @@ use Rattle.std.proofs.lemmas.List.{get_or-replicate, length-replicate, get_or_ap
 use Rattle.std.proofs.lemmas.Bool.{cases_lt}
 use Rattle.std.proofs.Math.Nat.{mul-le-mul_right}
 use Rattle.rp_walk.specs.ExactTotal.{ExactTotal, SameTotal}
-use Rattle.rp_walk.specs.Walk.{Steps, KeepsOrder}
+use Rattle.rp_walk.specs.Walk.{TotalRule, KeepsOrder}
 use Rattle.rp_walk.specs.LeastTotals.{IsLive, IsLeast, IsLeastWithin, NoneTooWide, FitsAlike}
-use Rattle.rp_walk.specs.Level.{CameFrom, Remembers, IsLevel, totals_of}
-use Rattle.rp_walk.specs.Advance.{IsNextLevel, StopsAt}
+use Rattle.rp_walk.specs.InnerLevels.{Remembers, AreLevelTotals, totals_of}
+use Rattle.rp_walk.specs.LevelWalk.{CameFrom, IsFirstLive}
+use Rattle.rp_walk.specs.InnerAdvance.{IsNextLevel, StopsAt}
 use Rattle.rp_walk.specs.Settled.{NoPairBreaks}
 use Rattle.rp_walk.specs.Outcome.{SettlesInValues, SettlesInWide}
 use Rattle.rp_walk.proofs.Paths.{IsLeastWithin-same}
-use Rattle.rp_walk.proofs.Levels.{IsLevel-next, IsLeastWithin-zero}
+use Rattle.rp_walk.proofs.Levels.{AreLevelTotals-next, IsLeastWithin-zero}
 use Rattle.rp_walk.proofs.Stops.{NoneBelow, NoneBelow-next, NoneTooWide-stable, NoneTooWide-all, IsFirstTooWide-found, IsLeast-stable, CameFrom-next, idle_not_live}
 use Rattle.rp_walk.proofs.Tries.{totals_of-at}
 
 -- what the computation keeps when it comes to level k
-pub record IsRun {V : Type 0} (w : Steps) (fits : ExactTotal → Type 0) (exact : V → ExactTotal) (k : ℕ) (values : List V) (from history : List ℕ) : Type 0 where
+pub record IsRun {V : Type 0} (w : TotalRule) (fits : ExactTotal → Type 0) (exact : V → ExactTotal) (k : ℕ) (values : List V) (from history : List ℕ) : Type 0 where
   pub values_len : length values ≡ w.count
   pub from_len : length from ≡ w.count
-  pub level : IsLevel w k (totals_of exact w.empty values) (λ s. get_or from s 0)
+  pub level : AreLevelTotals w k (totals_of exact w.empty values) (λ s. get_or from s 0)
   pub none_below : NoneBelow w fits k
   pub history_len : length history ≡ k * w.count
   pub remembers : Remembers w k history
   pub idle_fit : (t s : ℕ) → t < w.count → s < w.count → w.count ≤ get_or from t 0 → ¬ (¬ (fits (w.after (totals_of exact w.empty values t) t s)))
   pub improved : 0 < k → (s : ℕ) × (s < w.count) × (get_or from s 0 < w.count)
 
-pub IsRun-start : {V : Type 0} (w : Steps) (fits : ExactTotal → Type 0) (exact : V → ExactTotal) (start : V) (n : ℕ) (values : List V) (from history : List ℕ) → n ≡ w.count → SameTotal (exact start) w.empty → values ≡ replicate n start → from ≡ replicate n 0 → history ≡ [] → IsRun w fits exact 0 values from history
+pub IsRun-start : {V : Type 0} (w : TotalRule) (fits : ExactTotal → Type 0) (exact : V → ExactTotal) (start : V) (n : ℕ) (values : List V) (from history : List ℕ) → n ≡ w.count → SameTotal (exact start) w.empty → values ≡ replicate n start → from ≡ replicate n 0 → history ≡ [] → IsRun w fits exact 0 values from history
 IsRun-start {V} w fits exact start n values from history is_n is_start is_values is_from is_history = record {
   values_len = ap length is_values ∙ length-replicate n start ∙ is_n;
   from_len = ap length is_from ∙ length-replicate n 0 ∙ is_n;
@@ -52,7 +53,7 @@ IsRun-start {V} w fits exact start n values from history is_n is_start is_values
         ∙ ap (λ (xs : List V). exact (get_or xs s start)) is_values
         ∙ ap exact (get_or-replicate n s start start (omega arith))
 
-Remembers-more : (w : Steps) (k : ℕ) (history came : List ℕ) → length history ≡ k * w.count → Remembers w k history → ((s : ℕ) → s < w.count → IsLive w (suc k) s → CameFrom w k s (get_or came s 0)) → Remembers w (suc k) (history ++ came)
+Remembers-more : (w : TotalRule) (k : ℕ) (history came : List ℕ) → length history ≡ k * w.count → Remembers w k history → ((s : ℕ) → s < w.count → IsLive w (suc k) s → CameFrom w k s (get_or came s 0)) → Remembers w (suc k) (history ++ came)
 Remembers-more w k history came len h here k' s below hs live = by_cases (cases_lt k' k)
   where
     by_cases : (k' < k) ⊎ (k ≤ k') → CameFrom w k' s (get_or (history ++ came) (k' * w.count + s) 0)
@@ -70,7 +71,7 @@ Remembers-more w k history came len h here k' s below hs live = by_cases (cases_
         subst (λ n. CameFrom w n s (get_or (history ++ came) (k' * w.count + s) 0)) e at_k
 
 -- where the next level makes no total less, each step from it fits
-next_fit : {V : Type 0} (w : Steps) (fits : ExactTotal → Type 0) (exact : V → ExactTotal) (k : ℕ) (values next : List V) (from came history : List ℕ) → IsRun w fits exact k values from history → IsNextLevel w fits exact values from next came → (t s : ℕ) → t < w.count → s < w.count → w.count ≤ get_or came t 0 → ¬ (¬ (fits (w.after (totals_of exact w.empty next t) t s)))
+next_fit : {V : Type 0} (w : TotalRule) (fits : ExactTotal → Type 0) (exact : V → ExactTotal) (k : ℕ) (values next : List V) (from came history : List ℕ) → IsRun w fits exact k values from history → IsNextLevel w fits exact values from next came → (t s : ℕ) → t < w.count → s < w.count → w.count ≤ get_or came t 0 → ¬ (¬ (fits (w.after (totals_of exact w.empty next t) t s)))
 next_fit w fits exact k values next from came history run h t s ht hs idle =
     subst (λ (x : ExactTotal). ¬ (¬ (fits (w.after x t s)))) (sym (h.next.kept t ht idle)) (by_cases (cases_lt (get_or from t 0) w.count))
   where
@@ -78,7 +79,7 @@ next_fit w fits exact k values next from came history run h t s ht hs idle =
     by_cases (inl b) = h.fit t s ht hs b
     by_cases (inr b) = run.idle_fit t s ht hs b
 
-pub IsRun-next : {V : Type 0} (w : Steps) (keeps : KeepsOrder w) (fits : ExactTotal → Type 0) (alike : FitsAlike fits) (exact : V → ExactTotal) (k j : ℕ) (values next : List V) (from came history all : List ℕ) → j ≡ suc k → IsRun w fits exact k values from history → IsNextLevel w fits exact values from next came → all ≡ history ++ came → (s : ℕ) → s < w.count → get_or came s 0 < w.count → IsRun w fits exact j next came all
+pub IsRun-next : {V : Type 0} (w : TotalRule) (keeps : KeepsOrder w) (fits : ExactTotal → Type 0) (alike : FitsAlike fits) (exact : V → ExactTotal) (k j : ℕ) (values next : List V) (from came history all : List ℕ) → j ≡ suc k → IsRun w fits exact k values from history → IsNextLevel w fits exact values from next came → all ≡ history ++ came → (s : ℕ) → s < w.count → get_or came s 0 < w.count → IsRun w fits exact j next came all
 IsRun-next w keeps fits alike exact k j values next from came history all is_j run h is_all s hs better =
     subst (λ n. IsRun w fits exact n next came all) (sym is_j) (record {
       values_len = h.values_len;
@@ -91,8 +92,8 @@ IsRun-next w keeps fits alike exact k j values next from came history all is_j r
       improved = λ p. (s, hs, better);
     })
   where
-    level : IsLevel w (suc k) (totals_of exact w.empty next) (λ i. get_or came i 0)
-    level = IsLevel-next w keeps k (totals_of exact w.empty values) (totals_of exact w.empty next) (λ i. get_or from i 0) (λ i. get_or came i 0) run.level h.next
+    level : AreLevelTotals w (suc k) (totals_of exact w.empty next) (λ i. get_or came i 0)
+    level = AreLevelTotals-next w keeps k (totals_of exact w.empty values) (totals_of exact w.empty next) (λ i. get_or from i 0) (λ i. get_or came i 0) run.level h.next
 
     came_from : (i : ℕ) → i < w.count → IsLive w (suc k) i → CameFrom w k i (get_or came i 0)
     came_from i hi live = by_cases (cases_lt (get_or came i 0) w.count)
@@ -102,7 +103,7 @@ IsRun-next w keeps fits alike exact k j values next from came history all is_j r
         by_cases (inr b) = absurd (idle_not_live w (suc k) (totals_of exact w.empty next) (λ m. get_or came m 0) i level hi b live)
 
 -- a level that makes no total less
-pub SettlesInValues-run : {V : Type 0} (w : Steps) (keeps : KeepsOrder w) (fits : ExactTotal → Type 0) (alike : FitsAlike fits) (exact : V → ExactTotal) (k n : ℕ) (values next result : List V) (from came history : List ℕ) → n ≡ w.count → IsRun w fits exact k values from history → IsNextLevel w fits exact values from next came → ((s : ℕ) → s < n → n ≤ get_or came s 0) → result ≡ next → NoPairBreaks w → SettlesInValues w fits exact result
+pub SettlesInValues-run : {V : Type 0} (w : TotalRule) (keeps : KeepsOrder w) (fits : ExactTotal → Type 0) (alike : FitsAlike fits) (exact : V → ExactTotal) (k n : ℕ) (values next result : List V) (from came history : List ℕ) → n ≡ w.count → IsRun w fits exact k values from history → IsNextLevel w fits exact values from next came → ((s : ℕ) → s < n → n ≤ get_or came s 0) → result ≡ next → NoPairBreaks w → SettlesInValues w fits exact result
 SettlesInValues-run {V} w keeps fits alike exact k n values next result from came history is_n run h still is_result no_pair =
     subst (λ (xs : List V). SettlesInValues w fits exact xs) (sym is_result) (record {
       no_pair = no_pair;
@@ -119,7 +120,7 @@ SettlesInValues-run {V} w keeps fits alike exact k n values next result from cam
     none s hs = omega (arith, still s (omega arith))
 
 -- a step that does not fit
-pub SettlesInWide-run : {V : Type 0} (w : Steps) (keeps : KeepsOrder w) (fits : ExactTotal → Type 0) (alike : FitsAlike fits) (exact : V → ExactTotal) (k t s : ℕ) (values : List V) (from history : List ℕ) → k < w.count → IsRun w fits exact k values from history → StopsAt w fits exact values from t s → NoPairBreaks w → SettlesInWide w fits k t s
+pub SettlesInWide-run : {V : Type 0} (w : TotalRule) (keeps : KeepsOrder w) (fits : ExactTotal → Type 0) (alike : FitsAlike fits) (exact : V → ExactTotal) (k t s : ℕ) (values : List V) (from history : List ℕ) → k < w.count → IsRun w fits exact k values from history → StopsAt w fits exact values from t s → NoPairBreaks w → SettlesInWide w fits k t s
 SettlesInWide-run w keeps fits alike exact k t s values from history hk run h no_pair = record {
   no_pair = no_pair;
   first = IsFirstTooWide-found w keeps fits alike k (totals_of exact w.empty values) (λ i. get_or from i 0) t s run.level run.none_below hk
@@ -127,5 +128,13 @@ SettlesInWide-run w keeps fits alike exact k t s values from history hk run h no
 }
 
 -- past the last level
-pub NoneTooWide-run : {V : Type 0} (w : Steps) (fits : ExactTotal → Type 0) (exact : V → ExactTotal) (k : ℕ) (values : List V) (from history : List ℕ) → w.count ≤ k → IsRun w fits exact k values from history → NoneTooWide w fits
+pub NoneTooWide-run : {V : Type 0} (w : TotalRule) (fits : ExactTotal → Type 0) (exact : V → ExactTotal) (k : ℕ) (values : List V) (from history : List ℕ) → w.count ≤ k → IsRun w fits exact k values from history → NoneTooWide w fits
 NoneTooWide-run w fits exact k values from history past run = NoneTooWide-all w fits k past run.none_below
+
+-- the first observation that a level made less
+pub IsFirstLive-run : {V : Type 0} (w : TotalRule) (fits : ExactTotal → Type 0) (exact : V → ExactTotal) (k s : ℕ) (values : List V) (from history : List ℕ) → IsRun w fits exact k values from history → s < w.count → get_or from s 0 < w.count → ((i : ℕ) → i < s → w.count ≤ get_or from i 0) → IsFirstLive w k s
+IsFirstLive-run w fits exact k s values from history run hs better before = record {
+  within = hs;
+  live = run.level.live s hs better;
+  none_before = λ i i_before. idle_not_live w k (totals_of exact w.empty values) (λ m. get_or from m 0) i run.level (omega arith) (before i i_before);
+}

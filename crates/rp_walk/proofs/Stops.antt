@@ -1,9 +1,10 @@
 use Rattle.std.proofs.Common.{◌≡◌, ℕ, zero, suc, ◌-◌, ◌<◌, ◌≤◌, arith, ◌⊎◌, inl, inr, sym, subst}
 use Rattle.std.proofs.lemmas.Bool.{cases_lt}
 use Rattle.rp_walk.specs.ExactTotal.{ExactTotal, IsLess, SameTotal}
-use Rattle.rp_walk.specs.Walk.{Steps, IsTotal, KeepsOrder}
+use Rattle.rp_walk.specs.Walk.{TotalRule, IsTotal, KeepsOrder}
 use Rattle.rp_walk.specs.LeastTotals.{IsLeast, IsLive, IsTooWide, NoneTooWide, ComesBefore, IsFirstTooWide, FitsAlike}
-use Rattle.rp_walk.specs.Level.{IsLevel, IsNext, TriedFits, CameFrom}
+use Rattle.rp_walk.specs.InnerLevels.{AreLevelTotals, IsNext, TriedFits}
+use Rattle.rp_walk.specs.LevelWalk.{CameFrom, Carries}
 use Rattle.rp_walk.proofs.Order.{not_more_trans, not_less-same}
 use Rattle.rp_walk.proofs.Walks.{IsTotal-further, IsTotal-parts, IsTotal-within}
 use Rattle.rp_walk.proofs.Paths.{after-not_less, after-same, same_least, IsLeastWithin-same}
@@ -14,7 +15,7 @@ not_less-of_same : (x y z : ExactTotal) → SameTotal x z → SameTotal y z → 
 not_less-of_same x y z hx hy = not_less-same x y (SameTotal-trans x z y hx (sym hy))
 
 -- an observation for which the level found no lesser total is not gone on from
-pub idle_not_live : (w : Steps) (k : ℕ) (f : ℕ → ExactTotal) (from : ℕ → ℕ) (t : ℕ) → IsLevel w k f from → t < w.count → w.count ≤ from t → ¬ (IsLive w k t)
+pub idle_not_live : (w : TotalRule) (k : ℕ) (f : ℕ → ExactTotal) (from : ℕ → ℕ) (t : ℕ) → AreLevelTotals w k f from → t < w.count → w.count ≤ from t → ¬ (IsLive w k t)
 idle_not_live w k f from t level ht idle (inl e) = absurd (omega (arith, e, (level.idle t ht idle).0))
 idle_not_live w k f from t level ht idle (inr (x, y, hx, hy, less)) =
     not_less-of_same x y (f t)
@@ -23,7 +24,7 @@ idle_not_live w k f from t level ht idle (inr (x, y, hx, hy, less)) =
     less
 
 -- where the step fits if it can matter, the triple is not too wide
-pub not_wide-fits : (w : Steps) (keeps : KeepsOrder w) (fits : ExactTotal → Type 0) (alike : FitsAlike fits) (k : ℕ) (f : ℕ → ExactTotal) (from : ℕ → ℕ) (t s : ℕ) → IsLevel w k f from → (t < w.count → s < w.count → from t < w.count → ¬ (¬ (fits (w.after (f t) t s)))) → ¬ (IsTooWide w fits k t s)
+pub not_wide-fits : (w : TotalRule) (keeps : KeepsOrder w) (fits : ExactTotal → Type 0) (alike : FitsAlike fits) (k : ℕ) (f : ℕ → ExactTotal) (from : ℕ → ℕ) (t s : ℕ) → AreLevelTotals w k f from → (t < w.count → s < w.count → from t < w.count → ¬ (¬ (fits (w.after (f t) t s)))) → ¬ (IsTooWide w fits k t s)
 not_wide-fits w keeps fits alike k f from t s level fit wide =
     by_cases (cases_lt (from t) w.count)
   where
@@ -36,7 +37,7 @@ not_wide-fits w keeps fits alike k f from t s level fit wide =
     by_cases (inr h) = idle_not_live w k f from t level wide.from_within h wide.live
 
 -- where it does not, the triple is
-pub IsTooWide-not_fit : (w : Steps) (fits : ExactTotal → Type 0) (k : ℕ) (f : ℕ → ExactTotal) (from : ℕ → ℕ) (t s : ℕ) → IsLevel w k f from → k < w.count → t < w.count → s < w.count → from t < w.count → ¬ (fits (w.after (f t) t s)) → IsTooWide w fits k t s
+pub IsTooWide-not_fit : (w : TotalRule) (fits : ExactTotal → Type 0) (k : ℕ) (f : ℕ → ExactTotal) (from : ℕ → ℕ) (t s : ℕ) → AreLevelTotals w k f from → k < w.count → t < w.count → s < w.count → from t < w.count → ¬ (fits (w.after (f t) t s)) → IsTooWide w fits k t s
 IsTooWide-not_fit w fits k f from t s level hk ht hs h nofit = record {
   level_within = hk;
   from_within = ht;
@@ -46,10 +47,10 @@ IsTooWide-not_fit w fits k f from t s level hk ht hs h nofit = record {
 }
 
 -- no triple of the levels below k is too wide
-abbrev pub NoneBelow : Steps → (ExactTotal → Type 0) → ℕ → Type 0
+abbrev pub NoneBelow : TotalRule → (ExactTotal → Type 0) → ℕ → Type 0
 NoneBelow w fits k = (k' t s : ℕ) → k' < k → ¬ (IsTooWide w fits k' t s)
 
-pub NoneBelow-next : (w : Steps) (keeps : KeepsOrder w) (fits : ExactTotal → Type 0) (alike : FitsAlike fits) (k : ℕ) (f : ℕ → ExactTotal) (from : ℕ → ℕ) → IsLevel w k f from → TriedFits w fits f from w.count → NoneBelow w fits k → NoneBelow w fits (suc k)
+pub NoneBelow-next : (w : TotalRule) (keeps : KeepsOrder w) (fits : ExactTotal → Type 0) (alike : FitsAlike fits) (k : ℕ) (f : ℕ → ExactTotal) (from : ℕ → ℕ) → AreLevelTotals w k f from → TriedFits w fits f from w.count → NoneBelow w fits k → NoneBelow w fits (suc k)
 NoneBelow-next w keeps fits alike k f from level fit none k' t s below =
     by_cases (cases_lt k' k)
   where
@@ -61,7 +62,7 @@ NoneBelow-next w keeps fits alike k f from level fit none k' t s below =
         (not_wide-fits w keeps fits alike k f from t s level (λ ht hs p. fit t s ht hs p))
 
 -- the first step that does not fit, in the order of the levels and then of t and s
-pub IsFirstTooWide-found : (w : Steps) (keeps : KeepsOrder w) (fits : ExactTotal → Type 0) (alike : FitsAlike fits) (k : ℕ) (f : ℕ → ExactTotal) (from : ℕ → ℕ) (t s : ℕ) → IsLevel w k f from → NoneBelow w fits k → k < w.count → t < w.count → s < w.count → from t < w.count → TriedFits w fits f from t → ((s' : ℕ) → s' < s → ¬ (¬ (fits (w.after (f t) t s')))) → ¬ (fits (w.after (f t) t s)) → IsFirstTooWide w fits k t s
+pub IsFirstTooWide-found : (w : TotalRule) (keeps : KeepsOrder w) (fits : ExactTotal → Type 0) (alike : FitsAlike fits) (k : ℕ) (f : ℕ → ExactTotal) (from : ℕ → ℕ) (t s : ℕ) → AreLevelTotals w k f from → NoneBelow w fits k → k < w.count → t < w.count → s < w.count → from t < w.count → TriedFits w fits f from t → ((s' : ℕ) → s' < s → ¬ (¬ (fits (w.after (f t) t s')))) → ¬ (fits (w.after (f t) t s)) → IsFirstTooWide w fits k t s
 IsFirstTooWide-found w keeps fits alike k f from t s level none hk ht hs h fit_t fit_s nofit = record {
   too_wide = IsTooWide-not_fit w fits k f from t s level hk ht hs h nofit;
   none_before = before;
@@ -80,7 +81,7 @@ IsFirstTooWide-found w keeps fits alike k f from t s level none hk ht hs h fit_t
 
 -- ---- a level after which nothing improves
 
-stable_lowest : (w : Steps) (keeps : KeepsOrder w) (k : ℕ) (f g : ℕ → ExactTotal) (from came : ℕ → ℕ) → IsLevel w k f from → IsNext w f from w.count g came → ((s : ℕ) → s < w.count → w.count ≤ came s) → (j s : ℕ) (y : ExactTotal) → IsTotal w j s y → ¬ (IsLess y (f s))
+stable_lowest : (w : TotalRule) (keeps : KeepsOrder w) (k : ℕ) (f g : ℕ → ExactTotal) (from came : ℕ → ℕ) → AreLevelTotals w k f from → IsNext w f from w.count g came → ((s : ℕ) → s < w.count → w.count ≤ came s) → (j s : ℕ) (y : ExactTotal) → IsTotal w j s y → ¬ (IsLess y (f s))
 stable_lowest w keeps k f g from came level next still zero s y reached =
     (level.least s (IsTotal-within w zero s y reached)).lowest 0 y (omega arith) reached
 stable_lowest w keeps k f g from came level next still (suc j) s y reached =
@@ -99,7 +100,7 @@ stable_lowest w keeps k f g from came level next still (suc j) s y reached =
     subst (λ (x : ExactTotal). ¬ (IsLess x (f s))) parts.4 all
 
 -- its totals are the least over the walks of any length
-pub IsLeast-stable : (w : Steps) (keeps : KeepsOrder w) (k : ℕ) (f g : ℕ → ExactTotal) (from came : ℕ → ℕ) → IsLevel w k f from → IsNext w f from w.count g came → ((s : ℕ) → s < w.count → w.count ≤ came s) → (s : ℕ) → s < w.count → IsLeast w s (g s)
+pub IsLeast-stable : (w : TotalRule) (keeps : KeepsOrder w) (k : ℕ) (f g : ℕ → ExactTotal) (from came : ℕ → ℕ) → AreLevelTotals w k f from → IsNext w f from w.count g came → ((s : ℕ) → s < w.count → w.count ≤ came s) → (s : ℕ) → s < w.count → IsLeast w s (g s)
 IsLeast-stable w keeps k f g from came level next still s hs =
     let r = (level.least s hs).reached in
     let e = next.kept s hs (still s hs) in
@@ -109,7 +110,7 @@ IsLeast-stable w keeps k f g from came level next still s hs =
     }
 
 -- and no later level is gone on from
-later_not_live : (w : Steps) (keeps : KeepsOrder w) (k : ℕ) (f g : ℕ → ExactTotal) (from came : ℕ → ℕ) → IsLevel w k f from → IsNext w f from w.count g came → ((s : ℕ) → s < w.count → w.count ≤ came s) → (k' t : ℕ) → k < k' → t < w.count → ¬ (IsLive w k' t)
+later_not_live : (w : TotalRule) (keeps : KeepsOrder w) (k : ℕ) (f g : ℕ → ExactTotal) (from came : ℕ → ℕ) → AreLevelTotals w k f from → IsNext w f from w.count g came → ((s : ℕ) → s < w.count → w.count ≤ came s) → (k' t : ℕ) → k < k' → t < w.count → ¬ (IsLive w k' t)
 later_not_live w keeps k f g from came level next still k' t later ht (inl e) = absurd (omega arith)
 later_not_live w keeps k f g from came level next still k' t later ht (inr (x, y, hx, hy, less)) =
     let r = hx.reached in
@@ -120,7 +121,7 @@ later_not_live w keeps k f g from came level next still k' t later ht (inr (x, y
     let not_f = not_more_trans y q.1 (f t) not_q (not_less-same (f t) q.1 (sym q.4)) in
     not_more_trans y (f t) x not_f not_x less
 
-pub NoneTooWide-stable : (w : Steps) (keeps : KeepsOrder w) (fits : ExactTotal → Type 0) (k : ℕ) (f g : ℕ → ExactTotal) (from came : ℕ → ℕ) → IsLevel w k f from → IsNext w f from w.count g came → ((s : ℕ) → s < w.count → w.count ≤ came s) → NoneBelow w fits (suc k) → NoneTooWide w fits
+pub NoneTooWide-stable : (w : TotalRule) (keeps : KeepsOrder w) (fits : ExactTotal → Type 0) (k : ℕ) (f g : ℕ → ExactTotal) (from came : ℕ → ℕ) → AreLevelTotals w k f from → IsNext w f from w.count g came → ((s : ℕ) → s < w.count → w.count ≤ came s) → NoneBelow w fits (suc k) → NoneTooWide w fits
 NoneTooWide-stable w keeps fits k f g from came level next still none k' t s wide =
     by_cases (cases_lt k k')
   where
@@ -129,12 +130,12 @@ NoneTooWide-stable w keeps fits k f g from came level next still none k' t s wid
     by_cases (inr h) = none k' t s (omega arith) wide
 
 -- past the last level no triple stands
-pub NoneTooWide-all : (w : Steps) (fits : ExactTotal → Type 0) (k : ℕ) → w.count ≤ k → NoneBelow w fits k → NoneTooWide w fits
+pub NoneTooWide-all : (w : TotalRule) (fits : ExactTotal → Type 0) (k : ℕ) → w.count ≤ k → NoneBelow w fits k → NoneTooWide w fits
 NoneTooWide-all w fits k all none k' t s wide = none k' t s (omega (arith, wide.level_within)) wide
 
 -- ---- where an improved total comes from
 
-pub CameFrom-next : (w : Steps) (keeps : KeepsOrder w) (k : ℕ) (f g : ℕ → ExactTotal) (from came : ℕ → ℕ) (s : ℕ) → IsLevel w k f from → IsNext w f from w.count g came → s < w.count → came s < w.count → CameFrom w k s (came s)
+pub CameFrom-next : (w : TotalRule) (keeps : KeepsOrder w) (k : ℕ) (f g : ℕ → ExactTotal) (from came : ℕ → ℕ) (s : ℕ) → AreLevelTotals w k f from → IsNext w f from w.count g came → s < w.count → came s < w.count → CameFrom w k s (came s)
 CameFrom-next w keeps k f g from came s level next hs h = record {
   within = h;
   live = level.live (came s) h (next.live_from s hs h);
@@ -143,4 +144,15 @@ CameFrom-next w keeps k f g from came s level next hs h = record {
       let steps = after-same w keeps (f (came s)) x (came s) s h hs same_x in
       let all = SameTotal-trans (g s) (w.after (f (came s)) (came s) s) (w.after x (came s) s) (next.taken s hs h) steps in
       IsLeastWithin-same w (suc k) s (g s) (w.after x (came s) s) (next_least w keeps k f g from came s level next hs) all;
+  first = λ t before live carries. first t before live carries (cases_lt (from t) w.count);
 }
+  where
+    -- what an earlier observation carries on is more than what was taken
+    first : (t : ℕ) → t < came s → IsLive w k t → Carries w k t s → (from t < w.count) ⊎ (w.count ≤ from t) → ⊥
+    first t before live carries (inl b) =
+        let ht : t < w.count = omega arith in
+        let here = carries (f t) (level.least t ht) in
+        let same = same_least w (suc k) s (g s) (w.after (f t) t s) (next_least w keeps k f g from came s level next hs) here in
+        not_less-same (g s) (w.after (f t) t s) same (next.first s t hs h before b)
+    first t before live carries (inr b) =
+        idle_not_live w k f from t level (omega arith) b live

@@ -1,8 +1,8 @@
 use Rattle.std.proofs.Common.{◌≡◌, ℕ, zero, suc, ◌+◌, ◌<◌, ◌≤◌, arith, ◌⊎◌, inl, inr, ap, sym, ◌∙◌, refl, subst, List, [], ◌∷◌, length, get_or, set, get_or-set_same, get_or-set_other, length-set}
 use Rattle.std.proofs.lemmas.Bool.{cases_lt}
 use Rattle.rp_walk.specs.ExactTotal.{ExactTotal, IsLess, SameTotal}
-use Rattle.rp_walk.specs.Walk.{Steps}
-use Rattle.rp_walk.specs.Level.{totals_of, IsTried, StepsFit}
+use Rattle.rp_walk.specs.Walk.{TotalRule}
+use Rattle.rp_walk.specs.InnerLevels.{totals_of, IsTried, StepsFit}
 use Rattle.rp_walk.proofs.Order.{not_more_less, not_more_trans, not_less-same}
 
 -- a value stands for its exact total
@@ -23,7 +23,7 @@ totals_of-set_other exact e (x ∷ vs) zero (suc s) v ne = refl
 totals_of-set_other exact e (x ∷ vs) (suc t) zero v ne = refl
 totals_of-set_other exact e (x ∷ vs) (suc t) (suc s) v ne = totals_of-set_other exact e vs t s v (λ p. ne (ap suc p))
 
-pub IsTried-none : {V : Type 0} (w : Steps) (exact : V → ExactTotal) (x : ExactTotal) (t : ℕ) (old : List V) (old_from : List ℕ) → IsTried w exact x t old old_from 0 old old_from
+pub IsTried-none : {V : Type 0} (w : TotalRule) (exact : V → ExactTotal) (x : ExactTotal) (t : ℕ) (old : List V) (old_from : List ℕ) → IsTried w exact x t old old_from 0 old old_from
 IsTried-none w exact x t old old_from = record {
   values_len = refl;
   from_len = refl;
@@ -33,7 +33,7 @@ IsTried-none w exact x t old old_from = record {
 }
 
 -- a step that is no less leaves what stood there
-pub IsTried-kept : {V : Type 0} (w : Steps) (exact : V → ExactTotal) (x : ExactTotal) (t : ℕ) (old : List V) (old_from : List ℕ) (n : ℕ) (new : List V) (new_from : List ℕ) → IsTried w exact x t old old_from n new new_from → ¬ (IsLess (w.after x t n) (totals_of exact w.empty new n)) → IsTried w exact x t old old_from (n + 1) new new_from
+pub IsTried-kept : {V : Type 0} (w : TotalRule) (exact : V → ExactTotal) (x : ExactTotal) (t : ℕ) (old : List V) (old_from : List ℕ) (n : ℕ) (new : List V) (new_from : List ℕ) → IsTried w exact x t old old_from n new new_from → ¬ (IsLess (w.after x t n) (totals_of exact w.empty new n)) → IsTried w exact x t old old_from (n + 1) new new_from
 IsTried-kept w exact x t old old_from n new new_from h above =
     let here = h.rest n (omega arith) in
     let above_old = subst (λ (y : ExactTotal). ¬ (IsLess (w.after x t n) y)) here.0 above in
@@ -56,7 +56,7 @@ IsTried-kept w exact x t old old_from n new new_from h above =
         absurd (above_n (subst (λ m. IsLess (w.after x t m) (totals_of exact w.empty old m)) e less))
 
 -- one that is less is taken
-pub IsTried-taken : {V : Type 0} (w : Steps) (exact : V → ExactTotal) (x : ExactTotal) (t : ℕ) (old : List V) (old_from : List ℕ) (n : ℕ) (new : List V) (new_from : List ℕ) (v : V) → IsTried w exact x t old old_from n new new_from → n < length new → n < length new_from → SameTotal (exact v) (w.after x t n) → IsLess (w.after x t n) (totals_of exact w.empty new n) → IsTried w exact x t old old_from (n + 1) (set new n v) (set new_from n t)
+pub IsTried-taken : {V : Type 0} (w : TotalRule) (exact : V → ExactTotal) (x : ExactTotal) (t : ℕ) (old : List V) (old_from : List ℕ) (n : ℕ) (new : List V) (new_from : List ℕ) (v : V) → IsTried w exact x t old old_from n new new_from → n < length new → n < length new_from → SameTotal (exact v) (w.after x t n) → IsLess (w.after x t n) (totals_of exact w.empty new n) → IsTried w exact x t old old_from (n + 1) (set new n v) (set new_from n t)
 IsTried-taken w exact x t old old_from n new new_from v h in_values in_from same less =
     let here = h.rest n (omega arith) in
     let less_old = subst (λ (y : ExactTotal). IsLess (w.after x t n) y) here.0 less in
@@ -95,19 +95,19 @@ IsTried-taken w exact x t old old_from n new new_from v h in_values in_from same
         )
 
 -- the same, of the value that was found and the one that stands there
-pub IsTried-kept_at : {V : Type 0} (w : Steps) (exact : V → ExactTotal) (x : ExactTotal) (t : ℕ) (old : List V) (old_from : List ℕ) (n : ℕ) (new : List V) (new_from : List ℕ) (found here : V) → IsTried w exact x t old old_from n new new_from → n < length new → here ≡ get_or new n here → SameTotal (exact found) (w.after x t n) → ¬ (IsLess (exact found) (exact here)) → IsTried w exact x t old old_from (n + 1) new new_from
+pub IsTried-kept_at : {V : Type 0} (w : TotalRule) (exact : V → ExactTotal) (x : ExactTotal) (t : ℕ) (old : List V) (old_from : List ℕ) (n : ℕ) (new : List V) (new_from : List ℕ) (found here : V) → IsTried w exact x t old old_from n new new_from → n < length new → here ≡ get_or new n here → SameTotal (exact found) (w.after x t n) → ¬ (IsLess (exact found) (exact here)) → IsTried w exact x t old old_from (n + 1) new new_from
 IsTried-kept_at w exact x t old old_from n new new_from found here h below at same above =
     let e : totals_of exact w.empty new n ≡ exact here = totals_of-at exact w.empty new n here below ∙ ap exact (sym at) in
     let p = not_more_trans (exact here) (exact found) (w.after x t n) above (not_less-same (w.after x t n) (exact found) (sym same)) in
     IsTried-kept w exact x t old old_from n new new_from h (subst (λ (y : ExactTotal). ¬ (IsLess (w.after x t n) y)) (sym e) p)
 
-pub IsTried-taken_at : {V : Type 0} (w : Steps) (exact : V → ExactTotal) (x : ExactTotal) (t : ℕ) (old : List V) (old_from : List ℕ) (n : ℕ) (new : List V) (new_from : List ℕ) (found here : V) → IsTried w exact x t old old_from n new new_from → n < length new → n < length new_from → here ≡ get_or new n here → SameTotal (exact found) (w.after x t n) → IsLess (exact found) (exact here) → IsTried w exact x t old old_from (n + 1) (set new n found) (set new_from n t)
+pub IsTried-taken_at : {V : Type 0} (w : TotalRule) (exact : V → ExactTotal) (x : ExactTotal) (t : ℕ) (old : List V) (old_from : List ℕ) (n : ℕ) (new : List V) (new_from : List ℕ) (found here : V) → IsTried w exact x t old old_from n new new_from → n < length new → n < length new_from → here ≡ get_or new n here → SameTotal (exact found) (w.after x t n) → IsLess (exact found) (exact here) → IsTried w exact x t old old_from (n + 1) (set new n found) (set new_from n t)
 IsTried-taken_at w exact x t old old_from n new new_from found here h below below_from at same less =
     let e : totals_of exact w.empty new n ≡ exact here = totals_of-at exact w.empty new n here below ∙ ap exact (sym at) in
     let p = not_more_less (w.after x t n) (exact found) (exact here) (not_less-same (exact found) (w.after x t n) same) less in
     IsTried-taken w exact x t old old_from n new new_from found h below below_from same (subst (λ (y : ExactTotal). IsLess (w.after x t n) y) (sym e) p)
 
-pub StepsFit-more : (w : Steps) (fits : ExactTotal → Type 0) (x : ExactTotal) (t n : ℕ) → StepsFit w fits x t n → ¬ (¬ (fits (w.after x t n))) → StepsFit w fits x t (n + 1)
+pub StepsFit-more : (w : TotalRule) (fits : ExactTotal → Type 0) (x : ExactTotal) (t n : ℕ) → StepsFit w fits x t n → ¬ (¬ (fits (w.after x t n))) → StepsFit w fits x t (n + 1)
 StepsFit-more w fits x t n h fit s below = by_cases (cases_lt s n)
   where
     by_cases : (s < n) ⊎ (n ≤ s) → ¬ (¬ (fits (w.after x t s)))

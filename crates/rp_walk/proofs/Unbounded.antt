@@ -1,22 +1,21 @@
 use Rattle.std.proofs.Common.{◌≡◌, ℕ, zero, suc, ◌+◌, ◌-◌, ◌<◌, ◌≤◌, arith, ◌⊎◌, inl, inr, ap, sym, ◌∙◌, subst, List, [], ◌∷◌, length, get_or, take, All}
 use Rattle.std.proofs.Math.Seq.{take-length}
 use Rattle.std.proofs.lemmas.Bool.{cases_lt}
-use Rattle.rp_walk.specs.ExactTotal.{ExactTotal, IsLess}
-use Rattle.rp_walk.specs.Walk.{Steps, IsTotal, end_of, total_after, KeepsOrder}
-use Rattle.rp_walk.specs.LeastTotals.{IsLive}
+use Rattle.rp_walk.specs.ExactTotal.{ExactTotal, IsLess, SameTotal}
+use Rattle.rp_walk.specs.Walk.{prefix_total, TotalRule, IsTotal, end_of, total_after, KeepsOrder}
+use Rattle.rp_walk.specs.LeastTotals.{IsLeast, IsLive}
 use Rattle.rp_walk.specs.Settled.{HasLeastTotals}
-use Rattle.rp_walk.specs.Level.{prefix_total}
-use Rattle.rp_walk.proofs.Order.{IsLess-irrefl, not_more_trans, not_less-same}
+use Rattle.rp_walk.proofs.Order.{IsLess-irrefl, not_more_trans, not_less-same, same_not_less}
 use Rattle.rp_walk.proofs.Walks.{All-cons}
 use Rattle.rp_walk.proofs.Paths.{IsTotal-prefix, follow}
 use Rattle.rp_walk.proofs.Cycles.{segment, drop-segment, end_of-segment, total_after-segment}
 use Rattle.rp_walk.proofs.Repeats.{Repeats, repeats}
 
 -- the observations of a walk by their places
-abbrev pub place_of : ℕ → List ℕ → ℕ → ℕ
-place_of first rest m = get_or (first ∷ rest) m 0
+abbrev pub entry_of : ℕ → List ℕ → ℕ → ℕ
+entry_of first rest m = get_or (first ∷ rest) m 0
 
-segment-whole : (first : ℕ) (rest : List ℕ) → rest ≡ segment (place_of first rest) 0 (length rest)
+segment-whole : (first : ℕ) (rest : List ℕ) → rest ≡ segment (entry_of first rest) 0 (length rest)
 segment-whole first rest =
     let parts = drop-segment (first ∷ rest) 0 (length rest) (omega arith) in
     let all : take (length rest) rest ≡ rest = take-length rest in
@@ -26,32 +25,32 @@ segment-whole first rest =
     tail [] = []
     tail (x ∷ xs) = xs
 
-place_of-within : (n first : ℕ) (rest : List ℕ) → first < n → All (λ s. s < n) rest → (m : ℕ) → m ≤ length rest → place_of first rest m < n
-place_of-within n first rest h within zero few = h
-place_of-within n first rest h within (suc m) few = within m 0 (omega arith)
+entry_of-within : (n first : ℕ) (rest : List ℕ) → first < n → All (λ s. s < n) rest → (m : ℕ) → m ≤ length rest → entry_of first rest m < n
+entry_of-within n first rest h within zero few = h
+entry_of-within n first rest h within (suc m) few = within m 0 (omega arith)
 
-place_of-end : (first : ℕ) (rest : List ℕ) → place_of first rest (length rest) ≡ end_of first rest
-place_of-end first rest =
+entry_of-end : (first : ℕ) (rest : List ℕ) → entry_of first rest (length rest) ≡ end_of first rest
+entry_of-end first rest =
     let e : 0 + length rest ≡ length rest = omega arith in
-    ap (place_of first rest) (sym e) ∙ sym (end_of-segment (place_of first rest) 0 (length rest)) ∙ ap (end_of first) (sym (segment-whole first rest))
+    ap (entry_of first rest) (sym e) ∙ sym (end_of-segment (entry_of first rest) 0 (length rest)) ∙ ap (end_of first) (sym (segment-whole first rest))
 
-place_of-total : (w : Steps) (first : ℕ) (rest : List ℕ) → prefix_total w (place_of first rest) (length rest) ≡ total_after w w.empty first rest
-place_of-total w first rest =
+entry_of-total : (w : TotalRule) (first : ℕ) (rest : List ℕ) → prefix_total w (entry_of first rest) (length rest) ≡ total_after w w.empty first rest
+entry_of-total w first rest =
     let e : 0 + length rest ≡ length rest = omega arith in
-    ap (prefix_total w (place_of first rest)) (sym e)
-    ∙ sym (total_after-segment w (place_of first rest) 0 (length rest))
+    ap (prefix_total w (entry_of first rest)) (sym e)
+    ∙ sym (total_after-segment w (entry_of first rest) 0 (length rest))
     ∙ ap (total_after w w.empty first) (sym (segment-whole first rest))
 
 -- no walk to s has a lesser total
-abbrev IsLowest : Steps → ℕ → ExactTotal → Type 0
+abbrev IsLowest : TotalRule → ℕ → ExactTotal → Type 0
 IsLowest w s y = (j : ℕ) (z : ExactTotal) → IsTotal w j s z → ¬ (IsLess z y)
 
 -- some walk with fewer steps than observations has no greater total
-abbrev HasShort : Steps → ℕ → ExactTotal → Type 0
+abbrev HasShort : TotalRule → ℕ → ExactTotal → Type 0
 HasShort w s y = (i : ℕ) × (z : ExactTotal) × (i < w.count) × IsTotal w i s z × (¬ (IsLess y z))
 
 -- a least walk whose places repeat is no less than one without the part between
-shortened : (w : Steps) (keeps : KeepsOrder w) (p : ℕ → ℕ) (a d e : ℕ) → ((m : ℕ) → m ≤ a + d + e → p m < w.count) → p a ≡ p (a + d) → IsLowest w (p (a + d + e)) (prefix_total w p (a + d + e)) → (z : ExactTotal) × IsTotal w (a + e) (p (a + d + e)) z × (¬ (IsLess (prefix_total w p (a + d + e)) z))
+shortened : (w : TotalRule) (keeps : KeepsOrder w) (p : ℕ → ℕ) (a d e : ℕ) → ((m : ℕ) → m ≤ a + d + e → p m < w.count) → p a ≡ p (a + d) → IsLowest w (p (a + d + e)) (prefix_total w p (a + d + e)) → (z : ExactTotal) × IsTotal w (a + e) (p (a + d + e)) z × (¬ (IsLess (prefix_total w p (a + d + e)) z))
 shortened w keeps p a d e within same lowest =
     let front = subst (λ n. IsTotal w a n (prefix_total w p a)) same (IsTotal-prefix w p a (λ m h. within m (omega arith))) in
     let rest = follow w keeps p (a + d + e) (a + d) e a (prefix_total w p a) within (omega arith) front in
@@ -65,7 +64,7 @@ shortened w keeps p a d e within same lowest =
         lowest (a + d + (d + e)) rest.total (subst (λ m. IsTotal w (a + d + (d + e)) (p m) rest.total) n rest.is_total)
         (subst (λ m. IsLess rest.total (prefix_total w p m)) n (rest.less less))
 
-HasShort-lowest : (w : Steps) (keeps : KeepsOrder w) (fuel j s : ℕ) (y : ExactTotal) → j < fuel → IsTotal w j s y → IsLowest w s y → HasShort w s y
+HasShort-lowest : (w : TotalRule) (keeps : KeepsOrder w) (fuel j s : ℕ) (y : ExactTotal) → j < fuel → IsTotal w j s y → IsLowest w s y → HasShort w s y
 HasShort-lowest w keeps zero j s y few reached lowest = absurd (omega arith)
 HasShort-lowest w keeps (suc fuel) j s y few reached lowest =
     by_cases (cases_lt j w.count) (λ i z less r l. HasShort-lowest w keeps fuel i s z (omega arith) r l)
@@ -74,17 +73,17 @@ HasShort-lowest w keeps (suc fuel) j s y few reached lowest =
     further i z kept short = (short.0, short.1, short.2, short.3, not_more_trans short.1 z y short.4 kept)
 
     p : ℕ → ℕ
-    p = place_of reached.first reached.rest
+    p = entry_of reached.first reached.rest
 
     cut : (a d e : ℕ) → 0 < d → a + d + e ≡ j → p a ≡ p (a + d) → ((i : ℕ) (z : ExactTotal) → i < j → IsTotal w i s z → IsLowest w s z → HasShort w s z) → HasShort w s y
     cut a d e some whole same recurse =
         let steps : a + d + e ≡ length reached.rest = omega (arith, reached.steps) in
-        let end : p (a + d + e) ≡ s = ap p steps ∙ place_of-end reached.first reached.rest ∙ reached.ends in
-        let total : prefix_total w p (a + d + e) ≡ y = ap (prefix_total w p) steps ∙ place_of-total w reached.first reached.rest ∙ reached.total in
+        let end : p (a + d + e) ≡ s = ap p steps ∙ entry_of-end reached.first reached.rest ∙ reached.ends in
+        let total : prefix_total w p (a + d + e) ≡ y = ap (prefix_total w p) steps ∙ entry_of-total w reached.first reached.rest ∙ reached.total in
         let lowest_end = subst (λ n. IsLowest w n y) (sym end) lowest in
         let lowest_total = subst (λ (x : ExactTotal). IsLowest w (p (a + d + e)) x) (sym total) lowest_end in
         let part = shortened w keeps p a d e
-        (λ m h. place_of-within w.count reached.first reached.rest reached.walk.begins_within reached.walk.goes_within m (omega arith))
+        (λ m h. entry_of-within w.count reached.first reached.rest reached.walk.begins_within reached.walk.goes_within m (omega arith))
         same lowest_total in
         let part_to = subst (λ n. IsTotal w (a + e) n part.0) end part.1 in
         let kept = subst (λ (x : ExactTotal). ¬ (IsLess x part.0)) total part.2 in
@@ -103,7 +102,7 @@ HasShort-lowest w keeps (suc fuel) j s y few reached lowest =
         (omega (arith, reached.steps))) recurse
 
 -- where the last level made a total less, some observation has no least total over the walks of any length
-pub no_least_totals : (w : Steps) (keeps : KeepsOrder w) (s : ℕ) → s < w.count → IsLive w w.count s → ¬ (HasLeastTotals w)
+pub no_least_totals : (w : TotalRule) (keeps : KeepsOrder w) (s : ℕ) → s < w.count → IsLive w w.count s → ¬ (HasLeastTotals w)
 no_least_totals w keeps s hs (inl e) all = absurd (omega arith)
 no_least_totals w keeps s hs (inr (x, y, hx, hy, less)) all =
     let l = all s hs in
@@ -116,3 +115,12 @@ no_least_totals w keeps s hs (inr (x, y, hx, hy, less)) all =
     let a = not_more_trans r.1 q.1 x above (not_less-same x q.1 (sym q.4)) in
     let b = not_more_trans short.1 r.1 x short.4 a in
     not_more_trans y short.1 x not_y b less
+
+-- a least total is that of a walk with fewer steps than there are observations
+pub IsLeast-short : (w : TotalRule) (keeps : KeepsOrder w) (s : ℕ) (x : ExactTotal) → IsLeast w s x → (i : ℕ) × (z : ExactTotal) × (i < w.count) × IsTotal w i s z × SameTotal z x
+IsLeast-short w keeps s x least =
+    let r = least.reached in
+    let lowest : IsLowest w s r.1 = λ j z reached. not_more_trans r.1 x z (not_less-same x r.1 (sym r.3)) (least.lowest j z reached) in
+    let short = HasShort-lowest w keeps (suc r.0) r.0 s r.1 (omega arith) r.2 lowest in
+    let above = not_more_trans short.1 r.1 x short.4 (not_less-same x r.1 (sym r.3)) in
+    (short.0, short.1, short.2, short.3, same_not_less short.1 x (least.lowest short.0 short.1 short.3) above)

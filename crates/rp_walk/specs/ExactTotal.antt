@@ -1,3 +1,4 @@
+-- Exact totals of walks and their order: fractions of whole numbers (Landau, Foundations of Analysis, chapters 2 and 4).
 use Rattle.std.specs.Prelude.{◌≡◌, ℕ, ◌≤◌, ℤ, pos, ◌*ℤ◌, ◌<ℤ◌}
 
 -- The exact total of a walk: a fraction of whole numbers without bound, with a positive denominator.

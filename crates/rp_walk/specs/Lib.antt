@@ -1,7 +1,9 @@
 pub mod ExactTotal
 pub mod Walk
 pub mod LeastTotals
+pub mod LevelWalk
 pub mod Settled
-pub mod Level
-pub mod Advance
+pub mod InnerLevels
+pub mod InnerAdvance
 pub mod Outcome
+pub mod Sums

@@ -1,31 +1,32 @@
+-- Pairs that break, closed walks that fall below their start, and least totals at all observations (this project's own).
 use Rattle.std.specs.Prelude.{◌≡◌, ℕ, ◌<◌, ◌⊎◌, List, [], ◌∷◌, length}
 use Rattle.rp_walk.specs.ExactTotal.{ExactTotal, IsLess, SameTotal}
-use Rattle.rp_walk.specs.Walk.{Steps, IsWalk, IsTotal, end_of, total_after}
+use Rattle.rp_walk.specs.Walk.{TotalRule, AreObservations, IsTotal, end_of, total_after}
 use Rattle.rp_walk.specs.LeastTotals.{IsLeast}
 
 -- The closed walk s, t, s ends below its start, for every start that a walk reaches at s.
-abbrev pub PairBreaks : Steps → ℕ → ℕ → Type 0
+abbrev pub PairBreaks : TotalRule → ℕ → ℕ → Type 0
 PairBreaks w s t = (k : ℕ) (x : ExactTotal) → IsTotal w k s x → IsLess (total_after w x s (t ∷ s ∷ [])) x
 
 -- No observation between s and n breaks with s.
-abbrev pub NoPartnerBelow : Steps → ℕ → ℕ → Type 0
+abbrev pub NoPartnerBelow : TotalRule → ℕ → ℕ → Type 0
 NoPartnerBelow w s n = (t : ℕ) → s < t → t < n → ¬ (PairBreaks w s t)
 
 -- The first pair that breaks, in the order of s and then t, with s < t.
-pub record IsFirstPair (w : Steps) (s t : ℕ) : Type 0 where
+pub record IsFirstBreakingPair (w : TotalRule) (s t : ℕ) : Type 0 where
   pub in_order : s < t
   pub within : t < w.count
   pub breaks : PairBreaks w s t
   pub none_before : (s' t' : ℕ) → (s' < s) ⊎ ((s' ≡ s) × (t' < t)) → s' < t' → t' < w.count → ¬ (PairBreaks w s' t')
 
-abbrev pub NoPairBreaks : Steps → Type 0
+abbrev pub NoPairBreaks : TotalRule → Type 0
 NoPairBreaks w = (s t : ℕ) → s < t → t < w.count → ¬ (PairBreaks w s t)
 
 -- The walk is closed, the start is the total of some walk to its beginning, and it ends below that start.
-pub record IsViolation (w : Steps) (start : ExactTotal) (walk : List ℕ) : Type 0 where
+pub record FallsBelowStart (w : TotalRule) (start : ExactTotal) (walk : List ℕ) : Type 0 where
   pub first : ℕ
   pub rest : List ℕ
-  pub is_walk : IsWalk w first rest
+  pub is_walk : AreObservations w first rest
   pub walk_is : walk ≡ first ∷ rest
   pub has_step : 0 < length rest
   pub closed : end_of first rest ≡ first
@@ -33,5 +34,5 @@ pub record IsViolation (w : Steps) (start : ExactTotal) (walk : List ℕ) : Type
   pub ends_below : IsLess (total_after w start first rest) start
 
 -- Every observation has a least total over the walks of any length that end there.
-abbrev pub HasLeastTotals : Steps → Type 0
+abbrev pub HasLeastTotals : TotalRule → Type 0
 HasLeastTotals w = (s : ℕ) → s < w.count → (x : ExactTotal) × IsLeast w s x

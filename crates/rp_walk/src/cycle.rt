@@ -1,9 +1,11 @@
-ghost use Rattle.std.specs.Prelude.{◌≡◌, ◌≢◌, ℕ, suc, ◌+◌, ◌*◌, ◌<◌, ◌≤◌, IfOk, IfSome, IfNone, All, length, slice_index};
+ghost use Rattle.std.specs.Prelude.{◌≡◌, ℕ, suc, ◌*◌, ◌<◌, IfOk, IfSome, IfNone, All, length, slice_index};
 ghost use Rattle.rp_walk.specs.ExactTotal.{SameTotal};
-ghost use Rattle.rp_walk.specs.Level.{IsFound, Remembers, prefix_total};
-ghost use Rattle.rp_walk.specs.LeastTotals.{IsLive, NoneTooWide};
+ghost use Rattle.rp_walk.specs.InnerLevels.{Remembers};
+ghost use Rattle.rp_walk.specs.LeastTotals.{NoneTooWide};
+ghost use Rattle.rp_walk.specs.LevelWalk.{IsFirstClosedPart, IsFirstLive, IsLevelWalk};
 ghost use Rattle.rp_walk.specs.Outcome.{IsSettled};
-ghost use Rattle.rp_walk.specs.Settled.{IsFirstPair, NoPairBreaks, NoPartnerBelow, PairBreaks};
+ghost use Rattle.rp_walk.specs.Settled.{IsFirstBreakingPair, NoPairBreaks, NoPartnerBelow, PairBreaks};
+ghost use Rattle.rp_walk.specs.Walk.{prefix_total};
 
 use crate::level::filled;
 use crate::outcome::Settled;
@@ -13,8 +15,8 @@ use std::alloc::Global;
 
 /// The first pair that breaks, in the order of s and then t, with s < t.
 pub(crate) fn first_breaking_pair<T: Total>(total: &T) -> Option<(u32, u32)>
-    ensures first { IfSome result (λ pair. IsFirstPair (T.steps total.now) pair.0 pair.1) }
-    ensures none { IfNone result (NoPairBreaks (T.steps total.now)) }
+    ensures first { IfSome result (λ pair. IsFirstBreakingPair (T.rule total.now) pair.0 pair.1) }
+    ensures none { IfNone result (NoPairBreaks (T.rule total.now)) }
 {
     for s in 0..total.n() {
         match first_breaking_partner(total, s) {
@@ -27,12 +29,12 @@ pub(crate) fn first_breaking_pair<T: Total>(total: &T) -> Option<(u32, u32)>
 
 /// The first t after s with which s breaks.
 fn first_breaking_partner<T: Total>(total: &T, s: u32) -> Option<u32>
-    requires { s < (T.steps total.now).count }
+    requires { s < (T.rule total.now).count }
     ensures after { IfSome result (λ t. s < t) }
-    ensures within { IfSome result (λ t. t < (T.steps total.now).count) }
-    ensures breaks { IfSome result (PairBreaks (T.steps total.now) s) }
-    ensures first { IfSome result (NoPartnerBelow (T.steps total.now) s) }
-    ensures none { IfNone result (NoPartnerBelow (T.steps total.now) s (T.steps total.now).count) }
+    ensures within { IfSome result (λ t. t < (T.rule total.now).count) }
+    ensures breaks { IfSome result (PairBreaks (T.rule total.now) s) }
+    ensures first { IfSome result (NoPartnerBelow (T.rule total.now) s) }
+    ensures none { IfNone result (NoPartnerBelow (T.rule total.now) s (T.rule total.now).count) }
 {
     let n = total.n();
     for t in s + 1..n {
@@ -50,8 +52,8 @@ pub(crate) fn cycle_of_pair<T: Total>(
     s: u32,
     t: u32,
 ) -> Result<Settled<T::Value>, NoMemory>
-    requires { IsFirstPair (T.steps total.now) s t }
-    ensures { IfOk result (IsSettled (T.steps total.now) T.fits T.exact) }
+    requires { IsFirstBreakingPair (T.rule total.now) s t }
+    ensures { IfOk result (IsSettled (T.rule total.now) T.fits T.exact) }
 {
     let start = total.start();
     let steps = vec![in alloc; s, t, s]?;
@@ -69,15 +71,14 @@ pub(crate) fn cycle_within<T: Total>(
     history: &[u32],
     end: u32,
 ) -> Result<Settled<T::Value>, NoMemory>
-    requires history_len { length history.now ≡ (T.steps total.now).count * (T.steps total.now).count }
-    requires remembers { Remembers (T.steps total.now) (T.steps total.now).count history.now }
-    requires end_in { end < (T.steps total.now).count }
-    requires end_live { IsLive (T.steps total.now) (T.steps total.now).count end }
-    requires no_pair { NoPairBreaks (T.steps total.now) }
-    requires none_too_wide { NoneTooWide (T.steps total.now) T.fits }
-    ensures { IfOk result (IsSettled (T.steps total.now) T.fits T.exact) }
+    requires history_len { let n = (T.rule total.now).count in length history.now ≡ n * n }
+    requires remembers { Remembers (T.rule total.now) (T.rule total.now).count history.now }
+    requires end_first { IsFirstLive (T.rule total.now) (T.rule total.now).count end }
+    requires no_pair { NoPairBreaks (T.rule total.now) }
+    requires none_too_wide { NoneTooWide (T.rule total.now) T.fits }
+    ensures { IfOk result (IsSettled (T.rule total.now) T.fits T.exact) }
 {
-    let walk = walk_back(alloc, total, history, end)?;
+    let walk = level_walk(alloc, total, history, end)?;
     let (first, last) = first_closed_part(alloc, walk.as_slice(), total.n())?;
     let start = total_at(total, walk.as_slice(), first);
     let steps = Vec::from_slice(alloc, &walk[first..last + 1])?;
@@ -88,19 +89,16 @@ pub(crate) fn cycle_within<T: Total>(
 }
 
 /// The walk that the levels found to `end`, from its last observation back to its first.
-fn walk_back<T: Total>(
+fn level_walk<T: Total>(
     alloc: Global,
     total: &T,
     history: &[u32],
     end: u32,
 ) -> Result<Vec<u32>, NoMemory>
-    requires history_len { length history.now ≡ (T.steps total.now).count * (T.steps total.now).count }
-    requires remembers { Remembers (T.steps total.now) (T.steps total.now).count history.now }
-    requires end_in { end < (T.steps total.now).count }
-    requires end_live { IsLive (T.steps total.now) (T.steps total.now).count end }
-    ensures len { IfOk result (λ walk. length walk.items ≡ (T.steps total.now).count + 1) }
-    ensures found { IfOk result (λ walk.
-        IsFound (T.steps total.now) (T.steps total.now).count (slice_index walk.items)) }
+    requires history_len { let n = (T.rule total.now).count in length history.now ≡ n * n }
+    requires remembers { Remembers (T.rule total.now) (T.rule total.now).count history.now }
+    requires end_first { IsFirstLive (T.rule total.now) (T.rule total.now).count end }
+    ensures { IfOk result (λ walk. IsLevelWalk (T.rule total.now) walk.items) }
 {
     let n = total.n() as usize;
     let mut walk = filled(alloc, total.n() + 1, end)?;
@@ -117,11 +115,7 @@ fn walk_back<T: Total>(
 fn first_closed_part(alloc: Global, walk: &[u32], n: u32) -> Result<(usize, usize), NoMemory>
     requires within { All (λ s. s < n) walk.now }
     requires long { n < length walk.now }
-    ensures in_order { IfOk result (λ part. part.0 < part.1) }
-    ensures in_walk { IfOk result (λ part. part.1 < length walk.now) }
-    ensures closed { IfOk result (λ part. slice_index walk.now part.0 ≡ slice_index walk.now part.1) }
-    ensures first { IfOk result (λ part. (i j : ℕ) → i < j → j < part.1
-        → slice_index walk.now i ≢ slice_index walk.now j) }
+    ensures { IfOk result (λ part. IsFirstClosedPart walk.now part.0 part.1) }
 {
     let mut place = vec![in alloc; walk.len(); n as usize]?;
     for i in 0..walk.len() {
@@ -138,10 +132,11 @@ fn first_closed_part(alloc: Global, walk: &[u32], n: u32) -> Result<(usize, usiz
 /// The total of a walk as far as one of its places, where its steps fit.
 fn total_at<T: Total>(total: &T, walk: &[u32], place: usize) -> T::Value
     requires in_walk { place < length walk.now }
-    requires within { All (λ s. s < (T.steps total.now).count) walk.now }
-    requires fit { let w = T.steps total.now in let p = slice_index walk.now in
+    requires within { All (λ s. s < (T.rule total.now).count) walk.now }
+    requires fit { let w = T.rule total.now in let p = slice_index walk.now in
         (m : ℕ) → m < place → ¬ (¬ (T.fits (w.after (prefix_total w p m) (p m) (p (suc m))))) }
-    ensures { SameTotal (prefix_total (T.steps total.now) (slice_index walk.now) place) (T.exact result) }
+    ensures { SameTotal (prefix_total (T.rule total.now) (slice_index walk.now) place)
+        (T.exact result) }
 {
     let mut value = total.start();
     for i in 0..place {

@@ -2,22 +2,21 @@
 ghost use Rattle.std.specs.Prelude.{◌≡◌, ℕ, ◌+◌, ◌<◌, ◌≤◌, List};
 ghost use Rattle.rp_walk.specs.ExactTotal.{ExactTotal, IsLess};
 ghost use Rattle.rp_walk.specs.LeastTotals.{IsLessThanShorter};
-ghost use Rattle.rp_walk.specs.Level.{prefix_total};
-ghost use Rattle.rp_walk.specs.Settled.{HasLeastTotals, IsViolation};
-ghost use Rattle.rp_walk.specs.Walk.{KeepsOrder, StartsAlike, Steps};
+ghost use Rattle.rp_walk.specs.Settled.{HasLeastTotals, FallsBelowStart};
+ghost use Rattle.rp_walk.specs.Walk.{KeepsOrder, StartsAlike, TotalRule, prefix_total};
 
 /// A walk of as many steps as there are observations, p 0, p 1, .. to p n, whose total is less than
 /// that of every walk with fewer steps to its end, holds a closed part that ends below its start.
 pub fn long_walk_holds_closed_part()
-    ensures { (w : Steps) (p : ℕ → ℕ) → KeepsOrder w → ((m : ℕ) → m ≤ w.count → p m < w.count)
+    ensures { (w : TotalRule) (p : ℕ → ℕ) → KeepsOrder w → ((m : ℕ) → m ≤ w.count → p m < w.count)
         → IsLessThanShorter w w.count (p w.count) (prefix_total w p w.count)
         → (a d : ℕ) × (0 < d) × (a + d ≤ w.count) × (p a ≡ p (a + d))
         × IsLess (prefix_total w p (a + d)) (prefix_total w p a) }
 {}
 
 /// Where a closed walk that ends below one start does so from every start, least totals at all
-/// observations leave no violation.
-pub fn least_totals_exclude_violations()
-    ensures { (w : Steps) → KeepsOrder w → StartsAlike w → HasLeastTotals w
-        → (start : ExactTotal) (walk : List ℕ) → ¬ (IsViolation w start walk) }
+/// observations leave no walk that does.
+pub fn least_totals_leave_no_fall()
+    ensures { (w : TotalRule) → KeepsOrder w → StartsAlike w → HasLeastTotals w
+        → (start : ExactTotal) (walk : List ℕ) → ¬ (FallsBelowStart w start walk) }
 {}

@@ -1,6 +1,6 @@
 ghost use Rattle.std.specs.Prelude.{◌≡◌, ℕ, ◌<◌, ◌≤◌, IfOk, IfSome, IfNone, vec_len, replicate, slice_index};
-ghost use Rattle.rp_walk.specs.Advance.{IsAdvance};
-ghost use Rattle.rp_walk.specs.Level.{IsTried, StepsFit};
+ghost use Rattle.rp_walk.specs.InnerAdvance.{IsAdvance};
+ghost use Rattle.rp_walk.specs.InnerLevels.{IsTried, StepsFit};
 
 use crate::total::Total;
 use rp_num::NoMemory;
@@ -8,7 +8,7 @@ use std::alloc::Global;
 
 /// The least totals over the walks of at most k steps, by the observation where they end.
 #[derive(Drop)]
-pub(crate) struct Level<V> {
+pub(crate) struct LevelTotals<V> {
     pub(crate) values: Vec<V>,
     /// The observation before the last one of the walk that this level found, or the number of
     /// observations where it found no lesser total.
@@ -18,28 +18,28 @@ pub(crate) struct Level<V> {
 /// What comes of one more step.
 #[derive(Drop)]
 pub(crate) enum Advance<V> {
-    Level(Level<V>),
+    Next(LevelTotals<V>),
     TooWide { from: u32, to: u32 },
 }
 
-impl<V: Copy> Level<V> {
+impl<V: Copy> LevelTotals<V> {
     /// The walks of no step. Each observation may be gone on from.
-    pub(crate) fn at_zero(alloc: Global, n: u32, start: V) -> Result<Level<V>, NoMemory>
+    pub(crate) fn at_zero(alloc: Global, n: u32, start: V) -> Result<LevelTotals<V>, NoMemory>
         ensures values { IfOk result (λ level. level.values.items ≡ replicate n start) }
         ensures from { IfOk result (λ level. level.from.items ≡ replicate n 0) }
     {
-        Ok(Level {
+        Ok(LevelTotals {
             values: filled(alloc, n, start)?,
             from: filled(alloc, n, 0)?,
         })
     }
 
     /// The level after this one, before any step is tried.
-    fn unimproved(&self, alloc: Global, n: u32) -> Result<Level<V>, NoMemory>
+    fn unimproved(&self, alloc: Global, n: u32) -> Result<LevelTotals<V>, NoMemory>
         ensures values { IfOk result (λ level. level.values.items ≡ self.now.values.items) }
         ensures from { IfOk result (λ level. level.from.items ≡ replicate n n) }
     {
-        Ok(Level {
+        Ok(LevelTotals {
             values: Vec::from_slice(alloc, self.values.as_slice())?,
             from: filled(alloc, n, n)?,
         })
@@ -50,6 +50,8 @@ impl<V: Copy> Level<V> {
         requires { vec_len self.now.from ≡ n }
         ensures within { IfSome result (λ s. s < n) }
         ensures improved { IfSome result (λ s. slice_index self.now.from.items s < n) }
+        ensures first { IfSome result (λ s. (i : ℕ) → i < s
+            → n ≤ slice_index self.now.from.items i) }
         ensures none { IfNone result ((s : ℕ) → s < n → n ≤ slice_index self.now.from.items s) }
     {
         for s in 0..n {
@@ -72,18 +74,23 @@ pub(crate) fn filled<V: Copy>(alloc: Global, n: u32, value: V) -> Result<Vec<V>,
 
 /// Tries the steps from one observation with the total `v` to each. The answer is the first to which
 /// the step does not fit.
-fn try_steps<T: Total>(total: &T, v: T::Value, from: u32, next: &mut Level<T::Value>) -> Option<u32>
-    requires from_in { from < (T.steps total.now).count }
-    requires values_len { vec_len next.old.values ≡ (T.steps total.now).count }
-    requires from_len { vec_len next.old.from ≡ (T.steps total.now).count }
-    ensures tried { IfNone result (IsTried (T.steps total.now) T.exact (T.exact v) from
-        next.old.values.items next.old.from.items (T.steps total.now).count
+fn try_steps<T: Total>(
+    total: &T,
+    v: T::Value,
+    from: u32,
+    next: &mut LevelTotals<T::Value>,
+) -> Option<u32>
+    requires from_in { from < (T.rule total.now).count }
+    requires values_len { vec_len next.old.values ≡ (T.rule total.now).count }
+    requires from_len { vec_len next.old.from ≡ (T.rule total.now).count }
+    ensures tried { IfNone result (IsTried (T.rule total.now) T.exact (T.exact v) from
+        next.old.values.items next.old.from.items (T.rule total.now).count
         next.new.values.items next.new.from.items) }
     ensures fit { IfNone result
-        (StepsFit (T.steps total.now) T.fits (T.exact v) from (T.steps total.now).count) }
-    ensures within { IfSome result (λ to. to < (T.steps total.now).count) }
-    ensures wide { IfSome result (λ to. ¬ (T.fits ((T.steps total.now).after (T.exact v) from to))) }
-    ensures fit_before { IfSome result (StepsFit (T.steps total.now) T.fits (T.exact v) from) }
+        (StepsFit (T.rule total.now) T.fits (T.exact v) from (T.rule total.now).count) }
+    ensures within { IfSome result (λ to. to < (T.rule total.now).count) }
+    ensures wide { IfSome result (λ to. ¬ (T.fits ((T.rule total.now).after (T.exact v) from to))) }
+    ensures fit_before { IfSome result (StepsFit (T.rule total.now) T.fits (T.exact v) from) }
 {
     for to in 0..total.n() {
         match total.step(v, from, to) {
@@ -103,11 +110,11 @@ fn try_steps<T: Total>(total: &T, v: T::Value, from: u32, next: &mut Level<T::Va
 pub(crate) fn next_level<T: Total>(
     alloc: Global,
     total: &T,
-    level: &Level<T::Value>,
+    level: &LevelTotals<T::Value>,
 ) -> Result<Advance<T::Value>, NoMemory>
-    requires values_len { vec_len level.now.values ≡ (T.steps total.now).count }
-    requires from_len { vec_len level.now.from ≡ (T.steps total.now).count }
-    ensures { IfOk result (IsAdvance (T.steps total.now) T.fits T.exact
+    requires values_len { vec_len level.now.values ≡ (T.rule total.now).count }
+    requires from_len { vec_len level.now.from ≡ (T.rule total.now).count }
+    ensures { IfOk result (IsAdvance (T.rule total.now) T.fits T.exact
         level.now.values.items level.now.from.items) }
 {
     let n = total.n();
@@ -121,5 +128,5 @@ pub(crate) fn next_level<T: Total>(
             }
         }
     }
-    Ok(Advance::Level(next))
+    Ok(Advance::Next(next))
 }

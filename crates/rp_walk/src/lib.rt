@@ -7,6 +7,9 @@ mod level;
 mod outcome;
 mod total;
 
-pub use laws::{least_totals_exclude_violations, long_walk_holds_closed_part};
+pub use laws::{least_totals_leave_no_fall, long_walk_holds_closed_part};
 pub use outcome::{Settled, settle};
 pub use total::Total;
+
+/// The greatest number of observations that a kind of total is over.
+pub const MOST_OBSERVATIONS: u32 = 4096;

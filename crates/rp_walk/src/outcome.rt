@@ -3,7 +3,7 @@ ghost use Rattle.rp_walk.specs.Outcome.{IsSettled};
 ghost use Rattle.rp_walk.specs.Settled.{NoPairBreaks};
 
 use crate::cycle::{cycle_of_pair, cycle_within, first_breaking_pair};
-use crate::level::{Advance, Level, next_level};
+use crate::level::{Advance, LevelTotals, next_level};
 use crate::total::Total;
 use rp_num::{NoMemory, Seq};
 use std::alloc::Global;
@@ -22,7 +22,7 @@ pub enum Settled<V> {
 /// The least totals over walks of any length, a closed walk that ends below its start, or the first
 /// step whose total passes the width, level by level (Bellman 1958; Ford 1956).
 pub fn settle<T: Total>(alloc: Global, total: &T) -> Result<Settled<T::Value>, NoMemory>
-    ensures { IfOk result (IsSettled (T.steps total.now) T.fits T.exact) }
+    ensures { IfOk result (IsSettled (T.rule total.now) T.fits T.exact) }
 {
     match first_breaking_pair(total) {
         Some((s, t)) => cycle_of_pair(alloc, total, s, t),
@@ -32,16 +32,16 @@ pub fn settle<T: Total>(alloc: Global, total: &T) -> Result<Settled<T::Value>, N
 
 /// The same, where no pair breaks.
 fn settle_by_levels<T: Total>(alloc: Global, total: &T) -> Result<Settled<T::Value>, NoMemory>
-    requires { NoPairBreaks (T.steps total.now) }
-    ensures { IfOk result (IsSettled (T.steps total.now) T.fits T.exact) }
+    requires { NoPairBreaks (T.rule total.now) }
+    ensures { IfOk result (IsSettled (T.rule total.now) T.fits T.exact) }
 {
     let n = total.n();
-    let mut level = Level::at_zero(alloc, n, total.start())?;
+    let mut level = LevelTotals::at_zero(alloc, n, total.start())?;
     let mut history = Vec::new(alloc);
     for steps in 0..n {
         match next_level(alloc, total, &level)? {
             Advance::TooWide { from, to } => return Ok(Settled::Wide { steps, from, to }),
-            Advance::Level(next) => {
+            Advance::Next(next) => {
                 match next.first_improved(n) {
                     None => return Ok(Settled::Values(Seq::from_vec(next.values))),
                     Some(_) => {}

@@ -1,8 +1,9 @@
 ghost use Rattle.std.specs.Prelude.{◌≡◌, ℕ, ◌<◌, ◌≤◌, ◌↔◌, IsTrue, IfOk, IsErr};
 ghost use Rattle.rp_walk.specs.ExactTotal.{ExactTotal, IsLess, SameTotal};
-ghost use Rattle.rp_walk.specs.Walk.{KeepsOrder, Steps};
+ghost use Rattle.rp_walk.specs.Walk.{KeepsOrder, TotalRule};
 ghost use Rattle.rp_walk.specs.LeastTotals.{FitsAlike};
 ghost use Rattle.rp_walk.specs.Settled.{PairBreaks};
+ghost use Rattle.rp_walk.specs.declared.TheConstants.{MOST_OBSERVATIONS};
 
 use rp_num::Wide;
 
@@ -12,7 +13,7 @@ pub trait Total {
     type Value: Copy;
 
     /// The observations, and what a step does to an exact total.
-    ghost steps: { Self → Steps };
+    ghost rule: { Self → TotalRule };
 
     /// The exact total that a value stands for.
     ghost exact: { Self.Value → ExactTotal };
@@ -22,22 +23,23 @@ pub trait Total {
 
     /// How many observations there are.
     fn n(&self) -> u32
-        ensures value { result ≡ (steps self.now).count }
+        ensures value { result ≡ (rule self.now).count }
         ensures some { 1 ≤ result }
-        ensures limit { result ≤ 4096 };
+        ensures limit { result ≤ MOST_OBSERVATIONS };
 
     /// The total of a walk of no step.
     fn start(&self) -> Self::Value
-        ensures value { SameTotal (exact result) (steps self.now).empty }
+        ensures value { SameTotal (exact result) (rule self.now).empty }
         ensures fits { fits (exact result) };
 
     /// The total `v` after a further step from `t` to `s`.
     fn step(&self, v: Self::Value, t: u32, s: u32) -> Result<Self::Value, Wide>
-        requires from { t < (steps self.now).count }
-        requires to { s < (steps self.now).count }
-        ensures value { IfOk result (λ r. SameTotal (exact r) ((steps self.now).after (exact v) t s)) }
+        requires from { t < (rule self.now).count }
+        requires to { s < (rule self.now).count }
+        ensures value { IfOk result (λ r.
+            SameTotal (exact r) ((rule self.now).after (exact v) t s)) }
         ensures fits { IfOk result (λ r. fits (exact r)) }
-        ensures wide { IsErr result ↔ (¬ (fits ((steps self.now).after (exact v) t s))) };
+        ensures wide { IsErr result ↔ (¬ (fits ((rule self.now).after (exact v) t s))) };
 
     /// The strict order of the exact totals.
     fn less(&self, a: Self::Value, b: Self::Value) -> bool
@@ -45,16 +47,16 @@ pub trait Total {
 
     /// Whether the closed walk s, t, s ends below its start, for every start that a walk reaches.
     fn pair_breaks(&self, s: u32, t: u32) -> bool
-        requires from { s < (steps self.now).count }
-        requires to { t < (steps self.now).count }
-        ensures { IsTrue result ↔ PairBreaks (steps self.now) s t };
+        requires from { s < (rule self.now).count }
+        requires to { t < (rule self.now).count }
+        ensures { IsTrue result ↔ PairBreaks (rule self.now) s t };
 
     /// A step keeps the order of exact totals.
-    ghost keeps_order: { (a : Self) → KeepsOrder (steps a) };
+    ghost keeps_order: { (a : Self) → KeepsOrder (rule a) };
 
     /// A step from an observation to itself changes nothing.
     ghost stays: { (a : Self) (x : ExactTotal) (t : ℕ)
-        → t < (steps a).count → SameTotal ((steps a).after x t t) x };
+        → t < (rule a).count → SameTotal ((rule a).after x t t) x };
 
     /// What fits is a matter of the number alone.
     ghost fits_alike: { FitsAlike fits };

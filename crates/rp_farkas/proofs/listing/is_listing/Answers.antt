@@ -2,7 +2,7 @@ use Rattle.std.proofs.Common.{arith, refl}
 use Rattle.rp_farkas.specs.declared.entry.Entry.{Entry}
 use Rattle.rp_farkas.proofs.Listings.{listed_from, listing_from, ListedFrom-end, ListedFrom-here}
 use Rattle.rp_farkas.proofs.listing.is_listing.Goals as goal
-use Rattle.rp_farkas.proofs.listing.is_listing.Goals.{then-entry-low-via-then-entry-low, then-entry-low-via-else-entry-low+then-entry-cols, then-entry-low-via-else-entry-low+else-entry-cols+then-entry-eq0, then-entry-low-via-else-entry-low+else-entry-cols+else-entry-eq0+then-entry-gt-WIDTH}
+use Rattle.rp_farkas.proofs.listing.is_listing.Goals.{then-entry-low-via-then-entry-low, then-entry-low-via-else-entry-low+then-entry-cols, then-entry-low-via-else-entry-low+else-entry-cols+then-entry-eq0, then-entry-low-via-else-entry-low+else-entry-cols+else-entry-eq0+then-entry-gt-EVIDENCE_WIDTH}
 
 pub returns-then-entry-low : goal.returns-then-entry-low
 returns-then-entry-low c = (
@@ -15,7 +15,7 @@ returns-then-entry-low c = (
         | then-entry-low-via-then-entry-low w ↦ absurd (omega arith)
         | then-entry-low-via-else-entry-low+then-entry-cols w ↦ absurd (omega arith)
         | then-entry-low-via-else-entry-low+else-entry-cols+then-entry-eq0 w ↦ absurd (omega arith)
-        | then-entry-low-via-else-entry-low+else-entry-cols+else-entry-eq0+then-entry-gt-WIDTH w ↦ absurd (omega arith)
+        | then-entry-low-via-else-entry-low+else-entry-cols+else-entry-eq0+then-entry-gt-EVIDENCE_WIDTH w ↦ absurd (omega arith)
       ],
 )
 

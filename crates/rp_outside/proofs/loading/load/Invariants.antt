@@ -1,7 +1,11 @@
+use Rattle.std.proofs.Common.{◌+◌, ◌-◌, length}
+use Rattle.rp_outside.proofs.Progress.{IsLoadedSoFar, KeepsNames}
 use Rattle.rp_outside.proofs.loading.load.Given as goal
 
-abbrev pub ghosts-load_over-T-Ledger : goal.ghosts-load_over-T-Ledger
-ghosts-load_over-T-Ledger g a = record { name = a.turns.name; parts = a.turns.parts }
+abbrev pub invariant-loop-bytes : goal.invariant-loop-bytes
+invariant-loop-bytes g l =
+    IsLoadedSoFar (g.D.Desk.bytes l.initial.desk l.name) l.bytes.items l.limit (g.D.Desk.calls l.initial.desk) (g.D.Desk.calls l.desk)
+    × KeepsNames (g.D.Desk.bytes l.initial.desk) (g.D.Desk.bytes l.desk) (g.D.Desk.faults l.initial.desk) (g.D.Desk.faults l.desk)
 
-abbrev pub ghosts-load_over-B-Ledger : goal.ghosts-load_over-B-Ledger
-ghosts-load_over-B-Ledger g a = record { name = a.taken.name; parts = a.taken.parts }
+abbrev pub decreases-loop-bytes : goal.decreases-loop-bytes
+decreases-loop-bytes g l = l.limit + 1 - length l.bytes.items

@@ -1,20 +1,26 @@
 use Rattle.std.proofs.Common.{arith, ◌≤◌}
 use Rattle.rp_table.specs.Cost.{cost_at}
-use Rattle.rp_quasi.proofs.Verdicts.{IsLeastSum-least, HasLeastTotals-values, MeetsQuasilinearTest-least, IsNegativeCycle-violation, BoundSteps-least, never_wide, costs_below}
+use Rattle.rp_table.specs.declared.TheConstants.{RECORDS}
+use Rattle.rp_quasi.proofs.Verdicts.{IsLeastSum-least, HasLeastTotals-values, MeetsQuasilinearTest-least, GivesNegativeCycle-settled, IsNegativeCycle-falls, BoundSteps-least, IsLimitedSum-least, sums_stay_narrow, costs_below}
 use Rattle.rp_quasi.proofs.verdict.quasilinear.Goals as goal
 
 pub unreachable-requires : goal.unreachable-requires
 unreachable-requires c =
     let costs = c.args.costs.now in
-    let few : costs.n ≤ 512 = omega (arith, c.n-n.ensures.valid.few) in
-    never_wide costs.n (cost_at costs) few (costs_below costs c.n-n.ensures.valid) c.in-Wide.steps c.in-Wide.from c.in-Wide.to
+    let few : costs.n ≤ RECORDS = omega (arith, c.n-n.ensures.valid.few) in
+    sums_stay_narrow costs.n (cost_at costs) few (costs_below costs c.n-n.ensures.valid) c.in-Wide.steps c.in-Wide.from c.in-Wide.to
     (rw c.in-Wide.is at c.in_ok-values.ensures)
 
 pub returns-in-Values-clause-verdict : goal.returns-in-Values-clause-verdict
 returns-in-Values-clause-verdict c =
     let costs = c.args.costs.now in
+    let few : costs.n ≤ RECORDS = omega (arith, c.n-n.ensures.valid.few) in
     let h = rw c.in-Values.is at c.in_ok-values.ensures in (
-      record { one_each = h.one_each; least = λ s hs. IsLeastSum-least costs.n (cost_at costs) s _ (h.least s _ hs) },
+      record {
+        one_each = h.one_each;
+        least = λ s hs. IsLeastSum-least costs.n (cost_at costs) s _ (h.least s _ hs);
+        limits = λ s hs. IsLimitedSum-least costs.n (cost_at costs) few (costs_below costs c.n-n.ensures.valid) s _ hs (h.least s _ hs);
+      },
       MeetsQuasilinearTest-least costs.n (cost_at costs) (HasLeastTotals-values costs.n (cost_at costs) c.in-Values.values h.least),
     )
 
@@ -30,10 +36,10 @@ pub returns-in-Cycle-clause-verdict : goal.returns-in-Cycle-clause-verdict
 returns-in-Cycle-clause-verdict c =
     let costs = c.args.costs.now in
     let h = rw c.in-Cycle.is at c.in_ok-values.ensures in
-    IsNegativeCycle-violation costs.n (cost_at costs) _ c.in-Cycle.steps h.violation
+    GivesNegativeCycle-settled costs.n (cost_at costs) _ c.in-Cycle.steps h
 
 pub returns-in-Cycle-clause-proves : goal.returns-in-Cycle-clause-proves
 returns-in-Cycle-clause-proves c =
     let costs = c.args.costs.now in
     let h = rw c.in-Cycle.is at c.in_ok-values.ensures in
-    IsNegativeCycle-violation costs.n (cost_at costs) _ c.in-Cycle.steps h.violation
+    IsNegativeCycle-falls costs.n (cost_at costs) _ c.in-Cycle.steps h.falls

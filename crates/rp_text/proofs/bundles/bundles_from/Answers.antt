@@ -32,3 +32,12 @@ returns-clause-denoted c =
     let faultless = same_fault c.args.records.now _ kind c.names-names.ensures c.in_ok-sheet.ensures.faultless in
     let read = value_read bundle_list c.args.records.now kind c.in_ok-sheet.ensures.columns c.names-names.ensures sizes in
     bundles_there c.args.table.now.quantity_places c.args.table.now.names c.args.records.now faultless ∙ ap Ok (sym (c.in_ok-fill_bundles.ensures ∙ read))
+
+pub returns-clause-some_records : goal.returns-clause-some_records
+returns-clause-some_records c =
+    let kind = c.bundles-form.ensures ∙ ap bundles_form c.quantity_places.ensures in
+    let sizes = c.as_slice-sizes.ensures.value ∙ c.in_ok-sheet.ensures.sizes in
+    let faultless = same_fault c.args.records.now _ kind c.names-names.ensures c.in_ok-sheet.ensures.faultless in
+    let read = value_read bundle_list c.args.records.now kind c.in_ok-sheet.ensures.columns c.names-names.ensures sizes in
+    let valid = c.goods-goods.ensures.valid in
+    (subst IsBundleList (sym (c.in_ok-fill_bundles.ensures ∙ read)) (bundles_made c.args.table.now.quantity_places c.args.table.now.names c.args.records.now valid.some_goods valid.few_goods faultless)).some_records

@@ -1,5 +1,8 @@
-use Rattle.std.proofs.Common.{◌≡◌, ◌≢◌, length, Some, None, Ok, Err, sym, ap, ◌∙◌, subst}
-use Rattle.rp_table.specs.ChoiceLists.{IsChoiceList}
+use Rattle.std.proofs.Common.{◌≡◌, ◌≢◌, ℕ, ◌<◌, length, Some, None, Ok, Err, sym, ap, ◌∙◌, subst}
+use Rattle.rp_table.specs.ChoiceLists.{ChoiceList, IsChoiceList}
+use Rattle.std.specs.List.{All}
+use Rattle.rp_text.specs.Chosen.{IsChosenFrom}
+use Rattle.rp_text.proofs.ChosenFacts.{choices_on_budgets, choices_from_every}
 use Rattle.rp_text.specs.Forms.{choices_form}
 use Rattle.rp_text.specs.Denotation.{choice_list, denoted_choices}
 use Rattle.rp_text.specs.declared.fault.TableFault.{TableFault}
@@ -31,3 +34,30 @@ returns-clause-denoted c =
     let read = value_read choice_list c.args.records.now kind c.in_ok-sheet.ensures.columns c.names-2.ensures (c.as_slice.ensures.value ∙ c.in_ok-sheet.ensures.sizes) in
     let fine = same_fault c.args.records.now None kind c.names.ensures c.in_ok-sheet.ensures.faultless in
     choices_there (length c.args.budgets.now.w) c.args.budgets.now.names c.args.records.now fine ∙ ap Ok (sym (c.in_ok-fill_choices.ensures ∙ read))
+
+pub returns-clause-some_choices : goal.returns-clause-some_choices
+returns-clause-some_choices c =
+    let kind = c.choices-form.ensures ∙ ap choices_form c.count.ensures.count in
+    let read = value_read choice_list c.args.records.now kind c.in_ok-sheet.ensures.columns c.names-2.ensures (c.as_slice.ensures.value ∙ c.in_ok-sheet.ensures.sizes) in
+    let fine = same_fault c.args.records.now None kind c.names.ensures c.in_ok-sheet.ensures.faultless in
+    let within = c.count.ensures.valid in
+    let budgets = c.args.budgets.now in
+    (subst IsChoiceList (sym (c.in_ok-fill_choices.ensures ∙ read)) (choices_within (length budgets.w) budgets.names c.args.records.now within.some_goods within.few_goods within.few_budgets fine)).some_choices
+
+pub returns-clause-on_budgets : goal.returns-clause-on_budgets
+returns-clause-on_budgets c =
+    let kind = c.choices-form.ensures ∙ ap choices_form c.count.ensures.count in
+    let read = value_read choice_list c.args.records.now kind c.in_ok-sheet.ensures.columns c.names-2.ensures (c.as_slice.ensures.value ∙ c.in_ok-sheet.ensures.sizes) in
+    let fine = same_fault c.args.records.now None kind c.names.ensures c.in_ok-sheet.ensures.faultless in
+    let within = c.count.ensures.valid in
+    let budgets = c.args.budgets.now in
+    subst (λ (list : ChoiceList). All (λ j. j < length budgets.w) list.budget) (sym (c.in_ok-fill_choices.ensures ∙ read)) (choices_on_budgets (length budgets.w) budgets.names c.args.records.now within.some_budgets fine)
+
+pub returns-clause-every_budget : goal.returns-clause-every_budget
+returns-clause-every_budget c =
+    let kind = c.choices-form.ensures ∙ ap choices_form c.count.ensures.count in
+    let read = value_read choice_list c.args.records.now kind c.in_ok-sheet.ensures.columns c.names-2.ensures (c.as_slice.ensures.value ∙ c.in_ok-sheet.ensures.sizes) in
+    let fine = same_fault c.args.records.now None kind c.names.ensures c.in_ok-sheet.ensures.faultless in
+    let within = c.count.ensures.valid in
+    let budgets = c.args.budgets.now in
+    subst (λ (list : ChoiceList). (j : ℕ) → j < length budgets.w → IsChosenFrom list j) (sym (c.in_ok-fill_choices.ensures ∙ read)) (choices_from_every (length budgets.w) budgets.names c.args.records.now fine)

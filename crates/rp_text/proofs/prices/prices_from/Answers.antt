@@ -1,12 +1,15 @@
-use Rattle.std.proofs.Common.{◌≡◌, ◌≢◌, Ok, Err, sym, ap, ◌∙◌, subst}
-use Rattle.rp_table.specs.PriceLists.{IsPriceList}
+use Rattle.std.proofs.Common.{◌≡◌, ◌≢◌, length, Ok, Err, sym, ap, ◌∙◌, subst}
+use Rattle.rp_table.specs.PriceLists.{PriceList, IsPriceList}
+use Rattle.rp_table.specs.Rows.{rows_count}
 use Rattle.rp_text.specs.Forms.{prices_form}
+use Rattle.rp_text.specs.Headers.{headers_in}
+use Rattle.rp_text.specs.Records.{record_at}
 use Rattle.rp_text.specs.Denotation.{price_list, denoted_prices}
 use Rattle.rp_text.specs.declared.fault.TableFault.{TableFault}
 use Rattle.rp_text.specs.declared.fault.TableFault.TheVariants as fault
-use Rattle.rp_text.proofs.ColumnSizes.{value_read}
+use Rattle.rp_text.proofs.ColumnSizes.{sizes_in, value_read}
 use Rattle.rp_text.proofs.StageLemmas.{same_fault}
-use Rattle.rp_text.proofs.PriceFacts.{prices_made, prices_there, refused_prices}
+use Rattle.rp_text.proofs.PriceFacts.{prices_made, prices_there, refused_prices, spent_each}
 use Rattle.rp_text.proofs.PassedOn.{passed_on}
 use Rattle.rp_text.proofs.prices.prices_from.Goals as goal
 
@@ -32,3 +35,21 @@ returns-clause-denoted c =
     let faultless = same_fault c.args.records.now _ kind c.names-names.ensures c.in_ok-sheet.ensures.faultless in
     let read = value_read (price_list c.args.with_m) c.args.records.now kind c.in_ok-sheet.ensures.columns c.names-names.ensures sizes in
     prices_there c.args.with_m c.args.table.now.quantity_places c.args.table.now.names c.args.records.now faultless ∙ ap Ok (sym (c.in_ok-fill_prices.ensures ∙ read))
+
+pub returns-clause-some_records : goal.returns-clause-some_records
+returns-clause-some_records c =
+    let kind = c.prices-form.ensures ∙ ap (prices_form c.args.with_m) c.quantity_places.ensures in
+    let sizes = c.as_slice-sizes.ensures.value ∙ c.in_ok-sheet.ensures.sizes in
+    let faultless = same_fault c.args.records.now _ kind c.names-names.ensures c.in_ok-sheet.ensures.faultless in
+    let read = value_read (price_list c.args.with_m) c.args.records.now kind c.in_ok-sheet.ensures.columns c.names-names.ensures sizes in
+    let valid = c.goods-goods.ensures.valid in
+    (subst IsPriceList (sym (c.in_ok-fill_prices.ensures ∙ read)) (prices_made c.args.with_m c.args.table.now.quantity_places c.args.table.now.names c.args.records.now valid.some_goods valid.few_goods faultless)).some_records
+
+pub returns-clause-each_spent : goal.returns-clause-each_spent
+returns-clause-each_spent c = λ asked.
+    let headers = headers_in (record_at c.args.records.now 0) in
+    let kind = c.prices-form.ensures ∙ ap (prices_form c.args.with_m) c.quantity_places.ensures in
+    let sizes = c.as_slice-sizes.ensures.value ∙ c.in_ok-sheet.ensures.sizes in
+    let read = value_read (price_list c.args.with_m) c.args.records.now kind c.in_ok-sheet.ensures.columns c.names-names.ensures sizes in
+    let valid = c.goods-goods.ensures.valid in
+    subst (λ (list : PriceList). length list.m ≡ rows_count list.prices list.goods) (sym (c.in_ok-fill_prices.ensures ∙ read)) (spent_each c.args.with_m headers c.args.table.now.names (sizes_in (prices_form c.args.with_m c.args.table.now.quantity_places) headers c.args.records.now) valid.some_goods asked)

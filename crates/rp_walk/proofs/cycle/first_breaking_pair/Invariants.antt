@@ -3,4 +3,4 @@ use Rattle.rp_walk.specs.Settled.{NoPartnerBelow}
 use Rattle.rp_walk.proofs.cycle.first_breaking_pair.Given as goal
 
 abbrev pub invariant-loop-s : goal.invariant-loop-s
-invariant-loop-s g l = (s : ℕ) → s < l.s → NoPartnerBelow (g.T.Total.steps l.total) s (g.T.Total.steps l.total).count
+invariant-loop-s g l = (s : ℕ) → s < l.s → NoPartnerBelow (g.T.Total.rule l.total) s (g.T.Total.rule l.total).count

@@ -4,7 +4,7 @@ use Rattle.rp_walk.proofs.cycle.total_at.Goals as goal
 
 pub unreachable-requires : goal.unreachable-requires
 unreachable-requires g c =
-    let w = g.T.Total.steps c.args.total.now in
+    let w = g.T.Total.rule c.args.total.now in
     let walk = c.args.walk.now in
     let i = c.loop-i.i in
     step_fits w (g.met.T.Total.keeps_order c.args.total.now) g.T.Total.fits g.met.T.Total.fits_alike (λ m. get_or walk m 0) i (i + 1) (g.T.Total.exact c.loop-i.value)
@@ -13,7 +13,7 @@ unreachable-requires g c =
 
 pub loop-i-preserved : goal.loop-i-preserved
 loop-i-preserved g c =
-    let w = g.T.Total.steps c.args.total.now in
+    let w = g.T.Total.rule c.args.total.now in
     let walk = c.args.walk.now in
     let i = c.loop-i.i in
     prefix_more w (g.met.T.Total.keeps_order c.args.total.now) (λ m. get_or walk m 0) i (i + 1) (g.T.Total.exact c.loop-i.value) (g.T.Total.exact c.in-Ok.next)

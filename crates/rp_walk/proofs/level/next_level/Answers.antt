@@ -7,7 +7,7 @@ use Rattle.rp_walk.proofs.level.next_level.Goals.{then-index-n+in-None, else-ind
 
 pub loop-from-preserved : goal.loop-from-preserved
 loop-from-preserved g c =
-    let w = g.T.Total.steps c.args.total.now in
+    let w = g.T.Total.rule c.args.total.now in
     let inv = c.loop-from.invariant in
     let t = c.loop-from.from in
     let below : t < w.count = omega (arith, c.n-n.ensures.value, c.loop-from-test.true) in

@@ -13,5 +13,5 @@ loop-to-preserved g c =
         | then-less w ↦ rw w.next-is (IsTried-taken_at _ _ _ _ _ _ _ _ _ _ _ tried in_values in_from c.index.ensures c.in-Ok.ensures.value (c.less.ensures.0 w.if-less.true))
         | else-less w ↦ rw w.next-is (IsTried-kept_at _ _ _ _ _ _ _ _ _ _ _ tried in_values c.index.ensures c.in-Ok.ensures.value (λ p. let q = c.less.ensures.1 p in cc))
       ];
-      fit = StepsFit-more (g.T.Total.steps c.args.total.now) g.T.Total.fits _ _ _ c.loop-to.invariant.fit (λ no_fit. let q = c.in-Ok.ensures.wide.1 no_fit in cc);
+      fit = StepsFit-more (g.T.Total.rule c.args.total.now) g.T.Total.fits _ _ _ c.loop-to.invariant.fit (λ no_fit. let q = c.in-Ok.ensures.wide.1 no_fit in cc);
     }

@@ -1,4 +1,4 @@
-use Rattle.std.proofs.Common.{◌≤◌, refl, subst}
+use Rattle.std.proofs.Common.{◌≤◌, ◌<◌, ◌^◌, ◌*◌, arith, refl, subst}
 use Rattle.std.proofs.Math.Nat.{one-le-mul}
 use Rattle.rp_num.specs.Fraction.{Fraction}
 use Rattle.rp_num.proofs.Lowest.{IsLowestTerms-cancelled, IsLowestTerms-itself, PassesWidth-num, PassesWidth-den, not_PassesWidth}
@@ -7,12 +7,12 @@ use Rattle.rp_num.proofs.frac.Frac.mul.Goals as goal
 pub returns-in_err-num-clause-wide : goal.returns-in_err-num-clause-wide
 returns-in_err-num-clause-wide c =
     let p = IsLowestTerms-cancelled _ _ _ _ _ _ _ _ _ _ c.self.view_is c.other.view_is c.self.invariant.0 c.other.invariant.0 c.gcd-down.ensures.greatest c.gcd-up.ensures.greatest refl refl in
-    (λ _. PassesWidth-num _ _ _ _ p c.in_err-num.ensures.wide, λ _. c.from_residual.ensures.0)
+    (λ _. PassesWidth-num _ _ _ _ p (omega (arith, c.in_err-num.ensures.wide)), λ _. c.from_residual.ensures.0)
 
 pub returns-in_err-den-clause-wide : goal.returns-in_err-den-clause-wide
 returns-in_err-den-clause-wide c =
     let p = IsLowestTerms-cancelled _ _ _ _ _ _ _ _ _ _ c.self.view_is c.other.view_is c.self.invariant.0 c.other.invariant.0 c.gcd-down.ensures.greatest c.gcd-up.ensures.greatest refl refl in
-    (λ _. PassesWidth-den _ _ _ _ p c.in_err-den.ensures.wide, λ _. c.from_residual-in_err-den.ensures.0)
+    (λ _. PassesWidth-den _ _ _ _ p (omega (arith, c.in_err-den.ensures.wide)), λ _. c.from_residual-in_err-den.ensures.0)
 
 pub invariant_of-result : goal.invariant_of-result
 invariant_of-result c =

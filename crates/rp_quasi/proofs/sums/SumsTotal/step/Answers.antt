@@ -2,7 +2,7 @@ use Rattle.std.proofs.Common.{rules, refl}
 use Rattle.std.specs.Prelude.{FitsSigned}
 use mir.Syntax.{w128}
 use Rattle.rp_quasi.proofs.sums.SumsTotal.step.Goals as goal
-use Rattle.rp_quasi.proofs.Steps.{sum_fits, found_fits}
+use Rattle.rp_walk.proofs.SumSteps.{sum_fits, found_fits}
 
 pub returns-in-None-clause-wide : goal.returns-in-None-clause-wide
 returns-in-None-clause-wide c =

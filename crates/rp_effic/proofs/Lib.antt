@@ -1,0 +1,5 @@
+pub mod Asked
+pub mod AtLevel
+pub mod Collected
+pub mod Halving
+pub mod Indexed

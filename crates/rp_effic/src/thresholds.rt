@@ -1,0 +1,44 @@
+ghost use Rattle.std.specs.Prelude.{◌<◌, ◌^◌, length};
+ghost use Rattle.rp_effic.specs.Ratios.{Rise};
+
+use crate::ask::Ask;
+use crate::ratio::Ratio;
+use crate::returning::first_return;
+use rp_evidence::Level;
+use rp_num::NoMemory;
+use rp_pref::{Closure, Steps};
+use rp_table::Costs;
+use std::alloc::Global;
+
+/// Asks of rising ratios whether a closed walk of weak steps exists at each.
+#[derive(Drop)]
+pub struct Thresholds<'a> {
+    pub costs: &'a Costs,
+    pub ratios: &'a [Ratio],
+    pub asks: u64,
+    ghost rising: { Rise ratios.now },
+    ghost few: { length ratios.now < 2 ^ 32 },
+}
+
+impl Ask for Thresholds<'_> {
+    ghost use Rattle.rp_effic.specs.Cycles.{cycle_values};
+
+    ghost values = { λ a. cycle_values a.costs.now a.ratios.now };
+
+    ghost asks = { λ a. a.asks };
+
+    fn size(&self) -> u32 {
+        self.ratios.len() as u32
+    }
+
+    fn ask(&mut self, alloc: Global, i: u32) -> Result<bool, NoMemory> {
+        self.asks += 1;
+        let ratio = self.ratios[i as usize];
+        let level = Level {
+            num: ratio.part,
+            den: ratio.whole,
+        };
+        let closure = Closure::of(alloc, self.costs, level, Steps::Weak)?;
+        Ok(first_return(self.costs, &closure).is_some())
+    }
+}

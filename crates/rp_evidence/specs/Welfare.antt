@@ -1,0 +1,50 @@
+-- Bounds on the money metric: what it costs at new prices to be as well off as at an observation (after Varian 1982).
+use Rattle.std.specs.Prelude.{◌≡◌, ℕ, ◌*◌, ◌<◌, ◌≤◌, ◌↔◌, pos, List, Contains, length, slice_index}
+use Rattle.std.specs.List.Sorted.{IsStrictlyIncreasing}
+use Rattle.rp_farkas.specs.LinearProgram.{LinearProgram}
+use Rattle.rp_evidence.specs.Demand.{FractionBundle, spending}
+use Rattle.rp_evidence.specs.Input.{TableInput}
+use Rattle.rp_evidence.specs.Preference.{IsWeak}
+use Rattle.rp_evidence.specs.Walk.{IsWalk}
+
+-- A walk of weak steps, or of no step, leads from s to t: s equals or reaches t.
+abbrev pub EqualsOrReaches : TableInput → ℕ → ℕ → Type 0
+EqualsOrReaches input s t = (walk : List ℕ) × IsWalk input.n (IsWeak input.cost 1 1) s t walk
+
+-- The region of t: bundles that cost at least what was spent at t and at every observation that t reaches.
+pub record IsInRegion (input : TableInput) (t : ℕ) (bundle : FractionBundle) : Type 0 where
+  pub fraction : 0 < bundle.den
+  pub dear : (s : ℕ) → EqualsOrReaches input t s
+      → bundle.den * input.cost s s ≤ spending input.goods (input.price s) bundle.num
+
+-- num/den is the lower bound: the least that a bundle of the region of t costs at the prices.
+pub record IsLowerWelfare (input : TableInput) (prices : ℕ → ℕ) (t num den : ℕ) : Type 0 where
+  pub fraction : 0 < den
+  pub none_less : (bundle : FractionBundle) → IsInRegion input t bundle
+      → num * bundle.den ≤ spending input.goods prices bundle.num * den
+  pub reached : (bundle : FractionBundle) × IsInRegion input t bundle
+      × (spending input.goods prices bundle.num * den ≡ num * bundle.den)
+
+-- cost is the upper bound, and s is where it is found: the least that a bundle costs of an observation that equals or
+-- reaches t.
+pub record IsUpperWelfare (input : TableInput) (prices : ℕ → ℕ) (t s cost : ℕ) : Type 0 where
+  pub observed : s < input.n
+  pub leads : EqualsOrReaches input s t
+  pub costs : spending input.goods prices (input.quantity s) ≡ cost
+  pub least : (r : ℕ) → EqualsOrReaches input r t → cost ≤ spending input.goods prices (input.quantity r)
+
+-- The list has just t and the observations that it reaches, in increasing order.
+pub record ListsReached (input : TableInput) (t : ℕ) (reached : List ℕ) : Type 0 where
+  pub rising : IsStrictlyIncreasing reached
+  pub just_these : (s : ℕ) → Contains reached s ↔ ((s < input.n) × EqualsOrReaches input t s)
+
+-- The program whose prices are the bundles of the region, at the least cost: a column for each listed observation, its prices
+-- worth what was spent there, and the new prices on the right side.
+abbrev pub welfare_program : TableInput → (ℕ → ℕ) → List ℕ → LinearProgram
+welfare_program input prices reached = record {
+  rows = input.goods;
+  cols = length reached;
+  a = λ i j. pos (input.price (slice_index reached j) i);
+  b = λ i. pos (prices i);
+  c = λ j. pos (input.cost (slice_index reached j) (slice_index reached j));
+}

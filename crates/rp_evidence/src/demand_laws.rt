@@ -1,0 +1,49 @@
+//! Laws of supporting demand at new prices. Each function is empty: its contract is the law.
+ghost use Rattle.std.specs.Prelude.{◌↔◌, ◌<◌, ℕ, List};
+ghost use Rattle.rp_farkas.specs.EqualPair.{IsEqualPair};
+ghost use Rattle.rp_evidence.specs.Demand.{CostsEnough, CostsMore, FractionBundle, IsInfimum, IsInnerDemand, IsOnBudget, IsSupportingDemand, IsSupremum, NewBudget, mixed};
+ghost use Rattle.rp_evidence.specs.DemandPrograms.{ListsBelow, lower_program, upper_program};
+ghost use Rattle.rp_evidence.specs.Garp.{MeetsGarp};
+ghost use Rattle.rp_evidence.specs.Input.{TableInput};
+
+/// Where the table meets the axiom, a bundle on the budget is a supporting demand exactly where it costs at least
+/// what was spent at every observation below, and more at every one strictly below.
+pub fn supporting_demands_cost_enough()
+    ensures { (input : TableInput) (budget : NewBudget) (bundle : FractionBundle)
+        → MeetsGarp input.n input.cost 1 1 → IsOnBudget input budget bundle
+        → IsSupportingDemand input budget bundle
+        ↔ (CostsEnough input budget bundle × CostsMore input budget bundle) }
+{}
+
+/// Where the table meets the axiom, the inner demand is a supporting demand.
+pub fn inner_demands_support()
+    ensures { (input : TableInput) (budget : NewBudget) (bundle : FractionBundle)
+        → MeetsGarp input.n input.cost 1 1 → 0 < input.goods → 0 < budget.prices 0
+        → ((t : ℕ) → t < input.n → 0 < input.price t 0)
+        → IsInnerDemand input budget bundle → IsSupportingDemand input budget bundle }
+{}
+
+/// Where the table meets the axiom, each mixture of a bundle on the budget that costs enough with a supporting demand
+/// is a supporting demand, however little of the latter it has.
+pub fn mixtures_support()
+    ensures { (input : TableInput) (budget : NewBudget) (bundle inner : FractionBundle) (k : ℕ)
+        → MeetsGarp input.n input.cost 1 1 → 0 < k
+        → IsOnBudget input budget bundle → CostsEnough input budget bundle
+        → IsSupportingDemand input budget inner
+        → IsSupportingDemand input budget (mixed k bundle inner) }
+{}
+
+/// Where the table meets the axiom and some demand supports, an equal pair of a good's lower program has the infimum
+/// of the good on its price side, and one of its upper program the supremum.
+pub fn equal_pairs_bound_goods()
+    ensures lower { (input : TableInput) (budget : NewBudget) (below : List ℕ) (inner : FractionBundle)
+        (g den : ℕ) (y x : ℕ → ℕ)
+        → ListsBelow input budget below → MeetsGarp input.n input.cost 1 1
+        → IsSupportingDemand input budget inner → g < input.goods
+        → IsEqualPair (lower_program input budget below g) den y x → IsInfimum input budget g (x g) den }
+    ensures upper { (input : TableInput) (budget : NewBudget) (below : List ℕ) (inner : FractionBundle)
+        (g den : ℕ) (y x : ℕ → ℕ)
+        → ListsBelow input budget below → MeetsGarp input.n input.cost 1 1
+        → IsSupportingDemand input budget inner → g < input.goods → 0 < budget.prices g
+        → IsEqualPair (upper_program input budget below g) den y x → IsSupremum input budget g (x g) den }
+{}

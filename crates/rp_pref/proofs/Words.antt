@@ -1,0 +1,179 @@
+-- Bits of rows of words: one is set, two words are united, and they are counted.
+use Rattle.std.proofs.Common.{◌≡◌, ℕ, zero, suc, ◌+◌, ◌-◌, ◌*◌, ◌/◌, ◌%◌, ◌^◌, ◌<◌, ◌≤◌, ◌||◌, max, Bool, true, false, cond, eqb, List, length, set, get_or, count_by, bit_or, count_ones, inl, inr, refl, sym, ap, ◌∙◌, arith, mod-lt, pow-suc, get_or-set_same, get_or-set_other, shl_exact}
+use Rattle.std.specs.Int.{bit_at}
+use Rattle.std.specs.List.{range_with_len}
+use lib.Count.{ones_step}
+use Rattle.std.proofs.lemmas.Bool.{cases_eq, eq-eqb, ne_eqb}
+use Rattle.std.proofs.lemmas.Nat.{div-mul-add, mod-mul-add, ones_le_self}
+use Rattle.std.proofs.lemmas.Nat.Bits.{bit_at_or, bit_at-pow_same, bit_at-pow_other, bit_at-suc, bit_at_lowest}
+use Rattle.rp_pref.specs.Bits.{bit_in}
+use Rattle.rp_pref.proofs.Closing.{count_more}
+
+pub or_false : (a : Bool) → (a || false) ≡ a
+or_false true = refl
+or_false false = refl
+
+pub or_true : (a : Bool) → (a || true) ≡ true
+or_true true = refl
+or_true false = refl
+
+max_one : (a b : ℕ) → a < 2 → b < 2 → eqb (max a b) 1 ≡ (eqb a 1 || eqb b 1)
+max_one zero zero _ _ = refl
+max_one zero (suc zero) _ _ = refl
+max_one (suc zero) zero _ _ = refl
+max_one (suc zero) (suc zero) _ _ = refl
+max_one (suc (suc a)) b h _ = absurd (omega arith)
+max_one zero (suc (suc b)) _ h = absurd (omega arith)
+max_one (suc zero) (suc (suc b)) _ h = absurd (omega arith)
+
+bit_below : (w i : ℕ) → bit_at w i < 2
+bit_below w i = mod-lt (w / 2 ^ i) (omega arith)
+
+-- A bit of the union of two words.
+pub bit_of_or : (x y i : ℕ) → eqb (bit_at (bit_or x y) i) 1 ≡ (eqb (bit_at x i) 1 || eqb (bit_at y i) 1)
+bit_of_or x y i = ap (λ b. eqb b 1) (bit_at_or x y i) ∙ max_one (bit_at x i) (bit_at y i) (bit_below x i) (bit_below y i)
+
+-- The word with this bit alone.
+alone : (j : ℕ) → j < 64 → 1 * 2 ^ j % 18446744073709551616 ≡ 2 ^ j
+alone j l = let same : 1 * 2 ^ j ≡ 2 ^ j = omega arith in shl_exact {a = 1} 1 j 64 (omega arith) (omega arith) ∙ same
+
+module _ (words : List ℕ) (t w : ℕ) (within : t / 64 < length words) (is : w ≡ get_or words (t / 64) 0) where
+  abbrev one : ℕ
+  one = 1 * 2 ^ (t % 64) % 18446744073709551616
+
+  abbrev new : ℕ
+  new = bit_or w one
+
+  one_is : one ≡ 2 ^ (t % 64)
+  one_is = alone (t % 64) (mod-lt t (omega arith))
+
+  in_word : (b : ℕ) → b / 64 ≡ t / 64 → bit_in (set words (t / 64) new) b ≡ (bit_in words b || eqb (bit_at one (b % 64)) 1)
+  in_word b same =
+      let i = b % 64 in
+      ap (λ v. eqb (bit_at v i) 1) (ap (λ k. get_or (set words (t / 64) new) k 0) same ∙ get_or-set_same words (t / 64) new 0 within)
+      ∙ bit_of_or w one i ∙ ap (λ v. eqb (bit_at v i) 1 || eqb (bit_at one i) 1) (is ∙ ap (λ k. get_or words k 0) (sym same))
+
+  pub bit_set : (b : ℕ) → bit_in (set words (t / 64) new) b ≡ (bit_in words b || eqb b t)
+  bit_set b = elim (cases_eq (b / 64) (t / 64)) [
+    | inl same ↦ in_word b same ∙ ap (λ x. bit_in words b || x) (elim (cases_eq (b % 64) (t % 64)) [
+      | inl e ↦
+          let it : b ≡ t = omega (arith, same, e) in
+          ap (λ v. eqb v 1) ((λ i. bit_at (one_is i) (e i)) ∙ bit_at-pow_same (t % 64)) ∙ sym (eq-eqb b t it)
+      | inr e ↦
+          let apart : b ≡ t → ⊥ = λ it. e (ap (λ x. x % 64) it) in
+          ap (λ v. eqb v 1) (ap (λ v. bit_at v (b % 64)) one_is ∙ bit_at-pow_other (t % 64) (b % 64) e) ∙ sym (ne_eqb b t apart)
+    ])
+    | inr other ↦
+        let apart : b ≡ t → ⊥ = λ it. other (ap (λ x. x / 64) it) in
+        ap (λ v. eqb (bit_at v (b % 64)) 1) (get_or-set_other words (t / 64) (b / 64) new 0 other)
+        ∙ sym (ap (λ x. bit_in words b || x) (ne_eqb b t apart) ∙ or_false (bit_in words b))
+  ]
+
+-- ---- counting
+
+-- The sum of the first k values.
+abbrev pub total : ℕ → (ℕ → ℕ) → ℕ
+total zero f = 0
+total (suc k) f = total k f + f k
+
+total_shift : (k : ℕ) (f : ℕ → ℕ) → total (suc k) f ≡ f 0 + total k (λ i. f (suc i))
+total_shift zero f = omega arith
+total_shift (suc k) f = omega (arith, total_shift k f)
+
+total_same : (k : ℕ) (f g : ℕ → ℕ) → ((i : ℕ) → i < k → f i ≡ g i) → total k f ≡ total k g
+total_same zero f g same = refl
+total_same (suc k) f g same = λ i. total_same k f g (λ j l. same j (omega arith)) i + same k (omega arith) i
+
+abbrev flag : ℕ → ℕ → ℕ
+flag w i = cond (eqb (bit_at w i) 1) 1 0
+
+lowest_flag : (x : ℕ) → x < 2 → cond (eqb x 1) 1 0 ≡ x
+lowest_flag zero _ = refl
+lowest_flag (suc zero) _ = refl
+lowest_flag (suc (suc x)) h = absurd (omega arith)
+
+ones_total : (k w : ℕ) → w < 2 ^ k → count_ones w ≡ total k (flag w)
+ones_total zero w fits = omega (arith, ones_le_self w)
+ones_total (suc k) w fits =
+    let half : w / 2 < 2 ^ k = omega (arith, pow-suc 2 k) in
+    let first : flag w 0 ≡ w % 2 = ap (λ v. cond (eqb v 1) 1 0) (bit_at_lowest w) ∙ lowest_flag (w % 2) (mod-lt w (omega arith)) in
+    let rest : total k (λ i. flag w (suc i)) ≡ total k (flag (w / 2)) = total_same k (λ i. flag w (suc i)) (flag (w / 2)) (λ i l. ap (λ v. cond (eqb v 1) 1 0) (bit_at-suc w i)) in
+    omega (arith, ones_step w, ones_total k (w / 2) half, total_shift k (flag w), first, rest)
+
+count_block : (p : ℕ → Bool) (m k : ℕ) → count_by p (range_with_len 0 (m + k)) ≡ count_by p (range_with_len 0 m) + total k (λ j. cond (p (m + j)) 1 0)
+count_block p m zero = let none : m + 0 ≡ m = omega arith in let same : count_by p (range_with_len 0 (m + 0)) ≡ count_by p (range_with_len 0 m) = ap (λ n. count_by p (range_with_len 0 n)) none in omega arith
+count_block p m (suc k) =
+    let one : m + suc k ≡ m + k + 1 = omega arith in
+    let same : count_by p (range_with_len 0 (m + suc k)) ≡ count_by p (range_with_len 0 (m + k + 1)) = ap (λ n. count_by p (range_with_len 0 n)) one in
+    omega (arith, same, count_more p (m + k), count_block p m k)
+
+-- One word more is counted.
+pub word_more : (words : List ℕ) (i w k : ℕ) → k ≡ 64 → w ≡ get_or words i 0 → w < 2 ^ k
+    → count_by (bit_in words) (range_with_len 0 ((i + 1) * 64)) ≡ count_by (bit_in words) (range_with_len 0 (i * 64)) + count_ones w
+word_more words i w k size is fits =
+    let next : (i + 1) * 64 ≡ i * 64 + k = omega arith in
+    let each : (j : ℕ) → j < k → cond (bit_in words (i * 64 + j)) 1 0 ≡ flag w j = λ j l.
+    let low : j < 64 = omega arith in
+    ap (λ v. cond (eqb v 1) 1 0) ((λ d. bit_at (get_or words (div-mul-add i 64 j low d) 0) (mod-mul-add i 64 j low d)) ∙ ap (λ v. bit_at v j) (sym is)) in
+    ap (λ n. count_by (bit_in words) (range_with_len 0 n)) next ∙ count_block (bit_in words) (i * 64) k
+    ∙ ap (λ n. count_by (bit_in words) (range_with_len 0 (i * 64)) + n) (total_same k (λ j. cond (bit_in words (i * 64 + j)) 1 0) (flag w) each ∙ sym (ones_total k w fits))
+
+-- What comes after the last that is set does not count.
+pub none_after : (p : ℕ → Bool) (n d : ℕ) → ((t : ℕ) → n ≤ t → p t ≡ false) → count_by p (range_with_len 0 (n + d)) ≡ count_by p (range_with_len 0 n)
+none_after p n zero none = let e : n + 0 ≡ n = omega arith in ap (λ m. count_by p (range_with_len 0 m)) e
+none_after p n (suc d) none =
+    let e : n + suc d ≡ n + d + 1 = omega arith in
+    let last : ◌≡◌ {A = ℕ} (cond (p (n + d)) 1 0) 0 = ap (λ b. cond b 1 0) (none (n + d) (omega arith)) in
+    let same : count_by p (range_with_len 0 (n + suc d)) ≡ count_by p (range_with_len 0 (n + d + 1)) = ap (λ m. count_by p (range_with_len 0 m)) e in
+    omega (arith, count_more p (n + d), none_after p n d none)
+
+one_of : (b : Bool) → ◌≡◌ {A = ℕ} (cond b 1 0 + cond b 0 1) 1
+one_of true = refl
+one_of false = refl
+
+-- One that counts whether it is set or not.
+module _ (p q : ℕ → Bool) (n s : ℕ) (same : (t : ℕ) → t < n → q t ≡ p t) (below : s < n) where
+  abbrev with_s : ℕ → Bool
+  with_s t = eqb t s || q t
+
+  before : (m : ℕ) → m ≤ s → count_by with_s (range_with_len 0 m) ≡ count_by p (range_with_len 0 m)
+  before zero l = refl
+  before (suc m) l =
+      let apart : m ≡ s → ⊥ = λ e. omega arith in
+      let e : suc m ≡ m + 1 = omega arith in
+      let last : ◌≡◌ {A = ℕ} (cond (with_s m) 1 0) (cond (p m) 1 0) = ap (λ b. cond (b || q m) 1 0) (ne_eqb m s apart) ∙ ap (λ b. cond b 1 0) (same m (omega arith)) in
+      ap (λ k. count_by with_s (range_with_len 0 k)) e
+      ∙ (let goal : count_by with_s (range_with_len 0 (m + 1)) ≡ count_by p (range_with_len 0 (m + 1)) = omega (arith, count_more with_s m, count_more p m, before m (omega arith), last) in goal)
+      ∙ ap (λ k. count_by p (range_with_len 0 k)) (sym e)
+
+  after : (d : ℕ) → s + 1 + d ≤ n → count_by with_s (range_with_len 0 (s + 1 + d)) ≡ count_by p (range_with_len 0 (s + 1 + d)) + cond (p s) 0 1
+  after zero l =
+      let e : s + 1 + 0 ≡ s + 1 = omega arith in
+      let this : ◌≡◌ {A = ℕ} (cond (with_s s) 1 0) 1 = ap (λ b. cond (b || q s) 1 0) (eq-eqb s s refl) in
+      ap (λ k. count_by with_s (range_with_len 0 k)) e
+      ∙ (let goal : count_by with_s (range_with_len 0 (s + 1)) ≡ count_by p (range_with_len 0 (s + 1)) + cond (p s) 0 1 = omega (arith, count_more with_s s, count_more p s, before s (omega arith), this, one_of (p s)) in goal)
+      ∙ ap (λ k. count_by p (range_with_len 0 k) + cond (p s) 0 1) (sym e)
+  after (suc d) l =
+      let m = s + 1 + d in
+      let apart : m ≡ s → ⊥ = λ e. omega arith in
+      let e : s + 1 + suc d ≡ m + 1 = omega arith in
+      let last : ◌≡◌ {A = ℕ} (cond (with_s m) 1 0) (cond (p m) 1 0) = ap (λ b. cond (b || q m) 1 0) (ne_eqb m s apart) ∙ ap (λ b. cond b 1 0) (same m (omega arith)) in
+      ap (λ k. count_by with_s (range_with_len 0 k)) e
+      ∙ (let goal : count_by with_s (range_with_len 0 (m + 1)) ≡ count_by p (range_with_len 0 (m + 1)) + cond (p s) 0 1 = omega (arith, count_more with_s m, count_more p m, after d (omega arith), last) in goal)
+      ∙ ap (λ k. count_by p (range_with_len 0 k) + cond (p s) 0 1) (sym e)
+
+  pub counted_with : count_by with_s (range_with_len 0 n) ≡ count_by p (range_with_len 0 n) + cond (p s) 0 1
+  counted_with =
+      let e : s + 1 + (n - (s + 1)) ≡ n = omega arith in
+      ap (λ k. count_by with_s (range_with_len 0 k)) (sym e) ∙ after (n - (s + 1)) (omega arith) ∙ ap (λ k. count_by p (range_with_len 0 k) + cond (p s) 0 1) e
+
+total_below : (k : ℕ) (f : ℕ → ℕ) → ((i : ℕ) → f i ≤ 1) → total k f ≤ k
+total_below zero f each = omega arith
+total_below (suc k) f each = omega (arith, total_below k f each, each k)
+
+flag_below : (b : Bool) → cond b 1 0 ≤ 1
+flag_below true = omega arith
+flag_below false = omega arith
+
+pub ones_below : (k w : ℕ) → w < 2 ^ k → count_ones w ≤ k
+ones_below k w fits = omega (arith, ones_total k w fits, total_below k (flag w) (λ i. flag_below (eqb (bit_at w i) 1)))

@@ -1,0 +1,49 @@
+-- What the content of a line's files gives the line.
+use Rattle.std.proofs.Common.{◌≡◌, ℕ, zero, suc, ◌+◌, ◌<◌, List, [], ◌∷◌, length, Option, Some, None, Result, Ok, Err, refl, sym, ap, ◌∙◌, subst, arith, lit<, codes, replicate, slice_index_or}
+use Rattle.std.proofs.lemmas.Bool.{lt-ltb}
+use Rattle.std.proofs.lemmas.List.{length-replicate}
+use Rattle.std.specs.Option.{ForSome}
+use Rattle.rp_run.specs.CommandLine.{Line, files_of}
+use Rattle.rp_run.specs.Answers.{Files, IsContent, AreContents, HasInput}
+use Rattle.rp_run.specs.Inputs.{Input, input_of, and_then, numbers_in, all_bytes, most_bytes}
+use Rattle.rp_run.specs.FaultLines.{file_line}
+use Rattle.rp_run.specs.Causes.{IsRefusal, IsFileCause, HoldsValue, IsCause}
+use Rattle.rp_run.specs.declared.files.Cause.{Cause}
+use Rattle.rp_run.specs.declared.files.Cause.TheVariants.{Read, Refused, NoMemory}
+
+-- some content that is longer than a limit, where no other is told
+pub some_long : (told : Option (List ℕ)) (limit : ℕ) → ForSome told (λ bytes. limit < length bytes) → (bytes : List ℕ) × ForSome told (λ t. bytes ≡ t) × (limit < length bytes)
+some_long None limit long = (replicate (limit + 1) 0, (λ t is. cc), omega (arith, length-replicate {A = ℕ} (limit + 1) 0))
+some_long (Some bytes) limit long = (bytes, (λ t is. cc), long bytes refl)
+
+-- a file that is too long is refused as such
+pub too_long : (files : Files) (rose : List ℕ → Type 0) (file : List ℕ) (why : Cause) → ForSome (files file) (λ bytes. most_bytes < length bytes) → IsRefusal (file_line file (codes "TooLong")) why → IsFileCause files rose file (numbers_in file all_bytes) why
+too_long files rose file (Read name) long refused = absurd refused
+too_long files rose file (Refused line) long refused =
+    let some = some_long (files file) most_bytes long in
+    (some.0, some.1, rw (lt-ltb most_bytes (length some.0) some.2) (ap Err (sym refused)))
+too_long files rose file NoMemory long refused = tt
+
+-- the content of one file
+one_of : (files : Files) (file bytes : List ℕ) → IsContent files file bytes → (k : ℕ) → k < length (file ∷ []) → IsContent files (slice_index_or (file ∷ []) k []) bytes
+one_of files file bytes content zero within = content
+one_of files file bytes content (suc k) within = let none : ⊥ = omega (arith, within) in absurd none
+
+one_content : (files : Files) (line : Line) (file bytes : List ℕ) → files_of line ≡ file ∷ [] → IsContent files file bytes → AreContents files line (λ _. bytes)
+one_content files line file bytes named content =
+    subst (λ (names : List (List ℕ)). (k : ℕ) → k < length names → IsContent files (slice_index_or names k []) bytes) (sym named) (one_of files file bytes content)
+
+-- a line over one file has the input that the file gives, or the cause why the file gives none
+pub one_input : {A : Type 0} (files : Files) (line : Line) (file : List ℕ) (reading : List ℕ → Result A (List ℕ)) (over : A → Input) (value : A)
+    → files_of line ≡ file ∷ [] → ((bytes : ℕ → List ℕ) → input_of line bytes ≡ and_then (reading (bytes 0)) (λ v. Ok (over v)))
+    → HoldsValue files file reading value → HasInput files line (over value)
+one_input files line file reading over value named denoted (bytes, content, read) =
+    ((λ _. bytes), one_content files line file bytes named content, denoted (λ _. bytes) ∙ ap (λ r. and_then r (λ v. Ok (over v))) read)
+
+pub one_cause : {A : Type 0} (files : Files) (rose : List ℕ → Type 0) (line : Line) (file : List ℕ) (reading : List ℕ → Result A (List ℕ)) (over : A → Input) (why : Cause)
+    → files_of line ≡ file ∷ [] → ((bytes : ℕ → List ℕ) → input_of line bytes ≡ and_then (reading (bytes 0)) (λ v. Ok (over v)))
+    → IsFileCause files rose file reading why → IsCause files rose line why
+one_cause files rose line file reading over (Read name) named denoted (same, up) = rw (named, same) ((0, lit< tt, refl), up)
+one_cause files rose line file reading over (Refused text) named denoted (bytes, content, refused) =
+    ((λ _. bytes), one_content files line file bytes named content, denoted (λ _. bytes) ∙ ap (λ r. and_then r (λ v. Ok (over v))) refused)
+one_cause files rose line file reading over NoMemory named denoted none = tt

@@ -1,0 +1,36 @@
+use Rattle.std.proofs.Common.{refl}
+use Rattle.rp_text.specs.Denotation.{table_in}
+use Rattle.rp_run.specs.CommandLine.{Pairs, Analyse}
+use Rattle.rp_run.specs.Inputs.{numbers_in, PairsOver, AnalyseOver}
+use Rattle.rp_run.specs.Named.{named_line}
+use Rattle.rp_run.specs.Endings.{Rose}
+use Rattle.rp_run.specs.Causes.{IsCause}
+use Rattle.rp_run.proofs.FileLemmas.{one_cause, one_input}
+use Rattle.rp_run.proofs.PassedOn.{passed_on}
+use Rattle.rp_run.proofs.input.read_input.Goals as goal
+
+pub returns-in_err-load_table-in-Pairs-clause-caused : goal.returns-in_err-load_table-in-Pairs-clause-caused
+returns-in_err-load_table-in-Pairs-clause-caused g c =
+    let files = g.D.Desk.bytes c.args.desk.now in
+    let rose = Rose (g.D.Desk.faults c.args.desk.now) (g.D.Desk.faults c.load_table.new.desk) in
+    let file = c.in-Pairs.table.now in
+    passed_on c.from_residual.result c.in_err-load_table-in-Pairs.field-0.0 (IsCause files rose (named_line c.args.line)) c.from_residual.ensures
+    (rw c.in-Pairs.is (one_cause files rose (Pairs file) file (numbers_in file table_in) PairsOver c.in_err-load_table-in-Pairs.field-0.0 refl (λ bytes. refl) c.in_err-load_table-in-Pairs.ensures.loaded))
+
+pub returns-in_err-load_table-in-Analyse-clause-caused : goal.returns-in_err-load_table-in-Analyse-clause-caused
+returns-in_err-load_table-in-Analyse-clause-caused g c =
+    let files = g.D.Desk.bytes c.args.desk.now in
+    let rose = Rose (g.D.Desk.faults c.args.desk.now) (g.D.Desk.faults c.load_table-in-Analyse.new.desk) in
+    let file = c.in-Analyse.table.now in
+    passed_on c.from_residual-in_err-load_table-in-Analyse.result c.in_err-load_table-in-Analyse.field-0.0 (IsCause files rose (named_line c.args.line)) c.from_residual-in_err-load_table-in-Analyse.ensures
+    (rw c.in-Analyse.is (one_cause files rose (Analyse file) file (numbers_in file table_in) AnalyseOver c.in_err-load_table-in-Analyse.field-0.0 refl (λ bytes. refl) c.in_err-load_table-in-Analyse.ensures.loaded))
+
+pub returns-in_ok-load_table-in-Pairs-clause-read : goal.returns-in_ok-load_table-in-Pairs-clause-read
+returns-in_ok-load_table-in-Pairs-clause-read g c =
+    let file = c.in-Pairs.table.now in
+    rw c.in-Pairs.is (one_input (g.D.Desk.bytes c.args.desk.now) (Pairs file) file (numbers_in file table_in) PairsOver c.in_ok-load_table-in-Pairs.field-0 refl (λ bytes. refl) c.in_ok-load_table-in-Pairs.ensures.loaded)
+
+pub returns-in_ok-load_table-in-Analyse-clause-read : goal.returns-in_ok-load_table-in-Analyse-clause-read
+returns-in_ok-load_table-in-Analyse-clause-read g c =
+    let file = c.in-Analyse.table.now in
+    rw c.in-Analyse.is (one_input (g.D.Desk.bytes c.args.desk.now) (Analyse file) file (numbers_in file table_in) AnalyseOver c.in_ok-load_table-in-Analyse.field-0 refl (λ bytes. refl) c.in_ok-load_table-in-Analyse.ensures.loaded)

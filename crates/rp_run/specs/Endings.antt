@@ -1,0 +1,50 @@
+-- How a call of the program ends: the statuses with an answer, those that leave the output as it was, and the line
+-- on standard error with its cause.
+use Rattle.std.specs.Prelude.{◌≡◌, ℕ, List, Option, Some, Contains}
+use Rattle.rp_outside.specs.Faults.{HasRisen}
+use Rattle.rp_run.specs.CommandLine.{Line, files_of}
+use Rattle.rp_run.specs.Answers.{Files, RefusesWith}
+use Rattle.rp_run.specs.FaultLines.{usage_text, read_line, write_line, memory_line}
+use Rattle.rp_run.specs.declared.status.Status.{Status}
+use Rattle.rp_run.specs.declared.status.Status.TheVariants.{Done, Rejected, Usage, ReadFault, Refused, WriteFault, NoMemory}
+
+-- the count of faults of a file has risen, from the counts before to those after
+abbrev pub Rose : (List ℕ → ℕ) → (List ℕ → ℕ) → List ℕ → Type 0
+Rose before after file = HasRisen (before file) (after file)
+
+-- that of none of a line's files has
+abbrev pub NoneRose : Line → (List ℕ → ℕ) → (List ℕ → ℕ) → Type 0
+NoneRose line before after = (file : List ℕ) → Contains (files_of line) file → ¬ Rose before after file
+
+-- the whole answer went out
+abbrev pub IsEnd : Status → Type 0
+IsEnd Done = Unit {0}
+IsEnd Rejected = Unit {0}
+IsEnd Usage = ⊥
+IsEnd ReadFault = ⊥
+IsEnd Refused = ⊥
+IsEnd WriteFault = ⊥
+IsEnd NoMemory = ⊥
+
+-- nothing went to the output
+abbrev pub IsSilent : Status → Type 0
+IsSilent Done = ⊥
+IsSilent Rejected = ⊥
+IsSilent Usage = Unit {0}
+IsSilent ReadFault = Unit {0}
+IsSilent Refused = Unit {0}
+IsSilent WriteFault = ⊥
+IsSilent NoMemory = Unit {0}
+
+-- the text is the line of a status that is no end, and its cause holds; `rose file` says that the count of faults of
+-- a file has risen
+abbrev pub IsFaultLine : Files → (List ℕ → Type 0) → Option Line → Status → List ℕ → Type 0
+IsFaultLine files rose asked Done text = ⊥
+IsFaultLine files rose asked Rejected text = ⊥
+IsFaultLine files rose asked Usage text = text ≡ usage_text
+IsFaultLine files rose asked ReadFault text =
+    (line : Line) × (file : List ℕ)
+    × (asked ≡ Some line) × Contains (files_of line) file × rose file × (text ≡ read_line file)
+IsFaultLine files rose asked Refused text = (line : Line) × (asked ≡ Some line) × RefusesWith files line text
+IsFaultLine files rose asked WriteFault text = text ≡ write_line
+IsFaultLine files rose asked NoMemory text = text ≡ memory_line

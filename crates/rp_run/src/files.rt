@@ -1,0 +1,102 @@
+ghost use Rattle.std.specs.Prelude.{◌≡◌, ◌++◌, ℕ, ◌^◌, ◌<◌, ◌≤◌, List, IfOk, IfErr, length, codes};
+ghost use Rattle.rp_text.specs.Denotation.{table_in};
+ghost use Rattle.rp_run.specs.FaultLines as text;
+ghost use Rattle.rp_run.specs.Answers.{IsContent};
+ghost use Rattle.rp_run.specs.Endings.{Rose};
+ghost use Rattle.rp_run.specs.Inputs.{numbers_in, all_bytes};
+ghost use Rattle.rp_run.specs.Causes.{IsRefusal, IsRefusalOf, IsFileCause, IsLoaded};
+
+use crate::fault_text::text_of_fault;
+use rp_num::NoMemory;
+use rp_outside::{Desk, LoadFault, load};
+use rp_table::Table;
+use rp_text::{TableFault, read_table};
+use std::alloc::Global;
+
+/// The most bytes of a file of numbers.
+const MOST_BYTES: u64 = 4_194_304;
+
+/// Why a line has no input.
+#[derive(Drop)]
+pub(crate) enum Cause<'a> {
+    /// This file could not be read.
+    Read(&'a str),
+    /// The line that tells what is refused.
+    Refused(Vec<u8>),
+    NoMemory,
+}
+
+/// The table in a file.
+pub(crate) fn load_table<'a, D: Desk>(
+    alloc: Global,
+    desk: &mut D,
+    file: &'a str,
+) -> Result<Table, Cause<'a>>
+    ensures loaded { IsLoaded (D.bytes desk.old) (Rose (D.faults desk.old) (D.faults desk.new))
+        file.now (numbers_in file.now table_in) result }
+    ensures bytes_stay { (other : List ℕ) → D.bytes desk.new other ≡ D.bytes desk.old other }
+    ensures never_falls { (other : List ℕ) → D.faults desk.old other ≤ D.faults desk.new other }
+{
+    let bytes = load_numbers(alloc, desk, file)?;
+    match read_table(alloc, bytes.as_slice()) {
+        Ok(table) => Ok(table),
+        Err(fault) => Err(refusal(alloc, file, fault)),
+    }
+}
+
+/// All bytes of a file of numbers.
+fn load_numbers<'a, D: Desk>(
+    alloc: Global,
+    desk: &mut D,
+    file: &'a str,
+) -> Result<Vec<u8>, Cause<'a>>
+    ensures content { IfOk result (λ v. IsContent (D.bytes desk.old) file.now v.items) }
+    ensures few { IfOk result (λ v. length v.items ≤ 4194304) }
+    ensures caused { IfErr result
+        (IsFileCause (D.bytes desk.old) (Rose (D.faults desk.old) (D.faults desk.new))
+        file.now (numbers_in file.now all_bytes)) }
+    ensures bytes_stay { (other : List ℕ) → D.bytes desk.new other ≡ D.bytes desk.old other }
+    ensures never_falls { (other : List ℕ) → D.faults desk.old other ≤ D.faults desk.new other }
+{
+    match load(alloc, desk, file, MOST_BYTES) {
+        Ok(bytes) => Ok(bytes),
+        Err(LoadFault::Read) => Err(Cause::Read(file)),
+        Err(LoadFault::TooLong) => Err(refused(alloc, file, b"TooLong")),
+        Err(LoadFault::NoMemory) => Err(Cause::NoMemory),
+    }
+}
+
+/// The cause that a fault of a file is.
+fn refusal<'a>(alloc: Global, file: &'a str, fault: TableFault) -> Cause<'a>
+    ensures { IsRefusalOf file.now fault result }
+{
+    match fault {
+        TableFault::NoMemory => Cause::NoMemory,
+        other => match text_of_fault(alloc, other) {
+            Ok(text) => refused(alloc, file, text.as_slice()),
+            Err(_) => Cause::NoMemory,
+        },
+    }
+}
+
+/// The cause of a refusal with the text of a fault.
+fn refused<'a>(alloc: Global, file: &'a str, fault: &[u8]) -> Cause<'a>
+    ensures { IsRefusal (text.file_line file.now fault.now) result }
+{
+    match file_line(alloc, file, fault) {
+        Ok(line) => Cause::Refused(line),
+        Err(_) => Cause::NoMemory,
+    }
+}
+
+/// The line of a fault of a file.
+fn file_line(alloc: Global, file: &str, fault: &[u8]) -> Result<Vec<u8>, NoMemory>
+    ensures { IfOk result (λ line. line.items ≡ text.file_line file.now fault.now) }
+{
+    let mut line = Vec::from_slice(alloc, b"rp: ")?;
+    line.extend_from_slice(file.as_bytes())?;
+    line.extend_from_slice(b": ")?;
+    line.extend_from_slice(fault)?;
+    line.extend_from_slice(b"\n")?;
+    Ok(line)
+}

@@ -1,0 +1,38 @@
+ghost use Rattle.std.specs.Prelude.{◌≡◌, ◌≤◌, ℕ, List, IfOk, IfErr};
+ghost use Rattle.rp_run.specs.Answers.{HasInput};
+ghost use Rattle.rp_run.specs.Endings.{Rose};
+ghost use Rattle.rp_run.specs.Causes.{IsCause};
+ghost use Rattle.rp_run.specs.Named.{named_line, named_input};
+
+use crate::files::{Cause, load_table};
+use crate::line::Line;
+use rp_outside::Desk;
+use rp_table::Table;
+use std::alloc::Global;
+
+/// A command over what its files hold.
+#[derive(Drop)]
+pub(crate) enum Input {
+    Pairs(Table),
+    Analyse(Table),
+}
+
+/// What a line asks over its files, which are read in the order of the words, each whole before the next.
+pub(crate) fn read_input<'a, D: Desk>(
+    alloc: Global,
+    desk: &mut D,
+    line: Line<'a>,
+) -> Result<Input, Cause<'a>>
+    ensures read { IfOk result
+        (λ input. HasInput (D.bytes desk.old) (named_line line.entry) (named_input input)) }
+    ensures caused { IfErr result
+        (IsCause (D.bytes desk.old) (Rose (D.faults desk.old) (D.faults desk.new))
+        (named_line line.entry)) }
+    ensures bytes_stay { (other : List ℕ) → D.bytes desk.new other ≡ D.bytes desk.old other }
+    ensures never_falls { (other : List ℕ) → D.faults desk.old other ≤ D.faults desk.new other }
+{
+    match line {
+        Line::Pairs { table } => Ok(Input::Pairs(load_table(alloc, desk, table)?)),
+        Line::Analyse { table } => Ok(Input::Analyse(load_table(alloc, desk, table)?)),
+    }
+}

@@ -1,0 +1,122 @@
+-- Choices without a fault are on the budgets, and each budget was chosen from.
+use Rattle.std.proofs.Common.{◌≡◌, ℕ, ◌+◌, ◌-◌, ◌<◌, ◌≤◌, Bool, true, false, not, ◌&&◌, ◌==◌, nat_lt, if◌then◌else◌, List, [], ◌∷◌, length, map, slice_index, Some, None, refl, ap, ◌∙◌, arith}
+use Rattle.std.specs.Prelude.{codes, unwrap_or}
+use Rattle.std.specs.List.{All}
+use Rattle.std.proofs.lemmas.Bool.Decides.{nat_tests}
+use Rattle.std.proofs.lemmas.List.{length-map, get_or-map}
+use Rattle.std.proofs.lemmas.List.Elements.{All-map}
+use Rattle.rp_text.specs.Texts.{text_at, number_of}
+use Rattle.rp_text.specs.Columns.{role_of}
+use Rattle.rp_text.specs.Forms.{choices_form}
+use Rattle.rp_text.specs.Records.{record_at}
+use Rattle.rp_text.specs.Headers.{headers_in, headers_stage, goods_stage, has}
+use Rattle.rp_text.specs.Fields.{figures_of, rows_in, count_stage, fields_stage}
+use Rattle.rp_text.specs.Sizes.{figure_at, places_of, sizes_stage}
+use Rattle.rp_text.specs.ChoiceCounts.{column_named, is_chosen, choices_stage}
+use Rattle.rp_text.specs.Chosen.{IsChosenFrom}
+use Rattle.rp_text.specs.Denotation.{fault_under, first_fault, column_numbers, choice_list}
+use Rattle.rp_text.specs.declared.form.Form.{Form}
+use Rattle.rp_text.specs.declared.form.Role.{Role}
+use Rattle.rp_text.specs.declared.form.Role.TheVariants.{Budget, Times}
+use Rattle.rp_text.specs.declared.fault.TableFault.{TableFault}
+use Rattle.rp_text.specs.declared.fault.TableFault.TheVariants as fault
+use Rattle.rp_text.proofs.BelowLemmas.{length-listed, get-listed}
+use Rattle.rp_text.proofs.NameLemmas.{and_both}
+use Rattle.rp_text.proofs.PlaceLemmas.{none_below, none_or, one_below}
+use Rattle.rp_text.proofs.RowLemmas.{all_listed}
+use Rattle.rp_text.proofs.FigureLemmas.{rows_are}
+use Rattle.rp_text.proofs.FineHeaders.{FineHeaders, fine_headers, column_there}
+use Rattle.rp_text.proofs.ColumnSizes.{sizes_in, sizes_are, unscaled}
+use Rattle.rp_text.proofs.TableMade.{passed}
+use Rattle.rp_text.proofs.ChoiceFacts.{both_there, budget_within, budget_says, times_say}
+
+-- the last stage of a file without a fault
+last_passed : (form : Form) (goods : List (List ℕ)) (records : List (List (List ℕ))) → first_fault form goods records ≡ None
+    → choices_stage form (headers_in (record_at records 0)) (figures_of form (headers_in (record_at records 0)) records) ≡ None
+unfolding first_fault fault_under
+last_passed form goods [] fine = cc fine
+last_passed form goods (header ∷ rows) fine =
+    let a = none_or (headers_stage form (headers_in header)) _ fine in
+    let b = none_or (goods_stage form goods (headers_in header)) _ a.1 in
+    let c = none_or (count_stage form (header ∷ rows)) _ b.1 in
+    let d = none_or (fields_stage form (headers_in header) (header ∷ rows)) _ c.1 in
+    let e = none_or (sizes_stage form (headers_in header) (figures_of form (headers_in header) (header ∷ rows))) _ d.1 in
+    (none_or (choices_stage form (headers_in header) (figures_of form (headers_in header) (header ∷ rows))) None e.1).0
+
+-- a test that gives no fault
+no_fault : (b : Bool) (f : TableFault) → (if not b then Some f else None) ≡ None → b ≡ true
+no_fault true f e = refl
+no_fault false f e = cc e
+
+-- each budget has a record with its number and a count above 0
+chosen_record : (budgets : ℕ) (headers : List (List ℕ)) (records : List (List (List ℕ))) → choices_stage (choices_form budgets) headers (figures_of (choices_form budgets) headers records) ≡ None → (j : ℕ) → j < budgets
+    → is_chosen headers (figures_of (choices_form budgets) headers records) j ≡ true
+unfolding choices_stage
+chosen_record budgets headers records stage j below =
+    no_fault (is_chosen headers (figures_of (choices_form budgets) headers records) j) (fault.NoChoices (number_of j)) (none_below _ budgets j stage below)
+
+number_is : (n j : ℕ) → (n == j + 1) ≡ true → n - 1 ≡ j
+number_is n j e = grind (arith, nat_tests)
+
+over_zero : (n : ℕ) → nat_lt 0 n ≡ true → 0 < n
+over_zero n e = grind (arith, nat_tests)
+
+below_all : (n budgets : ℕ) → n ≤ budgets → 1 ≤ budgets → n - 1 < budgets
+below_all n budgets within some = omega arith
+
+module _ (budgets : ℕ) (goods headers : List (List ℕ)) (records : List (List (List ℕ))) (fine : FineHeaders (choices_form budgets) headers) (sound : goods_stage (choices_form budgets) goods headers ≡ None)
+    (fine_fields : fields_stage (choices_form budgets) headers records ≡ None) (fine_sizes : sizes_stage (choices_form budgets) headers (figures_of (choices_form budgets) headers records) ≡ None)
+    (stage : choices_stage (choices_form budgets) headers (figures_of (choices_form budgets) headers records) ≡ None) where
+  -- the scaled number in a column of whole numbers is what was written
+  written : (header : List ℕ) (role : Role) → has headers header ≡ true → role_of header ≡ Some role → places_of (choices_form budgets) headers (figures_of (choices_form budgets) headers records) role ≡ 0 → (t : ℕ) → t < rows_in records
+      → slice_index (text_at (sizes_in (choices_form budgets) headers records) t) (column_named header headers) ≡ (figure_at (figures_of (choices_form budgets) headers records) t (column_named header headers)).units
+  written header role there says whole t row =
+      let column = column_there headers header there in
+      let at_column : column_named header headers ≡ column.0 = ap (λ o. unwrap_or o 0) column.2 in
+      rw at_column (unscaled (choices_form budgets) headers records fine_fields fine_sizes t column.0 role row column.1 (ap role_of column.3 ∙ says) whole)
+
+  -- a number of a budget is the number of one that there is
+  pub on_budgets : 1 ≤ budgets → All (λ j. j < budgets) (map (λ number. number - 1) (column_numbers (codes "budget") headers (sizes_in (choices_form budgets) headers records)))
+  on_budgets some =
+      All-map (λ j. j < budgets) (λ number. number - 1) (column_numbers (codes "budget") headers (sizes_in (choices_form budgets) headers records))
+      (all_listed (λ number. number - 1 < budgets) (length (sizes_in (choices_form budgets) headers records)) _
+      (λ t row. let inside : t < rows_in records = omega (arith, sizes_are (choices_form budgets) headers records) in
+      below_all _ budgets (budget_within budgets goods headers records fine sound fine_fields fine_sizes t inside) some))
+
+  -- each budget was chosen from
+  pub every_budget : (j : ℕ) → j < budgets → IsChosenFrom (choice_list headers goods (sizes_in (choices_form budgets) headers records)) j
+  unfolding is_chosen places_of
+  every_budget j below =
+      let figures = figures_of (choices_form budgets) headers records in
+      let sizes = sizes_in (choices_form budgets) headers records in
+      let test = λ (t : ℕ). ((figure_at figures t (column_named (codes "budget") headers)).units == j + 1) && nat_lt 0 (figure_at figures t (column_named (codes "n") headers)).units in
+      let found = one_below test (length figures) (chosen_record budgets headers records stage j below) in
+      let tests = and_both ((figure_at figures found.0 (column_named (codes "budget") headers)).units == j + 1) _ found.2 in
+      let there = both_there budgets goods headers records fine sound fine_fields fine_sizes in
+      let row : found.0 < rows_in records = omega (arith, found.1, rows_are (choices_form budgets) headers records) in
+      let inside : found.0 < length sizes = omega (arith, row, sizes_are (choices_form budgets) headers records) in
+      let number = written (codes "budget") Budget there.0 budget_says refl found.0 row in
+      let times = written (codes "n") Times there.1 times_say refl found.0 row in
+      let numbers = column_numbers (codes "budget") headers sizes in
+      let counted : length numbers ≡ length sizes = length-listed _ (length sizes) in
+      let column : found.0 < length numbers = omega (arith, inside, counted) in (
+        found.0,
+        omega (arith, column, length-map numbers (λ n. n - 1)),
+        get_or-map (λ n. n - 1) numbers found.0 0 0 column
+            ∙ ap (λ n. n - 1) (get-listed (λ t. slice_index (text_at sizes t) (column_named (codes "budget") headers)) (length sizes) found.0 0 inside ∙ number)
+            ∙ number_is _ j tests.0,
+        rw (get-listed (λ t. slice_index (text_at sizes t) (column_named (codes "n") headers)) (length sizes) found.0 0 inside ∙ times) (over_zero _ tests.1),
+      )
+
+-- the same of the choices in a file
+pub choices_on_budgets : (budgets : ℕ) (goods : List (List ℕ)) (records : List (List (List ℕ))) → 1 ≤ budgets → first_fault (choices_form budgets) goods records ≡ None
+    → All (λ j. j < budgets) (choice_list (headers_in (record_at records 0)) goods (sizes_in (choices_form budgets) (headers_in (record_at records 0)) records)).budget
+choices_on_budgets budgets goods records some faultless =
+    let stages = passed (choices_form budgets) goods records faultless in
+    on_budgets budgets goods (headers_in (record_at records 0)) records (fine_headers (choices_form budgets) goods (headers_in (record_at records 0)) stages.1 stages.2) stages.2 stages.4 stages.5 (last_passed (choices_form budgets) goods records faultless) some
+
+pub choices_from_every : (budgets : ℕ) (goods : List (List ℕ)) (records : List (List (List ℕ))) → first_fault (choices_form budgets) goods records ≡ None
+    → (j : ℕ) → j < budgets → IsChosenFrom (choice_list (headers_in (record_at records 0)) goods (sizes_in (choices_form budgets) (headers_in (record_at records 0)) records)) j
+choices_from_every budgets goods records faultless =
+    let stages = passed (choices_form budgets) goods records faultless in
+    every_budget budgets goods (headers_in (record_at records 0)) records (fine_headers (choices_form budgets) goods (headers_in (record_at records 0)) stages.1 stages.2) stages.2 stages.4 stages.5 (last_passed (choices_form budgets) goods records faultless)
