@@ -21,6 +21,7 @@ pub mod Loops
 pub mod Places
 pub mod Supporting
 pub mod Reaching
+pub mod SameAfriat
 pub mod Ratios
 pub mod SameCosts
 pub mod SameIndex

@@ -55,12 +55,7 @@ fn push_level(alloc: Global, out: &mut Vec<u8>, level: Level) -> Result<(), NoMe
 }
 
 /// Appends the line on every greater level, where the parts of the index differ.
-fn push_above(
-    alloc: Global,
-    out: &mut Vec<u8>,
-    level: Level,
-    above: &[u32],
-) -> Result<(), NoMemory>
+fn push_above(alloc: Global, out: &mut Vec<u8>, level: Level, above: &[u32]) -> Result<(), NoMemory>
     ensures { OnOk result (out.new.items ≡ out.old.items ++ above_text level above.now) }
 {
     if level.num == level.den {

@@ -1,6 +1,7 @@
 //! The report that a certificate is printed as.
 #![tactic(auto)]
 
+mod afriat;
 mod efficiency;
 mod garp;
 mod homothetic;

@@ -1,3 +1,4 @@
+use Rattle.rp_evidence.proofs.SameAfriat.{afriat_same}
 use Rattle.rp_evidence.proofs.SameCosts.{garp_same}
 use Rattle.rp_evidence.proofs.SameIndex.{efficiency_same}
 use Rattle.rp_evidence.proofs.SameProducts.{homothetic_same}
@@ -6,6 +7,9 @@ use Rattle.rp_evidence.proofs.laws.evidence_depends_on_observed_costs.Goals as g
 
 pub returns-clause-garp : goal.returns-clause-garp
 returns-clause-garp c = garp_same
+
+pub returns-clause-afriat : goal.returns-clause-afriat
+returns-clause-afriat c = afriat_same
 
 pub returns-clause-efficiency : goal.returns-clause-efficiency
 returns-clause-efficiency c = efficiency_same
