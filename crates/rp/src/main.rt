@@ -16,19 +16,19 @@ fn main(rt: HostRuntime) -> ExitCode {
         Err(error) => return ExitCode::from(status_without_words(error.kind())),
     };
     let Ok(words) = words.collect::<Vec<String>>(rt.alloc()) else {
-        return ExitCode::from(Status::NoMemory as u8);
+        return ExitCode::from(Status::NoMemory.number());
     };
     let mut desk = FileDesk::new(&rt, rt.alloc());
     let mut out = StdSink::new(rt.stdout());
     let mut err = StdSink::new(rt.stderr());
     let status = run(rt.alloc(), &words, &mut desk, &mut out, &mut err);
-    ExitCode::from(status as u8)
+    ExitCode::from(status.number())
 }
 
 /// The status of the program where it did not get its words.
 fn status_without_words(kind: ErrorKind) -> u8 {
     match kind {
-        ErrorKind::OutOfMemory => Status::NoMemory as u8,
+        ErrorKind::OutOfMemory => Status::NoMemory.number(),
         _ => NO_WORDS,
     }
 }

@@ -6,6 +6,7 @@ pub mod Efficiency
 pub mod Garp
 pub mod Homothetic
 pub mod Demand
+pub mod DemandEvidence
 pub mod DemandPrograms
 pub mod Input
 pub mod Preference

@@ -4,6 +4,7 @@
 mod afriat;
 mod afriat_laws;
 mod certificate;
+mod demand;
 mod demand_laws;
 mod efficiency;
 mod efficiency_laws;
@@ -23,6 +24,7 @@ pub use afriat_laws::{
     utilities_are_unique, width_is_passed_first_once,
 };
 pub use certificate::{Certificate, Item, Kind, withheld};
+pub use demand::{Bound, DemandPart, GoodBounds, Point, WelfarePart};
 pub use demand_laws::{
     equal_pairs_bound_goods, inner_demands_support, mixtures_support,
     supporting_demands_cost_enough,

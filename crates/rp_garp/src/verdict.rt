@@ -87,7 +87,8 @@ fn cycle(alloc: Global, costs: &Costs, s: u32, t: u32) -> Result<Seq<u32>, NoMem
     requires to { t < costs.now.n }
     requires loops { IsLoop costs.now.n
         (IsWeak (cost_at costs.now) 1 1) (IsStrict (cost_at costs.now) 1 1) s t }
-    ensures { IfOk result (λ steps. IsCycleOf costs.now.n (IsWeak (cost_at costs.now) 1 1) s t steps) }
+    ensures { IfOk result (λ steps.
+        IsCycleOf costs.now.n (IsWeak (cost_at costs.now) 1 1) s t steps) }
 {
     match walk_between(alloc, costs, level_one(), Steps::Weak, s, t)? {
         Some(walk) => {

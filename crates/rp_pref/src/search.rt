@@ -113,7 +113,8 @@ pub fn walks_from(
     requires size { length table.now ≡ n * n }
     requires small { n ≤ RECORDS }
     requires start { s < n }
-    ensures sound { IfOk result (λ found. AreDepths table.now n s found.depths.items found.before.items) }
+    ensures sound { IfOk result (λ found.
+        AreDepths table.now n s found.depths.items found.before.items) }
     ensures least { IfOk result (λ found. AreLeastDepths table.now n s found.depths.items) }
 {
     let mut depths = first_depths(alloc, table, n, s)?;

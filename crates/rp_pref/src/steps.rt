@@ -68,7 +68,8 @@ pub fn step_table(
     requires { IsLevel level.num level.den }
     ensures size { IfOk result (λ table. length table.items ≡ costs.now.n * costs.now.n) }
     ensures exact { IfOk result (λ table. (s t : ℕ) → s < costs.now.n → t < costs.now.n
-        → IsStepIn table.items costs.now.n s t ↔ IsStep steps (cost_at costs.now) level.num level.den s t) }
+        → IsStepIn table.items costs.now.n s t
+        ↔ IsStep steps (cost_at costs.now) level.num level.den s t) }
 {
     let n = costs.n();
     let mut table = Vec::new(alloc);

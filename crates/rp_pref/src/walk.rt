@@ -26,7 +26,8 @@ pub fn walk_between(
     requires from { s < costs.now.n }
     requires to { t < costs.now.n }
     ensures shortest { IfOk result (λ found. IfSome found (λ walk.
-        IsShortestWalk costs.now.n (IsStep steps (cost_at costs.now) level.num level.den) s t walk)) }
+        IsShortestWalk costs.now.n
+        (IsStep steps (cost_at costs.now) level.num level.den) s t walk)) }
     ensures none { IfOk result (λ found. IfNone found (
         ¬ Reaches costs.now.n (IsStep steps (cost_at costs.now) level.num level.den) s t)) }
 {

@@ -1,6 +1,6 @@
 -- The verdict for some costs is the verdict for all that are the same between the observations.
 use Rattle.std.proofs.Common.{ℕ, ◌⊎◌, inl, inr}
-use Rattle.std.specs.Prelude.{ℤ, pos, ◌+ℤ◌, ◌*ℤ◌}
+use Rattle.std.specs.Prelude.{pos, ◌+ℤ◌, ◌*ℤ◌}
 use Rattle.rp_walk.specs.LevelWalk.{IsCutFromLevels}
 use Rattle.rp_walk.specs.Outcome.{IsBreakingCycle}
 use Rattle.rp_walk.specs.Settled.{NoPairBreaks}

@@ -36,7 +36,8 @@ pub(crate) fn push_homothetic(
 
 /// Appends the lines of a start and of the closed walk from it.
 fn push_cycle(alloc: Global, out: &mut Vec<u8>, start: Frac, steps: &[u32]) -> Result<(), NoMemory>
-    ensures { OnOk result (out.new.items ≡ out.old.items ++ line_of (codes "start " ++ fraction_text start)
+    ensures { OnOk result (out.new.items ≡ out.old.items
+        ++ line_of (codes "start " ++ fraction_text start)
         ++ line_of (codes "cycle " ++ observations_text steps.now)) }
 {
     push_start(alloc, out, start)?;
@@ -45,7 +46,8 @@ fn push_cycle(alloc: Global, out: &mut Vec<u8>, start: Frac, steps: &[u32]) -> R
 
 /// Appends the line of a start.
 fn push_start(alloc: Global, out: &mut Vec<u8>, start: Frac) -> Result<(), NoMemory>
-    ensures { OnOk result (out.new.items ≡ out.old.items ++ line_of (codes "start " ++ fraction_text start)) }
+    ensures { OnOk result (
+        out.new.items ≡ out.old.items ++ line_of (codes "start " ++ fraction_text start)) }
 {
     push_after::<Fraction>(alloc, out, b"start ", start)?;
     out.push(b'\n')?;

@@ -214,7 +214,8 @@ fn push_others<P: Print>(
     entries: &[P::Entry],
 ) -> Result<(), NoMemory>
     ensures { OnOk result (
-        out.new.items ≡ out.old.items ++ flat_map (λ entry. codes " " ++ P.shown entry) entries.now) }
+        out.new.items ≡ out.old.items
+        ++ flat_map (λ entry. codes " " ++ P.shown entry) entries.now) }
 {
     for entry in entries {
         out.extend_from_slice(b" ")?;

@@ -1,9 +1,9 @@
-//! Tests of `run` over files in memory: worked tables, refused files, and an outside that fails.
+//! Tests of `run` over files in memory: `pairs`, refused files, and an outside that fails.
 #![tactic(auto)]
 
-#[cfg(test)]
-mod analyses;
 #[cfg(test)]
 mod command;
 #[cfg(test)]
 mod faults;
+#[cfg(test)]
+mod statuses;

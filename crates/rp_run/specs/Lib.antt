@@ -9,3 +9,5 @@ pub mod Endings
 pub mod Gains
 pub mod Causes
 pub mod Named
+pub mod Conversions
+pub mod StatusNumbers

@@ -1,4 +1,7 @@
-/// How a call of `run` ended. The program ends with the number of the status, from 0 in this order.
+ghost use Rattle.std.specs.Prelude.{◌≡◌};
+ghost use Rattle.rp_run.specs.StatusNumbers.{status_number};
+
+/// How a call of `run` ended.
 #[derive(Clone, Copy, Debug, PartialEq, Eq)]
 pub enum Status {
     /// The whole answer was written.
@@ -15,4 +18,21 @@ pub enum Status {
     WriteFault,
     /// Memory ran out.
     NoMemory,
+}
+
+impl Status {
+    /// The number that the program ends with.
+    pub fn number(self) -> u8
+        ensures { result ≡ status_number self }
+    {
+        match self {
+            Status::Done => 0,
+            Status::Rejected => 1,
+            Status::Usage => 2,
+            Status::ReadFault => 3,
+            Status::Refused => 4,
+            Status::WriteFault => 5,
+            Status::NoMemory => 6,
+        }
+    }
 }

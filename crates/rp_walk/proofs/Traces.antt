@@ -6,7 +6,8 @@ use Rattle.rp_walk.specs.Walk.{IsSimpleCycle, TotalRule, prefix_total, total_aft
 use Rattle.rp_walk.specs.LeastTotals.{IsLive, NoneTooWide, FitsAlike, StepsFitAlong, WalkFits}
 use Rattle.rp_walk.specs.InnerLevels.{Remembers}
 use Rattle.rp_walk.specs.LevelWalk.{CameFrom, IsFirstClosedPart, IsFirstLive, IsLevelWalk}
-use Rattle.rp_walk.specs.Settled.{IsFirstBreakingPair, NoPairBreaks, NoPartnerBelow, PairBreaks, FallsBelowStart}
+use Rattle.rp_walk.specs.InnerPairs.{NoPartnerBelow}
+use Rattle.rp_walk.specs.Settled.{IsFirstBreakingPair, NoPairBreaks, PairBreaks, FallsBelowStart}
 use Rattle.rp_walk.specs.Outcome.{SettlesInCycle}
 use Rattle.rp_walk.proofs.Order.{less_not_more, not_more_less, not_less-same}
 use Rattle.rp_walk.proofs.Walks.{IsTotal-here}

@@ -3,6 +3,7 @@ pub mod Walk
 pub mod LeastTotals
 pub mod LevelWalk
 pub mod Settled
+pub mod InnerPairs
 pub mod InnerLevels
 pub mod InnerAdvance
 pub mod Outcome

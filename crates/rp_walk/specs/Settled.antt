@@ -8,10 +8,6 @@ use Rattle.rp_walk.specs.LeastTotals.{IsLeast}
 abbrev pub PairBreaks : TotalRule → ℕ → ℕ → Type 0
 PairBreaks w s t = (k : ℕ) (x : ExactTotal) → IsTotal w k s x → IsLess (total_after w x s (t ∷ s ∷ [])) x
 
--- No observation between s and n breaks with s.
-abbrev pub NoPartnerBelow : TotalRule → ℕ → ℕ → Type 0
-NoPartnerBelow w s n = (t : ℕ) → s < t → t < n → ¬ (PairBreaks w s t)
-
 -- The first pair that breaks, in the order of s and then t, with s < t.
 pub record IsFirstBreakingPair (w : TotalRule) (s t : ℕ) : Type 0 where
   pub in_order : s < t

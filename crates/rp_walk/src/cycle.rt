@@ -1,10 +1,11 @@
 ghost use Rattle.std.specs.Prelude.{◌≡◌, ℕ, suc, ◌*◌, ◌<◌, IfOk, IfSome, IfNone, All, length, slice_index};
 ghost use Rattle.rp_walk.specs.ExactTotal.{SameTotal};
 ghost use Rattle.rp_walk.specs.InnerLevels.{Remembers};
+ghost use Rattle.rp_walk.specs.InnerPairs.{NoPartnerBelow};
 ghost use Rattle.rp_walk.specs.LeastTotals.{NoneTooWide};
 ghost use Rattle.rp_walk.specs.LevelWalk.{IsFirstClosedPart, IsFirstLive, IsLevelWalk};
 ghost use Rattle.rp_walk.specs.Outcome.{IsSettled};
-ghost use Rattle.rp_walk.specs.Settled.{IsFirstBreakingPair, NoPairBreaks, NoPartnerBelow, PairBreaks};
+ghost use Rattle.rp_walk.specs.Settled.{IsFirstBreakingPair, NoPairBreaks, PairBreaks};
 ghost use Rattle.rp_walk.specs.Walk.{prefix_total};
 
 use crate::level::filled;

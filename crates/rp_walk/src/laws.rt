@@ -1,7 +1,8 @@
 //! Laws over walks and their totals. Each function is empty: its contract is the law.
 ghost use Rattle.std.specs.Prelude.{◌≡◌, ℕ, ◌+◌, ◌<◌, ◌≤◌, List};
-ghost use Rattle.rp_walk.specs.ExactTotal.{ExactTotal, IsLess};
+ghost use Rattle.rp_walk.specs.ExactTotal.{ExactTotal, IsLess, SameTotal};
 ghost use Rattle.rp_walk.specs.LeastTotals.{IsLessThanShorter};
+ghost use Rattle.rp_walk.specs.LevelWalk.{IsCutFromLevels};
 ghost use Rattle.rp_walk.specs.Settled.{HasLeastTotals, FallsBelowStart};
 ghost use Rattle.rp_walk.specs.Walk.{KeepsOrder, StartsAlike, TotalRule, prefix_total};
 
@@ -19,4 +20,11 @@ pub fn long_walk_holds_closed_part()
 pub fn least_totals_leave_no_fall()
     ensures { (w : TotalRule) → KeepsOrder w → StartsAlike w → HasLeastTotals w
         → (start : ExactTotal) (walk : List ℕ) → ¬ (FallsBelowStart w start walk) }
+{}
+
+/// The walk that the levels give is one, and so are its first closed part and the total there.
+pub fn one_cycle_is_cut_from_levels()
+    ensures { (w : TotalRule) (start other : ExactTotal) (x y : List ℕ)
+        → IsCutFromLevels w start x → IsCutFromLevels w other y
+        → (x ≡ y) × SameTotal start other }
 {}

@@ -7,7 +7,9 @@ mod level;
 mod outcome;
 mod total;
 
-pub use laws::{least_totals_leave_no_fall, long_walk_holds_closed_part};
+pub use laws::{
+    least_totals_leave_no_fall, long_walk_holds_closed_part, one_cycle_is_cut_from_levels,
+};
 pub use outcome::{Settled, settle};
 pub use total::Total;
 

@@ -1,5 +1,5 @@
 use Rattle.std.proofs.Common.{below_more}
-use Rattle.rp_walk.specs.Settled.{NoPartnerBelow}
+use Rattle.rp_walk.specs.InnerPairs.{NoPartnerBelow}
 use Rattle.rp_walk.proofs.Traces.{IsFirstBreakingPair-found}
 use Rattle.rp_walk.proofs.cycle.first_breaking_pair.Goals as goal
 

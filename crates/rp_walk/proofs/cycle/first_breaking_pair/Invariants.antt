@@ -1,5 +1,5 @@
 use Rattle.std.proofs.Common.{ℕ, ◌<◌}
-use Rattle.rp_walk.specs.Settled.{NoPartnerBelow}
+use Rattle.rp_walk.specs.InnerPairs.{NoPartnerBelow}
 use Rattle.rp_walk.proofs.cycle.first_breaking_pair.Given as goal
 
 abbrev pub invariant-loop-s : goal.invariant-loop-s

@@ -1,4 +1,4 @@
-use Rattle.rp_walk.specs.Settled.{NoPartnerBelow}
+use Rattle.rp_walk.specs.InnerPairs.{NoPartnerBelow}
 use Rattle.rp_walk.proofs.cycle.first_breaking_partner.Given as goal
 
 abbrev pub invariant-loop-t : goal.invariant-loop-t

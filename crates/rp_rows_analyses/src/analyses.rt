@@ -1,16 +1,27 @@
-use crate::command::answer;
-use rp_run::Status;
+use rp_outside::{MemDesk, MemFile, MemSink};
+use rp_run::{Status, run};
 use std::alloc::Global;
 use std::process::Abort;
 use std::test::Fail;
 
-/// The report on the file is that text.
-fn reports(rt: &impl Abort, alloc: Global, file: &str, out: &str) -> Result<(), Fail> {
-    let got = answer(alloc, &["rp", "analyse", "t.csv"], file, &[])?;
-    assert_eq!(rt; got.status, Status::Done, "status of {file}");
-    assert_eq!(rt; got.out.as_str(), out, "output of {file}");
-    assert_eq!(rt; got.err.as_str(), "", "errors of {file}");
-    Ok(())
+/// What `rp analyse t.csv` writes over a file with these bytes, where it ends well.
+fn report(rt: &impl Abort, alloc: Global, file: &str) -> Result<String, Fail> {
+    let mut words = Vec::new(alloc);
+    for word in ["rp", "analyse", "t.csv"] {
+        words.push(String::from_str(alloc, word)?)?;
+    }
+    let mut files = Vec::new(alloc);
+    files.push(MemFile {
+        name: String::from_str(alloc, "t.csv")?,
+        bytes: Vec::from_slice(alloc, file.as_bytes())?,
+    })?;
+    let mut desk = MemDesk::new(files, Vec::new(alloc));
+    let mut out = MemSink::new(alloc, 65_536, Vec::new(alloc))?;
+    let mut err = MemSink::new(alloc, 65_536, Vec::new(alloc))?;
+    let status = run(alloc, &words, &mut desk, &mut out, &mut err);
+    assert_eq!(rt; status, Status::Done, "status of {file}");
+    assert_eq!(rt; err.written(), b"".as_slice(), "errors of {file}");
+    Ok(String::from_utf8_lossy(alloc, out.written())?)
 }
 
 #[test]
@@ -49,7 +60,8 @@ fn analyse_reports_the_verdicts_on_worked_tables(rt: HostRuntime) -> Result<(), 
             "observations 3 goods 2 places 0 0\ngarp holds\nranks 3 2 1\nhomothetic violated\nstart 1\ncycle 1 2 1\nquasilinear violated\ncycle 1 2 1\n",
         ),
     ] {
-        reports(&rt, rt.alloc(), file, out)?;
+        let got = report(&rt, rt.alloc(), file)?;
+        assert_eq!(rt; got.as_str(), out, "output of {file}");
     }
     Ok(())
 }
@@ -70,7 +82,8 @@ fn analyse_at_the_width_and_with_decimals(rt: HostRuntime) -> Result<(), Fail> {
             "observations 2 goods 2 places 2 0\ngarp holds\nranks 1 1\nhomothetic holds\nvalues 1 1\nquasilinear holds\nvalues 0 0\n",
         ),
     ] {
-        reports(&rt, rt.alloc(), file, out)?;
+        let got = report(&rt, rt.alloc(), file)?;
+        assert_eq!(rt; got.as_str(), out, "output of {file}");
     }
     Ok(())
 }
@@ -88,70 +101,90 @@ fn lowest(part: u32) -> (u32, u32) {
     (above, below)
 }
 
-#[test]
-fn analyse_of_the_most_observations(rt: HostRuntime) -> Result<(), Fail> {
-    let alloc = rt.alloc();
-    let mut chain = String::from_str(alloc, "p_a,q_a\n")?;
-    let mut ranks = String::from_str(
+/// A chain of one good: at each observation less is bought than before.
+fn chain(alloc: Global) -> Result<String, Fail> {
+    let mut file = String::from_str(alloc, "p_a,q_a\n")?;
+    for k in 0..256u32 {
+        let left = 256 - k;
+        file.push_str(format!(in alloc; "1,{left}\n")?.as_str())?;
+    }
+    Ok(file)
+}
+
+/// The report of the chain.
+fn report_of_chain(alloc: Global) -> Result<String, Fail> {
+    let mut text = String::from_str(
         alloc,
         "observations 256 goods 1 places 0 0\ngarp holds\nranks",
     )?;
     for k in 0..256u32 {
         let left = 256 - k;
-        chain.push_str(format!(in alloc; "1,{left}\n")?.as_str())?;
-        ranks.push_str(format!(in alloc; " {left}")?.as_str())?;
+        text.push_str(format!(in alloc; " {left}")?.as_str())?;
     }
-    ranks.push_str("\nhomothetic holds\nvalues 1")?;
+    text.push_str("\nhomothetic holds\nvalues 1")?;
     for k in 1..256u32 {
         let (above, below) = lowest(256 - k);
-        ranks.push_str(format!(in alloc; " {above}/{below}")?.as_str())?;
+        text.push_str(format!(in alloc; " {above}/{below}")?.as_str())?;
     }
-    ranks.push_str("\nquasilinear holds\nvalues 0")?;
+    text.push_str("\nquasilinear holds\nvalues 0")?;
     for k in 1..256u32 {
-        ranks.push_str(format!(in alloc; " -{k}")?.as_str())?;
+        text.push_str(format!(in alloc; " -{k}")?.as_str())?;
     }
-    ranks.push_str("\n")?;
-    let got = answer(alloc, &["rp", "analyse", "t.csv"], chain.as_str(), &[])?;
-    assert_eq!(rt; got.status, Status::Done);
-    assert_eq!(rt; got.out.as_str(), ranks.as_str());
+    text.push_str("\n")?;
+    Ok(text)
+}
+
+#[test]
+fn analyse_of_the_most_observations(rt: HostRuntime) -> Result<(), Fail> {
+    let file = chain(rt.alloc())?;
+    let wanted = report_of_chain(rt.alloc())?;
+    let got = report(&rt, rt.alloc(), file.as_str())?;
+    assert!(rt; got.as_str() == wanted.as_str());
     Ok(())
+}
+
+/// 25 rounds that alternate between two budgets.
+fn rounds(alloc: Global) -> Result<String, Fail> {
+    let mut file = String::from_str(alloc, "obs,p_a,p_b,q_a,q_b\n")?;
+    for round in 1..26u32 {
+        let amounts = if round % 2 == 1 {
+            "1.25,2.50,20.2,10.1"
+        } else {
+            "2.50,1.25,10.1,20.2"
+        };
+        file.push_str(format!(in alloc; "{round},{amounts}\n")?.as_str())?;
+    }
+    Ok(file)
+}
+
+/// So many entries of a list that alternates.
+fn list(alloc: Global, odd: &str, even: &str) -> Result<String, Fail> {
+    let mut text = String::new(alloc);
+    for round in 1..26u32 {
+        text.push_str(if round % 2 == 1 { odd } else { even })?;
+    }
+    Ok(text)
 }
 
 #[test]
 fn analyse_of_rounds_with_decimals(rt: HostRuntime) -> Result<(), Fail> {
-    let alloc = rt.alloc();
-    let mut file = String::from_str(alloc, "obs,p_a,p_b,q_a,q_b\n")?;
-    let mut ranks = String::from_str(alloc, "ranks")?;
-    let mut values = String::from_str(alloc, "values")?;
-    let mut sums = String::from_str(alloc, "values")?;
-    for round in 1..26u32 {
-        let (amounts, rank) = if round % 2 == 1 {
-            ("1.25,2.50,20.2,10.1", 13)
-        } else {
-            ("2.50,1.25,10.1,20.2", 12)
-        };
-        file.push_str(format!(in alloc; "{round},{amounts}\n")?.as_str())?;
-        ranks.push_str(format!(in alloc; " {rank}")?.as_str())?;
-        values.push_str(" 1")?;
-        sums.push_str(" 0")?;
-    }
-    let report = format!(in alloc;
-        "observations 25 goods 2 places 2 1\ngarp holds\n{ranks}\nhomothetic holds\n{values}\nquasilinear holds\n{sums}\n"
+    let file = rounds(rt.alloc())?;
+    let ranks = list(rt.alloc(), " 13", " 12")?;
+    let values = list(rt.alloc(), " 1", " 1")?;
+    let sums = list(rt.alloc(), " 0", " 0")?;
+    let wanted = format!(in rt.alloc();
+        "observations 25 goods 2 places 2 1\ngarp holds\nranks{ranks}\nhomothetic holds\nvalues{values}\nquasilinear holds\nvalues{sums}\n"
     )?;
-    let got = answer(alloc, &["rp", "analyse", "t.csv"], file.as_str(), &[])?;
-    assert_eq!(rt; got.status, Status::Done);
-    assert_eq!(rt; got.out.as_str(), report.as_str());
+    let got = report(&rt, rt.alloc(), file.as_str())?;
+    assert!(rt; got.as_str() == wanted.as_str());
     Ok(())
 }
 
 /// Bundles on a curve in the plane where three quantities sum to 65,280. At each price the own bundle and the
 /// next one are equally cheap and all others dearer; at the last price the first bundle is cheaper by 255. So each
 /// other closed walk of weak steps has no strict one, and each that leaves a bundle out has a positive sum.
-#[test]
-fn analyse_finds_the_one_violation_that_runs_through_all(rt: HostRuntime) -> Result<(), Fail> {
-    let alloc = rt.alloc();
+fn ring(alloc: Global) -> Result<String, Fail> {
     let mut file = String::from_str(alloc, "p_a,q_a,p_b,q_b,p_c,q_c\n")?;
-    let mut ring = String::from_str(alloc, "")?;
     for t in 0..256u32 {
         let (first, second) = if t < 255 {
             (131_072 - 256 * (2 * t + 1), 131_328)
@@ -163,17 +196,29 @@ fn analyse_finds_the_one_violation_that_runs_through_all(rt: HostRuntime) -> Res
         file.push_str(format!(in alloc;
             "{first},{t},{second},{square},131072,{rest}\n"
         )?.as_str())?;
-        let number = t + 1;
-        ring.push_str(format!(in alloc; " {number}")?.as_str())?;
     }
-    let ring = ring.as_str();
-    let head = format!(in alloc;
-        "observations 256 goods 3 places 0 0\ngarp violated\ncycle{ring} 1\nhomothetic violated\nstart "
+    Ok(file)
+}
+
+/// The numbers from 1 to 256.
+fn all_numbers(alloc: Global) -> Result<String, Fail> {
+    let mut text = String::new(alloc);
+    for number in 1..257u32 {
+        text.push_str(format!(in alloc; " {number}")?.as_str())?;
+    }
+    Ok(text)
+}
+
+#[test]
+fn analyse_finds_the_one_violation_that_runs_through_all(rt: HostRuntime) -> Result<(), Fail> {
+    let file = ring(rt.alloc())?;
+    let all = all_numbers(rt.alloc())?;
+    let got = report(&rt, rt.alloc(), file.as_str())?;
+    let head = format!(in rt.alloc();
+        "observations 256 goods 3 places 0 0\ngarp violated\ncycle{all} 1\nhomothetic violated\nstart "
     )?;
-    let tail = format!(in alloc; "\nquasilinear violated\ncycle 256{ring}\n")?;
-    let got = answer(alloc, &["rp", "analyse", "t.csv"], file.as_str(), &[])?;
-    assert_eq!(rt; got.status, Status::Done);
-    assert!(rt; got.out.as_str().starts_with(head.as_str()));
-    assert!(rt; got.out.as_str().ends_with(tail.as_str()));
+    assert!(rt; got.as_str().starts_with(head.as_str()));
+    let tail = format!(in rt.alloc(); "\nquasilinear violated\ncycle 256{all}\n")?;
+    assert!(rt; got.as_str().ends_with(tail.as_str()));
     Ok(())
 }

@@ -1,0 +1,59 @@
+ghost use Rattle.std.specs.Prelude.{◌≡◌};
+ghost use Rattle.rp_evidence.specs.DemandEvidence.{withheld_bound};
+
+use rp_farkas::Pair;
+use rp_num::{Frac, Seq};
+
+/// A bound with the equal pair of its program, or the step at which the run of the program passes its width.
+#[derive(Debug, Drop)]
+pub enum Bound {
+    Shown { value: Frac, pair: Pair },
+    Wide { step: u64 },
+}
+
+/// What supporting demands have of a good, at least and at most.
+#[derive(Debug, Drop)]
+pub struct GoodBounds {
+    pub lower: Bound,
+    pub upper: Bound,
+}
+
+/// A bundle of fractions: one numerator for each good, over one denominator.
+#[derive(Debug, Drop)]
+pub struct Point {
+    pub den: u64,
+    pub num: Seq<u64>,
+}
+
+/// Demand at new prices: the observations below the new budget and those strictly below, from 0; one supporting demand; the
+/// bounds of each good. Or a violation of the table, which then supports none.
+#[derive(Debug, Drop)]
+pub enum DemandPart {
+    Bounds {
+        below: Seq<u32>,
+        strict: Seq<u32>,
+        inner: Point,
+        goods: Seq<GoodBounds>,
+    },
+    NoModel(Seq<u32>),
+}
+
+/// The money metric at new prices: the least cost of a bundle of the table that is at least as good, where it is first
+/// found, and a bound from below. Or a violation of the table.
+#[derive(Debug, Drop)]
+pub enum WelfarePart {
+    Bounds { upper: u64, at: u32, lower: Bound },
+    NoModel(Seq<u32>),
+}
+
+impl Bound {
+    /// 1 where the bound is withheld.
+    pub fn withheld(&self) -> u32
+        ensures { result ≡ withheld_bound self.now }
+    {
+        match self {
+            Bound::Shown { .. } => 0,
+            Bound::Wide { .. } => 1,
+        }
+    }
+}
