@@ -49,7 +49,11 @@ fn the_first_true_place_and_its_asks(rt: HostRuntime) -> Result<(), Fail> {
             size,
             asks: 0,
         };
-        assert_eq!(rt; first_true(rt.alloc(), &mut places)?, wanted, "of {size} from {first}");
+        assert_eq!(rt;
+            first_true(rt.alloc(), &mut places)?,
+            wanted,
+            "of {size} from {first}"
+        );
         assert!(rt; places.asks <= most, "asks of {size} from {first}");
     }
     Ok(())

@@ -38,11 +38,26 @@ fn push_list(
 #[test]
 fn the_index_of_worked_tables(rt: HostRuntime) -> Result<(), Fail> {
     for (file, wanted) in [
-        ("p_a,q_a,p_b,q_b\n1,1,2,2\n2,2,1,1\n", "4/5, below 1 1, above 1 2 1, ranks 2 2"),
-        ("p_a,q_a,p_b,q_b\n1,2,2,1\n2,1,1,2\n", "1/1, below 1 1, above, ranks 1 1"),
-        ("p_a,q_a,p_b,q_b\n1,4,1,4\n1,2,1,2\n", "1/1, below 2 1, above, ranks 2 1"),
-        ("p_a,q_a,p_b,q_b\n1,2,1,2\n1,3,1,1\n", "1/1, below 1 1, above, ranks 2 2"),
-        ("p_a,q_a,p_b,q_b\n1,1,3,3\n21,2,8,1\n", "9/10, below 2 1, above 1 2 1, cycle 2 1 2"),
+        (
+            "p_a,q_a,p_b,q_b\n1,1,2,2\n2,2,1,1\n",
+            "4/5, below 1 1, above 1 2 1, ranks 2 2",
+        ),
+        (
+            "p_a,q_a,p_b,q_b\n1,2,2,1\n2,1,1,2\n",
+            "1/1, below 1 1, above, ranks 1 1",
+        ),
+        (
+            "p_a,q_a,p_b,q_b\n1,4,1,4\n1,2,1,2\n",
+            "1/1, below 2 1, above, ranks 2 1",
+        ),
+        (
+            "p_a,q_a,p_b,q_b\n1,2,1,2\n1,3,1,1\n",
+            "1/1, below 1 1, above, ranks 2 2",
+        ),
+        (
+            "p_a,q_a,p_b,q_b\n1,1,3,3\n21,2,8,1\n",
+            "9/10, below 2 1, above 1 2 1, cycle 2 1 2",
+        ),
         (
             "p_a,q_a,p_b,q_b,p_c,q_c\n2,1,1,0,3,0\n3,0,2,1,1,0\n1,0,3,0,2,1\n",
             "1/2, below 1 1 1, above 1 2 3 1, ranks 3 3 3",
@@ -61,7 +76,10 @@ fn the_index_of_a_long_walk_that_no_pair_walks(rt: HostRuntime) -> Result<(), Fa
     let file = "p_a,q_a,p_b,q_b,p_c,q_c,p_d,q_d\n\
         10,1,9,0,20,0,20,0\n20,0,10,1,8,0,20,0\n20,0,20,0,10,1,7,0\n6,0,20,0,20,0,10,1\n";
     let got = shown(rt.alloc(), file)?;
-    assert_eq!(rt; got.as_str(), "9/10, below 1 4 3 2, above 1 2 3 4 1, cycle 1 2 3 4 1");
+    assert_eq!(rt;
+        got.as_str(),
+        "9/10, below 1 4 3 2, above 1 2 3 4 1, cycle 1 2 3 4 1"
+    );
     Ok(())
 }
 
@@ -97,6 +115,9 @@ fn greatest(alloc: Global) -> Result<String, Fail> {
 fn own_costs_near_the_limit(rt: HostRuntime) -> Result<(), Fail> {
     let file = greatest(rt.alloc())?;
     let got = shown(rt.alloc(), file.as_str())?;
-    assert_eq!(rt; got.as_str(), "1599999660000018/1599999660000019, below 1 1, above 1 2 1, ranks 2 2");
+    assert_eq!(rt;
+        got.as_str(),
+        "1599999660000018/1599999660000019, below 1 1, above 1 2 1, ranks 2 2"
+    );
     Ok(())
 }
