@@ -1,7 +1,8 @@
 pub mod Fillings
-pub mod Leasts
-pub mod Widths
-pub mod Quotients
-pub mod Lists
 pub mod Given
+pub mod Leasts
+pub mod Lists
 pub mod Minima
+pub mod Quotients
+pub mod SameVerdicts
+pub mod Widths

@@ -1,9 +1,8 @@
 ghost use Rattle.std.specs.Prelude.{◌≡◌, ◌<◌, ◌≤◌, ◌-◌, ◌↔◌, ℕ, IsTrue, IfNone, IfOk, IfSome, length};
 ghost use Rattle.rp_evidence.specs.AfriatEvidence.{ProvesAfriat};
 ghost use Rattle.rp_evidence.specs.Count.{AreCounts};
-ghost use Rattle.rp_evidence.specs.Garp.{MeetsGarp};
+ghost use Rattle.rp_evidence.specs.Garp.{MeetsGarp, ProvesGarp};
 ghost use Rattle.rp_evidence.specs.Preference.{IsWeak};
-ghost use Rattle.rp_evidence.specs.Proves.{ProvesGarp};
 ghost use Rattle.rp_evidence.specs.StandardNumbers.{FitsUtility};
 ghost use Rattle.rp_table.specs.Cost.{cost_at};
 ghost use Rattle.rp_afriat.specs.Filling.{AreFilledAbove, AreForEach, FitAbove, StandardNumbersPassAt};

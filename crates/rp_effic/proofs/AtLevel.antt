@@ -5,8 +5,7 @@ use Rattle.std.proofs.lemmas.List.{get_or_append_left, get_or_push, length_push}
 use Rattle.rp_evidence.specs.Count.{AreCounts}
 use Rattle.rp_evidence.specs.Efficiency.{BoundsFromAbove}
 use Rattle.rp_evidence.specs.First.{NoneRelated}
-use Rattle.rp_evidence.specs.Garp.{HasNoViolation, IsViolation}
-use Rattle.rp_evidence.specs.Garp.{ProvesOfPreference}
+use Rattle.rp_evidence.specs.Garp.{HasNoViolation, IsViolation, ProvesOfPreference}
 use Rattle.rp_evidence.specs.Preference.{IsWeak}
 use Rattle.rp_evidence.specs.Walk.{IsShortestWalk}
 use Rattle.rp_evidence.specs.declared.garp.Garp.TheVariants.{Ranks, Cycle}

@@ -3,3 +3,4 @@ pub mod AtLevel
 pub mod Collected
 pub mod Halving
 pub mod Indexed
+pub mod SameVerdicts

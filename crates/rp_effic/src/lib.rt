@@ -4,6 +4,7 @@
 mod ask;
 mod at_level;
 mod index;
+mod laws;
 mod ratio;
 mod ratios;
 mod returning;
@@ -11,4 +12,5 @@ mod thresholds;
 mod verdict;
 
 pub use ask::{Ask, first_true};
+pub use laws::given_evidence_depends_on_observed_costs;
 pub use verdict::efficiency;

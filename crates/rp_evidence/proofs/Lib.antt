@@ -21,8 +21,10 @@ pub mod Loops
 pub mod Places
 pub mod Supporting
 pub mod Reaching
+pub mod SameAfriat
 pub mod Ratios
 pub mod SameCosts
+pub mod SameIndex
 pub mod SameItems
 pub mod SameProducts
 pub mod SameSums

@@ -2,6 +2,8 @@
 use Rattle.std.proofs.Common.{◌≡◌, ◌<◌, ◌*◌, ℕ, sym, ap, subst, ◌∙◌}
 use Rattle.rp_table.specs.Sums.{sum_below}
 use Rattle.rp_table.proofs.SumsBelow.{sum_below-same}
+use Rattle.rp_evidence.specs.AfriatEvidence.{ProvesAfriat}
+use Rattle.rp_evidence.specs.Efficiency.{ProvesEfficiency}
 use Rattle.rp_evidence.specs.Homothetic.{ProvesHomothetic}
 use Rattle.rp_evidence.specs.Input.{AgreeInputs, TableInput}
 use Rattle.rp_evidence.specs.Preference.{AgreeBelow}
@@ -9,8 +11,10 @@ use Rattle.rp_evidence.specs.Garp.{ProvesGarp}
 use Rattle.rp_evidence.specs.Proves.{Proves}
 use Rattle.rp_evidence.specs.Quasilinear.{ProvesQuasilinear}
 use Rattle.rp_evidence.specs.declared.certificate.Item.{Item}
-use Rattle.rp_evidence.specs.declared.certificate.Item.TheVariants.{Garp as GarpItem, Homothetic as HomotheticItem, Quasi as QuasiItem}
+use Rattle.rp_evidence.specs.declared.certificate.Item.TheVariants.{Garp as GarpItem, Afriat as AfriatItem, Efficiency as EfficiencyItem, Homothetic as HomotheticItem, Quasi as QuasiItem}
+use Rattle.rp_evidence.proofs.SameAfriat.{afriat_same}
 use Rattle.rp_evidence.proofs.SameCosts.{garp_same}
+use Rattle.rp_evidence.proofs.SameIndex.{efficiency_same}
 use Rattle.rp_evidence.proofs.SameProducts.{homothetic_same}
 use Rattle.rp_evidence.proofs.SameSums.{quasilinear_same}
 
@@ -27,5 +31,7 @@ module _ (input other : TableInput) (agree : AgreeInputs input other) where
 
   pub item_same : (item : Item) → Proves input item → Proves other item
   item_same (GarpItem verdict) p = subst (λ m. ProvesGarp m other.cost verdict) agree.n (garp_same input.n input.cost other.cost verdict costs_agree p)
+  item_same (AfriatItem part) p = subst (λ m. ProvesAfriat m other.cost part) agree.n (afriat_same input.n input.cost other.cost part costs_agree p)
+  item_same (EfficiencyItem evidence) p = subst (λ m. ProvesEfficiency m other.cost evidence) agree.n (efficiency_same input.n input.cost other.cost evidence costs_agree p)
   item_same (HomotheticItem verdict) p = subst (λ m. ProvesHomothetic m other.cost verdict) agree.n (homothetic_same input.n input.cost other.cost verdict costs_agree p)
   item_same (QuasiItem verdict) p = subst (λ m. ProvesQuasilinear m other.cost verdict) agree.n (quasilinear_same input.n input.cost other.cost verdict costs_agree p)

@@ -23,3 +23,8 @@ abbrev pub ProvesAfriat : ℕ → (ℕ → ℕ → ℕ) → AfriatPart → Type 
 ProvesAfriat n c (Model numbers) = AreOneEach n numbers × IsAfriatModel n c (utility_in numbers) (multiplier_in numbers)
 ProvesAfriat n c (NoModel walk) = IsViolationAt n c 1 1 walk
 ProvesAfriat n c (Wide at) = Unit {0}
+
+-- How many of its values a part leaves out.
+abbrev pub withheld_afriat : AfriatPart → ℕ
+withheld_afriat (Wide at) = 1
+withheld_afriat _ = 0

@@ -1,3 +1,5 @@
+ghost use Rattle.std.specs.Prelude.{◌≡◌};
+
 use rp_num::Seq;
 
 /// The numbers of an Afriat model (Afriat 1967; Varian 1982): by observation the utility `u` and the multiplier
@@ -16,4 +18,18 @@ pub enum AfriatPart {
     Model(Numbers),
     NoModel(Seq<u32>),
     Wide { at: u32 },
+}
+
+impl AfriatPart {
+    ghost use Rattle.rp_evidence.specs.AfriatEvidence.{withheld_afriat};
+
+    /// How many values are left out because their computation passed its width.
+    pub(crate) fn withheld(&self) -> u32
+        ensures { result ≡ withheld_afriat self.now }
+    {
+        match self {
+            AfriatPart::Wide { .. } => 1,
+            _ => 0,
+        }
+    }
 }

@@ -1,6 +1,8 @@
 ghost use Rattle.std.specs.Prelude.{◌≡◌, ◌-◌, ◌^◌, min, sum_by};
 ghost use Rattle.rp_evidence.specs.Withheld.{withheld_in};
 
+use crate::afriat::AfriatPart;
+use crate::efficiency::Efficiency;
 use crate::garp::Garp;
 use crate::homothetic::Homothetic;
 use crate::quasilinear::Quasi;
@@ -10,6 +12,8 @@ use rp_num::Seq;
 #[derive(Debug, Drop)]
 pub enum Item {
     Garp(Garp),
+    Afriat(AfriatPart),
+    Efficiency(Efficiency),
     Homothetic(Homothetic),
     Quasi(Quasi),
 }
@@ -35,6 +39,8 @@ fn withheld_in_item(item: &Item) -> u32
 {
     match item {
         Item::Garp(_) => 0,
+        Item::Afriat(part) => part.withheld(),
+        Item::Efficiency(_) => 0,
         Item::Homothetic(verdict) => verdict.withheld(),
         Item::Quasi(_) => 0,
     }

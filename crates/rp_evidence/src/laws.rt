@@ -1,5 +1,7 @@
 ghost use Rattle.std.specs.Prelude.{◌≡◌, ◌↔◌, ◌<◌, ◌≤◌, ◌*◌, ◌++◌, ◌∷◌, [], ℕ, List, length, Contains, slice_index};
+ghost use Rattle.rp_evidence.specs.AfriatEvidence.{ProvesAfriat};
 ghost use Rattle.rp_evidence.specs.Count.{AreCounts, IsCount};
+ghost use Rattle.rp_evidence.specs.Efficiency.{ProvesEfficiency};
 ghost use Rattle.rp_evidence.specs.Garp.{HasNoViolation, IsViolation, IsViolationAt, ProvesGarp, ViolatesByPlaces};
 ghost use Rattle.rp_evidence.specs.Homothetic.{ProvesHomothetic};
 ghost use Rattle.rp_evidence.specs.Input.{AgreeInputs, TableInput};
@@ -8,8 +10,10 @@ ghost use Rattle.rp_evidence.specs.Proves.{Proves};
 ghost use Rattle.rp_evidence.specs.Quasilinear.{ProvesQuasilinear};
 ghost use Rattle.rp_evidence.specs.Ranks.{OrderSteps, OrderStrictSteps, RespectPreference};
 ghost use Rattle.rp_evidence.specs.Walk.{IsClosedWalk, IsWalk, Reaches};
+ghost use Rattle.rp_evidence.specs.declared.afriat.AfriatPart.{AfriatPart};
 ghost use Rattle.rp_evidence.specs.declared.garp.Garp.{Garp};
 ghost use Rattle.rp_evidence.specs.declared.certificate.Item.{Item};
+ghost use Rattle.rp_evidence.specs.declared.efficiency.Efficiency.{Efficiency};
 ghost use Rattle.rp_evidence.specs.declared.homothetic.Homothetic.{Homothetic};
 ghost use Rattle.rp_evidence.specs.declared.quasilinear.Quasi.{Quasi};
 
@@ -103,6 +107,10 @@ pub fn step_counts_order<R: Relation>()
 pub fn evidence_depends_on_observed_costs()
     ensures garp { (n : ℕ) (c d : ℕ → ℕ → ℕ) (verdict : Garp)
         → AgreeBelow n c d → ProvesGarp n c verdict → ProvesGarp n d verdict }
+    ensures afriat { (n : ℕ) (c d : ℕ → ℕ → ℕ) (part : AfriatPart)
+        → AgreeBelow n c d → ProvesAfriat n c part → ProvesAfriat n d part }
+    ensures efficiency { (n : ℕ) (c d : ℕ → ℕ → ℕ) (evidence : Efficiency)
+        → AgreeBelow n c d → ProvesEfficiency n c evidence → ProvesEfficiency n d evidence }
     ensures homothetic { (n : ℕ) (c d : ℕ → ℕ → ℕ) (verdict : Homothetic)
         → AgreeBelow n c d → ProvesHomothetic n c verdict → ProvesHomothetic n d verdict }
     ensures quasilinear { (n : ℕ) (c d : ℕ → ℕ → ℕ) (verdict : Quasi)

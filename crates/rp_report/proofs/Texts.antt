@@ -1,5 +1,5 @@
 -- Texts that are made piece by piece.
-use Rattle.std.proofs.Common.{◌≡◌, ℕ, List, [], ◌∷◌, ◌++◌, append_assoc}
+use Rattle.std.proofs.Common.{◌≡◌, ℕ, List, [], ◌∷◌, ◌++◌, append_assoc, OnOk, Result, Ok, Err}
 use Rattle.rp_report.specs.ListText.{line_of}
 
 -- a line of four numbers with their words
@@ -9,3 +9,19 @@ four_numbers old w1 n1 w2 n2 w3 n3 w4 n4 = simp append_assoc
 -- a line of three numbers with their words
 pub three_numbers : (old w1 n1 w2 n2 w3 n3 : List ℕ) → ((((((old ++ w1) ++ n1) ++ w2) ++ n2) ++ w3) ++ n3) ++ 10 ∷ [] ≡ old ++ line_of (w1 ++ n1 ++ w2 ++ n2 ++ w3 ++ n3)
 three_numbers old w1 n1 w2 n2 w3 n3 = simp append_assoc
+
+-- a line of one number with its words
+pub one_number : (old w1 n1 : List ℕ) → ((old ++ w1) ++ n1) ++ 10 ∷ [] ≡ old ++ line_of (w1 ++ n1)
+one_number old w1 n1 = simp append_assoc
+
+-- three pieces, of which two come after the first
+pub three_pieces : (old a b c : List ℕ) → ((old ++ a) ++ b) ++ c ≡ old ++ ((a ++ b) ++ c)
+three_pieces old a b c = simp append_assoc
+
+pub on_ok : {A E : Type 0} (P Q : Type 0) → (P → Q) → (r : Result A E) → OnOk r P → OnOk r Q
+on_ok P Q f (Ok x) h = f h
+on_ok P Q f (Err e) h = h
+
+-- a line of a word, a level, a word and a word
+pub index_line : (old w1 level w2 last : List ℕ) → (((old ++ w1) ++ level) ++ w2) ++ line_of last ≡ old ++ line_of (w1 ++ level ++ w2 ++ last)
+index_line old w1 level w2 last = simp append_assoc

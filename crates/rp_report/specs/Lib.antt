@@ -1,3 +1,5 @@
+pub mod EfficiencyText
+pub mod AfriatText
 pub mod GarpText
 pub mod HomotheticText
 pub mod ListText

@@ -4,7 +4,9 @@ use Rattle.std.specs.List.{flat_map}
 use Rattle.std.specs.Fmt.{decimal}
 use Rattle.rp_table.specs.Tables.{Observations, goods_of, records_of}
 use Rattle.rp_evidence.specs.declared.certificate.Item.{Item}
-use Rattle.rp_evidence.specs.declared.certificate.Item.TheVariants.{Garp as GarpItem, Homothetic as HomotheticItem, Quasi as QuasiItem}
+use Rattle.rp_evidence.specs.declared.certificate.Item.TheVariants.{Garp as GarpItem, Afriat as AfriatItem, Efficiency as EfficiencyItem, Homothetic as HomotheticItem, Quasi as QuasiItem}
+use Rattle.rp_report.specs.AfriatText.{afriat_text}
+use Rattle.rp_report.specs.EfficiencyText.{efficiency_text}
 use Rattle.rp_report.specs.GarpText.{garp_text}
 use Rattle.rp_report.specs.HomotheticText.{homothetic_text}
 use Rattle.rp_report.specs.ListText.{line_of}
@@ -18,6 +20,8 @@ head_text table = line_of (codes "observations " ++ decimal (records_of table) +
 -- an item
 abbrev pub item_text : Item → List ℕ
 item_text (GarpItem verdict) = garp_text verdict
+item_text (AfriatItem part) = afriat_text part
+item_text (EfficiencyItem evidence) = efficiency_text evidence
 item_text (HomotheticItem verdict) = homothetic_text verdict
 item_text (QuasiItem verdict) = quasilinear_text verdict
 

@@ -1,6 +1,8 @@
 //! The report that a certificate is printed as.
 #![tactic(auto)]
 
+mod afriat;
+mod efficiency;
 mod garp;
 mod homothetic;
 mod lists;

@@ -32,6 +32,19 @@ impl Print for Number {
     }
 }
 
+/// A number of 64 bits as it is.
+pub(crate) struct LongNumber;
+
+impl Print for LongNumber {
+    type Entry = u64;
+
+    ghost shown = { decimal };
+
+    fn push(alloc: Global, out: &mut Vec<u8>, entry: u64) -> Result<(), NoMemory> {
+        print_u128(alloc, out, u128::from(entry))
+    }
+}
+
 /// An observation, which is counted from 1.
 pub(crate) struct Observation;
 
@@ -104,6 +117,19 @@ pub(crate) fn push_numbers(
         out.new.items ≡ out.old.items ++ line_of (word.now ++ numbers_text numbers.now)) }
 {
     push_list_line::<Number>(alloc, out, word, numbers)
+}
+
+/// Appends a line that lists numbers of 64 bits after a word.
+pub(crate) fn push_long_numbers(
+    alloc: Global,
+    out: &mut Vec<u8>,
+    word: &[u8],
+    numbers: &[u64],
+) -> Result<(), NoMemory>
+    ensures { OnOk result (
+        out.new.items ≡ out.old.items ++ line_of (word.now ++ numbers_text numbers.now)) }
+{
+    push_list_line::<LongNumber>(alloc, out, word, numbers)
 }
 
 /// Appends a line that lists observations after a word.

@@ -1,6 +1,8 @@
 ghost use Rattle.std.specs.Prelude.{◌≡◌, ◌++◌, IfOk, OnOk};
 ghost use Rattle.rp_report.specs.ReportText.{head_text, item_text, report_text};
 
+use crate::afriat::push_afriat;
+use crate::efficiency::push_efficiency;
 use crate::garp::push_garp;
 use crate::homothetic::push_homothetic;
 use crate::lists::{Number, push_after};
@@ -41,6 +43,8 @@ fn push_item(alloc: Global, out: &mut Vec<u8>, item: &Item) -> Result<(), NoMemo
 {
     match item {
         Item::Garp(verdict) => push_garp(alloc, out, verdict),
+        Item::Afriat(part) => push_afriat(alloc, out, part),
+        Item::Efficiency(evidence) => push_efficiency(alloc, out, evidence),
         Item::Homothetic(verdict) => push_homothetic(alloc, out, verdict),
         Item::Quasi(verdict) => push_quasilinear(alloc, out, verdict),
     }

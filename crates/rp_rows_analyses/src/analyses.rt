@@ -29,35 +29,35 @@ fn analyse_reports_the_verdicts_on_worked_tables(rt: HostRuntime) -> Result<(), 
     for (file, out) in [
         (
             "p_a,q_a,p_b,q_b\n1,1,2,2\n2,2,1,1\n",
-            "observations 2 goods 2 places 0 0\ngarp violated\ncycle 1 2 1\nhomothetic violated\nstart 1\ncycle 1 2 1\nquasilinear violated\ncycle 1 2 1\n",
+            "observations 2 goods 2 places 0 0\ngarp violated\ncycle 1 2 1\nafriat none\ncycle 1 2 1\nefficiency 4/5 attained yes\nbelow 1 1\nabove 1 2 1\nat ranks 2 2\nhomothetic violated\nstart 1\ncycle 1 2 1\nquasilinear violated\ncycle 1 2 1\n",
         ),
         (
             "p_a,q_a,p_b,q_b\n1,2,2,1\n2,1,1,2\n",
-            "observations 2 goods 2 places 0 0\ngarp holds\nranks 1 1\nhomothetic holds\nvalues 1 1\nquasilinear holds\nvalues 0 0\n",
+            "observations 2 goods 2 places 0 0\ngarp holds\nranks 1 1\nafriat model\nutility 0 0\nlambda 1 1\nefficiency 1 attained yes\nbelow 1 1\nat ranks 1 1\nhomothetic holds\nvalues 1 1\nquasilinear holds\nvalues 0 0\n",
         ),
         (
             "p_a,q_a,p_b,q_b\n1,4,1,4\n1,2,1,2\n",
-            "observations 2 goods 2 places 0 0\ngarp holds\nranks 2 1\nhomothetic holds\nvalues 1 1/2\nquasilinear holds\nvalues 0 -4\n",
+            "observations 2 goods 2 places 0 0\ngarp holds\nranks 2 1\nafriat model\nutility 0 -4\nlambda 1 1\nefficiency 1 attained yes\nbelow 2 1\nat ranks 2 1\nhomothetic holds\nvalues 1 1/2\nquasilinear holds\nvalues 0 -4\n",
         ),
         (
             "p_a,q_a,p_b,q_b\n1,2,1,2\n1,3,1,1\n",
-            "observations 2 goods 2 places 0 0\ngarp holds\nranks 2 2\nhomothetic holds\nvalues 1 1\nquasilinear holds\nvalues 0 0\n",
+            "observations 2 goods 2 places 0 0\ngarp holds\nranks 2 2\nafriat model\nutility 0 0\nlambda 1 1\nefficiency 1 attained yes\nbelow 1 1\nat ranks 2 2\nhomothetic holds\nvalues 1 1\nquasilinear holds\nvalues 0 0\n",
         ),
         (
             "p_a,q_a,p_b,q_b\n1,1,3,3\n21,2,8,1\n",
-            "observations 2 goods 2 places 0 0\ngarp violated\ncycle 1 2 1\nhomothetic violated\nstart 1\ncycle 1 2 1\nquasilinear violated\ncycle 1 2 1\n",
+            "observations 2 goods 2 places 0 0\ngarp violated\ncycle 1 2 1\nafriat none\ncycle 1 2 1\nefficiency 9/10 attained no\nbelow 2 1\nabove 1 2 1\nat cycle 2 1 2\nhomothetic violated\nstart 1\ncycle 1 2 1\nquasilinear violated\ncycle 1 2 1\n",
         ),
         (
             "p_a,q_a,p_b,q_b,p_c,q_c\n2,1,1,0,3,0\n3,0,2,1,1,0\n1,0,3,0,2,1\n",
-            "observations 3 goods 3 places 0 0\ngarp violated\ncycle 1 2 3 1\nhomothetic violated\nstart 1\ncycle 1 2 1\nquasilinear violated\ncycle 1 2 3 1\n",
+            "observations 3 goods 3 places 0 0\ngarp violated\ncycle 1 2 3 1\nafriat none\ncycle 1 2 3 1\nefficiency 1/2 attained yes\nbelow 1 1 1\nabove 1 2 3 1\nat ranks 3 3 3\nhomothetic violated\nstart 1\ncycle 1 2 1\nquasilinear violated\ncycle 1 2 3 1\n",
         ),
         (
             "p_a,q_a\n3,2\n",
-            "observations 1 goods 1 places 0 0\ngarp holds\nranks 1\nhomothetic holds\nvalues 1\nquasilinear holds\nvalues 0\n",
+            "observations 1 goods 1 places 0 0\ngarp holds\nranks 1\nafriat model\nutility 0\nlambda 1\nefficiency 1 attained yes\nbelow 1\nat ranks 1\nhomothetic holds\nvalues 1\nquasilinear holds\nvalues 0\n",
         ),
         (
             "p_a,q_a,p_b,q_b\n2,3,1,2\n1,0,2,3\n2,1,1,0\n",
-            "observations 3 goods 2 places 0 0\ngarp holds\nranks 3 2 1\nhomothetic violated\nstart 1\ncycle 1 2 1\nquasilinear violated\ncycle 1 2 1\n",
+            "observations 3 goods 2 places 0 0\ngarp holds\nranks 3 2 1\nafriat model\nutility 0 -5 -30\nlambda 1 5 25\nefficiency 1 attained yes\nbelow 3 2 1\nat ranks 3 2 1\nhomothetic violated\nstart 1\ncycle 1 2 1\nquasilinear violated\ncycle 1 2 1\n",
         ),
     ] {
         let got = report(&rt, rt.alloc(), file)?;
@@ -71,15 +71,23 @@ fn analyse_at_the_width_and_with_decimals(rt: HostRuntime) -> Result<(), Fail> {
     for (file, out) in [
         (
             "p_a,q_a,p_b,q_b\n1048576,1048577,1,1048576\n1,0,1048576,1048577\n1048576,1,1,0\n",
-            "observations 3 goods 2 places 0 0\ngarp holds\nranks 3 2 1\nhomothetic violated\nstart 1\ncycle 1 2 1\nquasilinear violated\ncycle 1 2 1\n",
+            "observations 3 goods 2 places 0 0\ngarp holds\nranks 3 2 1\nafriat withheld at 3\nefficiency 1 attained yes\nbelow 3 2 1\nat ranks 3 2 1\nhomothetic violated\nstart 1\ncycle 1 2 1\nquasilinear violated\ncycle 1 2 1\n",
+        ),
+        (
+            "p_a,q_a,p_b,q_b\n32767,32768,1,32767\n1,0,32767,32768\n32767,1,1,0\n",
+            "observations 3 goods 2 places 0 0\ngarp holds\nranks 3 2 1\nafriat model\nutility 0 -1073709055 -1152851135862702080\nlambda 1 1073709055 1152851134788993025\nefficiency 1 attained yes\nbelow 3 2 1\nat ranks 3 2 1\nhomothetic violated\nstart 1\ncycle 1 2 1\nquasilinear violated\ncycle 1 2 1\n",
+        ),
+        (
+            "p_a,q_a,p_b,q_b\n32768,32769,1,32768\n1,0,32768,32769\n32768,1,1,0\n",
+            "observations 3 goods 2 places 0 0\ngarp holds\nranks 3 2 1\nafriat withheld at 3\nefficiency 1 attained yes\nbelow 3 2 1\nat ranks 3 2 1\nhomothetic violated\nstart 1\ncycle 1 2 1\nquasilinear violated\ncycle 1 2 1\n",
         ),
         (
             "p_a,q_a,p_b,q_b\n4194304,2097151,1,4194304\n1,1747627,3145727,2796203\n1,4194304,4194304,2097151\n",
-            "observations 3 goods 2 places 0 0\ngarp holds\nranks 3 2 1\nhomothetic withheld steps 2 from 3 to 1\nquasilinear holds\nvalues 0 -1466011309397 -3665035613524\n",
+            "observations 3 goods 2 places 0 0\ngarp holds\nranks 3 2 1\nafriat model\nutility 0 -1466011309397 -3665035613524\nlambda 1 1 1\nefficiency 1 attained yes\nbelow 3 2 1\nat ranks 3 2 1\nhomothetic withheld steps 2 from 3 to 1\nquasilinear holds\nvalues 0 -1466011309397 -3665035613524\n",
         ),
         (
             "\u{feff}p_a,q_a,p_b,q_b\r\n1.25,2,2.5,1\r\n2.50, 1 ,1.25,2\r\n",
-            "observations 2 goods 2 places 2 0\ngarp holds\nranks 1 1\nhomothetic holds\nvalues 1 1\nquasilinear holds\nvalues 0 0\n",
+            "observations 2 goods 2 places 2 0\ngarp holds\nranks 1 1\nafriat model\nutility 0 0\nlambda 1 1\nefficiency 1 attained yes\nbelow 1 1\nat ranks 1 1\nhomothetic holds\nvalues 1 1\nquasilinear holds\nvalues 0 0\n",
         ),
     ] {
         let got = report(&rt, rt.alloc(), file)?;
@@ -111,16 +119,36 @@ fn chain(alloc: Global) -> Result<String, Fail> {
     Ok(file)
 }
 
+/// The numbers from 256 down to 1.
+fn amounts_left(alloc: Global) -> Result<String, Fail> {
+    let mut text = String::new(alloc);
+    for k in 0..256u32 {
+        let left = 256 - k;
+        text.push_str(format!(in alloc; " {left}")?.as_str())?;
+    }
+    Ok(text)
+}
+
 /// The report of the chain.
 fn report_of_chain(alloc: Global) -> Result<String, Fail> {
     let mut text = String::from_str(
         alloc,
         "observations 256 goods 1 places 0 0\ngarp holds\nranks",
     )?;
-    for k in 0..256u32 {
-        let left = 256 - k;
-        text.push_str(format!(in alloc; " {left}")?.as_str())?;
+    let left = amounts_left(alloc)?;
+    text.push_str(left.as_str())?;
+    text.push_str("\nafriat model\nutility 0")?;
+    for k in 1..256u32 {
+        text.push_str(format!(in alloc; " -{k}")?.as_str())?;
     }
+    text.push_str("\nlambda 1")?;
+    for _ in 1..256u32 {
+        text.push_str(" 1")?;
+    }
+    text.push_str("\nefficiency 1 attained yes\nbelow")?;
+    text.push_str(left.as_str())?;
+    text.push_str("\nat ranks")?;
+    text.push_str(left.as_str())?;
     text.push_str("\nhomothetic holds\nvalues 1")?;
     for k in 1..256u32 {
         let (above, below) = lowest(256 - k);
@@ -170,10 +198,11 @@ fn list(alloc: Global, odd: &str, even: &str) -> Result<String, Fail> {
 fn analyse_of_rounds_with_decimals(rt: HostRuntime) -> Result<(), Fail> {
     let file = rounds(rt.alloc())?;
     let ranks = list(rt.alloc(), " 13", " 12")?;
-    let values = list(rt.alloc(), " 1", " 1")?;
+    let utility = list(rt.alloc(), " 0", " 12625")?;
+    let ones = list(rt.alloc(), " 1", " 1")?;
     let sums = list(rt.alloc(), " 0", " 0")?;
     let wanted = format!(in rt.alloc();
-        "observations 25 goods 2 places 2 1\ngarp holds\nranks{ranks}\nhomothetic holds\nvalues{values}\nquasilinear holds\nvalues{sums}\n"
+        "observations 25 goods 2 places 2 1\ngarp holds\nranks{ranks}\nafriat model\nutility{utility}\nlambda{ones}\nefficiency 1 attained yes\nbelow{ones}\nat ranks{ranks}\nhomothetic holds\nvalues{ones}\nquasilinear holds\nvalues{sums}\n"
     )?;
     let got = report(&rt, rt.alloc(), file.as_str())?;
     assert!(rt; got.as_str() == wanted.as_str());
@@ -209,13 +238,23 @@ fn all_numbers(alloc: Global) -> Result<String, Fail> {
     Ok(text)
 }
 
+/// The count of each observation but the last, over the strict steps: itself alone.
+fn all_but_the_last(alloc: Global) -> Result<String, Fail> {
+    let mut text = String::new(alloc);
+    for _ in 1..256u32 {
+        text.push_str(" 1")?;
+    }
+    Ok(text)
+}
+
 #[test]
 fn analyse_finds_the_one_violation_that_runs_through_all(rt: HostRuntime) -> Result<(), Fail> {
     let file = ring(rt.alloc())?;
     let all = all_numbers(rt.alloc())?;
+    let below = all_but_the_last(rt.alloc())?;
     let got = report(&rt, rt.alloc(), file.as_str())?;
     let head = format!(in rt.alloc();
-        "observations 256 goods 3 places 0 0\ngarp violated\ncycle{all} 1\nhomothetic violated\nstart "
+        "observations 256 goods 3 places 0 0\ngarp violated\ncycle{all} 1\nafriat none\ncycle{all} 1\nefficiency 1 attained no\nbelow{below} 2\nat cycle{all} 1\nhomothetic violated\nstart "
     )?;
     assert!(rt; got.as_str().starts_with(head.as_str()));
     let tail = format!(in rt.alloc(); "\nquasilinear violated\ncycle 256{all}\n")?;

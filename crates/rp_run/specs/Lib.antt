@@ -9,5 +9,4 @@ pub mod Endings
 pub mod Gains
 pub mod Causes
 pub mod Named
-pub mod Conversions
 pub mod StatusNumbers

@@ -4,7 +4,9 @@ ghost use Rattle.rp_table.specs.Cost.{IsCostsOf};
 ghost use Rattle.rp_run.specs.Analysis.{IsAnalysis, IsAnalysisText, certificate_of};
 ghost use Rattle.rp_run.specs.PairsText.{IsPairsText, pairs_line};
 
-use rp_evidence::{Certificate, Garp, Homothetic, Item, Kind, Quasi};
+use rp_afriat::afriat;
+use rp_effic::efficiency;
+use rp_evidence::{AfriatPart, Certificate, Efficiency, Garp, Homothetic, Item, Kind, Quasi};
 use rp_garp::{garp, pairs};
 use rp_homo::homothetic;
 use rp_num::{NoMemory, Seq, print_u128};
@@ -60,23 +62,29 @@ fn analyse(alloc: Global, table: &Table, costs: &Costs) -> Result<Certificate, N
     ensures { IfOk result (IsAnalysis (input_of_table table.now)) }
 {
     let garp = garp(alloc, costs)?;
+    let afriat = afriat(alloc, costs, &garp)?;
+    let efficiency = efficiency(alloc, costs)?;
     let homothetic = homothetic(alloc, costs)?;
     let quasilinear = quasilinear(alloc, costs)?;
-    let certificate = certificate(alloc, garp, homothetic, quasilinear)?;
+    let certificate = certificate(alloc, garp, afriat, efficiency, homothetic, quasilinear)?;
     Ok(certificate)
 }
 
-/// The certificate with these three items.
+/// The certificate with these five items.
 fn certificate(
     alloc: Global,
     garp: Garp,
+    afriat: AfriatPart,
+    efficiency: Efficiency,
     homothetic: Homothetic,
     quasilinear: Quasi,
 ) -> Result<Certificate, NoMemory>
-    ensures { IfOk result (λ made. made ≡ certificate_of garp homothetic quasilinear) }
+    ensures { IfOk result (λ made. made ≡ certificate_of garp afriat efficiency homothetic quasilinear) }
 {
     let mut items = Vec::new(alloc);
     items.push(Item::Garp(garp))?;
+    items.push(Item::Afriat(afriat))?;
+    items.push(Item::Efficiency(efficiency))?;
     items.push(Item::Homothetic(homothetic))?;
     items.push(Item::Quasi(quasilinear))?;
     Ok(Certificate {

@@ -1,7 +1,11 @@
 use Rattle.rp_evidence.specs.Preference.{AgreeBelow}
+use Rattle.rp_afriat.proofs.SameVerdicts.{verdict_same as afriat_verdict_same}
+use Rattle.rp_evidence.proofs.SameAfriat.{afriat_same}
 use Rattle.rp_evidence.proofs.SameCosts.{garp_same}
+use Rattle.rp_evidence.proofs.SameIndex.{efficiency_same}
 use Rattle.rp_evidence.proofs.SameProducts.{homothetic_same}
 use Rattle.rp_evidence.proofs.SameSums.{quasilinear_same}
+use Rattle.rp_effic.proofs.SameVerdicts.{verdict_same as efficiency_verdict_same}
 use Rattle.rp_garp.proofs.SameVerdicts.{garp_verdict_same}
 use Rattle.rp_homo.proofs.SameVerdicts.{verdict_same as homothetic_verdict_same}
 use Rattle.rp_quasi.proofs.SameVerdicts.{verdict_same as quasilinear_verdict_same}
@@ -17,11 +21,17 @@ returns c =
     let same : AgreeBelow n here there = λ s t s_in t_in. is.each s t (rw is.size at s_in) (rw is.size at t_in) in
     record {
       garp = c.in_ok-garp.garp;
+      afriat = c.in_ok-afriat.afriat;
+      efficiency = c.in_ok-efficiency.efficiency;
       homothetic = c.in_ok-homothetic.homothetic;
       quasilinear = c.in_ok-quasilinear.quasilinear;
       items = c.in_ok-certificate.ensures;
       garp_proves = rw (← is.size) (garp_same n here there c.in_ok-garp.garp same c.in_ok-garp.ensures.proves);
       garp_given = rw (← is.size) (garp_verdict_same n here there same c.in_ok-garp.garp c.in_ok-garp.ensures.given);
+      afriat_proves = rw (← is.size) (afriat_same n here there c.in_ok-afriat.afriat same c.in_ok-afriat.ensures.proves);
+      afriat_given = rw (← is.size) (afriat_verdict_same n here there c.in_ok-afriat.afriat same c.in_ok-afriat.ensures.given);
+      efficiency_proves = rw (← is.size) (efficiency_same n here there c.in_ok-efficiency.efficiency same c.in_ok-efficiency.ensures.proves);
+      efficiency_given = rw (← is.size) (efficiency_verdict_same n here there c.in_ok-efficiency.efficiency same c.in_ok-efficiency.ensures.given);
       homothetic_proves = rw (← is.size) (homothetic_same n here there c.in_ok-homothetic.homothetic same c.in_ok-homothetic.ensures.proves);
       homothetic_given = rw (← is.size) (homothetic_verdict_same n here there c.in_ok-homothetic.homothetic same c.in_ok-homothetic.ensures.verdict);
       quasilinear_proves = rw (← is.size) (quasilinear_same n here there c.in_ok-quasilinear.quasilinear same c.in_ok-quasilinear.ensures.proves);

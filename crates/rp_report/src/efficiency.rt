@@ -1,0 +1,75 @@
+ghost use Rattle.std.specs.Prelude.{◌≡◌, ◌++◌, OnOk, codes};
+ghost use Rattle.rp_report.specs.EfficiencyText.{above_text, at_text, attained_text, efficiency_text, level_text};
+ghost use Rattle.rp_report.specs.ListText.{line_of};
+
+use crate::lists::{push_line, push_numbers, push_observations};
+use rp_evidence::{Efficiency, Garp, Level};
+use rp_num::{NoMemory, print_u128};
+use std::alloc::Global;
+
+/// Appends the lines of an efficiency index.
+pub(crate) fn push_efficiency(
+    alloc: Global,
+    out: &mut Vec<u8>,
+    evidence: &Efficiency,
+) -> Result<(), NoMemory>
+    ensures { OnOk result (out.new.items ≡ out.old.items ++ efficiency_text evidence.now) }
+{
+    push_index(alloc, out, evidence.level, &evidence.at)?;
+    push_numbers(alloc, out, b"below ", evidence.below.as_slice())?;
+    push_above(alloc, out, evidence.level, evidence.above.as_slice())?;
+    push_at(alloc, out, &evidence.at)
+}
+
+/// Appends the line of the index and whether it is attained.
+fn push_index(alloc: Global, out: &mut Vec<u8>, level: Level, at: &Garp) -> Result<(), NoMemory>
+    ensures { OnOk result (out.new.items ≡ out.old.items
+        ++ line_of (codes "efficiency " ++ level_text level ++ codes " attained " ++ attained_text at.now)) }
+{
+    out.extend_from_slice(b"efficiency ")?;
+    push_level(alloc, out, level)?;
+    out.extend_from_slice(b" attained ")?;
+    push_line(out, attained(at))
+}
+
+/// Whether the index is attained.
+fn attained(at: &Garp) -> &'static [u8]
+    ensures { result.now ≡ attained_text at.now }
+{
+    match at {
+        Garp::Ranks(_) => b"yes",
+        Garp::Cycle(_) => b"no",
+    }
+}
+
+/// Appends a level with its parts as they stand.
+fn push_level(alloc: Global, out: &mut Vec<u8>, level: Level) -> Result<(), NoMemory>
+    ensures { OnOk result (out.new.items ≡ out.old.items ++ level_text level) }
+{
+    print_u128(alloc, out, u128::from(level.num))?;
+    if level.den != 1 {
+        out.push(b'/')?;
+        print_u128(alloc, out, u128::from(level.den))?;
+    }
+    Ok(())
+}
+
+/// Appends the line on every greater level, where the parts of the index differ.
+fn push_above(alloc: Global, out: &mut Vec<u8>, level: Level, above: &[u32]) -> Result<(), NoMemory>
+    ensures { OnOk result (out.new.items ≡ out.old.items ++ above_text level above.now) }
+{
+    if level.num == level.den {
+        return Ok(());
+    }
+    push_observations(alloc, out, b"above ", above)
+}
+
+/// Appends the line on the index itself.
+fn push_at(alloc: Global, out: &mut Vec<u8>, at: &Garp) -> Result<(), NoMemory>
+    ensures { OnOk result (out.new.items ≡ out.old.items ++ at_text at.now) }
+{
+    match at {
+        Garp::Ranks(ranks) => push_numbers(alloc, out, b"at ranks ", ranks.as_slice()),
+        Garp::Cycle(cycle) => push_observations(alloc, out, b"at cycle ", cycle.as_slice()),
+    }
+}

@@ -1,0 +1,123 @@
+use rp_effic::efficiency;
+use rp_evidence::Garp;
+use rp_table::Costs;
+use rp_text::read_table;
+use std::alloc::Global;
+use std::test::Fail;
+
+/// The index, whether it is attained, and the three lists of evidence, with observations counted from 1.
+fn shown(alloc: Global, file: &str) -> Result<String, Fail> {
+    let table = read_table(alloc, file.as_bytes())?;
+    let costs = Costs::of(alloc, &table)?;
+    let found = efficiency(alloc, &costs)?;
+    let mut text = format!(in alloc; "{}/{}", found.level.num, found.level.den)?;
+    push_list(alloc, &mut text, ", below", found.below.as_slice(), 0)?;
+    push_list(alloc, &mut text, ", above", found.above.as_slice(), 1)?;
+    match &found.at {
+        Garp::Ranks(ranks) => push_list(alloc, &mut text, ", ranks", ranks.as_slice(), 0)?,
+        Garp::Cycle(cycle) => push_list(alloc, &mut text, ", cycle", cycle.as_slice(), 1)?,
+    }
+    Ok(text)
+}
+
+fn push_list(
+    alloc: Global,
+    text: &mut String,
+    word: &str,
+    numbers: &[u32],
+    more: u64,
+) -> Result<(), Fail> {
+    text.push_str(word)?;
+    for number in numbers {
+        let shown = u64::from(*number) + more;
+        text.push_str(format!(in alloc; " {shown}")?.as_str())?;
+    }
+    Ok(())
+}
+
+#[test]
+fn the_index_of_worked_tables(rt: HostRuntime) -> Result<(), Fail> {
+    for (file, wanted) in [
+        (
+            "p_a,q_a,p_b,q_b\n1,1,2,2\n2,2,1,1\n",
+            "4/5, below 1 1, above 1 2 1, ranks 2 2",
+        ),
+        (
+            "p_a,q_a,p_b,q_b\n1,2,2,1\n2,1,1,2\n",
+            "1/1, below 1 1, above, ranks 1 1",
+        ),
+        (
+            "p_a,q_a,p_b,q_b\n1,4,1,4\n1,2,1,2\n",
+            "1/1, below 2 1, above, ranks 2 1",
+        ),
+        (
+            "p_a,q_a,p_b,q_b\n1,2,1,2\n1,3,1,1\n",
+            "1/1, below 1 1, above, ranks 2 2",
+        ),
+        (
+            "p_a,q_a,p_b,q_b\n1,1,3,3\n21,2,8,1\n",
+            "9/10, below 2 1, above 1 2 1, cycle 2 1 2",
+        ),
+        (
+            "p_a,q_a,p_b,q_b,p_c,q_c\n2,1,1,0,3,0\n3,0,2,1,1,0\n1,0,3,0,2,1\n",
+            "1/2, below 1 1 1, above 1 2 3 1, ranks 3 3 3",
+        ),
+        ("p_a,q_a\n3,2\n", "1/1, below 1, above, ranks 1"),
+    ] {
+        let got = shown(rt.alloc(), file)?;
+        assert_eq!(rt; got.as_str(), wanted, "the index of {file}");
+    }
+    Ok(())
+}
+
+/// The walk of four steps has the ratios 9/10, 4/5, 7/10 and 3/5, and every other closed walk one above 1.
+#[test]
+fn the_index_of_a_long_walk_that_no_pair_walks(rt: HostRuntime) -> Result<(), Fail> {
+    let file = "p_a,q_a,p_b,q_b,p_c,q_c,p_d,q_d\n\
+        10,1,9,0,20,0,20,0\n20,0,10,1,8,0,20,0\n20,0,20,0,10,1,7,0\n6,0,20,0,20,0,10,1\n";
+    let got = shown(rt.alloc(), file)?;
+    assert_eq!(rt;
+        got.as_str(),
+        "9/10, below 1 4 3 2, above 1 2 3 4 1, cycle 1 2 3 4 1"
+    );
+    Ok(())
+}
+
+/// 2/4 and 3/6 are one level.
+#[test]
+fn equal_ratios_of_different_pairs(rt: HostRuntime) -> Result<(), Fail> {
+    let got = shown(rt.alloc(), "p_a,q_a,p_b,q_b\n4,1,2,0\n3,0,6,1\n")?;
+    assert_eq!(rt; got.as_str(), "1/2, below 1 1, above 1 2 1, ranks 2 2");
+    Ok(())
+}
+
+/// Two observations of sixteen goods at the greatest prices and quantities, each one less for one good: each spent one more than
+/// the other's bundle costs.
+fn greatest(alloc: Global) -> Result<String, Fail> {
+    let mut file = String::new(alloc);
+    for g in 0..16u32 {
+        file.push_str(if g > 0 { "," } else { "" })?;
+        file.push_str(format!(in alloc; "p_{g},q_{g}")?.as_str())?;
+    }
+    for least in [15u32, 0] {
+        file.push_str("\n")?;
+        for g in 0..16u32 {
+            file.push_str(if g > 0 { "," } else { "" })?;
+            let number = if g == least { "9999998" } else { "9999999" };
+            file.push_str(format!(in alloc; "{number},{number}")?.as_str())?;
+        }
+    }
+    file.push_str("\n")?;
+    Ok(file)
+}
+
+#[test]
+fn own_costs_near_the_limit(rt: HostRuntime) -> Result<(), Fail> {
+    let file = greatest(rt.alloc())?;
+    let got = shown(rt.alloc(), file.as_str())?;
+    assert_eq!(rt;
+        got.as_str(),
+        "1599999660000018/1599999660000019, below 1 1, above 1 2 1, ranks 2 2"
+    );
+    Ok(())
+}
