@@ -8,6 +8,10 @@ mod command;
 #[cfg(test)]
 mod faults;
 #[cfg(test)]
+mod large_programs;
+#[cfg(test)]
+mod limits;
+#[cfg(test)]
 mod numbers;
 #[cfg(test)]
 mod outside;
