@@ -16,7 +16,7 @@ use Rattle.rp_pref.specs.Through.{LeadsThrough}
 use Rattle.rp_pref.proofs.Closing.{counted}
 use Rattle.rp_pref.proofs.Tables.{reaches_in_by}
 use Rattle.rp_pref.proofs.Throughs.{through_from_reaches, reaches_from_through, through_ends_below}
-use Rattle.rp_pref.proofs.Walking.{reaches_there}
+use Rattle.rp_evidence.proofs.SameCosts.{reach_same}
 use Rattle.rp_pref.proofs.Words.{none_after, counted_with}
 
 -- ---- one row of steps
@@ -107,7 +107,7 @@ module _ (n : ℕ) (first last : Rows ℕ) (step : ℕ → ℕ → Type 0)
   ends_below s t l h = through_ends_below n Noted (λ a b c d. ((noted a b c).0 d).0) n s t (omega arith) l ((closed s t l).0 h)
 
   same_walks : (s t : ℕ) → Reaches n Noted s t ↔ Reaches n step s t
-  same_walks = reaches_there n Noted step (λ s t a b. (λ h. ((noted s t a).0 h).1, λ h. (noted s t a).1 (b, h)))
+  same_walks = reach_same n Noted step (λ s t a b. (λ h. ((noted s t a).0 h).1, λ h. (noted s t a).1 (b, h)))
 
   pub closure_by_bits : IsClosureOf (reached_by n (has_bit last)) n step
   closure_by_bits = record {
