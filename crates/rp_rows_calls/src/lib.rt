@@ -2,6 +2,10 @@
 #![tactic(auto)]
 
 #[cfg(test)]
+mod closures;
+#[cfg(test)]
+mod grids;
+#[cfg(test)]
 mod numbers;
 #[cfg(test)]
 mod outside;
