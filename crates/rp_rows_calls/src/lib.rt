@@ -2,6 +2,8 @@
 #![tactic(auto)]
 
 #[cfg(test)]
+mod afriat;
+#[cfg(test)]
 mod numbers;
 #[cfg(test)]
 mod outside;
