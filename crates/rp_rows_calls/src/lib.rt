@@ -5,6 +5,7 @@
 mod closures;
 #[cfg(test)]
 mod grids;
+mod afriat;
 #[cfg(test)]
 mod numbers;
 #[cfg(test)]
