@@ -1,11 +1,8 @@
-//! Tests of calls that no verdict is asked of: exact numbers, and the outside.
+//! Tests of calls that no verdict is asked of: exact numbers, grids, and the outside.
 #![tactic(auto)]
 
 #[cfg(test)]
-mod closures;
-#[cfg(test)]
 mod grids;
-mod afriat;
 #[cfg(test)]
 mod numbers;
 #[cfg(test)]

@@ -2,6 +2,10 @@
 #![tactic(auto)]
 
 #[cfg(test)]
+mod afriat;
+#[cfg(test)]
+mod closures;
+#[cfg(test)]
 mod preference;
 #[cfg(test)]
 mod walks;
