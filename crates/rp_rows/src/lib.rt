@@ -18,4 +18,6 @@ mod programs;
 #[cfg(test)]
 mod readers;
 #[cfg(test)]
+mod utility;
+#[cfg(test)]
 mod walks;

@@ -2,6 +2,7 @@ pub mod FaultTexts
 pub mod FaultLines
 pub mod PairsText
 pub mod Analysis
+pub mod UtilityText
 pub mod CommandLine
 pub mod Inputs
 pub mod Answers

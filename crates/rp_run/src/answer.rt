@@ -8,7 +8,7 @@ use crate::files::Cause;
 use crate::input::{Input, read_input};
 use crate::line::Line;
 use crate::status::Status;
-use crate::text::{analysis_text, pairs_text};
+use crate::text::{analysis_text, pairs_text, utility_text};
 use rp_num::NoMemory;
 use rp_outside::Desk;
 use rp_table::Costs;
@@ -56,6 +56,7 @@ fn answer_over(alloc: Global, input: &Input) -> Result<Answer, NoMemory>
             let costs = Costs::of(alloc, table)?;
             Ok(done(analysis_text(alloc, table, &costs)?))
         }
+        Input::Utility(table, bundles) => Ok(done(utility_text(alloc, table, bundles)?)),
     }
 }
 

@@ -1,6 +1,7 @@
 ghost use Rattle.std.specs.Prelude.{◌≡◌, IfOk};
 ghost use Rattle.rp_table.specs.Cost.{IsCostsOf, cost_at};
 ghost use Rattle.rp_run.specs.Analysis.{IsAnalysis, IsAnalysisText};
+ghost use Rattle.rp_run.specs.UtilityText.{IsUtilityText};
 ghost use Rattle.rp_run.specs.PairsText.{IsPairsText, pairs_line};
 
 use rp_evidence::{Certificate, Item, Kind};
@@ -9,7 +10,7 @@ use rp_homo::homothetic;
 use rp_num::{NoMemory, Seq, print_u128};
 use rp_quasi::quasilinear;
 use rp_report::report;
-use rp_table::{Costs, Table};
+use rp_table::{Bundles, Costs, Table};
 use std::alloc::Global;
 
 /// The line on the first two observations that contradict each other.
@@ -66,4 +67,15 @@ fn analyse(alloc: Global, costs: &Costs) -> Result<Certificate, NoMemory>
         version: 1,
         items: Seq::from_vec(items),
     })
+}
+
+/// The utility of bundles. Its text is still missing: see `specs/UtilityText.antt`.
+pub(crate) fn utility_text(
+    _alloc: Global,
+    table: &Table,
+    bundles: &Bundles,
+) -> Result<Vec<u8>, NoMemory>
+    ensures { IfOk result (λ text. IsUtilityText table.now bundles.now text.items) }
+{
+    Err(NoMemory)
 }
