@@ -7,3 +7,5 @@ mod analyses;
 mod command;
 #[cfg(test)]
 mod faults;
+#[cfg(test)]
+mod utility;
