@@ -9,3 +9,4 @@ mod faults;
 mod limits;
 #[cfg(test)]
 mod statuses;
+mod utility;
