@@ -5,7 +5,8 @@ ghost use Rattle.rp_table.specs.Cost.{IsCostsOf, cost_at};
 ghost use Rattle.rp_table.specs.Rows.{rows_count};
 ghost use Rattle.rp_table.specs.Tables.{goods_of};
 ghost use Rattle.rp_table.specs.declared.TheConstants.{LARGEST};
-ghost use Rattle.rp_run.specs.UtilityText.{AreUtilityLines, IsUtilityLine, IsUtilityText, at_line, first_items};
+ghost use Rattle.rp_run.specs.UtilityText.{AreUtilityLines, IsUtilityLine, IsUtilityText, at_line};
+ghost use Rattle.rp_run.specs.UtilityText.{first_items};
 
 use rp_afriat::{afriat, utility_at};
 use rp_evidence::{AfriatPart, Certificate, Garp, Item, Kind};
@@ -99,7 +100,8 @@ fn utility_line(
 
 /// `at K value V`, with the bundle counted from 1.
 fn value_line(alloc: Global, k: u32, value: i128) -> Result<Vec<u8>, NoMemory>
-    ensures { IfOk result (λ line. line.items ≡ at_line k (codes " value " ++ signed_decimal value)) }
+    ensures { IfOk result (λ line. line.items
+        ≡ at_line k (codes " value " ++ signed_decimal value)) }
 {
     let mut said = Vec::from_slice(alloc, b" value ")?;
     print_i128(alloc, &mut said, value)?;
