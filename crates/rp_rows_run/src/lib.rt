@@ -9,4 +9,5 @@ mod faults;
 mod limits;
 #[cfg(test)]
 mod statuses;
+#[cfg(test)]
 mod utility;

@@ -3,13 +3,21 @@ use rp_run::{Status, run};
 use std::alloc::Global;
 use std::test::Fail;
 
+/// What `utility t.csv b.csv` does over files.
+#[derive(Drop)]
+struct Ended {
+    status: Status,
+    out: String,
+    err: String,
+}
+
 /// Runs `utility t.csv b.csv` over these files, of which one may be missing. Of the desk the listed calls fail.
-fn refused(
+fn utility(
     alloc: Global,
     table: Option<&str>,
     bundles: Option<&str>,
     fails: &[u64],
-) -> Result<(Status, String), Fail> {
+) -> Result<Ended, Fail> {
     let mut words = Vec::new(alloc);
     for word in ["rp", "utility", "t.csv", "b.csv"] {
         words.push(String::from_str(alloc, word)?)?;
@@ -27,7 +35,46 @@ fn refused(
     let mut out = MemSink::new(alloc, 65_536, Vec::new(alloc))?;
     let mut err = MemSink::new(alloc, 65_536, Vec::new(alloc))?;
     let status = run(alloc, &words, &mut desk, &mut out, &mut err);
-    Ok((status, String::from_utf8_lossy(alloc, err.written())?))
+    Ok(Ended {
+        status,
+        out: String::from_utf8_lossy(alloc, out.written())?,
+        err: String::from_utf8_lossy(alloc, err.written())?,
+    })
+}
+
+#[test]
+fn utility_of_bundles_follows_the_first_two_items(rt: HostRuntime) -> Result<(), Fail> {
+    let same_prices = "p_a,q_a,p_b,q_b\n1,4,1,4\n1,2,1,2\n";
+    let model =
+        "observations 2 goods 2 places 0 0\ngarp holds\nranks 2 1\nafriat model\nutility 0 -4\nlambda 1 1\n";
+    for (table, bundles, report, lines) in [
+        (same_prices, "q_a,q_b\n3,3\n", model, "at 1 value -2\n"),
+        (
+            same_prices,
+            "q_b,obs,q_a\n4,first,4\n2,second,2\n",
+            model,
+            "at 1 value 0\nat 2 value -4\n",
+        ),
+        (
+            "p_a,q_a,p_b,q_b\n1,1,2,2\n2,2,1,1\n",
+            "q_a,q_b\n3,3\n0,1\n",
+            "observations 2 goods 2 places 0 0\ngarp violated\ncycle 1 2 1\nafriat none\ncycle 1 2 1\n",
+            "at 1 none\nat 2 none\n",
+        ),
+        (
+            "p_a,q_a,p_b,q_b\n1048576,1048577,1,1048576\n1,0,1048576,1048577\n1048576,1,1,0\n",
+            "q_a,q_b\n3,3\n",
+            "observations 3 goods 2 places 0 0\ngarp holds\nranks 3 2 1\nafriat withheld at 3\n",
+            "at 1 withheld\n",
+        ),
+    ] {
+        let wanted = format!(in rt.alloc(); "{report}{lines}")?;
+        let got = utility(rt.alloc(), Some(table), Some(bundles), &[])?;
+        assert_eq!(rt; got.status, Status::Done);
+        assert_eq!(rt; got.out.as_str(), wanted.as_str());
+        assert!(rt; got.err.is_empty());
+    }
+    Ok(())
 }
 
 #[test]
@@ -104,9 +151,10 @@ fn the_first_fault_of_two_files_is_told(rt: HostRuntime) -> Result<(), Fail> {
             "rp: b.csv: read failed\n",
         ),
     ] {
-        let (got, told) = refused(alloc, table, bundles, fails)?;
-        assert_eq!(rt; got, status, "status for {line}");
-        assert_eq!(rt; told.as_str(), line, "line of {line}");
+        let got = utility(alloc, table, bundles, fails)?;
+        assert_eq!(rt; got.status, status, "status for {line}");
+        assert_eq!(rt; got.err.as_str(), line, "line of {line}");
+        assert!(rt; got.out.is_empty());
     }
     Ok(())
 }
