@@ -1,7 +1,8 @@
 ghost use Rattle.std.specs.Prelude.{◌≡◌, ◌<◌, ◌≤◌, ℕ, IfNone, IfSome, length, slice_index};
 ghost use Rattle.rp_evidence.specs.StandardNumbers.{IsClassUtility};
 ghost use Rattle.rp_table.specs.Cost.{cost_at};
-ghost use Rattle.rp_afriat.specs.Filling.{AreForEach, FitAbove, IsAllowed, IsAllowedInClass, IsClassSet, IsLeastOf, lesser_of, utility_of};
+ghost use Rattle.rp_afriat.specs.Filling.{AreForEach, FitAbove, IsAllowed, IsAllowedInClass};
+ghost use Rattle.rp_afriat.specs.Filling.{IsClassSet, IsLeastOf, lesser_of, utility_of};
 
 use crate::bounds::bound;
 use rp_table::Costs;
@@ -44,7 +45,8 @@ fn lowest_at(
     requires each { AreForEach costs.now.n counts.now u.now lambda.now }
     requires fit { FitAbove costs.now.n counts.now u.now lambda.now class }
     requires observed { t < costs.now.n }
-    ensures { IsLeastOf (IsAllowed costs.now.n (cost_at costs.now) counts.now u.now lambda.now class t) result }
+    ensures { IsLeastOf (IsAllowed costs.now.n (cost_at costs.now) counts.now u.now lambda.now class
+        t) result }
 {
     let mut least = None;
     for s in 0..costs.n() {
@@ -62,7 +64,8 @@ pub fn class_utility(costs: &Costs, counts: &[u32], class: u32, u: &[i128], lamb
     requires each { AreForEach costs.now.n counts.now u.now lambda.now }
     requires fit { FitAbove costs.now.n counts.now u.now lambda.now class }
     ensures { (t : ℕ) → t < costs.now.n → slice_index counts.now t ≡ class
-        → IsClassUtility costs.now.n (cost_at costs.now) (slice_index counts.now) (utility_of u.now) (slice_index lambda.now) class result }
+        → IsClassUtility costs.now.n (cost_at costs.now) (slice_index counts.now)
+        (utility_of u.now) (slice_index lambda.now) class result }
 {
     let mut least = None;
     for t in 0..costs.n() {

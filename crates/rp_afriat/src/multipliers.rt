@@ -1,4 +1,5 @@
-ghost use Rattle.std.specs.Prelude.{◌≡◌, ◌<◌, ◌≤◌, ◌+◌, ℕ, IfNone, IfSome, MatchOption, length, slice_index};
+ghost use Rattle.std.specs.Prelude.{◌≡◌, ◌<◌, ◌≤◌, ◌+◌, ℕ, IfNone, IfSome, MatchOption, length};
+ghost use Rattle.std.specs.Prelude.{slice_index};
 ghost use Rattle.rp_evidence.specs.Count.{AreCounts};
 ghost use Rattle.rp_evidence.specs.Preference.{IsWeak};
 ghost use Rattle.rp_evidence.specs.StandardNumbers.{FitsUtility, IsMultiplier};
@@ -12,9 +13,11 @@ use rp_table::Costs;
 fn multiplier(costs: &Costs, counts: &[u32], u: &[i128], s: u32) -> u128
     requires counted { AreCounts costs.now.n (IsWeak (cost_at costs.now) 1 1) counts.now }
     requires each { length u.now ≡ costs.now.n }
-    requires fit { (t : ℕ) → t < costs.now.n → slice_index counts.now s ≤ slice_index counts.now t → FitsUtility (utility_of u.now t) }
+    requires fit { (t : ℕ) → t < costs.now.n → slice_index counts.now s ≤ slice_index counts.now t
+        → FitsUtility (utility_of u.now t) }
     requires observed { s < costs.now.n }
-    ensures { IsMultiplier costs.now.n (cost_at costs.now) (slice_index counts.now) (utility_of u.now) s result }
+    ensures { IsMultiplier costs.now.n (cost_at costs.now) (slice_index counts.now)
+        (utility_of u.now) s result }
 {
     let mut most: u128 = 1;
     let i = s as usize;
@@ -38,10 +41,16 @@ pub fn set_multipliers(
     requires counted { AreCounts costs.now.n (IsWeak (cost_at costs.now) 1 1) counts.now }
     requires utilities_each { length u.now ≡ costs.now.n }
     requires multipliers_each { length lambda.old ≡ costs.now.n }
-    requires fit { (t : ℕ) → t < costs.now.n → class ≤ slice_index counts.now t → FitsUtility (utility_of u.now t) }
-    ensures set { IfNone result (AreMultipliersSet costs.now.n costs.now.n (cost_at costs.now) counts.now class u.now lambda.old lambda.new) }
-    ensures steep { IfSome result (IsTooSteep costs.now.n (cost_at costs.now) counts.now class u.now) }
-    ensures so_far { IfSome result (λ at. AreMultipliersSet at costs.now.n (cost_at costs.now) counts.now class u.now lambda.old lambda.new) }
+    requires fit { (t : ℕ) → t < costs.now.n → class ≤ slice_index counts.now t
+        → FitsUtility (utility_of u.now t) }
+    ensures set { IfNone result
+        (AreMultipliersSet costs.now.n costs.now.n (cost_at costs.now) counts.now class u.now
+        lambda.old lambda.new) }
+    ensures steep { IfSome result
+        (IsTooSteep costs.now.n (cost_at costs.now) counts.now class u.now) }
+    ensures so_far { IfSome result
+        (λ at. AreMultipliersSet at costs.now.n (cost_at costs.now) counts.now class u.now
+        lambda.old lambda.new) }
 {
     for s in 0..costs.n() {
         let i = s as usize;

@@ -19,7 +19,8 @@ pub fn utility_at(table: &Table, costs: &Costs, numbers: &Numbers, bundle: &[u32
     requires fit { AllFit costs.now.n (utility_in numbers.now) (multiplier_in numbers.now) }
     requires goods { length bundle.now ≡ goods_of table.now }
     requires limits { All (λ q. q ≤ LARGEST) bundle.now }
-    ensures { IsUtility costs.now.n (cost_at costs.now) (utility_in numbers.now) (multiplier_in numbers.now)
+    ensures { IsUtility costs.now.n (cost_at costs.now) (utility_in numbers.now)
+        (multiplier_in numbers.now)
         1 (bundle_cost table.now bundle.now) result }
 {
     let n = costs.n();
@@ -38,7 +39,8 @@ fn bound_at(table: &Table, costs: &Costs, numbers: &Numbers, bundle: &[u32], s: 
     requires goods { length bundle.now ≡ goods_of table.now }
     requires limits { All (λ q. q ≤ LARGEST) bundle.now }
     requires observed { s < costs.now.n }
-    ensures { result ≡ allowed_for (cost_at costs.now) (utility_in numbers.now) (multiplier_in numbers.now)
+    ensures { result ≡ allowed_for (cost_at costs.now) (utility_in numbers.now)
+        (multiplier_in numbers.now)
         1 (bundle_cost table.now bundle.now) s }
 {
     let u = numbers.u.as_slice()[s as usize];

@@ -1,11 +1,13 @@
-ghost use Rattle.std.specs.Prelude.{◌≡◌, ◌<◌, ◌≤◌, ◌-◌, ◌↔◌, ℕ, IsTrue, IfNone, IfOk, IfSome, length};
+ghost use Rattle.std.specs.Prelude.{◌≡◌, ◌<◌, ◌≤◌, ◌-◌, ◌↔◌, ℕ, IsTrue, IfNone, IfOk, IfSome};
+ghost use Rattle.std.specs.Prelude.{length};
 ghost use Rattle.rp_evidence.specs.AfriatEvidence.{ProvesAfriat};
 ghost use Rattle.rp_evidence.specs.Count.{AreCounts};
 ghost use Rattle.rp_evidence.specs.Garp.{MeetsGarp, ProvesGarp};
 ghost use Rattle.rp_evidence.specs.Preference.{IsWeak};
 ghost use Rattle.rp_evidence.specs.StandardNumbers.{FitsUtility};
 ghost use Rattle.rp_table.specs.Cost.{cost_at};
-ghost use Rattle.rp_afriat.specs.Filling.{AreFilledAbove, AreForEach, FitAbove, StandardNumbersPassAt};
+ghost use Rattle.rp_afriat.specs.Filling.{AreFilledAbove, AreForEach, FitAbove};
+ghost use Rattle.rp_afriat.specs.Filling.{StandardNumbersPassAt};
 ghost use Rattle.rp_afriat.specs.Verdict.{IsAfriatVerdict};
 
 use crate::bounds::WIDEST_UTILITY;
@@ -54,7 +56,8 @@ fn standard(alloc: Global, costs: &Costs) -> Result<AfriatPart, NoMemory>
 
 /// The counts of the observations.
 fn counts(alloc: Global, costs: &Costs) -> Result<Vec<u32>, NoMemory>
-    ensures { IfOk result (λ counts. AreCounts costs.now.n (IsWeak (cost_at costs.now) 1 1) counts.items) }
+    ensures { IfOk result (λ counts. AreCounts costs.now.n (IsWeak (cost_at costs.now) 1 1)
+        counts.items) }
 {
     let closure = Closure::of(alloc, costs, Level { num: 1, den: 1 }, Steps::Weak)?;
     let mut counts = Vec::new(alloc);
@@ -69,9 +72,11 @@ fn fill(costs: &Costs, counts: &[u32], u: &mut [i128], lambda: &mut [u64]) -> Op
     requires counted { AreCounts costs.now.n (IsWeak (cost_at costs.now) 1 1) counts.now }
     requires each { AreForEach costs.now.n counts.now u.old lambda.old }
     ensures each { AreForEach costs.now.n counts.now u.new lambda.new }
-    ensures filled { IfNone result (AreFilledAbove costs.now.n (cost_at costs.now) counts.now u.new lambda.new 0) }
+    ensures filled { IfNone result
+        (AreFilledAbove costs.now.n (cost_at costs.now) counts.now u.new lambda.new 0) }
     ensures fit { IfNone result (FitAbove costs.now.n counts.now u.new lambda.new 0) }
-    ensures stops { IfSome result (StandardNumbersPassAt costs.now.n (cost_at costs.now) counts.now) }
+    ensures stops { IfSome result
+        (StandardNumbersPassAt costs.now.n (cost_at costs.now) counts.now) }
 {
     let n = costs.n();
     for done in 0..n {
@@ -92,12 +97,15 @@ fn fill_class(
 ) -> Option<u32>
     requires counted { AreCounts costs.now.n (IsWeak (cost_at costs.now) 1 1) counts.now }
     requires each { AreForEach costs.now.n counts.now u.old lambda.old }
-    requires filled { AreFilledAbove costs.now.n (cost_at costs.now) counts.now u.old lambda.old class }
+    requires filled { AreFilledAbove costs.now.n (cost_at costs.now) counts.now u.old lambda.old
+        class }
     requires fit { FitAbove costs.now.n counts.now u.old lambda.old class }
     ensures each { AreForEach costs.now.n counts.now u.new lambda.new }
-    ensures filled { IfNone result (AreFilledAbove costs.now.n (cost_at costs.now) counts.now u.new lambda.new (class - 1)) }
+    ensures filled { IfNone result
+        (AreFilledAbove costs.now.n (cost_at costs.now) counts.now u.new lambda.new (class - 1)) }
     ensures fit { IfNone result (FitAbove costs.now.n counts.now u.new lambda.new (class - 1)) }
-    ensures stops { IfSome result (StandardNumbersPassAt costs.now.n (cost_at costs.now) counts.now) }
+    ensures stops { IfSome result
+        (StandardNumbersPassAt costs.now.n (cost_at costs.now) counts.now) }
 {
     match first_of(costs.n(), counts, class) {
         None => None,

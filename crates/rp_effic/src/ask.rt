@@ -32,7 +32,8 @@ pub fn first_true<A: Ask>(alloc: Global, asker: &mut A) -> Result<u32, NoMemory>
     ensures first { IfOk result (IsFirstTrue (A.values asker.old)) }
     ensures values_stay { A.values asker.new ≡ A.values asker.old }
     ensures asks_rise { A.asks asker.old ≤ A.asks asker.new }
-    ensures few_asks { 2 ^ (A.asks asker.new - A.asks asker.old) ≤ 2 * length (A.values asker.old) + 1 }
+    ensures few_asks { 2 ^ (A.asks asker.new - A.asks asker.old)
+        ≤ 2 * length (A.values asker.old) + 1 }
 {
     let mut low = 0;
     let mut high = asker.size();

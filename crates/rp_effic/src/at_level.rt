@@ -1,4 +1,5 @@
-ghost use Rattle.std.specs.Prelude.{◌≡◌, ◌≢◌, ◌<◌, ◌⊎◌, ◌++◌, ◌∷◌, [], ℕ, List, IfOk, IsTrue, length, slice_index};
+ghost use Rattle.std.specs.Prelude.{◌≡◌, ◌≢◌, ◌<◌, ◌⊎◌, ◌++◌, ◌∷◌, [], ℕ, List, IfOk, IsTrue};
+ghost use Rattle.std.specs.Prelude.{length, slice_index};
 ghost use Rattle.rp_evidence.specs.Count.{IsNumberOf};
 ghost use Rattle.rp_evidence.specs.First.{AreFirstRelated, IsFirstOf};
 ghost use Rattle.rp_evidence.specs.Garp.{ProvesOfPreference};
@@ -37,7 +38,8 @@ pub fn above(
     closure: &Closure,
 ) -> Result<Seq<u32>, NoMemory>
     requires level { IsLevel level.num level.den }
-    requires closed { IsClosureOf closure.now costs.now.n (IsWeak (cost_at costs.now) level.num level.den) }
+    requires closed { IsClosureOf closure.now costs.now.n
+        (IsWeak (cost_at costs.now) level.num level.den) }
     requires returns { HasCycle costs.now.n (cost_at costs.now) level.num level.den }
     ensures { IfOk result (IsAbove costs.now.n (cost_at costs.now) level.num level.den) }
 {
@@ -58,11 +60,14 @@ pub fn at_level(
     closure: &Closure,
 ) -> Result<Garp, NoMemory>
     requires level { IsLevel level.num level.den }
-    requires closed { IsClosureOf closure.now costs.now.n (IsWeak (cost_at costs.now) level.num level.den) }
+    requires closed { IsClosureOf closure.now costs.now.n
+        (IsWeak (cost_at costs.now) level.num level.den) }
     ensures proves { IfOk result (ProvesOfPreference costs.now.n
-        (IsWeak (cost_at costs.now) level.num level.den) (IsStrict (cost_at costs.now) level.num level.den)) }
+        (IsWeak (cost_at costs.now) level.num level.den) (IsStrict
+        (cost_at costs.now) level.num level.den)) }
     ensures given { IfOk result (IsAt costs.now.n
-        (IsWeak (cost_at costs.now) level.num level.den) (IsStrict (cost_at costs.now) level.num level.den)) }
+        (IsWeak (cost_at costs.now) level.num level.den) (IsStrict
+        (cost_at costs.now) level.num level.den)) }
 {
     match first_loop(costs, level, closure) {
         None => {
@@ -80,9 +85,11 @@ pub fn at_level(
 /// The first two observations, by the first and then by the second, that make a loop at the level.
 fn first_loop(costs: &Costs, level: Level, closure: &Closure) -> Option<(u32, u32)>
     requires level { IsLevel level.num level.den }
-    requires closed { IsClosureOf closure.now costs.now.n (IsWeak (cost_at costs.now) level.num level.den) }
+    requires closed { IsClosureOf closure.now costs.now.n
+        (IsWeak (cost_at costs.now) level.num level.den) }
     ensures { AreFirstRelated costs.now.n (IsLoop costs.now.n
-        (IsWeak (cost_at costs.now) level.num level.den) (IsStrict (cost_at costs.now) level.num level.den)) result }
+        (IsWeak (cost_at costs.now) level.num level.den) (IsStrict
+        (cost_at costs.now) level.num level.den)) result }
 {
     for s in 0..costs.n() {
         if let Some(t) = first_back(costs, level, closure, s) {
@@ -95,10 +102,12 @@ fn first_loop(costs: &Costs, level: Level, closure: &Closure) -> Option<(u32, u3
 /// The first observation that makes a loop with `s` at the level.
 fn first_back(costs: &Costs, level: Level, closure: &Closure, s: u32) -> Option<u32>
     requires level { IsLevel level.num level.den }
-    requires closed { IsClosureOf closure.now costs.now.n (IsWeak (cost_at costs.now) level.num level.den) }
+    requires closed { IsClosureOf closure.now costs.now.n
+        (IsWeak (cost_at costs.now) level.num level.den) }
     requires start { s < costs.now.n }
     ensures { IsFirstOf costs.now.n (IsLoop costs.now.n
-        (IsWeak (cost_at costs.now) level.num level.den) (IsStrict (cost_at costs.now) level.num level.den) s) result }
+        (IsWeak (cost_at costs.now) level.num level.den) (IsStrict
+        (cost_at costs.now) level.num level.den) s) result }
 {
     for t in 0..costs.n() {
         if closure.reaches(s, t) && strict(costs, level, t, s) {
@@ -120,7 +129,8 @@ fn shortest(
     requires from { s < costs.now.n }
     requires to { t < costs.now.n }
     requires reached { Reaches costs.now.n (IsWeak (cost_at costs.now) level.num level.den) s t }
-    ensures { IfOk result (IsShortestWalk costs.now.n (IsWeak (cost_at costs.now) level.num level.den) s t) }
+    ensures { IfOk result (IsShortestWalk costs.now.n
+        (IsWeak (cost_at costs.now) level.num level.den) s t) }
 {
     match walk_between(alloc, costs, level, Steps::Weak, s, t)? {
         Some(walk) => Ok(walk),

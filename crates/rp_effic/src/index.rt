@@ -15,7 +15,8 @@ use std::alloc::Global;
 
 /// The efficiency index in lowest terms: the least ratio at which a closed walk of weak steps exists.
 pub fn efficiency_index(alloc: Global, costs: &Costs) -> Result<Level, NoMemory>
-    ensures index { IfOk result (λ level. IsEfficiencyIndex costs.now.n (cost_at costs.now) level.num level.den) }
+    ensures index { IfOk result
+        (λ level. IsEfficiencyIndex costs.now.n (cost_at costs.now) level.num level.den) }
     ensures lowest { IfOk result IsLowestLevel }
 {
     let n = costs.n();
@@ -32,7 +33,8 @@ pub fn efficiency_index(alloc: Global, costs: &Costs) -> Result<Level, NoMemory>
 
 /// The same level in lowest terms.
 fn in_lowest_terms(ratio: Ratio) -> Level
-    ensures lowest { IsLowestTerms ratio.part ratio.whole (record { num = result.num; den = result.den }) }
+    ensures lowest { IsLowestTerms ratio.part ratio.whole
+        (record { num = result.num; den = result.den }) }
     ensures small { result.den ≤ ratio.whole }
 {
     let part = u128::from(ratio.part);

@@ -27,7 +27,9 @@ impl Ratio {
 impl PartialEq for Ratio {
     ghost eq = { eq_by_cmp (cross_cmp (λ r. r.part) (λ r. r.whole)) };
 
-    ghost laws = { partial_equiv_from_equiv (eq_by_cmp_equiv (cross_total (λ r. r.part) (λ r. r.whole) (λ r. level_den r.part r.whole r.level))) };
+    ghost laws = { partial_equiv_from_equiv
+        (eq_by_cmp_equiv (cross_total (λ r. r.part) (λ r. r.whole)
+        (λ r. level_den r.part r.whole r.level))) };
 
     fn eq(&self, other: &Ratio) -> bool {
         self.cmp(other) == Ordering::Equal
@@ -35,13 +37,15 @@ impl PartialEq for Ratio {
 }
 
 impl Eq for Ratio {
-    ghost laws = { eq_by_cmp_equiv (cross_total (λ r. r.part) (λ r. r.whole) (λ r. level_den r.part r.whole r.level)) };
+    ghost laws = { eq_by_cmp_equiv
+        (cross_total (λ r. r.part) (λ r. r.whole) (λ r. level_den r.part r.whole r.level)) };
 }
 
 impl PartialOrd for Ratio {
     ghost partial_cmp = { as_partial_cmp (cross_cmp (λ r. r.part) (λ r. r.whole)) };
 
-    ghost laws = { po (cross_total (λ r. r.part) (λ r. r.whole) (λ r. level_den r.part r.whole r.level)) (λ x y. refl) };
+    ghost laws = { po (cross_total (λ r. r.part) (λ r. r.whole)
+        (λ r. level_den r.part r.whole r.level)) (λ x y. refl) };
 
     fn partial_cmp(&self, other: &Ratio) -> Option<Ordering> {
         Some(self.cmp(other))
@@ -51,7 +55,8 @@ impl PartialOrd for Ratio {
 impl Ord for Ratio {
     ghost cmp = { cross_cmp (λ r. r.part) (λ r. r.whole) };
 
-    ghost total = { cross_total (λ r. r.part) (λ r. r.whole) (λ r. level_den r.part r.whole r.level) };
+    ghost total = { cross_total (λ r. r.part) (λ r. r.whole)
+        (λ r. level_den r.part r.whole r.level) };
 
     ghost matches_partial_cmp = { λ x y. refl };
 

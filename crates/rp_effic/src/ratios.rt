@@ -20,7 +20,8 @@ pub fn ratios(alloc: Global, costs: &Costs) -> Result<Vec<Ratio>, NoMemory>
 
 /// The ratio of each two observations, where it is at most 1.
 fn all_ratios(alloc: Global, costs: &Costs) -> Result<Vec<Ratio>, NoMemory>
-    ensures complete { IfOk result (λ ratios. HasRatios costs.now.n (cost_at costs.now) ratios.items) }
+    ensures complete { IfOk result
+        (λ ratios. HasRatios costs.now.n (cost_at costs.now) ratios.items) }
     ensures few { IfOk result (λ ratios. length ratios.items ≤ costs.now.n * costs.now.n) }
     ensures small { IfOk result (λ ratios. length ratios.items < 2 ^ 32) }
 {

@@ -16,7 +16,8 @@ use std::alloc::Global;
 pub fn efficiency(alloc: Global, costs: &Costs) -> Result<Efficiency, NoMemory>
     ensures proves { IfOk result (ProvesEfficiency costs.now.n (cost_at costs.now)) }
     ensures given { IfOk result (IsEfficiencyVerdict costs.now.n (cost_at costs.now)) }
-    ensures threshold { IfOk result (λ evidence. IsLeastGreatestRatio costs.now.n (cost_at costs.now)
+    ensures threshold { IfOk result
+        (λ evidence. IsLeastGreatestRatio costs.now.n (cost_at costs.now)
         evidence.level.num evidence.level.den) }
 {
     let n = costs.n();

@@ -25,7 +25,8 @@ pub fn observed_utilities()
 /// A bundle has one utility.
 pub fn utilities_are_unique()
     ensures { (n den : ℕ) (c : ℕ → ℕ → ℕ) (utility : ℕ → ℤ) (multiplier cost : ℕ → ℕ) (x y : ℤ)
-        → IsUtility n c utility multiplier den cost x → IsUtility n c utility multiplier den cost y → x ≡ y }
+        → IsUtility n c utility multiplier den cost x
+        → IsUtility n c utility multiplier den cost y → x ≡ y }
 {}
 
 /// The standard numbers exist, without any width.

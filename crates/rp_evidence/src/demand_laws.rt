@@ -1,7 +1,9 @@
 //! Laws of supporting demand at new prices. Each function is empty: its contract is the law.
 ghost use Rattle.std.specs.Prelude.{◌↔◌, ◌<◌, ℕ, List};
 ghost use Rattle.rp_farkas.specs.EqualPair.{IsEqualPair};
-ghost use Rattle.rp_evidence.specs.Demand.{CostsEnough, CostsMore, FractionBundle, IsInfimum, IsInnerDemand, IsOnBudget, IsSupportingDemand, IsSupremum, NewBudget, mixed};
+ghost use Rattle.rp_evidence.specs.Demand.{CostsEnough, CostsMore, FractionBundle, IsInfimum};
+ghost use Rattle.rp_evidence.specs.Demand.{IsInnerDemand, IsOnBudget, IsSupportingDemand};
+ghost use Rattle.rp_evidence.specs.Demand.{IsSupremum, NewBudget, mixed};
 ghost use Rattle.rp_evidence.specs.DemandPrograms.{ListsBelow, lower_program, upper_program};
 ghost use Rattle.rp_evidence.specs.Garp.{MeetsGarp};
 ghost use Rattle.rp_evidence.specs.Input.{TableInput};
@@ -36,14 +38,18 @@ pub fn mixtures_support()
 /// Where the table meets the axiom and some demand supports, an equal pair of a good's lower program has the infimum
 /// of the good on its price side, and one of its upper program the supremum.
 pub fn equal_pairs_bound_goods()
-    ensures lower { (input : TableInput) (budget : NewBudget) (below : List ℕ) (inner : FractionBundle)
+    ensures lower { (input : TableInput) (budget : NewBudget) (below : List ℕ)
+        (inner : FractionBundle)
         (g den : ℕ) (y x : ℕ → ℕ)
         → ListsBelow input budget below → MeetsGarp input.n input.cost 1 1
         → IsSupportingDemand input budget inner → g < input.goods
-        → IsEqualPair (lower_program input budget below g) den y x → IsInfimum input budget g (x g) den }
-    ensures upper { (input : TableInput) (budget : NewBudget) (below : List ℕ) (inner : FractionBundle)
+        → IsEqualPair (lower_program input budget below g) den y x → IsInfimum input budget g
+        (x g) den }
+    ensures upper { (input : TableInput) (budget : NewBudget) (below : List ℕ)
+        (inner : FractionBundle)
         (g den : ℕ) (y x : ℕ → ℕ)
         → ListsBelow input budget below → MeetsGarp input.n input.cost 1 1
         → IsSupportingDemand input budget inner → g < input.goods → 0 < budget.prices g
-        → IsEqualPair (upper_program input budget below g) den y x → IsSupremum input budget g (x g) den }
+        → IsEqualPair (upper_program input budget below g) den y x → IsSupremum input budget g
+        (x g) den }
 {}

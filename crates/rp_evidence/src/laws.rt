@@ -1,8 +1,10 @@
-ghost use Rattle.std.specs.Prelude.{◌≡◌, ◌↔◌, ◌<◌, ◌≤◌, ◌*◌, ◌++◌, ◌∷◌, [], ℕ, List, length, Contains, slice_index};
+ghost use Rattle.std.specs.Prelude.{◌≡◌, ◌↔◌, ◌<◌, ◌≤◌, ◌*◌, ◌++◌, ◌∷◌, [], ℕ, List, length};
+ghost use Rattle.std.specs.Prelude.{Contains, slice_index};
 ghost use Rattle.rp_evidence.specs.AfriatEvidence.{ProvesAfriat};
 ghost use Rattle.rp_evidence.specs.Count.{AreCounts, IsCount};
 ghost use Rattle.rp_evidence.specs.Efficiency.{ProvesEfficiency};
-ghost use Rattle.rp_evidence.specs.Garp.{HasNoViolation, IsViolation, IsViolationAt, ProvesGarp, ViolatesByPlaces};
+ghost use Rattle.rp_evidence.specs.Garp.{HasNoViolation, IsViolation, IsViolationAt, ProvesGarp};
+ghost use Rattle.rp_evidence.specs.Garp.{ViolatesByPlaces};
 ghost use Rattle.rp_evidence.specs.Homothetic.{ProvesHomothetic};
 ghost use Rattle.rp_evidence.specs.Input.{AgreeInputs, TableInput};
 ghost use Rattle.rp_evidence.specs.Preference.{AgreeBelow, IsStrict, IsWeak};

@@ -5,12 +5,14 @@ ghost use Rattle.rp_evidence.specs.Afriat.{IsAfriatModel, IsUtility};
 ghost use Rattle.rp_evidence.specs.Demand.{FractionBundle, spending};
 ghost use Rattle.rp_evidence.specs.Garp.{MeetsGarp};
 ghost use Rattle.rp_evidence.specs.Input.{TableInput};
-ghost use Rattle.rp_evidence.specs.Welfare.{EqualsOrReaches, IsInRegion, IsLowerWelfare, ListsReached, welfare_program};
+ghost use Rattle.rp_evidence.specs.Welfare.{EqualsOrReaches, IsInRegion, IsLowerWelfare};
+ghost use Rattle.rp_evidence.specs.Welfare.{ListsReached, welfare_program};
 
 /// In every Afriat model a bundle with at least the utility of an observation lies in its region, and a bundle of
 /// the table that equals or reaches the observation has at least its utility (after Varian 1982).
 pub fn welfare_bounds_hold()
-    ensures region { (input : TableInput) (utility : ℕ → ℤ) (multiplier : ℕ → ℕ) (t : ℕ) (bundle : FractionBundle) (value : ℤ)
+    ensures region { (input : TableInput) (utility : ℕ → ℤ) (multiplier : ℕ → ℕ) (t : ℕ)
+        (bundle : FractionBundle) (value : ℤ)
         → IsAfriatModel input.n input.cost utility multiplier → 0 < bundle.den
         → IsUtility input.n input.cost utility multiplier bundle.den
         (λ s. spending input.goods (input.price s) bundle.num) value
@@ -22,7 +24,8 @@ pub fn welfare_bounds_hold()
 
 /// The price side of an equal pair has the least cost over the region.
 pub fn equal_pairs_bound_welfare()
-    ensures { (input : TableInput) (prices : ℕ → ℕ) (t : ℕ) (reached : List ℕ) (den : ℕ) (y x : ℕ → ℕ)
+    ensures { (input : TableInput) (prices : ℕ → ℕ) (t : ℕ) (reached : List ℕ) (den : ℕ)
+        (y x : ℕ → ℕ)
         → ListsReached input t reached → IsEqualPair (welfare_program input prices reached) den y x
         → IsLowerWelfare input prices t (spending input.goods prices x) den }
 {}
@@ -30,6 +33,7 @@ pub fn equal_pairs_bound_welfare()
 /// Where the table meets the axiom, a bundle that equals or reaches an observation lies in its region: no lower bound
 /// is above an upper one.
 pub fn reaching_bundles_are_in_region()
-    ensures { (input : TableInput) (s t : ℕ) → MeetsGarp input.n input.cost 1 1 → EqualsOrReaches input s t
+    ensures { (input : TableInput) (s t : ℕ) → MeetsGarp input.n input.cost 1 1
+        → EqualsOrReaches input s t
         → IsInRegion input t (record { den = 1; num = input.quantity s }) }
 {}

@@ -1,4 +1,5 @@
-ghost use Rattle.std.specs.Prelude.{◌≡◌, ◌<◌, ◌↔◌, ℕ, pos, ◌*ℤ◌, ◌≤ℤ◌, IsTrue, All, length, slice_index};
+ghost use Rattle.std.specs.Prelude.{◌≡◌, ◌<◌, ◌↔◌, ℕ, pos, ◌*ℤ◌, ◌≤ℤ◌, IsTrue, All, length};
+ghost use Rattle.std.specs.Prelude.{slice_index};
 ghost use Rattle.rp_farkas.specs.Limits.{FitsEvidence};
 ghost use Rattle.rp_farkas.specs.Listing.{IsListing, numerator_at};
 ghost use Rattle.rp_farkas.specs.Point.{row_times};
@@ -15,7 +16,8 @@ pub fn rows_hold<P: Lp>(p: &P, den: u64, y: &[Entry]) -> bool
     requires den { FitsEvidence den }
     requires listed { IsListing (P.program p.now).cols y.now }
     ensures { IsTrue result ↔ ((i : ℕ) → i < (P.program p.now).rows
-        → row_times (P.program p.now) i (numerator_at y.now) ≤ℤ ((P.program p.now).b i *ℤ pos den)) }
+        → row_times (P.program p.now) i (numerator_at y.now)
+        ≤ℤ ((P.program p.now).b i *ℤ pos den)) }
 {
     for i in 0..p.rows() {
         if row_sum(p, i, y) > i128::from(p.b(i)) * i128::from(den) {
@@ -31,7 +33,8 @@ fn columns_hold<P: Lp>(p: &P, den: u64, x: &[u64]) -> bool
     requires rows { length x.now ≡ (P.program p.now).rows }
     requires fits { All FitsEvidence x.now }
     ensures { IsTrue result ↔ ((j : ℕ) → j < (P.program p.now).cols
-        → ((P.program p.now).c j *ℤ pos den) ≤ℤ column_times (P.program p.now) j (slice_index x.now)) }
+        → ((P.program p.now).c j *ℤ pos den) ≤ℤ column_times (P.program p.now) j
+        (slice_index x.now)) }
 {
     for j in 0..p.cols() {
         if i128::from(p.c(j)) * i128::from(den) > column_sum(p, j, x) {

@@ -61,7 +61,8 @@ impl Program {
         requires b_bounded { All (λ z. unsigned_abs z ≤ largest_entry) b.items }
         requires c_bounded { All (λ z. unsigned_abs z ≤ largest_entry) c.items }
         requires b_not_negative { All (λ z. pos 0 ≤ℤ z) b.items }
-        ensures { ⟦<Program as Lp>⟧.program result ≡ listed_program rows cols a.items b.items c.items }
+        ensures { ⟦<Program as Lp>⟧.program result
+            ≡ listed_program rows cols a.items b.items c.items }
     {
         Program {
             rows,

@@ -31,7 +31,11 @@ pub fn check_ray<P: Lp>(p: &P, den: u64, point: &Seq<Entry>, ray: &Seq<Entry>) -
 {
     let point = point.as_slice();
     let ray = ray.as_slice();
-    if den == 0 || den > EVIDENCE_WIDTH || !is_listing(p.cols(), point) || !is_listing(p.cols(), ray) {
+    if den == 0
+        || den > EVIDENCE_WIDTH
+        || !is_listing(p.cols(), point)
+        || !is_listing(p.cols(), ray)
+    {
         return false;
     }
     rows_hold(p, den, point) && no_row_rises(p, ray) && value_sum(p, ray) > 0

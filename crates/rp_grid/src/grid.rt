@@ -1,5 +1,6 @@
 //! The grid.
-ghost use Rattle.std.specs.Prelude.{◌≡◌, ◌<◌, ◌≤◌, ◌*◌, ◌^◌, List, Some, None, IfOk, length, replicate};
+ghost use Rattle.std.specs.Prelude.{◌≡◌, ◌<◌, ◌≤◌, ◌*◌, ◌^◌, List, Some, None, IfOk, length};
+ghost use Rattle.std.specs.Prelude.{replicate};
 ghost use Rattle.std.specs.Borrow.{sem};
 ghost use Rattle.std.specs.Mem.{type_size};
 ghost use Rattle.rp_grid.specs.Rows.{AreEqual, exchanged, filled, row_of, written};

@@ -1,5 +1,6 @@
 ghost use Rattle.std.specs.Prelude.{◌≡◌, ℕ, ◌*◌, ◌^◌, ◌<◌, ◌≤◌, ◌↔◌, IfOk, OnErr, IsErr};
-ghost use Rattle.rp_num.specs.Fraction.{FitsPart, Fraction, IsLowestTerms, FitsWidth, PassesWidth, fraction_cmp};
+ghost use Rattle.rp_num.specs.Fraction.{FitsPart, Fraction, IsLowestTerms, FitsWidth, PassesWidth};
+ghost use Rattle.rp_num.specs.Fraction.{fraction_cmp};
 
 use crate::Wide;
 use crate::euclid::{compare, gcd};

@@ -1,4 +1,5 @@
-ghost use Rattle.std.specs.Prelude.{◌≡◌, ◌≤◌, ◌⊎◌, ℕ, List, Option, IfOk, IsErrOf, drop, length, take};
+ghost use Rattle.std.specs.Prelude.{◌≡◌, ◌≤◌, ◌⊎◌, ℕ, List, Option, IfOk, IsErrOf, drop, length};
+ghost use Rattle.std.specs.Prelude.{take};
 ghost use Rattle.std.specs.Option.{ForSome};
 ghost use Rattle.rp_outside.specs.Faults.{HasRisen, next_count};
 

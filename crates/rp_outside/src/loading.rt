@@ -1,4 +1,5 @@
-ghost use Rattle.std.specs.Prelude.{◌≡◌, ◌+◌, ◌^◌, ◌<◌, ◌≤◌, ℕ, List, IfOk, IsErr, IsErrOf, Ok, length, vec_len};
+ghost use Rattle.std.specs.Prelude.{◌≡◌, ◌+◌, ◌^◌, ◌<◌, ◌≤◌, ℕ, List, IfOk, IsErr, IsErrOf, Ok};
+ghost use Rattle.std.specs.Prelude.{length, vec_len};
 ghost use Rattle.std.specs.Option.{ForSome};
 ghost use Rattle.rp_outside.specs.Faults.{HasRisen, next_count};
 ghost use Rattle.rp_outside.specs.Told.{BeginsWith};
@@ -42,7 +43,8 @@ pub fn load<D: Desk>(
         → ForSome (D.bytes desk.old name.now) (λ bs. limit < length bs) }
 
     // So more bytes than the limit are `TooLong`, unless a read failed or memory ran out.
-    ensures past_limit { ForSome (D.bytes desk.old name.now) (λ bs. limit < length bs → IsErr result) }
+    ensures past_limit { ForSome (D.bytes desk.old name.now)
+        (λ bs. limit < length bs → IsErr result) }
 
     // How often the desk is asked: each read but the last gives at least one byte.
     ensures reads { D.calls desk.new ≤ D.calls desk.old + limit + 1 }

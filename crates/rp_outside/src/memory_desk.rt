@@ -1,4 +1,5 @@
-ghost use Rattle.std.specs.Prelude.{◌≡◌, ◌≤◌, ◌⊎◌, ◌↔◌, ℕ, Contains, List, None, IfOk, IfSome, IsErr, IsNone, IsOkUnless, IsSomeAnd, is_ok, map};
+ghost use Rattle.std.specs.Prelude.{◌≡◌, ◌≤◌, ◌⊎◌, ◌↔◌, ℕ, Contains, List, None, IfOk, IfSome};
+ghost use Rattle.std.specs.Prelude.{IsErr, IsNone, IsOkUnless, IsSomeAnd, is_ok, map};
 ghost use Rattle.rp_outside.specs.Files.{ReadsAll, bytes_under};
 ghost use Rattle.rp_outside.specs.MemoryDesk.{ReadFails, after_read};
 ghost use Rattle.rp_outside.specs.NamedFile.{named_bytes};

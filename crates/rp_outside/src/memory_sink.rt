@@ -1,4 +1,5 @@
-ghost use Rattle.std.specs.Prelude.{◌≡◌, ◌-◌, ◌<◌, ◌≤◌, ◌⊎◌, ◌↔◌, [], Some, Contains, IfOk, IsErr, IsTrue, length, min};
+ghost use Rattle.std.specs.Prelude.{◌≡◌, ◌-◌, ◌<◌, ◌≤◌, ◌⊎◌, ◌↔◌, [], Some, Contains, IfOk, IsErr};
+ghost use Rattle.std.specs.Prelude.{IsTrue, length, min};
 ghost use Rattle.rp_outside.specs.MemorySink.{WriteFails, after_write};
 
 use crate::planned::is_listed;

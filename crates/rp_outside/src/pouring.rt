@@ -13,7 +13,8 @@ pub fn pour<O: Sink>(sink: &mut O, bytes: &[u8]) -> Result<(), WriteFault>
     ensures whole { OnOk result (Grows (O.written sink.old) (O.written sink.new) bytes.now) }
     ensures prefix { OnErr result
         (GrowsByPrefix (O.written sink.old) (O.written sink.new) bytes.now) }
-    ensures falls_short { OnErr result (FallsShort (O.written sink.old) (O.written sink.new) bytes.now) }
+    ensures falls_short { OnErr result
+        (FallsShort (O.written sink.old) (O.written sink.new) bytes.now) }
     ensures fault_counted { OnErr result (HasRisen (O.faults sink.old) (O.faults sink.new)) }
     ensures never_falls { O.faults sink.old ≤ O.faults sink.new }
 

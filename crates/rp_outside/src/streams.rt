@@ -1,4 +1,5 @@
-ghost use Rattle.std.specs.Prelude.{◌≡◌, ◌<◌, ◌≤◌, None, IfOk, IfSome, if◌then◌else◌, is_ok, length};
+ghost use Rattle.std.specs.Prelude.{◌≡◌, ◌<◌, ◌≤◌, None, IfOk, IfSome, if◌then◌else◌, is_ok};
+ghost use Rattle.std.specs.Prelude.{length};
 ghost use Rattle.rp_outside.specs.Faults.{next_count};
 
 use crate::sinks::{Failed, Sink};

@@ -50,7 +50,8 @@ impl Desk for SureDesk {
 
     fn read_at(&mut self, name: &str, at: u64, into: &mut [u8]) -> Result<u64, DeskFault>
         ensures sure { IsOk result }
-        ensures reads_all { IfOk result (λ n. ReadsAll (bytes_or_none self.old name.now) at into.new n) }
+        ensures reads_all { IfOk result
+            (λ n. ReadsAll (bytes_or_none self.old name.now) at into.new n) }
         ensures after { self.new ≡ after_sure_read self.old }
     {
         self.calls = self.calls.saturating_add(1);

@@ -1,15 +1,11 @@
 -- Steps are noted as bits, and what the rounds make of them is the closure.
-use Rattle.std.proofs.Common.{◌≡◌, ℕ, ◌+◌, ◌*◌, ◌-◌, ◌/◌, ◌%◌, ◌<◌, ◌≤◌, ◌⊎◌, ◌↔◌, ◌||◌, Bool, true, false, not, cond, IsTrue, eqb, List, [], length, get_or, replicate, count_by, inl, inr, refl, sym, ap, ◌∙◌, subst, arith}
+use Rattle.std.proofs.Common.{◌≡◌, ℕ, ◌+◌, ◌*◌, ◌-◌, ◌<◌, ◌≤◌, ◌⊎◌, ◌↔◌, Bool, true, false, not, cond, IsTrue, length, replicate, count_by, refl, sym, ap, ◌∙◌, subst, arith}
 use mir.Val.{bool_byte}
-use Rattle.std.specs.Int.{bit_at}
 use Rattle.std.specs.List.{range_with_len}
-use Rattle.std.proofs.lemmas.Bool.{cases_eq, cases_lt, eq-eqb, eqb-true, false≢true}
-use Rattle.std.proofs.lemmas.List.{get_or_past, get_or-replicate, length-replicate}
-use Rattle.std.proofs.lemmas.Nat.Bits.{bit_at-zero}
+use Rattle.std.proofs.lemmas.List.{length-replicate}
 use Rattle.rp_evidence.specs.Count.{IsNumberOf}
 use Rattle.rp_evidence.specs.Walk.{Reaches}
 use Rattle.rp_grid.specs.Rows.{Rows, row_of, filled}
-use Rattle.rp_grid.proofs.Reading.{row_filled}
 use Rattle.rp_pref.specs.Bits.{bit_in, has_bit, HoldsBits}
 use Rattle.rp_pref.specs.Closure.{IsClosureOf, reached_by, reaches_in, counts_in}
 use Rattle.rp_pref.specs.Through.{LeadsThrough}
@@ -28,37 +24,6 @@ pub record HasNoted (old now : Rows ℕ) (s end : ℕ) (step : ℕ → Type 0) :
   pub row : (t : ℕ) → IsTrue (has_bit now s t) ↔ ((t < end) × step t)
   pub others : (a t : ℕ) → (a ≡ s → ⊥) → has_bit now a t ≡ has_bit old a t
 
-pub none_noted : (old : Rows ℕ) (s : ℕ) (step : ℕ → Type 0) → ((t : ℕ) → has_bit old s t ≡ false) → HasNoted old old s 0 step
-none_noted old s step clear = record { count = refl; cols = refl; row = λ t. (λ h. absurd (false≢true (sym (clear t) ∙ h)), λ h. absurd (omega (arith, h.0))); others = λ a t e. refl }
-
-or_by : (a b : Bool) (A B C : Type 0) → IsTrue a ↔ A → IsTrue b ↔ B → (A → C) → (B → C) → (C → A ⊎ B) → IsTrue (a || b) ↔ C
-or_by true b A B C x y f g back = (λ h. f (x.0 refl), λ h. refl)
-or_by false b A B C x y f g back = (λ h. g (y.0 h), λ h. elim (back h) [ inl p ↦ absurd (false≢true (x.1 p)) | inr p ↦ y.1 p ])
-
-module _ (old now : Rows ℕ) (s t : ℕ) (step : ℕ → Type 0) (so_far : HasNoted old now s t step) where
-  pub step_noted : step t → (new : Rows ℕ) → length new.rows ≡ length now.rows → new.cols ≡ now.cols
-      → ((b : ℕ) → has_bit new s b ≡ (has_bit now s b || eqb b t)) → ((a b : ℕ) → (a ≡ s → ⊥) → has_bit new a b ≡ has_bit now a b) → HasNoted old new s (t + 1) step
-  step_noted there new count cols row others = record {
-    count = count ∙ so_far.count;
-    cols = cols ∙ so_far.cols;
-    row = λ b. subst (λ x. IsTrue x ↔ ((b < t + 1) × step b)) (sym (row b))
-        (or_by (has_bit now s b) (eqb b t) ((b < t) × step b) (b ≡ t) ((b < t + 1) × step b) (so_far.row b) (λ h. eqb-true b t h, λ e. eq-eqb b t e)
-        (λ h. (omega (arith, h.0), h.1)) (λ e. (omega (arith, e), subst step (sym e) there))
-        (λ h. elim (cases_eq b t) [ inl e ↦ inr e | inr e ↦ inl (omega (arith, h.0, e), h.1) ]));
-    others = λ a b e. others a b e ∙ so_far.others a b e;
-  }
-
-  pub step_skipped : (step t → ⊥) → HasNoted old now s (t + 1) step
-  step_skipped none = record {
-    count = so_far.count;
-    cols = so_far.cols;
-    row = λ b. (
-      λ h. let k = (so_far.row b).0 h in (omega (arith, k.0), k.1),
-      λ h. (so_far.row b).1 (elim (cases_eq b t) [ inl e ↦ absurd (none (subst step e h.1)) | inr e ↦ (omega (arith, h.0, e), h.1) ]),
-    );
-    others = so_far.others;
-  }
-
 -- ---- all rows of steps
 
 pub record HasNotedRows (old now : Rows ℕ) (n end : ℕ) (step : ℕ → ℕ → Type 0) : Type 0 where
@@ -67,33 +32,7 @@ pub record HasNotedRows (old now : Rows ℕ) (n end : ℕ) (step : ℕ → ℕ �
   pub rows : (s t : ℕ) → s < end → IsTrue (has_bit now s t) ↔ ((t < n) × step s t)
   pub left : (s t : ℕ) → end ≤ s → has_bit now s t ≡ false
 
-pub no_row_noted : (old : Rows ℕ) (n : ℕ) (step : ℕ → ℕ → Type 0) → ((s t : ℕ) → has_bit old s t ≡ false) → HasNotedRows old old n 0 step
-no_row_noted old n step clear = record { count = refl; cols = refl; rows = λ s t l. absurd (omega arith); left = λ s t l. clear s t }
-
-pub row_noted : (old now new : Rows ℕ) (n s : ℕ) (step : ℕ → ℕ → Type 0) → HasNotedRows old now n s step → length new.rows ≡ length now.rows → new.cols ≡ now.cols
-    → ((t : ℕ) → IsTrue (has_bit new s t) ↔ ((t < n) × step s t)) → ((a t : ℕ) → (a ≡ s → ⊥) → has_bit new a t ≡ has_bit now a t) → HasNotedRows old new n (s + 1) step
-row_noted old now new n s step so_far count cols row others = record {
-  count = count ∙ so_far.count;
-  cols = cols ∙ so_far.cols;
-  rows = λ a t l. elim (cases_eq a s) [
-    | inl e ↦ subst (λ b. IsTrue (has_bit new b t) ↔ ((t < n) × step b t)) (sym e) (row t)
-    | inr e ↦ subst (λ x. IsTrue x ↔ ((t < n) × step a t)) (sym (others a t e)) (so_far.rows a t (omega (arith, l, e)))
-  ];
-  left = λ a t l. let e : a ≡ s → ⊥ = λ e. omega arith in others a t e ∙ so_far.left a t (omega arith);
-}
-
 -- ---- a new grid has no bit
-
-pub none_set : (rows cols s t : ℕ) → has_bit (filled rows cols 0) s t ≡ false
-none_set rows cols s t = ap (λ v. eqb v 1) (ap (λ w. bit_at w (t % 64)) (word (cases_lt s rows)) ∙ bit_at-zero (t % 64))
-  where
-    word : (s < rows) ⊎ (rows ≤ s) → ◌≡◌ {A = ℕ} (get_or (row_of (filled rows cols 0) s) (t / 64) 0) 0
-    word (inl l) = ap (λ row. get_or row (t / 64) 0) (row_filled rows cols s 0 l) ∙ zeros (cases_lt (t / 64) cols)
-      where
-        zeros : (t / 64 < cols) ⊎ (cols ≤ t / 64) → ◌≡◌ {A = ℕ} (get_or (replicate cols 0) (t / 64) 0) 0
-        zeros (inl h) = get_or-replicate cols (t / 64) 0 0 h
-        zeros (inr h) = get_or_past (replicate cols 0) (t / 64) 0 (let long : length {A = ℕ} (replicate cols 0) ≡ cols = length-replicate cols 0 in omega arith)
-    word (inr l) = ap (λ row. get_or row (t / 64) 0) (get_or_past (replicate rows (replicate cols 0)) s [] (let long : length {A = List ℕ} (replicate rows (replicate cols 0)) ≡ rows = length-replicate rows (replicate cols 0) in omega arith))
 
 -- ---- the closure
 

@@ -1,10 +1,9 @@
 -- Rows of bits take in others, round by round. The records say how far a loop has come.
-use Rattle.std.proofs.Common.{◌≡◌, ◌≢◌, ℕ, suc, ◌+◌, ◌/◌, ◌%◌, ◌<◌, ◌≤◌, ◌⊎◌, ◌↔◌, ◌||◌, ◌&&◌, Bool, true, false, IsTrue, eqb, List, [], length, get_or, set, bit_or, inl, inr, refl, sym, ap, ◌∙◌, subst, arith, length-set}
+use Rattle.std.proofs.Common.{◌≡◌, ◌≢◌, ℕ, ◌+◌, ◌/◌, ◌%◌, ◌<◌, ◌≤◌, ◌↔◌, ◌||◌, ◌&&◌, Bool, true, false, IsTrue, eqb, List, [], length, get_or, bit_or, inl, inr, refl, sym, ap, ◌∙◌, subst, arith}
 use Rattle.std.specs.Int.{bit_at}
-use Rattle.std.proofs.lemmas.Bool.{cases_eq, cases_lt, false≢true}
-use Rattle.std.proofs.lemmas.List.{get_or_past, get_or_read}
-use Rattle.rp_grid.specs.Rows.{Rows, row_of, AreEqual, with_cell}
-use Rattle.rp_grid.proofs.Reading.{same_count, row_stays, cell_written, cell_stays, still_equal}
+use Rattle.std.proofs.lemmas.Bool.{cases_eq, cases_lt}
+use Rattle.std.proofs.lemmas.List.{get_or_past}
+use Rattle.rp_grid.specs.Rows.{Rows, row_of, AreEqual}
 use Rattle.rp_pref.specs.Bits.{bit_in, has_bit}
 use Rattle.rp_pref.specs.Through.{LeadsThrough}
 use Rattle.rp_pref.proofs.Words.{or_false, bit_of_or}
@@ -19,32 +18,6 @@ pub record IsTakenIn (old now : Rows ℕ) (s k w : ℕ) : Type 0 where
   pub others : (a : ℕ) → a ≢ s → row_of now a ≡ row_of old a
   pub done : (v : ℕ) → v < w → get_or (row_of now s) v 0 ≡ bit_or (get_or (row_of old s) v 0) (get_or (row_of old k) v 0)
   pub left : (v : ℕ) → w ≤ v → get_or (row_of now s) v 0 ≡ get_or (row_of old s) v 0
-
-pub none_taken : (old : Rows ℕ) (s k : ℕ) → AreEqual old → IsTakenIn old old s k 0
-none_taken old s k equal = record { count = refl; cols = refl; equal = equal; others = λ a e. refl; done = λ v l. absurd (omega arith); left = λ v l. refl }
-
-module _ (old now : Rows ℕ) (s k w : ℕ) (apart : s ≢ k) (into : s < length old.rows) (from : k < length old.rows) (so_far : IsTakenIn old now s k w) (within : w < now.cols) where
-  pub word_taken : (x y : ℕ) → x ≡ get_or (row_of now s) w x → y ≡ get_or (row_of now k) w y → IsTakenIn old (with_cell now s w (bit_or x y)) s k (w + 1)
-  word_taken x y is_x is_y =
-      let row = row_of now s in let v = bit_or x y in let there : s < length now.rows = omega (arith, so_far.count) in
-      let long : length row ≡ now.cols = so_far.equal s there in
-      let other : length (row_of now k) ≡ now.cols = so_far.equal k (omega (arith, so_far.count)) in
-      let read_x : x ≡ get_or row w 0 = get_or_read row w x (omega arith) is_x 0 in
-      let read_y : y ≡ get_or (row_of now k) w 0 = get_or_read (row_of now k) w y (omega arith) is_y 0 in
-      let both : v ≡ bit_or (get_or (row_of old s) w 0) (get_or (row_of old k) w 0) =
-      λ i. bit_or ((read_x ∙ so_far.left w (omega arith)) i) ((read_y ∙ ap (λ l. get_or l w 0) (so_far.others k (λ e. apart (sym e)))) i) in
-      record {
-        count = same_count now s (set row w v) ∙ so_far.count;
-        cols = so_far.cols;
-        equal = still_equal now s (set row w v) so_far.equal (length-set row w v ∙ long);
-        others = λ a e. row_stays now s a (set row w v) e ∙ so_far.others a e;
-        done = λ u l. elim (cases_eq u w) [
-          | inl e ↦ subst (λ z. get_or (row_of (with_cell now s w v) s) z 0 ≡ bit_or (get_or (row_of old s) z 0) (get_or (row_of old k) z 0)) (sym e)
-              (cell_written now s w v 0 there (omega arith) ∙ both)
-          | inr e ↦ cell_stays now s w u v 0 there e ∙ so_far.done u (omega arith)
-        ];
-        left = λ u l. let e : u ≡ w → ⊥ = λ e. omega arith in cell_stays now s w u v 0 there e ∙ so_far.left u (omega arith);
-      }
 
 module _ (old now : Rows ℕ) (s k w : ℕ) (into : s < length old.rows) (from : k < length old.rows) (equal : AreEqual old) (taken : IsTakenIn old now s k w) (all : old.cols ≤ w) where
   words : (v : ℕ) → get_or (row_of now s) v 0 ≡ bit_or (get_or (row_of old s) v 0) (get_or (row_of old k) v 0)
@@ -63,9 +36,6 @@ module _ (old now : Rows ℕ) (s k w : ℕ) (into : s < length old.rows) (from :
   pub row_left : (rows : List (List ℕ)) → rows ≡ now.rows → (t : ℕ) → bit_in (get_or rows s []) t ≡ (has_bit old s t || has_bit old k t)
   row_left rows is t = ap (λ l. bit_in (get_or l s []) t) is ∙ row_taken t
 
-  pub others_stay : (a t : ℕ) → a ≢ s → has_bit now a t ≡ has_bit old a t
-  others_stay a t e = ap (λ row. bit_in row t) (taken.others a e)
-
 -- ---- one round
 
 -- The first rows have gone through observation k.
@@ -75,9 +45,6 @@ pub record HasGone (old now : Rows ℕ) (k end : ℕ) : Type 0 where
   pub gone : (a t : ℕ) → a < end → has_bit now a t ≡ (has_bit old a t || (has_bit old a k && has_bit old k t))
   pub left : (a t : ℕ) → end ≤ a → has_bit now a t ≡ has_bit old a t
   pub middle : (t : ℕ) → has_bit now k t ≡ has_bit old k t
-
-pub none_gone : (old : Rows ℕ) (k : ℕ) → HasGone old old k 0
-none_gone old k = record { count = refl; cols = refl; gone = λ a t l. absurd (omega arith); left = λ a t l. refl; middle = λ t. refl }
 
 absorbs : (x y : Bool) → (x || (y && x)) ≡ x
 absorbs true y = refl
@@ -127,23 +94,3 @@ pub record HasClosed (old now : Rows ℕ) (k : ℕ) : Type 0 where
   pub count : length now.rows ≡ length old.rows
   pub cols : now.cols ≡ old.cols
   pub rows : (s t : ℕ) → s < length old.rows → IsTrue (has_bit now s t) ↔ LeadsThrough k (λ a b. IsTrue (has_bit old a b)) s t
-
-pub none_closed : (old : Rows ℕ) → HasClosed old old 0
-none_closed old = record { count = refl; cols = refl; rows = λ s t l. (λ h. h, λ h. h) }
-
-either : (a b c : Bool) (A B C : Type 0) → IsTrue a ↔ A → IsTrue b ↔ B → IsTrue c ↔ C → IsTrue (a || (b && c)) ↔ (A ⊎ (B × C))
-either true b c A B C x y z = (λ h. inl (x.0 h), λ h. refl)
-either false true c A B C x y z = (λ h. inr (y.0 refl, z.0 h), λ h. elim h [ inl p ↦ absurd (false≢true (x.1 p)) | inr p ↦ z.1 p.1 ])
-either false false c A B C x y z = (λ h. absurd (false≢true h), λ h. elim h [ inl p ↦ absurd (false≢true (x.1 p)) | inr p ↦ absurd (false≢true (y.1 p.0)) ])
-
-pub round_closed : (old now new : Rows ℕ) (k : ℕ) → k < length old.rows → HasClosed old now k → length new.rows ≡ length now.rows → new.cols ≡ now.cols
-    → ((s t : ℕ) → s < length now.rows → has_bit new s t ≡ (has_bit now s t || (has_bit now s k && has_bit now k t))) → HasClosed old new (k + 1)
-round_closed old now new k within so_far count cols rows =
-    subst (HasClosed old new) (let e : suc k ≡ k + 1 = omega arith in e) (record {
-      count = count ∙ so_far.count;
-      cols = cols ∙ so_far.cols;
-      rows = λ s t l. let R = λ (a b : ℕ). IsTrue (has_bit old a b) in
-          subst (λ b. IsTrue b ↔ LeadsThrough (suc k) R s t) (sym (rows s t (omega (arith, so_far.count))))
-          (either (has_bit now s t) (has_bit now s k) (has_bit now k t) (LeadsThrough k R s t) (LeadsThrough k R s k) (LeadsThrough k R k t)
-          (so_far.rows s t l) (so_far.rows s k l) (so_far.rows k t within));
-    })

@@ -1,5 +1,6 @@
 //! Rows of bits, one for each observation, and what they reach by the steps that are noted in them.
-ghost use Rattle.std.specs.Prelude.{◌≡◌, ◌≢◌, ◌<◌, ◌≤◌, ◌+◌, ◌*◌, ◌↔◌, ◌&&◌, ◌||◌, ◌==◌, ℕ, IsTrue, count_by, length};
+ghost use Rattle.std.specs.Prelude.{◌≡◌, ◌≢◌, ◌<◌, ◌≤◌, ◌+◌, ◌*◌, ◌↔◌, ◌&&◌, ◌||◌, ◌==◌, ℕ, IsTrue};
+ghost use Rattle.std.specs.Prelude.{count_by, length};
 ghost use Rattle.std.specs.List.{range_with_len};
 ghost use Rattle.rp_evidence.specs.Preference.{IsLevel};
 ghost use Rattle.rp_table.specs.Cost.{cost_at};
@@ -64,7 +65,8 @@ pub fn go_through(bits: &mut Grid<u64>, k: u32)
     ensures count { length bits.new.rows ≡ length bits.old.rows }
     ensures cols { bits.new.cols ≡ bits.old.cols }
     ensures rows { (s t : ℕ) → s < length bits.old.rows
-        → has_bit bits.new s t ≡ (has_bit bits.old s t || (has_bit bits.old s k && has_bit bits.old k t)) }
+        → has_bit bits.new s t ≡ (has_bit bits.old s t ||
+        (has_bit bits.old s k && has_bit bits.old k t)) }
 {
     for s in 0..bits.rows() {
         if s != k && is_set(bits, s, k) {
@@ -79,7 +81,8 @@ pub fn close(bits: &mut Grid<u64>)
     ensures count { length bits.new.rows ≡ length bits.old.rows }
     ensures cols { bits.new.cols ≡ bits.old.cols }
     ensures rows { (s t : ℕ) → s < length bits.old.rows
-        → IsTrue (has_bit bits.new s t) ↔ LeadsThrough (length bits.old.rows) (λ a b. IsTrue (has_bit bits.old a b)) s t }
+        → IsTrue (has_bit bits.new s t) ↔ LeadsThrough (length bits.old.rows) (λ a b. IsTrue
+        (has_bit bits.old a b)) s t }
 {
     for k in 0..bits.rows() {
         go_through(bits, k);
@@ -89,7 +92,8 @@ pub fn close(bits: &mut Grid<u64>)
 /// How many bits of the words are set.
 pub fn count_set(words: &[u64]) -> u32
     requires { length words.now ≤ 1024 }
-    ensures exact { result ≡ count_by (bit_in words.now) (range_with_len 0 (length words.now * 64)) }
+    ensures exact { result ≡ count_by (bit_in words.now)
+        (range_with_len 0 (length words.now * 64)) }
     ensures few { result ≤ length words.now * 64 }
 {
     let mut total = 0;

@@ -1,4 +1,5 @@
-ghost use Rattle.std.specs.Prelude.{◌≡◌, ◌≢◌, ◌<◌, ◌≤◌, ◌*◌, ◌⊎◌, ◌↔◌, ℕ, false, IsTrue, IfOk, length};
+ghost use Rattle.std.specs.Prelude.{◌≡◌, ◌≢◌, ◌<◌, ◌≤◌, ◌*◌, ◌⊎◌, ◌↔◌, ℕ, false, IsTrue, IfOk};
+ghost use Rattle.std.specs.Prelude.{length};
 ghost use Rattle.rp_evidence.specs.Count.{IsCount, IsNumberOf};
 ghost use Rattle.rp_evidence.specs.Preference.{IsLevel};
 ghost use Rattle.rp_evidence.specs.Walk.{Reaches};

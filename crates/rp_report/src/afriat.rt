@@ -32,7 +32,8 @@ pub(crate) fn push_afriat(
 
 /// Appends the lines of the numbers.
 fn push_model(alloc: Global, out: &mut Vec<u8>, numbers: &Numbers) -> Result<(), NoMemory>
-    ensures { OnOk result (out.new.items ≡ out.old.items ++ line_of (codes "utility " ++ sums_text numbers.now.u)
+    ensures { OnOk result (out.new.items
+        ≡ out.old.items ++ line_of (codes "utility " ++ sums_text numbers.now.u)
         ++ line_of (codes "lambda " ++ numbers_text numbers.now.lambda)) }
 {
     push_sums(alloc, out, b"utility ", numbers.u.as_slice())?;

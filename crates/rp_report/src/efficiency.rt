@@ -1,5 +1,6 @@
 ghost use Rattle.std.specs.Prelude.{◌≡◌, ◌++◌, OnOk, codes};
-ghost use Rattle.rp_report.specs.EfficiencyText.{above_text, at_text, attained_text, efficiency_text, level_text};
+ghost use Rattle.rp_report.specs.EfficiencyText.{above_text, at_text, attained_text};
+ghost use Rattle.rp_report.specs.EfficiencyText.{efficiency_text, level_text};
 ghost use Rattle.rp_report.specs.ListText.{line_of};
 
 use crate::lists::{push_line, push_numbers, push_observations};

@@ -2,7 +2,8 @@ ghost use Rattle.std.specs.Prelude.{◌≡◌, ◌+◌, ◌++◌, ◌∷◌, [],
 ghost use Rattle.std.specs.List.{flat_map};
 ghost use Rattle.std.specs.Fmt.{decimal, signed_decimal};
 ghost use Rattle.rp_num.specs.Fraction.{fraction_text};
-ghost use Rattle.rp_report.specs.ListText.{fractions_text, line_of, list_text, numbers_text, observation_text, observations_text, sums_text};
+ghost use Rattle.rp_report.specs.ListText.{fractions_text, line_of, list_text, numbers_text};
+ghost use Rattle.rp_report.specs.ListText.{observation_text, observations_text, sums_text};
 
 use rp_num::{Frac, NoMemory, print_frac, print_i128, print_u128};
 use std::alloc::Global;

@@ -1,11 +1,9 @@
-//! Tests of the other calls of the library: exact numbers, the outside, preference, walks.
+//! Tests of calls that no verdict is asked of: exact numbers, grids, and the outside.
 #![tactic(auto)]
 
+#[cfg(test)]
+mod grids;
 #[cfg(test)]
 mod numbers;
 #[cfg(test)]
 mod outside;
-#[cfg(test)]
-mod preference;
-#[cfg(test)]
-mod walks;

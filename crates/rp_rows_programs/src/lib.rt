@@ -1,5 +1,8 @@
-//! Tests of linear programs: the run's outcomes on worked programs, and each condition of a check.
+//! Tests of linear programs: the run's outcomes on worked programs and on programs at their limits, and each condition of
+//! a check.
 #![tactic(auto)]
 
+#[cfg(test)]
+mod large_programs;
 #[cfg(test)]
 mod programs;

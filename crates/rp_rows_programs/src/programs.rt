@@ -114,7 +114,7 @@ fn told(alloc: Global, outcome: &Outcome) -> Result<String, Fail> {
 }
 
 /// The outcome of the program, and whether the checks take its evidence.
-fn outcome(
+pub(crate) fn outcome(
     rt: &impl Abort,
     alloc: Global,
     a: &[i64],

@@ -6,4 +6,7 @@ mod command;
 #[cfg(test)]
 mod faults;
 #[cfg(test)]
+mod limits;
+#[cfg(test)]
 mod statuses;
+mod utility;

@@ -3,6 +3,7 @@ use Rattle.std.proofs.Common.{◌≡◌, ℕ, zero, suc, ◌+◌, ◌<◌, List,
 use Rattle.std.proofs.lemmas.Bool.{lt-ltb}
 use Rattle.std.proofs.lemmas.List.{length-replicate}
 use Rattle.std.specs.Option.{ForSome}
+use Rattle.std.specs.Prelude.{unwrap_or}
 use Rattle.rp_run.specs.CommandLine.{Line, files_of}
 use Rattle.rp_run.specs.Answers.{Files, IsContent, AreContents, HasInput}
 use Rattle.rp_run.specs.Inputs.{Input, input_of, and_then, numbers_in, all_bytes, most_bytes}
@@ -47,3 +48,59 @@ one_cause files rose line file reading over (Read name) named denoted (same, up)
 one_cause files rose line file reading over (Refused text) named denoted (bytes, content, refused) =
     ((λ _. bytes), one_content files line file bytes named content, denoted (λ _. bytes) ∙ ap (λ r. and_then r (λ v. Ok (over v))) refused)
 one_cause files rose line file reading over NoMemory named denoted none = tt
+
+-- the contents of two files
+pub two_bytes : List ℕ → List ℕ → ℕ → List ℕ
+two_bytes first second zero = first
+two_bytes first second (suc k) = second
+
+two_of : (files : Files) (f s first second : List ℕ) → IsContent files f first → IsContent files s second → (k : ℕ) → k < length (f ∷ s ∷ []) → IsContent files (slice_index_or (f ∷ s ∷ []) k []) (two_bytes first second k)
+unfolding two_bytes
+two_of files f s first second one two zero within = one
+two_of files f s first second one two (suc zero) within = two
+two_of files f s first second one two (suc (suc k)) within = let none : ⊥ = omega (arith, within) in absurd none
+
+two_contents : (files : Files) (line : Line) (f s first second : List ℕ) → files_of line ≡ f ∷ s ∷ [] → IsContent files f first → IsContent files s second → AreContents files line (two_bytes first second)
+two_contents files line f s first second named one two =
+    subst (λ (names : List (List ℕ)). (k : ℕ) → k < length names → IsContent files (slice_index_or names k []) (two_bytes first second k)) (sym named) (two_of files f s first second one two)
+
+-- some content of a file
+some_content : (told : Option (List ℕ)) → ForSome told (λ t. unwrap_or told [] ≡ t)
+some_content None t is = cc
+some_content (Some bytes) t is = cc
+
+-- a cause and a value of a file, for files of the same contents and counts that rose since earlier
+pub moved_cause : {A : Type 0} (files later : Files) (rose since : List ℕ → Type 0) (file : List ℕ) (reading : List ℕ → Result A (List ℕ)) (why : Cause)
+    → later file ≡ files file → (since file → rose file) → IsFileCause later since file reading why → IsFileCause files rose file reading why
+moved_cause files later rose since file reading (Read name) same up (is, rises) = (is, up rises)
+moved_cause files later rose since file reading (Refused line) same up (bytes, content, refused) = (bytes, (λ told is. content told (same ∙ is)), refused)
+moved_cause files later rose since file reading NoMemory same up none = tt
+
+pub moved_value : {A : Type 0} (files later : Files) (file : List ℕ) (reading : List ℕ → Result A (List ℕ)) (value : A)
+    → later file ≡ files file → HoldsValue later file reading value → HoldsValue files file reading value
+moved_value files later file reading value same (bytes, content, read) = (bytes, (λ told is. content told (same ∙ is)), read)
+
+module _ {A B : Type 0} (files : Files) (rose : List ℕ → Type 0) (line : Line) (f s : List ℕ) (reading : List ℕ → Result A (List ℕ)) (after : A → List ℕ → Result B (List ℕ)) (over : A → B → Input)
+    (named : files_of line ≡ f ∷ s ∷ []) (denoted : (bytes : ℕ → List ℕ) → input_of line bytes ≡ and_then (reading (bytes 0)) (λ a. and_then (after a (bytes 1)) (λ b. Ok (over a b)))) where
+  -- a line over two files has the input that they give
+  pub two_input : (a : A) (b : B) → HoldsValue files f reading a → HoldsValue files s (after a) b → HasInput files line (over a b)
+  unfolding two_bytes
+  two_input a b (first, one, read) (second, two, then_read) =
+      (two_bytes first second, two_contents files line f s first second named one two, denoted (two_bytes first second) ∙ rw (read, then_read) refl)
+
+  -- or the cause why the first gives none, whatever the second holds
+  pub first_cause : (why : Cause) → IsFileCause files rose f reading why → IsCause files rose line why
+  unfolding two_bytes
+  first_cause (Read name) (same, up) = rw (named, same) ((0, lit< tt, refl), up)
+  first_cause (Refused text) (first, one, refused) =
+      let second = unwrap_or (files s) [] in
+      (two_bytes first second, two_contents files line f s first second named one (some_content (files s)), denoted (two_bytes first second) ∙ rw refused refl)
+  first_cause NoMemory none = tt
+
+  -- or the cause why the second gives none
+  pub second_cause : (a : A) (why : Cause) → HoldsValue files f reading a → IsFileCause files rose s (after a) why → IsCause files rose line why
+  unfolding two_bytes
+  second_cause a (Read name) held (same, up) = rw (named, same) ((1, lit< tt, refl), up)
+  second_cause a (Refused text) (first, one, read) (second, two, refused) =
+      (two_bytes first second, two_contents files line f s first second named one two, denoted (two_bytes first second) ∙ rw (read, refused) refl)
+  second_cause a NoMemory held none = tt

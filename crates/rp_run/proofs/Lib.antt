@@ -2,3 +2,4 @@ pub mod FileLemmas
 pub mod GainsLemmas
 pub mod PassedOn
 pub mod RunLemmas
+mod UtilityLemmas

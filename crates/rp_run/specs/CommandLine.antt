@@ -1,5 +1,5 @@
 -- What a list of words asks for (this program's own commands). The first word is the program's name.
-use Rattle.std.specs.Prelude.{ℕ, Bool, false, not, ◌==◌, List, [], ◌∷◌, Option, Some, None, if◌then◌else◌, codes, map, slice_index_or, string_bytes}
+use Rattle.std.specs.Prelude.{ℕ, Bool, false, not, ◌==◌, ◌&&◌, List, [], ◌∷◌, Option, Some, None, if◌then◌else◌, codes, map, slice_index_or, string_bytes}
 use Rattle.std.specs.Str.{bytes_eq}
 use Rattle.std.specs.declared.string.String.{String}
 
@@ -9,11 +9,14 @@ pub data Line : Type 0 where
   Pairs : (table : List ℕ) → Line
   -- the verdicts on a table, with their evidence
   Analyse : (table : List ℕ) → Line
+  -- the utility of bundles under the numbers that a table gives
+  Utility : (table bundles : List ℕ) → Line
 
 -- the files of a line, in the order of the words
 abbrev pub files_of : Line → List (List ℕ)
 files_of (Pairs table) = table ∷ []
 files_of (Analyse table) = table ∷ []
+files_of (Utility table bundles) = table ∷ bundles ∷ []
 
 -- the k-th file of a line, from 0
 abbrev pub file_at : Line → ℕ → List ℕ
@@ -30,9 +33,15 @@ table_line command file =
     if bytes_eq command (codes "pairs") then Some (Pairs file)
     else (if bytes_eq command (codes "analyse") then Some (Analyse file) else None)
 
+-- the line of a command over a table and another file
+abbrev pub beside_line : List ℕ → List ℕ → List ℕ → Option Line
+beside_line command table file = if bytes_eq command (codes "utility") then Some (Utility table file) else None
+
 -- the line that the words denote, or none
 abbrev pub line_of : List (List ℕ) → Option Line
 line_of (_ ∷ command ∷ file ∷ []) = if is_file_name file then table_line command file else None
+line_of (_ ∷ command ∷ table ∷ file ∷ []) =
+    if is_file_name table && is_file_name file then beside_line command table file else None
 line_of _ = None
 
 -- the same of words as strings

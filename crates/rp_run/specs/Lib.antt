@@ -2,8 +2,10 @@ pub mod FaultTexts
 pub mod FaultLines
 pub mod PairsText
 pub mod Analysis
+pub mod UtilityText
 pub mod CommandLine
 pub mod Inputs
+pub mod Matching
 pub mod Answers
 pub mod Endings
 pub mod Gains

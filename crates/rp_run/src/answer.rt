@@ -2,6 +2,7 @@ ghost use Rattle.std.specs.Prelude.{◌≡◌, ◌≤◌, ℕ, List, IfOk, IfErr
 ghost use Rattle.rp_run.specs.Answers.{Answers, AnswersLine};
 ghost use Rattle.rp_run.specs.Endings.{Rose};
 ghost use Rattle.rp_run.specs.Causes.{IsCause};
+ghost use Rattle.rp_run.specs.Matching.{HasMatchingGoods};
 ghost use Rattle.rp_run.specs.Named.{named_line, named_input};
 
 use crate::files::Cause;
@@ -9,6 +10,7 @@ use crate::input::{Input, read_input};
 use crate::line::Line;
 use crate::status::Status;
 use crate::text::{analysis_text, pairs_text};
+use crate::utilities::utility_text;
 use rp_num::NoMemory;
 use rp_outside::Desk;
 use rp_table::Costs;
@@ -44,6 +46,7 @@ pub(crate) fn answer_line<'a, D: Desk>(
 
 /// The answer to an input.
 fn answer_over(alloc: Global, input: &Input) -> Result<Answer, NoMemory>
+    requires { HasMatchingGoods (named_input input.now) }
     ensures { IfOk result (λ answer.
         Answers (named_input input.now) answer.status answer.text.items) }
 {
@@ -55,6 +58,10 @@ fn answer_over(alloc: Global, input: &Input) -> Result<Answer, NoMemory>
         Input::Analyse(table) => {
             let costs = Costs::of(alloc, table)?;
             Ok(done(analysis_text(alloc, table, &costs)?))
+        }
+        Input::Utility(table, bundles) => {
+            let costs = Costs::of(alloc, table)?;
+            Ok(done(utility_text(alloc, table, &costs, bundles)?))
         }
     }
 }

@@ -1,5 +1,6 @@
 ghost use Rattle.std.specs.Prelude.{◌≡◌, ◌++◌, ℕ, ◌^◌, ◌<◌, ◌≤◌, List, IfOk, IfErr, length, codes};
-ghost use Rattle.rp_text.specs.Denotation.{table_in};
+ghost use Rattle.rp_table.specs.Tables.{goods_of};
+ghost use Rattle.rp_text.specs.Denotation.{table_in, bundles_beside};
 ghost use Rattle.rp_run.specs.FaultLines as text;
 ghost use Rattle.rp_run.specs.Answers.{IsContent};
 ghost use Rattle.rp_run.specs.Endings.{Rose};
@@ -9,8 +10,8 @@ ghost use Rattle.rp_run.specs.Causes.{IsRefusal, IsRefusalOf, IsFileCause, IsLoa
 use crate::fault_text::text_of_fault;
 use rp_num::NoMemory;
 use rp_outside::{Desk, LoadFault, load};
-use rp_table::Table;
-use rp_text::{TableFault, read_table};
+use rp_table::{Bundles, Table};
+use rp_text::{TableFault, read_bundles, read_table};
 use std::alloc::Global;
 
 /// The most bytes of a file of numbers.
@@ -40,6 +41,26 @@ pub(crate) fn load_table<'a, D: Desk>(
     let bytes = load_numbers(alloc, desk, file)?;
     match read_table(alloc, bytes.as_slice()) {
         Ok(table) => Ok(table),
+        Err(fault) => Err(refusal(alloc, file, fault)),
+    }
+}
+
+/// The bundles in a file beside a table.
+pub(crate) fn load_bundles<'a, D: Desk>(
+    alloc: Global,
+    desk: &mut D,
+    file: &'a str,
+    table: &Table,
+) -> Result<Bundles, Cause<'a>>
+    ensures loaded { IsLoaded (D.bytes desk.old) (Rose (D.faults desk.old) (D.faults desk.new))
+        file.now (numbers_in file.now (bundles_beside table.now)) result }
+    ensures goods { IfOk result (λ bundles. bundles.goods ≡ goods_of table.now) }
+    ensures bytes_stay { (other : List ℕ) → D.bytes desk.new other ≡ D.bytes desk.old other }
+    ensures never_falls { (other : List ℕ) → D.faults desk.old other ≤ D.faults desk.new other }
+{
+    let bytes = load_numbers(alloc, desk, file)?;
+    match read_bundles(alloc, bytes.as_slice(), table) {
+        Ok(bundles) => Ok(bundles),
         Err(fault) => Err(refusal(alloc, file, fault)),
     }
 }

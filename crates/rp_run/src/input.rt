@@ -1,13 +1,17 @@
 ghost use Rattle.std.specs.Prelude.{◌≡◌, ◌≤◌, ℕ, List, IfOk, IfErr};
+ghost use Rattle.rp_run.specs.CommandLine.{Utility};
+ghost use Rattle.rp_run.specs.Inputs.{UtilityOver};
+ghost use Rattle.rp_run.specs.Matching.{HasMatchingGoods};
+ghost use Rattle.rp_table.specs.Tables.{goods_of};
 ghost use Rattle.rp_run.specs.Answers.{HasInput};
 ghost use Rattle.rp_run.specs.Endings.{Rose};
 ghost use Rattle.rp_run.specs.Causes.{IsCause};
 ghost use Rattle.rp_run.specs.Named.{named_line, named_input};
 
-use crate::files::{Cause, load_table};
+use crate::files::{Cause, load_bundles, load_table};
 use crate::line::Line;
 use rp_outside::Desk;
-use rp_table::Table;
+use rp_table::{Bundles, Table};
 use std::alloc::Global;
 
 /// A command over what its files hold.
@@ -15,6 +19,7 @@ use std::alloc::Global;
 pub(crate) enum Input {
     Pairs(Table),
     Analyse(Table),
+    Utility(Table, Bundles),
 }
 
 /// What a line asks over its files, which are read in the order of the words, each whole before the next.
@@ -25,6 +30,7 @@ pub(crate) fn read_input<'a, D: Desk>(
 ) -> Result<Input, Cause<'a>>
     ensures read { IfOk result
         (λ input. HasInput (D.bytes desk.old) (named_line line.entry) (named_input input)) }
+    ensures goods { IfOk result (λ input. HasMatchingGoods (named_input input)) }
     ensures caused { IfErr result
         (IsCause (D.bytes desk.old) (Rose (D.faults desk.old) (D.faults desk.new))
         (named_line line.entry)) }
@@ -34,5 +40,30 @@ pub(crate) fn read_input<'a, D: Desk>(
     match line {
         Line::Pairs { table } => Ok(Input::Pairs(load_table(alloc, desk, table)?)),
         Line::Analyse { table } => Ok(Input::Analyse(load_table(alloc, desk, table)?)),
+        Line::Utility { table, bundles } => {
+            let (table, bundles) = load_table_bundles(alloc, desk, table, bundles)?;
+            Ok(Input::Utility(table, bundles))
+        }
     }
+}
+
+/// The table in one file, and the bundles beside it in another.
+fn load_table_bundles<'a, D: Desk>(
+    alloc: Global,
+    desk: &mut D,
+    first: &'a str,
+    second: &'a str,
+) -> Result<(Table, Bundles), Cause<'a>>
+    ensures read { IfOk result (λ both.
+        HasInput (D.bytes desk.old) (Utility first.now second.now) (UtilityOver both.0 both.1)) }
+    ensures goods { IfOk result (λ both. both.1.goods ≡ goods_of both.0) }
+    ensures caused { IfErr result
+        (IsCause (D.bytes desk.old) (Rose (D.faults desk.old) (D.faults desk.new))
+        (Utility first.now second.now)) }
+    ensures bytes_stay { (other : List ℕ) → D.bytes desk.new other ≡ D.bytes desk.old other }
+    ensures never_falls { (other : List ℕ) → D.faults desk.old other ≤ D.faults desk.new other }
+{
+    let table = load_table(alloc, desk, first)?;
+    let bundles = load_bundles(alloc, desk, second, &table)?;
+    Ok((table, bundles))
 }

@@ -11,6 +11,7 @@ mod status;
 mod sure;
 mod telling;
 mod text;
+mod utilities;
 
 pub use running::run;
 pub use status::Status;

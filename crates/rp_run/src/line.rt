@@ -1,5 +1,5 @@
 ghost use Rattle.std.specs.Prelude.{◌≡◌, map, option_map, string_bytes};
-ghost use Rattle.rp_run.specs.CommandLine.{line_of, table_line, is_file_name};
+ghost use Rattle.rp_run.specs.CommandLine.{line_of, table_line, beside_line, is_file_name};
 ghost use Rattle.rp_run.specs.FaultLines.{usage_text};
 ghost use Rattle.rp_run.specs.Named.{named_line};
 
@@ -8,13 +8,14 @@ ghost use Rattle.rp_run.specs.Named.{named_line};
 pub(crate) enum Line<'a> {
     Pairs { table: &'a str },
     Analyse { table: &'a str },
+    Utility { table: &'a str, bundles: &'a str },
 }
 
 /// How the program is called.
 pub(crate) fn usage() -> &'static [u8]
     ensures { result.now ≡ usage_text }
 {
-    b"usage: rp pairs TABLE\n       rp analyse TABLE\n"
+    b"usage: rp pairs TABLE\n       rp analyse TABLE\n       rp utility TABLE BUNDLES\n"
 }
 
 /// The line that the words denote. The first word is the program's name.
@@ -25,7 +26,24 @@ pub(crate) fn read_line(words: &[String]) -> Option<Line<'_>>
         [_, command, file] if names_file(file.as_str()) => {
             read_table_line(command.as_str(), file.as_str())
         }
+        [_, command, table, file] if names_file(table.as_str()) && names_file(file.as_str()) => {
+            read_beside_line(command.as_str(), table.as_str(), file.as_str())
+        }
         _ => None,
+    }
+}
+
+/// The line of a command over a table and another file.
+fn read_beside_line<'a>(command: &str, table: &'a str, file: &'a str) -> Option<Line<'a>>
+    ensures { option_map named_line result ≡ beside_line command.now table.now file.now }
+{
+    if command == "utility" {
+        Some(Line::Utility {
+            table,
+            bundles: file,
+        })
+    } else {
+        None
     }
 }
 

@@ -79,7 +79,8 @@ fn certificate(
     homothetic: Homothetic,
     quasilinear: Quasi,
 ) -> Result<Certificate, NoMemory>
-    ensures { IfOk result (λ made. made ≡ certificate_of garp afriat efficiency homothetic quasilinear) }
+    ensures { IfOk result (λ made. made
+        ≡ certificate_of garp afriat efficiency homothetic quasilinear) }
 {
     let mut items = Vec::new(alloc);
     items.push(Item::Garp(garp))?;

@@ -14,5 +14,6 @@ pub fn the_run_is_determined()
 
 /// The last tableau of a run shows an equal pair, or a feasible point and a ray, and so decides the program.
 pub fn outcomes_are_evidence()
-    ensures { (p : LinearProgram) (o : Outcome) → IsWithinLimits p → IsOutcome p o → IsEvidence p o }
+    ensures { (p : LinearProgram) (o : Outcome) → IsWithinLimits p → IsOutcome p o
+        → IsEvidence p o }
 {}

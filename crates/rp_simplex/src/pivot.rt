@@ -1,5 +1,7 @@
 ghost use Prim.Native.Nat.{◌∣◌};
-ghost use Rattle.std.specs.Prelude.{◌≡◌, ◌≢◌, ℕ, ◌+◌, ◌*◌, ◌^◌, ◌<◌, ◌≤◌, ℤ, pos, ◌-ℤ◌, ◌*ℤ◌, ◌<ℤ◌, All, IfOk, MatchOption, length, vec_len, slice_index, slice_index_or};
+ghost use Rattle.std.specs.Prelude.{◌≡◌, ◌≢◌, ℕ, ◌+◌, ◌*◌, ◌^◌, ◌<◌, ◌≤◌, ℤ, pos, ◌-ℤ◌, ◌*ℤ◌, ◌<ℤ◌};
+ghost use Rattle.std.specs.Prelude.{All, IfOk, MatchOption, length, vec_len, slice_index};
+ghost use Rattle.std.specs.Prelude.{slice_index_or};
 ghost use Rattle.std.specs.Int.RustNames.{unsigned_abs};
 ghost use Rattle.rp_farkas.specs.Limits.{FitsEvidence};
 ghost use Rattle.rp_simplex.specs.Pivot.{cleared, IsPivot, PivotPasses};
@@ -90,10 +92,12 @@ fn quotients(alloc: Global, entries: &[i128], divisor: u128) -> Result<Option<Ve
     requires fit { All (λ z. unsigned_abs z < 2 ^ 127) entries.now }
     ensures length { IfOk result (λ o. MatchOption o Unit (λ v. vec_len v ≡ length entries.now)) }
     ensures entries { IfOk result (λ o. MatchOption o
-        ((k : ℕ) × (k < length entries.now) × (2 ^ 63 * divisor ≤ unsigned_abs (slice_index_or entries.now k (pos 0))))
+        ((k : ℕ) × (k < length entries.now) × (2 ^ 63 * divisor ≤ unsigned_abs
+        (slice_index_or entries.now k (pos 0))))
         (λ v. (k : ℕ) → k < length entries.now
         → slice_index_or entries.now k (pos 0) ≡ slice_index_or v.items k (pos 0) *ℤ pos divisor)) }
-    ensures fit { IfOk result (λ o. MatchOption o Unit (λ v. All (λ z. FitsEvidence (unsigned_abs z)) v.items)) }
+    ensures fit { IfOk result
+        (λ o. MatchOption o Unit (λ v. All (λ z. FitsEvidence (unsigned_abs z)) v.items)) }
 {
     let mut reduced = Vec::new(alloc);
     for entry in entries {
@@ -136,7 +140,8 @@ pub fn pivoted(alloc: Global, t: &Tableau, r: usize, c: usize) -> Result<Option<
     requires pivot_row { r < t.now.rows }
     requires pivot_column { c < t.now.width }
     requires pivot_entry { pos 0 <ℤ (exact t.now).at r c }
-    ensures next { IfOk result (λ o. MatchOption o (PivotPasses t.now.rows t.now.width (exact t.now) r c)
+    ensures next { IfOk result
+        (λ o. MatchOption o (PivotPasses t.now.rows t.now.width (exact t.now) r c)
         (λ u. IsPivot t.now.rows t.now.width (exact t.now) r c (exact u))) }
     ensures shape { IfOk result (λ o. MatchOption o Unit
         (λ u. (u.rows ≡ t.now.rows) × (u.width ≡ t.now.width))) }

@@ -1,4 +1,5 @@
-ghost use Rattle.std.specs.Prelude.{◌≡◌, ◌≢◌, ℕ, suc, ◌+◌, ◌<◌, ◌≤◌, pos, neg_ℤ, ◌≤ℤ◌, All, IfOk, MatchOption, length, vec_len, slice_index};
+ghost use Rattle.std.specs.Prelude.{◌≡◌, ◌≢◌, ℕ, suc, ◌+◌, ◌<◌, ◌≤◌, pos, neg_ℤ, ◌≤ℤ◌, All, IfOk};
+ghost use Rattle.std.specs.Prelude.{MatchOption, length, vec_len, slice_index};
 ghost use Rattle.rp_farkas.specs.Limits.{FitsEvidence, most_columns};
 ghost use Rattle.rp_farkas.specs.Listing.{IsListing, numerator_at};
 ghost use Rattle.rp_simplex.specs.Inner.{HasDistinctBasis};
@@ -29,7 +30,8 @@ fn point_at(t: &Tableau, column: usize) -> u64
     requires wide { 0 < t.now.width }
     requires distinct { HasDistinctBasis t.now.rows (exact t.now) }
     requires sides { (i : ℕ) → i < t.now.rows → pos 0 ≤ℤ (exact t.now).at i 0 }
-    ensures basic { (i : ℕ) → i < t.now.rows → (exact t.now).basis i ≡ column → pos result ≡ (exact t.now).at i 0 }
+    ensures basic { (i : ℕ) → i < t.now.rows → (exact t.now).basis i ≡ column → pos result
+        ≡ (exact t.now).at i 0 }
     ensures others { ((i : ℕ) → i < t.now.rows → (exact t.now).basis i ≢ column) → result ≡ 0 }
     ensures fits { FitsEvidence result }
 {
@@ -48,7 +50,8 @@ fn ray_at(t: &Tableau, c: usize, column: usize) -> u64
     ensures basic { (i : ℕ) → i < t.now.rows → (exact t.now).basis i ≡ column
         → pos result ≡ neg_ℤ ((exact t.now).at i c) }
     ensures entering { c ≡ column → pos result ≡ pos t.now.den }
-    ensures others { ((i : ℕ) → i < t.now.rows → (exact t.now).basis i ≢ column) → c ≢ column → result ≡ 0 }
+    ensures others { ((i : ℕ) → i < t.now.rows → (exact t.now).basis i ≢ column) → c ≢ column
+        → result ≡ 0 }
     ensures fits { FitsEvidence result }
 {
     if column == c {
@@ -149,7 +152,8 @@ pub fn ray(alloc: Global, t: &Tableau, c: usize, cols: usize) -> Result<Seq<Entr
 /// The prices that the tableau shows: the slack entries of its objective row.
 pub fn prices(alloc: Global, t: &Tableau) -> Result<Seq<u64>, NoMemory>
     requires wide { t.now.rows < t.now.width }
-    requires not_negative { (s : ℕ) → s < t.now.rows → pos 0 ≤ℤ (exact t.now).at t.now.rows (suc s) }
+    requires not_negative { (s : ℕ) → s < t.now.rows → pos 0
+        ≤ℤ (exact t.now).at t.now.rows (suc s) }
     ensures length { IfOk result (λ x. length x ≡ t.now.rows) }
     ensures read { IfOk result (λ x. (s : ℕ) → s < t.now.rows
         → pos (slice_index x s) ≡ (exact t.now).at t.now.rows (suc s)) }

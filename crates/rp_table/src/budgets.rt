@@ -21,13 +21,15 @@ impl Model for Budgets {
 
     ghost view = { λ b. record { names = b.names.items; prices = b.prices.items; w = b.w.items } };
 
-    ghost invariant = { λ b. IsBudgetList (record { names = b.names.items; prices = b.prices.items; w = b.w.items }) };
+    ghost invariant = { λ b. IsBudgetList
+        (record { names = b.names.items; prices = b.prices.items; w = b.w.items }) };
 }
 
 impl Budgets {
     /// Prices stand by budget and then by good.
     pub fn make(names: Vec<Name>, prices: Vec<u32>, w: Vec<u64>) -> Budgets
-        requires { IsBudgetList (record { names = names.items; prices = prices.items; w = w.items }) }
+        requires { IsBudgetList (record
+            { names = names.items; prices = prices.items; w = w.items }) }
         ensures { result ≡ record { names = names.items; prices = prices.items; w = w.items } }
     {
         Budgets { names, prices, w }

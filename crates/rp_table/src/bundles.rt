@@ -20,7 +20,8 @@ impl Model for Bundles {
 
     ghost view = { λ b. record { goods = b.goods; quantities = b.quantities.items } };
 
-    ghost invariant = { λ b. IsBundleList (record { goods = b.goods; quantities = b.quantities.items }) };
+    ghost invariant = { λ b. IsBundleList
+        (record { goods = b.goods; quantities = b.quantities.items }) };
 }
 
 impl Bundles {

@@ -20,16 +20,41 @@ impl Model for Choices {
 
     ghost Value = { ChoiceList };
 
-    ghost view = { λ c. record { goods = c.goods; budget = c.budget.items; quantities = c.quantities.items; times = c.times.items } };
+    ghost view = { λ c. record {
+      goods = c.goods;
+      budget = c.budget.items;
+      quantities = c.quantities.items;
+      times =
+          c.times.items;
+    } };
 
-    ghost invariant = { λ c. IsChoiceList (record { goods = c.goods; budget = c.budget.items; quantities = c.quantities.items; times = c.times.items }) };
+    ghost invariant = { λ c. IsChoiceList
+        (record {
+          goods = c.goods;
+          budget = c.budget.items;
+          quantities = c.quantities.items;
+          times =
+              c.times.items;
+        }) };
 }
 
 impl Choices {
     /// Budgets are numbered from 0, and quantities stand by choice and then by good.
     pub fn make(goods: u32, budget: Vec<u32>, quantities: Vec<u32>, times: Vec<u32>) -> Choices
-        requires { IsChoiceList (record { goods = goods; budget = budget.items; quantities = quantities.items; times = times.items }) }
-        ensures { result ≡ record { goods = goods; budget = budget.items; quantities = quantities.items; times = times.items } }
+        requires { IsChoiceList (record {
+          goods = goods;
+          budget = budget.items;
+          quantities = quantities.items;
+          times =
+              times.items;
+        }) }
+        ensures { result ≡ record {
+          goods = goods;
+          budget = budget.items;
+          quantities = quantities.items;
+          times =
+              times.items;
+        } }
     {
         Choices {
             goods,

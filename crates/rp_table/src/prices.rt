@@ -21,7 +21,8 @@ impl Model for Prices {
 
     ghost view = { λ p. record { goods = p.goods; prices = p.prices.items; m = p.m.items } };
 
-    ghost invariant = { λ p. IsPriceList (record { goods = p.goods; prices = p.prices.items; m = p.m.items }) };
+    ghost invariant = { λ p. IsPriceList
+        (record { goods = p.goods; prices = p.prices.items; m = p.m.items }) };
 }
 
 impl Prices {

@@ -19,9 +19,22 @@ impl Model for Table {
 
     ghost Value = { Observations };
 
-    ghost view = { λ t. record { names = t.names.items; prices = t.prices.items; quantities = t.quantities.items; price_places = t.price_places; quantity_places = t.quantity_places } };
+    ghost view = { λ t. record {
+      names = t.names.items;
+      prices = t.prices.items;
+      quantities = t.quantities.items;
+      price_places = t.price_places;
+      quantity_places = t.quantity_places;
+    } };
 
-    ghost invariant = { λ t. IsTable (record { names = t.names.items; prices = t.prices.items; quantities = t.quantities.items; price_places = t.price_places; quantity_places = t.quantity_places }) };
+    ghost invariant = { λ t. IsTable
+        (record {
+          names = t.names.items;
+          prices = t.prices.items;
+          quantities = t.quantities.items;
+          price_places = t.price_places;
+          quantity_places = t.quantity_places;
+        }) };
 }
 
 impl Table {
@@ -33,8 +46,20 @@ impl Table {
         price_places: u8,
         quantity_places: u8,
     ) -> Table
-        requires { IsTable (record { names = names.items; prices = prices.items; quantities = quantities.items; price_places = price_places; quantity_places = quantity_places }) }
-        ensures { result ≡ record { names = names.items; prices = prices.items; quantities = quantities.items; price_places = price_places; quantity_places = quantity_places } }
+        requires { IsTable (record {
+          names = names.items;
+          prices = prices.items;
+          quantities = quantities.items;
+          price_places = price_places;
+          quantity_places = quantity_places;
+        }) }
+        ensures { result ≡ record {
+          names = names.items;
+          prices = prices.items;
+          quantities = quantities.items;
+          price_places = price_places;
+          quantity_places = quantity_places;
+        } }
     {
         Table {
             names,

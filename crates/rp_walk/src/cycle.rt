@@ -1,4 +1,5 @@
-ghost use Rattle.std.specs.Prelude.{◌≡◌, ℕ, suc, ◌*◌, ◌<◌, IfOk, IfSome, IfNone, All, length, slice_index};
+ghost use Rattle.std.specs.Prelude.{◌≡◌, ℕ, suc, ◌*◌, ◌<◌, IfOk, IfSome, IfNone, All, length};
+ghost use Rattle.std.specs.Prelude.{slice_index};
 ghost use Rattle.rp_walk.specs.ExactTotal.{SameTotal};
 ghost use Rattle.rp_walk.specs.InnerLevels.{Remembers};
 ghost use Rattle.rp_walk.specs.InnerPairs.{NoPartnerBelow};

@@ -1,4 +1,5 @@
-ghost use Rattle.std.specs.Prelude.{◌≡◌, ℕ, ◌<◌, ◌≤◌, IfOk, IfSome, IfNone, vec_len, replicate, slice_index};
+ghost use Rattle.std.specs.Prelude.{◌≡◌, ℕ, ◌<◌, ◌≤◌, IfOk, IfSome, IfNone, vec_len, replicate};
+ghost use Rattle.std.specs.Prelude.{slice_index};
 ghost use Rattle.rp_walk.specs.InnerAdvance.{IsAdvance};
 ghost use Rattle.rp_walk.specs.InnerLevels.{IsTried, StepsFit};
 

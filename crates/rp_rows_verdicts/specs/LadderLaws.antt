@@ -5,7 +5,7 @@ use Rattle.rp_walk.specs.ExactTotal.{ExactTotal, SameTotal}
 use Rattle.rp_walk.specs.LeastTotals.{FitsAlike}
 use Rattle.rp_walk.proofs.Levels.{SameTotal-trans}
 use Rattle.rp_walk.specs.Sums.{whole_total}
-use Rattle.rp_rows_calls.specs.Ladder.{FitsOne}
+use Rattle.rp_rows_verdicts.specs.Ladder.{FitsOne}
 
 pub ones_fit_alike : FitsAlike FitsOne
 ones_fit_alike x y h (z, high, low, same) = (z, high, low, SameTotal-trans y x (whole_total z) (sym h) same)

@@ -1,6 +1,6 @@
 use Rattle.rp_quasi.proofs.Steps.{breaks_tested}
-use Rattle.rp_rows_calls.specs.Ladder.{ladder_cost}
-use Rattle.rp_rows_calls.proofs.walks.LadderTotal.pair_breaks.Goals as goal
+use Rattle.rp_rows_verdicts.specs.Ladder.{ladder_cost}
+use Rattle.rp_rows_verdicts.proofs.walks.LadderTotal.pair_breaks.Goals as goal
 
 pub returns : goal.returns
 returns c =

@@ -1,5 +1,5 @@
 ghost use Rattle.std.specs.Prelude.{◌≡◌, ◌<◌, ◌≤◌};
-ghost use Rattle.rp_rows_calls.specs.Ladder.{ladder_cost};
+ghost use Rattle.rp_rows_verdicts.specs.Ladder.{ladder_cost};
 ghost use Rattle.rp_walk.specs.declared.TheConstants.{MOST_OBSERVATIONS};
 
 use rp_evidence::Quasi;
@@ -39,8 +39,8 @@ impl Total for Ladder {
 
     ghost use Rattle.rp_evidence.specs.Quasilinear.{step_sum};
     ghost use Rattle.rp_quasi.specs.SumLaws.{costs_keep_order, costs_stay};
-    ghost use Rattle.rp_rows_calls.specs.Ladder.{FitsOne, ladder_cost};
-    ghost use Rattle.rp_rows_calls.specs.LadderLaws.{ones_fit_alike};
+    ghost use Rattle.rp_rows_verdicts.specs.Ladder.{FitsOne, ladder_cost};
+    ghost use Rattle.rp_rows_verdicts.specs.LadderLaws.{ones_fit_alike};
     ghost use Rattle.rp_walk.specs.Sums.{sums, whole_total};
 
     ghost rule = { λ a. sums a.n (step_sum ladder_cost) };

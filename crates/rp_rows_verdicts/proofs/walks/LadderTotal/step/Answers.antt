@@ -1,7 +1,7 @@
 use Rattle.std.proofs.Common.{arith}
 use Rattle.std.proofs.lemmas.Int.{ints}
 use Rattle.std.specs.Prelude.{pos, ◌+ℤ◌, ◌-ℤ◌}
-use Rattle.rp_rows_calls.proofs.walks.LadderTotal.step.Goals as goal
+use Rattle.rp_rows_verdicts.proofs.walks.LadderTotal.step.Goals as goal
 
 pub returns-then-sum-geminus1-clause-wide : goal.returns-then-sum-geminus1-clause-wide
 returns-then-sum-geminus1-clause-wide c =

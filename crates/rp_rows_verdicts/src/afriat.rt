@@ -1,0 +1,25 @@
+use rp_afriat::{afriat, utility_at};
+use rp_evidence::AfriatPart;
+use rp_garp::garp;
+use rp_table::Costs;
+use rp_text::read_table;
+use std::test::Fail;
+
+/// Two bundles at the same prices: the utility is what a bundle costs, less 8.
+#[test]
+fn utilities_of_bundles_beside_the_observed_ones(rt: HostRuntime) -> Result<(), Fail> {
+    let alloc = rt.alloc();
+    let table = read_table(alloc, b"p_a,q_a,p_b,q_b\n1,4,1,4\n1,2,1,2\n")?;
+    let costs = Costs::of(alloc, &table)?;
+    let verdict = garp(alloc, &costs)?;
+    match afriat(alloc, &costs, &verdict)? {
+        AfriatPart::Model(numbers) => {
+            assert!(rt; table.goods() == 2);
+            for (bundle, utility) in [([3u32, 3], -2i128), ([4, 4], 0), ([0, 0], -8), ([1, 9], 2)] {
+                assert_eq!(rt; utility_at(&table, &costs, &numbers, &bundle), utility);
+            }
+        }
+        _ => assert!(rt; false, "no model"),
+    }
+    Ok(())
+}
