@@ -1,8 +1,7 @@
 -- The values of a list that is true from a place on.
-use Rattle.std.proofs.Common.{◌≡◌, ◌<◌, ◌≤◌, ◌+◌, ℕ, Bool, true, false, not, ap, sym, ◌∙◌, arith, length}
-use Rattle.std.specs.Prelude.{nat_lt}
+use Rattle.std.proofs.Common.{◌≡◌, ◌<◌, ◌+◌, ℕ, true, false, ap, sym, ◌∙◌, arith, length}
+use Rattle.std.specs.Prelude.{nat_le}
 use Rattle.std.specs.List.{range_with_len}
-use Rattle.std.proofs.lemmas.Bool.{false≢true}
 use Rattle.std.proofs.lemmas.Bool.Decides.{nat_tests}
 use Rattle.std.proofs.lemmas.List.{get_or-map, length-map}
 use Rattle.std.proofs.lemmas.List.FromFn.{get_or-range_with_len, length-range_with_len}
@@ -11,16 +10,16 @@ use Rattle.rp_rows_efficiency.specs.Rising.{values_from}
 
 module _ (first size : ℕ) where
   pub places : length (values_from first size) ≡ size
-  places = length-map (range_with_len 0 size) (λ i. not (nat_lt i first)) ∙ length-range_with_len 0 size
+  places = length-map (range_with_len 0 size) (λ i. nat_le first i) ∙ length-range_with_len 0 size
 
-  pub value_from : (i : ℕ) → i < size → value_at (values_from first size) i ≡ not (nat_lt i first)
+  pub value_from : (i : ℕ) → i < size → value_at (values_from first size) i ≡ nat_le first i
   value_from i l =
       let within : i < length (range_with_len 0 size) = omega (arith, length-range_with_len 0 size) in
       let number : 0 + i ≡ i = omega arith in
-      get_or-map (λ i. not (nat_lt i first)) (range_with_len 0 size) i 0 false within
-      ∙ ap (λ k. not (nat_lt k first)) (get_or-range_with_len 0 size i 0 l ∙ number)
+      get_or-map (λ i. nat_le first i) (range_with_len 0 size) i 0 false within
+      ∙ ap (λ k. nat_le first k) (get_or-range_with_len 0 size i 0 l ∙ number)
 
-  later : (i j : ℕ) → i < j → not (nat_lt i first) ≡ true → not (nat_lt j first) ≡ true
+  later : (i j : ℕ) → i < j → nat_le first i ≡ true → nat_le first j ≡ true
   later i j l e = grind (arith, nat_tests)
 
   pub stays_true : StaysTrue (values_from first size)

@@ -25,11 +25,11 @@ fn push_list(
     text: &mut String,
     word: &str,
     numbers: &[u32],
-    more: u64,
+    more: u8,
 ) -> Result<(), Fail> {
     text.push_str(word)?;
     for number in numbers {
-        let shown = u64::from(*number) + more;
+        let shown = u64::from(*number) + u64::from(more);
         text.push_str(format!(in alloc; " {shown}")?.as_str())?;
     }
     Ok(())
