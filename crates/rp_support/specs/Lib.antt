@@ -1,0 +1,5 @@
+pub mod Bounds
+pub mod Inner
+pub mod Starts
+pub mod Trying
+pub mod Verdict
