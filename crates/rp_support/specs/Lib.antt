@@ -1,3 +1,4 @@
+pub mod Asked
 pub mod Bounds
 pub mod Inner
 pub mod Starts

@@ -6,11 +6,15 @@ use Rattle.rp_evidence.specs.Demand.{BuysWithRest, IsBelow, NewBudget}
 use Rattle.rp_evidence.specs.Input.{TableInput}
 use Rattle.rp_evidence.specs.Preference.{IsStrict, IsWeak}
 use Rattle.rp_evidence.specs.Walk.{Reaches}
-use Rattle.rp_pref.specs.Closure.{Reached, reaches_in}
+use Rattle.rp_pref.specs.Closure.{IsClosureOf, Reached, reaches_in}
 
 -- s is t, or weak steps lead from s to t.
 abbrev pub LeadsOn : TableInput → ℕ → ℕ → Type 0
 LeadsOn input s t = (s ≡ t) ⊎ Reaches input.n (IsWeak input.cost 1 1) s t
+
+-- The pairs are those that walks of one or more weak steps join.
+abbrev pub IsWeakClosureOf : Reached → TableInput → Type 0
+IsWeakClosureOf reached input = IsClosureOf reached input.n (IsWeak input.cost 1 1)
 
 -- A walk from v on is strict: money is left for the bundle of v, or an observation below is strictly preferred to v.
 abbrev pub IsStrictStart : TableInput → NewBudget → ℕ → Type 0

@@ -1,13 +1,11 @@
 ghost use Rattle.std.specs.Prelude.{◌≡◌, ◌<◌, ◌↔◌, ℕ, All, Contains, IfOk, IsTrue, length};
-ghost use Rattle.rp_evidence.specs.Demand.{Buys, NewBudget};
-ghost use Rattle.rp_evidence.specs.DemandEvidence.{budget_of};
+ghost use Rattle.rp_evidence.specs.Demand.{Buys};
 ghost use Rattle.rp_evidence.specs.DemandPrograms.{ListsBelow, ListsStrictlyBelow};
-ghost use Rattle.rp_evidence.specs.Input.{input_of_table};
-ghost use Rattle.rp_evidence.specs.Preference.{IsStrict, IsWeak};
-ghost use Rattle.rp_pref.specs.Closure.{IsClosureOf};
+ghost use Rattle.rp_evidence.specs.Preference.{IsStrict};
 ghost use Rattle.rp_table.specs.Cost.{cost_of};
 ghost use Rattle.rp_table.specs.Tables.{records_of};
-ghost use Rattle.rp_support.specs.Starts.{AreTold, IsLedTo, IsStrictStart, ListsThose};
+ghost use Rattle.rp_support.specs.Asked.{asked_of, input_of};
+ghost use Rattle.rp_support.specs.Starts.{AreTold, IsLedTo, IsStrictStart, IsWeakClosureOf, ListsThose};
 
 use crate::budget::Budget;
 use rp_num::NoMemory;
@@ -16,9 +14,9 @@ use std::alloc::Global;
 
 /// The observations below the budget, in order.
 pub fn below(alloc: Global, budget: &Budget, closure: &Closure) -> Result<Vec<u32>, NoMemory>
-    requires { IsClosureOf closure.now (records_of budget.now.table.now) (IsWeak (cost_of budget.now.table.now) 1 1) }
+    requires { IsWeakClosureOf closure.now (input_of budget.now) }
     ensures { IfOk result (λ below.
-        ListsBelow (input_of_table budget.now.table.now) (budget_of budget.now.prices.now budget.now.m) below.items) }
+        ListsBelow (input_of budget.now) (asked_of budget.now) below.items) }
 {
     let starts = bought(alloc, budget)?;
     led_to(alloc, closure, budget.table.n(), &starts)
@@ -31,10 +29,10 @@ pub fn strictly_below(
     closure: &Closure,
     below: &[u32],
 ) -> Result<Vec<u32>, NoMemory>
-    requires closed { IsClosureOf closure.now (records_of budget.now.table.now) (IsWeak (cost_of budget.now.table.now) 1 1) }
-    requires below { ListsBelow (input_of_table budget.now.table.now) (budget_of budget.now.prices.now budget.now.m) below.now }
+    requires closed { IsWeakClosureOf closure.now (input_of budget.now) }
+    requires below { ListsBelow (input_of budget.now) (asked_of budget.now) below.now }
     ensures { IfOk result (λ strict.
-        ListsStrictlyBelow (input_of_table budget.now.table.now) (budget_of budget.now.prices.now budget.now.m) strict.items) }
+        ListsStrictlyBelow (input_of budget.now) (asked_of budget.now) strict.items) }
 {
     let starts = strict_starts(alloc, budget, below)?;
     led_to(alloc, closure, budget.table.n(), &starts)
@@ -43,7 +41,7 @@ pub fn strictly_below(
 /// Of each observation, whether the budget buys its bundle.
 fn bought(alloc: Global, budget: &Budget) -> Result<Vec<bool>, NoMemory>
     ensures { IfOk result (λ told. AreTold (records_of budget.now.table.now)
-        (Buys (input_of_table budget.now.table.now) (budget_of budget.now.prices.now budget.now.m)) told.items) }
+        (Buys (input_of budget.now) (asked_of budget.now)) told.items) }
 {
     let mut told = Vec::new(alloc);
     for s in 0..budget.table.n() {
@@ -54,9 +52,9 @@ fn bought(alloc: Global, budget: &Budget) -> Result<Vec<bool>, NoMemory>
 
 /// Of each observation, whether a walk from it on is strict.
 fn strict_starts(alloc: Global, budget: &Budget, below: &[u32]) -> Result<Vec<bool>, NoMemory>
-    requires { ListsBelow (input_of_table budget.now.table.now) (budget_of budget.now.prices.now budget.now.m) below.now }
+    requires { ListsBelow (input_of budget.now) (asked_of budget.now) below.now }
     ensures { IfOk result (λ told. AreTold (records_of budget.now.table.now)
-        (IsStrictStart (input_of_table budget.now.table.now) (budget_of budget.now.prices.now budget.now.m)) told.items) }
+        (IsStrictStart (input_of budget.now) (asked_of budget.now)) told.items) }
 {
     let mut told = Vec::new(alloc);
     for v in 0..budget.table.n() {
@@ -67,10 +65,10 @@ fn strict_starts(alloc: Global, budget: &Budget, below: &[u32]) -> Result<Vec<bo
 
 /// Whether a walk from `v` on is strict.
 fn is_strict_start(budget: &Budget, below: &[u32], v: u32) -> bool
-    requires below { ListsBelow (input_of_table budget.now.table.now) (budget_of budget.now.prices.now budget.now.m) below.now }
+    requires below { ListsBelow (input_of budget.now) (asked_of budget.now) below.now }
     requires observed { v < records_of budget.now.table.now }
     ensures { IsTrue result
-        ↔ IsStrictStart (input_of_table budget.now.table.now) (budget_of budget.now.prices.now budget.now.m) v }
+        ↔ IsStrictStart (input_of budget.now) (asked_of budget.now) v }
 {
     budget.spending(v) < budget.m || some_strict(budget, below, v)
 }

@@ -8,7 +8,8 @@ use rp_num::{Frac, NoMemory};
 use rp_simplex::{Outcome, maximize};
 use std::alloc::Global;
 
-/// The price of row `g` in the pair at which the run of the program ends, or where the run is withheld.
+/// The price of row `g` in the pair at which the run of the program ends, or the step at which the
+/// run is withheld. The program must not be unbounded.
 pub fn bound_of<P: Lp>(alloc: Global, p: &P, g: u32) -> Result<Bound, NoMemory>
     requires row { g < (P.program p.now).rows }
     requires bounded { ¬ HasNoBound (P.program p.now) }

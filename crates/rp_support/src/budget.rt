@@ -1,4 +1,4 @@
-ghost use Rattle.std.specs.Prelude.{◌≡◌, ◌<◌, ◌≤◌, ◌^◌, ℕ, All, length, slice_index};
+ghost use Rattle.std.specs.Prelude.{◌≡◌, ◌<◌, ◌≤◌, ◌^◌, All, length, slice_index};
 ghost use Rattle.rp_evidence.specs.Demand.{spending};
 ghost use Rattle.rp_table.specs.Cost.{IsCostsOf, cost_of};
 ghost use Rattle.rp_table.specs.declared.TheConstants.{LARGEST, LARGEST_EXPENDITURE};
@@ -33,8 +33,8 @@ impl Budget<'_> {
     /// What the bundle of observation `s` costs at the new prices.
     pub fn spending(&self, s: u32) -> u64
         requires { s < records_of self.now.table.now }
-        ensures exact { result ≡ spending (goods_of self.now.table.now) (slice_index self.now.prices.now)
-            (quantity_of self.now.table.now s) }
+        ensures exact { result ≡ spending (goods_of self.now.table.now)
+            (slice_index self.now.prices.now) (quantity_of self.now.table.now s) }
         ensures below { result < 2 ^ 51 }
     {
         let mut total = 0;

@@ -1,14 +1,13 @@
-ghost use Rattle.std.specs.Prelude.{◌≡◌, ◌<◌, ◌≤◌, ◌↔◌, ℕ, IfOk, IfSome, IsTrue, length, slice_index};
+ghost use Rattle.std.specs.Prelude.{◌≡◌, ◌<◌, ◌↔◌, ℕ, IfOk, IfSome, IsTrue, length, slice_index};
 ghost use Rattle.rp_evidence.specs.Count.{AreCounts};
 ghost use Rattle.rp_evidence.specs.Demand.{Buys, IsInnerDemand};
-ghost use Rattle.rp_evidence.specs.DemandEvidence.{budget_of, bundle_of};
-ghost use Rattle.rp_evidence.specs.Input.{input_of_table};
+ghost use Rattle.rp_evidence.specs.DemandEvidence.{bundle_of};
 ghost use Rattle.rp_evidence.specs.Preference.{IsWeak};
-ghost use Rattle.rp_pref.specs.Closure.{IsClosureOf};
-ghost use Rattle.rp_table.specs.Cost.{cost_of};
 ghost use Rattle.rp_table.specs.Tables.{goods_of, records_of};
+ghost use Rattle.rp_support.specs.Asked.{asked_of, input_of};
 ghost use Rattle.rp_support.specs.Inner.{IsStart, inner_numerator};
 ghost use Rattle.rp_support.specs.Trying.{IsBetter};
+ghost use Rattle.rp_support.specs.Starts.{IsWeakClosureOf};
 
 use crate::budget::Budget;
 use rp_evidence::Point;
@@ -18,10 +17,10 @@ use std::alloc::Global;
 
 /// The inner demand, over the price of good 0.
 pub fn inner(alloc: Global, budget: &Budget, closure: &Closure) -> Result<Point, NoMemory>
-    requires { IsClosureOf closure.now (records_of budget.now.table.now) (IsWeak (cost_of budget.now.table.now) 1 1) }
+    requires { IsWeakClosureOf closure.now (input_of budget.now) }
     ensures goods { IfOk result (λ point. length point.num ≡ goods_of budget.now.table.now) }
-    ensures inner { IfOk result (λ point. IsInnerDemand (input_of_table budget.now.table.now)
-        (budget_of budget.now.prices.now budget.now.m) (bundle_of point)) }
+    ensures inner { IfOk result (λ point. IsInnerDemand (input_of budget.now)
+        (asked_of budget.now) (bundle_of point)) }
 {
     prove!(budget.table.goods() > 0);
     let counts = counts(alloc, budget, closure)?;
@@ -35,9 +34,9 @@ pub fn inner(alloc: Global, budget: &Budget, closure: &Closure) -> Result<Point,
 
 /// The counts of the observations.
 fn counts(alloc: Global, budget: &Budget, closure: &Closure) -> Result<Vec<u32>, NoMemory>
-    requires { IsClosureOf closure.now (records_of budget.now.table.now) (IsWeak (cost_of budget.now.table.now) 1 1) }
+    requires { IsWeakClosureOf closure.now (input_of budget.now) }
     ensures { IfOk result (λ counts.
-        AreCounts (records_of budget.now.table.now) (IsWeak (cost_of budget.now.table.now) 1 1) counts.items) }
+        AreCounts (input_of budget.now).n (IsWeak (input_of budget.now).cost 1 1) counts.items) }
 {
     let mut counts = Vec::new(alloc);
     for s in 0..budget.table.n() {
@@ -46,11 +45,11 @@ fn counts(alloc: Global, budget: &Budget, closure: &Closure) -> Result<Vec<u32>,
     Ok(counts)
 }
 
-/// Of the observations whose bundles the budget buys one of the greatest count, of these one of the least cost at the
-/// new prices, of these the first.
+/// Of the observations whose bundles the budget buys one of the greatest count, of these one of the
+/// least cost at the new prices, of these the first.
 fn start(budget: &Budget, counts: &[u32]) -> Option<u32>
     requires { length counts.now ≡ records_of budget.now.table.now }
-    ensures { IsStart (input_of_table budget.now.table.now) (budget_of budget.now.prices.now budget.now.m) counts.now result }
+    ensures { IsStart (input_of budget.now) (asked_of budget.now) counts.now result }
 {
     let mut best = None;
     for s in 0..budget.table.n() {
@@ -66,8 +65,8 @@ fn is_better(budget: &Budget, counts: &[u32], s: u32, best: Option<u32>) -> bool
     requires each { length counts.now ≡ records_of budget.now.table.now }
     requires observed { s < records_of budget.now.table.now }
     requires earlier { IfSome best (λ b. b < records_of budget.now.table.now) }
-    ensures { IsTrue result ↔ IsBetter (input_of_table budget.now.table.now)
-        (budget_of budget.now.prices.now budget.now.m) counts.now s best }
+    ensures { IsTrue result ↔ IsBetter (input_of budget.now)
+        (asked_of budget.now) counts.now s best }
 {
     let spent = budget.spending(s);
     if spent > budget.m {
@@ -85,10 +84,11 @@ fn is_better(budget: &Budget, counts: &[u32], s: u32, best: Option<u32>) -> bool
 /// What the inner demand has of each good.
 fn numerators(alloc: Global, budget: &Budget, start: Option<u32>) -> Result<Vec<u64>, NoMemory>
     requires { IfSome start (λ s. (s < records_of budget.now.table.now)
-        × Buys (input_of_table budget.now.table.now) (budget_of budget.now.prices.now budget.now.m) s) }
+        × Buys (input_of budget.now) (asked_of budget.now) s) }
     ensures goods { IfOk result (λ num. length num.items ≡ goods_of budget.now.table.now) }
-    ensures exact { IfOk result (λ num. (g : ℕ) → g < goods_of budget.now.table.now → slice_index num.items g
-        ≡ inner_numerator (input_of_table budget.now.table.now) (budget_of budget.now.prices.now budget.now.m) start g) }
+    ensures exact { IfOk result (λ num. (g : ℕ) → g < goods_of budget.now.table.now
+        → slice_index num.items g
+        ≡ inner_numerator (input_of budget.now) (asked_of budget.now) start g) }
 {
     let mut num = Vec::new(alloc);
     for g in 0..budget.table.goods() {
@@ -101,9 +101,9 @@ fn numerators(alloc: Global, budget: &Budget, start: Option<u32>) -> Result<Vec<
 fn numerator(budget: &Budget, start: Option<u32>, g: u32) -> u64
     requires good { g < goods_of budget.now.table.now }
     requires start { IfSome start (λ s. (s < records_of budget.now.table.now)
-        × Buys (input_of_table budget.now.table.now) (budget_of budget.now.prices.now budget.now.m) s) }
+        × Buys (input_of budget.now) (asked_of budget.now) s) }
     ensures { result
-        ≡ inner_numerator (input_of_table budget.now.table.now) (budget_of budget.now.prices.now budget.now.m) start g }
+        ≡ inner_numerator (input_of budget.now) (asked_of budget.now) start g }
 {
     match start {
         Some(s) => {

@@ -3,8 +3,8 @@ ghost use Rattle.rp_evidence.specs.Demand.{IsStrictlyBelow, NewBudget};
 ghost use Rattle.rp_evidence.specs.Input.{TableInput};
 ghost use Rattle.rp_support.specs.Starts.{IsStrictStart, LeadsOn};
 
-/// An observation is strictly below exactly where it is, or is reached from, one of which the budget buys the bundle
-/// with money left, or to which one that is below is strictly preferred.
+/// An observation is strictly below exactly where it is, or is reached from, one whose bundle the
+/// budget buys with money left, or to which an observation below is strictly preferred.
 pub fn strictly_below_from_strict_starts()
     ensures { (input : TableInput) (budget : NewBudget) (t : ℕ) → t < input.n
         → IsStrictlyBelow input budget t

@@ -1,4 +1,4 @@
-//! Demand at new prices: one demand that keeps the axiom, and the exact bounds of each good over all that do.
+//! Demand at new prices: one demand that keeps the axiom, and the bounds of each good over all.
 #![tactic(auto)]
 
 mod below;

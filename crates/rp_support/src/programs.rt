@@ -1,15 +1,14 @@
 ghost use Rattle.std.specs.Prelude.{◌≡◌, ◌+◌, ◌<◌, ◌≤◌, All, length};
-ghost use Rattle.rp_evidence.specs.DemandEvidence.{budget_of};
 ghost use Rattle.rp_evidence.specs.DemandPrograms.{demand_entry, demand_worth, lower_program, upper_program};
-ghost use Rattle.rp_evidence.specs.Input.{input_of_table};
 ghost use Rattle.rp_farkas.specs.Limits.{IsWithinLimits};
 ghost use Rattle.rp_table.specs.Tables.{goods_of, records_of};
+ghost use Rattle.rp_support.specs.Asked.{asked_of, input_of};
 
 use crate::budget::Budget;
 use rp_farkas::Lp;
 
-/// The program whose prices have the least of a good: a row for each good, a column for each observation below, and two
-/// for the budget.
+/// The program whose prices have the least of a good: a row for each good, a column for each
+/// observation below, and two for the budget.
 #[derive(Clone, Copy, Debug)]
 pub struct Lower<'a> {
     budget: Budget<'a>,
@@ -17,8 +16,8 @@ pub struct Lower<'a> {
     good: u32,
     ghost observed: { All (λ t. t < records_of budget.table.now) below.now },
     ghost few: { length below.now ≤ records_of budget.table.now },
-    ghost within: { IsWithinLimits (lower_program (input_of_table budget.table.now)
-        (budget_of budget.prices.now budget.m) below.now good) },
+    ghost within: { IsWithinLimits
+        (lower_program (input_of budget) (asked_of budget) below.now good) },
 }
 
 impl<'a> Lower<'a> {
@@ -27,8 +26,8 @@ impl<'a> Lower<'a> {
         requires observed { All (λ t. t < records_of budget.now.table.now) below.now }
         requires few { length below.now ≤ records_of budget.now.table.now }
         requires good { good < goods_of budget.now.table.now }
-        ensures { ⟦<Lower<'a> as Lp>⟧.program result ≡ lower_program (input_of_table budget.now.table.now)
-            (budget_of budget.now.prices.now budget.now.m) below.now good }
+        ensures { ⟦<Lower<'a> as Lp>⟧.program result ≡ lower_program (input_of budget.now)
+            (asked_of budget.now) below.now good }
     {
         prove!(budget.table.goods() > 0);
         prove!(budget.costs.n() > 0);
@@ -41,12 +40,11 @@ impl<'a> Lower<'a> {
 }
 
 impl Lp for Lower<'_> {
-    ghost use Rattle.rp_evidence.specs.DemandEvidence.{budget_of};
     ghost use Rattle.rp_evidence.specs.DemandPrograms.{lower_program};
-    ghost use Rattle.rp_evidence.specs.Input.{input_of_table};
+    ghost use Rattle.rp_support.specs.Asked.{asked_of, input_of};
 
-    ghost program = { λ p. lower_program (input_of_table p.budget.table.now)
-        (budget_of p.budget.prices.now p.budget.m) p.below.now p.good };
+    ghost program = { λ p.
+        lower_program (input_of p.budget) (asked_of p.budget) p.below.now p.good };
 
     ghost within_limits = { λ p. p.within };
 
@@ -71,8 +69,8 @@ impl Lp for Lower<'_> {
     }
 }
 
-/// The program whose prices have the greatest of a good: with the rows and columns of the other, and what the other goods
-/// cost as its right side.
+/// The program whose prices have the greatest of a good: with the same rows and columns, and what
+/// the other goods cost as its right side.
 #[derive(Clone, Copy, Debug)]
 pub struct Upper<'a> {
     budget: Budget<'a>,
@@ -80,8 +78,8 @@ pub struct Upper<'a> {
     good: u32,
     ghost observed: { All (λ t. t < records_of budget.table.now) below.now },
     ghost few: { length below.now ≤ records_of budget.table.now },
-    ghost within: { IsWithinLimits (upper_program (input_of_table budget.table.now)
-        (budget_of budget.prices.now budget.m) below.now good) },
+    ghost within: { IsWithinLimits
+        (upper_program (input_of budget) (asked_of budget) below.now good) },
 }
 
 impl<'a> Upper<'a> {
@@ -90,8 +88,8 @@ impl<'a> Upper<'a> {
         requires observed { All (λ t. t < records_of budget.now.table.now) below.now }
         requires few { length below.now ≤ records_of budget.now.table.now }
         requires good { good < goods_of budget.now.table.now }
-        ensures { ⟦<Upper<'a> as Lp>⟧.program result ≡ upper_program (input_of_table budget.now.table.now)
-            (budget_of budget.now.prices.now budget.now.m) below.now good }
+        ensures { ⟦<Upper<'a> as Lp>⟧.program result ≡ upper_program (input_of budget.now)
+            (asked_of budget.now) below.now good }
     {
         prove!(budget.table.goods() > 0);
         prove!(budget.costs.n() > 0);
@@ -104,12 +102,11 @@ impl<'a> Upper<'a> {
 }
 
 impl Lp for Upper<'_> {
-    ghost use Rattle.rp_evidence.specs.DemandEvidence.{budget_of};
     ghost use Rattle.rp_evidence.specs.DemandPrograms.{upper_program};
-    ghost use Rattle.rp_evidence.specs.Input.{input_of_table};
+    ghost use Rattle.rp_support.specs.Asked.{asked_of, input_of};
 
-    ghost program = { λ p. upper_program (input_of_table p.budget.table.now)
-        (budget_of p.budget.prices.now p.budget.m) p.below.now p.good };
+    ghost program = { λ p.
+        upper_program (input_of p.budget) (asked_of p.budget) p.below.now p.good };
 
     ghost within_limits = { λ p. p.within };
 
@@ -138,15 +135,15 @@ impl Lp for Upper<'_> {
     }
 }
 
-/// The entry of both programs in row `i` and column `j`: the price of good `i` at an observation below or at the new
-/// prices, in the last column negated.
+/// The entry of both programs in row `i` and column `j`: the price of good `i` at an observation
+/// below or at the new prices, in the last column negated.
 fn entry(budget: &Budget, below: &[u32], i: u32, j: u32) -> i64
     requires observed { All (λ t. t < records_of budget.now.table.now) below.now }
     requires few { length below.now ≤ records_of budget.now.table.now }
     requires row { i < goods_of budget.now.table.now }
     requires column { j < length below.now + 2 }
-    ensures { result ≡ demand_entry (input_of_table budget.now.table.now)
-        (budget_of budget.now.prices.now budget.now.m) below.now i j }
+    ensures { result ≡ demand_entry (input_of budget.now)
+        (asked_of budget.now) below.now i j }
 {
     let j = j as usize;
     if j < below.len() {
@@ -158,13 +155,13 @@ fn entry(budget: &Budget, below: &[u32], i: u32, j: u32) -> i64
     }
 }
 
-/// What column `j` of both programs is worth: what was spent at an observation below or is spent at the new prices, in the
-/// last column negated.
+/// What column `j` of both programs is worth: what was spent at an observation below or is spent at
+/// the new prices, in the last column negated.
 fn worth(budget: &Budget, below: &[u32], j: u32) -> i64
     requires observed { All (λ t. t < records_of budget.now.table.now) below.now }
     requires column { j < length below.now + 2 }
-    ensures { result ≡ demand_worth (input_of_table budget.now.table.now)
-        (budget_of budget.now.prices.now budget.now.m) below.now j }
+    ensures { result ≡ demand_worth (input_of budget.now)
+        (asked_of budget.now) below.now j }
 {
     let j = j as usize;
     if j < below.len() {

@@ -2,11 +2,11 @@ ghost use Rattle.std.specs.Prelude.{◌≡◌, ◌≤◌, All, IfOk, length};
 ghost use Rattle.rp_evidence.specs.DemandEvidence.{ProvesDemand, budget_of};
 ghost use Rattle.rp_evidence.specs.Garp.{MeetsGarp, ProvesGarp};
 ghost use Rattle.rp_evidence.specs.Input.{input_of_table};
-ghost use Rattle.rp_evidence.specs.Preference.{IsWeak};
-ghost use Rattle.rp_pref.specs.Closure.{IsClosureOf};
 ghost use Rattle.rp_table.specs.Cost.{IsCostsOf, cost_at, cost_of};
 ghost use Rattle.rp_table.specs.Tables.{goods_of, records_of};
+ghost use Rattle.rp_support.specs.Asked.{asked_of, input_of};
 ghost use Rattle.rp_support.specs.Verdict.{IsDemandGiven, IsGivenWhereMet};
+ghost use Rattle.rp_support.specs.Starts.{IsWeakClosureOf};
 
 use crate::below::{below, strictly_below};
 use crate::budget::Budget;
@@ -18,9 +18,10 @@ use rp_pref::{Closure, Steps};
 use rp_table::{Costs, LARGEST, LARGEST_EXPENDITURE, Table};
 use std::alloc::Global;
 
-/// What the table supports at new prices when `m` is spent (Varian 1982), from a true verdict on the generalized axiom:
-/// the observations below and strictly below, one supporting demand, and the bounds of each good over all of them; or the
-/// violation. All numbers are scaled as those of the table are.
+/// What the table supports at new prices when `m` is spent (Varian 1982), from a true verdict on
+/// the generalized axiom: the observations below and strictly below, one supporting demand, and the
+/// bounds of each good over all of them; or the violation. Prices are scaled as those of the table,
+/// and `m` by both scales.
 pub fn demand(
     alloc: Global,
     table: &Table,
@@ -35,7 +36,8 @@ pub fn demand(
     requires prices { All (λ p. (1 ≤ p) × (p ≤ LARGEST)) prices.now }
     requires least { 1 ≤ m }
     requires most { m ≤ LARGEST_EXPENDITURE }
-    ensures proves { IfOk result (λ part. ProvesDemand (input_of_table table.now) prices.now m part) }
+    ensures proves { IfOk result (λ part.
+        ProvesDemand (input_of_table table.now) prices.now m part) }
     ensures given { IfOk result (λ part.
         IsDemandGiven (input_of_table table.now) (budget_of prices.now m) verdict.now part) }
 {
@@ -60,9 +62,9 @@ pub fn demand(
 fn bounds(alloc: Global, budget: &Budget) -> Result<DemandPart, NoMemory>
     requires { MeetsGarp (records_of budget.now.table.now) (cost_of budget.now.table.now) 1 1 }
     ensures proves { IfOk result (λ part.
-        ProvesDemand (input_of_table budget.now.table.now) budget.now.prices.now budget.now.m part) }
-    ensures given { IfOk result (λ part. IsGivenWhereMet (input_of_table budget.now.table.now)
-        (budget_of budget.now.prices.now budget.now.m) part) }
+        ProvesDemand (input_of budget.now) budget.now.prices.now budget.now.m part) }
+    ensures given { IfOk result (λ part. IsGivenWhereMet (input_of budget.now)
+        (asked_of budget.now) part) }
 {
     prove!(budget.table.goods() > 0);
     let closure = closure(alloc, budget)?;
@@ -81,7 +83,7 @@ fn bounds(alloc: Global, budget: &Budget) -> Result<DemandPart, NoMemory>
 /// Which observations reach which by weak steps.
 fn closure(alloc: Global, budget: &Budget) -> Result<Closure, NoMemory>
     ensures { IfOk result (λ closure.
-        IsClosureOf closure (records_of budget.now.table.now) (IsWeak (cost_of budget.now.table.now) 1 1)) }
+        IsWeakClosureOf closure (input_of budget.now)) }
 {
     Closure::of(alloc, budget.costs, Level { num: 1, den: 1 }, Steps::Weak)
 }
