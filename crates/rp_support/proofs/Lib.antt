@@ -1,0 +1,5 @@
+pub mod Bounding
+pub mod Demanding
+pub mod Limiting
+pub mod Listing
+pub mod Starting

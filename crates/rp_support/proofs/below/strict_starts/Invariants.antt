@@ -1,0 +1,11 @@
+use Rattle.std.proofs.Common.{◌≡◌, ◌<◌, ◌↔◌, ℕ, false, IsTrue, slice_index_or, vec_len}
+use Rattle.rp_evidence.specs.DemandEvidence.{budget_of}
+use Rattle.rp_evidence.specs.Input.{input_of_table}
+use Rattle.rp_support.specs.Starts.{IsStrictStart}
+use Rattle.rp_support.proofs.below.strict_starts.Given as goal
+
+abbrev pub invariant-loop-v : goal.invariant-loop-v
+invariant-loop-v l = record {
+  one_each : vec_len l.told ≡ l.v;
+  each : (k : ℕ) → k < l.v → IsTrue (slice_index_or l.told.items k false) ↔ IsStrictStart (input_of_table l.budget.table.now) (budget_of l.budget.prices.now l.budget.m) k;
+}

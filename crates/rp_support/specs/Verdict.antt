@@ -1,0 +1,22 @@
+-- What is given on demand at new prices, from a verdict on the axiom (Varian 1982).
+use Rattle.std.specs.Prelude.{◌≡◌}
+use Rattle.rp_evidence.specs.Demand.{IsInnerDemand, NewBudget}
+use Rattle.rp_evidence.specs.DemandEvidence.{bundle_of}
+use Rattle.rp_evidence.specs.Input.{TableInput}
+use Rattle.rp_evidence.specs.declared.demand.DemandPart.{DemandPart}
+use Rattle.rp_evidence.specs.declared.demand.DemandPart.TheVariants.{Bounds, NoModel}
+use Rattle.rp_evidence.specs.declared.garp.Garp.{Garp}
+use Rattle.rp_evidence.specs.declared.garp.Garp.TheVariants.{Cycle, Ranks}
+use Rattle.rp_support.specs.Bounds.{AreBoundsOf}
+
+-- Where the axiom holds: the inner demand, and the bounds of each good's programs over the list of those below.
+abbrev pub IsGivenWhereMet : TableInput → NewBudget → DemandPart → Type 0
+IsGivenWhereMet input budget (Bounds below strict inner goods) =
+    IsInnerDemand input budget (bundle_of inner) × AreBoundsOf input budget below goods
+IsGivenWhereMet input budget (NoModel walk) = ⊥
+
+-- From ranks what is given where the axiom holds; from a violation that violation.
+abbrev pub IsDemandGiven : TableInput → NewBudget → Garp → DemandPart → Type 0
+IsDemandGiven input budget (Ranks ranks) part = IsGivenWhereMet input budget part
+IsDemandGiven input budget (Cycle cycle) (Bounds below strict inner goods) = ⊥
+IsDemandGiven input budget (Cycle cycle) (NoModel walk) = walk ≡ cycle

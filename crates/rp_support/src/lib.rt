@@ -1,0 +1,14 @@
+//! Demand at new prices: one demand that keeps the axiom, and the bounds of each good over all.
+#![tactic(auto)]
+
+mod below;
+mod bound;
+mod budget;
+mod goods;
+mod inner;
+mod laws;
+mod programs;
+mod verdict;
+
+pub use laws::strictly_below_from_strict_starts;
+pub use verdict::demand;
