@@ -29,11 +29,11 @@ pub(crate) fn lower_bound(
     prices: &[u32],
     t: u32,
 ) -> Result<Bound, NoMemory>
-    requires of_table { IsCostsOf costs.now table.now }
+    requires costs { IsCostsOf costs.now table.now }
     requires sound { MeetsGarp (records_of table.now) (cost_of table.now) 1 1 }
     requires closes { ClosesWeakSteps closure.now (input_of_table table.now) }
     requires goods { length prices.now ≡ goods_of table.now }
-    requires limits { All (λ p. (1 ≤ p) × (p ≤ LARGEST)) prices.now }
+    requires prices { All (λ p. (1 ≤ p) × (p ≤ LARGEST)) prices.now }
     requires observed { t < records_of table.now }
     ensures proves { IfOk result (λ bound.
         ProvesLowerWelfare (input_of_table table.now) (slice_index prices.now) t bound) }
@@ -53,7 +53,7 @@ pub(crate) fn lower_bound(
 /// The bound of an equal pair: what its price side costs at the new prices, over its denominator.
 fn shown(prices: &[u32], pair: Pair) -> Bound
     requires few { length prices.now ≤ GOODS }
-    requires limits { All (λ p. (1 ≤ p) × (p ≤ LARGEST)) prices.now }
+    requires prices { All (λ p. (1 ≤ p) × (p ≤ LARGEST)) prices.now }
     requires positive { 0 < pair.den }
     requires den { FitsEvidence pair.den }
     requires goods { length pair.x ≡ length prices.now }
@@ -70,7 +70,7 @@ fn shown(prices: &[u32], pair: Pair) -> Bound
 /// What the numerators cost at the new prices.
 fn price_side(prices: &[u32], x: &[u64]) -> u128
     requires few { length prices.now ≤ GOODS }
-    requires limits { All (λ p. (1 ≤ p) × (p ≤ LARGEST)) prices.now }
+    requires prices { All (λ p. (1 ≤ p) × (p ≤ LARGEST)) prices.now }
     requires goods { length x.now ≡ length prices.now }
     requires fits { All FitsEvidence x.now }
     ensures exact { result ≡ spending (length prices.now) (slice_index prices.now) (slice_index x.now) }

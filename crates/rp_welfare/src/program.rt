@@ -31,9 +31,9 @@ impl<'a> LowerProgram<'a> {
         prices: &'a [u32],
         reached: &'a [u32],
     ) -> LowerProgram<'a>
-        requires of_table { IsCostsOf costs.now table.now }
+        requires costs { IsCostsOf costs.now table.now }
         requires goods { length prices.now ≡ goods_of table.now }
-        requires limits { All (λ p. (1 ≤ p) × (p ≤ LARGEST)) prices.now }
+        requires prices { All (λ p. (1 ≤ p) × (p ≤ LARGEST)) prices.now }
         requires observed { All (λ s. s < records_of table.now) reached.now }
         requires few { length reached.now ≤ RECORDS }
         ensures { ⟦<LowerProgram<'a> as Lp>⟧.program result

@@ -20,7 +20,7 @@ pub(crate) struct Cheapest {
 pub(crate) fn first_cheapest(table: &Table, closure: &Closure, prices: &[u32], t: u32) -> Cheapest
     requires closes { ClosesWeakSteps closure.now (input_of_table table.now) }
     requires goods { length prices.now ≡ goods_of table.now }
-    requires limits { All (λ p. (1 ≤ p) × (p ≤ LARGEST)) prices.now }
+    requires prices { All (λ p. (1 ≤ p) × (p ≤ LARGEST)) prices.now }
     requires observed { t < records_of table.now }
     ensures { IsFirstCheapest (input_of_table table.now) (slice_index prices.now) t result.at result.cost }
 {
@@ -46,7 +46,7 @@ fn is_before(one: Cheapest, other: Cheapest) -> bool
 /// The observation `s` with the cost of its bundle.
 fn priced(table: &Table, prices: &[u32], s: u32) -> Cheapest
     requires goods { length prices.now ≡ goods_of table.now }
-    requires limits { All (λ p. (1 ≤ p) × (p ≤ LARGEST)) prices.now }
+    requires prices { All (λ p. (1 ≤ p) × (p ≤ LARGEST)) prices.now }
     requires observed { s < records_of table.now }
     ensures at { result.at ≡ s }
     ensures exact { result.cost ≡ cost_at_prices table.now (slice_index prices.now) s }

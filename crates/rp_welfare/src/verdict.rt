@@ -27,10 +27,10 @@ pub fn welfare(
     prices: &[u32],
     t: u32,
 ) -> Result<WelfarePart, NoMemory>
-    requires of_table { IsCostsOf costs.now table.now }
+    requires costs { IsCostsOf costs.now table.now }
     requires verdict { ProvesGarp costs.now.n (cost_at costs.now) verdict.now }
     requires goods { length prices.now ≡ goods_of table.now }
-    requires limits { All (λ p. (1 ≤ p) × (p ≤ LARGEST)) prices.now }
+    requires prices { All (λ p. (1 ≤ p) × (p ≤ LARGEST)) prices.now }
     requires observed { t < costs.now.n }
     ensures proves { IfOk result (λ part. ProvesWelfare (input_of_table table.now) prices.now t part) }
     ensures given { IfOk result (λ part.
@@ -51,11 +51,11 @@ pub fn welfare_by_closure(
     prices: &[u32],
     t: u32,
 ) -> Result<WelfarePart, NoMemory>
-    requires of_table { IsCostsOf costs.now table.now }
+    requires costs { IsCostsOf costs.now table.now }
     requires verdict { ProvesGarp costs.now.n (cost_at costs.now) verdict.now }
     requires closes { IsClosureOf closure.now costs.now.n (IsWeak (cost_at costs.now) 1 1) }
     requires goods { length prices.now ≡ goods_of table.now }
-    requires limits { All (λ p. (1 ≤ p) × (p ≤ LARGEST)) prices.now }
+    requires prices { All (λ p. (1 ≤ p) × (p ≤ LARGEST)) prices.now }
     requires observed { t < costs.now.n }
     ensures proves { IfOk result (λ part. ProvesWelfare (input_of_table table.now) prices.now t part) }
     ensures given { IfOk result (λ part.
