@@ -33,8 +33,8 @@ abbrev pub HasValue : TableInput → (ℕ → ℕ) → Bound → Type 0
 HasValue input prices (Shown value pair) = IsLowestTerms (spending input.goods prices (slice_index pair.x)) pair.den value
 HasValue input prices (Wide step) = Unit {0}
 
--- The lower bound of t: its program has the list of t and all that t reaches, and the bound is made from the outcome of the
--- run of that program, which has no other.
+-- The lower bound of t: its program lists t and all that t reaches, and the bound is made from the outcome of the run of that
+-- program. The run has no other: it never ends unbounded, and a bound is withheld just where it passes its width, at that step.
 pub record IsLowerBound (input : TableInput) (prices : ℕ → ℕ) (t : ℕ) (bound : Bound) : Type 0 where
   pub reached : List ℕ
   pub listed : ListsReached input t reached
@@ -44,12 +44,13 @@ pub record IsLowerBound (input : TableInput) (prices : ℕ → ℕ) (t : ℕ) (b
   pub evidence : IsEvidence (welfare_program input prices reached) (outcome_of bound)
   pub value : HasValue input prices bound
 
--- Bounds where the axiom holds; else the violation of the verdict.
+-- Bounds, which are given where the axiom holds.
 pub record AreWelfareBounds (input : TableInput) (prices : ℕ → ℕ) (t upper at : ℕ) (lower : Bound) : Type 0 where
   pub sound : MeetsGarp input.n input.cost 1 1
   pub cheapest : IsFirstCheapest input prices t at upper
   pub lower_is : IsLowerBound input prices t lower
 
+-- Bounds; or, where the axiom fails, the violation that the verdict has.
 abbrev pub IsWelfareVerdict : TableInput → List ℕ → ℕ → Garp → WelfarePart → Type 0
 IsWelfareVerdict input prices t verdict (Bounds upper at lower) = AreWelfareBounds input (slice_index prices) t upper at lower
 IsWelfareVerdict input prices t verdict (NoModel walk) = verdict ≡ Cycle walk
