@@ -73,7 +73,8 @@ fn price_side(prices: &[u32], x: &[u64]) -> u128
     requires prices { All (λ p. (1 ≤ p) × (p ≤ LARGEST)) prices.now }
     requires goods { length x.now ≡ length prices.now }
     requires fits { All FitsEvidence x.now }
-    ensures exact { result ≡ spending (length prices.now) (slice_index prices.now) (slice_index x.now) }
+    ensures exact { result ≡ spending (length prices.now) (slice_index prices.now)
+        (slice_index x.now) }
     ensures below { result < 2 ^ 92 }
 {
     let mut cost = 0;

@@ -20,7 +20,8 @@ pub(crate) struct LowerProgram<'a> {
     ghost of_table: { IsCostsOf costs.now table.now },
     ghost goods: { length prices.now ≡ goods_of table.now },
     ghost observed: { All (λ s. s < records_of table.now) reached.now },
-    ghost within: { IsWithinLimits (welfare_program (input_of_table table.now) (slice_index prices.now) reached.now) },
+    ghost within: { IsWithinLimits
+        (welfare_program (input_of_table table.now) (slice_index prices.now) reached.now) },
 }
 
 impl<'a> LowerProgram<'a> {
@@ -55,7 +56,8 @@ impl Lp for LowerProgram<'_> {
     ghost use Rattle.rp_evidence.specs.Input.{input_of_table};
     ghost use Rattle.rp_evidence.specs.Welfare.{welfare_program};
 
-    ghost program = { λ p. welfare_program (input_of_table p.table.now) (slice_index p.prices.now) p.reached.now };
+    ghost program = { λ p. welfare_program (input_of_table p.table.now) (slice_index p.prices.now)
+        p.reached.now };
 
     ghost within_limits = { λ p. p.within };
 

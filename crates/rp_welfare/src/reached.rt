@@ -14,7 +14,8 @@ use std::alloc::Global;
 pub(crate) fn equals_or_reaches(closure: &Closure, s: u32, t: u32) -> bool
     requires from { s < closure.now.n }
     requires to { t < closure.now.n }
-    ensures { (input : TableInput) → ClosesWeakSteps closure.now input → IsTrue result ↔ EqualsOrReaches input s t }
+    ensures { (input : TableInput) → ClosesWeakSteps closure.now input
+        → IsTrue result ↔ EqualsOrReaches input s t }
 {
     s == t || closure.reaches(s, t)
 }
@@ -28,7 +29,8 @@ pub(crate) fn reached_from(
 ) -> Result<Vec<u32>, NoMemory>
     requires closes { ClosesWeakSteps closure.now (input_of_table table.now) }
     requires observed { t < records_of table.now }
-    ensures listed { IfOk result (λ reached. ListsReached (input_of_table table.now) t reached.items) }
+    ensures listed { IfOk result
+        (λ reached. ListsReached (input_of_table table.now) t reached.items) }
     ensures observed { IfOk result (λ reached. All (λ s. s < records_of table.now) reached.items) }
     ensures few { IfOk result (λ reached. length reached.items ≤ RECORDS) }
 {

@@ -22,7 +22,8 @@ pub(crate) fn first_cheapest(table: &Table, closure: &Closure, prices: &[u32], t
     requires goods { length prices.now ≡ goods_of table.now }
     requires prices { All (λ p. (1 ≤ p) × (p ≤ LARGEST)) prices.now }
     requires observed { t < records_of table.now }
-    ensures { IsFirstCheapest (input_of_table table.now) (slice_index prices.now) t result.at result.cost }
+    ensures { IsFirstCheapest (input_of_table table.now) (slice_index prices.now) t result.at
+        result.cost }
 {
     let mut best = priced(table, prices, t);
     for s in 0..table.n() {

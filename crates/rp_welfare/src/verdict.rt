@@ -32,7 +32,8 @@ pub fn welfare(
     requires goods { length prices.now ≡ goods_of table.now }
     requires prices { All (λ p. (1 ≤ p) × (p ≤ LARGEST)) prices.now }
     requires observed { t < costs.now.n }
-    ensures proves { IfOk result (λ part. ProvesWelfare (input_of_table table.now) prices.now t part) }
+    ensures proves { IfOk result
+        (λ part. ProvesWelfare (input_of_table table.now) prices.now t part) }
     ensures given { IfOk result (λ part.
         IsWelfareVerdict (input_of_table table.now) prices.now t verdict.now part) }
     ensures lower_at_most_upper { IfOk result HasLowerAtMostUpper }
@@ -57,7 +58,8 @@ pub fn welfare_by_closure(
     requires goods { length prices.now ≡ goods_of table.now }
     requires prices { All (λ p. (1 ≤ p) × (p ≤ LARGEST)) prices.now }
     requires observed { t < costs.now.n }
-    ensures proves { IfOk result (λ part. ProvesWelfare (input_of_table table.now) prices.now t part) }
+    ensures proves { IfOk result
+        (λ part. ProvesWelfare (input_of_table table.now) prices.now t part) }
     ensures given { IfOk result (λ part.
         IsWelfareVerdict (input_of_table table.now) prices.now t verdict.now part) }
     ensures lower_at_most_upper { IfOk result HasLowerAtMostUpper }
