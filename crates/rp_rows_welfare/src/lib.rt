@@ -1,0 +1,5 @@
+//! Tests of the welfare bounds, on worked tables.
+#![tactic(auto)]
+
+#[cfg(test)]
+mod welfare;

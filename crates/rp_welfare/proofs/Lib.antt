@@ -1,0 +1,4 @@
+pub mod Reaching
+pub mod Cheapest
+pub mod LowerBounds
+pub mod SameTable

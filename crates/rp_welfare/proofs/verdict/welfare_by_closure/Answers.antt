@@ -1,0 +1,50 @@
+use Rattle.std.proofs.Common.{List, ℕ, slice_index, sym, subst, ◌∙◌, arith}
+use Rattle.rp_evidence.specs.Garp.{IsViolationAt}
+use Rattle.rp_evidence.specs.Input.{TableInput, input_of_table}
+use Rattle.rp_welfare.proofs.LowerBounds.{lower_at_most}
+use Rattle.rp_welfare.proofs.SameTable.{closes_of_table, meets_by_ranks, violates_by_cycle}
+use Rattle.rp_welfare.proofs.verdict.welfare_by_closure.Goals as goal
+
+pub first_cheapest-upper-requires-clause-closes : goal.first_cheapest-upper-requires-clause-closes
+first_cheapest-upper-requires-clause-closes c =
+    closes_of_table c.args.table.now c.args.costs.now c.requires.costs c.args.closure.now c.requires.closes
+
+pub lower_bound-requires-clause-sound : goal.lower_bound-requires-clause-sound
+lower_bound-requires-clause-sound c =
+    meets_by_ranks c.args.table.now c.args.costs.now c.requires.costs c.args.verdict.now _ c.requires.verdict c.in-Ranks.is
+
+pub lower_bound-requires-clause-closes : goal.lower_bound-requires-clause-closes
+lower_bound-requires-clause-closes c =
+    closes_of_table c.args.table.now c.args.costs.now c.requires.costs c.args.closure.now c.requires.closes
+
+pub returns-in_ok-walk-in-Cycle-clause-proves : goal.returns-in_ok-walk-in-Cycle-clause-proves
+returns-in_ok-walk-in-Cycle-clause-proves c =
+    let input : TableInput = input_of_table c.args.table.now in
+    subst (λ (w : List ℕ). IsViolationAt input.n input.cost 1 1 w)
+    (sym (c.from_vec.ensures ∙ (c.in_ok-walk-in-Cycle.ensures.items ∙ c.as_slice.ensures)))
+    (violates_by_cycle c.args.table.now c.args.costs.now c.requires.costs c.args.verdict.now _ c.requires.verdict c.in-Cycle.is)
+
+pub returns-in_ok-lower-in-Ranks-clause-proves : goal.returns-in_ok-lower-in-Ranks-clause-proves
+returns-in_ok-lower-in-Ranks-clause-proves c = (
+  c.requires.goods,
+  record {
+    sound = meets_by_ranks c.args.table.now c.args.costs.now c.requires.costs c.args.verdict.now _ c.requires.verdict c.in-Ranks.is;
+    observed = omega (arith, c.requires.observed, c.requires.costs.size);
+    upper_is = c.first_cheapest-upper.ensures.upper;
+    lower_is = c.in_ok-lower-in-Ranks.ensures.proves;
+  },
+)
+
+pub returns-in_ok-lower-in-Ranks-clause-given : goal.returns-in_ok-lower-in-Ranks-clause-given
+returns-in_ok-lower-in-Ranks-clause-given c = record {
+  sound = meets_by_ranks c.args.table.now c.args.costs.now c.requires.costs c.args.verdict.now _ c.requires.verdict c.in-Ranks.is;
+  cheapest = c.first_cheapest-upper.ensures;
+  lower_is = c.in_ok-lower-in-Ranks.ensures.given;
+}
+
+pub returns-in_ok-lower-in-Ranks-clause-lower_at_most_upper : goal.returns-in_ok-lower-in-Ranks-clause-lower_at_most_upper
+returns-in_ok-lower-in-Ranks-clause-lower_at_most_upper c =
+    let input : TableInput = input_of_table c.args.table.now in
+    lower_at_most input (slice_index c.args.prices.now) c.args.t c.first_cheapest-upper.result.at c.first_cheapest-upper.result.cost _
+    (meets_by_ranks c.args.table.now c.args.costs.now c.requires.costs c.args.verdict.now _ c.requires.verdict c.in-Ranks.is)
+    c.first_cheapest-upper.ensures.upper c.in_ok-lower-in-Ranks.ensures.proves

@@ -1,0 +1,10 @@
+//! Bounds on the money metric: what it costs at new prices to be as well off as at an observation (after Varian 1982).
+#![tactic(auto)]
+
+mod lower;
+mod program;
+mod reached;
+mod upper;
+mod verdict;
+
+pub use verdict::{welfare, welfare_by_closure};

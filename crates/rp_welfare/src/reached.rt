@@ -1,0 +1,44 @@
+ghost use Rattle.std.specs.Prelude.{◌≤◌, ◌<◌, ◌↔◌, All, IfOk, IsTrue, length};
+ghost use Rattle.rp_evidence.specs.Input.{TableInput, input_of_table};
+ghost use Rattle.rp_evidence.specs.Welfare.{EqualsOrReaches, ListsReached};
+ghost use Rattle.rp_table.specs.Tables.{records_of};
+ghost use Rattle.rp_table.specs.declared.TheConstants.{RECORDS};
+ghost use Rattle.rp_welfare.specs.Inner.{ClosesWeakSteps};
+
+use rp_num::NoMemory;
+use rp_pref::Closure;
+use rp_table::Table;
+use std::alloc::Global;
+
+/// Whether `s` is `t` or reaches it.
+pub(crate) fn equals_or_reaches(closure: &Closure, s: u32, t: u32) -> bool
+    requires from { s < closure.now.n }
+    requires to { t < closure.now.n }
+    ensures { (input : TableInput) → ClosesWeakSteps closure.now input
+        → IsTrue result ↔ EqualsOrReaches input s t }
+{
+    s == t || closure.reaches(s, t)
+}
+
+/// The observation `t` and all that it reaches, in increasing order.
+pub(crate) fn reached_from(
+    alloc: Global,
+    table: &Table,
+    closure: &Closure,
+    t: u32,
+) -> Result<Vec<u32>, NoMemory>
+    requires closes { ClosesWeakSteps closure.now (input_of_table table.now) }
+    requires observed { t < records_of table.now }
+    ensures listed { IfOk result
+        (λ reached. ListsReached (input_of_table table.now) t reached.items) }
+    ensures observed { IfOk result (λ reached. All (λ s. s < records_of table.now) reached.items) }
+    ensures few { IfOk result (λ reached. length reached.items ≤ RECORDS) }
+{
+    let mut reached = Vec::new(alloc);
+    for s in 0..table.n() {
+        if equals_or_reaches(closure, t, s) {
+            reached.push(s)?;
+        }
+    }
+    Ok(reached)
+}
