@@ -9,6 +9,8 @@ pub mod Choices
 pub mod Bits
 pub mod Divisors
 pub mod Pushed
+pub mod Writing
+pub mod Clearing
 pub mod Pivoted
 pub mod Entries
 pub mod Runs

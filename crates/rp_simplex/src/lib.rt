@@ -2,13 +2,14 @@
 #![tactic(auto)]
 
 mod choice;
+mod division;
 mod first;
 mod laws;
 mod outcome;
 mod pivot;
 mod readout;
 mod simplex;
-mod tableau;
+mod stage;
 
 pub use laws::{outcomes_are_evidence, the_run_is_determined};
 pub use outcome::Outcome;

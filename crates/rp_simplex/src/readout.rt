@@ -5,13 +5,13 @@ ghost use Rattle.rp_simplex.specs.Inner.{HasDistinctBasis};
 ghost use Rattle.rp_simplex.specs.Readout.{IsReadAt};
 ghost use Rattle.rp_simplex.specs.Shown.{exact};
 
-use crate::tableau::Tableau;
+use crate::stage::Stage;
 use rp_farkas::Entry;
 use rp_num::{NoMemory, Seq};
 use std::alloc::Global;
 
 /// The row whose basic column this is, or none.
-fn row_of(t: &Tableau, column: usize) -> Option<usize>
+fn row_of(t: &Stage, column: usize) -> Option<usize>
     ensures { MatchOption result
         ((i : ℕ) → i < t.now.rows → (exact t.now).basis i ≢ column)
         (λ i. (i < t.now.rows) × ((exact t.now).basis i ≡ column)) }
@@ -25,7 +25,7 @@ fn row_of(t: &Tableau, column: usize) -> Option<usize>
 }
 
 /// The numerator of the point at a column of the tableau: the right side of the row where it is basic, and else 0.
-fn point_at(t: &Tableau, column: usize) -> u64
+fn point_at(t: &Stage, column: usize) -> u64
     requires wide { 0 < t.now.width }
     requires distinct { HasDistinctBasis t.now.rows (exact t.now) }
     requires sides { (i : ℕ) → i < t.now.rows → pos 0 ≤ℤ (exact t.now).at i 0 }
@@ -40,7 +40,7 @@ fn point_at(t: &Tableau, column: usize) -> u64
 }
 
 /// The numerator of the ray at a column of the tableau, where column c enters.
-fn ray_at(t: &Tableau, c: usize, column: usize) -> u64
+fn ray_at(t: &Stage, c: usize, column: usize) -> u64
     requires enters { c < t.now.width }
     requires distinct { HasDistinctBasis t.now.rows (exact t.now) }
     requires fresh { (i : ℕ) → i < t.now.rows → (exact t.now).basis i ≢ c }
@@ -61,7 +61,7 @@ fn ray_at(t: &Tableau, c: usize, column: usize) -> u64
 }
 
 /// The numerators of the point, one for each of the program's columns.
-fn point_numerators(alloc: Global, t: &Tableau, cols: usize) -> Result<Vec<u64>, NoMemory>
+fn point_numerators(alloc: Global, t: &Stage, cols: usize) -> Result<Vec<u64>, NoMemory>
     requires cols_are { t.now.width ≡ 1 + t.now.rows + cols }
     requires distinct { HasDistinctBasis t.now.rows (exact t.now) }
     requires sides { (i : ℕ) → i < t.now.rows → pos 0 ≤ℤ (exact t.now).at i 0 }
@@ -78,7 +78,7 @@ fn point_numerators(alloc: Global, t: &Tableau, cols: usize) -> Result<Vec<u64>,
 }
 
 /// The numerators of the ray, one for each of the program's columns, where column c enters.
-fn ray_numerators(alloc: Global, t: &Tableau, c: usize, cols: usize) -> Result<Vec<u64>, NoMemory>
+fn ray_numerators(alloc: Global, t: &Stage, c: usize, cols: usize) -> Result<Vec<u64>, NoMemory>
     requires cols_are { t.now.width ≡ 1 + t.now.rows + cols }
     requires enters { c < t.now.width }
     requires distinct { HasDistinctBasis t.now.rows (exact t.now) }
@@ -117,7 +117,7 @@ fn listing(alloc: Global, numerators: &[u64]) -> Result<Vec<Entry>, NoMemory>
 }
 
 /// The point that the tableau shows, listed.
-pub fn point(alloc: Global, t: &Tableau, cols: usize) -> Result<Seq<Entry>, NoMemory>
+pub fn point(alloc: Global, t: &Stage, cols: usize) -> Result<Seq<Entry>, NoMemory>
     requires cols_are { t.now.width ≡ 1 + t.now.rows + cols }
     requires few { cols ≤ most_columns }
     requires distinct { HasDistinctBasis t.now.rows (exact t.now) }
@@ -131,7 +131,7 @@ pub fn point(alloc: Global, t: &Tableau, cols: usize) -> Result<Seq<Entry>, NoMe
 }
 
 /// The ray that the tableau shows, listed, where column c enters.
-pub fn ray(alloc: Global, t: &Tableau, c: usize, cols: usize) -> Result<Seq<Entry>, NoMemory>
+pub fn ray(alloc: Global, t: &Stage, c: usize, cols: usize) -> Result<Seq<Entry>, NoMemory>
     requires cols_are { t.now.width ≡ 1 + t.now.rows + cols }
     requires few { cols ≤ most_columns }
     requires enters { c < t.now.width }
@@ -147,7 +147,7 @@ pub fn ray(alloc: Global, t: &Tableau, c: usize, cols: usize) -> Result<Seq<Entr
 }
 
 /// The prices that the tableau shows: the slack entries of its objective row.
-pub fn prices(alloc: Global, t: &Tableau) -> Result<Seq<u64>, NoMemory>
+pub fn prices(alloc: Global, t: &Stage) -> Result<Seq<u64>, NoMemory>
     requires wide { t.now.rows < t.now.width }
     requires not_negative { (s : ℕ) → s < t.now.rows → pos 0 ≤ℤ (exact t.now).at t.now.rows (suc s) }
     ensures length { IfOk result (λ x. length x ≡ t.now.rows) }

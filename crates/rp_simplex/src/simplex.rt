@@ -4,7 +4,7 @@ ghost use Rattle.rp_simplex.specs.SameOutcome.{IsSameOutcome};
 ghost use Rattle.rp_simplex.specs.Evidence.{IsEvidence};
 
 use crate::choice::{entering_column, leaving_row};
-use crate::first::first_tableau;
+use crate::first::first_stage;
 use crate::outcome::Outcome;
 use crate::pivot::pivoted;
 use crate::readout::{point, prices, ray};
@@ -21,7 +21,7 @@ pub fn maximize<P: Lp>(alloc: Global, p: &P) -> Result<Outcome, NoMemory>
     ensures evidence { IfOk result (λ o. IsEvidence (P.program p.now) o) }
 {
     let cols = p.cols() as usize;
-    let mut t = first_tableau(alloc, p)?;
+    let mut t = first_stage(alloc, p)?;
     let mut step: u64 = 0;
     loop {
         let Some(column) = entering_column(&t) else {
@@ -39,7 +39,7 @@ pub fn maximize<P: Lp>(alloc: Global, p: &P) -> Result<Outcome, NoMemory>
             });
         };
         step = step.saturating_add(1);
-        let Some(next) = pivoted(alloc, &t, row, column)? else {
+        let Some(next) = pivoted(t, row, column) else {
             return Ok(Outcome::Wide { step });
         };
         t = next;

@@ -1,6 +1,3 @@
-use Rattle.std.proofs.Common.{◌≡◌, subst, MatchOption}
-use Rattle.rp_simplex.specs.Pivot.{IsPivot, PivotPasses}
-use Rattle.rp_simplex.specs.Shown.{exact}
 use Rattle.rp_simplex.proofs.Runs.{starts, distinct_basis, sides, no_ties, fresh, moves, nearer}
 use Rattle.rp_simplex.specs.declared.outcome.Outcome.TheVariants.{Optimal, Unbounded, Wide}
 use Rattle.rp_simplex.proofs.Outcomes.{whole}
@@ -39,28 +36,20 @@ pub returns-in_default-leaving_row : goal.returns-in_default-leaving_row
 returns-in_default-leaving_row g c = whole (g.P.Lp.program c.args.p.now) (Unbounded _ _ _) (g.met.P.Lp.within_limits c.args.p.now) (ends_unbounded (g.P.Lp.program c.args.p.now) (g.met.P.Lp.within_limits c.args.p.now) c.loop-column.t c.loop-column.step c.cols-cols.result c.loop-column.invariant c.cols-cols.ensures
     c.in-Some.column c.in_ok-point.point c.in_ok-ray.ray c.in-Some.ensures c.in_default-leaving_row.ensures c.in_ok-point.ensures.listed c.in_ok-point.ensures.read c.in_ok-ray.ensures.listed c.in_ok-ray.ensures.read)
 
-pub returns-in_default-2 : goal.returns-in_default-2
-returns-in_default-2 g c =
-    let passes : PivotPasses c.loop-column.t.rows c.loop-column.t.width (exact c.loop-column.t) c.in-Some-leaving_row.row c.in-Some.column
-    = subst (λ o. MatchOption o (PivotPasses c.loop-column.t.rows c.loop-column.t.width (exact c.loop-column.t) c.in-Some-leaving_row.row c.in-Some.column) (λ u. IsPivot c.loop-column.t.rows c.loop-column.t.width (exact c.loop-column.t) c.in-Some-leaving_row.row c.in-Some.column (exact u))) c.in_default-2.is c.in_ok-next.ensures.next in
+pub returns-in_default-pivoted : goal.returns-in_default-pivoted
+returns-in_default-pivoted g c =
     whole (g.P.Lp.program c.args.p.now) (Wide _) (g.met.P.Lp.within_limits c.args.p.now) (passes_width (g.P.Lp.program c.args.p.now) (g.met.P.Lp.within_limits c.args.p.now) c.loop-column.t c.loop-column.step c.saturating_add-step.result c.in-Some.column c.in-Some-leaving_row.row c.loop-column.invariant
-    c.in-Some.ensures c.in-Some-leaving_row.ensures passes (next_count c.loop-column.step c.loop-column.invariant.steps c.saturating_add-step.result c.loop-column.invariant.counted c.saturating_add-step.ensures))
+    c.in-Some.ensures c.in-Some-leaving_row.ensures c.in_default-pivoted.ensures.next (next_count c.loop-column.step c.loop-column.invariant.steps c.saturating_add-step.result c.loop-column.invariant.counted c.saturating_add-step.ensures))
 
 pub loop-column-smaller : goal.loop-column-smaller
 loop-column-smaller g c =
-    let pivot : IsPivot c.loop-column.t.rows c.loop-column.t.width (exact c.loop-column.t) c.in-Some-leaving_row.row c.in-Some.column (exact c.in-Some-2.next)
-    = subst (λ o. MatchOption o (PivotPasses c.loop-column.t.rows c.loop-column.t.width (exact c.loop-column.t) c.in-Some-leaving_row.row c.in-Some.column) (λ u. IsPivot c.loop-column.t.rows c.loop-column.t.width (exact c.loop-column.t) c.in-Some-leaving_row.row c.in-Some.column (exact u))) c.in-Some-2.is c.in_ok-next.ensures.next in
-    let shape : (c.in-Some-2.next.rows ≡ c.loop-column.t.rows) × (c.in-Some-2.next.width ≡ c.loop-column.t.width)
-    = subst (λ o. MatchOption o (Unit {0}) (λ u. (u.rows ≡ c.loop-column.t.rows) × (u.width ≡ c.loop-column.t.width))) c.in-Some-2.is c.in_ok-next.ensures.shape in
-    nearer (g.P.Lp.program c.args.p.now) (g.met.P.Lp.within_limits c.args.p.now) c.loop-column.t c.loop-column.step c.loop-column.invariant c.in-Some.column c.in-Some-leaving_row.row c.in-Some-2.next
-    c.in-Some.ensures c.in-Some-leaving_row.ensures pivot shape.0 shape.1
+    let made = c.in-Some-pivoted.ensures in
+    nearer (g.P.Lp.program c.args.p.now) (g.met.P.Lp.within_limits c.args.p.now) c.loop-column.t c.loop-column.step c.loop-column.invariant c.in-Some.column c.in-Some-leaving_row.row c.in-Some-pivoted.next
+    c.in-Some.ensures c.in-Some-leaving_row.ensures made.next made.shape.0 made.shape.1
 
 pub loop-column-preserved : goal.loop-column-preserved
 loop-column-preserved g c =
-    let pivot : IsPivot c.loop-column.t.rows c.loop-column.t.width (exact c.loop-column.t) c.in-Some-leaving_row.row c.in-Some.column (exact c.in-Some-2.next)
-    = subst (λ o. MatchOption o (PivotPasses c.loop-column.t.rows c.loop-column.t.width (exact c.loop-column.t) c.in-Some-leaving_row.row c.in-Some.column) (λ u. IsPivot c.loop-column.t.rows c.loop-column.t.width (exact c.loop-column.t) c.in-Some-leaving_row.row c.in-Some.column (exact u))) c.in-Some-2.is c.in_ok-next.ensures.next in
-    let shape : (c.in-Some-2.next.rows ≡ c.loop-column.t.rows) × (c.in-Some-2.next.width ≡ c.loop-column.t.width)
-    = subst (λ o. MatchOption o (Unit {0}) (λ u. (u.rows ≡ c.loop-column.t.rows) × (u.width ≡ c.loop-column.t.width))) c.in-Some-2.is c.in_ok-next.ensures.shape in
-    moves (g.P.Lp.program c.args.p.now) (g.met.P.Lp.within_limits c.args.p.now) c.loop-column.t c.loop-column.step c.loop-column.invariant c.in-Some.column c.in-Some-leaving_row.row c.in-Some-2.next
-    c.in-Some.ensures c.in-Some-leaving_row.ensures c.saturating_add-step.result pivot shape.0 shape.1
+    let made = c.in-Some-pivoted.ensures in
+    moves (g.P.Lp.program c.args.p.now) (g.met.P.Lp.within_limits c.args.p.now) c.loop-column.t c.loop-column.step c.loop-column.invariant c.in-Some.column c.in-Some-leaving_row.row c.in-Some-pivoted.next
+    c.in-Some.ensures c.in-Some-leaving_row.ensures c.saturating_add-step.result made.next made.shape.0 made.shape.1
     (next_count c.loop-column.step c.loop-column.invariant.steps c.saturating_add-step.result c.loop-column.invariant.counted c.saturating_add-step.ensures)

@@ -1,23 +1,27 @@
-ghost use Rattle.std.specs.Prelude.{◌≡◌, ◌+◌, ◌*◌, ◌^◌, ◌<◌, ◌≤◌, ℤ, ◌*ℤ◌, All, vec_len};
+ghost use Rattle.std.specs.Prelude.{◌≡◌, ℕ, ◌+◌, ◌^◌, ◌<◌, ◌≤◌, ℤ, ◌*ℤ◌, length, vec_len};
 ghost use Rattle.std.specs.Int.RustNames.{unsigned_abs};
 ghost use Rattle.rp_farkas.specs.Limits.{FitsEvidence, most_columns, most_rows};
+ghost use Rattle.rp_simplex.specs.Cells.{cell};
 
-/// A tableau: its entries over one denominator, by row and then by column, and the basic column of each row. The
-/// last row is the objective; column 0 has the right sides, then come the slacks and the program's columns.
+use rp_grid::Grid;
+
+/// The tableau that the run stands at: its entries over one denominator, in one grid, and the basic column of each
+/// row. The last row is the objective; column 0 has the right sides, then come the slacks and the program's columns.
 #[derive(Drop)]
-pub struct Tableau {
+pub struct Stage {
     pub rows: usize,
     pub width: usize,
     pub den: u64,
-    pub entries: Vec<i64>,
+    pub grid: Grid<i64>,
     pub basis: Vec<usize>,
     ghost few_rows: { rows ≤ most_rows },
     ghost few_columns: { width ≤ 1 + most_rows + most_columns },
-    ghost shape: { vec_len entries ≡ (rows + 1) * width },
+    ghost count: { length grid.rows ≡ rows + 1 },
+    ghost columns: { grid.cols ≡ width },
     ghost basis_length: { vec_len basis ≡ rows },
     ghost den_positive: { 0 < den },
     ghost den_fits: { FitsEvidence den },
-    ghost entries_fit: { All (λ z. FitsEvidence (unsigned_abs z)) entries.items },
+    ghost entries_fit: { (i j : ℕ) → i ≤ rows → j < width → FitsEvidence (unsigned_abs (cell grid i j)) },
 }
 
 /// The product of two numbers below 2^63 in absolute value, which is below 2^126.
@@ -30,7 +34,7 @@ pub fn product(a: i64, b: i64) -> i128
     i128::from(a) * i128::from(b)
 }
 
-impl Tableau {
+impl Stage {
     ghost use Rattle.rp_simplex.specs.Shown.{exact};
 
     /// The numerator in row i and column j.
@@ -40,7 +44,7 @@ impl Tableau {
         ensures value { result ≡ (exact self.now).at i j }
         ensures fits { FitsEvidence (unsigned_abs result) }
     {
-        self.entries[i * self.width + j]
+        self.grid.row(i as u32)[j]
     }
 
     /// The product of the numerators in row i, column c and in row k, column j.
