@@ -16,5 +16,6 @@ pub mod Entries
 pub mod Runs
 pub mod Ending
 pub mod Determined
+pub mod Same
 pub mod Outcomes
 pub mod Worked

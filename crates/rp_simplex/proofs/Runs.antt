@@ -30,6 +30,10 @@ pub record IsAt (p : LinearProgram) (t : Stage) (step : ℕ) : Type 0 where
 pub starts : (p : LinearProgram) (t : Stage) → IsFirstTableau p (exact t) → IsShapedFor p t → IsAt p t 0
 starts p t first shape = record { steps = 0; reached = begins first; counted = omega arith; shape = shape }
 
+-- the columns of the program, from the sizes of tableau 0
+pub cols_of : {p : LinearProgram} (t : Stage) → IsShapedFor p t → t.width - 1 - t.rows ≡ p.cols
+cols_of t shape = omega (arith, shape.rows, shape.width)
+
 -- every tableau in memory is within the width
 pub within_width : (t : Stage) → IsWithinWidth t.rows t.width (exact t)
 within_width t = record {

@@ -12,4 +12,6 @@ pub mod Outcome
 pub mod SameOutcome
 pub mod Evidence
 pub mod Inner
+pub mod ReadProgram
+pub mod Ready
 pub mod Written
