@@ -3,7 +3,7 @@ ghost use Rattle.std.specs.Int.RustNames.{unsigned_abs};
 
 use rp_farkas::{Entry, Pair, Program, check_pair, check_ray};
 use rp_num::{NoMemory, Seq};
-use rp_simplex::{Outcome, maximize};
+use rp_simplex::{Outcome, Tableau, maximize};
 use std::alloc::Global;
 use std::process::Abort;
 use std::test::Fail;
@@ -113,7 +113,7 @@ fn told(alloc: Global, outcome: &Outcome) -> Result<String, Fail> {
     Ok(text)
 }
 
-/// The outcome of the program, and whether the checks take its evidence.
+/// The outcome of the program, which both calls give, and whether the checks take its evidence.
 pub(crate) fn outcome(
     rt: &impl Abort,
     alloc: Global,
@@ -124,6 +124,8 @@ pub(crate) fn outcome(
     let program = program(rt, alloc, a, b, c)?;
     let outcome = maximize(alloc, &program)?;
     let text = told(alloc, &outcome)?;
+    let solved = Tableau::of(alloc, &program)?.solve();
+    assert_eq!(rt; told(alloc, &solved)?, text);
     let taken = match &outcome {
         Outcome::Optimal(pair) => check_pair(&program, pair),
         Outcome::Unbounded { den, point, ray } => check_ray(&program, *den, point, ray),

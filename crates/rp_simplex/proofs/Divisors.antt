@@ -1,6 +1,6 @@
 -- Dividing by a divisor, with no rest.
 use Prim.Native.Nat.{◌∣◌}
-use Rattle.std.proofs.Common.{◌≡◌, ℕ, ◌*◌, ◌<◌, ◌≤◌, ◌^◌, ℤ, pos, negsuc, ◌*ℤ◌, neg_ℤ, sym, ◌∙◌, ap, subst, arith, FitsSigned}
+use Rattle.std.proofs.Common.{◌≡◌, ℕ, ◌*◌, ◌<◌, ◌≤◌, ◌^◌, ℤ, pos, negsuc, ◌*ℤ◌, ◌<ℤ◌, neg_ℤ, sym, ◌∙◌, ap, subst, arith, FitsSigned}
 use Rattle.std.specs.Int.{w64, w128}
 use Rattle.std.proofs.Math.Nat.{mul-le-mul_right}
 use lib.Signed.{mag}
@@ -53,3 +53,24 @@ quotient_kept z q g n fits_z fits_q e read small =
 
 pub quotient_fits : (q : ℤ) (n : ℕ) → mag q < 2 ^ 127 → n ≡ unsigned_abs (to_z w128 (of_z w128 q)) → n < 2 ^ 63 → unsigned_abs (to_z w64 (of_z w64 (to_z w128 (of_z w128 q)))) < 2 ^ 63
 quotient_fits q n fits read small = subst (λ y. unsigned_abs y < 2 ^ 63) (sym (small_bits q n fits read small)) (subst (λ k. k < 2 ^ 63) (read ∙ ap unsigned_abs (back128 q fits)) small)
+
+-- ---- in 64 bits
+pub narrow_read : (z d : ℤ) → pos 0 <ℤ d → unsigned_abs d ∣ unsigned_abs z → unsigned_abs z < 2 ^ 63 → FitsSigned w64 d
+    → z ≡ to_z w64 (of_z w64 (int_div (to_z w64 (of_z w64 z)) (to_z w64 (of_z w64 d)))) *ℤ d
+narrow_read z (negsuc g) above d fits fits_d = absurd (omega (arith, ints))
+narrow_read z (pos g) above d fits fits_d =
+    let read : to_z w64 (of_z w64 z) ≡ z = to_z-of_z w64 z (fits_signed_from_abs w64 z fits) in
+    let divisor : to_z w64 (of_z w64 (pos g)) ≡ pos g = to_z-of_z w64 (pos g) fits_d in
+    let quotient_fits : FitsSigned w64 (int_div z (pos g)) = quot_fits w64 z (pos g) (fits_signed_from_abs w64 z fits) (omega (arith, ints)) in
+    divided z g d
+    ∙ ap (λ q. q *ℤ pos g) (sym (to_z-of_z w64 (int_div z (pos g)) quotient_fits)
+    ∙ ap (λ y. to_z w64 (of_z w64 (int_div y (pos g)))) (sym read)
+    ∙ ap (λ y. to_z w64 (of_z w64 (int_div (to_z w64 (of_z w64 z)) y))) (sym divisor))
+
+pub narrow_divides : (z : ℤ) (g n : ℕ) → unsigned_abs z < 2 ^ 127 → n ≡ unsigned_abs (to_z w128 (of_z w128 z)) → n < 2 ^ 63 → g < 2 ^ 63 → g ∣ unsigned_abs z
+    → unsigned_abs (to_z w64 g) ∣ unsigned_abs (to_z w64 (of_z w64 (to_z w128 (of_z w128 z))))
+narrow_divides z g n fits read small small_g d =
+    let same : to_z w128 (of_z w128 z) ≡ z = to_z-of_z w128 z (fits_signed_from_abs w128 z fits) in
+    let below : unsigned_abs z < 2 ^ 63 = subst (λ k. k < 2 ^ 63) (read ∙ ap unsigned_abs same) small in
+    let back : to_z w64 (of_z w64 (to_z w128 (of_z w128 z))) ≡ z = ap (λ y. to_z w64 (of_z w64 y)) same ∙ to_z-of_z w64 z (fits_signed_from_abs w64 z below) in
+    subst (λ y. unsigned_abs (to_z w64 g) ∣ unsigned_abs y) (sym back) (subst (λ y. unsigned_abs y ∣ unsigned_abs z) (sym (to_z_pos w64 g small_g)) d)

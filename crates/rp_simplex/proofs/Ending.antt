@@ -4,7 +4,7 @@ use Rattle.rp_farkas.specs.declared.entry.Entry.{Entry}
 use Rattle.rp_farkas.specs.LinearProgram.{LinearProgram}
 use Rattle.rp_farkas.specs.Limits.{IsWithinLimits}
 use Rattle.rp_farkas.specs.Listing.{IsListing, numerator_at}
-use Rattle.rp_simplex.specs.declared.tableau.Tableau.{Tableau}
+use Rattle.rp_simplex.specs.declared.stage.Stage.{Stage}
 use Rattle.rp_simplex.specs.Choice.{IsEntering, IsOptimal, IsLeaving, IsUnbounded}
 use Rattle.rp_simplex.specs.Width.{IsWithinWidth}
 use Rattle.rp_simplex.specs.Pivot.{PivotPasses}
@@ -13,7 +13,7 @@ use Rattle.rp_simplex.specs.Readout.{IsReadAt}
 use Rattle.rp_simplex.specs.Outcome.{EndsOptimal, EndsUnbounded, PassesWidth}
 use Rattle.rp_simplex.proofs.Runs.{IsAt, reshape, unshape, within, reaches_next}
 
-module _ (p : LinearProgram) (limits : IsWithinLimits p) (t : Tableau) (step cols : ℕ) (here : IsAt p t step) (cols_are : cols ≡ p.cols) where
+module _ (p : LinearProgram) (limits : IsWithinLimits p) (t : Stage) (step cols : ℕ) (here : IsAt p t step) (cols_are : cols ≡ p.cols) where
   -- a reading of this shape is one of the program's
   read_there : (f : ℕ → ℤ) (c : ℕ) (z : ℤ) (y : ℕ → ℕ) → IsReadAt t.rows cols (exact t) f c z y → IsReadAt p.rows p.cols (exact t) f c z y
   read_there f c z y h = subst (λ n. IsReadAt p.rows n (exact t) f c z y) cols_are (reshape (λ rows _. IsReadAt rows cols (exact t) f c z y) p t here.shape h)
@@ -54,7 +54,7 @@ module _ (p : LinearProgram) (limits : IsWithinLimits p) (t : Tableau) (step col
 pub next_count : (step steps next : ℕ) → step ≡ min steps (2 ^ 64 - 1) → next ≡ min (step + 1) (2 ^ 64 - 1) → next ≡ min (suc steps) (2 ^ 64 - 1)
 next_count step steps next e f = omega arith
 
-pub passes_width : (p : LinearProgram) → (limits : IsWithinLimits p) → (t : Tableau) (step next c r : ℕ) (here : IsAt p t step) → IsEntering t.rows t.width (exact t) c → IsLeaving t.rows t.width (exact t) c r
+pub passes_width : (p : LinearProgram) → (limits : IsWithinLimits p) → (t : Stage) (step next c r : ℕ) (here : IsAt p t step) → IsEntering t.rows t.width (exact t) c → IsLeaving t.rows t.width (exact t) c r
     → PivotPasses t.rows t.width (exact t) r c → next ≡ min (suc here.steps) (2 ^ 64 - 1) → PassesWidth p next
 passes_width p limits t step next c r here entering leaving passes counted = record {
   steps = suc here.steps;

@@ -11,23 +11,21 @@ use Rattle.rp_simplex.specs.ExactTableau.{ExactTableau}
 use Rattle.rp_simplex.specs.Readout.{IsReadAt}
 
 -- the reading of one more column
-pub read_more : (rows j : ℕ) (t : ExactTableau) (f : ℕ → ℤ) (c : ℕ) (z : ℤ) (old new : List ℕ) (n : ℕ) → IsReadAt rows j t f c z (slice_index old) → length old ≡ j → new ≡ old ++ n ∷ []
+pub read_more : (rows j : ℕ) (t : ExactTableau) (f : ℕ → ℤ) (c : ℕ) (z : ℤ) (old new : ℕ → ℕ) (n : ℕ) → IsReadAt rows j t f c z old → new j ≡ n → ((k : ℕ) → k < j → new k ≡ old k)
     → ((i : ℕ) → i < rows → t.basis i ≡ suc (rows + j) → pos n ≡ f i) → (c ≡ suc (rows + j) → pos n ≡ z)
-    → (((i : ℕ) → i < rows → t.basis i ≢ suc (rows + j)) → c ≢ suc (rows + j) → n ≡ 0) → IsReadAt rows (j + 1) t f c z (slice_index new)
-read_more rows j t f c z old new n h len e basic entering others =
-    let at_end : slice_index new j ≡ n = ap (λ (xs : List ℕ). slice_index xs j) e ∙ get_or_push old n 0 j len in
-    let before : (k : ℕ) → k < j → slice_index new k ≡ slice_index old k = λ k l. ap (λ (xs : List ℕ). slice_index xs k) e ∙ get_or-append old (n ∷ []) 0 k (omega arith) in
+    → (((i : ℕ) → i < rows → t.basis i ≢ suc (rows + j)) → c ≢ suc (rows + j) → n ≡ 0) → IsReadAt rows (j + 1) t f c z new
+read_more rows j t f c z old new n h at_end before basic entering others =
     record {
       basic = λ k i hk hi q. elim (cases_eq k j) [
-        | inl same ↦ ap pos (ap (slice_index new) same ∙ at_end) ∙ basic i hi (q ∙ ap (λ m. suc (rows + m)) same)
+        | inl same ↦ ap pos (ap new same ∙ at_end) ∙ basic i hi (q ∙ ap (λ m. suc (rows + m)) same)
         | inr ne ↦ ap pos (before k (omega arith)) ∙ h.basic k i (omega arith) hi q
       ];
       entering = λ k hk q. elim (cases_eq k j) [
-        | inl same ↦ ap pos (ap (slice_index new) same ∙ at_end) ∙ entering (q ∙ ap (λ m. suc (rows + m)) same)
+        | inl same ↦ ap pos (ap new same ∙ at_end) ∙ entering (q ∙ ap (λ m. suc (rows + m)) same)
         | inr ne ↦ ap pos (before k (omega arith)) ∙ h.entering k (omega arith) q
       ];
       others = λ k hk none off. elim (cases_eq k j) [
-        | inl same ↦ ap (slice_index new) same ∙ at_end ∙ others (λ i hi q. none i hi (q ∙ ap (λ m. suc (rows + m)) (sym same))) (λ q. off (q ∙ ap (λ m. suc (rows + m)) (sym same)))
+        | inl same ↦ ap new same ∙ at_end ∙ others (λ i hi q. none i hi (q ∙ ap (λ m. suc (rows + m)) (sym same))) (λ q. off (q ∙ ap (λ m. suc (rows + m)) (sym same)))
         | inr ne ↦ before k (omega arith) ∙ h.others k (omega arith) none off
       ];
     }
@@ -85,16 +83,12 @@ listing_push j es e h is positive fits =
       fitting = All-push (λ (d : Entry). d.value < 2 ^ 63) es e h.fitting fits;
     }
 
--- one more column of the numerators
-pub read_push : (j : ℕ) (es new : List Entry) (e : Entry) (f : ℕ → ℕ) → IsListing j es → e.at ≡ j → new ≡ es ++ e ∷ [] → e.value ≡ f j → ((k : ℕ) → k < j → numerator_at es k ≡ f k)
-    → (k : ℕ) → k < j + 1 → numerator_at new k ≡ f k
-read_push j es new e f h is whole value before k l = ap (λ (xs : List Entry). numerator_at xs k) whole ∙ elim (cases_eq k j) [
-  | inl same ↦ subst (λ q. numerator_at (es ++ e ∷ []) q ≡ f q) (sym same) (numerator-last j es e is h.columns ∙ value)
-  | inr ne ↦ numerator-push es e k (omega arith) ∙ before k (omega arith)
-]
+-- the numerators after one more entry
+pub pushed_before : (j : ℕ) (es : List Entry) (e : Entry) → e.at ≡ j → (k : ℕ) → k < j → numerator_at (es ++ e ∷ []) k ≡ numerator_at es k
+pushed_before j es e is k l = numerator-push es e k (omega arith)
 
-pub read_none : (j : ℕ) (es : List Entry) (f : ℕ → ℕ) → IsListing j es → f j ≡ 0 → ((k : ℕ) → k < j → numerator_at es k ≡ f k) → (k : ℕ) → k < j + 1 → numerator_at es k ≡ f k
-read_none j es f h none before k l = elim (cases_eq k j) [
-  | inl same ↦ subst (λ q. numerator_at es q ≡ f q) (sym same) (numerator-none j es h.columns j (omega arith) ∙ sym none)
-  | inr ne ↦ before k (omega arith)
-]
+pub pushed_here : (j : ℕ) (es : List Entry) (e : Entry) → IsListing j es → e.at ≡ j → numerator_at (es ++ e ∷ []) j ≡ e.value
+pushed_here j es e h is = numerator-last j es e is h.columns
+
+pub none_here : (j : ℕ) (es : List Entry) → IsListing j es → numerator_at es j ≡ 0
+none_here j es h = numerator-none j es h.columns j (omega arith)

@@ -9,10 +9,13 @@ pub mod Choices
 pub mod Bits
 pub mod Divisors
 pub mod Pushed
+pub mod Writing
+pub mod Clearing
 pub mod Pivoted
 pub mod Entries
 pub mod Runs
 pub mod Ending
 pub mod Determined
+pub mod Same
 pub mod Outcomes
 pub mod Worked

@@ -1,10 +1,10 @@
 -- Where the code's loop stands in the run.
-use Rattle.std.proofs.Common.{◌≡◌, ◌≢◌, ℕ, suc, ◌+◌, ◌-◌, ◌*◌, ◌^◌, ◌<◌, min, pos, ◌*ℤ◌, ◌≤ℤ◌, inl, inr, sym, ◌∙◌, ap, subst, arith, vec_len}
+use Rattle.std.proofs.Common.{◌≡◌, ◌≢◌, ℕ, suc, ◌-◌, ◌^◌, ◌<◌, min, pos, ◌*ℤ◌, ◌≤ℤ◌, inl, inr, sym, ◌∙◌, ap, subst, arith}
 use Rattle.std.proofs.lemmas.Int.{ints}
 use Rattle.std.proofs.lemmas.Bool.{cases_eq}
 use Rattle.rp_farkas.specs.LinearProgram.{LinearProgram}
 use Rattle.rp_farkas.specs.Limits.{IsWithinLimits}
-use Rattle.rp_simplex.specs.declared.tableau.Tableau.{Tableau}
+use Rattle.rp_simplex.specs.declared.stage.Stage.{Stage}
 use Rattle.rp_simplex.specs.ExactTableau.{ExactTableau, width_of}
 use Rattle.rp_simplex.specs.FirstTableau.{IsFirstTableau}
 use Rattle.rp_simplex.specs.Choice.{IsEntering, IsLeaving}
@@ -19,33 +19,36 @@ use Rattle.rp_simplex.proofs.PivotSound.{objective_rises}
 use Rattle.rp_simplex.proofs.Reading.{distinct, right_side}
 use Rattle.rp_simplex.proofs.Steps.{reached_sound, no_tie}
 use Rattle.rp_simplex.proofs.Ends.{distance, distance_falls}
-use Rattle.rp_simplex.proofs.Pushed.{place_below}
 
 -- the loop holds the run's tableau after some number of pivots, and counts them
-pub record IsAt (p : LinearProgram) (t : Tableau) (step : ℕ) : Type 0 where
+pub record IsAt (p : LinearProgram) (t : Stage) (step : ℕ) : Type 0 where
   pub steps : ℕ
   pub reached : Reaches p steps (exact t)
   pub counted : step ≡ min steps (2 ^ 64 - 1)
   pub shape : IsShapedFor p t
 
-pub starts : (p : LinearProgram) (t : Tableau) → IsFirstTableau p (exact t) → IsShapedFor p t → IsAt p t 0
+pub starts : (p : LinearProgram) (t : Stage) → IsFirstTableau p (exact t) → IsShapedFor p t → IsAt p t 0
 starts p t first shape = record { steps = 0; reached = begins first; counted = omega arith; shape = shape }
 
+-- the columns of the program, from the sizes of tableau 0
+pub cols_of : {p : LinearProgram} (t : Stage) → IsShapedFor p t → t.width - 1 - t.rows ≡ p.cols
+cols_of t shape = omega (arith, shape.rows, shape.width)
+
 -- every tableau in memory is within the width
-pub within_width : (t : Tableau) → IsWithinWidth t.rows t.width (exact t)
+pub within_width : (t : Stage) → IsWithinWidth t.rows t.width (exact t)
 within_width t = record {
   den_fits = t.den_fits;
-  entries_fit = λ i j hi hj. t.entries_fit (i * t.width + j) (pos 0) (let l = place_below i j t.rows t.width hi hj in let s : vec_len t.entries ≡ (t.rows + 1) * t.width = t.shape in omega (arith, t.entries.ok.0));
+  entries_fit = t.entries_fit;
 }
 
 -- a fact of the tableau's shape is one of the program's
-pub reshape : (P : ℕ → ℕ → Type 0) (p : LinearProgram) (t : Tableau) → IsShapedFor p t → P t.rows t.width → P p.rows (width_of p)
+pub reshape : (P : ℕ → ℕ → Type 0) (p : LinearProgram) (t : Stage) → IsShapedFor p t → P t.rows t.width → P p.rows (width_of p)
 reshape P p t shape h = subst (λ w. P p.rows w) shape.width (subst (λ r. P r t.width) shape.rows h)
 
-pub unshape : (P : ℕ → ℕ → Type 0) (p : LinearProgram) (t : Tableau) → IsShapedFor p t → P p.rows (width_of p) → P t.rows t.width
+pub unshape : (P : ℕ → ℕ → Type 0) (p : LinearProgram) (t : Stage) → IsShapedFor p t → P p.rows (width_of p) → P t.rows t.width
 unshape P p t shape h = subst (λ w. P t.rows w) (sym shape.width) (subst (λ r. P r (width_of p)) (sym shape.rows) h)
 
-module _ (p : LinearProgram) (limits : IsWithinLimits p) (t : Tableau) (step : ℕ) (here : IsAt p t step) where
+module _ (p : LinearProgram) (limits : IsWithinLimits p) (t : Stage) (step : ℕ) (here : IsAt p t step) where
   pub sound : IsSound p (exact t)
   sound = reached_sound p limits here.reached
 
@@ -72,7 +75,7 @@ module _ (p : LinearProgram) (limits : IsWithinLimits p) (t : Tableau) (step : �
   pub within : IsWithinWidth p.rows (width_of p) (exact t)
   within = reshape (λ rows width. IsWithinWidth rows width (exact t)) p t here.shape (within_width t)
 
-  module _ (c r : ℕ) (u : Tableau) (entering : IsEntering t.rows t.width (exact t) c) (leaving : IsLeaving t.rows t.width (exact t) c r) where
+  module _ (c r : ℕ) (u : Stage) (entering : IsEntering t.rows t.width (exact t) c) (leaving : IsLeaving t.rows t.width (exact t) c r) where
     entering_there : IsEntering p.rows (width_of p) (exact t) c
     entering_there = reshape (λ rows width. IsEntering rows width (exact t) c) p t here.shape entering
 

@@ -25,10 +25,10 @@ pub record IsSound (p : LinearProgram) (t : ExactTableau) : Type 0 where
   pub rows_positive : (i : ℕ) → i < p.rows → IsLexLess (width_of p) (λ _. pos 0) (t.at i)
 
 -- ---- the first tableau
-first-slack : (p : LinearProgram) (i k : ℕ) → k < p.rows → first_entry p i (suc k) ≡ delta i k
+pub first-slack : (p : LinearProgram) (i k : ℕ) → k < p.rows → first_entry p i (suc k) ≡ delta i k
 first-slack p i k l = let yes : ltb k p.rows ≡ true = lt-ltb k p.rows l in rw yes refl
 
-first-right : (p : LinearProgram) (i : ℕ) → i < p.rows → first_entry p i 0 ≡ p.b i
+pub first-right : (p : LinearProgram) (i : ℕ) → i < p.rows → first_entry p i 0 ≡ p.b i
 first-right p i l = let yes : ltb i p.rows ≡ true = lt-ltb i p.rows l in rw yes refl
 
 one_times : (d : ℕ) (z : ℤ) → d ≡ 1 → pos d *ℤ z ≡ z

@@ -1,5 +1,5 @@
 -- Words that only the crate's own functions and their proofs need; no definition and no public clause rests on them.
-use Rattle.std.specs.Prelude.{ℕ, ◌≡◌, ◌≢◌, ◌<◌, pos, ◌*ℤ◌, ◌<ℤ◌, Option, MatchOption}
+use Rattle.std.specs.Prelude.{ℕ, ◌≡◌, ◌≢◌, ◌<◌, pos, ◌*ℤ◌, ◌<ℤ◌, ◌≤◌, [], Option, MatchOption, Vec, vec_capacity}
 use Rattle.rp_simplex.specs.Choice.{IsLeaving, IsUnbounded}
 use Rattle.rp_simplex.specs.ExactTableau.{ExactTableau}
 
@@ -15,3 +15,8 @@ LeavesBelow n width t c best = MatchOption best (IsUnbounded n t c) (λ r. IsLea
 -- No two rows have one basic column.
 abbrev pub HasDistinctBasis : ℕ → ExactTableau → Type 0
 HasDistinctBasis rows t = (i k : ℕ) → i < rows → k < rows → t.basis i ≡ t.basis k → i ≡ k
+
+-- The list is empty and takes n elements with the memory that it has.
+pub record HasRoom {X Z : Type 0} (v : Vec X Z) (n : ℕ) : Type 0 where
+  pub empty : v.items ≡ []
+  pub room : n ≤ vec_capacity v

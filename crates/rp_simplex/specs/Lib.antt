@@ -5,9 +5,13 @@ pub mod Choice
 pub mod Width
 pub mod Pivot
 pub mod Run
+pub mod Cells
 pub mod Shown
 pub mod Readout
 pub mod Outcome
 pub mod SameOutcome
 pub mod Evidence
 pub mod Inner
+pub mod ReadProgram
+pub mod Ready
+pub mod Written

@@ -1,18 +1,19 @@
 -- What the tableau in memory stands for (this project's own form).
-use Rattle.std.specs.Prelude.{◌≡◌, ◌+◌, ◌*◌, pos, slice_index, slice_index_or}
+use Rattle.std.specs.Prelude.{◌≡◌, slice_index}
 use Rattle.rp_farkas.specs.LinearProgram.{LinearProgram}
+use Rattle.rp_simplex.specs.Cells.{cell}
 use Rattle.rp_simplex.specs.ExactTableau.{ExactTableau, width_of}
-use Rattle.rp_simplex.specs.declared.tableau.Tableau.{Tableau}
+use Rattle.rp_simplex.specs.declared.stage.Stage.{Stage}
 
--- The entries stand by row and then by column.
-abbrev pub exact : Tableau → ExactTableau
+-- The entries stand in the grid.
+abbrev pub exact : Stage → ExactTableau
 exact t = record {
   den = t.den;
-  at = λ i j. slice_index_or t.entries.items (i * t.width + j) (pos 0);
+  at = cell t.grid;
   basis = λ i. slice_index t.basis.items i;
 }
 
 -- The tableau has the shape that the program's tableaus have.
-pub record IsShapedFor (p : LinearProgram) (t : Tableau) : Type 0 where
+pub record IsShapedFor (p : LinearProgram) (t : Stage) : Type 0 where
   pub rows : t.rows ≡ p.rows
   pub width : t.width ≡ width_of p

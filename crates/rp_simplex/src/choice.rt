@@ -5,10 +5,10 @@ ghost use Rattle.rp_simplex.specs.Inner.{HasNoTies, LeavesBelow};
 ghost use Rattle.rp_simplex.specs.Lexicographic.{IsLexLess};
 ghost use Rattle.rp_simplex.specs.Shown.{exact};
 
-use crate::tableau::Tableau;
+use crate::stage::Stage;
 
 /// The column that enters, or none where no objective entry is negative.
-pub fn entering_column(t: &Tableau) -> Option<usize>
+pub fn entering_column(t: &Stage) -> Option<usize>
     ensures { MatchOption result (IsOptimal t.now.rows t.now.width (exact t.now))
         (λ c. IsEntering t.now.rows t.now.width (exact t.now) c) }
 {
@@ -22,7 +22,7 @@ pub fn entering_column(t: &Tableau) -> Option<usize>
 
 /// Whether row `first`, divided by its entry in column c, is lexicographically less than row `second`, divided by
 /// its own. The entries are multiplied crosswise.
-fn is_lesser(t: &Tableau, c: usize, first: usize, second: usize) -> bool
+fn is_lesser(t: &Stage, c: usize, first: usize, second: usize) -> bool
     requires column { c < t.now.width }
     requires first_row { first < t.now.rows }
     requires second_row { second < t.now.rows }
@@ -42,7 +42,7 @@ fn is_lesser(t: &Tableau, c: usize, first: usize, second: usize) -> bool
 }
 
 /// The better of the row that leaves so far and row i.
-fn better_row(t: &Tableau, c: usize, best: Option<usize>, i: usize) -> Option<usize>
+fn better_row(t: &Stage, c: usize, best: Option<usize>, i: usize) -> Option<usize>
     requires column { c < t.now.width }
     requires row { i < t.now.rows }
     requires no_ties { HasNoTies t.now.rows t.now.width (exact t.now) c }
@@ -65,7 +65,7 @@ fn better_row(t: &Tableau, c: usize, best: Option<usize>, i: usize) -> Option<us
 }
 
 /// The row that leaves where column c enters, or none where no row has a positive entry there.
-pub fn leaving_row(t: &Tableau, c: usize) -> Option<usize>
+pub fn leaving_row(t: &Stage, c: usize) -> Option<usize>
     requires column { c < t.now.width }
     requires no_ties { HasNoTies t.now.rows t.now.width (exact t.now) c }
     ensures { MatchOption result (IsUnbounded t.now.rows (exact t.now) c)

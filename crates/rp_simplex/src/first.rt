@@ -1,13 +1,15 @@
-ghost use Rattle.std.specs.Prelude.{◌≡◌, ℕ, suc, ◌+◌, ◌*◌, ◌<◌, ◌≤◌, pos, All, IfOk, vec_len};
-ghost use Rattle.std.specs.Prelude.{slice_index, slice_index_or};
+ghost use Rattle.std.specs.Prelude.{◌≡◌, ℕ, suc, ◌+◌, ◌<◌, ◌≤◌, IfOk, length, vec_len, slice_index};
 ghost use Rattle.std.specs.Int.RustNames.{unsigned_abs};
-ghost use Rattle.rp_farkas.specs.Limits.{FitsEvidence, largest_entry, most_rows};
+ghost use Rattle.rp_farkas.specs.Limits.{largest_entry, most_rows};
 ghost use Rattle.rp_simplex.specs.ExactTableau.{width_of};
 ghost use Rattle.rp_simplex.specs.FirstTableau.{IsFirstTableau, first_entry};
+ghost use Rattle.rp_simplex.specs.Cells.{cell};
+ghost use Rattle.rp_simplex.specs.Written.{IsFirstEntry, IsWritten};
 ghost use Rattle.rp_simplex.specs.Shown.{exact, IsShapedFor};
 
-use crate::tableau::Tableau;
+use crate::stage::Stage;
 use rp_farkas::Lp;
+use rp_grid::Grid;
 use rp_num::NoMemory;
 use std::alloc::Global;
 
@@ -42,25 +44,33 @@ fn starting_entry<P: Lp>(p: &P, i: usize, j: usize) -> i64
     program_entry(p, i, j - 1 - rows)
 }
 
-/// All entries of the first tableau, by row and then by column.
-fn starting_entries<P: Lp>(
-    alloc: Global,
-    p: &P,
-    size: usize,
-    width: usize,
-) -> Result<Vec<i64>, NoMemory>
-    requires width_is { width ≡ width_of (P.program p.now) }
-    requires size_is { size ≡ ((P.program p.now).rows + 1) * width }
-    ensures length { IfOk result (λ v. vec_len v ≡ size) }
-    ensures entries { IfOk result (λ v. (i j : ℕ) → i ≤ (P.program p.now).rows → j < width
-        → slice_index_or v.items (i * width + j) (pos 0) ≡ first_entry (P.program p.now) i j) }
-    ensures fit { IfOk result (λ v. All (λ z. FitsEvidence (unsigned_abs z)) v.items) }
+/// Writes row i of the first tableau.
+fn fill_row<P: Lp>(grid: &mut Grid<i64>, p: &P, i: usize)
+    requires row { i ≤ (P.program p.now).rows }
+    requires rows { length grid.old.rows ≡ (P.program p.now).rows + 1 }
+    requires cols { grid.old.cols ≡ width_of (P.program p.now) }
+    ensures { IsWritten grid.old grid.new i grid.old.cols
+        (λ j value. IsFirstEntry (P.program p.now) i j value) }
 {
-    let mut entries = Vec::new(alloc);
-    for place in 0..size {
-        entries.push(starting_entry(p, place / width, place % width))?;
+    for j in 0..grid.cols() as usize {
+        grid.row_mut(i as u32)[j] = starting_entry(p, i, j);
     }
-    Ok(entries)
+}
+
+/// All rows of the first tableau in one grid.
+fn starting_grid<P: Lp>(alloc: Global, p: &P) -> Result<Grid<i64>, NoMemory>
+    ensures rows { IfOk result (λ g. length g.rows ≡ (P.program p.now).rows + 1) }
+    ensures cols { IfOk result (λ g. g.cols ≡ width_of (P.program p.now)) }
+    ensures entries { IfOk result
+        (λ g. (i j : ℕ) → i ≤ (P.program p.now).rows → j < width_of (P.program p.now)
+        → IsFirstEntry (P.program p.now) i j (cell g i j)) }
+{
+    let rows = p.rows();
+    let mut grid = Grid::new(alloc, rows + 1, 1 + rows + p.cols(), 0)?;
+    for i in 0..rows as usize + 1 {
+        fill_row(&mut grid, p, i);
+    }
+    Ok(grid)
 }
 
 /// The slack columns, one for each row.
@@ -77,19 +87,19 @@ fn slack_columns(alloc: Global, rows: usize) -> Result<Vec<usize>, NoMemory>
 }
 
 /// The first tableau of the program.
-pub fn first_tableau<P: Lp>(alloc: Global, p: &P) -> Result<Tableau, NoMemory>
+pub fn first_stage<P: Lp>(alloc: Global, p: &P) -> Result<Stage, NoMemory>
     ensures first { IfOk result (λ t. IsFirstTableau (P.program p.now) (exact t)) }
     ensures shape { IfOk result (λ t. IsShapedFor (P.program p.now) t) }
 {
     let rows = p.rows() as usize;
     let width = 1 + rows + p.cols() as usize;
-    let entries = starting_entries(alloc, p, (rows + 1) * width, width)?;
+    let grid = starting_grid(alloc, p)?;
     let basis = slack_columns(alloc, rows)?;
-    Ok(Tableau {
+    Ok(Stage {
         rows,
         width,
         den: 1,
-        entries,
+        grid,
         basis,
     })
 }

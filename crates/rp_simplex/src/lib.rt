@@ -2,14 +2,20 @@
 #![tactic(auto)]
 
 mod choice;
+mod division;
 mod first;
 mod laws;
 mod outcome;
 mod pivot;
 mod readout;
+mod room;
 mod simplex;
+mod stage;
 mod tableau;
 
-pub use laws::{outcomes_are_evidence, the_run_is_determined};
+pub use laws::{
+    outcomes_are_evidence, same_programs_have_the_same_outcomes, the_run_is_determined,
+};
 pub use outcome::Outcome;
 pub use simplex::maximize;
+pub use tableau::Tableau;

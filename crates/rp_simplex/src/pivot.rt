@@ -1,18 +1,18 @@
 ghost use Prim.Native.Nat.{◌∣◌};
 ghost use Rattle.std.specs.Prelude.{◌≡◌, ◌≢◌, ℕ, ◌+◌, ◌*◌, ◌^◌, ◌<◌, ◌≤◌, ℤ, pos, ◌-ℤ◌, ◌*ℤ◌, ◌<ℤ◌};
-ghost use Rattle.std.specs.Prelude.{All, IfOk, MatchOption, length, vec_len, slice_index};
-ghost use Rattle.std.specs.Prelude.{slice_index_or};
+ghost use Rattle.std.specs.Prelude.{MatchBool, MatchOption, length};
 ghost use Rattle.std.specs.Int.RustNames.{unsigned_abs};
 ghost use Rattle.rp_farkas.specs.Limits.{FitsEvidence};
-ghost use Rattle.rp_simplex.specs.Pivot.{cleared, IsPivot, PivotPasses};
+ghost use Rattle.rp_simplex.specs.Cells.{cell};
+ghost use Rattle.rp_simplex.specs.Pivot.{cleared, DividesAll, IsPivot, PivotPasses};
 ghost use Rattle.rp_simplex.specs.Shown.{exact};
+ghost use Rattle.rp_simplex.specs.Written.{ArePivoted, AreRenewed, FitEvidence, HasDivided};
+ghost use Rattle.rp_simplex.specs.Written.{OnePasses, less_multiple, numbers};
 
-use crate::tableau::{Tableau, product};
-use rp_num::{NoMemory, gcd};
-use std::alloc::Global;
-
-/// The width of evidence, for numbers before the common divisor is taken out.
-const WIDTH: u128 = rp_farkas::EVIDENCE_WIDTH as u128;
+use crate::division::{WIDTH, quotient};
+use crate::stage::{Stage, product};
+use rp_grid::Grid;
+use rp_num::gcd;
 
 /// The difference of two products.
 fn difference(a: i128, b: i128) -> i128
@@ -24,8 +24,20 @@ fn difference(a: i128, b: i128) -> i128
     a - b
 }
 
+/// The difference of the products of two numbers each.
+fn difference_of_products(a: i64, b: i64, c: i64, d: i64) -> i128
+    requires a { FitsEvidence (unsigned_abs a) }
+    requires b { FitsEvidence (unsigned_abs b) }
+    requires c { FitsEvidence (unsigned_abs c) }
+    requires d { FitsEvidence (unsigned_abs d) }
+    ensures value { result ≡ a *ℤ b -ℤ c *ℤ d }
+    ensures fits { unsigned_abs result < 2 ^ 127 }
+{
+    difference(product(a, b), product(c, d))
+}
+
 /// The numerator in row i and column j after the pivot, before the common divisor is taken out.
-fn cleared_entry(t: &Tableau, r: usize, c: usize, i: usize, j: usize) -> i128
+fn cleared_entry(t: &Stage, r: usize, c: usize, i: usize, j: usize) -> i128
     requires pivot_row { r < t.now.rows }
     requires pivot_column { c < t.now.width }
     requires row { i ≤ t.now.rows }
@@ -40,91 +52,164 @@ fn cleared_entry(t: &Tableau, r: usize, c: usize, i: usize, j: usize) -> i128
     }
 }
 
-/// All numerators after the pivot, by row and then by column, before the common divisor is taken out.
-fn cleared_entries(alloc: Global, t: &Tableau, r: usize, c: usize) -> Result<Vec<i128>, NoMemory>
+/// The greatest common divisor of the divisor so far and the numerators of row i; 1 is left as it is.
+fn divisor_with_row(t: &Stage, r: usize, c: usize, i: usize, so_far: u128) -> u128
     requires pivot_row { r < t.now.rows }
     requires pivot_column { c < t.now.width }
-    ensures length { IfOk result (λ v. vec_len v ≡ (t.now.rows + 1) * t.now.width) }
-    ensures entries { IfOk result (λ v. (i j : ℕ) → i ≤ t.now.rows → j < t.now.width
-        → slice_index_or v.items (i * t.now.width + j) (pos 0) ≡ cleared (exact t.now) r c i j) }
-    ensures fit { IfOk result (λ v. All (λ z. unsigned_abs z < 2 ^ 127) v.items) }
-{
-    let mut entries = Vec::new(alloc);
-    for place in 0..(t.rows + 1) * t.width {
-        entries.push(cleared_entry(t, r, c, place / t.width, place % t.width))?;
-    }
-    Ok(entries)
-}
-
-/// The greatest common divisor of the denominator and all entries.
-fn common_divisor(den: u128, entries: &[i128]) -> u128
-    requires den { 0 < den }
-    requires fit { All (λ z. unsigned_abs z < 2 ^ 127) entries.now }
+    requires row { i ≤ t.now.rows }
+    requires positive { 0 < so_far }
     ensures positive { 0 < result }
-    ensures divides_den { result ∣ den }
-    ensures divides_entries { All (λ z. result ∣ unsigned_abs z) entries.now }
-    ensures greatest { (k : ℕ) → k ∣ den → All (λ z. k ∣ unsigned_abs z) entries.now → k ∣ result }
+    ensures divides { result ∣ so_far }
+    ensures divides_row { (j : ℕ) → j < t.now.width
+        → result ∣ unsigned_abs (cleared (exact t.now) r c i j) }
+    ensures greatest { (k : ℕ) → k ∣ so_far
+        → ((j : ℕ) → j < t.now.width → k ∣ unsigned_abs (cleared (exact t.now) r c i j)) → k ∣ result }
 {
-    let mut divisor = den;
-    for entry in entries {
-        divisor = gcd(divisor, entry.unsigned_abs());
+    let mut divisor = so_far;
+    for j in 0..t.width {
+        if divisor == 1 {
+            return 1;
+        }
+        divisor = gcd(divisor, cleared_entry(t, r, c, i, j).unsigned_abs());
     }
     divisor
 }
 
-/// The entry divided by one of its divisors.
-fn quotient(entry: i128, divisor: u128) -> i128
-    requires positive { 0 < divisor }
-    requires small { divisor < 2 ^ 127 }
-    requires divides { divisor ∣ unsigned_abs entry }
-    requires fits { unsigned_abs entry < 2 ^ 127 }
-    ensures value { entry ≡ result *ℤ pos divisor }
-    ensures fits { unsigned_abs result < 2 ^ 127 }
+/// The greatest common divisor of the new denominator and all new numerators.
+fn common_divisor(t: &Stage, r: usize, c: usize, den: u128) -> u128
+    requires pivot_row { r < t.now.rows }
+    requires pivot_column { c < t.now.width }
+    requires den { pos den ≡ pos t.now.den *ℤ (exact t.now).at r c }
+    requires positive { 0 < den }
+    ensures positive { 0 < result }
+    ensures divides { result ∣ den }
+    ensures divides_all { DividesAll t.now.rows t.now.width (exact t.now) r c result }
+    ensures greatest { (k : ℕ) → DividesAll t.now.rows t.now.width (exact t.now) r c k
+        → k ∣ result }
 {
-    entry / divisor as i128
-}
-
-/// The entries divided by their common divisor, or none where one of them passes the width.
-fn quotients(alloc: Global, entries: &[i128], divisor: u128) -> Result<Option<Vec<i64>>, NoMemory>
-    requires positive { 0 < divisor }
-    requires small { divisor < 2 ^ 127 }
-    requires divides { All (λ z. divisor ∣ unsigned_abs z) entries.now }
-    requires fit { All (λ z. unsigned_abs z < 2 ^ 127) entries.now }
-    ensures length { IfOk result (λ o. MatchOption o Unit (λ v. vec_len v ≡ length entries.now)) }
-    ensures entries { IfOk result (λ o. MatchOption o
-        ((k : ℕ) × (k < length entries.now) × (2 ^ 63 * divisor ≤ unsigned_abs
-        (slice_index_or entries.now k (pos 0))))
-        (λ v. (k : ℕ) → k < length entries.now
-        → slice_index_or entries.now k (pos 0) ≡ slice_index_or v.items k (pos 0) *ℤ pos divisor)) }
-    ensures fit { IfOk result
-        (λ o. MatchOption o Unit (λ v. All (λ z. FitsEvidence (unsigned_abs z)) v.items)) }
-{
-    let mut reduced = Vec::new(alloc);
-    for entry in entries {
-        let value = quotient(*entry, divisor);
-        if value.unsigned_abs() > WIDTH {
-            return Ok(None);
-        }
-        reduced.push(value as i64)?;
+    let mut divisor = den;
+    for i in 0..t.rows + 1 {
+        divisor = divisor_with_row(t, r, c, i, divisor);
     }
-    Ok(Some(reduced))
+    divisor
 }
 
-/// The basic columns, with column c in row r.
-fn basis_after(t: &Tableau, r: usize, c: usize) -> Result<Vec<usize>, NoMemory>
-    requires { r < t.now.rows }
-    ensures length { IfOk result (λ v. vec_len v ≡ t.now.rows) }
-    ensures enters { IfOk result (λ v. slice_index v.items r ≡ c) }
-    ensures stays { IfOk result (λ v. (i : ℕ) → i < t.now.rows → i ≢ r
-        → slice_index v.items i ≡ (exact t.now).basis i) }
+/// Takes from row i the multiple of row r that clears column c, and divides. Row r is read while row i is written. It
+/// stops at a number that passes the width.
+fn clear_row(grid: &mut Grid<i64>, r: u32, c: u32, i: u32, divisor: u128) -> bool
+    requires pivot_row { r < length grid.old.rows }
+    requires pivot_column { c < grid.old.cols }
+    requires row { i < length grid.old.rows }
+    requires apart { i ≢ r }
+    requires fit { FitEvidence grid.old i }
+    requires pivot_fit { FitEvidence grid.old r }
+    requires positive { 0 < divisor }
+    requires small { divisor < 2 ^ 127 }
+    requires divides { (j : ℕ) → j < grid.old.cols
+        → divisor ∣ unsigned_abs (less_multiple grid.old r c i j) }
+    ensures { MatchBool result
+        (HasDivided grid.old grid.new i (less_multiple grid.old r c i) divisor)
+        (OnePasses grid.old.cols (less_multiple grid.old r c i) divisor) }
 {
-    let mut basis = t.basis.clone()?;
-    basis[r] = c;
-    Ok(basis)
+    let cols = grid.cols();
+    let mut rows = grid.two(i, r);
+    let (pivot, factor) = (rows.from_at(c), rows.into_at(c));
+    for j in 0..cols {
+        let entry = difference_of_products(rows.into_at(j), pivot, factor, rows.from_at(j));
+        match quotient(entry, divisor) {
+            Some(value) => rows.set(j, value),
+            None => return false,
+        }
+    }
+    true
+}
+
+/// Multiplies row i by a number, and divides. It stops at a number that passes the width.
+fn scale_row(grid: &mut Grid<i64>, i: u32, by: i64, divisor: u128) -> bool
+    requires row { i < length grid.old.rows }
+    requires fit { FitEvidence grid.old i }
+    requires by { FitsEvidence (unsigned_abs by) }
+    requires positive { 0 < divisor }
+    requires small { divisor < 2 ^ 127 }
+    requires divides { (j : ℕ) → j < grid.old.cols
+        → divisor ∣ unsigned_abs (cell grid.old i j *ℤ by) }
+    ensures { MatchBool result
+        (HasDivided grid.old grid.new i (λ j. cell grid.old i j *ℤ by) divisor)
+        (OnePasses grid.old.cols (λ j. cell grid.old i j *ℤ by) divisor) }
+{
+    for j in 0..grid.cols() as usize {
+        let entry = product(grid.row(i)[j], by);
+        match quotient(entry, divisor) {
+            Some(value) => grid.row_mut(i)[j] = value,
+            None => return false,
+        }
+    }
+    true
+}
+
+/// Clears column c in row i, and divides. A row with 0 there changes its scale alone.
+fn renew_row(grid: &mut Grid<i64>, r: u32, c: u32, i: u32, divisor: u128) -> bool
+    requires pivot_row { r < length grid.old.rows }
+    requires pivot_column { c < grid.old.cols }
+    requires row { i < length grid.old.rows }
+    requires apart { i ≢ r }
+    requires fit { FitEvidence grid.old i }
+    requires pivot_fit { FitEvidence grid.old r }
+    requires positive { 0 < divisor }
+    requires small { divisor < 2 ^ 127 }
+    requires divides { (j : ℕ) → j < grid.old.cols
+        → divisor ∣ unsigned_abs (less_multiple grid.old r c i j) }
+    ensures { MatchBool result
+        (HasDivided grid.old grid.new i (less_multiple grid.old r c i) divisor)
+        (OnePasses grid.old.cols (less_multiple grid.old r c i) divisor) }
+{
+    if grid.row(i)[c as usize] != 0 {
+        return clear_row(grid, r, c, i, divisor);
+    }
+    let pivot = grid.row(r)[c as usize];
+    scale_row(grid, i, pivot, divisor)
+}
+
+/// Writes the new numerators of every row but row r.
+fn renew_others(grid: &mut Grid<i64>, r: u32, c: u32, divisor: u128) -> bool
+    requires pivot_row { r < length grid.old.rows }
+    requires pivot_column { c < grid.old.cols }
+    requires fit { (i : ℕ) → i < length grid.old.rows → FitEvidence grid.old i }
+    requires positive { 0 < divisor }
+    requires small { divisor < 2 ^ 127 }
+    requires divides { (i j : ℕ) → i < length grid.old.rows → i ≢ r → j < grid.old.cols
+        → divisor ∣ unsigned_abs (less_multiple grid.old r c i j) }
+    ensures { MatchBool result (AreRenewed grid.old grid.new r c divisor (length grid.old.rows))
+        ((i : ℕ) × (i < length grid.old.rows) × (i ≢ r) × OnePasses grid.old.cols (less_multiple grid.old r c i) divisor) }
+{
+    for i in 0..grid.rows() {
+        if i != r && !renew_row(grid, r, c, i, divisor) {
+            return false;
+        }
+    }
+    true
+}
+
+/// Writes the new numerators of all rows, those of row r last.
+fn renew(grid: &mut Grid<i64>, den: u64, r: u32, c: u32, divisor: u128) -> bool
+    requires pivot_row { r < length grid.old.rows }
+    requires pivot_column { c < grid.old.cols }
+    requires fit { (i : ℕ) → i < length grid.old.rows → FitEvidence grid.old i }
+    requires den { FitsEvidence den }
+    requires positive { 0 < divisor }
+    requires small { divisor < 2 ^ 127 }
+    requires divides { (i j : ℕ) → i < length grid.old.rows → j < grid.old.cols
+        → divisor ∣ unsigned_abs (cleared (numbers den grid.old) r c i j) }
+    ensures { MatchBool result
+        (ArePivoted grid.old grid.new (cleared (numbers den grid.old) r c) divisor)
+        ((i : ℕ) × (i < length grid.old.rows)
+        × OnePasses grid.old.cols (cleared (numbers den grid.old) r c i) divisor) }
+{
+    renew_others(grid, r, c, divisor) && scale_row(grid, r, den as i64, divisor)
 }
 
 /// The denominator after the pivot, before the common divisor is taken out.
-fn cleared_denominator(t: &Tableau, r: usize, c: usize) -> u128
+fn cleared_denominator(t: &Stage, r: usize, c: usize) -> u128
     requires pivot_row { r < t.now.rows }
     requires pivot_column { c < t.now.width }
     requires pivot_entry { pos 0 <ℤ (exact t.now).at r c }
@@ -136,30 +221,35 @@ fn cleared_denominator(t: &Tableau, r: usize, c: usize) -> u128
 }
 
 /// The tableau after the pivot at row r and column c, or none where it passes the width.
-pub fn pivoted(alloc: Global, t: &Tableau, r: usize, c: usize) -> Result<Option<Tableau>, NoMemory>
-    requires pivot_row { r < t.now.rows }
-    requires pivot_column { c < t.now.width }
-    requires pivot_entry { pos 0 <ℤ (exact t.now).at r c }
-    ensures next { IfOk result
-        (λ o. MatchOption o (PivotPasses t.now.rows t.now.width (exact t.now) r c)
-        (λ u. IsPivot t.now.rows t.now.width (exact t.now) r c (exact u))) }
-    ensures shape { IfOk result (λ o. MatchOption o Unit
-        (λ u. (u.rows ≡ t.now.rows) × (u.width ≡ t.now.width))) }
+pub fn pivoted(t: Stage, r: usize, c: usize) -> Option<Stage>
+    requires pivot_row { r < t.rows }
+    requires pivot_column { c < t.width }
+    requires pivot_entry { pos 0 <ℤ (exact t).at r c }
+    ensures next { MatchOption result (PivotPasses t.rows t.width (exact t) r c)
+        (λ u. IsPivot t.rows t.width (exact t) r c (exact u)) }
+    ensures shape { MatchOption result Unit (λ u. (u.rows ≡ t.rows) × (u.width ≡ t.width)) }
 {
-    let den = cleared_denominator(t, r, c);
-    let cleared = cleared_entries(alloc, t, r, c)?;
-    let divisor = common_divisor(den, &cleared);
-    if den / divisor > WIDTH {
-        return Ok(None);
+    let new_den = cleared_denominator(&t, r, c);
+    let divisor = common_divisor(&t, r, c, new_den);
+    if new_den / divisor > WIDTH {
+        return None;
     }
-    match quotients(alloc, &cleared, divisor)? {
-        Some(entries) => Ok(Some(Tableau {
-            rows: t.rows,
-            width: t.width,
-            den: (den / divisor) as u64,
-            entries,
-            basis: basis_after(t, r, c)?,
-        })),
-        None => Ok(None),
+    let Stage {
+        rows,
+        width,
+        den,
+        mut grid,
+        mut basis,
+    } = t;
+    if !renew(&mut grid, den, r as u32, c as u32, divisor) {
+        return None;
     }
+    basis[r] = c;
+    Some(Stage {
+        rows,
+        width,
+        den: (new_den / divisor) as u64,
+        grid,
+        basis,
+    })
 }

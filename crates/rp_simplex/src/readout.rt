@@ -1,18 +1,17 @@
-ghost use Rattle.std.specs.Prelude.{◌≡◌, ◌≢◌, ℕ, suc, ◌+◌, ◌<◌, ◌≤◌, pos, neg_ℤ, ◌≤ℤ◌, All, IfOk};
-ghost use Rattle.std.specs.Prelude.{MatchOption, length, vec_len, slice_index};
+ghost use Rattle.std.specs.Prelude.{◌≡◌, ◌≢◌, ℕ, suc, ◌+◌, ◌<◌, ◌≤◌, pos, neg_ℤ, ◌≤ℤ◌, MatchOption};
+ghost use Rattle.std.specs.Prelude.{length, vec_capacity, vec_len, slice_index};
 ghost use Rattle.rp_farkas.specs.Limits.{FitsEvidence, most_columns};
 ghost use Rattle.rp_farkas.specs.Listing.{IsListing, numerator_at};
-ghost use Rattle.rp_simplex.specs.Inner.{HasDistinctBasis};
+ghost use Rattle.rp_simplex.specs.Inner.{HasDistinctBasis, HasRoom};
 ghost use Rattle.rp_simplex.specs.Readout.{IsReadAt};
 ghost use Rattle.rp_simplex.specs.Shown.{exact};
 
-use crate::tableau::Tableau;
+use crate::stage::Stage;
 use rp_farkas::Entry;
-use rp_num::{NoMemory, Seq};
-use std::alloc::Global;
+use rp_num::Seq;
 
 /// The row whose basic column this is, or none.
-fn row_of(t: &Tableau, column: usize) -> Option<usize>
+fn row_of(t: &Stage, column: usize) -> Option<usize>
     ensures { MatchOption result
         ((i : ℕ) → i < t.now.rows → (exact t.now).basis i ≢ column)
         (λ i. (i < t.now.rows) × ((exact t.now).basis i ≡ column)) }
@@ -26,7 +25,7 @@ fn row_of(t: &Tableau, column: usize) -> Option<usize>
 }
 
 /// The numerator of the point at a column of the tableau: the right side of the row where it is basic, and else 0.
-fn point_at(t: &Tableau, column: usize) -> u64
+fn point_at(t: &Stage, column: usize) -> u64
     requires wide { 0 < t.now.width }
     requires distinct { HasDistinctBasis t.now.rows (exact t.now) }
     requires sides { (i : ℕ) → i < t.now.rows → pos 0 ≤ℤ (exact t.now).at i 0 }
@@ -42,7 +41,7 @@ fn point_at(t: &Tableau, column: usize) -> u64
 }
 
 /// The numerator of the ray at a column of the tableau, where column c enters.
-fn ray_at(t: &Tableau, c: usize, column: usize) -> u64
+fn ray_at(t: &Stage, c: usize, column: usize) -> u64
     requires enters { c < t.now.width }
     requires distinct { HasDistinctBasis t.now.rows (exact t.now) }
     requires fresh { (i : ℕ) → i < t.now.rows → (exact t.now).basis i ≢ c }
@@ -63,104 +62,76 @@ fn ray_at(t: &Tableau, c: usize, column: usize) -> u64
     }
 }
 
-/// The numerators of the point, one for each of the program's columns.
-fn point_numerators(alloc: Global, t: &Tableau, cols: usize) -> Result<Vec<u64>, NoMemory>
-    requires cols_are { t.now.width ≡ 1 + t.now.rows + cols }
-    requires distinct { HasDistinctBasis t.now.rows (exact t.now) }
-    requires sides { (i : ℕ) → i < t.now.rows → pos 0 ≤ℤ (exact t.now).at i 0 }
-    ensures length { IfOk result (λ v. vec_len v ≡ cols) }
-    ensures read { IfOk result (λ v. IsReadAt t.now.rows cols (exact t.now)
-        (λ i. (exact t.now).at i 0) 0 (pos 0) (slice_index v.items)) }
-    ensures fit { IfOk result (λ v. All FitsEvidence v.items) }
+/// Notes the numerator of a column after those before it, where it is positive. The entry has its room.
+fn note(entries: &mut Vec<Entry>, column: usize, value: u64)
+    requires short { column < most_columns }
+    requires fits { FitsEvidence value }
+    requires listed { IsListing column entries.old.items }
+    requires room { vec_len entries.old < vec_capacity entries.old }
+    ensures listed { IsListing (column + 1) entries.new.items }
+    ensures value { numerator_at entries.new.items column ≡ value }
+    ensures before { (k : ℕ) → k < column → numerator_at entries.new.items k
+        ≡ numerator_at entries.old.items k }
+    ensures few { vec_len entries.new ≤ vec_len entries.old + 1 }
+    ensures capacity { vec_capacity entries.old ≤ vec_capacity entries.new }
 {
-    let mut numerators = Vec::new(alloc);
-    for j in 0..cols {
-        numerators.push(point_at(t, 1 + t.rows + j))?;
+    if value > 0 {
+        let at = column as u32;
+        entries.push(Entry { at, value }).unwrap();
     }
-    Ok(numerators)
 }
 
-/// The numerators of the ray, one for each of the program's columns, where column c enters.
-fn ray_numerators(alloc: Global, t: &Tableau, c: usize, cols: usize) -> Result<Vec<u64>, NoMemory>
-    requires cols_are { t.now.width ≡ 1 + t.now.rows + cols }
-    requires enters { c < t.now.width }
-    requires distinct { HasDistinctBasis t.now.rows (exact t.now) }
-    requires fresh { (i : ℕ) → i < t.now.rows → (exact t.now).basis i ≢ c }
-    requires falls { (i : ℕ) → i < t.now.rows → (exact t.now).at i c ≤ℤ pos 0 }
-    ensures length { IfOk result (λ v. vec_len v ≡ cols) }
-    ensures read { IfOk result (λ v. IsReadAt t.now.rows cols (exact t.now)
-        (λ i. neg_ℤ ((exact t.now).at i c)) c (pos t.now.den) (slice_index v.items)) }
-    ensures fit { IfOk result (λ v. All FitsEvidence v.items) }
-{
-    let mut numerators = Vec::new(alloc);
-    for j in 0..cols {
-        numerators.push(ray_at(t, c, 1 + t.rows + j))?;
-    }
-    Ok(numerators)
-}
-
-/// The positive numerators with their columns.
-fn listing(alloc: Global, numerators: &[u64]) -> Result<Vec<Entry>, NoMemory>
-    requires short { length numerators.now ≤ most_columns }
-    requires fit { All FitsEvidence numerators.now }
-    ensures listed { IfOk result (λ v. IsListing (length numerators.now) v.items) }
-    ensures read { IfOk result (λ v. (j : ℕ) → j < length numerators.now
-        → numerator_at v.items j ≡ slice_index numerators.now j) }
-{
-    let mut entries = Vec::new(alloc);
-    for j in 0..numerators.len() {
-        if numerators[j] > 0 {
-            entries.push(Entry {
-                at: j as u32,
-                value: numerators[j],
-            })?;
-        }
-    }
-    Ok(entries)
-}
-
-/// The point that the tableau shows, listed.
-pub fn point(alloc: Global, t: &Tableau, cols: usize) -> Result<Seq<Entry>, NoMemory>
+/// The point that the tableau shows, listed in the room that is there for it.
+pub fn point(t: &Stage, room: Vec<Entry>, cols: usize) -> Seq<Entry>
     requires cols_are { t.now.width ≡ 1 + t.now.rows + cols }
     requires few { cols ≤ most_columns }
     requires distinct { HasDistinctBasis t.now.rows (exact t.now) }
     requires sides { (i : ℕ) → i < t.now.rows → pos 0 ≤ℤ (exact t.now).at i 0 }
-    ensures listed { IfOk result (λ y. IsListing cols y) }
-    ensures read { IfOk result (λ y. IsReadAt t.now.rows cols (exact t.now)
-        (λ i. (exact t.now).at i 0) 0 (pos 0) (numerator_at y)) }
+    requires room { HasRoom room cols }
+    ensures listed { IsListing cols result }
+    ensures read { IsReadAt t.now.rows cols (exact t.now)
+        (λ i. (exact t.now).at i 0) 0 (pos 0) (numerator_at result) }
 {
-    let numerators = point_numerators(alloc, t, cols)?;
-    Ok(Seq::from_vec(listing(alloc, &numerators)?))
+    let mut entries = room;
+    for j in 0..cols {
+        note(&mut entries, j, point_at(t, 1 + t.rows + j));
+    }
+    Seq::from_vec(entries)
 }
 
-/// The ray that the tableau shows, listed, where column c enters.
-pub fn ray(alloc: Global, t: &Tableau, c: usize, cols: usize) -> Result<Seq<Entry>, NoMemory>
+/// The ray that the tableau shows where column c enters, listed in the room that is there for it.
+pub fn ray(t: &Stage, room: Vec<Entry>, c: usize, cols: usize) -> Seq<Entry>
     requires cols_are { t.now.width ≡ 1 + t.now.rows + cols }
     requires few { cols ≤ most_columns }
     requires enters { c < t.now.width }
     requires distinct { HasDistinctBasis t.now.rows (exact t.now) }
     requires fresh { (i : ℕ) → i < t.now.rows → (exact t.now).basis i ≢ c }
     requires falls { (i : ℕ) → i < t.now.rows → (exact t.now).at i c ≤ℤ pos 0 }
-    ensures listed { IfOk result (λ y. IsListing cols y) }
-    ensures read { IfOk result (λ y. IsReadAt t.now.rows cols (exact t.now)
-        (λ i. neg_ℤ ((exact t.now).at i c)) c (pos t.now.den) (numerator_at y)) }
+    requires room { HasRoom room cols }
+    ensures listed { IsListing cols result }
+    ensures read { IsReadAt t.now.rows cols (exact t.now)
+        (λ i. neg_ℤ ((exact t.now).at i c)) c (pos t.now.den) (numerator_at result) }
 {
-    let numerators = ray_numerators(alloc, t, c, cols)?;
-    Ok(Seq::from_vec(listing(alloc, &numerators)?))
+    let mut entries = room;
+    for j in 0..cols {
+        note(&mut entries, j, ray_at(t, c, 1 + t.rows + j));
+    }
+    Seq::from_vec(entries)
 }
 
-/// The prices that the tableau shows: the slack entries of its objective row.
-pub fn prices(alloc: Global, t: &Tableau) -> Result<Seq<u64>, NoMemory>
+/// The prices that the tableau shows, in the room that is there for them: the slack entries of its objective row.
+pub fn prices(t: &Stage, room: Vec<u64>) -> Seq<u64>
     requires wide { t.now.rows < t.now.width }
     requires not_negative { (s : ℕ) → s < t.now.rows → pos 0
         ≤ℤ (exact t.now).at t.now.rows (suc s) }
-    ensures length { IfOk result (λ x. length x ≡ t.now.rows) }
-    ensures read { IfOk result (λ x. (s : ℕ) → s < t.now.rows
-        → pos (slice_index x s) ≡ (exact t.now).at t.now.rows (suc s)) }
+    requires room { HasRoom room t.now.rows }
+    ensures length { length result ≡ t.now.rows }
+    ensures read { (s : ℕ) → s < t.now.rows → pos (slice_index result s)
+        ≡ (exact t.now).at t.now.rows (suc s) }
 {
-    let mut prices = Vec::new(alloc);
+    let mut prices = room;
     for s in 0..t.rows {
-        prices.push(t.entry(t.rows, s + 1) as u64)?;
+        prices.push(t.entry(t.rows, s + 1) as u64).unwrap();
     }
-    Ok(Seq::from_vec(prices))
+    Seq::from_vec(prices)
 }

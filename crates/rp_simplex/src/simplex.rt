@@ -2,12 +2,16 @@ ghost use Rattle.std.specs.Prelude.{IfOk};
 ghost use Rattle.rp_simplex.specs.Outcome.{IsOutcome};
 ghost use Rattle.rp_simplex.specs.SameOutcome.{IsSameOutcome};
 ghost use Rattle.rp_simplex.specs.Evidence.{IsEvidence};
+ghost use Rattle.rp_simplex.specs.ReadProgram.{program_in};
+ghost use Rattle.rp_simplex.specs.Ready.{IsReady};
 
 use crate::choice::{entering_column, leaving_row};
-use crate::first::first_tableau;
 use crate::outcome::Outcome;
 use crate::pivot::pivoted;
 use crate::readout::{point, prices, ray};
+use crate::room::Room;
+use crate::stage::Stage;
+use crate::tableau::Tableau;
 use rp_farkas::{Lp, Pair};
 use rp_num::NoMemory;
 use std::alloc::Global;
@@ -20,27 +24,39 @@ pub fn maximize<P: Lp>(alloc: Global, p: &P) -> Result<Outcome, NoMemory>
         → IsOutcome (P.program p.now) other → IsSameOutcome (P.program p.now) o other) }
     ensures evidence { IfOk result (λ o. IsEvidence (P.program p.now) o) }
 {
-    let cols = p.cols() as usize;
-    let mut t = first_tableau(alloc, p)?;
+    let tableau = Tableau::of(alloc, p)?;
+    Ok(tableau.solve())
+}
+
+/// Runs from tableau 0 to the end, and lists the outcome in the room that is there for it.
+pub fn run(first: Stage, room: Room) -> Outcome
+    requires { IsReady first room }
+    ensures outcome { IsOutcome (program_in first.grid) result }
+    ensures only { (other : Outcome)
+        → IsOutcome (program_in first.grid) other → IsSameOutcome (program_in first.grid) result other }
+    ensures evidence { IsEvidence (program_in first.grid) result }
+{
+    let cols = first.width - 1 - first.rows;
+    let mut t = first;
     let mut step: u64 = 0;
     loop {
         let Some(column) = entering_column(&t) else {
-            let y = point(alloc, &t, cols)?;
-            let x = prices(alloc, &t)?;
-            return Ok(Outcome::Optimal(Pair { den: t.den, y, x }));
+            let y = point(&t, room.point, cols);
+            let x = prices(&t, room.prices);
+            return Outcome::Optimal(Pair { den: t.den, y, x });
         };
         let Some(row) = leaving_row(&t, column) else {
-            let point = point(alloc, &t, cols)?;
-            let ray = ray(alloc, &t, column, cols)?;
-            return Ok(Outcome::Unbounded {
+            let point = point(&t, room.point, cols);
+            let ray = ray(&t, room.ray, column, cols);
+            return Outcome::Unbounded {
                 den: t.den,
                 point,
                 ray,
-            });
+            };
         };
         step = step.saturating_add(1);
-        let Some(next) = pivoted(alloc, &t, row, column)? else {
-            return Ok(Outcome::Wide { step });
+        let Some(next) = pivoted(t, row, column) else {
+            return Outcome::Wide { step };
         };
         t = next;
     }

@@ -1,57 +1,61 @@
-ghost use Rattle.std.specs.Prelude.{◌≡◌, ◌+◌, ◌*◌, ◌^◌, ◌<◌, ◌≤◌, ℤ, ◌*ℤ◌, All, vec_len};
-ghost use Rattle.std.specs.Int.RustNames.{unsigned_abs};
-ghost use Rattle.rp_farkas.specs.Limits.{FitsEvidence, most_columns, most_rows};
+ghost use Rattle.std.specs.Prelude.{IfOk};
+ghost use Rattle.rp_simplex.specs.Evidence.{IsEvidence};
+ghost use Rattle.rp_simplex.specs.Outcome.{IsOutcome};
+ghost use Rattle.rp_simplex.specs.ReadProgram.{IsSameProgram, program_in};
+ghost use Rattle.rp_simplex.specs.SameOutcome.{IsSameOutcome};
 
-/// A tableau: its entries over one denominator, by row and then by column, and the basic column of each row. The
-/// last row is the objective; column 0 has the right sides, then come the slacks and the program's columns.
+use crate::first::first_stage;
+use crate::outcome::Outcome;
+use crate::room::{Room, room_for};
+use crate::simplex::run;
+use crate::stage::Stage;
+use rp_farkas::Lp;
+use rp_num::NoMemory;
+use std::alloc::Global;
+use std::marker::Model;
+
+/// Tableau 0 of a program in one grid, with all the memory that its run takes. It means the program that can be read
+/// from it.
 #[derive(Drop)]
 pub struct Tableau {
-    pub rows: usize,
-    pub width: usize,
-    pub den: u64,
-    pub entries: Vec<i64>,
-    pub basis: Vec<usize>,
-    ghost few_rows: { rows ≤ most_rows },
-    ghost few_columns: { width ≤ 1 + most_rows + most_columns },
-    ghost shape: { vec_len entries ≡ (rows + 1) * width },
-    ghost basis_length: { vec_len basis ≡ rows },
-    ghost den_positive: { 0 < den },
-    ghost den_fits: { FitsEvidence den },
-    ghost entries_fit: { All (λ z. FitsEvidence (unsigned_abs z)) entries.items },
+    stage: Stage,
+    room: Room,
 }
 
-/// The product of two numbers below 2^63 in absolute value, which is below 2^126.
-pub fn product(a: i64, b: i64) -> i128
-    requires first { FitsEvidence (unsigned_abs a) }
-    requires second { FitsEvidence (unsigned_abs b) }
-    ensures value { result ≡ a *ℤ b }
-    ensures fits { unsigned_abs result < 2 ^ 126 }
-{
-    i128::from(a) * i128::from(b)
+impl Model for Tableau {
+    ghost use Rattle.std.specs.Prelude.{ℤ};
+    ghost use Rattle.std.specs.Coded.{coded_ℤ};
+    ghost use Rattle.rp_grid.specs.Rows.{Rows, rows_code};
+    ghost use Rattle.rp_simplex.specs.Ready.{IsReady};
+
+    ghost Value = { Rows ℤ };
+
+    ghost coded = { rows_code coded_ℤ };
+
+    ghost view = { λ t. t.stage.grid };
+
+    ghost invariant = { λ t. IsReady t.stage t.room };
 }
 
 impl Tableau {
-    ghost use Rattle.rp_simplex.specs.Shown.{exact};
-
-    /// The numerator in row i and column j.
-    pub fn entry(&self, i: usize, j: usize) -> i64
-        requires row { i ≤ self.now.rows }
-        requires column { j < self.now.width }
-        ensures value { result ≡ (exact self.now).at i j }
-        ensures fits { FitsEvidence (unsigned_abs result) }
+    /// Tableau 0 of the program, and the room of every list that its outcome can need.
+    pub fn of<P: Lp>(alloc: Global, p: &P) -> Result<Tableau, NoMemory>
+        ensures { IfOk result (λ t. IsSameProgram (P.program p.now) (program_in t)) }
     {
-        self.entries[i * self.width + j]
+        let stage = first_stage(alloc, p)?;
+        let room = room_for(alloc, p.rows() as usize, p.cols() as usize)?;
+        Ok(Tableau { stage, room })
     }
 
-    /// The product of the numerators in row i, column c and in row k, column j.
-    pub fn cross(&self, i: usize, c: usize, k: usize, j: usize) -> i128
-        requires first_row { i ≤ self.now.rows }
-        requires first_column { c < self.now.width }
-        requires second_row { k ≤ self.now.rows }
-        requires second_column { j < self.now.width }
-        ensures value { result ≡ (exact self.now).at i c *ℤ (exact self.now).at k j }
-        ensures fits { unsigned_abs result < 2 ^ 126 }
+    /// Runs the simplex, step for step, and gives how the run ends; no memory is taken. A step is counted up to
+    /// 2^64 - 1, which stands for every greater number too.
+    pub fn solve(self) -> Outcome
+        ensures outcome { IsOutcome (program_in self) result }
+        ensures only { (other : Outcome)
+            → IsOutcome (program_in self) other → IsSameOutcome (program_in self) result other }
+        ensures evidence { IsEvidence (program_in self) result }
     {
-        product(self.entry(i, c), self.entry(k, j))
+        let Tableau { stage, room } = self;
+        run(stage, room)
     }
 }

@@ -1,26 +1,40 @@
 use Prim.Native.Nat.{◌∣◌}
-use Rattle.std.proofs.Common.{◌≡◌, ℤ, pos, get_or, sym, ◌∙◌, ap, subst, arith}
-use Rattle.std.specs.Int.{w128}
+use Rattle.std.proofs.Common.{inl, inr, sym, ap, subst, arith}
 use Rattle.std.specs.Int.RustNames.{unsigned_abs}
-use Rattle.std.proofs.lemmas.Int.{to_z-of_z, fits_signed_from_abs}
-use Rattle.std.proofs.lemmas.List.Elements.{All-from_get_or}
-use Rattle.std.proofs.lemmas.Nat.Gcd.{dvd_trans}
-use Rattle.rp_simplex.proofs.Pushed.{still_divides, not_zero}
+use Rattle.std.proofs.lemmas.Bool.{cases_eq}
+use Rattle.std.proofs.lemmas.Nat.Gcd.{dvd_refl, dvd_trans}
+use Rattle.rp_simplex.specs.Pivot.{cleared}
+use Rattle.rp_simplex.specs.Shown.{exact}
 use Rattle.rp_simplex.proofs.pivot.common_divisor.Goals as goal
 
-pub loop-entry-preserved : goal.loop-entry-preserved
-loop-entry-preserved c =
-    let old = c.loop-entry.invariant in
-    let g = c.gcd-divisor.ensures.greatest in
-    let entry : ℤ = get_or c.args.entries.now c.loop-entry.entry-index (pos 0) in
-    let read : c.unsigned_abs.result ≡ unsigned_abs entry
-    = c.unsigned_abs.ensures.value ∙ ap unsigned_abs (to_z-of_z w128 entry (fits_signed_from_abs w128 entry (c.requires.fit c.loop-entry.entry-index (pos 0) c.loop-entry-test.true))) in
+pub loop-i-init : goal.loop-i-init
+loop-i-init c = record {
+  positive = c.requires.positive;
+  divides_den = dvd_refl c.args.den;
+  divides_rows = λ i j l within. absurd (omega arith);
+  greatest = λ k d _. d;
+}
+
+pub loop-i-preserved : goal.loop-i-preserved
+loop-i-preserved c =
+    let old = c.loop-i.invariant in
+    let more = c.divisor_with_row-divisor.ensures in
     record {
-      positive = not_zero c.gcd-divisor.result (λ e. let zeros = c.gcd-divisor.ensures.zero.0 e in let p = old.positive in omega arith);
-      divides_den = dvd_trans c.gcd-divisor.result g.0 old.divides_den;
-      divides_entries = still_divides c.loop-entry.divisor c.gcd-divisor.result c.unsigned_abs.result c.args.entries.now c.loop-entry.entry-index g old.divides_entries read;
-      greatest = λ k den all. g.2 k (old.greatest k den (λ q l. all q (omega arith))) (subst (λ n. k ∣ n) (sym read) (all c.loop-entry.entry-index (omega arith)));
+      positive = more.positive;
+      divides_den = dvd_trans c.divisor_with_row-divisor.result more.divides old.divides_den;
+      divides_rows = λ i j l within. elim (cases_eq i c.loop-i.i) [
+        | inl e ↦ subst (λ k. c.divisor_with_row-divisor.result ∣ unsigned_abs (cleared (exact c.args.t.now) c.args.r c.args.c k j)) (sym e) (more.divides_row j within)
+        | inr ne ↦ dvd_trans c.divisor_with_row-divisor.result more.divides (old.divides_rows i j (omega arith) within)
+      ];
+      greatest = λ k d all. more.greatest k (old.greatest k d (λ i j l within. all i j (omega arith) within)) (λ j within. all c.loop-i.i j (omega arith) within);
     }
 
-pub returns-clause-divides_entries : goal.returns-clause-divides_entries
-returns-clause-divides_entries c = All-from_get_or (λ z. c.loop-entry.divisor ∣ unsigned_abs z) c.args.entries.now (pos 0) (λ k l. c.loop-entry.invariant.divides_entries k (omega arith))
+pub returns-clause-divides_all : goal.returns-clause-divides_all
+returns-clause-divides_all c = record {
+  divides_den = subst (λ n. c.loop-i.divisor ∣ n) (ap unsigned_abs c.requires.den) c.loop-i.invariant.divides_den;
+  divides_entries = λ i j l within. c.loop-i.invariant.divides_rows i j (omega arith) within;
+}
+
+pub returns-clause-greatest : goal.returns-clause-greatest
+returns-clause-greatest c = λ k all.
+    c.loop-i.invariant.greatest k (subst (λ n. k ∣ n) (sym (ap unsigned_abs c.requires.den)) all.divides_den) (λ i j l within. all.divides_entries i j (omega arith) within)

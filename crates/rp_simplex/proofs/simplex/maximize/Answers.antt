@@ -1,66 +1,9 @@
-use Rattle.std.proofs.Common.{◌≡◌, subst, MatchOption}
-use Rattle.rp_simplex.specs.Pivot.{IsPivot, PivotPasses}
-use Rattle.rp_simplex.specs.Shown.{exact}
-use Rattle.rp_simplex.proofs.Runs.{starts, distinct_basis, sides, no_ties, fresh, moves, nearer}
-use Rattle.rp_simplex.specs.declared.outcome.Outcome.TheVariants.{Optimal, Unbounded, Wide}
+use Rattle.rp_simplex.specs.ReadProgram.{program_in}
 use Rattle.rp_simplex.proofs.Outcomes.{whole}
-use Rattle.rp_simplex.proofs.Ending.{ends_optimal, ends_unbounded, passes_width, next_count}
+use Rattle.rp_simplex.proofs.Same.{same_back, same_outcome}
 use Rattle.rp_simplex.proofs.simplex.maximize.Goals as goal
 
-pub loop-column-init : goal.loop-column-init
-loop-column-init g c = starts (g.P.Lp.program c.args.p.now) c.in_ok-t.t c.in_ok-t.ensures.first c.in_ok-t.ensures.shape
-
-pub point-requires-clause-distinct : goal.point-requires-clause-distinct
-point-requires-clause-distinct g c = distinct_basis (g.P.Lp.program c.args.p.now) (g.met.P.Lp.within_limits c.args.p.now) c.loop-column.t c.loop-column.step c.loop-column.invariant
-
-pub point-requires-clause-sides : goal.point-requires-clause-sides
-point-requires-clause-sides g c = sides (g.P.Lp.program c.args.p.now) (g.met.P.Lp.within_limits c.args.p.now) c.loop-column.t c.loop-column.step c.loop-column.invariant
-
-pub returns-in_default : goal.returns-in_default
-returns-in_default g c = whole (g.P.Lp.program c.args.p.now) (Optimal _) (g.met.P.Lp.within_limits c.args.p.now) (ends_optimal (g.P.Lp.program c.args.p.now) (g.met.P.Lp.within_limits c.args.p.now) c.loop-column.t c.loop-column.step c.cols-cols.result c.loop-column.invariant c.cols-cols.ensures c.in_ok-y.y c.in_ok-x.x
-    c.in_default.ensures c.in_ok-y.ensures.listed c.in_ok-y.ensures.read c.in_ok-x.ensures.length c.in_ok-x.ensures.read)
-
-pub leaving_row-requires-clause-no_ties : goal.leaving_row-requires-clause-no_ties
-leaving_row-requires-clause-no_ties g c = no_ties (g.P.Lp.program c.args.p.now) (g.met.P.Lp.within_limits c.args.p.now) c.loop-column.t c.loop-column.step c.loop-column.invariant c.in-Some.column
-
-pub point-requires-in_default-leaving_row-clause-distinct : goal.point-requires-in_default-leaving_row-clause-distinct
-point-requires-in_default-leaving_row-clause-distinct g c = distinct_basis (g.P.Lp.program c.args.p.now) (g.met.P.Lp.within_limits c.args.p.now) c.loop-column.t c.loop-column.step c.loop-column.invariant
-
-pub point-requires-in_default-leaving_row-clause-sides : goal.point-requires-in_default-leaving_row-clause-sides
-point-requires-in_default-leaving_row-clause-sides g c = sides (g.P.Lp.program c.args.p.now) (g.met.P.Lp.within_limits c.args.p.now) c.loop-column.t c.loop-column.step c.loop-column.invariant
-
-pub ray-requires-clause-distinct : goal.ray-requires-clause-distinct
-ray-requires-clause-distinct g c = distinct_basis (g.P.Lp.program c.args.p.now) (g.met.P.Lp.within_limits c.args.p.now) c.loop-column.t c.loop-column.step c.loop-column.invariant
-
-pub ray-requires-clause-fresh : goal.ray-requires-clause-fresh
-ray-requires-clause-fresh g c = fresh (g.P.Lp.program c.args.p.now) (g.met.P.Lp.within_limits c.args.p.now) c.loop-column.t c.loop-column.step c.loop-column.invariant c.in-Some.column c.in-Some.ensures
-
-pub returns-in_default-leaving_row : goal.returns-in_default-leaving_row
-returns-in_default-leaving_row g c = whole (g.P.Lp.program c.args.p.now) (Unbounded _ _ _) (g.met.P.Lp.within_limits c.args.p.now) (ends_unbounded (g.P.Lp.program c.args.p.now) (g.met.P.Lp.within_limits c.args.p.now) c.loop-column.t c.loop-column.step c.cols-cols.result c.loop-column.invariant c.cols-cols.ensures
-    c.in-Some.column c.in_ok-point.point c.in_ok-ray.ray c.in-Some.ensures c.in_default-leaving_row.ensures c.in_ok-point.ensures.listed c.in_ok-point.ensures.read c.in_ok-ray.ensures.listed c.in_ok-ray.ensures.read)
-
-pub returns-in_default-2 : goal.returns-in_default-2
-returns-in_default-2 g c =
-    let passes : PivotPasses c.loop-column.t.rows c.loop-column.t.width (exact c.loop-column.t) c.in-Some-leaving_row.row c.in-Some.column
-    = subst (λ o. MatchOption o (PivotPasses c.loop-column.t.rows c.loop-column.t.width (exact c.loop-column.t) c.in-Some-leaving_row.row c.in-Some.column) (λ u. IsPivot c.loop-column.t.rows c.loop-column.t.width (exact c.loop-column.t) c.in-Some-leaving_row.row c.in-Some.column (exact u))) c.in_default-2.is c.in_ok-next.ensures.next in
-    whole (g.P.Lp.program c.args.p.now) (Wide _) (g.met.P.Lp.within_limits c.args.p.now) (passes_width (g.P.Lp.program c.args.p.now) (g.met.P.Lp.within_limits c.args.p.now) c.loop-column.t c.loop-column.step c.saturating_add-step.result c.in-Some.column c.in-Some-leaving_row.row c.loop-column.invariant
-    c.in-Some.ensures c.in-Some-leaving_row.ensures passes (next_count c.loop-column.step c.loop-column.invariant.steps c.saturating_add-step.result c.loop-column.invariant.counted c.saturating_add-step.ensures))
-
-pub loop-column-smaller : goal.loop-column-smaller
-loop-column-smaller g c =
-    let pivot : IsPivot c.loop-column.t.rows c.loop-column.t.width (exact c.loop-column.t) c.in-Some-leaving_row.row c.in-Some.column (exact c.in-Some-2.next)
-    = subst (λ o. MatchOption o (PivotPasses c.loop-column.t.rows c.loop-column.t.width (exact c.loop-column.t) c.in-Some-leaving_row.row c.in-Some.column) (λ u. IsPivot c.loop-column.t.rows c.loop-column.t.width (exact c.loop-column.t) c.in-Some-leaving_row.row c.in-Some.column (exact u))) c.in-Some-2.is c.in_ok-next.ensures.next in
-    let shape : (c.in-Some-2.next.rows ≡ c.loop-column.t.rows) × (c.in-Some-2.next.width ≡ c.loop-column.t.width)
-    = subst (λ o. MatchOption o (Unit {0}) (λ u. (u.rows ≡ c.loop-column.t.rows) × (u.width ≡ c.loop-column.t.width))) c.in-Some-2.is c.in_ok-next.ensures.shape in
-    nearer (g.P.Lp.program c.args.p.now) (g.met.P.Lp.within_limits c.args.p.now) c.loop-column.t c.loop-column.step c.loop-column.invariant c.in-Some.column c.in-Some-leaving_row.row c.in-Some-2.next
-    c.in-Some.ensures c.in-Some-leaving_row.ensures pivot shape.0 shape.1
-
-pub loop-column-preserved : goal.loop-column-preserved
-loop-column-preserved g c =
-    let pivot : IsPivot c.loop-column.t.rows c.loop-column.t.width (exact c.loop-column.t) c.in-Some-leaving_row.row c.in-Some.column (exact c.in-Some-2.next)
-    = subst (λ o. MatchOption o (PivotPasses c.loop-column.t.rows c.loop-column.t.width (exact c.loop-column.t) c.in-Some-leaving_row.row c.in-Some.column) (λ u. IsPivot c.loop-column.t.rows c.loop-column.t.width (exact c.loop-column.t) c.in-Some-leaving_row.row c.in-Some.column (exact u))) c.in-Some-2.is c.in_ok-next.ensures.next in
-    let shape : (c.in-Some-2.next.rows ≡ c.loop-column.t.rows) × (c.in-Some-2.next.width ≡ c.loop-column.t.width)
-    = subst (λ o. MatchOption o (Unit {0}) (λ u. (u.rows ≡ c.loop-column.t.rows) × (u.width ≡ c.loop-column.t.width))) c.in-Some-2.is c.in_ok-next.ensures.shape in
-    moves (g.P.Lp.program c.args.p.now) (g.met.P.Lp.within_limits c.args.p.now) c.loop-column.t c.loop-column.step c.loop-column.invariant c.in-Some.column c.in-Some-leaving_row.row c.in-Some-2.next
-    c.in-Some.ensures c.in-Some-leaving_row.ensures c.saturating_add-step.result pivot shape.0 shape.1
-    (next_count c.loop-column.step c.loop-column.invariant.steps c.saturating_add-step.result c.loop-column.invariant.counted c.saturating_add-step.ensures)
+pub returns : goal.returns
+returns g c =
+    let p = g.P.Lp.program c.args.p.now in let q = program_in c.in_ok-tableau.tableau in
+    whole p c.solve.result (g.met.P.Lp.within_limits c.args.p.now) (same_outcome q p (same_back p q c.in_ok-tableau.ensures) c.solve.result c.solve.ensures.outcome)

@@ -1,0 +1,13 @@
+use Rattle.std.proofs.Common.{◌≤◌, pos, neg_ℤ, vec_capacity, vec_len}
+use Rattle.rp_farkas.specs.Listing.{IsListing, numerator_at}
+use Rattle.rp_simplex.specs.Shown.{exact}
+use Rattle.rp_simplex.specs.Readout.{IsReadAt}
+use Rattle.rp_simplex.proofs.readout.ray.Given as goal
+
+abbrev pub invariant-loop-j : goal.invariant-loop-j
+invariant-loop-j l = record {
+  few : vec_len l.entries ≤ l.j;
+  room : l.cols ≤ vec_capacity l.entries;
+  listed : IsListing l.j l.entries.items;
+  read : IsReadAt l.t.rows l.j (exact l.t) (λ i. neg_ℤ ((exact l.t).at i l.c)) l.c (pos l.t.den) (numerator_at l.entries.items);
+}

@@ -1,0 +1,22 @@
+-- When a tableau in memory is ready to be run: words of the crate's own functions.
+use Rattle.std.specs.Prelude.{ℕ}
+use Rattle.rp_farkas.specs.Limits.{IsWithinLimits}
+use Rattle.rp_simplex.specs.FirstTableau.{IsFirstTableau}
+use Rattle.rp_simplex.specs.Inner.{HasRoom}
+use Rattle.rp_simplex.specs.ReadProgram.{program_in}
+use Rattle.rp_simplex.specs.Shown.{exact, IsShapedFor}
+use Rattle.rp_simplex.specs.declared.room.Room.{Room}
+use Rattle.rp_simplex.specs.declared.stage.Stage.{Stage}
+
+-- There is room for a point and a ray over all columns, and for a price of each row.
+pub record HasRooms (room : Room) (rows cols : ℕ) : Type 0 where
+  pub point : HasRoom room.point cols
+  pub ray : HasRoom room.ray cols
+  pub prices : HasRoom room.prices rows
+
+-- The tableau is tableau 0 of the program that can be read from its grid, and there is room for the outcome.
+pub record IsReady (t : Stage) (room : Room) : Type 0 where
+  pub first : IsFirstTableau (program_in t.grid) (exact t)
+  pub shape : IsShapedFor (program_in t.grid) t
+  pub limits : IsWithinLimits (program_in t.grid)
+  pub rooms : HasRooms room (program_in t.grid).rows (program_in t.grid).cols

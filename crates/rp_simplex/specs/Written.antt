@@ -1,0 +1,63 @@
+-- Rows of a grid that are written one element after the other: words of the crate's own functions and their proofs.
+use Rattle.std.specs.Prelude.{ℕ, ◌≡◌, ◌≢◌, ◌*◌, ◌^◌, ◌<◌, ◌≤◌, ℤ, pos, ◌*ℤ◌, ◌-ℤ◌, length}
+use Rattle.std.specs.Int.RustNames.{unsigned_abs}
+use Rattle.rp_farkas.specs.LinearProgram.{LinearProgram}
+use Rattle.rp_farkas.specs.Limits.{FitsEvidence, largest_entry}
+use Rattle.rp_grid.specs.Rows.{Rows, AreEqual, row_of}
+use Rattle.rp_simplex.specs.Cells.{cell}
+use Rattle.rp_simplex.specs.ExactTableau.{ExactTableau}
+use Rattle.rp_simplex.specs.FirstTableau.{first_entry}
+
+-- The first n elements of row i have been written, each as P says; nothing else has changed.
+pub record IsWritten (old new : Rows ℤ) (i n : ℕ) (P : ℕ → ℤ → Type 0) : Type 0 where
+  pub count : length new.rows ≡ length old.rows
+  pub cols : new.cols ≡ old.cols
+  pub equal : AreEqual new
+  pub others : (k : ℕ) → k ≢ i → row_of new k ≡ row_of old k
+  pub done : (j : ℕ) → j < n → P j (cell new i j)
+  pub left : (j : ℕ) → n ≤ j → cell new i j ≡ cell old i j
+
+-- The number is z divided by d, and within the width.
+pub record IsQuotient (z : ℤ) (d : ℕ) (value : ℤ) : Type 0 where
+  pub whole : z ≡ value *ℤ pos d
+  pub fits : FitsEvidence (unsigned_abs value)
+
+-- The numbers f, divided by d, have been written in row i.
+abbrev pub HasDivided : Rows ℤ → Rows ℤ → ℕ → (ℕ → ℤ) → ℕ → Type 0
+HasDivided old new i f d = IsWritten old new i old.cols (λ j value. IsQuotient (f j) d value)
+
+-- One of the first n numbers passes the width when it is divided by d.
+abbrev pub OnePasses : ℕ → (ℕ → ℤ) → ℕ → Type 0
+OnePasses n f d = (j : ℕ) × (j < n) × (2 ^ 63 * d ≤ unsigned_abs (f j))
+
+-- The elements of row i are within the width.
+abbrev pub FitEvidence : Rows ℤ → ℕ → Type 0
+FitEvidence g i = (j : ℕ) → j < g.cols → FitsEvidence (unsigned_abs (cell g i j))
+
+-- Row i times the pivot, less the multiple of row r that clears column c.
+abbrev pub less_multiple : Rows ℤ → ℕ → ℕ → ℕ → ℕ → ℤ
+less_multiple g r c i j = cell g i j *ℤ cell g r c -ℤ cell g i c *ℤ cell g r j
+
+-- The first n rows but row r have been cleared and divided by d; the others are as they were.
+pub record AreRenewed (old new : Rows ℤ) (r c d n : ℕ) : Type 0 where
+  pub count : length new.rows ≡ length old.rows
+  pub cols : new.cols ≡ old.cols
+  pub equal : AreEqual new
+  pub done : (i j : ℕ) → i < n → i ≢ r → j < old.cols → IsQuotient (less_multiple old r c i j) d (cell new i j)
+  pub left : (i : ℕ) → n ≤ i → row_of new i ≡ row_of old i
+  pub pivot_row : row_of new r ≡ row_of old r
+
+-- The numbers f, divided by d, stand in the rows of the grid.
+pub record ArePivoted (old new : Rows ℤ) (f : ℕ → ℕ → ℤ) (d : ℕ) : Type 0 where
+  pub count : length new.rows ≡ length old.rows
+  pub cols : new.cols ≡ old.cols
+  pub done : (i j : ℕ) → i < length old.rows → j < old.cols → IsQuotient (f i j) d (cell new i j)
+
+-- The value is the entry of the first tableau in row i and column j, which is small.
+pub record IsFirstEntry (p : LinearProgram) (i j : ℕ) (value : ℤ) : Type 0 where
+  pub value_is : value ≡ first_entry p i j
+  pub small : unsigned_abs value ≤ largest_entry
+
+-- A denominator and the elements of a grid as a tableau; its basic columns are of no account.
+abbrev pub numbers : ℕ → Rows ℤ → ExactTableau
+numbers den g = record { den = den; at = cell g; basis = λ _. 0 }
