@@ -77,84 +77,76 @@ fn utility_of_bundles_follows_the_first_two_items(rt: HostRuntime) -> Result<(),
     Ok(())
 }
 
+/// Whether `utility` over these files ends so, with that line on standard error and nothing on standard output.
+fn ends(
+    alloc: Global,
+    table: Option<&str>,
+    bundles: Option<&str>,
+    fails: &[u64],
+    status: Status,
+    line: &str,
+) -> Result<bool, Fail> {
+    let got = utility(alloc, table, bundles, fails)?;
+    Ok(got.status == status && got.err.as_str() == line && got.out.is_empty())
+}
+
+const TABLE: &str = "p_a,q_a,p_b,q_b\n1,4,1,4\n1,2,1,2\n";
+
+const OTHER_GOODS: &str = "q_a,q_c\n1,1\n";
+
 #[test]
-fn the_first_fault_of_two_files_is_told(rt: HostRuntime) -> Result<(), Fail> {
-    let alloc = rt.alloc();
-    let table = Some("p_a,q_a,p_b,q_b\n1,4,1,4\n1,2,1,2\n");
-    let none: &[u64] = &[];
-    let first: &[u64] = &[1];
-    let third: &[u64] = &[3];
+fn a_fault_of_the_table_is_told_before_the_bundles_are_read(rt: HostRuntime) -> Result<(), Fail> {
+    let line = "rp: t.csv: NoRecords\n";
+    for bundles in [None, Some(OTHER_GOODS)] {
+        let told = ends(
+            rt.alloc(),
+            Some("p_a,q_a\n"),
+            bundles,
+            &[],
+            Status::Refused,
+            line,
+        )?;
+        assert!(rt; told);
+    }
+    Ok(())
+}
+
+#[test]
+fn faults_of_the_bundles_are_told_with_their_file(rt: HostRuntime) -> Result<(), Fail> {
     let many =
         "q_a,q_b\n1,1\n1,1\n1,1\n1,1\n1,1\n1,1\n1,1\n1,1\n1,1\n1,1\n1,1\n1,1\n1,1\n1,1\n1,1\n1,1\n1,1\n";
-    for (table, bundles, fails, status, line) in [
-        (
-            Some("p_a,q_a\n"),
-            None,
-            none,
-            Status::Refused,
-            "rp: t.csv: NoRecords\n",
-        ),
-        (
-            Some("p_a,q_a\n"),
-            Some("q_a,q_c\n1,1\n"),
-            none,
-            Status::Refused,
-            "rp: t.csv: NoRecords\n",
-        ),
-        (
-            None,
-            Some("q_a,q_c\n1,1\n"),
-            none,
-            Status::ReadFault,
-            "rp: t.csv: read failed\n",
-        ),
-        (
-            table,
-            None,
-            none,
-            Status::ReadFault,
-            "rp: b.csv: read failed\n",
-        ),
-        (
-            table,
-            Some("q_a,q_c\n1,1\n"),
-            none,
-            Status::Refused,
-            "rp: b.csv: OtherGoods column 2\n",
-        ),
-        (
-            table,
-            Some("q_a,q_b\n1,0.5\n"),
-            none,
-            Status::Refused,
-            "rp: b.csv: TooFine record 1 column 2\n",
-        ),
-        (
-            table,
-            Some(many),
-            none,
-            Status::Refused,
-            "rp: b.csv: TooManyRecords\n",
-        ),
-        (
-            table,
-            Some(many),
-            first,
-            Status::ReadFault,
-            "rp: t.csv: read failed\n",
-        ),
-        (
-            table,
-            Some(many),
-            third,
-            Status::ReadFault,
-            "rp: b.csv: read failed\n",
-        ),
+    for (bundles, line) in [
+        (OTHER_GOODS, "rp: b.csv: OtherGoods column 2\n"),
+        ("q_a,q_b\n1,0.5\n", "rp: b.csv: TooFine record 1 column 2\n"),
+        (many, "rp: b.csv: TooManyRecords\n"),
     ] {
-        let got = utility(alloc, table, bundles, fails)?;
-        assert_eq!(rt; got.status, status, "status for {line}");
-        assert_eq!(rt; got.err.as_str(), line, "line of {line}");
-        assert!(rt; got.out.is_empty());
+        let told = ends(
+            rt.alloc(),
+            Some(TABLE),
+            Some(bundles),
+            &[],
+            Status::Refused,
+            line,
+        )?;
+        assert!(rt; told);
     }
+    Ok(())
+}
+
+#[test]
+fn a_file_that_cannot_be_read_is_named(rt: HostRuntime) -> Result<(), Fail> {
+    let alloc = rt.alloc();
+    let read = Status::ReadFault;
+    let first = "rp: t.csv: read failed\n";
+    let second = "rp: b.csv: read failed\n";
+    let bundles = Some("q_a,q_b\n1,1\n");
+    let told = ends(alloc, None, Some(OTHER_GOODS), &[], read, first)?;
+    assert!(rt; told);
+    let told = ends(alloc, Some(TABLE), None, &[], read, second)?;
+    assert!(rt; told);
+    let told = ends(alloc, Some(TABLE), bundles, &[1], read, first)?;
+    assert!(rt; told);
+    let told = ends(alloc, Some(TABLE), bundles, &[3], read, second)?;
+    assert!(rt; told);
     Ok(())
 }
