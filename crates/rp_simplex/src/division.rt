@@ -40,7 +40,8 @@ pub fn quotient(entry: i128, divisor: u128) -> Option<i64>
     requires small { divisor < 2 ^ 127 }
     requires divides { divisor ∣ unsigned_abs entry }
     requires fits { unsigned_abs entry < 2 ^ 127 }
-    ensures { MatchOption result (2 ^ 63 * divisor ≤ unsigned_abs entry) (λ value. IsQuotient entry divisor value) }
+    ensures { MatchOption result (2 ^ 63 * divisor ≤ unsigned_abs entry)
+        (λ value. IsQuotient entry divisor value) }
 {
     let value = wide_quotient(entry, divisor);
     if value.unsigned_abs() > WIDTH {

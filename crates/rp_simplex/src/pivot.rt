@@ -50,7 +50,7 @@ fn cleared_entry(t: &Stage, r: usize, c: usize, i: usize, j: usize) -> i128
     }
 }
 
-/// The greatest common divisor of the divisor so far and the numerators of row i; 1 is left as it is.
+/// The greatest common divisor of the divisor so far and the numerators of row i; 1 ends the search.
 fn divisor_with_row(t: &Stage, r: usize, c: usize, i: usize, so_far: u128) -> u128
     requires pivot_row { r < t.now.rows }
     requires pivot_column { c < t.now.width }
@@ -58,9 +58,11 @@ fn divisor_with_row(t: &Stage, r: usize, c: usize, i: usize, so_far: u128) -> u1
     requires positive { 0 < so_far }
     ensures positive { 0 < result }
     ensures divides { result ∣ so_far }
-    ensures divides_row { (j : ℕ) → j < t.now.width → result ∣ unsigned_abs (cleared (exact t.now) r c i j) }
+    ensures divides_row { (j : ℕ) → j < t.now.width
+        → result ∣ unsigned_abs (cleared (exact t.now) r c i j) }
     ensures greatest { (k : ℕ) → k ∣ so_far
-        → ((j : ℕ) → j < t.now.width → k ∣ unsigned_abs (cleared (exact t.now) r c i j)) → k ∣ result }
+        → ((j : ℕ) → j < t.now.width → k ∣ unsigned_abs (cleared (exact t.now) r c i j))
+        → k ∣ result }
 {
     let mut divisor = so_far;
     for j in 0..t.width {
@@ -81,7 +83,8 @@ fn common_divisor(t: &Stage, r: usize, c: usize, den: u128) -> u128
     ensures positive { 0 < result }
     ensures divides { result ∣ den }
     ensures divides_all { DividesAll t.now.rows t.now.width (exact t.now) r c result }
-    ensures greatest { (k : ℕ) → DividesAll t.now.rows t.now.width (exact t.now) r c k → k ∣ result }
+    ensures greatest { (k : ℕ) → DividesAll t.now.rows t.now.width (exact t.now) r c k
+        → k ∣ result }
 {
     let mut divisor = den;
     for i in 0..t.rows + 1 {
@@ -90,8 +93,8 @@ fn common_divisor(t: &Stage, r: usize, c: usize, den: u128) -> u128
     divisor
 }
 
-/// Takes from row i the multiple of row r that clears column c, and divides. Row r is read while row i is written. It
-/// stops at a number that passes the width.
+/// Takes from row i the multiple of row r that clears column c, and divides. Row r is read while row i
+/// is written. It stops at a number that passes the width.
 fn clear_row(grid: &mut Grid<i64>, r: u32, c: u32, i: u32, divisor: u128) -> bool
     requires pivot_row { r < length grid.old.rows }
     requires pivot_column { c < grid.old.cols }
@@ -101,8 +104,10 @@ fn clear_row(grid: &mut Grid<i64>, r: u32, c: u32, i: u32, divisor: u128) -> boo
     requires pivot_fit { FitEvidence grid.old r }
     requires positive { 0 < divisor }
     requires small { divisor < 2 ^ 127 }
-    requires divides { (j : ℕ) → j < grid.old.cols → divisor ∣ unsigned_abs (less_multiple grid.old r c i j) }
-    ensures { MatchBool result (HasDivided grid.old grid.new i (less_multiple grid.old r c i) divisor)
+    requires divides { (j : ℕ) → j < grid.old.cols
+        → divisor ∣ unsigned_abs (less_multiple grid.old r c i j) }
+    ensures { MatchBool result
+        (HasDivided grid.old grid.new i (less_multiple grid.old r c i) divisor)
         (OnePasses grid.old.cols (less_multiple grid.old r c i) divisor) }
 {
     let cols = grid.cols();
@@ -125,8 +130,10 @@ fn scale_row(grid: &mut Grid<i64>, i: u32, by: i64, divisor: u128) -> bool
     requires by { FitsEvidence (unsigned_abs by) }
     requires positive { 0 < divisor }
     requires small { divisor < 2 ^ 127 }
-    requires divides { (j : ℕ) → j < grid.old.cols → divisor ∣ unsigned_abs (cell grid.old i j *ℤ by) }
-    ensures { MatchBool result (HasDivided grid.old grid.new i (λ j. cell grid.old i j *ℤ by) divisor)
+    requires divides { (j : ℕ) → j < grid.old.cols
+        → divisor ∣ unsigned_abs (cell grid.old i j *ℤ by) }
+    ensures { MatchBool result
+        (HasDivided grid.old grid.new i (λ j. cell grid.old i j *ℤ by) divisor)
         (OnePasses grid.old.cols (λ j. cell grid.old i j *ℤ by) divisor) }
 {
     for j in 0..grid.cols() as usize {
@@ -149,8 +156,10 @@ fn renew_row(grid: &mut Grid<i64>, r: u32, c: u32, i: u32, divisor: u128) -> boo
     requires pivot_fit { FitEvidence grid.old r }
     requires positive { 0 < divisor }
     requires small { divisor < 2 ^ 127 }
-    requires divides { (j : ℕ) → j < grid.old.cols → divisor ∣ unsigned_abs (less_multiple grid.old r c i j) }
-    ensures { MatchBool result (HasDivided grid.old grid.new i (less_multiple grid.old r c i) divisor)
+    requires divides { (j : ℕ) → j < grid.old.cols
+        → divisor ∣ unsigned_abs (less_multiple grid.old r c i j) }
+    ensures { MatchBool result
+        (HasDivided grid.old grid.new i (less_multiple grid.old r c i) divisor)
         (OnePasses grid.old.cols (less_multiple grid.old r c i) divisor) }
 {
     if grid.row(i)[c as usize] != 0 {
@@ -170,7 +179,8 @@ fn renew_others(grid: &mut Grid<i64>, r: u32, c: u32, divisor: u128) -> bool
     requires divides { (i j : ℕ) → i < length grid.old.rows → i ≢ r → j < grid.old.cols
         → divisor ∣ unsigned_abs (less_multiple grid.old r c i j) }
     ensures { MatchBool result (AreRenewed grid.old grid.new r c divisor (length grid.old.rows))
-        ((i : ℕ) × (i < length grid.old.rows) × (i ≢ r) × OnePasses grid.old.cols (less_multiple grid.old r c i) divisor) }
+        ((i : ℕ) × (i < length grid.old.rows) × (i ≢ r)
+        × OnePasses grid.old.cols (less_multiple grid.old r c i) divisor) }
 {
     for i in 0..grid.rows() {
         if i != r && !renew_row(grid, r, c, i, divisor) {
@@ -190,7 +200,8 @@ fn renew(grid: &mut Grid<i64>, den: u64, r: u32, c: u32, divisor: u128) -> bool
     requires small { divisor < 2 ^ 127 }
     requires divides { (i j : ℕ) → i < length grid.old.rows → j < grid.old.cols
         → divisor ∣ unsigned_abs (cleared (numbers den grid.old) r c i j) }
-    ensures { MatchBool result (ArePivoted grid.old grid.new (cleared (numbers den grid.old) r c) divisor)
+    ensures { MatchBool result
+        (ArePivoted grid.old grid.new (cleared (numbers den grid.old) r c) divisor)
         ((i : ℕ) × (i < length grid.old.rows)
         × OnePasses grid.old.cols (cleared (numbers den grid.old) r c i) divisor) }
 {

@@ -21,7 +21,8 @@ pub struct Stage {
     ghost basis_length: { vec_len basis ≡ rows },
     ghost den_positive: { 0 < den },
     ghost den_fits: { FitsEvidence den },
-    ghost entries_fit: { (i j : ℕ) → i ≤ rows → j < width → FitsEvidence (unsigned_abs (cell grid i j)) },
+    ghost entries_fit: { (i j : ℕ) → i ≤ rows → j < width
+        → FitsEvidence (unsigned_abs (cell grid i j)) },
 }
 
 /// The product of two numbers below 2^63 in absolute value, which is below 2^126.
