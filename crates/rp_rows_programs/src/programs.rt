@@ -171,6 +171,8 @@ fn outcomes_of_worked_programs(rt: HostRuntime) -> Result<(), Fail> {
             &[3, -80, 2, -24],
             "optimal 1 0:1 2:1 x 0 3 5",
         ),
+        // the slack of the last row leaves, and has to enter again
+        (&[1, 1, 1, 0], &[1, 1], &[1, 2], "optimal 1 1:1 x 2 0"),
         // equal right sides: the later row is the lexicographically lesser
         (&[1, 1], &[1, 1], &[1], "optimal 1 0:1 x 0 1"),
     ] {

@@ -1,12 +1,9 @@
 -- Dividing by a divisor, with no rest.
 use Prim.Native.Nat.{◌∣◌}
-use Rattle.std.proofs.Common.{◌≡◌, ℕ, ◌*◌, ◌<◌, ◌≤◌, ◌^◌, ℤ, pos, negsuc, ◌*ℤ◌, ◌<ℤ◌, neg_ℤ, sym, ◌∙◌, ap, subst, arith, FitsSigned}
+use Rattle.std.proofs.Common.{◌≡◌, ℕ, ◌<◌, ◌^◌, ℤ, pos, negsuc, ◌*ℤ◌, ◌<ℤ◌, neg_ℤ, sym, ◌∙◌, ap, subst, arith, FitsSigned}
 use Rattle.std.specs.Int.{w64, w128}
-use Rattle.std.proofs.Math.Nat.{mul-le-mul_right}
-use lib.Signed.{mag}
-use Rattle.rp_simplex.proofs.Bits.{back128}
 use Rattle.std.specs.Int.RustNames.{unsigned_abs, int_div, int_rem}
-use Rattle.std.proofs.lemmas.Int.{ints, to_z-of_z, to_z_pos, quot-rem, quot_fits, fits_signed_from_abs, unsigned_abs-mul}
+use Rattle.std.proofs.lemmas.Int.{ints, to_z-of_z, to_z_pos, quot-rem, quot_fits, fits_signed_from_abs}
 use Rattle.std.proofs.lemmas.Nat.Gcd.{mod-eq-zero_of_dvd}
 use mir.Val.{to_z, of_z}
 
@@ -30,29 +27,6 @@ quotient_read z g positive small d fits =
     ∙ ap (λ q. q *ℤ pos g) (sym (to_z-of_z w128 (int_div z (pos g)) quotient_fits)
     ∙ ap (λ y. to_z w128 (of_z w128 (int_div y (pos g)))) (sym read)
     ∙ ap (λ y. to_z w128 (of_z w128 (int_div (to_z w128 (of_z w128 z)) y))) (sym divisor))
-
--- a quotient past the width, as it is read from its bits
-pub quotient_wide : (z q : ℤ) (g n : ℕ) → unsigned_abs z < 2 ^ 127 → mag q < 2 ^ 127 → to_z w128 (of_z w128 z) ≡ q *ℤ pos g → n ≡ unsigned_abs (to_z w128 (of_z w128 q)) → 2 ^ 63 ≤ n
-    → 2 ^ 63 * g ≤ unsigned_abs z
-quotient_wide z q g n fits_z fits_q e read wide =
-    let whole : z ≡ q *ℤ pos g = sym (to_z-of_z w128 z (fits_signed_from_abs w128 z fits_z)) ∙ e in
-    let size : unsigned_abs z ≡ unsigned_abs q * g = ap unsigned_abs whole ∙ unsigned_abs-mul q (pos g) in
-    let large : 2 ^ 63 ≤ unsigned_abs q = subst (λ k. 2 ^ 63 ≤ k) (read ∙ ap unsigned_abs (back128 q fits_q)) wide in
-    let scaled : 2 ^ 63 * g ≤ unsigned_abs q * g = mul-le-mul_right g large in
-    omega arith
-
-small_bits : (q : ℤ) (n : ℕ) → mag q < 2 ^ 127 → n ≡ unsigned_abs (to_z w128 (of_z w128 q)) → n < 2 ^ 63 → to_z w64 (of_z w64 (to_z w128 (of_z w128 q))) ≡ q
-small_bits q n fits read small =
-    let below : unsigned_abs q < 2 ^ 63 = subst (λ k. k < 2 ^ 63) (read ∙ ap unsigned_abs (back128 q fits)) small in
-    ap (λ y. to_z w64 (of_z w64 y)) (back128 q fits) ∙ to_z-of_z w64 q (fits_signed_from_abs w64 q below)
-
-pub quotient_kept : (z q : ℤ) (g n : ℕ) → unsigned_abs z < 2 ^ 127 → mag q < 2 ^ 127 → to_z w128 (of_z w128 z) ≡ q *ℤ pos g → n ≡ unsigned_abs (to_z w128 (of_z w128 q)) → n < 2 ^ 63
-    → z ≡ to_z w64 (of_z w64 (to_z w128 (of_z w128 q))) *ℤ pos g
-quotient_kept z q g n fits_z fits_q e read small =
-    sym (to_z-of_z w128 z (fits_signed_from_abs w128 z fits_z)) ∙ e ∙ ap (λ y. y *ℤ pos g) (sym (small_bits q n fits_q read small))
-
-pub quotient_fits : (q : ℤ) (n : ℕ) → mag q < 2 ^ 127 → n ≡ unsigned_abs (to_z w128 (of_z w128 q)) → n < 2 ^ 63 → unsigned_abs (to_z w64 (of_z w64 (to_z w128 (of_z w128 q)))) < 2 ^ 63
-quotient_fits q n fits read small = subst (λ y. unsigned_abs y < 2 ^ 63) (sym (small_bits q n fits read small)) (subst (λ k. k < 2 ^ 63) (read ∙ ap unsigned_abs (back128 q fits)) small)
 
 -- ---- in 64 bits
 pub narrow_read : (z d : ℤ) → pos 0 <ℤ d → unsigned_abs d ∣ unsigned_abs z → unsigned_abs z < 2 ^ 63 → FitsSigned w64 d

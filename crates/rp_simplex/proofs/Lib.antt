@@ -8,7 +8,7 @@ pub mod Steps
 pub mod Choices
 pub mod Bits
 pub mod Divisors
-pub mod Pushed
+pub mod OneMore
 pub mod Writing
 pub mod Clearing
 pub mod Pivoted

@@ -10,7 +10,7 @@ use Rattle.std.proofs.Math.Nat.{mul-lt-mul_of_pos_right}
 use Rattle.rp_simplex.specs.ExactTableau.{ExactTableau}
 use Rattle.rp_simplex.specs.Pivot.{cleared, DividesAll, IsPivot, PivotPasses}
 use Rattle.rp_simplex.proofs.Divisors.{divided}
-use Rattle.rp_simplex.proofs.Pushed.{not_zero}
+use Rattle.rp_simplex.proofs.OneMore.{not_zero}
 
 -- a number times its quotient by a divisor
 pub whole_quotient : (n g : ℕ) → g ∣ n → n / g * g ≡ n

@@ -1,20 +1,10 @@
 -- One more element of a row of a grid is written.
-use Rattle.std.proofs.Common.{ℕ, ◌+◌, ◌<◌, ℤ, pos, length, slice_set, inl, inr, refl, sym, ◌∙◌, subst, arith, length-set}
+use Rattle.std.proofs.Common.{ℕ, ◌+◌, ◌<◌, ℤ, pos, length, slice_set, inl, inr, sym, ◌∙◌, subst, arith, length-set}
 use Rattle.std.proofs.lemmas.Bool.{cases_eq}
-use Rattle.rp_grid.specs.Rows.{Rows, row_of, AreEqual, with_cell}
+use Rattle.rp_grid.specs.Rows.{Rows, row_of, with_cell}
 use Rattle.rp_grid.proofs.Reading.{same_count, row_stays, cell_written, cell_stays, still_equal}
 use Rattle.rp_simplex.specs.Cells.{cell}
 use Rattle.rp_simplex.specs.Written.{IsWritten}
-
-pub unwritten : (g : Rows ℤ) (i : ℕ) (P : ℕ → ℤ → Type 0) → AreEqual g → IsWritten g g i 0 P
-unwritten g i P equal = record {
-  count = refl;
-  cols = refl;
-  equal = equal;
-  others = λ k _. refl;
-  done = λ j l. absurd (omega arith);
-  left = λ j _. refl;
-}
 
 module _ (old now : Rows ℤ) (i n : ℕ) (P : ℕ → ℤ → Type 0) (there : i < length old.rows) (so_far : IsWritten old now i n P) (within : n < old.cols) (x : ℤ) (here : P n x) where
   row_there : i < length now.rows

@@ -61,8 +61,8 @@ fn fill_row<P: Lp>(grid: &mut Grid<i64>, p: &P, i: usize)
 fn starting_grid<P: Lp>(alloc: Global, p: &P) -> Result<Grid<i64>, NoMemory>
     ensures rows { IfOk result (λ g. length g.rows ≡ (P.program p.now).rows + 1) }
     ensures cols { IfOk result (λ g. g.cols ≡ width_of (P.program p.now)) }
-    ensures entries { IfOk result
-        (λ g. (i j : ℕ) → i ≤ (P.program p.now).rows → j < width_of (P.program p.now)
+    ensures entries { IfOk result (λ g. (i j : ℕ)
+        → i ≤ (P.program p.now).rows → j < width_of (P.program p.now)
         → IsFirstEntry (P.program p.now) i j (cell g i j)) }
 {
     let rows = p.rows();

@@ -21,6 +21,6 @@ pub fn outcomes_are_evidence()
 
 /// Programs that are the same within their rows and columns have the same outcomes.
 pub fn same_programs_have_the_same_outcomes()
-    ensures { (p q : LinearProgram) (o : Outcome) → IsSameProgram p q → IsOutcome p o
-        → IsOutcome q o }
+    ensures { (p q : LinearProgram) (o : Outcome)
+        → IsSameProgram p q → IsOutcome p o → IsOutcome q o }
 {}

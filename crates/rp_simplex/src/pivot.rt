@@ -52,7 +52,7 @@ fn cleared_entry(t: &Stage, r: usize, c: usize, i: usize, j: usize) -> i128
     }
 }
 
-/// The greatest common divisor of the divisor so far and the numerators of row i; 1 is left as it is.
+/// The greatest common divisor of the divisor so far and the numerators of row i; 1 ends the search.
 fn divisor_with_row(t: &Stage, r: usize, c: usize, i: usize, so_far: u128) -> u128
     requires pivot_row { r < t.now.rows }
     requires pivot_column { c < t.now.width }
@@ -63,7 +63,8 @@ fn divisor_with_row(t: &Stage, r: usize, c: usize, i: usize, so_far: u128) -> u1
     ensures divides_row { (j : ℕ) → j < t.now.width
         → result ∣ unsigned_abs (cleared (exact t.now) r c i j) }
     ensures greatest { (k : ℕ) → k ∣ so_far
-        → ((j : ℕ) → j < t.now.width → k ∣ unsigned_abs (cleared (exact t.now) r c i j)) → k ∣ result }
+        → ((j : ℕ) → j < t.now.width → k ∣ unsigned_abs (cleared (exact t.now) r c i j))
+        → k ∣ result }
 {
     let mut divisor = so_far;
     for j in 0..t.width {
@@ -94,8 +95,8 @@ fn common_divisor(t: &Stage, r: usize, c: usize, den: u128) -> u128
     divisor
 }
 
-/// Takes from row i the multiple of row r that clears column c, and divides. Row r is read while row i is written. It
-/// stops at a number that passes the width.
+/// Takes from row i the multiple of row r that clears column c, and divides. Row r is read while row i
+/// is written. It stops at a number that passes the width.
 fn clear_row(grid: &mut Grid<i64>, r: u32, c: u32, i: u32, divisor: u128) -> bool
     requires pivot_row { r < length grid.old.rows }
     requires pivot_column { c < grid.old.cols }
@@ -180,7 +181,8 @@ fn renew_others(grid: &mut Grid<i64>, r: u32, c: u32, divisor: u128) -> bool
     requires divides { (i j : ℕ) → i < length grid.old.rows → i ≢ r → j < grid.old.cols
         → divisor ∣ unsigned_abs (less_multiple grid.old r c i j) }
     ensures { MatchBool result (AreRenewed grid.old grid.new r c divisor (length grid.old.rows))
-        ((i : ℕ) × (i < length grid.old.rows) × (i ≢ r) × OnePasses grid.old.cols (less_multiple grid.old r c i) divisor) }
+        ((i : ℕ) × (i < length grid.old.rows) × (i ≢ r)
+        × OnePasses grid.old.cols (less_multiple grid.old r c i) divisor) }
 {
     for i in 0..grid.rows() {
         if i != r && !renew_row(grid, r, c, i, divisor) {

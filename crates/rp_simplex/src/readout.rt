@@ -70,8 +70,8 @@ fn note(entries: &mut Vec<Entry>, column: usize, value: u64)
     requires room { vec_len entries.old < vec_capacity entries.old }
     ensures listed { IsListing (column + 1) entries.new.items }
     ensures value { numerator_at entries.new.items column ≡ value }
-    ensures before { (k : ℕ) → k < column → numerator_at entries.new.items k
-        ≡ numerator_at entries.old.items k }
+    ensures before { (k : ℕ) → k < column
+        → numerator_at entries.new.items k ≡ numerator_at entries.old.items k }
     ensures few { vec_len entries.new ≤ vec_len entries.old + 1 }
     ensures capacity { vec_capacity entries.old ≤ vec_capacity entries.new }
 {
@@ -122,12 +122,12 @@ pub fn ray(t: &Stage, room: Vec<Entry>, c: usize, cols: usize) -> Seq<Entry>
 /// The prices that the tableau shows, in the room that is there for them: the slack entries of its objective row.
 pub fn prices(t: &Stage, room: Vec<u64>) -> Seq<u64>
     requires wide { t.now.rows < t.now.width }
-    requires not_negative { (s : ℕ) → s < t.now.rows → pos 0
-        ≤ℤ (exact t.now).at t.now.rows (suc s) }
+    requires not_negative { (s : ℕ) → s < t.now.rows
+        → pos 0 ≤ℤ (exact t.now).at t.now.rows (suc s) }
     requires room { HasRoom room t.now.rows }
     ensures length { length result ≡ t.now.rows }
-    ensures read { (s : ℕ) → s < t.now.rows → pos (slice_index result s)
-        ≡ (exact t.now).at t.now.rows (suc s) }
+    ensures read { (s : ℕ) → s < t.now.rows
+        → pos (slice_index result s) ≡ (exact t.now).at t.now.rows (suc s) }
 {
     let mut prices = room;
     for s in 0..t.rows {

@@ -33,7 +33,8 @@ pub fn run(first: Stage, room: Room) -> Outcome
     requires { IsReady first room }
     ensures outcome { IsOutcome (program_in first.grid) result }
     ensures only { (other : Outcome)
-        → IsOutcome (program_in first.grid) other → IsSameOutcome (program_in first.grid) result other }
+        → IsOutcome (program_in first.grid) other
+        → IsSameOutcome (program_in first.grid) result other }
     ensures evidence { IsEvidence (program_in first.grid) result }
 {
     let cols = first.width - 1 - first.rows;

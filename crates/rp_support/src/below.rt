@@ -5,7 +5,8 @@ ghost use Rattle.rp_evidence.specs.Preference.{IsStrict};
 ghost use Rattle.rp_table.specs.Cost.{cost_of};
 ghost use Rattle.rp_table.specs.Tables.{records_of};
 ghost use Rattle.rp_support.specs.Asked.{asked_of, input_of};
-ghost use Rattle.rp_support.specs.Starts.{AreTold, IsLedTo, IsStrictStart, IsWeakClosureOf, ListsThose};
+ghost use Rattle.rp_support.specs.Starts.{AreTold, IsLedTo, IsStrictStart, IsWeakClosureOf};
+ghost use Rattle.rp_support.specs.Starts.{ListsThose};
 
 use crate::budget::Budget;
 use rp_num::NoMemory;

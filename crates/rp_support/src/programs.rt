@@ -1,5 +1,6 @@
 ghost use Rattle.std.specs.Prelude.{◌≡◌, ◌+◌, ◌<◌, ◌≤◌, All, length};
-ghost use Rattle.rp_evidence.specs.DemandPrograms.{demand_entry, demand_worth, lower_program, upper_program};
+ghost use Rattle.rp_evidence.specs.DemandPrograms.{demand_entry, demand_worth, lower_program};
+ghost use Rattle.rp_evidence.specs.DemandPrograms.{upper_program};
 ghost use Rattle.rp_farkas.specs.Limits.{IsWithinLimits};
 ghost use Rattle.rp_table.specs.Tables.{goods_of, records_of};
 ghost use Rattle.rp_support.specs.Asked.{asked_of, input_of};

@@ -5,7 +5,7 @@ use Rattle.std.proofs.lemmas.Nat.Gcd.{dvd_refl, dvd_trans}
 use Rattle.rp_simplex.specs.Pivot.{cleared}
 use Rattle.rp_simplex.specs.Shown.{exact}
 use Rattle.rp_simplex.proofs.Bits.{back128}
-use Rattle.rp_simplex.proofs.Pushed.{not_zero, one_divides, still_divides}
+use Rattle.rp_simplex.proofs.OneMore.{not_zero, one_divides, still_divides}
 use Rattle.rp_simplex.proofs.pivot.divisor_with_row.Goals as goal
 
 pub loop-j-init : goal.loop-j-init
