@@ -24,6 +24,7 @@ pub mod Reaching
 pub mod SameAfriat
 pub mod Ratios
 pub mod SameCosts
+pub mod SameDemand
 pub mod SameIndex
 pub mod SameItems
 pub mod SameProducts

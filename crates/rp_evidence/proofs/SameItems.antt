@@ -11,9 +11,10 @@ use Rattle.rp_evidence.specs.Garp.{ProvesGarp}
 use Rattle.rp_evidence.specs.Proves.{Proves}
 use Rattle.rp_evidence.specs.Quasilinear.{ProvesQuasilinear}
 use Rattle.rp_evidence.specs.declared.certificate.Item.{Item}
-use Rattle.rp_evidence.specs.declared.certificate.Item.TheVariants.{Garp as GarpItem, Afriat as AfriatItem, Efficiency as EfficiencyItem, Homothetic as HomotheticItem, Quasi as QuasiItem}
+use Rattle.rp_evidence.specs.declared.certificate.Item.TheVariants.{Garp as GarpItem, Afriat as AfriatItem, Efficiency as EfficiencyItem, Homothetic as HomotheticItem, Quasi as QuasiItem, Demand as DemandItem, Welfare as WelfareItem, Random as RandomItem}
 use Rattle.rp_evidence.proofs.SameAfriat.{afriat_same}
 use Rattle.rp_evidence.proofs.SameCosts.{garp_same}
+use Rattle.rp_evidence.proofs.SameDemand.{demand_same, welfare_same}
 use Rattle.rp_evidence.proofs.SameIndex.{efficiency_same}
 use Rattle.rp_evidence.proofs.SameProducts.{homothetic_same}
 use Rattle.rp_evidence.proofs.SameSums.{quasilinear_same}
@@ -35,3 +36,6 @@ module _ (input other : TableInput) (agree : AgreeInputs input other) where
   item_same (EfficiencyItem evidence) p = subst (λ m. ProvesEfficiency m other.cost evidence) agree.n (efficiency_same input.n input.cost other.cost evidence costs_agree p)
   item_same (HomotheticItem verdict) p = subst (λ m. ProvesHomothetic m other.cost verdict) agree.n (homothetic_same input.n input.cost other.cost verdict costs_agree p)
   item_same (QuasiItem verdict) p = subst (λ m. ProvesQuasilinear m other.cost verdict) agree.n (quasilinear_same input.n input.cost other.cost verdict costs_agree p)
+  item_same (DemandItem prices m part) p = demand_same input other agree prices m part p
+  item_same (WelfareItem prices of part) p = welfare_same input other agree prices of part p
+  item_same (RandomItem total part) p = p

@@ -9,6 +9,7 @@ pub mod Demand
 pub mod DemandEvidence
 pub mod DemandPrograms
 pub mod Input
+pub mod Kinds
 pub mod Preference
 pub mod Proves
 pub mod Quasilinear

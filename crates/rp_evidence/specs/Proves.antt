@@ -1,17 +1,21 @@
 -- What evidence has to be to prove its verdict on what a table says (sources at each kind of evidence).
 use Rattle.rp_evidence.specs.AfriatEvidence.{ProvesAfriat}
+use Rattle.rp_evidence.specs.DemandEvidence.{ProvesDemand, ProvesWelfare}
 use Rattle.rp_evidence.specs.Efficiency.{ProvesEfficiency}
 use Rattle.rp_evidence.specs.Garp.{ProvesGarp}
 use Rattle.rp_evidence.specs.Homothetic.{ProvesHomothetic}
 use Rattle.rp_evidence.specs.Input.{TableInput}
 use Rattle.rp_evidence.specs.Quasilinear.{ProvesQuasilinear}
 use Rattle.rp_evidence.specs.declared.certificate.Item.{Item}
-use Rattle.rp_evidence.specs.declared.certificate.Item.TheVariants.{Garp as GarpItem, Afriat as AfriatItem, Efficiency as EfficiencyItem, Homothetic as HomotheticItem, Quasi as QuasiItem}
+use Rattle.rp_evidence.specs.declared.certificate.Item.TheVariants.{Garp as GarpItem, Afriat as AfriatItem, Efficiency as EfficiencyItem, Homothetic as HomotheticItem, Quasi as QuasiItem, Demand as DemandItem, Welfare as WelfareItem, Random as RandomItem}
 
--- An item proves its verdict.
+-- An item proves its verdict. On a table a random item proves nothing.
 abbrev pub Proves : TableInput → Item → Type 0
 Proves input (GarpItem verdict) = ProvesGarp input.n input.cost verdict
 Proves input (AfriatItem part) = ProvesAfriat input.n input.cost part
 Proves input (EfficiencyItem evidence) = ProvesEfficiency input.n input.cost evidence
 Proves input (HomotheticItem verdict) = ProvesHomothetic input.n input.cost verdict
 Proves input (QuasiItem verdict) = ProvesQuasilinear input.n input.cost verdict
+Proves input (DemandItem prices m part) = ProvesDemand input prices m part
+Proves input (WelfareItem prices of part) = ProvesWelfare input prices of part
+Proves input (RandomItem total part) = ⊥

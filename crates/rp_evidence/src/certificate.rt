@@ -2,10 +2,12 @@ ghost use Rattle.std.specs.Prelude.{◌≡◌, ◌-◌, ◌^◌, min, sum_by};
 ghost use Rattle.rp_evidence.specs.Withheld.{withheld_in};
 
 use crate::afriat::AfriatPart;
+use crate::demand::{DemandPart, WelfarePart};
 use crate::efficiency::Efficiency;
 use crate::garp::Garp;
 use crate::homothetic::Homothetic;
 use crate::quasilinear::Quasi;
+use crate::random::RandomPart;
 use rp_num::Seq;
 
 /// One verdict with its evidence.
@@ -16,6 +18,20 @@ pub enum Item {
     Efficiency(Efficiency),
     Homothetic(Homothetic),
     Quasi(Quasi),
+    Demand {
+        prices: Seq<u32>,
+        m: u64,
+        part: DemandPart,
+    },
+    Welfare {
+        prices: Seq<u32>,
+        of: u32,
+        part: WelfarePart,
+    },
+    Random {
+        total: u64,
+        part: RandomPart,
+    },
 }
 
 /// What a certificate is about: a table of prices and bundles, or random choices from budgets.
@@ -33,9 +49,9 @@ pub struct Certificate {
     pub items: Seq<Item>,
 }
 
-/// How many values an item leaves out because their computation passed its width.
+/// How many values an item leaves out because their computation passed its width, up to 2^32 - 1.
 fn withheld_in_item(item: &Item) -> u32
-    ensures { result ≡ withheld_in item.now }
+    ensures { result ≡ min (withheld_in item.now) (2 ^ 32 - 1) }
 {
     match item {
         Item::Garp(_) => 0,
@@ -43,6 +59,9 @@ fn withheld_in_item(item: &Item) -> u32
         Item::Efficiency(_) => 0,
         Item::Homothetic(verdict) => verdict.withheld(),
         Item::Quasi(_) => 0,
+        Item::Demand { part, .. } => part.withheld(),
+        Item::Welfare { part, .. } => part.withheld(),
+        Item::Random { part, .. } => part.withheld(),
     }
 }
 

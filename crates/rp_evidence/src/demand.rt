@@ -1,5 +1,5 @@
-ghost use Rattle.std.specs.Prelude.{◌≡◌};
-ghost use Rattle.rp_evidence.specs.DemandEvidence.{withheld_bound};
+ghost use Rattle.std.specs.Prelude.{◌≡◌, ◌-◌, ◌^◌, min, sum_by};
+ghost use Rattle.rp_evidence.specs.DemandEvidence.{withheld_bound, withheld_demand, withheld_good, withheld_welfare};
 
 use rp_farkas::Pair;
 use rp_num::{Frac, Seq};
@@ -54,6 +54,50 @@ impl Bound {
         match self {
             Bound::Shown { .. } => 0,
             Bound::Wide { .. } => 1,
+        }
+    }
+}
+
+impl GoodBounds {
+    /// How many of the two bounds are withheld.
+    fn withheld(&self) -> u32
+        ensures { result ≡ withheld_good self.now }
+    {
+        self.lower.withheld() + self.upper.withheld()
+    }
+}
+
+impl DemandPart {
+    /// How many bounds are withheld, up to 2^32 - 1.
+    pub fn withheld(&self) -> u32
+        ensures { result ≡ min (withheld_demand self.now) (2 ^ 32 - 1) }
+    {
+        match self {
+            DemandPart::Bounds { goods, .. } => withheld_in_goods(goods.as_slice()),
+            DemandPart::NoModel(_) => 0,
+        }
+    }
+}
+
+/// How many bounds of goods are withheld, up to 2^32 - 1.
+fn withheld_in_goods(goods: &[GoodBounds]) -> u32
+    ensures { result ≡ min (sum_by withheld_good goods.now) (2 ^ 32 - 1) }
+{
+    let mut total: u32 = 0;
+    for bounds in goods {
+        total = total.saturating_add(bounds.withheld());
+    }
+    total
+}
+
+impl WelfarePart {
+    /// 1 where the lower bound is withheld.
+    pub fn withheld(&self) -> u32
+        ensures { result ≡ withheld_welfare self.now }
+    {
+        match self {
+            WelfarePart::Bounds { lower, .. } => lower.withheld(),
+            WelfarePart::NoModel(_) => 0,
         }
     }
 }

@@ -8,11 +8,13 @@ mod demand;
 mod demand_laws;
 mod efficiency;
 mod efficiency_laws;
+mod failure;
 mod garp;
 mod homothetic;
 mod laws;
 mod level;
 mod quasilinear;
+mod random;
 mod relations;
 mod value_laws;
 mod welfare_laws;
@@ -31,6 +33,7 @@ pub use demand_laws::{
 };
 pub use efficiency::Efficiency;
 pub use efficiency_laws::{efficiency_index_is_threshold, efficiency_index_is_unique};
+pub use failure::{Failure, Reason};
 pub use garp::Garp;
 pub use homothetic::Homothetic;
 pub use laws::{
@@ -42,6 +45,7 @@ pub use laws::{
 };
 pub use level::Level;
 pub use quasilinear::Quasi;
+pub use random::{RandomPart, Share};
 pub use relations::{Preference, Relation};
 pub use value_laws::{bound_products_meet_homothetic_test, bound_steps_meet_quasilinear_test};
 pub use welfare_laws::{

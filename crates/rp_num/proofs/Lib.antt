@@ -1,5 +1,7 @@
 pub mod Coprime
 pub mod Compare
 pub mod DecimalText
+pub mod FractionText
 pub mod Lowest
+pub mod ReadLemmas
 mod Worked

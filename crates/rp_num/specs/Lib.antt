@@ -1,2 +1,3 @@
 pub mod Fraction
 pub mod Decimal
+pub mod Spelled
