@@ -1,3 +1,4 @@
+pub mod BelowLemmas
 pub mod Coprime
 pub mod Compare
 pub mod DecimalText

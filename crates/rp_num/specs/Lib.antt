@@ -1,3 +1,4 @@
+pub mod Below
 pub mod Fraction
 pub mod Decimal
 pub mod Spelled

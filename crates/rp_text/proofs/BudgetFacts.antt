@@ -16,7 +16,7 @@ use Rattle.rp_text.specs.Denotation.{first_fault, column_of, column_numbers, bud
 use Rattle.rp_text.specs.declared.form.Role.{Role}
 use Rattle.rp_text.specs.declared.form.Role.TheVariants.{Observation, Price, Quantity, Expenditure, Income, Budget, Times}
 use Rattle.rp_text.specs.declared.fault.TableFault.{TableFault}
-use Rattle.rp_text.proofs.BelowLemmas.{length-listed}
+use Rattle.rp_num.proofs.BelowLemmas.{length-listed}
 use Rattle.rp_text.proofs.RowLemmas.{length-rows, all_rows, all_listed}
 use Rattle.rp_text.proofs.FineHeaders.{FineHeaders, fine_headers}
 use Rattle.rp_text.proofs.GoodHeaders.{price_column}

@@ -16,7 +16,7 @@ use Rattle.rp_text.specs.Denotation.{first_fault, column_numbers, choice_list, c
 use Rattle.rp_text.specs.declared.form.Role.{Role}
 use Rattle.rp_text.specs.declared.form.Role.TheVariants.{Budget, Times}
 use Rattle.rp_text.specs.declared.fault.TableFault.{TableFault}
-use Rattle.rp_text.proofs.BelowLemmas.{length-listed}
+use Rattle.rp_num.proofs.BelowLemmas.{length-listed}
 use Rattle.rp_text.proofs.RowLemmas.{all_listed}
 use Rattle.rp_text.proofs.FieldFaults.{role_is}
 use Rattle.rp_text.proofs.FineHeaders.{FineHeaders, fine_headers, column_there}

@@ -20,7 +20,7 @@ use Rattle.rp_text.specs.declared.form.Role.{Role}
 use Rattle.rp_text.specs.declared.form.Role.TheVariants.{Budget, Times}
 use Rattle.rp_text.specs.declared.fault.TableFault.{TableFault}
 use Rattle.rp_text.specs.declared.fault.TableFault.TheVariants as fault
-use Rattle.rp_text.proofs.BelowLemmas.{length-listed, get-listed}
+use Rattle.rp_num.proofs.BelowLemmas.{length-listed, get-listed}
 use Rattle.rp_text.proofs.NameLemmas.{and_both}
 use Rattle.rp_text.proofs.PlaceLemmas.{none_below, none_or, one_below}
 use Rattle.rp_text.proofs.RowLemmas.{all_listed}

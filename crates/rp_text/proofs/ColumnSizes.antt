@@ -1,7 +1,7 @@
 -- The scaled numbers in a column of a file of any kind that has no fault.
 use Rattle.std.proofs.Common.{◌≡◌, ℕ, ◌-◌, ◌*◌, ◌^◌, ◌<◌, ◌≤◌, Bool, true, false, not, ◌&&◌, nat_lt, List, length, slice_index, Some, None, refl, ap, ◌∙◌, arith}
 use Rattle.std.proofs.lemmas.Bool.Decides.{nat_tests}
-use Rattle.rp_text.specs.Below.{any_below}
+use Rattle.rp_num.specs.Below.{any_below}
 use Rattle.rp_text.specs.Texts.{text_at}
 use Rattle.rp_text.specs.Columns.{role_of, role_at, measures}
 use Rattle.rp_text.specs.Records.{record_at}
@@ -11,7 +11,7 @@ use Rattle.rp_text.specs.Sizes.{figure_at, places_of, limit_of, sizes_of, sizes_
 use Rattle.rp_text.specs.declared.form.Form.{Form}
 use Rattle.rp_text.specs.declared.form.Role.{Role}
 use Rattle.rp_text.specs.declared.form.Role.TheVariants.{Price, Budget}
-use Rattle.rp_text.proofs.BelowLemmas.{length-listed, one_holds}
+use Rattle.rp_num.proofs.BelowLemmas.{length-listed, one_holds}
 use Rattle.rp_text.proofs.NameLemmas.{and_both}
 use Rattle.rp_text.proofs.PlaceLemmas.{one_below}
 use Rattle.rp_text.proofs.FieldFaults.{role_is}

@@ -3,7 +3,7 @@ use Rattle.std.proofs.Common.{◌≡◌, ◌≢◌, ℕ, ◌==◌, true, false, 
 use Rattle.std.specs.Result.{result_err}
 use Rattle.std.proofs.lemmas.Bool.Decides.{nat_tests}
 use Rattle.rp_num.specs.declared.decimal.Decimal.{Decimal}
-use Rattle.rp_text.specs.Below.{first_of, listed}
+use Rattle.rp_num.specs.Below.{first_of, listed}
 use Rattle.rp_text.specs.Texts.{trimmed, text_at, number_of}
 use Rattle.rp_text.specs.Columns.{role_of, role_at, measures}
 use Rattle.rp_text.specs.Fields.{nothing, field_of, field_at, figure, row_at, buys_nothing, record_fault}
@@ -11,7 +11,7 @@ use Rattle.rp_text.specs.declared.form.Form.{Form}
 use Rattle.rp_text.specs.declared.form.Role.{Role}
 use Rattle.rp_text.specs.declared.fault.TableFault.{TableFault}
 use Rattle.rp_text.specs.declared.fault.TableFault.TheVariants as fault
-use Rattle.rp_text.proofs.BelowLemmas.{any_same, get-listed}
+use Rattle.rp_num.proofs.BelowLemmas.{any_same, get-listed}
 
 -- the role of a column that has one
 pub role_is : (headers : List (List ℕ)) (c : ℕ) (role : Role) → role_of (text_at headers c) ≡ Some role → role_at headers c ≡ role

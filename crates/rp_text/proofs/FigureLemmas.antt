@@ -12,7 +12,7 @@ use Rattle.rp_num.specs.Decimal.{decimal_of, decimal_from, is_number, whole_part
 use Rattle.rp_num.specs.declared.decimal.Decimal.{Decimal}
 use Rattle.rp_num.specs.declared.decimal.NumFault.{NumFault}
 use Rattle.rp_num.specs.declared.decimal.NumFault.TheVariants.{Bad, Decimals}
-use Rattle.rp_text.specs.Below.{first_of, listed}
+use Rattle.rp_num.specs.Below.{first_of, listed}
 use Rattle.rp_text.specs.Texts.{text_at, trimmed, number_of}
 use Rattle.rp_text.specs.Columns.{role_of, role_at}
 use Rattle.rp_text.specs.Fields.{nothing, measured, priced, whole, budgeted, field_of, field_at, figure, figures_of, rows_in, row_at, buys_nothing, record_fault, fields_stage}
@@ -23,7 +23,7 @@ use Rattle.rp_text.specs.declared.form.Role.TheVariants.{Observation, Price, Qua
 use Rattle.rp_text.specs.declared.fault.TableFault.{TableFault}
 use Rattle.rp_text.specs.declared.fault.TableFault.TheVariants as fault
 use Rattle.rp_text.proofs.FieldFaults.{role_is}
-use Rattle.rp_text.proofs.BelowLemmas.{length-listed, get-listed}
+use Rattle.rp_num.proofs.BelowLemmas.{length-listed, get-listed}
 use Rattle.rp_text.proofs.PlaceLemmas.{none_or, none_below, fine, greatest_at_most}
 
 -- a number has at most six places

@@ -5,7 +5,7 @@ use Rattle.std.specs.List.{All}
 use Rattle.std.specs.Option.{option_map_or}
 use Rattle.std.proofs.Math.Nat.{mul-div_cancel}
 use Rattle.rp_table.specs.Rows.{rows_count}
-use Rattle.rp_text.specs.Below.{any_below}
+use Rattle.rp_num.specs.Below.{any_below}
 use Rattle.rp_text.specs.Texts.{text_at, place_of}
 use Rattle.rp_text.specs.Columns.{role_of, good_role, takes, is_name, price_mark, quantity_mark}
 use Rattle.rp_text.specs.Headers.{has, good_mark, lacks_column, lacks_good, names_of, missing_fault, goods_stage}
@@ -16,7 +16,7 @@ use Rattle.rp_text.specs.declared.form.Form.{Form}
 use Rattle.rp_text.specs.declared.form.Role.{Role}
 use Rattle.rp_text.specs.declared.form.Role.TheVariants.{Price, Quantity}
 use Rattle.rp_text.specs.declared.fault.TableFault.{TableFault}
-use Rattle.rp_text.proofs.BelowLemmas.{one_holds}
+use Rattle.rp_num.proofs.BelowLemmas.{one_holds}
 use Rattle.rp_text.proofs.PlaceLemmas.{not_false}
 use Rattle.rp_text.proofs.FieldFaults.{role_is}
 use Rattle.rp_text.proofs.RowLemmas.{length-rows, all_rows}

@@ -2,13 +2,13 @@
 use Rattle.std.proofs.Common.{◌≡◌, ℕ, ◌+◌, ◌<◌, true, false, List, length, take, Some, None, is_some, [], refl}
 use Rattle.std.specs.Option.{option_map_or}
 use Rattle.std.proofs.lemmas.List.{get_or-map, length-map}
-use Rattle.rp_text.specs.Below.{first_of}
+use Rattle.rp_num.specs.Below.{first_of}
 use Rattle.rp_text.specs.Texts.{trimmed, text_at, place_of, number_of}
 use Rattle.rp_text.specs.Columns.{role_of, takes}
 use Rattle.rp_text.specs.Headers.{headers_in, header_fault, headers_stage}
 use Rattle.rp_text.specs.declared.form.Form.{Form}
 use Rattle.rp_text.specs.declared.fault.TableFault.TheVariants as fault
-use Rattle.rp_text.proofs.BelowLemmas.{none_so_far, first_at}
+use Rattle.rp_num.proofs.BelowLemmas.{none_so_far, first_at}
 
 -- the header of a column
 pub header_at : (fields : List (List ℕ)) (c : ℕ) → c < length fields → text_at (headers_in fields) c ≡ trimmed (text_at fields c)

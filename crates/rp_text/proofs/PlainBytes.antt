@@ -3,14 +3,14 @@ use Rattle.std.proofs.Common.{◌≡◌, ◌≢◌, ℕ, zero, suc, ◌+◌, ◌
 use Rattle.std.specs.List.{All}
 use Rattle.std.proofs.lemmas.List.Elements.{All-nil, All-cons, All-same}
 use Rattle.rp_table.specs.Tables.{Observations, goods_of, records_of, price_of, quantity_of}
-use Rattle.rp_text.specs.Below.{listed}
+use Rattle.rp_num.specs.Below.{listed}
 use Rattle.rp_text.specs.Texts.{text_at}
 use Rattle.rp_text.specs.Columns.{price_mark}
 use Rattle.rp_text.specs.Records.{record_at}
 use Rattle.rp_text.specs.Fields.{row_at}
 use Rattle.rp_text.specs.Denotation.{denoted_table, table_in}
 use Rattle.rp_text.specs.Plain.{parts_of, parts_in, IsPlainName, IsPlainHeader, IsNumeral, IsPlainRecord, IsPlainTable}
-use Rattle.rp_text.proofs.BelowLemmas.{length-listed, get-listed}
+use Rattle.rp_num.proofs.BelowLemmas.{length-listed, get-listed}
 use Rattle.rp_text.proofs.PlainHeaders.{column_kind}
 use Rattle.rp_text.proofs.PlainLines.{Ordinary, plain_records, all_of_parts, parts_some}
 use Rattle.rp_text.proofs.PlainTables.{plain_denotes}

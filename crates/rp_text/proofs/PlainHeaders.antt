@@ -6,7 +6,7 @@ use Rattle.std.proofs.lemmas.Bool.Decides.{nat_tests}
 use Rattle.std.proofs.lemmas.List.{get_or-take, length-take}
 use Rattle.std.proofs.lemmas.List.Elements.{All-tail, All-cons}
 use Rattle.std.proofs.lemmas.List.Sums.{list_all-from_AllPass}
-use Rattle.rp_text.specs.Below.{first_of}
+use Rattle.rp_num.specs.Below.{first_of}
 use Rattle.rp_text.specs.Texts.{text_at, place_of, trimmed}
 use Rattle.rp_text.specs.Columns.{role_of, takes, is_name, is_price, name_in, names_with, price_mark, quantity_mark}
 use Rattle.rp_text.specs.Forms.{table_form}

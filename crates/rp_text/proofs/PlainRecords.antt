@@ -6,7 +6,7 @@ use Rattle.std.proofs.Math.Nat.{mul-one}
 use Rattle.rp_num.specs.Decimal.{decimal_of}
 use Rattle.rp_num.specs.declared.decimal.Decimal.{Decimal}
 use Rattle.rp_table.specs.Sums.{sum_below}
-use Rattle.rp_text.specs.Below.{first_of}
+use Rattle.rp_num.specs.Below.{first_of}
 use Rattle.rp_text.specs.Texts.{text_at, trimmed, number_of}
 use Rattle.rp_text.specs.Columns.{role_at, measures}
 use Rattle.rp_text.specs.Forms.{table_form}
@@ -15,7 +15,7 @@ use Rattle.rp_text.specs.Sizes.{figure_at, greatest_places, places_of, size_of, 
 use Rattle.rp_text.specs.Plain.{IsPlainHeader, IsPlainRecord, IsNumeral}
 use Rattle.rp_text.specs.declared.form.Role.{Role}
 use Rattle.rp_text.specs.declared.form.Role.TheVariants.{Price, Quantity}
-use Rattle.rp_text.proofs.BelowLemmas.{one_holds}
+use Rattle.rp_num.proofs.BelowLemmas.{one_holds}
 use Rattle.rp_text.proofs.FigureLemmas.{figure_there, rows_are, size_listed}
 use Rattle.rp_text.proofs.PlaceLemmas.{greatest_at_most}
 use Rattle.rp_text.proofs.PlainNumbers.{numeral_decimal, numeral_trimmed}

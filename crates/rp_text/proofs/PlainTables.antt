@@ -6,7 +6,7 @@ use Rattle.std.proofs.lemmas.Nat.{mul-add-lt}
 use Rattle.std.proofs.Math.Nat.{mul_comm, div-lt_iff_lt-mul}
 use Rattle.rp_num.specs.declared.decimal.Decimal.{Decimal}
 use Rattle.rp_table.specs.Tables.{Observations, IsTable, goods_of, records_of, price_of, quantity_of}
-use Rattle.rp_text.specs.Below.{rows_below}
+use Rattle.rp_num.specs.Below.{rows_below}
 use Rattle.rp_text.specs.Texts.{text_at}
 use Rattle.rp_text.specs.Columns.{price_mark, quantity_mark}
 use Rattle.rp_text.specs.Forms.{table_form}

@@ -19,7 +19,7 @@ use Rattle.rp_text.specs.Denotation.{first_fault, column_numbers, numbers_under,
 use Rattle.rp_text.specs.declared.form.Role.{Role}
 use Rattle.rp_text.specs.declared.form.Role.TheVariants.{Observation, Price, Quantity, Expenditure, Income, Budget, Times}
 use Rattle.rp_text.specs.declared.fault.TableFault.{TableFault}
-use Rattle.rp_text.proofs.BelowLemmas.{length-listed}
+use Rattle.rp_num.proofs.BelowLemmas.{length-listed}
 use Rattle.rp_text.proofs.RowLemmas.{all_listed}
 use Rattle.rp_text.proofs.FineHeaders.{FineHeaders, fine_headers}
 use Rattle.rp_text.proofs.ColumnSizes.{sizes_in, sizes_are}

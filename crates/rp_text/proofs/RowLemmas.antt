@@ -6,8 +6,8 @@ use Rattle.std.proofs.lemmas.List.Elements.{All-nil, All-append, All-push}
 use Rattle.std.proofs.lemmas.Nat.{mul-add-lt}
 use Rattle.std.proofs.Math.Nat.{mul_comm}
 use Rattle.rp_table.specs.Sums.{sum_below}
-use Rattle.rp_text.specs.Below.{listed, rows_below}
-use Rattle.rp_text.proofs.BelowLemmas.{length-listed, get-listed}
+use Rattle.rp_num.specs.Below.{listed, rows_below}
+use Rattle.rp_num.proofs.BelowLemmas.{length-listed, get-listed}
 
 pub length-rows : (n width : ℕ) (f : ℕ → ℕ → ℕ) → length (rows_below n width f) ≡ n * width
 length-rows zero width f = omega arith

@@ -1,7 +1,7 @@
 -- One more row of chosen numbers.
 use Rattle.std.proofs.Common.{◌≡◌, ℕ, zero, suc, ◌+◌, ◌<◌, List, ◌++◌, length, slice_index, get_or, refl, ap, ◌∙◌, arith, add-one}
-use Rattle.rp_text.specs.Below.{listed, rows_below}
-use Rattle.rp_text.proofs.BelowLemmas.{length-listed, get-listed}
+use Rattle.rp_num.specs.Below.{listed, rows_below}
+use Rattle.rp_num.proofs.BelowLemmas.{length-listed, get-listed}
 
 listed-same : (f h : ℕ → ℕ) (n : ℕ) → ((k : ℕ) → k < n → f k ≡ h k) → listed n f ≡ listed n h
 listed-same f h zero same = refl

@@ -3,14 +3,14 @@ use Rattle.std.proofs.Common.{◌≡◌, ℕ, ◌+◌, ◌*◌, ◌^◌, ◌<◌
 use Rattle.std.proofs.lemmas.Nat.{mul-le}
 use Rattle.std.proofs.Math.Nat.{mul_assoc, pow-suc, pow-le-pow_right}
 use Rattle.rp_num.specs.declared.decimal.Decimal.{Decimal}
-use Rattle.rp_text.specs.Below.{greatest_below, listed}
+use Rattle.rp_num.specs.Below.{greatest_below, listed}
 use Rattle.rp_text.specs.Texts.{text_at, number_of}
 use Rattle.rp_text.specs.Columns.{role_of, role_at}
 use Rattle.rp_text.specs.Sizes.{figure_at, places_of, limit_of, size_of, size_at}
 use Rattle.rp_text.specs.declared.form.Form.{Form}
 use Rattle.rp_text.specs.declared.form.Role.{Role}
 use Rattle.rp_text.specs.declared.fault.TableFault.{TableFault}
-use Rattle.rp_text.proofs.BelowLemmas.{get-listed}
+use Rattle.rp_num.proofs.BelowLemmas.{get-listed}
 use Rattle.rp_text.proofs.FieldFaults.{role_is}
 
 -- past a limit, a greater power is too

@@ -2,7 +2,7 @@
 use Rattle.std.proofs.Common.{◌≡◌, ◌≢◌, ℕ, suc, ◌+◌, ◌-◌, ◌<◌, ◌≤◌, ◌==◌, nat_lt, ◌⊎◌, inl, inr, Bool, nat_le, true, false, List, [], ◌∷◌, length, take, Option, Some, None, Ok, Err, refl, ap, subst, arith}
 use Rattle.std.proofs.lemmas.Bool.Decides.{nat_tests}
 use Rattle.std.proofs.lemmas.List.{take_all, length-take-le}
-use Rattle.rp_text.specs.Below.{first_there}
+use Rattle.rp_num.specs.Below.{first_there}
 use Rattle.rp_text.specs.Headers.{headers_in, headers_stage, goods_stage}
 use Rattle.rp_text.specs.Records.{record_at}
 use Rattle.rp_text.specs.Fields.{figures_of, count_stage, fields_stage}

@@ -1,7 +1,7 @@
 -- How often a choice was made on each budget.
 use Rattle.std.specs.Prelude.{ℕ, ◌+◌, Bool, not, ◌&&◌, ◌==◌, nat_lt, if◌then◌else◌, List, length, codes, Option, None, Some, unwrap_or}
 use Rattle.rp_num.specs.declared.decimal.Decimal.{Decimal}
-use Rattle.rp_text.specs.Below.{first_of, any_below}
+use Rattle.rp_num.specs.Below.{first_of, any_below}
 use Rattle.rp_text.specs.Texts.{place_of, number_of}
 use Rattle.rp_text.specs.Sizes.{figure_at}
 use Rattle.rp_text.specs.declared.form.Form.{Form}

@@ -6,7 +6,7 @@ use Rattle.rp_table.specs.PriceLists.{PriceList}
 use Rattle.rp_table.specs.BundleLists.{BundleList}
 use Rattle.rp_table.specs.BudgetLists.{BudgetList}
 use Rattle.rp_table.specs.ChoiceLists.{ChoiceList}
-use Rattle.rp_text.specs.Below.{first_there, rows_below, listed}
+use Rattle.rp_num.specs.Below.{first_there, rows_below, listed}
 use Rattle.rp_text.specs.Texts.{text_at, place_of}
 use Rattle.rp_text.specs.ChoiceCounts.{column_named, choices_stage}
 use Rattle.rp_text.specs.Forms.{table_form, prices_form, bundles_form, budgets_form, choices_form}

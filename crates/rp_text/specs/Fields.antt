@@ -7,7 +7,7 @@ use Rattle.rp_num.specs.Decimal.{decimal_of}
 use Rattle.rp_num.specs.declared.decimal.Decimal.{Decimal}
 use Rattle.rp_num.specs.declared.decimal.NumFault.{NumFault}
 use Rattle.rp_num.specs.declared.decimal.NumFault.TheVariants.{Bad, Decimals}
-use Rattle.rp_text.specs.Below.{first_of, any_below, listed}
+use Rattle.rp_num.specs.Below.{first_of, any_below, listed}
 use Rattle.rp_text.specs.Texts.{trimmed, text_at, number_of}
 use Rattle.rp_text.specs.Records.{record_at}
 use Rattle.rp_text.specs.Columns.{role_at, measures}

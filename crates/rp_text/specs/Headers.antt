@@ -3,7 +3,7 @@
 use Rattle.std.specs.Prelude.{ℕ, Bool, false, not, ◌&&◌, ◌||◌, ◌==◌, nat_lt, if◌then◌else◌, List, [], ◌∷◌, ◌++◌, length, map, take, codes, Option, None, Some, is_some}
 use Rattle.std.specs.Option.{option_map_or}
 use Rattle.rp_table.specs.declared.TheConstants.{GOODS}
-use Rattle.rp_text.specs.Below.{first_of, first_there, any_below}
+use Rattle.rp_num.specs.Below.{first_of, first_there, any_below}
 use Rattle.rp_text.specs.Texts.{trimmed, text_at, place_of, number_of}
 use Rattle.rp_text.specs.Columns.{role_of, role_at, takes, is_price, is_quantity, names_with, name_in, price_mark, quantity_mark}
 use Rattle.rp_text.specs.declared.form.Form.{Form}

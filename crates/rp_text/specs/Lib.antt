@@ -1,4 +1,3 @@
-pub mod Below
 pub mod Texts
 pub mod Columns
 pub mod Records

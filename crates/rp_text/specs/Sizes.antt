@@ -3,7 +3,7 @@ use Rattle.std.specs.Prelude.{ℕ, ◌+◌, ◌-◌, ◌*◌, ◌^◌, Bool, fal
 use Rattle.std.specs.Result.{result_err, result_unwrap_or}
 use Rattle.rp_num.specs.declared.decimal.Decimal.{Decimal}
 use Rattle.rp_table.specs.declared.TheConstants.{LARGEST, LARGEST_EXPENDITURE}
-use Rattle.rp_text.specs.Below.{first_of, greatest_below, listed}
+use Rattle.rp_num.specs.Below.{first_of, greatest_below, listed}
 use Rattle.rp_text.specs.Texts.{number_of}
 use Rattle.rp_text.specs.Columns.{role_at, is_price, is_quantity, is_income}
 use Rattle.rp_text.specs.Fields.{nothing}

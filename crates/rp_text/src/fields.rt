@@ -1,6 +1,6 @@
 ghost use Rattle.std.specs.Prelude.{◌≡◌, ◌+◌, ◌<◌, ◌&&◌, None, OnOk, IfOk, length, nat_lt};
 ghost use Rattle.std.specs.Prelude.{slice_index_or};
-ghost use Rattle.rp_text.specs.Below.{first_of, listed, any_below};
+ghost use Rattle.rp_num.specs.Below.{first_of, listed, any_below};
 ghost use Rattle.rp_text.specs.Texts.{trimmed, text_at};
 ghost use Rattle.rp_text.specs.Columns.{role_at, measures};
 ghost use Rattle.std.specs.Result.{result_err};

@@ -2,7 +2,7 @@ ghost use Rattle.std.specs.Prelude.{◌≡◌, ◌<◌, ◌||◌, ◌&&◌, ℕ,
 ghost use Rattle.std.specs.Prelude.{IfOk, length};
 ghost use Rattle.std.specs.Str.{bytes_eq};
 ghost use Rattle.indexmap.specs.IndexSet.{contains_by};
-ghost use Rattle.rp_text.specs.Below.{first_of};
+ghost use Rattle.rp_num.specs.Below.{first_of};
 ghost use Rattle.rp_text.specs.Texts.{text_at};
 ghost use Rattle.rp_text.specs.Columns.{role_at, name_in, is_price, is_quantity};
 ghost use Rattle.rp_text.specs.Headers as Headers;

@@ -1,5 +1,5 @@
 ghost use Rattle.std.specs.Prelude.{◌≡◌, ◌<◌, ◌||◌, ◌&&◌, ◌++◌, None, not, OnOk, IfOk, length};
-ghost use Rattle.rp_text.specs.Below.{first_of, listed};
+ghost use Rattle.rp_num.specs.Below.{first_of, listed};
 ghost use Rattle.rp_text.specs.Texts.{text_at, place_of};
 ghost use Rattle.rp_text.specs.Columns.{role_at, is_price, is_quantity, names_with};
 ghost use Rattle.rp_text.specs.Headers.{has, partner_of, pair_fault};

@@ -1,6 +1,6 @@
 ghost use Rattle.std.specs.Prelude.{◌≡◌, ℕ, ◌<◌, ◌≤◌, IfOk, All, length, slice_index};
 ghost use Rattle.rp_table.specs.declared.TheConstants.{LARGEST};
-ghost use Rattle.rp_text.specs.Below.{listed};
+ghost use Rattle.rp_num.specs.Below.{listed};
 ghost use Rattle.rp_text.specs.Texts.{text_at};
 ghost use Rattle.rp_text.specs.Denotation as Denotation;
 ghost use Rattle.rp_text.specs.Denotation.{column_of, numbers_under};

@@ -4,7 +4,7 @@ ghost use Rattle.rp_text.specs.Records.{record_at};
 ghost use Rattle.rp_text.specs.Headers.{headers_in};
 ghost use Rattle.rp_text.specs.Fields.{nothing, figures_of, count_stage};
 ghost use Rattle.rp_text.specs.Sizes.{sizes_of, figure_at};
-ghost use Rattle.rp_text.specs.Below.{any_below};
+ghost use Rattle.rp_num.specs.Below.{any_below};
 ghost use Rattle.rp_text.specs.ChoiceCounts.{choices_stage, is_chosen};
 ghost use Rattle.rp_text.specs.Denotation.{first_fault};
 ghost use Rattle.rp_text.specs.Refusals.{RefusedAt};

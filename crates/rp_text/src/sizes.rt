@@ -2,7 +2,7 @@ ghost use Rattle.std.specs.Prelude.{◌≡◌, ◌+◌, ◌*◌, ◌^◌, ◌<�
 ghost use Rattle.std.specs.Prelude.{length, slice_index_or, if◌then◌else◌};
 ghost use Rattle.std.specs.Result.{result_err};
 ghost use Rattle.rp_table.specs.declared.TheConstants.{LARGEST_EXPENDITURE};
-ghost use Rattle.rp_text.specs.Below.{first_of, listed, greatest_below};
+ghost use Rattle.rp_num.specs.Below.{first_of, listed, greatest_below};
 ghost use Rattle.rp_text.specs.Columns.{role_at};
 ghost use Rattle.rp_text.specs.Fields.{nothing};
 ghost use Rattle.rp_text.specs.Sizes as Sizes;

@@ -2,7 +2,7 @@ use Rattle.std.proofs.Common.{◌≡◌, ◌<◌, Bool, true, false, ◌&&◌, n
 use Rattle.std.proofs.lemmas.Bool.Decides.{nat_tests}
 use Rattle.rp_text.specs.Columns.{role_at, measures}
 use Rattle.rp_text.specs.Fields.{nothing}
-use Rattle.rp_text.proofs.BelowLemmas.{one_holds, none_holds}
+use Rattle.rp_num.proofs.BelowLemmas.{one_holds, none_holds}
 use Rattle.rp_text.proofs.FieldFaults.{role_is}
 use Rattle.rp_text.proofs.fields.buys.Goals as goal
 use Rattle.rp_text.proofs.fields.buys.Goals.{else-measures-via-then-measures+else-figures-c-gt0, else-measures-via-else-measures}

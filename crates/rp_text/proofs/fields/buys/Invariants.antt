@@ -1,5 +1,5 @@
 use Rattle.std.proofs.Common.{◌≡◌, false, ◌&&◌, nat_lt, get_or}
-use Rattle.rp_text.specs.Below.{any_below}
+use Rattle.rp_num.specs.Below.{any_below}
 use Rattle.rp_text.specs.Columns.{role_at, measures}
 use Rattle.rp_text.specs.Fields.{nothing}
 use Rattle.rp_text.proofs.fields.buys.Given as goal

@@ -1,10 +1,10 @@
 use Rattle.std.proofs.Common.{◌≡◌, ◌≢◌, ◌<◌, length, Some, refl, ◌∙◌, arith}
 use Rattle.std.specs.Result.{result_err}
-use Rattle.rp_text.specs.Below.{first_of}
+use Rattle.rp_num.specs.Below.{first_of}
 use Rattle.rp_text.specs.Fields.{field_at, figure}
 use Rattle.rp_text.specs.declared.fault.TableFault.{TableFault}
 use Rattle.rp_text.specs.declared.fault.TableFault.TheVariants as fault
-use Rattle.rp_text.proofs.BelowLemmas.{first_fault_at, no_fault_so_far, listed-more}
+use Rattle.rp_num.proofs.BelowLemmas.{first_fault_at, no_fault_so_far, listed-more}
 use Rattle.rp_text.proofs.FieldFaults.{field_read}
 use Rattle.rp_text.proofs.PassedOn.{passed_on}
 use Rattle.rp_text.proofs.fields.read_columns.Goals as goal

@@ -1,6 +1,6 @@
 use Rattle.std.proofs.Common.{◌≡◌, None}
 use Rattle.std.specs.Result.{result_err}
-use Rattle.rp_text.specs.Below.{first_of, listed}
+use Rattle.rp_num.specs.Below.{first_of, listed}
 use Rattle.rp_text.specs.Fields.{field_at, figure}
 use Rattle.rp_text.proofs.fields.read_columns.Given as goal
 

@@ -2,7 +2,7 @@ use Rattle.std.proofs.Common.{◌≡◌, ◌≢◌, ◌<◌, Some, arith}
 use Rattle.rp_text.specs.Fields.{record_fault, fields_stage, rows_in}
 use Rattle.rp_text.specs.declared.fault.TableFault.{TableFault}
 use Rattle.rp_text.specs.declared.fault.TableFault.TheVariants as fault
-use Rattle.rp_text.proofs.BelowLemmas.{first_at}
+use Rattle.rp_num.proofs.BelowLemmas.{first_at}
 use Rattle.rp_text.proofs.PassedOn.{passed_on}
 use Rattle.rp_text.proofs.fields.read_figures.Goals as goal
 

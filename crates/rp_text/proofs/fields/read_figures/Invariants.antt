@@ -1,5 +1,5 @@
 use Rattle.std.proofs.Common.{◌≡◌, None, length}
-use Rattle.rp_text.specs.Below.{first_of, listed}
+use Rattle.rp_num.specs.Below.{first_of, listed}
 use Rattle.rp_text.specs.Fields.{figure, record_fault}
 use Rattle.rp_text.proofs.fields.read_figures.Given as goal
 

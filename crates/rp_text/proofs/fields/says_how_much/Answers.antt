@@ -1,6 +1,6 @@
 use Rattle.std.proofs.Common.{◌<◌, length, sym, arith, ◌∙◌, ap}
 use Rattle.rp_text.specs.Columns.{role_at, measures}
-use Rattle.rp_text.proofs.BelowLemmas.{one_holds, none_holds}
+use Rattle.rp_num.proofs.BelowLemmas.{one_holds, none_holds}
 use Rattle.rp_text.proofs.FieldFaults.{role_is}
 use Rattle.rp_text.proofs.fields.says_how_much.Goals as goal
 

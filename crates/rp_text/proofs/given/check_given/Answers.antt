@@ -3,7 +3,7 @@ use Rattle.rp_text.specs.Texts.{text_at}
 use Rattle.rp_text.specs.Columns.{role_at, is_price, is_quantity, name_in}
 use Rattle.rp_text.specs.Headers.{given_fault}
 use Rattle.rp_text.specs.declared.fault.TableFault.TheVariants as fault
-use Rattle.rp_text.proofs.BelowLemmas.{first_at, none_so_far}
+use Rattle.rp_num.proofs.BelowLemmas.{first_at, none_so_far}
 use Rattle.rp_text.proofs.given.check_given.Goals as goal
 
 pub returns-then-is_other_good-clause-refused : goal.returns-then-is_other_good-clause-refused

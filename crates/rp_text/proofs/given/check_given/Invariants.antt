@@ -1,5 +1,5 @@
 use Rattle.std.proofs.Common.{◌≡◌, None}
-use Rattle.rp_text.specs.Below.{first_of}
+use Rattle.rp_num.specs.Below.{first_of}
 use Rattle.rp_text.specs.Headers.{given_fault}
 use Rattle.rp_text.proofs.given.check_given.Given as goal
 

@@ -2,7 +2,7 @@ use Rattle.std.proofs.Common.{◌++◌, ℕ, List, [], length, not, sym, ap, ◌
 use Rattle.std.proofs.lemmas.List.{get_or_default}
 use Rattle.rp_text.specs.Texts.{text_at}
 use Rattle.rp_text.specs.Headers.{has, good_mark}
-use Rattle.rp_text.proofs.BelowLemmas.{one_holds, none_holds}
+use Rattle.rp_num.proofs.BelowLemmas.{one_holds, none_holds}
 use Rattle.rp_text.proofs.given.lacks_good.Goals as goal
 
 pub returns-then-branch : goal.returns-then-branch

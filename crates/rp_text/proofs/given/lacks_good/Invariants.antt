@@ -1,5 +1,5 @@
 use Rattle.std.proofs.Common.{◌≡◌, ◌++◌, false, not}
-use Rattle.rp_text.specs.Below.{any_below}
+use Rattle.rp_num.specs.Below.{any_below}
 use Rattle.rp_text.specs.Texts.{text_at}
 use Rattle.rp_text.specs.Headers.{has, good_mark}
 use Rattle.rp_text.proofs.given.lacks_good.Given as goal

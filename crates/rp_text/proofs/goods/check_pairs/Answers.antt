@@ -1,7 +1,7 @@
 use Rattle.std.proofs.Common.{◌<◌, length, ◌∙◌, sym, arith, refl}
 use Rattle.rp_text.specs.Headers.{pair_fault}
 use Rattle.rp_text.specs.declared.fault.TableFault.TheVariants as fault
-use Rattle.rp_text.proofs.BelowLemmas.{first_at, none_so_far}
+use Rattle.rp_num.proofs.BelowLemmas.{first_at, none_so_far}
 use Rattle.rp_text.proofs.goods.check_pairs.Goals as goal
 
 pub returns-then-branch-clause-refused : goal.returns-then-branch-clause-refused

@@ -1,5 +1,5 @@
 use Rattle.std.proofs.Common.{◌≡◌, None}
-use Rattle.rp_text.specs.Below.{first_of}
+use Rattle.rp_num.specs.Below.{first_of}
 use Rattle.rp_text.specs.Headers.{pair_fault}
 use Rattle.rp_text.proofs.goods.check_pairs.Given as goal
 

@@ -3,7 +3,7 @@ use Rattle.std.specs.Prelude.{unwrap_or}
 use Rattle.std.proofs.lemmas.List.{get_or_default}
 use Rattle.rp_text.specs.Texts.{place_of}
 use Rattle.rp_text.specs.Denotation.{column_of}
-use Rattle.rp_text.proofs.BelowLemmas.{listed-more}
+use Rattle.rp_num.proofs.BelowLemmas.{listed-more}
 use Rattle.rp_text.proofs.goods.columns_of.Goals as goal
 
 pub loop-name-preserved : goal.loop-name-preserved

@@ -1,5 +1,5 @@
 use Rattle.std.proofs.Common.{◌≡◌}
-use Rattle.rp_text.specs.Below.{listed}
+use Rattle.rp_num.specs.Below.{listed}
 use Rattle.rp_text.specs.Denotation.{column_of}
 use Rattle.rp_text.proofs.goods.columns_of.Given as goal
 

@@ -1,5 +1,5 @@
 use Rattle.std.proofs.Common.{◌≡◌, None, take}
-use Rattle.rp_text.specs.Below.{first_of}
+use Rattle.rp_num.specs.Below.{first_of}
 use Rattle.rp_text.specs.Records.{record_at}
 use Rattle.rp_text.specs.Headers.{headers_in, header_fault}
 use Rattle.rp_text.proofs.headers.read_columns.Given as goal

@@ -1,5 +1,5 @@
 use Rattle.std.proofs.Common.{◌≡◌, slice_index}
-use Rattle.rp_text.specs.Below.{listed}
+use Rattle.rp_num.specs.Below.{listed}
 use Rattle.rp_text.specs.Texts.{text_at}
 use Rattle.rp_text.proofs.numbers.column_numbers.Given as goal
 

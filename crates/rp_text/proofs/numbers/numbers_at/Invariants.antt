@@ -1,5 +1,5 @@
 use Rattle.std.proofs.Common.{◌≡◌, slice_index}
-use Rattle.rp_text.specs.Below.{listed}
+use Rattle.rp_num.specs.Below.{listed}
 use Rattle.rp_text.proofs.numbers.numbers_at.Given as goal
 
 abbrev pub invariant-loop-place : goal.invariant-loop-place

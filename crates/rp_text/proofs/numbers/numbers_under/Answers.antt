@@ -2,7 +2,7 @@ use Rattle.std.proofs.Common.{◌≡◌, ◌<◌, [], length, slice_index, get_o
 use Rattle.std.proofs.lemmas.List.{get_or_default}
 use Rattle.rp_text.specs.Texts.{text_at}
 use Rattle.rp_text.specs.Denotation.{column_of}
-use Rattle.rp_text.proofs.BelowLemmas.{length-listed, get-listed}
+use Rattle.rp_num.proofs.BelowLemmas.{length-listed, get-listed}
 use Rattle.rp_text.proofs.RowMore.{rows-more}
 use Rattle.rp_text.proofs.numbers.numbers_under.Goals as goal
 

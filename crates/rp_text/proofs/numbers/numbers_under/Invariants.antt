@@ -1,5 +1,5 @@
 use Rattle.std.proofs.Common.{◌≡◌, length, slice_index}
-use Rattle.rp_text.specs.Below.{rows_below}
+use Rattle.rp_num.specs.Below.{rows_below}
 use Rattle.rp_text.specs.Texts.{text_at}
 use Rattle.rp_text.specs.Denotation.{column_of}
 use Rattle.rp_text.proofs.numbers.numbers_under.Given as goal

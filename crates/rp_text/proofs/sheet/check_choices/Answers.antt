@@ -1,9 +1,9 @@
 use Rattle.std.proofs.Common.{◌≡◌, ℕ, not, if◌then◌else◌, Some, None, refl, sym, ◌∙◌, subst, arith}
-use Rattle.rp_text.specs.Below.{first_of}
+use Rattle.rp_num.specs.Below.{first_of}
 use Rattle.rp_text.specs.Texts.{number_of}
 use Rattle.rp_text.specs.ChoiceCounts.{is_chosen, choices_stage}
 use Rattle.rp_text.specs.declared.fault.TableFault.TheVariants as fault
-use Rattle.rp_text.proofs.BelowLemmas.{first_at}
+use Rattle.rp_num.proofs.BelowLemmas.{first_at}
 use Rattle.rp_text.proofs.sheet.check_choices.Goals as goal
 
 pub returns-then-not-form-clause-fine : goal.returns-then-not-form-clause-fine

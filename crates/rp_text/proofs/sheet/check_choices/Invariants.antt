@@ -1,5 +1,5 @@
 use Rattle.std.proofs.Common.{◌≡◌, None, Some, not, if◌then◌else◌}
-use Rattle.rp_text.specs.Below.{first_of}
+use Rattle.rp_num.specs.Below.{first_of}
 use Rattle.rp_text.specs.Texts.{number_of}
 use Rattle.rp_text.specs.ChoiceCounts.{is_chosen}
 use Rattle.rp_text.specs.declared.fault.TableFault.TheVariants as fault

@@ -2,11 +2,11 @@ use Rattle.std.proofs.Common.{◌≡◌, ℕ, ◌+◌, ◌<◌, ◌==◌, ◌&&�
 use Rattle.std.specs.Prelude.{codes, unwrap_or}
 use Rattle.std.proofs.lemmas.Bool.Decides.{nat_tests, Decides-eqb}
 use Rattle.std.proofs.lemmas.List.{get_or_default}
-use Rattle.rp_text.specs.Below.{any_below}
+use Rattle.rp_num.specs.Below.{any_below}
 use Rattle.rp_text.specs.Fields.{nothing}
 use Rattle.rp_text.specs.Sizes.{figure_at}
 use Rattle.rp_text.specs.ChoiceCounts.{column_named, is_chosen}
-use Rattle.rp_text.proofs.BelowLemmas.{one_holds}
+use Rattle.rp_num.proofs.BelowLemmas.{one_holds}
 use Rattle.rp_text.proofs.sheet.is_chosen.Goals as goal
 
 over_zero : (n : ℕ) → 0 < n → nat_lt 0 n ≡ true

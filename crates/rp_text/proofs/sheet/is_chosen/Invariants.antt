@@ -1,6 +1,6 @@
 use Rattle.std.proofs.Common.{◌≡◌, ◌+◌, ◌==◌, ◌&&◌, nat_lt, false}
 use Rattle.std.specs.Prelude.{codes}
-use Rattle.rp_text.specs.Below.{any_below}
+use Rattle.rp_num.specs.Below.{any_below}
 use Rattle.rp_text.specs.Sizes.{figure_at}
 use Rattle.rp_text.specs.ChoiceCounts.{column_named}
 use Rattle.rp_text.proofs.sheet.is_chosen.Given as goal

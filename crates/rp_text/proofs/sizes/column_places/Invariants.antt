@@ -1,5 +1,5 @@
 use Rattle.std.proofs.Common.{◌≡◌}
-use Rattle.rp_text.specs.Below.{listed}
+use Rattle.rp_num.specs.Below.{listed}
 use Rattle.rp_text.specs.Columns.{role_at}
 use Rattle.rp_text.specs.Sizes.{places_of}
 use Rattle.rp_text.proofs.sizes.column_places.Given as goal

@@ -1,5 +1,5 @@
 use Rattle.std.proofs.Common.{◌≡◌, if◌then◌else◌, get_or}
-use Rattle.rp_text.specs.Below.{greatest_below}
+use Rattle.rp_num.specs.Below.{greatest_below}
 use Rattle.rp_text.specs.Columns.{role_at}
 use Rattle.rp_text.specs.Fields.{nothing}
 use Rattle.rp_text.specs.Sizes.{shares_scale}

@@ -1,7 +1,7 @@
 use Rattle.std.proofs.Common.{◌≡◌, if◌then◌else◌, [], length, max, get_or, arith, ap, ◌∙◌}
 use Rattle.std.proofs.lemmas.List.{get_or_default}
 use Rattle.std.proofs.lemmas.Grind.{common_steps}
-use Rattle.rp_text.specs.Below.{greatest_below}
+use Rattle.rp_num.specs.Below.{greatest_below}
 use Rattle.rp_text.specs.Columns.{role_at}
 use Rattle.rp_text.specs.Fields.{nothing}
 use Rattle.rp_text.specs.Sizes.{shares_scale, figure_at, greatest_places}

@@ -1,5 +1,5 @@
 use Rattle.std.proofs.Common.{◌≡◌, if◌then◌else◌, length}
-use Rattle.rp_text.specs.Below.{greatest_below}
+use Rattle.rp_num.specs.Below.{greatest_below}
 use Rattle.rp_text.specs.Columns.{role_at}
 use Rattle.rp_text.specs.Sizes.{shares_scale, figure_at}
 use Rattle.rp_text.proofs.sizes.greatest_places.Given as goal

@@ -1,10 +1,10 @@
 use Rattle.std.proofs.Common.{◌≡◌, ◌≢◌, length, Some, arith}
 use Rattle.std.specs.Result.{result_err}
-use Rattle.rp_text.specs.Below.{first_of}
+use Rattle.rp_num.specs.Below.{first_of}
 use Rattle.rp_text.specs.Sizes.{size_at, sizes_stage}
 use Rattle.rp_text.specs.declared.fault.TableFault.{TableFault}
 use Rattle.rp_text.specs.declared.fault.TableFault.TheVariants as fault
-use Rattle.rp_text.proofs.BelowLemmas.{first_at}
+use Rattle.rp_num.proofs.BelowLemmas.{first_at}
 use Rattle.rp_text.proofs.PassedOn.{passed_on}
 use Rattle.rp_text.proofs.sizes.read_sizes.Goals as goal
 

@@ -1,13 +1,13 @@
 use Rattle.std.proofs.Common.{◌≡◌, ◌≢◌, ◌<◌, [], length, get_or, Some, refl, arith, ap, ◌∙◌}
 use Rattle.std.specs.Result.{result_err}
 use Rattle.std.proofs.lemmas.List.{get_or_default}
-use Rattle.rp_text.specs.Below.{first_of}
+use Rattle.rp_num.specs.Below.{first_of}
 use Rattle.rp_text.specs.Columns.{role_at}
 use Rattle.rp_text.specs.Fields.{nothing}
 use Rattle.rp_text.specs.Sizes.{places_of, size_at, scaled}
 use Rattle.rp_text.specs.declared.fault.TableFault.{TableFault}
 use Rattle.rp_text.specs.declared.fault.TableFault.TheVariants as fault
-use Rattle.rp_text.proofs.BelowLemmas.{length-listed, first_fault_at, no_fault_so_far, listed-more}
+use Rattle.rp_num.proofs.BelowLemmas.{length-listed, first_fault_at, no_fault_so_far, listed-more}
 use Rattle.rp_text.proofs.SizeLemmas.{size_there}
 use Rattle.rp_text.proofs.PassedOn.{passed_on}
 use Rattle.rp_text.proofs.sizes.read_sizes_in.Goals as goal

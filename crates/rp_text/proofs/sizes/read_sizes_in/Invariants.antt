@@ -1,6 +1,6 @@
 use Rattle.std.proofs.Common.{◌≡◌, None}
 use Rattle.std.specs.Result.{result_err}
-use Rattle.rp_text.specs.Below.{first_of, listed}
+use Rattle.rp_num.specs.Below.{first_of, listed}
 use Rattle.rp_text.specs.Sizes.{size_at, scaled}
 use Rattle.rp_text.proofs.sizes.read_sizes_in.Given as goal
 

@@ -1,4 +1,4 @@
-use Rattle.std.proofs.Common.{◌≤◌, ◌<◌, ◌^◌, ◌*◌, arith, refl, subst}
+use Rattle.std.proofs.Common.{◌≤◌, arith, refl, subst}
 use Rattle.std.proofs.Math.Nat.{one-le-mul}
 use Rattle.rp_num.specs.Fraction.{Fraction}
 use Rattle.rp_num.proofs.Lowest.{IsLowestTerms-cancelled, IsLowestTerms-itself, PassesWidth-num, PassesWidth-den, not_PassesWidth}

@@ -2,7 +2,7 @@
 use Rattle.std.proofs.Common.{◌≡◌, ℕ, zero, suc, ◌+◌, ◌<◌, Bool, true, false, ◌||◌, List, [], ◌∷◌, ◌++◌, length, get_or, Option, Some, None, Result, Ok, Err, refl, ap, ◌∙◌, arith, add-one, below_more, length-append}
 use Rattle.std.specs.Result.{result_err}
 use Rattle.std.proofs.lemmas.List.{get_or_append_left, get_or_push}
-use Rattle.rp_text.specs.Below.{first_of, any_below, listed}
+use Rattle.rp_num.specs.Below.{first_of, any_below, listed}
 
 -- nothing so far, and nothing at the next
 pub none_so_far : {A : Type 0} (f : ℕ → Option A) (n : ℕ) → first_of n f ≡ None → f n ≡ None → first_of (n + 1) f ≡ None
