@@ -2,11 +2,14 @@
 #![tactic(auto)]
 
 mod afriat;
+mod bounds;
+mod demand;
 mod efficiency;
 mod garp;
 mod homothetic;
 mod lists;
 mod quasilinear;
 mod tables;
+mod welfare;
 
 pub use tables::report;
