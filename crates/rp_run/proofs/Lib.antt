@@ -2,4 +2,5 @@ pub mod FileLemmas
 pub mod GainsLemmas
 pub mod PassedOn
 pub mod RunLemmas
+pub mod TrialLemmas
 mod UtilityLemmas

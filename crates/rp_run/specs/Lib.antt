@@ -12,3 +12,4 @@ pub mod Gains
 pub mod Causes
 pub mod Named
 pub mod StatusNumbers
+pub mod TrialTable

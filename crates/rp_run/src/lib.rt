@@ -11,8 +11,10 @@ mod status;
 mod sure;
 mod telling;
 mod text;
+mod trial;
 mod utilities;
 
 pub use running::run;
 pub use status::Status;
 pub use sure::run_surely;
+pub use trial::trial_table;
