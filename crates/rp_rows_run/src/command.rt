@@ -85,7 +85,7 @@ fn pairs_over_worked_tables(rt: HostRuntime) -> Result<(), Fail> {
 fn words_files_and_sinks_that_fail(rt: HostRuntime) -> Result<(), Fail> {
     let alloc = rt.alloc();
     let file = "p_a,q_a,p_b,q_b\n1,1,2,2\n2,2,1,1\n";
-    let usage = "usage: rp pairs TABLE\n       rp analyse TABLE\n       rp utility TABLE BUNDLES\n";
+    let usage = "usage: rp pairs TABLE\n       rp analyse TABLE\n       rp demand TABLE NEW\n       rp welfare TABLE NEW\n       rp utility TABLE BUNDLES\n";
     let none: &[u64] = &[];
     let first: &[u64] = &[1];
     for (words, fails, status, err) in [

@@ -1,3 +1,4 @@
+mod AskedLemmas
 pub mod FileLemmas
 pub mod GainsLemmas
 pub mod PassedOn

@@ -9,6 +9,10 @@ pub data Line : Type 0 where
   Pairs : (table : List ℕ) → Line
   -- the verdicts on a table, with their evidence
   Analyse : (table : List ℕ) → Line
+  -- demand at new prices that a table supports
+  Demand : (table new : List ℕ) → Line
+  -- the bounds on the money metric of a table's observations at new prices
+  Welfare : (table new : List ℕ) → Line
   -- the utility of bundles under the numbers that a table gives
   Utility : (table bundles : List ℕ) → Line
 
@@ -16,6 +20,8 @@ pub data Line : Type 0 where
 abbrev pub files_of : Line → List (List ℕ)
 files_of (Pairs table) = table ∷ []
 files_of (Analyse table) = table ∷ []
+files_of (Demand table new) = table ∷ new ∷ []
+files_of (Welfare table new) = table ∷ new ∷ []
 files_of (Utility table bundles) = table ∷ bundles ∷ []
 
 -- the k-th file of a line, from 0
@@ -35,7 +41,10 @@ table_line command file =
 
 -- the line of a command over a table and another file
 abbrev pub beside_line : List ℕ → List ℕ → List ℕ → Option Line
-beside_line command table file = if bytes_eq command (codes "utility") then Some (Utility table file) else None
+beside_line command table file =
+    if bytes_eq command (codes "demand") then Some (Demand table file)
+    else (if bytes_eq command (codes "welfare") then Some (Welfare table file)
+    else (if bytes_eq command (codes "utility") then Some (Utility table file) else None))
 
 -- the line that the words denote, or none
 abbrev pub line_of : List (List ℕ) → Option Line

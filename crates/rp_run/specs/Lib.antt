@@ -2,6 +2,9 @@ pub mod FaultTexts
 pub mod FaultLines
 pub mod PairsText
 pub mod Analysis
+pub mod AskedItems
+pub mod Demands
+pub mod Welfares
 pub mod UtilityText
 pub mod CommandLine
 pub mod Inputs

@@ -5,12 +5,14 @@ ghost use Rattle.rp_run.specs.Causes.{IsCause};
 ghost use Rattle.rp_run.specs.Matching.{HasMatchingGoods};
 ghost use Rattle.rp_run.specs.Named.{named_line, named_input};
 
+use crate::demands::demand_text;
 use crate::files::Cause;
 use crate::input::{Input, read_input};
 use crate::line::Line;
 use crate::status::Status;
 use crate::text::{analysis_text, pairs_text};
 use crate::utilities::utility_text;
+use crate::welfares::welfare_text;
 use rp_num::NoMemory;
 use rp_outside::Desk;
 use rp_table::Costs;
@@ -58,6 +60,14 @@ fn answer_over(alloc: Global, input: &Input) -> Result<Answer, NoMemory>
         Input::Analyse(table) => {
             let costs = Costs::of(alloc, table)?;
             Ok(done(analysis_text(alloc, table, &costs)?))
+        }
+        Input::Demand(table, new) => {
+            let costs = Costs::of(alloc, table)?;
+            Ok(done(demand_text(alloc, table, &costs, new)?))
+        }
+        Input::Welfare(table, new) => {
+            let costs = Costs::of(alloc, table)?;
+            Ok(done(welfare_text(alloc, table, &costs, new)?))
         }
         Input::Utility(table, bundles) => {
             let costs = Costs::of(alloc, table)?;

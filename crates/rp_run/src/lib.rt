@@ -2,6 +2,8 @@
 #![tactic(auto)]
 
 mod answer;
+mod asked;
+mod demands;
 mod fault_text;
 mod files;
 mod input;
@@ -13,6 +15,7 @@ mod telling;
 mod text;
 mod trial;
 mod utilities;
+mod welfares;
 
 pub use running::run;
 pub use status::Status;

@@ -8,6 +8,8 @@ ghost use Rattle.rp_run.specs.Named.{named_line};
 pub(crate) enum Line<'a> {
     Pairs { table: &'a str },
     Analyse { table: &'a str },
+    Demand { table: &'a str, new: &'a str },
+    Welfare { table: &'a str, new: &'a str },
     Utility { table: &'a str, bundles: &'a str },
 }
 
@@ -15,7 +17,7 @@ pub(crate) enum Line<'a> {
 pub(crate) fn usage() -> &'static [u8]
     ensures { result.now ≡ usage_text }
 {
-    b"usage: rp pairs TABLE\n       rp analyse TABLE\n       rp utility TABLE BUNDLES\n"
+    b"usage: rp pairs TABLE\n       rp analyse TABLE\n       rp demand TABLE NEW\n       rp welfare TABLE NEW\n       rp utility TABLE BUNDLES\n"
 }
 
 /// The line that the words denote. The first word is the program's name.
@@ -37,7 +39,11 @@ pub(crate) fn read_line(words: &[String]) -> Option<Line<'_>>
 fn read_beside_line<'a>(command: &str, table: &'a str, file: &'a str) -> Option<Line<'a>>
     ensures { option_map named_line result ≡ beside_line command.now table.now file.now }
 {
-    if command == "utility" {
+    if command == "demand" {
+        Some(Line::Demand { table, new: file })
+    } else if command == "welfare" {
+        Some(Line::Welfare { table, new: file })
+    } else if command == "utility" {
         Some(Line::Utility {
             table,
             bundles: file,

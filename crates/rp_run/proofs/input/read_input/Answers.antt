@@ -34,3 +34,12 @@ pub returns-in_ok-load_table-in-Analyse-clause-read : goal.returns-in_ok-load_ta
 returns-in_ok-load_table-in-Analyse-clause-read g c =
     let file = c.in-Analyse.table.now in
     rw c.in-Analyse.is (one_input (g.D.Desk.bytes c.args.desk.now) (Analyse file) file (numbers_in file table_in) AnalyseOver c.in_ok-load_table-in-Analyse.field-0 refl (λ bytes. refl) c.in_ok-load_table-in-Analyse.ensures.loaded)
+
+pub returns-in_ok-table-in-Demand-clause-read : goal.returns-in_ok-table-in-Demand-clause-read
+returns-in_ok-table-in-Demand-clause-read g c = rw c.in-Demand.is c.in_ok-table-in-Demand.ensures.read
+
+pub returns-in_ok-table-in-Welfare-clause-read : goal.returns-in_ok-table-in-Welfare-clause-read
+returns-in_ok-table-in-Welfare-clause-read g c = rw c.in-Welfare.is c.in_ok-table-in-Welfare.ensures.read
+
+pub returns-in_ok-table-in-Utility-clause-read : goal.returns-in_ok-table-in-Utility-clause-read
+returns-in_ok-table-in-Utility-clause-read g c = rw c.in-Utility.is c.in_ok-table-in-Utility.ensures.read
