@@ -1,0 +1,9 @@
+pub mod Clauses
+pub mod WalkFailure
+pub mod GarpFailure
+pub mod AfriatFailure
+pub mod EfficiencyFailure
+pub mod HomotheticFailure
+pub mod QuasilinearFailure
+pub mod ItemFailure
+pub mod CheckVerdict

@@ -1,0 +1,17 @@
+//! The checker: whether a certificate's evidence proves its verdicts, from the input alone. It takes no memory.
+#![tactic(auto)]
+
+mod afriat;
+mod check;
+mod efficiency;
+mod garp;
+mod homothetic;
+mod input;
+mod item;
+mod quasilinear;
+mod verdict;
+mod walk;
+
+pub use check::check;
+pub use rp_evidence::Reason;
+pub use verdict::Verdict;
