@@ -2,7 +2,7 @@
 #![tactic(auto)]
 
 mod afriat;
-mod check;
+mod certificate;
 mod efficiency;
 mod garp;
 mod homothetic;
@@ -12,6 +12,6 @@ mod quasilinear;
 mod verdict;
 mod walk;
 
-pub use check::check;
+pub use certificate::check;
 pub use rp_evidence::Reason;
 pub use verdict::Verdict;
