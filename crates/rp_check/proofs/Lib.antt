@@ -1,1 +1,4 @@
-
+pub mod Fractions
+pub mod Passing
+pub mod Products
+pub mod Sums

@@ -20,6 +20,10 @@ StepFails c values t s = InOrder (
 abbrev pub StepsFail : ℕ → (ℕ → ℕ → ℕ) → List Fraction → ℕ → Finding
 StepsFail n c values t = FirstBelow n (StepFails c values t)
 
+-- The steps from every observation, in order.
+abbrev pub AllStepsFail : ℕ → (ℕ → ℕ → ℕ) → List Fraction → Finding
+AllStepsFail n c values = FirstBelow n (StepsFail n c values)
+
 -- No value is 0.
 abbrev pub PositiveFails : List Fraction → Finding
 PositiveFails values = FirstUnless (length values) (λ s. (value_at values s).num ≢ 0) Number
@@ -29,7 +33,7 @@ abbrev pub ValuesFail : ℕ → (ℕ → ℕ → ℕ) → List Fraction → Find
 ValuesFail n c values = InOrder (
     Unless (length values ≡ n) Shape 0
     ∷ PositiveFails values
-    ∷ FirstBelow n (StepsFail n c values)
+    ∷ AllStepsFail n c values
     ∷ [])
 
 -- After k steps of the walk the start has been multiplied by c(t,s)/c(t,t) at each: that is past the width of fractions.

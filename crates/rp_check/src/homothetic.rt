@@ -1,7 +1,8 @@
 ghost use Rattle.std.specs.Prelude.{◌≡◌, ◌≢◌, ◌+◌, ◌*◌, ◌-◌, ◌<◌, ◌≤◌, ℕ, IfOk, IsErr, IsTrue, ◌↔◌, length};
 ghost use Rattle.std.specs.Prelude.{slice_index, take};
-ghost use Rattle.rp_check.specs.HomotheticFailure.{CycleFails, HomotheticFails, PositiveFails};
-ghost use Rattle.rp_check.specs.HomotheticFailure.{ProductsFail, StepFails, StepsFail, ValuesFail};
+ghost use Rattle.rp_check.specs.HomotheticFailure.{AllStepsFail, CycleFails, HomotheticFails};
+ghost use Rattle.rp_check.specs.HomotheticFailure.{PositiveFails, ProductsFail, StepFails, StepsFail};
+ghost use Rattle.rp_check.specs.HomotheticFailure.{ValuesFail};
 ghost use Rattle.rp_evidence.specs.Homothetic.{EndsBelow, next_costs, own_costs, value_at};
 ghost use Rattle.rp_num.specs.Fraction.{Fraction, IsLowestTerms, PassesWidth};
 ghost use Rattle.rp_table.specs.Cost.{cost_of};
@@ -21,11 +22,20 @@ fn taken_on(input: &Input<'_>, value: Frac, t: u32, s: u32) -> Result<Frac, Wide
         IsLowestTerms (value.num * c t s) (value.den * c t t) p) }
     ensures wide { IsErr result ↔ (let c = cost_of input.now.table.now in
         PassesWidth (value.num * c t s) (value.den * c t t)) }
+    ensures fraction { 1 ≤ value.den }
+    ensures own { 1 ≤ cost_of input.now.table.now t t }
 {
     let across = u128::from(input.cost(t, s));
     let own = u128::from(input.cost(t, t));
     prove!(value.den() > 0);
     value.mul(Frac::new(across, own))
+}
+
+/// Whether a fraction is below another.
+fn is_below(a: Frac, b: Frac) -> bool
+    ensures { IsTrue result ↔ (a.num * b.den < b.num * a.den) }
+{
+    a.cmp(b) == Ordering::Less
 }
 
 /// Checks the step from `t` to `s`: what the value of `t` comes to is not too wide, and not below the value of `s`.
@@ -37,7 +47,7 @@ fn step(input: &Input<'_>, values: &[Frac], t: u32, s: u32) -> Result<(), Failur
 {
     match taken_on(input, values[t as usize], t, s) {
         Ok(product) => {
-            if product.cmp(values[s as usize]) == Ordering::Less {
+            if is_below(product, values[s as usize]) {
                 return fails(Reason::Order, t as usize + 1);
             }
             Ok(())
@@ -71,20 +81,28 @@ fn all_positive(values: &[Frac]) -> Result<(), Failure>
     Ok(())
 }
 
+/// Checks the steps from every observation, in order.
+fn all_steps(input: &Input<'_>, values: &[Frac]) -> Result<(), Failure>
+    requires { length values.now ≡ records_of input.now.table.now }
+    ensures { AllStepsFail (records_of input.now.table.now) (cost_of input.now.table.now)
+        values.now result }
+{
+    for t in 0..input.n() {
+        steps_from(input, values, t)?;
+    }
+    Ok(())
+}
+
 /// Checks values: one for each observation, none of them 0, and every step from each.
 fn values_hold(input: &Input<'_>, values: &[Frac]) -> Result<(), Failure>
     ensures { ValuesFail (records_of input.now.table.now) (cost_of input.now.table.now)
         values.now result }
 {
-    let n = input.n();
-    if values.len() != n as usize {
+    if values.len() != input.n() as usize {
         return fails(Reason::Shape, 0);
     }
     all_positive(values)?;
-    for t in 0..n {
-        steps_from(input, values, t)?;
-    }
-    Ok(())
+    all_steps(input, values)
 }
 
 /// Checks the products along a walk from the start: none is too wide, and the last one is below the start.
@@ -94,6 +112,7 @@ fn products(input: &Input<'_>, start: Frac, walk: &[u32]) -> Result<(), Failure>
         → slice_index walk.now k < records_of input.now.table.now }
     ensures { ProductsFail (cost_of input.now.table.now) start walk.now result }
 {
+    prove!(start.den() > 0);
     let mut product = start;
     for k in 0..walk.len() - 1 {
         match taken_on(input, product, walk[k], walk[k + 1]) {
@@ -101,7 +120,7 @@ fn products(input: &Input<'_>, start: Frac, walk: &[u32]) -> Result<(), Failure>
             Err(_) => return fails(Reason::Wide, k + 1),
         }
     }
-    if product.cmp(start) != Ordering::Less {
+    if !is_below(product, start) {
         return fails(Reason::NotLess, 0);
     }
     Ok(())

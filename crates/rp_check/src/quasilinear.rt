@@ -1,9 +1,9 @@
-ghost use Rattle.std.specs.Prelude.{◌≡◌, ◌<◌, ◌↔◌, ◌<ℤ◌, ◌≤ℤ◌, ◌^◌, ℕ, ℤ, pos, neg_ℤ, IsTrue};
+ghost use Rattle.std.specs.Prelude.{◌≡◌, ◌<◌, ◌↔◌, ◌<ℤ◌, ◌≤ℤ◌, ◌+ℤ◌, ◌^◌, ℕ, ℤ, pos, neg_ℤ, IsTrue};
 ghost use Rattle.std.specs.Prelude.{length, slice_index};
 ghost use Rattle.rp_check.specs.QuasilinearFailure.{AllFitFails, BoundsAt, CycleFails};
 ghost use Rattle.rp_check.specs.QuasilinearFailure.{FitsValue, QuasilinearFails, ValuesFail};
 ghost use Rattle.rp_check.specs.QuasilinearFailure.{level_at};
-ghost use Rattle.rp_evidence.specs.Quasilinear.{walk_sum};
+ghost use Rattle.rp_evidence.specs.Quasilinear.{step_sum, walk_sum};
 ghost use Rattle.rp_table.specs.Cost.{cost_of};
 ghost use Rattle.rp_table.specs.Tables.{records_of};
 
@@ -14,6 +14,16 @@ use rp_evidence::{Failure, Quasi, Reason};
 /// The greatest value in absolute value.
 const VALUE_WIDTH: i128 = 1 << 100;
 
+/// What a value of `t` allows `s` to have: U_t + c(t,s) - c(t,t).
+fn allowed(input: &Input<'_>, value: i128, t: u32, s: u32) -> i128
+    requires fits { FitsValue value }
+    requires from { t < records_of input.now.table.now }
+    requires to { s < records_of input.now.table.now }
+    ensures { result ≡ value +ℤ step_sum (cost_of input.now.table.now) t s }
+{
+    value + input.added(t, s)
+}
+
 /// Whether the value of `t` bounds every step from it.
 fn bounds(input: &Input<'_>, values: &[i128], t: u32) -> bool
     requires from { t < records_of input.now.table.now }
@@ -23,7 +33,7 @@ fn bounds(input: &Input<'_>, values: &[i128], t: u32) -> bool
         (cost_of input.now.table.now) values.now t }
 {
     for s in 0..input.n() {
-        if values[s as usize] > values[t as usize] + input.added(t, s) {
+        if values[s as usize] > allowed(input, values[t as usize], t, s) {
             return false;
         }
     }
