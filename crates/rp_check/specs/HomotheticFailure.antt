@@ -24,9 +24,10 @@ StepsFail n c values t = FirstBelow n (StepFails c values t)
 abbrev pub AllStepsFail : ℕ → (ℕ → ℕ → ℕ) → List Fraction → Finding
 AllStepsFail n c values = FirstBelow n (StepsFail n c values)
 
--- No value is 0.
+-- Each value is a positive fraction.
 abbrev pub PositiveFails : List Fraction → Finding
-PositiveFails values = FirstUnless (length values) (λ s. (value_at values s).num ≢ 0) Number
+PositiveFails values =
+    FirstUnless (length values) (λ s. (1 ≤ (value_at values s).num) × (1 ≤ (value_at values s).den)) Number
 
 -- Values: one for each observation, none of them 0, and for t in order and then s in order the step from t to s.
 abbrev pub ValuesFail : ℕ → (ℕ → ℕ → ℕ) → List Fraction → Finding

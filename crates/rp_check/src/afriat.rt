@@ -1,5 +1,6 @@
-ghost use Rattle.std.specs.Prelude.{◌≡◌, ◌+◌, ◌<◌, ◌≤◌, ◌↔◌, ℕ, IsTrue};
-ghost use Rattle.std.specs.Prelude.{◌≤ℤ◌, ◌<ℤ◌, pos, neg_ℤ, ◌^◌};
+ghost use Rattle.std.specs.Prelude.{◌≡◌, ◌+◌, ◌<◌, ◌≤◌, ◌↔◌, ℕ, IsTrue, length};
+ghost use Rattle.std.specs.Prelude.{◌+ℤ◌, ◌*ℤ◌, ◌^◌, pos};
+ghost use Rattle.std.specs.Int.RustNames.{unsigned_abs};
 ghost use Rattle.rp_check.specs.AfriatFailure.{AfriatFails, AllAllowFails, AllFitFails};
 ghost use Rattle.rp_check.specs.AfriatFailure.{AllowsAt, ModelFails, NumbersFitAt};
 ghost use Rattle.rp_evidence.specs.Afriat.{allowed};
@@ -19,28 +20,36 @@ const ONE: Level = Level { num: 1, den: 1 };
 const UTILITY_WIDTH: i128 = 1 << 120;
 const MULTIPLIER_WIDTH: u64 = 1 << 60;
 
+/// A utility and a product of a multiplier, all within their widths: they stay within 128 bits.
+fn plus_product(utility: i128, added: i128, multiplier: u64) -> i128
+    requires utility { unsigned_abs utility ≤ 2 ^ 120 }
+    requires added { unsigned_abs added ≤ 2 ^ 51 }
+    requires multiplier { FitsMultiplier multiplier }
+    ensures { result ≡ utility +ℤ (added *ℤ pos multiplier) }
+{
+    utility + added * i128::from(multiplier)
+}
+
 /// What the numbers of `s` allow `t` to have: U_s + λ_s (c(s,t) - c(s,s)).
 fn allowed(input: &Input<'_>, utility: i128, multiplier: u64, s: u32, t: u32) -> i128
-    requires above { neg_ℤ (pos (2 ^ 120)) ≤ℤ utility }
-    requires below { utility ≤ℤ pos (2 ^ 120) }
+    requires utility { FitsUtility utility }
     requires multiplier { FitsMultiplier multiplier }
     requires from { s < records_of input.now.table.now }
     requires to { t < records_of input.now.table.now }
     ensures { result ≡ allowed (cost_of input.now.table.now) (λ i. utility) (λ i. multiplier) s t }
 {
-    utility + i128::from(multiplier) * input.added(s, t)
+    plus_product(utility, input.added(s, t), multiplier)
 }
 
 /// Whether the numbers of `s` allow every observation its utility.
-fn allows(input: &Input<'_>, numbers: &Numbers, s: u32) -> bool
+fn allows(input: &Input<'_>, utility: &[i128], multiplier: &[u64], s: u32) -> bool
     requires from { s < records_of input.now.table.now }
-    requires one_each { AreOneEach (records_of input.now.table.now) numbers.now }
-    requires fit { NumbersFitAt numbers.now s }
+    requires utilities { length utility.now ≡ records_of input.now.table.now }
+    requires multipliers { length multiplier.now ≡ records_of input.now.table.now }
+    requires fit { NumbersFitAt (record { u = utility.now; lambda = multiplier.now }) s }
     ensures { IsTrue result ↔ AllowsAt (records_of input.now.table.now)
-        (cost_of input.now.table.now) numbers.now s }
+        (cost_of input.now.table.now) (record { u = utility.now; lambda = multiplier.now }) s }
 {
-    let utility = numbers.u.as_slice();
-    let multiplier = numbers.lambda.as_slice();
     for t in 0..input.n() {
         if utility[t as usize] > allowed(input, utility[s as usize], multiplier[s as usize], s, t) {
             return false;
@@ -82,8 +91,10 @@ fn all_allow(input: &Input<'_>, numbers: &Numbers) -> Result<(), Failure>
     ensures { AllAllowFails (records_of input.now.table.now) (cost_of input.now.table.now)
         numbers.now result }
 {
+    let utility = numbers.u.as_slice();
+    let multiplier = numbers.lambda.as_slice();
     for s in 0..input.n() {
-        if !allows(input, numbers, s) {
+        if !allows(input, utility, multiplier, s) {
             return fails(Reason::Order, s as usize + 1);
         }
     }

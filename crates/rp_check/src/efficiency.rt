@@ -1,12 +1,12 @@
 ghost use Rattle.std.specs.Prelude.{◌≡◌, ◌<◌, ◌^◌};
-ghost use Rattle.rp_check.specs.EfficiencyFailure.{AboveFails, EfficiencyFails};
+ghost use Rattle.rp_check.specs.EfficiencyFailure.{AboveFails, EfficiencyFails, PartsFail};
 ghost use Rattle.rp_table.specs.Cost.{cost_of};
 ghost use Rattle.rp_table.specs.Tables.{records_of};
 
 use crate::garp::{garp, ordering_ranks};
 use crate::input::Input;
 use crate::walk::{closed_walk, fails, weak_steps};
-use rp_evidence::{Efficiency, Failure, Level, Reason};
+use rp_evidence::{Efficiency, Failure, Garp, Level, Reason};
 
 /// The denominator of a level is below this.
 const LEVEL_LIMIT: u64 = 1 << 51;
@@ -28,6 +28,24 @@ fn above(input: &Input<'_>, level: Level, walk: &[u32]) -> Result<(), Failure>
     weak_steps(input, level, walk)
 }
 
+/// Checks the ranks below the level, the walk above it and the evidence at it, in this order.
+fn parts(
+    input: &Input<'_>,
+    level: Level,
+    below: &[u32],
+    above_walk: &[u32],
+    at: &Garp,
+) -> Result<(), Failure>
+    requires num { level.num < 2 ^ 51 }
+    requires den { level.den < 2 ^ 51 }
+    ensures { PartsFail (records_of input.now.table.now) (cost_of input.now.table.now)
+        level.num level.den below.now above_walk.now at.now result }
+{
+    ordering_ranks(input, level, below)?;
+    above(input, level, above_walk)?;
+    garp(input, level, at)
+}
+
 /// Checks evidence for the critical cost efficiency index (Afriat 1973). The level need not be in lowest terms.
 pub fn efficiency(input: &Input<'_>, evidence: &Efficiency) -> Result<(), Failure>
     ensures { EfficiencyFails (records_of input.now.table.now) (cost_of input.now.table.now)
@@ -37,7 +55,7 @@ pub fn efficiency(input: &Input<'_>, evidence: &Efficiency) -> Result<(), Failur
     if level.num == 0 || level.num > level.den || level.den >= LEVEL_LIMIT {
         return fails(Reason::Level, 0);
     }
-    ordering_ranks(input, level, evidence.below.as_slice())?;
-    above(input, level, evidence.above.as_slice())?;
-    garp(input, level, &evidence.at)
+    let below = evidence.below.as_slice();
+    let above = evidence.above.as_slice();
+    parts(input, level, below, above, &evidence.at)
 }

@@ -1,4 +1,5 @@
-ghost use Rattle.std.specs.Prelude.{◌≡◌, ◌<◌, ◌≤◌, ◌*◌, ◌^◌, ◌↔◌, IsTrue, ◌<ℤ◌, neg_ℤ, pos};
+ghost use Rattle.std.specs.Prelude.{◌≡◌, ◌<◌, ◌≤◌, ◌*◌, ◌^◌, ◌↔◌, IsTrue};
+ghost use Rattle.std.specs.Int.RustNames.{unsigned_abs};
 ghost use Rattle.rp_evidence.specs.Preference.{IsLevel, IsStrict, IsWeak};
 ghost use Rattle.rp_evidence.specs.Quasilinear.{step_sum};
 ghost use Rattle.rp_table.specs.Cost.{IsCostsOf, cost_of};
@@ -49,8 +50,7 @@ impl<'a> Input<'a> {
         requires from { t < records_of self.now.table.now }
         requires to { s < records_of self.now.table.now }
         ensures value { result ≡ step_sum (cost_of self.now.table.now) t s }
-        ensures below { result <ℤ pos (2 ^ 51) }
-        ensures above { neg_ℤ (pos (2 ^ 51)) <ℤ result }
+        ensures small { unsigned_abs result ≤ 2 ^ 51 }
     {
         i128::from(self.cost(t, s)) - i128::from(self.cost(t, t))
     }

@@ -1,5 +1,6 @@
-ghost use Rattle.std.specs.Prelude.{◌≡◌, ◌<◌, ◌↔◌, ◌<ℤ◌, ◌≤ℤ◌, ◌+ℤ◌, ◌^◌, ℕ, ℤ, pos, neg_ℤ, IsTrue};
+ghost use Rattle.std.specs.Prelude.{◌≡◌, ◌*◌, ◌<◌, ◌≤◌, ◌↔◌, ◌<ℤ◌, ◌≤ℤ◌, ◌+ℤ◌, ◌^◌, ℕ, ℤ, pos, neg_ℤ, IsTrue};
 ghost use Rattle.std.specs.Prelude.{length, slice_index};
+ghost use Rattle.std.specs.Int.RustNames.{unsigned_abs};
 ghost use Rattle.rp_check.specs.QuasilinearFailure.{AllFitFails, BoundsAt, CycleFails};
 ghost use Rattle.rp_check.specs.QuasilinearFailure.{FitsValue, QuasilinearFails, ValuesFail};
 ghost use Rattle.rp_check.specs.QuasilinearFailure.{level_at};
@@ -14,6 +15,15 @@ use rp_evidence::{Failure, Quasi, Reason};
 /// The greatest value in absolute value.
 const VALUE_WIDTH: i128 = 1 << 100;
 
+/// A sum of fewer than 2^64 numbers of at most 2^51 each, and one more: it stays within 128 bits.
+fn plus(sum: i128, added: i128) -> i128
+    requires room { unsigned_abs sum ≤ 2 ^ 64 * 2 ^ 51 }
+    requires small { unsigned_abs added ≤ 2 ^ 51 }
+    ensures { result ≡ sum +ℤ added }
+{
+    sum + added
+}
+
 /// What a value of `t` allows `s` to have: U_t + c(t,s) - c(t,t).
 fn allowed(input: &Input<'_>, value: i128, t: u32, s: u32) -> i128
     requires fits { FitsValue value }
@@ -21,7 +31,7 @@ fn allowed(input: &Input<'_>, value: i128, t: u32, s: u32) -> i128
     requires to { s < records_of input.now.table.now }
     ensures { result ≡ value +ℤ step_sum (cost_of input.now.table.now) t s }
 {
-    value + input.added(t, s)
+    plus(value, input.added(t, s))
 }
 
 /// Whether the value of `t` bounds every step from it.
@@ -70,16 +80,16 @@ fn values_hold(input: &Input<'_>, values: &[i128]) -> Result<(), Failure>
     Ok(())
 }
 
-/// The sum over the steps of a walk. So many steps of less than 2^51 each stay within 128 bits.
+/// The sum over the steps of a walk.
 fn sum(input: &Input<'_>, walk: &[u32]) -> i128
     requires some { 0 < length walk.now }
     requires observed { (k : ℕ) → k < length walk.now
         → slice_index walk.now k < records_of input.now.table.now }
     ensures { result ≡ walk_sum (cost_of input.now.table.now) walk.now }
 {
-    let mut sum: i128 = 0;
+    let mut sum = 0;
     for k in 0..walk.len() - 1 {
-        sum += input.added(walk[k], walk[k + 1]);
+        sum = plus(sum, input.added(walk[k], walk[k + 1]));
     }
     sum
 }

@@ -1,13 +1,18 @@
-use Rattle.std.proofs.Common.{rules, ◌≡◌, ◌<◌, ◌^◌, ℕ, ◌+◌, ◌-◌, ◌*◌, ◌≤◌, length, ◌/◌, ◌%◌, Bool, true, false, nat_eq, nat_lt, List, [], ◌∷◌, ◌++◌, slice_index_or, slice_set, bit_and, bit_or, Fits, w8, w32, w64, Bor, MutBor}
-use Rattle.rp_check.specs.EfficiencyFailure.{AboveFails, EfficiencyFails}
+use Rattle.std.proofs.Common.{◌≡◌, ◌<◌, ◌≤◌, ◌^◌, List, ℕ, Ok, arith, subst}
+use Rattle.rp_evidence.specs.Preference.{IsLevel}
+use Rattle.rp_evidence.specs.declared.failure.Reason.TheVariants.{Level}
 use Rattle.rp_table.specs.Cost.{cost_of}
 use Rattle.rp_table.specs.Tables.{records_of}
+use Rattle.rp_check.specs.Clauses.{Unless}
+use Rattle.rp_check.specs.EfficiencyFailure.{PartsFail}
+use Rattle.rp_check.proofs.Passing.{then_last}
 use Rattle.rp_check.proofs.efficiency.efficiency.Goals as goal
 
--- src/efficiency.rt:40:5
-pub returns-in_err-ordering_ranks : goal.returns-in_err-ordering_ranks
-returns-in_err-ordering_ranks c = ?
-
--- src/efficiency.rt:41:5
-pub returns-in_err-above : goal.returns-in_err-above
-returns-in_err-above c = ?
+pub returns : goal.returns
+returns c =
+    let e = c.args.evidence.now in
+    then_last (Unless (IsLevel e.level.num e.level.den × (e.level.den < 2 ^ 51)) Level 0)
+    (PartsFail (records_of c.args.input.now.table.now) (cost_of c.args.input.now.table.now) e.level.num e.level.den e.below e.above e.at)
+    c.parts.result
+    ((omega arith, omega arith), omega arith)
+    (rw (c.as_slice-below.ensures, c.as_slice-above.ensures) at c.parts.ensures)

@@ -1,10 +1,7 @@
-use Rattle.std.proofs.Common.{rules, ◌≡◌, ◌<◌, ◌↔◌, ◌<ℤ◌, ◌≤ℤ◌, ◌+ℤ◌, ◌^◌, ℕ, ℤ, pos, neg_ℤ, IsTrue, length, slice_index, ◌+◌, ◌-◌, ◌*◌, ◌≤◌, ◌/◌, ◌%◌, Bool, true, false, nat_eq, nat_lt, List, [], ◌∷◌, ◌++◌, slice_index_or, slice_set, bit_and, bit_or, Fits, w8, w32, w64, Bor, MutBor, ◌-ℤ◌, ◌*ℤ◌, FitsSigned, to_z, of_z}
-use Rattle.rp_check.specs.QuasilinearFailure.{AllFitFails, BoundsAt, CycleFails, FitsValue, QuasilinearFails, ValuesFail, level_at}
-use Rattle.rp_evidence.specs.Quasilinear.{step_sum, walk_sum}
-use Rattle.rp_table.specs.Cost.{cost_of}
-use Rattle.rp_table.specs.Tables.{records_of}
+use Rattle.std.proofs.Common.{below_more, arith}
+use Rattle.std.proofs.lemmas.Int.{ints}
 use Rattle.rp_check.proofs.quasilinear.bounds.Goals as goal
 
--- src/quasilinear.rt:35:5
 pub loop-s-preserved : goal.loop-s-preserved
-loop-s-preserved c = ?
+loop-s-preserved c =
+    below_more _ _ c.loop-s.invariant (omega (arith, ints, c.if-values-s.false, c.allowed.ensures))

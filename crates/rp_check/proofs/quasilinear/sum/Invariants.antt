@@ -1,9 +1,10 @@
-use Rattle.std.proofs.Common.{◌≡◌, ◌<◌, ◌↔◌, ◌<ℤ◌, ◌≤ℤ◌, ◌+ℤ◌, ◌^◌, ℕ, ℤ, pos, neg_ℤ, IsTrue, length, slice_index, ◌+◌, ◌-◌, ◌*◌, ◌≤◌, ◌-ℤ◌, ◌*ℤ◌, FitsSigned, to_z, of_z}
-use Rattle.rp_check.specs.QuasilinearFailure.{AllFitFails, BoundsAt, CycleFails, FitsValue, QuasilinearFails, ValuesFail, level_at}
-use Rattle.rp_evidence.specs.Quasilinear.{step_sum, walk_sum}
+use Rattle.std.proofs.Common.{◌≡◌, ◌+◌, ◌*◌, ◌^◌, ◌≤◌, take}
+use Rattle.std.specs.Int.RustNames.{unsigned_abs}
+use Rattle.rp_evidence.specs.Quasilinear.{walk_sum}
 use Rattle.rp_table.specs.Cost.{cost_of}
-use Rattle.rp_table.specs.Tables.{records_of}
 use Rattle.rp_check.proofs.quasilinear.sum.Given as goal
 
 abbrev pub invariant-loop-k : goal.invariant-loop-k
-invariant-loop-k l = ?
+invariant-loop-k l =
+    (l.sum ≡ walk_sum (cost_of l.input.table.now) (take (l.k + 1) l.walk))
+    × (unsigned_abs l.sum ≤ l.k * 2 ^ 51)
