@@ -130,7 +130,7 @@ module _ (n : ℕ) (c : ℕ → ℕ → ℕ) where
     is_index : (below above : List ℕ) → OrderingFails n c num den below (Ok tt) → AboveFails n c num den above (Ok tt) → IsEfficiencyIndex n c num den
     is_index below above orders bounds = record {
       level = level;
-      holds_below = λ p q lower less. ordering_ranks_exclude n num den p q c below positive less (ordered below orders);
+      holds_below = λ p q lower less walk. ordering_ranks_exclude n num den p q c below walk positive less (ordered below orders);
       fails_above = above_fails above bounds;
     }
 

@@ -2,10 +2,12 @@
 use Rattle.std.specs.Prelude.{◌≡◌, ◌||◌, Bool, true, false, List, [], ◌∷◌}
 use Rattle.rp_check.specs.AfriatFailure.{AfriatFails}
 use Rattle.rp_check.specs.Clauses.{Finding, InOrder}
+use Rattle.rp_check.specs.DemandFailure.{DemandFails}
 use Rattle.rp_check.specs.EfficiencyFailure.{EfficiencyFails}
 use Rattle.rp_check.specs.GarpFailure.{GarpFails}
 use Rattle.rp_check.specs.HomotheticFailure.{HomotheticFails}
 use Rattle.rp_check.specs.QuasilinearFailure.{QuasilinearFails}
+use Rattle.rp_check.specs.WelfareFailure.{WelfareFails}
 use Rattle.rp_evidence.specs.Input.{TableInput}
 use Rattle.rp_evidence.specs.declared.certificate.Item.{Item}
 use Rattle.rp_evidence.specs.declared.certificate.Item.TheVariants.{Garp as GarpItem, Afriat as AfriatItem, Efficiency as EfficiencyItem, Homothetic as HomotheticItem, Quasi as QuasiItem, Demand as DemandItem, Welfare as WelfareItem, Random as RandomItem}
@@ -29,6 +31,6 @@ ItemFails input shown (AfriatItem part) = AfriatFails input.n input.cost part
 ItemFails input shown (EfficiencyItem evidence) = EfficiencyFails input.n input.cost evidence
 ItemFails input shown (HomotheticItem verdict) = HomotheticFails input.n input.cost verdict
 ItemFails input shown (QuasiItem verdict) = QuasilinearFails input.n input.cost verdict
-ItemFails input shown (DemandItem prices m part) = InOrder []
-ItemFails input shown (WelfareItem prices of part) = InOrder []
+ItemFails input shown (DemandItem prices m part) = DemandFails input shown prices m part
+ItemFails input shown (WelfareItem prices of part) = WelfareFails input shown prices of part
 ItemFails input shown (RandomItem total part) = InOrder []

@@ -33,7 +33,7 @@ pub fn check(table: &Table, costs: &Costs, certificate: &Certificate) -> Verdict
                 place: found.place,
             };
         }
-        shown = shown || shows_garp(item);
+        shown |= shows_garp(item);
     }
     Verdict::Accepted
 }

@@ -1,4 +1,4 @@
-ghost use Rattle.std.specs.Prelude.{◌≡◌, ◌<◌, ◌≤◌, ◌*◌, ◌^◌, ◌↔◌, IsTrue};
+ghost use Rattle.std.specs.Prelude.{◌≡◌, ◌<◌, ◌≤◌, ◌*◌, ◌^◌, ◌↔◌, ℕ, IsTrue};
 ghost use Rattle.std.specs.Int.RustNames.{unsigned_abs};
 ghost use Rattle.rp_evidence.specs.Preference.{IsLevel, IsStrict, IsWeak};
 ghost use Rattle.rp_evidence.specs.Quasilinear.{step_sum};
@@ -20,8 +20,10 @@ pub struct Input<'a> {
 impl<'a> Input<'a> {
     pub fn new(table: &'a Table, costs: &'a Costs) -> Input<'a>
         requires { IsCostsOf costs.now table.now }
-        ensures { result.table.now ≡ table.now }
+        ensures of { result.table.now ≡ table.now }
+        ensures positive { (s : ℕ) → s < records_of table.now → 1 ≤ cost_of table.now s s }
     {
+        prove!(costs.n() > 0);
         Input { table, costs }
     }
 

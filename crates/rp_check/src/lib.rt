@@ -2,13 +2,16 @@
 #![tactic(auto)]
 
 mod afriat;
+mod bounds;
 mod certificate;
 mod efficiency;
 mod garp;
 mod homothetic;
 mod input;
 mod item;
+mod prices;
 mod quasilinear;
+mod reach;
 mod verdict;
 mod walk;
 
