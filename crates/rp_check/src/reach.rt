@@ -77,6 +77,16 @@ fn leads(input: &Input<'_>, way: Way, u: u32, v: u32) -> bool
     }
 }
 
+/// Marks `t` alone.
+pub fn mark_only(n: u32, t: u32, marks: &mut [bool])
+    requires { n ≤ length marks.old }
+    ensures { AreMarked n (λ s. s ≡ t) marks.new }
+{
+    for s in 0..n {
+        marks[s as usize] = s == t;
+    }
+}
+
 /// Whether the list is that of the marked observations, in increasing order.
 pub fn lists_marked(n: u32, marks: &[bool], list: &[u32]) -> bool
     requires { n ≤ length marks.now }
