@@ -1,5 +1,6 @@
 pub mod Clauses
 pub mod Reach
+pub mod Asked
 pub mod WalkFailure
 pub mod GarpFailure
 pub mod AfriatFailure

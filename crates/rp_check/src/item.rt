@@ -5,11 +5,13 @@ ghost use Rattle.rp_evidence.specs.Kinds.{IsOfKind};
 ghost use Rattle.rp_evidence.specs.declared.certificate.Kind.TheVariants.{Table};
 
 use crate::afriat::afriat;
+use crate::demand::demand;
 use crate::efficiency::efficiency;
 use crate::garp::garp;
 use crate::homothetic::homothetic;
 use crate::input::Input;
 use crate::quasilinear::quasilinear;
+use crate::welfare::welfare;
 use rp_evidence::{Failure, Garp, Item, Level};
 
 /// Whether the item shows by ranks that the generalized axiom holds.
@@ -30,8 +32,8 @@ pub fn check_item(input: &Input<'_>, shown: bool, item: &Item) -> Result<(), Fai
         Item::Efficiency(evidence) => efficiency(input, evidence),
         Item::Homothetic(verdict) => homothetic(input, verdict),
         Item::Quasi(verdict) => quasilinear(input, verdict),
-        Item::Demand { .. } => Ok(()),
-        Item::Welfare { .. } => Ok(()),
+        Item::Demand { prices, m, part } => demand(input, shown, prices.as_slice(), *m, part),
+        Item::Welfare { prices, of, part } => welfare(input, shown, prices.as_slice(), *of, part),
         Item::Random { .. } => Ok(()),
     }
 }

@@ -4,6 +4,7 @@
 mod afriat;
 mod bounds;
 mod certificate;
+mod demand;
 mod efficiency;
 mod garp;
 mod homothetic;
@@ -12,8 +13,10 @@ mod item;
 mod prices;
 mod quasilinear;
 mod reach;
+mod sets;
 mod verdict;
 mod walk;
+mod welfare;
 
 pub use certificate::check;
 pub use rp_evidence::Reason;
