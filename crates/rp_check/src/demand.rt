@@ -78,12 +78,7 @@ fn bounds(
 }
 
 /// Checks the inner point: a denominator, one numerator for each good, on the budget, and dear enough at each observation.
-fn inner_holds(
-    asked: &NewPrices<'_>,
-    m: u64,
-    sets: &Sets,
-    inner: &Point,
-) -> Result<(), Failure>
+fn inner_holds(asked: &NewPrices<'_>, m: u64, sets: &Sets, inner: &Point) -> Result<(), Failure>
     requires spends { m ≤ LARGEST_EXPENDITURE }
     requires sets { AreSets (input_of asked.now) (budget_at asked.now m) sets.now }
     ensures { InnerFails (input_of asked.now) (budget_at asked.now m) inner.now result }

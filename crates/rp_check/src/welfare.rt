@@ -92,12 +92,7 @@ fn bounds(
 }
 
 /// Checks that no observation that equals or reaches `t` costs less.
-fn none_cheaper(
-    asked: &NewPrices<'_>,
-    t: u32,
-    reaching: &[bool],
-    upper: u64,
-) -> Result<(), Failure>
+fn none_cheaper(asked: &NewPrices<'_>, t: u32, reaching: &[bool], upper: u64) -> Result<(), Failure>
     requires room { records_of asked.now.input.table.now ≤ length reaching.now }
     requires marked { AreMarked (records_of asked.now.input.table.now)
         (λ s. EqualsOrReaches (input_of asked.now) s t) reaching.now }
