@@ -4,8 +4,10 @@ ghost use Rattle.rp_evidence.specs.declared.certificate.Kind.TheVariants.{Table 
 
 use rp_check::{Verdict, check};
 use rp_evidence::{
-    AfriatPart, Certificate, Efficiency, Garp, Homothetic, Item, Kind, Level, Numbers, Quasi,
+    AfriatPart, Bound, Certificate, DemandPart, Efficiency, Garp, GoodBounds, Homothetic, Item,
+    Kind, Level, Numbers, Point, Quasi, WelfarePart,
 };
+use rp_farkas::{Entry, Pair};
 use rp_num::{Frac, Seq};
 use rp_table::Costs;
 use rp_text::read_table;
@@ -18,6 +20,28 @@ use std::test::Fail;
 pub enum At<'a> {
     Ranks(&'a [u32]),
     Cycle(&'a [u32]),
+}
+
+/// A bound with its pair: the value, and then over `den` the prices `x` and the positive entries of `y` by column.
+#[derive(Clone, Copy)]
+pub enum ForgedBound<'a> {
+    Shown {
+        value: (u128, u128),
+        x: &'a [u64],
+        y: &'a [(u32, u64)],
+        den: u64,
+    },
+    Wide,
+}
+
+/// Bounds on demand: the sets, the inner point over its denominator, and two bounds of each good.
+#[derive(Clone, Copy)]
+pub struct ForgedDemand<'a> {
+    pub below: &'a [u32],
+    pub strict: &'a [u32],
+    pub inner: &'a [u64],
+    pub over: u64,
+    pub goods: &'a [[ForgedBound<'a>; 2]],
 }
 
 /// Evidence as a case writes it. Observations are numbered from 0, as in code; a fraction is its numerator and its
@@ -34,6 +58,10 @@ pub enum Forged<'a> {
     NoProducts(u32),
     Sums(&'a [i128]),
     Negative(&'a [u32]),
+    Demand(&'a [u32], u64, ForgedDemand<'a>),
+    NoDemand(&'a [u32], u64, &'a [u32]),
+    Welfare(&'a [u32], u32, (u64, u32), ForgedBound<'a>),
+    NoWelfare(&'a [u32], u32, &'a [u32]),
 }
 
 /// The list of these numbers.
@@ -73,6 +101,48 @@ fn products(rt: &impl Abort, alloc: Global, parts: &[(u128, u128)]) -> Result<Ho
     Ok(Homothetic::Values(Seq::from_vec(values)))
 }
 
+fn bound(rt: &impl Abort, alloc: Global, forged: ForgedBound<'_>) -> Result<Bound, Fail> {
+    match forged {
+        ForgedBound::Shown { value, x, y, den } => {
+            let mut entries = Vec::new(alloc);
+            for (at, value) in y {
+                entries.push(Entry {
+                    at: *at,
+                    value: *value,
+                })?;
+            }
+            Ok(Bound::Shown {
+                value: fraction(rt, value),
+                pair: Pair {
+                    den,
+                    y: Seq::from_vec(entries),
+                    x: Seq::from_vec(x.to_vec(alloc)?),
+                },
+            })
+        }
+        ForgedBound::Wide => Ok(Bound::Wide { step: 0 }),
+    }
+}
+
+fn demand(rt: &impl Abort, alloc: Global, forged: ForgedDemand<'_>) -> Result<DemandPart, Fail> {
+    let mut goods = Vec::new(alloc);
+    for [lower, upper] in forged.goods {
+        goods.push(GoodBounds {
+            lower: bound(rt, alloc, *lower)?,
+            upper: bound(rt, alloc, *upper)?,
+        })?;
+    }
+    Ok(DemandPart::Bounds {
+        below: list(alloc, forged.below)?,
+        strict: list(alloc, forged.strict)?,
+        inner: Point {
+            den: forged.over,
+            num: Seq::from_vec(forged.inner.to_vec(alloc)?),
+        },
+        goods: Seq::from_vec(goods),
+    })
+}
+
 /// The item that a case writes.
 fn item(rt: &impl Abort, alloc: Global, forged: Forged<'_>) -> Result<Item, Fail>
     ensures { IfOk result (IsOfKind TableKind) }
@@ -100,6 +170,30 @@ fn item(rt: &impl Abort, alloc: Global, forged: Forged<'_>) -> Result<Item, Fail
         }),
         Forged::Sums(values) => Item::Quasi(Quasi::Values(Seq::from_vec(values.to_vec(alloc)?))),
         Forged::Negative(walk) => Item::Quasi(Quasi::Cycle(list(alloc, walk)?)),
+        Forged::Demand(prices, m, bounds) => Item::Demand {
+            prices: list(alloc, prices)?,
+            m,
+            part: demand(rt, alloc, bounds)?,
+        },
+        Forged::NoDemand(prices, m, walk) => Item::Demand {
+            prices: list(alloc, prices)?,
+            m,
+            part: DemandPart::NoModel(list(alloc, walk)?),
+        },
+        Forged::Welfare(prices, of, (upper, at), lower) => Item::Welfare {
+            prices: list(alloc, prices)?,
+            of,
+            part: WelfarePart::Bounds {
+                upper,
+                at,
+                lower: bound(rt, alloc, lower)?,
+            },
+        },
+        Forged::NoWelfare(prices, of, walk) => Item::Welfare {
+            prices: list(alloc, prices)?,
+            of,
+            part: WelfarePart::NoModel(list(alloc, walk)?),
+        },
     })
 }
 
