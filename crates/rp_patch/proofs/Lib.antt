@@ -1,0 +1,12 @@
+pub mod Apportioning
+pub mod ChosenFacts
+pub mod ChosenLaws
+pub mod MadeOf
+pub mod Multiples
+pub mod Raising
+pub mod Rows
+pub mod SetLaws
+pub mod Shares
+pub mod Sums
+pub mod Tallied
+pub mod Tried
