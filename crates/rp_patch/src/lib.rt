@@ -5,6 +5,7 @@ mod chosen;
 mod fault;
 mod listed;
 pub mod of_choices;
+pub mod part;
 mod portion;
 mod sets;
 mod signs;
