@@ -5,3 +5,5 @@ pub mod PassedOn
 pub mod RunLemmas
 pub mod TrialLemmas
 mod UtilityLemmas
+pub mod WordLemmas
+pub mod ShapeLemmas

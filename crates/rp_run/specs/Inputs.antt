@@ -6,7 +6,7 @@ use Rattle.rp_table.specs.BundleLists.{BundleList}
 use Rattle.rp_table.specs.PriceLists.{PriceList}
 use Rattle.rp_text.specs.Denotation.{table_in, bundles_beside, prices_beside}
 use Rattle.rp_text.specs.declared.fault.TableFault.{TableFault}
-use Rattle.rp_run.specs.CommandLine.{Line, Pairs, Analyse, Demand, Welfare, Utility}
+use Rattle.rp_run.specs.CommandLine.{Line, Pairs, Analyse, Demand, Welfare, Utility, Trial}
 use Rattle.rp_run.specs.FaultTexts.{fault_text}
 use Rattle.rp_run.specs.FaultLines.{file_line}
 
@@ -17,6 +17,7 @@ pub data Input : Type 0 where
   DemandOver : (table : Observations) (new : PriceList) → Input
   WelfareOver : (table : Observations) (new : PriceList) → Input
   UtilityOver : (table : Observations) (bundles : BundleList) → Input
+  TrialOver : (seed rows goods : ℕ) → Input
 
 -- the most bytes of a file of numbers
 abbrev pub most_bytes : ℕ
@@ -56,3 +57,4 @@ input_of (Welfare table new) bytes =
 input_of (Utility table bundles) bytes =
     and_then (numbers_in table table_in (bytes 0)) (λ t.
     and_then (numbers_in bundles (bundles_beside t) (bytes 1)) (λ b. Ok (UtilityOver t b)))
+input_of (Trial seed rows goods) bytes = Ok (TrialOver seed rows goods)

@@ -6,7 +6,9 @@ pub mod AskedItems
 pub mod Demands
 pub mod Welfares
 pub mod UtilityText
+pub mod Commands
 pub mod CommandLine
+pub mod Shapes
 pub mod Inputs
 pub mod Matching
 pub mod Answers
@@ -16,3 +18,4 @@ pub mod Causes
 pub mod Named
 pub mod StatusNumbers
 pub mod TrialTable
+pub mod TrialText

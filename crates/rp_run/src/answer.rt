@@ -2,7 +2,7 @@ ghost use Rattle.std.specs.Prelude.{◌≡◌, ◌≤◌, ℕ, List, IfOk, IfErr
 ghost use Rattle.rp_run.specs.Answers.{Answers, AnswersLine};
 ghost use Rattle.rp_run.specs.Endings.{Rose};
 ghost use Rattle.rp_run.specs.Causes.{IsCause};
-ghost use Rattle.rp_run.specs.Matching.{HasMatchingGoods};
+ghost use Rattle.rp_run.specs.Matching.{HasMatchingGoods, IsSized};
 ghost use Rattle.rp_run.specs.Named.{named_line, named_input};
 
 use crate::demands::demand_text;
@@ -11,6 +11,7 @@ use crate::input::{Input, read_input};
 use crate::line::Line;
 use crate::status::Status;
 use crate::text::{analysis_text, pairs_text};
+use crate::trials::trial_text;
 use crate::utilities::utility_text;
 use crate::welfares::welfare_text;
 use rp_num::NoMemory;
@@ -31,6 +32,7 @@ pub(crate) fn answer_line<'a, D: Desk>(
     desk: &mut D,
     line: Line<'a>,
 ) -> Result<Answer, Cause<'a>>
+    requires { IsSized (named_line line) }
     ensures answered { IfOk result (λ answer.
         AnswersLine (D.bytes desk.old) (named_line line.entry) answer.status answer.text.items) }
     ensures caused { IfErr result
@@ -73,6 +75,7 @@ fn answer_over(alloc: Global, input: &Input) -> Result<Answer, NoMemory>
             let costs = Costs::of(alloc, table)?;
             Ok(done(utility_text(alloc, table, &costs, bundles)?))
         }
+        Input::Trial { seed, rows, goods } => { Ok(done(trial_text(alloc, *seed, *rows, *goods)?)) }
     }
 }
 

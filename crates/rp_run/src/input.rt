@@ -1,7 +1,7 @@
 ghost use Rattle.std.specs.Prelude.{◌≡◌, ◌≤◌, ℕ, List, IfOk, IfErr};
 ghost use Rattle.rp_run.specs.CommandLine.{Demand, Utility, Welfare};
 ghost use Rattle.rp_run.specs.Inputs.{DemandOver, UtilityOver, WelfareOver};
-ghost use Rattle.rp_run.specs.Matching.{HasMatchingGoods, IsSpentOn};
+ghost use Rattle.rp_run.specs.Matching.{HasMatchingGoods, IsSized, IsSpentOn};
 ghost use Rattle.rp_table.specs.Tables.{goods_of};
 ghost use Rattle.rp_run.specs.Answers.{HasInput};
 ghost use Rattle.rp_run.specs.Endings.{Rose};
@@ -22,6 +22,7 @@ pub(crate) enum Input {
     Demand(Table, Prices),
     Welfare(Table, Prices),
     Utility(Table, Bundles),
+    Trial { seed: u64, rows: u32, goods: u32 },
 }
 
 /// What a line asks over its files, which are read in the order of the words, each whole before the next.
@@ -30,6 +31,7 @@ pub(crate) fn read_input<'a, D: Desk>(
     desk: &mut D,
     line: Line<'a>,
 ) -> Result<Input, Cause<'a>>
+    requires { IsSized (named_line line) }
     ensures read { IfOk result
         (λ input. HasInput (D.bytes desk.old) (named_line line.entry) (named_input input)) }
     ensures goods { IfOk result (λ input. HasMatchingGoods (named_input input)) }
@@ -54,6 +56,7 @@ pub(crate) fn read_input<'a, D: Desk>(
             let (table, bundles) = load_table_bundles(alloc, desk, table, bundles)?;
             Ok(Input::Utility(table, bundles))
         }
+        Line::Trial { seed, rows, goods } => Ok(Input::Trial { seed, rows, goods }),
     }
 }
 

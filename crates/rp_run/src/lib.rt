@@ -3,6 +3,7 @@
 
 mod answer;
 mod asked;
+mod command;
 mod demands;
 mod fault_text;
 mod files;
@@ -14,6 +15,7 @@ mod sure;
 mod telling;
 mod text;
 mod trial;
+mod trials;
 mod utilities;
 mod welfares;
 
