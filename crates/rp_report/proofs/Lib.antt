@@ -1,1 +1,2 @@
+mod Goods
 pub mod Texts

@@ -25,3 +25,19 @@ on_ok P Q f (Err e) h = h
 -- a line of a word, a level, a word and a word
 pub index_line : (old w1 level w2 last : List ℕ) → (((old ++ w1) ++ level) ++ w2) ++ line_of last ≡ old ++ line_of (w1 ++ level ++ w2 ++ last)
 index_line old w1 level w2 last = simp append_assoc
+
+-- a line of two numbers with their words
+pub two_numbers : (old w1 n1 w2 n2 : List ℕ) → ((((old ++ w1) ++ n1) ++ w2) ++ n2) ++ 10 ∷ [] ≡ old ++ line_of (w1 ++ n1 ++ w2 ++ n2)
+two_numbers old w1 n1 w2 n2 = simp append_assoc
+
+-- two numbers with their words
+pub two_words : (old w1 n1 w2 n2 : List ℕ) → (((old ++ w1) ++ n1) ++ w2) ++ n2 ≡ old ++ (w1 ++ n1 ++ w2 ++ n2)
+two_words old w1 n1 w2 n2 = simp append_assoc
+
+-- a line in two pieces, and another line
+pub line_in_two : (old head tail more : List ℕ) → ((old ++ head) ++ line_of tail) ++ more ≡ old ++ (line_of (head ++ tail) ++ more)
+line_in_two old head tail more = simp append_assoc
+
+-- five texts, one after another
+pub five_texts : (old a b c d e : List ℕ) → ((((old ++ a) ++ b) ++ c) ++ d) ++ e ≡ old ++ (a ++ b ++ c ++ d ++ e)
+five_texts old a b c d e = simp append_assoc

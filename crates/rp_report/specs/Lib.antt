@@ -1,5 +1,7 @@
 pub mod EfficiencyText
 pub mod AfriatText
+pub mod BoundText
+pub mod DemandText
 pub mod GarpText
 pub mod HomotheticText
 pub mod ListText

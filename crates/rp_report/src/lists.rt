@@ -189,7 +189,7 @@ fn push_list_line<P: Print>(
 }
 
 /// Appends entries with one space between them; `none` for no entries.
-fn push_list<P: Print>(
+pub(crate) fn push_list<P: Print>(
     alloc: Global,
     out: &mut Vec<u8>,
     entries: &[P::Entry],

@@ -1,12 +1,15 @@
 ghost use Rattle.std.specs.Prelude.{◌≡◌, ◌++◌, IfOk, OnOk};
+ghost use Rattle.rp_evidence.specs.Kinds.{IsCertificateOf, IsOfKind};
 ghost use Rattle.rp_report.specs.ReportText.{head_text, item_text, report_text};
 
 use crate::afriat::push_afriat;
+use crate::demand::push_demand;
 use crate::efficiency::push_efficiency;
 use crate::garp::push_garp;
 use crate::homothetic::push_homothetic;
 use crate::lists::{Number, push_after};
 use crate::quasilinear::push_quasilinear;
+use crate::welfare::push_welfare;
 use rp_evidence::{Certificate, Item, Kind};
 use rp_num::NoMemory;
 use rp_table::Table;
@@ -14,7 +17,7 @@ use std::alloc::Global;
 
 /// The report of a certificate on a table: a line on the table, and then the lines of each item.
 pub fn report(alloc: Global, certificate: &Certificate, table: &Table) -> Result<Vec<u8>, NoMemory>
-    requires { certificate.now.kind ≡ Kind.Table }
+    requires { IsCertificateOf Kind.Table certificate.now }
     ensures { IfOk result (λ text. text.items ≡ report_text table.now certificate.now.items) }
 {
     let mut text = Vec::new(alloc);
@@ -37,8 +40,9 @@ fn push_head(alloc: Global, out: &mut Vec<u8>, table: &Table) -> Result<(), NoMe
     Ok(())
 }
 
-/// Appends the lines of an item.
+/// Appends the lines of an item on a table.
 fn push_item(alloc: Global, out: &mut Vec<u8>, item: &Item) -> Result<(), NoMemory>
+    requires { IsOfKind Kind.Table item.now }
     ensures { OnOk result (out.new.items ≡ out.old.items ++ item_text item.now) }
 {
     match item {
@@ -47,5 +51,14 @@ fn push_item(alloc: Global, out: &mut Vec<u8>, item: &Item) -> Result<(), NoMemo
         Item::Efficiency(evidence) => push_efficiency(alloc, out, evidence),
         Item::Homothetic(verdict) => push_homothetic(alloc, out, verdict),
         Item::Quasi(verdict) => push_quasilinear(alloc, out, verdict),
+        Item::Demand { prices, m, part } => push_demand(alloc, out, prices.as_slice(), *m, part),
+        Item::Welfare { prices, of, part } => push_welfare(
+            alloc,
+            out,
+            prices.as_slice(),
+            *of,
+            part,
+        ),
+        Item::Random { .. } => unreachable!(),
     }
 }
