@@ -1,0 +1,16 @@
+pub mod Below
+pub mod Demanding
+pub mod Fractions
+pub mod Limiting
+pub mod Listing
+pub mod Marking
+pub mod OwnCosts
+pub mod Passing
+pub mod Products
+pub mod Reduced
+pub mod Setting
+pub mod Sound
+pub mod SoundBounds
+pub mod SoundItems
+pub mod Sums
+pub mod Welfaring

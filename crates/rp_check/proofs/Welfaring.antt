@@ -1,0 +1,54 @@
+-- The clauses of an item on welfare, put together.
+use Rattle.std.proofs.Common.{◌≡◌, ◌<◌, ◌≤◌, ◌↔◌, [], ◌∷◌, ℕ, Bool, IsTrue, List, Result, Ok, Err, slice_index, sym, subst}
+use Rattle.rp_evidence.specs.Input.{TableInput}
+use Rattle.rp_evidence.specs.Welfare.{EqualsOrReaches, ListsReached, welfare_program}
+use Rattle.rp_evidence.specs.declared.demand.Bound.{Bound}
+use Rattle.rp_evidence.specs.declared.demand.WelfarePart.{WelfarePart}
+use Rattle.rp_evidence.specs.declared.demand.WelfarePart.TheVariants.{Bounds, NoModel}
+use Rattle.rp_evidence.specs.declared.failure.Failure.{Failure}
+use Rattle.rp_evidence.specs.declared.failure.Reason.TheVariants.{Number}
+use Rattle.rp_check.specs.Clauses.{InOrder, Unless}
+use Rattle.rp_check.specs.PricesFailure.{PricesFail}
+use Rattle.rp_check.specs.Reach.{AreMarked, IsMarked, ListsThose}
+use Rattle.rp_check.specs.WalkFailure.{ViolationFails}
+use Rattle.rp_check.specs.WelfareFailure.{CostHolds, LowerHolds, WelfareBoundsFail, WelfareFails, WelfarePartFails}
+use Rattle.rp_check.proofs.Listing.{those_unique}
+use Rattle.rp_check.proofs.Passing.{then_last}
+use Rattle.rp_check.proofs.Setting.{those_same}
+
+module _ (input : TableInput) (t : ℕ) where
+  pub lists_reached : (marks : List Bool) (list : List ℕ) → AreMarked input.n (EqualsOrReaches input t) marks → ListsThose input.n (IsMarked marks) list → ListsReached input t list
+  lists_reached marks list are lists =
+      let l = those_same input.n (IsMarked marks) (EqualsOrReaches input t) are list lists in
+      record { rising = l.rising; just_these = l.just_these }
+
+  one_list : (xs ys : List ℕ) → ListsReached input t xs → ListsReached input t ys → xs ≡ ys
+  one_list xs ys one other =
+      those_unique input.n (EqualsOrReaches input t) xs ys (record { rising = one.rising; just_these = one.just_these }) (record { rising = other.rising; just_these = other.just_these })
+
+  pub lower_told : (prices : ℕ → ℕ) (lower : Bound) (list : List ℕ) (b : Bool) → ListsReached input t list
+      → IsTrue b ↔ CostHolds (welfare_program input prices list) input.goods prices lower → IsTrue b ↔ LowerHolds input prices t lower
+  lower_told prices lower list b lists told = (
+    (λ h. (list, lists, told.0 h)),
+    (λ h. told.1 (subst (λ (xs : List ℕ). CostHolds (welfare_program input prices xs) input.goods prices lower) (one_list h.0 list h.1 lists) h.2)),
+  )
+
+-- ---- the parts of an item
+
+module _ (input : TableInput) (shown : Bool) (prices : List ℕ) (t : ℕ) (part : WelfarePart) (r : Result (Unit {0}) Failure) (fit : PricesFail input.goods prices (Ok tt)) where
+  whole : WelfarePartFails input shown (slice_index prices) t part r → WelfareFails input shown prices t part r
+  whole h = then_last (PricesFail input.goods prices) (WelfarePartFails input shown (slice_index prices) t part) r fit h
+
+  pub from_part : (other : WelfarePart) → part ≡ other → WelfarePartFails input shown (slice_index prices) t other r → WelfareFails input shown prices t part r
+  from_part other is h = whole (subst (λ (p : WelfarePart). WelfarePartFails input shown (slice_index prices) t p r) (sym is) h)
+
+  pub from_bounds : (upper at : ℕ) (lower : Bound) → part ≡ Bounds upper at lower → t < input.n → at < input.n
+      → WelfareBoundsFail input shown (slice_index prices) t upper at lower r → WelfareFails input shown prices t part r
+  from_bounds upper at lower is t_in at_in h =
+      from_part (Bounds upper at lower) is
+      (then_last (Unless ((t < input.n) × (at < input.n)) Number 0) (WelfareBoundsFail input shown (slice_index prices) t upper at lower) r (t_in, at_in) h)
+
+  pub from_violation : (walk walk' : List ℕ) → part ≡ NoModel walk → walk' ≡ walk → InOrder (Unless (t < input.n) Number 0 ∷ ViolationFails input.n input.cost 1 1 walk' ∷ []) r
+      → WelfareFails input shown prices t part r
+  from_violation walk walk' is same h =
+      from_part (NoModel walk) is (subst (λ (w : List ℕ). InOrder (Unless (t < input.n) Number 0 ∷ ViolationFails input.n input.cost 1 1 w ∷ []) r) same h)

@@ -1,0 +1,12 @@
+use Rattle.rp_check.proofs.Limiting.{welfare_within}
+use Rattle.rp_check.proofs.bounds.Least.make.Goals as goal
+
+pub invariant_of-result : goal.invariant_of-result
+invariant_of-result c =
+    let a = c.args.asked.now in
+    record {
+      observed = c.requires.observed;
+      few = c.requires.few;
+      within = welfare_within a.input.table.now a.input.costs.now a.prices.now c.args.reached.now c.goods.ensures.valid c.n.ensures.valid a.input.same a.each_good a.within
+          c.requires.observed c.requires.few;
+    }

@@ -1,0 +1,10 @@
+use Rattle.std.proofs.Common.{ℕ, ◌≡◌, subst}
+use Rattle.rp_evidence.specs.Input.{input_of_table}
+use Rattle.rp_check.specs.Reach.{AreMarked}
+use Rattle.rp_check.proofs.Below.{marks_reached}
+use Rattle.rp_check.proofs.welfare.reached.Goals as goal
+
+pub returns : goal.returns
+returns c =
+    marks_reached (input_of_table c.args.input.now.table.now) c.args.t c.mark_only.new.marks c.spread.new.marks
+    (subst (λ (n : ℕ). AreMarked n (λ s. s ≡ c.args.t) c.mark_only.new.marks) c.n-2.ensures.count c.mark_only.ensures) c.spread.ensures

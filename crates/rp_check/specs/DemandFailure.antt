@@ -1,0 +1,86 @@
+-- When evidence on demand at new prices fails (this program's own order of clauses; Varian 1982).
+use Rattle.std.specs.Prelude.{◌≡◌, ◌+◌, ◌*◌, ◌<◌, ◌≤◌, ℕ, Bool, IsTrue, List, [], ◌∷◌, length, slice_index, slice_index_or}
+use Rattle.rp_check.specs.Clauses.{Finding, Unless, InOrder, FirstBelow, FirstUnless}
+use Rattle.rp_check.specs.PricesFailure.{ExpenditureFails, PricesFail}
+use Rattle.rp_check.specs.WalkFailure.{ViolationFails}
+use Rattle.rp_evidence.specs.Demand.{FractionBundle, IsBelow, IsStrictlyBelow, NewBudget, spending}
+use Rattle.rp_evidence.specs.DemandEvidence.{budget_of, bundle_of}
+use Rattle.rp_evidence.specs.DemandPrograms.{ListsBelow, ListsStrictlyBelow, lower_program, upper_program}
+use Rattle.rp_evidence.specs.Input.{TableInput}
+use Rattle.rp_evidence.specs.declared.demand.Bound.{Bound}
+use Rattle.rp_evidence.specs.declared.demand.Bound.TheVariants.{Shown, Wide}
+use Rattle.rp_evidence.specs.declared.demand.DemandPart.{DemandPart}
+use Rattle.rp_evidence.specs.declared.demand.DemandPart.TheVariants.{Bounds, NoModel}
+use Rattle.rp_evidence.specs.declared.demand.GoodBounds.{GoodBounds}
+use Rattle.rp_evidence.specs.declared.demand.Point.{Point as InnerPoint}
+use Rattle.rp_evidence.specs.declared.failure.Reason.TheVariants.{Shape, Number, NoGarp, Set, Point, Bound as BoundReason}
+use Rattle.rp_farkas.specs.LinearProgram.{LinearProgram}
+use Rattle.rp_farkas.specs.PairCheck.{IsShownPair}
+use Rattle.rp_num.specs.Fraction.{IsLowestTerms}
+
+-- A shown bound is an equal pair of the program, and its value is the price of row g in lowest terms. What is withheld is
+-- passed over.
+abbrev pub BoundHolds : LinearProgram → ℕ → Bound → Type 0
+BoundHolds p g (Shown value pair) = IsShownPair p pair × IsLowestTerms (slice_index pair.x g) pair.den value
+BoundHolds p g (Wide step) = Unit {0}
+
+-- Good g, from 0: its lower bound, then its upper one.
+abbrev pub GoodFails : TableInput → NewBudget → List ℕ → ℕ → GoodBounds → Finding
+GoodFails input budget below g bounds = InOrder (
+    Unless (BoundHolds (lower_program input budget below g) g bounds.lower) BoundReason (2 * g + 1)
+    ∷ Unless (BoundHolds (upper_program input budget below g) g bounds.upper) BoundReason (2 * g + 2)
+    ∷ [])
+
+-- The good of that number in a list of bounds.
+abbrev pub GoodFailsAt : TableInput → NewBudget → List ℕ → List GoodBounds → ℕ → Finding
+GoodFailsAt input budget below goods g found =
+    (other : GoodBounds) → GoodFails input budget below g (slice_index_or goods g other) found
+
+-- One pair of bounds for each good, and the bounds of each good in order.
+abbrev pub GoodsFail : TableInput → NewBudget → List ℕ → List GoodBounds → Finding
+GoodsFail input budget below goods = InOrder (
+    Unless (length goods ≡ input.goods) Shape 2
+    ∷ FirstBelow input.goods (GoodFailsAt input budget below goods)
+    ∷ [])
+
+-- The bundle costs enough at observation t: at least what was spent there where t is below, and more where it is strictly below.
+abbrev pub CostsEnoughAt : TableInput → NewBudget → FractionBundle → ℕ → Type 0
+CostsEnoughAt input budget bundle t =
+    (IsBelow input budget t → bundle.den * input.cost t t ≤ spending input.goods (input.price t) bundle.num)
+    × (IsStrictlyBelow input budget t → bundle.den * input.cost t t < spending input.goods (input.price t) bundle.num)
+
+-- The inner point: a denominator, one numerator for each good, on the budget, and it costs enough at each observation.
+abbrev pub InnerFails : TableInput → NewBudget → InnerPoint → Finding
+InnerFails input budget inner = InOrder (
+    Unless (0 < inner.den) Number 0
+    ∷ Unless (length inner.num ≡ input.goods) Shape 1
+    ∷ Unless (spending input.goods budget.prices (slice_index inner.num) ≡ inner.den * budget.expenditure) Point 0
+    ∷ FirstUnless input.n (CostsEnoughAt input budget (bundle_of inner)) Point
+    ∷ [])
+
+-- The lists of the observations below and strictly below.
+abbrev pub SetsFail : TableInput → NewBudget → List ℕ → List ℕ → Finding
+SetsFail input budget below strict = InOrder (
+    Unless (ListsBelow input budget below) Set 1 ∷ Unless (ListsStrictlyBelow input budget strict) Set 2 ∷ [])
+
+-- Bounds; `shown` says whether an item before this one shows by ranks that the axiom holds.
+abbrev pub DemandBoundsFail : TableInput → Bool → NewBudget → List ℕ → List ℕ → InnerPoint → List GoodBounds → Finding
+DemandBoundsFail input shown budget below strict inner goods = InOrder (
+    Unless (IsTrue shown) NoGarp 0
+    ∷ SetsFail input budget below strict
+    ∷ InnerFails input budget inner
+    ∷ GoodsFail input budget below goods
+    ∷ [])
+
+-- Bounds, or a violation.
+abbrev pub DemandPartFails : TableInput → Bool → NewBudget → DemandPart → Finding
+DemandPartFails input shown budget (Bounds below strict inner goods) = DemandBoundsFail input shown budget below strict inner goods
+DemandPartFails input shown budget (NoModel walk) = ViolationFails input.n input.cost 1 1 walk
+
+-- An item on demand: the new prices, what is spent at them, and then its part.
+abbrev pub DemandFails : TableInput → Bool → List ℕ → ℕ → DemandPart → Finding
+DemandFails input shown prices m part = InOrder (
+    PricesFail input.goods prices
+    ∷ ExpenditureFails m
+    ∷ DemandPartFails input shown (budget_of prices m) part
+    ∷ [])

@@ -1,0 +1,36 @@
+-- When an item of a certificate on a table fails (this program's own order of clauses; sources at each kind of evidence).
+use Rattle.std.specs.Prelude.{◌≡◌, ◌||◌, Bool, true, false, List, [], ◌∷◌}
+use Rattle.rp_check.specs.AfriatFailure.{AfriatFails}
+use Rattle.rp_check.specs.Clauses.{Finding, InOrder}
+use Rattle.rp_check.specs.DemandFailure.{DemandFails}
+use Rattle.rp_check.specs.EfficiencyFailure.{EfficiencyFails}
+use Rattle.rp_check.specs.GarpFailure.{GarpFails}
+use Rattle.rp_check.specs.HomotheticFailure.{HomotheticFails}
+use Rattle.rp_check.specs.QuasilinearFailure.{QuasilinearFails}
+use Rattle.rp_check.specs.WelfareFailure.{WelfareFails}
+use Rattle.rp_evidence.specs.Input.{TableInput}
+use Rattle.rp_evidence.specs.declared.certificate.Item.{Item}
+use Rattle.rp_evidence.specs.declared.certificate.Item.TheVariants.{Garp as GarpItem, Afriat as AfriatItem, Efficiency as EfficiencyItem, Homothetic as HomotheticItem, Quasi as QuasiItem, Demand as DemandItem, Welfare as WelfareItem, Random as RandomItem}
+use Rattle.rp_evidence.specs.declared.garp.Garp.TheVariants.{Ranks, Cycle}
+
+-- The item shows by ranks that the axiom holds.
+abbrev pub shows_garp : Item → Bool
+shows_garp (GarpItem (Ranks ranks)) = true
+shows_garp _ = false
+
+-- One of the items does.
+abbrev pub one_shows_garp : List Item → Bool
+one_shows_garp [] = false
+one_shows_garp (item ∷ rest) = shows_garp item || one_shows_garp rest
+
+-- What is found wrong with an item; `shown` says whether an item before it shows by ranks that the axiom holds.
+-- A certificate on a table has no random item.
+abbrev pub ItemFails : TableInput → Bool → Item → Finding
+ItemFails input shown (GarpItem verdict) = GarpFails input.n input.cost 1 1 verdict
+ItemFails input shown (AfriatItem part) = AfriatFails input.n input.cost part
+ItemFails input shown (EfficiencyItem evidence) = EfficiencyFails input.n input.cost evidence
+ItemFails input shown (HomotheticItem verdict) = HomotheticFails input.n input.cost verdict
+ItemFails input shown (QuasiItem verdict) = QuasilinearFails input.n input.cost verdict
+ItemFails input shown (DemandItem prices m part) = DemandFails input shown prices m part
+ItemFails input shown (WelfareItem prices of part) = WelfareFails input shown prices of part
+ItemFails input shown (RandomItem total part) = InOrder []

@@ -1,0 +1,14 @@
+pub mod Clauses
+pub mod Reach
+pub mod Asked
+pub mod WalkFailure
+pub mod GarpFailure
+pub mod AfriatFailure
+pub mod EfficiencyFailure
+pub mod HomotheticFailure
+pub mod QuasilinearFailure
+pub mod PricesFailure
+pub mod DemandFailure
+pub mod WelfareFailure
+pub mod ItemFailure
+pub mod CheckVerdict

@@ -1,0 +1,58 @@
+-- When evidence on the money metric fails (this program's own order of clauses; after Varian 1982).
+use Rattle.std.specs.Prelude.{◌≡◌, ◌<◌, ◌≤◌, ℕ, Bool, IsTrue, List, [], ◌∷◌, slice_index}
+use Rattle.rp_check.specs.Clauses.{Finding, Unless, InOrder, FirstUnless}
+use Rattle.rp_check.specs.PricesFailure.{PricesFail}
+use Rattle.rp_check.specs.WalkFailure.{ViolationFails}
+use Rattle.rp_evidence.specs.Demand.{spending}
+use Rattle.rp_evidence.specs.Input.{TableInput}
+use Rattle.rp_evidence.specs.Welfare.{EqualsOrReaches, ListsReached, welfare_program}
+use Rattle.rp_evidence.specs.declared.demand.Bound.{Bound}
+use Rattle.rp_evidence.specs.declared.demand.Bound.TheVariants.{Shown, Wide}
+use Rattle.rp_evidence.specs.declared.demand.WelfarePart.{WelfarePart}
+use Rattle.rp_evidence.specs.declared.demand.WelfarePart.TheVariants.{Bounds, NoModel}
+use Rattle.rp_evidence.specs.declared.failure.Reason.TheVariants.{Number, NoGarp, Set, Point, Least, Bound as BoundReason}
+use Rattle.rp_farkas.specs.LinearProgram.{LinearProgram}
+use Rattle.rp_farkas.specs.PairCheck.{IsShownPair}
+use Rattle.rp_num.specs.Fraction.{IsLowestTerms}
+
+-- A shown bound is an equal pair of the program, and its value is what the price side costs, in lowest terms. What is withheld
+-- is passed over.
+abbrev pub CostHolds : LinearProgram → ℕ → (ℕ → ℕ) → Bound → Type 0
+CostHolds p goods prices (Shown value pair) =
+    IsShownPair p pair × IsLowestTerms (spending goods prices (slice_index pair.x)) pair.den value
+CostHolds p goods prices (Wide step) = Unit {0}
+
+-- The lower bound of observation t, by the program over t and all that t reaches.
+abbrev pub LowerHolds : TableInput → (ℕ → ℕ) → ℕ → Bound → Type 0
+LowerHolds input prices t lower =
+    (reached : List ℕ) × ListsReached input t reached
+    × CostHolds (welfare_program input prices reached) input.goods prices lower
+
+-- The upper bound is not above what the bundle of s costs, if s equals or reaches t.
+abbrev pub IsNotAboveAt : TableInput → (ℕ → ℕ) → ℕ → ℕ → ℕ → Type 0
+IsNotAboveAt input prices t upper s =
+    EqualsOrReaches input s t → upper ≤ spending input.goods prices (input.quantity s)
+
+-- Bounds; `shown` says whether an item before this one shows by ranks that the axiom holds.
+abbrev pub WelfareBoundsFail : TableInput → Bool → (ℕ → ℕ) → ℕ → ℕ → ℕ → Bound → Finding
+WelfareBoundsFail input shown prices t upper at lower = InOrder (
+    Unless (IsTrue shown) NoGarp 0
+    ∷ Unless (EqualsOrReaches input at t) Set 1
+    ∷ Unless (upper ≡ spending input.goods prices (input.quantity at)) Point 0
+    ∷ FirstUnless input.n (IsNotAboveAt input prices t upper) Least
+    ∷ Unless (LowerHolds input prices t lower) BoundReason 1
+    ∷ [])
+
+-- Bounds, of which the observation that the upper one stands at is looked at too; or a violation.
+abbrev pub WelfarePartFails : TableInput → Bool → (ℕ → ℕ) → ℕ → WelfarePart → Finding
+WelfarePartFails input shown prices t (Bounds upper at lower) = InOrder (
+    Unless ((t < input.n) × (at < input.n)) Number 0
+    ∷ WelfareBoundsFail input shown prices t upper at lower
+    ∷ [])
+WelfarePartFails input shown prices t (NoModel walk) = InOrder (
+    Unless (t < input.n) Number 0 ∷ ViolationFails input.n input.cost 1 1 walk ∷ [])
+
+-- An item on welfare: the new prices, and then its part.
+abbrev pub WelfareFails : TableInput → Bool → List ℕ → ℕ → WelfarePart → Finding
+WelfareFails input shown prices t part = InOrder (
+    PricesFail input.goods prices ∷ WelfarePartFails input shown (slice_index prices) t part ∷ [])

@@ -1,0 +1,169 @@
+ghost use Rattle.std.specs.Prelude.{◌≡◌, ◌≤◌, ◌<◌, ◌↔◌, ◌^◌, ◌∷◌, [], ℕ, IsTrue, length, slice_index};
+ghost use Rattle.rp_check.specs.Asked.{AreFewOf, input_of};
+ghost use Rattle.rp_check.specs.Clauses.{FirstUnless, InOrder, Unless};
+ghost use Rattle.rp_check.specs.Reach.{AreMarked};
+ghost use Rattle.rp_check.specs.WalkFailure.{ViolationFails};
+ghost use Rattle.rp_check.specs.WelfareFailure.{CostHolds, IsNotAboveAt, LowerHolds};
+ghost use Rattle.rp_check.specs.WelfareFailure.{WelfareBoundsFail, WelfareFails, WelfarePartFails};
+ghost use Rattle.rp_evidence.specs.Input.{input_of_table};
+ghost use Rattle.rp_evidence.specs.Welfare.{EqualsOrReaches, welfare_program};
+ghost use Rattle.rp_evidence.specs.declared.failure.Reason.TheVariants.{Least as LeastReason, Number};
+ghost use Rattle.rp_table.specs.Cost.{cost_of};
+ghost use Rattle.rp_table.specs.Tables.{goods_of, records_of};
+
+use crate::bounds::{Least, is_fraction};
+use crate::input::Input;
+use crate::prices::{NewPrices, prices_fit};
+use crate::reach::{ROOM, Way, list_marked, mark_only, spread};
+use crate::walk::{fails, violation};
+use rp_evidence::{Bound, Failure, Level, Reason, WelfarePart};
+use rp_farkas::check_pair;
+
+/// Checks evidence on the money metric of observation `t`, from 0, at new prices; `shown` says whether an item before it shows
+/// by ranks that the axiom holds.
+pub fn welfare(
+    input: &Input<'_>,
+    shown: bool,
+    prices: &[u32],
+    t: u32,
+    part: &WelfarePart,
+) -> Result<(), Failure>
+    ensures { WelfareFails (input_of_table input.now.table.now) shown prices.now t part.now result }
+{
+    prices_fit(input, prices)?;
+    let asked = NewPrices {
+        input: *input,
+        prices,
+    };
+    match part {
+        WelfarePart::Bounds { upper, at, lower } => {
+            if t >= input.n() || *at >= input.n() {
+                return fails(Reason::Number, 0);
+            }
+            bounds(&asked, shown, t, *upper, *at, lower)
+        }
+        WelfarePart::NoModel(walk) => no_model(input, t, walk.as_slice()),
+    }
+}
+
+/// Checks the observation, and then the violation.
+fn no_model(input: &Input<'_>, t: u32, walk: &[u32]) -> Result<(), Failure>
+    ensures { InOrder (
+        Unless (t < records_of input.now.table.now) Number 0
+        ∷ ViolationFails (records_of input.now.table.now) (cost_of input.now.table.now) 1 1 walk.now
+        ∷ []) result }
+{
+    if t >= input.n() {
+        return fails(Reason::Number, 0);
+    }
+    violation(input, Level { num: 1, den: 1 }, walk)
+}
+
+/// Checks the upper bound and where it stands, and then the lower bound.
+fn bounds(
+    asked: &NewPrices<'_>,
+    shown: bool,
+    t: u32,
+    upper: u64,
+    at: u32,
+    lower: &Bound,
+) -> Result<(), Failure>
+    requires observed { t < records_of asked.now.input.table.now }
+    requires at { at < records_of asked.now.input.table.now }
+    ensures { WelfareBoundsFail (input_of asked.now) shown (slice_index asked.now.prices.now) t upper
+        at lower.now result }
+{
+    if !shown {
+        return fails(Reason::NoGarp, 0);
+    }
+    prove!(asked.input.n() as usize <= ROOM);
+    let reaching = reaching(&asked.input, t);
+    if !reaching[at as usize] {
+        return fails(Reason::Set, 1);
+    }
+    if upper != asked.spending(at) {
+        return fails(Reason::Point, 0);
+    }
+    none_cheaper(asked, t, &reaching, upper)?;
+    if !lower_holds(asked, t, lower) {
+        return fails(Reason::Bound, 1);
+    }
+    Ok(())
+}
+
+/// Checks that no observation that equals or reaches `t` costs less.
+fn none_cheaper(
+    asked: &NewPrices<'_>,
+    t: u32,
+    reaching: &[bool],
+    upper: u64,
+) -> Result<(), Failure>
+    requires room { records_of asked.now.input.table.now ≤ length reaching.now }
+    requires marked { AreMarked (records_of asked.now.input.table.now)
+        (λ s. EqualsOrReaches (input_of asked.now) s t) reaching.now }
+    ensures { FirstUnless (records_of asked.now.input.table.now)
+        (IsNotAboveAt (input_of asked.now) (slice_index asked.now.prices.now) t upper)
+        LeastReason result }
+{
+    for s in 0..asked.input.n() {
+        if reaching[s as usize] && asked.spending(s) < upper {
+            return fails(Reason::Least, s as usize + 1);
+        }
+    }
+    Ok(())
+}
+
+/// Marks `t` and the observations that reach it.
+fn reaching(input: &Input<'_>, t: u32) -> [bool; ROOM]
+    requires { t < records_of input.now.table.now }
+    ensures { AreMarked (records_of input.now.table.now)
+        (λ s. EqualsOrReaches (input_of_table input.now.table.now) s t) result }
+{
+    prove!(input.n() as usize <= ROOM);
+    let mut marks = [false; ROOM];
+    mark_only(input.n(), t, &mut marks);
+    spread(input, Way::Back, &mut marks);
+    marks
+}
+
+/// Marks `t` and the observations that it reaches.
+fn reached(input: &Input<'_>, t: u32) -> [bool; ROOM]
+    requires { t < records_of input.now.table.now }
+    ensures { AreMarked (records_of input.now.table.now)
+        (EqualsOrReaches (input_of_table input.now.table.now) t) result }
+{
+    prove!(input.n() as usize <= ROOM);
+    let mut marks = [false; ROOM];
+    mark_only(input.n(), t, &mut marks);
+    spread(input, Way::Onward, &mut marks);
+    marks
+}
+
+/// Whether a shown lower bound of `t` is that of its pair.
+fn lower_holds(asked: &NewPrices<'_>, t: u32, lower: &Bound) -> bool
+    requires { t < records_of asked.now.input.table.now }
+    ensures { IsTrue result
+        ↔ LowerHolds (input_of asked.now) (slice_index asked.now.prices.now) t lower.now }
+{
+    prove!(asked.input.n() as usize <= ROOM);
+    let marks = reached(&asked.input, t);
+    let mut list = [0; ROOM];
+    let count = list_marked(asked.input.n(), &marks, &mut list);
+    cost_holds(asked, &list[..count], lower)
+}
+
+/// Whether a shown bound is what the price side costs in an equal pair of the program over these observations.
+fn cost_holds(asked: &NewPrices<'_>, list: &[u32], bound: &Bound) -> bool
+    requires { AreFewOf (records_of asked.now.input.table.now) list.now }
+    ensures { IsTrue result ↔ CostHolds (welfare_program (input_of asked.now)
+        (slice_index asked.now.prices.now) list.now) (goods_of asked.now.input.table.now)
+        (slice_index asked.now.prices.now) bound.now }
+{
+    match bound {
+        Bound::Shown { value, pair } => {
+            check_pair(&Least::make(asked, list), pair)
+                && is_fraction(*value, asked.numerator_cost(pair.x.as_slice()), pair.den)
+        }
+        Bound::Wide { .. } => true,
+    }
+}
