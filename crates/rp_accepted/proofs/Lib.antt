@@ -1,0 +1,5 @@
+pub mod Accepted
+pub mod AcceptedBounds
+pub mod AcceptedItems
+pub mod Closed
+pub mod Narrow
