@@ -1,5 +1,5 @@
 -- The observations below a new budget and strictly below it, and those that equal or reach one, by what marks are led to.
-use Rattle.std.proofs.Common.{◌≡◌, ◌<◌, ◌⊎◌, ◌↔◌, inl, inr, ℕ, Bool, List, [], ◌∷◌, ◌++◌, refl, sym, subst, arith}
+use Rattle.std.proofs.Common.{◌≡◌, ◌<◌, ◌⊎◌, inl, inr, ℕ, Bool, List, [], ◌∷◌, ◌++◌, refl, sym, subst, arith}
 use Rattle.rp_evidence.specs.Demand.{Buys, BuysWithRest, IsBelow, IsStrictlyBelow, NewBudget}
 use Rattle.rp_evidence.specs.Input.{TableInput}
 use Rattle.rp_evidence.specs.Preference.{IsStrict, IsWeak}
@@ -7,7 +7,7 @@ use Rattle.rp_evidence.specs.Walk.{HasStep, HasStepFrom, IsWalk, LeadsTo}
 use Rattle.rp_evidence.specs.Welfare.{EqualsOrReaches}
 use Rattle.rp_evidence.proofs.Levels.{strict_to_weak}
 use Rattle.rp_evidence.proofs.Walks.{ends_below, has_step_right, leads_by_step, leads_more, leads_on, starts_below}
-use Rattle.rp_check.specs.Reach.{AreMarked, IsLedTo, IsMarked, IsStrictStart}
+use Rattle.rp_check.specs.Reach.{AreMarked, IsLedTo, IsStrictStart}
 
 module _ (input : TableInput) (budget : NewBudget) where
   -- a walk of weak steps, or of none

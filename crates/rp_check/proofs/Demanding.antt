@@ -1,5 +1,5 @@
 -- The clauses of an item on demand, put together.
-use Rattle.std.proofs.Common.{◌≡◌, ◌<◌, ◌≤◌, ◌+◌, ◌*◌, [], ◌∷◌, ℕ, Bool, List, Result, Ok, Err, length, refl, sym, subst, inl, inr, slice_index}
+use Rattle.std.proofs.Common.{◌≡◌, ◌<◌, ◌+◌, ◌*◌, ℕ, Bool, List, Result, Ok, Err, length, refl, sym, subst, inl, inr, slice_index}
 use Rattle.rp_evidence.specs.Demand.{NewBudget, spending}
 use Rattle.rp_evidence.specs.DemandEvidence.{budget_of, bundle_of}
 use Rattle.rp_evidence.specs.Input.{TableInput}

@@ -1,5 +1,5 @@
 -- Lists of those of the first observations of which something holds.
-use Rattle.std.proofs.Common.{eqb, Bool, IsTrue, false, slice_index, slice_index_or, ◌≡◌, ◌<◌, ◌≤◌, ◌+◌, ◌-◌, ◌++◌, ◌∷◌, [], ◌⊎◌, ◌↔◌, ℕ, zero, suc, List, length, get_or, inl, inr, refl, sym, subst, ◌∙◌, arith, set, take}
+use Rattle.std.proofs.Common.{eqb, Bool, IsTrue, slice_index, ◌≡◌, ◌<◌, ◌≤◌, ◌+◌, ◌-◌, ◌++◌, ◌∷◌, [], ◌⊎◌, ◌↔◌, ℕ, zero, suc, List, length, get_or, inl, inr, sym, subst, ◌∙◌, arith, set, take}
 use Rattle.std.proofs.lemmas.Bool.{cases_eq, cases_lt, eq-eqb, eqb-true}
 use Rattle.std.proofs.lemmas.List.{ext_get_or, get_or_append_left, get_or_default, get_or_push, length_push, take_more_set}
 use Rattle.std.specs.List.Sorted.{IsStrictlyIncreasing}
@@ -161,8 +161,8 @@ module _ (marks : List Bool) (list : List ℕ) where
         elim other [
           | inl ended ↦ absurd (omega (arith, c.1, late))
           | inr differs ↦ elim (cases_eq c.0 at) [
-              | inl e ↦ differs (subst (λ z. slice_index list z ≡ t) e here)
-              | inr d ↦ absurd (too_early n lists at (omega (arith, c.1, late)) (omega arith) (subst (λ z. slice_index list at < z) here (rises list lists.rising at c.0 (omega arith) c.1)))
+            | inl e ↦ differs (subst (λ z. slice_index list z ≡ t) e here)
+            | inr d ↦ absurd (too_early n lists at (omega (arith, c.1, late)) (omega arith) (subst (λ z. slice_index list at < z) here (rises list lists.rising at c.0 (omega arith) c.1)))
           ]
         ]
       where
@@ -200,9 +200,9 @@ module _ (marks : List Bool) (list : List ℕ) where
     listed_exactly b e = elim (cases_eq at (length list)) [
       | inl q ↦ ((λ h. up_to_end q), (λ h. e ∙ eq-eqb at (length list) q))
       | inr d ↦ (
-          (λ h. absurd (d (eqb-true at (length list) (sym e ∙ h)))),
-          (λ h. absurd (not_more (let w = so_far.within in omega (arith, w, d)) h)),
-        )
+        (λ h. absurd (d (eqb-true at (length list) (sym e ∙ h)))),
+        (λ h. absurd (not_more (let w = so_far.within in omega (arith, w, d)) h)),
+      )
     ]
 
 -- ---- there is one such list
@@ -220,8 +220,8 @@ module _ (n : ℕ) (P : ℕ → Type 0) where
             let r = rises xs one.rising c.0 k early l in
             absurd (omega (arith, here, e, r))
         | inr late ↦ elim (cases_eq c.0 k) [
-            | inl e ↦ (omega (arith, c.1, e), (let q = subst (λ z. slice_index ys z ≡ slice_index xs k) e here in omega (arith, q)))
-            | inr d ↦ (omega (arith, c.1, late), (let r = rises ys other.rising k c.0 (omega (arith, late, d)) c.1 in omega (arith, r, here)))
+          | inl e ↦ (omega (arith, c.1, e), (let q = subst (λ z. slice_index ys z ≡ slice_index xs k) e here in omega (arith, q)))
+          | inr d ↦ (omega (arith, c.1, late), (let r = rises ys other.rising k c.0 (omega (arith, late, d)) c.1 in omega (arith, r, here)))
         ]
       ]
 

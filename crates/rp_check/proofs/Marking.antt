@@ -31,9 +31,9 @@ module _ (step : ℕ → Type 0) (old : List Bool) where
       same_length = so_far.same_length;
       before = λ t l. elim (cases_eq t v) [
         | inl e ↦ subst (λ z. IsMarked new z ↔ (IsMarked old z ⊎ step z)) (sym e) (
-            (λ h. inl (sym (so_far.after v (omega arith)) ∙ h)),
-            (λ h. elim h [ inl k ↦ so_far.after v (omega arith) ∙ k | inr k ↦ absurd (none k) ]),
-          )
+          (λ h. inl (sym (so_far.after v (omega arith)) ∙ h)),
+          (λ h. elim h [ inl k ↦ so_far.after v (omega arith) ∙ k | inr k ↦ absurd (none k) ]),
+        )
         | inr d ↦ so_far.before t (omega arith)
       ];
       after = λ t l. so_far.after t (omega arith);

@@ -1,5 +1,5 @@
 -- What was spent at an observation is not 0.
-use Rattle.std.proofs.Common.{◌≡◌, ◌+◌, ◌*◌, ◌<◌, ◌≤◌, ℕ, arith}
+use Rattle.std.proofs.Common.{◌+◌, ◌*◌, ◌<◌, ◌≤◌, ℕ, arith}
 use Rattle.std.proofs.lemmas.Nat.{mul-add-lt}
 use Rattle.rp_table.specs.Cost.{CostTable, IsCostTable, IsCostsOf, cost_of}
 use Rattle.rp_table.specs.Tables.{Observations, records_of}

@@ -1,5 +1,5 @@
 -- A start multiplied along a walk, step by step.
-use Rattle.std.proofs.Common.{◌≡◌, ◌≢◌, ℕ, zero, suc, ◌+◌, ◌*◌, ◌-◌, ◌<◌, ◌≤◌, List, [], ◌∷◌, length, take, slice_index, Result, Ok, Err, ap, arith, add-one, below_more, inl, inr, refl, sym, subst}
+use Rattle.std.proofs.Common.{◌≡◌, ℕ, zero, suc, ◌+◌, ◌*◌, ◌-◌, ◌<◌, ◌≤◌, List, [], ◌∷◌, length, take, slice_index, Result, Ok, Err, ap, arith, add-one, below_more, inl, inr, refl, sym, subst}
 use Rattle.std.proofs.Math.Nat.{one-le-mul}
 use Rattle.std.proofs.lemmas.List.{take_all}
 use Rattle.rp_num.specs.Fraction.{Fraction, IsLowestTerms, PassesWidth}

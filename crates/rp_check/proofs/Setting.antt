@@ -1,5 +1,5 @@
 -- The lists of the observations below and strictly below, by the marks.
-use Rattle.std.proofs.Common.{◌≡◌, ◌<◌, ◌≤◌, ◌∙◌, ◌↔◌, [], ◌∷◌, ℕ, List, Result, Ok, Err, length, refl, sym, inl, inr, arith}
+use Rattle.std.proofs.Common.{◌≡◌, ◌<◌, ◌≤◌, ◌↔◌, ℕ, List, Result, Err, refl, inl, inr, arith}
 use Rattle.std.proofs.lemmas.List.{get_or_default}
 use Rattle.rp_evidence.specs.Demand.{IsBelow, IsStrictlyBelow, NewBudget}
 use Rattle.rp_evidence.specs.DemandPrograms.{ListsBelow, ListsStrictlyBelow}
@@ -9,7 +9,7 @@ use Rattle.rp_evidence.specs.declared.failure.Reason.TheVariants.{Set}
 use Rattle.rp_check.specs.Asked.{AreFewOf, AreSets}
 use Rattle.rp_check.specs.Clauses.{failure}
 use Rattle.rp_check.specs.DemandFailure.{SetsFail}
-use Rattle.rp_check.specs.Reach.{AreMarked, IsMarked, ListsThose}
+use Rattle.rp_check.specs.Reach.{IsMarked, ListsThose}
 use Rattle.rp_check.specs.declared.sets.Sets.{Sets}
 use Rattle.rp_check.proofs.Listing.{rising_few}
 

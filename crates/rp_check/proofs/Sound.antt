@@ -1,11 +1,10 @@
 -- What is found nothing wrong with proves its verdict.
-use Rattle.std.proofs.Common.{◌≡◌, ◌≢◌, ◌+◌, ◌*◌, ◌-◌, ◌<◌, ◌≤◌, ℕ, [], ◌∷◌, List, length, slice_index, Bool, Ok, arith, inl, inr, refl}
+use Rattle.std.proofs.Common.{◌≡◌, ◌*◌, ◌-◌, ◌<◌, ◌≤◌, ℕ, [], ◌∷◌, List, length, Ok, arith, inl, inr, refl}
 use Rattle.std.proofs.Math.Nat.{lt_of_mul-lt-mul_right, mul-le-mul_left}
-use Rattle.rp_evidence.specs.Afriat.{IsAfriatModel}
 use Rattle.rp_evidence.specs.AfriatEvidence.{ProvesAfriat}
 use Rattle.rp_evidence.specs.Efficiency.{BoundsFromAbove, FailsGarp, IsEfficiencyIndex, ProvesEfficiency}
-use Rattle.rp_evidence.specs.Garp.{IsViolationAt, MeetsGarp, ProvesOfPreference, ViolatesByPlaces}
-use Rattle.rp_evidence.specs.Homothetic.{BoundProducts, EndsBelow, IsFallingCycle, ProvesHomothetic, next_costs, own_costs}
+use Rattle.rp_evidence.specs.Garp.{ProvesOfPreference, ViolatesByPlaces}
+use Rattle.rp_evidence.specs.Homothetic.{BoundProducts, EndsBelow, ProvesHomothetic, next_costs, own_costs}
 use Rattle.rp_evidence.specs.Preference.{IsLevel, IsStrict, IsWeak}
 use Rattle.rp_evidence.specs.Quasilinear.{BoundSteps, ProvesQuasilinear}
 use Rattle.rp_evidence.specs.Ranks.{OrderStrictSteps, RespectLevel}
@@ -29,7 +28,7 @@ use Rattle.rp_check.specs.EfficiencyFailure.{AboveFails, EfficiencyFails}
 use Rattle.rp_check.specs.GarpFailure.{GarpFails, OrderingFails}
 use Rattle.rp_check.specs.HomotheticFailure.{HomotheticFails}
 use Rattle.rp_check.specs.QuasilinearFailure.{QuasilinearFails}
-use Rattle.rp_check.specs.WalkFailure.{AtStep, ClosedWalkFails, WeakStepsFail}
+use Rattle.rp_check.specs.WalkFailure.{AtStep, ClosedWalkFails}
 
 module _ (n : ℕ) (step : ℕ → ℕ → Type 0) (walk : List ℕ) (closed : ClosedWalkFails n walk (Ok tt)) (steps : (k : ℕ) → k < length walk - 1 → AtStep step walk k) where
   -- a closed walk with a step of another kind at a place
@@ -60,12 +59,12 @@ module _ (n : ℕ) (c : ℕ → ℕ → ℕ) where
 
   pub afriat_proves : (part : AfriatPart) → AfriatFails n c part (Ok tt) → ProvesAfriat n c part
   afriat_proves (Model numbers) (one_each, (fit, (allow, done))) = (
-      one_each,
-      record {
-        at_least_one = λ s s_in. (fit s s_in).0;
-        none_above = λ s t s_in t_in. allow s s_in t t_in;
-      },
-    )
+    one_each,
+    record {
+      at_least_one = λ s s_in. (fit s s_in).0;
+      none_above = λ s t s_in t_in. allow s s_in t t_in;
+    },
+  )
   afriat_proves (NoModel walk) found = garp_proves 1 1 (Cycle walk) found
   afriat_proves (Wide at) found = tt
 

@@ -25,7 +25,7 @@ use Rattle.rp_evidence.proofs.Walks.{starts_below}
 use Rattle.rp_evidence.proofs.WelfareLaws.{pair_is_least}
 use Rattle.rp_farkas.specs.Listing.{numerator_at}
 use Rattle.rp_check.specs.DemandFailure.{BoundHolds, DemandBoundsFail, DemandFails, GoodFails}
-use Rattle.rp_check.specs.WelfareFailure.{LowerHolds, WelfareBoundsFail, WelfareFails}
+use Rattle.rp_check.specs.WelfareFailure.{LowerHolds, WelfareFails}
 use Rattle.rp_check.proofs.Sound.{garp_proves}
 
 -- ---- a number and its lowest terms
@@ -142,17 +142,17 @@ module _ (input : TableInput) (shown : Bool) (sound : IsTrue shown → MeetsGarp
 
   pub welfare_proves : (prices : List ℕ) (t : ℕ) (part : WelfarePart) → WelfareFails input shown prices t part (Ok tt) → ProvesWelfare input prices t part
   welfare_proves prices t (WelfareBounds upper at lower) ((one_each, (fit, priced)), (((t_in, at_in), ((is_shown, (leads, (costs, (least, (low, all))))), bounded)), done)) = (
-      one_each,
-      record {
-        sound = sound is_shown;
-        observed = t_in;
-        upper_is = record {
-          observed = at_in;
-          leads = leads;
-          costs = sym costs;
-          least = λ r reaches. least r (starts_in r t reaches) reaches;
-        };
-        lower_is = lower_proves (slice_index prices) t lower low;
-      },
-    )
+    one_each,
+    record {
+      sound = sound is_shown;
+      observed = t_in;
+      upper_is = record {
+        observed = at_in;
+        leads = leads;
+        costs = sym costs;
+        least = λ r reaches. least r (starts_in r t reaches) reaches;
+      };
+      lower_is = lower_proves (slice_index prices) t lower low;
+    },
+  )
   welfare_proves prices t (NoWelfare walk) (priced, ((t_in, (violation, one)), done)) = garp_proves input.n input.cost 1 1 (Cycle walk) violation

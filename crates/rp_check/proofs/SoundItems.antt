@@ -66,8 +66,7 @@ module _ (input : TableInput) (positive : (s : ℕ) → s < input.n → 0 < inpu
     all_prove (suc m) within found =
         let before = all_prove m (omega arith) (λ k below. found k (omega arith)) in
         let here : (d : Item) → Proves input (slice_index_or items m d) =
-        λ d. item_proves (one_shows_garp (take m items)) before.1 (slice_index_or items m d) (kinds m d (omega arith)) (found m (omega arith) d) in
-        (
+        λ d. item_proves (one_shows_garp (take m items)) before.1 (slice_index_or items m d) (kinds m d (omega arith)) (found m (omega arith) d) in (
           (λ k d below. below_more (λ i. (other : Item) → Proves input (slice_index_or items i other)) m (λ i l other. before.0 i other l) here k (omega arith) d),
           (λ is. meets before.1 (here any_item) (or_cases (one_shows_garp (take m items)) (shows_garp (slice_index_or items m any_item)) (sym (one_more m (omega arith)) ∙ is))),
         )

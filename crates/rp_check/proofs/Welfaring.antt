@@ -1,5 +1,5 @@
 -- The clauses of an item on welfare, put together.
-use Rattle.std.proofs.Common.{◌≡◌, ◌<◌, ◌≤◌, ◌↔◌, [], ◌∷◌, ℕ, Bool, IsTrue, List, Result, Ok, Err, slice_index, sym, subst}
+use Rattle.std.proofs.Common.{◌≡◌, ◌<◌, ◌↔◌, [], ◌∷◌, ℕ, Bool, IsTrue, List, Result, Ok, slice_index, sym, subst}
 use Rattle.rp_evidence.specs.Input.{TableInput}
 use Rattle.rp_evidence.specs.Welfare.{EqualsOrReaches, ListsReached, welfare_program}
 use Rattle.rp_evidence.specs.declared.demand.Bound.{Bound}

@@ -1,5 +1,5 @@
 -- When evidence for the homothetic test fails (this program's own order of clauses; Varian 1983).
-use Rattle.std.specs.Prelude.{◌≡◌, ◌≢◌, ◌+◌, ◌*◌, ◌-◌, ◌<◌, ◌≤◌, ℕ, List, [], ◌∷◌, length, take}
+use Rattle.std.specs.Prelude.{◌≡◌, ◌≢◌, ◌+◌, ◌*◌, ◌-◌, ◌≤◌, ℕ, List, [], ◌∷◌, length, take}
 use Rattle.rp_check.specs.Clauses.{Finding, Unless, InOrder, FirstBelow, FirstUnless}
 use Rattle.rp_check.specs.WalkFailure.{ClosedWalkFails}
 use Rattle.rp_num.specs.Fraction.{Fraction, PassesWidth}
@@ -13,7 +13,7 @@ abbrev pub StepFails : (ℕ → ℕ → ℕ) → List Fraction → ℕ → ℕ �
 StepFails c values t s = InOrder (
     Unless (¬ PassesWidth ((value_at values t).num * c t s) ((value_at values t).den * c t t)) Wide (t + 1)
     ∷ Unless ((value_at values s).num * ((value_at values t).den * c t t)
-        ≤ ((value_at values t).num * c t s) * (value_at values s).den) Order (t + 1)
+    ≤ ((value_at values t).num * c t s) * (value_at values s).den) Order (t + 1)
     ∷ [])
 
 -- The steps from t, in order.

@@ -1,5 +1,5 @@
 -- When an item of a certificate on a table fails (this program's own order of clauses; sources at each kind of evidence).
-use Rattle.std.specs.Prelude.{◌≡◌, ◌||◌, Bool, true, false, List, [], ◌∷◌}
+use Rattle.std.specs.Prelude.{◌||◌, Bool, true, false, List, [], ◌∷◌}
 use Rattle.rp_check.specs.AfriatFailure.{AfriatFails}
 use Rattle.rp_check.specs.Clauses.{Finding, InOrder}
 use Rattle.rp_check.specs.DemandFailure.{DemandFails}
@@ -11,7 +11,7 @@ use Rattle.rp_check.specs.WelfareFailure.{WelfareFails}
 use Rattle.rp_evidence.specs.Input.{TableInput}
 use Rattle.rp_evidence.specs.declared.certificate.Item.{Item}
 use Rattle.rp_evidence.specs.declared.certificate.Item.TheVariants.{Garp as GarpItem, Afriat as AfriatItem, Efficiency as EfficiencyItem, Homothetic as HomotheticItem, Quasi as QuasiItem, Demand as DemandItem, Welfare as WelfareItem, Random as RandomItem}
-use Rattle.rp_evidence.specs.declared.garp.Garp.TheVariants.{Ranks, Cycle}
+use Rattle.rp_evidence.specs.declared.garp.Garp.TheVariants.{Ranks}
 
 -- The item shows by ranks that the axiom holds.
 abbrev pub shows_garp : Item → Bool

@@ -1,6 +1,6 @@
 -- Words that only the crate's own functions and their proofs need, and no definition rests on: marks on observations, and what
 -- steps lead to.
-use Rattle.std.specs.Prelude.{◌≡◌, ◌<◌, ◌≤◌, ◌↔◌, ◌⊎◌, ℕ, Bool, false, IsTrue, List, Contains, length, slice_index_or}
+use Rattle.std.specs.Prelude.{◌<◌, ◌↔◌, ◌⊎◌, ℕ, Bool, false, IsTrue, List, Contains, slice_index_or}
 use Rattle.std.specs.List.Sorted.{IsStrictlyIncreasing}
 use Rattle.rp_check.specs.declared.reach.Way.{Way}
 use Rattle.rp_check.specs.declared.reach.Way.TheVariants.{Onward, Back}

@@ -18,6 +18,7 @@ const ONE: Level = Level { num: 1, den: 1 };
 
 /// The greatest utility of a model in absolute value, and its greatest multiplier.
 const UTILITY_WIDTH: i128 = 1 << 120;
+
 const MULTIPLIER_WIDTH: u64 = 1 << 60;
 
 /// A utility and a product of a multiplier, all within their widths: they stay within 128 bits.

@@ -78,12 +78,7 @@ fn bounds(
 }
 
 /// Checks the inner point: a denominator, one numerator for each good, on the budget, and dear enough at each observation.
-fn inner_holds(
-    asked: &NewPrices<'_>,
-    m: u64,
-    sets: &Sets,
-    inner: &Point,
-) -> Result<(), Failure>
+fn inner_holds(asked: &NewPrices<'_>, m: u64, sets: &Sets, inner: &Point) -> Result<(), Failure>
     requires spends { m ≤ LARGEST_EXPENDITURE }
     requires sets { AreSets (input_of asked.now) (budget_at asked.now m) sets.now }
     ensures { InnerFails (input_of asked.now) (budget_at asked.now m) inner.now result }
@@ -111,7 +106,8 @@ fn costs_enough(asked: &NewPrices<'_>, m: u64, sets: &Sets, inner: &Point, t: u3
     requires sets { AreSets (input_of asked.now) (budget_at asked.now m) sets.now }
     requires goods { length inner.now.num ≡ goods_of asked.now.input.table.now }
     requires observed { t < records_of asked.now.input.table.now }
-    ensures { IsTrue result ↔ CostsEnoughAt (input_of asked.now) (budget_at asked.now m) (bundle_of inner.now) t }
+    ensures { IsTrue result ↔ CostsEnoughAt (input_of asked.now) (budget_at asked.now m)
+        (bundle_of inner.now) t }
 {
     prove!(asked.input.n() as usize <= ROOM);
     let cost = asked.numerator_cost_at(t, inner.num.as_slice());
@@ -170,7 +166,8 @@ fn lower_holds(asked: &NewPrices<'_>, m: u64, below: &[u32], g: u32, bound: &Bou
     requires spends { m ≤ LARGEST_EXPENDITURE }
     requires below { AreFewOf (records_of asked.now.input.table.now) below.now }
     requires good { g < goods_of asked.now.input.table.now }
-    ensures { IsTrue result ↔ BoundHolds (lower_program (input_of asked.now) (budget_at asked.now m) below.now g) g bound.now }
+    ensures { IsTrue result ↔ BoundHolds
+        (lower_program (input_of asked.now) (budget_at asked.now m) below.now g) g bound.now }
 {
     price_is(&Lower::make(asked, m, below, g), g, bound)
 }
@@ -180,7 +177,8 @@ fn upper_holds(asked: &NewPrices<'_>, m: u64, below: &[u32], g: u32, bound: &Bou
     requires spends { m ≤ LARGEST_EXPENDITURE }
     requires below { AreFewOf (records_of asked.now.input.table.now) below.now }
     requires good { g < goods_of asked.now.input.table.now }
-    ensures { IsTrue result ↔ BoundHolds (upper_program (input_of asked.now) (budget_at asked.now m) below.now g) g bound.now }
+    ensures { IsTrue result ↔ BoundHolds
+        (upper_program (input_of asked.now) (budget_at asked.now m) below.now g) g bound.now }
 {
     price_is(&Upper::make(asked, m, below, g), g, bound)
 }

@@ -1,4 +1,4 @@
-ghost use Rattle.std.specs.Prelude.{◌≡◌, ◌≤◌, ◌<◌, ◌↔◌, ◌^◌, ◌∷◌, [], ℕ, IsTrue, length, slice_index};
+ghost use Rattle.std.specs.Prelude.{◌≡◌, ◌≤◌, ◌<◌, ◌↔◌, ◌∷◌, [], IsTrue, length, slice_index};
 ghost use Rattle.rp_check.specs.Asked.{AreFewOf, input_of};
 ghost use Rattle.rp_check.specs.Clauses.{FirstUnless, InOrder, Unless};
 ghost use Rattle.rp_check.specs.Reach.{AreMarked};
@@ -7,7 +7,8 @@ ghost use Rattle.rp_check.specs.WelfareFailure.{CostHolds, IsNotAboveAt, LowerHo
 ghost use Rattle.rp_check.specs.WelfareFailure.{WelfareBoundsFail, WelfareFails, WelfarePartFails};
 ghost use Rattle.rp_evidence.specs.Input.{input_of_table};
 ghost use Rattle.rp_evidence.specs.Welfare.{EqualsOrReaches, welfare_program};
-ghost use Rattle.rp_evidence.specs.declared.failure.Reason.TheVariants.{Least as LeastReason, Number};
+ghost use Rattle.rp_evidence.specs.declared.failure.Reason.TheVariants.{Least as LeastReason};
+ghost use Rattle.rp_evidence.specs.declared.failure.Reason.TheVariants.{Number};
 ghost use Rattle.rp_table.specs.Cost.{cost_of};
 ghost use Rattle.rp_table.specs.Tables.{goods_of, records_of};
 
@@ -70,21 +71,21 @@ fn bounds(
 ) -> Result<(), Failure>
     requires observed { t < records_of asked.now.input.table.now }
     requires at { at < records_of asked.now.input.table.now }
-    ensures { WelfareBoundsFail (input_of asked.now) shown (slice_index asked.now.prices.now) t upper
-        at lower.now result }
+    ensures { WelfareBoundsFail (input_of asked.now) shown (slice_index asked.now.prices.now) t
+        upper at lower.now result }
 {
     if !shown {
         return fails(Reason::NoGarp, 0);
     }
     prove!(asked.input.n() as usize <= ROOM);
-    let reaching = reaching(&asked.input, t);
-    if !reaching[at as usize] {
+    let marks = reaching(&asked.input, t);
+    if !marks[at as usize] {
         return fails(Reason::Set, 1);
     }
     if upper != asked.spending(at) {
         return fails(Reason::Point, 0);
     }
-    none_cheaper(asked, t, &reaching, upper)?;
+    none_cheaper(asked, t, &marks, upper)?;
     if !lower_holds(asked, t, lower) {
         return fails(Reason::Bound, 1);
     }
@@ -92,12 +93,7 @@ fn bounds(
 }
 
 /// Checks that no observation that equals or reaches `t` costs less.
-fn none_cheaper(
-    asked: &NewPrices<'_>,
-    t: u32,
-    reaching: &[bool],
-    upper: u64,
-) -> Result<(), Failure>
+fn none_cheaper(asked: &NewPrices<'_>, t: u32, reaching: &[bool], upper: u64) -> Result<(), Failure>
     requires room { records_of asked.now.input.table.now ≤ length reaching.now }
     requires marked { AreMarked (records_of asked.now.input.table.now)
         (λ s. EqualsOrReaches (input_of asked.now) s t) reaching.now }

@@ -25,7 +25,11 @@ at_text (Cycle cycle) = line_of (codes "at cycle " ++ observations_text cycle)
 abbrev pub above_text : Level → List ℕ → List ℕ
 above_text level walk = if level.num == level.den then [] else line_of (codes "above " ++ observations_text walk)
 
--- the efficiency index
+-- the line of the efficiency index and of whether it is attained
+abbrev pub index_text : Efficiency → List ℕ
+index_text evidence = line_of (codes "efficiency " ++ level_text evidence.level ++ codes " attained " ++ attained_text evidence.at)
+
+-- the efficiency index, with its evidence
 abbrev pub efficiency_text : Efficiency → List ℕ
-efficiency_text evidence = line_of (codes "efficiency " ++ level_text evidence.level ++ codes " attained " ++ attained_text evidence.at)
+efficiency_text evidence = index_text evidence
     ++ line_of (codes "below " ++ numbers_text evidence.below) ++ above_text evidence.level evidence.above ++ at_text evidence.at

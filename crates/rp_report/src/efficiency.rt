@@ -1,7 +1,6 @@
-ghost use Rattle.std.specs.Prelude.{◌≡◌, ◌++◌, OnOk, codes};
+ghost use Rattle.std.specs.Prelude.{◌≡◌, ◌++◌, OnOk};
 ghost use Rattle.rp_report.specs.EfficiencyText.{above_text, at_text, attained_text};
-ghost use Rattle.rp_report.specs.EfficiencyText.{efficiency_text, level_text};
-ghost use Rattle.rp_report.specs.ListText.{line_of};
+ghost use Rattle.rp_report.specs.EfficiencyText.{efficiency_text, index_text, level_text};
 
 use crate::lists::{push_line, push_numbers, push_observations};
 use rp_evidence::{Efficiency, Garp, Level};
@@ -16,21 +15,20 @@ pub(crate) fn push_efficiency(
 ) -> Result<(), NoMemory>
     ensures { OnOk result (out.new.items ≡ out.old.items ++ efficiency_text evidence.now) }
 {
-    push_index(alloc, out, evidence.level, &evidence.at)?;
+    push_index(alloc, out, evidence)?;
     push_numbers(alloc, out, b"below ", evidence.below.as_slice())?;
     push_above(alloc, out, evidence.level, evidence.above.as_slice())?;
     push_at(alloc, out, &evidence.at)
 }
 
-/// Appends the line of the index and whether it is attained.
-fn push_index(alloc: Global, out: &mut Vec<u8>, level: Level, at: &Garp) -> Result<(), NoMemory>
-    ensures { OnOk result (out.new.items ≡ out.old.items
-        ++ line_of (codes "efficiency " ++ level_text level ++ codes " attained " ++ attained_text at.now)) }
+/// Appends the line of the index and of whether it is attained.
+pub fn push_index(alloc: Global, out: &mut Vec<u8>, evidence: &Efficiency) -> Result<(), NoMemory>
+    ensures { OnOk result (out.new.items ≡ out.old.items ++ index_text evidence.now) }
 {
     out.extend_from_slice(b"efficiency ")?;
-    push_level(alloc, out, level)?;
+    push_level(alloc, out, evidence.level)?;
     out.extend_from_slice(b" attained ")?;
-    push_line(out, attained(at))
+    push_line(out, attained(&evidence.at))
 }
 
 /// Whether the index is attained.

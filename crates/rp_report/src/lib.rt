@@ -12,4 +12,5 @@ mod quasilinear;
 mod tables;
 mod welfare;
 
+pub use efficiency::push_index;
 pub use tables::report;

@@ -82,10 +82,9 @@ fn pairs_over_worked_tables(rt: HostRuntime) -> Result<(), Fail> {
 }
 
 #[test]
-fn words_files_and_sinks_that_fail(rt: HostRuntime) -> Result<(), Fail> {
+fn files_and_sinks_that_fail(rt: HostRuntime) -> Result<(), Fail> {
     let alloc = rt.alloc();
     let file = "p_a,q_a,p_b,q_b\n1,1,2,2\n2,2,1,1\n";
-    let usage = "usage: rp pairs TABLE\n       rp analyse TABLE\n       rp utility TABLE BUNDLES\n";
     let none: &[u64] = &[];
     let first: &[u64] = &[1];
     for (words, fails, status, err) in [
@@ -101,24 +100,11 @@ fn words_files_and_sinks_that_fail(rt: HostRuntime) -> Result<(), Fail> {
             Status::WriteFault,
             "rp: write failed\n",
         ),
-        (["rp", "pair", "t.csv"], none, Status::Usage, usage),
-        (["rp", "pairs", "-t.csv"], none, Status::Usage, usage),
-        (["rp", "pairs", ""], none, Status::Usage, usage),
     ] {
         let got = answer(alloc, &words, file, fails)?;
         assert_eq!(rt; got.status, status, "status of {words:?}");
         assert_eq!(rt; got.out.as_str(), "", "output of {words:?}");
         assert_eq!(rt; got.err.as_str(), err, "errors of {words:?}");
-    }
-    for few in [
-        &["rp"] as &[&str],
-        &["rp", "pairs"],
-        &["rp", "pairs", "t.csv", "t.csv"],
-        &[],
-    ] {
-        let got = answer(alloc, few, file, &[])?;
-        assert_eq!(rt; got.status, Status::Usage, "status of {few:?}");
-        assert_eq!(rt; got.err.as_str(), usage, "errors of {few:?}");
     }
     Ok(())
 }

@@ -104,3 +104,7 @@ module _ {A B : Type 0} (files : Files) (rose : List ℕ → Type 0) (line : Lin
   second_cause a (Refused text) (first, one, read) (second, two, refused) =
       (two_bytes first second, two_contents files line f s first second named one two, denoted (two_bytes first second) ∙ rw (read, refused) refl)
   second_cause a NoMemory held none = tt
+
+-- a line without files has its input
+pub no_files : (files : Files) (line : Line) (input : Input) → files_of line ≡ [] → ((bytes : ℕ → List ℕ) → input_of line bytes ≡ Ok input) → HasInput files line input
+no_files files line input none denoted = ((λ _. []), (λ k within. let empty : k < length {A = List ℕ} [] = rw none at within in let no : ⊥ = omega (arith, empty) in absurd no), denoted (λ _. []))

@@ -1,5 +1,9 @@
+mod AskedLemmas
 pub mod FileLemmas
 pub mod GainsLemmas
 pub mod PassedOn
 pub mod RunLemmas
+pub mod TrialLemmas
 mod UtilityLemmas
+pub mod WordLemmas
+pub mod ShapeLemmas

@@ -1,5 +1,5 @@
 -- The utility of a bundle under a table's own costs.
-use Rattle.std.proofs.Common.{◌≡◌, ◌<◌, ◌*◌, ℕ, refl, sym, subst, ◌∙◌, ap}
+use Rattle.std.proofs.Common.{◌≡◌, ◌<◌, ◌*◌, ℕ, subst, ◌∙◌, ap}
 use Rattle.std.specs.Prelude.{ℤ, pos, ◌+ℤ◌, ◌-ℤ◌, ◌*ℤ◌, ◌≤ℤ◌}
 use Rattle.rp_evidence.specs.Afriat.{IsUtility, allowed_for}
 use Rattle.rp_evidence.specs.Preference.{AgreeBelow}

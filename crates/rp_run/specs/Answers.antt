@@ -5,9 +5,12 @@ use Rattle.std.specs.Option.{ForSome}
 use Rattle.rp_outside.specs.SureDesk.{SureState, bytes_or_none}
 use Rattle.rp_run.specs.PairsText.{IsPairsText}
 use Rattle.rp_run.specs.Analysis.{IsAnalysisText}
+use Rattle.rp_run.specs.Demands.{IsDemandText}
+use Rattle.rp_run.specs.Welfares.{IsWelfareText}
 use Rattle.rp_run.specs.UtilityText.{IsUtilityText}
+use Rattle.rp_run.specs.TrialText.{IsTrialText}
 use Rattle.rp_run.specs.CommandLine.{Line, files_of, file_at}
-use Rattle.rp_run.specs.Inputs.{Input, PairsOver, AnalyseOver, UtilityOver, input_of}
+use Rattle.rp_run.specs.Inputs.{Input, PairsOver, AnalyseOver, DemandOver, WelfareOver, UtilityOver, TrialOver, input_of}
 use Rattle.rp_run.specs.declared.status.Status.{Status}
 use Rattle.rp_run.specs.declared.status.Status.TheVariants as status
 
@@ -31,7 +34,10 @@ AreContents files line bytes = (k : ℕ) → k < length (files_of line) → IsCo
 abbrev pub Answers : Input → Status → List ℕ → Type 0
 Answers (PairsOver table) s text = (s ≡ status.Done) × IsPairsText table text
 Answers (AnalyseOver table) s text = (s ≡ status.Done) × IsAnalysisText table text
+Answers (DemandOver table new) s text = (s ≡ status.Done) × IsDemandText table new text
+Answers (WelfareOver table new) s text = (s ≡ status.Done) × IsWelfareText table new text
 Answers (UtilityOver table bundles) s text = (s ≡ status.Done) × IsUtilityText table bundles text
+Answers (TrialOver seed rows goods) s text = (s ≡ status.Done) × IsTrialText seed rows goods text
 
 -- some content of a line's files denotes that input
 abbrev pub HasInput : Files → Line → Input → Type 0

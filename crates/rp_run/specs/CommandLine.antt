@@ -1,48 +1,81 @@
--- What a list of words asks for (this program's own commands). The first word is the program's name.
-use Rattle.std.specs.Prelude.{ℕ, Bool, false, not, ◌==◌, ◌&&◌, List, [], ◌∷◌, Option, Some, None, if◌then◌else◌, codes, map, slice_index_or, string_bytes}
+-- What a list of words asks for (this program's own commands). The first word is the program's name. Which words are taken, and
+-- with which matches, is said by the library `clap`, as a function of the commands and of the words.
+use Rattle.std.specs.Prelude.{ℕ, List, [], ◌∷◌, Option, Some, None, option_and_then, if◌then◌else◌, codes, map, slice_index_or, string_bytes}
 use Rattle.std.specs.Str.{bytes_eq}
+use Rattle.std.specs.Str.Parse.{digits_value, without_leading_plus}
 use Rattle.std.specs.declared.string.String.{String}
+use Rattle.clap.specs.Faults.{fault_of}
+use Rattle.clap.specs.Simple.{subcommand_of}
+use Rattle.clap.specs.ValueTests.{is_unsigned_in}
+use Rattle.clap.specs.Walk.{Row, Text, first_of, is_empty, one_of}
+use Rattle.rp_run.specs.Commands.{program}
 
--- a command with its files
+-- a command with its files and numbers
 pub data Line : Type 0 where
   -- the first two observations of a table that contradict each other
   Pairs : (table : List ℕ) → Line
   -- the verdicts on a table, with their evidence
   Analyse : (table : List ℕ) → Line
+  -- demand at new prices that a table supports
+  Demand : (table new : List ℕ) → Line
+  -- the bounds on the money metric of a table's observations at new prices
+  Welfare : (table new : List ℕ) → Line
   -- the utility of bundles under the numbers that a table gives
   Utility : (table bundles : List ℕ) → Line
+  -- the verdicts on the trial table of a seed
+  Trial : (seed rows goods : ℕ) → Line
 
 -- the files of a line, in the order of the words
 abbrev pub files_of : Line → List (List ℕ)
 files_of (Pairs table) = table ∷ []
 files_of (Analyse table) = table ∷ []
+files_of (Demand table new) = table ∷ new ∷ []
+files_of (Welfare table new) = table ∷ new ∷ []
 files_of (Utility table bundles) = table ∷ bundles ∷ []
+files_of (Trial seed rows goods) = []
 
 -- the k-th file of a line, from 0
 abbrev pub file_at : Line → ℕ → List ℕ
 file_at line k = slice_index_or (files_of line) k []
 
--- a word that names a file: it is not empty and begins with no minus sign
-abbrev pub is_file_name : List ℕ → Bool
-is_file_name [] = false
-is_file_name (byte ∷ _) = not (byte == 45)
+-- a number from low to high, in decimal digits
+abbrev pub number_in : ℕ → ℕ → Text → Option ℕ
+number_in low high text = if is_unsigned_in low high text then Some (digits_value 10 (without_leading_plus text)) else None
 
--- the line of a command over one table
-abbrev pub table_line : List ℕ → List ℕ → Option Line
-table_line command file =
-    if bytes_eq command (codes "pairs") then Some (Pairs file)
-    else (if bytes_eq command (codes "analyse") then Some (Analyse file) else None)
+abbrev pub number_of : ℕ → ℕ → Text → List Row → Option ℕ
+number_of low high id rows = option_and_then (number_in low high) (one_of id rows)
+
+-- the line of a command over one table, by its matches
+abbrev pub table_line : (List ℕ → Line) → List Row → Option Line
+table_line line rows = option_and_then (λ table. Some (line table)) (first_of (codes "TABLE") rows)
 
 -- the line of a command over a table and another file
-abbrev pub beside_line : List ℕ → List ℕ → List ℕ → Option Line
-beside_line command table file = if bytes_eq command (codes "utility") then Some (Utility table file) else None
+abbrev pub beside_line : (List ℕ → List ℕ → Line) → Text → List Row → Option Line
+beside_line line id rows =
+    option_and_then (λ table. option_and_then (λ file. Some (line table file)) (first_of id rows)) (first_of (codes "TABLE") rows)
 
--- the line that the words denote, or none
-abbrev pub line_of : List (List ℕ) → Option Line
-line_of (_ ∷ command ∷ file ∷ []) = if is_file_name file then table_line command file else None
-line_of (_ ∷ command ∷ table ∷ file ∷ []) =
-    if is_file_name table && is_file_name file then beside_line command table file else None
-line_of _ = None
+abbrev pub trial_line : List Row → Option Line
+trial_line rows =
+    option_and_then (λ seed. option_and_then (λ count. option_and_then (λ goods. Some (Trial seed count goods))
+    (number_of 1 16 (codes "GOODS") rows)) (number_of 1 256 (codes "ROWS") rows)) (number_of 0 18446744073709551615 (codes "SEED") rows)
+
+-- the line of the command of that name, by its matches
+abbrev pub command_line : Text → List Row → Option Line
+command_line name rows =
+    if bytes_eq name (codes "pairs") then table_line Pairs rows
+    else (if bytes_eq name (codes "analyse") then table_line Analyse rows
+    else (if bytes_eq name (codes "demand") then beside_line Demand (codes "NEW") rows
+    else (if bytes_eq name (codes "welfare") then beside_line Welfare (codes "NEW") rows
+    else (if bytes_eq name (codes "utility") then beside_line Utility (codes "BUNDLES") rows
+    else (if bytes_eq name (codes "trial") then trial_line rows
+    else None)))))
+
+abbrev pub line_named : Option (Text × List Row) → Option Line
+line_named matches = option_and_then (λ m. command_line m.0 m.1) matches
+
+-- the line that the words denote: that of the matches, where `clap` takes the words
+unfoldable pub line_of : List (List ℕ) → Option Line
+line_of words = if is_empty (fault_of program words) then line_named (subcommand_of program words) else None
 
 -- the same of words as strings
 abbrev pub line_in : {Z : Type 0} → List (String Z) → Option Line

@@ -2,8 +2,13 @@ pub mod FaultTexts
 pub mod FaultLines
 pub mod PairsText
 pub mod Analysis
+pub mod AskedItems
+pub mod Demands
+pub mod Welfares
 pub mod UtilityText
+pub mod Commands
 pub mod CommandLine
+pub mod Shapes
 pub mod Inputs
 pub mod Matching
 pub mod Answers
@@ -12,3 +17,5 @@ pub mod Gains
 pub mod Causes
 pub mod Named
 pub mod StatusNumbers
+pub mod TrialTable
+pub mod TrialText

@@ -1,9 +1,37 @@
--- That lists beside a table have its goods. Only proofs need this word: what a file denotes beside a table has them.
-use Rattle.std.specs.Prelude.{◌≡◌}
-use Rattle.rp_table.specs.Tables.{goods_of}
-use Rattle.rp_run.specs.Inputs.{Input, PairsOver, AnalyseOver, UtilityOver}
+-- That lists beside a table have its goods, and that a trial is of a size that a table may have. Only proofs need these words: what a
+-- file denotes beside a table has them, and so have the numbers that words denote.
+use Rattle.std.specs.Prelude.{◌≡◌, ◌≤◌, ℕ, length}
+use Rattle.rp_table.specs.PriceLists.{PriceList}
+use Rattle.rp_table.specs.Rows.{rows_count}
+use Rattle.rp_table.specs.Tables.{Observations, goods_of}
+use Rattle.rp_run.specs.Inputs.{Input, PairsOver, AnalyseOver, DemandOver, WelfareOver, UtilityOver, TrialOver}
+use Rattle.rp_run.specs.CommandLine.{Line, Pairs, Analyse, Demand, Welfare, Utility, Trial}
+
+-- the prices have the table's goods, and each record has an expenditure
+pub record IsSpentOn (table : Observations) (new : PriceList) : Type 0 where
+  pub goods : new.goods ≡ goods_of table
+  pub spent : length new.m ≡ rows_count new.prices new.goods
+
+-- so many observations and goods make a table
+pub record IsTrialSize (rows goods : ℕ) : Type 0 where
+  pub some_rows : 1 ≤ rows
+  pub few_rows : rows ≤ 256
+  pub some_goods : 1 ≤ goods
+  pub few_goods : goods ≤ 16
 
 abbrev pub HasMatchingGoods : Input → Type 0
 HasMatchingGoods (PairsOver table) = Unit {0}
 HasMatchingGoods (AnalyseOver table) = Unit {0}
+HasMatchingGoods (DemandOver table new) = IsSpentOn table new
+HasMatchingGoods (WelfareOver table new) = new.goods ≡ goods_of table
 HasMatchingGoods (UtilityOver table bundles) = bundles.goods ≡ goods_of table
+HasMatchingGoods (TrialOver seed rows goods) = IsTrialSize rows goods
+
+-- the numbers of a line are in range
+abbrev pub IsSized : Line → Type 0
+IsSized (Pairs table) = Unit {0}
+IsSized (Analyse table) = Unit {0}
+IsSized (Demand table new) = Unit {0}
+IsSized (Welfare table new) = Unit {0}
+IsSized (Utility table bundles) = Unit {0}
+IsSized (Trial seed rows goods) = IsTrialSize rows goods

@@ -2,15 +2,18 @@ ghost use Rattle.std.specs.Prelude.{◌≡◌, ◌≤◌, ℕ, List, IfOk, IfErr
 ghost use Rattle.rp_run.specs.Answers.{Answers, AnswersLine};
 ghost use Rattle.rp_run.specs.Endings.{Rose};
 ghost use Rattle.rp_run.specs.Causes.{IsCause};
-ghost use Rattle.rp_run.specs.Matching.{HasMatchingGoods};
+ghost use Rattle.rp_run.specs.Matching.{HasMatchingGoods, IsSized};
 ghost use Rattle.rp_run.specs.Named.{named_line, named_input};
 
+use crate::demands::demand_text;
 use crate::files::Cause;
 use crate::input::{Input, read_input};
 use crate::line::Line;
 use crate::status::Status;
 use crate::text::{analysis_text, pairs_text};
+use crate::trials::trial_text;
 use crate::utilities::utility_text;
+use crate::welfares::welfare_text;
 use rp_num::NoMemory;
 use rp_outside::Desk;
 use rp_table::Costs;
@@ -29,6 +32,7 @@ pub(crate) fn answer_line<'a, D: Desk>(
     desk: &mut D,
     line: Line<'a>,
 ) -> Result<Answer, Cause<'a>>
+    requires { IsSized (named_line line) }
     ensures answered { IfOk result (λ answer.
         AnswersLine (D.bytes desk.old) (named_line line.entry) answer.status answer.text.items) }
     ensures caused { IfErr result
@@ -59,10 +63,19 @@ fn answer_over(alloc: Global, input: &Input) -> Result<Answer, NoMemory>
             let costs = Costs::of(alloc, table)?;
             Ok(done(analysis_text(alloc, table, &costs)?))
         }
+        Input::Demand(table, new) => {
+            let costs = Costs::of(alloc, table)?;
+            Ok(done(demand_text(alloc, table, &costs, new)?))
+        }
+        Input::Welfare(table, new) => {
+            let costs = Costs::of(alloc, table)?;
+            Ok(done(welfare_text(alloc, table, &costs, new)?))
+        }
         Input::Utility(table, bundles) => {
             let costs = Costs::of(alloc, table)?;
             Ok(done(utility_text(alloc, table, &costs, bundles)?))
         }
+        Input::Trial { seed, rows, goods } => { Ok(done(trial_text(alloc, *seed, *rows, *goods)?)) }
     }
 }
 

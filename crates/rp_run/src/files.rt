@@ -1,17 +1,18 @@
-ghost use Rattle.std.specs.Prelude.{◌≡◌, ◌++◌, ℕ, ◌^◌, ◌<◌, ◌≤◌, List, IfOk, IfErr, length, codes};
+ghost use Rattle.std.specs.Prelude.{◌≡◌, ◌++◌, ℕ, true, false, ◌^◌, ◌<◌, ◌≤◌, List, IfOk, IfErr, length, codes};
 ghost use Rattle.rp_table.specs.Tables.{goods_of};
-ghost use Rattle.rp_text.specs.Denotation.{table_in, bundles_beside};
+ghost use Rattle.rp_text.specs.Denotation.{table_in, bundles_beside, prices_beside};
 ghost use Rattle.rp_run.specs.FaultLines as text;
 ghost use Rattle.rp_run.specs.Answers.{IsContent};
 ghost use Rattle.rp_run.specs.Endings.{Rose};
 ghost use Rattle.rp_run.specs.Inputs.{numbers_in, all_bytes};
+ghost use Rattle.rp_run.specs.Matching.{IsSpentOn};
 ghost use Rattle.rp_run.specs.Causes.{IsRefusal, IsRefusalOf, IsFileCause, IsLoaded};
 
 use crate::fault_text::text_of_fault;
 use rp_num::NoMemory;
 use rp_outside::{Desk, LoadFault, load};
-use rp_table::{Bundles, Table};
-use rp_text::{TableFault, read_bundles, read_table};
+use rp_table::{Bundles, Prices, Table};
+use rp_text::{TableFault, read_bundles, read_prices, read_table};
 use std::alloc::Global;
 
 /// The most bytes of a file of numbers.
@@ -61,6 +62,46 @@ pub(crate) fn load_bundles<'a, D: Desk>(
     let bytes = load_numbers(alloc, desk, file)?;
     match read_bundles(alloc, bytes.as_slice(), table) {
         Ok(bundles) => Ok(bundles),
+        Err(fault) => Err(refusal(alloc, file, fault)),
+    }
+}
+
+/// The new prices in a file beside a table, each with an expenditure.
+pub(crate) fn load_budgets<'a, D: Desk>(
+    alloc: Global,
+    desk: &mut D,
+    file: &'a str,
+    table: &Table,
+) -> Result<Prices, Cause<'a>>
+    ensures loaded { IsLoaded (D.bytes desk.old) (Rose (D.faults desk.old) (D.faults desk.new))
+        file.now (numbers_in file.now (prices_beside true table.now)) result }
+    ensures goods { IfOk result (λ new. IsSpentOn table.now new) }
+    ensures bytes_stay { (other : List ℕ) → D.bytes desk.new other ≡ D.bytes desk.old other }
+    ensures never_falls { (other : List ℕ) → D.faults desk.old other ≤ D.faults desk.new other }
+{
+    let bytes = load_numbers(alloc, desk, file)?;
+    match read_prices(alloc, bytes.as_slice(), table, true) {
+        Ok(new) => Ok(new),
+        Err(fault) => Err(refusal(alloc, file, fault)),
+    }
+}
+
+/// The new prices in a file beside a table.
+pub(crate) fn load_prices<'a, D: Desk>(
+    alloc: Global,
+    desk: &mut D,
+    file: &'a str,
+    table: &Table,
+) -> Result<Prices, Cause<'a>>
+    ensures loaded { IsLoaded (D.bytes desk.old) (Rose (D.faults desk.old) (D.faults desk.new))
+        file.now (numbers_in file.now (prices_beside false table.now)) result }
+    ensures goods { IfOk result (λ new. new.goods ≡ goods_of table.now) }
+    ensures bytes_stay { (other : List ℕ) → D.bytes desk.new other ≡ D.bytes desk.old other }
+    ensures never_falls { (other : List ℕ) → D.faults desk.old other ≤ D.faults desk.new other }
+{
+    let bytes = load_numbers(alloc, desk, file)?;
+    match read_prices(alloc, bytes.as_slice(), table, false) {
+        Ok(new) => Ok(new),
         Err(fault) => Err(refusal(alloc, file, fault)),
     }
 }

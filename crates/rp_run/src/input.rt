@@ -1,17 +1,17 @@
 ghost use Rattle.std.specs.Prelude.{◌≡◌, ◌≤◌, ℕ, List, IfOk, IfErr};
-ghost use Rattle.rp_run.specs.CommandLine.{Utility};
-ghost use Rattle.rp_run.specs.Inputs.{UtilityOver};
-ghost use Rattle.rp_run.specs.Matching.{HasMatchingGoods};
+ghost use Rattle.rp_run.specs.CommandLine.{Demand, Utility, Welfare};
+ghost use Rattle.rp_run.specs.Inputs.{DemandOver, UtilityOver, WelfareOver};
+ghost use Rattle.rp_run.specs.Matching.{HasMatchingGoods, IsSized, IsSpentOn};
 ghost use Rattle.rp_table.specs.Tables.{goods_of};
 ghost use Rattle.rp_run.specs.Answers.{HasInput};
 ghost use Rattle.rp_run.specs.Endings.{Rose};
 ghost use Rattle.rp_run.specs.Causes.{IsCause};
 ghost use Rattle.rp_run.specs.Named.{named_line, named_input};
 
-use crate::files::{Cause, load_bundles, load_table};
+use crate::files::{Cause, load_budgets, load_bundles, load_prices, load_table};
 use crate::line::Line;
 use rp_outside::Desk;
-use rp_table::{Bundles, Table};
+use rp_table::{Bundles, Prices, Table};
 use std::alloc::Global;
 
 /// A command over what its files hold.
@@ -19,7 +19,10 @@ use std::alloc::Global;
 pub(crate) enum Input {
     Pairs(Table),
     Analyse(Table),
+    Demand(Table, Prices),
+    Welfare(Table, Prices),
     Utility(Table, Bundles),
+    Trial { seed: u64, rows: u32, goods: u32 },
 }
 
 /// What a line asks over its files, which are read in the order of the words, each whole before the next.
@@ -28,6 +31,7 @@ pub(crate) fn read_input<'a, D: Desk>(
     desk: &mut D,
     line: Line<'a>,
 ) -> Result<Input, Cause<'a>>
+    requires { IsSized (named_line line) }
     ensures read { IfOk result
         (λ input. HasInput (D.bytes desk.old) (named_line line.entry) (named_input input)) }
     ensures goods { IfOk result (λ input. HasMatchingGoods (named_input input)) }
@@ -40,11 +44,62 @@ pub(crate) fn read_input<'a, D: Desk>(
     match line {
         Line::Pairs { table } => Ok(Input::Pairs(load_table(alloc, desk, table)?)),
         Line::Analyse { table } => Ok(Input::Analyse(load_table(alloc, desk, table)?)),
+        Line::Demand { table, new } => {
+            let (table, new) = load_table_budgets(alloc, desk, table, new)?;
+            Ok(Input::Demand(table, new))
+        }
+        Line::Welfare { table, new } => {
+            let (table, new) = load_table_prices(alloc, desk, table, new)?;
+            Ok(Input::Welfare(table, new))
+        }
         Line::Utility { table, bundles } => {
             let (table, bundles) = load_table_bundles(alloc, desk, table, bundles)?;
             Ok(Input::Utility(table, bundles))
         }
+        Line::Trial { seed, rows, goods } => Ok(Input::Trial { seed, rows, goods }),
     }
+}
+
+/// The table in one file, and the new budgets beside it in another.
+fn load_table_budgets<'a, D: Desk>(
+    alloc: Global,
+    desk: &mut D,
+    first: &'a str,
+    second: &'a str,
+) -> Result<(Table, Prices), Cause<'a>>
+    ensures read { IfOk result (λ both.
+        HasInput (D.bytes desk.old) (Demand first.now second.now) (DemandOver both.0 both.1)) }
+    ensures goods { IfOk result (λ both. IsSpentOn both.0 both.1) }
+    ensures caused { IfErr result
+        (IsCause (D.bytes desk.old) (Rose (D.faults desk.old) (D.faults desk.new))
+        (Demand first.now second.now)) }
+    ensures bytes_stay { (other : List ℕ) → D.bytes desk.new other ≡ D.bytes desk.old other }
+    ensures never_falls { (other : List ℕ) → D.faults desk.old other ≤ D.faults desk.new other }
+{
+    let table = load_table(alloc, desk, first)?;
+    let new = load_budgets(alloc, desk, second, &table)?;
+    Ok((table, new))
+}
+
+/// The table in one file, and the new prices beside it in another.
+fn load_table_prices<'a, D: Desk>(
+    alloc: Global,
+    desk: &mut D,
+    first: &'a str,
+    second: &'a str,
+) -> Result<(Table, Prices), Cause<'a>>
+    ensures read { IfOk result (λ both.
+        HasInput (D.bytes desk.old) (Welfare first.now second.now) (WelfareOver both.0 both.1)) }
+    ensures goods { IfOk result (λ both. both.1.goods ≡ goods_of both.0) }
+    ensures caused { IfErr result
+        (IsCause (D.bytes desk.old) (Rose (D.faults desk.old) (D.faults desk.new))
+        (Welfare first.now second.now)) }
+    ensures bytes_stay { (other : List ℕ) → D.bytes desk.new other ≡ D.bytes desk.old other }
+    ensures never_falls { (other : List ℕ) → D.faults desk.old other ≤ D.faults desk.new other }
+{
+    let table = load_table(alloc, desk, first)?;
+    let new = load_prices(alloc, desk, second, &table)?;
+    Ok((table, new))
 }
 
 /// The table in one file, and the bundles beside it in another.

@@ -2,6 +2,9 @@
 #![tactic(auto)]
 
 mod answer;
+mod asked;
+mod command;
+mod demands;
 mod fault_text;
 mod files;
 mod input;
@@ -11,8 +14,12 @@ mod status;
 mod sure;
 mod telling;
 mod text;
+mod trial;
+mod trials;
 mod utilities;
+mod welfares;
 
 pub use running::run;
 pub use status::Status;
 pub use sure::run_surely;
+pub use trial::trial_table;

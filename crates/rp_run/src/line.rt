@@ -1,71 +1,173 @@
-ghost use Rattle.std.specs.Prelude.{◌≡◌, map, option_map, string_bytes};
-ghost use Rattle.rp_run.specs.CommandLine.{line_of, table_line, beside_line, is_file_name};
+ghost use Rattle.std.specs.Prelude.{◌≡◌, Some, None, ◌≤◌, ◌&&◌, nat_le, if◌then◌else◌, IfOk, IfSome, map, option_map, string_bytes, codes};
+ghost use Rattle.clap.specs.Words.{found_of, rows_of, subcommand_rows_of};
+ghost use Rattle.clap.specs.Walk.{first_of};
+ghost use Rattle.rp_run.specs.CommandLine.{Pairs, Analyse, line_of, line_named, command_line, number_of};
+ghost use Rattle.rp_run.specs.CommandLine.{Demand, Utility, Welfare, beside_line, table_line, trial_line};
 ghost use Rattle.rp_run.specs.FaultLines.{usage_text};
+ghost use Rattle.rp_run.specs.Matching.{IsSized};
 ghost use Rattle.rp_run.specs.Named.{named_line};
 
-/// A command with its files, as the words name them.
+use crate::command::program;
+use clap::ArgMatches;
+use clap::error::ErrorKind;
+use rp_num::NoMemory;
+use std::alloc::Global;
+
+/// A command with its files and numbers, as the words name them.
 #[derive(Clone, Copy)]
 pub(crate) enum Line<'a> {
     Pairs { table: &'a str },
     Analyse { table: &'a str },
+    Demand { table: &'a str, new: &'a str },
+    Welfare { table: &'a str, new: &'a str },
     Utility { table: &'a str, bundles: &'a str },
+    Trial { seed: u64, rows: u32, goods: u32 },
 }
 
 /// How the program is called.
 pub(crate) fn usage() -> &'static [u8]
     ensures { result.now ≡ usage_text }
 {
-    b"usage: rp pairs TABLE\n       rp analyse TABLE\n       rp utility TABLE BUNDLES\n"
+    b"usage: rp pairs TABLE\n       rp analyse TABLE\n       rp demand TABLE NEW\n       rp welfare TABLE NEW\n       rp utility TABLE BUNDLES\n       rp trial SEED ROWS GOODS\n"
 }
 
-/// The line that the words denote. The first word is the program's name.
-pub(crate) fn read_line(words: &[String]) -> Option<Line<'_>>
-    ensures { option_map named_line result ≡ line_of (map string_bytes words.now) }
+/// The line that the words denote, or none. The first word is the program's name.
+pub(crate) fn read_line<'a>(
+    alloc: Global,
+    words: &'a [String],
+) -> Result<Option<Line<'a>>, NoMemory>
+    ensures exact { IfOk result (λ asked.
+        option_map named_line asked ≡ line_of (map string_bytes words.entry.now)) }
+    ensures sized { IfOk result (λ asked. IfSome asked (λ line. IsSized (named_line line))) }
 {
-    match words {
-        [_, command, file] if names_file(file.as_str()) => {
-            read_table_line(command.as_str(), file.as_str())
-        }
-        [_, command, table, file] if names_file(table.as_str()) && names_file(file.as_str()) => {
-            read_beside_line(command.as_str(), table.as_str(), file.as_str())
-        }
-        _ => None,
+    let program = program(alloc)?;
+    match program.try_get_matches_from(words) {
+        Ok(matches) => Ok(line_named(&matches)),
+        Err(error) => match error.kind() {
+            ErrorKind::OutOfMemory => Err(NoMemory),
+            _ => Ok(None),
+        },
     }
 }
 
-/// The line of a command over a table and another file.
-fn read_beside_line<'a>(command: &str, table: &'a str, file: &'a str) -> Option<Line<'a>>
-    ensures { option_map named_line result ≡ beside_line command.now table.now file.now }
+/// The line that the matches name.
+fn line_named<'a>(matches: &ArgMatches<'a>) -> Option<Line<'a>>
+    ensures exact { option_map named_line result ≡ line_named (subcommand_rows_of matches.now) }
+    ensures sized { IfSome result (λ line. IsSized (named_line line)) }
 {
-    if command == "utility" {
-        Some(Line::Utility {
-            table,
-            bundles: file,
-        })
+    match matches.subcommand() {
+        Some((name, given)) => command_line(name, given),
+        None => None,
+    }
+}
+
+/// The line of a command with its matches.
+fn command_line<'a>(name: &str, given: &ArgMatches<'a>) -> Option<Line<'a>>
+    ensures exact { option_map named_line result
+        ≡ command_line name.now (rows_of (found_of given.now)) }
+    ensures sized { IfSome result (λ line. IsSized (named_line line)) }
+{
+    if name == "pairs" {
+        pairs_line(given)
+    } else if name == "analyse" {
+        analyse_line(given)
+    } else if name == "demand" {
+        demand_line(given)
+    } else if name == "welfare" {
+        welfare_line(given)
+    } else if name == "utility" {
+        utility_line(given)
+    } else if name == "trial" {
+        trial_line(given)
     } else {
         None
     }
 }
 
-/// The line of a command over one table.
-fn read_table_line<'a>(command: &str, file: &'a str) -> Option<Line<'a>>
-    ensures { option_map named_line result ≡ table_line command.now file.now }
+fn pairs_line<'a>(given: &ArgMatches<'a>) -> Option<Line<'a>>
+    ensures exact { option_map named_line result ≡ table_line Pairs (rows_of (found_of given.now)) }
+    ensures sized { IfSome result (λ line. IsSized (named_line line)) }
 {
-    if command == "pairs" {
-        Some(Line::Pairs { table: file })
-    } else if command == "analyse" {
-        Some(Line::Analyse { table: file })
-    } else {
-        None
+    let table = file_of(given, "TABLE")?;
+    Some(Line::Pairs { table })
+}
+
+fn analyse_line<'a>(given: &ArgMatches<'a>) -> Option<Line<'a>>
+    ensures exact { option_map named_line result ≡ table_line Analyse (rows_of (found_of given.now)) }
+    ensures sized { IfSome result (λ line. IsSized (named_line line)) }
+{
+    let table = file_of(given, "TABLE")?;
+    Some(Line::Analyse { table })
+}
+
+fn demand_line<'a>(given: &ArgMatches<'a>) -> Option<Line<'a>>
+    ensures exact { option_map named_line result
+        ≡ beside_line Demand (codes "NEW") (rows_of (found_of given.now)) }
+    ensures sized { IfSome result (λ line. IsSized (named_line line)) }
+{
+    let table = file_of(given, "TABLE")?;
+    let new = file_of(given, "NEW")?;
+    Some(Line::Demand { table, new })
+}
+
+fn welfare_line<'a>(given: &ArgMatches<'a>) -> Option<Line<'a>>
+    ensures exact { option_map named_line result
+        ≡ beside_line Welfare (codes "NEW") (rows_of (found_of given.now)) }
+    ensures sized { IfSome result (λ line. IsSized (named_line line)) }
+{
+    let table = file_of(given, "TABLE")?;
+    let new = file_of(given, "NEW")?;
+    Some(Line::Welfare { table, new })
+}
+
+fn utility_line<'a>(given: &ArgMatches<'a>) -> Option<Line<'a>>
+    ensures exact { option_map named_line result
+        ≡ beside_line Utility (codes "BUNDLES") (rows_of (found_of given.now)) }
+    ensures sized { IfSome result (λ line. IsSized (named_line line)) }
+{
+    let table = file_of(given, "TABLE")?;
+    let bundles = file_of(given, "BUNDLES")?;
+    Some(Line::Utility { table, bundles })
+}
+
+fn trial_line<'a>(given: &ArgMatches<'a>) -> Option<Line<'a>>
+    ensures exact { option_map named_line result ≡ trial_line (rows_of (found_of given.now)) }
+    ensures sized { IfSome result (λ line. IsSized (named_line line)) }
+{
+    let seed = number_of(given, "SEED", 0, u64::MAX)?;
+    let rows = number_of(given, "ROWS", 1, 256)?;
+    let goods = number_of(given, "GOODS", 1, 16)?;
+    Some(Line::Trial {
+        seed,
+        rows: rows as u32,
+        goods: goods as u32,
+    })
+}
+
+/// The name of a file.
+fn file_of<'a>(given: &ArgMatches<'a>, id: &str) -> Option<&'a str>
+    ensures { option_map (λ s. s.now) result ≡ first_of id.now (rows_of (found_of given.now)) }
+{
+    given.get_str(id)
+}
+
+/// A number in a range.
+fn number_of(given: &ArgMatches<'_>, id: &str, least: u64, most: u64) -> Option<u64>
+    ensures exact { result ≡ number_of least most id.now (rows_of (found_of given.now)) }
+    ensures within { IfSome result (λ n. (least ≤ n) × (n ≤ most)) }
+{
+    match given.get_one::<u64>(id) {
+        Some(number) => in_range(number, least, most),
+        None => None,
     }
 }
 
-/// Whether a word names a file: it is not empty and begins with no minus sign.
-fn names_file(word: &str) -> bool
-    ensures { result ≡ is_file_name word.now }
+fn in_range(number: u64, least: u64, most: u64) -> Option<u64>
+    ensures { result ≡ (if nat_le least number && nat_le number most then Some number else None) }
 {
-    match word.as_bytes() {
-        [] => false,
-        [first, ..] => *first != b'-',
+    if least <= number && number <= most {
+        Some(number)
+    } else {
+        None
     }
 }

@@ -1,7 +1,8 @@
-ghost use Rattle.std.specs.Prelude.{◌≡◌, ◌↔◌, ◌⊎◌, ◌≤◌, ℕ, List, Some, None};
+ghost use Rattle.std.specs.Prelude.{◌≡◌, ◌⊎◌, ◌≤◌, ℕ, List, ◌∷◌, Some, None, map, string_bytes};
 ghost use Rattle.rp_outside.specs.Faults.{HasRisen};
 ghost use Rattle.rp_outside.specs.Told.{Stays, Grows, GrowsByPrefix};
 ghost use Rattle.rp_run.specs.CommandLine.{Line as Asked, line_in};
+ghost use Rattle.rp_run.specs.Shapes.{HasShape, shape_of};
 ghost use Rattle.rp_run.specs.Answers.{AnswersAsked, IsAccepted, IsRefused};
 ghost use Rattle.rp_run.specs.FaultLines.{write_line};
 ghost use Rattle.rp_run.specs.Endings.{IsEnd, IsSilent, IsFaultLine, Rose, NoneRose};
@@ -26,7 +27,12 @@ pub fn run<D: Desk, O: Sink, E: Sink>(
     err: &mut E,
 ) -> Status
     // The words.
-    ensures usage { (result ≡ Status.Usage) ↔ (line_in words.now.items ≡ None) }
+    ensures usage { result ≡ Status.Usage → line_in words.now.items ≡ None }
+    ensures no_line { line_in words.now.items ≡ None
+        → (result ≡ Status.Usage) ⊎ (result ≡ Status.NoMemory) }
+    ensures shapes { (line : Asked) (name : List ℕ) → HasShape line
+        → map string_bytes words.now.items ≡ name ∷ shape_of line
+        → line_in words.now.items ≡ Some line }
 
     // The answer, and what the output gains.
     ensures answered { IsEnd result → (text : List ℕ)
@@ -64,7 +70,10 @@ pub fn run<D: Desk, O: Sink, E: Sink>(
     ensures faults_of_out { O.faults out.old ≤ O.faults out.new }
     ensures faults_of_err { E.faults err.old ≤ E.faults err.new }
 {
-    let Some(line) = read_line(words.as_slice()) else {
+    let Ok(asked) = read_line(alloc, words.as_slice()) else {
+        return refuse(&Cause::NoMemory, err);
+    };
+    let Some(line) = asked else {
         tell(err, &[usage()]);
         return Status::Usage;
     };

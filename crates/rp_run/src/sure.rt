@@ -1,4 +1,4 @@
-ghost use Rattle.std.specs.Prelude.{◌≡◌, ◌↔◌, ◌⊎◌, Some, None};
+ghost use Rattle.std.specs.Prelude.{◌≡◌, ◌⊎◌, Some, None};
 ghost use Rattle.rp_run.specs.CommandLine.{Line as Asked, line_in};
 ghost use Rattle.rp_run.specs.Answers.{IsAccepted, IsRefused, all_told};
 ghost use Rattle.rp_run.specs.Endings.{IsEnd};
@@ -19,7 +19,9 @@ pub fn run_surely(
     ensures every_file_is_read { ¬ (result ≡ Status.ReadFault) }
     ensures every_answer_is_written { ¬ (result ≡ Status.WriteFault) }
     ensures never_rejected { ¬ (result ≡ Status.Rejected) }
-    ensures usage { (result ≡ Status.Usage) ↔ (line_in words.now.items ≡ None) }
+    ensures usage { result ≡ Status.Usage → line_in words.now.items ≡ None }
+    ensures no_line { line_in words.now.items ≡ None
+        → (result ≡ Status.Usage) ⊎ (result ≡ Status.NoMemory) }
     ensures accepted { (line : Asked) → line_in words.now.items ≡ Some line
         → IsAccepted (all_told desk.old) line
         → IsEnd result ⊎ (result ≡ Status.NoMemory) }

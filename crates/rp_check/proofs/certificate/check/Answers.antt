@@ -1,18 +1,19 @@
-use Rattle.std.proofs.Common.{◌≡◌, ◌<◌, ◌||◌, ◌∙◌, Result, Ok, Err, length, arith, ap, below_more, subst, sym, slice_index_or}
-use Rattle.rp_table.specs.Tables.{Observations}
+use Rattle.std.proofs.Common.{◌<◌, ◌||◌, ◌∙◌, Ok, Err, length, arith, ap, below_more, sym}
 use Rattle.rp_evidence.specs.Input.{input_of_table}
 use Rattle.rp_check.specs.CheckVerdict.{ItemFailsAt}
-use Rattle.rp_check.specs.ItemFailure.{ItemFails}
 use Rattle.rp_check.proofs.SoundItems.{all_prove, at_place, shown_more}
 use Rattle.rp_check.proofs.certificate.check.Goals as goal
 
 pub returns-in-Err-clause-first_failure : goal.returns-in-Err-clause-first_failure
-returns-in-Err-clause-first_failure c =
-    (c.loop-k.k, omega (arith, ap length c.as_slice-item-items.ensures), c.capped.ensures,
-      at_place (input_of_table c.args.table.now) c.args.certificate.now.items c.loop-k.k c.item-item.result c.loop-k.shown
+returns-in-Err-clause-first_failure c = (
+  c.loop-k.k,
+  omega (arith, ap length c.as_slice-item-items.ensures),
+  c.capped.ensures,
+  at_place (input_of_table c.args.table.now) c.args.certificate.now.items c.loop-k.k c.item-item.result c.loop-k.shown
       (omega (arith, ap length c.as_slice-item-items.ensures)) (rw c.as_slice-item-items.ensures at c.item-item.is) c.loop-k.invariant.0
       (Err c.in-Err.found) (rw c.new-input.ensures.of at c.in-Err.ensures),
-      c.loop-k.invariant.1)
+  c.loop-k.invariant.1,
+)
 
 pub loop-k-preserved : goal.loop-k-preserved
 loop-k-preserved c =
@@ -20,13 +21,12 @@ loop-k-preserved c =
     let items = c.args.certificate.now.items in
     let k = c.loop-k.k in
     let within : k < length items = omega (arith, ap length c.as_slice-item-items.ensures) in
-    let is = rw c.as_slice-item-items.ensures at c.item-item.is in
-    (
+    let is = rw c.as_slice-item-items.ensures at c.item-item.is in (
       ap (λ b. c.loop-k.shown || b) c.shows_garp-shown.ensures
-      ∙ sym (shown_more input items k c.item-item.result c.loop-k.shown within is c.loop-k.invariant.0),
+          ∙ sym (shown_more input items k c.item-item.result c.loop-k.shown within is c.loop-k.invariant.0),
       below_more (λ j. ItemFailsAt input items j (Ok tt)) k c.loop-k.invariant.1
-      (at_place input items k c.item-item.result c.loop-k.shown within is c.loop-k.invariant.0
-      (Ok tt) (rw c.new-input.ensures.of at c.in_default.ensures)),
+          (at_place input items k c.item-item.result c.loop-k.shown within is c.loop-k.invariant.0
+          (Ok tt) (rw c.new-input.ensures.of at c.in_default.ensures)),
     )
 
 pub returns-clause-accepted_proves : goal.returns-clause-accepted_proves

@@ -1,4 +1,4 @@
-use Rattle.std.proofs.Common.{◌≡◌, ◌<◌, ◌≤◌, ◌^◌, List, ℕ, Ok, arith, subst}
+use Rattle.std.proofs.Common.{◌<◌, ◌^◌, arith}
 use Rattle.rp_evidence.specs.Preference.{IsLevel}
 use Rattle.rp_evidence.specs.declared.failure.Reason.TheVariants.{Level}
 use Rattle.rp_table.specs.Cost.{cost_of}

@@ -1,8 +1,3 @@
-use Rattle.std.proofs.Common.{◌≡◌, ℕ, List, subst}
-use Rattle.rp_num.specs.Fraction.{Fraction}
-use Rattle.rp_table.specs.Cost.{cost_of}
-use Rattle.rp_table.specs.Tables.{records_of}
-use Rattle.rp_check.specs.HomotheticFailure.{CycleFails, ValuesFail}
 use Rattle.rp_check.proofs.homothetic.homothetic.Goals as goal
 
 pub returns-in-Values : goal.returns-in-Values

@@ -1,7 +1,6 @@
-use Rattle.std.proofs.Common.{◌≡◌, ◌≤◌, arith, refl}
+use Rattle.std.proofs.Common.{arith, refl}
 use Rattle.std.proofs.lemmas.List.{get_or_read}
 use Rattle.rp_table.specs.Cost.{cost_of}
-use Rattle.rp_evidence.specs.Homothetic.{value_at}
 use Rattle.rp_check.proofs.Fractions.{step_below, step_holds, step_wide}
 use Rattle.rp_check.proofs.homothetic.step.Goals as goal
 

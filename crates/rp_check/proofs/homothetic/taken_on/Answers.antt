@@ -1,4 +1,4 @@
-use Rattle.std.proofs.Common.{◌≡◌, ◌≤◌, IsErr, arith, ◌∙◌}
+use Rattle.std.proofs.Common.{◌≤◌, IsErr, arith, ◌∙◌}
 use Rattle.rp_table.specs.Cost.{cost_of}
 use Rattle.rp_check.proofs.Fractions.{product_given, wide_given}
 use Rattle.rp_check.proofs.homothetic.taken_on.Goals as goal

@@ -1,4 +1,4 @@
-use Rattle.std.proofs.Common.{◌+◌, arith, slice_index}
+use Rattle.std.proofs.Common.{arith}
 use Rattle.rp_table.specs.Cost.{cost_of}
 use Rattle.rp_check.proofs.Sums.{sum_kept}
 use Rattle.rp_check.proofs.quasilinear.sum.Goals as goal

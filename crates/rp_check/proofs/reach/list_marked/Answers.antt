@@ -11,11 +11,11 @@ loop-t-preserved c =
     let P = IsMarked c.args.marks.now in
     elim c.if-marks-t.branch [
       | then-marks-t w ↦ rw (w.count-is, w.list-is) (record {
-          few = omega (arith, l.invariant.few);
-          listed = those_written P l.t l.count l.list l.invariant.listed w.if-marks-t.true (omega (arith, l.invariant.few, l.auto.list, c.requires.list, c.loop-t-test.true)) _ refl;
-        })
+        few = omega (arith, l.invariant.few);
+        listed = those_written P l.t l.count l.list l.invariant.listed w.if-marks-t.true (omega (arith, l.invariant.few, l.auto.list, c.requires.list, c.loop-t-test.true)) _ refl;
+      })
       | else-marks-t w ↦ rw (w.count-is, w.list-is) (record {
-          few = omega (arith, l.invariant.few);
-          listed = those_without P l.t _ l.invariant.listed (λ h. false≢true (sym w.if-marks-t.false ∙ h));
-        })
+        few = omega (arith, l.invariant.few);
+        listed = those_without P l.t _ l.invariant.listed (λ h. false≢true (sym w.if-marks-t.false ∙ h));
+      })
     ]

@@ -1,4 +1,4 @@
-use Rattle.std.proofs.Common.{◌≡◌, ◌≤◌, length, take}
+use Rattle.std.proofs.Common.{◌≤◌, take}
 use Rattle.rp_check.specs.Reach.{IsMarked, ListsThose}
 use Rattle.rp_check.proofs.reach.list_marked.Given as goal
 

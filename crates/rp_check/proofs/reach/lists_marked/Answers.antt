@@ -1,4 +1,4 @@
-use Rattle.std.proofs.Common.{inl, inr, rules, ◌≡◌, ℕ, refl, sym, subst, ◌∙◌, arith}
+use Rattle.std.proofs.Common.{inl, inr, rules, ◌≡◌, ℕ, refl, subst, arith}
 use Rattle.std.proofs.lemmas.Bool.{false≢true}
 use Rattle.rp_check.proofs.Listing.{ListsUpTo, listed_exactly, not_at}
 use Rattle.rp_check.proofs.reach.lists_marked.Goals as goal

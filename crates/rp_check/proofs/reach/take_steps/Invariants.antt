@@ -1,4 +1,3 @@
-use Rattle.std.proofs.Common.{ℕ, ◌<◌, ◌≤◌, ◌≡◌, length}
 use Rattle.rp_check.specs.Reach.{step_of}
 use Rattle.rp_check.proofs.Marking.{IsTakenTo}
 use Rattle.rp_table.specs.Cost.{cost_of}

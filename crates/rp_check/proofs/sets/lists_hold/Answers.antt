@@ -25,6 +25,9 @@ returns c =
     let a = c.args in (
       lists_below (input_of a.asked.now) (budget_at a.asked.now a.m) a.sets.now c.requires.sets a.below.now a.strict.now
           (subst (λ (n : ℕ). ListsThose n (IsMarked a.sets.now.below) a.below.now) c.n-n.ensures.count (c.lists_marked.ensures.0 c.if-not-lists_marked.false)),
-      (lists_strictly (input_of a.asked.now) (budget_at a.asked.now a.m) a.sets.now c.requires.sets a.below.now a.strict.now
-          (subst (λ (n : ℕ). ListsThose n (IsMarked a.sets.now.strict) a.strict.now) c.n-n.ensures.count (c.lists_marked-2.ensures.0 c.if-not-lists_marked-2.false)), tt),
+      (
+        lists_strictly (input_of a.asked.now) (budget_at a.asked.now a.m) a.sets.now c.requires.sets a.below.now a.strict.now
+            (subst (λ (n : ℕ). ListsThose n (IsMarked a.sets.now.strict) a.strict.now) c.n-n.ensures.count (c.lists_marked-2.ensures.0 c.if-not-lists_marked-2.false)),
+        tt,
+      ),
     )

@@ -1,5 +1,4 @@
 use Rattle.std.proofs.Common.{ℕ, ◌<◌, slice_index}
-use Rattle.rp_table.specs.Tables.{records_of}
 use Rattle.rp_check.proofs.walk.observations.Given as goal
 
 abbrev pub invariant-loop-k : goal.invariant-loop-k

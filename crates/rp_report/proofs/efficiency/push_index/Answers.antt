@@ -8,4 +8,4 @@ pub returns : goal.returns
 returns c =
     IfOk-equal c.push_line.result c.push_line.new.out.items _ _ c.push_line.ensures
     (rw (c.in_ok-extend_from_slice-2.ensures.items, c.in_ok-push_level.ensures, c.in_ok-extend_from_slice.ensures.items, c.attained.ensures)
-    (index_line c.args.out.now.items (codes "efficiency ") (level_text c.args.level) (codes " attained ") (attained_text c.args.at.now)))
+    (index_line c.args.out.now.items (codes "efficiency ") (level_text c.args.evidence.now.level) (codes " attained ") (attained_text c.args.evidence.now.at)))

@@ -1,11 +1,11 @@
 use Rattle.std.proofs.Common.{refl}
 use Rattle.rp_text.specs.Denotation.{table_in}
-use Rattle.rp_run.specs.CommandLine.{Pairs, Analyse}
-use Rattle.rp_run.specs.Inputs.{numbers_in, PairsOver, AnalyseOver}
+use Rattle.rp_run.specs.CommandLine.{Pairs, Analyse, Trial}
+use Rattle.rp_run.specs.Inputs.{numbers_in, PairsOver, AnalyseOver, TrialOver}
 use Rattle.rp_run.specs.Named.{named_line}
 use Rattle.rp_run.specs.Endings.{Rose}
 use Rattle.rp_run.specs.Causes.{IsCause}
-use Rattle.rp_run.proofs.FileLemmas.{one_cause, one_input}
+use Rattle.rp_run.proofs.FileLemmas.{one_cause, one_input, no_files}
 use Rattle.rp_run.proofs.PassedOn.{passed_on}
 use Rattle.rp_run.proofs.input.read_input.Goals as goal
 
@@ -34,3 +34,17 @@ pub returns-in_ok-load_table-in-Analyse-clause-read : goal.returns-in_ok-load_ta
 returns-in_ok-load_table-in-Analyse-clause-read g c =
     let file = c.in-Analyse.table.now in
     rw c.in-Analyse.is (one_input (g.D.Desk.bytes c.args.desk.now) (Analyse file) file (numbers_in file table_in) AnalyseOver c.in_ok-load_table-in-Analyse.field-0 refl (λ bytes. refl) c.in_ok-load_table-in-Analyse.ensures.loaded)
+
+pub returns-in_ok-table-in-Demand-clause-read : goal.returns-in_ok-table-in-Demand-clause-read
+returns-in_ok-table-in-Demand-clause-read g c = rw c.in-Demand.is c.in_ok-table-in-Demand.ensures.read
+
+pub returns-in_ok-table-in-Welfare-clause-read : goal.returns-in_ok-table-in-Welfare-clause-read
+returns-in_ok-table-in-Welfare-clause-read g c = rw c.in-Welfare.is c.in_ok-table-in-Welfare.ensures.read
+
+pub returns-in_ok-table-in-Utility-clause-read : goal.returns-in_ok-table-in-Utility-clause-read
+returns-in_ok-table-in-Utility-clause-read g c = rw c.in-Utility.is c.in_ok-table-in-Utility.ensures.read
+
+pub returns-in-Trial-clause-read : goal.returns-in-Trial-clause-read
+returns-in-Trial-clause-read g c =
+    let trial = c.in-Trial in
+    rw trial.is (no_files (g.D.Desk.bytes c.args.desk.now) (Trial trial.seed trial.rows trial.goods) (TrialOver trial.seed trial.rows trial.goods) refl (λ bytes. refl))

@@ -1,4 +1,4 @@
-use Rattle.std.proofs.Common.{add-one, sym, ap, ◌∙◌, ◌++◌}
+use Rattle.std.proofs.Common.{add-one, ap, ◌∙◌, ◌++◌}
 use Rattle.rp_run.proofs.utilities.utility_lines.Goals as goal
 
 pub loop-k-preserved : goal.loop-k-preserved

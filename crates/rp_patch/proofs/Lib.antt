@@ -1,0 +1,15 @@
+pub mod Apportioning
+pub mod ChosenFacts
+pub mod ChosenLaws
+pub mod Extending
+pub mod MadeOf
+pub mod Multiples
+pub mod PartLaws
+pub mod Raising
+pub mod Rows
+pub mod SearchLaws
+pub mod SetLaws
+pub mod Shares
+pub mod Sums
+pub mod Tallied
+pub mod Tried

@@ -1,0 +1,16 @@
+pub mod Added
+pub mod Apportioned
+pub mod Choices
+pub mod Clauses
+pub mod Joined
+pub mod Mixtures
+pub mod Multiples
+pub mod Parts
+pub mod Patches
+pub mod RandomEvidence
+pub mod RandomFailure
+pub mod Sets
+pub mod Signs
+pub mod Tallies
+pub mod Types
+pub mod Units

@@ -1,0 +1,43 @@
+-- What evidence on random choices has to be to prove its verdict (McFadden and Richter 1990; the weights of the patches are
+-- the dual side of the program of random utility).
+use Rattle.std.specs.Prelude.{◌≡◌, ◌≤◌, ℕ, List, All, length}
+use Rattle.rp_evidence.specs.declared.certificate.Certificate.{Certificate}
+use Rattle.rp_evidence.specs.declared.certificate.Item.{Item}
+use Rattle.rp_evidence.specs.declared.certificate.Item.TheVariants.{Garp as GarpItem, Afriat as AfriatItem, Efficiency as EfficiencyItem, Homothetic as HomotheticItem, Quasi as QuasiItem, Demand as DemandItem, Welfare as WelfareItem, Random as RandomItem}
+use Rattle.rp_evidence.specs.declared.random.RandomPart.{RandomPart}
+use Rattle.rp_evidence.specs.declared.random.RandomPart.TheVariants.{Mixture, Violated, Wide}
+use Rattle.rp_evidence.specs.declared.random.Share.{Share}
+use Rattle.rp_patch.specs.Mixtures.{HasMixture, IsGreatestMixture, IsMixture, IsPartialMixture, type_weight}
+use Rattle.rp_patch.specs.Patches.{PatchList}
+use Rattle.rp_patch.specs.Types.{IsRationalType}
+
+-- The evidence of a violation: no mixture makes the choices; the parts are a partial mixture whose share is the greatest; and
+-- every rational type has patches that together weigh at least the denominator.
+pub record ProvesNoMixture (p : PatchList) (den : ℕ) (parts : List Share) (weights : List ℕ) : Type 0 where
+  pub none : ¬ HasMixture p
+  pub partial : IsPartialMixture p den parts
+  pub greatest : IsGreatestMixture p den parts
+  pub one_each : length weights ≡ length p.patches
+  pub weighs : (type : List ℕ) → IsRationalType p type → den ≤ type_weight weights type
+
+-- Evidence proves its verdict on the units of these patches: the parts are a mixture; or there is none. What is withheld has
+-- no verdict.
+abbrev pub ProvesRandom : PatchList → ℕ → RandomPart → Type 0
+ProvesRandom p total (Mixture den parts) = (total ≡ p.total) × IsMixture p den parts
+ProvesRandom p total (Violated den parts weights) = (total ≡ p.total) × ProvesNoMixture p den parts weights
+ProvesRandom p total (Wide step) = Unit {0}
+
+-- An item proves its verdict on random choices. An item on a table proves nothing of them.
+abbrev pub ProvesOnPatches : PatchList → Item → Type 0
+ProvesOnPatches p (GarpItem verdict) = ⊥
+ProvesOnPatches p (AfriatItem part) = ⊥
+ProvesOnPatches p (EfficiencyItem evidence) = ⊥
+ProvesOnPatches p (HomotheticItem verdict) = ⊥
+ProvesOnPatches p (QuasiItem verdict) = ⊥
+ProvesOnPatches p (DemandItem prices m part) = ⊥
+ProvesOnPatches p (WelfareItem prices of part) = ⊥
+ProvesOnPatches p (RandomItem total part) = ProvesRandom p total part
+
+-- Every item of a certificate does.
+abbrev pub ProvesAllOnPatches : PatchList → Certificate → Type 0
+ProvesAllOnPatches p certificate = All (ProvesOnPatches p) certificate.items

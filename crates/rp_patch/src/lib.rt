@@ -1,0 +1,21 @@
+//! Random choices from budgets as patches with units (Kitamura and Stoye 2018), and what random utility means over them.
+#![tactic(auto)]
+
+mod chosen;
+mod fault;
+mod listed;
+pub mod of_choices;
+pub mod part;
+mod portion;
+mod sets;
+mod signs;
+mod tally;
+mod totals;
+
+pub use fault::PatchFault;
+pub use listed::Patches;
+
+/// The most patches of all budgets together.
+pub const PATCHES: u32 = 48;
+/// The most units on a budget, and so the largest total.
+pub const UNITS: u32 = 1_000_000_000;

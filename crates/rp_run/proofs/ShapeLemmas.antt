@@ -1,0 +1,140 @@
+-- The shapes of the commands are taken, and each denotes its line.
+use Rattle.std.proofs.Common.{◌≡◌, ◌==◌, ◌<◌, ◌≤◌, ◌^◌, ℕ, Bool, true, false, not, List, [], ◌∷◌, Some, None, codes, length, nat_lt, refl, sym, ap, ◌∙◌, arith, lt-ltb}
+use Rattle.std.proofs.lemmas.Bool.{ne_eqb}
+use Rattle.std.specs.Fmt.{decimal}
+use Rattle.std.specs.Str.{bytes_eq}
+use Rattle.std.specs.Str.Parse.{IsNumeral, digits_value, without_leading_plus}
+use Rattle.std.proofs.lemmas.Fmt.{decimal_is_IsNumeral}
+use Rattle.std.proofs.lemmas.Str.Parse.{digit_from_value}
+use Rattle.clap.proofs.OnLiterals.{clap_on_literals}
+use Rattle.clap.proofs.ValueTestLemmas.{Accepts-accepts}
+use Rattle.clap.specs.Faults.{fault_of}
+use Rattle.clap.specs.Lexer.{long_of, short_of}
+use Rattle.clap.specs.Simple.{subcommand_of}
+use Rattle.clap.specs.ValueTests.{is_unsigned_in}
+use Rattle.clap.specs.declared.builder.value_parser.ValueParser.TheVariants.{Unsigned}
+use Rattle.rp_run.specs.CommandLine.{Line, Pairs, Analyse, Demand, Welfare, Utility, Trial, line_named, line_of}
+use Rattle.rp_run.specs.Commands.{program}
+use Rattle.rp_run.specs.Shapes.{HasShape, is_file_name, shape_of}
+
+-- a word that is no flag
+record IsPlainWord (word : List ℕ) : Type 0 where
+  pub dashes : bytes_eq word (45 ∷ 45 ∷ []) ≡ false
+  pub long : long_of word ≡ None
+  pub short : short_of word ≡ None
+
+plain_word : (b : ℕ) (rest : List ℕ) → (b == 45) ≡ false → IsPlainWord (b ∷ rest)
+plain_word b rest other = record { dashes = rw other refl; long = rw other refl; short = rw other refl }
+
+-- a word that the parser of a file's name takes
+record IsFileWord (word : List ℕ) : Type 0 where
+  pub plain : IsPlainWord word
+  pub filled : nat_lt 0 (length word) ≡ true
+
+file_word : (word : List ℕ) → is_file_name word ≡ true → IsFileWord word
+file_word [] named = cc
+file_word (b ∷ rest) named = record { plain = plain_word b rest (other (b == 45) named); filled = lt-ltb 0 (length (b ∷ rest)) (omega arith) }
+  where
+    other : (test : Bool) → not test ≡ true → test ≡ false
+    other true is = sym is
+    other false is = refl
+
+-- a word that the parser of a number takes, and its number
+record IsNumberWord (low high n : ℕ) (word : List ℕ) : Type 0 where
+  pub plain : IsPlainWord word
+  pub taken : is_unsigned_in low high word ≡ true
+  pub value : digits_value 10 (without_leading_plus word) ≡ n
+
+number_word : (low high n : ℕ) → n < 2 ^ 64 → low ≤ n → n ≤ high → IsNumberWord low high n (decimal n)
+number_word low high n small least most = go (decimal n) (decimal_is_IsNumeral n small).0 (decimal_is_IsNumeral n small).1
+  where
+    go : (word : List ℕ) → IsNumeral 10 word → digits_value 10 word ≡ n → IsNumberWord low high n word
+    go [] numeral is = absurd (omega arith)
+    go (b ∷ rest) numeral is =
+        let digit = digit_from_value b numeral.1.0 in
+        let no_plus : without_leading_plus (b ∷ rest) ≡ b ∷ rest = rw (ne_eqb b 43 (λ e. omega arith)) refl in
+        let value : digits_value 10 (without_leading_plus (b ∷ rest)) ≡ n = ap (digits_value 10) no_plus ∙ is in
+        record {
+          plain = plain_word b rest (ne_eqb b 45 (λ e. omega arith));
+          taken = Accepts-accepts false (Unsigned low high) (b ∷ rest) (rw no_plus numeral, omega arith, omega arith, omega arith);
+          value = value;
+        }
+
+pairs_free : (name file : List ℕ) → IsFileWord file → fault_of program (name ∷ codes "pairs" ∷ file ∷ []) ≡ []
+unfolding clap_on_literals
+pairs_free name file f = rw (f.plain.dashes, f.plain.long, f.plain.short, f.filled) refl
+
+pairs_named : (name file : List ℕ) → IsFileWord file → line_named (subcommand_of program (name ∷ codes "pairs" ∷ file ∷ [])) ≡ Some (Pairs file)
+unfolding clap_on_literals
+pairs_named name file f = rw (f.plain.dashes, f.plain.long, f.plain.short) refl
+
+analyse_free : (name file : List ℕ) → IsFileWord file → fault_of program (name ∷ codes "analyse" ∷ file ∷ []) ≡ []
+unfolding clap_on_literals
+analyse_free name file f = rw (f.plain.dashes, f.plain.long, f.plain.short, f.filled) refl
+
+analyse_named : (name file : List ℕ) → IsFileWord file → line_named (subcommand_of program (name ∷ codes "analyse" ∷ file ∷ [])) ≡ Some (Analyse file)
+unfolding clap_on_literals
+analyse_named name file f = rw (f.plain.dashes, f.plain.long, f.plain.short) refl
+
+demand_free : (name file other : List ℕ) → IsFileWord file → IsFileWord other → fault_of program (name ∷ codes "demand" ∷ file ∷ other ∷ []) ≡ []
+unfolding clap_on_literals
+demand_free name file other f o = rw (f.plain.dashes, f.plain.long, f.plain.short, o.plain.dashes, o.plain.long, o.plain.short) (rw (f.filled, o.filled) refl)
+
+demand_named : (name file other : List ℕ) → IsFileWord file → IsFileWord other → line_named (subcommand_of program (name ∷ codes "demand" ∷ file ∷ other ∷ [])) ≡ Some (Demand file other)
+unfolding clap_on_literals
+demand_named name file other f o = rw (f.plain.dashes, f.plain.long, f.plain.short, o.plain.dashes, o.plain.long, o.plain.short) refl
+
+welfare_free : (name file other : List ℕ) → IsFileWord file → IsFileWord other → fault_of program (name ∷ codes "welfare" ∷ file ∷ other ∷ []) ≡ []
+unfolding clap_on_literals
+welfare_free name file other f o = rw (f.plain.dashes, f.plain.long, f.plain.short, o.plain.dashes, o.plain.long, o.plain.short) (rw (f.filled, o.filled) refl)
+
+welfare_named : (name file other : List ℕ) → IsFileWord file → IsFileWord other → line_named (subcommand_of program (name ∷ codes "welfare" ∷ file ∷ other ∷ [])) ≡ Some (Welfare file other)
+unfolding clap_on_literals
+welfare_named name file other f o = rw (f.plain.dashes, f.plain.long, f.plain.short, o.plain.dashes, o.plain.long, o.plain.short) refl
+
+utility_free : (name file other : List ℕ) → IsFileWord file → IsFileWord other → fault_of program (name ∷ codes "utility" ∷ file ∷ other ∷ []) ≡ []
+unfolding clap_on_literals
+utility_free name file other f o = rw (f.plain.dashes, f.plain.long, f.plain.short, o.plain.dashes, o.plain.long, o.plain.short) (rw (f.filled, o.filled) refl)
+
+utility_named : (name file other : List ℕ) → IsFileWord file → IsFileWord other → line_named (subcommand_of program (name ∷ codes "utility" ∷ file ∷ other ∷ [])) ≡ Some (Utility file other)
+unfolding clap_on_literals
+utility_named name file other f o = rw (f.plain.dashes, f.plain.long, f.plain.short, o.plain.dashes, o.plain.long, o.plain.short) refl
+
+module _ (name seed rows goods : List ℕ) (s r g : ℕ) (ws : IsNumberWord 0 18446744073709551615 s seed) (wr : IsNumberWord 1 256 r rows) (wg : IsNumberWord 1 16 g goods) where
+  trial_free : fault_of program (name ∷ codes "trial" ∷ seed ∷ rows ∷ goods ∷ []) ≡ []
+  unfolding clap_on_literals
+  trial_free =
+      rw (ws.plain.dashes, ws.plain.long, ws.plain.short, wr.plain.dashes, wr.plain.long, wr.plain.short) (rw (wg.plain.dashes, wg.plain.long, wg.plain.short) (rw ws.taken (rw wr.taken (rw wg.taken refl))))
+
+  trial_named : line_named (subcommand_of program (name ∷ codes "trial" ∷ seed ∷ rows ∷ goods ∷ [])) ≡ Some (Trial s r g)
+  unfolding clap_on_literals
+  trial_named =
+      rw (ws.plain.dashes, ws.plain.long, ws.plain.short, wr.plain.dashes, wr.plain.long, wr.plain.short, wg.plain.dashes, wg.plain.long, wg.plain.short, ws.taken, wr.taken, wg.taken)
+      (λ i. Some (Trial (ws.value i) (wr.value i) (wg.value i)))
+
+-- words without a fault denote the line of their matches
+denotes : (words : List (List ℕ)) (line : Line) → fault_of program words ≡ [] → line_named (subcommand_of program words) ≡ Some line → line_of words ≡ Some line
+unfolding line_of
+denotes words line free named = rw free named
+
+pub shape_taken : (name : List ℕ) (line : Line) → HasShape line → line_of (name ∷ shape_of line) ≡ Some line
+shape_taken name (Pairs table) t = let w = file_word table t in denotes _ (Pairs table) (pairs_free name table w) (pairs_named name table w)
+shape_taken name (Analyse table) t = let w = file_word table t in denotes _ (Analyse table) (analyse_free name table w) (analyse_named name table w)
+shape_taken name (Demand table new) (t, n) =
+    let w = file_word table t in
+    let o = file_word new n in denotes _ (Demand table new) (demand_free name table new w o) (demand_named name table new w o)
+shape_taken name (Welfare table new) (t, n) =
+    let w = file_word table t in
+    let o = file_word new n in denotes _ (Welfare table new) (welfare_free name table new w o) (welfare_named name table new w o)
+shape_taken name (Utility table bundles) (t, b) =
+    let w = file_word table t in
+    let o = file_word bundles b in denotes _ (Utility table bundles) (utility_free name table bundles w o) (utility_named name table bundles w o)
+shape_taken name (Trial seed rows goods) (small, some_rows, few_rows, some_goods, few_goods) =
+    let ws = number_word 0 18446744073709551615 seed small (omega arith) (omega arith) in
+    let wr = number_word 1 256 rows (omega arith) some_rows few_rows in
+    let wg = number_word 1 16 goods (omega arith) some_goods few_goods in
+    denotes _ (Trial seed rows goods) (trial_free name (decimal seed) (decimal rows) (decimal goods) seed rows goods ws wr wg) (trial_named name (decimal seed) (decimal rows) (decimal goods) seed rows goods ws wr wg)
+
+-- the same of words that are those of a shape
+pub shape_given : (given : List (List ℕ)) (line : Line) (name : List ℕ) → HasShape line → given ≡ name ∷ shape_of line → line_of given ≡ Some line
+shape_given given line name has is = ap line_of is ∙ shape_taken name line has

@@ -1,0 +1,43 @@
+use Rattle.std.proofs.Common.{refl, true}
+use Rattle.rp_text.specs.Denotation.{table_in, prices_beside}
+use Rattle.rp_run.specs.CommandLine.{Demand}
+use Rattle.rp_run.specs.Inputs.{numbers_in, DemandOver}
+use Rattle.rp_run.specs.Endings.{Rose}
+use Rattle.rp_run.specs.Causes.{IsCause}
+use Rattle.rp_run.proofs.FileLemmas.{two_input, first_cause, second_cause, moved_cause, moved_value}
+use Rattle.rp_run.proofs.GainsLemmas.{rises_later}
+use Rattle.rp_run.proofs.PassedOn.{passed_on}
+use Rattle.rp_run.proofs.input.load_table_budgets.Goals as goal
+
+pub returns-in_err-table-clause-caused : goal.returns-in_err-table-clause-caused
+returns-in_err-table-clause-caused g c =
+    let files = g.D.Desk.bytes c.args.desk.now in
+    let rose = Rose (g.D.Desk.faults c.args.desk.now) (g.D.Desk.faults c.load_table.new.desk) in
+    let f = c.args.first.now in
+    let s = c.args.second.now in
+    passed_on c.from_residual.result c.in_err-table.field-0.0 (IsCause files rose (Demand f s)) c.from_residual.ensures
+    (first_cause files rose (Demand f s) f s (numbers_in f table_in) (λ t. numbers_in s (prices_beside true t)) DemandOver refl (λ bytes. refl) c.in_err-table.field-0.0 c.in_err-table.ensures.loaded)
+
+pub returns-in_err-new-clause-caused : goal.returns-in_err-new-clause-caused
+returns-in_err-new-clause-caused g c =
+    let files = g.D.Desk.bytes c.args.desk.now in
+    let later = g.D.Desk.bytes c.load_table.new.desk in
+    let before = g.D.Desk.faults c.args.desk.now in
+    let mid = g.D.Desk.faults c.load_table.new.desk in
+    let after = g.D.Desk.faults c.load_budgets.new.desk in
+    let f = c.args.first.now in
+    let s = c.args.second.now in
+    let why = c.in_err-new.field-0.0 in
+    let moved = moved_cause files later (Rose before after) (Rose mid after) s (numbers_in s (prices_beside true c.in_ok-table.table)) why (c.in_ok-table.ensures.bytes_stay s) (λ up. rises_later (before s) (mid s) (after s) (c.in_ok-table.ensures.never_falls s) up) c.in_err-new.ensures.loaded in
+    passed_on c.from_residual-in_err-new.result why (IsCause files (Rose before after) (Demand f s)) c.from_residual-in_err-new.ensures
+    (second_cause files (Rose before after) (Demand f s) f s (numbers_in f table_in) (λ t. numbers_in s (prices_beside true t)) DemandOver refl (λ bytes. refl) c.in_ok-table.table why c.in_ok-table.ensures.loaded moved)
+
+pub returns-clause-read : goal.returns-clause-read
+returns-clause-read g c =
+    let files = g.D.Desk.bytes c.args.desk.now in
+    let later = g.D.Desk.bytes c.load_table.new.desk in
+    let rose = Rose (g.D.Desk.faults c.args.desk.now) (g.D.Desk.faults c.load_budgets.new.desk) in
+    let f = c.args.first.now in
+    let s = c.args.second.now in
+    let moved = moved_value files later s (numbers_in s (prices_beside true c.in_ok-table.table)) c.in_ok-new.new (c.in_ok-table.ensures.bytes_stay s) c.in_ok-new.ensures.loaded in
+    two_input files rose (Demand f s) f s (numbers_in f table_in) (λ t. numbers_in s (prices_beside true t)) DemandOver refl (λ bytes. refl) c.in_ok-table.table c.in_ok-new.new c.in_ok-table.ensures.loaded moved

@@ -1,0 +1,44 @@
+-- The commands of the program, as the library `clap` is told of them (this program's own words). By these `clap` says which words
+-- it takes, and what its matches are.
+use Rattle.std.specs.Prelude.{ℕ, true, false, List, [], ◌∷◌, Some, codes}
+use Rattle.clap.specs.Simple.{App, Shape, new_rule, new_shape}
+use Rattle.clap.specs.Walk.{Rule, Text}
+use Rattle.clap.specs.declared.builder.value_parser.ValueParser.TheVariants.{NonEmptyString, Unsigned}
+
+-- the name of a file, which has to be there and is not empty
+abbrev pub file_rule : Text → Rule
+file_rule id = record (new_rule id) { parser = Some NonEmptyString; required = true }
+
+-- a number from low to high, which has to be there
+abbrev pub number_rule : ℕ → ℕ → Text → Rule
+number_rule low high id = record (new_rule id) { parser = Some (Unsigned low high); required = true }
+
+-- a command with its arguments, in the order of the words
+abbrev pub command_shape : Text → List Rule → Shape
+command_shape name rules = record (new_shape name) { rules = rules }
+
+-- a command with no command below it
+abbrev pub alone : Shape → App
+alone shape = record { top = shape; subs = [] }
+
+abbrev pub trial_shape : Shape
+trial_shape =
+    command_shape (codes "trial")
+    (number_rule 0 18446744073709551615 (codes "SEED") ∷ number_rule 1 256 (codes "ROWS") ∷ number_rule 1 16 (codes "GOODS") ∷ [])
+
+abbrev pub commands : List Shape
+commands =
+    command_shape (codes "pairs") (file_rule (codes "TABLE") ∷ [])
+    ∷ command_shape (codes "analyse") (file_rule (codes "TABLE") ∷ [])
+    ∷ command_shape (codes "demand") (file_rule (codes "TABLE") ∷ file_rule (codes "NEW") ∷ [])
+    ∷ command_shape (codes "welfare") (file_rule (codes "TABLE") ∷ file_rule (codes "NEW") ∷ [])
+    ∷ command_shape (codes "utility") (file_rule (codes "TABLE") ∷ file_rule (codes "BUNDLES") ∷ [])
+    ∷ trial_shape
+    ∷ []
+
+-- the program: one of the commands has to be there, and no word asks for help
+abbrev pub program : App
+program = record {
+  top = record (new_shape (codes "rp")) { is_leaf = false; subcommand_required = true; disable_help_flag = true; disable_help_subcommand = true };
+  subs = commands;
+}
