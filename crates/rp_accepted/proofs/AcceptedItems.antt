@@ -1,5 +1,5 @@
 -- A certificate that begins with a verdict on the axiom, and goes on with items as they are given from it, is accepted.
-use Rattle.std.proofs.Common.{◌||◌, zero, suc, ◌∷◌, List, Bool, true, false, IsTrue, All, Ok, arith, refl, slice_index_or, take}
+use Rattle.std.proofs.Common.{ℕ, ◌≡◌, ◌<◌, length, ◌||◌, zero, suc, ◌∷◌, List, Bool, true, false, IsTrue, All, Ok, arith, refl, slice_index_or, take}
 use Rattle.rp_accepted.specs.Given.{ProvesAsGiven}
 use Rattle.rp_check.specs.CheckVerdict.{IsVerdictOn}
 use Rattle.rp_check.specs.ItemFailure.{ItemFails, one_shows_garp, shows_garp}
@@ -36,3 +36,8 @@ module _ (input : TableInput) (verdict : Garp) (garp : ProvesGarp input.n input.
       item_passes (one_shows_garp (take (suc k) (GarpItem verdict ∷ rest)))
       (shown_first (shows_garp (GarpItem verdict)) (one_shows_garp (take k rest)))
       (slice_index_or rest k other) (all k other (omega arith))
+
+  -- the same where the items after the first one answer so many questions
+  pub answers_accepted : (count : ℕ) (others : List Item) → length others ≡ count → ((k : ℕ) (d : Item) → k < count → ProvesAsGiven input verdict (slice_index_or others k d))
+      → IsVerdictOn input (GarpItem verdict ∷ others) Accepted
+  answers_accepted count others one_each each = certificate_accepted others (λ k d k_in. each k d (omega (arith, one_each, k_in)))

@@ -3,3 +3,4 @@ pub mod AcceptedBounds
 pub mod AcceptedItems
 pub mod Closed
 pub mod Narrow
+pub mod NewRows
