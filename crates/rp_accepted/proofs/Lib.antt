@@ -2,5 +2,6 @@ pub mod Accepted
 pub mod AcceptedBounds
 pub mod AcceptedItems
 pub mod Closed
+pub mod Excluding
 pub mod Narrow
 pub mod NewRows

@@ -1,4 +1,4 @@
-ghost use Rattle.std.specs.Prelude.{◌<◌, ◌∷◌, All, List, ℕ};
+ghost use Rattle.std.specs.Prelude.{◌≡◌, ◌<◌, ◌∷◌, All, List, ℕ};
 ghost use Rattle.rp_accepted.specs.Given.{AreNewPrices, IsNewExpenditure, Passes};
 ghost use Rattle.rp_accepted.specs.Given.{ProvesAsGiven};
 ghost use Rattle.rp_afriat.specs.Verdict.{IsAfriatVerdict};
@@ -11,6 +11,7 @@ ghost use Rattle.rp_check.specs.HomotheticFailure.{HomotheticFails};
 ghost use Rattle.rp_check.specs.ItemFailure.{shows_garp};
 ghost use Rattle.rp_check.specs.QuasilinearFailure.{QuasilinearFails};
 ghost use Rattle.rp_check.specs.WelfareFailure.{WelfareFails};
+ghost use Rattle.rp_check.specs.declared.verdict.Verdict.{Verdict};
 ghost use Rattle.rp_check.specs.declared.verdict.Verdict.TheVariants.{Accepted};
 ghost use Rattle.rp_effic.specs.Verdict.{IsEfficiencyVerdict};
 ghost use Rattle.rp_evidence.specs.AfriatEvidence.{ProvesAfriat};
@@ -88,4 +89,10 @@ pub fn certificates_accepted()
     ensures { (input : TableInput) (verdict : Garp) (rest : List Item)
         → ProvesGarp input.n input.cost verdict → All (ProvesAsGiven input verdict) rest
         → IsVerdictOn input (GarpItem verdict ∷ rest) Accepted }
+{}
+
+/// What is accepted is not rejected: the checker's verdict on it is no other.
+pub fn accepted_is_not_rejected()
+    ensures { (input : TableInput) (items : List Item) (verdict : Verdict)
+        → IsVerdictOn input items Accepted → IsVerdictOn input items verdict → verdict ≡ Accepted }
 {}

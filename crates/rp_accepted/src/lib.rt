@@ -4,6 +4,7 @@
 mod laws;
 
 pub use laws::{
-    afriat_accepted, certificates_accepted, demand_accepted, efficiency_accepted, garp_accepted,
-    homothetic_accepted, quasilinear_accepted, welfare_accepted,
+    accepted_is_not_rejected, afriat_accepted, certificates_accepted, demand_accepted,
+    efficiency_accepted, garp_accepted, homothetic_accepted, quasilinear_accepted,
+    welfare_accepted,
 };
