@@ -5,3 +5,4 @@ pub mod Closed
 pub mod Excluding
 pub mod Narrow
 pub mod NewRows
+mod Tries
