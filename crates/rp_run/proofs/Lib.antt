@@ -1,3 +1,4 @@
+pub mod AcceptedLemmas
 mod AskedLemmas
 pub mod FileLemmas
 pub mod GainsLemmas
