@@ -1,3 +1,7 @@
+pub mod AcceptedItems
+pub mod AcceptedAsked
+pub mod AcceptedLemmas
+pub mod AskedRecords
 mod AskedLemmas
 pub mod FileLemmas
 pub mod GainsLemmas

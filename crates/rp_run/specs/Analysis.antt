@@ -18,6 +18,7 @@ use Rattle.rp_garp.specs.Verdict.{IsGarpVerdict}
 use Rattle.rp_homo.specs.Verdict.{IsHomotheticVerdict}
 use Rattle.rp_quasi.specs.Verdict.{IsQuasilinearVerdict}
 use Rattle.rp_report.specs.ReportText.{report_text}
+use Rattle.rp_run.specs.Accepted.{IsAcceptedOn}
 
 -- the certificate of a table with these five items
 abbrev pub certificate_of : Garp → AfriatPart → Efficiency → Homothetic → Quasi → Certificate
@@ -29,7 +30,7 @@ certificate_of garp afriat efficiency homothetic quasilinear = record {
 
 -- the certificate of what a table says: the verdicts on the generalized axiom of revealed preference (Varian 1982), by
 -- Afriat's theorem (Afriat 1967), on the efficiency index (Afriat 1973), of the homothetic test (Varian 1983) and of the
--- quasilinear test, as they are given
+-- quasilinear test, as they are given; the checker accepts it
 pub record IsAnalysis (input : TableInput) (certificate : Certificate) : Type 0 where
   pub garp : Garp
   pub afriat : AfriatPart
@@ -47,6 +48,7 @@ pub record IsAnalysis (input : TableInput) (certificate : Certificate) : Type 0 
   pub homothetic_given : IsHomotheticVerdict input.n input.cost homothetic
   pub quasilinear_proves : Proves input (QuasiItem quasilinear)
   pub quasilinear_given : IsQuasilinearVerdict input.n input.cost quasilinear
+  pub accepted : IsAcceptedOn input certificate
 
 -- the text is the report of such a certificate
 abbrev pub IsAnalysisText : Observations → List ℕ → Type 0

@@ -14,6 +14,7 @@ use Rattle.rp_evidence.specs.declared.demand.DemandPart.{DemandPart}
 use Rattle.rp_evidence.specs.declared.garp.Garp.{Garp}
 use Rattle.rp_support.specs.Verdict.{IsDemandGiven}
 use Rattle.rp_report.specs.ReportText.{report_text}
+use Rattle.rp_run.specs.Accepted.{PassesAfter}
 use Rattle.rp_run.specs.AskedItems.{IsAskedOf}
 
 -- the item on the budget at these prices with m: it proves its verdict, and is as it is given under the verdict on the axiom
@@ -22,6 +23,7 @@ pub record IsDemandItem (input : TableInput) (garp : Garp) (prices : List ℕ) (
   pub on_budget : item ≡ Demand prices m part
   pub proves : Proves input item
   pub given : IsDemandGiven input (budget_of prices m) garp part
+  pub passes : PassesAfter input garp item
 
 -- after the verdict on the axiom one item for each record of the new prices
 abbrev pub IsDemandCertificate : TableInput → PriceList → Certificate → Type 0

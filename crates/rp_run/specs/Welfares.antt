@@ -13,6 +13,7 @@ use Rattle.rp_evidence.specs.declared.demand.WelfarePart.{WelfarePart}
 use Rattle.rp_evidence.specs.declared.garp.Garp.{Garp}
 use Rattle.rp_welfare.specs.Verdict.{IsWelfareVerdict}
 use Rattle.rp_report.specs.ReportText.{report_text}
+use Rattle.rp_run.specs.Accepted.{PassesAfter}
 use Rattle.rp_run.specs.AskedItems.{IsAskedOf}
 
 -- the item on observation t at these prices: it proves its verdict, and is as it is given under the verdict on the axiom
@@ -21,6 +22,7 @@ pub record IsWelfareItem (input : TableInput) (garp : Garp) (prices : List ℕ) 
   pub of_observation : item ≡ Welfare prices t part
   pub proves : Proves input item
   pub given : IsWelfareVerdict input prices t garp part
+  pub passes : PassesAfter input garp item
 
 -- after the verdict on the axiom, for each record of the new prices, one item for each observation
 abbrev pub IsWelfareCertificate : TableInput → PriceList → Certificate → Type 0
