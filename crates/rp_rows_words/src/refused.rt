@@ -3,7 +3,7 @@ use rp_run::Status;
 use std::test::Fail;
 
 const USAGE: &str =
-    "usage: rp pairs TABLE\n       rp analyse TABLE\n       rp demand TABLE NEW\n       rp welfare TABLE NEW\n       rp utility TABLE BUNDLES\n       rp trial SEED ROWS GOODS\n";
+    "usage: rp pairs TABLE\n       rp analyse TABLE\n       rp certify TABLE\n       rp demand TABLE NEW [--json]\n       rp welfare TABLE NEW [--json]\n       rp utility TABLE BUNDLES\n       rp trial SEED ROWS GOODS\n";
 
 #[test]
 fn words_that_are_refused_are_told_by_the_usage(rt: HostRuntime) -> Result<(), Fail> {
@@ -22,6 +22,12 @@ fn words_that_are_refused_are_told_by_the_usage(rt: HostRuntime) -> Result<(), F
         &["rp", "utility", "t.csv"],
         &["rp", "utility", "t.csv", ""],
         &["rp", "pairs", "--json", "t.csv"],
+        &["rp", "certify", "t.csv", "--json"],
+        &["rp", "demand", "two.csv", "--json"],
+        &["rp", "demand", "two.csv", "three.csv", "--json", "--json"],
+        &["rp", "demand", "two.csv", "three.csv", "--json=true"],
+        &["rp", "demand", "two.csv", "three.csv", "--jso"],
+        &["rp", "utility", "t.csv", "b.csv", "--json"],
         &["rp", "pairs", "-x", "t.csv"],
         &["rp", "-x", "pairs", "t.csv"],
         &["rp", "help"],

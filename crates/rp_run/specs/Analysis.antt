@@ -1,6 +1,6 @@
--- What `analyse` prints: the report of a certificate that has one item for each test, in a fixed order, each
+-- What `analyse` and `certify` print: the report, or the JSON, of a certificate that has one item for each test, in a fixed order, each
 -- with evidence that proves its verdict.
-use Rattle.std.specs.Prelude.{◌≡◌, ℕ, List, [], ◌∷◌}
+use Rattle.std.specs.Prelude.{◌≡◌, ℕ, Bool, List, [], ◌∷◌}
 use Rattle.rp_table.specs.Tables.{Observations}
 use Rattle.rp_evidence.specs.Input.{TableInput, input_of_table}
 use Rattle.rp_evidence.specs.Proves.{Proves}
@@ -17,8 +17,8 @@ use Rattle.rp_effic.specs.Verdict.{IsEfficiencyVerdict}
 use Rattle.rp_garp.specs.Verdict.{IsGarpVerdict}
 use Rattle.rp_homo.specs.Verdict.{IsHomotheticVerdict}
 use Rattle.rp_quasi.specs.Verdict.{IsQuasilinearVerdict}
-use Rattle.rp_report.specs.ReportText.{report_text}
 use Rattle.rp_run.specs.Accepted.{IsAcceptedOn}
+use Rattle.rp_run.specs.ShownText.{shown_text}
 
 -- the certificate of a table with these five items
 abbrev pub certificate_of : Garp → AfriatPart → Efficiency → Homothetic → Quasi → Certificate
@@ -50,7 +50,7 @@ pub record IsAnalysis (input : TableInput) (certificate : Certificate) : Type 0 
   pub quasilinear_given : IsQuasilinearVerdict input.n input.cost quasilinear
   pub accepted : IsAcceptedOn input certificate
 
--- the text is the report of such a certificate
-abbrev pub IsAnalysisText : Observations → List ℕ → Type 0
-IsAnalysisText table text =
-    (certificate : Certificate) × IsAnalysis (input_of_table table) certificate × (text ≡ report_text table certificate.items)
+-- the text is that of such a certificate
+abbrev pub IsAnalysisText : Bool → Observations → List ℕ → Type 0
+IsAnalysisText json table text =
+    (certificate : Certificate) × IsAnalysis (input_of_table table) certificate × (text ≡ shown_text json table certificate)
