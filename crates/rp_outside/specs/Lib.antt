@@ -1,3 +1,4 @@
+pub mod Drip
 pub mod Faults
 pub mod Files
 pub mod MemoryDesk

@@ -3,6 +3,8 @@
 #![tactic(auto)]
 
 mod desks;
+mod drip_desk;
+mod drip_sink;
 mod file_desk;
 mod loading;
 mod memory_desk;
@@ -15,6 +17,8 @@ mod streams;
 mod sure;
 
 pub use desks::{Desk, DeskFault};
+pub use drip_desk::DripDesk;
+pub use drip_sink::DripSink;
 pub use file_desk::FileDesk;
 pub use loading::{LoadFault, load};
 pub use memory_desk::MemDesk;

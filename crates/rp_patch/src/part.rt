@@ -74,6 +74,14 @@ impl Part {
         }
     }
 
+    /// The patches taken, of the first budgets in order.
+    pub fn patches(&self) -> &[u32]
+        requires { self.now.taken ≤ 48 }
+        ensures { result.now ≡ taken_in self.now }
+    {
+        &self.patches[..self.taken as usize]
+    }
+
     /// The part with patch `i` of the next budget, or none where no rational type begins with that.
     pub fn with(&self, patches: &Patches, i: u32) -> Option<Part>
         requires part { IsPart patches.now self.now }

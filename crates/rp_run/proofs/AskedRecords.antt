@@ -13,9 +13,13 @@ use Rattle.rp_table.specs.declared.TheConstants.{LARGEST, LARGEST_EXPENDITURE}
 use Rattle.rp_welfare.specs.Verdict.{IsWelfareVerdict}
 use Rattle.rp_run.specs.Demands.{IsDemandItem}
 use Rattle.rp_run.specs.Welfares.{IsWelfareItem}
-use Rattle.rp_run.proofs.AcceptedAsked.{demand_passes, welfare_passes}
+use Rattle.rp_accepted.proofs.AcceptedBounds.{demand_passes, welfare_passes}
+use Rattle.rp_accepted.specs.Given.{AreNewPrices}
 
 module _ (input : TableInput) (garp : Garp) (prices kept : List ℕ) (same : kept ≡ prices) (one_each : length prices ≡ input.goods) (limits : All (λ p. (1 ≤ p) × (p ≤ LARGEST)) prices) where
+  new : AreNewPrices input.goods prices
+  new = record { one_each = one_each; fit = limits }
+
   pub demand_record : (m : ℕ) (part : DemandPart) → 1 ≤ m → m ≤ LARGEST_EXPENDITURE → ProvesDemand input prices m part → IsDemandGiven input (budget_of prices m) garp part
       → IsDemandItem input garp prices m (Demand kept m part)
   demand_record m part least most proves given =
@@ -24,7 +28,7 @@ module _ (input : TableInput) (garp : Garp) (prices kept : List ℕ) (same : kep
         on_budget = refl;
         proves = proves;
         given = given;
-        passes = λ shown before. demand_passes input shown garp before prices one_each limits m part least most proves given;
+        passes = λ shown before. demand_passes input shown garp prices m part before new (least, most) proves given;
       })
 
   pub welfare_record : (t : ℕ) (part : WelfarePart) → t < input.n → ProvesGarp input.n input.cost garp → ProvesWelfare input prices t part → IsWelfareVerdict input prices t garp part
@@ -35,5 +39,5 @@ module _ (input : TableInput) (garp : Garp) (prices kept : List ℕ) (same : kep
         of_observation = refl;
         proves = proves;
         given = given;
-        passes = λ shown before. welfare_passes input shown garp before prices one_each limits t part t_in verdict proves given;
+        passes = λ shown before. welfare_passes input shown garp prices t part before new t_in verdict proves given;
       })

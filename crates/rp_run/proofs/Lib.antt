@@ -1,5 +1,3 @@
-pub mod AcceptedItems
-pub mod AcceptedAsked
 pub mod AcceptedLemmas
 pub mod AskedRecords
 mod AskedLemmas

@@ -1,0 +1,8 @@
+pub mod Accepted
+pub mod AcceptedBounds
+pub mod AcceptedItems
+pub mod Closed
+pub mod Excluding
+pub mod Narrow
+pub mod NewRows
+mod Tries
