@@ -30,6 +30,15 @@ const ANALYSE: Case<'static> = Case {
         homothetic violated\nstart 1\ncycle 1 2 1\nquasilinear violated\ncycle 1 2 1\n",
 };
 
+const CERTIFY: Case<'static> = Case {
+    words: &["rp", "certify", "t.csv"],
+    files: &[("t.csv", CONTRADICTION)],
+    text: "{\"items\":[{\"cycle\":[1,2,1],\"item\":\"garp\"},{\"cycle\":[1,2,1],\"item\":\"afriat\"},\
+        {\"above\":[1,2,1],\"at_ranks\":[2,2],\"below\":[1,1],\"item\":\"efficiency\",\"level\":\"4/5\"},\
+        {\"cycle\":[1,2,1],\"item\":\"homothetic\",\"start\":\"1\"},{\"cycle\":[1,2,1],\"item\":\"quasilinear\"}],\
+        \"kind\":\"table\",\"version\":1}\n",
+};
+
 const UTILITY: Case<'static> = Case {
     words: &["rp", "utility", "t.csv", "b.csv"],
     files: &[("t.csv", MORE_AND_LESS), ("b.csv", "q_a,q_b\n3,3\n")],
@@ -128,7 +137,7 @@ fn writes_fail(rt: &impl Abort, alloc: Global, case: Case<'_>) -> Result<(), Fai
 
 #[test]
 fn each_command_over_its_files(rt: HostRuntime) -> Result<(), Fail> {
-    for case in [PAIRS, ANALYSE, UTILITY, DEMAND, WELFARE, TRIAL] {
+    for case in [PAIRS, ANALYSE, CERTIFY, UTILITY, DEMAND, WELFARE, TRIAL] {
         is_done(&rt, rt.alloc(), case)?;
     }
     Ok(())
@@ -136,7 +145,7 @@ fn each_command_over_its_files(rt: HostRuntime) -> Result<(), Fail> {
 
 #[test]
 fn each_read_of_each_command_fails_in_turn(rt: HostRuntime) -> Result<(), Fail> {
-    for case in [PAIRS, ANALYSE, UTILITY, DEMAND, WELFARE, TRIAL] {
+    for case in [PAIRS, ANALYSE, CERTIFY, UTILITY, DEMAND, WELFARE, TRIAL] {
         reads_fail(&rt, rt.alloc(), case)?;
     }
     Ok(())
@@ -144,7 +153,7 @@ fn each_read_of_each_command_fails_in_turn(rt: HostRuntime) -> Result<(), Fail> 
 
 #[test]
 fn writes_of_each_command_fail_in_turn(rt: HostRuntime) -> Result<(), Fail> {
-    for case in [PAIRS, ANALYSE, UTILITY, DEMAND, WELFARE, TRIAL] {
+    for case in [PAIRS, ANALYSE, CERTIFY, UTILITY, DEMAND, WELFARE, TRIAL] {
         writes_fail(&rt, rt.alloc(), case)?;
     }
     Ok(())
