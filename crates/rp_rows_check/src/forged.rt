@@ -3,8 +3,9 @@ ghost use Rattle.rp_evidence.specs.Kinds.{IsOfKind};
 ghost use Rattle.rp_evidence.specs.declared.certificate.Kind.TheVariants.{Table as TableKind};
 
 use rp_check::{Verdict, check};
-use rp_evidence::{AfriatPart, Certificate, Efficiency, Garp, Homothetic, Item, Kind, Level};
-use rp_evidence::{Numbers, Quasi};
+use rp_evidence::{
+    AfriatPart, Certificate, Efficiency, Garp, Homothetic, Item, Kind, Level, Numbers, Quasi,
+};
 use rp_num::{Frac, Seq};
 use rp_table::Costs;
 use rp_text::read_table;
@@ -19,7 +20,10 @@ pub fn list(alloc: Global, numbers: &[u32]) -> Result<Seq<u32>, Fail> {
 
 pub fn fraction(rt: &impl Abort, num: u128, den: u128) -> Frac {
     assert!(rt; den >= 1, "not a fraction");
-    assert!(rt; num < 1 << 127 && den < 1 << 127, "past the width of fractions");
+    assert!(rt;
+        num < 1 << 127 && den < 1 << 127,
+        "past the width of fractions"
+    );
     Frac::new(num, den)
 }
 

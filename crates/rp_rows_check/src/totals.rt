@@ -37,7 +37,10 @@ fn forged_products(rt: HostRuntime) -> Result<(), Fail> {
         assert_eq!(rt; answer_alone(alloc, text, item)?.as_str(), expected);
     }
     let item = products(alloc, &[])?;
-    assert_eq!(rt; answer_alone(alloc, CONSISTENT, item)?.as_str(), "item 1 Shape 0");
+    assert_eq!(rt;
+        answer_alone(alloc, CONSISTENT, item)?.as_str(),
+        "item 1 Shape 0"
+    );
     Ok(())
 }
 

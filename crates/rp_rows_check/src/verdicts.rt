@@ -82,7 +82,12 @@ fn forged_models(rt: HostRuntime) -> Result<(), Fail> {
         (MORE_AND_LESS, &[0, -5], &[1, 1], "item 1 Order 2"),
         // both ends of the widths
         (MORE_AND_LESS, &[0, -4], &[1, 1 << 60], "accepted"),
-        (MORE_AND_LESS, &[0, -4], &[1, (1 << 60) + 1], "item 1 Number 2"),
+        (
+            MORE_AND_LESS,
+            &[0, -4],
+            &[1, (1 << 60) + 1],
+            "item 1 Number 2",
+        ),
         (ALONE, &[1 << 120], &[1], "accepted"),
         (ALONE, &[-(1 << 120)], &[1], "accepted"),
         (ALONE, &[(1 << 120) + 1], &[1], "item 1 Number 1"),
@@ -96,7 +101,10 @@ fn forged_models(rt: HostRuntime) -> Result<(), Fail> {
         assert_eq!(rt; answer_alone(alloc, text, item)?.as_str(), expected);
     }
     let item = no_model(alloc, &[0, 1, 0])?;
-    assert_eq!(rt; answer_alone(alloc, CONSISTENT, item)?.as_str(), "item 1 NotWeak 1");
+    assert_eq!(rt;
+        answer_alone(alloc, CONSISTENT, item)?.as_str(),
+        "item 1 NotWeak 1"
+    );
     Ok(())
 }
 
@@ -120,7 +128,10 @@ fn forged_levels(rt: HostRuntime) -> Result<(), Fail> {
     for (num, den, expected) in cases {
         let ranks = at(alloc, true, &[2, 2])?;
         let item = efficiency(alloc, Level { num, den }, &[1, 1], &[0, 1, 0], ranks)?;
-        assert_eq!(rt; answer_alone(alloc, CONTRADICTION, item)?.as_str(), expected);
+        assert_eq!(rt;
+            answer_alone(alloc, CONTRADICTION, item)?.as_str(),
+            expected
+        );
     }
     Ok(())
 }
@@ -130,19 +141,127 @@ fn forged_parts_of_an_efficiency_index(rt: HostRuntime) -> Result<(), Fail> {
     let alloc = rt.alloc();
     // (table, numerator and denominator of the level, ranks below, walk above, ranks or a cycle at it, the answer)
     let cases: [(&str, u64, u64, &[u32], &[u32], bool, &[u32], &str); 12] = [
-        (CONTRADICTION, 4, 5, &[1], &[0, 1, 0], true, &[2, 2], "item 1 Shape 0"),
-        (CONTRADICTION, 4, 5, &[1, 1], &[], true, &[2, 2], "item 1 Shape 0"),
-        (CONTRADICTION, 4, 5, &[1, 1], &[0, 1], true, &[2, 2], "item 1 NotClosed 0"),
-        (CONTRADICTION, 4, 5, &[1, 1], &[0, 2, 0], true, &[2, 2], "item 1 Number 2"),
-        (CONTRADICTION, 4, 5, &[1, 1], &[0, 1, 0], true, &[2], "item 1 Shape 0"),
-        (CONTRADICTION, 4, 5, &[1, 1], &[0, 1, 0], true, &[1, 2], "item 1 Order 1"),
-        (CONTRADICTION, 4, 5, &[1, 1], &[0, 1, 0], false, &[0, 1, 0], "item 1 NoStrict 0"),
-        (CONTRADICTION, 1, 1, &[1, 1], &[], true, &[2, 2], "item 1 Order 1"),
-        (CONSISTENT, 1, 1, &[1, 1], &[0, 1, 0], true, &[1, 1], "item 1 Shape 1"),
-        (CONSISTENT, (1 << 51) - 1, (1 << 51) - 1, &[1, 1], &[], true, &[1, 1], "accepted"),
+        (
+            CONTRADICTION,
+            4,
+            5,
+            &[1],
+            &[0, 1, 0],
+            true,
+            &[2, 2],
+            "item 1 Shape 0",
+        ),
+        (
+            CONTRADICTION,
+            4,
+            5,
+            &[1, 1],
+            &[],
+            true,
+            &[2, 2],
+            "item 1 Shape 0",
+        ),
+        (
+            CONTRADICTION,
+            4,
+            5,
+            &[1, 1],
+            &[0, 1],
+            true,
+            &[2, 2],
+            "item 1 NotClosed 0",
+        ),
+        (
+            CONTRADICTION,
+            4,
+            5,
+            &[1, 1],
+            &[0, 2, 0],
+            true,
+            &[2, 2],
+            "item 1 Number 2",
+        ),
+        (
+            CONTRADICTION,
+            4,
+            5,
+            &[1, 1],
+            &[0, 1, 0],
+            true,
+            &[2],
+            "item 1 Shape 0",
+        ),
+        (
+            CONTRADICTION,
+            4,
+            5,
+            &[1, 1],
+            &[0, 1, 0],
+            true,
+            &[1, 2],
+            "item 1 Order 1",
+        ),
+        (
+            CONTRADICTION,
+            4,
+            5,
+            &[1, 1],
+            &[0, 1, 0],
+            false,
+            &[0, 1, 0],
+            "item 1 NoStrict 0",
+        ),
+        (
+            CONTRADICTION,
+            1,
+            1,
+            &[1, 1],
+            &[],
+            true,
+            &[2, 2],
+            "item 1 Order 1",
+        ),
+        (
+            CONSISTENT,
+            1,
+            1,
+            &[1, 1],
+            &[0, 1, 0],
+            true,
+            &[1, 1],
+            "item 1 Shape 1",
+        ),
+        (
+            CONSISTENT,
+            (1 << 51) - 1,
+            (1 << 51) - 1,
+            &[1, 1],
+            &[],
+            true,
+            &[1, 1],
+            "accepted",
+        ),
         // an index that is not attained
-        (NOT_ATTAINED, 9, 10, &[2, 1], &[0, 1, 0], false, &[1, 0, 1], "accepted"),
-        (NOT_ATTAINED, 9, 10, &[2, 1], &[0, 1, 0], true, &[2, 1], "item 1 Order 2"),
+        (
+            NOT_ATTAINED,
+            9,
+            10,
+            &[2, 1],
+            &[0, 1, 0],
+            false,
+            &[1, 0, 1],
+            "accepted",
+        ),
+        (
+            NOT_ATTAINED,
+            9,
+            10,
+            &[2, 1],
+            &[0, 1, 0],
+            true,
+            &[2, 1],
+            "item 1 Order 2",
+        ),
     ];
     for (text, num, den, below, above, ranks, numbers, expected) in cases {
         let at = at(alloc, ranks, numbers)?;
