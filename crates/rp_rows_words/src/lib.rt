@@ -1,6 +1,8 @@
-//! Tests of `run` on words: those that are taken, and those that are refused; and of trials.
+//! Tests of `run` on words, those that are taken and those that are refused; of certificates, and of trials.
 #![tactic(auto)]
 
+#[cfg(test)]
+mod certificates;
 #[cfg(test)]
 mod outcome;
 #[cfg(test)]

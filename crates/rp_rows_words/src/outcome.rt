@@ -20,13 +20,17 @@ fn owned(alloc: Global, words: &[&str]) -> Result<Vec<String>, Fail> {
     Ok(all)
 }
 
-/// A table `t.csv`, which two observations contradict, the same as `--x`, and new bundles `b.csv`.
+/// Tables, of which two observations of `t.csv` and of `--x` contradict each other, and bundles and new prices beside them.
 fn files(alloc: Global) -> Result<Vec<MemFile>, Fail> {
     let mut files = Vec::new(alloc);
     for (name, text) in [
         ("t.csv", "p_a,q_a,p_b,q_b\n1,1,2,2\n2,2,1,1\n"),
         ("--x", "p_a,q_a,p_b,q_b\n1,1,2,2\n2,2,1,1\n"),
         ("b.csv", "q_a,q_b\n1,1\n"),
+        ("two.csv", "p_a,q_a,p_b,q_b\n1,2,2,1\n2,1,1,2\n"),
+        ("three.csv", "p_a,p_b,m\n1,1,3\n"),
+        ("even.csv", "p_a,q_a,p_b,q_b\n1,4,1,4\n1,2,1,2\n"),
+        ("dear.csv", "p_a,p_b\n1,2\n"),
     ] {
         files.push(MemFile {
             name: String::from_str(alloc, name)?,

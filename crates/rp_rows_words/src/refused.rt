@@ -2,7 +2,8 @@ use crate::outcome::answer;
 use rp_run::Status;
 use std::test::Fail;
 
-const USAGE: &str = "usage: rp pairs TABLE\n       rp analyse TABLE\n       rp demand TABLE NEW\n       rp welfare TABLE NEW\n       rp utility TABLE BUNDLES\n       rp trial SEED ROWS GOODS\n";
+const USAGE: &str =
+    "usage: rp pairs TABLE\n       rp analyse TABLE\n       rp certify TABLE\n       rp demand TABLE NEW [--json]\n       rp welfare TABLE NEW [--json]\n       rp utility TABLE BUNDLES\n       rp trial SEED ROWS GOODS\n";
 
 #[test]
 fn words_that_are_refused_are_told_by_the_usage(rt: HostRuntime) -> Result<(), Fail> {
@@ -21,6 +22,12 @@ fn words_that_are_refused_are_told_by_the_usage(rt: HostRuntime) -> Result<(), F
         &["rp", "utility", "t.csv"],
         &["rp", "utility", "t.csv", ""],
         &["rp", "pairs", "--json", "t.csv"],
+        &["rp", "certify", "t.csv", "--json"],
+        &["rp", "demand", "two.csv", "--json"],
+        &["rp", "demand", "two.csv", "three.csv", "--json", "--json"],
+        &["rp", "demand", "two.csv", "three.csv", "--json=true"],
+        &["rp", "demand", "two.csv", "three.csv", "--jso"],
+        &["rp", "utility", "t.csv", "b.csv", "--json"],
         &["rp", "pairs", "-x", "t.csv"],
         &["rp", "-x", "pairs", "t.csv"],
         &["rp", "help"],
@@ -43,19 +50,19 @@ fn words_that_are_refused_are_told_by_the_usage(rt: HostRuntime) -> Result<(), F
 #[test]
 fn numbers_out_of_range_are_refused(rt: HostRuntime) -> Result<(), Fail> {
     for words in [
-        ["rp", "trial", "7", "0", "1"],
-        ["rp", "trial", "7", "257", "1"],
-        ["rp", "trial", "7", "1", "0"],
-        ["rp", "trial", "7", "1", "17"],
-        ["rp", "trial", "18446744073709551616", "1", "1"],
-        ["rp", "trial", "-7", "1", "1"],
-        ["rp", "trial", "7", "-1", "1"],
-        ["rp", "trial", "", "1", "1"],
-        ["rp", "trial", "7", "1.0", "1"],
-        ["rp", "trial", "7", "1", "one"],
-        ["rp", "trial", "0x7", "1", "1"],
+        &["rp", "trial", "7", "0", "1"] as &[&str],
+        &["rp", "trial", "7", "257", "1"],
+        &["rp", "trial", "7", "1", "0"],
+        &["rp", "trial", "7", "1", "17"],
+        &["rp", "trial", "18446744073709551616", "1", "1"],
+        &["rp", "trial", "-7", "1", "1"],
+        &["rp", "trial", "7", "-1", "1"],
+        &["rp", "trial", "", "1", "1"],
+        &["rp", "trial", "7", "1.0", "1"],
+        &["rp", "trial", "7", "1", "one"],
+        &["rp", "trial", "0x7", "1", "1"],
     ] {
-        let got = answer(rt.alloc(), &words)?;
+        let got = answer(rt.alloc(), words)?;
         assert_eq!(rt; got.status, Status::Usage, "status of {words:?}");
         assert_eq!(rt; got.err.as_str(), USAGE, "errors of {words:?}");
     }
@@ -64,7 +71,11 @@ fn numbers_out_of_range_are_refused(rt: HostRuntime) -> Result<(), Fail> {
         &["rp", "trial", "7", "1"],
         &["rp", "trial", "7", "1", "1", "1"],
     ] {
-        assert_eq!(rt; answer(rt.alloc(), few)?.status, Status::Usage, "status of {few:?}");
+        assert_eq!(rt;
+            answer(rt.alloc(), few)?.status,
+            Status::Usage,
+            "status of {few:?}"
+        );
     }
     Ok(())
 }

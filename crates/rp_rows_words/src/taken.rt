@@ -30,8 +30,8 @@ fn other_words_are_taken_as_their_matches_say(rt: HostRuntime) -> Result<(), Fai
         (&["rp", "pairs", "--", "t.csv"] as &[&str], "pair 1 2\n"),
         (&["rp", "pairs", "--", "--x"], "pair 1 2\n"),
         (
-            &["rp", "trial", "+7", "007", "01"],
-            "trial 7 rows 7 goods 1\ngarp holds\nefficiency 1 attained yes\nhomothetic holds\nquasilinear holds\n",
+            &["rp", "trial", "+7", "001", "+01"],
+            "trial 7 rows 1 goods 1\ngarp holds\nefficiency 1 attained yes\nhomothetic holds\nquasilinear holds\n",
         ),
     ] {
         let got = answer(rt.alloc(), words)?;

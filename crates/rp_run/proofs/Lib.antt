@@ -1,4 +1,5 @@
 pub mod AcceptedLemmas
+pub mod AskedRecords
 mod AskedLemmas
 pub mod FileLemmas
 pub mod GainsLemmas

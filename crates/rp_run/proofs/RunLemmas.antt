@@ -3,7 +3,7 @@ use Rattle.std.proofs.Common.{◌≡◌, ◌⊎◌, inl, inr, List, ℕ, Option,
 use Rattle.std.specs.List.{Contains}
 use Rattle.std.specs.Result.{IsOk, IsErr}
 use Rattle.rp_run.specs.CommandLine.{Line, files_of}
-use Rattle.rp_run.specs.Inputs.{Input, PairsOver, AnalyseOver, DemandOver, WelfareOver, UtilityOver, TrialOver}
+use Rattle.rp_run.specs.Inputs.{Input, PairsOver, AnalyseOver, CertifyOver, DemandOver, WelfareOver, UtilityOver, TrialOver}
 use Rattle.rp_run.specs.Answers.{Files, Answers, AnswersLine, IsAccepted, IsRefused}
 use Rattle.rp_run.specs.Endings.{IsFaultLine, Rose, NoneRose}
 use Rattle.rp_run.specs.Causes.{status_of_cause, cause_line, IsCause}
@@ -53,8 +53,9 @@ cause_of_calm files before after asked line other NoMemory is also calm none = i
 pub answer_done : (input : Input) (s : Status) (text : List ℕ) → Answers input s text → s ≡ status.Done
 answer_done (PairsOver table) s text answers = answers.0
 answer_done (AnalyseOver table) s text answers = answers.0
-answer_done (DemandOver table new) s text answers = answers.0
-answer_done (WelfareOver table new) s text answers = answers.0
+answer_done (CertifyOver table) s text answers = answers.0
+answer_done (DemandOver table new json) s text answers = answers.0
+answer_done (WelfareOver table new json) s text answers = answers.0
 answer_done (UtilityOver table bundles) s text answers = answers.0
 answer_done (TrialOver seed rows goods) s text answers = answers.0
 

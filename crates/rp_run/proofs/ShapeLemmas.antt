@@ -13,7 +13,7 @@ use Rattle.clap.specs.Lexer.{long_of, short_of}
 use Rattle.clap.specs.Simple.{subcommand_of}
 use Rattle.clap.specs.ValueTests.{is_unsigned_in}
 use Rattle.clap.specs.declared.builder.value_parser.ValueParser.TheVariants.{Unsigned}
-use Rattle.rp_run.specs.CommandLine.{Line, Pairs, Analyse, Demand, Welfare, Utility, Trial, line_named, line_of}
+use Rattle.rp_run.specs.CommandLine.{Line, Pairs, Analyse, Certify, Demand, Welfare, Utility, Trial, line_named, line_of}
 use Rattle.rp_run.specs.Commands.{program}
 use Rattle.rp_run.specs.Shapes.{HasShape, is_file_name, shape_of}
 
@@ -68,6 +68,14 @@ pairs_named : (name file : List ℕ) → IsFileWord file → line_named (subcomm
 unfolding clap_on_literals
 pairs_named name file f = rw (f.plain.dashes, f.plain.long, f.plain.short) refl
 
+certify_free : (name file : List ℕ) → IsFileWord file → fault_of program (name ∷ codes "certify" ∷ file ∷ []) ≡ []
+unfolding clap_on_literals
+certify_free name file f = rw (f.plain.dashes, f.plain.long, f.plain.short, f.filled) refl
+
+certify_named : (name file : List ℕ) → IsFileWord file → line_named (subcommand_of program (name ∷ codes "certify" ∷ file ∷ [])) ≡ Some (Certify file)
+unfolding clap_on_literals
+certify_named name file f = rw (f.plain.dashes, f.plain.long, f.plain.short) refl
+
 analyse_free : (name file : List ℕ) → IsFileWord file → fault_of program (name ∷ codes "analyse" ∷ file ∷ []) ≡ []
 unfolding clap_on_literals
 analyse_free name file f = rw (f.plain.dashes, f.plain.long, f.plain.short, f.filled) refl
@@ -76,21 +84,39 @@ analyse_named : (name file : List ℕ) → IsFileWord file → line_named (subco
 unfolding clap_on_literals
 analyse_named name file f = rw (f.plain.dashes, f.plain.long, f.plain.short) refl
 
-demand_free : (name file other : List ℕ) → IsFileWord file → IsFileWord other → fault_of program (name ∷ codes "demand" ∷ file ∷ other ∷ []) ≡ []
-unfolding clap_on_literals
-demand_free name file other f o = rw (f.plain.dashes, f.plain.long, f.plain.short, o.plain.dashes, o.plain.long, o.plain.short) (rw (f.filled, o.filled) refl)
+module _ (name file other : List ℕ) (f : IsFileWord file) (o : IsFileWord other) where
+  demand_free : fault_of program (name ∷ codes "demand" ∷ file ∷ other ∷ []) ≡ []
+  unfolding clap_on_literals
+  demand_free = rw (f.plain.dashes, f.plain.long, f.plain.short, o.plain.dashes, o.plain.long, o.plain.short) (rw (f.filled, o.filled) refl)
 
-demand_named : (name file other : List ℕ) → IsFileWord file → IsFileWord other → line_named (subcommand_of program (name ∷ codes "demand" ∷ file ∷ other ∷ [])) ≡ Some (Demand file other)
-unfolding clap_on_literals
-demand_named name file other f o = rw (f.plain.dashes, f.plain.long, f.plain.short, o.plain.dashes, o.plain.long, o.plain.short) refl
+  demand_named : line_named (subcommand_of program (name ∷ codes "demand" ∷ file ∷ other ∷ [])) ≡ Some (Demand file other false)
+  unfolding clap_on_literals
+  demand_named = rw (f.plain.dashes, f.plain.long, f.plain.short, o.plain.dashes, o.plain.long, o.plain.short) refl
 
-welfare_free : (name file other : List ℕ) → IsFileWord file → IsFileWord other → fault_of program (name ∷ codes "welfare" ∷ file ∷ other ∷ []) ≡ []
-unfolding clap_on_literals
-welfare_free name file other f o = rw (f.plain.dashes, f.plain.long, f.plain.short, o.plain.dashes, o.plain.long, o.plain.short) (rw (f.filled, o.filled) refl)
+  demand_json_free : fault_of program (name ∷ codes "demand" ∷ file ∷ other ∷ codes "--json" ∷ []) ≡ []
+  unfolding clap_on_literals
+  demand_json_free = rw (f.plain.dashes, f.plain.long, f.plain.short, o.plain.dashes, o.plain.long, o.plain.short) (rw (f.filled, o.filled) refl)
 
-welfare_named : (name file other : List ℕ) → IsFileWord file → IsFileWord other → line_named (subcommand_of program (name ∷ codes "welfare" ∷ file ∷ other ∷ [])) ≡ Some (Welfare file other)
-unfolding clap_on_literals
-welfare_named name file other f o = rw (f.plain.dashes, f.plain.long, f.plain.short, o.plain.dashes, o.plain.long, o.plain.short) refl
+  demand_json_named : line_named (subcommand_of program (name ∷ codes "demand" ∷ file ∷ other ∷ codes "--json" ∷ [])) ≡ Some (Demand file other true)
+  unfolding clap_on_literals
+  demand_json_named = rw (f.plain.dashes, f.plain.long, f.plain.short, o.plain.dashes, o.plain.long, o.plain.short) refl
+
+module _ (name file other : List ℕ) (f : IsFileWord file) (o : IsFileWord other) where
+  welfare_free : fault_of program (name ∷ codes "welfare" ∷ file ∷ other ∷ []) ≡ []
+  unfolding clap_on_literals
+  welfare_free = rw (f.plain.dashes, f.plain.long, f.plain.short, o.plain.dashes, o.plain.long, o.plain.short) (rw (f.filled, o.filled) refl)
+
+  welfare_named : line_named (subcommand_of program (name ∷ codes "welfare" ∷ file ∷ other ∷ [])) ≡ Some (Welfare file other false)
+  unfolding clap_on_literals
+  welfare_named = rw (f.plain.dashes, f.plain.long, f.plain.short, o.plain.dashes, o.plain.long, o.plain.short) refl
+
+  welfare_json_free : fault_of program (name ∷ codes "welfare" ∷ file ∷ other ∷ codes "--json" ∷ []) ≡ []
+  unfolding clap_on_literals
+  welfare_json_free = rw (f.plain.dashes, f.plain.long, f.plain.short, o.plain.dashes, o.plain.long, o.plain.short) (rw (f.filled, o.filled) refl)
+
+  welfare_json_named : line_named (subcommand_of program (name ∷ codes "welfare" ∷ file ∷ other ∷ codes "--json" ∷ [])) ≡ Some (Welfare file other true)
+  unfolding clap_on_literals
+  welfare_json_named = rw (f.plain.dashes, f.plain.long, f.plain.short, o.plain.dashes, o.plain.long, o.plain.short) refl
 
 utility_free : (name file other : List ℕ) → IsFileWord file → IsFileWord other → fault_of program (name ∷ codes "utility" ∷ file ∷ other ∷ []) ≡ []
 unfolding clap_on_literals
@@ -120,12 +146,19 @@ denotes words line free named = rw free named
 pub shape_taken : (name : List ℕ) (line : Line) → HasShape line → line_of (name ∷ shape_of line) ≡ Some line
 shape_taken name (Pairs table) t = let w = file_word table t in denotes _ (Pairs table) (pairs_free name table w) (pairs_named name table w)
 shape_taken name (Analyse table) t = let w = file_word table t in denotes _ (Analyse table) (analyse_free name table w) (analyse_named name table w)
-shape_taken name (Demand table new) (t, n) =
+shape_taken name (Certify table) t = let w = file_word table t in denotes _ (Certify table) (certify_free name table w) (certify_named name table w)
+shape_taken name (Demand table new false) (t, n) =
     let w = file_word table t in
-    let o = file_word new n in denotes _ (Demand table new) (demand_free name table new w o) (demand_named name table new w o)
-shape_taken name (Welfare table new) (t, n) =
+    let o = file_word new n in denotes _ (Demand table new false) (demand_free name table new w o) (demand_named name table new w o)
+shape_taken name (Demand table new true) (t, n) =
     let w = file_word table t in
-    let o = file_word new n in denotes _ (Welfare table new) (welfare_free name table new w o) (welfare_named name table new w o)
+    let o = file_word new n in denotes _ (Demand table new true) (demand_json_free name table new w o) (demand_json_named name table new w o)
+shape_taken name (Welfare table new false) (t, n) =
+    let w = file_word table t in
+    let o = file_word new n in denotes _ (Welfare table new false) (welfare_free name table new w o) (welfare_named name table new w o)
+shape_taken name (Welfare table new true) (t, n) =
+    let w = file_word table t in
+    let o = file_word new n in denotes _ (Welfare table new true) (welfare_json_free name table new w o) (welfare_json_named name table new w o)
 shape_taken name (Utility table bundles) (t, b) =
     let w = file_word table t in
     let o = file_word bundles b in denotes _ (Utility table bundles) (utility_free name table bundles w o) (utility_named name table bundles w o)

@@ -1,6 +1,6 @@
--- What `analyse` prints: the report of a certificate that has one item for each test, in a fixed order, each
+-- What `analyse` and `certify` print: the report, or the JSON, of a certificate that has one item for each test, in a fixed order, each
 -- with evidence that proves its verdict.
-use Rattle.std.specs.Prelude.{◌≡◌, ℕ, List, [], ◌∷◌}
+use Rattle.std.specs.Prelude.{◌≡◌, ℕ, Bool, List, [], ◌∷◌}
 use Rattle.rp_table.specs.Tables.{Observations}
 use Rattle.rp_evidence.specs.Input.{TableInput, input_of_table}
 use Rattle.rp_evidence.specs.Proves.{Proves}
@@ -17,7 +17,8 @@ use Rattle.rp_effic.specs.Verdict.{IsEfficiencyVerdict}
 use Rattle.rp_garp.specs.Verdict.{IsGarpVerdict}
 use Rattle.rp_homo.specs.Verdict.{IsHomotheticVerdict}
 use Rattle.rp_quasi.specs.Verdict.{IsQuasilinearVerdict}
-use Rattle.rp_report.specs.ReportText.{report_text}
+use Rattle.rp_run.specs.Accepted.{IsAcceptedOn}
+use Rattle.rp_run.specs.ShownText.{shown_text}
 
 -- the certificate of a table with these five items
 abbrev pub certificate_of : Garp → AfriatPart → Efficiency → Homothetic → Quasi → Certificate
@@ -29,7 +30,7 @@ certificate_of garp afriat efficiency homothetic quasilinear = record {
 
 -- the certificate of what a table says: the verdicts on the generalized axiom of revealed preference (Varian 1982), by
 -- Afriat's theorem (Afriat 1967), on the efficiency index (Afriat 1973), of the homothetic test (Varian 1983) and of the
--- quasilinear test, as they are given
+-- quasilinear test, as they are given; the checker accepts it
 pub record IsAnalysis (input : TableInput) (certificate : Certificate) : Type 0 where
   pub garp : Garp
   pub afriat : AfriatPart
@@ -47,8 +48,9 @@ pub record IsAnalysis (input : TableInput) (certificate : Certificate) : Type 0 
   pub homothetic_given : IsHomotheticVerdict input.n input.cost homothetic
   pub quasilinear_proves : Proves input (QuasiItem quasilinear)
   pub quasilinear_given : IsQuasilinearVerdict input.n input.cost quasilinear
+  pub accepted : IsAcceptedOn input certificate
 
--- the text is the report of such a certificate
-abbrev pub IsAnalysisText : Observations → List ℕ → Type 0
-IsAnalysisText table text =
-    (certificate : Certificate) × IsAnalysis (input_of_table table) certificate × (text ≡ report_text table certificate.items)
+-- the text is that of such a certificate
+abbrev pub IsAnalysisText : Bool → Observations → List ℕ → Type 0
+IsAnalysisText json table text =
+    (certificate : Certificate) × IsAnalysis (input_of_table table) certificate × (text ≡ shown_text json table certificate)

@@ -1,6 +1,6 @@
 -- What the program answers to a line, over the contents of its files. A desk may keep the bytes of a file to
 -- itself; where it tells them, the content is these bytes.
-use Rattle.std.specs.Prelude.{◌≡◌, ℕ, ◌<◌, List, length, Option, Some, Ok, Err, IsOk, IsErr}
+use Rattle.std.specs.Prelude.{◌≡◌, ℕ, ◌<◌, true, false, List, length, Option, Some, Ok, Err, IsOk, IsErr}
 use Rattle.std.specs.Option.{ForSome}
 use Rattle.rp_outside.specs.SureDesk.{SureState, bytes_or_none}
 use Rattle.rp_run.specs.PairsText.{IsPairsText}
@@ -10,7 +10,7 @@ use Rattle.rp_run.specs.Welfares.{IsWelfareText}
 use Rattle.rp_run.specs.UtilityText.{IsUtilityText}
 use Rattle.rp_run.specs.TrialText.{IsTrialText}
 use Rattle.rp_run.specs.CommandLine.{Line, files_of, file_at}
-use Rattle.rp_run.specs.Inputs.{Input, PairsOver, AnalyseOver, DemandOver, WelfareOver, UtilityOver, TrialOver, input_of}
+use Rattle.rp_run.specs.Inputs.{Input, PairsOver, AnalyseOver, CertifyOver, DemandOver, WelfareOver, UtilityOver, TrialOver, input_of}
 use Rattle.rp_run.specs.declared.status.Status.{Status}
 use Rattle.rp_run.specs.declared.status.Status.TheVariants as status
 
@@ -33,9 +33,10 @@ AreContents files line bytes = (k : ℕ) → k < length (files_of line) → IsCo
 -- the text and the status that answer an input
 abbrev pub Answers : Input → Status → List ℕ → Type 0
 Answers (PairsOver table) s text = (s ≡ status.Done) × IsPairsText table text
-Answers (AnalyseOver table) s text = (s ≡ status.Done) × IsAnalysisText table text
-Answers (DemandOver table new) s text = (s ≡ status.Done) × IsDemandText table new text
-Answers (WelfareOver table new) s text = (s ≡ status.Done) × IsWelfareText table new text
+Answers (AnalyseOver table) s text = (s ≡ status.Done) × IsAnalysisText false table text
+Answers (CertifyOver table) s text = (s ≡ status.Done) × IsAnalysisText true table text
+Answers (DemandOver table new json) s text = (s ≡ status.Done) × IsDemandText json table new text
+Answers (WelfareOver table new json) s text = (s ≡ status.Done) × IsWelfareText json table new text
 Answers (UtilityOver table bundles) s text = (s ≡ status.Done) × IsUtilityText table bundles text
 Answers (TrialOver seed rows goods) s text = (s ≡ status.Done) × IsTrialText seed rows goods text
 

@@ -1,6 +1,7 @@
 -- What a list of words asks for (this program's own commands). The first word is the program's name. Which words are taken, and
 -- with which matches, is said by the library `clap`, as a function of the commands and of the words.
-use Rattle.std.specs.Prelude.{ℕ, List, [], ◌∷◌, Option, Some, None, option_and_then, if◌then◌else◌, codes, map, slice_index_or, string_bytes}
+use Rattle.std.specs.Prelude.{ℕ, Bool, false, List, [], ◌∷◌, Option, Some, None, option_and_then, if◌then◌else◌, codes, map, slice_index_or, string_bytes}
+use Rattle.std.specs.Option.{option_map_or}
 use Rattle.std.specs.Str.{bytes_eq}
 use Rattle.std.specs.Str.Parse.{digits_value, without_leading_plus}
 use Rattle.std.specs.declared.string.String.{String}
@@ -16,10 +17,12 @@ pub data Line : Type 0 where
   Pairs : (table : List ℕ) → Line
   -- the verdicts on a table, with their evidence
   Analyse : (table : List ℕ) → Line
-  -- demand at new prices that a table supports
-  Demand : (table new : List ℕ) → Line
+  -- the same as a certificate
+  Certify : (table : List ℕ) → Line
+  -- demand at new prices that a table supports, as a report or as a certificate
+  Demand : (table new : List ℕ) (json : Bool) → Line
   -- the bounds on the money metric of a table's observations at new prices
-  Welfare : (table new : List ℕ) → Line
+  Welfare : (table new : List ℕ) (json : Bool) → Line
   -- the utility of bundles under the numbers that a table gives
   Utility : (table bundles : List ℕ) → Line
   -- the verdicts on the trial table of a seed
@@ -29,8 +32,9 @@ pub data Line : Type 0 where
 abbrev pub files_of : Line → List (List ℕ)
 files_of (Pairs table) = table ∷ []
 files_of (Analyse table) = table ∷ []
-files_of (Demand table new) = table ∷ new ∷ []
-files_of (Welfare table new) = table ∷ new ∷ []
+files_of (Certify table) = table ∷ []
+files_of (Demand table new json) = table ∷ new ∷ []
+files_of (Welfare table new json) = table ∷ new ∷ []
 files_of (Utility table bundles) = table ∷ bundles ∷ []
 files_of (Trial seed rows goods) = []
 
@@ -49,10 +53,18 @@ number_of low high id rows = option_and_then (number_in low high) (one_of id row
 abbrev pub table_line : (List ℕ → Line) → List Row → Option Line
 table_line line rows = option_and_then (λ table. Some (line table)) (first_of (codes "TABLE") rows)
 
--- the line of a command over a table and another file
-abbrev pub beside_line : (List ℕ → List ℕ → Line) → Text → List Row → Option Line
-beside_line line id rows =
-    option_and_then (λ table. option_and_then (λ file. Some (line table file)) (first_of id rows)) (first_of (codes "TABLE") rows)
+-- whether JSON is asked for
+abbrev pub json_of : List Row → Bool
+json_of rows = option_map_or (λ text. bytes_eq text (codes "true")) (first_of (codes "json") rows) false
+
+-- the line of a command over a table and new prices
+abbrev pub new_prices_line : (List ℕ → List ℕ → Bool → Line) → List Row → Option Line
+new_prices_line line rows =
+    option_and_then (λ table. option_and_then (λ new. Some (line table new (json_of rows))) (first_of (codes "NEW") rows)) (first_of (codes "TABLE") rows)
+
+abbrev pub utility_line : List Row → Option Line
+utility_line rows =
+    option_and_then (λ table. option_and_then (λ bundles. Some (Utility table bundles)) (first_of (codes "BUNDLES") rows)) (first_of (codes "TABLE") rows)
 
 abbrev pub trial_line : List Row → Option Line
 trial_line rows =
@@ -64,11 +76,12 @@ abbrev pub command_line : Text → List Row → Option Line
 command_line name rows =
     if bytes_eq name (codes "pairs") then table_line Pairs rows
     else (if bytes_eq name (codes "analyse") then table_line Analyse rows
-    else (if bytes_eq name (codes "demand") then beside_line Demand (codes "NEW") rows
-    else (if bytes_eq name (codes "welfare") then beside_line Welfare (codes "NEW") rows
-    else (if bytes_eq name (codes "utility") then beside_line Utility (codes "BUNDLES") rows
+    else (if bytes_eq name (codes "certify") then table_line Certify rows
+    else (if bytes_eq name (codes "demand") then new_prices_line Demand rows
+    else (if bytes_eq name (codes "welfare") then new_prices_line Welfare rows
+    else (if bytes_eq name (codes "utility") then utility_line rows
     else (if bytes_eq name (codes "trial") then trial_line rows
-    else None)))))
+    else None))))))
 
 abbrev pub line_named : Option (Text × List Row) → Option Line
 line_named matches = option_and_then (λ m. command_line m.0 m.1) matches

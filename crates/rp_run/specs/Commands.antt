@@ -3,6 +3,7 @@
 use Rattle.std.specs.Prelude.{ℕ, true, false, List, [], ◌∷◌, Some, codes}
 use Rattle.clap.specs.Simple.{App, Shape, new_rule, new_shape}
 use Rattle.clap.specs.Walk.{Rule, Text}
+use Rattle.clap.specs.declared.builder.action.ArgAction.TheVariants.{SetTrue}
 use Rattle.clap.specs.declared.builder.value_parser.ValueParser.TheVariants.{NonEmptyString, Unsigned}
 
 -- the name of a file, which has to be there and is not empty
@@ -13,6 +14,10 @@ file_rule id = record (new_rule id) { parser = Some NonEmptyString; required = t
 abbrev pub number_rule : ℕ → ℕ → Text → Rule
 number_rule low high id = record (new_rule id) { parser = Some (Unsigned low high); required = true }
 
+-- whether the answer is to be JSON
+abbrev pub json_rule : Rule
+json_rule = record (new_rule (codes "json")) { long = Some (codes "json"); action = Some SetTrue }
+
 -- a command with its arguments, in the order of the words
 abbrev pub command_shape : Text → List Rule → Shape
 command_shape name rules = record (new_shape name) { rules = rules }
@@ -20,6 +25,10 @@ command_shape name rules = record (new_shape name) { rules = rules }
 -- a command with no command below it
 abbrev pub alone : Shape → App
 alone shape = record { top = shape; subs = [] }
+
+-- a command on a table at new prices
+abbrev pub new_prices_shape : Text → Shape
+new_prices_shape name = command_shape name (file_rule (codes "TABLE") ∷ file_rule (codes "NEW") ∷ json_rule ∷ [])
 
 abbrev pub trial_shape : Shape
 trial_shape =
@@ -30,8 +39,9 @@ abbrev pub commands : List Shape
 commands =
     command_shape (codes "pairs") (file_rule (codes "TABLE") ∷ [])
     ∷ command_shape (codes "analyse") (file_rule (codes "TABLE") ∷ [])
-    ∷ command_shape (codes "demand") (file_rule (codes "TABLE") ∷ file_rule (codes "NEW") ∷ [])
-    ∷ command_shape (codes "welfare") (file_rule (codes "TABLE") ∷ file_rule (codes "NEW") ∷ [])
+    ∷ command_shape (codes "certify") (file_rule (codes "TABLE") ∷ [])
+    ∷ new_prices_shape (codes "demand")
+    ∷ new_prices_shape (codes "welfare")
     ∷ command_shape (codes "utility") (file_rule (codes "TABLE") ∷ file_rule (codes "BUNDLES") ∷ [])
     ∷ trial_shape
     ∷ []

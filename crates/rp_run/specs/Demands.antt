@@ -1,6 +1,6 @@
--- What `demand` prints: the report of a certificate with the verdict on the generalized axiom of revealed preference, and then demand
+-- What `demand` prints: the report, or the JSON, of a certificate with the verdict on the generalized axiom of revealed preference, and then demand
 -- at each record of new prices (Varian 1982), in order.
-use Rattle.std.specs.Prelude.{◌≡◌, ℕ, List, slice_index}
+use Rattle.std.specs.Prelude.{◌≡◌, ℕ, Bool, List, slice_index}
 use Rattle.rp_table.specs.PriceLists.{PriceList}
 use Rattle.rp_table.specs.Rows.{row_of, rows_count}
 use Rattle.rp_table.specs.Tables.{Observations}
@@ -13,8 +13,9 @@ use Rattle.rp_evidence.specs.declared.certificate.Item.TheVariants.{Demand}
 use Rattle.rp_evidence.specs.declared.demand.DemandPart.{DemandPart}
 use Rattle.rp_evidence.specs.declared.garp.Garp.{Garp}
 use Rattle.rp_support.specs.Verdict.{IsDemandGiven}
-use Rattle.rp_report.specs.ReportText.{report_text}
+use Rattle.rp_run.specs.Accepted.{PassesAfter}
 use Rattle.rp_run.specs.AskedItems.{IsAskedOf}
+use Rattle.rp_run.specs.ShownText.{shown_text}
 
 -- the item on the budget at these prices with m: it proves its verdict, and is as it is given under the verdict on the axiom
 pub record IsDemandItem (input : TableInput) (garp : Garp) (prices : List ℕ) (m : ℕ) (item : Item) : Type 0 where
@@ -22,13 +23,14 @@ pub record IsDemandItem (input : TableInput) (garp : Garp) (prices : List ℕ) (
   pub on_budget : item ≡ Demand prices m part
   pub proves : Proves input item
   pub given : IsDemandGiven input (budget_of prices m) garp part
+  pub passes : PassesAfter input garp item
 
 -- after the verdict on the axiom one item for each record of the new prices
 abbrev pub IsDemandCertificate : TableInput → PriceList → Certificate → Type 0
 IsDemandCertificate input new certificate =
     IsAskedOf input (rows_count new.prices new.goods) (λ garp i. IsDemandItem input garp (row_of new.prices new.goods i) (slice_index new.m i)) certificate
 
--- the text is the report of such a certificate
-abbrev pub IsDemandText : Observations → PriceList → List ℕ → Type 0
-IsDemandText table new text =
-    (certificate : Certificate) × IsDemandCertificate (input_of_table table) new certificate × (text ≡ report_text table certificate.items)
+-- the text is that of such a certificate
+abbrev pub IsDemandText : Bool → Observations → PriceList → List ℕ → Type 0
+IsDemandText json table new text =
+    (certificate : Certificate) × IsDemandCertificate (input_of_table table) new certificate × (text ≡ shown_text json table certificate)

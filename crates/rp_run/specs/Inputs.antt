@@ -1,12 +1,12 @@
 -- What the files of a line denote: what the line asks over their contents, or the first refusal, which is a whole
 -- line for standard error (this program's own order and texts). Nothing is both, and nothing is neither.
-use Rattle.std.specs.Prelude.{ℕ, true, false, nat_lt, if◌then◌else◌, List, length, Result, Ok, Err, codes}
+use Rattle.std.specs.Prelude.{ℕ, Bool, true, false, nat_lt, if◌then◌else◌, List, length, Result, Ok, Err, codes}
 use Rattle.rp_table.specs.Tables.{Observations}
 use Rattle.rp_table.specs.BundleLists.{BundleList}
 use Rattle.rp_table.specs.PriceLists.{PriceList}
 use Rattle.rp_text.specs.Denotation.{table_in, bundles_beside, prices_beside}
 use Rattle.rp_text.specs.declared.fault.TableFault.{TableFault}
-use Rattle.rp_run.specs.CommandLine.{Line, Pairs, Analyse, Demand, Welfare, Utility, Trial}
+use Rattle.rp_run.specs.CommandLine.{Line, Pairs, Analyse, Certify, Demand, Welfare, Utility, Trial}
 use Rattle.rp_run.specs.FaultTexts.{fault_text}
 use Rattle.rp_run.specs.FaultLines.{file_line}
 
@@ -14,8 +14,9 @@ use Rattle.rp_run.specs.FaultLines.{file_line}
 pub data Input : Type 0 where
   PairsOver : (table : Observations) → Input
   AnalyseOver : (table : Observations) → Input
-  DemandOver : (table : Observations) (new : PriceList) → Input
-  WelfareOver : (table : Observations) (new : PriceList) → Input
+  CertifyOver : (table : Observations) → Input
+  DemandOver : (table : Observations) (new : PriceList) (json : Bool) → Input
+  WelfareOver : (table : Observations) (new : PriceList) (json : Bool) → Input
   UtilityOver : (table : Observations) (bundles : BundleList) → Input
   TrialOver : (seed rows goods : ℕ) → Input
 
@@ -48,12 +49,13 @@ and_then (Err line) next = Err line
 abbrev pub input_of : Line → (ℕ → List ℕ) → Result Input (List ℕ)
 input_of (Pairs table) bytes = and_then (numbers_in table table_in (bytes 0)) (λ t. Ok (PairsOver t))
 input_of (Analyse table) bytes = and_then (numbers_in table table_in (bytes 0)) (λ t. Ok (AnalyseOver t))
-input_of (Demand table new) bytes =
+input_of (Certify table) bytes = and_then (numbers_in table table_in (bytes 0)) (λ t. Ok (CertifyOver t))
+input_of (Demand table new json) bytes =
     and_then (numbers_in table table_in (bytes 0)) (λ t.
-    and_then (numbers_in new (prices_beside true t) (bytes 1)) (λ p. Ok (DemandOver t p)))
-input_of (Welfare table new) bytes =
+    and_then (numbers_in new (prices_beside true t) (bytes 1)) (λ p. Ok (DemandOver t p json)))
+input_of (Welfare table new json) bytes =
     and_then (numbers_in table table_in (bytes 0)) (λ t.
-    and_then (numbers_in new (prices_beside false t) (bytes 1)) (λ p. Ok (WelfareOver t p)))
+    and_then (numbers_in new (prices_beside false t) (bytes 1)) (λ p. Ok (WelfareOver t p json)))
 input_of (Utility table bundles) bytes =
     and_then (numbers_in table table_in (bytes 0)) (λ t.
     and_then (numbers_in bundles (bundles_beside t) (bytes 1)) (λ b. Ok (UtilityOver t b)))

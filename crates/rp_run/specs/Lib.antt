@@ -1,6 +1,8 @@
 pub mod FaultTexts
 pub mod FaultLines
 pub mod PairsText
+pub mod Accepted
+pub mod ShownText
 pub mod Analysis
 pub mod AskedItems
 pub mod Demands

@@ -4,8 +4,8 @@ use Rattle.std.specs.Prelude.{◌≡◌, ◌≤◌, ℕ, length}
 use Rattle.rp_table.specs.PriceLists.{PriceList}
 use Rattle.rp_table.specs.Rows.{rows_count}
 use Rattle.rp_table.specs.Tables.{Observations, goods_of}
-use Rattle.rp_run.specs.Inputs.{Input, PairsOver, AnalyseOver, DemandOver, WelfareOver, UtilityOver, TrialOver}
-use Rattle.rp_run.specs.CommandLine.{Line, Pairs, Analyse, Demand, Welfare, Utility, Trial}
+use Rattle.rp_run.specs.Inputs.{Input, PairsOver, AnalyseOver, CertifyOver, DemandOver, WelfareOver, UtilityOver, TrialOver}
+use Rattle.rp_run.specs.CommandLine.{Line, Pairs, Analyse, Certify, Demand, Welfare, Utility, Trial}
 
 -- the prices have the table's goods, and each record has an expenditure
 pub record IsSpentOn (table : Observations) (new : PriceList) : Type 0 where
@@ -22,8 +22,9 @@ pub record IsTrialSize (rows goods : ℕ) : Type 0 where
 abbrev pub HasMatchingGoods : Input → Type 0
 HasMatchingGoods (PairsOver table) = Unit {0}
 HasMatchingGoods (AnalyseOver table) = Unit {0}
-HasMatchingGoods (DemandOver table new) = IsSpentOn table new
-HasMatchingGoods (WelfareOver table new) = new.goods ≡ goods_of table
+HasMatchingGoods (CertifyOver table) = Unit {0}
+HasMatchingGoods (DemandOver table new json) = IsSpentOn table new
+HasMatchingGoods (WelfareOver table new json) = new.goods ≡ goods_of table
 HasMatchingGoods (UtilityOver table bundles) = bundles.goods ≡ goods_of table
 HasMatchingGoods (TrialOver seed rows goods) = IsTrialSize rows goods
 
@@ -31,7 +32,8 @@ HasMatchingGoods (TrialOver seed rows goods) = IsTrialSize rows goods
 abbrev pub IsSized : Line → Type 0
 IsSized (Pairs table) = Unit {0}
 IsSized (Analyse table) = Unit {0}
-IsSized (Demand table new) = Unit {0}
-IsSized (Welfare table new) = Unit {0}
+IsSized (Certify table) = Unit {0}
+IsSized (Demand table new json) = Unit {0}
+IsSized (Welfare table new json) = Unit {0}
 IsSized (Utility table bundles) = Unit {0}
 IsSized (Trial seed rows goods) = IsTrialSize rows goods

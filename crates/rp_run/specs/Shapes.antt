@@ -1,20 +1,25 @@
 -- The shapes in which each line can be written: the command, its files and its numbers, in decimal digits (this program's own
 -- words).
-use Rattle.std.specs.Prelude.{◌≡◌, ◌==◌, ◌<◌, ◌≤◌, ◌^◌, ℕ, Bool, true, false, not, List, [], ◌∷◌, codes}
+use Rattle.std.specs.Prelude.{◌≡◌, ◌==◌, ◌<◌, ◌≤◌, ◌^◌, ℕ, Bool, true, false, not, List, [], ◌∷◌, codes, if◌then◌else◌}
 use Rattle.std.specs.Fmt.{decimal}
-use Rattle.rp_run.specs.CommandLine.{Line, Pairs, Analyse, Demand, Welfare, Utility, Trial}
+use Rattle.rp_run.specs.CommandLine.{Line, Pairs, Analyse, Certify, Demand, Welfare, Utility, Trial}
 
 -- a word that names a file: it is not empty and begins with no minus sign
 abbrev pub is_file_name : List ℕ → Bool
 is_file_name [] = false
 is_file_name (byte ∷ _) = not (byte == 45)
 
+-- the word that asks for JSON
+abbrev pub json_word : Bool → List (List ℕ)
+json_word json = if json then codes "--json" ∷ [] else []
+
 -- the words of a line after the program's name
 abbrev pub shape_of : Line → List (List ℕ)
 shape_of (Pairs table) = codes "pairs" ∷ table ∷ []
 shape_of (Analyse table) = codes "analyse" ∷ table ∷ []
-shape_of (Demand table new) = codes "demand" ∷ table ∷ new ∷ []
-shape_of (Welfare table new) = codes "welfare" ∷ table ∷ new ∷ []
+shape_of (Certify table) = codes "certify" ∷ table ∷ []
+shape_of (Demand table new json) = codes "demand" ∷ table ∷ new ∷ json_word json
+shape_of (Welfare table new json) = codes "welfare" ∷ table ∷ new ∷ json_word json
 shape_of (Utility table bundles) = codes "utility" ∷ table ∷ bundles ∷ []
 shape_of (Trial seed rows goods) = codes "trial" ∷ decimal seed ∷ decimal rows ∷ decimal goods ∷ []
 
@@ -22,7 +27,8 @@ shape_of (Trial seed rows goods) = codes "trial" ∷ decimal seed ∷ decimal ro
 abbrev pub HasShape : Line → Type 0
 HasShape (Pairs table) = is_file_name table ≡ true
 HasShape (Analyse table) = is_file_name table ≡ true
-HasShape (Demand table new) = (is_file_name table ≡ true) × (is_file_name new ≡ true)
-HasShape (Welfare table new) = (is_file_name table ≡ true) × (is_file_name new ≡ true)
+HasShape (Certify table) = is_file_name table ≡ true
+HasShape (Demand table new json) = (is_file_name table ≡ true) × (is_file_name new ≡ true)
+HasShape (Welfare table new json) = (is_file_name table ≡ true) × (is_file_name new ≡ true)
 HasShape (Utility table bundles) = (is_file_name table ≡ true) × (is_file_name bundles ≡ true)
 HasShape (Trial seed rows goods) = (seed < 2 ^ 64) × (1 ≤ rows) × (rows ≤ 256) × (1 ≤ goods) × (goods ≤ 16)

@@ -20,6 +20,7 @@ use Rattle.rp_afriat.specs.Bundle.{bundle_cost}
 use Rattle.rp_afriat.specs.Verdict.{IsAfriatVerdict}
 use Rattle.rp_garp.specs.Verdict.{IsGarpVerdict}
 use Rattle.rp_report.specs.ReportText.{report_text}
+use Rattle.rp_run.specs.Accepted.{IsAcceptedOn}
 
 -- the certificate of a table with these two items
 abbrev pub first_items : Garp → AfriatPart → Certificate
@@ -45,7 +46,7 @@ AreUtilityLines table part bundles (suc k) text =
     (before : List ℕ) × (line : List ℕ) × AreUtilityLines table part bundles k before
     × IsUtilityLine table part k (row_of bundles.quantities bundles.goods k) line × (text ≡ before ++ line)
 
--- the text of a table and bundles: both verdicts are true and as they are given, and each bundle has its line
+-- the text of a table and bundles: both verdicts are true and as they are given, the checker accepts their certificate, and each bundle has its line
 pub record IsUtilityText (table : Observations) (bundles : BundleList) (text : List ℕ) : Type 0 where
   pub garp : Garp
   pub afriat : AfriatPart
@@ -54,5 +55,6 @@ pub record IsUtilityText (table : Observations) (bundles : BundleList) (text : L
   pub garp_given : IsGarpVerdict (records_of table) (cost_of table) garp
   pub afriat_proves : Proves (input_of_table table) (AfriatItem afriat)
   pub afriat_given : IsAfriatVerdict (records_of table) (cost_of table) afriat
+  pub accepted : IsAcceptedOn (input_of_table table) (first_items garp afriat)
   pub all_lines : AreUtilityLines table afriat bundles (rows_count bundles.quantities bundles.goods) lines
   pub text_is : text ≡ report_text table (first_items garp afriat).items ++ lines

@@ -61,15 +61,19 @@ fn answer_over(alloc: Global, input: &Input) -> Result<Answer, NoMemory>
         }
         Input::Analyse(table) => {
             let costs = Costs::of(alloc, table)?;
-            Ok(done(analysis_text(alloc, table, &costs)?))
+            Ok(done(analysis_text(alloc, table, &costs, false)?))
         }
-        Input::Demand(table, new) => {
+        Input::Certify(table) => {
             let costs = Costs::of(alloc, table)?;
-            Ok(done(demand_text(alloc, table, &costs, new)?))
+            Ok(done(analysis_text(alloc, table, &costs, true)?))
         }
-        Input::Welfare(table, new) => {
+        Input::Demand(table, new, json) => {
             let costs = Costs::of(alloc, table)?;
-            Ok(done(welfare_text(alloc, table, &costs, new)?))
+            Ok(done(demand_text(alloc, table, &costs, new, *json)?))
+        }
+        Input::Welfare(table, new, json) => {
+            let costs = Costs::of(alloc, table)?;
+            Ok(done(welfare_text(alloc, table, &costs, new, *json)?))
         }
         Input::Utility(table, bundles) => {
             let costs = Costs::of(alloc, table)?;

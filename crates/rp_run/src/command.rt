@@ -2,14 +2,15 @@ ghost use Rattle.std.specs.Prelude.{◌≡◌, false, IfOk, map};
 ghost use Rattle.clap.specs.Simple.{app_of};
 ghost use Rattle.clap.specs.Walk.{rule_of};
 ghost use Rattle.clap.specs.declared.builder.command.Command.TheViews.{out-Command};
-ghost use Rattle.rp_run.specs.Commands.{program, alone, trial_shape, command_shape, file_rule, number_rule};
+ghost use Rattle.rp_run.specs.Commands.{program, alone, new_prices_shape, trial_shape};
+ghost use Rattle.rp_run.specs.Commands.{command_shape, file_rule, json_rule, number_rule};
 
 use clap::builder::ValueParser;
-use clap::{Arg, Command};
+use clap::{Arg, ArgAction, Command};
 use std::alloc::{AllocError, Global};
 
-/// The program with its commands, as `clap` reads its words. No word asks for help: what the program
-/// does not take is told by its usage.
+/// The program with its commands, as `clap` reads its words. No word asks for help: what is not taken is
+/// told by the usage.
 pub(crate) fn program<'a>(alloc: Global) -> Result<Command<'a>, AllocError>
     ensures { IfOk result (λ command. app_of command ≡ program) }
 {
@@ -20,8 +21,9 @@ pub(crate) fn program<'a>(alloc: Global) -> Result<Command<'a>, AllocError>
     let program = top
         .subcommand(over_files(alloc, "pairs", &["TABLE"])?)?
         .subcommand(over_files(alloc, "analyse", &["TABLE"])?)?
-        .subcommand(over_files(alloc, "demand", &["TABLE", "NEW"])?)?
-        .subcommand(over_files(alloc, "welfare", &["TABLE", "NEW"])?)?
+        .subcommand(over_files(alloc, "certify", &["TABLE"])?)?
+        .subcommand(at_new_prices(alloc, "demand")?)?
+        .subcommand(at_new_prices(alloc, "welfare")?)?
         .subcommand(over_files(alloc, "utility", &["TABLE", "BUNDLES"])?)?
         .subcommand(trial(alloc)?)?;
     Ok(program)
@@ -41,6 +43,18 @@ fn over_files<'a>(
     for file in files {
         command = command.arg(file_argument(alloc, file))?;
     }
+    Ok(command)
+}
+
+/// A command on a table at new prices.
+fn at_new_prices<'a>(alloc: Global, name: &'a str) -> Result<Command<'a>, AllocError>
+    ensures shape { IfOk result (λ command. app_of command ≡ alone (new_prices_shape name.now)) }
+    ensures local { IfOk result (λ command. (out-Command command).has_globals ≡ false) }
+{
+    let command = Command::new(alloc, name)
+        .arg(file_argument(alloc, "TABLE"))?
+        .arg(file_argument(alloc, "NEW"))?
+        .arg(json_argument(alloc))?;
     Ok(command)
 }
 
@@ -64,6 +78,16 @@ fn file_argument<'a>(alloc: Global, id: &'a str) -> Arg<'a>
     Arg::new(alloc, id)
         .value_parser(ValueParser::NonEmptyString)
         .required(true)
+}
+
+/// Whether the answer is to be JSON.
+fn json_argument<'a>(alloc: Global) -> Arg<'a>
+    ensures rule { rule_of result ≡ json_rule }
+    ensures local { result.global ≡ false }
+{
+    Arg::new(alloc, "json")
+        .long("json")
+        .action(ArgAction::SetTrue)
 }
 
 /// A number in a range, which has to be there.

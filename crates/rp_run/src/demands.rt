@@ -10,10 +10,10 @@ ghost use Rattle.rp_run.specs.Demands.{IsDemandCertificate, IsDemandItem, IsDema
 ghost use Rattle.rp_run.specs.Matching.{IsSpentOn};
 
 use crate::asked::certificate;
+use crate::shown::show;
 use rp_evidence::{Certificate, Garp, Item};
 use rp_garp::garp;
 use rp_num::{NoMemory, Seq};
-use rp_report::report;
 use rp_support::demand;
 use rp_table::{Costs, Prices, Table};
 use std::alloc::Global;
@@ -24,13 +24,14 @@ pub(crate) fn demand_text(
     table: &Table,
     costs: &Costs,
     new: &Prices,
+    json: bool,
 ) -> Result<Vec<u8>, NoMemory>
     requires of_table { IsCostsOf costs.now table.now }
     requires spent { IsSpentOn table.now new.now }
-    ensures { IfOk result (λ text. IsDemandText table.now new.now text.items) }
+    ensures { IfOk result (λ text. IsDemandText json table.now new.now text.items) }
 {
     let certificate = demand_certificate(alloc, table, costs, new)?;
-    let text = report(alloc, &certificate, table)?;
+    let text = show(alloc, &certificate, table, json)?;
     Ok(text)
 }
 

@@ -1,4 +1,4 @@
-ghost use Rattle.std.specs.Prelude.{◌≡◌, ◌≤◌, ℕ, List, IfOk, IfErr};
+ghost use Rattle.std.specs.Prelude.{◌≡◌, ◌≤◌, ℕ, Bool, List, IfOk, IfErr};
 ghost use Rattle.rp_run.specs.CommandLine.{Demand, Utility, Welfare};
 ghost use Rattle.rp_run.specs.Inputs.{DemandOver, UtilityOver, WelfareOver};
 ghost use Rattle.rp_run.specs.Matching.{HasMatchingGoods, IsSized, IsSpentOn};
@@ -19,8 +19,9 @@ use std::alloc::Global;
 pub(crate) enum Input {
     Pairs(Table),
     Analyse(Table),
-    Demand(Table, Prices),
-    Welfare(Table, Prices),
+    Certify(Table),
+    Demand(Table, Prices, bool),
+    Welfare(Table, Prices, bool),
     Utility(Table, Bundles),
     Trial { seed: u64, rows: u32, goods: u32 },
 }
@@ -44,13 +45,14 @@ pub(crate) fn read_input<'a, D: Desk>(
     match line {
         Line::Pairs { table } => Ok(Input::Pairs(load_table(alloc, desk, table)?)),
         Line::Analyse { table } => Ok(Input::Analyse(load_table(alloc, desk, table)?)),
-        Line::Demand { table, new } => {
+        Line::Certify { table } => Ok(Input::Certify(load_table(alloc, desk, table)?)),
+        Line::Demand { table, new, json } => {
             let (table, new) = load_table_budgets(alloc, desk, table, new)?;
-            Ok(Input::Demand(table, new))
+            Ok(Input::Demand(table, new, json))
         }
-        Line::Welfare { table, new } => {
+        Line::Welfare { table, new, json } => {
             let (table, new) = load_table_prices(alloc, desk, table, new)?;
-            Ok(Input::Welfare(table, new))
+            Ok(Input::Welfare(table, new, json))
         }
         Line::Utility { table, bundles } => {
             let (table, bundles) = load_table_bundles(alloc, desk, table, bundles)?;
@@ -67,12 +69,11 @@ fn load_table_budgets<'a, D: Desk>(
     first: &'a str,
     second: &'a str,
 ) -> Result<(Table, Prices), Cause<'a>>
-    ensures read { IfOk result (λ both.
-        HasInput (D.bytes desk.old) (Demand first.now second.now) (DemandOver both.0 both.1)) }
+    ensures read { IfOk result (λ both. (json : Bool) → HasInput (D.bytes desk.old)
+        (Demand first.now second.now json) (DemandOver both.0 both.1 json)) }
     ensures goods { IfOk result (λ both. IsSpentOn both.0 both.1) }
-    ensures caused { IfErr result
-        (IsCause (D.bytes desk.old) (Rose (D.faults desk.old) (D.faults desk.new))
-        (Demand first.now second.now)) }
+    ensures caused { IfErr result (λ why. (json : Bool) → IsCause (D.bytes desk.old)
+        (Rose (D.faults desk.old) (D.faults desk.new)) (Demand first.now second.now json) why) }
     ensures bytes_stay { (other : List ℕ) → D.bytes desk.new other ≡ D.bytes desk.old other }
     ensures never_falls { (other : List ℕ) → D.faults desk.old other ≤ D.faults desk.new other }
 {
@@ -88,12 +89,11 @@ fn load_table_prices<'a, D: Desk>(
     first: &'a str,
     second: &'a str,
 ) -> Result<(Table, Prices), Cause<'a>>
-    ensures read { IfOk result (λ both.
-        HasInput (D.bytes desk.old) (Welfare first.now second.now) (WelfareOver both.0 both.1)) }
+    ensures read { IfOk result (λ both. (json : Bool) → HasInput (D.bytes desk.old)
+        (Welfare first.now second.now json) (WelfareOver both.0 both.1 json)) }
     ensures goods { IfOk result (λ both. both.1.goods ≡ goods_of both.0) }
-    ensures caused { IfErr result
-        (IsCause (D.bytes desk.old) (Rose (D.faults desk.old) (D.faults desk.new))
-        (Welfare first.now second.now)) }
+    ensures caused { IfErr result (λ why. (json : Bool) → IsCause (D.bytes desk.old)
+        (Rose (D.faults desk.old) (D.faults desk.new)) (Welfare first.now second.now json) why) }
     ensures bytes_stay { (other : List ℕ) → D.bytes desk.new other ≡ D.bytes desk.old other }
     ensures never_falls { (other : List ℕ) → D.faults desk.old other ≤ D.faults desk.new other }
 {

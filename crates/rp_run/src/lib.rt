@@ -10,6 +10,7 @@ mod files;
 mod input;
 mod line;
 mod running;
+mod shown;
 mod status;
 mod sure;
 mod telling;

@@ -1,8 +1,8 @@
-ghost use Rattle.std.specs.Prelude.{◌≡◌, Some, None, ◌≤◌, ◌&&◌, nat_le, if◌then◌else◌, IfOk, IfSome, map, option_map, string_bytes, codes};
+ghost use Rattle.std.specs.Prelude.{◌≡◌, Some, None, ◌≤◌, ◌&&◌, nat_le, if◌then◌else◌, IfOk, IfSome, map, option_map, string_bytes};
 ghost use Rattle.clap.specs.Words.{found_of, rows_of, subcommand_rows_of};
 ghost use Rattle.clap.specs.Walk.{first_of};
 ghost use Rattle.rp_run.specs.CommandLine.{Pairs, Analyse, line_of, line_named, command_line, number_of};
-ghost use Rattle.rp_run.specs.CommandLine.{Demand, Utility, Welfare, beside_line, table_line, trial_line};
+ghost use Rattle.rp_run.specs.CommandLine.{Certify, Demand, Welfare, json_of, new_prices_line, table_line, trial_line, utility_line};
 ghost use Rattle.rp_run.specs.FaultLines.{usage_text};
 ghost use Rattle.rp_run.specs.Matching.{IsSized};
 ghost use Rattle.rp_run.specs.Named.{named_line};
@@ -16,19 +16,41 @@ use std::alloc::Global;
 /// A command with its files and numbers, as the words name them.
 #[derive(Clone, Copy)]
 pub(crate) enum Line<'a> {
-    Pairs { table: &'a str },
-    Analyse { table: &'a str },
-    Demand { table: &'a str, new: &'a str },
-    Welfare { table: &'a str, new: &'a str },
-    Utility { table: &'a str, bundles: &'a str },
-    Trial { seed: u64, rows: u32, goods: u32 },
+    Pairs {
+        table: &'a str,
+    },
+    Analyse {
+        table: &'a str,
+    },
+    Certify {
+        table: &'a str,
+    },
+    Demand {
+        table: &'a str,
+        new: &'a str,
+        json: bool,
+    },
+    Welfare {
+        table: &'a str,
+        new: &'a str,
+        json: bool,
+    },
+    Utility {
+        table: &'a str,
+        bundles: &'a str,
+    },
+    Trial {
+        seed: u64,
+        rows: u32,
+        goods: u32,
+    },
 }
 
 /// How the program is called.
 pub(crate) fn usage() -> &'static [u8]
     ensures { result.now ≡ usage_text }
 {
-    b"usage: rp pairs TABLE\n       rp analyse TABLE\n       rp demand TABLE NEW\n       rp welfare TABLE NEW\n       rp utility TABLE BUNDLES\n       rp trial SEED ROWS GOODS\n"
+    b"usage: rp pairs TABLE\n       rp analyse TABLE\n       rp certify TABLE\n       rp demand TABLE NEW [--json]\n       rp welfare TABLE NEW [--json]\n       rp utility TABLE BUNDLES\n       rp trial SEED ROWS GOODS\n"
 }
 
 /// The line that the words denote, or none. The first word is the program's name.
@@ -71,6 +93,8 @@ fn command_line<'a>(name: &str, given: &ArgMatches<'a>) -> Option<Line<'a>>
         pairs_line(given)
     } else if name == "analyse" {
         analyse_line(given)
+    } else if name == "certify" {
+        certify_line(given)
     } else if name == "demand" {
         demand_line(given)
     } else if name == "welfare" {
@@ -88,7 +112,7 @@ fn pairs_line<'a>(given: &ArgMatches<'a>) -> Option<Line<'a>>
     ensures exact { option_map named_line result ≡ table_line Pairs (rows_of (found_of given.now)) }
     ensures sized { IfSome result (λ line. IsSized (named_line line)) }
 {
-    let table = file_of(given, "TABLE")?;
+    let table = text_of(given, "TABLE")?;
     Some(Line::Pairs { table })
 }
 
@@ -96,37 +120,47 @@ fn analyse_line<'a>(given: &ArgMatches<'a>) -> Option<Line<'a>>
     ensures exact { option_map named_line result ≡ table_line Analyse (rows_of (found_of given.now)) }
     ensures sized { IfSome result (λ line. IsSized (named_line line)) }
 {
-    let table = file_of(given, "TABLE")?;
+    let table = text_of(given, "TABLE")?;
     Some(Line::Analyse { table })
+}
+
+fn certify_line<'a>(given: &ArgMatches<'a>) -> Option<Line<'a>>
+    ensures exact { option_map named_line result ≡ table_line Certify (rows_of (found_of given.now)) }
+    ensures sized { IfSome result (λ line. IsSized (named_line line)) }
+{
+    let table = text_of(given, "TABLE")?;
+    Some(Line::Certify { table })
 }
 
 fn demand_line<'a>(given: &ArgMatches<'a>) -> Option<Line<'a>>
     ensures exact { option_map named_line result
-        ≡ beside_line Demand (codes "NEW") (rows_of (found_of given.now)) }
+        ≡ new_prices_line Demand (rows_of (found_of given.now)) }
     ensures sized { IfSome result (λ line. IsSized (named_line line)) }
 {
-    let table = file_of(given, "TABLE")?;
-    let new = file_of(given, "NEW")?;
-    Some(Line::Demand { table, new })
+    let table = text_of(given, "TABLE")?;
+    let new = text_of(given, "NEW")?;
+    let json = asks_json(given);
+    Some(Line::Demand { table, new, json })
 }
 
 fn welfare_line<'a>(given: &ArgMatches<'a>) -> Option<Line<'a>>
     ensures exact { option_map named_line result
-        ≡ beside_line Welfare (codes "NEW") (rows_of (found_of given.now)) }
+        ≡ new_prices_line Welfare (rows_of (found_of given.now)) }
     ensures sized { IfSome result (λ line. IsSized (named_line line)) }
 {
-    let table = file_of(given, "TABLE")?;
-    let new = file_of(given, "NEW")?;
-    Some(Line::Welfare { table, new })
+    let table = text_of(given, "TABLE")?;
+    let new = text_of(given, "NEW")?;
+    let json = asks_json(given);
+    Some(Line::Welfare { table, new, json })
 }
 
 fn utility_line<'a>(given: &ArgMatches<'a>) -> Option<Line<'a>>
     ensures exact { option_map named_line result
-        ≡ beside_line Utility (codes "BUNDLES") (rows_of (found_of given.now)) }
+        ≡ utility_line (rows_of (found_of given.now)) }
     ensures sized { IfSome result (λ line. IsSized (named_line line)) }
 {
-    let table = file_of(given, "TABLE")?;
-    let bundles = file_of(given, "BUNDLES")?;
+    let table = text_of(given, "TABLE")?;
+    let bundles = text_of(given, "BUNDLES")?;
     Some(Line::Utility { table, bundles })
 }
 
@@ -144,8 +178,18 @@ fn trial_line<'a>(given: &ArgMatches<'a>) -> Option<Line<'a>>
     })
 }
 
-/// The name of a file.
-fn file_of<'a>(given: &ArgMatches<'a>, id: &str) -> Option<&'a str>
+/// Whether the answer is to be JSON.
+fn asks_json(given: &ArgMatches<'_>) -> bool
+    ensures { result ≡ json_of (rows_of (found_of given.now)) }
+{
+    match text_of(given, "json") {
+        Some(text) => text == "true",
+        None => false,
+    }
+}
+
+/// The text of an argument.
+fn text_of<'a>(given: &ArgMatches<'a>, id: &str) -> Option<&'a str>
     ensures { option_map (λ s. s.now) result ≡ first_of id.now (rows_of (found_of given.now)) }
 {
     given.get_str(id)

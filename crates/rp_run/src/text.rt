@@ -4,6 +4,7 @@ ghost use Rattle.rp_table.specs.Cost.{IsCostsOf};
 ghost use Rattle.rp_run.specs.Analysis.{IsAnalysis, IsAnalysisText, certificate_of};
 ghost use Rattle.rp_run.specs.PairsText.{IsPairsText, pairs_line};
 
+use crate::shown::show;
 use rp_afriat::afriat;
 use rp_effic::efficiency;
 use rp_evidence::{AfriatPart, Certificate, Efficiency, Garp, Homothetic, Item, Kind, Quasi};
@@ -11,7 +12,6 @@ use rp_garp::{garp, pairs};
 use rp_homo::homothetic;
 use rp_num::{NoMemory, Seq, print_u128};
 use rp_quasi::quasilinear;
-use rp_report::report;
 use rp_table::{Costs, Table};
 use std::alloc::Global;
 
@@ -42,17 +42,18 @@ fn line_of_pair(alloc: Global, found: Option<(u32, u32)>) -> Result<Vec<u8>, NoM
     Ok(text)
 }
 
-/// The report of the verdicts on a table.
+/// The report of the verdicts on a table, or their certificate as JSON.
 pub(crate) fn analysis_text(
     alloc: Global,
     table: &Table,
     costs: &Costs,
+    json: bool,
 ) -> Result<Vec<u8>, NoMemory>
     requires { IsCostsOf costs.now table.now }
-    ensures { IfOk result (λ text. IsAnalysisText table.now text.items) }
+    ensures { IfOk result (λ text. IsAnalysisText json table.now text.items) }
 {
     let certificate = analyse(alloc, table, costs)?;
-    let text = report(alloc, &certificate, table)?;
+    let text = show(alloc, &certificate, table, json)?;
     Ok(text)
 }
 

@@ -11,11 +11,11 @@ ghost use Rattle.rp_run.specs.AskedItems.{AreAnswered};
 ghost use Rattle.rp_run.specs.Welfares.{IsWelfareCertificate, IsWelfareItem, IsWelfareText};
 
 use crate::asked::certificate;
+use crate::shown::show;
 use rp_evidence::{Certificate, Garp, Item, Level};
 use rp_garp::garp;
 use rp_num::{NoMemory, Seq};
 use rp_pref::{Closure, Steps};
-use rp_report::report;
 use rp_table::{Costs, Prices, Table};
 use rp_welfare::welfare_by_closure;
 use std::alloc::Global;
@@ -26,13 +26,14 @@ pub(crate) fn welfare_text(
     table: &Table,
     costs: &Costs,
     new: &Prices,
+    json: bool,
 ) -> Result<Vec<u8>, NoMemory>
     requires of_table { IsCostsOf costs.now table.now }
     requires goods { new.now.goods ≡ goods_of table.now }
-    ensures { IfOk result (λ text. IsWelfareText table.now new.now text.items) }
+    ensures { IfOk result (λ text. IsWelfareText json table.now new.now text.items) }
 {
     let certificate = welfare_certificate(alloc, table, costs, new)?;
-    let text = report(alloc, &certificate, table)?;
+    let text = show(alloc, &certificate, table, json)?;
     Ok(text)
 }
 

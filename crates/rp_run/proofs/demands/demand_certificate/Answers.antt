@@ -1,3 +1,9 @@
+use Rattle.std.proofs.Common.{subst, sym}
+use Rattle.rp_evidence.specs.Input.{input_of_table}
+use Rattle.rp_evidence.specs.Proves.{Proves}
+use Rattle.rp_evidence.specs.declared.certificate.Item.TheVariants.{Garp as GarpItem}
+use Rattle.rp_run.specs.Accepted.{IsAcceptedOn}
+use Rattle.rp_run.proofs.AcceptedLemmas.{asked_accepted}
 use Rattle.rp_run.proofs.AskedLemmas.{garp_there, garp_given_there}
 use Rattle.rp_run.proofs.demands.demand_certificate.Goals as goal
 
@@ -6,11 +12,15 @@ returns c =
     let costs = c.args.costs.now in
     let table = c.args.table.now in
     let garp = c.in_ok-garp.garp in
+    let input = input_of_table table in
+    let others = c.in_ok-others.others.items in
+    let proves : Proves input (GarpItem garp) = garp_there costs table c.requires.of_table garp c.in_ok-garp.ensures.proves in
     record {
       garp = garp;
-      others = c.in_ok-others.others.items;
+      others = others;
       items = c.in_ok-made.ensures;
-      garp_proves = garp_there costs table c.requires.of_table garp c.in_ok-garp.ensures.proves;
+      garp_proves = proves;
       garp_given = garp_given_there costs table c.requires.of_table garp c.in_ok-garp.ensures.given;
       answered = c.in_ok-others.ensures;
+      accepted = subst (IsAcceptedOn input) (sym c.in_ok-made.ensures) (asked_accepted input garp proves _ _ others c.in_ok-others.ensures (λ k item is. is.passes));
     }

@@ -5,8 +5,8 @@ use Rattle.rp_run.specs.Demands.{IsDemandItem}
 use Rattle.rp_run.proofs.AskedLemmas.{asked_of_table}
 use Rattle.rp_run.proofs.demands.demand_text.Goals as goal
 
-pub report-requires : goal.report-requires
-report-requires c =
+pub show-requires : goal.show-requires
+show-requires c =
     let new = c.args.new.now in
     let input = input_of_table c.args.table.now in
     asked_of_table input (rows_count new.prices new.goods) (λ garp i. IsDemandItem input garp (row_of new.prices new.goods i) (slice_index new.m i)) c.in_ok-certificate.certificate c.in_ok-certificate.ensures (λ garp i item is. is.proves)

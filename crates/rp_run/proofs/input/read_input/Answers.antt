@@ -1,7 +1,7 @@
 use Rattle.std.proofs.Common.{refl}
 use Rattle.rp_text.specs.Denotation.{table_in}
-use Rattle.rp_run.specs.CommandLine.{Pairs, Analyse, Trial}
-use Rattle.rp_run.specs.Inputs.{numbers_in, PairsOver, AnalyseOver, TrialOver}
+use Rattle.rp_run.specs.CommandLine.{Pairs, Analyse, Certify, Trial}
+use Rattle.rp_run.specs.Inputs.{numbers_in, PairsOver, AnalyseOver, CertifyOver, TrialOver}
 use Rattle.rp_run.specs.Named.{named_line}
 use Rattle.rp_run.specs.Endings.{Rose}
 use Rattle.rp_run.specs.Causes.{IsCause}
@@ -35,11 +35,24 @@ returns-in_ok-load_table-in-Analyse-clause-read g c =
     let file = c.in-Analyse.table.now in
     rw c.in-Analyse.is (one_input (g.D.Desk.bytes c.args.desk.now) (Analyse file) file (numbers_in file table_in) AnalyseOver c.in_ok-load_table-in-Analyse.field-0 refl (λ bytes. refl) c.in_ok-load_table-in-Analyse.ensures.loaded)
 
+pub returns-in_err-load_table-in-Certify-clause-caused : goal.returns-in_err-load_table-in-Certify-clause-caused
+returns-in_err-load_table-in-Certify-clause-caused g c =
+    let files = g.D.Desk.bytes c.args.desk.now in
+    let rose = Rose (g.D.Desk.faults c.args.desk.now) (g.D.Desk.faults c.load_table-in-Certify.new.desk) in
+    let file = c.in-Certify.table.now in
+    passed_on c.from_residual-in_err-load_table-in-Certify.result c.in_err-load_table-in-Certify.field-0.0 (IsCause files rose (named_line c.args.line)) c.from_residual-in_err-load_table-in-Certify.ensures
+    (rw c.in-Certify.is (one_cause files rose (Certify file) file (numbers_in file table_in) CertifyOver c.in_err-load_table-in-Certify.field-0.0 refl (λ bytes. refl) c.in_err-load_table-in-Certify.ensures.loaded))
+
+pub returns-in_ok-load_table-in-Certify-clause-read : goal.returns-in_ok-load_table-in-Certify-clause-read
+returns-in_ok-load_table-in-Certify-clause-read g c =
+    let file = c.in-Certify.table.now in
+    rw c.in-Certify.is (one_input (g.D.Desk.bytes c.args.desk.now) (Certify file) file (numbers_in file table_in) CertifyOver c.in_ok-load_table-in-Certify.field-0 refl (λ bytes. refl) c.in_ok-load_table-in-Certify.ensures.loaded)
+
 pub returns-in_ok-table-in-Demand-clause-read : goal.returns-in_ok-table-in-Demand-clause-read
-returns-in_ok-table-in-Demand-clause-read g c = rw c.in-Demand.is c.in_ok-table-in-Demand.ensures.read
+returns-in_ok-table-in-Demand-clause-read g c = rw c.in-Demand.is (c.in_ok-table-in-Demand.ensures.read c.in-Demand.json)
 
 pub returns-in_ok-table-in-Welfare-clause-read : goal.returns-in_ok-table-in-Welfare-clause-read
-returns-in_ok-table-in-Welfare-clause-read g c = rw c.in-Welfare.is c.in_ok-table-in-Welfare.ensures.read
+returns-in_ok-table-in-Welfare-clause-read g c = rw c.in-Welfare.is (c.in_ok-table-in-Welfare.ensures.read c.in-Welfare.json)
 
 pub returns-in_ok-table-in-Utility-clause-read : goal.returns-in_ok-table-in-Utility-clause-read
 returns-in_ok-table-in-Utility-clause-read g c = rw c.in-Utility.is c.in_ok-table-in-Utility.ensures.read
@@ -48,3 +61,17 @@ pub returns-in-Trial-clause-read : goal.returns-in-Trial-clause-read
 returns-in-Trial-clause-read g c =
     let trial = c.in-Trial in
     rw trial.is (no_files (g.D.Desk.bytes c.args.desk.now) (Trial trial.seed trial.rows trial.goods) (TrialOver trial.seed trial.rows trial.goods) refl (λ bytes. refl))
+
+pub returns-in_err-table-in-Demand-clause-caused : goal.returns-in_err-table-in-Demand-clause-caused
+returns-in_err-table-in-Demand-clause-caused g c =
+    let files = g.D.Desk.bytes c.args.desk.now in
+    let rose = Rose (g.D.Desk.faults c.args.desk.now) (g.D.Desk.faults c.load_table_budgets.new.desk) in
+    passed_on c.from_residual-in_err-table-in-Demand.result c.in_err-table-in-Demand.field-0.0 (IsCause files rose (named_line c.args.line)) c.from_residual-in_err-table-in-Demand.ensures
+    (rw c.in-Demand.is (c.in_err-table-in-Demand.ensures.caused c.in-Demand.json))
+
+pub returns-in_err-table-in-Welfare-clause-caused : goal.returns-in_err-table-in-Welfare-clause-caused
+returns-in_err-table-in-Welfare-clause-caused g c =
+    let files = g.D.Desk.bytes c.args.desk.now in
+    let rose = Rose (g.D.Desk.faults c.args.desk.now) (g.D.Desk.faults c.load_table_prices.new.desk) in
+    passed_on c.from_residual-in_err-table-in-Welfare.result c.in_err-table-in-Welfare.field-0.0 (IsCause files rose (named_line c.args.line)) c.from_residual-in_err-table-in-Welfare.ensures
+    (rw c.in-Welfare.is (c.in_err-table-in-Welfare.ensures.caused c.in-Welfare.json))

@@ -1,7 +1,7 @@
-use Rattle.std.proofs.Common.{◌≡◌, Some, map, string_bytes, sym}
+use Rattle.std.proofs.Common.{◌≡◌, Some, map, string_bytes, sym, inr}
 use Rattle.rp_run.specs.CommandLine.{line_in}
 use Rattle.rp_run.specs.Named.{named_line}
-use Rattle.rp_run.proofs.RunLemmas.{not_both}
+use Rattle.rp_run.proofs.RunLemmas.{cause_of_accepted, not_both}
 use Rattle.rp_run.proofs.ShapeLemmas.{shape_given}
 use Rattle.rp_run.proofs.running.run.Goals as goal
 
@@ -22,3 +22,10 @@ returns-in-Ok-answer_line-clause-refused g c = λ line is refused calm.
     let answer = c.in-Ok-answer_line in
     let asked : line_in c.args.words.now.items ≡ Some (named_line c.in-Some.line) = rw (c.in-Some.is, c.as_slice.ensures.value) at (sym c.in-Ok.ensures.exact) in
     elim (not_both (g.D.Desk.bytes c.args.desk.now) (line_in c.args.words.now.items) (named_line c.in-Some.line) line answer.answer.status answer.answer.text.items asked is answer.ensures.answered refused) [ ]
+
+pub returns-in-Err-clause-complete : goal.returns-in-Err-clause-complete
+returns-in-Err-clause-complete g c = λ line is accepted calm _.
+    let asked : line_in c.args.words.now.items ≡ Some (named_line c.in-Some.line) = rw (c.in-Some.is, c.as_slice.ensures.value) at (sym c.in-Ok.ensures.exact) in
+    let before = g.D.Desk.faults c.args.desk.now in
+    let after = g.D.Desk.faults c.answer_line.new.desk in
+    inr (rw c.refuse-in-Err.ensures.status (cause_of_accepted (g.D.Desk.bytes c.args.desk.now) before after (line_in c.args.words.now.items) (named_line c.in-Some.line) line c.in-Err.cause asked is accepted calm c.in-Err.ensures.caused))

@@ -1,3 +1,13 @@
+use Rattle.std.proofs.Common.{subst, sym}
+use Rattle.rp_afriat.specs.Verdict.{IsAfriatVerdict}
+use Rattle.rp_effic.specs.Verdict.{IsEfficiencyVerdict}
+use Rattle.rp_evidence.specs.Input.{input_of_table}
+use Rattle.rp_evidence.specs.Proves.{Proves}
+use Rattle.rp_evidence.specs.declared.certificate.Item.TheVariants.{Garp as GarpItem, Afriat as AfriatItem, Efficiency as EfficiencyItem, Homothetic as HomotheticItem, Quasi as QuasiItem}
+use Rattle.rp_homo.specs.Verdict.{IsHomotheticVerdict}
+use Rattle.rp_quasi.specs.Verdict.{IsQuasilinearVerdict}
+use Rattle.rp_run.specs.Accepted.{IsAcceptedOn}
+use Rattle.rp_run.proofs.AcceptedLemmas.{analysis_accepted}
 use Rattle.rp_evidence.specs.Preference.{AgreeBelow}
 use Rattle.rp_afriat.proofs.SameVerdicts.{verdict_same as afriat_verdict_same}
 use Rattle.rp_evidence.proofs.SameAfriat.{afriat_same}
@@ -19,21 +29,38 @@ returns c =
     let here = cost_at c.args.costs.now in
     let there = cost_of c.args.table.now in
     let same : AgreeBelow n here there = λ s t s_in t_in. is.each s t (rw is.size at s_in) (rw is.size at t_in) in
+    let input = input_of_table c.args.table.now in
+    let garp = c.in_ok-garp.garp in
+    let afriat = c.in_ok-afriat.afriat in
+    let efficiency = c.in_ok-efficiency.efficiency in
+    let homothetic = c.in_ok-homothetic.homothetic in
+    let quasilinear = c.in_ok-quasilinear.quasilinear in
+    let garp_proves : Proves input (GarpItem garp) = rw (← is.size) (garp_same n here there garp same c.in_ok-garp.ensures.proves) in
+    let afriat_proves : Proves input (AfriatItem afriat) = rw (← is.size) (afriat_same n here there afriat same c.in_ok-afriat.ensures.proves) in
+    let afriat_given : IsAfriatVerdict input.n input.cost afriat = rw (← is.size) (afriat_verdict_same n here there afriat same c.in_ok-afriat.ensures.given) in
+    let efficiency_proves : Proves input (EfficiencyItem efficiency) = rw (← is.size) (efficiency_same n here there efficiency same c.in_ok-efficiency.ensures.proves) in
+    let efficiency_given : IsEfficiencyVerdict input.n input.cost efficiency = rw (← is.size) (efficiency_verdict_same n here there efficiency same c.in_ok-efficiency.ensures.given) in
+    let homothetic_proves : Proves input (HomotheticItem homothetic) = rw (← is.size) (homothetic_same n here there homothetic same c.in_ok-homothetic.ensures.proves) in
+    let homothetic_given : IsHomotheticVerdict input.n input.cost homothetic = rw (← is.size) (homothetic_verdict_same n here there homothetic same c.in_ok-homothetic.ensures.verdict) in
+    let quasilinear_proves : Proves input (QuasiItem quasilinear) = rw (← is.size) (quasilinear_same n here there quasilinear same c.in_ok-quasilinear.ensures.proves) in
+    let quasilinear_given : IsQuasilinearVerdict input.n input.cost quasilinear = rw (← is.size) (quasilinear_verdict_same n here there quasilinear same c.in_ok-quasilinear.ensures.verdict) in
     record {
-      garp = c.in_ok-garp.garp;
-      afriat = c.in_ok-afriat.afriat;
-      efficiency = c.in_ok-efficiency.efficiency;
-      homothetic = c.in_ok-homothetic.homothetic;
-      quasilinear = c.in_ok-quasilinear.quasilinear;
+      garp = garp;
+      afriat = afriat;
+      efficiency = efficiency;
+      homothetic = homothetic;
+      quasilinear = quasilinear;
       items = c.in_ok-certificate.ensures;
-      garp_proves = rw (← is.size) (garp_same n here there c.in_ok-garp.garp same c.in_ok-garp.ensures.proves);
-      garp_given = rw (← is.size) (garp_verdict_same n here there same c.in_ok-garp.garp c.in_ok-garp.ensures.given);
-      afriat_proves = rw (← is.size) (afriat_same n here there c.in_ok-afriat.afriat same c.in_ok-afriat.ensures.proves);
-      afriat_given = rw (← is.size) (afriat_verdict_same n here there c.in_ok-afriat.afriat same c.in_ok-afriat.ensures.given);
-      efficiency_proves = rw (← is.size) (efficiency_same n here there c.in_ok-efficiency.efficiency same c.in_ok-efficiency.ensures.proves);
-      efficiency_given = rw (← is.size) (efficiency_verdict_same n here there c.in_ok-efficiency.efficiency same c.in_ok-efficiency.ensures.given);
-      homothetic_proves = rw (← is.size) (homothetic_same n here there c.in_ok-homothetic.homothetic same c.in_ok-homothetic.ensures.proves);
-      homothetic_given = rw (← is.size) (homothetic_verdict_same n here there c.in_ok-homothetic.homothetic same c.in_ok-homothetic.ensures.verdict);
-      quasilinear_proves = rw (← is.size) (quasilinear_same n here there c.in_ok-quasilinear.quasilinear same c.in_ok-quasilinear.ensures.proves);
-      quasilinear_given = rw (← is.size) (quasilinear_verdict_same n here there c.in_ok-quasilinear.quasilinear same c.in_ok-quasilinear.ensures.verdict);
+      garp_proves = garp_proves;
+      garp_given = rw (← is.size) (garp_verdict_same n here there same garp c.in_ok-garp.ensures.given);
+      afriat_proves = afriat_proves;
+      afriat_given = afriat_given;
+      efficiency_proves = efficiency_proves;
+      efficiency_given = efficiency_given;
+      homothetic_proves = homothetic_proves;
+      homothetic_given = homothetic_given;
+      quasilinear_proves = quasilinear_proves;
+      quasilinear_given = quasilinear_given;
+      accepted = subst (IsAcceptedOn input) (sym c.in_ok-certificate.ensures)
+          (analysis_accepted input garp garp_proves afriat afriat_proves afriat_given efficiency homothetic quasilinear efficiency_proves efficiency_given homothetic_proves homothetic_given quasilinear_proves quasilinear_given);
     }

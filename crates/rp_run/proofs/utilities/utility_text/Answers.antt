@@ -1,3 +1,8 @@
+use Rattle.rp_afriat.specs.Verdict.{IsAfriatVerdict}
+use Rattle.rp_evidence.specs.Input.{input_of_table}
+use Rattle.rp_evidence.specs.Proves.{Proves}
+use Rattle.rp_evidence.specs.declared.certificate.Item.TheVariants.{Garp as GarpItem, Afriat as AfriatItem}
+use Rattle.rp_run.proofs.AcceptedLemmas.{first_accepted}
 use Rattle.std.proofs.Common.{◌++◌, ◌∙◌, ap}
 use Rattle.rp_evidence.specs.Preference.{AgreeBelow}
 use Rattle.rp_afriat.proofs.SameVerdicts.{verdict_same as afriat_verdict_same}
@@ -15,14 +20,21 @@ returns c =
     let here = cost_at c.args.costs.now in
     let there = cost_of c.args.table.now in
     let same : AgreeBelow n here there = λ s t s_in t_in. is.each s t (rw is.size at s_in) (rw is.size at t_in) in
+    let input = input_of_table c.args.table.now in
+    let garp = c.in_ok-garp.garp in
+    let afriat = c.in_ok-afriat.afriat in
+    let garp_proves : Proves input (GarpItem garp) = rw (← is.size) (garp_same n here there garp same c.in_ok-garp.ensures.proves) in
+    let afriat_proves : Proves input (AfriatItem afriat) = rw (← is.size) (afriat_same n here there afriat same c.in_ok-afriat.ensures.proves) in
+    let afriat_given : IsAfriatVerdict input.n input.cost afriat = rw (← is.size) (afriat_verdict_same n here there afriat same c.in_ok-afriat.ensures.given) in
     record {
-      garp = c.in_ok-garp.garp;
-      afriat = c.in_ok-afriat.afriat;
+      garp = garp;
+      afriat = afriat;
       lines = c.in_ok-lines.lines.items;
-      garp_proves = rw (← is.size) (garp_same n here there c.in_ok-garp.garp same c.in_ok-garp.ensures.proves);
-      garp_given = rw (← is.size) (garp_verdict_same n here there same c.in_ok-garp.garp c.in_ok-garp.ensures.given);
-      afriat_proves = rw (← is.size) (afriat_same n here there c.in_ok-afriat.afriat same c.in_ok-afriat.ensures.proves);
-      afriat_given = rw (← is.size) (afriat_verdict_same n here there c.in_ok-afriat.afriat same c.in_ok-afriat.ensures.given);
+      garp_proves = garp_proves;
+      garp_given = rw (← is.size) (garp_verdict_same n here there same garp c.in_ok-garp.ensures.given);
+      afriat_proves = afriat_proves;
+      afriat_given = afriat_given;
+      accepted = first_accepted input garp garp_proves afriat afriat_proves afriat_given;
       all_lines = c.in_ok-lines.ensures;
       text_is =
           c.in_ok-extend_from_slice.ensures.items

@@ -6,8 +6,8 @@ use Rattle.rp_run.specs.Welfares.{IsWelfareItem}
 use Rattle.rp_run.proofs.AskedLemmas.{asked_of_table}
 use Rattle.rp_run.proofs.welfares.welfare_text.Goals as goal
 
-pub report-requires : goal.report-requires
-report-requires c =
+pub show-requires : goal.show-requires
+show-requires c =
     let new = c.args.new.now in
     let n = records_of c.args.table.now in
     let input = input_of_table c.args.table.now in

@@ -1,0 +1,42 @@
+-- The JSON value of a certificate and its text (this program's own format). The keys stand in the order of their bytes.
+use Rattle.std.specs.Prelude.{ℕ, List, [], ◌∷◌, ◌++◌, codes}
+use Rattle.rp_evidence.specs.declared.certificate.Certificate.{Certificate}
+use Rattle.rp_evidence.specs.declared.certificate.Item.{Item}
+use Rattle.rp_evidence.specs.declared.certificate.Item.TheVariants.{Garp as GarpItem, Afriat as AfriatItem, Efficiency as EfficiencyItem, Homothetic as HomotheticItem, Quasi as QuasiItem, Demand as DemandItem, Welfare as WelfareItem, Random as RandomItem}
+use Rattle.rp_evidence.specs.declared.certificate.Kind.{Kind}
+use Rattle.rp_evidence.specs.declared.certificate.Kind.TheVariants.{Table, Random}
+use Rattle.serde_json.specs.Data.{Data, object, string, member, no_members}
+use Rattle.serde_json.specs.Written.{compact_text}
+use Rattle.rp_json.specs.AfriatValue.{afriat_value}
+use Rattle.rp_json.specs.DemandValue.{demand_value, welfare_value}
+use Rattle.rp_json.specs.EfficiencyValue.{efficiency_value}
+use Rattle.rp_json.specs.GarpValue.{garp_value}
+use Rattle.rp_json.specs.HomotheticValue.{homothetic_value}
+use Rattle.rp_json.specs.QuasilinearValue.{quasilinear_value}
+use Rattle.rp_json.specs.RandomValue.{random_value}
+use Rattle.rp_json.specs.Values.{count_value, list_value}
+
+-- an item
+abbrev pub item_value : Item → Data
+item_value (GarpItem verdict) = garp_value verdict
+item_value (AfriatItem part) = afriat_value part
+item_value (EfficiencyItem evidence) = efficiency_value evidence
+item_value (HomotheticItem verdict) = homothetic_value verdict
+item_value (QuasiItem verdict) = quasilinear_value verdict
+item_value (DemandItem prices m part) = demand_value prices m part
+item_value (WelfareItem prices of part) = welfare_value prices of part
+item_value (RandomItem total part) = random_value total part
+
+-- what a certificate is about
+abbrev pub kind_name : Kind → List ℕ
+kind_name Table = codes "table"
+kind_name Random = codes "random"
+
+-- a certificate
+abbrev pub certificate_value : Certificate → Data
+certificate_value c = object (member (codes "items") (list_value item_value c.items)
+    (member (codes "kind") (string (kind_name c.kind)) (member (codes "version") (count_value c.version) no_members)))
+
+-- its text: the value with no space, and a line feed
+abbrev pub certificate_text : Certificate → List ℕ
+certificate_text c = compact_text (certificate_value c) ++ 10 ∷ []

@@ -1,0 +1,10 @@
+pub mod AfriatValue
+pub mod BoundValue
+pub mod CertificateValue
+pub mod DemandValue
+pub mod EfficiencyValue
+pub mod GarpValue
+pub mod HomotheticValue
+pub mod QuasilinearValue
+pub mod RandomValue
+pub mod Values

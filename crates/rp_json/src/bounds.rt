@@ -1,0 +1,99 @@
+ghost use Rattle.std.specs.Prelude.{◌≡◌, IfOk, codes};
+ghost use Rattle.serde_json.specs.Data.{object, member, no_members};
+ghost use Rattle.serde_json.specs.View.{view};
+ghost use Rattle.rp_json.specs.BoundValue.{bound_value, entry_value, good_value, point_value};
+ghost use Rattle.rp_json.specs.Values.{list_value, naturals_value};
+
+use crate::lists::show_list;
+use crate::numbers::{Fraction, Natural, Observation, Show};
+use rp_evidence::{Bound, GoodBounds, Point};
+use rp_farkas::{Entry, Pair};
+use rp_num::{Frac, NoMemory};
+use serde_json::{Map, Value, json, put};
+use std::alloc::Global;
+
+/// A positive entry of a point, with its column counted from 1.
+pub(crate) struct PointEntry;
+
+impl Show for PointEntry {
+    type Entry = Entry;
+
+    ghost shown = { entry_value };
+
+    fn show(alloc: Global, entry: &Entry) -> Result<Value, NoMemory> {
+        let at = Observation::show(alloc, &entry.at)?;
+        let value = Natural::show(alloc, &entry.value)?;
+        let mut values = Vec::with_capacity(alloc, 2)?;
+        values.push(at)?;
+        values.push(value)?;
+        Ok(Value::Array(values))
+    }
+}
+
+/// The bounds of a good.
+pub(crate) struct Good;
+
+impl Show for Good {
+    type Entry = GoodBounds;
+
+    ghost shown = { good_value };
+
+    fn show(alloc: Global, entry: &GoodBounds) -> Result<Value, NoMemory> {
+        let lower = show_bound(alloc, &entry.lower)?;
+        let upper = show_bound(alloc, &entry.upper)?;
+        Ok(json!(in alloc; {"lower": lower, "upper": upper})?)
+    }
+}
+
+/// Makes the value of a bound.
+pub(crate) fn show_bound(alloc: Global, bound: &Bound) -> Result<Value, NoMemory>
+    ensures { IfOk result (λ v. view v ≡ bound_value bound.now) }
+{
+    match bound {
+        Bound::Shown { value, pair } => show_pair(alloc, value, pair),
+        Bound::Wide { step } => {
+            let step = Natural::show(alloc, step)?;
+            Ok(json!(in alloc; {"withheld": step})?)
+        }
+    }
+}
+
+/// Makes the value of a bound that is shown by a pair.
+fn show_pair(alloc: Global, value: &Frac, pair: &Pair) -> Result<Value, NoMemory>
+    ensures { IfOk result (λ v. view v ≡ bound_value (Bound.Shown value.now pair.now)) }
+{
+    let den = Natural::show(alloc, &pair.den)?;
+    let value = Fraction::show(alloc, value)?;
+    let x = show_list::<Natural>(alloc, pair.x.as_slice())?;
+    let y = show_list::<PointEntry>(alloc, pair.y.as_slice())?;
+    pair_object(alloc, den, value, x, y)
+}
+
+/// Makes the object of a pair and the value that it shows.
+fn pair_object(
+    alloc: Global,
+    den: Value,
+    value: Value,
+    x: Value,
+    y: Value,
+) -> Result<Value, NoMemory>
+    ensures { IfOk result (λ v. view v ≡ object
+        (member (codes "den") (view den) (member (codes "value") (view value)
+        (member (codes "x") (view x) (member (codes "y") (view y) no_members))))) }
+{
+    let mut members = Map::new(alloc);
+    put(&mut members, alloc, "den", den)?;
+    put(&mut members, alloc, "value", value)?;
+    put(&mut members, alloc, "x", x)?;
+    put(&mut members, alloc, "y", y)?;
+    Ok(Value::Object(members))
+}
+
+/// Makes the value of a point.
+pub(crate) fn show_point(alloc: Global, point: &Point) -> Result<Value, NoMemory>
+    ensures { IfOk result (λ v. view v ≡ point_value point.now) }
+{
+    let den = Natural::show(alloc, &point.den)?;
+    let num = show_list::<Natural>(alloc, point.num.as_slice())?;
+    Ok(json!(in alloc; {"den": den, "num": num})?)
+}

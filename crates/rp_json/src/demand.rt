@@ -1,0 +1,107 @@
+ghost use Rattle.std.specs.Prelude.{◌≡◌, IfOk, codes};
+ghost use Rattle.serde_json.specs.Data.{Data, object, string, member, no_members};
+ghost use Rattle.serde_json.specs.View.{view, members_view};
+ghost use Rattle.rp_json.specs.DemandValue.{demand_value};
+ghost use Rattle.rp_json.specs.Values.{naturals_value};
+
+use crate::bounds::{Good, show_point};
+use crate::lists::show_list;
+use crate::numbers::{Natural, Observation, Price, Show};
+use rp_evidence::DemandPart;
+use rp_num::NoMemory;
+use serde_json::{Map, Value, put};
+use std::alloc::Global;
+
+/// Makes the value of demand at new prices.
+pub(crate) fn show_demand(
+    alloc: Global,
+    prices: &[u32],
+    m: u64,
+    part: &DemandPart,
+) -> Result<Value, NoMemory>
+    ensures { IfOk result (λ v. view v ≡ demand_value prices.now m part.now) }
+{
+    let prices = show_list::<Price>(alloc, prices)?;
+    let expenditure = Natural::show(alloc, &m)?;
+    match part {
+        DemandPart::Bounds {
+            below,
+            strict,
+            inner,
+            goods,
+        } => {
+            let below = show_list::<Observation>(alloc, below.as_slice())?;
+            let strict = show_list::<Observation>(alloc, strict.as_slice())?;
+            let inner = show_point(alloc, inner)?;
+            let goods = show_list::<Good>(alloc, goods.as_slice())?;
+            let members = first_members(alloc, below, expenditure, goods)?;
+            bounds_object(alloc, members, inner, prices, strict)
+        }
+        DemandPart::NoModel(cycle) => {
+            let cycle = show_list::<Observation>(alloc, cycle.as_slice())?;
+            cycle_object(alloc, cycle, expenditure, prices)
+        }
+    }
+}
+
+/// The first members of the object of bounds.
+fn first_members(
+    alloc: Global,
+    below: Value,
+    expenditure: Value,
+    goods: Value,
+) -> Result<Map<String, Value>, NoMemory>
+    ensures { IfOk result (λ m. members_view m.entries ≡ member (codes "below") (view below)
+        (member (codes "expenditure") (view expenditure)
+        (member (codes "goods") (view goods) no_members))) }
+{
+    let mut members = Map::new(alloc);
+    put(&mut members, alloc, "below", below)?;
+    put(&mut members, alloc, "expenditure", expenditure)?;
+    put(&mut members, alloc, "goods", goods)?;
+    Ok(members)
+}
+
+/// Makes the object of bounds from its first members and the others.
+fn bounds_object(
+    alloc: Global,
+    first: Map<String, Value>,
+    inner: Value,
+    prices: Value,
+    strict: Value,
+) -> Result<Value, NoMemory>
+    ensures { (below expenditure goods : Data) → members_view first.entries ≡ member (codes "below") below
+        (member (codes "expenditure") expenditure (member (codes "goods") goods no_members))
+        → IfOk result (λ v. view v ≡ object (member (codes "below") below
+        (member (codes "expenditure") expenditure (member (codes "goods") goods
+        (member (codes "inner") (view inner) (member (codes "item") (string (codes "demand"))
+        (member (codes "prices") (view prices) (member (codes "strict") (view strict) no_members)))))))) }
+{
+    let mut members = first;
+    let name = Value::try_from_str(alloc, "demand")?;
+    put(&mut members, alloc, "inner", inner)?;
+    put(&mut members, alloc, "item", name)?;
+    put(&mut members, alloc, "prices", prices)?;
+    put(&mut members, alloc, "strict", strict)?;
+    Ok(Value::Object(members))
+}
+
+/// Makes the object of a violation.
+fn cycle_object(
+    alloc: Global,
+    cycle: Value,
+    expenditure: Value,
+    prices: Value,
+) -> Result<Value, NoMemory>
+    ensures { IfOk result (λ v. view v ≡ object (member (codes "cycle") (view cycle)
+        (member (codes "expenditure") (view expenditure) (member (codes "item") (string (codes "demand"))
+        (member (codes "prices") (view prices) no_members))))) }
+{
+    let mut members = Map::new(alloc);
+    let name = Value::try_from_str(alloc, "demand")?;
+    put(&mut members, alloc, "cycle", cycle)?;
+    put(&mut members, alloc, "expenditure", expenditure)?;
+    put(&mut members, alloc, "item", name)?;
+    put(&mut members, alloc, "prices", prices)?;
+    Ok(Value::Object(members))
+}

@@ -1,0 +1,87 @@
+ghost use Rattle.std.specs.Prelude.{◌≡◌, IfOk, codes};
+ghost use Rattle.serde_json.specs.Data.{object, string, member, no_members};
+ghost use Rattle.serde_json.specs.View.{view, members_view};
+ghost use Rattle.rp_json.specs.RandomValue.{random_value, share_value};
+
+use crate::lists::show_list;
+use crate::numbers::{Natural, Observation, Show};
+use rp_evidence::{RandomPart, Share};
+use rp_num::NoMemory;
+use serde_json::{Map, Value, json, put};
+use std::alloc::Global;
+
+/// A rational type with its weight; its patches are counted from 1.
+pub(crate) struct Part;
+
+impl Show for Part {
+    type Entry = Share;
+
+    ghost shown = { share_value };
+
+    fn show(alloc: Global, entry: &Share) -> Result<Value, NoMemory> {
+        let patches = show_list::<Observation>(alloc, entry.patches.as_slice())?;
+        let weight = Natural::show(alloc, &entry.weight)?;
+        let mut values = Vec::with_capacity(alloc, 2)?;
+        values.push(patches)?;
+        values.push(weight)?;
+        Ok(Value::Array(values))
+    }
+}
+
+/// Makes the value of a verdict on random choices.
+pub(crate) fn show_random(alloc: Global, total: u64, part: &RandomPart) -> Result<Value, NoMemory>
+    ensures { IfOk result (λ v. view v ≡ random_value total part.now) }
+{
+    let total = Natural::show(alloc, &total)?;
+    match part {
+        RandomPart::Mixture { den, parts } => {
+            let den = Natural::show(alloc, den)?;
+            let parts = show_list::<Part>(alloc, parts.as_slice())?;
+            Ok(Value::Object(mixture_members(alloc, den, parts, total)?))
+        }
+        RandomPart::Violated {
+            den,
+            parts,
+            weights,
+        } => {
+            let den = Natural::show(alloc, den)?;
+            let parts = show_list::<Part>(alloc, parts.as_slice())?;
+            let weights = show_list::<Natural>(alloc, weights.as_slice())?;
+            let mut members = mixture_members(alloc, den, parts, total)?;
+            put(&mut members, alloc, "weights", weights)?;
+            Ok(Value::Object(members))
+        }
+        RandomPart::Wide { step } => {
+            let step = Natural::show(alloc, step)?;
+            withheld_object(alloc, total, step)
+        }
+    }
+}
+
+/// The members of a mixture, which a violation has too.
+fn mixture_members(
+    alloc: Global,
+    den: Value,
+    parts: Value,
+    total: Value,
+) -> Result<Map<String, Value>, NoMemory>
+    ensures { IfOk result (λ m. members_view m.entries ≡ member (codes "den") (view den)
+        (member (codes "item") (string (codes "random")) (member (codes "parts") (view parts)
+        (member (codes "total") (view total) no_members)))) }
+{
+    let mut members = Map::new(alloc);
+    let name = Value::try_from_str(alloc, "random")?;
+    put(&mut members, alloc, "den", den)?;
+    put(&mut members, alloc, "item", name)?;
+    put(&mut members, alloc, "parts", parts)?;
+    put(&mut members, alloc, "total", total)?;
+    Ok(members)
+}
+
+/// Makes the object of a verdict that is withheld.
+fn withheld_object(alloc: Global, total: Value, step: Value) -> Result<Value, NoMemory>
+    ensures { IfOk result (λ v. view v ≡ object (member (codes "item") (string (codes "random"))
+        (member (codes "total") (view total) (member (codes "withheld") (view step) no_members)))) }
+{
+    Ok(json!(in alloc; {"item": "random", "total": total, "withheld": step})?)
+}

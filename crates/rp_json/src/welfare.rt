@@ -1,0 +1,96 @@
+ghost use Rattle.std.specs.Prelude.{◌≡◌, IfOk, codes};
+ghost use Rattle.serde_json.specs.Data.{Data, object, string, member, no_members};
+ghost use Rattle.serde_json.specs.View.{view, members_view};
+ghost use Rattle.rp_json.specs.DemandValue.{welfare_value};
+ghost use Rattle.rp_json.specs.Values.{naturals_value};
+
+use crate::bounds::show_bound;
+use crate::lists::show_list;
+use crate::numbers::{Natural, Observation, Price, Show};
+use rp_evidence::WelfarePart;
+use rp_num::NoMemory;
+use serde_json::{Map, Value, put};
+use std::alloc::Global;
+
+/// Makes the value of the welfare bounds of an observation.
+pub(crate) fn show_welfare(
+    alloc: Global,
+    prices: &[u32],
+    of: u32,
+    part: &WelfarePart,
+) -> Result<Value, NoMemory>
+    ensures { IfOk result (λ v. view v ≡ welfare_value prices.now of part.now) }
+{
+    let prices = show_list::<Price>(alloc, prices)?;
+    let observation = Observation::show(alloc, &of)?;
+    match part {
+        WelfarePart::Bounds { upper, at, lower } => {
+            let upper = Natural::show(alloc, upper)?;
+            let at = Observation::show(alloc, at)?;
+            let lower = show_bound(alloc, lower)?;
+            let members = first_members(alloc, at, lower)?;
+            bounds_object(alloc, members, observation, prices, upper)
+        }
+        WelfarePart::NoModel(cycle) => {
+            let cycle = show_list::<Observation>(alloc, cycle.as_slice())?;
+            cycle_object(alloc, cycle, observation, prices)
+        }
+    }
+}
+
+/// The first members of the object of bounds.
+fn first_members(alloc: Global, at: Value, lower: Value) -> Result<Map<String, Value>, NoMemory>
+    ensures { IfOk result (λ m. members_view m.entries ≡ member (codes "at") (view at)
+        (member (codes "item") (string (codes "welfare"))
+        (member (codes "lower") (view lower) no_members))) }
+{
+    let mut members = Map::new(alloc);
+    let name = Value::try_from_str(alloc, "welfare")?;
+    put(&mut members, alloc, "at", at)?;
+    put(&mut members, alloc, "item", name)?;
+    put(&mut members, alloc, "lower", lower)?;
+    Ok(members)
+}
+
+/// Makes the object of bounds from its first members and the others.
+fn bounds_object(
+    alloc: Global,
+    first: Map<String, Value>,
+    observation: Value,
+    prices: Value,
+    upper: Value,
+) -> Result<Value, NoMemory>
+    ensures { (at lower : Data) → members_view first.entries ≡ member (codes "at") at
+        (member (codes "item") (string (codes "welfare")) (member (codes "lower") lower no_members))
+        → IfOk result (λ v. view v ≡ object (member (codes "at") at
+        (member (codes "item") (string (codes "welfare")) (member (codes "lower") lower
+        (member (codes "observation") (view observation) (member (codes "prices") (view prices)
+        (member (codes "upper") (view upper) no_members))))))) }
+{
+    let mut members = first;
+    put(&mut members, alloc, "observation", observation)?;
+    put(&mut members, alloc, "prices", prices)?;
+    put(&mut members, alloc, "upper", upper)?;
+    Ok(Value::Object(members))
+}
+
+/// Makes the object of a violation.
+fn cycle_object(
+    alloc: Global,
+    cycle: Value,
+    observation: Value,
+    prices: Value,
+) -> Result<Value, NoMemory>
+    ensures { IfOk result (λ v. view v ≡ object (member (codes "cycle") (view cycle)
+        (member (codes "item") (string (codes "welfare"))
+        (member (codes "observation") (view observation)
+        (member (codes "prices") (view prices) no_members))))) }
+{
+    let mut members = Map::new(alloc);
+    let name = Value::try_from_str(alloc, "welfare")?;
+    put(&mut members, alloc, "cycle", cycle)?;
+    put(&mut members, alloc, "item", name)?;
+    put(&mut members, alloc, "observation", observation)?;
+    put(&mut members, alloc, "prices", prices)?;
+    Ok(Value::Object(members))
+}

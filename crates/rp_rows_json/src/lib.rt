@@ -1,0 +1,7 @@
+//! Tests of certificates as JSON and of the numbers in them.
+#![tactic(auto)]
+
+#[cfg(test)]
+mod numbers;
+#[cfg(test)]
+mod texts;

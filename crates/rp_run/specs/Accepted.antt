@@ -1,0 +1,18 @@
+-- That the checker, given the input alone, accepts the certificates of the program.
+use Rattle.std.specs.Prelude.{Bool, IsTrue, Ok}
+use Rattle.rp_check.specs.CheckVerdict.{IsVerdictOn}
+use Rattle.rp_check.specs.ItemFailure.{ItemFails, shows_garp}
+use Rattle.rp_check.specs.declared.verdict.Verdict.TheVariants.{Accepted}
+use Rattle.rp_evidence.specs.Input.{TableInput}
+use Rattle.rp_evidence.specs.declared.certificate.Certificate.{Certificate}
+use Rattle.rp_evidence.specs.declared.certificate.Item.{Item}
+use Rattle.rp_evidence.specs.declared.certificate.Item.TheVariants.{Garp as GarpItem}
+use Rattle.rp_evidence.specs.declared.garp.Garp.{Garp}
+
+-- the checker accepts the certificate: it finds nothing wrong with any of its items
+abbrev pub IsAcceptedOn : TableInput → Certificate → Type 0
+IsAcceptedOn input certificate = IsVerdictOn input certificate.items Accepted
+
+-- it finds nothing wrong with an item that comes after this verdict on the axiom
+abbrev pub PassesAfter : TableInput → Garp → Item → Type 0
+PassesAfter input garp item = (shown : Bool) → (IsTrue (shows_garp (GarpItem garp)) → IsTrue shown) → ItemFails input shown item (Ok tt)
