@@ -2,6 +2,10 @@
 #![tactic(auto)]
 
 #[cfg(test)]
+mod bound;
+#[cfg(test)]
+mod bounds;
+#[cfg(test)]
 mod forged;
 #[cfg(test)]
 mod totals;
