@@ -2,8 +2,8 @@
 #![tactic(auto)]
 
 #[cfg(test)]
-mod bounds;
-#[cfg(test)]
 mod forged;
+#[cfg(test)]
+mod totals;
 #[cfg(test)]
 mod verdicts;
