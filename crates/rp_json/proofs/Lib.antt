@@ -1,1 +1,4 @@
+pub mod Fractions
+pub mod ListLemmas
 pub mod NoFloats
+pub mod NumberLemmas

@@ -7,4 +7,7 @@ pub mod GarpValue
 pub mod HomotheticValue
 pub mod QuasilinearValue
 pub mod RandomValue
+pub mod Limits
+pub mod Members
+pub mod Reading
 pub mod Values

@@ -4,7 +4,8 @@ ghost use Rattle.serde_json.specs.View.{view};
 ghost use Rattle.rp_json.specs.AfriatValue.{afriat_value};
 
 use crate::lists::show_list;
-use crate::numbers::{Natural, Observation, Show, Signed};
+use crate::notation::Notation;
+use crate::numbers::{Natural, Observation, Signed};
 use rp_evidence::AfriatPart;
 use rp_num::NoMemory;
 use serde_json::{Value, json};

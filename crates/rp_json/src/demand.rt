@@ -6,7 +6,8 @@ ghost use Rattle.rp_json.specs.Values.{naturals_value};
 
 use crate::bounds::{Good, show_point};
 use crate::lists::show_list;
-use crate::numbers::{Natural, Observation, Price, Show};
+use crate::notation::Notation;
+use crate::numbers::{Natural, Observation, Price};
 use rp_evidence::DemandPart;
 use rp_num::NoMemory;
 use serde_json::{Map, Value, put};

@@ -4,7 +4,8 @@ ghost use Rattle.serde_json.specs.View.{view};
 ghost use Rattle.rp_json.specs.HomotheticValue.{homothetic_value};
 
 use crate::lists::show_list;
-use crate::numbers::{Count, Fraction, Observation, Show};
+use crate::notation::Notation;
+use crate::numbers::{Count, Fraction, Observation};
 use rp_evidence::Homothetic;
 use rp_num::NoMemory;
 use serde_json::{Value, json};

@@ -1,22 +1,27 @@
 ghost use Rattle.std.specs.Prelude.{◌≡◌, IfOk, codes};
 ghost use Rattle.serde_json.specs.Data.{object, string, member, no_members};
 ghost use Rattle.serde_json.specs.View.{view, members_view};
+ghost use Rattle.rp_json.specs.Limits.{FitsShare};
 ghost use Rattle.rp_json.specs.RandomValue.{random_value, share_value};
 
 use crate::lists::show_list;
-use crate::numbers::{Natural, Observation, Show};
+use crate::notation::Notation;
+use crate::numbers::{Natural, Observation};
+use crate::objects::read_array;
 use rp_evidence::{RandomPart, Share};
-use rp_num::NoMemory;
+use rp_num::{NoMemory, Seq};
 use serde_json::{Map, Value, json, put};
 use std::alloc::Global;
 
 /// A rational type with its weight; its patches are counted from 1.
 pub(crate) struct Part;
 
-impl Show for Part {
+impl Notation for Part {
     type Entry = Share;
 
     ghost shown = { share_value };
+
+    ghost fits = { FitsShare };
 
     fn show(alloc: Global, entry: &Share) -> Result<Value, NoMemory> {
         let patches = show_list::<Observation>(alloc, entry.patches.as_slice())?;
@@ -25,6 +30,13 @@ impl Show for Part {
         values.push(patches)?;
         values.push(weight)?;
         Ok(Value::Array(values))
+    }
+
+    fn read(alloc: Global, value: &Value) -> Result<Option<Share>, NoMemory> {
+        match read_array::<(Seq<Observation>, (Natural, ()))>(alloc, value)? {
+            Some((patches, (weight, ()))) => Ok(Some(Share { patches, weight })),
+            None => Ok(None),
+        }
     }
 }
 
