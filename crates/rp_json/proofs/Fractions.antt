@@ -24,6 +24,7 @@ one_fraction f g hf hg e = go (cases_lt (position_or_len (λ b. b == 47) (fracti
   where
     text : List ℕ
     text = fraction_text g
+
     go : (position_or_len (λ b. b == 47) (fraction_text g) < length (fraction_text g)) ⊎ (length (fraction_text g) ≤ position_or_len (λ b. b == 47) (fraction_text g)) → f ≡ g
     go (inl inside) =
         let parts : (before_first (λ b. b == 47) text ≡ before_first (λ b. b == 47) text) × (after_first (λ b. b == 47) text ≡ after_first (λ b. b == 47) text) × (position_or_len (λ b. b == 47) text < length text) = (refl, refl, inside) in

@@ -1,4 +1,5 @@
 pub mod Fractions
 pub mod ListLemmas
+pub mod MemberLemmas
 pub mod NoFloats
 pub mod NumberLemmas

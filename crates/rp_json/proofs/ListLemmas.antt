@@ -73,8 +73,10 @@ one_more {X} shown fits (d' ∷ ds) d (x' ∷ xs) x so here =
   where
     tail_same : (ys : List X) → x' ∷ ys ≡ x' ∷ xs → ys ≡ xs
     tail_same ys e = ap tail_of e
+
     head_same : (y : X) → fits y → shown y ≡ d' → y ≡ x'
     head_same y h e = ap (head_or x') (so.2 (y ∷ xs) (all_more fits y xs h (all_rest fits x' xs so.1)) (λ i. e i ∷ ap others_of so.0 i))
+
     only : AreSoFar shown fits (ds ++ d ∷ []) (xs ++ x ∷ []) → (ys : List X) → All fits ys → map shown ys ≡ d' ∷ (ds ++ d ∷ []) → ys ≡ x' ∷ (xs ++ x ∷ [])
     only more [] h e = absurd cc
     only more (y ∷ ys) h e =
@@ -100,7 +102,7 @@ module _ {X V : Type 0} (shown : X → Data) (fits : X → Type 0) (seen : V →
       → AreSoFar shown fits (map seen (take (k + 1) vs)) new
   one_read vs k v xs new x within at so here is =
       let values : map seen (take k vs) ++ seen v ∷ [] ≡ map seen (take (k + 1) vs) =
-          ap (λ w. map seen (take k vs) ++ seen w ∷ []) at ∙ sym (map-append seen (take k vs) (get_or vs k v ∷ [])) ∙ ap (map seen) (sym (take_more vs k v within)) in
+      ap (λ w. map seen (take k vs) ++ seen w ∷ []) at ∙ sym (map-append seen (take k vs) (get_or vs k v ∷ [])) ∙ ap (map seen) (sym (take_more vs k v within)) in
       subst (λ l. AreSoFar shown fits (map seen (take (k + 1) vs)) l) (sym is)
       (subst (λ ds. AreSoFar shown fits ds (xs ++ x ∷ [])) values (one_more shown fits (map seen (take k vs)) (seen v) xs x so here))
 

@@ -2,12 +2,17 @@ ghost use Rattle.std.specs.Prelude.{◌≡◌, IfOk, OnOk, codes};
 ghost use Rattle.serde_json.specs.Data.{string, member, no_members};
 ghost use Rattle.serde_json.specs.View.{view, members_view};
 ghost use Rattle.rp_json.specs.EfficiencyValue.{at_members, below_members, efficiency_value, level_value};
+ghost use Rattle.rp_json.specs.Limits.{FitsEfficiency, FitsLevel};
+ghost use Rattle.rp_json.specs.Reading.{IsRead};
 ghost use Rattle.rp_evidence.specs.declared.efficiency.Efficiency.{Efficiency};
 
 use crate::lists::show_list;
-use crate::numbers::{Count, Observation, parts};
+use crate::notation::Notation;
+use crate::numbers::{Count, Fraction, Observation, parts};
+use crate::objects::read_object;
+use crate::tags::{EfficiencyTag, Named};
 use rp_evidence::{Efficiency, Garp, Level};
-use rp_num::NoMemory;
+use rp_num::{NoMemory, Seq};
 use serde_json::{Map, Value, put};
 use std::alloc::Global;
 
@@ -69,4 +74,77 @@ fn show_level(alloc: Global, level: Level) -> Result<Value, NoMemory>
     ensures { IfOk result (λ v. view v ≡ level_value level) }
 {
     parts(alloc, u128::from(level.num), u128::from(level.den))
+}
+
+/// The efficiency index, with its evidence, that has this value.
+pub(crate) fn read_efficiency(alloc: Global, value: &Value) -> Result<Option<Efficiency>, NoMemory>
+    ensures { IfOk result (λ o. IsRead efficiency_value FitsEfficiency (view value.now) o) }
+{
+    if let Some((above, (ranks, (below, ((), (level, ())))))) = read_object::<AttainedFields>(
+        alloc, &ATTAINED, value,
+    )? {
+        let at = Garp::Ranks(ranks);
+        return Ok(Some(Efficiency {
+            level,
+            below,
+            above,
+            at,
+        }));
+    }
+    match read_object::<MissedFields>(alloc, &MISSED, value)? {
+        Some((above, (cycle, (below, ((), (level, ())))))) => {
+            let at = Garp::Cycle(cycle);
+            Ok(Some(Efficiency {
+                level,
+                below,
+                above,
+                at,
+            }))
+        }
+        None => Ok(None),
+    }
+}
+
+/// The names of the members where the index is attained.
+const ATTAINED: [&str; 5] = ["above", "at_ranks", "below", "item", "level"];
+
+/// The names of the members where it is not.
+const MISSED: [&str; 5] = ["above", "at_cycle", "below", "item", "level"];
+
+/// A walk above, ranks at the index, ranks below it, the item's name and the level.
+type AttainedFields = (Seq<Observation>, (Seq<Count>, BelowFields));
+
+/// The same with a cycle at the index.
+type MissedFields = (Seq<Observation>, (Seq<Observation>, BelowFields));
+
+/// Ranks below the index, the item's name and the level.
+type BelowFields = (Seq<Count>, (Named<EfficiencyTag>, (LevelText, ())));
+
+/// A level, in lowest terms where it is read.
+struct LevelText;
+
+impl Notation for LevelText {
+    type Entry = Level;
+
+    ghost shown = { level_value };
+
+    ghost fits = { FitsLevel };
+
+    fn show(alloc: Global, entry: &Level) -> Result<Value, NoMemory> {
+        show_level(alloc, *entry)
+    }
+
+    fn read(alloc: Global, value: &Value) -> Result<Option<Level>, NoMemory> {
+        let Some(level) = Fraction::read(alloc, value)? else {
+            return Ok(None);
+        };
+        let (num, den) = (level.num(), level.den());
+        if num > u128::from(u64::MAX) || den > u128::from(u64::MAX) {
+            return Ok(None);
+        }
+        Ok(Some(Level {
+            num: num as u64,
+            den: den as u64,
+        }))
+    }
 }

@@ -1,13 +1,17 @@
 ghost use Rattle.std.specs.Prelude.{◌≡◌, IfOk, codes};
 ghost use Rattle.serde_json.specs.Data.{array, object, string, item, no_items, member, no_members};
 ghost use Rattle.serde_json.specs.View.{view};
-ghost use Rattle.rp_json.specs.HomotheticValue.{homothetic_value};
+ghost use Rattle.rp_json.specs.HomotheticValue.{homothetic_value, place_value};
+ghost use Rattle.rp_json.specs.Limits.{FitsHomothetic};
+ghost use Rattle.rp_json.specs.Reading.{FitsCount, FitsObservation, IsRead};
 
 use crate::lists::show_list;
 use crate::notation::Notation;
 use crate::numbers::{Count, Fraction, Observation};
+use crate::objects::{read_array, read_object};
+use crate::tags::{HomotheticTag, Named};
 use rp_evidence::Homothetic;
-use rp_num::NoMemory;
+use rp_num::{NoMemory, Seq};
 use serde_json::{Value, json};
 use std::alloc::Global;
 
@@ -73,4 +77,62 @@ fn place_array(alloc: Global, steps: Value, from: Value, to: Value) -> Result<Va
     place.push(from)?;
     place.push(to)?;
     Ok(Value::Array(place))
+}
+
+/// The verdict of the homothetic test that has this value.
+pub(crate) fn read_homothetic(alloc: Global, value: &Value) -> Result<Option<Homothetic>, NoMemory>
+    ensures { IfOk result (λ o. IsRead homothetic_value FitsHomothetic (view value.now) o) }
+{
+    if let Some(((), (values, ()))) = read_object::<ValuesFields>(
+        alloc,
+        &["item", "values"],
+        value,
+    )? {
+        return Ok(Some(Homothetic::Values(values)));
+    }
+    if let Some((steps, ((), (start, ())))) = read_object::<CycleFields>(
+        alloc,
+        &["cycle", "item", "start"],
+        value,
+    )? {
+        return Ok(Some(Homothetic::Cycle { start, steps }));
+    }
+    match read_object::<WideFields>(alloc, &["item", "withheld"], value)? {
+        Some(((), ((steps, from, to), ()))) => Ok(Some(Homothetic::Withheld { steps, from, to })),
+        None => Ok(None),
+    }
+}
+
+/// Values after the item's name.
+type ValuesFields = (Named<HomotheticTag>, (Seq<Fraction>, ()));
+
+/// A cycle, the item's name and the start.
+type CycleFields = (Seq<Observation>, (Named<HomotheticTag>, (Fraction, ())));
+
+/// The place of a product that is too wide after the item's name.
+type WideFields = (Named<HomotheticTag>, (Place, ()));
+
+/// A number of steps, and the observations from and to which the next goes.
+struct Place;
+
+impl Notation for Place {
+    type Entry = (u32, u32, u32);
+
+    ghost shown = { λ p. place_value p.0 p.1 p.2 };
+
+    ghost fits = { λ p. FitsCount p.0 × FitsObservation p.1 × FitsObservation p.2 };
+
+    fn show(alloc: Global, entry: &(u32, u32, u32)) -> Result<Value, NoMemory> {
+        let steps = Count::show(alloc, &entry.0)?;
+        let from = Observation::show(alloc, &entry.1)?;
+        let to = Observation::show(alloc, &entry.2)?;
+        place_array(alloc, steps, from, to)
+    }
+
+    fn read(alloc: Global, value: &Value) -> Result<Option<(u32, u32, u32)>, NoMemory> {
+        match read_array::<(Count, (Observation, (Observation, ())))>(alloc, value)? {
+            Some((steps, (from, (to, ())))) => Ok(Some((steps, from, to))),
+            None => Ok(None),
+        }
+    }
 }

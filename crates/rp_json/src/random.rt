@@ -1,13 +1,15 @@
 ghost use Rattle.std.specs.Prelude.{◌≡◌, IfOk, codes};
 ghost use Rattle.serde_json.specs.Data.{object, string, member, no_members};
 ghost use Rattle.serde_json.specs.View.{view, members_view};
-ghost use Rattle.rp_json.specs.Limits.{FitsShare};
+ghost use Rattle.rp_json.specs.Limits.{FitsRandom, FitsShare};
+ghost use Rattle.rp_json.specs.Reading.{IsRead};
 ghost use Rattle.rp_json.specs.RandomValue.{random_value, share_value};
 
 use crate::lists::show_list;
 use crate::notation::Notation;
 use crate::numbers::{Natural, Observation};
-use crate::objects::read_array;
+use crate::objects::{read_array, read_object};
+use crate::tags::{Named, RandomTag};
 use rp_evidence::{RandomPart, Share};
 use rp_num::{NoMemory, Seq};
 use serde_json::{Map, Value, json, put};
@@ -97,3 +99,50 @@ fn withheld_object(alloc: Global, total: Value, step: Value) -> Result<Value, No
 {
     Ok(json!(in alloc; {"item": "random", "total": total, "withheld": step})?)
 }
+
+/// A verdict on random choices: the total and the evidence.
+pub(crate) type Random = (u64, RandomPart);
+
+/// The verdict on random choices that has this value.
+pub(crate) fn read_random(alloc: Global, value: &Value) -> Result<Option<Random>, NoMemory>
+    ensures { IfOk result (λ o. IsRead (λ r. random_value r.0 r.1) (λ r. FitsRandom r.0 r.1)
+        (view value.now) o) }
+{
+    if let Some((den, ((), (parts, (total, ()))))) = read_object::<MixtureFields>(
+        alloc,
+        &["den", "item", "parts", "total"],
+        value,
+    )? {
+        return Ok(Some((total, RandomPart::Mixture { den, parts })));
+    }
+    if let Some((den, ((), (parts, (total, (weights, ())))))) = read_object::<ViolatedFields>(
+        alloc,
+        &["den", "item", "parts", "total", "weights"],
+        value,
+    )? {
+        return Ok(Some((
+            total,
+            RandomPart::Violated {
+                den,
+                parts,
+                weights,
+            },
+        )));
+    }
+    match read_object::<WideFields>(alloc, &["item", "total", "withheld"], value)? {
+        Some(((), (total, (step, ())))) => Ok(Some((total, RandomPart::Wide { step }))),
+        None => Ok(None),
+    }
+}
+
+/// The denominator, the item's name, the parts and the total.
+type MixtureFields = (Natural, (Named<RandomTag>, (Seq<Part>, (Natural, ()))));
+
+/// The same, with the weights of the patches.
+type ViolatedFields = (
+    Natural,
+    (Named<RandomTag>, (Seq<Part>, (Natural, (Seq<Natural>, ())))),
+);
+
+/// The item's name, the total and the step.
+type WideFields = (Named<RandomTag>, (Natural, (Natural, ())));
