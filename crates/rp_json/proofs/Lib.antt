@@ -1,4 +1,7 @@
+pub mod DataReadBack
 pub mod Fractions
+pub mod LineFeed
 pub mod ListLemmas
 pub mod NoFloats
 pub mod NumberLemmas
+pub mod ReadsBack
