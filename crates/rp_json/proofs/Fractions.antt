@@ -1,5 +1,5 @@
 -- No two fractions in lowest terms are written alike.
-use Rattle.std.proofs.Common.{◌≡◌, ℕ, suc, [], ◌∷◌, cond, not, true, false, ◌<◌, ◌≤◌, ◌⊎◌, inl, inr, List, length, refl, sym, ◌∙◌, arith, Bool, ◌==◌}
+use Rattle.std.proofs.Common.{◌≡◌, ℕ, suc, ◌+◌, [], ◌∷◌, cond, not, true, false, ◌<◌, ◌≤◌, ◌⊎◌, inl, inr, List, length, refl, sym, ◌∙◌, arith, Bool, ◌==◌}
 use Rattle.std.specs.List.{before_first, after_first, position_or_len}
 use Rattle.std.proofs.lemmas.Bool.{cases_lt}
 use Rattle.std.specs.Fmt.{decimal}
@@ -11,7 +11,7 @@ use Rattle.rp_json.proofs.NumberLemmas.{one_whole}
 same_parts : (f g : Fraction) → f.num ≡ g.num → f.den ≡ g.den → f ≡ g
 same_parts f g en ed = λ i. record { num = en i; den = ed i }
 
-at_most : (b : Bool) (k n : ℕ) → k ≤ n → cond (not b) (suc k) 0 ≤ suc n
+at_most : (b : Bool) (k n : ℕ) → k ≤ n → cond (not b) (1 + k) 0 ≤ suc n
 at_most true k n h = omega arith
 at_most false k n h = omega (arith, h)
 

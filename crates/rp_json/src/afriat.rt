@@ -68,15 +68,15 @@ fn withheld_object(alloc: Global, at: Value) -> Result<Value, NoMemory>
 pub(crate) fn read_afriat(alloc: Global, value: &Value) -> Result<Option<AfriatPart>, NoMemory>
     ensures { IfOk result (λ o. IsRead afriat_value FitsAfriat (view value.now) o) }
 {
-    if let Some(((), (lambda, (u, ())))) = read_object::<ModelFields>(
-        alloc,
-        &["item", "lambda", "utility"],
-        value,
-    )? {
-        return Ok(Some(AfriatPart::Model(Numbers { u, lambda })));
+    match read_object::<ModelFields>(alloc, &["item", "lambda", "utility"], value)? {
+        Some(found) => return Ok(Some(model(found))),
+        None => {}
     }
-    if let Some((cycle, ((), ()))) = read_object::<CycleFields>(alloc, &["cycle", "item"], value)? {
-        return Ok(Some(AfriatPart::NoModel(cycle)));
+    match read_object::<CycleFields>(alloc, &["cycle", "item"], value)? {
+        Some((cycle, ((), ()))) => {
+            return Ok(Some(AfriatPart::NoModel(cycle)));
+        }
+        None => {}
     }
     match read_object::<WideFields>(alloc, &["item", "withheld"], value)? {
         Some(((), (at, ()))) => Ok(Some(AfriatPart::Wide { at })),
@@ -92,3 +92,11 @@ type CycleFields = (Seq<Observation>, (Named<AfriatTag>, ()));
 
 /// The place at which the numbers pass their width after the item's name.
 type WideFields = (Named<AfriatTag>, (Observation, ()));
+
+/// The model whose numbers were found.
+fn model(found: ((), (Seq<u64>, (Seq<i128>, ())))) -> AfriatPart
+    ensures { result ≡ AfriatPart.Model (record { u = found.1.1.0; lambda = found.1.0 }) }
+{
+    let ((), (lambda, (u, ()))) = found;
+    AfriatPart::Model(Numbers { u, lambda })
+}

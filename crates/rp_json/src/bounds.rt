@@ -60,7 +60,7 @@ impl Notation for Good {
 
     fn read(alloc: Global, value: &Value) -> Result<Option<GoodBounds>, NoMemory> {
         match read_object::<(AnyBound, (AnyBound, ()))>(alloc, &["lower", "upper"], value)? {
-            Some((lower, (upper, ()))) => Ok(Some(GoodBounds { lower, upper })),
+            Some(found) => Ok(Some(both(found))),
             None => Ok(None),
         }
     }
@@ -81,13 +81,9 @@ impl Notation for AnyBound {
     }
 
     fn read(alloc: Global, value: &Value) -> Result<Option<Bound>, NoMemory> {
-        if let Some((den, (found, (x, (y, ()))))) = read_object::<PairFields>(
-            alloc,
-            &["den", "value", "x", "y"],
-            value,
-        )? {
-            let pair = Pair { den, y, x };
-            return Ok(Some(Bound::Shown { value: found, pair }));
+        match read_object::<PairFields>(alloc, &["den", "value", "x", "y"], value)? {
+            Some(found) => return Ok(Some(shown(found))),
+            None => {}
         }
         match read_object::<(Natural, ())>(alloc, &["withheld"], value)? {
             Some((step, ())) => Ok(Some(Bound::Wide { step })),
@@ -159,7 +155,7 @@ impl Notation for Bundle {
 
     fn read(alloc: Global, value: &Value) -> Result<Option<Point>, NoMemory> {
         match read_object::<(Natural, (Seq<Natural>, ()))>(alloc, &["den", "num"], value)? {
-            Some((den, (num, ()))) => Ok(Some(Point { den, num })),
+            Some(found) => Ok(Some(point(found))),
             None => Ok(None),
         }
     }
@@ -172,4 +168,30 @@ pub(crate) fn show_point(alloc: Global, point: &Point) -> Result<Value, NoMemory
     let den = Natural::show(alloc, &point.den)?;
     let num = show_list::<Natural>(alloc, point.num.as_slice())?;
     Ok(json!(in alloc; {"den": den, "num": num})?)
+}
+
+/// The bound that was found with its pair.
+fn shown(found: (u64, (Frac, (Seq<u64>, (Seq<Entry>, ()))))) -> Bound
+    ensures { result ≡ Bound.Shown found.1.0
+        (record { den = found.0; y = found.1.1.1.0; x = found.1.1.0 }) }
+{
+    let (den, (value, (x, (y, ())))) = found;
+    let pair = Pair { den, y, x };
+    Bound::Shown { value, pair }
+}
+
+/// Both bounds that were found.
+fn both(found: (Bound, (Bound, ()))) -> GoodBounds
+    ensures { result ≡ record { lower = found.0; upper = found.1.0 } }
+{
+    let (lower, (upper, ())) = found;
+    GoodBounds { lower, upper }
+}
+
+/// The point that was found.
+fn point(found: (u64, (Seq<u64>, ()))) -> Point
+    ensures { result ≡ record { den = found.0; num = found.1.0 } }
+{
+    let (den, (num, ())) = found;
+    Point { den, num }
 }

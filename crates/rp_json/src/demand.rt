@@ -12,7 +12,7 @@ use crate::notation::Notation;
 use crate::numbers::{Natural, Observation, Price};
 use crate::objects::read_object;
 use crate::tags::{DemandTag, Named};
-use rp_evidence::DemandPart;
+use rp_evidence::{DemandPart, GoodBounds, Point};
 use rp_num::{NoMemory, Seq};
 use serde_json::{Map, Value, put};
 use std::alloc::Global;
@@ -119,22 +119,12 @@ pub(crate) fn read_demand(alloc: Global, value: &Value) -> Result<Option<Demand>
     ensures { IfOk result (λ o. IsRead (λ d. demand_value d.0 d.1 d.2) (λ d. FitsDemand d.0 d.1 d.2)
         (view value.now) o) }
 {
-    if let Some((below, (m, (goods, (inner, ((), (prices, (strict, ())))))))) = read_object::<
-        BoundsFields,
-    >(alloc, &BOUNDS, value)?
-    {
-        let part = DemandPart::Bounds {
-            below,
-            strict,
-            inner,
-            goods,
-        };
-        return Ok(Some((prices, m, part)));
+    match read_object::<BoundsFields>(alloc, &BOUNDS, value)? {
+        Some(found) => return Ok(Some(bounds(found))),
+        None => {}
     }
     match read_object::<CycleFields>(alloc, &["cycle", "expenditure", "item", "prices"], value)? {
-        Some((cycle, (m, ((), (prices, ()))))) => {
-            Ok(Some((prices, m, DemandPart::NoModel(cycle))))
-        }
+        Some(found) => Ok(Some(no_model(found))),
         None => Ok(None),
     }
 }
@@ -164,3 +154,35 @@ type CycleFields = (
     Seq<Observation>,
     (Natural, (Named<DemandTag>, (Seq<Price>, ()))),
 );
+
+/// What was found of bounds.
+type FoundBounds = (Seq<u32>, (u64, (Seq<GoodBounds>, (Point, FoundPrices))));
+
+/// What was found of prices and of the observations strictly below.
+type FoundPrices = ((), (Seq<u32>, (Seq<u32>, ())));
+
+/// The bounds that were found.
+fn bounds(found: FoundBounds) -> Demand
+    ensures { result ≡ (
+      found.1.1.1.1.1.0,
+      found.1.0,
+      DemandPart.Bounds found.0 found.1.1.1.1.1.1.0 found.1.1.1.0 found.1.1.0,
+    ) }
+{
+    let (below, (m, (goods, (inner, ((), (prices, (strict, ()))))))) = found;
+    let part = DemandPart::Bounds {
+        below,
+        strict,
+        inner,
+        goods,
+    };
+    (prices, m, part)
+}
+
+/// The violation that was found.
+fn no_model(found: (Seq<u32>, (u64, ((), (Seq<u32>, ()))))) -> Demand
+    ensures { result ≡ (found.1.1.1.0, found.1.0, DemandPart.NoModel found.0) }
+{
+    let (cycle, (m, ((), (prices, ())))) = found;
+    (prices, m, DemandPart::NoModel(cycle))
+}

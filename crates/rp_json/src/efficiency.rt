@@ -1,9 +1,9 @@
-ghost use Rattle.std.specs.Prelude.{◌≡◌, IfOk, OnOk, codes};
+ghost use Rattle.std.specs.Prelude.{◌≡◌, IfOk, IfSome, None, OnOk, codes};
 ghost use Rattle.serde_json.specs.Data.{string, member, no_members};
 ghost use Rattle.serde_json.specs.View.{view, members_view};
 ghost use Rattle.rp_json.specs.EfficiencyValue.{at_members, below_members, efficiency_value, level_value};
 ghost use Rattle.rp_json.specs.Limits.{FitsEfficiency, FitsLevel};
-ghost use Rattle.rp_json.specs.Reading.{IsRead};
+ghost use Rattle.rp_json.specs.Reading.{FitsLong, IsRead};
 ghost use Rattle.rp_evidence.specs.declared.efficiency.Efficiency.{Efficiency};
 
 use crate::lists::show_list;
@@ -12,7 +12,7 @@ use crate::numbers::{Count, Fraction, Observation, parts};
 use crate::objects::read_object;
 use crate::tags::{EfficiencyTag, Named};
 use rp_evidence::{Efficiency, Garp, Level};
-use rp_num::{NoMemory, Seq};
+use rp_num::{Frac, NoMemory, Seq};
 use serde_json::{Map, Value, put};
 use std::alloc::Global;
 
@@ -80,27 +80,12 @@ fn show_level(alloc: Global, level: Level) -> Result<Value, NoMemory>
 pub(crate) fn read_efficiency(alloc: Global, value: &Value) -> Result<Option<Efficiency>, NoMemory>
     ensures { IfOk result (λ o. IsRead efficiency_value FitsEfficiency (view value.now) o) }
 {
-    if let Some((above, (ranks, (below, ((), (level, ())))))) = read_object::<AttainedFields>(
-        alloc, &ATTAINED, value,
-    )? {
-        let at = Garp::Ranks(ranks);
-        return Ok(Some(Efficiency {
-            level,
-            below,
-            above,
-            at,
-        }));
+    match read_object::<AttainedFields>(alloc, &ATTAINED, value)? {
+        Some(found) => return Ok(Some(attained(found))),
+        None => {}
     }
     match read_object::<MissedFields>(alloc, &MISSED, value)? {
-        Some((above, (cycle, (below, ((), (level, ())))))) => {
-            let at = Garp::Cycle(cycle);
-            Ok(Some(Efficiency {
-                level,
-                below,
-                above,
-                at,
-            }))
-        }
+        Some(found) => Ok(Some(missed(found))),
         None => Ok(None),
     }
 }
@@ -135,16 +120,70 @@ impl Notation for LevelText {
     }
 
     fn read(alloc: Global, value: &Value) -> Result<Option<Level>, NoMemory> {
-        let Some(level) = Fraction::read(alloc, value)? else {
-            return Ok(None);
-        };
-        let (num, den) = (level.num(), level.den());
-        if num > u128::from(u64::MAX) || den > u128::from(u64::MAX) {
-            return Ok(None);
+        match Fraction::read(alloc, value)? {
+            Some(level) => Ok(long_parts(level)),
+            None => Ok(None),
         }
-        Ok(Some(Level {
-            num: num as u64,
-            den: den as u64,
-        }))
+    }
+}
+
+/// The level with the parts of a fraction, where both have 64 bits.
+fn long_parts(f: Frac) -> Option<Level>
+    ensures parts { IfSome result (λ level. (level.num ≡ f.num) × (level.den ≡ f.den)) }
+    ensures fits { IfSome result (λ level. FitsLong level.num × FitsLong level.den) }
+    ensures long { result ≡ None → ¬ (FitsLong f.num × FitsLong f.den) }
+{
+    let num = f.num();
+    if num > u128::from(u64::MAX) {
+        return None;
+    }
+    let den = f.den();
+    if den > u128::from(u64::MAX) {
+        return None;
+    }
+    Some(Level {
+        num: num as u64,
+        den: den as u64,
+    })
+}
+
+/// What was found below the index and of its level.
+type FoundBelow = (Seq<u32>, ((), (Level, ())));
+
+/// The index that was found, with ranks at it.
+fn attained(found: (Seq<u32>, (Seq<u32>, FoundBelow))) -> Efficiency
+    ensures { result ≡ record {
+      level = found.1.1.1.1.0;
+      below = found.1.1.0;
+      above = found.0;
+      at = Garp.Ranks found.1.0;
+    } }
+{
+    let (above, (ranks, (below, ((), (level, ()))))) = found;
+    let at = Garp::Ranks(ranks);
+    Efficiency {
+        level,
+        below,
+        above,
+        at,
+    }
+}
+
+/// The index that was found, with a cycle at it.
+fn missed(found: (Seq<u32>, (Seq<u32>, FoundBelow))) -> Efficiency
+    ensures { result ≡ record {
+      level = found.1.1.1.1.0;
+      below = found.1.1.0;
+      above = found.0;
+      at = Garp.Cycle found.1.0;
+    } }
+{
+    let (above, (cycle, (below, ((), (level, ()))))) = found;
+    let at = Garp::Cycle(cycle);
+    Efficiency {
+        level,
+        below,
+        above,
+        at,
     }
 }

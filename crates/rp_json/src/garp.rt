@@ -33,8 +33,11 @@ pub(crate) fn show_garp(alloc: Global, verdict: &Garp) -> Result<Value, NoMemory
 pub(crate) fn read_garp(alloc: Global, value: &Value) -> Result<Option<Garp>, NoMemory>
     ensures { IfOk result (λ o. IsRead garp_value FitsGarp (view value.now) o) }
 {
-    if let Some(((), (ranks, ()))) = read_object::<RanksFields>(alloc, &["item", "ranks"], value)? {
-        return Ok(Some(Garp::Ranks(ranks)));
+    match read_object::<RanksFields>(alloc, &["item", "ranks"], value)? {
+        Some(((), (ranks, ()))) => {
+            return Ok(Some(Garp::Ranks(ranks)));
+        }
+        None => {}
     }
     match read_object::<CycleFields>(alloc, &["cycle", "item"], value)? {
         Some((cycle, ((), ()))) => Ok(Some(Garp::Cycle(cycle))),

@@ -11,7 +11,7 @@ use crate::numbers::{Count, Fraction, Observation};
 use crate::objects::{read_array, read_object};
 use crate::tags::{HomotheticTag, Named};
 use rp_evidence::Homothetic;
-use rp_num::{NoMemory, Seq};
+use rp_num::{Frac, NoMemory, Seq};
 use serde_json::{Value, json};
 use std::alloc::Global;
 
@@ -83,19 +83,15 @@ fn place_array(alloc: Global, steps: Value, from: Value, to: Value) -> Result<Va
 pub(crate) fn read_homothetic(alloc: Global, value: &Value) -> Result<Option<Homothetic>, NoMemory>
     ensures { IfOk result (λ o. IsRead homothetic_value FitsHomothetic (view value.now) o) }
 {
-    if let Some(((), (values, ()))) = read_object::<ValuesFields>(
-        alloc,
-        &["item", "values"],
-        value,
-    )? {
-        return Ok(Some(Homothetic::Values(values)));
+    match read_object::<ValuesFields>(alloc, &["item", "values"], value)? {
+        Some(((), (values, ()))) => {
+            return Ok(Some(Homothetic::Values(values)));
+        }
+        None => {}
     }
-    if let Some((steps, ((), (start, ())))) = read_object::<CycleFields>(
-        alloc,
-        &["cycle", "item", "start"],
-        value,
-    )? {
-        return Ok(Some(Homothetic::Cycle { start, steps }));
+    match read_object::<CycleFields>(alloc, &["cycle", "item", "start"], value)? {
+        Some(found) => return Ok(Some(cycle(found))),
+        None => {}
     }
     match read_object::<WideFields>(alloc, &["item", "withheld"], value)? {
         Some(((), ((steps, from, to), ()))) => Ok(Some(Homothetic::Withheld { steps, from, to })),
@@ -135,4 +131,12 @@ impl Notation for Place {
             None => Ok(None),
         }
     }
+}
+
+/// The cycle that was found, with its start.
+fn cycle(found: (Seq<u32>, ((), (Frac, ())))) -> Homothetic
+    ensures { result ≡ Homothetic.Cycle found.1.1.0 found.0 }
+{
+    let (steps, ((), (start, ()))) = found;
+    Homothetic::Cycle { start, steps }
 }

@@ -33,12 +33,11 @@ pub(crate) fn show_quasilinear(alloc: Global, verdict: &Quasi) -> Result<Value, 
 pub(crate) fn read_quasilinear(alloc: Global, value: &Value) -> Result<Option<Quasi>, NoMemory>
     ensures { IfOk result (λ o. IsRead quasilinear_value FitsQuasilinear (view value.now) o) }
 {
-    if let Some(((), (values, ()))) = read_object::<ValuesFields>(
-        alloc,
-        &["item", "values"],
-        value,
-    )? {
-        return Ok(Some(Quasi::Values(values)));
+    match read_object::<ValuesFields>(alloc, &["item", "values"], value)? {
+        Some(((), (values, ()))) => {
+            return Ok(Some(Quasi::Values(values)));
+        }
+        None => {}
     }
     match read_object::<CycleFields>(alloc, &["cycle", "item"], value)? {
         Some((cycle, ((), ()))) => Ok(Some(Quasi::Cycle(cycle))),

@@ -36,7 +36,7 @@ impl Notation for Part {
 
     fn read(alloc: Global, value: &Value) -> Result<Option<Share>, NoMemory> {
         match read_array::<(Seq<Observation>, (Natural, ()))>(alloc, value)? {
-            Some((patches, (weight, ()))) => Ok(Some(Share { patches, weight })),
+            Some(found) => Ok(Some(share(found))),
             None => Ok(None),
         }
     }
@@ -108,26 +108,17 @@ pub(crate) fn read_random(alloc: Global, value: &Value) -> Result<Option<Random>
     ensures { IfOk result (λ o. IsRead (λ r. random_value r.0 r.1) (λ r. FitsRandom r.0 r.1)
         (view value.now) o) }
 {
-    if let Some((den, ((), (parts, (total, ()))))) = read_object::<MixtureFields>(
-        alloc,
-        &["den", "item", "parts", "total"],
-        value,
-    )? {
-        return Ok(Some((total, RandomPart::Mixture { den, parts })));
+    match read_object::<MixtureFields>(alloc, &["den", "item", "parts", "total"], value)? {
+        Some(found) => return Ok(Some(mixture(found))),
+        None => {}
     }
-    if let Some((den, ((), (parts, (total, (weights, ())))))) = read_object::<ViolatedFields>(
+    match read_object::<ViolatedFields>(
         alloc,
         &["den", "item", "parts", "total", "weights"],
         value,
     )? {
-        return Ok(Some((
-            total,
-            RandomPart::Violated {
-                den,
-                parts,
-                weights,
-            },
-        )));
+        Some(found) => return Ok(Some(violated(found))),
+        None => {}
     }
     match read_object::<WideFields>(alloc, &["item", "total", "withheld"], value)? {
         Some(((), (total, (step, ())))) => Ok(Some((total, RandomPart::Wide { step }))),
@@ -146,3 +137,34 @@ type ViolatedFields = (
 
 /// The item's name, the total and the step.
 type WideFields = (Named<RandomTag>, (Natural, (Natural, ())));
+
+/// The part that was found.
+fn share(found: (Seq<u32>, (u64, ()))) -> Share
+    ensures { result ≡ record { patches = found.0; weight = found.1.0 } }
+{
+    let (patches, (weight, ())) = found;
+    Share { patches, weight }
+}
+
+/// The mixture that was found.
+fn mixture(found: (u64, ((), (Seq<Share>, (u64, ()))))) -> Random
+    ensures { result ≡ (found.1.1.1.0, RandomPart.Mixture found.0 found.1.1.0) }
+{
+    let (den, ((), (parts, (total, ())))) = found;
+    (total, RandomPart::Mixture { den, parts })
+}
+
+/// The partial mixture that was found, with the weights of the patches.
+fn violated(found: (u64, ((), (Seq<Share>, (u64, (Seq<u64>, ())))))) -> Random
+    ensures { result ≡ (found.1.1.1.0, RandomPart.Violated found.0 found.1.1.0 found.1.1.1.1.0) }
+{
+    let (den, ((), (parts, (total, (weights, ()))))) = found;
+    (
+        total,
+        RandomPart::Violated {
+            den,
+            parts,
+            weights,
+        },
+    )
+}

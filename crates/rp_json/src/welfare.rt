@@ -12,7 +12,7 @@ use crate::notation::Notation;
 use crate::numbers::{Natural, Observation, Price};
 use crate::objects::read_object;
 use crate::tags::{Named, WelfareTag};
-use rp_evidence::WelfarePart;
+use rp_evidence::{Bound, WelfarePart};
 use rp_num::{NoMemory, Seq};
 use serde_json::{Map, Value, put};
 use std::alloc::Global;
@@ -108,15 +108,12 @@ pub(crate) fn read_welfare(alloc: Global, value: &Value) -> Result<Option<Welfar
     ensures { IfOk result (λ o. IsRead (λ w. welfare_value w.0 w.1 w.2) (λ w. FitsWelfare w.0 w.1 w.2)
         (view value.now) o) }
 {
-    if let Some((at, ((), (lower, (of, (prices, (upper, ()))))))) = read_object::<BoundsFields>(
-        alloc, &BOUNDS, value,
-    )? {
-        return Ok(Some((prices, of, WelfarePart::Bounds { upper, at, lower })));
+    match read_object::<BoundsFields>(alloc, &BOUNDS, value)? {
+        Some(found) => return Ok(Some(bounds(found))),
+        None => {}
     }
     match read_object::<CycleFields>(alloc, &["cycle", "item", "observation", "prices"], value)? {
-        Some((cycle, ((), (of, (prices, ()))))) => {
-            Ok(Some((prices, of, WelfarePart::NoModel(cycle))))
-        }
+        Some(found) => Ok(Some(no_model(found))),
         None => Ok(None),
     }
 }
@@ -135,3 +132,26 @@ type CycleFields = (
     Seq<Observation>,
     (Named<WelfareTag>, (Observation, (Seq<Price>, ()))),
 );
+
+/// What was found of bounds.
+type FoundBounds = (u32, ((), (Bound, (u32, (Seq<u32>, (u64, ()))))));
+
+/// The bounds that were found.
+fn bounds(found: FoundBounds) -> Welfare
+    ensures { result ≡ (
+      found.1.1.1.1.0,
+      found.1.1.1.0,
+      WelfarePart.Bounds found.1.1.1.1.1.0 found.0 found.1.1.0,
+    ) }
+{
+    let (at, ((), (lower, (of, (prices, (upper, ())))))) = found;
+    (prices, of, WelfarePart::Bounds { upper, at, lower })
+}
+
+/// The violation that was found.
+fn no_model(found: (Seq<u32>, ((), (u32, (Seq<u32>, ()))))) -> Welfare
+    ensures { result ≡ (found.1.1.1.0, found.1.1.0, WelfarePart.NoModel found.0) }
+{
+    let (cycle, ((), (of, (prices, ())))) = found;
+    (prices, of, WelfarePart::NoModel(cycle))
+}
