@@ -1,17 +1,16 @@
 -- What is read of a bound (this program's own format).
-use Rattle.std.proofs.Common.{◌≡◌, ◌≢◌, ℕ, ℤ, List, [], ◌∷◌, All, Option, Some, None, refl, sym, ap, ◌∙◌, arith}
+use Rattle.std.proofs.Common.{◌≡◌, ℕ, List, All, Some, None, sym, ap, ◌∙◌, arith}
 use Rattle.std.specs.Prelude.{⊤}
 use Rattle.serde_json.specs.Data.{Data}
 use Rattle.rp_num.specs.Fraction.{Fraction}
-use Rattle.rp_num.specs.Spelled.{FitsSum, IsReduced}
+use Rattle.rp_num.specs.Spelled.{IsReduced}
 use Rattle.rp_evidence.specs.declared.demand.Bound.{Bound}
 use Rattle.rp_evidence.specs.declared.demand.Bound.TheVariants.{Shown, Wide}
 use Rattle.rp_farkas.specs.declared.entry.Entry.{Entry}
-use Rattle.rp_farkas.specs.declared.entry.Pair.{Pair}
 use Rattle.rp_json.specs.BoundValue.{bound_value}
-use Rattle.rp_json.specs.Limits.{FitObservations, FitsAfriat, FitsBound, FitsDemand, FitsEfficiency, FitsEntry, FitsGarp, FitsGood, FitsHomothetic, FitsLevel, FitsPoint, FitsQuasilinear, FitsRandom, FitsShare, FitsWelfare}
-use Rattle.rp_json.specs.Reading.{FitsCount, FitsLong, FitsObservation, IsFound}
-use Rattle.rp_json.proofs.Differing.{differ, first_letter, late_letter, members_count, second_letter}
+use Rattle.rp_json.specs.Limits.{FitsBound, FitsEntry}
+use Rattle.rp_json.specs.Reading.{FitsLong, IsFound}
+use Rattle.rp_json.proofs.Differing.{differ, first_letter}
 
 abbrev pub Form_shown : Type 0
 Form_shown = (ℕ) × ((Fraction) × ((List ℕ) × ((List Entry) × (Unit {0}))))

@@ -1,17 +1,15 @@
 -- What is read of demand at new prices (this program's own format).
-use Rattle.std.proofs.Common.{◌≡◌, ◌≢◌, ℕ, ℤ, List, [], ◌∷◌, All, Option, Some, None, refl, sym, ap, ◌∙◌, arith}
+use Rattle.std.proofs.Common.{◌≡◌, ℕ, List, All, Some, None, sym, ap, ◌∙◌, arith}
 use Rattle.std.specs.Prelude.{⊤}
 use Rattle.serde_json.specs.Data.{Data}
-use Rattle.rp_num.specs.Fraction.{Fraction}
-use Rattle.rp_num.specs.Spelled.{FitsSum, IsReduced}
 use Rattle.rp_evidence.specs.declared.demand.DemandPart.{DemandPart}
 use Rattle.rp_evidence.specs.declared.demand.DemandPart.TheVariants.{Bounds, NoModel}
 use Rattle.rp_evidence.specs.declared.demand.GoodBounds.{GoodBounds}
 use Rattle.rp_evidence.specs.declared.demand.Point.{Point}
 use Rattle.rp_json.specs.DemandValue.{demand_value}
-use Rattle.rp_json.specs.Limits.{FitObservations, FitsAfriat, FitsBound, FitsDemand, FitsEfficiency, FitsEntry, FitsGarp, FitsGood, FitsHomothetic, FitsLevel, FitsPoint, FitsQuasilinear, FitsRandom, FitsShare, FitsWelfare}
-use Rattle.rp_json.specs.Reading.{FitsCount, FitsLong, FitsObservation, IsFound}
-use Rattle.rp_json.proofs.Differing.{differ, first_letter, late_letter, members_count, second_letter}
+use Rattle.rp_json.specs.Limits.{FitObservations, FitsDemand, FitsGood, FitsPoint}
+use Rattle.rp_json.specs.Reading.{FitsCount, FitsLong, IsFound}
+use Rattle.rp_json.proofs.Differing.{differ, first_letter}
 
 abbrev pub demand_of : List ℕ × ℕ × DemandPart → Data
 demand_of d = demand_value d.0 d.1 d.2

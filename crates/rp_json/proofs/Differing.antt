@@ -1,5 +1,5 @@
 -- Values that differ by their shapes.
-use Rattle.std.proofs.Common.{◌≡◌, ◌≢◌, ℕ, suc, List, [], ◌∷◌, ap}
+use Rattle.std.proofs.Common.{◌≡◌, ◌≢◌, ℕ, suc, ◌∷◌, ap}
 use Rattle.serde_json.specs.Data.{Data, Members, member, no_members, object}
 
 -- the first letter of the first name

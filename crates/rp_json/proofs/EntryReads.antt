@@ -1,14 +1,11 @@
 -- What is read of an entry of a point (this program's own format).
-use Rattle.std.proofs.Common.{◌≡◌, ◌≢◌, ℕ, ℤ, List, [], ◌∷◌, All, Option, Some, None, refl, sym, ap, ◌∙◌, arith}
+use Rattle.std.proofs.Common.{◌≡◌, ℕ, Some, None, ap}
 use Rattle.std.specs.Prelude.{⊤}
 use Rattle.serde_json.specs.Data.{Data}
-use Rattle.rp_num.specs.Fraction.{Fraction}
-use Rattle.rp_num.specs.Spelled.{FitsSum, IsReduced}
 use Rattle.rp_farkas.specs.declared.entry.Entry.{Entry}
 use Rattle.rp_json.specs.BoundValue.{entry_value}
-use Rattle.rp_json.specs.Limits.{FitObservations, FitsAfriat, FitsBound, FitsDemand, FitsEfficiency, FitsEntry, FitsGarp, FitsGood, FitsHomothetic, FitsLevel, FitsPoint, FitsQuasilinear, FitsRandom, FitsShare, FitsWelfare}
-use Rattle.rp_json.specs.Reading.{FitsCount, FitsLong, FitsObservation, IsFound}
-use Rattle.rp_json.proofs.Differing.{differ, first_letter, late_letter, members_count, second_letter}
+use Rattle.rp_json.specs.Limits.{FitsEntry}
+use Rattle.rp_json.specs.Reading.{FitsLong, FitsObservation, IsFound}
 
 abbrev pub Form_entry : Type 0
 Form_entry = (ℕ) × ((ℕ) × (Unit {0}))

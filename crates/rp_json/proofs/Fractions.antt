@@ -2,10 +2,9 @@
 use Rattle.std.proofs.Common.{◌≡◌, ℕ, suc, ◌+◌, [], ◌∷◌, cond, not, true, false, ◌<◌, ◌≤◌, ◌⊎◌, inl, inr, List, length, refl, sym, ◌∙◌, arith, Bool, ◌==◌}
 use Rattle.std.specs.List.{before_first, after_first, position_or_len}
 use Rattle.std.proofs.lemmas.Bool.{cases_lt}
-use Rattle.std.specs.Fmt.{decimal}
-use Rattle.rp_num.specs.Fraction.{Fraction, IsLowestTerms, fraction_text}
+use Rattle.rp_num.specs.Fraction.{Fraction, fraction_text}
 use Rattle.rp_num.specs.Spelled.{IsReduced}
-use Rattle.rp_num.proofs.FractionText.{parts_where_none, parts_where_stroke, same_number}
+use Rattle.rp_num.proofs.FractionText.{parts_where_none, parts_where_stroke}
 use Rattle.rp_json.proofs.NumberLemmas.{one_whole}
 
 same_parts : (f g : Fraction) → f.num ≡ g.num → f.den ≡ g.den → f ≡ g

@@ -1,15 +1,12 @@
 -- What is read of the bounds of a good (this program's own format).
-use Rattle.std.proofs.Common.{◌≡◌, ◌≢◌, ℕ, ℤ, List, [], ◌∷◌, All, Option, Some, None, refl, sym, ap, ◌∙◌, arith}
+use Rattle.std.proofs.Common.{◌≡◌, Some, None, ap}
 use Rattle.std.specs.Prelude.{⊤}
 use Rattle.serde_json.specs.Data.{Data}
-use Rattle.rp_num.specs.Fraction.{Fraction}
-use Rattle.rp_num.specs.Spelled.{FitsSum, IsReduced}
 use Rattle.rp_evidence.specs.declared.demand.Bound.{Bound}
 use Rattle.rp_evidence.specs.declared.demand.GoodBounds.{GoodBounds}
 use Rattle.rp_json.specs.BoundValue.{good_value}
-use Rattle.rp_json.specs.Limits.{FitObservations, FitsAfriat, FitsBound, FitsDemand, FitsEfficiency, FitsEntry, FitsGarp, FitsGood, FitsHomothetic, FitsLevel, FitsPoint, FitsQuasilinear, FitsRandom, FitsShare, FitsWelfare}
-use Rattle.rp_json.specs.Reading.{FitsCount, FitsLong, FitsObservation, IsFound}
-use Rattle.rp_json.proofs.Differing.{differ, first_letter, late_letter, members_count, second_letter}
+use Rattle.rp_json.specs.Limits.{FitsBound, FitsGood}
+use Rattle.rp_json.specs.Reading.{IsFound}
 
 abbrev pub Form_good : Type 0
 Form_good = (Bound) × ((Bound) × (Unit {0}))

@@ -1,15 +1,15 @@
 -- What is read of a verdict of the homothetic test (this program's own format).
-use Rattle.std.proofs.Common.{◌≡◌, ◌≢◌, ℕ, ℤ, List, [], ◌∷◌, All, Option, Some, None, refl, sym, ap, ◌∙◌, arith}
+use Rattle.std.proofs.Common.{◌≡◌, ℕ, List, All, Some, None, sym, ap, ◌∙◌, arith}
 use Rattle.std.specs.Prelude.{⊤}
 use Rattle.serde_json.specs.Data.{Data}
 use Rattle.rp_num.specs.Fraction.{Fraction}
-use Rattle.rp_num.specs.Spelled.{FitsSum, IsReduced}
+use Rattle.rp_num.specs.Spelled.{IsReduced}
 use Rattle.rp_evidence.specs.declared.homothetic.Homothetic.{Homothetic}
 use Rattle.rp_evidence.specs.declared.homothetic.Homothetic.TheVariants.{Values, Cycle, Withheld}
 use Rattle.rp_json.specs.HomotheticValue.{homothetic_value}
-use Rattle.rp_json.specs.Limits.{FitObservations, FitsAfriat, FitsBound, FitsDemand, FitsEfficiency, FitsEntry, FitsGarp, FitsGood, FitsHomothetic, FitsLevel, FitsPoint, FitsQuasilinear, FitsRandom, FitsShare, FitsWelfare}
-use Rattle.rp_json.specs.Reading.{FitsCount, FitsLong, FitsObservation, IsFound}
-use Rattle.rp_json.proofs.Differing.{differ, first_letter, late_letter, members_count, second_letter}
+use Rattle.rp_json.specs.Limits.{FitObservations, FitsHomothetic}
+use Rattle.rp_json.specs.Reading.{FitsCount, FitsObservation, IsFound}
+use Rattle.rp_json.proofs.Differing.{differ, first_letter, second_letter}
 
 abbrev pub Form_values : Type 0
 Form_values = (Unit {0}) × ((List Fraction) × (Unit {0}))

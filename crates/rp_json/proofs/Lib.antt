@@ -9,6 +9,8 @@ pub mod Fractions
 pub mod GarpReads
 pub mod GoodReads
 pub mod HomotheticReads
+pub mod ItemListLemmas
+pub mod ItemReads
 pub mod LineFeed
 pub mod ListLemmas
 pub mod MemberLemmas

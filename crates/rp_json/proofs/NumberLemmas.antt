@@ -1,19 +1,15 @@
 -- Numbers that are read from the texts of JSON values.
-use Rattle.std.proofs.Common.{◌≡◌, ◌≢◌, ℕ, suc, ◌+◌, ◌^◌, ◌<◌, ◌≤◌, ◌⊎◌, inl, inr, ℤ, pos, negsuc, List, [], ◌∷◌, length, Option, Some, None, Result, Ok, Err, IfOk, refl, sym, ap, subst, ◌∙◌, arith}
+use Rattle.std.proofs.Common.{◌≡◌, ◌≢◌, ℕ, suc, ◌^◌, ◌<◌, ℤ, pos, negsuc, List, [], ◌∷◌, Option, Some, None, Result, Ok, Err, IfOk, refl, sym, ap, subst, ◌∙◌, arith}
 use Rattle.std.specs.Fmt.{decimal, signed_decimal}
-use Rattle.std.specs.List.{position_or_len}
 use Rattle.std.specs.Str.Parse.{AllDigits}
-use Rattle.std.proofs.lemmas.Bool.{cases_lt}
 use Rattle.std.proofs.lemmas.Fmt.{decimal_is_IsNumeral_wide}
 use Rattle.std.proofs.lemmas.Str.Parse.{digit_from_value}
-use Rattle.serde_json.specs.Data.{Data, null, boolean, number, string, array, object, Items, Members}
-use Rattle.serde_json.specs.Find.{as_array, as_object, as_str}
-use Rattle.rp_num.specs.Fraction.{Fraction, fraction_text}
-use Rattle.rp_num.specs.Spelled.{FitsSum, FitsWhole, IsReduced, IsSpelled}
+use Rattle.serde_json.specs.Data.{Data, null, boolean, number, string, array, object}
+use Rattle.serde_json.specs.Find.{as_str}
+use Rattle.rp_num.specs.Spelled.{FitsSum, FitsWhole, IsSpelled}
 use Rattle.rp_num.proofs.FractionText.{same_number}
 use Rattle.rp_num.proofs.ReadLemmas.{narrow}
 use Rattle.rp_json.specs.Reading.{IsFound}
-use Rattle.rp_json.specs.Values.{fraction_value, natural_value, signed_value}
 
 -- a value whose text is at hand
 pub is_text : (d : Data) (text : List ℕ) → Some text ≡ as_str d → d ≡ string text

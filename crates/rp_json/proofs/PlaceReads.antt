@@ -1,5 +1,5 @@
 -- What is read of the place of a product that is too wide.
-use Rattle.std.proofs.Common.{ℕ, Some, None}
+use Rattle.std.proofs.Common.{ℕ, None}
 use Rattle.std.specs.Prelude.{⊤}
 use Rattle.serde_json.specs.Data.{Data}
 use Rattle.rp_json.specs.HomotheticValue.{place_value}

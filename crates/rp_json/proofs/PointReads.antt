@@ -1,14 +1,11 @@
 -- What is read of a point (this program's own format).
-use Rattle.std.proofs.Common.{◌≡◌, ◌≢◌, ℕ, ℤ, List, [], ◌∷◌, All, Option, Some, None, refl, sym, ap, ◌∙◌, arith}
+use Rattle.std.proofs.Common.{◌≡◌, ℕ, List, All, Some, None, ap}
 use Rattle.std.specs.Prelude.{⊤}
 use Rattle.serde_json.specs.Data.{Data}
-use Rattle.rp_num.specs.Fraction.{Fraction}
-use Rattle.rp_num.specs.Spelled.{FitsSum, IsReduced}
 use Rattle.rp_evidence.specs.declared.demand.Point.{Point}
 use Rattle.rp_json.specs.BoundValue.{point_value}
-use Rattle.rp_json.specs.Limits.{FitObservations, FitsAfriat, FitsBound, FitsDemand, FitsEfficiency, FitsEntry, FitsGarp, FitsGood, FitsHomothetic, FitsLevel, FitsPoint, FitsQuasilinear, FitsRandom, FitsShare, FitsWelfare}
-use Rattle.rp_json.specs.Reading.{FitsCount, FitsLong, FitsObservation, IsFound}
-use Rattle.rp_json.proofs.Differing.{differ, first_letter, late_letter, members_count, second_letter}
+use Rattle.rp_json.specs.Limits.{FitsPoint}
+use Rattle.rp_json.specs.Reading.{FitsLong, IsFound}
 
 abbrev pub Form_point : Type 0
 Form_point = (ℕ) × ((List ℕ) × (Unit {0}))

@@ -1,16 +1,14 @@
 -- What is read of welfare bounds (this program's own format).
-use Rattle.std.proofs.Common.{◌≡◌, ◌≢◌, ℕ, ℤ, List, [], ◌∷◌, All, Option, Some, None, refl, sym, ap, ◌∙◌, arith}
+use Rattle.std.proofs.Common.{◌≡◌, ℕ, List, All, Some, None, sym, ap, ◌∙◌, arith}
 use Rattle.std.specs.Prelude.{⊤}
 use Rattle.serde_json.specs.Data.{Data}
-use Rattle.rp_num.specs.Fraction.{Fraction}
-use Rattle.rp_num.specs.Spelled.{FitsSum, IsReduced}
 use Rattle.rp_evidence.specs.declared.demand.Bound.{Bound}
 use Rattle.rp_evidence.specs.declared.demand.WelfarePart.{WelfarePart}
 use Rattle.rp_evidence.specs.declared.demand.WelfarePart.TheVariants.{Bounds, NoModel}
 use Rattle.rp_json.specs.DemandValue.{welfare_value}
-use Rattle.rp_json.specs.Limits.{FitObservations, FitsAfriat, FitsBound, FitsDemand, FitsEfficiency, FitsEntry, FitsGarp, FitsGood, FitsHomothetic, FitsLevel, FitsPoint, FitsQuasilinear, FitsRandom, FitsShare, FitsWelfare}
+use Rattle.rp_json.specs.Limits.{FitObservations, FitsBound, FitsWelfare}
 use Rattle.rp_json.specs.Reading.{FitsCount, FitsLong, FitsObservation, IsFound}
-use Rattle.rp_json.proofs.Differing.{differ, first_letter, late_letter, members_count, second_letter}
+use Rattle.rp_json.proofs.Differing.{differ, first_letter}
 
 abbrev pub welfare_of : List ℕ × ℕ × WelfarePart → Data
 welfare_of w = welfare_value w.0 w.1 w.2

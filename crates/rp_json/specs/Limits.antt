@@ -1,7 +1,6 @@
 -- The limits within which each kind of evidence is read back (this program's own format).
 use Rattle.std.specs.Prelude.{ℕ, List, All}
 use Rattle.rp_num.specs.Spelled.{FitsSum, IsReduced}
-use Rattle.rp_evidence.specs.Kinds.{IsOfKind}
 use Rattle.rp_evidence.specs.declared.afriat.AfriatPart.{AfriatPart}
 use Rattle.rp_evidence.specs.declared.afriat.AfriatPart.TheVariants.{Model, NoModel, Wide}
 use Rattle.rp_evidence.specs.declared.certificate.Item.{Item}

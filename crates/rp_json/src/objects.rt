@@ -46,7 +46,7 @@ pub(crate) fn read_array<F: Fields>(
 }
 
 /// The values of members of which these are all names.
-fn values_of<'a>(
+pub(crate) fn values_of<'a>(
     alloc: Global,
     names: &[&str],
     members: &'a Map<String, Value>,

@@ -1,4 +1,4 @@
-use Rattle.std.proofs.Common.{subst, Some, None}
+use Rattle.std.proofs.Common.{subst}
 use Rattle.serde_json.specs.View.{view}
 use Rattle.rp_json.specs.Reading.{IsFound}
 use Rattle.rp_json.proofs.AfriatReads.{Fits_cycle, Fits_model, Fits_wide, found_cycle, found_model, found_none, found_wide, value_cycle, value_model, value_wide}

@@ -1,4 +1,4 @@
-use Rattle.std.proofs.Common.{Some, None, subst}
+use Rattle.std.proofs.Common.{subst}
 use Rattle.serde_json.specs.View.{view}
 use Rattle.rp_json.specs.Reading.{IsFound}
 use Rattle.rp_json.proofs.ListLemmas.{none_read, none_yet, one_read}

@@ -1,4 +1,4 @@
-use Rattle.std.proofs.Common.{All, map, take}
+use Rattle.std.proofs.Common.{map, take}
 use Rattle.serde_json.specs.View.{view}
 use Rattle.rp_json.proofs.ListLemmas.{AreSoFar}
 use Rattle.rp_json.proofs.lists.read_list.Given as goal

@@ -1,4 +1,4 @@
-use Rattle.std.proofs.Common.{rules, subst, IfOk, map, take, ◌∙◌, ◌≡◌, ap, sym, arith, length}
+use Rattle.std.proofs.Common.{rules, subst, IfOk, map, ◌∙◌, ap}
 use Rattle.std.proofs.lemmas.List.{take_all}
 use Rattle.serde_json.specs.View.{view}
 use Rattle.rp_json.specs.Members.{views}

@@ -1,4 +1,4 @@
-use Rattle.std.proofs.Common.{rules, arith, subst, sym, ap, ◌∙◌, ◌≡◌, ◌≢◌, ◌<◌, ◌++◌, List, [], ◌∷◌, length, get_or, Some, None, string_bytes}
+use Rattle.std.proofs.Common.{arith, subst, sym, ap, ◌∙◌, ◌≡◌, ◌<◌, ◌++◌, [], ◌∷◌, length, get_or, Some, None, string_bytes}
 use Rattle.serde_json.specs.View.{members_view, view}
 use Rattle.rp_json.specs.Members.{texts, views}
 use Rattle.rp_json.proofs.MemberLemmas.{AreSeen, all_seen, length_texts, length_views, no_other_bytes, none_left, none_other, one_seen, one_view, other_bytes, text_at}

@@ -1,4 +1,4 @@
-use Rattle.std.proofs.Common.{subst, Some, None}
+use Rattle.std.proofs.Common.{subst}
 use Rattle.serde_json.specs.View.{view}
 use Rattle.rp_json.specs.Reading.{IsFound}
 use Rattle.rp_json.proofs.QuasilinearReads.{Fits_cycle, Fits_values, found_cycle, found_none, found_values, value_cycle, value_values}

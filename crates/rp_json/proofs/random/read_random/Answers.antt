@@ -1,4 +1,4 @@
-use Rattle.std.proofs.Common.{subst, Some, None}
+use Rattle.std.proofs.Common.{subst}
 use Rattle.serde_json.specs.View.{view}
 use Rattle.rp_json.specs.Reading.{IsFound}
 use Rattle.rp_json.proofs.RandomReads.{Fits_mixture, Fits_violated, Fits_wide, found_mixture, found_none, found_violated, found_wide, value_mixture, value_violated, value_wide}

@@ -1,4 +1,4 @@
-use Rattle.std.proofs.Common.{subst, Some, None}
+use Rattle.std.proofs.Common.{subst}
 use Rattle.serde_json.specs.View.{view}
 use Rattle.rp_json.specs.Reading.{IsFound}
 use Rattle.rp_json.proofs.BoundReads.{Fits_shown, Fits_wide, found_none, found_shown, found_wide, value_shown, value_wide}

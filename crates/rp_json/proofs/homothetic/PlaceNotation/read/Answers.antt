@@ -1,4 +1,4 @@
-use Rattle.std.proofs.Common.{subst, None}
+use Rattle.std.proofs.Common.{subst}
 use Rattle.serde_json.specs.View.{view}
 use Rattle.rp_json.specs.Reading.{IsFound}
 use Rattle.rp_json.proofs.PlaceReads.{Fits_place, no_place, value_place}

@@ -1,4 +1,4 @@
-use Rattle.std.proofs.Common.{rules, arith, ℕ, ◌<◌, subst, Some}
+use Rattle.std.proofs.Common.{rules, arith, ◌<◌, subst}
 use Rattle.std.specs.Fmt.{decimal}
 use Rattle.serde_json.specs.View.{view}
 use Rattle.rp_num.specs.Spelled.{FitsWhole, IsSpelled}
