@@ -2,11 +2,16 @@ ghost use Rattle.std.specs.Prelude.{◌≡◌, IfOk, codes};
 ghost use Rattle.serde_json.specs.Data.{object, string, member, no_members};
 ghost use Rattle.serde_json.specs.View.{view};
 ghost use Rattle.rp_json.specs.AfriatValue.{afriat_value};
+ghost use Rattle.rp_json.specs.Limits.{FitsAfriat};
+ghost use Rattle.rp_json.specs.Reading.{IsRead};
 
 use crate::lists::show_list;
-use crate::numbers::{Natural, Observation, Show, Signed};
-use rp_evidence::AfriatPart;
-use rp_num::NoMemory;
+use crate::notation::Notation;
+use crate::numbers::{Natural, Observation, Signed};
+use crate::objects::read_object;
+use crate::tags::{AfriatTag, Named};
+use rp_evidence::{AfriatPart, Numbers};
+use rp_num::{NoMemory, Seq};
 use serde_json::{Value, json};
 use std::alloc::Global;
 
@@ -57,4 +62,41 @@ fn withheld_object(alloc: Global, at: Value) -> Result<Value, NoMemory>
         (member (codes "withheld") (view at) no_members))) }
 {
     Ok(json!(in alloc; {"item": "afriat", "withheld": at})?)
+}
+
+/// The evidence by Afriat's theorem that has this value.
+pub(crate) fn read_afriat(alloc: Global, value: &Value) -> Result<Option<AfriatPart>, NoMemory>
+    ensures { IfOk result (λ o. IsRead afriat_value FitsAfriat (view value.now) o) }
+{
+    match read_object::<ModelFields>(alloc, &["item", "lambda", "utility"], value)? {
+        Some(found) => return Ok(Some(model(found))),
+        None => {}
+    }
+    match read_object::<CycleFields>(alloc, &["cycle", "item"], value)? {
+        Some((cycle, ((), ()))) => {
+            return Ok(Some(AfriatPart::NoModel(cycle)));
+        }
+        None => {}
+    }
+    match read_object::<WideFields>(alloc, &["item", "withheld"], value)? {
+        Some(((), (at, ()))) => Ok(Some(AfriatPart::Wide { at })),
+        None => Ok(None),
+    }
+}
+
+/// The numbers of a model after the item's name.
+type ModelFields = (Named<AfriatTag>, (Seq<Natural>, (Seq<Signed>, ())));
+
+/// A cycle before the item's name.
+type CycleFields = (Seq<Observation>, (Named<AfriatTag>, ()));
+
+/// The place at which the numbers pass their width after the item's name.
+type WideFields = (Named<AfriatTag>, (Observation, ()));
+
+/// The model whose numbers were found.
+fn model(found: ((), (Seq<u64>, (Seq<i128>, ())))) -> AfriatPart
+    ensures { result ≡ AfriatPart.Model (record { u = found.1.1.0; lambda = found.1.0 }) }
+{
+    let ((), (lambda, (u, ()))) = found;
+    AfriatPart::Model(Numbers { u, lambda })
 }

@@ -2,23 +2,28 @@ ghost use Rattle.std.specs.Prelude.{◌≡◌, IfOk, codes};
 ghost use Rattle.serde_json.specs.Data.{object, member, no_members};
 ghost use Rattle.serde_json.specs.View.{view};
 ghost use Rattle.rp_json.specs.BoundValue.{bound_value, entry_value, good_value, point_value};
+ghost use Rattle.rp_json.specs.Limits.{FitsBound, FitsEntry, FitsGood, FitsPoint};
 ghost use Rattle.rp_json.specs.Values.{list_value, naturals_value};
 
 use crate::lists::show_list;
-use crate::numbers::{Fraction, Natural, Observation, Show};
+use crate::notation::Notation;
+use crate::numbers::{Fraction, Natural, Observation};
+use crate::objects::{read_array, read_object};
 use rp_evidence::{Bound, GoodBounds, Point};
 use rp_farkas::{Entry, Pair};
-use rp_num::{Frac, NoMemory};
+use rp_num::{Frac, NoMemory, Seq};
 use serde_json::{Map, Value, json, put};
 use std::alloc::Global;
 
 /// A positive entry of a point, with its column counted from 1.
 pub(crate) struct PointEntry;
 
-impl Show for PointEntry {
+impl Notation for PointEntry {
     type Entry = Entry;
 
     ghost shown = { entry_value };
+
+    ghost fits = { FitsEntry };
 
     fn show(alloc: Global, entry: &Entry) -> Result<Value, NoMemory> {
         let at = Observation::show(alloc, &entry.at)?;
@@ -28,22 +33,67 @@ impl Show for PointEntry {
         values.push(value)?;
         Ok(Value::Array(values))
     }
+
+    fn read(alloc: Global, value: &Value) -> Result<Option<Entry>, NoMemory> {
+        match read_array::<(Observation, (Natural, ()))>(alloc, value)? {
+            Some((at, (value, ()))) => Ok(Some(Entry { at, value })),
+            None => Ok(None),
+        }
+    }
 }
 
 /// The bounds of a good.
 pub(crate) struct Good;
 
-impl Show for Good {
+impl Notation for Good {
     type Entry = GoodBounds;
 
     ghost shown = { good_value };
+
+    ghost fits = { FitsGood };
 
     fn show(alloc: Global, entry: &GoodBounds) -> Result<Value, NoMemory> {
         let lower = show_bound(alloc, &entry.lower)?;
         let upper = show_bound(alloc, &entry.upper)?;
         Ok(json!(in alloc; {"lower": lower, "upper": upper})?)
     }
+
+    fn read(alloc: Global, value: &Value) -> Result<Option<GoodBounds>, NoMemory> {
+        match read_object::<(AnyBound, (AnyBound, ()))>(alloc, &["lower", "upper"], value)? {
+            Some(found) => Ok(Some(both(found))),
+            None => Ok(None),
+        }
+    }
 }
+
+/// A bound, shown or withheld.
+pub(crate) struct AnyBound;
+
+impl Notation for AnyBound {
+    type Entry = Bound;
+
+    ghost shown = { bound_value };
+
+    ghost fits = { FitsBound };
+
+    fn show(alloc: Global, entry: &Bound) -> Result<Value, NoMemory> {
+        show_bound(alloc, entry)
+    }
+
+    fn read(alloc: Global, value: &Value) -> Result<Option<Bound>, NoMemory> {
+        match read_object::<PairFields>(alloc, &["den", "value", "x", "y"], value)? {
+            Some(found) => return Ok(Some(shown(found))),
+            None => {}
+        }
+        match read_object::<(Natural, ())>(alloc, &["withheld"], value)? {
+            Some((step, ())) => Ok(Some(Bound::Wide { step })),
+            None => Ok(None),
+        }
+    }
+}
+
+/// The denominator of a pair, the value that it shows, its prices and its point.
+type PairFields = (Natural, (Fraction, (Seq<Natural>, (Seq<PointEntry>, ()))));
 
 /// Makes the value of a bound.
 pub(crate) fn show_bound(alloc: Global, bound: &Bound) -> Result<Value, NoMemory>
@@ -89,6 +139,28 @@ fn pair_object(
     Ok(Value::Object(members))
 }
 
+/// A bundle over a denominator.
+pub(crate) struct Bundle;
+
+impl Notation for Bundle {
+    type Entry = Point;
+
+    ghost shown = { point_value };
+
+    ghost fits = { FitsPoint };
+
+    fn show(alloc: Global, entry: &Point) -> Result<Value, NoMemory> {
+        show_point(alloc, entry)
+    }
+
+    fn read(alloc: Global, value: &Value) -> Result<Option<Point>, NoMemory> {
+        match read_object::<(Natural, (Seq<Natural>, ()))>(alloc, &["den", "num"], value)? {
+            Some(found) => Ok(Some(point(found))),
+            None => Ok(None),
+        }
+    }
+}
+
 /// Makes the value of a point.
 pub(crate) fn show_point(alloc: Global, point: &Point) -> Result<Value, NoMemory>
     ensures { IfOk result (λ v. view v ≡ point_value point.now) }
@@ -96,4 +168,30 @@ pub(crate) fn show_point(alloc: Global, point: &Point) -> Result<Value, NoMemory
     let den = Natural::show(alloc, &point.den)?;
     let num = show_list::<Natural>(alloc, point.num.as_slice())?;
     Ok(json!(in alloc; {"den": den, "num": num})?)
+}
+
+/// The bound that was found with its pair.
+fn shown(found: (u64, (Frac, (Seq<u64>, (Seq<Entry>, ()))))) -> Bound
+    ensures { result ≡ Bound.Shown found.1.0
+        (record { den = found.0; y = found.1.1.1.0; x = found.1.1.0 }) }
+{
+    let (den, (value, (x, (y, ())))) = found;
+    let pair = Pair { den, y, x };
+    Bound::Shown { value, pair }
+}
+
+/// Both bounds that were found.
+fn both(found: (Bound, (Bound, ()))) -> GoodBounds
+    ensures { result ≡ record { lower = found.0; upper = found.1.0 } }
+{
+    let (lower, (upper, ())) = found;
+    GoodBounds { lower, upper }
+}
+
+/// The point that was found.
+fn point(found: (u64, (Seq<u64>, ()))) -> Point
+    ensures { result ≡ record { den = found.0; num = found.1.0 } }
+{
+    let (den, (num, ())) = found;
+    Point { den, num }
 }

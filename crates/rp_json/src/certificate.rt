@@ -37,7 +37,7 @@ fn show_certificate(alloc: Global, certificate: &Certificate) -> Result<Value, N
 }
 
 /// What a certificate of this kind says that it is about.
-fn name(kind: Kind) -> &'static str
+pub(crate) fn name(kind: Kind) -> &'static str
     ensures { result.now ≡ kind_name kind }
 {
     match kind {

@@ -2,13 +2,18 @@ ghost use Rattle.std.specs.Prelude.{◌≡◌, IfOk, codes};
 ghost use Rattle.serde_json.specs.Data.{Data, object, string, member, no_members};
 ghost use Rattle.serde_json.specs.View.{view, members_view};
 ghost use Rattle.rp_json.specs.DemandValue.{demand_value};
+ghost use Rattle.rp_json.specs.Limits.{FitsDemand};
+ghost use Rattle.rp_json.specs.Reading.{IsRead};
 ghost use Rattle.rp_json.specs.Values.{naturals_value};
 
-use crate::bounds::{Good, show_point};
+use crate::bounds::{Bundle, Good, show_point};
 use crate::lists::show_list;
-use crate::numbers::{Natural, Observation, Price, Show};
-use rp_evidence::DemandPart;
-use rp_num::NoMemory;
+use crate::notation::Notation;
+use crate::numbers::{Natural, Observation, Price};
+use crate::objects::read_object;
+use crate::tags::{DemandTag, Named};
+use rp_evidence::{DemandPart, GoodBounds, Point};
+use rp_num::{NoMemory, Seq};
 use serde_json::{Map, Value, put};
 use std::alloc::Global;
 
@@ -104,4 +109,80 @@ fn cycle_object(
     put(&mut members, alloc, "item", name)?;
     put(&mut members, alloc, "prices", prices)?;
     Ok(Value::Object(members))
+}
+
+/// Demand at new prices: the prices, the expenditure and the bounds.
+pub(crate) type Demand = (Seq<u32>, u64, DemandPart);
+
+/// The demand at new prices that has this value.
+pub(crate) fn read_demand(alloc: Global, value: &Value) -> Result<Option<Demand>, NoMemory>
+    ensures { IfOk result (λ o. IsRead (λ d. demand_value d.0 d.1 d.2) (λ d. FitsDemand d.0 d.1 d.2)
+        (view value.now) o) }
+{
+    match read_object::<BoundsFields>(alloc, &BOUNDS, value)? {
+        Some(found) => return Ok(Some(bounds(found))),
+        None => {}
+    }
+    match read_object::<CycleFields>(alloc, &["cycle", "expenditure", "item", "prices"], value)? {
+        Some(found) => Ok(Some(no_model(found))),
+        None => Ok(None),
+    }
+}
+
+/// The names of the members of bounds.
+const BOUNDS: [&str; 7] = [
+    "below",
+    "expenditure",
+    "goods",
+    "inner",
+    "item",
+    "prices",
+    "strict",
+];
+
+/// The observations below, the expenditure, the goods, a point, the item's name, the prices, and the observations strictly below.
+type BoundsFields = (
+    Seq<Observation>,
+    (Natural, (Seq<Good>, (Bundle, PricesFields))),
+);
+
+/// The item's name, the prices, and the observations strictly below.
+type PricesFields = (Named<DemandTag>, (Seq<Price>, (Seq<Observation>, ())));
+
+/// A cycle, the expenditure, the item's name and the prices.
+type CycleFields = (
+    Seq<Observation>,
+    (Natural, (Named<DemandTag>, (Seq<Price>, ()))),
+);
+
+/// What was found of bounds.
+type FoundBounds = (Seq<u32>, (u64, (Seq<GoodBounds>, (Point, FoundPrices))));
+
+/// What was found of prices and of the observations strictly below.
+type FoundPrices = ((), (Seq<u32>, (Seq<u32>, ())));
+
+/// The bounds that were found.
+fn bounds(found: FoundBounds) -> Demand
+    ensures { result ≡ (
+      found.1.1.1.1.1.0,
+      found.1.0,
+      DemandPart.Bounds found.0 found.1.1.1.1.1.1.0 found.1.1.1.0 found.1.1.0,
+    ) }
+{
+    let (below, (m, (goods, (inner, ((), (prices, (strict, ()))))))) = found;
+    let part = DemandPart::Bounds {
+        below,
+        strict,
+        inner,
+        goods,
+    };
+    (prices, m, part)
+}
+
+/// The violation that was found.
+fn no_model(found: (Seq<u32>, (u64, ((), (Seq<u32>, ()))))) -> Demand
+    ensures { result ≡ (found.1.1.1.0, found.1.0, DemandPart.NoModel found.0) }
+{
+    let (cycle, (m, ((), (prices, ())))) = found;
+    (prices, m, DemandPart::NoModel(cycle))
 }

@@ -1,13 +1,18 @@
-ghost use Rattle.std.specs.Prelude.{◌≡◌, IfOk, OnOk, codes};
+ghost use Rattle.std.specs.Prelude.{◌≡◌, IfOk, IfSome, None, OnOk, codes};
 ghost use Rattle.serde_json.specs.Data.{string, member, no_members};
 ghost use Rattle.serde_json.specs.View.{view, members_view};
 ghost use Rattle.rp_json.specs.EfficiencyValue.{at_members, below_members, efficiency_value, level_value};
+ghost use Rattle.rp_json.specs.Limits.{FitsEfficiency, FitsLevel};
+ghost use Rattle.rp_json.specs.Reading.{FitsLong, IsRead};
 ghost use Rattle.rp_evidence.specs.declared.efficiency.Efficiency.{Efficiency};
 
 use crate::lists::show_list;
-use crate::numbers::{Count, Observation, parts};
+use crate::notation::Notation;
+use crate::numbers::{Count, Fraction, Observation, parts};
+use crate::objects::read_object;
+use crate::tags::{EfficiencyTag, Named};
 use rp_evidence::{Efficiency, Garp, Level};
-use rp_num::NoMemory;
+use rp_num::{Frac, NoMemory, Seq};
 use serde_json::{Map, Value, put};
 use std::alloc::Global;
 
@@ -69,4 +74,116 @@ fn show_level(alloc: Global, level: Level) -> Result<Value, NoMemory>
     ensures { IfOk result (λ v. view v ≡ level_value level) }
 {
     parts(alloc, u128::from(level.num), u128::from(level.den))
+}
+
+/// The efficiency index, with its evidence, that has this value.
+pub(crate) fn read_efficiency(alloc: Global, value: &Value) -> Result<Option<Efficiency>, NoMemory>
+    ensures { IfOk result (λ o. IsRead efficiency_value FitsEfficiency (view value.now) o) }
+{
+    match read_object::<AttainedFields>(alloc, &ATTAINED, value)? {
+        Some(found) => return Ok(Some(attained(found))),
+        None => {}
+    }
+    match read_object::<MissedFields>(alloc, &MISSED, value)? {
+        Some(found) => Ok(Some(missed(found))),
+        None => Ok(None),
+    }
+}
+
+/// The names of the members where the index is attained.
+const ATTAINED: [&str; 5] = ["above", "at_ranks", "below", "item", "level"];
+
+/// The names of the members where it is not.
+const MISSED: [&str; 5] = ["above", "at_cycle", "below", "item", "level"];
+
+/// A walk above, ranks at the index, ranks below it, the item's name and the level.
+type AttainedFields = (Seq<Observation>, (Seq<Count>, BelowFields));
+
+/// The same with a cycle at the index.
+type MissedFields = (Seq<Observation>, (Seq<Observation>, BelowFields));
+
+/// Ranks below the index, the item's name and the level.
+type BelowFields = (Seq<Count>, (Named<EfficiencyTag>, (LevelText, ())));
+
+/// A level, in lowest terms where it is read.
+struct LevelText;
+
+impl Notation for LevelText {
+    type Entry = Level;
+
+    ghost shown = { level_value };
+
+    ghost fits = { FitsLevel };
+
+    fn show(alloc: Global, entry: &Level) -> Result<Value, NoMemory> {
+        show_level(alloc, *entry)
+    }
+
+    fn read(alloc: Global, value: &Value) -> Result<Option<Level>, NoMemory> {
+        match Fraction::read(alloc, value)? {
+            Some(level) => Ok(long_parts(level)),
+            None => Ok(None),
+        }
+    }
+}
+
+/// The level with the parts of a fraction, where both have 64 bits.
+fn long_parts(f: Frac) -> Option<Level>
+    ensures parts { IfSome result (λ level. (level.num ≡ f.num) × (level.den ≡ f.den)) }
+    ensures fits { IfSome result (λ level. FitsLong level.num × FitsLong level.den) }
+    ensures long { result ≡ None → ¬ (FitsLong f.num × FitsLong f.den) }
+{
+    let num = f.num();
+    if num > u128::from(u64::MAX) {
+        return None;
+    }
+    let den = f.den();
+    if den > u128::from(u64::MAX) {
+        return None;
+    }
+    Some(Level {
+        num: num as u64,
+        den: den as u64,
+    })
+}
+
+/// What was found below the index and of its level.
+type FoundBelow = (Seq<u32>, ((), (Level, ())));
+
+/// The index that was found, with ranks at it.
+fn attained(found: (Seq<u32>, (Seq<u32>, FoundBelow))) -> Efficiency
+    ensures { result ≡ record {
+      level = found.1.1.1.1.0;
+      below = found.1.1.0;
+      above = found.0;
+      at = Garp.Ranks found.1.0;
+    } }
+{
+    let (above, (ranks, (below, ((), (level, ()))))) = found;
+    let at = Garp::Ranks(ranks);
+    Efficiency {
+        level,
+        below,
+        above,
+        at,
+    }
+}
+
+/// The index that was found, with a cycle at it.
+fn missed(found: (Seq<u32>, (Seq<u32>, FoundBelow))) -> Efficiency
+    ensures { result ≡ record {
+      level = found.1.1.1.1.0;
+      below = found.1.1.0;
+      above = found.0;
+      at = Garp.Cycle found.1.0;
+    } }
+{
+    let (above, (cycle, (below, ((), (level, ()))))) = found;
+    let at = Garp::Cycle(cycle);
+    Efficiency {
+        level,
+        below,
+        above,
+        at,
+    }
 }

@@ -1,11 +1,15 @@
 ghost use Rattle.std.specs.Prelude.{◌≡◌, IfOk};
 ghost use Rattle.serde_json.specs.View.{view};
 ghost use Rattle.rp_json.specs.GarpValue.{garp_value};
+ghost use Rattle.rp_json.specs.Limits.{FitsGarp};
+ghost use Rattle.rp_json.specs.Reading.{IsRead};
 
 use crate::lists::show_list;
 use crate::numbers::{Count, Observation};
+use crate::objects::read_object;
+use crate::tags::{GarpTag, Named};
 use rp_evidence::Garp;
-use rp_num::NoMemory;
+use rp_num::{NoMemory, Seq};
 use serde_json::{Value, json};
 use std::alloc::Global;
 
@@ -24,3 +28,25 @@ pub(crate) fn show_garp(alloc: Global, verdict: &Garp) -> Result<Value, NoMemory
         }
     }
 }
+
+/// The verdict on the generalized axiom that has this value.
+pub(crate) fn read_garp(alloc: Global, value: &Value) -> Result<Option<Garp>, NoMemory>
+    ensures { IfOk result (λ o. IsRead garp_value FitsGarp (view value.now) o) }
+{
+    match read_object::<RanksFields>(alloc, &["item", "ranks"], value)? {
+        Some(((), (ranks, ()))) => {
+            return Ok(Some(Garp::Ranks(ranks)));
+        }
+        None => {}
+    }
+    match read_object::<CycleFields>(alloc, &["cycle", "item"], value)? {
+        Some((cycle, ((), ()))) => Ok(Some(Garp::Cycle(cycle))),
+        None => Ok(None),
+    }
+}
+
+/// Ranks after the item's name.
+type RanksFields = (Named<GarpTag>, (Seq<Count>, ()));
+
+/// A cycle before the item's name.
+type CycleFields = (Seq<Observation>, (Named<GarpTag>, ()));

@@ -1,12 +1,17 @@
 ghost use Rattle.std.specs.Prelude.{◌≡◌, IfOk, codes};
 ghost use Rattle.serde_json.specs.Data.{array, object, string, item, no_items, member, no_members};
 ghost use Rattle.serde_json.specs.View.{view};
-ghost use Rattle.rp_json.specs.HomotheticValue.{homothetic_value};
+ghost use Rattle.rp_json.specs.HomotheticValue.{homothetic_value, place_value};
+ghost use Rattle.rp_json.specs.Limits.{FitsHomothetic};
+ghost use Rattle.rp_json.specs.Reading.{FitsCount, FitsObservation, IsRead};
 
 use crate::lists::show_list;
-use crate::numbers::{Count, Fraction, Observation, Show};
+use crate::notation::Notation;
+use crate::numbers::{Count, Fraction, Observation};
+use crate::objects::{read_array, read_object};
+use crate::tags::{HomotheticTag, Named};
 use rp_evidence::Homothetic;
-use rp_num::NoMemory;
+use rp_num::{Frac, NoMemory, Seq};
 use serde_json::{Value, json};
 use std::alloc::Global;
 
@@ -72,4 +77,66 @@ fn place_array(alloc: Global, steps: Value, from: Value, to: Value) -> Result<Va
     place.push(from)?;
     place.push(to)?;
     Ok(Value::Array(place))
+}
+
+/// The verdict of the homothetic test that has this value.
+pub(crate) fn read_homothetic(alloc: Global, value: &Value) -> Result<Option<Homothetic>, NoMemory>
+    ensures { IfOk result (λ o. IsRead homothetic_value FitsHomothetic (view value.now) o) }
+{
+    match read_object::<ValuesFields>(alloc, &["item", "values"], value)? {
+        Some(((), (values, ()))) => {
+            return Ok(Some(Homothetic::Values(values)));
+        }
+        None => {}
+    }
+    match read_object::<CycleFields>(alloc, &["cycle", "item", "start"], value)? {
+        Some(found) => return Ok(Some(cycle(found))),
+        None => {}
+    }
+    match read_object::<WideFields>(alloc, &["item", "withheld"], value)? {
+        Some(((), ((steps, from, to), ()))) => Ok(Some(Homothetic::Withheld { steps, from, to })),
+        None => Ok(None),
+    }
+}
+
+/// Values after the item's name.
+type ValuesFields = (Named<HomotheticTag>, (Seq<Fraction>, ()));
+
+/// A cycle, the item's name and the start.
+type CycleFields = (Seq<Observation>, (Named<HomotheticTag>, (Fraction, ())));
+
+/// The place of a product that is too wide after the item's name.
+type WideFields = (Named<HomotheticTag>, (Place, ()));
+
+/// A number of steps, and the observations from and to which the next goes.
+struct Place;
+
+impl Notation for Place {
+    type Entry = (u32, u32, u32);
+
+    ghost shown = { λ p. place_value p.0 p.1 p.2 };
+
+    ghost fits = { λ p. FitsCount p.0 × FitsObservation p.1 × FitsObservation p.2 };
+
+    fn show(alloc: Global, entry: &(u32, u32, u32)) -> Result<Value, NoMemory> {
+        let steps = Count::show(alloc, &entry.0)?;
+        let from = Observation::show(alloc, &entry.1)?;
+        let to = Observation::show(alloc, &entry.2)?;
+        place_array(alloc, steps, from, to)
+    }
+
+    fn read(alloc: Global, value: &Value) -> Result<Option<(u32, u32, u32)>, NoMemory> {
+        match read_array::<(Count, (Observation, (Observation, ())))>(alloc, value)? {
+            Some((steps, (from, (to, ())))) => Ok(Some((steps, from, to))),
+            None => Ok(None),
+        }
+    }
+}
+
+/// The cycle that was found, with its start.
+fn cycle(found: (Seq<u32>, ((), (Frac, ())))) -> Homothetic
+    ensures { result ≡ Homothetic.Cycle found.1.1.0 found.0 }
+{
+    let (steps, ((), (start, ()))) = found;
+    Homothetic::Cycle { start, steps }
 }

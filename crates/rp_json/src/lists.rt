@@ -1,19 +1,57 @@
-ghost use Rattle.std.specs.Prelude.{◌≡◌, IfOk};
+ghost use Rattle.std.specs.Prelude.{◌≡◌, IfOk, All, map};
 ghost use Rattle.serde_json.specs.View.{view};
+ghost use Rattle.rp_json.specs.Reading.{IsFound};
 ghost use Rattle.rp_json.specs.Values.{list_value};
 
-use crate::numbers::Show;
-use rp_num::NoMemory;
+use crate::notation::Notation;
+use rp_num::{NoMemory, Seq};
 use serde_json::Value;
 use std::alloc::Global;
 
+/// Entries of one notation, as an array.
+impl<N: Notation> Notation for Seq<N> {
+    type Entry = Seq<N::Entry>;
+
+    ghost shown = { list_value N.shown };
+
+    ghost fits = { All N.fits };
+
+    fn show(alloc: Global, entry: &Seq<N::Entry>) -> Result<Value, NoMemory> {
+        show_list::<N>(alloc, entry.as_slice())
+    }
+
+    fn read(alloc: Global, value: &Value) -> Result<Option<Seq<N::Entry>>, NoMemory> {
+        match value.as_array() {
+            Some(values) => read_list::<N>(alloc, values.as_slice()),
+            None => Ok(None),
+        }
+    }
+}
+
 /// Makes the array of the entries' values.
-pub(crate) fn show_list<S: Show>(alloc: Global, entries: &[S::Entry]) -> Result<Value, NoMemory>
-    ensures { IfOk result (λ v. view v ≡ list_value S.shown entries.now) }
+pub(crate) fn show_list<N: Notation>(alloc: Global, entries: &[N::Entry]) -> Result<Value, NoMemory>
+    ensures { IfOk result (λ v. view v ≡ list_value N.shown entries.now) }
 {
     let mut values = Vec::with_capacity(alloc, entries.len())?;
     for entry in entries {
-        values.push(S::show(alloc, entry)?)?;
+        values.push(N::show(alloc, entry)?)?;
     }
     Ok(Value::Array(values))
+}
+
+/// The entries that have these values.
+fn read_list<N: Notation>(
+    alloc: Global,
+    values: &[Value],
+) -> Result<Option<Seq<N::Entry>>, NoMemory>
+    ensures { IfOk result (λ o. IsFound (map N.shown) (All N.fits) (map view values.now) o) }
+{
+    let mut entries = Vec::with_capacity(alloc, values.len())?;
+    for value in values {
+        match N::read(alloc, value)? {
+            Some(entry) => entries.push(entry)?,
+            None => return Ok(None),
+        }
+    }
+    Ok(Some(Seq::from_vec(entries)))
 }

@@ -1,100 +1,152 @@
 ghost use Rattle.std.specs.Prelude.{◌≡◌, IfOk};
 ghost use Rattle.rp_num.specs.Fraction.{Fraction};
-ghost use Rattle.serde_json.specs.Data.{Data};
+ghost use Rattle.rp_num.specs.Spelled.{FitsSum, IsReduced};
 ghost use Rattle.serde_json.specs.View.{view};
+ghost use Rattle.rp_json.specs.Reading.{FitsCount, FitsLong, FitsObservation, IsRead};
 ghost use Rattle.rp_json.specs.Values.{count_value, fraction_value, natural_value, observation_value, signed_value};
 
-use rp_num::{Frac, NoMemory};
+use crate::notation::Notation;
+use rp_num::{Frac, NoMemory, read_frac, read_i128, read_u128};
 use serde_json::Value;
 use std::alloc::Global;
-
-/// How one kind of number is shown as JSON.
-pub(crate) trait Show {
-    type Entry;
-
-    /// The value of a number.
-    ghost shown: { Self.Entry → Data };
-
-    /// Makes the value of a number.
-    fn show(alloc: Global, entry: &Self::Entry) -> Result<Value, NoMemory>
-        ensures { IfOk result (λ v. view v ≡ shown entry.now) };
-}
 
 /// A small number as it is.
 pub(crate) struct Count;
 
-impl Show for Count {
+impl Notation for Count {
     type Entry = u32;
 
     ghost shown = { count_value };
 
+    ghost fits = { FitsCount };
+
     fn show(_alloc: Global, entry: &u32) -> Result<Value, NoMemory> {
         Ok(Value::from(*entry))
+    }
+
+    fn read(_alloc: Global, value: &Value) -> Result<Option<u32>, NoMemory> {
+        match value.as_u64() {
+            Some(count) if count <= u64::from(u32::MAX) => Ok(Some(count as u32)),
+            _ => Ok(None),
+        }
     }
 }
 
 /// An observation, which is counted from 1.
 pub(crate) struct Observation;
 
-impl Show for Observation {
+impl Notation for Observation {
     type Entry = u32;
 
     ghost shown = { observation_value };
 
+    ghost fits = { FitsObservation };
+
     fn show(_alloc: Global, entry: &u32) -> Result<Value, NoMemory> {
         Ok(Value::from(u64::from(*entry) + 1))
+    }
+
+    fn read(_alloc: Global, value: &Value) -> Result<Option<u32>, NoMemory> {
+        match value.as_u64() {
+            Some(number) if 1 <= number && number <= u64::from(u32::MAX) => {
+                Ok(Some((number - 1) as u32))
+            }
+            _ => Ok(None),
+        }
     }
 }
 
 /// A whole number that is not negative.
 pub(crate) struct Natural;
 
-impl Show for Natural {
+impl Notation for Natural {
     type Entry = u64;
 
     ghost shown = { natural_value };
 
+    ghost fits = { FitsLong };
+
     fn show(alloc: Global, entry: &u64) -> Result<Value, NoMemory> {
         Ok(Value::String(entry.to_string(alloc)?))
+    }
+
+    fn read(alloc: Global, value: &Value) -> Result<Option<u64>, NoMemory> {
+        let Some(text) = value.as_str() else {
+            return Ok(None);
+        };
+        match read_u128(alloc, text)? {
+            Some(number) if number <= u128::from(u64::MAX) => Ok(Some(number as u64)),
+            _ => Ok(None),
+        }
     }
 }
 
 /// A small whole number that is shown as a text.
 pub(crate) struct Price;
 
-impl Show for Price {
+impl Notation for Price {
     type Entry = u32;
 
     ghost shown = { natural_value };
 
+    ghost fits = { FitsCount };
+
     fn show(alloc: Global, entry: &u32) -> Result<Value, NoMemory> {
         Ok(Value::String(entry.to_string(alloc)?))
+    }
+
+    fn read(alloc: Global, value: &Value) -> Result<Option<u32>, NoMemory> {
+        let Some(text) = value.as_str() else {
+            return Ok(None);
+        };
+        match read_u128(alloc, text)? {
+            Some(number) if number <= u128::from(u32::MAX) => Ok(Some(number as u32)),
+            _ => Ok(None),
+        }
     }
 }
 
 /// A whole number with its sign.
 pub(crate) struct Signed;
 
-impl Show for Signed {
+impl Notation for Signed {
     type Entry = i128;
 
     ghost shown = { signed_value };
 
+    ghost fits = { FitsSum };
+
     fn show(alloc: Global, entry: &i128) -> Result<Value, NoMemory> {
         Ok(Value::String(entry.to_string(alloc)?))
+    }
+
+    fn read(alloc: Global, value: &Value) -> Result<Option<i128>, NoMemory> {
+        match value.as_str() {
+            Some(text) => read_i128(alloc, text),
+            None => Ok(None),
+        }
     }
 }
 
 /// A fraction in lowest terms.
 pub(crate) struct Fraction;
 
-impl Show for Fraction {
+impl Notation for Fraction {
     type Entry = Frac;
 
     ghost shown = { fraction_value };
 
+    ghost fits = { IsReduced };
+
     fn show(alloc: Global, entry: &Frac) -> Result<Value, NoMemory> {
         parts(alloc, entry.num(), entry.den())
+    }
+
+    fn read(alloc: Global, value: &Value) -> Result<Option<Frac>, NoMemory> {
+        match value.as_str() {
+            Some(text) => read_frac(alloc, text),
+            None => Ok(None),
+        }
     }
 }
 

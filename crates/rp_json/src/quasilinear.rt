@@ -1,11 +1,15 @@
 ghost use Rattle.std.specs.Prelude.{◌≡◌, IfOk};
 ghost use Rattle.serde_json.specs.View.{view};
+ghost use Rattle.rp_json.specs.Limits.{FitsQuasilinear};
 ghost use Rattle.rp_json.specs.QuasilinearValue.{quasilinear_value};
+ghost use Rattle.rp_json.specs.Reading.{IsRead};
 
 use crate::lists::show_list;
 use crate::numbers::{Observation, Signed};
+use crate::objects::read_object;
+use crate::tags::{Named, QuasilinearTag};
 use rp_evidence::Quasi;
-use rp_num::NoMemory;
+use rp_num::{NoMemory, Seq};
 use serde_json::{Value, json};
 use std::alloc::Global;
 
@@ -24,3 +28,25 @@ pub(crate) fn show_quasilinear(alloc: Global, verdict: &Quasi) -> Result<Value, 
         }
     }
 }
+
+/// The verdict of the quasilinear test that has this value.
+pub(crate) fn read_quasilinear(alloc: Global, value: &Value) -> Result<Option<Quasi>, NoMemory>
+    ensures { IfOk result (λ o. IsRead quasilinear_value FitsQuasilinear (view value.now) o) }
+{
+    match read_object::<ValuesFields>(alloc, &["item", "values"], value)? {
+        Some(((), (values, ()))) => {
+            return Ok(Some(Quasi::Values(values)));
+        }
+        None => {}
+    }
+    match read_object::<CycleFields>(alloc, &["cycle", "item"], value)? {
+        Some((cycle, ((), ()))) => Ok(Some(Quasi::Cycle(cycle))),
+        None => Ok(None),
+    }
+}
+
+/// Values after the item's name.
+type ValuesFields = (Named<QuasilinearTag>, (Seq<Signed>, ()));
+
+/// A cycle before the item's name.
+type CycleFields = (Seq<Observation>, (Named<QuasilinearTag>, ()));

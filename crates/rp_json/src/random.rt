@@ -1,22 +1,29 @@
 ghost use Rattle.std.specs.Prelude.{◌≡◌, IfOk, codes};
 ghost use Rattle.serde_json.specs.Data.{object, string, member, no_members};
 ghost use Rattle.serde_json.specs.View.{view, members_view};
+ghost use Rattle.rp_json.specs.Limits.{FitsRandom, FitsShare};
+ghost use Rattle.rp_json.specs.Reading.{IsRead};
 ghost use Rattle.rp_json.specs.RandomValue.{random_value, share_value};
 
 use crate::lists::show_list;
-use crate::numbers::{Natural, Observation, Show};
+use crate::notation::Notation;
+use crate::numbers::{Natural, Observation};
+use crate::objects::{read_array, read_object};
+use crate::tags::{Named, RandomTag};
 use rp_evidence::{RandomPart, Share};
-use rp_num::NoMemory;
+use rp_num::{NoMemory, Seq};
 use serde_json::{Map, Value, json, put};
 use std::alloc::Global;
 
 /// A rational type with its weight; its patches are counted from 1.
 pub(crate) struct Part;
 
-impl Show for Part {
+impl Notation for Part {
     type Entry = Share;
 
     ghost shown = { share_value };
+
+    ghost fits = { FitsShare };
 
     fn show(alloc: Global, entry: &Share) -> Result<Value, NoMemory> {
         let patches = show_list::<Observation>(alloc, entry.patches.as_slice())?;
@@ -25,6 +32,13 @@ impl Show for Part {
         values.push(patches)?;
         values.push(weight)?;
         Ok(Value::Array(values))
+    }
+
+    fn read(alloc: Global, value: &Value) -> Result<Option<Share>, NoMemory> {
+        match read_array::<(Seq<Observation>, (Natural, ()))>(alloc, value)? {
+            Some(found) => Ok(Some(share(found))),
+            None => Ok(None),
+        }
     }
 }
 
@@ -84,4 +98,73 @@ fn withheld_object(alloc: Global, total: Value, step: Value) -> Result<Value, No
         (member (codes "total") (view total) (member (codes "withheld") (view step) no_members)))) }
 {
     Ok(json!(in alloc; {"item": "random", "total": total, "withheld": step})?)
+}
+
+/// A verdict on random choices: the total and the evidence.
+pub(crate) type Random = (u64, RandomPart);
+
+/// The verdict on random choices that has this value.
+pub(crate) fn read_random(alloc: Global, value: &Value) -> Result<Option<Random>, NoMemory>
+    ensures { IfOk result (λ o. IsRead (λ r. random_value r.0 r.1) (λ r. FitsRandom r.0 r.1)
+        (view value.now) o) }
+{
+    match read_object::<MixtureFields>(alloc, &["den", "item", "parts", "total"], value)? {
+        Some(found) => return Ok(Some(mixture(found))),
+        None => {}
+    }
+    match read_object::<ViolatedFields>(
+        alloc,
+        &["den", "item", "parts", "total", "weights"],
+        value,
+    )? {
+        Some(found) => return Ok(Some(violated(found))),
+        None => {}
+    }
+    match read_object::<WideFields>(alloc, &["item", "total", "withheld"], value)? {
+        Some(((), (total, (step, ())))) => Ok(Some((total, RandomPart::Wide { step }))),
+        None => Ok(None),
+    }
+}
+
+/// The denominator, the item's name, the parts and the total.
+type MixtureFields = (Natural, (Named<RandomTag>, (Seq<Part>, (Natural, ()))));
+
+/// The same, with the weights of the patches.
+type ViolatedFields = (
+    Natural,
+    (Named<RandomTag>, (Seq<Part>, (Natural, (Seq<Natural>, ())))),
+);
+
+/// The item's name, the total and the step.
+type WideFields = (Named<RandomTag>, (Natural, (Natural, ())));
+
+/// The part that was found.
+fn share(found: (Seq<u32>, (u64, ()))) -> Share
+    ensures { result ≡ record { patches = found.0; weight = found.1.0 } }
+{
+    let (patches, (weight, ())) = found;
+    Share { patches, weight }
+}
+
+/// The mixture that was found.
+fn mixture(found: (u64, ((), (Seq<Share>, (u64, ()))))) -> Random
+    ensures { result ≡ (found.1.1.1.0, RandomPart.Mixture found.0 found.1.1.0) }
+{
+    let (den, ((), (parts, (total, ())))) = found;
+    (total, RandomPart::Mixture { den, parts })
+}
+
+/// The partial mixture that was found, with the weights of the patches.
+fn violated(found: (u64, ((), (Seq<Share>, (u64, (Seq<u64>, ())))))) -> Random
+    ensures { result ≡ (found.1.1.1.0, RandomPart.Violated found.0 found.1.1.0 found.1.1.1.1.0) }
+{
+    let (den, ((), (parts, (total, (weights, ()))))) = found;
+    (
+        total,
+        RandomPart::Violated {
+            den,
+            parts,
+            weights,
+        },
+    )
 }

@@ -2,13 +2,18 @@ ghost use Rattle.std.specs.Prelude.{◌≡◌, IfOk, codes};
 ghost use Rattle.serde_json.specs.Data.{Data, object, string, member, no_members};
 ghost use Rattle.serde_json.specs.View.{view, members_view};
 ghost use Rattle.rp_json.specs.DemandValue.{welfare_value};
+ghost use Rattle.rp_json.specs.Limits.{FitsWelfare};
+ghost use Rattle.rp_json.specs.Reading.{IsRead};
 ghost use Rattle.rp_json.specs.Values.{naturals_value};
 
-use crate::bounds::show_bound;
+use crate::bounds::{AnyBound, show_bound};
 use crate::lists::show_list;
-use crate::numbers::{Natural, Observation, Price, Show};
-use rp_evidence::WelfarePart;
-use rp_num::NoMemory;
+use crate::notation::Notation;
+use crate::numbers::{Natural, Observation, Price};
+use crate::objects::read_object;
+use crate::tags::{Named, WelfareTag};
+use rp_evidence::{Bound, WelfarePart};
+use rp_num::{NoMemory, Seq};
 use serde_json::{Map, Value, put};
 use std::alloc::Global;
 
@@ -93,4 +98,60 @@ fn cycle_object(
     put(&mut members, alloc, "observation", observation)?;
     put(&mut members, alloc, "prices", prices)?;
     Ok(Value::Object(members))
+}
+
+/// Welfare bounds: the prices, the observation and the bounds.
+pub(crate) type Welfare = (Seq<u32>, u32, WelfarePart);
+
+/// The welfare bounds of an observation that have this value.
+pub(crate) fn read_welfare(alloc: Global, value: &Value) -> Result<Option<Welfare>, NoMemory>
+    ensures { IfOk result (λ o. IsRead (λ w. welfare_value w.0 w.1 w.2) (λ w. FitsWelfare w.0 w.1 w.2)
+        (view value.now) o) }
+{
+    match read_object::<BoundsFields>(alloc, &BOUNDS, value)? {
+        Some(found) => return Ok(Some(bounds(found))),
+        None => {}
+    }
+    match read_object::<CycleFields>(alloc, &["cycle", "item", "observation", "prices"], value)? {
+        Some(found) => Ok(Some(no_model(found))),
+        None => Ok(None),
+    }
+}
+
+/// The names of the members of bounds.
+const BOUNDS: [&str; 6] = ["at", "item", "lower", "observation", "prices", "upper"];
+
+/// The observation of the upper bound, the item's name, the lower bound, the observation, the prices and the upper bound.
+type BoundsFields = (Observation, (Named<WelfareTag>, (AnyBound, PricesFields)));
+
+/// The observation, the prices and the upper bound.
+type PricesFields = (Observation, (Seq<Price>, (Natural, ())));
+
+/// A cycle, the item's name, the observation and the prices.
+type CycleFields = (
+    Seq<Observation>,
+    (Named<WelfareTag>, (Observation, (Seq<Price>, ()))),
+);
+
+/// What was found of bounds.
+type FoundBounds = (u32, ((), (Bound, (u32, (Seq<u32>, (u64, ()))))));
+
+/// The bounds that were found.
+fn bounds(found: FoundBounds) -> Welfare
+    ensures { result ≡ (
+      found.1.1.1.1.0,
+      found.1.1.1.0,
+      WelfarePart.Bounds found.1.1.1.1.1.0 found.0 found.1.1.0,
+    ) }
+{
+    let (at, ((), (lower, (of, (prices, (upper, ())))))) = found;
+    (prices, of, WelfarePart::Bounds { upper, at, lower })
+}
+
+/// The violation that was found.
+fn no_model(found: (Seq<u32>, ((), (u32, (Seq<u32>, ()))))) -> Welfare
+    ensures { result ≡ (found.1.1.1.0, found.1.1.0, WelfarePart.NoModel found.0) }
+{
+    let (cycle, ((), (of, (prices, ())))) = found;
+    (prices, of, WelfarePart::NoModel(cycle))
 }

@@ -4,4 +4,6 @@
 #[cfg(test)]
 mod numbers;
 #[cfg(test)]
+mod reading;
+#[cfg(test)]
 mod texts;
