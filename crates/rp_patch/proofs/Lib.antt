@@ -10,6 +10,7 @@ pub mod Rows
 pub mod SearchLaws
 pub mod SetLaws
 pub mod Shares
+pub mod Sharing
 pub mod Sums
 pub mod Tallied
 pub mod Tried
