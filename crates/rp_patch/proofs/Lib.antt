@@ -1,3 +1,4 @@
+pub mod Adding
 pub mod Apportioning
 pub mod ChosenFacts
 pub mod ChosenLaws

@@ -3,6 +3,7 @@
 
 mod chosen;
 mod fault;
+mod laws;
 mod listed;
 pub mod of_choices;
 pub mod part;
@@ -13,6 +14,7 @@ mod tally;
 mod totals;
 
 pub use fault::PatchFault;
+pub use laws::patches_without_units_change_nothing;
 pub use listed::Patches;
 
 /// The most patches of all budgets together.

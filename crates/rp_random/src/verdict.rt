@@ -1,6 +1,8 @@
-ghost use Rattle.std.specs.Prelude.{◌≡◌, ◌≤◌, IfOk, length};
+ghost use Rattle.std.specs.Prelude.{◌≡◌, ◌≤◌, ◌↔◌, ℕ, IfOk, length};
+ghost use Rattle.rp_patch.specs.Added.{AddsPatches};
 ghost use Rattle.rp_farkas.specs.PairCheck.{IsShownPair};
-ghost use Rattle.rp_patch.specs.Mixtures.{random_program};
+ghost use Rattle.rp_patch.specs.Mixtures.{HasMixture, IsGreatestShare, random_program};
+ghost use Rattle.rp_patch.specs.Patches.{PatchList};
 ghost use Rattle.rp_patch.specs.RandomEvidence.{ProvesRandom};
 ghost use Rattle.rp_patch.specs.Types.{AreRationalTypes};
 ghost use Rattle.rp_random.specs.Verdict.{IsRandomVerdict, IsShownFrom};
@@ -12,7 +14,7 @@ use crate::program::RandomProgram;
 use rp_evidence::RandomPart;
 use rp_farkas::Pair;
 use rp_num::{NoMemory, Seq};
-use rp_patch::Patches;
+use rp_patch::{Patches, patches_without_units_change_nothing};
 use rp_simplex::{Outcome, maximize};
 use rp_types::Rational;
 use std::alloc::Global;
@@ -29,8 +31,14 @@ pub fn random(
     requires few { length types.now ≤ TYPES }
     ensures proves { IfOk result (ProvesRandom patches.now patches.now.total) }
     ensures run { IfOk result (IsRandomVerdict patches.now (types_of types.now)) }
+    ensures mixtures_with_added { (more : PatchList) (place : ℕ → ℕ)
+        → AddsPatches patches.now more place → HasMixture patches.now ↔ HasMixture more }
+    ensures share_with_added { (more : PatchList) (place : ℕ → ℕ)
+        → AddsPatches patches.now more place → (num den : ℕ)
+        → IsGreatestShare patches.now num den ↔ IsGreatestShare more num den }
 {
     prove!(patches.budgets() >= 1);
+    patches_without_units_change_nothing();
     let program = RandomProgram::make(patches, types.as_slice());
     match maximize(alloc, &program)? {
         Outcome::Optimal(pair) => shown(alloc, patches, types.as_slice(), pair),

@@ -43,3 +43,23 @@ returns-in-Optimal-clause-run c =
     let made = subst (λ (ts : List Rational). IfOk c.shown.result (IsShownFrom p (types_of ts) c.in-Optimal.pair)) c.as_slice-in-Optimal.ensures c.shown.ensures in
     IfOk-weaker c.shown.result (IsShownFrom p types c.in-Optimal.pair) (IsRandomVerdict p types)
     (λ part h. made_verdict p types c.in-Optimal.pair c.in_ok-pair.field-0 part c.in-Optimal.is outcome only h) made
+
+pub returns-in_err-pair-clause-mixtures_with_added :
+    goal.returns-in_err-pair-clause-mixtures_with_added
+returns-in_err-pair-clause-mixtures_with_added c = λ more place adds. c.patches_without_units_change_nothing.ensures.mixtures c.args.patches.now more place adds
+
+pub returns-in_err-pair-clause-share_with_added : goal.returns-in_err-pair-clause-share_with_added
+returns-in_err-pair-clause-share_with_added c = λ more place adds. c.patches_without_units_change_nothing.ensures.shares c.args.patches.now more place adds
+
+pub returns-in-Optimal-clause-mixtures_with_added :
+    goal.returns-in-Optimal-clause-mixtures_with_added
+returns-in-Optimal-clause-mixtures_with_added c = λ more place adds. c.patches_without_units_change_nothing.ensures.mixtures c.args.patches.now more place adds
+
+pub returns-in-Optimal-clause-share_with_added : goal.returns-in-Optimal-clause-share_with_added
+returns-in-Optimal-clause-share_with_added c = λ more place adds. c.patches_without_units_change_nothing.ensures.shares c.args.patches.now more place adds
+
+pub returns-in-Wide-clause-mixtures_with_added : goal.returns-in-Wide-clause-mixtures_with_added
+returns-in-Wide-clause-mixtures_with_added c = λ more place adds. c.patches_without_units_change_nothing.ensures.mixtures c.args.patches.now more place adds
+
+pub returns-in-Wide-clause-share_with_added : goal.returns-in-Wide-clause-share_with_added
+returns-in-Wide-clause-share_with_added c = λ more place adds. c.patches_without_units_change_nothing.ensures.shares c.args.patches.now more place adds
