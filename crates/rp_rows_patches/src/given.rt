@@ -10,6 +10,7 @@ use rp_types::{Rational, rational_types};
 use std::alloc::{AllocError, Global};
 
 /// What the files of budgets and choices come to.
+#[derive(Drop)]
 pub(crate) enum Given {
     Unread(TableFault),
     Refused(PatchFault),

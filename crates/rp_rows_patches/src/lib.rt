@@ -1,4 +1,5 @@
-//! Tests of patches, their units and the rational types: worked budgets and choices, limits, and the texts of the faults.
+//! Tests of patches, their units, the rational types and their mixtures: worked budgets and choices, limits, and the texts of
+//! the faults.
 #![tactic(auto)]
 
 #[cfg(test)]
@@ -7,5 +8,7 @@ mod faults;
 mod given;
 #[cfg(test)]
 mod limits;
+#[cfg(test)]
+mod mixtures;
 #[cfg(test)]
 mod rows;
