@@ -1,5 +1,5 @@
 -- Items that are read one after another.
-use Rattle.std.proofs.Common.{◌≡◌, ◌≢◌, ◌⊎◌, inl, inr, ℕ, zero, suc, ◌^◌, ◌<◌, List, [], ◌∷◌, All, get_or, length, map, take, Some, Result, Ok, Err, refl, sym, ap, ◌∙◌, arith}
+use Rattle.std.proofs.Common.{◌≡◌, ◌≢◌, ◌⊎◌, inl, inr, ℕ, zero, suc, ◌^◌, ◌<◌, List, [], ◌∷◌, All, get_or, length, map, take, Some, Result, Ok, Err, refl, sym, ap, subst, ◌∙◌, arith}
 use Rattle.rp_evidence.specs.declared.certificate.Certificate.{Certificate}
 use Rattle.rp_evidence.specs.declared.certificate.Item.TheVariants.{Random as RandomItem}
 use Rattle.rp_evidence.specs.declared.random.RandomPart.TheVariants.{Wide}
@@ -102,27 +102,38 @@ item_there kind items values k fit same bad =
     get_or_read_at (x ∷ xs) zero l = refl
     get_or_read_at (x ∷ xs) (suc k) l = get_or_read_at xs k (omega arith)
 
--- what the text of a certificate denotes: that certificate
-pub read_back : (kind : Kind) (c : Certificate) (result : Result Certificate JsonFault) → IsReadable kind c → IsDenoted kind (certificate_text c) result
-    → (result ≡ Ok c) ⊎ (result ≡ Err NoMemory)
-read_back kind c (Ok other) h denoted =
-    let same = one_value (certificate_text c) denoted.0 (certificate_value c) denoted.1 (text_spells kind c h) in
+-- bytes that spell the value of a certificate denote that certificate
+pub one_denoted : (kind : Kind) (bytes : List ℕ) (c : Certificate) (result : Result Certificate JsonFault) → IsReadable kind c → Spells bytes (certificate_value c)
+    → IsDenoted kind bytes result → (result ≡ Ok c) ⊎ (result ≡ Err NoMemory)
+one_denoted kind bytes c (Ok other) h spells denoted =
+    let same = one_value bytes denoted.0 (certificate_value c) denoted.1 spells in
     inl (ap Ok (sym (denoted.2.2 c h (sym same))))
-read_back kind c (Err NotJson) h denoted = absurd (denoted (certificate_value c) (text_spells kind c h))
-read_back kind c (Err BadVersion) h denoted = absurd (wrong denoted)
+one_denoted kind bytes c (Err NotJson) h spells denoted = absurd (denoted (certificate_value c) spells)
+one_denoted kind bytes c (Err BadVersion) h spells denoted = absurd (wrong denoted)
   where
-    wrong : IsSpelledSo kind (certificate_text c) (Err BadVersion) → ⊥
-    wrong (d, spells, (version, items, is, other)) =
-        let same = one_value (certificate_text c) d (certificate_value c) spells (text_spells kind c h) in
+    wrong : IsSpelledSo kind bytes (Err BadVersion) → ⊥
+    wrong (d, its, (version, items, is, other)) =
+        let same = one_value bytes d (certificate_value c) its spells in
         other (ap version_in (sym is ∙ same) ∙ h.version)
-read_back kind c (Err (BadShape item)) h denoted = absurd (wrong denoted)
+one_denoted kind bytes c (Err (BadShape item)) h spells denoted = absurd (wrong denoted)
   where
-    wrong : IsSpelledSo kind (certificate_text c) (Err (BadShape item)) → ⊥
-    wrong (d, spells, inl (zero_item, none)) =
-        let same = one_value (certificate_text c) d (certificate_value c) spells (text_spells kind c h) in
+    wrong : IsSpelledSo kind bytes (Err (BadShape item)) → ⊥
+    wrong (d, its, inl (zero_item, none)) =
+        let same = one_value bytes d (certificate_value c) its spells in
         none c.version (map item_value c.items) (same ∙ ap (λ k. top_value k c.version (map item_value c.items)) h.of_kind)
-    wrong (d, spells, inr (values, is, (k, bad, counted))) =
-        let same = one_value (certificate_text c) d (certificate_value c) spells (text_spells kind c h) in
+    wrong (d, its, inr (values, is, (k, bad, counted))) =
+        let same = one_value bytes d (certificate_value c) its spells in
         let values_same : map item_value c.items ≡ values = values_of c.kind kind c.version 1 (map item_value c.items) values (sym same ∙ is) in
         item_there kind c.items values k h.items values_same bad
-read_back kind c (Err NoMemory) h denoted = inr refl
+one_denoted kind bytes c (Err NoMemory) h spells denoted = inr refl
+
+-- so does the text of a certificate
+pub read_back : (kind : Kind) (c : Certificate) (result : Result Certificate JsonFault) → IsReadable kind c → IsDenoted kind (certificate_text c) result
+    → (result ≡ Ok c) ⊎ (result ≡ Err NoMemory)
+read_back kind c result h denoted = one_denoted kind (certificate_text c) c result h (text_spells kind c h) denoted
+
+-- and bytes that denote a certificate denote nothing else
+pub denoted_once : (kind : Kind) (bytes : List ℕ) (c : Certificate) (result : Result Certificate JsonFault) → IsDenoted kind bytes (Ok c) → IsDenoted kind bytes result
+    → (result ≡ Ok c) ⊎ (result ≡ Err NoMemory)
+denoted_once kind bytes c result (d, spells, (value, readable, only)) denoted =
+    one_denoted kind bytes c result readable (subst (Spells bytes) (sym value) spells) denoted

@@ -75,12 +75,14 @@ fn bounds_object(
     prices: Value,
     strict: Value,
 ) -> Result<Value, NoMemory>
-    ensures { (below expenditure goods : Data) → members_view first.entries ≡ member (codes "below") below
+    ensures { (below expenditure goods : Data)
+        → members_view first.entries ≡ member (codes "below") below
         (member (codes "expenditure") expenditure (member (codes "goods") goods no_members))
         → IfOk result (λ v. view v ≡ object (member (codes "below") below
         (member (codes "expenditure") expenditure (member (codes "goods") goods
         (member (codes "inner") (view inner) (member (codes "item") (string (codes "demand"))
-        (member (codes "prices") (view prices) (member (codes "strict") (view strict) no_members)))))))) }
+        (member (codes "prices") (view prices)
+        (member (codes "strict") (view strict) no_members)))))))) }
 {
     let mut members = first;
     let name = Value::try_from_str(alloc, "demand")?;
@@ -99,7 +101,8 @@ fn cycle_object(
     prices: Value,
 ) -> Result<Value, NoMemory>
     ensures { IfOk result (λ v. view v ≡ object (member (codes "cycle") (view cycle)
-        (member (codes "expenditure") (view expenditure) (member (codes "item") (string (codes "demand"))
+        (member (codes "expenditure") (view expenditure)
+        (member (codes "item") (string (codes "demand"))
         (member (codes "prices") (view prices) no_members))))) }
 {
     let mut members = Map::new(alloc);

@@ -24,5 +24,5 @@ mod welfare;
 
 pub use certificate::write;
 pub use fault::JsonFault;
-pub use laws::what_is_written_is_read;
+pub use laws::{bytes_denote_one_certificate, what_is_written_is_read};
 pub use reading::read;

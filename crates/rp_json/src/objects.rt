@@ -33,7 +33,8 @@ pub(crate) fn read_array<F: Fields>(
     alloc: Global,
     value: &Value,
 ) -> Result<Option<F::Entries>, NoMemory>
-    ensures { IfOk result (λ o. IsRead (λ x. array (items_of (F.listed x))) F.fit (view value.now) o) }
+    ensures { IfOk result
+        (λ o. IsRead (λ x. array (items_of (F.listed x))) F.fit (view value.now) o) }
 {
     let Some(items) = value.as_array() else {
         return Ok(None);

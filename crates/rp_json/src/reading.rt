@@ -68,7 +68,8 @@ fn read_top<'a>(
 
 /// The version and the items of three values, of which the second is the kind's name.
 fn top_of<'a>(values: &[&'a Value], kind: Kind) -> Option<(u64, &'a [Value])>
-    ensures { MatchOption result ((version : ℕ) (items : List Data) → views values.now ≢ tops kind version items)
+    ensures { MatchOption result
+        ((version : ℕ) (items : List Data) → views values.now ≢ tops kind version items)
         (λ top. views values.now ≡ tops kind top.0 (map view top.1.now)) }
 {
     let [items, told, version] = values else {

@@ -105,8 +105,8 @@ pub(crate) type Welfare = (Seq<u32>, u32, WelfarePart);
 
 /// The welfare bounds of an observation that have this value.
 pub(crate) fn read_welfare(alloc: Global, value: &Value) -> Result<Option<Welfare>, NoMemory>
-    ensures { IfOk result (λ o. IsRead (λ w. welfare_value w.0 w.1 w.2) (λ w. FitsWelfare w.0 w.1 w.2)
-        (view value.now) o) }
+    ensures { IfOk result (λ o. IsRead (λ w. welfare_value w.0 w.1 w.2)
+        (λ w. FitsWelfare w.0 w.1 w.2) (view value.now) o) }
 {
     match read_object::<BoundsFields>(alloc, &BOUNDS, value)? {
         Some(found) => return Ok(Some(bounds(found))),

@@ -6,7 +6,7 @@ use Rattle.std.specs.Option.{ForSome}
 use Rattle.std.specs.Prelude.{unwrap_or}
 use Rattle.rp_run.specs.CommandLine.{Line, files_of}
 use Rattle.rp_run.specs.Answers.{Files, IsContent, AreContents, HasInput}
-use Rattle.rp_run.specs.Inputs.{Input, input_of, and_then, numbers_in, all_bytes, most_bytes}
+use Rattle.rp_run.specs.Inputs.{AndThen, Denotes, Input, Just, Numbers, Reading, all_bytes, most_bytes, most_certificate_bytes}
 use Rattle.rp_run.specs.FaultLines.{file_line}
 use Rattle.rp_run.specs.Causes.{IsRefusal, IsFileCause, HoldsValue, IsCause}
 use Rattle.rp_run.specs.declared.files.Cause.{Cause}
@@ -18,7 +18,7 @@ some_long None limit long = (replicate (limit + 1) 0, (λ t is. cc), omega (arit
 some_long (Some bytes) limit long = (bytes, (λ t is. cc), long bytes refl)
 
 -- a file that is too long is refused as such
-pub too_long : (files : Files) (rose : List ℕ → Type 0) (file : List ℕ) (why : Cause) → ForSome (files file) (λ bytes. most_bytes < length bytes) → IsRefusal (file_line file (codes "TooLong")) why → IsFileCause files rose file (numbers_in file all_bytes) why
+pub too_long : (files : Files) (rose : List ℕ → Type 0) (file : List ℕ) (why : Cause) → ForSome (files file) (λ bytes. most_bytes < length bytes) → IsRefusal (file_line file (codes "TooLong")) why → IsFileCause files rose file (Numbers file all_bytes) why
 too_long files rose file (Read name) long refused = absurd refused
 too_long files rose file (Refused line) long refused =
     let some = some_long (files file) most_bytes long in
@@ -35,18 +35,18 @@ one_content files line file bytes named content =
     subst (λ (names : List (List ℕ)). (k : ℕ) → k < length names → IsContent files (slice_index_or names k []) bytes) (sym named) (one_of files file bytes content)
 
 -- a line over one file has the input that the file gives, or the cause why the file gives none
-pub one_input : {A : Type 0} (files : Files) (line : Line) (file : List ℕ) (reading : List ℕ → Result A (List ℕ)) (over : A → Input) (value : A)
-    → files_of line ≡ file ∷ [] → ((bytes : ℕ → List ℕ) → input_of line bytes ≡ and_then (reading (bytes 0)) (λ v. Ok (over v)))
+pub one_input : {A : Type 0} (files : Files) (line : Line) (file : List ℕ) (reading : List ℕ → Reading A) (over : A → Input) (value : A)
+    → files_of line ≡ file ∷ [] → ((bytes : ℕ → List ℕ) (r : Result Input (List ℕ)) → AndThen (reading (bytes 0)) (λ v. Just (Ok (over v))) r → Denotes line bytes r)
     → HoldsValue files file reading value → HasInput files line (over value)
 one_input files line file reading over value named denoted (bytes, content, read) =
-    ((λ _. bytes), one_content files line file bytes named content, denoted (λ _. bytes) ∙ ap (λ r. and_then r (λ v. Ok (over v))) read)
+    ((λ _. bytes), one_content files line file bytes named content, denoted (λ _. bytes) (Ok (over value)) (value, read, refl))
 
-pub one_cause : {A : Type 0} (files : Files) (rose : List ℕ → Type 0) (line : Line) (file : List ℕ) (reading : List ℕ → Result A (List ℕ)) (over : A → Input) (why : Cause)
-    → files_of line ≡ file ∷ [] → ((bytes : ℕ → List ℕ) → input_of line bytes ≡ and_then (reading (bytes 0)) (λ v. Ok (over v)))
+pub one_cause : {A : Type 0} (files : Files) (rose : List ℕ → Type 0) (line : Line) (file : List ℕ) (reading : List ℕ → Reading A) (over : A → Input) (why : Cause)
+    → files_of line ≡ file ∷ [] → ((bytes : ℕ → List ℕ) (r : Result Input (List ℕ)) → AndThen (reading (bytes 0)) (λ v. Just (Ok (over v))) r → Denotes line bytes r)
     → IsFileCause files rose file reading why → IsCause files rose line why
 one_cause files rose line file reading over (Read name) named denoted (same, up) = rw (named, same) ((0, lit< tt, refl), up)
 one_cause files rose line file reading over (Refused text) named denoted (bytes, content, refused) =
-    ((λ _. bytes), one_content files line file bytes named content, denoted (λ _. bytes) ∙ ap (λ r. and_then r (λ v. Ok (over v))) refused)
+    ((λ _. bytes), one_content files line file bytes named content, denoted (λ _. bytes) (Err text.items) (inl refused))
 one_cause files rose line file reading over NoMemory named denoted none = tt
 
 -- the contents of two files
@@ -70,23 +70,24 @@ some_content None t is = cc
 some_content (Some bytes) t is = cc
 
 -- a cause and a value of a file, for files of the same contents and counts that rose since earlier
-pub moved_cause : {A : Type 0} (files later : Files) (rose since : List ℕ → Type 0) (file : List ℕ) (reading : List ℕ → Result A (List ℕ)) (why : Cause)
+pub moved_cause : {A : Type 0} (files later : Files) (rose since : List ℕ → Type 0) (file : List ℕ) (reading : List ℕ → Reading A) (why : Cause)
     → later file ≡ files file → (since file → rose file) → IsFileCause later since file reading why → IsFileCause files rose file reading why
 moved_cause files later rose since file reading (Read name) same up (is, rises) = (is, up rises)
 moved_cause files later rose since file reading (Refused line) same up (bytes, content, refused) = (bytes, (λ told is. content told (same ∙ is)), refused)
 moved_cause files later rose since file reading NoMemory same up none = tt
 
-pub moved_value : {A : Type 0} (files later : Files) (file : List ℕ) (reading : List ℕ → Result A (List ℕ)) (value : A)
+pub moved_value : {A : Type 0} (files later : Files) (file : List ℕ) (reading : List ℕ → Reading A) (value : A)
     → later file ≡ files file → HoldsValue later file reading value → HoldsValue files file reading value
 moved_value files later file reading value same (bytes, content, read) = (bytes, (λ told is. content told (same ∙ is)), read)
 
-module _ {A B : Type 0} (files : Files) (rose : List ℕ → Type 0) (line : Line) (f s : List ℕ) (reading : List ℕ → Result A (List ℕ)) (after : A → List ℕ → Result B (List ℕ)) (over : A → B → Input)
-    (named : files_of line ≡ f ∷ s ∷ []) (denoted : (bytes : ℕ → List ℕ) → input_of line bytes ≡ and_then (reading (bytes 0)) (λ a. and_then (after a (bytes 1)) (λ b. Ok (over a b)))) where
+module _ {A B : Type 0} (files : Files) (rose : List ℕ → Type 0) (line : Line) (f s : List ℕ) (reading : List ℕ → Reading A) (after : A → List ℕ → Reading B) (over : A → B → Input)
+    (named : files_of line ≡ f ∷ s ∷ [])
+    (denoted : (bytes : ℕ → List ℕ) (r : Result Input (List ℕ)) → AndThen (reading (bytes 0)) (λ a. AndThen (after a (bytes 1)) (λ b. Just (Ok (over a b)))) r → Denotes line bytes r) where
   -- a line over two files has the input that they give
   pub two_input : (a : A) (b : B) → HoldsValue files f reading a → HoldsValue files s (after a) b → HasInput files line (over a b)
   unfolding two_bytes
   two_input a b (first, one, read) (second, two, then_read) =
-      (two_bytes first second, two_contents files line f s first second named one two, denoted (two_bytes first second) ∙ rw (read, then_read) refl)
+      (two_bytes first second, two_contents files line f s first second named one two, denoted (two_bytes first second) (Ok (over a b)) (a, read, b, then_read, refl))
 
   -- or the cause why the first gives none, whatever the second holds
   pub first_cause : (why : Cause) → IsFileCause files rose f reading why → IsCause files rose line why
@@ -94,7 +95,7 @@ module _ {A B : Type 0} (files : Files) (rose : List ℕ → Type 0) (line : Lin
   first_cause (Read name) (same, up) = rw (named, same) ((0, lit< tt, refl), up)
   first_cause (Refused text) (first, one, refused) =
       let second = unwrap_or (files s) [] in
-      (two_bytes first second, two_contents files line f s first second named one (some_content (files s)), denoted (two_bytes first second) ∙ rw refused refl)
+      (two_bytes first second, two_contents files line f s first second named one (some_content (files s)), denoted (two_bytes first second) (Err text.items) (inl refused))
   first_cause NoMemory none = tt
 
   -- or the cause why the second gives none
@@ -102,9 +103,9 @@ module _ {A B : Type 0} (files : Files) (rose : List ℕ → Type 0) (line : Lin
   unfolding two_bytes
   second_cause a (Read name) held (same, up) = rw (named, same) ((1, lit< tt, refl), up)
   second_cause a (Refused text) (first, one, read) (second, two, refused) =
-      (two_bytes first second, two_contents files line f s first second named one two, denoted (two_bytes first second) ∙ rw (read, refused) refl)
+      (two_bytes first second, two_contents files line f s first second named one two, denoted (two_bytes first second) (Err text.items) (inr (a, read, inl refused)))
   second_cause a NoMemory held none = tt
 
 -- a line without files has its input
-pub no_files : (files : Files) (line : Line) (input : Input) → files_of line ≡ [] → ((bytes : ℕ → List ℕ) → input_of line bytes ≡ Ok input) → HasInput files line input
+pub no_files : (files : Files) (line : Line) (input : Input) → files_of line ≡ [] → ((bytes : ℕ → List ℕ) → Denotes line bytes (Ok input)) → HasInput files line input
 no_files files line input none denoted = ((λ _. []), (λ k within. let empty : k < length {A = List ℕ} [] = rw none at within in let no : ⊥ = omega (arith, empty) in absurd no), denoted (λ _. []))

@@ -3,6 +3,7 @@ pub mod AskedRecords
 mod AskedLemmas
 pub mod FileLemmas
 pub mod GainsLemmas
+pub mod OneOrOther
 pub mod PassedOn
 pub mod RunLemmas
 pub mod TrialLemmas

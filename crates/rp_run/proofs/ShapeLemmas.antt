@@ -13,7 +13,7 @@ use Rattle.clap.specs.Lexer.{long_of, short_of}
 use Rattle.clap.specs.Simple.{subcommand_of}
 use Rattle.clap.specs.ValueTests.{is_unsigned_in}
 use Rattle.clap.specs.declared.builder.value_parser.ValueParser.TheVariants.{Unsigned}
-use Rattle.rp_run.specs.CommandLine.{Line, Pairs, Analyse, Certify, Demand, Welfare, Utility, Trial, line_named, line_of}
+use Rattle.rp_run.specs.CommandLine.{Line, Pairs, Analyse, Certify, Check, Demand, Welfare, Utility, Trial, line_named, line_of}
 use Rattle.rp_run.specs.Commands.{program}
 use Rattle.rp_run.specs.Shapes.{HasShape, is_file_name, shape_of}
 
@@ -84,6 +84,14 @@ analyse_named : (name file : List ℕ) → IsFileWord file → line_named (subco
 unfolding clap_on_literals
 analyse_named name file f = rw (f.plain.dashes, f.plain.long, f.plain.short) refl
 
+check_free : (name file other : List ℕ) → IsFileWord file → IsFileWord other → fault_of program (name ∷ codes "check" ∷ file ∷ other ∷ []) ≡ []
+unfolding clap_on_literals
+check_free name file other f o = rw (f.plain.dashes, f.plain.long, f.plain.short, o.plain.dashes, o.plain.long, o.plain.short) (rw (f.filled, o.filled) refl)
+
+check_named : (name file other : List ℕ) → IsFileWord file → IsFileWord other → line_named (subcommand_of program (name ∷ codes "check" ∷ file ∷ other ∷ [])) ≡ Some (Check file other)
+unfolding clap_on_literals
+check_named name file other f o = rw (f.plain.dashes, f.plain.long, f.plain.short, o.plain.dashes, o.plain.long, o.plain.short) refl
+
 module _ (name file other : List ℕ) (f : IsFileWord file) (o : IsFileWord other) where
   demand_free : fault_of program (name ∷ codes "demand" ∷ file ∷ other ∷ []) ≡ []
   unfolding clap_on_literals
@@ -147,6 +155,9 @@ pub shape_taken : (name : List ℕ) (line : Line) → HasShape line → line_of 
 shape_taken name (Pairs table) t = let w = file_word table t in denotes _ (Pairs table) (pairs_free name table w) (pairs_named name table w)
 shape_taken name (Analyse table) t = let w = file_word table t in denotes _ (Analyse table) (analyse_free name table w) (analyse_named name table w)
 shape_taken name (Certify table) t = let w = file_word table t in denotes _ (Certify table) (certify_free name table w) (certify_named name table w)
+shape_taken name (Check table certificate) (t, c) =
+    let w = file_word table t in
+    let o = file_word certificate c in denotes _ (Check table certificate) (check_free name table certificate w o) (check_named name table certificate w o)
 shape_taken name (Demand table new false) (t, n) =
     let w = file_word table t in
     let o = file_word new n in denotes _ (Demand table new false) (demand_free name table new w o) (demand_named name table new w o)

@@ -2,8 +2,11 @@
 use Rattle.std.specs.Prelude.{◌≡◌, ◌≢◌, ℕ, List, Result, Ok, Err, Contains, MatchResult}
 use Rattle.rp_text.specs.declared.fault.TableFault.{TableFault}
 use Rattle.rp_text.specs.declared.fault.TableFault.TheVariants as fault
-use Rattle.rp_run.specs.FaultTexts.{fault_text}
+use Rattle.rp_json.specs.declared.fault.JsonFault.{JsonFault}
+use Rattle.rp_json.specs.declared.fault.JsonFault.TheVariants as json_fault
+use Rattle.rp_run.specs.FaultTexts.{fault_text, json_fault_text}
 use Rattle.rp_run.specs.CommandLine.{Line, files_of}
+use Rattle.rp_run.specs.Inputs.{Reading}
 use Rattle.rp_run.specs.Answers.{Files, IsContent, RefusesWith}
 use Rattle.rp_run.specs.FaultLines.{file_line, read_line, memory_line}
 use Rattle.rp_run.specs.declared.files.Cause.{Cause}
@@ -33,18 +36,24 @@ IsRefusalOf file f (Read name) = ⊥
 IsRefusalOf file f (Refused text) = (f ≢ fault.NoMemory) × (text.items ≡ file_line file (fault_text f))
 IsRefusalOf file f NoMemory = Unit {0}
 
+-- a fault of a certificate's file as a cause: its line, or want of memory
+abbrev pub IsJsonRefusalOf : List ℕ → JsonFault → Cause → Type 0
+IsJsonRefusalOf file f (Read name) = ⊥
+IsJsonRefusalOf file f (Refused text) = (f ≢ json_fault.NoMemory) × (text.items ≡ file_line file (json_fault_text f))
+IsJsonRefusalOf file f NoMemory = Unit {0}
+
 -- why a file gives no value: its count of faults rose, or some content of it is refused by that reading
-abbrev pub IsFileCause : {A : Type 0} → Files → (List ℕ → Type 0) → List ℕ → (List ℕ → Result A (List ℕ)) → Cause → Type 0
+abbrev pub IsFileCause : {A : Type 0} → Files → (List ℕ → Type 0) → List ℕ → (List ℕ → Reading A) → Cause → Type 0
 IsFileCause files rose file reading (Read name) = (name.now ≡ file) × rose file
-IsFileCause files rose file reading (Refused line) = (bytes : List ℕ) × IsContent files file bytes × (reading bytes ≡ Err line.items)
+IsFileCause files rose file reading (Refused line) = (bytes : List ℕ) × IsContent files file bytes × reading bytes (Err line.items)
 IsFileCause files rose file reading NoMemory = Unit {0}
 
 -- some content of a file has that value
-abbrev pub HoldsValue : {A : Type 0} → Files → List ℕ → (List ℕ → Result A (List ℕ)) → A → Type 0
-HoldsValue files file reading value = (bytes : List ℕ) × IsContent files file bytes × (reading bytes ≡ Ok value)
+abbrev pub HoldsValue : {A : Type 0} → Files → List ℕ → (List ℕ → Reading A) → A → Type 0
+HoldsValue files file reading value = (bytes : List ℕ) × IsContent files file bytes × reading bytes (Ok value)
 
 -- what a loader gives: the value of some content of its file, or why there is none
-abbrev pub IsLoaded : {A : Type 0} → Files → (List ℕ → Type 0) → List ℕ → (List ℕ → Result A (List ℕ)) → Result A Cause → Type 0
+abbrev pub IsLoaded : {A : Type 0} → Files → (List ℕ → Type 0) → List ℕ → (List ℕ → Reading A) → Result A Cause → Type 0
 IsLoaded files rose file reading result =
     MatchResult result (HoldsValue files file reading) (IsFileCause files rose file reading)
 

@@ -19,6 +19,8 @@ pub data Line : Type 0 where
   Analyse : (table : List ℕ) → Line
   -- the same as a certificate
   Certify : (table : List ℕ) → Line
+  -- the checker's verdict on a certificate on a table
+  Check : (table certificate : List ℕ) → Line
   -- demand at new prices that a table supports, as a report or as a certificate
   Demand : (table new : List ℕ) (json : Bool) → Line
   -- the bounds on the money metric of a table's observations at new prices
@@ -33,6 +35,7 @@ abbrev pub files_of : Line → List (List ℕ)
 files_of (Pairs table) = table ∷ []
 files_of (Analyse table) = table ∷ []
 files_of (Certify table) = table ∷ []
+files_of (Check table certificate) = table ∷ certificate ∷ []
 files_of (Demand table new json) = table ∷ new ∷ []
 files_of (Welfare table new json) = table ∷ new ∷ []
 files_of (Utility table bundles) = table ∷ bundles ∷ []
@@ -52,6 +55,10 @@ number_of low high id rows = option_and_then (number_in low high) (one_of id row
 -- the line of a command over one table, by its matches
 abbrev pub table_line : (List ℕ → Line) → List Row → Option Line
 table_line line rows = option_and_then (λ table. Some (line table)) (first_of (codes "TABLE") rows)
+
+abbrev pub check_line : List Row → Option Line
+check_line rows =
+    option_and_then (λ table. option_and_then (λ certificate. Some (Check table certificate)) (first_of (codes "CERT") rows)) (first_of (codes "TABLE") rows)
 
 -- whether JSON is asked for
 abbrev pub json_of : List Row → Bool
@@ -77,11 +84,12 @@ command_line name rows =
     if bytes_eq name (codes "pairs") then table_line Pairs rows
     else (if bytes_eq name (codes "analyse") then table_line Analyse rows
     else (if bytes_eq name (codes "certify") then table_line Certify rows
+    else (if bytes_eq name (codes "check") then check_line rows
     else (if bytes_eq name (codes "demand") then new_prices_line Demand rows
     else (if bytes_eq name (codes "welfare") then new_prices_line Welfare rows
     else (if bytes_eq name (codes "utility") then utility_line rows
     else (if bytes_eq name (codes "trial") then trial_line rows
-    else None))))))
+    else None)))))))
 
 abbrev pub line_named : Option (Text × List Row) → Option Line
 line_named matches = option_and_then (λ m. command_line m.0 m.1) matches

@@ -40,6 +40,7 @@ commands =
     command_shape (codes "pairs") (file_rule (codes "TABLE") ∷ [])
     ∷ command_shape (codes "analyse") (file_rule (codes "TABLE") ∷ [])
     ∷ command_shape (codes "certify") (file_rule (codes "TABLE") ∷ [])
+    ∷ command_shape (codes "check") (file_rule (codes "TABLE") ∷ file_rule (codes "CERT") ∷ [])
     ∷ new_prices_shape (codes "demand")
     ∷ new_prices_shape (codes "welfare")
     ∷ command_shape (codes "utility") (file_rule (codes "TABLE") ∷ file_rule (codes "BUNDLES") ∷ [])

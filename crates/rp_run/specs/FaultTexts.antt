@@ -4,6 +4,8 @@ use Rattle.std.specs.Prelude.{ℕ, List, [], ◌++◌, codes}
 use Rattle.std.specs.Fmt.{decimal}
 use Rattle.rp_text.specs.declared.fault.TableFault.{TableFault}
 use Rattle.rp_text.specs.declared.fault.TableFault.TheVariants as fault
+use Rattle.rp_json.specs.declared.fault.JsonFault.{JsonFault}
+use Rattle.rp_json.specs.declared.fault.JsonFault.TheVariants as json_fault
 
 abbrev pub record_text : ℕ → List ℕ
 record_text row = codes " record " ++ decimal row
@@ -56,3 +58,10 @@ places_text fault.NoMemory = []
 
 abbrev pub fault_text : TableFault → List ℕ
 fault_text f = fault_name f ++ places_text f
+
+-- the text of each fault of a certificate's file: its name, and the item where it has one, which counts from 1; 0 is the whole
+abbrev pub json_fault_text : JsonFault → List ℕ
+json_fault_text json_fault.NotJson = codes "NotJson"
+json_fault_text json_fault.BadVersion = codes "BadVersion"
+json_fault_text (json_fault.BadShape item) = codes "BadShape item " ++ decimal item
+json_fault_text json_fault.NoMemory = codes "NoMemory"

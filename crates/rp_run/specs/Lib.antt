@@ -17,6 +17,7 @@ pub mod Answers
 pub mod Endings
 pub mod Gains
 pub mod Causes
+pub mod Checked
 pub mod Named
 pub mod StatusNumbers
 pub mod TrialTable

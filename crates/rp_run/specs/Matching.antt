@@ -1,11 +1,13 @@
--- That lists beside a table have its goods, and that a trial is of a size that a table may have. Only proofs need these words: what a
+-- That lists beside a table have its goods, that a certificate is of its kind, and that a trial is of a size that a table may have. Only proofs need these words: what a
 -- file denotes beside a table has them, and so have the numbers that words denote.
 use Rattle.std.specs.Prelude.{◌≡◌, ◌≤◌, ℕ, length}
 use Rattle.rp_table.specs.PriceLists.{PriceList}
 use Rattle.rp_table.specs.Rows.{rows_count}
 use Rattle.rp_table.specs.Tables.{Observations, goods_of}
-use Rattle.rp_run.specs.Inputs.{Input, PairsOver, AnalyseOver, CertifyOver, DemandOver, WelfareOver, UtilityOver, TrialOver}
-use Rattle.rp_run.specs.CommandLine.{Line, Pairs, Analyse, Certify, Demand, Welfare, Utility, Trial}
+use Rattle.rp_evidence.specs.Kinds.{IsCertificateOf}
+use Rattle.rp_evidence.specs.declared.certificate.Kind.TheVariants.{Table as TableKind}
+use Rattle.rp_run.specs.Inputs.{Input, PairsOver, AnalyseOver, CertifyOver, CheckOver, DemandOver, WelfareOver, UtilityOver, TrialOver}
+use Rattle.rp_run.specs.CommandLine.{Line, Pairs, Analyse, Certify, Check, Demand, Welfare, Utility, Trial}
 
 -- the prices have the table's goods, and each record has an expenditure
 pub record IsSpentOn (table : Observations) (new : PriceList) : Type 0 where
@@ -23,6 +25,7 @@ abbrev pub HasMatchingGoods : Input → Type 0
 HasMatchingGoods (PairsOver table) = Unit {0}
 HasMatchingGoods (AnalyseOver table) = Unit {0}
 HasMatchingGoods (CertifyOver table) = Unit {0}
+HasMatchingGoods (CheckOver table certificate) = IsCertificateOf TableKind certificate
 HasMatchingGoods (DemandOver table new json) = IsSpentOn table new
 HasMatchingGoods (WelfareOver table new json) = new.goods ≡ goods_of table
 HasMatchingGoods (UtilityOver table bundles) = bundles.goods ≡ goods_of table
@@ -33,6 +36,7 @@ abbrev pub IsSized : Line → Type 0
 IsSized (Pairs table) = Unit {0}
 IsSized (Analyse table) = Unit {0}
 IsSized (Certify table) = Unit {0}
+IsSized (Check table certificate) = Unit {0}
 IsSized (Demand table new json) = Unit {0}
 IsSized (Welfare table new json) = Unit {0}
 IsSized (Utility table bundles) = Unit {0}

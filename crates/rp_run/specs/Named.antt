@@ -1,15 +1,16 @@
 -- A line and an input of `src/`, as those that contracts speak of.
-use Rattle.rp_run.specs.CommandLine.{Line, Pairs as PairsOf, Analyse as AnalyseOf, Certify as CertifyOf, Demand as DemandOf, Welfare as WelfareOf, Utility as UtilityOf, Trial as TrialOf}
-use Rattle.rp_run.specs.Inputs.{Input, PairsOver, AnalyseOver, CertifyOver, DemandOver, WelfareOver, UtilityOver, TrialOver}
+use Rattle.rp_run.specs.CommandLine.{Line, Pairs as PairsOf, Analyse as AnalyseOf, Certify as CertifyOf, Check as CheckOf, Demand as DemandOf, Welfare as WelfareOf, Utility as UtilityOf, Trial as TrialOf}
+use Rattle.rp_run.specs.Inputs.{Input, PairsOver, AnalyseOver, CertifyOver, CheckOver, DemandOver, WelfareOver, UtilityOver, TrialOver}
 use Rattle.rp_run.specs.declared.line.Line.{Line as Words}
-use Rattle.rp_run.specs.declared.line.Line.TheVariants.{Pairs, Analyse, Certify, Demand, Welfare, Utility, Trial}
+use Rattle.rp_run.specs.declared.line.Line.TheVariants.{Pairs, Analyse, Certify, Check, Demand, Welfare, Utility, Trial}
 use Rattle.rp_run.specs.declared.input.Input.{Input as Held}
-use Rattle.rp_run.specs.declared.input.Input.TheVariants.{Pairs as HeldPairs, Analyse as HeldAnalyse, Certify as HeldCertify, Demand as HeldDemand, Welfare as HeldWelfare, Utility as HeldUtility, Trial as HeldTrial}
+use Rattle.rp_run.specs.declared.input.Input.TheVariants.{Pairs as HeldPairs, Analyse as HeldAnalyse, Certify as HeldCertify, Check as HeldCheck, Demand as HeldDemand, Welfare as HeldWelfare, Utility as HeldUtility, Trial as HeldTrial}
 
 abbrev pub named_line : Words → Line
 named_line (Pairs table) = PairsOf table.now
 named_line (Analyse table) = AnalyseOf table.now
 named_line (Certify table) = CertifyOf table.now
+named_line (Check table certificate) = CheckOf table.now certificate.now
 named_line (Demand table new json) = DemandOf table.now new.now json
 named_line (Welfare table new json) = WelfareOf table.now new.now json
 named_line (Utility table bundles) = UtilityOf table.now bundles.now
@@ -19,6 +20,7 @@ abbrev pub named_input : Held → Input
 named_input (HeldPairs table) = PairsOver table
 named_input (HeldAnalyse table) = AnalyseOver table
 named_input (HeldCertify table) = CertifyOver table
+named_input (HeldCheck table certificate) = CheckOver table certificate
 named_input (HeldDemand table new json) = DemandOver table new json
 named_input (HeldWelfare table new json) = WelfareOver table new json
 named_input (HeldUtility table bundles) = UtilityOver table bundles

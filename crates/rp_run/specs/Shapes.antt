@@ -2,7 +2,7 @@
 -- words).
 use Rattle.std.specs.Prelude.{◌≡◌, ◌==◌, ◌<◌, ◌≤◌, ◌^◌, ℕ, Bool, true, false, not, List, [], ◌∷◌, codes, if◌then◌else◌}
 use Rattle.std.specs.Fmt.{decimal}
-use Rattle.rp_run.specs.CommandLine.{Line, Pairs, Analyse, Certify, Demand, Welfare, Utility, Trial}
+use Rattle.rp_run.specs.CommandLine.{Line, Pairs, Analyse, Certify, Check, Demand, Welfare, Utility, Trial}
 
 -- a word that names a file: it is not empty and begins with no minus sign
 abbrev pub is_file_name : List ℕ → Bool
@@ -18,6 +18,7 @@ abbrev pub shape_of : Line → List (List ℕ)
 shape_of (Pairs table) = codes "pairs" ∷ table ∷ []
 shape_of (Analyse table) = codes "analyse" ∷ table ∷ []
 shape_of (Certify table) = codes "certify" ∷ table ∷ []
+shape_of (Check table certificate) = codes "check" ∷ table ∷ certificate ∷ []
 shape_of (Demand table new json) = codes "demand" ∷ table ∷ new ∷ json_word json
 shape_of (Welfare table new json) = codes "welfare" ∷ table ∷ new ∷ json_word json
 shape_of (Utility table bundles) = codes "utility" ∷ table ∷ bundles ∷ []
@@ -28,6 +29,7 @@ abbrev pub HasShape : Line → Type 0
 HasShape (Pairs table) = is_file_name table ≡ true
 HasShape (Analyse table) = is_file_name table ≡ true
 HasShape (Certify table) = is_file_name table ≡ true
+HasShape (Check table certificate) = (is_file_name table ≡ true) × (is_file_name certificate ≡ true)
 HasShape (Demand table new json) = (is_file_name table ≡ true) × (is_file_name new ≡ true)
 HasShape (Welfare table new json) = (is_file_name table ≡ true) × (is_file_name new ≡ true)
 HasShape (Utility table bundles) = (is_file_name table ≡ true) × (is_file_name bundles ≡ true)

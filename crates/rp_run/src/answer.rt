@@ -5,6 +5,7 @@ ghost use Rattle.rp_run.specs.Causes.{IsCause};
 ghost use Rattle.rp_run.specs.Matching.{HasMatchingGoods, IsSized};
 ghost use Rattle.rp_run.specs.Named.{named_line, named_input};
 
+use crate::checks::check_answer;
 use crate::demands::demand_text;
 use crate::files::Cause;
 use crate::input::{Input, read_input};
@@ -66,6 +67,10 @@ fn answer_over(alloc: Global, input: &Input) -> Result<Answer, NoMemory>
         Input::Certify(table) => {
             let costs = Costs::of(alloc, table)?;
             Ok(done(analysis_text(alloc, table, &costs, true)?))
+        }
+        Input::Check(table, certificate) => {
+            let costs = Costs::of(alloc, table)?;
+            check_answer(alloc, table, &costs, certificate)
         }
         Input::Demand(table, new, json) => {
             let costs = Costs::of(alloc, table)?;

@@ -22,6 +22,7 @@ pub(crate) fn program<'a>(alloc: Global) -> Result<Command<'a>, AllocError>
         .subcommand(over_files(alloc, "pairs", &["TABLE"])?)?
         .subcommand(over_files(alloc, "analyse", &["TABLE"])?)?
         .subcommand(over_files(alloc, "certify", &["TABLE"])?)?
+        .subcommand(over_files(alloc, "check", &["TABLE", "CERT"])?)?
         .subcommand(at_new_prices(alloc, "demand")?)?
         .subcommand(at_new_prices(alloc, "welfare")?)?
         .subcommand(over_files(alloc, "utility", &["TABLE", "BUNDLES"])?)?

@@ -1,6 +1,8 @@
 ghost use Rattle.std.specs.Prelude.{◌≡◌, ◌++◌, IfOk, OnOk};
+ghost use Rattle.rp_json.specs.declared.fault.JsonFault.TheVariants as json_fault;
 ghost use Rattle.rp_run.specs.FaultTexts as text;
 
+use rp_json::JsonFault;
 use rp_num::{NoMemory, print_u128};
 use rp_text::TableFault;
 use std::alloc::Global;
@@ -37,6 +39,26 @@ fn name_of(fault: TableFault) -> &'static [u8]
         TableFault::NoChoices { .. } => b"NoChoices",
         TableFault::NoMemory => b"NoMemory",
     }
+}
+
+/// The text of a fault of a certificate's file: its name and its item.
+pub(crate) fn text_of_json_fault(alloc: Global, fault: JsonFault) -> Result<Vec<u8>, NoMemory>
+    ensures { IfOk result (λ t. t.items ≡ text.json_fault_text fault) }
+{
+    match fault {
+        JsonFault::NotJson => Ok(Vec::from_slice(alloc, b"NotJson")?),
+        JsonFault::BadVersion => Ok(Vec::from_slice(alloc, b"BadVersion")?),
+        JsonFault::BadShape { item } => bad_shape(alloc, item),
+        JsonFault::NoMemory => Ok(Vec::from_slice(alloc, b"NoMemory")?),
+    }
+}
+
+fn bad_shape(alloc: Global, item: u32) -> Result<Vec<u8>, NoMemory>
+    ensures { IfOk result (λ t. t.items ≡ text.json_fault_text (json_fault.BadShape item)) }
+{
+    let mut out = Vec::from_slice(alloc, b"BadShape item ")?;
+    print_u128(alloc, &mut out, u128::from(item))?;
+    Ok(out)
 }
 
 /// Appends the record, the column and the budget of a fault, as far as it has them.

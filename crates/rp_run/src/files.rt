@@ -1,14 +1,17 @@
 ghost use Rattle.std.specs.Prelude.{◌≡◌, ◌++◌, ℕ, true, false, ◌^◌, ◌<◌, ◌≤◌, List, IfOk, IfErr, length, codes};
+ghost use Rattle.rp_evidence.specs.Kinds.{IsCertificateOf};
 ghost use Rattle.rp_table.specs.Tables.{goods_of};
 ghost use Rattle.rp_text.specs.Denotation.{table_in, bundles_beside, prices_beside};
 ghost use Rattle.rp_run.specs.FaultLines as text;
 ghost use Rattle.rp_run.specs.Answers.{IsContent};
 ghost use Rattle.rp_run.specs.Endings.{Rose};
-ghost use Rattle.rp_run.specs.Inputs.{numbers_in, all_bytes};
+ghost use Rattle.rp_run.specs.Inputs.{CertificateIn, Numbers, all_bytes};
 ghost use Rattle.rp_run.specs.Matching.{IsSpentOn};
-ghost use Rattle.rp_run.specs.Causes.{IsRefusal, IsRefusalOf, IsFileCause, IsLoaded};
+ghost use Rattle.rp_run.specs.Causes.{IsJsonRefusalOf, IsRefusal, IsRefusalOf, IsFileCause, IsLoaded};
 
-use crate::fault_text::text_of_fault;
+use crate::fault_text::{text_of_fault, text_of_json_fault};
+use rp_evidence::{Certificate, Kind};
+use rp_json::{JsonFault, read};
 use rp_num::NoMemory;
 use rp_outside::{Desk, LoadFault, load};
 use rp_table::{Bundles, Prices, Table};
@@ -17,6 +20,9 @@ use std::alloc::Global;
 
 /// The most bytes of a file of numbers.
 const MOST_BYTES: u64 = 4_194_304;
+
+/// The most bytes of a certificate.
+const MOST_CERTIFICATE_BYTES: u64 = 16_777_216;
 
 /// Why a line has no input.
 #[derive(Drop)]
@@ -35,7 +41,7 @@ pub(crate) fn load_table<'a, D: Desk>(
     file: &'a str,
 ) -> Result<Table, Cause<'a>>
     ensures loaded { IsLoaded (D.bytes desk.old) (Rose (D.faults desk.old) (D.faults desk.new))
-        file.now (numbers_in file.now table_in) result }
+        file.now (Numbers file.now table_in) result }
     ensures bytes_stay { (other : List ℕ) → D.bytes desk.new other ≡ D.bytes desk.old other }
     ensures never_falls { (other : List ℕ) → D.faults desk.old other ≤ D.faults desk.new other }
 {
@@ -54,7 +60,7 @@ pub(crate) fn load_bundles<'a, D: Desk>(
     table: &Table,
 ) -> Result<Bundles, Cause<'a>>
     ensures loaded { IsLoaded (D.bytes desk.old) (Rose (D.faults desk.old) (D.faults desk.new))
-        file.now (numbers_in file.now (bundles_beside table.now)) result }
+        file.now (Numbers file.now (bundles_beside table.now)) result }
     ensures goods { IfOk result (λ bundles. bundles.goods ≡ goods_of table.now) }
     ensures bytes_stay { (other : List ℕ) → D.bytes desk.new other ≡ D.bytes desk.old other }
     ensures never_falls { (other : List ℕ) → D.faults desk.old other ≤ D.faults desk.new other }
@@ -74,7 +80,7 @@ pub(crate) fn load_budgets<'a, D: Desk>(
     table: &Table,
 ) -> Result<Prices, Cause<'a>>
     ensures loaded { IsLoaded (D.bytes desk.old) (Rose (D.faults desk.old) (D.faults desk.new))
-        file.now (numbers_in file.now (prices_beside true table.now)) result }
+        file.now (Numbers file.now (prices_beside true table.now)) result }
     ensures goods { IfOk result (λ new. IsSpentOn table.now new) }
     ensures bytes_stay { (other : List ℕ) → D.bytes desk.new other ≡ D.bytes desk.old other }
     ensures never_falls { (other : List ℕ) → D.faults desk.old other ≤ D.faults desk.new other }
@@ -94,7 +100,7 @@ pub(crate) fn load_prices<'a, D: Desk>(
     table: &Table,
 ) -> Result<Prices, Cause<'a>>
     ensures loaded { IsLoaded (D.bytes desk.old) (Rose (D.faults desk.old) (D.faults desk.new))
-        file.now (numbers_in file.now (prices_beside false table.now)) result }
+        file.now (Numbers file.now (prices_beside false table.now)) result }
     ensures goods { IfOk result (λ new. new.goods ≡ goods_of table.now) }
     ensures bytes_stay { (other : List ℕ) → D.bytes desk.new other ≡ D.bytes desk.old other }
     ensures never_falls { (other : List ℕ) → D.faults desk.old other ≤ D.faults desk.new other }
@@ -103,6 +109,30 @@ pub(crate) fn load_prices<'a, D: Desk>(
     match read_prices(alloc, bytes.as_slice(), table, false) {
         Ok(new) => Ok(new),
         Err(fault) => Err(refusal(alloc, file, fault)),
+    }
+}
+
+/// The certificate of a kind in a file.
+pub(crate) fn load_certificate<'a, D: Desk>(
+    alloc: Global,
+    desk: &mut D,
+    file: &'a str,
+    kind: Kind,
+) -> Result<Certificate, Cause<'a>>
+    ensures loaded { IsLoaded (D.bytes desk.old) (Rose (D.faults desk.old) (D.faults desk.new))
+        file.now (CertificateIn file.now kind) result }
+    ensures kind { IfOk result (IsCertificateOf kind) }
+    ensures bytes_stay { (other : List ℕ) → D.bytes desk.new other ≡ D.bytes desk.old other }
+    ensures never_falls { (other : List ℕ) → D.faults desk.old other ≤ D.faults desk.new other }
+{
+    match load(alloc, desk, file, MOST_CERTIFICATE_BYTES) {
+        Ok(bytes) => match read(alloc, bytes.as_slice(), kind) {
+            Ok(certificate) => Ok(certificate),
+            Err(fault) => Err(json_refusal(alloc, file, fault)),
+        },
+        Err(LoadFault::Read) => Err(Cause::Read(file)),
+        Err(LoadFault::TooLong) => Err(refused(alloc, file, b"TooLong")),
+        Err(LoadFault::NoMemory) => Err(Cause::NoMemory),
     }
 }
 
@@ -116,7 +146,7 @@ fn load_numbers<'a, D: Desk>(
     ensures few { IfOk result (λ v. length v.items ≤ 4194304) }
     ensures caused { IfErr result
         (IsFileCause (D.bytes desk.old) (Rose (D.faults desk.old) (D.faults desk.new))
-        file.now (numbers_in file.now all_bytes)) }
+        file.now (Numbers file.now all_bytes)) }
     ensures bytes_stay { (other : List ℕ) → D.bytes desk.new other ≡ D.bytes desk.old other }
     ensures never_falls { (other : List ℕ) → D.faults desk.old other ≤ D.faults desk.new other }
 {
@@ -135,6 +165,19 @@ fn refusal<'a>(alloc: Global, file: &'a str, fault: TableFault) -> Cause<'a>
     match fault {
         TableFault::NoMemory => Cause::NoMemory,
         other => match text_of_fault(alloc, other) {
+            Ok(text) => refused(alloc, file, text.as_slice()),
+            Err(_) => Cause::NoMemory,
+        },
+    }
+}
+
+/// The cause that a fault of a certificate's file is.
+fn json_refusal<'a>(alloc: Global, file: &'a str, fault: JsonFault) -> Cause<'a>
+    ensures { IsJsonRefusalOf file.now fault result }
+{
+    match fault {
+        JsonFault::NoMemory => Cause::NoMemory,
+        other => match text_of_json_fault(alloc, other) {
             Ok(text) => refused(alloc, file, text.as_slice()),
             Err(_) => Cause::NoMemory,
         },

@@ -1,15 +1,18 @@
 ghost use Rattle.std.specs.Prelude.{◌≡◌, ◌≤◌, ℕ, Bool, List, IfOk, IfErr};
-ghost use Rattle.rp_run.specs.CommandLine.{Demand, Utility, Welfare};
-ghost use Rattle.rp_run.specs.Inputs.{DemandOver, UtilityOver, WelfareOver};
+ghost use Rattle.rp_run.specs.CommandLine.{Check, Demand, Utility, Welfare};
+ghost use Rattle.rp_run.specs.Inputs.{CheckOver, DemandOver, UtilityOver, WelfareOver};
 ghost use Rattle.rp_run.specs.Matching.{HasMatchingGoods, IsSized, IsSpentOn};
 ghost use Rattle.rp_table.specs.Tables.{goods_of};
+ghost use Rattle.rp_evidence.specs.Kinds.{IsCertificateOf};
+ghost use Rattle.rp_evidence.specs.declared.certificate.Kind.TheVariants.{Table as TableKind};
 ghost use Rattle.rp_run.specs.Answers.{HasInput};
 ghost use Rattle.rp_run.specs.Endings.{Rose};
 ghost use Rattle.rp_run.specs.Causes.{IsCause};
 ghost use Rattle.rp_run.specs.Named.{named_line, named_input};
 
-use crate::files::{Cause, load_budgets, load_bundles, load_prices, load_table};
+use crate::files::{Cause, load_budgets, load_bundles, load_certificate, load_prices, load_table};
 use crate::line::Line;
+use rp_evidence::{Certificate, Kind};
 use rp_outside::Desk;
 use rp_table::{Bundles, Prices, Table};
 use std::alloc::Global;
@@ -20,6 +23,7 @@ pub(crate) enum Input {
     Pairs(Table),
     Analyse(Table),
     Certify(Table),
+    Check(Table, Certificate),
     Demand(Table, Prices, bool),
     Welfare(Table, Prices, bool),
     Utility(Table, Bundles),
@@ -46,6 +50,10 @@ pub(crate) fn read_input<'a, D: Desk>(
         Line::Pairs { table } => Ok(Input::Pairs(load_table(alloc, desk, table)?)),
         Line::Analyse { table } => Ok(Input::Analyse(load_table(alloc, desk, table)?)),
         Line::Certify { table } => Ok(Input::Certify(load_table(alloc, desk, table)?)),
+        Line::Check { table, certificate } => {
+            let (table, certificate) = load_table_certificate(alloc, desk, table, certificate)?;
+            Ok(Input::Check(table, certificate))
+        }
         Line::Demand { table, new, json } => {
             let (table, new) = load_table_budgets(alloc, desk, table, new)?;
             Ok(Input::Demand(table, new, json))
@@ -60,6 +68,27 @@ pub(crate) fn read_input<'a, D: Desk>(
         }
         Line::Trial { seed, rows, goods } => Ok(Input::Trial { seed, rows, goods }),
     }
+}
+
+/// The table in one file, and a certificate on a table in another.
+fn load_table_certificate<'a, D: Desk>(
+    alloc: Global,
+    desk: &mut D,
+    first: &'a str,
+    second: &'a str,
+) -> Result<(Table, Certificate), Cause<'a>>
+    ensures read { IfOk result (λ both.
+        HasInput (D.bytes desk.old) (Check first.now second.now) (CheckOver both.0 both.1)) }
+    ensures kind { IfOk result (λ both. IsCertificateOf TableKind both.1) }
+    ensures caused { IfErr result
+        (IsCause (D.bytes desk.old) (Rose (D.faults desk.old) (D.faults desk.new))
+        (Check first.now second.now)) }
+    ensures bytes_stay { (other : List ℕ) → D.bytes desk.new other ≡ D.bytes desk.old other }
+    ensures never_falls { (other : List ℕ) → D.faults desk.old other ≤ D.faults desk.new other }
+{
+    let table = load_table(alloc, desk, first)?;
+    let certificate = load_certificate(alloc, desk, second, Kind::Table)?;
+    Ok((table, certificate))
 }
 
 /// The table in one file, and the new budgets beside it in another.

@@ -3,6 +3,7 @@
 
 mod answer;
 mod asked;
+mod checks;
 mod command;
 mod demands;
 mod fault_text;

@@ -2,7 +2,7 @@ ghost use Rattle.std.specs.Prelude.{◌≡◌, Some, None, ◌≤◌, ◌&&◌, 
 ghost use Rattle.clap.specs.Words.{found_of, rows_of, subcommand_rows_of};
 ghost use Rattle.clap.specs.Walk.{first_of};
 ghost use Rattle.rp_run.specs.CommandLine.{Pairs, Analyse, line_of, line_named, command_line, number_of};
-ghost use Rattle.rp_run.specs.CommandLine.{Certify, Demand, Welfare, json_of, new_prices_line, table_line, trial_line, utility_line};
+ghost use Rattle.rp_run.specs.CommandLine.{Certify, Demand, Welfare, check_line, json_of, new_prices_line, table_line, trial_line, utility_line};
 ghost use Rattle.rp_run.specs.FaultLines.{usage_text};
 ghost use Rattle.rp_run.specs.Matching.{IsSized};
 ghost use Rattle.rp_run.specs.Named.{named_line};
@@ -24,6 +24,10 @@ pub(crate) enum Line<'a> {
     },
     Certify {
         table: &'a str,
+    },
+    Check {
+        table: &'a str,
+        certificate: &'a str,
     },
     Demand {
         table: &'a str,
@@ -50,7 +54,7 @@ pub(crate) enum Line<'a> {
 pub(crate) fn usage() -> &'static [u8]
     ensures { result.now ≡ usage_text }
 {
-    b"usage: rp pairs TABLE\n       rp analyse TABLE\n       rp certify TABLE\n       rp demand TABLE NEW [--json]\n       rp welfare TABLE NEW [--json]\n       rp utility TABLE BUNDLES\n       rp trial SEED ROWS GOODS\n"
+    b"usage: rp pairs TABLE\n       rp analyse TABLE\n       rp certify TABLE\n       rp check TABLE CERT\n       rp demand TABLE NEW [--json]\n       rp welfare TABLE NEW [--json]\n       rp utility TABLE BUNDLES\n       rp trial SEED ROWS GOODS\n"
 }
 
 /// The line that the words denote, or none. The first word is the program's name.
@@ -95,6 +99,8 @@ fn command_line<'a>(name: &str, given: &ArgMatches<'a>) -> Option<Line<'a>>
         analyse_line(given)
     } else if name == "certify" {
         certify_line(given)
+    } else if name == "check" {
+        check_line(given)
     } else if name == "demand" {
         demand_line(given)
     } else if name == "welfare" {
@@ -117,7 +123,8 @@ fn pairs_line<'a>(given: &ArgMatches<'a>) -> Option<Line<'a>>
 }
 
 fn analyse_line<'a>(given: &ArgMatches<'a>) -> Option<Line<'a>>
-    ensures exact { option_map named_line result ≡ table_line Analyse (rows_of (found_of given.now)) }
+    ensures exact { option_map named_line result
+        ≡ table_line Analyse (rows_of (found_of given.now)) }
     ensures sized { IfSome result (λ line. IsSized (named_line line)) }
 {
     let table = text_of(given, "TABLE")?;
@@ -125,11 +132,21 @@ fn analyse_line<'a>(given: &ArgMatches<'a>) -> Option<Line<'a>>
 }
 
 fn certify_line<'a>(given: &ArgMatches<'a>) -> Option<Line<'a>>
-    ensures exact { option_map named_line result ≡ table_line Certify (rows_of (found_of given.now)) }
+    ensures exact { option_map named_line result
+        ≡ table_line Certify (rows_of (found_of given.now)) }
     ensures sized { IfSome result (λ line. IsSized (named_line line)) }
 {
     let table = text_of(given, "TABLE")?;
     Some(Line::Certify { table })
+}
+
+fn check_line<'a>(given: &ArgMatches<'a>) -> Option<Line<'a>>
+    ensures exact { option_map named_line result ≡ check_line (rows_of (found_of given.now)) }
+    ensures sized { IfSome result (λ line. IsSized (named_line line)) }
+{
+    let table = text_of(given, "TABLE")?;
+    let certificate = text_of(given, "CERT")?;
+    Some(Line::Check { table, certificate })
 }
 
 fn demand_line<'a>(given: &ArgMatches<'a>) -> Option<Line<'a>>

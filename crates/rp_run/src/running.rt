@@ -4,6 +4,7 @@ ghost use Rattle.rp_outside.specs.Told.{Stays, Grows, GrowsByPrefix};
 ghost use Rattle.rp_run.specs.CommandLine.{Line as Asked, line_in};
 ghost use Rattle.rp_run.specs.Shapes.{HasShape, shape_of};
 ghost use Rattle.rp_run.specs.Answers.{AnswersAsked, IsAccepted, IsRefused};
+ghost use Rattle.rp_run.specs.Answers.{IsAcceptedOver, IsRejectedOver, MayBe, MustBe};
 ghost use Rattle.rp_run.specs.FaultLines.{write_line};
 ghost use Rattle.rp_run.specs.Endings.{IsEnd, IsSilent, IsFaultLine, Rose, NoneRose};
 ghost use Rattle.rp_run.specs.Gains.{Gains};
@@ -44,7 +45,14 @@ pub fn run<D: Desk, O: Sink, E: Sink>(
     ensures silent { IsSilent result → Stays (O.written out.old) (O.written out.new) }
     ensures write_counted { result ≡ Status.WriteFault
         → HasRisen (O.faults out.old) (O.faults out.new) }
-    ensures never_rejected { ¬ (result ≡ Status.Rejected) }
+
+    // The checker's verdict on a certificate.
+    ensures rejected { result ≡ Status.Rejected → (line : Asked)
+        × (line_in words.now.items ≡ Some line) × MayBe IsRejectedOver (D.bytes desk.old) line }
+    ensures never_done { (line : Asked) → line_in words.now.items ≡ Some line
+        → MustBe IsRejectedOver (D.bytes desk.old) line → ¬ (result ≡ Status.Done) }
+    ensures never_rejected { (line : Asked) → line_in words.now.items ≡ Some line
+        → MustBe IsAcceptedOver (D.bytes desk.old) line → ¬ (result ≡ Status.Rejected) }
 
     // Why there is no answer.
     ensures quiet { IsEnd result → Stays (E.written err.old) (E.written err.new) }

@@ -77,7 +77,8 @@ fn head(alloc: Global, seed: u64, rows: u32, goods: u32) -> Result<Vec<u8>, NoMe
 /// Appends a line for each verdict.
 fn push_verdicts(alloc: Global, out: &mut Vec<u8>, verdicts: &Verdicts) -> Result<(), NoMemory>
     ensures { OnOk result (out.new.items ≡ out.old.items ++ verdict_lines
-        verdicts.now.garp verdicts.now.efficiency verdicts.now.homothetic verdicts.now.quasilinear) }
+        verdicts.now.garp verdicts.now.efficiency
+        verdicts.now.homothetic verdicts.now.quasilinear) }
 {
     push_verdict(out, b"garp ", garp_word(&verdicts.garp))?;
     push_index(alloc, out, &verdicts.efficiency)?;

@@ -1,7 +1,7 @@
 use Rattle.std.proofs.Common.{Bool, refl, false}
 use Rattle.rp_text.specs.Denotation.{table_in, prices_beside}
 use Rattle.rp_run.specs.CommandLine.{Welfare}
-use Rattle.rp_run.specs.Inputs.{numbers_in, WelfareOver}
+use Rattle.rp_run.specs.Inputs.{Numbers, WelfareOver}
 use Rattle.rp_run.specs.Endings.{Rose}
 use Rattle.rp_run.specs.Causes.{IsCause}
 use Rattle.rp_run.proofs.FileLemmas.{two_input, first_cause, second_cause, moved_cause, moved_value}
@@ -16,7 +16,7 @@ returns-in_err-table-clause-caused g c =
     let f = c.args.first.now in
     let s = c.args.second.now in
     passed_on c.from_residual.result c.in_err-table.field-0.0 (λ why. (json : Bool) → IsCause files rose (Welfare f s json) why) c.from_residual.ensures
-    (λ json. first_cause files rose (Welfare f s json) f s (numbers_in f table_in) (λ t. numbers_in s (prices_beside false t)) (λ t new. WelfareOver t new json) refl (λ bytes. refl) c.in_err-table.field-0.0 c.in_err-table.ensures.loaded)
+    (λ json. first_cause files rose (Welfare f s json) f s (Numbers f table_in) (λ t. Numbers s (prices_beside false t)) (λ t new. WelfareOver t new json) refl (λ bytes r read. read) c.in_err-table.field-0.0 c.in_err-table.ensures.loaded)
 
 pub returns-in_err-new-clause-caused : goal.returns-in_err-new-clause-caused
 returns-in_err-new-clause-caused g c =
@@ -28,9 +28,9 @@ returns-in_err-new-clause-caused g c =
     let f = c.args.first.now in
     let s = c.args.second.now in
     let why = c.in_err-new.field-0.0 in
-    let moved = moved_cause files later (Rose before after) (Rose mid after) s (numbers_in s (prices_beside false c.in_ok-table.table)) why (c.in_ok-table.ensures.bytes_stay s) (λ up. rises_later (before s) (mid s) (after s) (c.in_ok-table.ensures.never_falls s) up) c.in_err-new.ensures.loaded in
+    let moved = moved_cause files later (Rose before after) (Rose mid after) s (Numbers s (prices_beside false c.in_ok-table.table)) why (c.in_ok-table.ensures.bytes_stay s) (λ up. rises_later (before s) (mid s) (after s) (c.in_ok-table.ensures.never_falls s) up) c.in_err-new.ensures.loaded in
     passed_on c.from_residual-in_err-new.result why (λ why. (json : Bool) → IsCause files (Rose before after) (Welfare f s json) why) c.from_residual-in_err-new.ensures
-    (λ json. second_cause files (Rose before after) (Welfare f s json) f s (numbers_in f table_in) (λ t. numbers_in s (prices_beside false t)) (λ t new. WelfareOver t new json) refl (λ bytes. refl) c.in_ok-table.table why c.in_ok-table.ensures.loaded moved)
+    (λ json. second_cause files (Rose before after) (Welfare f s json) f s (Numbers f table_in) (λ t. Numbers s (prices_beside false t)) (λ t new. WelfareOver t new json) refl (λ bytes r read. read) c.in_ok-table.table why c.in_ok-table.ensures.loaded moved)
 
 pub returns-clause-read : goal.returns-clause-read
 returns-clause-read g c =
@@ -39,5 +39,5 @@ returns-clause-read g c =
     let rose = Rose (g.D.Desk.faults c.args.desk.now) (g.D.Desk.faults c.load_prices.new.desk) in
     let f = c.args.first.now in
     let s = c.args.second.now in
-    let moved = moved_value files later s (numbers_in s (prices_beside false c.in_ok-table.table)) c.in_ok-new.new (c.in_ok-table.ensures.bytes_stay s) c.in_ok-new.ensures.loaded in
-    λ json. two_input files rose (Welfare f s json) f s (numbers_in f table_in) (λ t. numbers_in s (prices_beside false t)) (λ t new. WelfareOver t new json) refl (λ bytes. refl) c.in_ok-table.table c.in_ok-new.new c.in_ok-table.ensures.loaded moved
+    let moved = moved_value files later s (Numbers s (prices_beside false c.in_ok-table.table)) c.in_ok-new.new (c.in_ok-table.ensures.bytes_stay s) c.in_ok-new.ensures.loaded in
+    λ json. two_input files rose (Welfare f s json) f s (Numbers f table_in) (λ t. Numbers s (prices_beside false t)) (λ t new. WelfareOver t new json) refl (λ bytes r read. read) c.in_ok-table.table c.in_ok-new.new c.in_ok-table.ensures.loaded moved

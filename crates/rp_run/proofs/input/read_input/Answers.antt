@@ -1,7 +1,7 @@
 use Rattle.std.proofs.Common.{refl}
 use Rattle.rp_text.specs.Denotation.{table_in}
 use Rattle.rp_run.specs.CommandLine.{Pairs, Analyse, Certify, Trial}
-use Rattle.rp_run.specs.Inputs.{numbers_in, PairsOver, AnalyseOver, CertifyOver, TrialOver}
+use Rattle.rp_run.specs.Inputs.{Numbers, PairsOver, AnalyseOver, CertifyOver, TrialOver}
 use Rattle.rp_run.specs.Named.{named_line}
 use Rattle.rp_run.specs.Endings.{Rose}
 use Rattle.rp_run.specs.Causes.{IsCause}
@@ -15,7 +15,7 @@ returns-in_err-load_table-in-Pairs-clause-caused g c =
     let rose = Rose (g.D.Desk.faults c.args.desk.now) (g.D.Desk.faults c.load_table.new.desk) in
     let file = c.in-Pairs.table.now in
     passed_on c.from_residual.result c.in_err-load_table-in-Pairs.field-0.0 (IsCause files rose (named_line c.args.line)) c.from_residual.ensures
-    (rw c.in-Pairs.is (one_cause files rose (Pairs file) file (numbers_in file table_in) PairsOver c.in_err-load_table-in-Pairs.field-0.0 refl (λ bytes. refl) c.in_err-load_table-in-Pairs.ensures.loaded))
+    (rw c.in-Pairs.is (one_cause files rose (Pairs file) file (Numbers file table_in) PairsOver c.in_err-load_table-in-Pairs.field-0.0 refl (λ bytes r read. read) c.in_err-load_table-in-Pairs.ensures.loaded))
 
 pub returns-in_err-load_table-in-Analyse-clause-caused : goal.returns-in_err-load_table-in-Analyse-clause-caused
 returns-in_err-load_table-in-Analyse-clause-caused g c =
@@ -23,17 +23,17 @@ returns-in_err-load_table-in-Analyse-clause-caused g c =
     let rose = Rose (g.D.Desk.faults c.args.desk.now) (g.D.Desk.faults c.load_table-in-Analyse.new.desk) in
     let file = c.in-Analyse.table.now in
     passed_on c.from_residual-in_err-load_table-in-Analyse.result c.in_err-load_table-in-Analyse.field-0.0 (IsCause files rose (named_line c.args.line)) c.from_residual-in_err-load_table-in-Analyse.ensures
-    (rw c.in-Analyse.is (one_cause files rose (Analyse file) file (numbers_in file table_in) AnalyseOver c.in_err-load_table-in-Analyse.field-0.0 refl (λ bytes. refl) c.in_err-load_table-in-Analyse.ensures.loaded))
+    (rw c.in-Analyse.is (one_cause files rose (Analyse file) file (Numbers file table_in) AnalyseOver c.in_err-load_table-in-Analyse.field-0.0 refl (λ bytes r read. read) c.in_err-load_table-in-Analyse.ensures.loaded))
 
 pub returns-in_ok-load_table-in-Pairs-clause-read : goal.returns-in_ok-load_table-in-Pairs-clause-read
 returns-in_ok-load_table-in-Pairs-clause-read g c =
     let file = c.in-Pairs.table.now in
-    rw c.in-Pairs.is (one_input (g.D.Desk.bytes c.args.desk.now) (Pairs file) file (numbers_in file table_in) PairsOver c.in_ok-load_table-in-Pairs.field-0 refl (λ bytes. refl) c.in_ok-load_table-in-Pairs.ensures.loaded)
+    rw c.in-Pairs.is (one_input (g.D.Desk.bytes c.args.desk.now) (Pairs file) file (Numbers file table_in) PairsOver c.in_ok-load_table-in-Pairs.field-0 refl (λ bytes r read. read) c.in_ok-load_table-in-Pairs.ensures.loaded)
 
 pub returns-in_ok-load_table-in-Analyse-clause-read : goal.returns-in_ok-load_table-in-Analyse-clause-read
 returns-in_ok-load_table-in-Analyse-clause-read g c =
     let file = c.in-Analyse.table.now in
-    rw c.in-Analyse.is (one_input (g.D.Desk.bytes c.args.desk.now) (Analyse file) file (numbers_in file table_in) AnalyseOver c.in_ok-load_table-in-Analyse.field-0 refl (λ bytes. refl) c.in_ok-load_table-in-Analyse.ensures.loaded)
+    rw c.in-Analyse.is (one_input (g.D.Desk.bytes c.args.desk.now) (Analyse file) file (Numbers file table_in) AnalyseOver c.in_ok-load_table-in-Analyse.field-0 refl (λ bytes r read. read) c.in_ok-load_table-in-Analyse.ensures.loaded)
 
 pub returns-in_err-load_table-in-Certify-clause-caused : goal.returns-in_err-load_table-in-Certify-clause-caused
 returns-in_err-load_table-in-Certify-clause-caused g c =
@@ -41,12 +41,12 @@ returns-in_err-load_table-in-Certify-clause-caused g c =
     let rose = Rose (g.D.Desk.faults c.args.desk.now) (g.D.Desk.faults c.load_table-in-Certify.new.desk) in
     let file = c.in-Certify.table.now in
     passed_on c.from_residual-in_err-load_table-in-Certify.result c.in_err-load_table-in-Certify.field-0.0 (IsCause files rose (named_line c.args.line)) c.from_residual-in_err-load_table-in-Certify.ensures
-    (rw c.in-Certify.is (one_cause files rose (Certify file) file (numbers_in file table_in) CertifyOver c.in_err-load_table-in-Certify.field-0.0 refl (λ bytes. refl) c.in_err-load_table-in-Certify.ensures.loaded))
+    (rw c.in-Certify.is (one_cause files rose (Certify file) file (Numbers file table_in) CertifyOver c.in_err-load_table-in-Certify.field-0.0 refl (λ bytes r read. read) c.in_err-load_table-in-Certify.ensures.loaded))
 
 pub returns-in_ok-load_table-in-Certify-clause-read : goal.returns-in_ok-load_table-in-Certify-clause-read
 returns-in_ok-load_table-in-Certify-clause-read g c =
     let file = c.in-Certify.table.now in
-    rw c.in-Certify.is (one_input (g.D.Desk.bytes c.args.desk.now) (Certify file) file (numbers_in file table_in) CertifyOver c.in_ok-load_table-in-Certify.field-0 refl (λ bytes. refl) c.in_ok-load_table-in-Certify.ensures.loaded)
+    rw c.in-Certify.is (one_input (g.D.Desk.bytes c.args.desk.now) (Certify file) file (Numbers file table_in) CertifyOver c.in_ok-load_table-in-Certify.field-0 refl (λ bytes r read. read) c.in_ok-load_table-in-Certify.ensures.loaded)
 
 pub returns-in_ok-table-in-Demand-clause-read : goal.returns-in_ok-table-in-Demand-clause-read
 returns-in_ok-table-in-Demand-clause-read g c = rw c.in-Demand.is (c.in_ok-table-in-Demand.ensures.read c.in-Demand.json)
