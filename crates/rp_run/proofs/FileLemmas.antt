@@ -6,7 +6,8 @@ use Rattle.std.specs.Option.{ForSome}
 use Rattle.std.specs.Prelude.{unwrap_or}
 use Rattle.rp_run.specs.CommandLine.{Line, files_of}
 use Rattle.rp_run.specs.Answers.{Files, IsContent, AreContents, HasInput}
-use Rattle.rp_run.specs.Inputs.{AndThen, Denotes, Input, Just, Numbers, Reading, all_bytes, most_bytes, most_certificate_bytes}
+use Rattle.rp_run.specs.Inputs.{Denotes, Input}
+use Rattle.rp_run.specs.Readings.{AndThen, Just, Numbers, Reading, all_bytes, most_bytes, most_certificate_bytes}
 use Rattle.rp_run.specs.FaultLines.{file_line}
 use Rattle.rp_run.specs.Causes.{IsRefusal, IsFileCause, HoldsValue, IsCause}
 use Rattle.rp_run.specs.declared.files.Cause.{Cause}

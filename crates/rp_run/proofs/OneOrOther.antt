@@ -9,7 +9,8 @@ use Rattle.rp_json.proofs.ItemListLemmas.{denoted_once}
 use Rattle.rp_table.specs.Tables.{Observations}
 use Rattle.rp_text.specs.Denotation.{bundles_beside, prices_beside, table_in}
 use Rattle.rp_run.specs.CommandLine.{Line, Pairs, Analyse, Certify, Check, Demand, Welfare, Utility, Trial}
-use Rattle.rp_run.specs.Inputs.{AndThen, CertificateIn, Denotes, Input, Just, Reading, PairsOver, AnalyseOver, CertifyOver, CheckOver, DemandOver, WelfareOver, UtilityOver, TrialOver, numbers_in}
+use Rattle.rp_run.specs.Inputs.{Denotes, Input, PairsOver, AnalyseOver, CertifyOver, CheckOver, DemandOver, WelfareOver, UtilityOver, TrialOver}
+use Rattle.rp_run.specs.Readings.{AndThen, CertificateIn, Just, Reading, numbers_in}
 
 -- one value is read, or refusals
 pub record IsSingle {A : Type 0} (reading : Reading A) : Type 0 where

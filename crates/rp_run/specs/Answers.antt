@@ -4,18 +4,20 @@ use Rattle.std.specs.Prelude.{◌≡◌, ℕ, ◌<◌, true, false, List, length
 use Rattle.std.specs.Option.{ForSome}
 use Rattle.rp_outside.specs.SureDesk.{SureState, bytes_or_none}
 use Rattle.rp_check.specs.CheckVerdict.{IsVerdictOn}
+use Rattle.rp_check.specs.RandomVerdict.{IsRandomVerdictOn}
 use Rattle.rp_check.specs.declared.verdict.Verdict.TheVariants.{Accepted, Rejected}
 use Rattle.rp_evidence.specs.Input.{input_of_table}
 use Rattle.rp_evidence.specs.declared.failure.Reason.{Reason}
 use Rattle.rp_run.specs.PairsText.{IsPairsText}
 use Rattle.rp_run.specs.Analysis.{IsAnalysisText}
-use Rattle.rp_run.specs.Checked.{IsTableCheck}
+use Rattle.rp_run.specs.Checked.{IsRandomCheck, IsTableCheck}
+use Rattle.rp_run.specs.Randoms.{IsRandomText}
 use Rattle.rp_run.specs.Demands.{IsDemandText}
 use Rattle.rp_run.specs.Welfares.{IsWelfareText}
 use Rattle.rp_run.specs.UtilityText.{IsUtilityText}
 use Rattle.rp_run.specs.TrialText.{IsTrialText}
 use Rattle.rp_run.specs.CommandLine.{Line, files_of, file_at}
-use Rattle.rp_run.specs.Inputs.{Input, PairsOver, AnalyseOver, CertifyOver, CheckOver, DemandOver, WelfareOver, UtilityOver, TrialOver, Denotes}
+use Rattle.rp_run.specs.Inputs.{Input, PairsOver, AnalyseOver, CertifyOver, CheckOver, DemandOver, WelfareOver, UtilityOver, RandomOver, CheckRandomOver, TrialOver, Denotes}
 use Rattle.rp_run.specs.declared.status.Status.{Status}
 use Rattle.rp_run.specs.declared.status.Status.TheVariants as status
 
@@ -44,6 +46,8 @@ Answers (CheckOver table certificate) s text = IsTableCheck table certificate s 
 Answers (DemandOver table new json) s text = (s ≡ status.Done) × IsDemandText json table new text
 Answers (WelfareOver table new json) s text = (s ≡ status.Done) × IsWelfareText json table new text
 Answers (UtilityOver table bundles) s text = (s ≡ status.Done) × IsUtilityText table bundles text
+Answers (RandomOver given json) s text = (s ≡ status.Done) × IsRandomText json given text
+Answers (CheckRandomOver given certificate) s text = IsRandomCheck given.patches certificate s text
 Answers (TrialOver seed rows goods) s text = (s ≡ status.Done) × IsTrialText seed rows goods text
 
 -- some content of a line's files denotes that input
@@ -74,11 +78,14 @@ IsRefused files line = (bytes : ℕ → List ℕ) → AreContents files line byt
 abbrev pub IsRejectedOver : Input → Type 0
 IsRejectedOver (CheckOver table certificate) =
     (item : ℕ) × (reason : Reason) × (place : ℕ) × IsVerdictOn (input_of_table table) certificate.items (Rejected item reason place)
+IsRejectedOver (CheckRandomOver given certificate) =
+    (item : ℕ) × (reason : Reason) × (place : ℕ) × IsRandomVerdictOn given.patches certificate.items (Rejected item reason place)
 IsRejectedOver _ = ⊥
 
 -- the input is a certificate, and the checker accepts it
 abbrev pub IsAcceptedOver : Input → Type 0
 IsAcceptedOver (CheckOver table certificate) = IsVerdictOn (input_of_table table) certificate.items Accepted
+IsAcceptedOver (CheckRandomOver given certificate) = IsRandomVerdictOn given.patches certificate.items Accepted
 IsAcceptedOver _ = ⊥
 
 -- some content of a line's files denotes such an input

@@ -1,9 +1,10 @@
--- What `check` prints: the line of the checker's verdict on a certificate (this program's own text), and what an accepted
+-- What `check` and `checkrandom` print: the line of the checker's verdict on a certificate (this program's own text), and what an accepted
 -- certificate shows.
 use Rattle.std.specs.Prelude.{◌≡◌, ◌++◌, ◌-◌, ◌^◌, ℕ, List, All, [], ◌∷◌, codes, length, min, sum_by}
 use Rattle.std.specs.Fmt.{decimal}
 use Rattle.rp_table.specs.Tables.{Observations}
 use Rattle.rp_check.specs.CheckVerdict.{IsVerdictOn}
+use Rattle.rp_check.specs.RandomVerdict.{IsRandomVerdictOn}
 use Rattle.rp_check.specs.declared.verdict.Verdict.{Verdict}
 use Rattle.rp_check.specs.declared.verdict.Verdict.TheVariants.{Accepted, Rejected}
 use Rattle.rp_evidence.specs.Input.{input_of_table}
@@ -13,6 +14,8 @@ use Rattle.rp_evidence.specs.declared.certificate.Certificate.{Certificate}
 use Rattle.rp_evidence.specs.declared.certificate.Item.{Item}
 use Rattle.rp_evidence.specs.declared.failure.Reason.{Reason}
 use Rattle.rp_evidence.specs.declared.failure.Reason.TheVariants as reason
+use Rattle.rp_patch.specs.Patches.{PatchList}
+use Rattle.rp_patch.specs.RandomEvidence.{ProvesOnPatches}
 use Rattle.rp_run.specs.declared.status.Status.{Status}
 use Rattle.rp_run.specs.declared.status.Status.TheVariants as status
 
@@ -56,5 +59,13 @@ pub record IsTableCheck (table : Observations) (certificate : Certificate) (s : 
   pub verdict : Verdict
   pub found : IsVerdictOn (input_of_table table) certificate.items verdict
   pub proves : verdict ≡ Accepted → All (Proves (input_of_table table)) certificate.items
+  pub ends : s ≡ verdict_status verdict
+  pub tells : text ≡ verdict_line certificate.items verdict
+
+-- the same on choices from budgets
+pub record IsRandomCheck (p : PatchList) (certificate : Certificate) (s : Status) (text : List ℕ) : Type 0 where
+  pub verdict : Verdict
+  pub found : IsRandomVerdictOn p certificate.items verdict
+  pub proves : verdict ≡ Accepted → All (ProvesOnPatches p) certificate.items
   pub ends : s ≡ verdict_status verdict
   pub tells : text ≡ verdict_line certificate.items verdict

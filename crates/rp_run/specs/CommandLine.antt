@@ -27,6 +27,11 @@ pub data Line : Type 0 where
   Welfare : (table new : List ℕ) (json : Bool) → Line
   -- the utility of bundles under the numbers that a table gives
   Utility : (table bundles : List ℕ) → Line
+  -- whether rational types make the choices from budgets, as a report or as a certificate; with so many units on each budget, or
+  -- without such a number
+  Random : (budgets choices : List ℕ) (per : Option ℕ) (json : Bool) → Line
+  -- the checker's verdict on a certificate on choices from budgets
+  CheckRandom : (budgets choices certificate : List ℕ) (per : Option ℕ) → Line
   -- the verdicts on the trial table of a seed
   Trial : (seed rows goods : ℕ) → Line
 
@@ -39,6 +44,8 @@ files_of (Check table certificate) = table ∷ certificate ∷ []
 files_of (Demand table new json) = table ∷ new ∷ []
 files_of (Welfare table new json) = table ∷ new ∷ []
 files_of (Utility table bundles) = table ∷ bundles ∷ []
+files_of (Random budgets choices per json) = budgets ∷ choices ∷ []
+files_of (CheckRandom budgets choices certificate per) = budgets ∷ choices ∷ certificate ∷ []
 files_of (Trial seed rows goods) = []
 
 -- the k-th file of a line, from 0
@@ -73,6 +80,20 @@ abbrev pub utility_line : List Row → Option Line
 utility_line rows =
     option_and_then (λ table. option_and_then (λ bundles. Some (Utility table bundles)) (first_of (codes "BUNDLES") rows)) (first_of (codes "TABLE") rows)
 
+-- how many units are asked for on each budget
+abbrev pub per_of : List Row → Option ℕ
+per_of rows = number_of 1 1000000000 (codes "per") rows
+
+abbrev pub random_line : List Row → Option Line
+random_line rows =
+    option_and_then (λ budgets. option_and_then (λ choices. Some (Random budgets choices (per_of rows) (json_of rows)))
+    (first_of (codes "CHOICES") rows)) (first_of (codes "BUDGETS") rows)
+
+abbrev pub check_random_line : List Row → Option Line
+check_random_line rows =
+    option_and_then (λ budgets. option_and_then (λ choices. option_and_then (λ certificate. Some (CheckRandom budgets choices certificate (per_of rows)))
+    (first_of (codes "CERT") rows)) (first_of (codes "CHOICES") rows)) (first_of (codes "BUDGETS") rows)
+
 abbrev pub trial_line : List Row → Option Line
 trial_line rows =
     option_and_then (λ seed. option_and_then (λ count. option_and_then (λ goods. Some (Trial seed count goods))
@@ -88,8 +109,10 @@ command_line name rows =
     else (if bytes_eq name (codes "demand") then new_prices_line Demand rows
     else (if bytes_eq name (codes "welfare") then new_prices_line Welfare rows
     else (if bytes_eq name (codes "utility") then utility_line rows
+    else (if bytes_eq name (codes "random") then random_line rows
+    else (if bytes_eq name (codes "checkrandom") then check_random_line rows
     else (if bytes_eq name (codes "trial") then trial_line rows
-    else None)))))))
+    else None)))))))))
 
 abbrev pub line_named : Option (Text × List Row) → Option Line
 line_named matches = option_and_then (λ m. command_line m.0 m.1) matches

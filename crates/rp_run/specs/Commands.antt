@@ -18,6 +18,10 @@ number_rule low high id = record (new_rule id) { parser = Some (Unsigned low hig
 abbrev pub json_rule : Rule
 json_rule = record (new_rule (codes "json")) { long = Some (codes "json"); action = Some SetTrue }
 
+-- how many units there are on each budget, where that is asked for
+abbrev pub per_rule : Rule
+per_rule = record (new_rule (codes "per")) { long = Some (codes "per"); parser = Some (Unsigned 1 1000000000) }
+
 -- a command with its arguments, in the order of the words
 abbrev pub command_shape : Text → List Rule → Shape
 command_shape name rules = record (new_shape name) { rules = rules }
@@ -29,6 +33,13 @@ alone shape = record { top = shape; subs = [] }
 -- a command on a table at new prices
 abbrev pub new_prices_shape : Text → Shape
 new_prices_shape name = command_shape name (file_rule (codes "TABLE") ∷ file_rule (codes "NEW") ∷ json_rule ∷ [])
+
+abbrev pub random_shape : Shape
+random_shape = command_shape (codes "random") (file_rule (codes "BUDGETS") ∷ file_rule (codes "CHOICES") ∷ per_rule ∷ json_rule ∷ [])
+
+abbrev pub check_random_shape : Shape
+check_random_shape =
+    command_shape (codes "checkrandom") (file_rule (codes "BUDGETS") ∷ file_rule (codes "CHOICES") ∷ file_rule (codes "CERT") ∷ per_rule ∷ [])
 
 abbrev pub trial_shape : Shape
 trial_shape =
@@ -44,6 +55,8 @@ commands =
     ∷ new_prices_shape (codes "demand")
     ∷ new_prices_shape (codes "welfare")
     ∷ command_shape (codes "utility") (file_rule (codes "TABLE") ∷ file_rule (codes "BUNDLES") ∷ [])
+    ∷ random_shape
+    ∷ check_random_shape
     ∷ trial_shape
     ∷ []
 

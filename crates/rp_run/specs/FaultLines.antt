@@ -1,11 +1,18 @@
 -- The lines that tell why there is no answer (this program's own texts).
-use Rattle.std.specs.Prelude.{ℕ, List, [], ◌∷◌, ◌++◌, codes}
+use Rattle.std.specs.Prelude.{ℕ, List, [], ◌∷◌, ◌++◌, ◌+◌, codes}
+use Rattle.std.specs.Fmt.{decimal}
+use Rattle.rp_patch.specs.declared.fault.PatchFault.{PatchFault}
+use Rattle.rp_patch.specs.declared.fault.PatchFault.TheVariants.{TooManyPatches, NeedUnit, NoMemory as NoPatchMemory}
+use Rattle.rp_types.specs.declared.fault.TypesFault.{TypesFault}
+use Rattle.rp_types.specs.declared.fault.TypesFault.TheVariants.{TooManyCombinations, TooManyTypes, NoMemory as NoTypesMemory}
 
 -- how the program is called
 abbrev pub usage_text : List ℕ
 usage_text =
     codes "usage: rp pairs TABLE" ++ 10 ∷ codes "       rp analyse TABLE" ++ 10 ∷ codes "       rp certify TABLE" ++ 10 ∷ codes "       rp check TABLE CERT" ++ 10 ∷
-    codes "       rp demand TABLE NEW [--json]" ++ 10 ∷ codes "       rp welfare TABLE NEW [--json]" ++ 10 ∷ codes "       rp utility TABLE BUNDLES" ++ 10 ∷ codes "       rp trial SEED ROWS GOODS" ++ 10 ∷ []
+    codes "       rp demand TABLE NEW [--json]" ++ 10 ∷ codes "       rp welfare TABLE NEW [--json]" ++ 10 ∷ codes "       rp utility TABLE BUNDLES" ++ 10 ∷
+    codes "       rp random BUDGETS CHOICES [--per N] [--json]" ++ 10 ∷ codes "       rp checkrandom BUDGETS CHOICES CERT [--per N]" ++ 10 ∷
+    codes "       rp trial SEED ROWS GOODS" ++ 10 ∷ []
 
 -- what is wrong with a file
 abbrev pub file_line : List ℕ → List ℕ → List ℕ
@@ -14,6 +21,18 @@ file_line file fault = codes "rp: " ++ file ++ codes ": " ++ fault ++ 10 ∷ []
 -- a file could not be read
 abbrev pub read_line : List ℕ → List ℕ
 read_line file = file_line file (codes "read failed")
+
+-- choices have no patches within the limits; budgets count from 1
+abbrev pub patch_line : PatchFault → List ℕ
+patch_line (TooManyPatches budget) = codes "rp: TooManyPatches budget " ++ decimal (budget + 1) ++ 10 ∷ []
+patch_line (NeedUnit budget) = codes "rp: NeedUnit budget " ++ decimal (budget + 1) ++ 10 ∷ []
+patch_line NoPatchMemory = codes "rp: out of memory" ++ 10 ∷ []
+
+-- patches have no list of rational types within the limits
+abbrev pub types_line : TypesFault → List ℕ
+types_line TooManyCombinations = codes "rp: TooManyCombinations" ++ 10 ∷ []
+types_line TooManyTypes = codes "rp: TooManyTypes" ++ 10 ∷ []
+types_line NoTypesMemory = codes "rp: out of memory" ++ 10 ∷ []
 
 -- the output could not be written
 abbrev pub write_line : List ℕ

@@ -1,20 +1,15 @@
 -- What the files of a line denote: what the line asks over their contents, or the first refusal, which is a whole
 -- line for standard error (this program's own order and texts). Nothing is both.
-use Rattle.std.specs.Prelude.{◌≡◌, ◌≢◌, ◌⊎◌, ◌≤◌, ◌<◌, ℕ, Bool, true, false, nat_lt, if◌then◌else◌, List, length, Result, Ok, Err, codes}
+use Rattle.std.specs.Prelude.{ℕ, Bool, true, false, Option, List, Ok}
 use Rattle.rp_table.specs.Tables.{Observations}
 use Rattle.rp_table.specs.BundleLists.{BundleList}
 use Rattle.rp_table.specs.PriceLists.{PriceList}
-use Rattle.rp_text.specs.Denotation.{table_in, bundles_beside, prices_beside}
-use Rattle.rp_text.specs.declared.fault.TableFault.{TableFault}
+use Rattle.rp_text.specs.Denotation.{bundles_beside, prices_beside}
 use Rattle.rp_evidence.specs.declared.certificate.Certificate.{Certificate}
-use Rattle.rp_evidence.specs.declared.certificate.Kind.{Kind}
-use Rattle.rp_evidence.specs.declared.certificate.Kind.TheVariants.{Table as TableKind}
-use Rattle.rp_json.specs.Denoted.{IsDenoted}
-use Rattle.rp_json.specs.declared.fault.JsonFault.{JsonFault}
-use Rattle.rp_json.specs.declared.fault.JsonFault.TheVariants as json_fault
-use Rattle.rp_run.specs.CommandLine.{Line, Pairs, Analyse, Certify, Check, Demand, Welfare, Utility, Trial}
-use Rattle.rp_run.specs.FaultTexts.{fault_text, json_fault_text}
-use Rattle.rp_run.specs.FaultLines.{file_line}
+use Rattle.rp_evidence.specs.declared.certificate.Kind.TheVariants.{Table as TableKind, Random as RandomKind}
+use Rattle.rp_run.specs.CommandLine.{Line, Pairs, Analyse, Certify, Check, Demand, Welfare, Utility, Random, CheckRandom, Trial}
+use Rattle.rp_run.specs.RandomInputs.{BudgetsIn, ChoicesIn, TypedPatches, TypedPatchesOf}
+use Rattle.rp_run.specs.Readings.{AndThen, CertificateIn, Just, Numbers, Reading, TableIn}
 
 -- a command over what its files hold
 pub data Input : Type 0 where
@@ -25,58 +20,9 @@ pub data Input : Type 0 where
   DemandOver : (table : Observations) (new : PriceList) (json : Bool) → Input
   WelfareOver : (table : Observations) (new : PriceList) (json : Bool) → Input
   UtilityOver : (table : Observations) (bundles : BundleList) → Input
+  RandomOver : (given : TypedPatches) (json : Bool) → Input
+  CheckRandomOver : (given : TypedPatches) (certificate : Certificate) → Input
   TrialOver : (seed rows goods : ℕ) → Input
-
--- what is read: which values, and which lines of a refusal
-abbrev pub Reading : Type 0 → Type 1
-Reading A = Result A (List ℕ) → Type 0
-
--- just this is read
-abbrev pub Just : {A : Type 0} → Result A (List ℕ) → Reading A
-Just this result = this ≡ result
-
--- what follows where nothing was refused so far
-abbrev pub AndThen : {A B : Type 0} → Reading A → (A → Reading B) → Reading B
-AndThen {A} first next (Ok value) = (earlier : A) × first (Ok earlier) × next earlier (Ok value)
-AndThen {A} first next (Err line) = first (Err line) ⊎ ((earlier : A) × first (Ok earlier) × next earlier (Err line))
-
--- the most bytes of a file of numbers
-abbrev pub most_bytes : ℕ
-most_bytes = 4194304
-
--- the most bytes of a certificate
-abbrev pub most_certificate_bytes : ℕ
-most_certificate_bytes = 16777216
-
--- a value that was read from a file, or the line of its fault
-abbrev pub or_line : {A : Type 0} → List ℕ → Result A TableFault → Result A (List ℕ)
-or_line file (Ok value) = Ok value
-or_line file (Err fault) = Err (file_line file (fault_text fault))
-
--- what the bytes of a file of numbers denote by this reading, where they are not too many
-abbrev pub numbers_in : {A : Type 0} → List ℕ → (List ℕ → Result A TableFault) → List ℕ → Result A (List ℕ)
-numbers_in file reading bytes =
-    if nat_lt most_bytes (length bytes) then Err (file_line file (codes "TooLong"))
-    else or_line file (reading bytes)
-
-abbrev pub Numbers : {A : Type 0} → List ℕ → (List ℕ → Result A TableFault) → List ℕ → Reading A
-Numbers file reading bytes = Just (numbers_in file reading bytes)
-
--- all bytes of a file, as a reading of it
-abbrev pub all_bytes : List ℕ → Result (List ℕ) TableFault
-all_bytes bytes = Ok bytes
-
--- the certificate of a kind that the bytes of its file denote, where they are not too many
-abbrev pub CertificateIn : List ℕ → Kind → List ℕ → Reading Certificate
-CertificateIn file kind bytes (Ok certificate) = (length bytes ≤ most_certificate_bytes) × IsDenoted kind bytes (Ok certificate)
-CertificateIn file kind bytes (Err line) =
-    ((most_certificate_bytes < length bytes) × (line ≡ file_line file (codes "TooLong")))
-    ⊎ ((length bytes ≤ most_certificate_bytes)
-    × ((fault : JsonFault) × (fault ≢ json_fault.NoMemory) × IsDenoted kind bytes (Err fault) × (line ≡ file_line file (json_fault_text fault))))
-
--- a table in the first file
-abbrev pub TableIn : List ℕ → (ℕ → List ℕ) → Reading Observations
-TableIn table bytes = Numbers table table_in (bytes 0)
 
 -- the input of a line, or its first refusal, from the bytes of its k-th file for each k from 0. A file that is named
 -- twice and keeps its bytes to itself may differ from itself
@@ -96,4 +42,13 @@ Denotes (Welfare table new json) bytes =
 Denotes (Utility table bundles) bytes =
     AndThen (TableIn table bytes) (λ t.
     AndThen (Numbers bundles (bundles_beside t) (bytes 1)) (λ b. Just (Ok (UtilityOver t b))))
+Denotes (Random budgets choices per json) bytes =
+    AndThen (BudgetsIn budgets bytes) (λ b.
+    AndThen (ChoicesIn choices b bytes) (λ c.
+    AndThen (TypedPatchesOf b c per) (λ given. Just (Ok (RandomOver given json)))))
+Denotes (CheckRandom budgets choices certificate per) bytes =
+    AndThen (BudgetsIn budgets bytes) (λ b.
+    AndThen (ChoicesIn choices b bytes) (λ c.
+    AndThen (CertificateIn certificate RandomKind (bytes 2)) (λ certificate.
+    AndThen (TypedPatchesOf b c per) (λ given. Just (Ok (CheckRandomOver given certificate))))))
 Denotes (Trial seed rows goods) bytes = Just (Ok (TrialOver seed rows goods))

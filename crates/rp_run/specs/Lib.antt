@@ -2,6 +2,8 @@ pub mod FaultTexts
 pub mod FaultLines
 pub mod PairsText
 pub mod Accepted
+pub mod Readings
+pub mod RandomInputs
 pub mod ShownText
 pub mod Analysis
 pub mod AskedItems
@@ -13,11 +15,12 @@ pub mod CommandLine
 pub mod Shapes
 pub mod Inputs
 pub mod Matching
+pub mod Checked
+pub mod Randoms
 pub mod Answers
 pub mod Endings
 pub mod Gains
 pub mod Causes
-pub mod Checked
 pub mod Named
 pub mod StatusNumbers
 pub mod TrialTable

@@ -5,7 +5,7 @@ ghost use Rattle.rp_text.specs.Denotation.{table_in, bundles_beside, prices_besi
 ghost use Rattle.rp_run.specs.FaultLines as text;
 ghost use Rattle.rp_run.specs.Answers.{IsContent};
 ghost use Rattle.rp_run.specs.Endings.{Rose};
-ghost use Rattle.rp_run.specs.Inputs.{CertificateIn, Numbers, all_bytes};
+ghost use Rattle.rp_run.specs.Readings.{CertificateIn, Numbers, all_bytes};
 ghost use Rattle.rp_run.specs.Matching.{IsSpentOn};
 ghost use Rattle.rp_run.specs.Causes.{IsJsonRefusalOf, IsRefusal, IsRefusalOf, IsFileCause, IsLoaded};
 

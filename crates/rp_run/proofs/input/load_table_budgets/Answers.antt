@@ -1,7 +1,8 @@
 use Rattle.std.proofs.Common.{Bool, refl, true}
 use Rattle.rp_text.specs.Denotation.{table_in, prices_beside}
 use Rattle.rp_run.specs.CommandLine.{Demand}
-use Rattle.rp_run.specs.Inputs.{Numbers, DemandOver}
+use Rattle.rp_run.specs.Inputs.{DemandOver}
+use Rattle.rp_run.specs.Readings.{Numbers}
 use Rattle.rp_run.specs.Endings.{Rose}
 use Rattle.rp_run.specs.Causes.{IsCause}
 use Rattle.rp_run.proofs.FileLemmas.{two_input, first_cause, second_cause, moved_cause, moved_value}

@@ -1,7 +1,8 @@
 use Rattle.std.proofs.Common.{refl}
 use Rattle.rp_text.specs.Denotation.{table_in, bundles_beside}
 use Rattle.rp_run.specs.CommandLine.{Utility}
-use Rattle.rp_run.specs.Inputs.{Numbers, UtilityOver}
+use Rattle.rp_run.specs.Inputs.{UtilityOver}
+use Rattle.rp_run.specs.Readings.{Numbers}
 use Rattle.rp_run.specs.Endings.{Rose}
 use Rattle.rp_run.specs.Causes.{IsCause}
 use Rattle.rp_run.proofs.FileLemmas.{two_input, first_cause, second_cause, moved_cause, moved_value}

@@ -1,7 +1,8 @@
 use Rattle.std.proofs.Common.{Bool, refl, false}
 use Rattle.rp_text.specs.Denotation.{table_in, prices_beside}
 use Rattle.rp_run.specs.CommandLine.{Welfare}
-use Rattle.rp_run.specs.Inputs.{Numbers, WelfareOver}
+use Rattle.rp_run.specs.Inputs.{WelfareOver}
+use Rattle.rp_run.specs.Readings.{Numbers}
 use Rattle.rp_run.specs.Endings.{Rose}
 use Rattle.rp_run.specs.Causes.{IsCause}
 use Rattle.rp_run.proofs.FileLemmas.{two_input, first_cause, second_cause, moved_cause, moved_value}

@@ -1,0 +1,64 @@
+-- What is read of files: values, and the lines of refusals, which are whole lines for standard error (this program's own order
+-- and texts).
+use Rattle.std.specs.Prelude.{◌≡◌, ◌≢◌, ◌⊎◌, ◌≤◌, ◌<◌, ℕ, nat_lt, if◌then◌else◌, List, length, Result, Ok, Err, codes}
+use Rattle.rp_table.specs.Tables.{Observations}
+use Rattle.rp_text.specs.Denotation.{table_in}
+use Rattle.rp_text.specs.declared.fault.TableFault.{TableFault}
+use Rattle.rp_evidence.specs.declared.certificate.Certificate.{Certificate}
+use Rattle.rp_evidence.specs.declared.certificate.Kind.{Kind}
+use Rattle.rp_json.specs.Denoted.{IsDenoted}
+use Rattle.rp_json.specs.declared.fault.JsonFault.{JsonFault}
+use Rattle.rp_json.specs.declared.fault.JsonFault.TheVariants as json_fault
+use Rattle.rp_run.specs.FaultTexts.{fault_text, json_fault_text}
+use Rattle.rp_run.specs.FaultLines.{file_line}
+
+-- what is read: which values, and which lines of a refusal
+abbrev pub Reading : Type 0 → Type 1
+Reading A = Result A (List ℕ) → Type 0
+
+-- just this is read
+abbrev pub Just : {A : Type 0} → Result A (List ℕ) → Reading A
+Just this result = this ≡ result
+
+-- what follows where nothing was refused so far
+abbrev pub AndThen : {A B : Type 0} → Reading A → (A → Reading B) → Reading B
+AndThen {A} first next (Ok value) = (earlier : A) × first (Ok earlier) × next earlier (Ok value)
+AndThen {A} first next (Err line) = first (Err line) ⊎ ((earlier : A) × first (Ok earlier) × next earlier (Err line))
+
+-- the most bytes of a file of numbers
+abbrev pub most_bytes : ℕ
+most_bytes = 4194304
+
+-- the most bytes of a certificate
+abbrev pub most_certificate_bytes : ℕ
+most_certificate_bytes = 16777216
+
+-- a value that was read from a file, or the line of its fault
+abbrev pub or_line : {A : Type 0} → List ℕ → Result A TableFault → Result A (List ℕ)
+or_line file (Ok value) = Ok value
+or_line file (Err fault) = Err (file_line file (fault_text fault))
+
+-- what the bytes of a file of numbers denote by this reading, where they are not too many
+abbrev pub numbers_in : {A : Type 0} → List ℕ → (List ℕ → Result A TableFault) → List ℕ → Result A (List ℕ)
+numbers_in file reading bytes =
+    if nat_lt most_bytes (length bytes) then Err (file_line file (codes "TooLong"))
+    else or_line file (reading bytes)
+
+abbrev pub Numbers : {A : Type 0} → List ℕ → (List ℕ → Result A TableFault) → List ℕ → Reading A
+Numbers file reading bytes = Just (numbers_in file reading bytes)
+
+-- all bytes of a file, as a reading of it
+abbrev pub all_bytes : List ℕ → Result (List ℕ) TableFault
+all_bytes bytes = Ok bytes
+
+-- the certificate of a kind that the bytes of its file denote, where they are not too many
+abbrev pub CertificateIn : List ℕ → Kind → List ℕ → Reading Certificate
+CertificateIn file kind bytes (Ok certificate) = (length bytes ≤ most_certificate_bytes) × IsDenoted kind bytes (Ok certificate)
+CertificateIn file kind bytes (Err line) =
+    ((most_certificate_bytes < length bytes) × (line ≡ file_line file (codes "TooLong")))
+    ⊎ ((length bytes ≤ most_certificate_bytes)
+    × ((fault : JsonFault) × (fault ≢ json_fault.NoMemory) × IsDenoted kind bytes (Err fault) × (line ≡ file_line file (json_fault_text fault))))
+
+-- a table in the first file
+abbrev pub TableIn : List ℕ → (ℕ → List ℕ) → Reading Observations
+TableIn table bytes = Numbers table table_in (bytes 0)
