@@ -1,4 +1,3 @@
-pub mod Clauses
 pub mod Reach
 pub mod Asked
 pub mod WalkFailure
