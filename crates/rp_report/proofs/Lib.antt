@@ -1,2 +1,4 @@
+pub mod Euclid
 mod Goods
 pub mod Texts
+mod Worked
