@@ -1,5 +1,5 @@
 -- Euclid's steps give the greatest common divisor, and so lowest terms.
-use Rattle.std.proofs.Common.{ℕ, zero, suc, ◌<◌, ◌≤◌, ◌%◌, refl, arith, ◌≡◌}
+use Rattle.std.proofs.Common.{ℕ, zero, suc, ◌≤◌, ◌%◌, refl, arith}
 use Rattle.std.specs.Int.{IsGcd}
 use Rattle.std.proofs.Math.Nat.{mod-lt}
 use Rattle.std.proofs.lemmas.Nat.Gcd.{IsGcd-from_zero, IsGcd-from_mod}

@@ -3,7 +3,7 @@ use Rattle.std.specs.Prelude.{ℕ, zero, suc, ◌/◌, ◌%◌}
 use Rattle.rp_num.specs.Fraction.{Fraction}
 
 -- Euclid's steps from a and b, so many at most: b and the rest of a by b, until the second number is 0
-pub euclid : ℕ → ℕ → ℕ → ℕ
+abbrev pub euclid : ℕ → ℕ → ℕ → ℕ
 euclid zero a b = a
 euclid (suc steps) a zero = a
 euclid (suc steps) a (suc b) = euclid steps (suc b) (a % suc b)

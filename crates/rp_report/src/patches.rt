@@ -1,4 +1,5 @@
 ghost use Rattle.std.specs.Prelude.{◌≡◌, ◌++◌, All, IfOk, Ok, OnOk};
+ghost use Rattle.std.specs.List.{flat_map};
 ghost use Rattle.rp_evidence.specs.Kinds.{IsCertificateOf, IsOfKind};
 ghost use Rattle.rp_patch.specs.RandomFailure.{ItemFailsOnPatches};
 ghost use Rattle.rp_report.specs.RandomText.{asked_text, counts_text};
@@ -28,9 +29,7 @@ pub fn report_random(
     let mut text = Vec::new(alloc);
     push_counts(alloc, &mut text, patches, types)?;
     push_asked(alloc, &mut text, patches)?;
-    for item in certificate.items.as_slice() {
-        push_item(alloc, &mut text, patches, item)?;
-    }
+    push_items(alloc, &mut text, patches, certificate.items.as_slice())?;
     Ok(text)
 }
 
@@ -63,6 +62,24 @@ fn push_asked(alloc: Global, out: &mut Vec<u8>, patches: &Patches) -> Result<(),
         }
         None => Ok(()),
     }
+}
+
+/// Appends the lines of each item.
+fn push_items(
+    alloc: Global,
+    out: &mut Vec<u8>,
+    patches: &Patches,
+    items: &[Item],
+) -> Result<(), NoMemory>
+    requires kind { All (IsOfKind Kind.Random) items.now }
+    requires nothing_wrong { All (λ item. ItemFailsOnPatches patches.now item (Ok tt)) items.now }
+    ensures { OnOk result (
+        out.new.items ≡ out.old.items ++ flat_map (random_item_text patches.now) items.now) }
+{
+    for item in items {
+        push_item(alloc, out, patches, item)?;
+    }
+    Ok(())
 }
 
 /// Appends the lines of an item on random choices.

@@ -3,6 +3,7 @@ ghost use Rattle.std.specs.Fmt.{decimal};
 ghost use Rattle.rp_num.specs.Fraction.{fraction_text};
 ghost use Rattle.rp_patch.specs.Mixtures.{units_weight};
 ghost use Rattle.rp_patch.specs.RandomFailure.{IsWithinWidth, RandomPartFails};
+ghost use Rattle.rp_patch.specs.declared.TheConstants.{UNITS};
 ghost use Rattle.rp_report.specs.ListText.{line_of, numbers_text};
 ghost use Rattle.rp_report.specs.RandomText.{part_text, parts_text, patch_text, random_text, share_of};
 
@@ -71,12 +72,14 @@ fn share(patches: &Patches, den: u64, weights: &[u64]) -> Frac
     requires weights_fit { All IsWithinWidth weights.now }
     ensures { result ≡ share_of patches.now den weights.now }
 {
+    prove!(patches.budgets() >= 1);
     let whole = u128::from(den) * u128::from(patches.total());
     Frac::new(weight_of_units(patches, weights), whole)
 }
 
 /// What the units of all patches weigh together.
 fn weight_of_units(patches: &Patches, weights: &[u64]) -> u128
+    requires few { patches.now.total ≤ UNITS }
     requires one_each { length weights.now ≡ length patches.now.patches }
     requires weights_fit { All IsWithinWidth weights.now }
     ensures exact { result ≡ units_weight patches.now weights.now }
