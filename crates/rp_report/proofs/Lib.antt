@@ -1,2 +1,5 @@
+pub mod Euclid
 mod Goods
 pub mod Texts
+mod Weighing
+mod Worked

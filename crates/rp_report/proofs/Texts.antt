@@ -1,5 +1,5 @@
 -- Texts that are made piece by piece.
-use Rattle.std.proofs.Common.{◌≡◌, ℕ, List, [], ◌∷◌, ◌++◌, append_assoc, OnOk, Result, Ok, Err}
+use Rattle.std.proofs.Common.{◌≡◌, ℕ, List, [], ◌∷◌, ◌++◌, append_assoc, refl, OnOk, Result, Ok, Err}
 use Rattle.rp_report.specs.ListText.{line_of}
 
 -- a line of four numbers with their words
@@ -41,3 +41,11 @@ line_in_two old head tail more = simp append_assoc
 -- five texts, one after another
 pub five_texts : (old a b c d e : List ℕ) → ((((old ++ a) ++ b) ++ c) ++ d) ++ e ≡ old ++ (a ++ b ++ c ++ d ++ e)
 five_texts old a b c d e = simp append_assoc
+
+-- a line, and what comes after it
+pub line_and_more : (old line more : List ℕ) → (old ++ line_of line) ++ more ≡ old ++ (line_of line ++ more)
+line_and_more old line more = simp append_assoc
+
+-- three texts after nothing
+pub three_from_nothing : (a b c none first second third : List ℕ) → none ≡ [] → first ≡ none ++ a → second ≡ first ++ b → third ≡ second ++ c → third ≡ a ++ b ++ c
+three_from_nothing a b c none first second third z f s t = rw (t, s, f, z) refl

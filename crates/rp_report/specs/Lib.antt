@@ -5,5 +5,7 @@ pub mod DemandText
 pub mod GarpText
 pub mod HomotheticText
 pub mod ListText
+pub mod LowestTerms
 pub mod QuasilinearText
+pub mod RandomText
 pub mod ReportText
