@@ -8,7 +8,11 @@ use Rattle.rp_run.specs.FaultTexts.{fault_text, json_fault_text}
 use Rattle.rp_run.specs.CommandLine.{Line, files_of}
 use Rattle.rp_run.specs.Readings.{Reading}
 use Rattle.rp_run.specs.Answers.{Files, IsContent, RefusesWith}
-use Rattle.rp_run.specs.FaultLines.{file_line, read_line, memory_line}
+use Rattle.rp_patch.specs.declared.fault.PatchFault.{PatchFault}
+use Rattle.rp_patch.specs.declared.fault.PatchFault.TheVariants as patch_fault
+use Rattle.rp_types.specs.declared.fault.TypesFault.{TypesFault}
+use Rattle.rp_types.specs.declared.fault.TypesFault.TheVariants as types_fault
+use Rattle.rp_run.specs.FaultLines.{file_line, read_line, memory_line, patch_line, types_line}
 use Rattle.rp_run.specs.declared.files.Cause.{Cause}
 use Rattle.rp_run.specs.declared.files.Cause.TheVariants.{Read, Refused, NoMemory}
 use Rattle.rp_run.specs.declared.status.Status.{Status}
@@ -41,6 +45,23 @@ abbrev pub IsJsonRefusalOf : List ℕ → JsonFault → Cause → Type 0
 IsJsonRefusalOf file f (Read name) = ⊥
 IsJsonRefusalOf file f (Refused text) = (f ≢ json_fault.NoMemory) × (text.items ≡ file_line file (json_fault_text f))
 IsJsonRefusalOf file f NoMemory = Unit {0}
+
+-- a fault of patches, or of rational types, as a cause: its line, or want of memory
+abbrev pub IsPatchRefusal : PatchFault → Cause → Type 0
+IsPatchRefusal f (Read name) = ⊥
+IsPatchRefusal f (Refused text) = (f ≢ patch_fault.NoMemory) × (text.items ≡ patch_line f)
+IsPatchRefusal f NoMemory = Unit {0}
+
+abbrev pub IsTypesRefusal : TypesFault → Cause → Type 0
+IsTypesRefusal f (Read name) = ⊥
+IsTypesRefusal f (Refused text) = (f ≢ types_fault.NoMemory) × (text.items ≡ types_line f)
+IsTypesRefusal f NoMemory = Unit {0}
+
+-- why nothing is made of what was read: it is refused
+abbrev pub IsReadingCause : {A : Type 0} → Reading A → Cause → Type 0
+IsReadingCause reading (Read name) = ⊥
+IsReadingCause reading (Refused line) = reading (Err line.items)
+IsReadingCause reading NoMemory = Unit {0}
 
 -- why a file gives no value: its count of faults rose, or some content of it is refused by that reading
 abbrev pub IsFileCause : {A : Type 0} → Files → (List ℕ → Type 0) → List ℕ → (List ℕ → Reading A) → Cause → Type 0

@@ -29,4 +29,4 @@ pub record IsRandomAnswer (given : TypedPatches) (certificate : Certificate) : T
 abbrev pub IsRandomText : Bool → TypedPatches → List ℕ → Type 0
 IsRandomText json given text =
     (certificate : Certificate) × IsRandomAnswer given certificate
-    × (text ≡ (if json then certificate_text certificate else random_report_text certificate given.patches (length given.types)))
+    × (text ≡ (if json then certificate_text certificate else random_report_text given.patches (length given.types) certificate.items))

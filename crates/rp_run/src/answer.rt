@@ -5,11 +5,12 @@ ghost use Rattle.rp_run.specs.Causes.{IsCause};
 ghost use Rattle.rp_run.specs.Matching.{HasMatchingGoods, IsSized};
 ghost use Rattle.rp_run.specs.Named.{named_line, named_input};
 
-use crate::checks::check_answer;
+use crate::checks::{check_answer, check_random_answer};
 use crate::demands::demand_text;
 use crate::files::Cause;
 use crate::input::{Input, read_input};
 use crate::line::Line;
+use crate::randoms::random_text;
 use crate::status::Status;
 use crate::text::{analysis_text, pairs_text};
 use crate::trials::trial_text;
@@ -83,6 +84,12 @@ fn answer_over(alloc: Global, input: &Input) -> Result<Answer, NoMemory>
         Input::Utility(table, bundles) => {
             let costs = Costs::of(alloc, table)?;
             Ok(done(utility_text(alloc, table, &costs, bundles)?))
+        }
+        Input::Random(patches, types, json) => {
+            Ok(done(random_text(alloc, patches, types, *json)?))
+        }
+        Input::CheckRandom(patches, _, certificate) => {
+            check_random_answer(alloc, patches, certificate)
         }
         Input::Trial { seed, rows, goods } => { Ok(done(trial_text(alloc, *seed, *rows, *goods)?)) }
     }

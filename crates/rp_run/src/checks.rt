@@ -1,14 +1,15 @@
 ghost use Rattle.std.specs.Prelude.{◌≡◌, IfOk};
 ghost use Rattle.rp_evidence.specs.Kinds.{IsCertificateOf};
-ghost use Rattle.rp_evidence.specs.declared.certificate.Kind.TheVariants.{Table as TableKind};
+ghost use Rattle.rp_evidence.specs.declared.certificate.Kind.TheVariants.{Table as TableKind, Random as RandomKind};
 ghost use Rattle.rp_table.specs.Cost.{IsCostsOf};
-ghost use Rattle.rp_run.specs.Checked.{IsTableCheck, reason_name, verdict_line, verdict_status};
+ghost use Rattle.rp_run.specs.Checked.{IsRandomCheck, IsTableCheck, reason_name, verdict_line, verdict_status};
 
 use crate::answer::Answer;
 use crate::status::Status;
-use rp_check::{Reason, Verdict, check};
+use rp_check::{Reason, Verdict, check, check_random};
 use rp_evidence::{Certificate, withheld};
 use rp_num::{NoMemory, print_u128};
+use rp_patch::Patches;
 use rp_table::{Costs, Table};
 use std::alloc::Global;
 
@@ -32,8 +33,26 @@ pub(crate) fn check_answer(
     })
 }
 
+/// The checker's verdict on a certificate on choices from budgets.
+pub(crate) fn check_random_answer(
+    alloc: Global,
+    patches: &Patches,
+    certificate: &Certificate,
+) -> Result<Answer, NoMemory>
+    requires { IsCertificateOf RandomKind certificate.now }
+    ensures { IfOk result (λ answer.
+        IsRandomCheck patches.now certificate.now answer.status answer.text.items) }
+{
+    let verdict = check_random(patches, certificate);
+    let text = line_of_verdict(alloc, certificate, verdict)?;
+    Ok(Answer {
+        status: status_of(verdict),
+        text,
+    })
+}
+
 /// How a call ends that tells this verdict.
-pub(crate) fn status_of(verdict: Verdict) -> Status
+fn status_of(verdict: Verdict) -> Status
     ensures { result ≡ verdict_status verdict }
 {
     match verdict {
@@ -43,7 +62,7 @@ pub(crate) fn status_of(verdict: Verdict) -> Status
 }
 
 /// The line of a verdict on a certificate.
-pub(crate) fn line_of_verdict(
+fn line_of_verdict(
     alloc: Global,
     certificate: &Certificate,
     verdict: Verdict,

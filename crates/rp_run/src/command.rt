@@ -2,8 +2,9 @@ ghost use Rattle.std.specs.Prelude.{◌≡◌, false, IfOk, map};
 ghost use Rattle.clap.specs.Simple.{app_of};
 ghost use Rattle.clap.specs.Walk.{rule_of};
 ghost use Rattle.clap.specs.declared.builder.command.Command.TheViews.{out-Command};
-ghost use Rattle.rp_run.specs.Commands.{program, alone, new_prices_shape, trial_shape};
-ghost use Rattle.rp_run.specs.Commands.{command_shape, file_rule, json_rule, number_rule};
+ghost use Rattle.rp_run.specs.Commands.{program, alone, check_random_shape, new_prices_shape};
+ghost use Rattle.rp_run.specs.Commands.{random_shape, trial_shape};
+ghost use Rattle.rp_run.specs.Commands.{command_shape, file_rule, json_rule, number_rule, per_rule};
 
 use clap::builder::ValueParser;
 use clap::{Arg, ArgAction, Command};
@@ -26,6 +27,8 @@ pub(crate) fn program<'a>(alloc: Global) -> Result<Command<'a>, AllocError>
         .subcommand(at_new_prices(alloc, "demand")?)?
         .subcommand(at_new_prices(alloc, "welfare")?)?
         .subcommand(over_files(alloc, "utility", &["TABLE", "BUNDLES"])?)?
+        .subcommand(random(alloc)?)?
+        .subcommand(check_random(alloc)?)?
         .subcommand(trial(alloc)?)?;
     Ok(program)
 }
@@ -59,6 +62,32 @@ fn at_new_prices<'a>(alloc: Global, name: &'a str) -> Result<Command<'a>, AllocE
     Ok(command)
 }
 
+/// The command on choices from budgets.
+fn random<'a>(alloc: Global) -> Result<Command<'a>, AllocError>
+    ensures shape { IfOk result (λ command. app_of command ≡ alone random_shape) }
+    ensures local { IfOk result (λ command. (out-Command command).has_globals ≡ false) }
+{
+    let command = Command::new(alloc, "random")
+        .arg(file_argument(alloc, "BUDGETS"))?
+        .arg(file_argument(alloc, "CHOICES"))?
+        .arg(per_argument(alloc))?
+        .arg(json_argument(alloc))?;
+    Ok(command)
+}
+
+/// The command on a certificate on choices from budgets.
+fn check_random<'a>(alloc: Global) -> Result<Command<'a>, AllocError>
+    ensures shape { IfOk result (λ command. app_of command ≡ alone check_random_shape) }
+    ensures local { IfOk result (λ command. (out-Command command).has_globals ≡ false) }
+{
+    let command = Command::new(alloc, "checkrandom")
+        .arg(file_argument(alloc, "BUDGETS"))?
+        .arg(file_argument(alloc, "CHOICES"))?
+        .arg(file_argument(alloc, "CERT"))?
+        .arg(per_argument(alloc))?;
+    Ok(command)
+}
+
 /// The command over the numbers of a trial.
 fn trial<'a>(alloc: Global) -> Result<Command<'a>, AllocError>
     ensures shape { IfOk result (λ command. app_of command ≡ alone trial_shape) }
@@ -89,6 +118,16 @@ fn json_argument<'a>(alloc: Global) -> Arg<'a>
     Arg::new(alloc, "json")
         .long("json")
         .action(ArgAction::SetTrue)
+}
+
+/// How many units there are to be on each budget.
+fn per_argument<'a>(alloc: Global) -> Arg<'a>
+    ensures rule { rule_of result ≡ per_rule }
+    ensures local { result.global ≡ false }
+{
+    Arg::new(alloc, "per")
+        .long("per")
+        .value_parser(ValueParser::Unsigned(1, 1_000_000_000))
 }
 
 /// A number in a range, which has to be there.

@@ -1,7 +1,9 @@
 ghost use Rattle.std.specs.Prelude.{◌≡◌, ◌++◌, ℕ, true, false, ◌^◌, ◌<◌, ◌≤◌, List, IfOk, IfErr, length, codes};
 ghost use Rattle.rp_evidence.specs.Kinds.{IsCertificateOf};
+ghost use Rattle.rp_patch.specs.Choices.{AreChoicesFrom};
 ghost use Rattle.rp_table.specs.Tables.{goods_of};
-ghost use Rattle.rp_text.specs.Denotation.{table_in, bundles_beside, prices_beside};
+ghost use Rattle.rp_text.specs.Denotation.{budgets_in, bundles_beside, choices_on};
+ghost use Rattle.rp_text.specs.Denotation.{prices_beside, table_in};
 ghost use Rattle.rp_run.specs.FaultLines as text;
 ghost use Rattle.rp_run.specs.Answers.{IsContent};
 ghost use Rattle.rp_run.specs.Endings.{Rose};
@@ -14,8 +16,8 @@ use rp_evidence::{Certificate, Kind};
 use rp_json::{JsonFault, read};
 use rp_num::NoMemory;
 use rp_outside::{Desk, LoadFault, load};
-use rp_table::{Bundles, Prices, Table};
-use rp_text::{TableFault, read_bundles, read_prices, read_table};
+use rp_table::{Budgets, Bundles, Choices, Prices, Table};
+use rp_text::{TableFault, read_budgets, read_bundles, read_choices, read_prices, read_table};
 use std::alloc::Global;
 
 /// The most bytes of a file of numbers.
@@ -108,6 +110,44 @@ pub(crate) fn load_prices<'a, D: Desk>(
     let bytes = load_numbers(alloc, desk, file)?;
     match read_prices(alloc, bytes.as_slice(), table, false) {
         Ok(new) => Ok(new),
+        Err(fault) => Err(refusal(alloc, file, fault)),
+    }
+}
+
+/// The budgets in a file.
+pub(crate) fn load_random_budgets<'a, D: Desk>(
+    alloc: Global,
+    desk: &mut D,
+    file: &'a str,
+) -> Result<Budgets, Cause<'a>>
+    ensures loaded { IsLoaded (D.bytes desk.old) (Rose (D.faults desk.old) (D.faults desk.new))
+        file.now (Numbers file.now budgets_in) result }
+    ensures bytes_stay { (other : List ℕ) → D.bytes desk.new other ≡ D.bytes desk.old other }
+    ensures never_falls { (other : List ℕ) → D.faults desk.old other ≤ D.faults desk.new other }
+{
+    let bytes = load_numbers(alloc, desk, file)?;
+    match read_budgets(alloc, bytes.as_slice()) {
+        Ok(budgets) => Ok(budgets),
+        Err(fault) => Err(refusal(alloc, file, fault)),
+    }
+}
+
+/// The choices in a file, from budgets.
+pub(crate) fn load_random_choices<'a, D: Desk>(
+    alloc: Global,
+    desk: &mut D,
+    file: &'a str,
+    budgets: &Budgets,
+) -> Result<Choices, Cause<'a>>
+    ensures loaded { IsLoaded (D.bytes desk.old) (Rose (D.faults desk.old) (D.faults desk.new))
+        file.now (Numbers file.now (choices_on budgets.now)) result }
+    ensures from { IfOk result (AreChoicesFrom budgets.now) }
+    ensures bytes_stay { (other : List ℕ) → D.bytes desk.new other ≡ D.bytes desk.old other }
+    ensures never_falls { (other : List ℕ) → D.faults desk.old other ≤ D.faults desk.new other }
+{
+    let bytes = load_numbers(alloc, desk, file)?;
+    match read_choices(alloc, bytes.as_slice(), budgets) {
+        Ok(choices) => Ok(choices),
         Err(fault) => Err(refusal(alloc, file, fault)),
     }
 }

@@ -1,19 +1,23 @@
 ghost use Rattle.std.specs.Prelude.{◌≡◌, ◌≤◌, ℕ, Bool, List, IfOk, IfErr};
-ghost use Rattle.rp_run.specs.CommandLine.{Check, Demand, Utility, Welfare};
-ghost use Rattle.rp_run.specs.Inputs.{CheckOver, DemandOver, UtilityOver, WelfareOver};
-ghost use Rattle.rp_run.specs.Matching.{HasMatchingGoods, IsSized, IsSpentOn};
+ghost use Rattle.rp_run.specs.CommandLine.{Check, CheckRandom, Demand, Random, Utility, Welfare};
+ghost use Rattle.rp_run.specs.Inputs.{CheckOver, DemandOver, RandomOver, UtilityOver, WelfareOver};
+ghost use Rattle.rp_run.specs.Matching.{AreTyped, HasMatchingGoods, IsSized, IsSpentOn, IsUnit};
 ghost use Rattle.rp_table.specs.Tables.{goods_of};
 ghost use Rattle.rp_evidence.specs.Kinds.{IsCertificateOf};
 ghost use Rattle.rp_evidence.specs.declared.certificate.Kind.TheVariants.{Table as TableKind};
 ghost use Rattle.rp_run.specs.Answers.{HasInput};
 ghost use Rattle.rp_run.specs.Endings.{Rose};
 ghost use Rattle.rp_run.specs.Causes.{IsCause};
-ghost use Rattle.rp_run.specs.Named.{named_line, named_input};
+ghost use Rattle.rp_run.specs.Named.{named_line, named_input, typed};
 
-use crate::files::{Cause, load_budgets, load_bundles, load_certificate, load_prices, load_table};
+use crate::files::{Cause, load_budgets, load_bundles, load_certificate, load_random_budgets, load_random_choices, load_prices, load_table};
 use crate::line::Line;
 use rp_evidence::{Certificate, Kind};
+use crate::patches::patches_of;
+use rp_num::Seq;
 use rp_outside::Desk;
+use rp_patch::Patches;
+use rp_types::Rational;
 use rp_table::{Bundles, Prices, Table};
 use std::alloc::Global;
 
@@ -27,6 +31,8 @@ pub(crate) enum Input {
     Demand(Table, Prices, bool),
     Welfare(Table, Prices, bool),
     Utility(Table, Bundles),
+    Random(Patches, Seq<Rational>, bool),
+    CheckRandom(Patches, Seq<Rational>, Certificate),
     Trial { seed: u64, rows: u32, goods: u32 },
 }
 
@@ -66,6 +72,21 @@ pub(crate) fn read_input<'a, D: Desk>(
             let (table, bundles) = load_table_bundles(alloc, desk, table, bundles)?;
             Ok(Input::Utility(table, bundles))
         }
+        Line::Random {
+            budgets,
+            choices,
+            per,
+            json,
+        } => {
+            let (patches, types) = load_patches(alloc, desk, budgets, choices, per)?;
+            Ok(Input::Random(patches, types, json))
+        }
+        Line::CheckRandom {
+            budgets,
+            choices,
+            certificate,
+            per,
+        } => load_random_certificate(alloc, desk, budgets, choices, certificate, per),
         Line::Trial { seed, rows, goods } => Ok(Input::Trial { seed, rows, goods }),
     }
 }
@@ -150,4 +171,54 @@ fn load_table_bundles<'a, D: Desk>(
     let table = load_table(alloc, desk, first)?;
     let bundles = load_bundles(alloc, desk, second, &table)?;
     Ok((table, bundles))
+}
+
+/// The patches of choices from budgets, in two files, with their rational types.
+fn load_patches<'a, D: Desk>(
+    alloc: Global,
+    desk: &mut D,
+    first: &'a str,
+    second: &'a str,
+    per: Option<u32>,
+) -> Result<(Patches, Seq<Rational>), Cause<'a>>
+    requires { IsUnit per }
+    ensures read { IfOk result (λ both. (json : Bool) → HasInput (D.bytes desk.old)
+        (Random first.now second.now per json) (RandomOver (typed both.0 both.1) json)) }
+    ensures typed { IfOk result (λ both. AreTyped (typed both.0 both.1)) }
+    ensures caused { IfErr result (λ why. (json : Bool) → IsCause (D.bytes desk.old)
+        (Rose (D.faults desk.old) (D.faults desk.new))
+        (Random first.now second.now per json) why) }
+    ensures bytes_stay { (other : List ℕ) → D.bytes desk.new other ≡ D.bytes desk.old other }
+    ensures never_falls { (other : List ℕ) → D.faults desk.old other ≤ D.faults desk.new other }
+{
+    let budgets = load_random_budgets(alloc, desk, first)?;
+    let choices = load_random_choices(alloc, desk, second, &budgets)?;
+    let made = patches_of(alloc, &budgets, &choices, per)?;
+    Ok(made)
+}
+
+/// The same, and then a certificate on them in a third file, which is read before the patches are made.
+fn load_random_certificate<'a, D: Desk>(
+    alloc: Global,
+    desk: &mut D,
+    first: &'a str,
+    second: &'a str,
+    third: &'a str,
+    per: Option<u32>,
+) -> Result<Input, Cause<'a>>
+    requires { IsUnit per }
+    ensures read { IfOk result (λ input. HasInput (D.bytes desk.old)
+        (CheckRandom first.now second.now third.now per) (named_input input)) }
+    ensures kind { IfOk result (λ input. HasMatchingGoods (named_input input)) }
+    ensures caused { IfErr result
+        (IsCause (D.bytes desk.old) (Rose (D.faults desk.old) (D.faults desk.new))
+        (CheckRandom first.now second.now third.now per)) }
+    ensures bytes_stay { (other : List ℕ) → D.bytes desk.new other ≡ D.bytes desk.old other }
+    ensures never_falls { (other : List ℕ) → D.faults desk.old other ≤ D.faults desk.new other }
+{
+    let budgets = load_random_budgets(alloc, desk, first)?;
+    let choices = load_random_choices(alloc, desk, second, &budgets)?;
+    let certificate = load_certificate(alloc, desk, third, Kind::Random)?;
+    let (patches, types) = patches_of(alloc, &budgets, &choices, per)?;
+    Ok(Input::CheckRandom(patches, types, certificate))
 }

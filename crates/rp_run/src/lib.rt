@@ -10,6 +10,8 @@ mod fault_text;
 mod files;
 mod input;
 mod line;
+mod patches;
+mod randoms;
 mod running;
 mod shown;
 mod status;

@@ -3,8 +3,9 @@ ghost use Rattle.clap.specs.Words.{found_of, rows_of, subcommand_rows_of};
 ghost use Rattle.clap.specs.Walk.{first_of};
 ghost use Rattle.rp_run.specs.CommandLine.{Pairs, Analyse, line_of, line_named, command_line, number_of};
 ghost use Rattle.rp_run.specs.CommandLine.{Certify, Demand, Welfare, check_line, json_of, new_prices_line, table_line, trial_line, utility_line};
+ghost use Rattle.rp_run.specs.CommandLine.{check_random_line, per_of, random_line};
 ghost use Rattle.rp_run.specs.FaultLines.{usage_text};
-ghost use Rattle.rp_run.specs.Matching.{IsSized};
+ghost use Rattle.rp_run.specs.Matching.{IsSized, IsUnit};
 ghost use Rattle.rp_run.specs.Named.{named_line};
 
 use crate::command::program;
@@ -43,6 +44,18 @@ pub(crate) enum Line<'a> {
         table: &'a str,
         bundles: &'a str,
     },
+    Random {
+        budgets: &'a str,
+        choices: &'a str,
+        per: Option<u32>,
+        json: bool,
+    },
+    CheckRandom {
+        budgets: &'a str,
+        choices: &'a str,
+        certificate: &'a str,
+        per: Option<u32>,
+    },
     Trial {
         seed: u64,
         rows: u32,
@@ -54,7 +67,7 @@ pub(crate) enum Line<'a> {
 pub(crate) fn usage() -> &'static [u8]
     ensures { result.now ≡ usage_text }
 {
-    b"usage: rp pairs TABLE\n       rp analyse TABLE\n       rp certify TABLE\n       rp check TABLE CERT\n       rp demand TABLE NEW [--json]\n       rp welfare TABLE NEW [--json]\n       rp utility TABLE BUNDLES\n       rp trial SEED ROWS GOODS\n"
+    b"usage: rp pairs TABLE\n       rp analyse TABLE\n       rp certify TABLE\n       rp check TABLE CERT\n       rp demand TABLE NEW [--json]\n       rp welfare TABLE NEW [--json]\n       rp utility TABLE BUNDLES\n       rp random BUDGETS CHOICES [--per N] [--json]\n       rp checkrandom BUDGETS CHOICES CERT [--per N]\n       rp trial SEED ROWS GOODS\n"
 }
 
 /// The line that the words denote, or none. The first word is the program's name.
@@ -107,6 +120,10 @@ fn command_line<'a>(name: &str, given: &ArgMatches<'a>) -> Option<Line<'a>>
         welfare_line(given)
     } else if name == "utility" {
         utility_line(given)
+    } else if name == "random" {
+        random_line(given)
+    } else if name == "checkrandom" {
+        check_random_line(given)
     } else if name == "trial" {
         trial_line(given)
     } else {
@@ -179,6 +196,50 @@ fn utility_line<'a>(given: &ArgMatches<'a>) -> Option<Line<'a>>
     let table = text_of(given, "TABLE")?;
     let bundles = text_of(given, "BUNDLES")?;
     Some(Line::Utility { table, bundles })
+}
+
+fn random_line<'a>(given: &ArgMatches<'a>) -> Option<Line<'a>>
+    ensures exact { option_map named_line result ≡ random_line (rows_of (found_of given.now)) }
+    ensures sized { IfSome result (λ line. IsSized (named_line line)) }
+{
+    let budgets = text_of(given, "BUDGETS")?;
+    let choices = text_of(given, "CHOICES")?;
+    let per = per_of(given);
+    let json = asks_json(given);
+    Some(Line::Random {
+        budgets,
+        choices,
+        per,
+        json,
+    })
+}
+
+fn check_random_line<'a>(given: &ArgMatches<'a>) -> Option<Line<'a>>
+    ensures exact { option_map named_line result
+        ≡ check_random_line (rows_of (found_of given.now)) }
+    ensures sized { IfSome result (λ line. IsSized (named_line line)) }
+{
+    let budgets = text_of(given, "BUDGETS")?;
+    let choices = text_of(given, "CHOICES")?;
+    let certificate = text_of(given, "CERT")?;
+    let per = per_of(given);
+    Some(Line::CheckRandom {
+        budgets,
+        choices,
+        certificate,
+        per,
+    })
+}
+
+/// How many units are asked for on each budget.
+fn per_of(given: &ArgMatches<'_>) -> Option<u32>
+    ensures exact { result ≡ per_of (rows_of (found_of given.now)) }
+    ensures within { IsUnit result }
+{
+    match number_of(given, "per", 1, 1_000_000_000) {
+        Some(units) => Some(units as u32),
+        None => None,
+    }
 }
 
 fn trial_line<'a>(given: &ArgMatches<'a>) -> Option<Line<'a>>
