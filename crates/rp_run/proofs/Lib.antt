@@ -4,6 +4,8 @@ mod AskedLemmas
 pub mod FileLemmas
 pub mod GainsLemmas
 pub mod OneOrOther
+pub mod PatchesApart
+pub mod Pigeons
 pub mod PassedOn
 pub mod RunLemmas
 pub mod TrialLemmas

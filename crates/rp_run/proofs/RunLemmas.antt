@@ -2,17 +2,20 @@
 use Rattle.std.proofs.Common.{◌≡◌, ◌⊎◌, inl, inr, List, ℕ, Option, Some, Ok, Err, sym, subst, refl}
 use Rattle.std.specs.List.{Contains}
 use Rattle.rp_run.specs.CommandLine.{Line, files_of}
-use Rattle.rp_run.specs.Inputs.{Input, PairsOver, AnalyseOver, CertifyOver, CheckOver, DemandOver, WelfareOver, UtilityOver, TrialOver}
-use Rattle.rp_run.proofs.OneOrOther.{denotes_single}
+use Rattle.rp_run.specs.Inputs.{Input, PairsOver, AnalyseOver, CertifyOver, CheckOver, DemandOver, WelfareOver, UtilityOver, RandomOver, CheckRandomOver, TrialOver}
+use Rattle.rp_run.proofs.OneOrOther.{denotes_apart}
 use Rattle.rp_accepted.proofs.Excluding.{only_accepted}
 use Rattle.rp_check.specs.CheckVerdict.{IsVerdictOn}
+use Rattle.rp_check.specs.RandomVerdict.{IsRandomVerdictOn}
+use Rattle.rp_run.proofs.RandomChecks.{only_accepted_random}
+use Rattle.rp_run.specs.RandomInputs.{TypedPatches}
 use Rattle.rp_check.specs.declared.verdict.Verdict.{Verdict}
 use Rattle.rp_check.specs.declared.verdict.Verdict.TheVariants.{Accepted, Rejected}
 use Rattle.rp_evidence.specs.Input.{input_of_table}
 use Rattle.rp_evidence.specs.declared.certificate.Certificate.{Certificate}
 use Rattle.rp_table.specs.Tables.{Observations}
 use Rattle.rp_run.specs.Answers.{Files, Answers, AnswersLine, IsAccepted, IsAcceptedOver, IsRefused, IsRejectedOver, MayBe, MustBe}
-use Rattle.rp_run.specs.Checked.{IsTableCheck, verdict_status}
+use Rattle.rp_run.specs.Checked.{IsRandomCheck, IsTableCheck, verdict_status}
 use Rattle.rp_run.specs.Endings.{IsEnd, IsFaultLine, Rose, NoneRose}
 use Rattle.rp_run.specs.Causes.{status_of_cause, cause_line, IsCause}
 use Rattle.rp_run.specs.declared.status.Status.{Status}
@@ -34,7 +37,7 @@ not_both files asked line other s text is also answers refused =
     let same : line ≡ other = cc in
     let had = answers.1 in
     let err = subst (λ (l : Line). IsRefused files l) (sym same) refused had.0 had.1 in
-    (denotes_single line had.0).never_both answers.0 err.0 had.2 err.1
+    denotes_apart line had.0 answers.0 err.0 had.2 err.1
 
 -- a cause of a line that nothing refuses, while no count of its files rose, is want of memory
 pub cause_of_accepted : (files : Files) (before after : List ℕ → ℕ) (asked : Option Line) (line other : Line) (why : Cause) → asked ≡ Some line → asked ≡ Some other
@@ -45,7 +48,7 @@ cause_of_accepted files before after asked line other (Read file) is also accept
 cause_of_accepted files before after asked line other (Refused text) is also accepted calm (bytes, contents, refused) =
     let same : line ≡ other = cc in
     let ok = subst (λ (l : Line). IsAccepted files l) (sym same) accepted bytes contents in
-    absurd ((denotes_single line bytes).never_both ok.0 text.items ok.1 refused)
+    absurd (denotes_apart line bytes ok.0 text.items ok.1 refused)
 cause_of_accepted files before after asked line other NoMemory is also accepted calm none = refl
 
 -- a cause while no count of the line's files rose is a refusal or want of memory
@@ -67,6 +70,14 @@ check_rejected table certificate text answers = go answers.verdict answers.found
     go Accepted found ends = absurd cc
     go (Rejected item reason place) found ends = (item, reason, place, found)
 
+pub random_check_rejected : (given : TypedPatches) (certificate : Certificate) (text : List ℕ) → IsRandomCheck given.patches certificate status.Rejected text
+    → IsRejectedOver (CheckRandomOver given certificate)
+random_check_rejected given certificate text answers = go answers.verdict answers.found answers.ends
+  where
+    go : (verdict : Verdict) → IsRandomVerdictOn given.patches certificate.items verdict → status.Rejected ≡ verdict_status verdict → IsRejectedOver (CheckRandomOver given certificate)
+    go Accepted found ends = absurd cc
+    go (Rejected item reason place) found ends = (item, reason, place, found)
+
 pub answer_rejected : (input : Input) (text : List ℕ) → Answers input status.Rejected text → IsRejectedOver input
 answer_rejected (PairsOver table) text answers = let wrong = answers.0 in absurd cc
 answer_rejected (AnalyseOver table) text answers = let wrong = answers.0 in absurd cc
@@ -75,18 +86,22 @@ answer_rejected (CheckOver table certificate) text answers = check_rejected tabl
 answer_rejected (DemandOver table new json) text answers = let wrong = answers.0 in absurd cc
 answer_rejected (WelfareOver table new json) text answers = let wrong = answers.0 in absurd cc
 answer_rejected (UtilityOver table bundles) text answers = let wrong = answers.0 in absurd cc
+answer_rejected (RandomOver given json) text answers = let wrong = answers.0 in absurd cc
+answer_rejected (CheckRandomOver given certificate) text answers = random_check_rejected given certificate text answers
 answer_rejected (TrialOver seed rows goods) text answers = let wrong = answers.0 in absurd cc
 
 -- what is accepted is not rejected
 pub accepted_apart : (input : Input) → IsAcceptedOver input → IsRejectedOver input → ⊥
 accepted_apart (CheckOver table certificate) accepted (item, reason, place, found) =
     let wrong = only_accepted (input_of_table table) certificate.items (Rejected item reason place) accepted found in cc
+accepted_apart (CheckRandomOver given certificate) accepted (item, reason, place, found) = only_accepted_random given.patches certificate.items item reason place accepted found
 accepted_apart (PairsOver table) accepted rejected = accepted
 accepted_apart (AnalyseOver table) accepted rejected = accepted
 accepted_apart (CertifyOver table) accepted rejected = accepted
 accepted_apart (DemandOver table new json) accepted rejected = accepted
 accepted_apart (WelfareOver table new json) accepted rejected = accepted
 accepted_apart (UtilityOver table bundles) accepted rejected = accepted
+accepted_apart (RandomOver given json) accepted rejected = accepted
 accepted_apart (TrialOver seed rows goods) accepted rejected = accepted
 
 -- an answer that is done is no rejection
@@ -97,15 +112,26 @@ check_done table certificate text answers = go answers.verdict answers.found ans
     go Accepted found ends = found
     go (Rejected item reason place) found ends = absurd cc
 
+random_check_done : (given : TypedPatches) (certificate : Certificate) (text : List ℕ) → IsRandomCheck given.patches certificate status.Done text
+    → IsAcceptedOver (CheckRandomOver given certificate)
+random_check_done given certificate text answers = go answers.verdict answers.found answers.ends
+  where
+    go : (verdict : Verdict) → IsRandomVerdictOn given.patches certificate.items verdict → status.Done ≡ verdict_status verdict → IsAcceptedOver (CheckRandomOver given certificate)
+    go Accepted found ends = found
+    go (Rejected item reason place) found ends = absurd cc
+
 pub done_apart : (input : Input) (text : List ℕ) → Answers input status.Done text → IsRejectedOver input → ⊥
 done_apart (CheckOver table certificate) text answers rejected =
     accepted_apart (CheckOver table certificate) (check_done table certificate text answers) rejected
+done_apart (CheckRandomOver given certificate) text answers rejected =
+    accepted_apart (CheckRandomOver given certificate) (random_check_done given certificate text answers) rejected
 done_apart (PairsOver table) text answers rejected = rejected
 done_apart (AnalyseOver table) text answers rejected = rejected
 done_apart (CertifyOver table) text answers rejected = rejected
 done_apart (DemandOver table new json) text answers rejected = rejected
 done_apart (WelfareOver table new json) text answers rejected = rejected
 done_apart (UtilityOver table bundles) text answers rejected = rejected
+done_apart (RandomOver given json) text answers rejected = rejected
 done_apart (TrialOver seed rows goods) text answers rejected = rejected
 
 -- the same of lines that were asked
@@ -128,19 +154,21 @@ rejected_line_apart files asked line other s text is also (input, (bytes, conten
     let accepted = subst (λ (l : Line). MustBe IsAcceptedOver files l) (sym same) must bytes contents input denoted in
     accepted_apart input accepted (answer_rejected input text (subst (λ t. Answers input t text) rejected answers))
 
+verdict_ends : (verdict : Verdict) → IsEnd (verdict_status verdict)
+verdict_ends Accepted = tt
+verdict_ends (Rejected item reason place) = tt
+
 -- an answer ends with one of two statuses
 pub answer_ends : (input : Input) (s : Status) (text : List ℕ) → Answers input s text → IsEnd s
 answer_ends (PairsOver table) s text answers = rw answers.0 tt
 answer_ends (AnalyseOver table) s text answers = rw answers.0 tt
 answer_ends (CertifyOver table) s text answers = rw answers.0 tt
 answer_ends (CheckOver table certificate) s text answers = rw answers.ends (verdict_ends answers.verdict)
-  where
-    verdict_ends : (verdict : Verdict) → IsEnd (verdict_status verdict)
-    verdict_ends Accepted = tt
-    verdict_ends (Rejected item reason place) = tt
 answer_ends (DemandOver table new json) s text answers = rw answers.0 tt
 answer_ends (WelfareOver table new json) s text answers = rw answers.0 tt
 answer_ends (UtilityOver table bundles) s text answers = rw answers.0 tt
+answer_ends (RandomOver given json) s text answers = rw answers.0 tt
+answer_ends (CheckRandomOver given certificate) s text answers = rw answers.ends (verdict_ends answers.verdict)
 answer_ends (TrialOver seed rows goods) s text answers = rw answers.0 tt
 
 pub line_ends : (files : Files) (line : Line) (s : Status) (text : List ℕ) → AnswersLine files line s text → IsEnd s

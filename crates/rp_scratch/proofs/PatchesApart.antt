@@ -1,0 +1,123 @@
+-- No choices both have patches within the limits and are refused, and the patches that they have are the same but for their units.
+use Rattle.std.proofs.Common.{◌≡◌, ◌≢◌, ◌<◌, ◌≤◌, ◌==◌, ◌*◌, ◌+◌, ℕ, zero, suc, true, false, ◌-◌, ℤ, pos, ◌≤ℤ◌, ◌<ℤ◌, List, [], ◌∷◌, ◌++◌, Contains, Option, Some, None, length, map, slice_index, length-append, get_or, if◌then◌else◌, refl, sym, ap, subst, ◌∙◌, arith}
+use Rattle.std.proofs.lemmas.Bool.{ltb-false, ltb-true}
+use Rattle.std.proofs.lemmas.List.{get_or_past}
+use Rattle.std.specs.Prelude.{nat_lt}
+use Rattle.rp_evidence.specs.Garp.{HasNoViolation}
+use Rattle.rp_table.specs.Sums.{sum_below}
+use Rattle.rp_patch.specs.Choices.{RandomInput}
+use Rattle.rp_patch.specs.Patches.{IsPatchList, PatchList, budget_at, no_patch, patch_at, sign_at}
+use Rattle.rp_patch.specs.Types.{AreRationalTypes, HasMoreTypesThan, IsRationalType, IsType, combinations, patches_on}
+use Rattle.rp_patch.specs.Units.{ArePatchesOf, HasExactUnits, HasUnits, IsMultiple, SaysWhy, all_chosen, chosen_as, chosen_at, chosen_below, tally_on}
+use Rattle.rp_patch.specs.declared.TheConstants.{PATCHES, UNITS}
+use Rattle.rp_patch.specs.declared.fault.PatchFault.{PatchFault}
+use Rattle.rp_patch.specs.declared.fault.PatchFault.TheVariants as patch_fault
+use Rattle.rp_types.specs.Listed.{SaysWhy as SaysWhyNoTypes}
+use Rattle.rp_types.specs.declared.TheConstants.{COMBINATIONS, TYPES}
+use Rattle.rp_types.specs.declared.fault.TypesFault.{TypesFault}
+use Rattle.rp_types.specs.declared.fault.TypesFault.TheVariants as types_fault
+use Rattle.rp_scratch.proofs.Pigeons.{no_longer}
+
+-- ---- patches
+
+-- more budgets have more patches
+chosen_within : (input : RandomInput) (j n : ℕ) → j ≤ n → length (chosen_below input j) ≤ length (chosen_below input n)
+chosen_within input j zero le =
+    let none : j ≡ 0 = omega (arith, le) in
+    subst (λ m. length (chosen_below input m) ≤ length (chosen_below input 0)) (sym none) (omega arith)
+chosen_within input j (suc n) le = go (λ l. chosen_within input j n l) (nat_lt j (suc n)) refl
+  where
+    go : (j ≤ n → length (chosen_below input j) ≤ length (chosen_below input n)) → (t : _) → nat_lt j (suc n) ≡ t → length (chosen_below input j) ≤ length (chosen_below input (suc n))
+    go earlier true is =
+        let l = ltb-true j (suc n) is in
+        let less = earlier (omega (arith, l)) in
+        omega (arith, less, length-append (chosen_below input n) (map (chosen_as n) (tally_on input n)))
+    go earlier false is =
+        let past = ltb-false j (suc n) is in
+        let same : suc n ≡ j = omega (arith, past, le) in
+        subst (λ m. length (chosen_below input j) ≤ length (chosen_below input m)) (sym same) (omega arith)
+
+-- the total without a unit is a multiple on the first budgets too
+exact_of : (input : RandomInput) (asked : Option ℕ) (p : PatchList) → HasUnits input asked p → asked ≡ None → HasExactUnits input p
+exact_of input asked p units none = subst (λ a. HasUnits input a p) none units
+
+pub patches_apart : (input : RandomInput) (asked : Option ℕ) (p : PatchList) (fault : PatchFault) → ArePatchesOf input asked p → IsPatchList p → fault ≢ patch_fault.NoMemory
+    → SaysWhy input asked fault → ⊥
+patches_apart input asked p (patch_fault.TooManyPatches j) are valid other (below, few, many) =
+    let rise = chosen_within input (j + 1) input.budgets (omega (arith, below)) in
+    omega (arith, rise, many, are.count, valid.few_patches)
+patches_apart input asked p (patch_fault.NeedUnit j) are valid other (few, none, (below, fits, (m, (multiple, least), many))) =
+    let exact = exact_of input asked p are.units none in
+    let whole = exact.total.0 in
+    let first : IsMultiple input (j + 1) p.total = (whole.0, λ i l. whole.1 i (omega (arith, below, l))) in
+    let less = least p.total first in
+    omega (arith, less, many, valid.few_units)
+patches_apart input asked p patch_fault.NoMemory are valid other why = other refl
+
+-- ---- types
+
+-- two lists of patches that are the same but for their units
+pub record AreAlike (p q : PatchList) : Type 0 where
+  pub budgets : p.budgets ≡ q.budgets
+  pub count : length p.patches ≡ length q.patches
+  pub budget : (i : ℕ) → budget_at p i ≡ budget_at q i
+  pub sign : (i k : ℕ) → sign_at p i k ≡ sign_at q i k
+
+pub alike : (input : RandomInput) (asked : Option ℕ) (p q : PatchList) → ArePatchesOf input asked p → ArePatchesOf input asked q → AreAlike p q
+alike input asked p q a b = record {
+  budgets = a.budgets ∙ sym b.budgets;
+  count = a.count ∙ sym b.count;
+  budget = λ i. budget_of i (nat_lt i (length p.patches)) refl;
+  sign = λ i k. sign_of i k (nat_lt i (length p.patches)) refl;
+}
+  where
+    past : (r : PatchList) (i : ℕ) → length r.patches ≤ i → patch_at r i ≡ no_patch
+    past r i out = get_or_past r.patches i no_patch out
+
+    budget_of : (i : ℕ) (t : _) → nat_lt i (length p.patches) ≡ t → budget_at p i ≡ budget_at q i
+    budget_of i true is =
+        let l = ltb-true i (length p.patches) is in
+        a.budget i l ∙ sym (b.budget i (omega (arith, l, a.count, b.count)))
+    budget_of i false is =
+        let out = ltb-false i (length p.patches) is in
+        ap (λ x. x.budget) (past p i out ∙ sym (past q i (omega (arith, out, a.count, b.count))))
+
+    sign_of : (i k : ℕ) (t : _) → nat_lt i (length p.patches) ≡ t → sign_at p i k ≡ sign_at q i k
+    sign_of i k true is =
+        let l = ltb-true i (length p.patches) is in
+        ap (λ signs. get_or signs k (pos 0)) (a.signs i l ∙ sym (b.signs i (omega (arith, l, a.count, b.count))))
+    sign_of i k false is =
+        let out = ltb-false i (length p.patches) is in
+        ap (λ x. get_or x.signs k (pos 0)) (past p i out ∙ sym (past q i (omega (arith, out, a.count, b.count))))
+
+same_on : (p q : PatchList) → AreAlike p q → (j : ℕ) → patches_on p j ≡ patches_on q j
+same_on p q like j = λ k. sum_below (like.count k) (λ i. if like.budget i k == j then 1 else 0)
+
+same_ways : (p q : PatchList) → AreAlike p q → (n : ℕ) → combinations p n ≡ combinations q n
+same_ways p q like zero = refl
+same_ways p q like (suc j) = λ k. same_ways p q like j k * same_on p q like j k
+
+-- the same types are rational
+same_type : (p q : PatchList) → AreAlike p q → (type : List ℕ) → IsType p type → IsType q type
+same_type p q like type t = record {
+  one_each = t.one_each ∙ like.budgets;
+  patch = λ j l. omega (arith, like.count, t.patch j (omega (arith, like.budgets, l)));
+  on_its_budget = λ j l. sym (like.budget (slice_index type j)) ∙ t.on_its_budget j (omega (arith, like.budgets, l));
+}
+
+pub same_rational : (p q : PatchList) → AreAlike p q → (type : List ℕ) → IsRationalType p type → IsRationalType q type
+same_rational p q like type (t, none) = (
+  same_type p q like type t,
+  subst (λ (claim : Type 0). claim)
+  (λ i. HasNoViolation (like.budgets i) (λ k j. like.sign (slice_index type j) k i ≤ℤ pos 0) (λ k j. like.sign (slice_index type j) k i <ℤ pos 0)) none,
+)
+
+pub types_apart : (p q : PatchList) (types : List (List ℕ)) (fault : TypesFault) → AreAlike q p → AreRationalTypes p types → length types ≤ TYPES → combinations p p.budgets ≤ COMBINATIONS
+    → fault ≢ types_fault.NoMemory → SaysWhyNoTypes q fault → ⊥
+types_apart p q types types_fault.TooManyCombinations like all few within other many =
+    let same : combinations q q.budgets ≡ combinations p p.budgets = same_ways q p like q.budgets ∙ ap (combinations p) like.budgets in
+    omega (arith, same, many, within)
+types_apart p q types types_fault.TooManyTypes like all few within other (fits, (more, apart, rational, many)) =
+    let inside = no_longer more types apart (λ type has. (all.just_these type).1 (same_rational q p like type (rational type has))) in
+    omega (arith, inside, many, few)
+types_apart p q types types_fault.NoMemory like all few within other why = other refl
