@@ -1,6 +1,7 @@
 pub mod Accepted
 pub mod AcceptedBounds
 pub mod AcceptedItems
+pub mod AcceptedRandom
 pub mod Closed
 pub mod Excluding
 pub mod Narrow

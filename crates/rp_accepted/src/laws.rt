@@ -1,4 +1,4 @@
-ghost use Rattle.std.specs.Prelude.{◌≡◌, ◌<◌, ◌∷◌, All, List, ℕ};
+ghost use Rattle.std.specs.Prelude.{◌≡◌, ◌<◌, ◌≤◌, ◌∷◌, [], All, List, length, slice_index_or, ℕ};
 ghost use Rattle.rp_accepted.specs.Given.{AreNewPrices, IsNewExpenditure, Passes};
 ghost use Rattle.rp_accepted.specs.Given.{ProvesAsGiven};
 ghost use Rattle.rp_afriat.specs.Verdict.{IsAfriatVerdict};
@@ -24,15 +24,22 @@ ghost use Rattle.rp_evidence.specs.Quasilinear.{ProvesQuasilinear};
 ghost use Rattle.rp_evidence.specs.declared.afriat.AfriatPart.{AfriatPart};
 ghost use Rattle.rp_evidence.specs.declared.certificate.Item.{Item};
 ghost use Rattle.rp_evidence.specs.declared.certificate.Item.TheVariants.{Garp as GarpItem};
+ghost use Rattle.rp_evidence.specs.declared.certificate.Item.TheVariants.{Random as RandomItem};
 ghost use Rattle.rp_evidence.specs.declared.demand.DemandPart.{DemandPart};
 ghost use Rattle.rp_evidence.specs.declared.demand.WelfarePart.{WelfarePart};
 ghost use Rattle.rp_evidence.specs.declared.efficiency.Efficiency.{Efficiency};
 ghost use Rattle.rp_evidence.specs.declared.garp.Garp.{Garp};
 ghost use Rattle.rp_evidence.specs.declared.homothetic.Homothetic.{Homothetic};
 ghost use Rattle.rp_evidence.specs.declared.quasilinear.Quasi.{Quasi};
+ghost use Rattle.rp_evidence.specs.declared.random.RandomPart.{RandomPart};
 ghost use Rattle.rp_homo.specs.Verdict.{IsHomotheticVerdict};
+ghost use Rattle.rp_patch.specs.Patches.{IsPatchList, PatchList};
+ghost use Rattle.rp_patch.specs.RandomFailure.{ItemFailsOnPatches, RandomFails};
+ghost use Rattle.rp_patch.specs.Types.{AreRationalTypes};
 ghost use Rattle.rp_quasi.specs.Verdict.{IsQuasilinearVerdict};
+ghost use Rattle.rp_random.specs.Verdict.{IsRandomVerdict};
 ghost use Rattle.rp_support.specs.Verdict.{IsDemandGiven};
+ghost use Rattle.rp_types.specs.declared.TheConstants.{TYPES};
 ghost use Rattle.rp_welfare.specs.Verdict.{IsWelfareVerdict};
 
 /// Nothing is found wrong with evidence that proves a verdict on the generalized axiom.
@@ -95,4 +102,21 @@ pub fn certificates_accepted()
 pub fn accepted_is_not_rejected()
     ensures { (input : TableInput) (items : List Item) (verdict : Verdict)
         → IsVerdictOn input items Accepted → IsVerdictOn input items verdict → verdict ≡ Accepted }
+{}
+
+/// Nothing is found wrong with what is given for random choices.
+pub fn random_accepted()
+    ensures { (p : PatchList) (types : List (List ℕ)) (part : RandomPart)
+        → IsPatchList p → length types ≤ TYPES → AreRationalTypes p types
+        → IsRandomVerdict p types part → Passes (RandomFails p p.total part) }
+{}
+
+/// A certificate is accepted whose one item is given for random choices.
+pub fn random_certificate_accepted()
+    ensures { (p : PatchList) (types : List (List ℕ)) (part : RandomPart)
+        → IsPatchList p → length types ≤ TYPES → AreRationalTypes p types
+        → IsRandomVerdict p types part
+        → (k : ℕ) → k < length (RandomItem p.total part ∷ []) → (other : Item)
+        → Passes (ItemFailsOnPatches p
+        (slice_index_or (RandomItem p.total part ∷ []) k other)) }
 {}

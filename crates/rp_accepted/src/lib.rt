@@ -5,6 +5,6 @@ mod laws;
 
 pub use laws::{
     accepted_is_not_rejected, afriat_accepted, certificates_accepted, demand_accepted,
-    efficiency_accepted, garp_accepted, homothetic_accepted, quasilinear_accepted,
-    welfare_accepted,
+    efficiency_accepted, garp_accepted, homothetic_accepted, quasilinear_accepted, random_accepted,
+    random_certificate_accepted, welfare_accepted,
 };

@@ -7,7 +7,7 @@ use Rattle.rp_run.proofs.OneOrOther.{denotes_apart}
 use Rattle.rp_accepted.proofs.Excluding.{only_accepted}
 use Rattle.rp_check.specs.CheckVerdict.{IsVerdictOn}
 use Rattle.rp_check.specs.RandomVerdict.{IsRandomVerdictOn}
-use Rattle.rp_run.proofs.RandomChecks.{only_accepted_random}
+use Rattle.rp_accepted.proofs.ExcludingRandom.{only_accepted_on_patches}
 use Rattle.rp_run.specs.RandomInputs.{TypedPatches}
 use Rattle.rp_check.specs.declared.verdict.Verdict.{Verdict}
 use Rattle.rp_check.specs.declared.verdict.Verdict.TheVariants.{Accepted, Rejected}
@@ -94,7 +94,8 @@ answer_rejected (TrialOver seed rows goods) text answers = let wrong = answers.0
 pub accepted_apart : (input : Input) → IsAcceptedOver input → IsRejectedOver input → ⊥
 accepted_apart (CheckOver table certificate) accepted (item, reason, place, found) =
     let wrong = only_accepted (input_of_table table) certificate.items (Rejected item reason place) accepted found in cc
-accepted_apart (CheckRandomOver given certificate) accepted (item, reason, place, found) = only_accepted_random given.patches certificate.items item reason place accepted found
+accepted_apart (CheckRandomOver given certificate) accepted (item, reason, place, found) =
+    let wrong = only_accepted_on_patches given.patches certificate.items (Rejected item reason place) accepted found in cc
 accepted_apart (PairsOver table) accepted rejected = accepted
 accepted_apart (AnalyseOver table) accepted rejected = accepted
 accepted_apart (CertifyOver table) accepted rejected = accepted
