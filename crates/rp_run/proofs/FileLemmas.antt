@@ -1,5 +1,5 @@
 -- What the content of a line's files gives the line.
-use Rattle.std.proofs.Common.{◌≡◌, ℕ, zero, suc, ◌+◌, ◌<◌, List, [], ◌∷◌, length, Option, Some, None, Result, Ok, Err, refl, sym, ap, ◌∙◌, subst, arith, lit<, codes, replicate, slice_index_or}
+use Rattle.std.proofs.Common.{◌≡◌, ℕ, zero, suc, ◌+◌, ◌<◌, List, [], ◌∷◌, length, Option, Some, None, Result, Ok, Err, inl, inr, refl, sym, ap, ◌∙◌, subst, arith, lit<, codes, replicate, slice_index_or}
 use Rattle.std.proofs.lemmas.Bool.{lt-ltb}
 use Rattle.std.proofs.lemmas.List.{length-replicate}
 use Rattle.std.specs.Option.{ForSome}
@@ -9,7 +9,7 @@ use Rattle.rp_run.specs.Answers.{Files, IsContent, AreContents, HasInput}
 use Rattle.rp_run.specs.Inputs.{Denotes, Input}
 use Rattle.rp_run.specs.Readings.{AndThen, Just, Numbers, Reading, all_bytes, most_bytes, most_certificate_bytes}
 use Rattle.rp_run.specs.FaultLines.{file_line}
-use Rattle.rp_run.specs.Causes.{IsRefusal, IsFileCause, HoldsValue, IsCause}
+use Rattle.rp_run.specs.Causes.{IsRefusal, IsFileCause, IsReadingCause, HoldsValue, IsCause}
 use Rattle.rp_run.specs.declared.files.Cause.{Cause}
 use Rattle.rp_run.specs.declared.files.Cause.TheVariants.{Read, Refused, NoMemory}
 
@@ -81,14 +81,14 @@ pub moved_value : {A : Type 0} (files later : Files) (file : List ℕ) (reading 
     → later file ≡ files file → HoldsValue later file reading value → HoldsValue files file reading value
 moved_value files later file reading value same (bytes, content, read) = (bytes, (λ told is. content told (same ∙ is)), read)
 
-module _ {A B : Type 0} (files : Files) (rose : List ℕ → Type 0) (line : Line) (f s : List ℕ) (reading : List ℕ → Reading A) (after : A → List ℕ → Reading B) (over : A → B → Input)
+module _ {A B : Type 0} (files : Files) (rose : List ℕ → Type 0) (line : Line) (f s : List ℕ) (reading : List ℕ → Reading A) (after : A → List ℕ → Reading B) (last : A → B → Reading Input)
     (named : files_of line ≡ f ∷ s ∷ [])
-    (denoted : (bytes : ℕ → List ℕ) (r : Result Input (List ℕ)) → AndThen (reading (bytes 0)) (λ a. AndThen (after a (bytes 1)) (λ b. Just (Ok (over a b)))) r → Denotes line bytes r) where
+    (denoted : (bytes : ℕ → List ℕ) (r : Result Input (List ℕ)) → AndThen (reading (bytes 0)) (λ a. AndThen (after a (bytes 1)) (last a)) r → Denotes line bytes r) where
   -- a line over two files has the input that they give
-  pub two_input : (a : A) (b : B) → HoldsValue files f reading a → HoldsValue files s (after a) b → HasInput files line (over a b)
+  pub two_input : (a : A) (b : B) (input : Input) → HoldsValue files f reading a → HoldsValue files s (after a) b → last a b (Ok input) → HasInput files line input
   unfolding two_bytes
-  two_input a b (first, one, read) (second, two, then_read) =
-      (two_bytes first second, two_contents files line f s first second named one two, denoted (two_bytes first second) (Ok (over a b)) (a, read, b, then_read, refl))
+  two_input a b input (first, one, read) (second, two, then_read) made =
+      (two_bytes first second, two_contents files line f s first second named one two, denoted (two_bytes first second) (Ok input) (a, read, b, then_read, made))
 
   -- or the cause why the first gives none, whatever the second holds
   pub first_cause : (why : Cause) → IsFileCause files rose f reading why → IsCause files rose line why
@@ -106,6 +106,80 @@ module _ {A B : Type 0} (files : Files) (rose : List ℕ → Type 0) (line : Lin
   second_cause a (Refused text) (first, one, read) (second, two, refused) =
       (two_bytes first second, two_contents files line f s first second named one two, denoted (two_bytes first second) (Err text.items) (inr (a, read, inl refused)))
   second_cause a NoMemory held none = tt
+
+  -- or the cause why nothing is made of what they give
+  pub last_cause : (a : A) (b : B) (why : Cause) → HoldsValue files f reading a → HoldsValue files s (after a) b → IsReadingCause (last a b) why → IsCause files rose line why
+  unfolding two_bytes
+  last_cause a b (Read name) held also none = absurd none
+  last_cause a b (Refused text) (first, one, read) (second, two, then_read) refused =
+      (two_bytes first second, two_contents files line f s first second named one two, denoted (two_bytes first second) (Err text.items) (inr (a, read, inr (b, then_read, refused))))
+  last_cause a b NoMemory held also none = tt
+
+-- the contents of three files
+pub three_bytes : List ℕ → List ℕ → List ℕ → ℕ → List ℕ
+three_bytes first second third zero = first
+three_bytes first second third (suc zero) = second
+three_bytes first second third (suc (suc k)) = third
+
+three_of : (files : Files) (f s t first second third : List ℕ) → IsContent files f first → IsContent files s second → IsContent files t third
+    → (k : ℕ) → k < length (f ∷ s ∷ t ∷ []) → IsContent files (slice_index_or (f ∷ s ∷ t ∷ []) k []) (three_bytes first second third k)
+unfolding three_bytes
+three_of files f s t first second third one two three zero within = one
+three_of files f s t first second third one two three (suc zero) within = two
+three_of files f s t first second third one two three (suc (suc zero)) within = three
+three_of files f s t first second third one two three (suc (suc (suc k))) within = let none : ⊥ = omega (arith, within) in absurd none
+
+three_contents : (files : Files) (line : Line) (f s t first second third : List ℕ) → files_of line ≡ f ∷ s ∷ t ∷ [] → IsContent files f first → IsContent files s second → IsContent files t third
+    → AreContents files line (three_bytes first second third)
+three_contents files line f s t first second third named one two three =
+    subst (λ (names : List (List ℕ)). (k : ℕ) → k < length names → IsContent files (slice_index_or names k []) (three_bytes first second third k)) (sym named) (three_of files f s t first second third one two three)
+
+module _ {A B C : Type 0} (files : Files) (rose : List ℕ → Type 0) (line : Line) (f s t : List ℕ) (reading : List ℕ → Reading A) (after : A → List ℕ → Reading B) (third : List ℕ → Reading C)
+    (last : A → B → C → Reading Input) (named : files_of line ≡ f ∷ s ∷ t ∷ [])
+    (denoted : (bytes : ℕ → List ℕ) (r : Result Input (List ℕ)) → AndThen (reading (bytes 0)) (λ a. AndThen (after a (bytes 1)) (λ b. AndThen (third (bytes 2)) (last a b))) r → Denotes line bytes r) where
+  -- a line over three files has the input that they give
+  pub three_input : (a : A) (b : B) (c : C) (input : Input) → HoldsValue files f reading a → HoldsValue files s (after a) b → HoldsValue files t third c → last a b c (Ok input) → HasInput files line input
+  unfolding three_bytes
+  three_input a b c input (x, one, read) (y, two, then_read) (z, three, last_read) made =
+      (three_bytes x y z, three_contents files line f s t x y z named one two three, denoted (three_bytes x y z) (Ok input) (a, read, b, then_read, c, last_read, made))
+
+  -- or the cause why the first gives none, and so the others
+  pub three_first : (why : Cause) → IsFileCause files rose f reading why → IsCause files rose line why
+  unfolding three_bytes
+  three_first (Read name) (same, up) = rw (named, same) ((0, lit< tt, refl), up)
+  three_first (Refused text) (x, one, refused) =
+      let y = unwrap_or (files s) [] in
+      let z = unwrap_or (files t) [] in
+      (three_bytes x y z, three_contents files line f s t x y z named one (some_content (files s)) (some_content (files t)), denoted (three_bytes x y z) (Err text.items) (inl refused))
+  three_first NoMemory none = tt
+
+  pub three_second : (a : A) (why : Cause) → HoldsValue files f reading a → IsFileCause files rose s (after a) why → IsCause files rose line why
+  unfolding three_bytes
+  three_second a (Read name) held (same, up) = rw (named, same) ((1, lit< tt, refl), up)
+  three_second a (Refused text) (x, one, read) (y, two, refused) =
+      let z = unwrap_or (files t) [] in
+      (three_bytes x y z, three_contents files line f s t x y z named one two (some_content (files t)), denoted (three_bytes x y z) (Err text.items) (inr (a, read, inl refused)))
+  three_second a NoMemory held none = tt
+
+  pub three_third : (a : A) (b : B) (why : Cause) → HoldsValue files f reading a → HoldsValue files s (after a) b → IsFileCause files rose t third why → IsCause files rose line why
+  unfolding three_bytes
+  three_third a b (Read name) held also (same, up) = rw (named, same) ((2, lit< tt, refl), up)
+  three_third a b (Refused text) (x, one, read) (y, two, then_read) (z, three, refused) =
+      (three_bytes x y z, three_contents files line f s t x y z named one two three, denoted (three_bytes x y z) (Err text.items) (inr (a, read, inr (b, then_read, inl refused))))
+  three_third a b NoMemory held also none = tt
+
+  pub three_last : (a : A) (b : B) (c : C) (why : Cause) → HoldsValue files f reading a → HoldsValue files s (after a) b → HoldsValue files t third c → IsReadingCause (last a b c) why → IsCause files rose line why
+  unfolding three_bytes
+  three_last a b c (Read name) held also too none = absurd none
+  three_last a b c (Refused text) (x, one, read) (y, two, then_read) (z, three, last_read) refused =
+      (three_bytes x y z, three_contents files line f s t x y z named one two three, denoted (three_bytes x y z) (Err text.items) (inr (a, read, inr (b, then_read, inr (c, last_read, refused)))))
+  three_last a b c NoMemory held also too none = tt
+
+-- a cause why nothing is made is one why no input is made of it
+pub then_caused : {A : Type 0} (made : Reading A) (over : A → Input) (why : Cause) → IsReadingCause made why → IsReadingCause (AndThen made (λ a. Just (Ok (over a)))) why
+then_caused made over (Read name) none = none
+then_caused made over (Refused line) refused = inl refused
+then_caused made over NoMemory none = tt
 
 -- a line without files has its input
 pub no_files : (files : Files) (line : Line) (input : Input) → files_of line ≡ [] → ((bytes : ℕ → List ℕ) → Denotes line bytes (Ok input)) → HasInput files line input

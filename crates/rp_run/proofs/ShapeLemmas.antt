@@ -13,7 +13,7 @@ use Rattle.clap.specs.Lexer.{long_of, short_of}
 use Rattle.clap.specs.Simple.{subcommand_of}
 use Rattle.clap.specs.ValueTests.{is_unsigned_in}
 use Rattle.clap.specs.declared.builder.value_parser.ValueParser.TheVariants.{Unsigned}
-use Rattle.rp_run.specs.CommandLine.{Line, Pairs, Analyse, Certify, Check, Demand, Welfare, Utility, Trial, line_named, line_of}
+use Rattle.rp_run.specs.CommandLine.{Line, Pairs, Analyse, Certify, Check, Demand, Welfare, Utility, Random, CheckRandom, Trial, line_named, line_of}
 use Rattle.rp_run.specs.Commands.{program}
 use Rattle.rp_run.specs.Shapes.{HasShape, is_file_name, shape_of}
 
@@ -146,6 +146,63 @@ module _ (name seed rows goods : List ℕ) (s r g : ℕ) (ws : IsNumberWord 0 18
       rw (ws.plain.dashes, ws.plain.long, ws.plain.short, wr.plain.dashes, wr.plain.long, wr.plain.short, wg.plain.dashes, wg.plain.long, wg.plain.short, ws.taken, wr.taken, wg.taken)
       (λ i. Some (Trial (ws.value i) (wr.value i) (wg.value i)))
 
+module _ (name b c : List ℕ) (wb : IsFileWord b) (wc : IsFileWord c) where
+  random_free : fault_of program (name ∷ codes "random" ∷ b ∷ c ∷ []) ≡ []
+  unfolding clap_on_literals
+  random_free = rw (wb.plain.dashes, wb.plain.long, wb.plain.short, wc.plain.dashes, wc.plain.long, wc.plain.short) (rw (wb.filled, wc.filled) refl)
+
+  random_named : line_named (subcommand_of program (name ∷ codes "random" ∷ b ∷ c ∷ [])) ≡ Some (Random b c None false)
+  unfolding clap_on_literals
+  random_named = rw (wb.plain.dashes, wb.plain.long, wb.plain.short, wc.plain.dashes, wc.plain.long, wc.plain.short) refl
+
+  random_json_free : fault_of program (name ∷ codes "random" ∷ b ∷ c ∷ codes "--json" ∷ []) ≡ []
+  unfolding clap_on_literals
+  random_json_free = rw (wb.plain.dashes, wb.plain.long, wb.plain.short, wc.plain.dashes, wc.plain.long, wc.plain.short) (rw (wb.filled, wc.filled) refl)
+
+  random_json_named : line_named (subcommand_of program (name ∷ codes "random" ∷ b ∷ c ∷ codes "--json" ∷ [])) ≡ Some (Random b c None true)
+  unfolding clap_on_literals
+  random_json_named = rw (wb.plain.dashes, wb.plain.long, wb.plain.short, wc.plain.dashes, wc.plain.long, wc.plain.short) refl
+
+  module _ (n : ℕ) (word : List ℕ) (w : IsNumberWord 1 1000000000 n word) where
+    random_per_free : fault_of program (name ∷ codes "random" ∷ b ∷ c ∷ codes "--per" ∷ word ∷ []) ≡ []
+    unfolding clap_on_literals
+    random_per_free = rw (wb.plain.dashes, wb.plain.long, wb.plain.short, wc.plain.dashes, wc.plain.long, wc.plain.short) (rw (w.plain.dashes, w.plain.long, w.plain.short) (rw (wb.filled, wc.filled, w.taken) refl))
+
+    random_per_named : line_named (subcommand_of program (name ∷ codes "random" ∷ b ∷ c ∷ codes "--per" ∷ word ∷ [])) ≡ Some (Random b c (Some n) false)
+    unfolding clap_on_literals
+    random_per_named = rw (wb.plain.dashes, wb.plain.long, wb.plain.short, wc.plain.dashes, wc.plain.long, wc.plain.short) (rw (w.plain.dashes, w.plain.long, w.plain.short, w.taken) (λ i. Some (Random b c (Some (w.value i)) false)))
+
+    random_both_free : fault_of program (name ∷ codes "random" ∷ b ∷ c ∷ codes "--per" ∷ word ∷ codes "--json" ∷ []) ≡ []
+    unfolding clap_on_literals
+    random_both_free = rw (wb.plain.dashes, wb.plain.long, wb.plain.short, wc.plain.dashes, wc.plain.long, wc.plain.short) (rw (w.plain.dashes, w.plain.long, w.plain.short) (rw (wb.filled, wc.filled, w.taken) refl))
+
+    random_both_named : line_named (subcommand_of program (name ∷ codes "random" ∷ b ∷ c ∷ codes "--per" ∷ word ∷ codes "--json" ∷ [])) ≡ Some (Random b c (Some n) true)
+    unfolding clap_on_literals
+    random_both_named = rw (wb.plain.dashes, wb.plain.long, wb.plain.short, wc.plain.dashes, wc.plain.long, wc.plain.short) (rw (w.plain.dashes, w.plain.long, w.plain.short, w.taken) (λ i. Some (Random b c (Some (w.value i)) true)))
+
+module _ (name b c t : List ℕ) (wb : IsFileWord b) (wc : IsFileWord c) (wt : IsFileWord t) where
+  check_random_free : fault_of program (name ∷ codes "checkrandom" ∷ b ∷ c ∷ t ∷ []) ≡ []
+  unfolding clap_on_literals
+  check_random_free =
+      rw (wb.plain.dashes, wb.plain.long, wb.plain.short, wc.plain.dashes, wc.plain.long, wc.plain.short) (rw (wt.plain.dashes, wt.plain.long, wt.plain.short) (rw (wb.filled, wc.filled, wt.filled) refl))
+
+  check_random_named : line_named (subcommand_of program (name ∷ codes "checkrandom" ∷ b ∷ c ∷ t ∷ [])) ≡ Some (CheckRandom b c t None)
+  unfolding clap_on_literals
+  check_random_named = rw (wb.plain.dashes, wb.plain.long, wb.plain.short, wc.plain.dashes, wc.plain.long, wc.plain.short) (rw (wt.plain.dashes, wt.plain.long, wt.plain.short) refl)
+
+  module _ (n : ℕ) (word : List ℕ) (w : IsNumberWord 1 1000000000 n word) where
+    check_random_per_free : fault_of program (name ∷ codes "checkrandom" ∷ b ∷ c ∷ t ∷ codes "--per" ∷ word ∷ []) ≡ []
+    unfolding clap_on_literals
+    check_random_per_free =
+        rw (wb.plain.dashes, wb.plain.long, wb.plain.short, wc.plain.dashes, wc.plain.long, wc.plain.short)
+        (rw (wt.plain.dashes, wt.plain.long, wt.plain.short) (rw (w.plain.dashes, w.plain.long, w.plain.short) (rw (wb.filled, wc.filled, wt.filled, w.taken) refl)))
+
+    check_random_per_named : line_named (subcommand_of program (name ∷ codes "checkrandom" ∷ b ∷ c ∷ t ∷ codes "--per" ∷ word ∷ [])) ≡ Some (CheckRandom b c t (Some n))
+    unfolding clap_on_literals
+    check_random_per_named =
+        rw (wb.plain.dashes, wb.plain.long, wb.plain.short, wc.plain.dashes, wc.plain.long, wc.plain.short)
+        (rw (wt.plain.dashes, wt.plain.long, wt.plain.short) (rw (w.plain.dashes, w.plain.long, w.plain.short, w.taken) (λ i. Some (CheckRandom b c t (Some (w.value i))))))
+
 -- words without a fault denote the line of their matches
 denotes : (words : List (List ℕ)) (line : Line) → fault_of program words ≡ [] → line_named (subcommand_of program words) ≡ Some line → line_of words ≡ Some line
 unfolding line_of
@@ -173,6 +230,33 @@ shape_taken name (Welfare table new true) (t, n) =
 shape_taken name (Utility table bundles) (t, b) =
     let w = file_word table t in
     let o = file_word bundles b in denotes _ (Utility table bundles) (utility_free name table bundles w o) (utility_named name table bundles w o)
+shape_taken name (Random budgets choices None false) (b, c, per) =
+    let wb = file_word budgets b in
+    let wc = file_word choices c in denotes _ (Random budgets choices None false) (random_free name budgets choices wb wc) (random_named name budgets choices wb wc)
+shape_taken name (Random budgets choices None true) (b, c, per) =
+    let wb = file_word budgets b in
+    let wc = file_word choices c in denotes _ (Random budgets choices None true) (random_json_free name budgets choices wb wc) (random_json_named name budgets choices wb wc)
+shape_taken name (Random budgets choices (Some n) false) (b, c, (least, most)) =
+    let wb = file_word budgets b in
+    let wc = file_word choices c in
+    let w = number_word 1 1000000000 n (omega (arith, most)) least most in
+    denotes _ (Random budgets choices (Some n) false) (random_per_free name budgets choices wb wc n (decimal n) w) (random_per_named name budgets choices wb wc n (decimal n) w)
+shape_taken name (Random budgets choices (Some n) true) (b, c, (least, most)) =
+    let wb = file_word budgets b in
+    let wc = file_word choices c in
+    let w = number_word 1 1000000000 n (omega (arith, most)) least most in
+    denotes _ (Random budgets choices (Some n) true) (random_both_free name budgets choices wb wc n (decimal n) w) (random_both_named name budgets choices wb wc n (decimal n) w)
+shape_taken name (CheckRandom budgets choices certificate None) (b, c, t, per) =
+    let wb = file_word budgets b in
+    let wc = file_word choices c in
+    let wt = file_word certificate t in
+    denotes _ (CheckRandom budgets choices certificate None) (check_random_free name budgets choices certificate wb wc wt) (check_random_named name budgets choices certificate wb wc wt)
+shape_taken name (CheckRandom budgets choices certificate (Some n)) (b, c, t, (least, most)) =
+    let wb = file_word budgets b in
+    let wc = file_word choices c in
+    let wt = file_word certificate t in
+    let w = number_word 1 1000000000 n (omega (arith, most)) least most in
+    denotes _ (CheckRandom budgets choices certificate (Some n)) (check_random_per_free name budgets choices certificate wb wc wt n (decimal n) w) (check_random_per_named name budgets choices certificate wb wc wt n (decimal n) w)
 shape_taken name (Trial seed rows goods) (small, some_rows, few_rows, some_goods, few_goods) =
     let ws = number_word 0 18446744073709551615 seed small (omega arith) (omega arith) in
     let wr = number_word 1 256 rows (omega arith) some_rows few_rows in

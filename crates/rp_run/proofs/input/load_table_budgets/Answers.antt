@@ -1,8 +1,8 @@
-use Rattle.std.proofs.Common.{Bool, refl, true}
+use Rattle.std.proofs.Common.{Bool, Ok, refl, true}
 use Rattle.rp_text.specs.Denotation.{table_in, prices_beside}
 use Rattle.rp_run.specs.CommandLine.{Demand}
 use Rattle.rp_run.specs.Inputs.{DemandOver}
-use Rattle.rp_run.specs.Readings.{Numbers}
+use Rattle.rp_run.specs.Readings.{Just, Numbers}
 use Rattle.rp_run.specs.Endings.{Rose}
 use Rattle.rp_run.specs.Causes.{IsCause}
 use Rattle.rp_run.proofs.FileLemmas.{two_input, first_cause, second_cause, moved_cause, moved_value}
@@ -17,7 +17,7 @@ returns-in_err-table-clause-caused g c =
     let f = c.args.first.now in
     let s = c.args.second.now in
     passed_on c.from_residual.result c.in_err-table.field-0.0 (λ why. (json : Bool) → IsCause files rose (Demand f s json) why) c.from_residual.ensures
-    (λ json. first_cause files rose (Demand f s json) f s (Numbers f table_in) (λ t. Numbers s (prices_beside true t)) (λ t new. DemandOver t new json) refl (λ bytes r read. read) c.in_err-table.field-0.0 c.in_err-table.ensures.loaded)
+    (λ json. first_cause files rose (Demand f s json) f s (Numbers f table_in) (λ t. Numbers s (prices_beside true t)) (λ t new. Just (Ok (DemandOver t new json))) refl (λ bytes r read. read) c.in_err-table.field-0.0 c.in_err-table.ensures.loaded)
 
 pub returns-in_err-new-clause-caused : goal.returns-in_err-new-clause-caused
 returns-in_err-new-clause-caused g c =
@@ -31,7 +31,7 @@ returns-in_err-new-clause-caused g c =
     let why = c.in_err-new.field-0.0 in
     let moved = moved_cause files later (Rose before after) (Rose mid after) s (Numbers s (prices_beside true c.in_ok-table.table)) why (c.in_ok-table.ensures.bytes_stay s) (λ up. rises_later (before s) (mid s) (after s) (c.in_ok-table.ensures.never_falls s) up) c.in_err-new.ensures.loaded in
     passed_on c.from_residual-in_err-new.result why (λ why. (json : Bool) → IsCause files (Rose before after) (Demand f s json) why) c.from_residual-in_err-new.ensures
-    (λ json. second_cause files (Rose before after) (Demand f s json) f s (Numbers f table_in) (λ t. Numbers s (prices_beside true t)) (λ t new. DemandOver t new json) refl (λ bytes r read. read) c.in_ok-table.table why c.in_ok-table.ensures.loaded moved)
+    (λ json. second_cause files (Rose before after) (Demand f s json) f s (Numbers f table_in) (λ t. Numbers s (prices_beside true t)) (λ t new. Just (Ok (DemandOver t new json))) refl (λ bytes r read. read) c.in_ok-table.table why c.in_ok-table.ensures.loaded moved)
 
 pub returns-clause-read : goal.returns-clause-read
 returns-clause-read g c =
@@ -41,4 +41,4 @@ returns-clause-read g c =
     let f = c.args.first.now in
     let s = c.args.second.now in
     let moved = moved_value files later s (Numbers s (prices_beside true c.in_ok-table.table)) c.in_ok-new.new (c.in_ok-table.ensures.bytes_stay s) c.in_ok-new.ensures.loaded in
-    λ json. two_input files rose (Demand f s json) f s (Numbers f table_in) (λ t. Numbers s (prices_beside true t)) (λ t new. DemandOver t new json) refl (λ bytes r read. read) c.in_ok-table.table c.in_ok-new.new c.in_ok-table.ensures.loaded moved
+    λ json. two_input files rose (Demand f s json) f s (Numbers f table_in) (λ t. Numbers s (prices_beside true t)) (λ t new. Just (Ok (DemandOver t new json))) refl (λ bytes r read. read) c.in_ok-table.table c.in_ok-new.new (DemandOver c.in_ok-table.table c.in_ok-new.new json) c.in_ok-table.ensures.loaded moved refl

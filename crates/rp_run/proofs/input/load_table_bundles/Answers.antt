@@ -1,8 +1,8 @@
-use Rattle.std.proofs.Common.{refl}
+use Rattle.std.proofs.Common.{Ok, refl}
 use Rattle.rp_text.specs.Denotation.{table_in, bundles_beside}
 use Rattle.rp_run.specs.CommandLine.{Utility}
 use Rattle.rp_run.specs.Inputs.{UtilityOver}
-use Rattle.rp_run.specs.Readings.{Numbers}
+use Rattle.rp_run.specs.Readings.{Just, Numbers}
 use Rattle.rp_run.specs.Endings.{Rose}
 use Rattle.rp_run.specs.Causes.{IsCause}
 use Rattle.rp_run.proofs.FileLemmas.{two_input, first_cause, second_cause, moved_cause, moved_value}
@@ -17,7 +17,7 @@ returns-in_err-table-clause-caused g c =
     let f = c.args.first.now in
     let s = c.args.second.now in
     passed_on c.from_residual.result c.in_err-table.field-0.0 (IsCause files rose (Utility f s)) c.from_residual.ensures
-    (first_cause files rose (Utility f s) f s (Numbers f table_in) (λ t. Numbers s (bundles_beside t)) UtilityOver refl (λ bytes r read. read) c.in_err-table.field-0.0 c.in_err-table.ensures.loaded)
+    (first_cause files rose (Utility f s) f s (Numbers f table_in) (λ t. Numbers s (bundles_beside t)) (λ t b. Just (Ok (UtilityOver t b))) refl (λ bytes r read. read) c.in_err-table.field-0.0 c.in_err-table.ensures.loaded)
 
 pub returns-in_err-bundles-clause-caused : goal.returns-in_err-bundles-clause-caused
 returns-in_err-bundles-clause-caused g c =
@@ -31,7 +31,7 @@ returns-in_err-bundles-clause-caused g c =
     let why = c.in_err-bundles.field-0.0 in
     let moved = moved_cause files later (Rose before after) (Rose mid after) s (Numbers s (bundles_beside c.in_ok-table.table)) why (c.in_ok-table.ensures.bytes_stay s) (λ up. rises_later (before s) (mid s) (after s) (c.in_ok-table.ensures.never_falls s) up) c.in_err-bundles.ensures.loaded in
     passed_on c.from_residual-in_err-bundles.result why (IsCause files (Rose before after) (Utility f s)) c.from_residual-in_err-bundles.ensures
-    (second_cause files (Rose before after) (Utility f s) f s (Numbers f table_in) (λ t. Numbers s (bundles_beside t)) UtilityOver refl (λ bytes r read. read) c.in_ok-table.table why c.in_ok-table.ensures.loaded moved)
+    (second_cause files (Rose before after) (Utility f s) f s (Numbers f table_in) (λ t. Numbers s (bundles_beside t)) (λ t b. Just (Ok (UtilityOver t b))) refl (λ bytes r read. read) c.in_ok-table.table why c.in_ok-table.ensures.loaded moved)
 
 pub returns-clause-read : goal.returns-clause-read
 returns-clause-read g c =
@@ -41,4 +41,4 @@ returns-clause-read g c =
     let f = c.args.first.now in
     let s = c.args.second.now in
     let moved = moved_value files later s (Numbers s (bundles_beside c.in_ok-table.table)) c.in_ok-bundles.bundles (c.in_ok-table.ensures.bytes_stay s) c.in_ok-bundles.ensures.loaded in
-    two_input files rose (Utility f s) f s (Numbers f table_in) (λ t. Numbers s (bundles_beside t)) UtilityOver refl (λ bytes r read. read) c.in_ok-table.table c.in_ok-bundles.bundles c.in_ok-table.ensures.loaded moved
+    two_input files rose (Utility f s) f s (Numbers f table_in) (λ t. Numbers s (bundles_beside t)) (λ t b. Just (Ok (UtilityOver t b))) refl (λ bytes r read. read) c.in_ok-table.table c.in_ok-bundles.bundles (UtilityOver c.in_ok-table.table c.in_ok-bundles.bundles) c.in_ok-table.ensures.loaded moved refl

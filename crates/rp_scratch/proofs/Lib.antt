@@ -1,2 +1,0 @@
-pub mod Pigeons
-pub mod PatchesApart
