@@ -1,5 +1,8 @@
 //! Mixtures of rational types, and weights of patches that show that there is none.
 ghost use Rattle.std.specs.Prelude.{◌≡◌, ◌+◌, ◌*◌, ◌<◌, ◌≤◌, ◌↔◌, ℕ, All, IsTrue, [], ◌∷◌, length};
+ghost use Rattle.std.specs.Cmp.Lexicographic.{slice_cmp};
+ghost use Rattle.std.specs.Ordering.{nat_cmp};
+ghost use Rattle.std.specs.declared.cmp.Ordering.TheVariants.{Less};
 ghost use Rattle.rp_evidence.specs.declared.failure.Reason.TheVariants.{Least as LeastReason};
 ghost use Rattle.rp_evidence.specs.declared.failure.Reason.TheVariants.{NotLess as NotLessReason};
 ghost use Rattle.rp_evidence.specs.declared.failure.Reason.TheVariants.{Number as NumberReason};
@@ -16,6 +19,7 @@ use crate::types::{is_rational, is_type};
 use crate::walk::fails;
 use rp_evidence::{Failure, Reason, Share};
 use rp_patch::Patches;
+use std::cmp::Ordering;
 
 /// The greatest number that a program of random utility may give.
 const WIDTH: u64 = (1 << 63) - 1;
@@ -54,12 +58,19 @@ fn numbers_fit(den: u64, parts: &[Share], weights: &[u64]) -> Result<(), Failure
     Ok(())
 }
 
+/// Whether one type comes before another.
+fn precedes(first: &[u32], second: &[u32]) -> bool
+    ensures { IsTrue result ↔ (slice_cmp nat_cmp first.now second.now ≡ Less) }
+{
+    first.cmp(&second) == Ordering::Less
+}
+
 /// Whether part `k` is the first, or its type comes after that of the part before it.
 fn comes_in_order(parts: &[Share], k: usize) -> bool
     requires { k < length parts.now }
     ensures { IsTrue result ↔ ComesInOrder parts.now k }
 {
-    k == 0 || parts[k - 1].patches.as_slice() < parts[k].patches.as_slice()
+    k == 0 || precedes(parts[k - 1].patches.as_slice(), parts[k].patches.as_slice())
 }
 
 /// Checks part `k`: a patch of each budget, some weight, a rational type, and in order.
@@ -124,6 +135,7 @@ fn weight_of_units(patches: &Patches, weights: &[u64]) -> u128
     requires one_each { length weights.now ≡ length patches.now.patches }
     ensures { result ≡ units_weight patches.now weights.now }
 {
+    prove!(patches.budgets() <= 48);
     let mut weight = 0;
     for i in 0..patches.count() {
         weight += u128::from(weights[i as usize]) * u128::from(patches.units(i));
