@@ -12,3 +12,4 @@ pub mod DemandFailure
 pub mod WelfareFailure
 pub mod ItemFailure
 pub mod CheckVerdict
+pub mod RandomVerdict
