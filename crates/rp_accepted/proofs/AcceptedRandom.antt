@@ -1,5 +1,5 @@
 -- What is given for random choices passes: what the run of the program of random utility ends with (McFadden and Richter 1990).
-use Rattle.std.proofs.Common.{◌≡◌, ◌≢◌, ◌<◌, ◌≤◌, ◌⊎◌, ◌+◌, ◌-◌, ◌*◌, ◌^◌, ℕ, zero, suc, pos, Bool, true, false, List, [], ◌∷◌, All, Ok, length, map, slice_index, slice_index_or, refl, sym, ap, subst, ◌∙◌, inl, inr, arith, if◌then◌else◌}
+use Rattle.std.proofs.Common.{◌≡◌, ◌≢◌, ◌<◌, ◌≤◌, ◌+◌, ◌-◌, ◌*◌, ℕ, zero, suc, pos, Bool, true, false, List, [], ◌∷◌, All, Ok, length, map, slice_index, slice_index_or, refl, sym, ap, subst, ◌∙◌, inl, inr, arith, if◌then◌else◌}
 use Rattle.std.proofs.lemmas.Bool.{cases_eq}
 use Rattle.std.proofs.lemmas.Int.{ints}
 use Rattle.std.proofs.lemmas.List.{get_or-map, get_or_default, length-map}
@@ -8,7 +8,8 @@ use Rattle.std.specs.Cmp.Lexicographic.{slice_cmp}
 use Rattle.std.specs.Int.RustNames.{unsigned_abs}
 use Rattle.std.specs.Ordering.{nat_cmp}
 use Rattle.std.specs.declared.cmp.Ordering.TheVariants.{Less}
-use Rattle.rp_evidence.specs.declared.certificate.Item.{Item}
+use Rattle.rp_check.specs.RandomVerdict.{IsRandomVerdictOn}
+use Rattle.rp_check.specs.declared.verdict.Verdict.TheVariants.{Accepted}
 use Rattle.rp_evidence.specs.declared.certificate.Item.TheVariants.{Random as RandomItem}
 use Rattle.rp_evidence.specs.declared.random.RandomPart.{RandomPart}
 use Rattle.rp_evidence.specs.declared.random.RandomPart.TheVariants.{Mixture, Violated, Wide}
@@ -18,8 +19,8 @@ use Rattle.rp_farkas.specs.PairCheck.{IsShownPair}
 use Rattle.rp_farkas.specs.declared.entry.Entry.{Entry}
 use Rattle.rp_farkas.specs.declared.entry.Pair.{Pair}
 use Rattle.rp_patch.specs.Mixtures.{random_program, uses, weight_of}
-use Rattle.rp_patch.specs.Patches.{IsPatchList, PatchList, units_at}
-use Rattle.rp_patch.specs.RandomFailure.{ComesInOrder, HasFitNumbers, IsWithinWidth, ItemFailsOnPatches, PartFails, PartsFail, RandomFails, part_at}
+use Rattle.rp_patch.specs.Patches.{IsPatchList, PatchList}
+use Rattle.rp_patch.specs.RandomFailure.{ComesInOrder, HasFitNumbers, IsWithinWidth, PartsFail, RandomFails, part_at}
 use Rattle.rp_patch.specs.Types.{AreRationalTypes, IsRationalType}
 use Rattle.rp_patch.proofs.Sharing.{at_most_all, makes_all}
 use Rattle.rp_random.specs.Verdict.{IsMadeFrom, IsRandomVerdict, IsShownFrom, parts_of}
@@ -153,7 +154,6 @@ module _ (p : PatchList) (is : IsPatchList p) (types : List (List ℕ)) (few : l
   pub random_passes : (part : RandomPart) → IsRandomVerdict p types part → RandomFails p p.total part (Ok tt)
   random_passes part verdict = made_passes verdict.outcome part verdict.run verdict.made
 
-  pub random_certificate_passes : (part : RandomPart) → IsRandomVerdict p types part → (k : ℕ) → k < length (RandomItem p.total part ∷ []) → (other : Item)
-      → ItemFailsOnPatches p (slice_index_or (RandomItem p.total part ∷ []) k other) (Ok tt)
+  pub random_certificate_passes : (part : RandomPart) → IsRandomVerdict p types part → IsRandomVerdictOn p (RandomItem p.total part ∷ []) Accepted
   random_certificate_passes part verdict zero within other = random_passes part verdict
   random_certificate_passes part verdict (suc k) within other = absurd (omega (arith, within))

@@ -4,6 +4,7 @@ pub mod AcceptedItems
 pub mod AcceptedRandom
 pub mod Closed
 pub mod Excluding
+pub mod ExcludingRandom
 pub mod Narrow
 pub mod NewRows
 mod Tries

@@ -1,4 +1,4 @@
-ghost use Rattle.std.specs.Prelude.{◌≡◌, ◌<◌, ◌≤◌, ◌∷◌, [], All, List, length, slice_index_or, ℕ};
+ghost use Rattle.std.specs.Prelude.{◌≡◌, ◌<◌, ◌≤◌, ◌∷◌, [], All, List, length, ℕ};
 ghost use Rattle.rp_accepted.specs.Given.{AreNewPrices, IsNewExpenditure, Passes};
 ghost use Rattle.rp_accepted.specs.Given.{ProvesAsGiven};
 ghost use Rattle.rp_afriat.specs.Verdict.{IsAfriatVerdict};
@@ -10,6 +10,7 @@ ghost use Rattle.rp_check.specs.GarpFailure.{GarpFails};
 ghost use Rattle.rp_check.specs.HomotheticFailure.{HomotheticFails};
 ghost use Rattle.rp_check.specs.ItemFailure.{shows_garp};
 ghost use Rattle.rp_check.specs.QuasilinearFailure.{QuasilinearFails};
+ghost use Rattle.rp_check.specs.RandomVerdict.{IsRandomVerdictOn};
 ghost use Rattle.rp_check.specs.WelfareFailure.{WelfareFails};
 ghost use Rattle.rp_check.specs.declared.verdict.Verdict.{Verdict};
 ghost use Rattle.rp_check.specs.declared.verdict.Verdict.TheVariants.{Accepted};
@@ -34,7 +35,7 @@ ghost use Rattle.rp_evidence.specs.declared.quasilinear.Quasi.{Quasi};
 ghost use Rattle.rp_evidence.specs.declared.random.RandomPart.{RandomPart};
 ghost use Rattle.rp_homo.specs.Verdict.{IsHomotheticVerdict};
 ghost use Rattle.rp_patch.specs.Patches.{IsPatchList, PatchList};
-ghost use Rattle.rp_patch.specs.RandomFailure.{ItemFailsOnPatches, RandomFails};
+ghost use Rattle.rp_patch.specs.RandomFailure.{RandomFails};
 ghost use Rattle.rp_patch.specs.Types.{AreRationalTypes};
 ghost use Rattle.rp_quasi.specs.Verdict.{IsQuasilinearVerdict};
 ghost use Rattle.rp_random.specs.Verdict.{IsRandomVerdict};
@@ -116,7 +117,12 @@ pub fn random_certificate_accepted()
     ensures { (p : PatchList) (types : List (List ℕ)) (part : RandomPart)
         → IsPatchList p → length types ≤ TYPES → AreRationalTypes p types
         → IsRandomVerdict p types part
-        → (k : ℕ) → k < length (RandomItem p.total part ∷ []) → (other : Item)
-        → Passes (ItemFailsOnPatches p
-        (slice_index_or (RandomItem p.total part ∷ []) k other)) }
+        → IsRandomVerdictOn p (RandomItem p.total part ∷ []) Accepted }
+{}
+
+/// What is accepted on random choices is not rejected: the checker's verdict on it is no other.
+pub fn accepted_is_not_rejected_on_patches()
+    ensures { (p : PatchList) (items : List Item) (verdict : Verdict)
+        → IsRandomVerdictOn p items Accepted → IsRandomVerdictOn p items verdict
+        → verdict ≡ Accepted }
 {}

@@ -1,6 +1,6 @@
 -- An item on random choices that is found nothing wrong with proves its verdict (McFadden and Richter 1990): the weights of the
 -- patches bound every partial mixture.
-use Rattle.std.proofs.Common.{◌≡◌, ◌<◌, ℕ, List, [], All, Contains, Ok, length, slice_index_or, subst, sym, ◌∙◌}
+use Rattle.std.proofs.Common.{◌<◌, ℕ, List, [], All, Contains, Ok, length, slice_index_or, subst, sym, ◌∙◌}
 use Rattle.std.proofs.lemmas.List.{get_or_default}
 use Rattle.rp_evidence.specs.Kinds.{IsOfKind}
 use Rattle.rp_evidence.specs.declared.certificate.Item.{Item}
