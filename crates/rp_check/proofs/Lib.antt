@@ -4,6 +4,7 @@ pub mod Fractions
 pub mod Limiting
 pub mod Listing
 pub mod Marking
+pub mod Mixing
 pub mod OwnCosts
 pub mod Passing
 pub mod Products

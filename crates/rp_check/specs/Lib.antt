@@ -1,4 +1,3 @@
-pub mod Clauses
 pub mod Reach
 pub mod Asked
 pub mod WalkFailure
@@ -12,3 +11,4 @@ pub mod DemandFailure
 pub mod WelfareFailure
 pub mod ItemFailure
 pub mod CheckVerdict
+pub mod RandomVerdict
