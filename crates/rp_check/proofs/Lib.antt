@@ -9,6 +9,7 @@ pub mod OwnCosts
 pub mod Passing
 pub mod Products
 pub mod Reduced
+pub mod Searching
 pub mod Setting
 pub mod Sound
 pub mod SoundBounds

@@ -12,3 +12,4 @@ pub mod WelfareFailure
 pub mod ItemFailure
 pub mod CheckVerdict
 pub mod RandomVerdict
+pub mod Searched

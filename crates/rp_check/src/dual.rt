@@ -30,15 +30,16 @@ fn all_weigh_by(patches: &Patches, least: u64, weights: &[u64], parts: &mut [Par
     ensures { IsTrue result ↔ ((type : List ℕ) → IsRationalType patches.now type
         → least ≤ type_weight weights.now type) }
 {
+    prove!(patches.budgets() <= 48);
     let mut depth = 0;
     let mut i = 0;
     parts[0] = Part::new(patches);
-    loop {
+    'types: loop {
         if i == patches.count() {
             if depth == 0 {
                 return true;
             }
-            i = parts[depth].patches[depth - 1] + 1;
+            i = parts[depth].patches()[depth - 1] + 1;
             depth -= 1;
         } else {
             match parts[depth].with(patches, i) {
