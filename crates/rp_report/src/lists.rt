@@ -107,6 +107,21 @@ pub(crate) fn push_after<P: Print>(
     P::push(alloc, out, entry)
 }
 
+/// Appends a line of one number after a text.
+pub(crate) fn push_number_line(
+    alloc: Global,
+    out: &mut Vec<u8>,
+    before: &[u8],
+    number: u64,
+) -> Result<(), NoMemory>
+    ensures { OnOk result (
+        out.new.items ≡ out.old.items ++ line_of (before.now ++ decimal number)) }
+{
+    push_after::<LongNumber>(alloc, out, before, number)?;
+    out.push(b'\n')?;
+    Ok(())
+}
+
 /// Appends a line that lists numbers after a word.
 pub(crate) fn push_numbers(
     alloc: Global,

@@ -5,7 +5,7 @@ ghost use Rattle.rp_patch.specs.RandomFailure.{ItemFailsOnPatches};
 ghost use Rattle.rp_report.specs.RandomText.{asked_text, counts_text};
 ghost use Rattle.rp_report.specs.RandomText.{random_item_text, random_report_text};
 
-use crate::lists::{LongNumber, Number, push_after};
+use crate::lists::{LongNumber, Number, push_after, push_number_line};
 use crate::random::push_random;
 use rp_evidence::{Certificate, Item, Kind};
 use rp_num::NoMemory;
@@ -55,11 +55,7 @@ fn push_asked(alloc: Global, out: &mut Vec<u8>, patches: &Patches) -> Result<(),
     ensures { OnOk result (out.new.items ≡ out.old.items ++ asked_text patches.now.asked) }
 {
     match patches.asked() {
-        Some(unit) => {
-            push_after::<Number>(alloc, out, b"apportioned per ", unit)?;
-            out.push(b'\n')?;
-            Ok(())
-        }
+        Some(unit) => push_number_line(alloc, out, b"apportioned per ", u64::from(unit)),
         None => Ok(()),
     }
 }

@@ -7,7 +7,7 @@ ghost use Rattle.rp_patch.specs.declared.TheConstants.{UNITS};
 ghost use Rattle.rp_report.specs.ListText.{line_of, numbers_text};
 ghost use Rattle.rp_report.specs.RandomText.{part_text, parts_text, patch_text, random_text, share_of};
 
-use crate::lists::{Fraction, LongNumber, Print, push_after, push_list};
+use crate::lists::{Fraction, LongNumber, Print, push_after, push_list, push_number_line};
 use rp_evidence::{RandomPart, Share};
 use rp_num::{Frac, NoMemory, print_u128};
 use rp_patch::Patches;
@@ -38,7 +38,7 @@ pub(crate) fn push_random(
 {
     match part {
         RandomPart::Mixture { den, parts } => {
-            push_number(alloc, out, b"random mixture over ", *den)?;
+            push_number_line(alloc, out, b"random mixture over ", *den)?;
             push_parts(alloc, out, parts.as_slice())
         }
         RandomPart::Violated {
@@ -50,18 +50,8 @@ pub(crate) fn push_random(
             push_weights(alloc, out, weights.as_slice(), *den)?;
             push_parts(alloc, out, parts.as_slice())
         }
-        RandomPart::Wide { step } => push_number(alloc, out, b"random withheld ", *step),
+        RandomPart::Wide { step } => push_number_line(alloc, out, b"random withheld ", *step),
     }
-}
-
-/// Appends a line of one number after words.
-fn push_number(alloc: Global, out: &mut Vec<u8>, words: &[u8], number: u64) -> Result<(), NoMemory>
-    ensures { OnOk result (
-        out.new.items ≡ out.old.items ++ line_of (words.now ++ decimal number)) }
-{
-    push_after::<LongNumber>(alloc, out, words, number)?;
-    out.push(b'\n')?;
-    Ok(())
 }
 
 /// What the units of the patches weigh over the denominator, as a share of the total.
