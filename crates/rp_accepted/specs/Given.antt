@@ -1,7 +1,7 @@
 -- What the searches give for a table, item by item (sources at each kind of evidence), and what it is that nothing is found wrong with it.
 use Rattle.std.specs.Prelude.{◌≡◌, ◌<◌, ◌≤◌, ℕ, List, All, length, Ok}
 use Rattle.rp_afriat.specs.Verdict.{IsAfriatVerdict}
-use Rattle.rp_check.specs.Clauses.{Finding}
+use Rattle.rp_patch.specs.Clauses.{Finding}
 use Rattle.rp_effic.specs.Verdict.{IsEfficiencyVerdict}
 use Rattle.rp_evidence.specs.DemandEvidence.{budget_of}
 use Rattle.rp_evidence.specs.Input.{TableInput}

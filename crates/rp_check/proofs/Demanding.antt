@@ -9,7 +9,7 @@ use Rattle.rp_evidence.specs.declared.demand.GoodBounds.{GoodBounds}
 use Rattle.rp_evidence.specs.declared.demand.Point.{Point as InnerPoint}
 use Rattle.rp_evidence.specs.declared.failure.Failure.{Failure}
 use Rattle.rp_evidence.specs.declared.failure.Reason.TheVariants.{Point}
-use Rattle.rp_check.specs.Clauses.{failure}
+use Rattle.rp_patch.specs.Clauses.{failure}
 use Rattle.rp_check.specs.DemandFailure.{CostsEnoughAt, DemandBoundsFail, DemandFails, DemandPartFails, InnerFails}
 use Rattle.rp_check.specs.PricesFailure.{ExpenditureFails, PricesFail}
 use Rattle.rp_check.specs.WalkFailure.{ViolationFails}

@@ -4,10 +4,12 @@ pub mod Fractions
 pub mod Limiting
 pub mod Listing
 pub mod Marking
+pub mod Mixing
 pub mod OwnCosts
 pub mod Passing
 pub mod Products
 pub mod Reduced
+pub mod Searching
 pub mod Setting
 pub mod Sound
 pub mod SoundBounds

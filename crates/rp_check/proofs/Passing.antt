@@ -3,7 +3,7 @@ use Rattle.std.proofs.Common.{◌≡◌, ℕ, ◌+◌, ◌<◌, [], ◌∷◌, R
 use Rattle.std.specs.Result.{IsErr, IsErrAnd}
 use Rattle.rp_evidence.specs.declared.failure.Failure.{Failure}
 use Rattle.rp_evidence.specs.declared.failure.Reason.{Reason}
-use Rattle.rp_check.specs.Clauses.{FirstBelow, FirstUnless, InOrder, failure}
+use Rattle.rp_patch.specs.Clauses.{FirstBelow, FirstUnless, InOrder, failure}
 
 pub passed_on : (r : Result (Unit {0}) Failure) (e : Failure) (found : Result (Unit {0}) Failure → Type 0) → IsErr r × IsErrAnd r (λ x. x ≡ e) → found (Err e) → found r
 passed_on (Ok x) e found h is = absurd (cc (h.0))

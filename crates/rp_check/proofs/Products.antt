@@ -6,7 +6,7 @@ use Rattle.rp_num.specs.Fraction.{Fraction, IsLowestTerms, PassesWidth}
 use Rattle.rp_evidence.specs.Homothetic.{EndsBelow, next_costs, own_costs, product_from, walk_product}
 use Rattle.rp_evidence.specs.declared.failure.Failure.{Failure}
 use Rattle.rp_evidence.specs.declared.failure.Reason.TheVariants.{NotLess, Wide}
-use Rattle.rp_check.specs.Clauses.{failure}
+use Rattle.rp_patch.specs.Clauses.{failure}
 use Rattle.rp_check.specs.HomotheticFailure.{IsWideAfter, ProductsFail}
 use Rattle.rp_check.proofs.Fractions.{below_cross, taken_lowest, taken_wide}
 

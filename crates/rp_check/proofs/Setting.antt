@@ -7,7 +7,7 @@ use Rattle.rp_evidence.specs.Input.{TableInput}
 use Rattle.rp_evidence.specs.declared.failure.Failure.{Failure}
 use Rattle.rp_evidence.specs.declared.failure.Reason.TheVariants.{Set}
 use Rattle.rp_check.specs.Asked.{AreFewOf, AreSets}
-use Rattle.rp_check.specs.Clauses.{failure}
+use Rattle.rp_patch.specs.Clauses.{failure}
 use Rattle.rp_check.specs.DemandFailure.{SetsFail}
 use Rattle.rp_check.specs.Reach.{IsMarked, ListsThose}
 use Rattle.rp_check.specs.declared.sets.Sets.{Sets}

@@ -7,7 +7,7 @@ use Rattle.rp_evidence.specs.declared.demand.WelfarePart.{WelfarePart}
 use Rattle.rp_evidence.specs.declared.demand.WelfarePart.TheVariants.{Bounds, NoModel}
 use Rattle.rp_evidence.specs.declared.failure.Failure.{Failure}
 use Rattle.rp_evidence.specs.declared.failure.Reason.TheVariants.{Number}
-use Rattle.rp_check.specs.Clauses.{InOrder, Unless}
+use Rattle.rp_patch.specs.Clauses.{InOrder, Unless}
 use Rattle.rp_check.specs.PricesFailure.{PricesFail}
 use Rattle.rp_check.specs.Reach.{AreMarked, IsMarked, ListsThose}
 use Rattle.rp_check.specs.WalkFailure.{ViolationFails}

@@ -1,6 +1,6 @@
 -- When evidence by Afriat's theorem fails (this program's own order of clauses; Afriat 1967).
 use Rattle.std.specs.Prelude.{◌<◌, ◌≤◌, ◌≤ℤ◌, ℕ, [], ◌∷◌}
-use Rattle.rp_check.specs.Clauses.{Finding, Unless, InOrder, FirstUnless}
+use Rattle.rp_patch.specs.Clauses.{Finding, Unless, InOrder, FirstUnless}
 use Rattle.rp_check.specs.WalkFailure.{ViolationFails}
 use Rattle.rp_evidence.specs.Afriat.{allowed}
 use Rattle.rp_evidence.specs.AfriatEvidence.{AreOneEach, multiplier_in, utility_in}

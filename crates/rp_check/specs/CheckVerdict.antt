@@ -1,6 +1,6 @@
 -- What is answered of a certificate on a table: it is accepted where no item fails, else the first item that does (this program's own).
 use Rattle.std.specs.Prelude.{◌≡◌, ◌+◌, ◌<◌, ℕ, List, length, take, slice_index_or, Ok, Err}
-use Rattle.rp_check.specs.Clauses.{Finding, capped}
+use Rattle.rp_patch.specs.Clauses.{Finding, capped}
 use Rattle.rp_check.specs.ItemFailure.{ItemFails, one_shows_garp}
 use Rattle.rp_check.specs.declared.verdict.Verdict.{Verdict}
 use Rattle.rp_check.specs.declared.verdict.Verdict.TheVariants.{Accepted, Rejected}

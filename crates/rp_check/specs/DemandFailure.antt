@@ -1,6 +1,6 @@
 -- When evidence on demand at new prices fails (this program's own order of clauses; Varian 1982).
 use Rattle.std.specs.Prelude.{◌≡◌, ◌+◌, ◌*◌, ◌<◌, ◌≤◌, ℕ, Bool, IsTrue, List, [], ◌∷◌, length, slice_index, slice_index_or}
-use Rattle.rp_check.specs.Clauses.{Finding, Unless, InOrder, FirstBelow, FirstUnless}
+use Rattle.rp_patch.specs.Clauses.{Finding, Unless, InOrder, FirstBelow, FirstUnless}
 use Rattle.rp_check.specs.PricesFailure.{ExpenditureFails, PricesFail}
 use Rattle.rp_check.specs.WalkFailure.{ViolationFails}
 use Rattle.rp_evidence.specs.Demand.{FractionBundle, IsBelow, IsStrictlyBelow, NewBudget, spending}

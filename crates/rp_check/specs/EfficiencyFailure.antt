@@ -1,6 +1,6 @@
 -- When evidence for the critical cost efficiency index fails (this program's own order of clauses; Afriat 1973).
 use Rattle.std.specs.Prelude.{◌≡◌, ◌≢◌, ◌^◌, ◌<◌, ◌⊎◌, ℕ, List, [], ◌∷◌, length}
-use Rattle.rp_check.specs.Clauses.{Finding, Unless, InOrder}
+use Rattle.rp_patch.specs.Clauses.{Finding, Unless, InOrder}
 use Rattle.rp_check.specs.GarpFailure.{GarpFails, OrderingFails}
 use Rattle.rp_check.specs.WalkFailure.{ClosedWalkFails, WeakStepsFail}
 use Rattle.rp_evidence.specs.Preference.{IsLevel}

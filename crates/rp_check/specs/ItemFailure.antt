@@ -1,7 +1,7 @@
 -- When an item of a certificate on a table fails (this program's own order of clauses; sources at each kind of evidence).
 use Rattle.std.specs.Prelude.{◌||◌, Bool, true, false, List, [], ◌∷◌}
 use Rattle.rp_check.specs.AfriatFailure.{AfriatFails}
-use Rattle.rp_check.specs.Clauses.{Finding, InOrder}
+use Rattle.rp_patch.specs.Clauses.{Finding, InOrder}
 use Rattle.rp_check.specs.DemandFailure.{DemandFails}
 use Rattle.rp_check.specs.EfficiencyFailure.{EfficiencyFails}
 use Rattle.rp_check.specs.GarpFailure.{GarpFails}

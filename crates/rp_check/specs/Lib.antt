@@ -1,4 +1,3 @@
-pub mod Clauses
 pub mod Reach
 pub mod Asked
 pub mod WalkFailure
@@ -13,3 +12,4 @@ pub mod WelfareFailure
 pub mod ItemFailure
 pub mod CheckVerdict
 pub mod RandomVerdict
+pub mod Searched

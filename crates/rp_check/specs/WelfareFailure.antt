@@ -1,6 +1,6 @@
 -- When evidence on the money metric fails (this program's own order of clauses; after Varian 1982).
 use Rattle.std.specs.Prelude.{◌≡◌, ◌<◌, ◌≤◌, ℕ, Bool, IsTrue, List, [], ◌∷◌, slice_index}
-use Rattle.rp_check.specs.Clauses.{Finding, Unless, InOrder, FirstUnless}
+use Rattle.rp_patch.specs.Clauses.{Finding, Unless, InOrder, FirstUnless}
 use Rattle.rp_check.specs.PricesFailure.{PricesFail}
 use Rattle.rp_check.specs.WalkFailure.{ViolationFails}
 use Rattle.rp_evidence.specs.Demand.{spending}

@@ -1,5 +1,5 @@
 ghost use Rattle.std.specs.Prelude.{◌≡◌, ◌+◌, ◌-◌, ◌<◌, ◌^◌, ℕ, Err, length, slice_index};
-ghost use Rattle.rp_check.specs.Clauses.{capped, failure};
+ghost use Rattle.rp_patch.specs.Clauses.{capped, failure};
 ghost use Rattle.rp_check.specs.WalkFailure.{ClosedWalkFails, ObservationsFail, StrictStepFails};
 ghost use Rattle.rp_check.specs.WalkFailure.{ViolationFails, WeakStepsFail};
 ghost use Rattle.rp_table.specs.Cost.{cost_of};

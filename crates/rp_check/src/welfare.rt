@@ -1,6 +1,6 @@
 ghost use Rattle.std.specs.Prelude.{◌≡◌, ◌≤◌, ◌<◌, ◌↔◌, ◌∷◌, [], IsTrue, length, slice_index};
 ghost use Rattle.rp_check.specs.Asked.{AreFewOf, input_of};
-ghost use Rattle.rp_check.specs.Clauses.{FirstUnless, InOrder, Unless};
+ghost use Rattle.rp_patch.specs.Clauses.{FirstUnless, InOrder, Unless};
 ghost use Rattle.rp_check.specs.Reach.{AreMarked};
 ghost use Rattle.rp_check.specs.WalkFailure.{ViolationFails};
 ghost use Rattle.rp_check.specs.WelfareFailure.{CostHolds, IsNotAboveAt, LowerHolds};

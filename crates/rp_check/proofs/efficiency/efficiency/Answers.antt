@@ -3,7 +3,7 @@ use Rattle.rp_evidence.specs.Preference.{IsLevel}
 use Rattle.rp_evidence.specs.declared.failure.Reason.TheVariants.{Level}
 use Rattle.rp_table.specs.Cost.{cost_of}
 use Rattle.rp_table.specs.Tables.{records_of}
-use Rattle.rp_check.specs.Clauses.{Unless}
+use Rattle.rp_patch.specs.Clauses.{Unless}
 use Rattle.rp_check.specs.EfficiencyFailure.{PartsFail}
 use Rattle.rp_check.proofs.Passing.{then_last}
 use Rattle.rp_check.proofs.efficiency.efficiency.Goals as goal

@@ -1,0 +1,62 @@
+ghost use Rattle.std.specs.Prelude.{◌≡◌, All};
+ghost use Rattle.rp_check.specs.RandomVerdict.{IsRandomVerdictOn};
+ghost use Rattle.rp_check.specs.declared.verdict.Verdict.TheVariants.{Accepted};
+ghost use Rattle.rp_evidence.specs.Kinds.{IsCertificateOf};
+ghost use Rattle.rp_evidence.specs.declared.certificate.Kind.TheVariants.{Random as RandomKind};
+ghost use Rattle.rp_patch.specs.RandomEvidence.{ProvesOnPatches};
+ghost use Rattle.rp_patch.specs.RandomFailure.{ItemFailsOnPatches, RandomFails};
+
+use crate::Verdict;
+use crate::mixture::{mixture, no_mixture};
+use crate::walk::{capped, fails};
+use rp_evidence::{Certificate, Failure, Item, RandomPart, Reason};
+use rp_patch::Patches;
+
+/// Checks evidence on random choices (McFadden and Richter 1990) for the units of these patches.
+fn random(patches: &Patches, total: u64, part: &RandomPart) -> Result<(), Failure>
+    ensures { RandomFails patches.now total part.now result }
+{
+    if total != patches.total() {
+        return fails(Reason::Units, 0);
+    }
+    match part {
+        RandomPart::Mixture { den, parts } => mixture(patches, *den, parts.as_slice()),
+        RandomPart::Violated {
+            den,
+            parts,
+            weights,
+        } => no_mixture(patches, *den, parts.as_slice(), weights.as_slice()),
+        RandomPart::Wide { .. } => Ok(()),
+    }
+}
+
+/// Checks an item. One on a table is none on random choices.
+fn check_item(patches: &Patches, item: &Item) -> Result<(), Failure>
+    ensures { ItemFailsOnPatches patches.now item.now result }
+{
+    match item {
+        Item::Random { total, part } => random(patches, *total, part),
+        _ => Ok(()),
+    }
+}
+
+/// The verdict on a certificate on random choices: its first item that fails, by the first of its clauses that fails. What is
+/// withheld claims nothing and is passed over.
+pub fn check_random(patches: &Patches, certificate: &Certificate) -> Verdict
+    requires { IsCertificateOf RandomKind certificate.now }
+    ensures first_failure { IsRandomVerdictOn patches.now certificate.now.items result }
+    ensures accepted_proves { result ≡ Accepted
+        → All (ProvesOnPatches patches.now) certificate.now.items }
+{
+    prove!(patches.budgets() <= 48);
+    for (k, item) in certificate.items.as_slice().iter().enumerate() {
+        if let Err(found) = check_item(patches, item) {
+            return Verdict::Rejected {
+                item: capped(k + 1),
+                reason: found.reason,
+                place: found.place,
+            };
+        }
+    }
+    Verdict::Accepted
+}
