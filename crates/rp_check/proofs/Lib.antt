@@ -14,5 +14,6 @@ pub mod Setting
 pub mod Sound
 pub mod SoundBounds
 pub mod SoundItems
+pub mod SoundRandom
 pub mod Sums
 pub mod Welfaring

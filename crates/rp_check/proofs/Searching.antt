@@ -1,7 +1,7 @@
 -- How the search for a type that weighs too little goes on, what it has shown in the end, and that it ends.
-use Rattle.std.proofs.Common.{◌≡◌, ◌≢◌, ◌<◌, ◌≤◌, ◌⊎◌, ◌+◌, ◌-◌, ◌*◌, ◌^◌, ◌++◌, inl, inr, ℕ, zero, suc, List, [], ◌∷◌, length, length-append, length-set, get_or, get_or-set_same, get_or-set_other, set, slice_index, refl, sym, ap, subst, ◌∙◌, arith, below_more, add-one}
+use Rattle.std.proofs.Common.{◌≡◌, ◌≢◌, ◌<◌, ◌≤◌, ◌⊎◌, ◌+◌, ◌-◌, ◌^◌, ◌++◌, inl, inr, ℕ, zero, suc, List, [], ◌∷◌, length, length-append, length-set, get_or, get_or-set_same, get_or-set_other, set, slice_index, refl, sym, ap, subst, ◌∙◌, arith, below_more}
 use Rattle.std.proofs.Math.Nat.{mul-le-mul_right, pow-succ', pow-zero}
-use Rattle.std.proofs.lemmas.List.{get_or_append_left, get_or-append_right}
+use Rattle.std.proofs.lemmas.List.{get_or-append_right}
 use Rattle.rp_table.specs.Sums.{sum_below}
 use Rattle.rp_patch.specs.Mixtures.{type_weight}
 use Rattle.rp_patch.specs.Parts.{Before, Begins, IsPart, taken_in}

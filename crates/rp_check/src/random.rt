@@ -45,7 +45,10 @@ fn check_item(patches: &Patches, item: &Item) -> Result<(), Failure>
 pub fn check_random(patches: &Patches, certificate: &Certificate) -> Verdict
     requires { IsCertificateOf RandomKind certificate.now }
     ensures first_failure { IsRandomVerdictOn patches.now certificate.now.items result }
+    ensures accepted_proves { result ≡ Accepted
+        → All (ProvesOnPatches patches.now) certificate.now.items }
 {
+    prove!(patches.budgets() <= 48);
     for (k, item) in certificate.items.as_slice().iter().enumerate() {
         if let Err(found) = check_item(patches, item) {
             return Verdict::Rejected {

@@ -1,6 +1,5 @@
-use Rattle.std.proofs.Common.{◌<◌, ◌≤◌, ◌+◌, ◌-◌, List, ℕ, ap, arith, length, rules, slice_index, subst, sym, ◌≡◌, ◌∙◌}
+use Rattle.std.proofs.Common.{◌<◌, ◌≤◌, ◌+◌, ◌-◌, List, ℕ, ap, arith, rules, slice_index, subst, sym, ◌∙◌}
 use Rattle.rp_patch.specs.Mixtures.{type_weight}
-use Rattle.rp_check.specs.Searched.{IsSearching, part_at}
 use Rattle.rp_check.proofs.Searching.{all_weigh, back, back_falls, deeper, deeper_falls, passed, passed_falls, too_light, weigh_enough}
 use Rattle.rp_check.proofs.dual.all_weigh_by.Goals as goal
 

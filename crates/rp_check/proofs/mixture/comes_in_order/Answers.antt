@@ -1,4 +1,4 @@
-use Rattle.std.proofs.Common.{◌≡◌, ◌-◌, ap, arith, inl, inr, sym, ◌∙◌}
+use Rattle.std.proofs.Common.{◌-◌, ap, arith, inl, inr, sym, ◌∙◌}
 use Rattle.std.specs.Cmp.Lexicographic.{slice_cmp}
 use Rattle.std.specs.Ordering.{nat_cmp}
 use Rattle.rp_patch.specs.RandomFailure.{part_at}

@@ -1,4 +1,4 @@
-use Rattle.std.proofs.Common.{[], arith, subst, sym, ◌∙◌}
+use Rattle.std.proofs.Common.{[], subst, sym, ◌∙◌}
 use Rattle.std.proofs.lemmas.Bool.{false≢true}
 use Rattle.std.proofs.lemmas.List.{get_or_read}
 use Rattle.rp_patch.specs.Types.{IsRationalType, IsType}

@@ -1,4 +1,4 @@
-use Rattle.std.proofs.Common.{List, ℕ, ◌++◌, ◌∷◌, [], arith, refl, slice_index, subst, sym}
+use Rattle.std.proofs.Common.{List, ℕ, ◌++◌, ◌∷◌, [], refl, slice_index, subst, sym}
 use Rattle.std.proofs.lemmas.Bool.{false≢true}
 use Rattle.rp_patch.specs.Parts.{Begins}
 use Rattle.rp_check.proofs.Mixing.{begins_so_far}
