@@ -9,3 +9,7 @@ pub mod TrialLemmas
 mod UtilityLemmas
 pub mod WordLemmas
 pub mod ShapeLemmas
+mod KeptRows
+mod KeptWalk
+mod ReadRows
+pub mod MatchesNameALine
