@@ -31,6 +31,11 @@ all_found P p x (y ∷ ys) all is = let later = all_found P p x ys all.1 in go l
     go later true is = let same : y ≡ x = cc in subst P same all.0
     go later false is = later is
 
+-- what a test finds of a whole list holds of each
+pub every : {X : Type 0} (p : X → Bool) (xs : List X) → list_all p xs ≡ true → AllByRecursion (λ x. p x ≡ true) xs
+every p [] passes = tt
+every p (x ∷ xs) passes = let parts = both _ _ passes in (parts.0, every p xs parts.1)
+
 -- a list of values with one at least
 abbrev pub IsFilled : List Text → Type 0
 IsFilled [] = ⊥
