@@ -12,3 +12,7 @@ pub mod TrialLemmas
 mod UtilityLemmas
 pub mod WordLemmas
 pub mod ShapeLemmas
+mod KeptRows
+mod KeptWalk
+mod ReadRows
+pub mod MatchesNameALine
