@@ -6,8 +6,8 @@ use Rattle.clap.specs.Faults.{built_fault, check_fault, defaults_fault, entered_
 use Rattle.clap.specs.Kinds.{or_else}
 use Rattle.clap.specs.Simple.{App, Shape, argument_words, built, entered, filled, filled_from, with_index, label_of, names_of, rows_at, subcommand_of}
 use Rattle.clap.specs.Walk.{Row, Rule, Text, answers_to, arg_by_id, first_of, finished, nothing_held, rows_after, settled, walk, walk_from}
-use Rattle.rp_run.specs.CommandLine.{Line, Pairs, Analyse, Certify, Demand, Welfare, table_line, new_prices_line, utility_line, trial_line, command_line, line_named, line_of, number_of}
-use Rattle.rp_run.specs.Commands.{program, file_rule, number_rule, new_prices_shape, trial_shape}
+use Rattle.rp_run.specs.CommandLine.{Line, Pairs, Analyse, Certify, Demand, Welfare, table_line, check_line, new_prices_line, utility_line, random_line, check_random_line, trial_line, command_line, line_named, line_of, number_of}
+use Rattle.rp_run.specs.Commands.{program, file_rule, number_rule, new_prices_shape, random_shape, check_random_shape, trial_shape}
 use Rattle.rp_run.proofs.KeptRows.{all_found, are_kept, first_free, kept_from, every, second_free}
 use Rattle.rp_run.proofs.KeptWalk.{AreTaken, level_taken, none_wanted}
 use Rattle.rp_run.proofs.ReadRows.{number_read, required_read}
@@ -73,6 +73,11 @@ module _ {rules : List Rule} (rows : List Row) where
 table_named : (line : List ℕ → Line) (rows : List Row) → AreTakenBy (file_rule (codes "TABLE") ∷ []) rows → IsSome (table_line line rows)
 table_named line rows taken = let table = file_given rows 1 (codes "TABLE") taken refl in rw table.1 refl
 
+check_named : (rows : List Row) → AreTakenBy (file_rule (codes "TABLE") ∷ file_rule (codes "CERT") ∷ []) rows → IsSome (check_line rows)
+check_named rows taken =
+    let table = file_given rows 1 (codes "TABLE") taken refl in
+    let certificate = file_given rows 2 (codes "CERT") taken refl in rw (table.1, certificate.1) refl
+
 new_prices_named : (line : List ℕ → List ℕ → Bool → Line) (rows : List Row) → AreTakenBy (new_prices_shape []).rules rows → IsSome (new_prices_line line rows)
 new_prices_named line rows taken =
     let table = file_given rows 1 (codes "TABLE") taken refl in
@@ -83,6 +88,17 @@ utility_named rows taken =
     let table = file_given rows 1 (codes "TABLE") taken refl in
     let bundles = file_given rows 2 (codes "BUNDLES") taken refl in rw (table.1, bundles.1) refl
 
+random_named : (rows : List Row) → AreTakenBy random_shape.rules rows → IsSome (random_line rows)
+random_named rows taken =
+    let budgets = file_given rows 1 (codes "BUDGETS") taken refl in
+    let choices = file_given rows 2 (codes "CHOICES") taken refl in rw (budgets.1, choices.1) refl
+
+check_random_named : (rows : List Row) → AreTakenBy check_random_shape.rules rows → IsSome (check_random_line rows)
+check_random_named rows taken =
+    let budgets = file_given rows 1 (codes "BUDGETS") taken refl in
+    let choices = file_given rows 2 (codes "CHOICES") taken refl in
+    let certificate = file_given rows 3 (codes "CERT") taken refl in rw (budgets.1, choices.1, certificate.1) refl
+
 trial_named : (rows : List Row) → AreTakenBy trial_shape.rules rows → IsSome (trial_line rows)
 trial_named rows taken =
     let seed = number_given rows 1 0 18446744073709551615 (codes "SEED") taken refl in
@@ -91,7 +107,7 @@ trial_named rows taken =
 
 -- in the order of the commands
 each_names : AllByRecursion NamesALine (built program).subs
-each_names = (table_named Pairs, (table_named Analyse, (table_named Certify, (new_prices_named Demand, (new_prices_named Welfare, (utility_named, (trial_named, tt)))))))
+each_names = (table_named Pairs, (table_named Analyse, (table_named Certify, (check_named, (new_prices_named Demand, (new_prices_named Welfare, (utility_named, (random_named, (check_random_named, (trial_named, tt))))))))))
 
 -- words without a fault have matches that name a line
 pub matches_name_a_line : (words : List (List ℕ)) → fault_of program words ≡ [] → IsSome (line_named (subcommand_of program words))
