@@ -33,13 +33,17 @@ parts_text parts = flat_map part_text parts
 abbrev pub share_of : PatchList → ℕ → List ℕ → Fraction
 share_of p den weights = lowest_terms (units_weight p weights) (den * p.total)
 
+-- the weights of the patches over the denominator
+abbrev pub weights_text : List ℕ → ℕ → List ℕ
+weights_text weights den = line_of (codes "weights " ++ numbers_text weights ++ codes " over " ++ decimal den)
+
 -- evidence on random choices: a mixture; or the greatest share, with the weights that show it and a partial mixture that has
 -- it; or the step at which the run of the program passes its width
 abbrev pub random_text : PatchList → RandomPart → List ℕ
 random_text p (Mixture den parts) = line_of (codes "random mixture over " ++ decimal den) ++ parts_text parts
 random_text p (Violated den parts weights) =
     line_of (codes "random violated share " ++ fraction_text (share_of p den weights))
-    ++ line_of (codes "weights " ++ numbers_text weights ++ codes " over " ++ decimal den) ++ parts_text parts
+    ++ weights_text weights den ++ parts_text parts
 random_text p (Wide step) = line_of (codes "random withheld " ++ decimal step)
 
 -- the patches, of which so many types are rational

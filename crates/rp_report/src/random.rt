@@ -1,11 +1,11 @@
 ghost use Rattle.std.specs.Prelude.{◌≡◌, ◌≤◌, ◌*◌, ◌^◌, ◌++◌, All, Ok, OnOk, codes, length};
-ghost use Rattle.std.specs.Fmt.{decimal};
 ghost use Rattle.rp_num.specs.Fraction.{fraction_text};
 ghost use Rattle.rp_patch.specs.Mixtures.{units_weight};
 ghost use Rattle.rp_patch.specs.RandomFailure.{IsWithinWidth, RandomPartFails};
 ghost use Rattle.rp_patch.specs.declared.TheConstants.{UNITS};
-ghost use Rattle.rp_report.specs.ListText.{line_of, numbers_text};
-ghost use Rattle.rp_report.specs.RandomText.{part_text, parts_text, patch_text, random_text, share_of};
+ghost use Rattle.rp_report.specs.ListText.{line_of};
+ghost use Rattle.rp_report.specs.RandomText.{part_text, parts_text, patch_text};
+ghost use Rattle.rp_report.specs.RandomText.{random_text, share_of, weights_text};
 
 use crate::lists::{Fraction, LongNumber, Print, push_after, push_list, push_number_line};
 use rp_evidence::{RandomPart, Share};
@@ -94,8 +94,7 @@ fn push_share(alloc: Global, out: &mut Vec<u8>, share: Frac) -> Result<(), NoMem
 
 /// Appends the line of the weights of the patches.
 fn push_weights(alloc: Global, out: &mut Vec<u8>, weights: &[u64], den: u64) -> Result<(), NoMemory>
-    ensures { OnOk result (out.new.items ≡ out.old.items
-        ++ line_of (codes "weights " ++ numbers_text weights.now ++ codes " over " ++ decimal den)) }
+    ensures { OnOk result (out.new.items ≡ out.old.items ++ weights_text weights.now den) }
 {
     out.extend_from_slice(b"weights ")?;
     push_list::<LongNumber>(alloc, out, weights)?;
