@@ -2,7 +2,6 @@
 //! and so is one whose patches weigh enough by themselves.
 ghost use Rattle.std.specs.Prelude.{◌≡◌, ◌<◌, ◌≤◌, ◌↔◌, ℕ, List, IsTrue, length, slice_index};
 ghost use Rattle.rp_patch.specs.Mixtures.{type_weight};
-ghost use Rattle.rp_patch.specs.Parts.{IsPart};
 ghost use Rattle.rp_patch.specs.Types.{IsRationalType};
 
 use rp_patch::Patches;
@@ -22,8 +21,8 @@ fn weight_of(weights: &[u64], numbers: &[u32]) -> u128
     weight
 }
 
-/// Whether every rational type weighs at least `least`, where the first of the parts has no patch. The part of depth d in the
-/// search has d patches and stands at place d.
+/// Whether every rational type weighs at least `least`. `parts` is room for the parts on the way: the one at place d has a patch
+/// of each of the first d budgets.
 fn all_weigh_by(patches: &Patches, least: u64, weights: &[u64], parts: &mut [Part]) -> bool
     requires one_each { length weights.now ≡ length patches.now.patches }
     requires room { length parts.old ≡ 48 }

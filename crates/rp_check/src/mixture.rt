@@ -1,12 +1,8 @@
 //! Mixtures of rational types, and weights of patches that show that there is none.
-ghost use Rattle.std.specs.Prelude.{◌≡◌, ◌+◌, ◌*◌, ◌<◌, ◌≤◌, ◌↔◌, ℕ, All, IsTrue, [], ◌∷◌, length};
+ghost use Rattle.std.specs.Prelude.{◌≡◌, ◌*◌, ◌<◌, ◌≤◌, ◌↔◌, All, IsTrue, [], ◌∷◌, length};
 ghost use Rattle.std.specs.Cmp.Lexicographic.{slice_cmp};
 ghost use Rattle.std.specs.Ordering.{nat_cmp};
 ghost use Rattle.std.specs.declared.cmp.Ordering.TheVariants.{Less};
-ghost use Rattle.rp_evidence.specs.declared.failure.Reason.TheVariants.{Least as LeastReason};
-ghost use Rattle.rp_evidence.specs.declared.failure.Reason.TheVariants.{NotLess as NotLessReason};
-ghost use Rattle.rp_evidence.specs.declared.failure.Reason.TheVariants.{Number as NumberReason};
-ghost use Rattle.rp_evidence.specs.declared.failure.Reason.TheVariants.{Units as UnitsReason};
 ghost use Rattle.rp_patch.specs.Clauses.{FirstUnless, InOrder, Unless};
 ghost use Rattle.rp_patch.specs.Mixtures.{units_weight, weight_of as weight_of_parts};
 ghost use Rattle.rp_patch.specs.Mixtures.{weight_on as weight_of_parts_on};
@@ -50,7 +46,7 @@ fn weights_fit(weights: &[u64]) -> bool
 
 /// Checks the denominator and all weights.
 fn numbers_fit(den: u64, parts: &[Share], weights: &[u64]) -> Result<(), Failure>
-    ensures { Unless (HasFitNumbers den parts.now weights.now) NumberReason 0 result }
+    ensures { Unless (HasFitNumbers den parts.now weights.now) Reason.Number 0 result }
 {
     if den == 0 || den > WIDTH || !parts_fit(parts) || !weights_fit(weights) {
         return fails(Reason::Number, 0);
@@ -147,7 +143,7 @@ fn weight_of_units(patches: &Patches, weights: &[u64]) -> u128
 fn gives_units(patches: &Patches, den: u64, parts: &[Share]) -> Result<(), Failure>
     requires { All (λ part. IsWithinWidth part.weight) parts.now }
     ensures { FirstUnless (length patches.now.patches)
-        (λ i. weight_of_parts_on parts.now i ≡ den * units_at patches.now i) UnitsReason result }
+        (λ i. weight_of_parts_on parts.now i ≡ den * units_at patches.now i) Reason.Units result }
 {
     for i in 0..patches.count() {
         if weight_on(parts, i) != u128::from(den) * u128::from(patches.units(i)) {
@@ -161,7 +157,7 @@ fn gives_units(patches: &Patches, den: u64, parts: &[Share]) -> Result<(), Failu
 fn within_units(patches: &Patches, den: u64, parts: &[Share]) -> Result<(), Failure>
     requires { All (λ part. IsWithinWidth part.weight) parts.now }
     ensures { FirstUnless (length patches.now.patches)
-        (λ i. weight_of_parts_on parts.now i ≤ den * units_at patches.now i) UnitsReason result }
+        (λ i. weight_of_parts_on parts.now i ≤ den * units_at patches.now i) Reason.Units result }
 {
     for i in 0..patches.count() {
         if weight_on(parts, i) > u128::from(den) * u128::from(patches.units(i)) {
@@ -185,8 +181,8 @@ fn falls_short(patches: &Patches, den: u64, parts: &[Share], weights: &[u64]) ->
     requires parts { All (λ part. IsWithinWidth part.weight) parts.now }
     requires one_each { length weights.now ≡ length patches.now.patches }
     ensures { InOrder (
-        Unless (weight_of_parts parts.now ≡ units_weight patches.now weights.now) LeastReason 0
-        ∷ Unless (weight_of_parts parts.now < den * patches.now.total) NotLessReason 0
+        Unless (weight_of_parts parts.now ≡ units_weight patches.now weights.now) Reason.Least 0
+        ∷ Unless (weight_of_parts parts.now < den * patches.now.total) Reason.NotLess 0
         ∷ []) result }
 {
     let weight = weight_of(parts);
