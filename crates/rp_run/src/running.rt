@@ -1,7 +1,9 @@
-ghost use Rattle.std.specs.Prelude.{◌≡◌, ◌⊎◌, ◌≤◌, ℕ, List, ◌∷◌, Some, None, map, string_bytes};
+ghost use Rattle.std.specs.Prelude.{◌≡◌, ◌⊎◌, ◌≤◌, ℕ, List, [], ◌∷◌, Some, None, map, string_bytes};
+ghost use Rattle.clap.specs.Faults.{fault_of};
 ghost use Rattle.rp_outside.specs.Faults.{HasRisen};
 ghost use Rattle.rp_outside.specs.Told.{Stays, Grows, GrowsByPrefix};
 ghost use Rattle.rp_run.specs.CommandLine.{Line as Asked, line_in};
+ghost use Rattle.rp_run.specs.Commands.{program};
 ghost use Rattle.rp_run.specs.Shapes.{HasShape, shape_of};
 ghost use Rattle.rp_run.specs.Answers.{AnswersAsked, IsAccepted, IsRefused};
 ghost use Rattle.rp_run.specs.Answers.{IsAcceptedOver, IsRejectedOver, MayBe, MustBe};
@@ -29,6 +31,8 @@ pub fn run<D: Desk, O: Sink, E: Sink>(
 ) -> Status
     // The words.
     ensures usage { result ≡ Status.Usage → line_in words.now.items ≡ None }
+    ensures refused_by_clap { result ≡ Status.Usage
+        → ¬ (fault_of program (map string_bytes words.now.items) ≡ []) }
     ensures no_line { line_in words.now.items ≡ None
         → (result ≡ Status.Usage) ⊎ (result ≡ Status.NoMemory) }
     ensures shapes { (line : Asked) (name : List ℕ) → HasShape line

@@ -1,6 +1,7 @@
-use Rattle.std.proofs.Common.{◌≡◌, Some, map, string_bytes, sym, inr}
+use Rattle.std.proofs.Common.{◌≡◌, Some, None, map, string_bytes, sym, inr}
 use Rattle.rp_run.specs.CommandLine.{line_in}
 use Rattle.rp_run.specs.Named.{named_line}
+use Rattle.rp_run.proofs.MatchesNameALine.{refused_where_no_line}
 use Rattle.rp_run.proofs.RunLemmas.{cause_of_accepted, not_both}
 use Rattle.rp_run.proofs.ShapeLemmas.{shape_given}
 use Rattle.rp_run.proofs.running.run.Goals as goal
@@ -10,6 +11,11 @@ returns-in_default-clause-shapes g c = λ line name has is. shape_given (map str
 
 pub returns-in_default-asked-clause-shapes : goal.returns-in_default-asked-clause-shapes
 returns-in_default-asked-clause-shapes g c = λ line name has is. shape_given (map string_bytes c.args.words.now.items) line name has is
+
+pub returns-in_default-asked-clause-refused_by_clap : goal.returns-in_default-asked-clause-refused_by_clap
+returns-in_default-asked-clause-refused_by_clap g c = λ _.
+    let none : line_in c.args.words.now.items ≡ None = rw (c.in_default-asked.is, c.as_slice.ensures.value) at (sym c.in-Ok.ensures.exact) in
+    refused_where_no_line (map string_bytes c.args.words.now.items) none
 
 pub returns-in-Ok-answer_line-clause-shapes : goal.returns-in-Ok-answer_line-clause-shapes
 returns-in-Ok-answer_line-clause-shapes g c = λ line name has is. shape_given (map string_bytes c.args.words.now.items) line name has is
