@@ -4,10 +4,11 @@ use Rattle.std.proofs.lemmas.Bool.{lt-ltb}
 use Rattle.std.proofs.lemmas.List.{length-replicate}
 use Rattle.std.specs.Option.{ForSome}
 use Rattle.std.specs.Prelude.{unwrap_or}
+use Rattle.rp_evidence.specs.declared.certificate.Kind.{Kind}
 use Rattle.rp_run.specs.CommandLine.{Line, files_of}
 use Rattle.rp_run.specs.Answers.{Files, IsContent, AreContents, HasInput}
 use Rattle.rp_run.specs.Inputs.{Denotes, Input}
-use Rattle.rp_run.specs.Readings.{AndThen, Just, Numbers, Reading, all_bytes, most_bytes, most_certificate_bytes}
+use Rattle.rp_run.specs.Readings.{AndThen, CertificateIn, Just, Numbers, Reading, all_bytes, most_bytes, most_certificate_bytes}
 use Rattle.rp_run.specs.FaultLines.{file_line}
 use Rattle.rp_run.specs.Causes.{IsRefusal, IsFileCause, IsReadingCause, HoldsValue, IsCause}
 use Rattle.rp_run.specs.declared.files.Cause.{Cause}
@@ -25,6 +26,15 @@ too_long files rose file (Refused line) long refused =
     let some = some_long (files file) most_bytes long in
     (some.0, some.1, rw (lt-ltb most_bytes (length some.0) some.2) (ap Err (sym refused)))
 too_long files rose file NoMemory long refused = tt
+
+-- and so is a certificate that is too long
+pub too_long_certificate : (files : Files) (rose : List ℕ → Type 0) (file : List ℕ) (kind : Kind) (why : Cause) → ForSome (files file) (λ bytes. most_certificate_bytes < length bytes)
+    → IsRefusal (file_line file (codes "TooLong")) why → IsFileCause files rose file (CertificateIn file kind) why
+too_long_certificate files rose file kind (Read name) long refused = absurd refused
+too_long_certificate files rose file kind (Refused line) long refused =
+    let some = some_long (files file) most_certificate_bytes long in
+    (some.0, some.1, inl (some.2, refused))
+too_long_certificate files rose file kind NoMemory long refused = tt
 
 -- the content of one file
 one_of : (files : Files) (file bytes : List ℕ) → IsContent files file bytes → (k : ℕ) → k < length (file ∷ []) → IsContent files (slice_index_or (file ∷ []) k []) bytes
@@ -88,7 +98,7 @@ module _ {A B : Type 0} (files : Files) (rose : List ℕ → Type 0) (line : Lin
   pub two_input : (a : A) (b : B) (input : Input) → HoldsValue files f reading a → HoldsValue files s (after a) b → last a b (Ok input) → HasInput files line input
   unfolding two_bytes
   two_input a b input (first, one, read) (second, two, then_read) made =
-      (two_bytes first second, two_contents files line f s first second named one two, denoted (two_bytes first second) (Ok input) (a, read, b, then_read, made))
+      (two_bytes first second, two_contents files line f s first second named one two, denoted (two_bytes first second) (Ok input) (a, read, (b, then_read, made)))
 
   -- or the cause why the first gives none, whatever the second holds
   pub first_cause : (why : Cause) → IsFileCause files rose f reading why → IsCause files rose line why
@@ -141,7 +151,7 @@ module _ {A B C : Type 0} (files : Files) (rose : List ℕ → Type 0) (line : L
   pub three_input : (a : A) (b : B) (c : C) (input : Input) → HoldsValue files f reading a → HoldsValue files s (after a) b → HoldsValue files t third c → last a b c (Ok input) → HasInput files line input
   unfolding three_bytes
   three_input a b c input (x, one, read) (y, two, then_read) (z, three, last_read) made =
-      (three_bytes x y z, three_contents files line f s t x y z named one two three, denoted (three_bytes x y z) (Ok input) (a, read, b, then_read, c, last_read, made))
+      (three_bytes x y z, three_contents files line f s t x y z named one two three, denoted (three_bytes x y z) (Ok input) (a, read, (b, then_read, (c, last_read, made))))
 
   -- or the cause why the first gives none, and so the others
   pub three_first : (why : Cause) → IsFileCause files rose f reading why → IsCause files rose line why

@@ -42,6 +42,7 @@ fn random_answer(
     requires { AreTyped (typed patches.now types.now) }
     ensures { IfOk result (IsRandomAnswer (typed patches.now types.now)) }
 {
+    prove!(patches.budgets() >= 1);
     let part = random(alloc, patches, types)?;
     let made = certificate(alloc, patches.total(), part)?;
     Ok(made)
