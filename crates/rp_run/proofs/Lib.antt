@@ -4,6 +4,7 @@ mod AskedLemmas
 pub mod FileLemmas
 pub mod GainsLemmas
 pub mod PassedOn
+pub mod ReadBackLemmas
 pub mod RunLemmas
 pub mod TrialLemmas
 mod UtilityLemmas
