@@ -15,8 +15,10 @@ use Rattle.rp_run.specs.Demands.{IsDemandItem}
 use Rattle.rp_run.specs.Welfares.{IsWelfareItem}
 use Rattle.rp_accepted.proofs.AcceptedBounds.{demand_passes, welfare_passes}
 use Rattle.rp_accepted.specs.Given.{AreNewPrices}
+use Rattle.rp_readable.specs.Limited.{IsLimited}
+use Rattle.rp_readable.proofs.BoundsFit.{demand_fits, welfare_fits}
 
-module _ (input : TableInput) (garp : Garp) (prices kept : List ℕ) (same : kept ≡ prices) (one_each : length prices ≡ input.goods) (limits : All (λ p. (1 ≤ p) × (p ≤ LARGEST)) prices) where
+module _ (input : TableInput) (limited : IsLimited input) (garp : Garp) (prices kept : List ℕ) (same : kept ≡ prices) (one_each : length prices ≡ input.goods) (limits : All (λ p. (1 ≤ p) × (p ≤ LARGEST)) prices) where
   new : AreNewPrices input.goods prices
   new = record { one_each = one_each; fit = limits }
 
@@ -29,6 +31,7 @@ module _ (input : TableInput) (garp : Garp) (prices kept : List ℕ) (same : kep
         proves = proves;
         given = given;
         passes = λ shown before. demand_passes input shown garp prices m part before new (least, most) proves given;
+        readable = (tt, demand_fits input limited prices new m (least, most) garp part proves given);
       })
 
   pub welfare_record : (t : ℕ) (part : WelfarePart) → t < input.n → ProvesGarp input.n input.cost garp → ProvesWelfare input prices t part → IsWelfareVerdict input prices t garp part
@@ -40,4 +43,5 @@ module _ (input : TableInput) (garp : Garp) (prices kept : List ℕ) (same : kep
         proves = proves;
         given = given;
         passes = λ shown before. welfare_passes input shown garp prices t part before new t_in verdict proves given;
+        readable = (tt, welfare_fits input limited prices new t t_in garp part proves given);
       })

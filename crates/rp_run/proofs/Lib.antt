@@ -7,6 +7,7 @@ pub mod OneOrOther
 pub mod PatchesApart
 pub mod Pigeons
 pub mod PassedOn
+pub mod ReadBackLemmas
 pub mod RunLemmas
 pub mod TrialLemmas
 mod UtilityLemmas

@@ -17,6 +17,7 @@ use Rattle.rp_effic.specs.Verdict.{IsEfficiencyVerdict}
 use Rattle.rp_garp.specs.Verdict.{IsGarpVerdict}
 use Rattle.rp_homo.specs.Verdict.{IsHomotheticVerdict}
 use Rattle.rp_quasi.specs.Verdict.{IsQuasilinearVerdict}
+use Rattle.rp_readable.specs.ReadBack.{IsReadBack}
 use Rattle.rp_run.specs.Accepted.{IsAcceptedOn}
 use Rattle.rp_run.specs.ShownText.{shown_text}
 
@@ -30,7 +31,7 @@ certificate_of garp afriat efficiency homothetic quasilinear = record {
 
 -- the certificate of what a table says: the verdicts on the generalized axiom of revealed preference (Varian 1982), by
 -- Afriat's theorem (Afriat 1967), on the efficiency index (Afriat 1973), of the homothetic test (Varian 1983) and of the
--- quasilinear test, as they are given; the checker accepts it
+-- quasilinear test, as they are given; the checker accepts it, and its JSON is read back as it
 pub record IsAnalysis (input : TableInput) (certificate : Certificate) : Type 0 where
   pub garp : Garp
   pub afriat : AfriatPart
@@ -49,6 +50,7 @@ pub record IsAnalysis (input : TableInput) (certificate : Certificate) : Type 0 
   pub quasilinear_proves : Proves input (QuasiItem quasilinear)
   pub quasilinear_given : IsQuasilinearVerdict input.n input.cost quasilinear
   pub accepted : IsAcceptedOn input certificate
+  pub read_back : IsReadBack Table certificate
 
 -- the text is that of such a certificate
 abbrev pub IsAnalysisText : Bool → Observations → List ℕ → Type 0

@@ -9,6 +9,7 @@ use Rattle.rp_evidence.specs.declared.certificate.Item.TheVariants.{Garp as Garp
 use Rattle.rp_evidence.specs.declared.certificate.Kind.TheVariants.{Table}
 use Rattle.rp_evidence.specs.declared.garp.Garp.{Garp}
 use Rattle.rp_garp.specs.Verdict.{IsGarpVerdict}
+use Rattle.rp_readable.specs.ReadBack.{IsReadBack}
 use Rattle.rp_run.specs.Accepted.{IsAcceptedOn}
 
 -- the certificate of a table with a verdict on the axiom and then these items
@@ -20,7 +21,8 @@ pub record AreAnswered (count : ℕ) (IsAnswer : ℕ → Item → Type 0) (items
   pub one_each : length items ≡ count
   pub each : (k : ℕ) (d : Item) → k < count → IsAnswer k (slice_index_or items k d)
 
--- the verdict on the axiom is true and as it is given, the items after it answer so many questions under it, and the checker accepts them all
+-- the verdict on the axiom is true and as it is given, the items after it answer so many questions under it, and the checker accepts them all, and
+-- the JSON of the certificate is read back as it
 pub record IsAskedOf (input : TableInput) (count : ℕ) (IsAnswer : Garp → ℕ → Item → Type 0) (certificate : Certificate) : Type 0 where
   pub garp : Garp
   pub others : List Item
@@ -29,3 +31,4 @@ pub record IsAskedOf (input : TableInput) (count : ℕ) (IsAnswer : Garp → ℕ
   pub garp_given : IsGarpVerdict input.n input.cost garp
   pub answered : AreAnswered count (IsAnswer garp) others
   pub accepted : IsAcceptedOn input certificate
+  pub read_back : IsReadBack Table certificate

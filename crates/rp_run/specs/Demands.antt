@@ -9,21 +9,25 @@ use Rattle.rp_evidence.specs.Input.{TableInput, input_of_table}
 use Rattle.rp_evidence.specs.Proves.{Proves}
 use Rattle.rp_evidence.specs.declared.certificate.Certificate.{Certificate}
 use Rattle.rp_evidence.specs.declared.certificate.Item.{Item}
+use Rattle.rp_evidence.specs.declared.certificate.Kind.TheVariants.{Table}
 use Rattle.rp_evidence.specs.declared.certificate.Item.TheVariants.{Demand}
 use Rattle.rp_evidence.specs.declared.demand.DemandPart.{DemandPart}
 use Rattle.rp_evidence.specs.declared.garp.Garp.{Garp}
 use Rattle.rp_support.specs.Verdict.{IsDemandGiven}
+use Rattle.rp_json.specs.Denoted.{FitsKind}
 use Rattle.rp_run.specs.Accepted.{PassesAfter}
 use Rattle.rp_run.specs.AskedItems.{IsAskedOf}
 use Rattle.rp_run.specs.ShownText.{shown_text}
 
--- the item on the budget at these prices with m: it proves its verdict, and is as it is given under the verdict on the axiom
+-- the item on the budget at these prices with m: it proves its verdict, is as it is given under the verdict on the axiom,
+-- passes the checker, and can be read back
 pub record IsDemandItem (input : TableInput) (garp : Garp) (prices : List ℕ) (m : ℕ) (item : Item) : Type 0 where
   pub part : DemandPart
   pub on_budget : item ≡ Demand prices m part
   pub proves : Proves input item
   pub given : IsDemandGiven input (budget_of prices m) garp part
   pub passes : PassesAfter input garp item
+  pub readable : FitsKind Table item
 
 -- after the verdict on the axiom one item for each record of the new prices
 abbrev pub IsDemandCertificate : TableInput → PriceList → Certificate → Type 0

@@ -8,21 +8,25 @@ use Rattle.rp_evidence.specs.Input.{TableInput, input_of_table}
 use Rattle.rp_evidence.specs.Proves.{Proves}
 use Rattle.rp_evidence.specs.declared.certificate.Certificate.{Certificate}
 use Rattle.rp_evidence.specs.declared.certificate.Item.{Item}
+use Rattle.rp_evidence.specs.declared.certificate.Kind.TheVariants.{Table}
 use Rattle.rp_evidence.specs.declared.certificate.Item.TheVariants.{Welfare}
 use Rattle.rp_evidence.specs.declared.demand.WelfarePart.{WelfarePart}
 use Rattle.rp_evidence.specs.declared.garp.Garp.{Garp}
 use Rattle.rp_welfare.specs.Verdict.{IsWelfareVerdict}
+use Rattle.rp_json.specs.Denoted.{FitsKind}
 use Rattle.rp_run.specs.Accepted.{PassesAfter}
 use Rattle.rp_run.specs.AskedItems.{IsAskedOf}
 use Rattle.rp_run.specs.ShownText.{shown_text}
 
--- the item on observation t at these prices: it proves its verdict, and is as it is given under the verdict on the axiom
+-- the item on observation t at these prices: it proves its verdict, is as it is given under the verdict on the axiom,
+-- passes the checker, and can be read back
 pub record IsWelfareItem (input : TableInput) (garp : Garp) (prices : List ℕ) (t : ℕ) (item : Item) : Type 0 where
   pub part : WelfarePart
   pub of_observation : item ≡ Welfare prices t part
   pub proves : Proves input item
   pub given : IsWelfareVerdict input prices t garp part
   pub passes : PassesAfter input garp item
+  pub readable : FitsKind Table item
 
 -- after the verdict on the axiom, for each record of the new prices, one item for each observation
 abbrev pub IsWelfareCertificate : TableInput → PriceList → Certificate → Type 0

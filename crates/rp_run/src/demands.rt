@@ -46,6 +46,7 @@ fn demand_certificate(
     requires spent { IsSpentOn table.now new.now }
     ensures { IfOk result (IsDemandCertificate (input_of_table table.now) new.now) }
 {
+    prove!(table.n() >= 1);
     let garp = garp(alloc, costs)?;
     let others = demand_items(alloc, table, costs, &garp, new)?;
     let made = certificate(garp, others)?;
@@ -92,6 +93,7 @@ fn demand_item(
     requires most { m ≤ LARGEST_EXPENDITURE }
     ensures { IfOk result (IsDemandItem (input_of_table table.now) garp.now prices.now m) }
 {
+    prove!(table.n() >= 1);
     let part = demand(alloc, table, costs, garp, prices, m)?;
     let prices = Vec::from_slice(alloc, prices)?;
     Ok(Item::Demand {

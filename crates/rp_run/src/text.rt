@@ -62,6 +62,7 @@ fn analyse(alloc: Global, table: &Table, costs: &Costs) -> Result<Certificate, N
     requires { IsCostsOf costs.now table.now }
     ensures { IfOk result (IsAnalysis (input_of_table table.now)) }
 {
+    prove!(table.n() >= 1);
     let garp = garp(alloc, costs)?;
     let afriat = afriat(alloc, costs, &garp)?;
     let efficiency = efficiency(alloc, costs)?;

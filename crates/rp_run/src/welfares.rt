@@ -48,6 +48,7 @@ fn welfare_certificate(
     requires goods { new.now.goods ≡ goods_of table.now }
     ensures { IfOk result (IsWelfareCertificate (input_of_table table.now) new.now) }
 {
+    prove!(table.n() >= 1);
     let garp = garp(alloc, costs)?;
     let closure = Closure::of(alloc, costs, Level { num: 1, den: 1 }, Steps::Weak)?;
     let others = welfare_items(alloc, table, costs, &garp, &closure, new)?;
@@ -101,6 +102,7 @@ fn welfare_item(
     requires observed { t < records_of table.now }
     ensures { IfOk result (IsWelfareItem (input_of_table table.now) garp.now prices.now t) }
 {
+    prove!(table.n() >= 1);
     let part = welfare_by_closure(alloc, table, costs, garp, closure, prices, t)?;
     let prices = Vec::from_slice(alloc, prices)?;
     Ok(Item::Welfare {

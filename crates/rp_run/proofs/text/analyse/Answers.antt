@@ -4,6 +4,7 @@ use Rattle.rp_effic.specs.Verdict.{IsEfficiencyVerdict}
 use Rattle.rp_evidence.specs.Input.{input_of_table}
 use Rattle.rp_evidence.specs.Proves.{Proves}
 use Rattle.rp_evidence.specs.declared.certificate.Item.TheVariants.{Garp as GarpItem, Afriat as AfriatItem, Efficiency as EfficiencyItem, Homothetic as HomotheticItem, Quasi as QuasiItem}
+use Rattle.rp_garp.specs.Verdict.{IsGarpVerdict}
 use Rattle.rp_homo.specs.Verdict.{IsHomotheticVerdict}
 use Rattle.rp_quasi.specs.Verdict.{IsQuasilinearVerdict}
 use Rattle.rp_run.specs.Accepted.{IsAcceptedOn}
@@ -20,6 +21,11 @@ use Rattle.rp_garp.proofs.SameVerdicts.{garp_verdict_same}
 use Rattle.rp_homo.proofs.SameVerdicts.{verdict_same as homothetic_verdict_same}
 use Rattle.rp_quasi.proofs.SameVerdicts.{verdict_same as quasilinear_verdict_same}
 use Rattle.rp_table.specs.Cost.{cost_at, cost_of}
+use Rattle.rp_evidence.specs.declared.certificate.Kind.TheVariants.{Table}
+use Rattle.rp_readable.specs.ReadBack.{IsReadBack}
+use Rattle.rp_readable.proofs.ItemsFit.{analysis_readable, table_limited}
+use Rattle.rp_readable.proofs.SameValues.{text_read_back}
+use Rattle.rp_run.specs.Analysis.{certificate_of}
 use Rattle.rp_run.proofs.text.analyse.Goals as goal
 
 pub returns : goal.returns
@@ -36,6 +42,7 @@ returns c =
     let homothetic = c.in_ok-homothetic.homothetic in
     let quasilinear = c.in_ok-quasilinear.quasilinear in
     let garp_proves : Proves input (GarpItem garp) = rw (← is.size) (garp_same n here there garp same c.in_ok-garp.ensures.proves) in
+    let garp_given : IsGarpVerdict input.n input.cost garp = rw (← is.size) (garp_verdict_same n here there same garp c.in_ok-garp.ensures.given) in
     let afriat_proves : Proves input (AfriatItem afriat) = rw (← is.size) (afriat_same n here there afriat same c.in_ok-afriat.ensures.proves) in
     let afriat_given : IsAfriatVerdict input.n input.cost afriat = rw (← is.size) (afriat_verdict_same n here there afriat same c.in_ok-afriat.ensures.given) in
     let efficiency_proves : Proves input (EfficiencyItem efficiency) = rw (← is.size) (efficiency_same n here there efficiency same c.in_ok-efficiency.ensures.proves) in
@@ -52,7 +59,7 @@ returns c =
       quasilinear = quasilinear;
       items = c.in_ok-certificate.ensures;
       garp_proves = garp_proves;
-      garp_given = rw (← is.size) (garp_verdict_same n here there same garp c.in_ok-garp.ensures.given);
+      garp_given = garp_given;
       afriat_proves = afriat_proves;
       afriat_given = afriat_given;
       efficiency_proves = efficiency_proves;
@@ -63,4 +70,8 @@ returns c =
       quasilinear_given = quasilinear_given;
       accepted = subst (IsAcceptedOn input) (sym c.in_ok-certificate.ensures)
           (analysis_accepted input garp garp_proves afriat afriat_proves afriat_given efficiency homothetic quasilinear efficiency_proves efficiency_given homothetic_proves homothetic_given quasilinear_proves quasilinear_given);
+      read_back = subst (IsReadBack Table) (sym c.in_ok-certificate.ensures)
+          (text_read_back Table (certificate_of garp afriat efficiency homothetic quasilinear)
+          (analysis_readable input (table_limited c.args.table.now c.n.ensures.valid) garp afriat efficiency homothetic quasilinear
+          (garp_proves, garp_given) (afriat_proves, afriat_given) (efficiency_proves, efficiency_given) (homothetic_proves, homothetic_given) (quasilinear_proves, quasilinear_given)));
     }
