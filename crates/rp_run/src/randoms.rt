@@ -1,10 +1,8 @@
-ghost use Rattle.std.specs.Prelude.{◌≡◌, IfOk, length};
-ghost use Rattle.rp_patch.specs.RandomEvidence.{ProvesRandom};
-ghost use Rattle.rp_random.specs.Verdict.{IsRandomVerdict};
-ghost use Rattle.rp_types.specs.Listed.{types_of};
+ghost use Rattle.std.specs.Prelude.{◌≡◌, IfOk};
+ghost use Rattle.rp_readable.specs.ReadBack.{random_certificate};
 ghost use Rattle.rp_run.specs.Matching.{AreTyped};
 ghost use Rattle.rp_run.specs.Named.{typed};
-ghost use Rattle.rp_run.specs.Randoms.{IsRandomAnswer, IsRandomText, random_certificate};
+ghost use Rattle.rp_run.specs.Randoms.{IsRandomAnswer, IsRandomText};
 
 use rp_evidence::{Certificate, Item, Kind, RandomPart};
 use rp_json::write;

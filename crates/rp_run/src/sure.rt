@@ -1,6 +1,7 @@
 ghost use Rattle.std.specs.Prelude.{◌≡◌, ◌⊎◌, Some, None};
 ghost use Rattle.rp_run.specs.CommandLine.{Line as Asked, line_in};
 ghost use Rattle.rp_run.specs.Answers.{IsAccepted, IsRefused, all_told};
+ghost use Rattle.rp_run.specs.Answers.{IsAcceptedOver, IsRejectedOver, MayBe, MustBe};
 ghost use Rattle.rp_run.specs.Endings.{IsEnd};
 
 use crate::running::run;
@@ -18,7 +19,12 @@ pub fn run_surely(
 ) -> Status
     ensures every_file_is_read { ¬ (result ≡ Status.ReadFault) }
     ensures every_answer_is_written { ¬ (result ≡ Status.WriteFault) }
-    ensures never_rejected { ¬ (result ≡ Status.Rejected) }
+    ensures rejected { result ≡ Status.Rejected → (line : Asked)
+        × (line_in words.now.items ≡ Some line) × MayBe IsRejectedOver (all_told desk.old) line }
+    ensures never_done { (line : Asked) → line_in words.now.items ≡ Some line
+        → MustBe IsRejectedOver (all_told desk.old) line → ¬ (result ≡ Status.Done) }
+    ensures never_rejected { (line : Asked) → line_in words.now.items ≡ Some line
+        → MustBe IsAcceptedOver (all_told desk.old) line → ¬ (result ≡ Status.Rejected) }
     ensures usage { result ≡ Status.Usage → line_in words.now.items ≡ None }
     ensures no_line { line_in words.now.items ≡ None
         → (result ≡ Status.Usage) ⊎ (result ≡ Status.NoMemory) }

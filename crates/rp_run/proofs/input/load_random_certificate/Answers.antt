@@ -1,4 +1,4 @@
-use Rattle.std.proofs.Common.{Bool, Ok, refl, sym, ap}
+use Rattle.std.proofs.Common.{Ok, ◌∙◌, ◌≤◌, arith, refl}
 use Rattle.rp_evidence.specs.declared.certificate.Kind.TheVariants.{Random as RandomKind}
 use Rattle.rp_text.specs.Denotation.{budgets_in, choices_on}
 use Rattle.rp_run.specs.CommandLine.{CheckRandom}
@@ -58,8 +58,8 @@ returns-in_err-certificate-clause-caused g c =
     passed_on c.from_residual-in_err-certificate.result why (IsCause files (Rose before after) (CheckRandom f s t c.args.per)) c.from_residual-in_err-certificate.ensures
     (three_third files (Rose before after) (CheckRandom f s t c.args.per) f s t (Numbers f budgets_in) (λ b. Numbers s (choices_on b)) (CertificateIn t RandomKind) (λ b ch read. AndThen (TypedPatchesOf b ch c.args.per) (λ given. Just (Ok (CheckRandomOver given read)))) refl (λ bytes r read. read) c.in_ok-budgets.budgets c.in_ok-choices.choices why c.in_ok-budgets.ensures.loaded moved carried)
 
-pub returns-in_err-patches_of-clause-caused : goal.returns-in_err-patches_of-clause-caused
-returns-in_err-patches_of-clause-caused g c =
+pub returns-in_err-patches-clause-caused : goal.returns-in_err-patches-clause-caused
+returns-in_err-patches-clause-caused g c =
     let files = g.D.Desk.bytes c.args.desk.now in
     let f = c.args.first.now in
     let s = c.args.second.now in
@@ -68,13 +68,13 @@ returns-in_err-patches_of-clause-caused g c =
     let later = g.D.Desk.bytes c.load_random_budgets.new.desk in
     let last = g.D.Desk.bytes c.load_random_choices.new.desk in
     let after = g.D.Desk.faults c.load_certificate.new.desk in
-    let why = c.in_err-patches_of.field-0.0 in
+    let why = c.in_err-patches.field-0.0 in
     let moved = moved_value files later s (Numbers s (choices_on c.in_ok-budgets.budgets)) c.in_ok-choices.choices (c.in_ok-budgets.ensures.bytes_stay s) c.in_ok-choices.ensures.loaded in
     let stays = c.in_ok-choices.ensures.bytes_stay t ∙ c.in_ok-budgets.ensures.bytes_stay t in
     let carried = moved_value files last t (CertificateIn t RandomKind) c.in_ok-certificate.certificate stays c.in_ok-certificate.ensures.loaded in
-    passed_on c.from_residual-in_err-patches_of.result why (IsCause files (Rose before after) (CheckRandom f s t c.args.per)) c.from_residual-in_err-patches_of.ensures
+    passed_on c.from_residual-in_err-patches.result why (IsCause files (Rose before after) (CheckRandom f s t c.args.per)) c.from_residual-in_err-patches.ensures
     (three_last files (Rose before after) (CheckRandom f s t c.args.per) f s t (Numbers f budgets_in) (λ b. Numbers s (choices_on b)) (CertificateIn t RandomKind) (λ b ch read. AndThen (TypedPatchesOf b ch c.args.per) (λ given. Just (Ok (CheckRandomOver given read)))) refl (λ bytes r read. read) c.in_ok-budgets.budgets c.in_ok-choices.choices c.in_ok-certificate.certificate why c.in_ok-budgets.ensures.loaded moved carried
-    (then_caused (TypedPatchesOf c.in_ok-budgets.budgets c.in_ok-choices.choices c.args.per) (λ given. CheckRandomOver given c.in_ok-certificate.certificate) why c.in_err-patches_of.ensures.caused))
+    (then_caused (TypedPatchesOf c.in_ok-budgets.budgets c.in_ok-choices.choices c.args.per) (λ given. CheckRandomOver given c.in_ok-certificate.certificate) why c.in_err-patches.ensures.caused))
 
 pub returns-clause-read : goal.returns-clause-read
 returns-clause-read g c =
@@ -89,5 +89,5 @@ returns-clause-read g c =
     let moved = moved_value files later s (Numbers s (choices_on c.in_ok-budgets.budgets)) c.in_ok-choices.choices (c.in_ok-budgets.ensures.bytes_stay s) c.in_ok-choices.ensures.loaded in
     let stays = c.in_ok-choices.ensures.bytes_stay t ∙ c.in_ok-budgets.ensures.bytes_stay t in
     let carried = moved_value files last t (CertificateIn t RandomKind) c.in_ok-certificate.certificate stays c.in_ok-certificate.ensures.loaded in
-    let given = typed c.in_ok-patches_of.patches c.in_ok-patches_of.types in
-    three_input files rose (CheckRandom f s t c.args.per) f s t (Numbers f budgets_in) (λ b. Numbers s (choices_on b)) (CertificateIn t RandomKind) (λ b ch read. AndThen (TypedPatchesOf b ch c.args.per) (λ given. Just (Ok (CheckRandomOver given read)))) refl (λ bytes r read. read) c.in_ok-budgets.budgets c.in_ok-choices.choices c.in_ok-certificate.certificate (CheckRandomOver given c.in_ok-certificate.certificate) c.in_ok-budgets.ensures.loaded moved carried (given, c.in_ok-patches_of.ensures.made, refl)
+    let given = typed c.in_ok-patches.patches c.in_ok-patches.types in
+    three_input files rose (CheckRandom f s t c.args.per) f s t (Numbers f budgets_in) (λ b. Numbers s (choices_on b)) (CertificateIn t RandomKind) (λ b ch read. AndThen (TypedPatchesOf b ch c.args.per) (λ given. Just (Ok (CheckRandomOver given read)))) refl (λ bytes r read. read) c.in_ok-budgets.budgets c.in_ok-choices.choices c.in_ok-certificate.certificate (CheckRandomOver given c.in_ok-certificate.certificate) c.in_ok-budgets.ensures.loaded moved carried (given, c.in_ok-patches.ensures.made, refl)

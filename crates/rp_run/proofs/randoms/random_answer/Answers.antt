@@ -4,7 +4,10 @@ use Rattle.rp_check.specs.RandomVerdict.{IsRandomVerdictOn}
 use Rattle.rp_check.specs.declared.verdict.Verdict.TheVariants.{Accepted}
 use Rattle.rp_evidence.specs.declared.certificate.Certificate.{Certificate}
 use Rattle.rp_types.specs.Listed.{types_of}
-use Rattle.rp_run.specs.Randoms.{random_certificate}
+use Rattle.rp_evidence.specs.declared.certificate.Kind.TheVariants.{Random as RandomKind}
+use Rattle.rp_readable.proofs.ItemsFit.{random_readable}
+use Rattle.rp_readable.proofs.SameValues.{text_read_back}
+use Rattle.rp_readable.specs.ReadBack.{IsReadBack, random_certificate}
 use Rattle.rp_run.proofs.randoms.random_answer.Goals as goal
 
 pub returns : goal.returns
@@ -20,4 +23,6 @@ returns c =
       given_so = c.in_ok-part.ensures.run;
       accepted = subst (λ (made : Certificate). IsRandomVerdictOn p made.items Accepted) (sym item)
           (random_certificate_passes p c.budgets.ensures.valid types c.requires.few c.requires.all part c.in_ok-part.ensures.run);
+      read_back = subst (IsReadBack RandomKind) (sym item)
+          (text_read_back RandomKind (random_certificate p.total part) (random_readable p types part c.budgets.ensures.valid c.in_ok-part.ensures.proves c.in_ok-part.ensures.run));
     }

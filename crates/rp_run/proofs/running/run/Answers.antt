@@ -1,8 +1,8 @@
-use Rattle.std.proofs.Common.{◌≡◌, Some, None, map, string_bytes, sym, inr}
+use Rattle.std.proofs.Common.{◌≡◌, ◌∙◌, Some, None, map, string_bytes, sym, inl, inr}
 use Rattle.rp_run.specs.CommandLine.{line_in}
 use Rattle.rp_run.specs.Named.{named_line}
 use Rattle.rp_run.proofs.MatchesNameALine.{refused_where_no_line}
-use Rattle.rp_run.proofs.RunLemmas.{cause_of_accepted, not_both}
+use Rattle.rp_run.proofs.RunLemmas.{cause_of_accepted, done_line_apart, line_rejected, not_both, rejected_line_apart}
 use Rattle.rp_run.proofs.ShapeLemmas.{shape_given}
 use Rattle.rp_run.proofs.running.run.Goals as goal
 
@@ -35,3 +35,30 @@ returns-in-Err-clause-complete g c = λ line is accepted calm _.
     let before = g.D.Desk.faults c.args.desk.now in
     let after = g.D.Desk.faults c.answer_line.new.desk in
     inr (rw c.refuse-in-Err.ensures.status (cause_of_accepted (g.D.Desk.bytes c.args.desk.now) before after (line_in c.args.words.now.items) (named_line c.in-Some.line) line c.in-Err.cause asked is accepted calm c.in-Err.ensures.caused))
+
+pub returns-in-Ok-answer_line-clause-rejected : goal.returns-in-Ok-answer_line-clause-rejected
+returns-in-Ok-answer_line-clause-rejected g c = λ rejected.
+    let answer = c.in-Ok-answer_line in
+    let asked : line_in c.args.words.now.items ≡ Some (named_line c.in-Some.line) = rw (c.in-Some.is, c.as_slice.ensures.value) at (sym c.in-Ok.ensures.exact) in
+    elim c.finish.ensures.either [
+      | inl same ↦ line_rejected (g.D.Desk.bytes c.args.desk.now) (line_in c.args.words.now.items) (named_line c.in-Some.line) answer.answer.status answer.answer.text.items asked answer.ensures.answered (sym same ∙ rejected)
+      | inr fault ↦ (let wrong = sym fault ∙ rejected in absurd cc)
+    ]
+
+pub returns-in-Ok-answer_line-clause-never_done : goal.returns-in-Ok-answer_line-clause-never_done
+returns-in-Ok-answer_line-clause-never_done g c = λ line is must done.
+    let answer = c.in-Ok-answer_line in
+    let asked : line_in c.args.words.now.items ≡ Some (named_line c.in-Some.line) = rw (c.in-Some.is, c.as_slice.ensures.value) at (sym c.in-Ok.ensures.exact) in
+    elim c.finish.ensures.either [
+      | inl same ↦ done_line_apart (g.D.Desk.bytes c.args.desk.now) (line_in c.args.words.now.items) (named_line c.in-Some.line) line answer.answer.status answer.answer.text.items asked is answer.ensures.answered must (sym same ∙ done)
+      | inr fault ↦ (let wrong = sym fault ∙ done in cc)
+    ]
+
+pub returns-in-Ok-answer_line-clause-never_rejected : goal.returns-in-Ok-answer_line-clause-never_rejected
+returns-in-Ok-answer_line-clause-never_rejected g c = λ line is must rejected.
+    let answer = c.in-Ok-answer_line in
+    let asked : line_in c.args.words.now.items ≡ Some (named_line c.in-Some.line) = rw (c.in-Some.is, c.as_slice.ensures.value) at (sym c.in-Ok.ensures.exact) in
+    elim c.finish.ensures.either [
+      | inl same ↦ rejected_line_apart (g.D.Desk.bytes c.args.desk.now) (line_in c.args.words.now.items) (named_line c.in-Some.line) line answer.answer.status answer.answer.text.items asked is answer.ensures.answered must (sym same ∙ rejected)
+      | inr fault ↦ (let wrong = sym fault ∙ rejected in cc)
+    ]
