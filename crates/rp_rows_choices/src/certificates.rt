@@ -39,7 +39,11 @@ fn certificates_are_accepted_over_their_own_files(rt: HostRuntime) -> Result<(),
             &["rp", "checkrandom", "b.csv", "c.csv", "v.json"],
             files,
         )?;
-        assert!(rt; gives(&got, Status::Done, ACCEPTED), "{choices} {}", got.out);
+        assert!(rt;
+            gives(&got, Status::Done, ACCEPTED),
+            "{choices} {}",
+            got.out
+        );
     }
     Ok(())
 }
@@ -68,7 +72,15 @@ fn certificates_of_so_many_units(rt: HostRuntime) -> Result<(), Fail> {
             ("100", Status::Done, ACCEPTED),
             ("99", Status::Rejected, rejected),
         ] {
-            let checked = &["rp", "checkrandom", "b.csv", "c.csv", "v.json", "--per", per];
+            let checked = &[
+                "rp",
+                "checkrandom",
+                "b.csv",
+                "c.csv",
+                "v.json",
+                "--per",
+                per,
+            ];
             let got = run_over(rt.alloc(), checked, files)?;
             assert!(rt;
                 gives(&got, status, text),
@@ -112,7 +124,11 @@ fn certificates_are_rejected_over_other_choices(rt: HostRuntime) -> Result<(), F
         ];
         let checked = &["rp", "checkrandom", "b.csv", "c.csv", "v.json"];
         let got = run_over(rt.alloc(), checked, files)?;
-        assert!(rt; gives(&got, Status::Rejected, text), "{choices} {}", got.out);
+        assert!(rt;
+            gives(&got, Status::Rejected, text),
+            "{choices} {}",
+            got.out
+        );
     }
     Ok(())
 }

@@ -12,12 +12,7 @@ fn the_first_fault_of_several_is_told(rt: HostRuntime) -> Result<(), Fail> {
     for (budgets, choices, certificate, line) in [
         ("", UNKNOWN, "", "rp: b.csv: Empty\n"),
         ("", "", OF_VIOLATION, "rp: b.csv: Empty\n"),
-        (
-            CROSSED,
-            UNKNOWN,
-            "",
-            "rp: c.csv: UnknownBudget record 1\n",
-        ),
+        (CROSSED, UNKNOWN, "", "rp: c.csv: UnknownBudget record 1\n"),
         (CROSSED, COPRIME, "", "rp: v.json: NotJson\n"),
         (CROSSED, COPRIME, OF_VIOLATION, "rp: NeedUnit budget 2\n"),
     ] {
@@ -93,7 +88,11 @@ fn files_that_are_not_there(rt: HostRuntime) -> Result<(), Fail> {
 #[test]
 fn faults_of_budgets_and_choices(rt: HostRuntime) -> Result<(), Fail> {
     for (budgets, choices, line) in [
-        ("p_a,w\n1,0\n", VIOLATION, "rp: b.csv: ZeroBundle record 1\n"),
+        (
+            "p_a,w\n1,0\n",
+            VIOLATION,
+            "rp: b.csv: ZeroBundle record 1\n",
+        ),
         (
             "p_a,w\n1,4\n0,4\n",
             VIOLATION,

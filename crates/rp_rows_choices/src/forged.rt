@@ -1,4 +1,4 @@
-use crate::given::{CROSSED, MIXTURE, ON_A_TABLE, OF_VIOLATION, VIOLATION};
+use crate::given::{CROSSED, MIXTURE, OF_VIOLATION, ON_A_TABLE, VIOLATION};
 use crate::outcome::{gives, run_over, tells};
 use rp_run::Status;
 use std::test::Fail;
@@ -101,14 +101,21 @@ fn forged_certificates(rt: HostRuntime) -> Result<(), Fail> {
         ),
         (VIOLATION, "", Status::Done, "accepted items 0 withheld 0\n"),
     ] {
-        let certificate = format!(in alloc; "{{\"items\":[{items}],\"kind\":\"random\",\"version\":1}}\n")?;
+        let certificate = format!(in alloc;
+            "{{\"items\":[{items}],\"kind\":\"random\",\"version\":1}}\n"
+        )?;
         let files = &[
             ("b.csv", CROSSED),
             ("c.csv", choices),
             ("v.json", certificate.as_str()),
         ];
         let got = run_over(alloc, WORDS, files)?;
-        assert!(rt; gives(&got, status, text), "{items} {} {}", got.out, got.err);
+        assert!(rt;
+            gives(&got, status, text),
+            "{items} {} {}",
+            got.out,
+            got.err
+        );
     }
     Ok(())
 }

@@ -108,7 +108,12 @@ fn fans_past_the_limits(rt: HostRuntime) -> Result<(), Fail> {
     ] {
         let (budgets, choices) = (fan(alloc, n)?, corners(alloc, n, once)?);
         let got = found(alloc, budgets.as_str(), choices.as_str(), options)?;
-        assert!(rt; tells(&got, Status::Refused, line), "{n} {} {}", got.out, got.err);
+        assert!(rt;
+            tells(&got, Status::Refused, line),
+            "{n} {} {}",
+            got.out,
+            got.err
+        );
         let certificate = "{\"items\":[],\"kind\":\"random\",\"version\":1}";
         let files = &[
             ("b.csv", budgets.as_str()),
@@ -118,7 +123,12 @@ fn fans_past_the_limits(rt: HostRuntime) -> Result<(), Fail> {
         let mut words = Vec::from_slice(alloc, &["rp", "checkrandom", "b.csv", "c.csv", "v.json"])?;
         words.extend_from_slice(options)?;
         let got = run_over(alloc, words.as_slice(), files)?;
-        assert!(rt; tells(&got, Status::Refused, line), "{n} {} {}", got.out, got.err);
+        assert!(rt;
+            tells(&got, Status::Refused, line),
+            "{n} {} {}",
+            got.out,
+            got.err
+        );
     }
     Ok(())
 }
@@ -133,6 +143,11 @@ fn pairs_up_to_the_limit_of_types(rt: HostRuntime) -> Result<(), Fail> {
     assert!(rt; gives(&got, Status::Done, text), "{} {}", got.out, got.err);
     let (budgets, choices) = (pairs(alloc, 8)?, choices_on_pairs(alloc, 8)?);
     let got = found(alloc, budgets.as_str(), choices.as_str(), &[])?;
-    assert!(rt; tells(&got, Status::Refused, "rp: TooManyTypes\n"), "{} {}", got.out, got.err);
+    assert!(rt;
+        tells(&got, Status::Refused, "rp: TooManyTypes\n"),
+        "{} {}",
+        got.out,
+        got.err
+    );
     Ok(())
 }

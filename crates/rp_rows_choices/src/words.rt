@@ -4,15 +4,18 @@ use rp_run::Status;
 use std::alloc::Global;
 use std::test::Fail;
 
-const USAGE: &str = "usage: rp pairs TABLE\n       rp analyse TABLE\n       rp certify TABLE\n       rp check TABLE CERT\n\
+const USAGE: &str =
+    "usage: rp pairs TABLE\n       rp analyse TABLE\n       rp certify TABLE\n       rp check TABLE CERT\n\
     \x20      rp demand TABLE NEW [--json]\n       rp welfare TABLE NEW [--json]\n\
     \x20      rp utility TABLE BUNDLES\n       rp random BUDGETS CHOICES [--per N] [--json]\n\
     \x20      rp checkrandom BUDGETS CHOICES CERT [--per N]\n       rp trial SEED ROWS GOODS\n";
 
-const REPORT: &str = "budgets 2 patches 4 types 3 total 4\nrandom violated share 3/4\nweights 1 0 1 0 over 1\n\
+const REPORT: &str =
+    "budgets 2 patches 4 types 3 total 4\nrandom violated share 3/4\nweights 1 0 1 0 over 1\n\
     part 1 4 weight 1\npart 2 3 weight 2\n";
 
-const PER_100: &str = "budgets 2 patches 4 types 3 total 100\napportioned per 100\nrandom violated share 3/4\n\
+const PER_100: &str =
+    "budgets 2 patches 4 types 3 total 100\napportioned per 100\nrandom violated share 3/4\n\
     weights 1 0 1 0 over 1\npart 1 4 weight 25\npart 2 3 weight 50\n";
 
 const ACCEPTED: &str = "accepted items 1 withheld 0\n";
@@ -99,7 +102,9 @@ fn words_that_are_refused(rt: HostRuntime) -> Result<(), Fail> {
         &["rp", "random", "b.csv", "--per", "100"],
         &["rp", "random", "b.csv", "c.csv", "--pe", "100"],
         &["rp", "random", "b.csv", "c.csv", "-per", "100"],
-        &["rp", "random", "b.csv", "c.csv", "--per", "100", "--per", "100"],
+        &[
+            "rp", "random", "b.csv", "c.csv", "--per", "100", "--per", "100",
+        ],
         &["rp", "--per", "100", "random", "b.csv", "c.csv"],
         &["rp", "random", "b.csv", "c.csv", "--help"],
         &["rp", "checkrandom", "b.csv", "c.csv"],
@@ -134,7 +139,15 @@ fn units_out_of_range_are_refused(rt: HostRuntime) -> Result<(), Fail> {
         let random = &["rp", "random", "b.csv", "c.csv", "--per", per];
         let got = over_files(rt.alloc(), random)?;
         assert!(rt; tells(&got, Status::Usage, USAGE), "random per {per}");
-        let checked = &["rp", "checkrandom", "b.csv", "c.csv", "v.json", "--per", per];
+        let checked = &[
+            "rp",
+            "checkrandom",
+            "b.csv",
+            "c.csv",
+            "v.json",
+            "--per",
+            per,
+        ];
         let got = over_files(rt.alloc(), checked)?;
         assert!(rt; tells(&got, Status::Usage, USAGE), "checkrandom per {per}");
     }
