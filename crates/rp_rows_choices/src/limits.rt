@@ -133,21 +133,45 @@ fn fans_past_the_limits(rt: HostRuntime) -> Result<(), Fail> {
     Ok(())
 }
 
-/// Seven pairs have 3^7 rational types, and eight have more than the limit.
+/// Seven pairs have 3^7 rational types. Each takes a patch of the last pair that lies above the other budget, and those have
+/// three of the four units. The test takes seconds as it is built, and minutes with the checks of `rt try`.
 #[test]
-fn pairs_up_to_the_limit_of_types(rt: HostRuntime) -> Result<(), Fail> {
+fn seven_pairs(rt: HostRuntime) -> Result<(), Fail> {
     let alloc = rt.alloc();
     let (budgets, choices) = (pairs(alloc, 7)?, choices_on_pairs(alloc, 7)?);
     let got = found(alloc, budgets.as_str(), choices.as_str(), &[])?;
-    let text = "budgets 14 patches 28 types 2187 total 4\nrandom violated share 3/4\n";
+    let text = "budgets 14 patches 28 types 2187 total 4\nrandom violated share 3/4\n\
+        weights 0 0 0 0 0 0 0 0 0 0 0 0 0 0 0 0 0 0 0 0 0 0 0 0 1 0 1 0 over 1\n\
+        part 1 4 6 7 10 11 14 15 18 19 22 23 26 27 weight 1\n\
+        part 2 3 5 8 10 11 14 15 18 19 22 23 26 27 weight 1\n\
+        part 2 3 6 7 9 12 13 16 17 20 21 24 25 28 weight 1\n";
     assert!(rt; gives(&got, Status::Done, text), "{} {}", got.out, got.err);
+    let certificate = "{\"items\":[{\"den\":\"1\",\"item\":\"random\",\"parts\":[\
+        [[1,4,6,7,10,11,14,15,18,19,22,23,26,27],\"1\"],\
+        [[2,3,5,8,10,11,14,15,18,19,22,23,26,27],\"1\"],\
+        [[2,3,6,7,9,12,13,16,17,20,21,24,25,28],\"1\"]],\"total\":\"4\",\"weights\":[\
+        \"0\",\"0\",\"0\",\"0\",\"0\",\"0\",\"0\",\"0\",\"0\",\"0\",\"0\",\"0\",\"0\",\"0\",\
+        \"0\",\"0\",\"0\",\"0\",\"0\",\"0\",\"0\",\"0\",\"0\",\"0\",\"1\",\"0\",\"1\",\"0\"]}],\
+        \"kind\":\"random\",\"version\":1}\n";
+    let files = &[
+        ("b.csv", budgets.as_str()),
+        ("c.csv", choices.as_str()),
+        ("v.json", certificate),
+    ];
+    let words = &["rp", "checkrandom", "b.csv", "c.csv", "v.json"];
+    let got = run_over(alloc, words, files)?;
+    let accepted = gives(&got, Status::Done, "accepted items 1 withheld 0\n");
+    assert!(rt; accepted, "{} {}", got.out, got.err);
+    Ok(())
+}
+
+/// Eight pairs have more rational types than the limit.
+#[test]
+fn eight_pairs(rt: HostRuntime) -> Result<(), Fail> {
+    let alloc = rt.alloc();
     let (budgets, choices) = (pairs(alloc, 8)?, choices_on_pairs(alloc, 8)?);
     let got = found(alloc, budgets.as_str(), choices.as_str(), &[])?;
-    assert!(rt;
-        tells(&got, Status::Refused, "rp: TooManyTypes\n"),
-        "{} {}",
-        got.out,
-        got.err
-    );
+    let told = tells(&got, Status::Refused, "rp: TooManyTypes\n");
+    assert!(rt; told, "{} {}", got.out, got.err);
     Ok(())
 }
