@@ -9,3 +9,5 @@ mod fronts;
 mod outside;
 #[cfg(test)]
 mod pairs;
+#[cfg(test)]
+mod randoms;

@@ -1,0 +1,177 @@
+ghost use Rattle.std.specs.Prelude.{◌≤◌};
+
+use crate::outcome::{Ended, gives, run_over, tells};
+use rp_run::Status;
+use std::alloc::{AllocError, Global};
+use std::test::Fail;
+
+/// So many budgets with prices (j, n + 1 - j) and income 1.
+fn fan(alloc: Global, n: u32) -> Result<String, AllocError>
+    requires { n ≤ 48 }
+{
+    let mut text = String::from_str(alloc, "p_a,p_b,w\n")?;
+    for j in 0..n {
+        let (first, second) = (j + 1, n - j);
+        text.push_str(format!(in alloc; "{first},{second},1\n")?.as_str())?;
+    }
+    Ok(text)
+}
+
+/// Choices of each good alone on each of so many budgets: once each, or so that each budget has another number of choices.
+fn corners(alloc: Global, n: u32, once: bool) -> Result<String, AllocError>
+    requires { n ≤ 48 }
+{
+    let mut text = String::from_str(alloc, "budget,q_a,q_b,n\n")?;
+    for j in 1..n + 1 {
+        let times = if once { 1 } else { 99_990 - j };
+        text.push_str(format!(in alloc; "{j},1,0,1\n{j},0,1,{times}\n")?.as_str())?;
+    }
+    Ok(text)
+}
+
+/// So many pairs of crossed budgets, each with ten times the income of the one before.
+fn pairs(alloc: Global, n: u32) -> Result<String, AllocError>
+    requires { n ≤ 8 }
+{
+    let mut text = String::from_str(alloc, "p_a,p_b,w\n")?;
+    let mut income = String::from_str(alloc, "4")?;
+    for _ in 0..n {
+        let w = income.as_str();
+        text.push_str(format!(in alloc; "1,2,{w}\n2,1,{w}\n")?.as_str())?;
+        income.push_str("0")?;
+    }
+    Ok(text)
+}
+
+/// The same four choices on each pair.
+fn choices_on_pairs(alloc: Global, n: u32) -> Result<String, AllocError>
+    requires { n ≤ 8 }
+{
+    let mut text = String::from_str(alloc, "budget,q_a,q_b,n\n")?;
+    for i in 0..n {
+        let (a, b) = (2 * i + 1, 2 * i + 2);
+        text.push_str(format!(in alloc; "{a},2,1,1\n{a},0,2,3\n{b},1,2,2\n{b},2,0,2\n")?.as_str())?;
+    }
+    Ok(text)
+}
+
+/// What `random` does over budgets and choices, with these further words.
+fn found(alloc: Global, budgets: &str, choices: &str, options: &[&str]) -> Result<Ended, Fail> {
+    let mut words = Vec::from_slice(alloc, &["rp", "random", "b.csv", "c.csv"])?;
+    words.extend_from_slice(options)?;
+    let files = &[("b.csv", budgets), ("c.csv", choices)];
+    run_over(alloc, words.as_slice(), files)
+}
+
+/// Of the 2^20 combinations on a fan those are rational that take the first good up to some budget and the second from there on.
+/// Half of the choices are the first good alone, and half the second.
+#[test]
+fn twenty_budgets(rt: HostRuntime) -> Result<(), Fail> {
+    let alloc = rt.alloc();
+    let (budgets, choices) = (fan(alloc, 20)?, corners(alloc, 20, true)?);
+    let got = found(alloc, budgets.as_str(), choices.as_str(), &[])?;
+    let text = "budgets 20 patches 40 types 21 total 2\nrandom mixture over 1\n\
+        part 1 3 5 7 9 11 13 15 17 19 21 23 25 27 29 31 33 35 37 39 weight 1\n\
+        part 2 4 6 8 10 12 14 16 18 20 22 24 26 28 30 32 34 36 38 40 weight 1\n";
+    assert!(rt; gives(&got, Status::Done, text), "{} {}", got.out, got.err);
+    let certificate = "{\"items\":[{\"den\":\"1\",\"item\":\"random\",\"parts\":[\
+        [[1,3,5,7,9,11,13,15,17,19,21,23,25,27,29,31,33,35,37,39],\"1\"],\
+        [[2,4,6,8,10,12,14,16,18,20,22,24,26,28,30,32,34,36,38,40],\"1\"]],\
+        \"total\":\"2\"}],\"kind\":\"random\",\"version\":1}\n";
+    let got = found(alloc, budgets.as_str(), choices.as_str(), &["--json"])?;
+    assert!(rt; gives(&got, Status::Done, certificate), "{}", got.out);
+    let files = &[
+        ("b.csv", budgets.as_str()),
+        ("c.csv", choices.as_str()),
+        ("v.json", certificate),
+    ];
+    let words = &["rp", "checkrandom", "b.csv", "c.csv", "v.json"];
+    let got = run_over(alloc, words, files)?;
+    assert!(rt; gives(&got, Status::Done, "accepted items 1 withheld 0\n"));
+    Ok(())
+}
+
+/// Of what a fan is refused for the patches come first, then the unit that is needed, and then the combinations.
+#[test]
+fn fans_past_the_limits(rt: HostRuntime) -> Result<(), Fail> {
+    let alloc = rt.alloc();
+    for (n, once, options, line) in [
+        (21, true, &[] as &[&str], "rp: TooManyCombinations\n"),
+        (24, true, &[], "rp: TooManyCombinations\n"),
+        (25, true, &[], "rp: TooManyPatches budget 25\n"),
+        (26, true, &[], "rp: TooManyPatches budget 25\n"),
+        // 99,990 choices on the first budget and 99,989 on the second
+        (21, false, &[], "rp: NeedUnit budget 2\n"),
+        (25, false, &[], "rp: TooManyPatches budget 25\n"),
+        (21, false, &["--per", "2"], "rp: TooManyCombinations\n"),
+        (25, true, &["--per", "2"], "rp: TooManyPatches budget 25\n"),
+    ] {
+        let (budgets, choices) = (fan(alloc, n)?, corners(alloc, n, once)?);
+        let got = found(alloc, budgets.as_str(), choices.as_str(), options)?;
+        assert!(rt;
+            tells(&got, Status::Refused, line),
+            "{n} {} {}",
+            got.out,
+            got.err
+        );
+        let certificate = "{\"items\":[],\"kind\":\"random\",\"version\":1}";
+        let files = &[
+            ("b.csv", budgets.as_str()),
+            ("c.csv", choices.as_str()),
+            ("v.json", certificate),
+        ];
+        let mut words = Vec::from_slice(alloc, &["rp", "checkrandom", "b.csv", "c.csv", "v.json"])?;
+        words.extend_from_slice(options)?;
+        let got = run_over(alloc, words.as_slice(), files)?;
+        assert!(rt;
+            tells(&got, Status::Refused, line),
+            "{n} {} {}",
+            got.out,
+            got.err
+        );
+    }
+    Ok(())
+}
+
+/// Seven pairs have 3^7 rational types. Each takes a patch of the last pair that lies above the other budget, and those have
+/// three of the four units. The test takes seconds as it is built, and minutes with the checks of `rt try`.
+#[test]
+fn seven_pairs(rt: HostRuntime) -> Result<(), Fail> {
+    let alloc = rt.alloc();
+    let (budgets, choices) = (pairs(alloc, 7)?, choices_on_pairs(alloc, 7)?);
+    let got = found(alloc, budgets.as_str(), choices.as_str(), &[])?;
+    let text = "budgets 14 patches 28 types 2187 total 4\nrandom violated share 3/4\n\
+        weights 0 0 0 0 0 0 0 0 0 0 0 0 0 0 0 0 0 0 0 0 0 0 0 0 1 0 1 0 over 1\n\
+        part 1 4 6 7 10 11 14 15 18 19 22 23 26 27 weight 1\n\
+        part 2 3 5 8 10 11 14 15 18 19 22 23 26 27 weight 1\n\
+        part 2 3 6 7 9 12 13 16 17 20 21 24 25 28 weight 1\n";
+    assert!(rt; gives(&got, Status::Done, text), "{} {}", got.out, got.err);
+    let certificate = "{\"items\":[{\"den\":\"1\",\"item\":\"random\",\"parts\":[\
+        [[1,4,6,7,10,11,14,15,18,19,22,23,26,27],\"1\"],\
+        [[2,3,5,8,10,11,14,15,18,19,22,23,26,27],\"1\"],\
+        [[2,3,6,7,9,12,13,16,17,20,21,24,25,28],\"1\"]],\"total\":\"4\",\"weights\":[\
+        \"0\",\"0\",\"0\",\"0\",\"0\",\"0\",\"0\",\"0\",\"0\",\"0\",\"0\",\"0\",\"0\",\"0\",\
+        \"0\",\"0\",\"0\",\"0\",\"0\",\"0\",\"0\",\"0\",\"0\",\"0\",\"1\",\"0\",\"1\",\"0\"]}],\
+        \"kind\":\"random\",\"version\":1}\n";
+    let files = &[
+        ("b.csv", budgets.as_str()),
+        ("c.csv", choices.as_str()),
+        ("v.json", certificate),
+    ];
+    let words = &["rp", "checkrandom", "b.csv", "c.csv", "v.json"];
+    let got = run_over(alloc, words, files)?;
+    let accepted = gives(&got, Status::Done, "accepted items 1 withheld 0\n");
+    assert!(rt; accepted, "{} {}", got.out, got.err);
+    Ok(())
+}
+
+/// Eight pairs have more rational types than the limit.
+#[test]
+fn eight_pairs(rt: HostRuntime) -> Result<(), Fail> {
+    let alloc = rt.alloc();
+    let (budgets, choices) = (pairs(alloc, 8)?, choices_on_pairs(alloc, 8)?);
+    let got = found(alloc, budgets.as_str(), choices.as_str(), &[])?;
+    let told = tells(&got, Status::Refused, "rp: TooManyTypes\n");
+    assert!(rt; told, "{} {}", got.out, got.err);
+    Ok(())
+}
