@@ -1,4 +1,4 @@
-use crate::outside::{CALM, CONTRADICTION, Ended, Plan, is_ended, run_over};
+use crate::outside::{CALM, CERTIFICATE, CONTRADICTION, Ended, Plan, is_ended, run_over};
 use rp_run::Status;
 use std::alloc::Global;
 use std::process::Abort;
@@ -8,23 +8,26 @@ const APART: &str = "p_a,q_a,p_b,q_b\n1,2,2,1\n2,1,1,2\n";
 
 const MORE_AND_LESS: &str = "p_a,q_a,p_b,q_b\n1,4,1,4\n1,2,1,2\n";
 
-/// A line of words over files, and the text that it writes.
+/// A line of words over files, and how it ends where nothing fails, with the text that it writes.
 #[derive(Clone, Copy)]
 struct Case<'a> {
     words: &'a [&'a str],
     files: &'a [(&'a str, &'a str)],
+    status: Status,
     text: &'a str,
 }
 
 const PAIRS: Case<'static> = Case {
     words: &["rp", "pairs", "t.csv"],
     files: &[("t.csv", CONTRADICTION)],
+    status: Status::Done,
     text: "pair 1 2\n",
 };
 
 const ANALYSE: Case<'static> = Case {
     words: &["rp", "analyse", "t.csv"],
     files: &[("t.csv", CONTRADICTION)],
+    status: Status::Done,
     text: "observations 2 goods 2 places 0 0\ngarp violated\ncycle 1 2 1\nafriat none\ncycle 1 2 1\n\
         efficiency 4/5 attained yes\nbelow 1 1\nabove 1 2 1\nat ranks 2 2\n\
         homothetic violated\nstart 1\ncycle 1 2 1\nquasilinear violated\ncycle 1 2 1\n",
@@ -33,15 +36,14 @@ const ANALYSE: Case<'static> = Case {
 const CERTIFY: Case<'static> = Case {
     words: &["rp", "certify", "t.csv"],
     files: &[("t.csv", CONTRADICTION)],
-    text: "{\"items\":[{\"cycle\":[1,2,1],\"item\":\"garp\"},{\"cycle\":[1,2,1],\"item\":\"afriat\"},\
-        {\"above\":[1,2,1],\"at_ranks\":[2,2],\"below\":[1,1],\"item\":\"efficiency\",\"level\":\"4/5\"},\
-        {\"cycle\":[1,2,1],\"item\":\"homothetic\",\"start\":\"1\"},{\"cycle\":[1,2,1],\"item\":\"quasilinear\"}],\
-        \"kind\":\"table\",\"version\":1}\n",
+    status: Status::Done,
+    text: CERTIFICATE,
 };
 
 const UTILITY: Case<'static> = Case {
     words: &["rp", "utility", "t.csv", "b.csv"],
     files: &[("t.csv", MORE_AND_LESS), ("b.csv", "q_a,q_b\n3,3\n")],
+    status: Status::Done,
     text: "observations 2 goods 2 places 0 0\ngarp holds\nranks 2 1\nafriat model\nutility 0 -4\n\
         lambda 1 1\nat 1 value -2\n",
 };
@@ -49,6 +51,7 @@ const UTILITY: Case<'static> = Case {
 const DEMAND: Case<'static> = Case {
     words: &["rp", "demand", "t.csv", "n.csv"],
     files: &[("t.csv", APART), ("n.csv", "p_a,p_b,m\n1,1,3\n")],
+    status: Status::Done,
     text: "observations 2 goods 2 places 0 0\ngarp holds\nranks 1 1\n\
         demand prices 1 1 expenditure 3\nbelow 1 2\nstrict none\ninner 2 1 over 1\n\
         good 1 lower 1 upper 2\nlower x 1 2 y 2:1 4:1 over 1\nupper x 2 1 y 1:1 4:1 over 1\n\
@@ -58,17 +61,67 @@ const DEMAND: Case<'static> = Case {
 const WELFARE: Case<'static> = Case {
     words: &["rp", "welfare", "t.csv", "n.csv"],
     files: &[("t.csv", MORE_AND_LESS), ("n.csv", "p_a,p_b\n1,2\n")],
+    status: Status::Done,
     text: "observations 2 goods 2 places 0 0\ngarp holds\nranks 2 1\n\
         welfare prices 1 2 observation 1 lower 8 upper 12 at 1\nlower x 8 0 y 1:1 over 1\n\
         welfare prices 1 2 observation 2 lower 4 upper 6 at 2\nlower x 4 0 y 1:1 over 1\n",
 };
 
+const CHECK: Case<'static> = Case {
+    words: &["rp", "check", "t.csv", "c.json"],
+    files: &[("t.csv", CONTRADICTION), ("c.json", CERTIFICATE)],
+    status: Status::Done,
+    text: "accepted items 5 withheld 0\n",
+};
+
+const REJECTED: Case<'static> = Case {
+    words: &["rp", "check", "t.csv", "c.json"],
+    files: &[("t.csv", APART), ("c.json", CERTIFICATE)],
+    status: Status::Rejected,
+    text: "rejected item 1 NotWeak place 1\n",
+};
+
+const DEMAND_AS_JSON: Case<'static> = Case {
+    words: &["rp", "demand", "t.csv", "n.csv", "--json"],
+    files: &[("t.csv", CONTRADICTION), ("n.csv", "p_a,p_b,m\n1,1,3\n")],
+    status: Status::Done,
+    text: "{\"items\":[{\"cycle\":[1,2,1],\"item\":\"garp\"},\
+        {\"cycle\":[1,2,1],\"expenditure\":\"3\",\"item\":\"demand\",\"prices\":[\"1\",\"1\"]}],\
+        \"kind\":\"table\",\"version\":1}\n",
+};
+
+const WELFARE_AS_JSON: Case<'static> = Case {
+    words: &["rp", "welfare", "t.csv", "n.csv", "--json"],
+    files: &[("t.csv", MORE_AND_LESS), ("n.csv", "p_a,p_b\n1,2\n")],
+    status: Status::Done,
+    text: "{\"items\":[{\"item\":\"garp\",\"ranks\":[2,1]},\
+        {\"at\":1,\"item\":\"welfare\",\"lower\":{\"den\":\"1\",\"value\":\"8\",\"x\":[\"8\",\"0\"],\"y\":[[1,\"1\"]]},\
+        \"observation\":1,\"prices\":[\"1\",\"2\"],\"upper\":\"12\"},\
+        {\"at\":2,\"item\":\"welfare\",\"lower\":{\"den\":\"1\",\"value\":\"4\",\"x\":[\"4\",\"0\"],\"y\":[[1,\"1\"]]},\
+        \"observation\":2,\"prices\":[\"1\",\"2\"],\"upper\":\"6\"}],\"kind\":\"table\",\"version\":1}\n",
+};
+
 const TRIAL: Case<'static> = Case {
     words: &["rp", "trial", "7", "1", "1"],
     files: &[],
+    status: Status::Done,
     text: "trial 7 rows 1 goods 1\ngarp holds\nefficiency 1 attained yes\nhomothetic holds\n\
         quasilinear holds\n",
 };
+
+const CASES: [Case<'static>; 11] = [
+    PAIRS,
+    ANALYSE,
+    CERTIFY,
+    CHECK,
+    REJECTED,
+    DEMAND,
+    DEMAND_AS_JSON,
+    WELFARE,
+    WELFARE_AS_JSON,
+    UTILITY,
+    TRIAL,
+];
 
 /// What a case does where the reads and the writes of these numbers fail. Files are given whole, so that each has two reads;
 /// output is taken byte by byte.
@@ -89,11 +142,11 @@ fn with_failures(
     run_over(alloc, case.words, case.files, reads, writes, CALM)
 }
 
-/// The case gives its text where nothing fails.
-fn is_done(rt: &impl Abort, alloc: Global, case: Case<'_>) -> Result<(), Fail> {
+/// The case ends with its text where nothing fails.
+fn is_whole(rt: &impl Abort, alloc: Global, case: Case<'_>) -> Result<(), Fail> {
     let got = with_failures(alloc, case, &[], &[])?;
     assert!(rt;
-        is_ended(&got, Status::Done, case.text, ""),
+        is_ended(&got, case.status, case.text, ""),
         "{:?}",
         case.words
     );
@@ -114,17 +167,16 @@ fn reads_fail(rt: &impl Abort, alloc: Global, case: Case<'_>) -> Result<(), Fail
     }
     let got = with_failures(alloc, case, &[number], &[])?;
     assert!(rt;
-        is_ended(&got, Status::Done, case.text, ""),
+        is_ended(&got, case.status, case.text, ""),
         "{:?}",
         case.words
     );
     Ok(())
 }
 
-/// The first write, one in the middle and the last fail in turn: what was written is a front of the text.
+/// Each write fails in turn: what was written is a front of the text.
 fn writes_fail(rt: &impl Abort, alloc: Global, case: Case<'_>) -> Result<(), Fail> {
-    let len = case.text.len();
-    for kept in [0, len / 2, len.saturating_sub(1)] {
+    for kept in 0..case.text.len() {
         let Some(front) = case.text.get(..kept) else {
             return Err("past the end".into());
         };
@@ -137,23 +189,23 @@ fn writes_fail(rt: &impl Abort, alloc: Global, case: Case<'_>) -> Result<(), Fai
 
 #[test]
 fn each_command_over_its_files(rt: HostRuntime) -> Result<(), Fail> {
-    for case in [PAIRS, ANALYSE, CERTIFY, UTILITY, DEMAND, WELFARE, TRIAL] {
-        is_done(&rt, rt.alloc(), case)?;
+    for case in CASES {
+        is_whole(&rt, rt.alloc(), case)?;
     }
     Ok(())
 }
 
 #[test]
 fn each_read_of_each_command_fails_in_turn(rt: HostRuntime) -> Result<(), Fail> {
-    for case in [PAIRS, ANALYSE, CERTIFY, UTILITY, DEMAND, WELFARE, TRIAL] {
+    for case in CASES {
         reads_fail(&rt, rt.alloc(), case)?;
     }
     Ok(())
 }
 
 #[test]
-fn writes_of_each_command_fail_in_turn(rt: HostRuntime) -> Result<(), Fail> {
-    for case in [PAIRS, ANALYSE, CERTIFY, UTILITY, DEMAND, WELFARE, TRIAL] {
+fn each_write_of_each_command_fails_in_turn(rt: HostRuntime) -> Result<(), Fail> {
+    for case in CASES {
         writes_fail(&rt, rt.alloc(), case)?;
     }
     Ok(())

@@ -1,4 +1,4 @@
-use crate::outside::{CALM, CONTRADICTION, Ended, is_ended, run_over};
+use crate::outside::{CALM, CERTIFICATE, CONTRADICTION, Ended, is_ended, run_over};
 use rp_run::Status;
 use std::alloc::Global;
 use std::process::Abort;
@@ -61,6 +61,44 @@ fn each_front_of_a_table(rt: HostRuntime) -> Result<(), Fail> {
     ] {
         let got = over_front(alloc, kept)?;
         assert!(rt; is_ended(&got, Status::Done, out, ""), "{kept} bytes");
+    }
+    Ok(())
+}
+
+/// What `check` does over the first bytes of the worked certificate.
+fn over_front_of_certificate(alloc: Global, kept: usize) -> Result<Ended, Fail> {
+    let Some(front) = CERTIFICATE.get(..kept) else {
+        return Err("past the end".into());
+    };
+    let files = [("t.csv", CONTRADICTION), ("c.json", front)];
+    run_over(
+        alloc,
+        &["rp", "check", "t.csv", "c.json"],
+        &files,
+        CALM,
+        CALM,
+        CALM,
+    )
+}
+
+#[test]
+fn each_front_of_a_certificate(rt: HostRuntime) -> Result<(), Fail> {
+    let alloc = rt.alloc();
+    assert_eq!(rt; CERTIFICATE.len(), 277);
+    for kept in 0..276 {
+        let got = over_front_of_certificate(alloc, kept)?;
+        assert!(rt;
+            is_ended(&got, Status::Refused, "", "rp: c.json: NotJson\n"),
+            "{kept} bytes"
+        );
+    }
+    // without its line feed, and whole
+    for kept in [276, 277] {
+        let got = over_front_of_certificate(alloc, kept)?;
+        assert!(rt;
+            is_ended(&got, Status::Done, "accepted items 5 withheld 0\n", ""),
+            "{kept} bytes"
+        );
     }
     Ok(())
 }

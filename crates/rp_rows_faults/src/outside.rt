@@ -6,6 +6,13 @@ use std::test::Fail;
 /// The file of the first worked row.
 pub(crate) const CONTRADICTION: &str = "p_a,q_a,p_b,q_b\n1,1,2,2\n2,2,1,1\n";
 
+/// Its certificate.
+pub(crate) const CERTIFICATE: &str =
+    "{\"items\":[{\"cycle\":[1,2,1],\"item\":\"garp\"},{\"cycle\":[1,2,1],\"item\":\"afriat\"},\
+        {\"above\":[1,2,1],\"at_ranks\":[2,2],\"below\":[1,1],\"item\":\"efficiency\",\"level\":\"4/5\"},\
+        {\"cycle\":[1,2,1],\"item\":\"homothetic\",\"start\":\"1\"},{\"cycle\":[1,2,1],\"item\":\"quasilinear\"}],\
+        \"kind\":\"table\",\"version\":1}\n";
+
 /// The most bytes that one call gives or takes, at least 1, and the numbers of the calls that fail.
 #[derive(Clone, Copy)]
 pub(crate) struct Plan<'a> {

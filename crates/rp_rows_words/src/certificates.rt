@@ -2,7 +2,7 @@ use crate::outcome::answer;
 use rp_run::Status;
 use std::test::Fail;
 
-const CONTRADICTION: &str =
+pub(crate) const CONTRADICTION: &str =
     "{\"items\":[{\"cycle\":[1,2,1],\"item\":\"garp\"},{\"cycle\":[1,2,1],\"item\":\"afriat\"},{\"above\":[1,2,1],\"at_ranks\":[2,2],\"below\":[1,1],\"item\":\"efficiency\",\"level\":\"4/5\"},{\"cycle\":[1,2,1],\"item\":\"homothetic\",\"start\":\"1\"},{\"cycle\":[1,2,1],\"item\":\"quasilinear\"}],\"kind\":\"table\",\"version\":1}\n";
 
 const DEMAND: &str =

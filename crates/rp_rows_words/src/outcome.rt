@@ -1,3 +1,4 @@
+use crate::certificates::CONTRADICTION;
 use rp_outside::{MemDesk, MemFile, MemSink};
 use rp_run::{Status, run};
 use std::alloc::Global;
@@ -20,12 +21,15 @@ fn owned(alloc: Global, words: &[&str]) -> Result<Vec<String>, Fail> {
     Ok(all)
 }
 
-/// Tables, of which two observations of `t.csv` and of `--x` contradict each other, and bundles and new prices beside them.
+/// Tables, of which two observations of `t.csv` and of `--x` contradict each other, and bundles, new prices and a certificate beside
+/// them.
 fn files(alloc: Global) -> Result<Vec<MemFile>, Fail> {
     let mut files = Vec::new(alloc);
     for (name, text) in [
         ("t.csv", "p_a,q_a,p_b,q_b\n1,1,2,2\n2,2,1,1\n"),
         ("--x", "p_a,q_a,p_b,q_b\n1,1,2,2\n2,2,1,1\n"),
+        ("c.json", CONTRADICTION),
+        ("--c", CONTRADICTION),
         ("b.csv", "q_a,q_b\n1,1\n"),
         ("two.csv", "p_a,q_a,p_b,q_b\n1,2,2,1\n2,1,1,2\n"),
         ("three.csv", "p_a,p_b,m\n1,1,3\n"),

@@ -3,7 +3,7 @@ use rp_run::Status;
 use std::test::Fail;
 
 const USAGE: &str =
-    "usage: rp pairs TABLE\n       rp analyse TABLE\n       rp certify TABLE\n       rp demand TABLE NEW [--json]\n       rp welfare TABLE NEW [--json]\n       rp utility TABLE BUNDLES\n       rp trial SEED ROWS GOODS\n";
+    "usage: rp pairs TABLE\n       rp analyse TABLE\n       rp certify TABLE\n       rp check TABLE CERT\n       rp demand TABLE NEW [--json]\n       rp welfare TABLE NEW [--json]\n       rp utility TABLE BUNDLES\n       rp random BUDGETS CHOICES [--per N] [--json]\n       rp checkrandom BUDGETS CHOICES CERT [--per N]\n       rp trial SEED ROWS GOODS\n";
 
 #[test]
 fn words_that_are_refused_are_told_by_the_usage(rt: HostRuntime) -> Result<(), Fail> {
@@ -23,6 +23,21 @@ fn words_that_are_refused_are_told_by_the_usage(rt: HostRuntime) -> Result<(), F
         &["rp", "utility", "t.csv", ""],
         &["rp", "pairs", "--json", "t.csv"],
         &["rp", "certify", "t.csv", "--json"],
+        &["rp", "check"],
+        &["rp", "check", "t.csv"],
+        &["rp", "check", "t.csv", "c.json", "c.json"],
+        &["rp", "check", "--", "t.csv", "c.json", "c.json"],
+        &["rp", "check", "", "c.json"],
+        &["rp", "check", "t.csv", ""],
+        &["rp", "check", "-x", "c.json"],
+        &["rp", "check", "t.csv", "-x"],
+        &["rp", "check", "t.csv", "--c"],
+        &["rp", "check", "t.csv", "c.json", "--json"],
+        &["rp", "check", "--json", "t.csv", "c.json"],
+        &["rp", "check", "t.csv", "c.json", "--per", "7"],
+        &["rp", "check", "--help"],
+        &["rp", "Check", "t.csv", "c.json"],
+        &["rp", "t.csv", "check", "c.json"],
         &["rp", "demand", "two.csv", "--json"],
         &["rp", "demand", "two.csv", "three.csv", "--json", "--json"],
         &["rp", "demand", "two.csv", "three.csv", "--json=true"],

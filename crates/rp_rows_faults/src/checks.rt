@@ -1,0 +1,101 @@
+use crate::outside::{CALM, CERTIFICATE, CONTRADICTION, Plan, is_ended, run_over};
+use rp_run::Status;
+use std::alloc::Global;
+use std::test::Fail;
+
+/// Whether `check` ends so, where both files and the output go byte by byte.
+fn ends(alloc: Global, reads: &[u64], status: Status, out: &str, err: &str) -> Result<bool, Fail> {
+    let reads = Plan {
+        piece: 1,
+        fails: reads,
+    };
+    let writes = Plan {
+        piece: 1,
+        fails: &[],
+    };
+    let words = ["rp", "check", "t.csv", "c.json"];
+    let files = [("t.csv", CONTRADICTION), ("c.json", CERTIFICATE)];
+    let got = run_over(alloc, &words, &files, reads, writes, CALM)?;
+    Ok(is_ended(&got, status, out, err))
+}
+
+/// 32 bytes of the table and 277 of the certificate, each with a read more that finds the end.
+#[test]
+fn each_read_of_a_byte_fails_in_turn(rt: HostRuntime) -> Result<(), Fail> {
+    let alloc = rt.alloc();
+    for number in 1..34u64 {
+        let told = ends(
+            alloc,
+            &[number],
+            Status::ReadFault,
+            "",
+            "rp: t.csv: read failed\n",
+        )?;
+        assert!(rt; told, "read {number}");
+    }
+    for number in 34..312u64 {
+        let told = ends(
+            alloc,
+            &[number],
+            Status::ReadFault,
+            "",
+            "rp: c.json: read failed\n",
+        )?;
+        assert!(rt; told, "read {number}");
+    }
+    for none in [&[] as &[u64], &[312]] {
+        let told = ends(
+            alloc,
+            none,
+            Status::Done,
+            "accepted items 5 withheld 0\n",
+            "",
+        )?;
+        assert!(rt; told, "no read fails");
+    }
+    Ok(())
+}
+
+/// Where the first write fails no verdict is told, whatever it is, and no failure of the errors changes the status.
+#[test]
+fn a_verdict_that_is_not_written_is_none(rt: HostRuntime) -> Result<(), Fail> {
+    let alloc = rt.alloc();
+    let first = Plan {
+        piece: 65_536,
+        fails: &[1],
+    };
+    let words = ["rp", "check", "t.csv", "c.json"];
+    let apart = "p_a,q_a,p_b,q_b\n1,2,2,1\n2,1,1,2\n";
+    for table in [CONTRADICTION, apart] {
+        let files = [("t.csv", table), ("c.json", CERTIFICATE)];
+        for errors in [CALM, first] {
+            let got = run_over(alloc, &words, &files, CALM, first, errors)?;
+            let told = if errors.fails.is_empty() {
+                "rp: write failed\n"
+            } else {
+                ""
+            };
+            assert!(rt; is_ended(&got, Status::WriteFault, "", told), "{table}");
+        }
+    }
+    Ok(())
+}
+
+/// A second write that fails after a piece leaves that piece of the verdict.
+#[test]
+fn a_rejection_that_is_cut_short(rt: HostRuntime) -> Result<(), Fail> {
+    let alloc = rt.alloc();
+    let second = Plan {
+        piece: 15,
+        fails: &[2],
+    };
+    let words = ["rp", "check", "t.csv", "c.json"];
+    let files = [
+        ("t.csv", "p_a,q_a,p_b,q_b\n1,2,2,1\n2,1,1,2\n"),
+        ("c.json", CERTIFICATE),
+    ];
+    let got = run_over(alloc, &words, &files, CALM, second, CALM)?;
+    let line = "rp: write failed\n";
+    assert!(rt; is_ended(&got, Status::WriteFault, "rejected item 1", line));
+    Ok(())
+}
