@@ -8,6 +8,7 @@ pub mod PatchesApart
 pub mod Pigeons
 pub mod PassedOn
 pub mod ReadBackLemmas
+pub mod RandomShapes
 pub mod RunLemmas
 pub mod TrialLemmas
 mod UtilityLemmas

@@ -15,13 +15,8 @@ use Rattle.clap.specs.ValueTests.{is_unsigned_in}
 use Rattle.clap.specs.declared.builder.value_parser.ValueParser.TheVariants.{Unsigned}
 use Rattle.rp_run.specs.CommandLine.{Line, Pairs, Analyse, Certify, Check, Demand, Welfare, Utility, Random, CheckRandom, Trial, line_named, line_of}
 use Rattle.rp_run.specs.Commands.{program}
+use Rattle.rp_run.proofs.RandomShapes.{IsPlainWord, both_free, both_named, checked_free, checked_named, per_free, per_named, plain_free, plain_named}
 use Rattle.rp_run.specs.Shapes.{HasShape, is_file_name, shape_of}
-
--- a word that is no flag
-record IsPlainWord (word : List ℕ) : Type 0 where
-  pub dashes : bytes_eq word (45 ∷ 45 ∷ []) ≡ false
-  pub long : long_of word ≡ None
-  pub short : short_of word ≡ None
 
 plain_word : (b : ℕ) (rest : List ℕ) → (b == 45) ≡ false → IsPlainWord (b ∷ rest)
 plain_word b rest other = record { dashes = rw other refl; long = rw other refl; short = rw other refl }
@@ -163,46 +158,6 @@ module _ (name b c : List ℕ) (wb : IsFileWord b) (wc : IsFileWord c) where
   unfolding clap_on_literals
   random_json_named = rw (wb.plain.dashes, wb.plain.long, wb.plain.short, wc.plain.dashes, wc.plain.long, wc.plain.short) refl
 
-  module _ (n : ℕ) (word : List ℕ) (w : IsNumberWord 1 1000000000 n word) where
-    random_per_free : fault_of program (name ∷ codes "random" ∷ b ∷ c ∷ codes "--per" ∷ word ∷ []) ≡ []
-    unfolding clap_on_literals
-    random_per_free = rw (wb.plain.dashes, wb.plain.long, wb.plain.short, wc.plain.dashes, wc.plain.long, wc.plain.short) (rw (w.plain.dashes, w.plain.long, w.plain.short) (rw (wb.filled, wc.filled, w.taken) refl))
-
-    random_per_named : line_named (subcommand_of program (name ∷ codes "random" ∷ b ∷ c ∷ codes "--per" ∷ word ∷ [])) ≡ Some (Random b c (Some n) false)
-    unfolding clap_on_literals
-    random_per_named = rw (wb.plain.dashes, wb.plain.long, wb.plain.short, wc.plain.dashes, wc.plain.long, wc.plain.short) (rw (w.plain.dashes, w.plain.long, w.plain.short, w.taken) (λ i. Some (Random b c (Some (w.value i)) false)))
-
-    random_both_free : fault_of program (name ∷ codes "random" ∷ b ∷ c ∷ codes "--per" ∷ word ∷ codes "--json" ∷ []) ≡ []
-    unfolding clap_on_literals
-    random_both_free = rw (wb.plain.dashes, wb.plain.long, wb.plain.short, wc.plain.dashes, wc.plain.long, wc.plain.short) (rw (w.plain.dashes, w.plain.long, w.plain.short) (rw (wb.filled, wc.filled, w.taken) refl))
-
-    random_both_named : line_named (subcommand_of program (name ∷ codes "random" ∷ b ∷ c ∷ codes "--per" ∷ word ∷ codes "--json" ∷ [])) ≡ Some (Random b c (Some n) true)
-    unfolding clap_on_literals
-    random_both_named = rw (wb.plain.dashes, wb.plain.long, wb.plain.short, wc.plain.dashes, wc.plain.long, wc.plain.short) (rw (w.plain.dashes, w.plain.long, w.plain.short, w.taken) (λ i. Some (Random b c (Some (w.value i)) true)))
-
-module _ (name b c t : List ℕ) (wb : IsFileWord b) (wc : IsFileWord c) (wt : IsFileWord t) where
-  check_random_free : fault_of program (name ∷ codes "checkrandom" ∷ b ∷ c ∷ t ∷ []) ≡ []
-  unfolding clap_on_literals
-  check_random_free =
-      rw (wb.plain.dashes, wb.plain.long, wb.plain.short, wc.plain.dashes, wc.plain.long, wc.plain.short) (rw (wt.plain.dashes, wt.plain.long, wt.plain.short) (rw (wb.filled, wc.filled, wt.filled) refl))
-
-  check_random_named : line_named (subcommand_of program (name ∷ codes "checkrandom" ∷ b ∷ c ∷ t ∷ [])) ≡ Some (CheckRandom b c t None)
-  unfolding clap_on_literals
-  check_random_named = rw (wb.plain.dashes, wb.plain.long, wb.plain.short, wc.plain.dashes, wc.plain.long, wc.plain.short) (rw (wt.plain.dashes, wt.plain.long, wt.plain.short) refl)
-
-  module _ (n : ℕ) (word : List ℕ) (w : IsNumberWord 1 1000000000 n word) where
-    check_random_per_free : fault_of program (name ∷ codes "checkrandom" ∷ b ∷ c ∷ t ∷ codes "--per" ∷ word ∷ []) ≡ []
-    unfolding clap_on_literals
-    check_random_per_free =
-        rw (wb.plain.dashes, wb.plain.long, wb.plain.short, wc.plain.dashes, wc.plain.long, wc.plain.short)
-        (rw (wt.plain.dashes, wt.plain.long, wt.plain.short) (rw (w.plain.dashes, w.plain.long, w.plain.short) (rw (wb.filled, wc.filled, wt.filled, w.taken) refl)))
-
-    check_random_per_named : line_named (subcommand_of program (name ∷ codes "checkrandom" ∷ b ∷ c ∷ t ∷ codes "--per" ∷ word ∷ [])) ≡ Some (CheckRandom b c t (Some n))
-    unfolding clap_on_literals
-    check_random_per_named =
-        rw (wb.plain.dashes, wb.plain.long, wb.plain.short, wc.plain.dashes, wc.plain.long, wc.plain.short)
-        (rw (wt.plain.dashes, wt.plain.long, wt.plain.short) (rw (w.plain.dashes, w.plain.long, w.plain.short, w.taken) (λ i. Some (CheckRandom b c t (Some (w.value i))))))
-
 -- words without a fault denote the line of their matches
 denotes : (words : List (List ℕ)) (line : Line) → fault_of program words ≡ [] → line_named (subcommand_of program words) ≡ Some line → line_of words ≡ Some line
 unfolding line_of
@@ -230,33 +185,37 @@ shape_taken name (Welfare table new true) (t, n) =
 shape_taken name (Utility table bundles) (t, b) =
     let w = file_word table t in
     let o = file_word bundles b in denotes _ (Utility table bundles) (utility_free name table bundles w o) (utility_named name table bundles w o)
-shape_taken name (Random budgets choices None false) (b, c, per) =
+shape_taken name (Random budgets choices None false) (b, c, unit) =
     let wb = file_word budgets b in
     let wc = file_word choices c in denotes _ (Random budgets choices None false) (random_free name budgets choices wb wc) (random_named name budgets choices wb wc)
-shape_taken name (Random budgets choices None true) (b, c, per) =
+shape_taken name (Random budgets choices None true) (b, c, unit) =
     let wb = file_word budgets b in
     let wc = file_word choices c in denotes _ (Random budgets choices None true) (random_json_free name budgets choices wb wc) (random_json_named name budgets choices wb wc)
 shape_taken name (Random budgets choices (Some n) false) (b, c, (least, most)) =
     let wb = file_word budgets b in
     let wc = file_word choices c in
     let w = number_word 1 1000000000 n (omega (arith, most)) least most in
-    denotes _ (Random budgets choices (Some n) false) (random_per_free name budgets choices wb wc n (decimal n) w) (random_per_named name budgets choices wb wc n (decimal n) w)
+    denotes _ (Random budgets choices (Some n) false) (per_free budgets choices (decimal n) wb.plain wc.plain w.plain wb.filled wc.filled n w.taken w.value name)
+    (per_named budgets choices (decimal n) wb.plain wc.plain w.plain wb.filled wc.filled n w.taken w.value name)
 shape_taken name (Random budgets choices (Some n) true) (b, c, (least, most)) =
     let wb = file_word budgets b in
     let wc = file_word choices c in
     let w = number_word 1 1000000000 n (omega (arith, most)) least most in
-    denotes _ (Random budgets choices (Some n) true) (random_both_free name budgets choices wb wc n (decimal n) w) (random_both_named name budgets choices wb wc n (decimal n) w)
-shape_taken name (CheckRandom budgets choices certificate None) (b, c, t, per) =
+    denotes _ (Random budgets choices (Some n) true) (both_free budgets choices (decimal n) wb.plain wc.plain w.plain wb.filled wc.filled n w.taken w.value name)
+    (both_named budgets choices (decimal n) wb.plain wc.plain w.plain wb.filled wc.filled n w.taken w.value name)
+shape_taken name (CheckRandom budgets choices certificate None) (b, c, t, unit) =
     let wb = file_word budgets b in
     let wc = file_word choices c in
     let wt = file_word certificate t in
-    denotes _ (CheckRandom budgets choices certificate None) (check_random_free name budgets choices certificate wb wc wt) (check_random_named name budgets choices certificate wb wc wt)
+    denotes _ (CheckRandom budgets choices certificate None) (plain_free budgets choices certificate wb.plain wc.plain wt.plain wb.filled wc.filled wt.filled name)
+    (plain_named budgets choices certificate wb.plain wc.plain wt.plain wb.filled wc.filled wt.filled name)
 shape_taken name (CheckRandom budgets choices certificate (Some n)) (b, c, t, (least, most)) =
     let wb = file_word budgets b in
     let wc = file_word choices c in
     let wt = file_word certificate t in
     let w = number_word 1 1000000000 n (omega (arith, most)) least most in
-    denotes _ (CheckRandom budgets choices certificate (Some n)) (check_random_per_free name budgets choices certificate wb wc wt n (decimal n) w) (check_random_per_named name budgets choices certificate wb wc wt n (decimal n) w)
+    denotes _ (CheckRandom budgets choices certificate (Some n)) (checked_free budgets choices certificate (decimal n) wb.plain wc.plain wt.plain w.plain wb.filled wc.filled wt.filled n w.taken w.value name)
+    (checked_named budgets choices certificate (decimal n) wb.plain wc.plain wt.plain w.plain wb.filled wc.filled wt.filled n w.taken w.value name)
 shape_taken name (Trial seed rows goods) (small, some_rows, few_rows, some_goods, few_goods) =
     let ws = number_word 0 18446744073709551615 seed small (omega arith) (omega arith) in
     let wr = number_word 1 256 rows (omega arith) some_rows few_rows in

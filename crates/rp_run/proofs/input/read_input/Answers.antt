@@ -76,3 +76,19 @@ returns-in_err-table-in-Welfare-clause-caused g c =
     let rose = Rose (g.D.Desk.faults c.args.desk.now) (g.D.Desk.faults c.load_table_prices.new.desk) in
     passed_on c.from_residual-in_err-table-in-Welfare.result c.in_err-table-in-Welfare.field-0.0 (IsCause files rose (named_line c.args.line)) c.from_residual-in_err-table-in-Welfare.ensures
     (rw c.in-Welfare.is (c.in_err-table-in-Welfare.ensures.caused c.in-Welfare.json))
+
+pub returns-in_ok-table-in-Check-clause-read : goal.returns-in_ok-table-in-Check-clause-read
+returns-in_ok-table-in-Check-clause-read g c = rw c.in-Check.is c.in_ok-table-in-Check.ensures.read
+
+pub returns-in_ok-patches-in-Random-clause-read : goal.returns-in_ok-patches-in-Random-clause-read
+returns-in_ok-patches-in-Random-clause-read g c = rw c.in-Random.is (c.in_ok-patches-in-Random.ensures.read c.in-Random.json)
+
+pub returns-in_err-patches-in-Random-clause-caused : goal.returns-in_err-patches-in-Random-clause-caused
+returns-in_err-patches-in-Random-clause-caused g c =
+    let files = g.D.Desk.bytes c.args.desk.now in
+    let rose = Rose (g.D.Desk.faults c.args.desk.now) (g.D.Desk.faults c.load_patches.new.desk) in
+    passed_on c.from_residual-in_err-patches-in-Random.result c.in_err-patches-in-Random.field-0.0 (IsCause files rose (named_line c.args.line)) c.from_residual-in_err-patches-in-Random.ensures
+    (rw c.in-Random.is (c.in_err-patches-in-Random.ensures.caused c.in-Random.json))
+
+pub returns-in-CheckRandom-clause-read : goal.returns-in-CheckRandom-clause-read
+returns-in-CheckRandom-clause-read g c = rw c.in-CheckRandom.is c.load_random_certificate.ensures.read
