@@ -61,7 +61,3 @@ pub(crate) const OF_ONE_CHOICE: &str =
 pub(crate) const OF_HALVES: &str =
     "{\"items\":[{\"den\":\"2\",\"item\":\"random\",\"parts\":[[[1,5,9],\"1\"],[[1,6,8],\"1\"],[[2,4,8],\"1\"],\
     [[2,6,7],\"1\"],[[3,4,7],\"1\"],[[3,5,9],\"1\"]],\"total\":\"3\"}],\"kind\":\"random\",\"version\":1}\n";
-
-/// A certificate of one observation's verdict, which is one on a table.
-pub(crate) const ON_A_TABLE: &str =
-    "{\"items\":[{\"item\":\"garp\",\"ranks\":[1]}],\"kind\":\"table\",\"version\":1}\n";

@@ -1,16 +1,10 @@
-//! Tests of `run` on `random` and `checkrandom`: reports, certificates and how they are checked, words, limits and faults.
+//! Tests of `run` on `random` and `checkrandom`: reports, certificates over their own files and over others, and words.
 #![tactic(auto)]
 
 #[cfg(test)]
 mod certificates;
 #[cfg(test)]
-mod faults;
-#[cfg(test)]
-mod forged;
-#[cfg(test)]
 mod given;
-#[cfg(test)]
-mod limits;
 #[cfg(test)]
 mod outcome;
 #[cfg(test)]

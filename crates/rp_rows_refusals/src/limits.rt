@@ -55,12 +55,54 @@ fn choices_on_pairs(alloc: Global, n: u32) -> Result<String, AllocError>
     Ok(text)
 }
 
-/// What `random` does over budgets and choices, with these further words.
-fn found(alloc: Global, budgets: &str, choices: &str, options: &[&str]) -> Result<Ended, Fail> {
-    let mut words = Vec::from_slice(alloc, &["rp", "random", "b.csv", "c.csv"])?;
-    words.extend_from_slice(options)?;
-    let files = &[("b.csv", budgets), ("c.csv", choices)];
-    run_over(alloc, words.as_slice(), files)
+const RANDOM: &[&str] = &["rp", "random", "b.csv", "c.csv"];
+
+const RANDOM_PER_2: &[&str] = &["rp", "random", "b.csv", "c.csv", "--per", "2"];
+
+const CHECKED: &[&str] = &["rp", "checkrandom", "b.csv", "c.csv", "v.json"];
+
+const CHECKED_PER_2: &[&str] = &[
+    "rp",
+    "checkrandom",
+    "b.csv",
+    "c.csv",
+    "v.json",
+    "--per",
+    "2",
+];
+
+/// What the words do over a fan, and choices of each good alone, and this certificate.
+fn over_fan(
+    alloc: Global,
+    words: &[&str],
+    n: u32,
+    once: bool,
+    certificate: &str,
+) -> Result<Ended, Fail>
+    requires { n ≤ 48 }
+{
+    let (budgets, choices) = (fan(alloc, n)?, corners(alloc, n, once)?);
+    let certificate = String::from_str(alloc, certificate)?;
+    let files = &[
+        ("b.csv", budgets.as_str()),
+        ("c.csv", choices.as_str()),
+        ("v.json", certificate.as_str()),
+    ];
+    run_over(alloc, words, files)
+}
+
+/// What the words do over so many pairs, and choices on them, and this certificate.
+fn over_pairs(alloc: Global, words: &[&str], n: u32, certificate: &str) -> Result<Ended, Fail>
+    requires { n ≤ 8 }
+{
+    let (budgets, choices) = (pairs(alloc, n)?, choices_on_pairs(alloc, n)?);
+    let certificate = String::from_str(alloc, certificate)?;
+    let files = &[
+        ("b.csv", budgets.as_str()),
+        ("c.csv", choices.as_str()),
+        ("v.json", certificate.as_str()),
+    ];
+    run_over(alloc, words, files)
 }
 
 /// Of the 2^20 combinations on a fan those are rational that take the first good up to some budget and the second from there on.
@@ -68,8 +110,7 @@ fn found(alloc: Global, budgets: &str, choices: &str, options: &[&str]) -> Resul
 #[test]
 fn twenty_budgets(rt: HostRuntime) -> Result<(), Fail> {
     let alloc = rt.alloc();
-    let (budgets, choices) = (fan(alloc, 20)?, corners(alloc, 20, true)?);
-    let got = found(alloc, budgets.as_str(), choices.as_str(), &[])?;
+    let got = over_fan(alloc, RANDOM, 20, true, "")?;
     let text = "budgets 20 patches 40 types 21 total 2\nrandom mixture over 1\n\
         part 1 3 5 7 9 11 13 15 17 19 21 23 25 27 29 31 33 35 37 39 weight 1\n\
         part 2 4 6 8 10 12 14 16 18 20 22 24 26 28 30 32 34 36 38 40 weight 1\n";
@@ -78,55 +119,38 @@ fn twenty_budgets(rt: HostRuntime) -> Result<(), Fail> {
         [[1,3,5,7,9,11,13,15,17,19,21,23,25,27,29,31,33,35,37,39],\"1\"],\
         [[2,4,6,8,10,12,14,16,18,20,22,24,26,28,30,32,34,36,38,40],\"1\"]],\
         \"total\":\"2\"}],\"kind\":\"random\",\"version\":1}\n";
-    let got = found(alloc, budgets.as_str(), choices.as_str(), &["--json"])?;
+    let json = &["rp", "random", "b.csv", "c.csv", "--json"];
+    let got = over_fan(alloc, json, 20, true, "")?;
     assert!(rt; gives(&got, Status::Done, certificate), "{}", got.out);
-    let files = &[
-        ("b.csv", budgets.as_str()),
-        ("c.csv", choices.as_str()),
-        ("v.json", certificate),
-    ];
-    let words = &["rp", "checkrandom", "b.csv", "c.csv", "v.json"];
-    let got = run_over(alloc, words, files)?;
-    assert!(rt; gives(&got, Status::Done, "accepted items 1 withheld 0\n"));
+    let got = over_fan(alloc, CHECKED, 20, true, certificate)?;
+    let accepted = gives(&got, Status::Done, "accepted items 1 withheld 0\n");
+    assert!(rt; accepted, "{} {}", got.out, got.err);
     Ok(())
 }
 
 /// Of what a fan is refused for the patches come first, then the unit that is needed, and then the combinations.
 #[test]
 fn fans_past_the_limits(rt: HostRuntime) -> Result<(), Fail> {
-    let alloc = rt.alloc();
-    for (n, once, options, line) in [
-        (21, true, &[] as &[&str], "rp: TooManyCombinations\n"),
-        (24, true, &[], "rp: TooManyCombinations\n"),
-        (25, true, &[], "rp: TooManyPatches budget 25\n"),
-        (26, true, &[], "rp: TooManyPatches budget 25\n"),
+    let empty = "{\"items\":[],\"kind\":\"random\",\"version\":1}";
+    for (words, n, once, line) in [
+        (RANDOM, 21, true, "rp: TooManyCombinations\n"),
+        (CHECKED, 21, true, "rp: TooManyCombinations\n"),
+        (RANDOM, 24, true, "rp: TooManyCombinations\n"),
+        (RANDOM, 25, true, "rp: TooManyPatches budget 25\n"),
+        (CHECKED, 25, true, "rp: TooManyPatches budget 25\n"),
+        (RANDOM, 26, true, "rp: TooManyPatches budget 25\n"),
         // 99,990 choices on the first budget and 99,989 on the second
-        (21, false, &[], "rp: NeedUnit budget 2\n"),
-        (25, false, &[], "rp: TooManyPatches budget 25\n"),
-        (21, false, &["--per", "2"], "rp: TooManyCombinations\n"),
-        (25, true, &["--per", "2"], "rp: TooManyPatches budget 25\n"),
+        (RANDOM, 21, false, "rp: NeedUnit budget 2\n"),
+        (CHECKED, 21, false, "rp: NeedUnit budget 2\n"),
+        (RANDOM, 25, false, "rp: TooManyPatches budget 25\n"),
+        (RANDOM_PER_2, 21, false, "rp: TooManyCombinations\n"),
+        (CHECKED_PER_2, 21, false, "rp: TooManyCombinations\n"),
+        (CHECKED_PER_2, 25, true, "rp: TooManyPatches budget 25\n"),
     ] {
-        let (budgets, choices) = (fan(alloc, n)?, corners(alloc, n, once)?);
-        let got = found(alloc, budgets.as_str(), choices.as_str(), options)?;
+        let got = over_fan(rt.alloc(), words, n, once, empty)?;
         assert!(rt;
             tells(&got, Status::Refused, line),
-            "{n} {} {}",
-            got.out,
-            got.err
-        );
-        let certificate = "{\"items\":[],\"kind\":\"random\",\"version\":1}";
-        let files = &[
-            ("b.csv", budgets.as_str()),
-            ("c.csv", choices.as_str()),
-            ("v.json", certificate),
-        ];
-        let mut words = Vec::from_slice(alloc, &["rp", "checkrandom", "b.csv", "c.csv", "v.json"])?;
-        words.extend_from_slice(options)?;
-        let got = run_over(alloc, words.as_slice(), files)?;
-        assert!(rt;
-            tells(&got, Status::Refused, line),
-            "{n} {} {}",
-            got.out,
+            "{n} {words:?} {}",
             got.err
         );
     }
@@ -138,8 +162,7 @@ fn fans_past_the_limits(rt: HostRuntime) -> Result<(), Fail> {
 #[test]
 fn seven_pairs(rt: HostRuntime) -> Result<(), Fail> {
     let alloc = rt.alloc();
-    let (budgets, choices) = (pairs(alloc, 7)?, choices_on_pairs(alloc, 7)?);
-    let got = found(alloc, budgets.as_str(), choices.as_str(), &[])?;
+    let got = over_pairs(alloc, RANDOM, 7, "")?;
     let text = "budgets 14 patches 28 types 2187 total 4\nrandom violated share 3/4\n\
         weights 0 0 0 0 0 0 0 0 0 0 0 0 0 0 0 0 0 0 0 0 0 0 0 0 1 0 1 0 over 1\n\
         part 1 4 6 7 10 11 14 15 18 19 22 23 26 27 weight 1\n\
@@ -153,13 +176,7 @@ fn seven_pairs(rt: HostRuntime) -> Result<(), Fail> {
         \"0\",\"0\",\"0\",\"0\",\"0\",\"0\",\"0\",\"0\",\"0\",\"0\",\"0\",\"0\",\"0\",\"0\",\
         \"0\",\"0\",\"0\",\"0\",\"0\",\"0\",\"0\",\"0\",\"0\",\"0\",\"1\",\"0\",\"1\",\"0\"]}],\
         \"kind\":\"random\",\"version\":1}\n";
-    let files = &[
-        ("b.csv", budgets.as_str()),
-        ("c.csv", choices.as_str()),
-        ("v.json", certificate),
-    ];
-    let words = &["rp", "checkrandom", "b.csv", "c.csv", "v.json"];
-    let got = run_over(alloc, words, files)?;
+    let got = over_pairs(alloc, CHECKED, 7, certificate)?;
     let accepted = gives(&got, Status::Done, "accepted items 1 withheld 0\n");
     assert!(rt; accepted, "{} {}", got.out, got.err);
     Ok(())
@@ -168,10 +185,11 @@ fn seven_pairs(rt: HostRuntime) -> Result<(), Fail> {
 /// Eight pairs have more rational types than the limit.
 #[test]
 fn eight_pairs(rt: HostRuntime) -> Result<(), Fail> {
-    let alloc = rt.alloc();
-    let (budgets, choices) = (pairs(alloc, 8)?, choices_on_pairs(alloc, 8)?);
-    let got = found(alloc, budgets.as_str(), choices.as_str(), &[])?;
-    let told = tells(&got, Status::Refused, "rp: TooManyTypes\n");
-    assert!(rt; told, "{} {}", got.out, got.err);
+    let empty = "{\"items\":[],\"kind\":\"random\",\"version\":1}";
+    for words in [RANDOM, CHECKED] {
+        let got = over_pairs(rt.alloc(), words, 8, empty)?;
+        let told = tells(&got, Status::Refused, "rp: TooManyTypes\n");
+        assert!(rt; told, "{words:?} {} {}", got.out, got.err);
+    }
     Ok(())
 }
