@@ -1,13 +1,9 @@
-//! Tests of `run` on certificates: those that it writes, and their check; forged and refused ones.
+//! Tests of `run` on the certificates that it writes and their check, and on the greatest size of one.
 #![tactic(auto)]
 
-#[cfg(test)]
-mod forged;
 #[cfg(test)]
 mod limits;
 #[cfg(test)]
 mod outcome;
-#[cfg(test)]
-mod refused;
 #[cfg(test)]
 mod written;

@@ -1,6 +1,5 @@
 use crate::outcome::{
-    APART, CERTIFICATE, CHECK, CONTRADICTION, EQUAL, MORE_AND_LESS, answer, answer_failing, check,
-    of_table,
+    APART, CHECK, CONTRADICTION, EQUAL, MORE_AND_LESS, answer, answer_failing, check, of_table,
 };
 use rp_evidence::Kind;
 use rp_json::{JsonFault, read, write};

@@ -139,11 +139,14 @@ fn the_table_is_read_before_the_certificate(rt: HostRuntime) -> Result<(), Fail>
 fn one_file_as_table_and_as_certificate(rt: HostRuntime) -> Result<(), Fail> {
     let alloc = rt.alloc();
     let files = [("t.csv", CONTRADICTION), ("c.json", CERTIFICATE)];
-    for (name, line) in [
-        ("t.csv", "rp: t.csv: NotJson\n"),
-        ("c.json", "rp: c.json: BadHeader column 1\n"),
+    for (words, line) in [
+        (&["rp", "check", "t.csv", "t.csv"], "rp: t.csv: NotJson\n"),
+        (
+            &["rp", "check", "c.json", "c.json"],
+            "rp: c.json: BadHeader column 1\n",
+        ),
     ] {
-        let got = answer(alloc, &["rp", "check", name, name], &files)?;
+        let got = answer(alloc, words, &files)?;
         assert_eq!(rt; got.err.as_str(), line);
         assert_eq!(rt; got.out.as_str(), "", "output where {line}");
         assert_eq!(rt; got.status, Status::Refused, "status where {line}");
