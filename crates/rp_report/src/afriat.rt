@@ -43,7 +43,8 @@ fn push_model(alloc: Global, out: &mut Vec<u8>, numbers: &Numbers) -> Result<(),
 /// Appends the line on numbers that are withheld. Observations are counted from 1.
 fn push_withheld(alloc: Global, out: &mut Vec<u8>, at: u32) -> Result<(), NoMemory>
     ensures { OnOk result (
-        out.new.items ≡ out.old.items ++ line_of (codes "afriat withheld at " ++ observation_text at)) }
+        out.new.items ≡ out.old.items
+        ++ line_of (codes "afriat withheld at " ++ observation_text at)) }
 {
     push_after::<Observation>(alloc, out, b"afriat withheld at ", at)?;
     out.push(b'\n')?;

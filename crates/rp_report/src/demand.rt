@@ -96,7 +96,8 @@ fn push_good_line(
     bounds: &GoodBounds,
 ) -> Result<(), NoMemory>
     ensures { OnOk result (out.new.items ≡ out.old.items
-        ++ line_of (codes "good " ++ decimal (good + 1) ++ codes " lower " ++ bound_text bounds.now.lower
+        ++ line_of (codes "good " ++ decimal (good + 1)
+        ++ codes " lower " ++ bound_text bounds.now.lower
         ++ codes " upper " ++ bound_text bounds.now.upper)) }
 {
     out.extend_from_slice(b"good ")?;

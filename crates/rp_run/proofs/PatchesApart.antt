@@ -109,7 +109,7 @@ pub same_rational : (p q : PatchList) → AreAlike p q → (type : List ℕ) →
 same_rational p q like type (t, none) = (
   same_type p q like type t,
   subst (λ (claim : Type 0). claim)
-  (λ i. HasNoViolation (like.budgets i) (λ k j. like.sign (slice_index type j) k i ≤ℤ pos 0) (λ k j. like.sign (slice_index type j) k i <ℤ pos 0)) none,
+      (λ i. HasNoViolation (like.budgets i) (λ k j. like.sign (slice_index type j) k i ≤ℤ pos 0) (λ k j. like.sign (slice_index type j) k i <ℤ pos 0)) none,
 )
 
 pub types_apart : (p q : PatchList) (types : List (List ℕ)) (fault : TypesFault) → AreAlike q p → AreRationalTypes p types → length types ≤ TYPES → combinations p p.budgets ≤ COMBINATIONS

@@ -32,7 +32,6 @@ level_free : (s : Shape) (rest : List Text) → walk_fault s [] (walk_from nothi
     → check_fault s (finished s.rules (walk s.rules [] nothing_held rest).held) false ≡ [] → level_fault s [] nothing_held rest false [] ≡ []
 level_free s rest w t d c = rw (w, t, d, c) refl
 
-
 -- the line of a command on random choices, by what its rows hold
 random_by : (rows : List Row) (b c w : List ℕ) (n : ℕ) (json : Bool) → first_of (codes "BUDGETS") rows ≡ Some b → first_of (codes "CHOICES") rows ≡ Some c → one_of (codes "per") rows ≡ Some w
     → json_of rows ≡ json → is_unsigned_in 1 1000000000 w ≡ true → digits_value 10 (without_leading_plus w) ≡ n → random_line rows ≡ Some (Random b c (Some n) json)

@@ -10,15 +10,18 @@ ghost use Rattle.rp_run.specs.Endings.{Rose};
 ghost use Rattle.rp_run.specs.Causes.{IsCause};
 ghost use Rattle.rp_run.specs.Named.{named_line, named_input, typed};
 
-use crate::files::{Cause, load_budgets, load_bundles, load_certificate, load_random_budgets, load_random_choices, load_prices, load_table};
+use crate::files::{
+    Cause, load_budgets, load_bundles, load_certificate, load_prices, load_random_budgets,
+    load_random_choices, load_table,
+};
 use crate::line::Line;
-use rp_evidence::{Certificate, Kind};
 use crate::patches::patches_of;
+use rp_evidence::{Certificate, Kind};
 use rp_num::Seq;
 use rp_outside::Desk;
 use rp_patch::Patches;
-use rp_types::Rational;
 use rp_table::{Bundles, Prices, Table};
+use rp_types::Rational;
 use std::alloc::Global;
 
 /// A command over what its files hold.
