@@ -12,6 +12,10 @@ pub mod OneMore
 pub mod Writing
 pub mod Clearing
 pub mod Pivoted
+pub mod Passing
+pub mod Summing
+pub mod Combining
+pub mod Starting
 pub mod Entries
 pub mod Runs
 pub mod Ending

@@ -1,5 +1,5 @@
 -- Sums of whole numbers whose terms change as rows do in a pivot.
-use Rattle.std.proofs.Common.{◌≡◌, ◌≢◌, ℕ, zero, suc, ◌+◌, ◌*◌, ◌<◌, ◌≤◌, ℤ, pos, negsuc, ◌+ℤ◌, ◌-ℤ◌, ◌*ℤ◌, ◌<ℤ◌, cond, eqb, true, false, inl, inr, refl, sym, ◌∙◌, ap, subst, arith}
+use Rattle.std.proofs.Common.{◌≡◌, ◌≢◌, ℕ, zero, suc, ◌+◌, ◌*◌, ◌<◌, ◌≤◌, ℤ, pos, negsuc, ◌+ℤ◌, ◌-ℤ◌, ◌*ℤ◌, ◌<ℤ◌, eqb, true, false, inl, inr, refl, sym, ◌∙◌, ap, subst, arith}
 use Rattle.std.proofs.lemmas.Int.{ints}
 use Rattle.std.proofs.lemmas.Bool.{cases_eq, eq-eqb, ne_eqb}
 use Rattle.std.proofs.Math.Nat.{eq_of_mul-eq-mul_right, lt_of_mul-lt-mul_right}
@@ -7,17 +7,20 @@ use borrow.Author.Differences.{up, down, same_in, same_out, product_is, lt_out, 
 use Rattle.rp_farkas.specs.Total.{total}
 use Rattle.rp_farkas.proofs.Integers.{times_strict}
 use Rattle.rp_farkas.proofs.Totals.{total-same, total-zero, total-add, total-scale}
+use Rattle.rp_simplex.specs.Combined.{delta}
 use Rattle.rp_simplex.proofs.Ring.{at, ◌⊕◌, ◌⊖◌, ◌⊗◌, ring}
-
--- 1 at the place i, and 0 elsewhere
-abbrev pub delta : ℕ → ℕ → ℤ
-delta i k = cond (eqb i k) (pos 1) (pos 0)
 
 pub delta-same : (i : ℕ) → delta i i ≡ pos 1
 delta-same i = let here : eqb i i ≡ true = eq-eqb i i refl in rw here refl
 
 pub delta-other : (i k : ℕ) → i ≢ k → delta i k ≡ pos 0
 delta-other i k ne = let other : eqb i k ≡ false = ne_eqb i k ne in rw other refl
+
+pub delta-swapped : (i k : ℕ) → delta i k ≡ delta k i
+delta-swapped i k = elim (cases_eq i k) [
+  | inl e ↦ subst (λ j. delta i j ≡ delta j i) e refl
+  | inr ne ↦ delta-other i k ne ∙ sym (delta-other k i (λ e. ne (sym e)))
+]
 
 pub total-delta_past : (n i : ℕ) (f : ℕ → ℤ) → n ≤ i → total n (λ k. delta i k *ℤ f k) ≡ pos 0
 total-delta_past n i f l =

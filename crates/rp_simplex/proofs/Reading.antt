@@ -15,8 +15,9 @@ use Rattle.rp_simplex.specs.FirstTableau.{first_entry}
 use Rattle.rp_simplex.specs.Lexicographic.{IsLexLess}
 use Rattle.rp_simplex.specs.Choice.{IsEntering, IsOptimal, IsUnbounded}
 use Rattle.rp_simplex.specs.Readout.{IsReadAt, ShowsPoint, ShowsPrices, ShowsRay}
+use Rattle.rp_simplex.specs.Combined.{delta}
 use Rattle.rp_simplex.proofs.Ring.{at, ◌⊕◌, ◌⊖◌, ◌⊗◌, ring}
-use Rattle.rp_simplex.proofs.Linear.{delta, delta-same, delta-other, total-delta}
+use Rattle.rp_simplex.proofs.Linear.{delta-same, delta-other, total-delta}
 use Rattle.rp_simplex.proofs.Sound.{IsSound}
 
 -- the row whose number is x, or none

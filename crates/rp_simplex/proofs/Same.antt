@@ -1,5 +1,5 @@
 -- Programs that are the same in every place that a program has, and the program that is read from tableau 0.
-use Rattle.std.proofs.Common.{◌≡◌, ℕ, zero, suc, ◌+◌, ◌-◌, ◌<◌, ◌≤◌, ℤ, pos, neg_ℤ, ◌≤ℤ◌, length, slice_index, ltb, true, false, inl, inr, refl, sym, ap, ◌∙◌, subst, arith}
+use Rattle.std.proofs.Common.{◌≡◌, ℕ, zero, suc, ◌+◌, ◌-◌, ◌<◌, ◌≤◌, ℤ, pos, neg_ℤ, ◌≤ℤ◌, slice_index, ltb, true, false, inl, inr, refl, sym, ap, ◌∙◌, subst, arith}
 use Rattle.std.specs.Int.RustNames.{unsigned_abs}
 use Rattle.std.proofs.lemmas.Int.{ints}
 use Rattle.std.proofs.lemmas.Bool.{cases_lt, lt-ltb, le-ltb}
@@ -17,6 +17,7 @@ use Rattle.rp_simplex.specs.ReadProgram.{IsSameProgram, program_in}
 use Rattle.rp_simplex.specs.Run.{Reaches, begins, pivots}
 use Rattle.rp_simplex.specs.Shown.{exact, IsShapedFor}
 use Rattle.rp_simplex.specs.Width.{IsWithinWidth}
+use Rattle.rp_simplex.specs.Written.{HasFirstEntries}
 use Rattle.rp_simplex.specs.declared.outcome.Outcome.{Outcome}
 use Rattle.rp_simplex.specs.declared.outcome.Outcome.TheVariants.{Optimal, Unbounded, Wide}
 use Rattle.rp_simplex.specs.declared.stage.Stage.{Stage}
@@ -46,19 +47,19 @@ twice : (z : ℤ) → neg_ℤ (neg_ℤ z) ≡ z
 twice z = omega (arith, ints)
 
 -- ---- the program that is read from tableau 0
-module _ (p : LinearProgram) (t : Stage) (first : IsFirstTableau p (exact t)) (shape : IsShapedFor p t) where
-  pub read_same : IsSameProgram p (program_in t.grid)
+module _ (p : LinearProgram) (t : Stage) (entries : HasFirstEntries p t.columns) (shape : IsShapedFor p t) where
+  pub read_same : IsSameProgram p (program_in t.columns)
   read_same =
-      let height : length t.grid.rows ≡ suc p.rows = omega (arith, t.count, shape.rows) in
-      let place : (j : ℕ) → length t.grid.rows + j ≡ suc (p.rows + j) = λ j. omega (arith, height) in
+      let height : t.columns.cols ≡ suc p.rows = omega (arith, t.columns_height, shape.rows) in
+      let place : (j : ℕ) → t.columns.cols + j ≡ suc (p.rows + j) = λ j. omega (arith, height) in
       record {
         rows = omega (arith, height);
-        cols = omega (arith, height, t.columns, shape.width);
-        a = λ i j hi hj. sym (ap (cell t.grid i) (place j) ∙ first.entries i (suc (p.rows + j)) (omega arith) (omega arith) ∙ first-own p i j hi);
-        b = λ i hi. sym (first.entries i 0 (omega arith) (omega arith) ∙ first-right p i hi);
+        cols = omega (arith, height, t.columns_count, shape.width);
+        a = λ i j hi hj. sym (ap (λ k. cell t.columns k i) (place j) ∙ (entries (suc (p.rows + j)) i (omega arith) (omega arith)).value_is ∙ first-own p i j hi);
+        b = λ i hi. sym ((entries 0 i (omega arith) (omega arith)).value_is ∙ first-right p i hi);
         c = λ j hj.
-            let last : length t.grid.rows - 1 ≡ p.rows = omega (arith, height) in
-            sym (ap neg_ℤ (ap (λ i. cell t.grid i (length t.grid.rows + j)) last ∙ ap (cell t.grid p.rows) (place j) ∙ first.entries p.rows (suc (p.rows + j)) (omega arith) (omega arith) ∙ first-objective p j) ∙ twice (p.c j));
+            let last : t.columns.cols - 1 ≡ p.rows = omega (arith, height) in
+            sym (ap neg_ℤ (ap (λ i. cell t.columns (t.columns.cols + j) i) last ∙ ap (λ k. cell t.columns k p.rows) (place j) ∙ (entries (suc (p.rows + j)) p.rows (omega arith) (omega arith)).value_is ∙ first-objective p j) ∙ twice (p.c j));
       }
 
 pub same_back : (p q : LinearProgram) → IsSameProgram p q → IsSameProgram q p
@@ -166,10 +167,10 @@ module _ (p q : LinearProgram) (same : IsSameProgram p q) where
   }
 
 -- tableau 0 of a program is tableau 0 of the program that is read from it, with the same room
-pub ready : (p : LinearProgram) (t : Stage) → IsFirstTableau p (exact t) → IsShapedFor p t → IsWithinLimits p → (room : Room) (rows cols : ℕ) → rows ≡ p.rows → cols ≡ p.cols → HasRooms room rows cols → IsReady t room
-ready p t first shape limits room rows cols rows_are cols_are rooms =
-    let q = program_in t.grid in
-    let same : IsSameProgram p q = read_same p t first shape in
+pub ready : (p : LinearProgram) (t : Stage) → IsFirstTableau p (exact t) → HasFirstEntries p t.columns → IsShapedFor p t → IsWithinLimits p → (room : Room) (rows cols : ℕ) → rows ≡ p.rows → cols ≡ p.cols → HasRooms room rows cols → IsReady t room
+ready p t first entries shape limits room rows cols rows_are cols_are rooms =
+    let q = program_in t.columns in
+    let same : IsSameProgram p q = read_same p t entries shape in
     record {
       first = same_first p q same (exact t) first;
       shape = same_shape p q same t shape;

@@ -6,6 +6,7 @@ pub mod Width
 pub mod Pivot
 pub mod Run
 pub mod Cells
+pub mod Combined
 pub mod Shown
 pub mod Readout
 pub mod Outcome

@@ -14,9 +14,9 @@ pub record HasRooms (room : Room) (rows cols : ℕ) : Type 0 where
   pub ray : HasRoom room.ray cols
   pub prices : HasRoom room.prices rows
 
--- The tableau is tableau 0 of the program that can be read from its grid, and there is room for the outcome.
+-- The tableau is tableau 0 of the program that can be read from its columns, and there is room for the outcome.
 pub record IsReady (t : Stage) (room : Room) : Type 0 where
-  pub first : IsFirstTableau (program_in t.grid) (exact t)
-  pub shape : IsShapedFor (program_in t.grid) t
-  pub limits : IsWithinLimits (program_in t.grid)
-  pub rooms : HasRooms room (program_in t.grid).rows (program_in t.grid).cols
+  pub first : IsFirstTableau (program_in t.columns) (exact t)
+  pub shape : IsShapedFor (program_in t.columns) t
+  pub limits : IsWithinLimits (program_in t.columns)
+  pub rooms : HasRooms room (program_in t.columns).rows (program_in t.columns).cols

@@ -1,11 +1,12 @@
 -- Rows of a grid that are written one element after the other: words of the crate's own functions and their proofs.
-use Rattle.std.specs.Prelude.{ℕ, ◌≡◌, ◌≢◌, ◌*◌, ◌^◌, ◌<◌, ◌≤◌, ℤ, pos, ◌*ℤ◌, ◌-ℤ◌, length}
+use Rattle.std.specs.Prelude.{ℕ, ◌≡◌, ◌≢◌, ◌*◌, ◌^◌, ◌<◌, ◌≤◌, ℤ, pos, ◌*ℤ◌, ◌-ℤ◌, List, if◌then◌else◌, ◌==◌, length}
 use Rattle.std.specs.Int.RustNames.{unsigned_abs}
 use Rattle.rp_farkas.specs.LinearProgram.{LinearProgram}
 use Rattle.rp_farkas.specs.Limits.{FitsEvidence, largest_entry}
 use Rattle.rp_grid.specs.Rows.{Rows, AreEqual, row_of}
 use Rattle.rp_simplex.specs.Cells.{cell}
-use Rattle.rp_simplex.specs.ExactTableau.{ExactTableau}
+use Rattle.rp_simplex.specs.Combined.{dot}
+use Rattle.rp_simplex.specs.ExactTableau.{width_of}
 use Rattle.rp_simplex.specs.FirstTableau.{first_entry}
 
 -- The first n elements of row i have been written, each as P says; nothing else has changed.
@@ -34,23 +35,38 @@ OnePasses n f d = (j : ℕ) × (j < n) × (2 ^ 63 * d ≤ unsigned_abs (f j))
 abbrev pub FitEvidence : Rows ℤ → ℕ → Type 0
 FitEvidence g i = (j : ℕ) → j < g.cols → FitsEvidence (unsigned_abs (cell g i j))
 
--- Row i times the pivot, less the multiple of row r that clears column c.
-abbrev pub less_multiple : Rows ℤ → ℕ → ℕ → ℕ → ℕ → ℤ
-less_multiple g r c i j = cell g i j *ℤ cell g r c -ℤ cell g i c *ℤ cell g r j
+-- Row i times the pivot's entry p, less row r times the factor f.
+abbrev pub less_multiple : Rows ℤ → ℕ → ℕ → ℤ → ℤ → ℕ → ℤ
+less_multiple g r i p f s = cell g i s *ℤ p -ℤ f *ℤ cell g r s
 
--- The first n rows but row r have been cleared and divided by d; the others are as they were.
-pub record AreRenewed (old new : Rows ℤ) (r c d n : ℕ) : Type 0 where
+-- The first n rows but row r have been changed by the pivot's entry p and their factors f, and divided by d; the
+-- others are as they were.
+pub record AreRenewed (old new : Rows ℤ) (r : ℕ) (p : ℤ) (f : ℕ → ℤ) (d n : ℕ) : Type 0 where
   pub count : length new.rows ≡ length old.rows
   pub cols : new.cols ≡ old.cols
   pub equal : AreEqual new
-  pub done : (i j : ℕ) → i < n → i ≢ r → j < old.cols → IsQuotient (less_multiple old r c i j) d (cell new i j)
+  pub done : (i j : ℕ) → i < n → i ≢ r → j < old.cols → IsQuotient (less_multiple old r i p (f i) j) d (cell new i j)
   pub left : (i : ℕ) → n ≤ i → row_of new i ≡ row_of old i
   pub pivot_row : row_of new r ≡ row_of old r
+
+-- The entry that row i of the multipliers makes of a column of tableau 0.
+abbrev pub factor : Rows ℤ → List ℤ → ℕ → ℤ
+factor m column i = dot m.cols (row_of m i) column
+
+-- These entries of all rows are within the width.
+abbrev pub FactorsFit : Rows ℤ → List ℤ → Type 0
+FactorsFit m column = (i : ℕ) → i < length m.rows → FitsEvidence (unsigned_abs (factor m column i))
+
+-- The number in row i and place s of the multipliers m after the pivot, before the common divisor is taken out: d was
+-- the denominator, p is the pivot's entry in row r, and f is the entry of row i in its column.
+abbrev pub moved : Rows ℤ → ℕ → ℕ → ℤ → ℕ → ℤ → ℕ → ℤ
+moved m d r p i f s = if i == r then cell m r s *ℤ pos d else less_multiple m r i p f s
 
 -- The numbers f, divided by d, stand in the rows of the grid.
 pub record ArePivoted (old new : Rows ℤ) (f : ℕ → ℕ → ℤ) (d : ℕ) : Type 0 where
   pub count : length new.rows ≡ length old.rows
   pub cols : new.cols ≡ old.cols
+  pub equal : AreEqual new
   pub done : (i j : ℕ) → i < length old.rows → j < old.cols → IsQuotient (f i j) d (cell new i j)
 
 -- The value is the entry of the first tableau in row i and column j, which is small.
@@ -58,6 +74,6 @@ pub record IsFirstEntry (p : LinearProgram) (i j : ℕ) (value : ℤ) : Type 0 w
   pub value_is : value ≡ first_entry p i j
   pub small : unsigned_abs value ≤ largest_entry
 
--- A denominator and the elements of a grid as a tableau; its basic columns are of no account.
-abbrev pub numbers : ℕ → Rows ℤ → ExactTableau
-numbers den g = record { den = den; at = cell g; basis = λ _. 0 }
+-- The entries of the first tableau stand in the grid, column by column.
+abbrev pub HasFirstEntries : LinearProgram → Rows ℤ → Type 0
+HasFirstEntries p g = (j i : ℕ) → j < width_of p → i ≤ p.rows → IsFirstEntry p i j (cell g j i)

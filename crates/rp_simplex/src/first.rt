@@ -1,10 +1,12 @@
 ghost use Rattle.std.specs.Prelude.{◌≡◌, ℕ, suc, ◌+◌, ◌<◌, ◌≤◌, IfOk, length, vec_len, slice_index};
 ghost use Rattle.std.specs.Int.RustNames.{unsigned_abs};
 ghost use Rattle.rp_farkas.specs.Limits.{largest_entry, most_rows};
+ghost use Rattle.rp_grid.specs.Rows.{AreEqual, row_of};
+ghost use Rattle.rp_simplex.specs.Combined.{AreSmall, delta};
 ghost use Rattle.rp_simplex.specs.ExactTableau.{width_of};
 ghost use Rattle.rp_simplex.specs.FirstTableau.{IsFirstTableau, first_entry};
 ghost use Rattle.rp_simplex.specs.Cells.{cell};
-ghost use Rattle.rp_simplex.specs.Written.{IsFirstEntry, IsWritten};
+ghost use Rattle.rp_simplex.specs.Written.{HasFirstEntries, IsFirstEntry, IsWritten};
 ghost use Rattle.rp_simplex.specs.Shown.{exact, IsShapedFor};
 
 use crate::stage::Stage;
@@ -44,33 +46,78 @@ fn starting_entry<P: Lp>(p: &P, i: usize, j: usize) -> i64
     program_entry(p, i, j - 1 - rows)
 }
 
-/// Writes row i of the first tableau.
-fn fill_row<P: Lp>(grid: &mut Grid<i64>, p: &P, i: usize)
-    requires row { i ≤ (P.program p.now).rows }
-    requires rows { length grid.old.rows ≡ (P.program p.now).rows + 1 }
-    requires cols { grid.old.cols ≡ width_of (P.program p.now) }
-    ensures { IsWritten grid.old grid.new i grid.old.cols
-        (λ j value. IsFirstEntry (P.program p.now) i j value) }
+/// Writes column j of the first tableau.
+fn fill_column<P: Lp>(columns: &mut Grid<i64>, p: &P, j: usize)
+    requires column { j < width_of (P.program p.now) }
+    requires count { length columns.old.rows ≡ width_of (P.program p.now) }
+    requires height { columns.old.cols ≡ suc (P.program p.now).rows }
+    ensures { IsWritten columns.old columns.new j columns.old.cols
+        (λ i value. IsFirstEntry (P.program p.now) i j value) }
 {
-    for j in 0..grid.cols() as usize {
-        grid.row_mut(i as u32)[j] = starting_entry(p, i, j);
+    for i in 0..columns.cols() as usize {
+        columns.row_mut(j as u32)[i] = starting_entry(p, i, j);
     }
 }
 
-/// All rows of the first tableau in one grid.
-fn starting_grid<P: Lp>(alloc: Global, p: &P) -> Result<Grid<i64>, NoMemory>
-    ensures rows { IfOk result (λ g. length g.rows ≡ (P.program p.now).rows + 1) }
-    ensures cols { IfOk result (λ g. g.cols ≡ width_of (P.program p.now)) }
-    ensures entries { IfOk result (λ g. (i j : ℕ)
-        → i ≤ (P.program p.now).rows → j < width_of (P.program p.now)
-        → IsFirstEntry (P.program p.now) i j (cell g i j)) }
+/// All columns of the first tableau in one grid.
+fn starting_columns<P: Lp>(alloc: Global, p: &P) -> Result<Grid<i64>, NoMemory>
+    ensures count { IfOk result (λ g. length g.rows ≡ width_of (P.program p.now)) }
+    ensures height { IfOk result (λ g. g.cols ≡ suc (P.program p.now).rows) }
+    ensures equal { IfOk result (λ g. AreEqual g) }
+    ensures entries { IfOk result (λ g. HasFirstEntries (P.program p.now) g) }
 {
     let rows = p.rows();
-    let mut grid = Grid::new(alloc, rows + 1, 1 + rows + p.cols(), 0)?;
-    for i in 0..rows as usize + 1 {
-        fill_row(&mut grid, p, i);
+    let width = 1 + rows + p.cols();
+    let mut columns = Grid::new(alloc, width, rows + 1, 0)?;
+    for j in 0..width as usize {
+        fill_column(&mut columns, p, j);
     }
-    Ok(grid)
+    Ok(columns)
+}
+
+/// The multipliers of the first tableau, whose rows are made of themselves.
+fn starting_multipliers(alloc: Global, count: u32) -> Result<Grid<i64>, NoMemory>
+    requires { count ≤ suc most_rows }
+    ensures count { IfOk result (λ g. length g.rows ≡ count) }
+    ensures width { IfOk result (λ g. g.cols ≡ count) }
+    ensures equal { IfOk result (λ g. AreEqual g) }
+    ensures units { IfOk result (λ g. (i s : ℕ) → i < count → s < count → cell g i s ≡ delta i s) }
+{
+    let mut multipliers = Grid::new(alloc, count, count, 0)?;
+    for i in 0..count {
+        multipliers.row_mut(i)[i as usize] = 1;
+    }
+    Ok(multipliers)
+}
+
+/// The largest of an element in absolute value and those before it.
+fn largest_in(column: &[i64], so_far: u64) -> u64
+    requires small { AreSmall largest_entry column.now }
+    requires so_far { so_far ≤ largest_entry }
+    ensures small { result ≤ largest_entry }
+    ensures grows { so_far ≤ result }
+    ensures bounds { AreSmall result column.now }
+{
+    let mut largest = so_far;
+    for s in 0..column.len() {
+        largest = largest.max(column[s].unsigned_abs());
+    }
+    largest
+}
+
+/// The largest element in absolute value.
+fn largest_of(columns: &Grid<i64>) -> u64
+    requires small { (j : ℕ) → j < length columns.now.rows
+        → AreSmall largest_entry (row_of columns.now j) }
+    ensures small { result ≤ largest_entry }
+    ensures bounds { (j : ℕ) → j < length columns.now.rows
+        → AreSmall result (row_of columns.now j) }
+{
+    let mut largest = 0;
+    for j in 0..columns.rows() {
+        largest = largest_in(columns.row(j), largest);
+    }
+    largest
 }
 
 /// The slack columns, one for each row.
@@ -90,16 +137,21 @@ fn slack_columns(alloc: Global, rows: usize) -> Result<Vec<usize>, NoMemory>
 pub fn first_stage<P: Lp>(alloc: Global, p: &P) -> Result<Stage, NoMemory>
     ensures first { IfOk result (λ t. IsFirstTableau (P.program p.now) (exact t)) }
     ensures shape { IfOk result (λ t. IsShapedFor (P.program p.now) t) }
+    ensures columns { IfOk result (λ t. HasFirstEntries (P.program p.now) t.columns) }
 {
     let rows = p.rows() as usize;
     let width = 1 + rows + p.cols() as usize;
-    let grid = starting_grid(alloc, p)?;
+    let columns = starting_columns(alloc, p)?;
+    let multipliers = starting_multipliers(alloc, rows as u32 + 1)?;
     let basis = slack_columns(alloc, rows)?;
+    let largest = largest_of(&columns);
     Ok(Stage {
         rows,
         width,
         den: 1,
-        grid,
+        largest,
+        columns,
+        multipliers,
         basis,
     })
 }

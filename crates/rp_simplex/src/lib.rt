@@ -3,15 +3,19 @@
 
 mod choice;
 mod division;
+mod divisor;
+mod dot;
 mod first;
 mod laws;
 mod outcome;
 mod pivot;
 mod readout;
+mod renewal;
 mod room;
 mod simplex;
 mod stage;
 mod tableau;
+mod width;
 
 pub use laws::{
     outcomes_are_evidence, same_programs_have_the_same_outcomes, the_run_is_determined,

@@ -31,11 +31,11 @@ pub fn maximize<P: Lp>(alloc: Global, p: &P) -> Result<Outcome, NoMemory>
 /// Runs from tableau 0 to the end, and lists the outcome in the room that is there for it.
 pub fn run(first: Stage, room: Room) -> Outcome
     requires { IsReady first room }
-    ensures outcome { IsOutcome (program_in first.grid) result }
+    ensures outcome { IsOutcome (program_in first.columns) result }
     ensures only { (other : Outcome)
-        → IsOutcome (program_in first.grid) other
-        → IsSameOutcome (program_in first.grid) result other }
-    ensures evidence { IsEvidence (program_in first.grid) result }
+        → IsOutcome (program_in first.columns) other
+        → IsSameOutcome (program_in first.columns) result other }
+    ensures evidence { IsEvidence (program_in first.columns) result }
 {
     let cols = first.width - 1 - first.rows;
     let mut t = first;

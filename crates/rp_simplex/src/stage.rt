@@ -1,28 +1,44 @@
-ghost use Rattle.std.specs.Prelude.{◌≡◌, ℕ, ◌+◌, ◌^◌, ◌<◌, ◌≤◌, ℤ, ◌*ℤ◌, length, vec_len};
+ghost use Rattle.std.specs.Prelude.{◌≡◌, ℕ, suc, ◌+◌, ◌^◌, ◌<◌, ◌≤◌, ℤ, pos, ◌*ℤ◌, length, vec_len};
 ghost use Rattle.std.specs.Int.RustNames.{unsigned_abs};
-ghost use Rattle.rp_farkas.specs.Limits.{FitsEvidence, most_columns, most_rows};
+ghost use Rattle.rp_farkas.specs.Limits.{FitsEvidence, largest_entry, most_columns, most_rows};
+ghost use Rattle.rp_grid.specs.Rows.{AreEqual, row_of};
 ghost use Rattle.rp_simplex.specs.Cells.{cell};
+ghost use Rattle.rp_simplex.specs.Combined.{AreSmall, combination, delta};
 
+use crate::dot::dot_product;
 use rp_grid::Grid;
 
-/// The tableau that the run stands at: its entries over one denominator, in one grid, and the basic column of each
-/// row. The last row is the objective; column 0 has the right sides, then come the slacks and the program's columns.
+/// The tableau that the run stands at, over one denominator: tableau 0 column by column, the multipliers that make each
+/// row out of the rows of tableau 0, and the basic column of each row. The last row is the objective; column 0 has the
+/// right sides, then come the slacks and the program's columns. No entry of tableau 0 passes `largest`.
 #[derive(Drop)]
 pub struct Stage {
     pub rows: usize,
     pub width: usize,
     pub den: u64,
-    pub grid: Grid<i64>,
+    pub largest: u64,
+    pub columns: Grid<i64>,
+    pub multipliers: Grid<i64>,
     pub basis: Vec<usize>,
     ghost few_rows: { rows ≤ most_rows },
     ghost few_columns: { width ≤ 1 + most_rows + most_columns },
-    ghost count: { length grid.rows ≡ rows + 1 },
-    ghost columns: { grid.cols ≡ width },
+    ghost width_past_rows: { rows < width },
+    ghost columns_count: { length columns.rows ≡ width },
+    ghost columns_height: { columns.cols ≡ suc rows },
+    ghost columns_equal: { AreEqual columns },
+    ghost multipliers_count: { length multipliers.rows ≡ suc rows },
+    ghost multipliers_width: { multipliers.cols ≡ suc rows },
+    ghost multipliers_equal: { AreEqual multipliers },
     ghost basis_length: { vec_len basis ≡ rows },
     ghost den_positive: { 0 < den },
     ghost den_fits: { FitsEvidence den },
+    ghost largest_small: { largest ≤ largest_entry },
+    ghost small: { (j : ℕ) → j < width → AreSmall largest (row_of columns j) },
+    ghost slacks: { (k s : ℕ) → k < rows → s ≤ rows → cell columns (suc k) s ≡ delta s k },
+    ghost objective: { (i : ℕ) → i ≤ rows
+        → cell multipliers i rows ≡ delta i rows *ℤ pos den },
     ghost entries_fit: { (i j : ℕ) → i ≤ rows → j < width
-        → FitsEvidence (unsigned_abs (cell grid i j)) },
+        → FitsEvidence (unsigned_abs (combination rows multipliers columns i j)) },
 }
 
 /// The product of two numbers below 2^63 in absolute value, which is below 2^126.
@@ -45,7 +61,17 @@ impl Stage {
         ensures value { result ≡ (exact self.now).at i j }
         ensures fits { FitsEvidence (unsigned_abs result) }
     {
-        self.grid.row(i as u32)[j]
+        dot_product(self.multipliers.row(i as u32), self.columns.row(j as u32)) as i64
+    }
+
+    /// The multiplier of row s of tableau 0 in row i.
+    pub fn multiplier(&self, i: usize, s: usize) -> i64
+        requires row { i ≤ self.now.rows }
+        requires place { s ≤ self.now.rows }
+        ensures value { result ≡ cell self.now.multipliers i s }
+        ensures fits { FitsEvidence (unsigned_abs result) }
+    {
+        self.multipliers.row(i as u32)[s]
     }
 
     /// The product of the numerators in row i, column c and in row k, column j.

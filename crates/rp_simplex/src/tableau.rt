@@ -14,8 +14,8 @@ use rp_num::NoMemory;
 use std::alloc::Global;
 use std::marker::Model;
 
-/// Tableau 0 of a program in one grid, with all the memory that its run takes. It means the program that can be read
-/// from it.
+/// Tableau 0 of a program, with all the memory that its run takes. It means the program that can be read from its
+/// columns.
 #[derive(Drop)]
 pub struct Tableau {
     stage: Stage,
@@ -32,7 +32,7 @@ impl Model for Tableau {
 
     ghost coded = { rows_code coded_ℤ };
 
-    ghost view = { λ t. t.stage.grid };
+    ghost view = { λ t. t.stage.columns };
 
     ghost invariant = { λ t. IsReady t.stage t.room };
 }

@@ -1,0 +1,166 @@
+//! The multipliers after a pivot.
+ghost use Prim.Native.Nat.{◌∣◌};
+ghost use Rattle.std.specs.Prelude.{◌≡◌, ◌≢◌, ℕ, suc, ◌^◌, ◌<◌, ◌≤◌, pos, ◌*ℤ◌, MatchBool, length};
+ghost use Rattle.std.specs.Int.RustNames.{unsigned_abs};
+ghost use Rattle.rp_farkas.specs.Limits.{FitsEvidence, largest_entry, most_rows};
+ghost use Rattle.rp_grid.specs.Rows.{row_of};
+ghost use Rattle.rp_simplex.specs.Cells.{cell};
+ghost use Rattle.rp_simplex.specs.Combined.{AreSmall, dot};
+ghost use Rattle.rp_simplex.specs.Written.{ArePivoted, AreRenewed, FactorsFit, FitEvidence, HasDivided};
+ghost use Rattle.rp_simplex.specs.Written.{OnePasses, less_multiple, factor, moved};
+
+use crate::division::quotient;
+use crate::divisor::difference_of_products;
+use crate::dot::dot_product;
+use crate::stage::product;
+use rp_grid::Grid;
+
+/// Takes from row i, times the pivot's entry, the multiple of row r that clears the pivot's column, and divides. Row r
+/// is read while row i is written. It stops at a number that passes the width.
+fn clear_row(grid: &mut Grid<i64>, r: u32, pivot: i64, i: u32, factor: i64, divisor: u128) -> bool
+    requires pivot_row { r < length grid.old.rows }
+    requires pivot { FitsEvidence (unsigned_abs pivot) }
+    requires row { i < length grid.old.rows }
+    requires factor { FitsEvidence (unsigned_abs factor) }
+    requires apart { i ≢ r }
+    requires fit { FitEvidence grid.old i }
+    requires pivot_fit { FitEvidence grid.old r }
+    requires positive { 0 < divisor }
+    requires small { divisor < 2 ^ 127 }
+    requires divides { (s : ℕ) → s < grid.old.cols
+        → divisor ∣ unsigned_abs (less_multiple grid.old r i pivot factor s) }
+    ensures { MatchBool result
+        (HasDivided grid.old grid.new i (less_multiple grid.old r i pivot factor) divisor)
+        (OnePasses grid.old.cols (less_multiple grid.old r i pivot factor) divisor) }
+{
+    let cols = grid.cols();
+    let mut rows = grid.two(i, r);
+    for s in 0..cols {
+        let number = difference_of_products(rows.into_at(s), pivot, factor, rows.from_at(s));
+        match quotient(number, divisor) {
+            Some(value) => rows.set(s, value),
+            None => return false,
+        }
+    }
+    true
+}
+
+/// Multiplies row i by a number, and divides. It stops at a number that passes the width.
+fn scale_row(grid: &mut Grid<i64>, i: u32, by: i64, divisor: u128) -> bool
+    requires row { i < length grid.old.rows }
+    requires fit { FitEvidence grid.old i }
+    requires by { FitsEvidence (unsigned_abs by) }
+    requires positive { 0 < divisor }
+    requires small { divisor < 2 ^ 127 }
+    requires divides { (j : ℕ) → j < grid.old.cols
+        → divisor ∣ unsigned_abs (cell grid.old i j *ℤ by) }
+    ensures { MatchBool result
+        (HasDivided grid.old grid.new i (λ j. cell grid.old i j *ℤ by) divisor)
+        (OnePasses grid.old.cols (λ j. cell grid.old i j *ℤ by) divisor) }
+{
+    for j in 0..grid.cols() as usize {
+        let entry = product(grid.row(i)[j], by);
+        match quotient(entry, divisor) {
+            Some(value) => grid.row_mut(i)[j] = value,
+            None => return false,
+        }
+    }
+    true
+}
+
+/// Clears the pivot's column in row i, and divides. A row with 0 there changes its scale alone.
+fn renew_row(grid: &mut Grid<i64>, r: u32, pivot: i64, i: u32, factor: i64, divisor: u128) -> bool
+    requires pivot_row { r < length grid.old.rows }
+    requires pivot { FitsEvidence (unsigned_abs pivot) }
+    requires row { i < length grid.old.rows }
+    requires factor { FitsEvidence (unsigned_abs factor) }
+    requires apart { i ≢ r }
+    requires fit { FitEvidence grid.old i }
+    requires pivot_fit { FitEvidence grid.old r }
+    requires positive { 0 < divisor }
+    requires small { divisor < 2 ^ 127 }
+    requires divides { (s : ℕ) → s < grid.old.cols
+        → divisor ∣ unsigned_abs (less_multiple grid.old r i pivot factor s) }
+    ensures { MatchBool result
+        (HasDivided grid.old grid.new i (less_multiple grid.old r i pivot factor) divisor)
+        (OnePasses grid.old.cols (less_multiple grid.old r i pivot factor) divisor) }
+{
+    if factor != 0 {
+        return clear_row(grid, r, pivot, i, factor, divisor);
+    }
+    scale_row(grid, i, pivot, divisor)
+}
+
+/// The entry of row i in the column of tableau 0 that enters.
+fn factor_of(grid: &Grid<i64>, column: &[i64], i: u32) -> i64
+    requires row { i < length grid.now.rows }
+    requires same { length column.now ≡ grid.now.cols }
+    requires few { grid.now.cols ≤ suc most_rows }
+    requires fit { FitEvidence grid.now i }
+    requires small { AreSmall largest_entry column.now }
+    requires factor_fits { FitsEvidence
+        (unsigned_abs (dot grid.now.cols (row_of grid.now i) column.now)) }
+    ensures { result ≡ dot grid.now.cols (row_of grid.now i) column.now }
+{
+    dot_product(grid.row(i), column) as i64
+}
+
+/// Writes the new multipliers of every row but row r.
+fn renew_others(grid: &mut Grid<i64>, column: &[i64], r: u32, pivot: i64, divisor: u128) -> bool
+    requires same { length column.now ≡ grid.old.cols }
+    requires few { grid.old.cols ≤ suc most_rows }
+    requires column_small { AreSmall largest_entry column.now }
+    requires pivot_row { r < length grid.old.rows }
+    requires pivot { FitsEvidence (unsigned_abs pivot) }
+    requires fit { (i : ℕ) → i < length grid.old.rows → FitEvidence grid.old i }
+    requires factors_fit { FactorsFit grid.old column.now }
+    requires positive { 0 < divisor }
+    requires small { divisor < 2 ^ 127 }
+    requires divides { (i s : ℕ) → i < length grid.old.rows → i ≢ r → s < grid.old.cols
+        → divisor ∣ unsigned_abs
+        (less_multiple grid.old r i pivot (factor grid.old column.now i) s) }
+    ensures { MatchBool result (AreRenewed grid.old grid.new r pivot (factor grid.old column.now)
+        divisor (length grid.old.rows))
+        ((i : ℕ) × (i < length grid.old.rows) × (i ≢ r) × OnePasses grid.old.cols
+        (less_multiple grid.old r i pivot (factor grid.old column.now i)) divisor) }
+{
+    for i in 0..grid.rows() {
+        if i != r {
+            let factor = factor_of(grid, column, i);
+            if !renew_row(grid, r, pivot, i, factor, divisor) {
+                return false;
+            }
+        }
+    }
+    true
+}
+
+/// Writes the new multipliers of all rows, those of row r last.
+pub fn renew(
+    grid: &mut Grid<i64>,
+    column: &[i64],
+    den: u64,
+    r: u32,
+    pivot: i64,
+    divisor: u128,
+) -> bool
+    requires same { length column.now ≡ grid.old.cols }
+    requires few { grid.old.cols ≤ suc most_rows }
+    requires column_small { AreSmall largest_entry column.now }
+    requires pivot_row { r < length grid.old.rows }
+    requires pivot { FitsEvidence (unsigned_abs pivot) }
+    requires fit { (i : ℕ) → i < length grid.old.rows → FitEvidence grid.old i }
+    requires factors_fit { FactorsFit grid.old column.now }
+    requires den { FitsEvidence den }
+    requires positive { 0 < divisor }
+    requires small { divisor < 2 ^ 127 }
+    requires divides { (i s : ℕ) → i < length grid.old.rows → s < grid.old.cols
+        → divisor ∣ unsigned_abs
+        (moved grid.old den r pivot i (factor grid.old column.now i) s) }
+    ensures { MatchBool result (ArePivoted grid.old grid.new
+        (λ i. moved grid.old den r pivot i (factor grid.old column.now i)) divisor)
+        ((i : ℕ) × (i < length grid.old.rows) × OnePasses grid.old.cols
+        (moved grid.old den r pivot i (factor grid.old column.now i)) divisor) }
+{
+    renew_others(grid, column, r, pivot, divisor) && scale_row(grid, r, den as i64, divisor)
+}
