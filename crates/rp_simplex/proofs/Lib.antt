@@ -14,6 +14,7 @@ pub mod Clearing
 pub mod Pivoted
 pub mod Passing
 pub mod Summing
+pub mod Gathering
 pub mod Combining
 pub mod Starting
 pub mod Entries

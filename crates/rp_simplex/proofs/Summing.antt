@@ -7,7 +7,6 @@ use Rattle.std.proofs.lemmas.Int.{ints, to_z-of_z, fits_signed_from_abs, unsigne
 use Rattle.std.proofs.lemmas.Nat.{mul-le}
 use Rattle.std.proofs.lemmas.Bool.{cases_lt}
 use Rattle.std.proofs.lemmas.List.{get_or_past}
-use Rattle.rp_farkas.specs.Limits.{largest_entry}
 use Rattle.rp_farkas.specs.Total.{total}
 use Rattle.rp_farkas.proofs.Totals.{total-suc}
 use Rattle.rp_simplex.specs.Combined.{AreSmall, ElementsFit, dot}
@@ -42,21 +41,19 @@ plus_read sum m e x y room fits small is_x is_y =
     (λ k. to_z w128 (of_z w128 (sum_read k +ℤ product_read k))) ∙ back128 (sum +ℤ m *ℤ e) (omega (arith, abs_sum sum (m *ℤ e)))
 
 -- the running sum after one more product
-pub dot_more : (n : ℕ) (xs ys : List ℤ) (sum r : ℤ) → n < 65 → ElementsFit xs → AreSmall largest_entry ys → n < length xs → n < length ys
-    → sum ≡ dot n xs ys → unsigned_abs sum ≤ n * product_bound → r ≡ sum +ℤ to_z w64 (of_z w64 (get_or xs n (pos 0))) *ℤ to_z w64 (of_z w64 (get_or ys n (pos 0)))
-    → (r ≡ dot (n + 1) xs ys) × (unsigned_abs r ≤ (n + 1) * product_bound)
-dot_more n xs ys sum r few fit small lx ly is bounded e =
-    let x : ℤ = get_or xs n (pos 0) in let y : ℤ = get_or ys n (pos 0) in
-    let y_small : unsigned_abs y ≤ 2 ^ 51 = small n ly in
-    let r_is : r ≡ sum +ℤ x *ℤ y = e ∙ (λ k. sum +ℤ back64 x (fit n lx) k *ℤ back64 y (omega arith) k) in
-    let size : unsigned_abs (x *ℤ y) ≤ product_bound = product_size x y (fit n lx) y_small in (
-      r_is ∙ ap (λ z. z +ℤ x *ℤ y) is ∙ sym (total-suc n (λ s. get_or xs s (pos 0) *ℤ get_or ys s (pos 0))),
-      subst (λ z. unsigned_abs z ≤ (n + 1) * product_bound) (sym r_is) (omega (arith, abs_sum sum (x *ℤ y))),
+pub product_more : (k : ℕ) (f : ℕ → ℤ) (x y sum r : ℤ) → unsigned_abs x < 2 ^ 63 → unsigned_abs y ≤ 2 ^ 51 → f k ≡ x *ℤ y
+    → sum ≡ total k f → unsigned_abs sum ≤ k * product_bound → r ≡ sum +ℤ to_z w64 (of_z w64 x) *ℤ to_z w64 (of_z w64 y)
+    → (r ≡ total (k + 1) f) × (unsigned_abs r ≤ (k + 1) * product_bound)
+product_more k f x y sum r fit small here is bounded e =
+    let r_is : r ≡ sum +ℤ x *ℤ y = e ∙ (λ q. sum +ℤ back64 x fit q *ℤ back64 y (omega arith) q) in
+    let size : unsigned_abs (x *ℤ y) ≤ product_bound = product_size x y fit small in (
+      r_is ∙ (λ q. is q +ℤ sym here q) ∙ sym (total-suc k f),
+      subst (λ z. unsigned_abs z ≤ (k + 1) * product_bound) (sym r_is) (omega (arith, abs_sum sum (x *ℤ y))),
     )
 
-pub dot_start : (xs ys : List ℤ) → pos 0 ≡ dot 0 xs ys
+pub total_start : (f : ℕ → ℤ) → pos 0 ≡ total 0 f
 unfolding total
-dot_start xs ys = refl
+total_start f = refl
 
 -- the sum of the first n absolute values
 unfoldable pub magnitude : ℕ → List ℤ → ℕ

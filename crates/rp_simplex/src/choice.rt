@@ -1,24 +1,11 @@
 ghost use Rattle.std.specs.Prelude.{◌≡◌, ◌+◌, ◌<◌, ◌≤◌, ℕ, pos, ◌*ℤ◌, ◌<ℤ◌, ◌⊎◌, MatchBool};
 ghost use Rattle.std.specs.Prelude.{MatchOption};
-ghost use Rattle.rp_simplex.specs.Choice.{IsEntering, IsOptimal, IsLeaving, IsUnbounded};
+ghost use Rattle.rp_simplex.specs.Choice.{IsLeaving, IsUnbounded};
 ghost use Rattle.rp_simplex.specs.Inner.{HasNoTies, LeavesBelow};
 ghost use Rattle.rp_simplex.specs.Lexicographic.{IsLexLess};
 ghost use Rattle.rp_simplex.specs.Shown.{exact};
 
 use crate::stage::Stage;
-
-/// The column that enters, or none where no objective entry is negative.
-pub fn entering_column(t: &Stage) -> Option<usize>
-    ensures { MatchOption result (IsOptimal t.now.rows t.now.width (exact t.now))
-        (λ c. IsEntering t.now.rows t.now.width (exact t.now) c) }
-{
-    for j in 1..t.width {
-        if t.entry(t.rows, j) < 0 {
-            return Some(j);
-        }
-    }
-    None
-}
 
 /// Whether row `first`, divided by its entry in column c, is lexicographically less than row `second`, divided by
 /// its own. The entries are multiplied crosswise.

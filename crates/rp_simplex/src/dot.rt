@@ -5,7 +5,7 @@ ghost use Rattle.rp_simplex.specs.Combined.{AreSmall, ElementsFit, dot};
 
 /// A running sum of at most 64 products of a multiplier and an entry of tableau 0, and one more: it stays within 128
 /// bits, since 65 * 2^63 * 2^51 is below 2^121.
-fn plus_product(sum: i128, multiplier: i64, entry: i64) -> i128
+pub fn plus_product(sum: i128, multiplier: i64, entry: i64) -> i128
     requires room { unsigned_abs sum ≤ most_rows * (2 ^ 63 * largest_entry) }
     requires fits { FitsEvidence (unsigned_abs multiplier) }
     requires small { unsigned_abs entry ≤ largest_entry }

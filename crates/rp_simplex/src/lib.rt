@@ -9,6 +9,7 @@ mod first;
 mod laws;
 mod outcome;
 mod pivot;
+mod pricing;
 mod readout;
 mod renewal;
 mod room;

@@ -5,9 +5,10 @@ ghost use Rattle.rp_simplex.specs.Evidence.{IsEvidence};
 ghost use Rattle.rp_simplex.specs.ReadProgram.{program_in};
 ghost use Rattle.rp_simplex.specs.Ready.{IsReady};
 
-use crate::choice::{entering_column, leaving_row};
+use crate::choice::leaving_row;
 use crate::outcome::Outcome;
 use crate::pivot::pivoted;
+use crate::pricing::entering_column;
 use crate::readout::{point, prices, ray};
 use crate::room::Room;
 use crate::stage::Stage;
