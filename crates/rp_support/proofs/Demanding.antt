@@ -1,25 +1,27 @@
 -- The whole verdict: the costs of a table, the inner demand, and what shown bounds are.
-use Rattle.std.proofs.Common.{◌≡◌, ◌<◌, ◌≤◌, ◌+◌, ◌*◌, ℕ, All, List, length, subst, ap, arith, slice_index}
+use Rattle.std.proofs.Common.{◌≡◌, ◌<◌, ◌≤◌, ◌+◌, ◌*◌, ℕ, ℤ, All, List, length, subst, ap, arith, slice_index}
 use Rattle.std.proofs.lemmas.Nat.{mul-add-lt}
 use Rattle.std.proofs.Math.Nat.{lt_of_mul-lt-mul_left, mul-lt-mul_of_pos_left}
 use Rattle.rp_num.specs.Fraction.{Fraction, IsLowestTerms}
 use Rattle.rp_evidence.specs.Demand.{FractionBundle, IsInfimum, IsInnerDemand, IsSupportingDemand, IsSupremum, NewBudget}
 use Rattle.rp_evidence.specs.DemandEvidence.{ProvesLower, ProvesUpper, budget_of}
-use Rattle.rp_evidence.specs.DemandPrograms.{ListsBelow, lower_program, upper_program}
+use Rattle.rp_evidence.specs.DemandPrograms.{ListsBelow, demand_program, lower_program, upper_program}
 use Rattle.rp_evidence.specs.Garp.{MeetsGarp, ProvesGarp}
 use Rattle.rp_evidence.specs.Input.{TableInput, input_of_table}
 use Rattle.rp_evidence.specs.Preference.{IsWeak}
 use Rattle.rp_evidence.specs.declared.demand.Bound.{Bound}
 use Rattle.rp_evidence.specs.declared.demand.Bound.TheVariants.{Shown, Wide}
+use Rattle.rp_evidence.specs.declared.demand.GoodBounds.{GoodBounds}
 use Rattle.rp_evidence.specs.declared.garp.Garp.{Garp}
-use Rattle.rp_evidence.proofs.DemandBounds.{lower_is_infimum, upper_is_supremum}
+use Rattle.rp_evidence.proofs.DemandBounds.{lower_is_infimum, mixtures, priced, upper_is_supremum}
 use Rattle.rp_evidence.proofs.InnerDemand.{inner_demand_supports}
 use Rattle.rp_evidence.proofs.SameCosts.{garp_same, reach_same, weak_same}
 use Rattle.rp_farkas.specs.Listing.{numerator_at}
 use Rattle.rp_pref.specs.Closure.{IsClosureOf, Reached}
 use Rattle.rp_table.specs.Cost.{CostTable, IsCostsOf, cost_at, cost_of}
 use Rattle.rp_table.specs.Tables.{IsTable, Observations, goods_of, price_of, records_of}
-use Rattle.rp_support.specs.Bounds.{IsBoundOf}
+use Rattle.rp_support.specs.Bounds.{AreBoundsOf, AreMixed, IsBoundOf, Mixes}
+use Rattle.rp_support.proofs.Bounding.{support_bounds}
 
 -- ---- the costs of a table
 
@@ -103,3 +105,21 @@ module _ (table : Observations) (prices : List ℕ) (m : ℕ) (valid : IsTable t
         supremum_reduced (input_of_table table) (budget_of prices m) g (slice_index pair.x g) pair.den value is.shows.2
         (upper_is_supremum (input_of_table table) (budget_of prices m) below lists sound inner kept g pair.den (numerator_at pair.y) (slice_index pair.x) g_in (some_price_of_good g g_in) is.shows.1.equal)
     proves_upper (Wide step) is = tt
+
+-- ---- mixtures, and bounded programs
+
+module _ (input : TableInput) (budget : NewBudget) (below : List ℕ) (lists : ListsBelow input budget below) (sound : MeetsGarp input.n input.cost 1 1)
+    (inner : FractionBundle) (kept : IsSupportingDemand input budget inner) where
+  pub mixes : (right : ℕ → ℤ) (g : ℕ) (bound : Bound) → IsBoundOf (demand_program input budget below right) g bound → Mixes input budget inner bound
+  mixes right g (Shown value pair) is = λ k some.
+      mixtures input budget below lists sound inner kept right pair.den (slice_index pair.x)
+      (priced input budget below right pair.den (slice_index pair.x) is.shows.1.equal.prices) k some
+  mixes right g (Wide step) is = tt
+
+  pub are_mixed : (goods : List GoodBounds) → AreBoundsOf input budget below goods → AreMixed input budget below inner goods
+  are_mixed goods bounds = record {
+    lower = λ g d g_in. mixes _ g _ (bounds.lower g d g_in);
+    upper = λ g d g_in. mixes _ g _ (bounds.upper g d g_in);
+    lower_bounded = λ g g_in. support_bounds input budget below lists _ (inner, kept);
+    upper_bounded = λ g g_in. support_bounds input budget below lists _ (inner, kept);
+  }

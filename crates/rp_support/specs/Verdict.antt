@@ -7,7 +7,7 @@ use Rattle.rp_evidence.specs.declared.demand.DemandPart.{DemandPart}
 use Rattle.rp_evidence.specs.declared.demand.DemandPart.TheVariants.{Bounds, NoModel}
 use Rattle.rp_evidence.specs.declared.garp.Garp.{Garp}
 use Rattle.rp_evidence.specs.declared.garp.Garp.TheVariants.{Cycle, Ranks}
-use Rattle.rp_support.specs.Bounds.{AreBoundsOf}
+use Rattle.rp_support.specs.Bounds.{AreBoundsOf, AreMixed}
 
 -- Where the axiom holds: the inner demand, and the bounds of each good's programs over the list of those below.
 abbrev pub IsGivenWhereMet : TableInput → NewBudget → DemandPart → Type 0
@@ -20,3 +20,8 @@ abbrev pub IsDemandGiven : TableInput → NewBudget → Garp → DemandPart → 
 IsDemandGiven input budget (Ranks ranks) part = IsGivenWhereMet input budget part
 IsDemandGiven input budget (Cycle cycle) (Bounds below strict inner goods) = ⊥
 IsDemandGiven input budget (Cycle cycle) (NoModel walk) = walk ≡ cycle
+
+-- Where the axiom holds, the price sides of the shown pairs mix with the inner demand, and the programs are bounded.
+abbrev pub HasMixtures : TableInput → NewBudget → DemandPart → Type 0
+HasMixtures input budget (Bounds below strict inner goods) = AreMixed input budget below (bundle_of inner) goods
+HasMixtures input budget (NoModel walk) = Unit {0}

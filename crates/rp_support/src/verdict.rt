@@ -5,7 +5,7 @@ ghost use Rattle.rp_evidence.specs.Input.{input_of_table};
 ghost use Rattle.rp_table.specs.Cost.{IsCostsOf, cost_at, cost_of};
 ghost use Rattle.rp_table.specs.Tables.{goods_of, records_of};
 ghost use Rattle.rp_support.specs.Asked.{asked_of, input_of};
-ghost use Rattle.rp_support.specs.Verdict.{IsDemandGiven, IsGivenWhereMet};
+ghost use Rattle.rp_support.specs.Verdict.{HasMixtures, IsDemandGiven, IsGivenWhereMet};
 ghost use Rattle.rp_support.specs.Starts.{IsWeakClosureOf};
 
 use crate::below::{below, strictly_below};
@@ -40,6 +40,8 @@ pub fn demand(
         ProvesDemand (input_of_table table.now) prices.now m part) }
     ensures given { IfOk result (λ part.
         IsDemandGiven (input_of_table table.now) (budget_of prices.now m) verdict.now part) }
+    ensures mixtures { IfOk result (λ part.
+        HasMixtures (input_of_table table.now) (budget_of prices.now m) part) }
 {
     match verdict {
         Garp::Ranks(_) => {
@@ -64,6 +66,8 @@ fn bounds(alloc: Global, budget: &Budget) -> Result<DemandPart, NoMemory>
     ensures proves { IfOk result (λ part.
         ProvesDemand (input_of budget.now) budget.now.prices.now budget.now.m part) }
     ensures given { IfOk result (λ part. IsGivenWhereMet (input_of budget.now)
+        (asked_of budget.now) part) }
+    ensures mixtures { IfOk result (λ part. HasMixtures (input_of budget.now)
         (asked_of budget.now) part) }
 {
     prove!(budget.table.goods() > 0);

@@ -1,5 +1,6 @@
-use Rattle.rp_evidence.specs.DemandEvidence.{bundle_of}
-use Rattle.rp_support.proofs.Demanding.{inner_supports, proves_lower, proves_upper}
+use Rattle.rp_evidence.specs.DemandEvidence.{budget_of, bundle_of}
+use Rattle.rp_evidence.specs.Input.{input_of_table}
+use Rattle.rp_support.proofs.Demanding.{are_mixed, inner_supports, proves_lower, proves_upper}
 use Rattle.rp_support.proofs.verdict.bounds.Goals as goal
 
 pub goods-requires-2-clause-support : goal.goods-requires-2-clause-support
@@ -29,3 +30,13 @@ returns-clause-proves c =
         );
       }),
     )
+
+pub returns-clause-mixtures : goal.returns-clause-mixtures
+returns-clause-mixtures c =
+    let b = c.args.budget.now in
+    let point = c.in_ok-inner.inner in
+    let below = c.in_ok-below.below.items in
+    let support = inner_supports b.table.now b.prices.now b.m c.goods.ensures.valid b.each_good b.within c.requires (bundle_of point) c.in_ok-inner.ensures.inner in
+    let bounds = rw c.deref-2.ensures.value at c.in_ok-goods.ensures in
+    rw (c.from_vec.ensures, c.from_vec-3.ensures)
+    (are_mixed (input_of_table b.table.now) (budget_of b.prices.now b.m) below c.in_ok-below.ensures c.requires (bundle_of point) support c.in_ok-goods.goods.items bounds)
