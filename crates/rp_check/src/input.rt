@@ -18,6 +18,7 @@ pub struct Input<'a> {
 }
 
 impl<'a> Input<'a> {
+    /// What items over this table are checked against; the costs have to be its own.
     pub fn new(table: &'a Table, costs: &'a Costs) -> Input<'a>
         requires { IsCostsOf costs.now table.now }
         ensures of { result.table.now ≡ table.now }
@@ -47,7 +48,7 @@ impl<'a> Input<'a> {
         self.costs.cost(s, t)
     }
 
-    /// What a step from `t` to `s` adds: c(t,s) - c(t,t).
+    /// The term of the step from `t` to `s` in a sum: c(t,s) - c(t,t).
     pub fn added(&self, t: u32, s: u32) -> i128
         requires from { t < records_of self.now.table.now }
         requires to { s < records_of self.now.table.now }

@@ -3,7 +3,7 @@ use Rattle.std.specs.Prelude.{◌≡◌, ◌<◌, ◌⊎◌, ℕ, List, IsTrue, 
 use Rattle.rp_evidence.specs.Count.{IsNumberOf}
 use Rattle.rp_pref.specs.Closure.{Reached, reaches_in}
 
--- How many observations are s or are reached from s by the closure.
+-- How many observations the closure reaches from s, with s itself among them.
 abbrev pub IsCountIn : Reached → ℕ → ℕ → Type 0
 IsCountIn reached s k = IsNumberOf reached.n (λ t. (t ≡ s) ⊎ IsTrue (reaches_in reached s t)) k
 

@@ -5,11 +5,11 @@ use Rattle.std.specs.Prelude.{◌≡◌, ◌<◌, ◌≤◌, ℕ, Bool, true, fa
 abbrev pub value_at : List Bool → ℕ → Bool
 value_at values place = slice_index_or values place false
 
--- Every value after a true one is true.
+-- Once a value is true, all later ones are.
 abbrev pub StaysTrue : List Bool → Type 0
 StaysTrue values = (i j : ℕ) → i < j → j < length values → value_at values i ≡ true → value_at values j ≡ true
 
--- The first place whose value is true, or the number of places where none is.
+-- The least place that holds a true value, or the count of places where no place does.
 pub record IsFirstTrue (values : List Bool) (place : ℕ) : Type 0 where
   pub within : place ≤ length values
   pub none_before : (j : ℕ) → j < place → value_at values j ≡ false

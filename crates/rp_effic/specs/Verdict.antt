@@ -21,7 +21,7 @@ pub record IsFirstReturn (n : ℕ) (step : ℕ → ℕ → Type 0) (s : ℕ) (wa
   pub none_earlier : (j : ℕ) → j < s → ¬ Reaches n step j j
   pub shortest : IsShortestWalk n step s s walk
 
--- No walk at the level 1, and else a walk of fewest weak steps from the first observation that returns to itself.
+-- Empty at the level 1; else a shortest walk of weak steps from an observation back to it, the first that has one.
 pub record IsAbove (n : ℕ) (c : ℕ → ℕ → ℕ) (num den : ℕ) (walk : List ℕ) : Type 0 where
   pub none_at_one : num ≡ den → walk ≡ []
   pub return_below_one : num ≢ den → (s : ℕ) × IsFirstReturn n (IsWeak c num den) s walk

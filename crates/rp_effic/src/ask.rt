@@ -26,7 +26,7 @@ pub trait Ask {
         ensures counted { asks self.new ≡ asks self.old + 1 };
 }
 
-/// The first place whose value is true, or the number of places where none is, by halving.
+/// The least place that holds a true value, or the count of places where no place does, by halving.
 pub fn first_true<A: Ask>(alloc: Global, asker: &mut A) -> Result<u32, NoMemory>
     requires { A.asks asker.old < 2 ^ 63 }
     ensures first { IfOk result (IsFirstTrue (A.values asker.old)) }

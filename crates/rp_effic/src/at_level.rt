@@ -30,7 +30,7 @@ pub fn counts(alloc: Global, costs: &Costs, closure: &Closure) -> Result<Seq<u32
     Ok(Seq::from_vec(counts))
 }
 
-/// No walk at the level 1, and else a walk of fewest weak steps from the first observation that returns to itself.
+/// Empty at the level 1; else a shortest walk of weak steps from an observation back to it, the first that has one.
 pub fn above(
     alloc: Global,
     costs: &Costs,
@@ -52,7 +52,7 @@ pub fn above(
     }
 }
 
-/// The counts over the weak steps at the level where no violation exists at it, else the violation of the first loop.
+/// Where the level has no violation, the counts over its weak steps as ranks; else the violation of the first loop.
 pub fn at_level(
     alloc: Global,
     costs: &Costs,

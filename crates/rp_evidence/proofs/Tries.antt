@@ -21,7 +21,7 @@ contradiction_violates : IsViolationAt 2 contradiction 1 1 (0 ∷ 1 ∷ 0 ∷ []
 contradiction_violates =
     ((0, (refl, (omega arith, omega arith, (omega arith, omega arith, (omega arith, refl)))), omega arith), inl (omega arith))
 
--- ---- a closed walk of weak steps of which none is strict
+-- ---- a closed walk of weak steps, none of them strict
 
 abbrev indifference : ℕ → ℕ → ℕ
 indifference = costs ((4 ∷ 4 ∷ []) ∷ (4 ∷ 4 ∷ []) ∷ [])
@@ -88,7 +88,7 @@ nine_tenths_meets_below num den below walk =
     positive (suc zero) l = omega arith
     positive (suc (suc s)) l = absurd (omega arith)
 
--- ---- a contradiction of three steps and none of two
+-- ---- three steps that contradict, where no two steps do
 
 abbrev three_steps : ℕ → ℕ → ℕ
 three_steps = costs ((2 ∷ 1 ∷ 3 ∷ []) ∷ (3 ∷ 2 ∷ 1 ∷ []) ∷ (1 ∷ 3 ∷ 2 ∷ []) ∷ [])

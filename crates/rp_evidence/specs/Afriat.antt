@@ -7,7 +7,7 @@ use Rattle.rp_evidence.specs.Quasilinear.{step_sum}
 abbrev pub allowed : (ℕ → ℕ → ℕ) → (ℕ → ℤ) → (ℕ → ℕ) → ℕ → ℕ → ℤ
 allowed c utility multiplier s t = utility s +ℤ (pos (multiplier s) *ℤ step_sum c s t)
 
--- A model: whole numbers U_t and λ_t of at least 1, with U_t ≤ U_s + λ_s (c(s,t) - c(s,s)) for all s and t.
+-- A model: whole numbers U_t, and λ_t from 1 on, such that any s and t have U_t ≤ U_s + λ_s (c(s,t) - c(s,s)).
 pub record IsAfriatModel (n : ℕ) (c : ℕ → ℕ → ℕ) (utility : ℕ → ℤ) (multiplier : ℕ → ℕ) : Type 0 where
   pub at_least_one : (s : ℕ) → s < n → 1 ≤ multiplier s
   pub none_above : (s t : ℕ) → s < n → t < n → utility t ≤ℤ allowed c utility multiplier s t

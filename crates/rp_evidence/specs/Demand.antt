@@ -57,7 +57,7 @@ pub record IsBelow (input : TableInput) (budget : NewBudget) (t : ℕ) : Type 0 
   pub bought : Buys input budget from
   pub leads : IsWalk input.n (IsWeak input.cost 1 1) from t walk
 
--- It is strictly below: moreover money is left for that bundle, or a step of the walk is strict.
+-- It is strictly below: moreover money is left for that bundle, or the walk has a strict step.
 pub record IsStrictlyBelow (input : TableInput) (budget : NewBudget) (t : ℕ) : Type 0 where
   pub from : ℕ
   pub walk : List ℕ

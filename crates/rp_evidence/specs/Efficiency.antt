@@ -29,7 +29,7 @@ pub record HasGreatestRatio (n : ℕ) (c : ℕ → ℕ → ℕ) (num den : ℕ) 
   pub none_more : IsClosedWalk n (IsWeak c num den) walk
   pub one_equal : HasStep (IsRatio c num den) walk
 
--- num/den is the least, over all closed walks, of the greatest ratio on the walk's steps.
+-- Each closed walk has a greatest ratio on its steps; num/den is the least of these ratios.
 pub record IsLeastGreatestRatio (n : ℕ) (c : ℕ → ℕ → ℕ) (num den : ℕ) : Type 0 where
   pub positive : 0 < den
   pub reached : (walk : List ℕ) × HasGreatestRatio n c num den walk

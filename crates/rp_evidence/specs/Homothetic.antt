@@ -58,7 +58,7 @@ pub record IsLeastProduct (n : ℕ) (c : ℕ → ℕ → ℕ) (s : ℕ) (x : Fra
 abbrev pub value_at : List Fraction → ℕ → Fraction
 value_at values s = slice_index_or values s (record { num = 0; den = 1 })
 
--- One positive value for each observation, and V_s ≤ V_t c(t,s)/c(t,t) for all t and s.
+-- One positive value for each observation; any t and s have V_s ≤ V_t c(t,s)/c(t,t).
 pub record BoundProducts (n : ℕ) (c : ℕ → ℕ → ℕ) (values : List Fraction) : Type 0 where
   pub one_each : length values ≡ n
   pub positive : (s : ℕ) → s < n → (1 ≤ (value_at values s).num) × (1 ≤ (value_at values s).den)

@@ -19,7 +19,7 @@ abbrev pub AllowsHigher : ℕ → (ℕ → ℕ → ℕ) → (ℕ → ℕ) → (�
 AllowsHigher n c count utility s k = (t : ℕ) → t < n → count s < count t → utility t ≤ℤ allowed c utility (λ i. k) s t
 
 -- k is the multiplier of s: the least whole number, 1 or more, with which s allows each observation of a higher class
--- its utility. It is 1, or the greatest of the rounded-up (U_t - U_s) / (c(s,t) - c(s,s)) over these t.
+-- its utility. It is 1, or over these t the greatest (U_t - U_s) / (c(s,t) - c(s,s)), each rounded up.
 pub record IsMultiplier (n : ℕ) (c : ℕ → ℕ → ℕ) (count : ℕ → ℕ) (utility : ℕ → ℤ) (s k : ℕ) : Type 0 where
   pub at_least_one : 1 ≤ k
   pub enough : AllowsHigher n c count utility s k
@@ -47,8 +47,8 @@ FitsMultiplier k = k ≤ 2 ^ 60
 abbrev pub AllFit : ℕ → (ℕ → ℤ) → (ℕ → ℕ) → Type 0
 AllFit n utility multiplier = (s : ℕ) → s < n → FitsUtility (utility s) × FitsMultiplier (multiplier s)
 
--- The numbers pass their width first at t. They are looked at class by class from the highest; in a class first its
--- utility, which stands at its first observation, and then each multiplier by observation.
+-- The numbers pass their width first at t. They are looked at class by class, the highest before the others: the
+-- utility of the class, which stands at its first observation, and then each multiplier by observation.
 pub record PassWidthFirstAt (n : ℕ) (count : ℕ → ℕ) (utility : ℕ → ℤ) (multiplier : ℕ → ℕ) (t : ℕ) : Type 0 where
   pub observed : t < n
   pub higher_fit : (s : ℕ) → s < n → count t < count s → FitsUtility (utility s) × FitsMultiplier (multiplier s)

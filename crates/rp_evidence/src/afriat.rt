@@ -10,9 +10,8 @@ pub struct Numbers {
     pub lambda: Seq<u64>,
 }
 
-/// Evidence for a utility that rationalizes the choices: the numbers of an Afriat model, a violation of the
-/// generalized axiom as the observations that it walks through, the first again at its end, or the first observation
-/// whose number passed its width. Observations are numbered from 0.
+/// Evidence for a utility that rationalizes the choices: the numbers of an Afriat model; a violation of the generalized
+/// axiom as a closed walk over observations, from 0; or the first observation whose number passed its width.
 #[derive(Debug, Drop)]
 pub enum AfriatPart {
     Model(Numbers),

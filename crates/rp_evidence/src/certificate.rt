@@ -65,8 +65,8 @@ fn withheld_in_item(item: &Item) -> u32
     }
 }
 
-/// The number of values that the certificate leaves out because their computation passed its width; 2^32 - 1 stands
-/// for that number and every greater one.
+/// The number of values that the certificate leaves out because their computation passed its width, cut off at
+/// 2^32 - 1.
 pub fn withheld(c: &Certificate) -> u32
     ensures { result ≡ min (sum_by withheld_in c.now.items) (2 ^ 32 - 1) }
 {

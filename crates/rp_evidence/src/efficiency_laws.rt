@@ -10,7 +10,7 @@ pub fn efficiency_index_is_unique()
         → IsEfficiencyIndex n c f.num f.den → IsEfficiencyIndex n c g.num g.den → SameNumber f g }
 {}
 
-/// The efficiency index is the least, over all closed walks, of the greatest ratio on the walk's steps.
+/// Each closed walk has a greatest ratio on its steps; the efficiency index is the least of these ratios.
 pub fn efficiency_index_is_threshold()
     ensures { (n num den : ℕ) (c : ℕ → ℕ → ℕ) → 1 ≤ n → ((s t : ℕ) → s < n → t < n → 0 < c s t)
         → IsEfficiencyIndex n c num den ↔ IsLeastGreatestRatio n c num den }

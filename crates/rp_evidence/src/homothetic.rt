@@ -2,9 +2,8 @@ ghost use Rattle.std.specs.Prelude.{◌≡◌};
 
 use rp_num::{Frac, Seq};
 
-/// Evidence for the homothetic test: a positive value for each observation, a start and a closed walk along which
-/// it is multiplied below itself, or the place at which the computation passed its width: the least product over
-/// at most `steps` steps to `from`, taken on to `to`. Observations are numbered from 0.
+/// Evidence for the homothetic test, by observation from 0: positive values; a start that a closed walk takes below
+/// itself; or where the width was passed: the least product over up to `steps` steps to `from`, taken on to `to`.
 #[derive(Debug, Drop)]
 pub enum Homothetic {
     Values(Seq<Frac>),

@@ -34,7 +34,7 @@ pub fn ordering_ranks_exclude_violations_below()
         → OrderStrictSteps n c num den ranks → ¬ IsViolationAt n c num' den' walk }
 {}
 
-/// A violation at a level is one at every greater level.
+/// A walk that is a violation at some level stays one as the level rises.
 pub fn violations_last_above()
     ensures { (n num den num' den' : ℕ) (c : ℕ → ℕ → ℕ) (walk : List ℕ)
         → 0 < den → 0 < den' → num * den' ≤ num' * den

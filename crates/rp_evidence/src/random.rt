@@ -9,9 +9,8 @@ pub struct Share {
     pub weight: u64,
 }
 
-/// Evidence on random choices from budgets (McFadden and Richter 1990). A mixture of rational types over a denominator; or a
-/// partial mixture of the greatest share with a weight of each patch, which shows that none is greater; or the step at which
-/// the run of the program passes its width.
+/// Evidence on random choices from budgets (McFadden and Richter 1990), over `den`: a mixture; or a partial one with
+/// weights of the patches that show no share to be greater. Or else the step at which the run passes its width.
 #[derive(Debug, Drop)]
 pub enum RandomPart {
     Mixture {

@@ -19,7 +19,7 @@ pub record IsShownPair (p : LinearProgram) (pair : Pair) : Type 0 where
   pub x_fits : All FitsEvidence pair.x
   pub equal : IsEqualPair p pair.den (numerator_at pair.y) (slice_index pair.x)
 
--- The point and the ray, both over `den`, are written likewise; the point is feasible and the ray is one.
+-- The point and the ray, both over `den`, are written likewise; the former is feasible, the latter truly a ray.
 pub record IsShownRay (p : LinearProgram) (den : ℕ) (point ray : List Entry) : Type 0 where
   pub den_positive : 0 < den
   pub den_fits : FitsEvidence den

@@ -24,8 +24,8 @@ fn no_row_rises<P: Lp>(p: &P, ray: &[Entry]) -> bool
     true
 }
 
-/// Whether the point and the ray are written over `den` as those of this program are, the point is feasible and the
-/// ray is one; no memory is taken.
+/// Whether `point` is feasible and `ray` truly a ray of this program, both written over `den` as its points and rays
+/// are; no memory is taken.
 pub fn check_ray<P: Lp>(p: &P, den: u64, point: &Seq<Entry>, ray: &Seq<Entry>) -> bool
     ensures { IsTrue result ↔ IsShownRay (P.program p.now) den point.now ray.now }
 {

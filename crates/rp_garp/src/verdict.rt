@@ -14,8 +14,7 @@ use rp_table::Costs;
 use std::alloc::Global;
 
 /// The verdict on the generalized axiom of revealed preference (Varian 1982): the counts as ranks where it holds, else
-/// the shortest cycle of the first two observations of which the first reaches the second and the second is strictly
-/// preferred to the first.
+/// a shortest cycle of the first two observations that make a loop; its last step is strict.
 pub fn garp(alloc: Global, costs: &Costs) -> Result<Garp, NoMemory>
     ensures proves { IfOk result (λ verdict. ProvesGarp costs.now.n (cost_at costs.now) verdict) }
     ensures given { IfOk result (λ verdict. IsGarpVerdict costs.now.n (cost_at costs.now) verdict) }
@@ -33,7 +32,7 @@ pub fn garp(alloc: Global, costs: &Costs) -> Result<Garp, NoMemory>
     }
 }
 
-/// The level 1, at which an observation counts as all of its expenditure.
+/// The level 1, at which the whole of each expenditure counts.
 fn level_one() -> Level
     ensures { result ≡ record { num = 1; den = 1 } }
 {

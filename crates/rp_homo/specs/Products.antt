@@ -21,7 +21,7 @@ times x a b = record {
   positive = one-le-mul x.positive (le-max_left 1 b);
 }
 
--- Products over the steps of walks: a step from t to s multiplies by c(t,s)/c(t,t) (Varian 1983). A walk of no
+-- Products over the steps of walks: the factor of the step from t to s is c(t,s)/c(t,t) (Varian 1983). A walk of no
 -- step has the product 1.
 abbrev pub products : ℕ → (ℕ → ℕ → ℕ) → TotalRule
 products n c = record {

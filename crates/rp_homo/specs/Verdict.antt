@@ -35,7 +35,7 @@ pub record GivesValues (n : ℕ) (c : ℕ → ℕ → ℕ) (values : List Fracti
   pub least : (s : ℕ) → s < n → IsLeastProduct n c s (value_at values s)
   pub steps_fit : (t s : ℕ) → t < n → s < n → ¬ (PassesWidth ((value_at values t).num * c t s) ((value_at values t).den * c t t))
 
--- The cycle is the walk s, t, s for the first pair that falls, from the start 1.
+-- The cycle is s, t, s from the start 1, where s and t are the first pair that falls.
 pub record IsPairCycle (n : ℕ) (c : ℕ → ℕ → ℕ) (start : Fraction) (walk : List ℕ) : Type 0 where
   pub s : ℕ
   pub t : ℕ

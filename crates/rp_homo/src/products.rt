@@ -14,7 +14,7 @@ pub(crate) struct Products<'a> {
 }
 
 impl Products<'_> {
-    /// What a step from `t` to `s` multiplies by.
+    /// The factor of the step from `t` to `s`.
     fn factor(&self, t: u32, s: u32) -> Frac
         requires from { t < self.now.costs.now.n }
         requires to { s < self.now.costs.now.n }

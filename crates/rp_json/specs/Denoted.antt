@@ -42,8 +42,7 @@ pub record IsFirstNoItem (kind : Kind) (values : List Data) (k : ℕ) : Type 0 w
 abbrev pub HasNoTop : Kind → Data → Type 0
 HasNoTop kind d = (version : ℕ) (items : List Data) → d ≢ top_value kind version items
 
--- Of version 1, and this is the first value that is no item; items are counted from 1, and 2^32 - 1 stands for that number and every
--- greater one.
+-- Of version 1, and this is the first value that is no item; item numbers start at 1 and are cut off at 2^32 - 1.
 abbrev pub HasBadItem : Kind → Data → ℕ → Type 0
 HasBadItem kind d item =
     (values : List Data) × (d ≡ top_value kind 1 values)

@@ -23,7 +23,7 @@ after_point text = after_first (λ b. b == 46) text
 abbrev pub has_point : List ℕ → Bool
 has_point text = nat_lt (length (whole_part text)) (length text)
 
--- A number: one or more digits, then possibly a point and one or more digits.
+-- A number: a numeral, or two of them with a point between.
 abbrev pub is_number : List ℕ → Bool
 is_number text = is_numeral (whole_part text) && (not (has_point text) || is_numeral (after_point text))
 

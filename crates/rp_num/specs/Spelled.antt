@@ -11,7 +11,7 @@ IsSpelled shown fits text None = (x : _) → fits x → shown x ≢ text
 abbrev pub FitsWhole : ℕ → Type 0
 FitsWhole n = n < 2 ^ 128
 
--- A whole number of at most 2^127 - 1 in absolute value.
+-- A whole number whose absolute value is below 2^127.
 abbrev pub FitsSum : ℤ → Type 0
 FitsSum (pos n) = n < 2 ^ 127
 FitsSum (negsuc n) = suc n < 2 ^ 127

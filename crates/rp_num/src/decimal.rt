@@ -5,8 +5,8 @@ ghost use Rattle.std.specs.List.{list_all};
 ghost use Rattle.std.specs.Str.Parse.{digits_value_after};
 ghost use Rattle.rp_num.specs.Decimal.{is_numeral, without_last_zeros, decimal_from, decimal_of};
 
-/// The number `units / 10^places`, with no zero in the last place. From 10^18 units on it is kept
-/// as 10^18 units, with the places that were written.
+/// The number `units / 10^places`, with no zero in the last place. More units than 10^18 are cut off
+/// at 10^18; the places stay.
 #[derive(Clone, Copy, Debug, PartialEq, Eq)]
 pub struct Decimal {
     pub units: u64,
@@ -28,7 +28,7 @@ const MOST_UNITS: u64 = 1_000_000_000_000_000_000;
 /// The most places that a number may have.
 const MOST_PLACES: usize = 6;
 
-/// Reads one or more digits, then possibly a point and one or more digits, with nothing round them.
+/// Reads a decimal number: digits, or digits on both sides of a point, and nothing else.
 pub fn read_decimal(field: &[u8]) -> Result<Decimal, NumFault>
     ensures { result ≡ decimal_of field.now }
 {

@@ -21,7 +21,7 @@ pub fn read_u128(alloc: Global, text: &str) -> Result<Option<u128>, NoMemory>
     })
 }
 
-/// The number of at most 2^127 - 1 in absolute value that `print_i128` writes as this text.
+/// The number, below 2^127 in absolute value, that `print_i128` writes as this text.
 pub fn read_i128(alloc: Global, text: &str) -> Result<Option<i128>, NoMemory>
     ensures { IfOk result (λ o. IsSpelled signed_decimal FitsSum text.now o) }
 {

@@ -3,7 +3,7 @@ use Rattle.std.specs.Prelude.{ℕ, ◌≡◌, ◌-◌, List, Option, drop, lengt
 use Rattle.std.specs.Map.{lookup}
 use Rattle.std.specs.Str.{bytes_eq}
 
--- the bytes under a name; of two files of one name the first counts
+-- the bytes under a name: those of the first file that has it
 abbrev pub bytes_under : List (List ℕ × List ℕ) → List ℕ → Option (List ℕ)
 bytes_under files name = lookup (bytes_eq name) files
 

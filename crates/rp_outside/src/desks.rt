@@ -12,10 +12,8 @@ pub enum DeskFault {
     NoMemory,
 }
 
-/// Files that are read by name, at any place in them.
-///
-/// The bytes of a name are told or not told: a clause on content holds where they are told. Each
-/// name has a count of faults, and the desk has a count of its calls.
+/// Files that are read by name, at any place in them. The bytes of a name are told or not told, and a
+/// clause on content holds where they are. Faults are counted by name, calls for the desk as a whole.
 pub trait Desk {
     /// The bytes of each name, where they are told.
     ghost bytes: { Self → List ℕ → Option (List ℕ) };

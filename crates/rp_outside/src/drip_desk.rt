@@ -11,9 +11,8 @@ use crate::memory_desk::MemDesk;
 use crate::memory_files::MemFile;
 use std::marker::Model;
 
-/// A desk in memory that gives at most `piece` bytes a call, as a slow file does.
-///
-/// A contract sees the desk of whole reads and the piece.
+/// A desk in memory that gives at most `piece` bytes a call, as a slow file does. A contract sees the
+/// desk of whole reads and the piece.
 #[derive(Debug, Drop)]
 pub struct DripDesk {
     desk: MemDesk,
@@ -35,8 +34,8 @@ impl Model for DripDesk {
 }
 
 impl DripDesk {
-    /// A desk over these files, of which the first of a name counts. The calls whose numbers, from
-    /// 1, stand in `fails` fail.
+    /// A desk over these files, where a name means the first that has it. `fails` holds the numbers
+    /// of the calls that fail, and the first call is 1.
     pub fn new(files: Vec<MemFile>, piece: u32, fails: Vec<u64>) -> DripDesk
         requires { 1 ≤ piece }
         ensures files { result.desk.files ≡ map named_bytes files.items }

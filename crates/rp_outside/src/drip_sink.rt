@@ -8,9 +8,8 @@ use rp_num::NoMemory;
 use std::alloc::Global;
 use std::marker::Model;
 
-/// A sink in memory that takes at most `piece` bytes a call, as a pipe that is nearly full does.
-///
-/// A contract sees the sink of whole writes and the piece.
+/// A sink in memory that takes at most `piece` bytes a call, as a pipe that is nearly full does. A
+/// contract sees the sink of whole writes and the piece.
 #[derive(Debug, Drop)]
 pub struct DripSink {
     sink: MemSink,
@@ -32,8 +31,8 @@ impl Model for DripSink {
 }
 
 impl DripSink {
-    /// A sink with room for `limit` bytes, which it takes at once. The calls whose numbers, from 1,
-    /// stand in `fails` fail.
+    /// A sink with room for `limit` bytes, which it takes at once. `fails` holds the numbers of the
+    /// calls that fail, and the first call is 1.
     pub fn new(alloc: Global, limit: u64, piece: u32, fails: Vec<u64>) -> Result<DripSink, NoMemory>
         requires { 1 ≤ piece }
         ensures written { IfOk result (λ s. s.sink.written ≡ []) }

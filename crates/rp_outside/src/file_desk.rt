@@ -10,10 +10,8 @@ use std::marker::Model;
 use std::rt::Files;
 use std::{fs, io};
 
-/// The files of the system, opened by name. A contract sees the counts of calls and of faults alone.
-///
-/// The last file that was read stays open. Want of memory is never a fault; whatever else the
-/// system answers is one, and the file is then closed.
+/// The files of the system, opened by name; the last one that was read stays open. A contract sees the counts alone.
+/// Want of memory is never a fault; any other error of the system is one, and the file is then closed.
 #[derive(Drop)]
 pub struct FileDesk<'a, R: Files> {
     rt: &'a R,

@@ -27,7 +27,7 @@ enum Turn {
     Ended,
 }
 
-/// All bytes of `name`, of which there are at most `limit`. Each read but the last gives at least one.
+/// All bytes of `name`, of which there are at most `limit`. No read but the last may come back empty.
 pub fn load<D: Desk>(
     alloc: Global,
     desk: &mut D,
@@ -46,7 +46,7 @@ pub fn load<D: Desk>(
     ensures past_limit { ForSome (D.bytes desk.old name.now)
         (λ bs. limit < length bs → IsErr result) }
 
-    // How often the desk is asked: each read but the last gives at least one byte.
+    // How often the desk is asked: no read but the last may come back empty.
     ensures reads { D.calls desk.new ≤ D.calls desk.old + limit + 1 }
     ensures byte_a_read { IfOk result (λ v. D.calls desk.new ≤ D.calls desk.old + vec_len v + 1) }
     ensures some_read { HasRisen (D.calls desk.old) (D.calls desk.new) }

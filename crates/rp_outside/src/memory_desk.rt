@@ -9,10 +9,8 @@ use crate::memory_files::{MemFile, read_file};
 use crate::planned::is_listed;
 use std::marker::Model;
 
-/// Files in memory, with failures at planned calls.
-///
-/// A contract sees its files, the numbers of the calls that fail, how many calls there were, and
-/// the one count of faults that stands for every name. A name that it has not is not told.
+/// Files in memory, with failures at planned calls. One count of faults stands for every name; a name
+/// that it has not is not told.
 #[derive(Debug, Drop)]
 pub struct MemDesk {
     files: Vec<MemFile>,
@@ -37,8 +35,8 @@ impl Model for MemDesk {
 }
 
 impl MemDesk {
-    /// A desk over these files, of which the first of a name counts. The calls whose numbers, from
-    /// 1, stand in `fails` fail.
+    /// A desk over these files, where a name means the first that has it. `fails` holds the numbers
+    /// of the calls that fail, and the first call is 1.
     pub fn new(files: Vec<MemFile>, fails: Vec<u64>) -> MemDesk
         ensures files { result.files ≡ map named_bytes files.items }
         ensures fails { result.fails ≡ fails.items }

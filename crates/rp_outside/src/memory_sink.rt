@@ -9,9 +9,6 @@ use std::alloc::Global;
 use std::marker::Model;
 
 /// What was written, kept in memory up to a limit, with failures at planned calls.
-///
-/// A contract sees what was written, the limit, the numbers of the calls that fail, how many calls
-/// there were and the count of faults.
 #[derive(Debug, Drop)]
 pub struct MemSink {
     bytes: Vec<u8>,
@@ -39,8 +36,8 @@ impl Model for MemSink {
 }
 
 impl MemSink {
-    /// A sink with room for `limit` bytes, which it takes at once. The calls whose numbers, from 1,
-    /// stand in `fails` fail.
+    /// A sink with room for `limit` bytes, which it takes at once. `fails` holds the numbers of the
+    /// calls that fail, and the first call is 1.
     pub fn new(alloc: Global, limit: u64, fails: Vec<u64>) -> Result<MemSink, NoMemory>
         ensures written { IfOk result (λ s. s.written ≡ []) }
         ensures limit { IfOk result (λ s. s.limit ≡ limit) }

@@ -6,9 +6,8 @@ ghost use Rattle.rp_outside.specs.Told.{Grows, Stays};
 #[derive(Clone, Copy, Debug, PartialEq, Eq)]
 pub struct Failed;
 
-/// A place that bytes go to, in order.
-///
-/// What was written is told or not told: a clause on content holds where it is told.
+/// A place that bytes go to, in order. What was written is told or not told, and a clause on content
+/// holds where it is.
 pub trait Sink {
     /// All that was written, where it is told.
     ghost written: { Self → Option (List ℕ) };

@@ -6,10 +6,8 @@ use crate::sinks::{Failed, Sink};
 use std::io::Write;
 use std::marker::Model;
 
-/// Any writer of the system, as standard output. A contract sees the counts of calls and of faults
-/// alone.
-///
-/// A writer that takes nothing of a piece has failed. Each piece is flushed, so what is taken is out.
+/// Any writer of the system, as standard output. A contract sees the counts of calls and of faults alone. A writer
+/// that takes nothing of a piece has failed. Each piece is flushed, so what is taken is out.
 #[derive(Drop)]
 pub struct StdSink<W: Write + Drop> {
     writer: W,

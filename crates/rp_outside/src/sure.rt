@@ -9,9 +9,8 @@ use crate::memory_files::{MemFile, read_file};
 use crate::sinks::{Failed, Sink};
 use std::marker::Model;
 
-/// Files in memory that are always read. A contract sees them and how many calls there were.
-///
-/// A name that it has not is read as empty, and told to be.
+/// Files in memory that are always read. A contract sees them and how many calls there were. A name
+/// that it has not is read as empty, and told to be.
 #[derive(Debug, Drop)]
 pub struct SureDesk {
     files: Vec<MemFile>,
@@ -32,7 +31,7 @@ impl Model for SureDesk {
 }
 
 impl SureDesk {
-    /// A desk over these files, of which the first of a name counts.
+    /// A desk over these files, where a name means the first that has it.
     pub fn new(files: Vec<MemFile>) -> SureDesk
         ensures files { result.files ≡ map named_bytes files.items }
         ensures calls { result.calls ≡ 0 }

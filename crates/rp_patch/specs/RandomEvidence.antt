@@ -11,8 +11,8 @@ use Rattle.rp_patch.specs.Mixtures.{HasMixture, IsGreatestMixture, IsMixture, Is
 use Rattle.rp_patch.specs.Patches.{PatchList}
 use Rattle.rp_patch.specs.Types.{IsRationalType}
 
--- The evidence of a violation: no mixture makes the choices; the parts are a partial mixture whose share is the greatest; and
--- every rational type has patches that together weigh at least the denominator.
+-- The evidence of a violation: no mixture makes the choices; the parts are a partial mixture, and none has a greater
+-- share; and every rational type has patches that together weigh at least the denominator.
 pub record ProvesNoMixture (p : PatchList) (den : ℕ) (parts : List Share) (weights : List ℕ) : Type 0 where
   pub none : ¬ HasMixture p
   pub partial : IsPartialMixture p den parts

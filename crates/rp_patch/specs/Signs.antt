@@ -18,8 +18,8 @@ sign_of Less = negsuc 0
 sign_of Equal = pos 0
 sign_of Greater = pos 1
 
--- The sign of w_j (p_k x) - w_k (p_j x), for the bundle x of choice i and its budget j: 1 where the bundle, scaled to cost the
--- income of j, costs more than the income of k, -1 where it costs less, and 0 where it costs just that.
+-- What sign w_j (p_k x) - w_k (p_j x) has for the bundle x of choice i and its budget j: 1 where the bundle, scaled to
+-- cost the income of j, costs more than the income of k, -1 where it costs less, and 0 where it costs just that.
 abbrev pub sign_to : RandomInput → ℕ → ℕ → ℤ
 sign_to input i k =
     sign_of (nat_cmp (input.income (input.budget i) * cost_on input k i) (input.income k * cost_on input (input.budget i) i))

@@ -7,17 +7,18 @@ use Rattle.rp_evidence.specs.Garp.{HasNoViolation}
 use Rattle.rp_table.specs.Sums.{sum_below}
 use Rattle.rp_patch.specs.Patches.{PatchList, budget_at, sign_at}
 
--- A type takes one patch of each budget: the j-th number is that of the patch of budget j.
+-- A type has for each budget one of its patches: the j-th number is that of the patch of budget j.
 pub record IsType (p : PatchList) (type : List ℕ) : Type 0 where
   pub one_each : length type ≡ p.budgets
   pub patch : (j : ℕ) → j < p.budgets → slice_index type j < length p.patches
   pub on_its_budget : (j : ℕ) → j < p.budgets → budget_at p (slice_index type j) ≡ j
 
--- What the type chooses from budget k is weakly preferred to what it chooses from budget j: the patch of j is not above k.
+-- What the type chooses from budget k is weakly preferred to what it chooses from budget j: the latter's patch is not
+-- above k.
 abbrev pub IsWeakBy : PatchList → List ℕ → ℕ → ℕ → Type 0
 IsWeakBy p type k j = sign_at p (slice_index type j) k ≤ℤ pos 0
 
--- It is strictly preferred: the patch of j is below k.
+-- It is strictly preferred: that patch is below k.
 abbrev pub IsStrictBy : PatchList → List ℕ → ℕ → ℕ → Type 0
 IsStrictBy p type k j = sign_at p (slice_index type j) k <ℤ pos 0
 

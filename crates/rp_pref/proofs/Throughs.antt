@@ -32,7 +32,7 @@ module _ (step : ℕ → ℕ → Type 0) where
   through_step (suc k) s t h = inl (through_step k s t h)
 
 module _ (n : ℕ) (step : ℕ → ℕ → Type 0) where
-  -- A walk of one or more steps.
+  -- A walk with at least one step.
   pub through_from_leads : (s x t : ℕ) (rest : List ℕ) → step s x → LeadsTo n step x t rest → LeadsThrough n step s t
   through_from_leads s x t [] first h = subst (LeadsThrough n step s) h.1 (through_step step n s x first)
   through_from_leads s x t (y ∷ rest) first h =

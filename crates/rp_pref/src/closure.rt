@@ -41,7 +41,8 @@ impl Closure {
     pub fn of(alloc: Global, costs: &Costs, level: Level, steps: Steps) -> Result<Closure, NoMemory>
         requires { IsLevel level.num level.den }
         ensures { IfOk result (λ closure.
-            IsClosureOf closure costs.now.n (IsStep steps (cost_at costs.now) level.num level.den)) }
+            IsClosureOf closure costs.now.n (IsStep steps (cost_at costs.now)
+            level.num level.den)) }
     {
         let n = costs.n();
         let mut bits = Grid::new(alloc, n, words_for(n), 0u64)?;
@@ -50,7 +51,7 @@ impl Closure {
         Ok(Closure { n, bits })
     }
 
-    /// Whether a walk of one or more steps leads from `s` to `t`.
+    /// Whether some walk with at least one step leads from `s` to `t`.
     pub fn reaches(&self, s: u32, t: u32) -> bool
         requires from { s < self.now.n }
         requires to { t < self.now.n }
@@ -59,7 +60,7 @@ impl Closure {
         is_set(&self.bits, s, t)
     }
 
-    /// How many observations are `s` or are reached from `s`.
+    /// How many observations are reached from `s`, with `s` itself among them.
     pub fn count(&self, s: u32) -> u32
         requires { s < self.now.n }
         ensures { IsNumberOf self.now.n (λ t. (t ≡ s) ⊎ IsTrue (reaches_in self.now s t)) result }
@@ -68,7 +69,7 @@ impl Closure {
     }
 }
 
-/// The number of observations that are `s` or are reached from `s` by a closure is the count of `s`.
+/// How many observations a closure reaches from `s`, with `s` itself among them, is the count of `s`.
 pub fn closures_count()
     ensures { (reached : Reached) (costs : CostTable) (steps : Steps) (num den s k : ℕ)
         → IsClosureOf reached costs.n (IsStep steps (cost_at costs) num den) → s < costs.n

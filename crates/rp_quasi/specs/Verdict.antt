@@ -21,8 +21,8 @@ pub record AreLeastSums (n : ℕ) (c : ℕ → ℕ → ℕ) (values : List ℤ) 
   pub least : (s : ℕ) → s < n → IsLeastSum n c s (slice_index_or values s (pos 0))
   pub limits : (s : ℕ) → s < n → IsLimitedSum (slice_index_or values s (pos 0))
 
--- A closed walk with a negative sum that goes through no observation twice: the walk s, t, s for the first pair that
--- breaks, else the first closed part of the walk that the levels give, whose sum there is the start.
+-- A closed walk with a negative sum that goes through no observation twice: s, t, s where s and t are the first pair
+-- that breaks, else the first closed part of the walk that the levels give, whose sum there is the start.
 pub record GivesNegativeCycle (n : ℕ) (c : ℕ → ℕ → ℕ) (walk : List ℕ) : Type 0 where
   pub negative : IsNegativeCycle n c walk
   pub simple : IsSimpleCycle n walk

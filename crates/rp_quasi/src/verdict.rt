@@ -10,7 +10,7 @@ use rp_table::{Costs, RECORDS};
 use rp_walk::{Settled, settle};
 use std::alloc::Global;
 
-/// The least sums over all walks as values where no closed walk has a negative sum, else such a walk.
+/// The least sums over all walks as values, or instead a closed walk with a negative sum.
 pub fn quasilinear(alloc: Global, costs: &Costs) -> Result<Quasi, NoMemory>
     ensures verdict { IfOk result (IsQuasilinearVerdict costs.now.n (cost_at costs.now)) }
     ensures proves { IfOk result (ProvesQuasilinear costs.now.n (cost_at costs.now)) }

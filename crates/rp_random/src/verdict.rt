@@ -19,9 +19,8 @@ use rp_simplex::{Outcome, maximize};
 use rp_types::Rational;
 use std::alloc::Global;
 
-/// Whether some mixture of these types, which are all rational ones, makes the choices, by the run of the program of random
-/// utility: a mixture; a partial one of the greatest share with weights of the patches; or the step at which the run passes its
-/// width.
+/// Whether some mixture of these types makes the choices, by the run of the program of random utility: a mixture; a
+/// partial one of the greatest share with weights of the patches; or the step at which the run passes its width.
 pub fn random(
     alloc: Global,
     patches: &Patches,

@@ -183,7 +183,7 @@ fn list(alloc: Global, odd: &str, even: &str) -> Result<String, Fail> {
     Ok(text)
 }
 
-/// The certificate of the rounds: own costs 50500, also among rounds of one parity; 63125 across.
+/// The certificate of the rounds: at the prices of one, bundles of its own parity cost 50500 and the others 63125.
 fn certificate_of_rounds(alloc: Global) -> Result<String, Fail> {
     let ranks = list(alloc, "13", "12")?;
     let utility = list(alloc, "\"0\"", "\"12625\"")?;

@@ -137,7 +137,7 @@ pub(crate) fn outcome(
 #[test]
 fn outcomes_of_worked_programs(rt: HostRuntime) -> Result<(), Fail> {
     for (a, b, c, text) in [
-        // over the denominator 2^50 an entry is 2^100 - 2^50 + 1
+        // once the denominator is 2^50, one entry becomes 2^100 - 2^50 + 1
         (
             [
                 1_125_899_906_842_624,

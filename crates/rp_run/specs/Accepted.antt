@@ -1,4 +1,4 @@
--- That the checker, given the input alone, accepts the certificates of the program.
+-- The program's certificates are accepted by a checker that is given no more than the input.
 use Rattle.std.specs.Prelude.{Bool, IsTrue, Ok}
 use Rattle.rp_check.specs.CheckVerdict.{IsVerdictOn}
 use Rattle.rp_check.specs.ItemFailure.{ItemFails, shows_garp}

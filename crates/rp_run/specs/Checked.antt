@@ -38,7 +38,7 @@ reason_name reason.Dual = codes "Dual"
 reason_name reason.Units = codes "Units"
 reason_name reason.Irrational = codes "Irrational"
 
--- how many values the items leave out; 2^32 - 1 stands for that number and every greater one
+-- how many values the items leave out, cut off at 2^32 - 1
 abbrev pub withheld_of : List Item → ℕ
 withheld_of items = min (sum_by withheld_in items) (2 ^ 32 - 1)
 

@@ -6,7 +6,7 @@ ghost use Rattle.rp_run.specs.StatusNumbers.{status_number};
 pub enum Status {
     /// The whole answer was written.
     Done,
-    /// A certificate was read that proves no verdict of its own.
+    /// A certificate was read that the checker rejects.
     Rejected,
     /// The words are no command line.
     Usage,

@@ -1,5 +1,5 @@
--- The run ends: a number that falls with each pivot, as long as the tableaus are within the width W. Two different
--- fractions with denominators of at most W are at least 1/W^2 apart, so the whole parts of W^2 (N/D + W) keep their
+-- The run ends: a number that falls with each pivot, as long as the tableaus are within the width W. Fractions that
+-- differ and have denominators up to W are at least 1/W^2 apart, so the whole parts of W^2 (N/D + W) keep their
 -- order strictly, and they are at most 2 W^3. The objective row of these whole parts, read as one number in the base
 -- 2 W^3 + 1, rises with each pivot and is bounded.
 use Rattle.std.proofs.Common.{◌≡◌, ℕ, zero, suc, ◌+◌, ◌-◌, ◌*◌, ◌/◌, ◌^◌, ◌<◌, ◌≤◌, ℤ, pos, negsuc, ◌+ℤ◌, ◌*ℤ◌, ◌<ℤ◌, ◌≤ℤ◌, inl, inr, refl, sym, ◌∙◌, ap, subst, arith, pow-suc}

@@ -233,7 +233,7 @@ two_rows-ends = record {
   x_shown = below_two (λ s. pos (slice_index (1 ∷ 3 ∷ []) s) ≡ third_of_two.at 2 (suc s)) refl refl;
 }
 
--- ---- a program whose first pivot passes the width: over the denominator 2^50 an entry is 2^100 - 2^50 + 1
+-- ---- a program whose first pivot passes the width: once the denominator is 2^50, one entry is 2^100 - 2^50 + 1
 abbrev pub wide_rows : LinearProgram
 wide_rows = listed_program 2 2 (pos (2 ^ 50) ∷ pos 1 ∷ pos (2 ^ 50 - 1) ∷ pos (2 ^ 50) ∷ []) (pos 1 ∷ pos 1 ∷ []) (pos 1 ∷ pos 1 ∷ [])
 
@@ -288,7 +288,7 @@ wide_rows-passes = record {
   step_is = refl;
 }
 
--- ---- greatest y with -y ≤ 1: the run ends at once, at the point 0 with the ray 1
+-- ---- greatest y with -y ≤ 1: the run ends at once, with the ray 1 from the point 0
 abbrev pub one_row : LinearProgram
 one_row = listed_program 1 1 (negsuc 0 ∷ []) (pos 1 ∷ []) (pos 1 ∷ [])
 

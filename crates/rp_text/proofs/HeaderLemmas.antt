@@ -14,7 +14,7 @@ use Rattle.rp_num.proofs.BelowLemmas.{none_so_far, first_at}
 pub header_at : (fields : List (List ℕ)) (c : ℕ) → c < length fields → text_at (headers_in fields) c ≡ trimmed (text_at fields c)
 header_at fields c within = get_or-map trimmed fields c [] [] within
 
--- a header that this kind of file has not
+-- a header that such files do not take
 pub bad_header : (form : Form) (fields : List (List ℕ)) (header : List ℕ) (c number : ℕ) → c < length fields → header ≡ trimmed (text_at fields c) → number ≡ number_of c
     → first_of c (header_fault form (headers_in fields)) ≡ None → option_map_or (takes form) (role_of header) false ≡ false
     → headers_stage form (headers_in fields) ≡ Some (fault.BadHeader number)

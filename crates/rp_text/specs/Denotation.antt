@@ -1,4 +1,4 @@
--- What a file of numbers denotes: its first fault in the order of the stages, or its value.
+-- What a file of numbers denotes: its value, or the first fault of the earliest stage that finds one.
 use Rattle.std.specs.Prelude.{Bool, ◌-◌, if◌then◌else◌, map, codes, ℕ, List, [], ◌∷◌, ◌++◌, length, Option, None, Some, Result, Ok, Err, unwrap_or, slice_index}
 use Rattle.rp_num.specs.declared.decimal.Decimal.{Decimal}
 use Rattle.rp_table.specs.Tables.{Observations}

@@ -1,4 +1,4 @@
--- The first fault in the headers of a file: a header that this kind of file has not or has already, a good
+-- The first fault in the headers of a file: one that such files do not take, one that came before, a good
 -- whose partner is missing or that is not given, a column that is missing, and too many goods.
 use Rattle.std.specs.Prelude.{ℕ, Bool, false, not, ◌&&◌, ◌||◌, ◌==◌, nat_lt, if◌then◌else◌, List, [], ◌∷◌, ◌++◌, length, map, take, codes, Option, None, Some, is_some}
 use Rattle.std.specs.Option.{option_map_or}

@@ -14,9 +14,8 @@ use rp_num::{NoMemory, Seq};
 use rp_table::{BUDGETS, Budgets, Name};
 use std::alloc::Global;
 
-/// Reads budgets: a column `p_NAME` of prices for each good, a column `w` of incomes, and possibly a column
-/// `obs` that says nothing. Prices are scaled by the power of ten of their greatest number of places, and
-/// incomes by that of theirs.
+/// Reads columns `p_NAME` of prices by good, `w` of incomes and possibly `obs`, which says nothing. Prices are scaled
+/// by 10^k, where k is the most places that one of them has, and incomes likewise by theirs.
 pub fn read_budgets(alloc: Global, bytes: &[u8]) -> Result<Budgets, TableFault>
     ensures denoted { IfOk result (λ budgets. budgets_in bytes.now ≡ Ok budgets) }
     ensures refused { RefusedAs result (budgets_in bytes.now) }

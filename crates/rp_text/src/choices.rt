@@ -14,9 +14,8 @@ use rp_num::{NoMemory, Seq};
 use rp_table::{BUDGETS, Budgets, CHOICES, Choices, Name};
 use std::alloc::Global;
 
-/// Reads choices on these budgets: a column `budget` with the number of a budget, from 1, a column
-/// `q_NAME` of quantities for each good, a column `n` of counts, and possibly a column `obs` that says
-/// nothing. Quantities are scaled by the power of ten of their greatest number of places.
+/// Reads columns `budget` with numbers of these budgets from 1, `q_NAME` of quantities by good, `n` of counts and
+/// possibly `obs`, which says nothing. Quantities are scaled by 10^k, where k is the most places that one of them has.
 pub fn read_choices(alloc: Global, bytes: &[u8], budgets: &Budgets) -> Result<Choices, TableFault>
     ensures denoted { IfOk result (λ choices. choices_on budgets.now bytes.now ≡ Ok choices) }
     ensures refused { RefusedAs result (choices_on budgets.now bytes.now) }

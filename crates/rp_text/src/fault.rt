@@ -5,7 +5,7 @@ use rp_num::NoMemory;
 use std::alloc::{AllocError, AllocFailed};
 use thiserror::Error;
 
-/// Why a file is refused. Records count from 1 after the header, and columns and budgets from 1.
+/// Why a file is refused. Rows, columns and budgets are numbered from 1; row 1 is the first below the header.
 #[derive(Clone, Copy, Debug, PartialEq, Eq, Error)]
 pub enum TableFault {
     /// There is no line at all.

@@ -13,7 +13,7 @@ use crate::roles::role_of;
 use crate::texts::{number_of, trimmed};
 use std::alloc::Global;
 
-/// The columns of a file, each with a header that this kind of file has, and no two with the same.
+/// The columns of a file, each under a header that such files take, and no two under the same.
 pub fn read_columns<'a>(
     alloc: Global,
     form: &Form,

@@ -16,10 +16,8 @@ use rp_num::{NoMemory, Seq};
 use rp_table::{NEW_RECORDS, Name, Prices, Table};
 use std::alloc::Global;
 
-/// Reads new prices beside a table: a column `p_NAME` of prices for each good of the table, a column `m` of
-/// expenditures where they are asked for, and possibly a column `obs` that says nothing. Prices are scaled
-/// by the power of ten of their greatest number of places, and expenditures by that power times the one of
-/// the table's quantities.
+/// Reads columns `p_NAME` of prices by good, `m` of expenditures if asked for and possibly `obs`, which says nothing.
+/// Prices are scaled by 10^k for the most places k of one of them, expenditures by 10^k and the table's quantity scale.
 pub fn read_prices(
     alloc: Global,
     bytes: &[u8],

@@ -18,9 +18,8 @@ use rp_num::{Decimal, NoMemory, Seq};
 use rp_table::{Name, RECORDS, Table};
 use std::alloc::Global;
 
-/// Reads a table: a column `p_NAME` of prices and a column `q_NAME` of quantities for each good, and
-/// possibly a column `obs` that says nothing. Prices are scaled by the power of ten of their greatest
-/// number of places, and quantities by that of theirs.
+/// Reads columns `p_NAME` of prices and `q_NAME` of quantities by good and possibly `obs`, which says nothing. Prices
+/// are scaled by 10^k, where k is the most places that one of them has, and quantities likewise by theirs.
 pub fn read_table(alloc: Global, bytes: &[u8]) -> Result<Table, TableFault>
     ensures denoted { IfOk result (λ table. table_in bytes.now ≡ Ok table) }
     ensures refused { RefusedAs result (table_in bytes.now) }

@@ -29,7 +29,7 @@ get_or-values p a (suc n) (suc m) d h =
     get_or-values p (suc a) n m d (omega arith) ∙ ap p e
 
 -- a walk of as many steps as there are observations, whose total is less than that of every walk with
--- fewer steps to its end, holds a closed part that ends below its start
+-- fewer steps to its end, has a closed part that ends below its start
 pub holds_closed_part : (w : TotalRule) (p : ℕ → ℕ) → KeepsOrder w → ((m : ℕ) → m ≤ w.count → p m < w.count) → IsLessThanShorter w w.count (p w.count) (prefix_total w p w.count) → (a d : ℕ) × (0 < d) × (a + d ≤ w.count) × (p a ≡ p (a + d)) × IsLess (prefix_total w p (a + d)) (prefix_total w p a)
 holds_closed_part w p keeps within shorter =
     let len = length-values p 0 w.count in

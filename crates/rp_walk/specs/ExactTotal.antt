@@ -1,8 +1,8 @@
 -- Exact totals of walks and their order: fractions of whole numbers (Landau, Foundations of Analysis, chapters 2 and 4).
 use Rattle.std.specs.Prelude.{◌≡◌, ℕ, ◌≤◌, ℤ, pos, ◌*ℤ◌, ◌<ℤ◌}
 
--- The exact total of a walk: a fraction of whole numbers without bound, with a positive denominator.
--- A sum is such a fraction over 1.
+-- The exact total of a walk as a fraction: whole numbers of any size, the denominator positive. A sum has the
+-- denominator 1.
 pub record ExactTotal : Type 0 where
   pub num : ℤ
   pub den : ℕ

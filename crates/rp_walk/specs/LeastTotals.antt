@@ -3,12 +3,12 @@ use Rattle.std.specs.Prelude.{List, [], ◌∷◌, ◌≡◌, ℕ, ◌-◌, ◌<
 use Rattle.rp_walk.specs.ExactTotal.{ExactTotal, IsLess, SameTotal}
 use Rattle.rp_walk.specs.Walk.{TotalRule, IsTotal}
 
--- The number x is the least total over the walks of at most k steps that end at s.
+-- The number x is the least total of those walks that end at s after up to k steps.
 pub record IsLeastWithin (w : TotalRule) (k s : ℕ) (x : ExactTotal) : Type 0 where
   pub reached : (j : ℕ) × (y : ExactTotal) × (j ≤ k) × IsTotal w j s y × SameTotal y x
   pub lowest : (j : ℕ) (y : ExactTotal) → j ≤ k → IsTotal w j s y → ¬ (IsLess y x)
 
--- The number x is the least total over the walks of any length that end at s.
+-- The number x is the least total of all walks that end at s, however long.
 pub record IsLeast (w : TotalRule) (s : ℕ) (x : ExactTotal) : Type 0 where
   pub reached : (j : ℕ) × (y : ExactTotal) × IsTotal w j s y × SameTotal y x
   pub lowest : (j : ℕ) (y : ExactTotal) → IsTotal w j s y → ¬ (IsLess y x)

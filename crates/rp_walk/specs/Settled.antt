@@ -4,7 +4,7 @@ use Rattle.rp_walk.specs.ExactTotal.{ExactTotal, IsLess, SameTotal}
 use Rattle.rp_walk.specs.Walk.{TotalRule, AreObservations, IsTotal, end_of, total_after}
 use Rattle.rp_walk.specs.LeastTotals.{IsLeast}
 
--- The closed walk s, t, s ends below its start, for every start that a walk reaches at s.
+-- Whatever total a walk reaches at s, going on to t and back to s lowers it.
 abbrev pub PairBreaks : TotalRule → ℕ → ℕ → Type 0
 PairBreaks w s t = (k : ℕ) (x : ExactTotal) → IsTotal w k s x → IsLess (total_after w x s (t ∷ s ∷ [])) x
 

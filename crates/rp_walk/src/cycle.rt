@@ -113,7 +113,7 @@ fn level_walk<T: Total>(
     Ok(walk)
 }
 
-/// The places of the first closed part from the walk's beginning.
+/// The places between which the walk first comes back to an observation.
 fn first_closed_part(alloc: Global, walk: &[u32], n: u32) -> Result<(usize, usize), NoMemory>
     requires within { All (λ s. s < n) walk.now }
     requires long { n < length walk.now }

@@ -7,7 +7,7 @@ use crate::total::Total;
 use rp_num::NoMemory;
 use std::alloc::Global;
 
-/// The least totals over the walks of at most k steps, by the observation where they end.
+/// The least totals of walks with up to k steps, by the observation where they end.
 #[derive(Drop)]
 pub(crate) struct LevelTotals<V> {
     pub(crate) values: Vec<V>,

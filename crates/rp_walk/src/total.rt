@@ -45,7 +45,7 @@ pub trait Total {
     fn less(&self, a: Self::Value, b: Self::Value) -> bool
         ensures { IsTrue result ↔ IsLess (exact a) (exact b) };
 
-    /// Whether the closed walk s, t, s ends below its start, for every start that a walk reaches.
+    /// Whether going on from `s` to `t` and back to `s` lowers every total that a walk reaches at `s`.
     fn pair_breaks(&self, s: u32, t: u32) -> bool
         requires from { s < (rule self.now).count }
         requires to { t < (rule self.now).count }
