@@ -1,4 +1,4 @@
-//! Which column enters: a column is priced when it is looked at, by the multipliers of the objective row that are not 0.
+//! Which column enters: a column is priced when it is looked at, by the objective's multipliers that are not 0.
 ghost use Rattle.std.specs.Prelude.{◌≡◌, suc, ◌^◌, ◌<◌, ◌≤◌, length, MatchOption};
 ghost use Rattle.std.specs.Int.RustNames.{unsigned_abs};
 ghost use Rattle.rp_farkas.specs.Limits.{largest_entry, most_rows};

@@ -8,9 +8,8 @@ ghost use Rattle.rp_simplex.specs.Combined.{AreSmall, combination, delta};
 use crate::dot::dot_product;
 use rp_grid::Grid;
 
-/// The tableau that the run stands at, over one denominator: tableau 0 column by column, the multipliers that make each
-/// row out of the rows of tableau 0, and the basic column of each row. The last row is the objective; column 0 has the
-/// right sides, then come the slacks and the program's columns. No entry of tableau 0 passes `largest`.
+/// A tableau of the run: tableau 0 by columns (right sides, slacks, the program's own), and the multipliers that make
+/// each row, the objective last, out of the rows of tableau 0. No entry of tableau 0 passes `largest`.
 #[derive(Drop)]
 pub struct Stage {
     pub rows: usize,

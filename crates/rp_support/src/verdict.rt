@@ -18,10 +18,8 @@ use rp_pref::{Closure, Steps};
 use rp_table::{Costs, LARGEST, LARGEST_EXPENDITURE, Table};
 use std::alloc::Global;
 
-/// What the table supports at new prices when `m` is spent (Varian 1982), from a true verdict on
-/// the generalized axiom: the observations below and strictly below, one supporting demand, and the
-/// bounds of each good over all of them; or the violation. Prices are scaled as those of the table,
-/// and `m` by both scales.
+/// What the table supports at new prices when `m` is spent (Varian 1982), or the violation of the verdict. Prices are
+/// scaled as those of the table, and `m` by both scales.
 pub fn demand(
     alloc: Global,
     table: &Table,
