@@ -75,7 +75,7 @@ pub(crate) fn load_bundles<'a, D: Desk>(
 }
 
 /// The new prices in a file beside a table, each with an expenditure.
-pub(crate) fn load_budgets<'a, D: Desk>(
+pub(crate) fn load_prices_with_expenditure<'a, D: Desk>(
     alloc: Global,
     desk: &mut D,
     file: &'a str,
@@ -115,7 +115,7 @@ pub(crate) fn load_prices<'a, D: Desk>(
 }
 
 /// The budgets in a file.
-pub(crate) fn load_random_budgets<'a, D: Desk>(
+pub(crate) fn load_budgets<'a, D: Desk>(
     alloc: Global,
     desk: &mut D,
     file: &'a str,
@@ -133,7 +133,7 @@ pub(crate) fn load_random_budgets<'a, D: Desk>(
 }
 
 /// The choices in a file, from budgets.
-pub(crate) fn load_random_choices<'a, D: Desk>(
+pub(crate) fn load_choices<'a, D: Desk>(
     alloc: Global,
     desk: &mut D,
     file: &'a str,

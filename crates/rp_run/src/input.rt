@@ -11,8 +11,8 @@ ghost use Rattle.rp_run.specs.Causes.{IsCause};
 ghost use Rattle.rp_run.specs.Named.{named_line, named_input, typed};
 
 use crate::files::{
-    Cause, load_budgets, load_bundles, load_certificate, load_prices, load_random_budgets,
-    load_random_choices, load_table,
+    Cause, load_budgets, load_bundles, load_certificate, load_choices, load_prices,
+    load_prices_with_expenditure, load_table,
 };
 use crate::line::Line;
 use crate::patches::patches_of;
@@ -64,7 +64,7 @@ pub(crate) fn read_input<'a, D: Desk>(
             Ok(Input::Check(table, certificate))
         }
         Line::Demand { table, new, json } => {
-            let (table, new) = load_table_budgets(alloc, desk, table, new)?;
+            let (table, new) = load_table_prices_with_expenditure(alloc, desk, table, new)?;
             Ok(Input::Demand(table, new, json))
         }
         Line::Welfare { table, new, json } => {
@@ -116,7 +116,7 @@ fn load_table_certificate<'a, D: Desk>(
 }
 
 /// The table in one file, and the new budgets beside it in another.
-fn load_table_budgets<'a, D: Desk>(
+fn load_table_prices_with_expenditure<'a, D: Desk>(
     alloc: Global,
     desk: &mut D,
     first: &'a str,
@@ -131,7 +131,7 @@ fn load_table_budgets<'a, D: Desk>(
     ensures never_falls { (other : List ℕ) → D.faults desk.old other ≤ D.faults desk.new other }
 {
     let table = load_table(alloc, desk, first)?;
-    let new = load_budgets(alloc, desk, second, &table)?;
+    let new = load_prices_with_expenditure(alloc, desk, second, &table)?;
     Ok((table, new))
 }
 
@@ -194,8 +194,8 @@ fn load_patches<'a, D: Desk>(
     ensures bytes_stay { (other : List ℕ) → D.bytes desk.new other ≡ D.bytes desk.old other }
     ensures never_falls { (other : List ℕ) → D.faults desk.old other ≤ D.faults desk.new other }
 {
-    let budgets = load_random_budgets(alloc, desk, first)?;
-    let choices = load_random_choices(alloc, desk, second, &budgets)?;
+    let budgets = load_budgets(alloc, desk, first)?;
+    let choices = load_choices(alloc, desk, second, &budgets)?;
     let made = patches_of(alloc, &budgets, &choices, per)?;
     Ok(made)
 }
@@ -219,8 +219,8 @@ fn load_random_certificate<'a, D: Desk>(
     ensures bytes_stay { (other : List ℕ) → D.bytes desk.new other ≡ D.bytes desk.old other }
     ensures never_falls { (other : List ℕ) → D.faults desk.old other ≤ D.faults desk.new other }
 {
-    let budgets = load_random_budgets(alloc, desk, first)?;
-    let choices = load_random_choices(alloc, desk, second, &budgets)?;
+    let budgets = load_budgets(alloc, desk, first)?;
+    let choices = load_choices(alloc, desk, second, &budgets)?;
     let certificate = load_certificate(alloc, desk, third, Kind::Random)?;
     let (patches, types) = patches_of(alloc, &budgets, &choices, per)?;
     Ok(Input::CheckRandom(patches, types, certificate))

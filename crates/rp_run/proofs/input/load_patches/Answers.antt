@@ -16,7 +16,7 @@ use Rattle.rp_run.proofs.input.load_patches.Goals as goal
 pub returns-in_err-budgets-clause-caused : goal.returns-in_err-budgets-clause-caused
 returns-in_err-budgets-clause-caused g c =
     let files = g.D.Desk.bytes c.args.desk.now in
-    let rose = Rose (g.D.Desk.faults c.args.desk.now) (g.D.Desk.faults c.load_random_budgets.new.desk) in
+    let rose = Rose (g.D.Desk.faults c.args.desk.now) (g.D.Desk.faults c.load_budgets.new.desk) in
     let f = c.args.first.now in
     let s = c.args.second.now in
     passed_on c.from_residual.result c.in_err-budgets.field-0.0 (λ why. (json : Bool) → IsCause files rose (Random f s c.args.per json) why) c.from_residual.ensures
@@ -25,10 +25,10 @@ returns-in_err-budgets-clause-caused g c =
 pub returns-in_err-choices-clause-caused : goal.returns-in_err-choices-clause-caused
 returns-in_err-choices-clause-caused g c =
     let files = g.D.Desk.bytes c.args.desk.now in
-    let later = g.D.Desk.bytes c.load_random_budgets.new.desk in
+    let later = g.D.Desk.bytes c.load_budgets.new.desk in
     let before = g.D.Desk.faults c.args.desk.now in
-    let mid = g.D.Desk.faults c.load_random_budgets.new.desk in
-    let after = g.D.Desk.faults c.load_random_choices.new.desk in
+    let mid = g.D.Desk.faults c.load_budgets.new.desk in
+    let after = g.D.Desk.faults c.load_choices.new.desk in
     let f = c.args.first.now in
     let s = c.args.second.now in
     let why = c.in_err-choices.field-0.0 in
@@ -39,9 +39,9 @@ returns-in_err-choices-clause-caused g c =
 pub returns-in_err-made-clause-caused : goal.returns-in_err-made-clause-caused
 returns-in_err-made-clause-caused g c =
     let files = g.D.Desk.bytes c.args.desk.now in
-    let later = g.D.Desk.bytes c.load_random_budgets.new.desk in
+    let later = g.D.Desk.bytes c.load_budgets.new.desk in
     let before = g.D.Desk.faults c.args.desk.now in
-    let after = g.D.Desk.faults c.load_random_choices.new.desk in
+    let after = g.D.Desk.faults c.load_choices.new.desk in
     let f = c.args.first.now in
     let s = c.args.second.now in
     let why = c.in_err-made.field-0.0 in
@@ -52,8 +52,8 @@ returns-in_err-made-clause-caused g c =
 pub returns-clause-read : goal.returns-clause-read
 returns-clause-read g c =
     let files = g.D.Desk.bytes c.args.desk.now in
-    let later = g.D.Desk.bytes c.load_random_budgets.new.desk in
-    let rose = Rose (g.D.Desk.faults c.args.desk.now) (g.D.Desk.faults c.load_random_choices.new.desk) in
+    let later = g.D.Desk.bytes c.load_budgets.new.desk in
+    let rose = Rose (g.D.Desk.faults c.args.desk.now) (g.D.Desk.faults c.load_choices.new.desk) in
     let f = c.args.first.now in
     let s = c.args.second.now in
     let moved = moved_value files later s (Numbers s (choices_on c.in_ok-budgets.budgets)) c.in_ok-choices.choices (c.in_ok-budgets.ensures.bytes_stay s) c.in_ok-choices.ensures.loaded in

@@ -66,7 +66,7 @@ returns-in-Trial-clause-read g c =
 pub returns-in_err-table-in-Demand-clause-caused : goal.returns-in_err-table-in-Demand-clause-caused
 returns-in_err-table-in-Demand-clause-caused g c =
     let files = g.D.Desk.bytes c.args.desk.now in
-    let rose = Rose (g.D.Desk.faults c.args.desk.now) (g.D.Desk.faults c.load_table_budgets.new.desk) in
+    let rose = Rose (g.D.Desk.faults c.args.desk.now) (g.D.Desk.faults c.load_table_prices_with_expenditure.new.desk) in
     passed_on c.from_residual-in_err-table-in-Demand.result c.in_err-table-in-Demand.field-0.0 (IsCause files rose (named_line c.args.line)) c.from_residual-in_err-table-in-Demand.ensures
     (rw c.in-Demand.is (c.in_err-table-in-Demand.ensures.caused c.in-Demand.json))
 

@@ -8,7 +8,7 @@ use Rattle.rp_run.specs.Causes.{IsCause}
 use Rattle.rp_run.proofs.FileLemmas.{two_input, first_cause, second_cause, moved_cause, moved_value}
 use Rattle.rp_run.proofs.GainsLemmas.{rises_later}
 use Rattle.rp_run.proofs.PassedOn.{passed_on}
-use Rattle.rp_run.proofs.input.load_table_budgets.Goals as goal
+use Rattle.rp_run.proofs.input.load_table_prices_with_expenditure.Goals as goal
 
 pub returns-in_err-table-clause-caused : goal.returns-in_err-table-clause-caused
 returns-in_err-table-clause-caused g c =
@@ -25,7 +25,7 @@ returns-in_err-new-clause-caused g c =
     let later = g.D.Desk.bytes c.load_table.new.desk in
     let before = g.D.Desk.faults c.args.desk.now in
     let mid = g.D.Desk.faults c.load_table.new.desk in
-    let after = g.D.Desk.faults c.load_budgets.new.desk in
+    let after = g.D.Desk.faults c.load_prices_with_expenditure.new.desk in
     let f = c.args.first.now in
     let s = c.args.second.now in
     let why = c.in_err-new.field-0.0 in
@@ -37,7 +37,7 @@ pub returns-clause-read : goal.returns-clause-read
 returns-clause-read g c =
     let files = g.D.Desk.bytes c.args.desk.now in
     let later = g.D.Desk.bytes c.load_table.new.desk in
-    let rose = Rose (g.D.Desk.faults c.args.desk.now) (g.D.Desk.faults c.load_budgets.new.desk) in
+    let rose = Rose (g.D.Desk.faults c.args.desk.now) (g.D.Desk.faults c.load_prices_with_expenditure.new.desk) in
     let f = c.args.first.now in
     let s = c.args.second.now in
     let moved = moved_value files later s (Numbers s (prices_beside true c.in_ok-table.table)) c.in_ok-new.new (c.in_ok-table.ensures.bytes_stay s) c.in_ok-new.ensures.loaded in
