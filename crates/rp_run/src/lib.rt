@@ -9,6 +9,7 @@ mod demands;
 mod fault_text;
 mod files;
 mod input;
+mod laws;
 mod line;
 mod patches;
 mod randoms;
@@ -23,6 +24,7 @@ mod trials;
 mod utilities;
 mod welfares;
 
+pub use laws::bytes_denote_one_input;
 pub use running::run;
 pub use status::Status;
 pub use sure::run_surely;
