@@ -59,6 +59,15 @@ fn analyse_reports_the_verdicts_on_worked_tables(rt: HostRuntime) -> Result<(), 
             "p_a,q_a,p_b,q_b\n2,3,1,2\n1,0,2,3\n2,1,1,0\n",
             "observations 3 goods 2 places 0 0\ngarp holds\nranks 3 2 1\nafriat model\nutility 0 -5 -30\nlambda 1 5 25\nefficiency 1 attained yes\nbelow 3 2 1\nat ranks 3 2 1\nhomothetic violated\nstart 1\ncycle 1 2 1\nquasilinear violated\ncycle 1 2 1\n",
         ),
+        // no closed walk of two steps ends below its start: the walk 4 2 3 1 2 does, and the walk 5 1 2 4 1 2
+        (
+            "p_a,q_a,p_b,q_b,p_c,q_c\n2,1,2,3,3,0\n3,1,1,0,1,3\n3,0,1,3,2,2\n2,3,2,1,2,3\n",
+            "observations 4 goods 3 places 0 0\ngarp holds\nranks 1 3 2 4\nafriat model\nutility -8 -6 -7 0\nlambda 1 1 1 1\nefficiency 1 attained yes\nbelow 1 3 2 4\nat ranks 1 3 2 4\nhomothetic violated\nstart 4/7\ncycle 2 3 1 2\nquasilinear holds\nvalues -8 -6 -7 0\n",
+        ),
+        (
+            "p_a,q_a,p_b,q_b,p_c,q_c\n1,4,1,3,3,2\n2,3,1,4,4,0\n4,1,2,1,3,1\n4,0,2,2,4,0\n2,4,4,3,3,4\n",
+            "observations 5 goods 3 places 0 0\ngarp holds\nranks 4 3 2 1 5\nafriat model\nutility -6 -12 -23 -28 0\nlambda 1 1 1 1 1\nefficiency 1 attained yes\nbelow 4 3 2 1 5\nat ranks 4 3 2 1 5\nhomothetic violated\nstart 13/16\ncycle 1 2 4 1\nquasilinear holds\nvalues -6 -12 -23 -28 0\n",
+        ),
     ] {
         let got = report(&rt, rt.alloc(), file)?;
         assert_eq!(rt; got.as_str(), out, "output of {file}");
@@ -84,6 +93,10 @@ fn analyse_at_the_width_and_with_decimals(rt: HostRuntime) -> Result<(), Fail> {
         (
             "p_a,q_a,p_b,q_b\n4194304,2097151,1,4194304\n1,1747627,3145727,2796203\n1,4194304,4194304,2097151\n",
             "observations 3 goods 2 places 0 0\ngarp holds\nranks 3 2 1\nafriat model\nutility 0 -1466011309397 -3665035613524\nlambda 1 1 1\nefficiency 1 attained yes\nbelow 3 2 1\nat ranks 3 2 1\nhomothetic withheld steps 2 from 3 to 1\nquasilinear holds\nvalues 0 -1466011309397 -3665035613524\n",
+        ),
+        (
+            "p_a,q_a,p_b,q_b,p_c,q_c\n81265,44542,3591,94595,81629,59312\n95990,34016,10759,69607,54061,93616\n3408,62757,96001,14179,40182,17583\n13978,72477,34584,37214,74213,37714\n34585,70604,3772,60680,33424,39990\n",
+            "observations 5 goods 3 places 0 0\ngarp holds\nranks 2 3 1 2 4\nafriat model\nutility -127608362 560672088 -2554098865 -127608362 0\nlambda 1 1 1 1 1\nefficiency 1 attained yes\nbelow 2 3 1 2 4\nat ranks 2 3 1 2 4\nhomothetic withheld steps 3 from 3 to 1\nquasilinear holds\nvalues -575271912 0 -2790100334 -274212450 -156367785\n",
         ),
         (
             "\u{feff}p_a,q_a,p_b,q_b\r\n1.25,2,2.5,1\r\n2.50, 1 ,1.25,2\r\n",

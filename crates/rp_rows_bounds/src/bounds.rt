@@ -226,3 +226,22 @@ fn faults_of_the_new_prices_are_told_with_their_file(rt: HostRuntime) -> Result<
     }
     Ok(())
 }
+
+/// Line feeds alone are no record; with a byte past the limit the new prices are not looked at.
+#[test]
+fn new_prices_of_the_most_bytes_and_of_one_more(rt: HostRuntime) -> Result<(), Fail> {
+    let alloc = rt.alloc();
+    for (size, line) in [
+        (4_194_304, "rp: n.csv: Empty\n"),
+        (4_194_305, "rp: n.csv: TooLong\n"),
+    ] {
+        let new = String::from_utf8(vec![in alloc; b'\n'; size]?)?;
+        for command in ["demand", "welfare"] {
+            let got = bounds(alloc, command, APART, new.as_str())?;
+            assert_eq!(rt; got.status, Status::Refused);
+            assert_eq!(rt; got.err.as_str(), line, "{command}");
+            assert!(rt; got.out.is_empty());
+        }
+    }
+    Ok(())
+}

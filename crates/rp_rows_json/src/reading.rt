@@ -63,6 +63,7 @@ fn items_of_every_form_there_and_back(rt: HostRuntime) -> Result<(), Fail> {
         "{\"item\":\"quasilinear\",\"values\":[\"0\",\"-170141183460469231731687303715884105727\"]}",
         "{\"below\":[1],\"expenditure\":\"3\",\"goods\":[{\"lower\":{\"den\":\"1\",\"value\":\"1/2\",\"x\":[\"1\"],\"y\":[[2,\"1\"]]},\"upper\":{\"withheld\":\"7\"}}],\"inner\":{\"den\":\"1\",\"num\":[\"2\"]},\"item\":\"demand\",\"prices\":[\"1\"],\"strict\":[]}",
         "{\"cycle\":[1,2,1],\"expenditure\":\"3\",\"item\":\"demand\",\"prices\":[\"1\",\"1\"]}",
+        "{\"cycle\":[1,2,1],\"expenditure\":\"18446744073709551615\",\"item\":\"demand\",\"prices\":[\"4294967295\",\"0\"]}",
         "{\"at\":1,\"item\":\"welfare\",\"lower\":{\"withheld\":\"18446744073709551615\"},\"observation\":2,\"prices\":[\"1\"],\"upper\":\"12\"}",
         "{\"cycle\":[1,2,1],\"item\":\"welfare\",\"observation\":1,\"prices\":[\"1\"]}",
     ] {
@@ -126,6 +127,40 @@ fn items_that_are_none(rt: HostRuntime) -> Result<(), Fail> {
     assert!(rt;
         fault_of(alloc, last.as_bytes(), Kind::Table) == Some(JsonFault::BadShape { item: 3 })
     );
+    Ok(())
+}
+
+/// Demand and welfare that are none: a price, an amount or a number past its type, an id of 0, a name too few.
+#[test]
+fn bounds_that_are_none(rt: HostRuntime) -> Result<(), Fail> {
+    let alloc = rt.alloc();
+    for item in [
+        "{\"below\":[1],\"expenditure\":\"3\",\"goods\":[{\"lower\":{\"den\":\"1\",\"value\":\"1/2\",\"x\":[\"1\"],\"y\":[[2,\"1\"]]},\"upper\":{\"withheld\":\"7\"}}],\"inner\":{\"den\":\"1\",\"num\":[\"2\"]},\"item\":\"demand\",\"prices\":[\"4294967296\"],\"strict\":[]}",
+        "{\"below\":[1],\"expenditure\":\"18446744073709551616\",\"goods\":[{\"lower\":{\"den\":\"1\",\"value\":\"1/2\",\"x\":[\"1\"],\"y\":[[2,\"1\"]]},\"upper\":{\"withheld\":\"7\"}}],\"inner\":{\"den\":\"1\",\"num\":[\"2\"]},\"item\":\"demand\",\"prices\":[\"1\"],\"strict\":[]}",
+        "{\"below\":[0],\"expenditure\":\"3\",\"goods\":[{\"lower\":{\"den\":\"1\",\"value\":\"1/2\",\"x\":[\"1\"],\"y\":[[2,\"1\"]]},\"upper\":{\"withheld\":\"7\"}}],\"inner\":{\"den\":\"1\",\"num\":[\"2\"]},\"item\":\"demand\",\"prices\":[\"1\"],\"strict\":[]}",
+        "{\"below\":[1],\"expenditure\":\"3\",\"goods\":[{\"lower\":{\"den\":\"1\",\"value\":\"1/2\",\"x\":[\"1\"],\"y\":[[0,\"1\"]]},\"upper\":{\"withheld\":\"7\"}}],\"inner\":{\"den\":\"1\",\"num\":[\"2\"]},\"item\":\"demand\",\"prices\":[\"1\"],\"strict\":[]}",
+        "{\"below\":[1],\"expenditure\":\"3\",\"goods\":[{\"lower\":{\"den\":\"1\",\"value\":\"1/2\",\"x\":[\"1\"],\"y\":[[4294967296,\"1\"]]},\"upper\":{\"withheld\":\"7\"}}],\"inner\":{\"den\":\"1\",\"num\":[\"2\"]},\"item\":\"demand\",\"prices\":[\"1\"],\"strict\":[]}",
+        "{\"below\":[1],\"expenditure\":\"3\",\"goods\":[{\"lower\":{\"den\":\"1\",\"value\":\"1/2\",\"x\":[\"1\"],\"y\":[[2,\"1\",1]]},\"upper\":{\"withheld\":\"7\"}}],\"inner\":{\"den\":\"1\",\"num\":[\"2\"]},\"item\":\"demand\",\"prices\":[\"1\"],\"strict\":[]}",
+        "{\"below\":[1],\"expenditure\":\"3\",\"goods\":[{\"lower\":{\"den\":\"1\",\"value\":\"1/2\",\"x\":[\"1\"],\"y\":[[2,\"1\"]]}}],\"inner\":{\"den\":\"1\",\"num\":[\"2\"]},\"item\":\"demand\",\"prices\":[\"1\"],\"strict\":[]}",
+        "{\"below\":[1],\"expenditure\":\"3\",\"goods\":[{\"lower\":{\"den\":\"1\",\"value\":\"1/2\",\"y\":[[2,\"1\"]]},\"upper\":{\"withheld\":\"7\"}}],\"inner\":{\"den\":\"1\",\"num\":[\"2\"]},\"item\":\"demand\",\"prices\":[\"1\"],\"strict\":[]}",
+        "{\"below\":[1],\"expenditure\":\"3\",\"goods\":[{\"lower\":{\"den\":\"1\",\"value\":\"1/2\",\"x\":[\"1\"],\"y\":[[2,\"1\"]]},\"upper\":{\"withheld\":\"7\"}}],\"inner\":{\"num\":[\"2\"]},\"item\":\"demand\",\"prices\":[\"1\"],\"strict\":[]}",
+        "{\"below\":[1],\"expenditure\":\"3\",\"goods\":[{\"lower\":{\"den\":\"1\",\"value\":\"1/2\",\"x\":[\"1\"],\"y\":[[2,\"1\"]]},\"upper\":{\"withheld\":\"7\"}}],\"inner\":{\"den\":\"1\",\"num\":[\"2\"]},\"item\":\"demand\",\"prices\":[\"1\"]}",
+        "{\"cycle\":[1,2,1],\"item\":\"demand\",\"prices\":[\"1\",\"1\"]}",
+        "{\"cycle\":[1,2,1],\"expenditure\":\"3\",\"item\":\"demand\",\"prices\":[\"1\",\"4294967296\"]}",
+        "{\"at\":1,\"item\":\"welfare\",\"lower\":{\"withheld\":\"7\"},\"observation\":2,\"prices\":[\"4294967296\"],\"upper\":\"12\"}",
+        "{\"at\":1,\"item\":\"welfare\",\"lower\":{\"den\":\"1\",\"value\":\"8\",\"x\":[\"8\"],\"y\":[[0,\"1\"]]},\"observation\":2,\"prices\":[\"1\"],\"upper\":\"12\"}",
+        "{\"at\":0,\"item\":\"welfare\",\"lower\":{\"withheld\":\"7\"},\"observation\":2,\"prices\":[\"1\"],\"upper\":\"12\"}",
+        "{\"at\":1,\"item\":\"welfare\",\"lower\":{\"withheld\":\"7\"},\"observation\":0,\"prices\":[\"1\"],\"upper\":\"12\"}",
+        "{\"at\":1,\"item\":\"welfare\",\"lower\":{\"withheld\":\"7\"},\"observation\":2,\"prices\":[\"1\"],\"upper\":\"18446744073709551616\"}",
+        "{\"at\":1,\"item\":\"welfare\",\"lower\":{\"withheld\":\"7\"},\"observation\":2,\"prices\":[\"1\"]}",
+        "{\"at\":1,\"item\":\"welfare\",\"lower\":{},\"observation\":2,\"prices\":[\"1\"],\"upper\":\"12\"}",
+        "{\"cycle\":[1,2,1],\"item\":\"welfare\",\"prices\":[\"1\"]}",
+        "{\"cycle\":[1,2,1],\"item\":\"welfare\",\"observation\":1,\"prices\":[\"4294967296\"]}",
+    ] {
+        let text = of_table(alloc, item)?;
+        let fault = fault_of(alloc, text.as_bytes(), Kind::Table);
+        assert!(rt; fault == Some(JsonFault::BadShape { item: 1 }), "{item}");
+    }
     Ok(())
 }
 

@@ -102,6 +102,47 @@ fn types_up_to_their_limit(rt: HostRuntime) -> Result<(), Fail> {
     Ok(())
 }
 
+/// On each budget of each pair a choice above the other budget, and one where the two meet.
+fn choices_that_meet(alloc: Global, n: u32) -> Result<String, AllocError>
+    requires { n ≤ 8 }
+{
+    let mut text = String::new(alloc);
+    text.push_str("budget,q_a,q_b,n\n")?;
+    for i in 0..n {
+        let (a, b) = (2 * i + 1, 2 * i + 2);
+        text.push_str(format!(in alloc; "{a},2,1,1\n{a},1,1,1\n{b},1,2,1\n{b},1,1,1\n")?.as_str())?;
+    }
+    Ok(text)
+}
+
+/// A pair with choices that meet has four rational types, five with a choice below on one side, and six with one on both. So
+/// there are 4^6, and past the limit 4 * 5 * 6^3 and 4^5 * 5.
+#[test]
+fn as_many_types_as_the_limit_and_more(rt: HostRuntime) -> Result<(), Fail> {
+    let alloc = rt.alloc();
+    for (n, more, told) in [
+        (1, "", "4 patches, 4 types"),
+        (1, "2,2,0,1\n", "5 patches, 5 types"),
+        (1, "1,0,2,1\n2,2,0,1\n", "6 patches, 6 types"),
+        (6, "", "24 patches, 4096 types"),
+        (
+            5,
+            "4,2,0,1\n5,0,2,1\n6,2,0,1\n7,0,2,1\n8,2,0,1\n9,0,2,1\n10,2,0,1\n",
+            "TooManyTypes",
+        ),
+        (6, "12,2,0,1\n", "TooManyTypes"),
+    ] {
+        let budgets = pairs(alloc, n)?;
+        let mut choices = choices_that_meet(alloc, n)?;
+        choices.push_str(more)?;
+        assert_eq!(rt;
+            counted(alloc, budgets.as_str(), choices.as_str())?.as_str(),
+            told
+        );
+    }
+    Ok(())
+}
+
 /// The common total is up to the limit, or a unit has to be asked for.
 #[test]
 fn totals_up_to_their_limit(rt: HostRuntime) -> Result<(), Fail> {

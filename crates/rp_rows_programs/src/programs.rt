@@ -183,6 +183,57 @@ fn outcomes_of_worked_programs(rt: HostRuntime) -> Result<(), Fail> {
     Ok(())
 }
 
+/// A number of 2^63 - 1 is shown: the value, an entry of the objective row, a denominator, the value after a second pivot. With
+/// 2^63 there the run is withheld.
+#[test]
+fn outcomes_at_the_width(rt: HostRuntime) -> Result<(), Fail> {
+    for (a, b, c, text) in [
+        (
+            [1].as_slice(),
+            [153_092_023].as_slice(),
+            [60_247_241_209].as_slice(),
+            "optimal 1 0:153092023 x 60247241209",
+        ),
+        (&[1], &[2_147_483_648], &[4_294_967_296], "wide 1"),
+        (
+            &[1, -153_092_023],
+            &[1],
+            &[60_247_241_209, 0],
+            "unbounded 1 0:1 ray 0:153092023 1:1",
+        ),
+        (&[1, -2_147_483_648], &[1], &[4_294_967_296, 0], "wide 1"),
+        (
+            &[153_092_023, 0, 0, 60_247_241_209],
+            &[1, 1],
+            &[1, 1],
+            "optimal 9223372036854775807 0:60247241209 1:153092023 x 60247241209 153092023",
+        ),
+        (
+            &[4_294_967_296, 0, 1, 2_147_483_648],
+            &[1, 1],
+            &[1, 1],
+            "wide 1",
+        ),
+        (
+            &[1, 0, 0, 1],
+            &[1_073_741_824, 2_147_483_647],
+            &[4_294_967_296, 2_147_483_649],
+            "optimal 1 0:1073741824 1:2147483647 x 4294967296 2147483649",
+        ),
+        (
+            &[1, 0, 0, 1],
+            &[1_073_741_824, 1_073_741_824],
+            &[4_294_967_296, 4_294_967_296],
+            "wide 2",
+        ),
+    ] {
+        let (got, taken) = outcome(&rt, rt.alloc(), a, b, c)?;
+        assert_eq!(rt; got.as_str(), text);
+        assert!(rt; taken);
+    }
+    Ok(())
+}
+
 #[test]
 fn a_program_of_ones(rt: HostRuntime) -> Result<(), Fail> {
     let alloc = rt.alloc();

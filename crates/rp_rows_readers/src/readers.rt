@@ -260,6 +260,10 @@ fn bundles_have_the_scale_of_a_table(rt: HostRuntime) -> Result<(), Fail> {
         ("", Err(TableFault::Empty)),
         ("p_a,q_b\n1,1\n", Err(TableFault::BadHeader { column: 1 })),
         (
+            "q_a,q_b\u{1}\n1,1\n",
+            Err(TableFault::BadHeader { column: 2 }),
+        ),
+        (
             "q_a,q_b,q_a\n1,1,1\n",
             Err(TableFault::TwiceNamed { column: 3 }),
         ),
@@ -317,6 +321,11 @@ fn budgets_have_prices_and_an_income(rt: HostRuntime) -> Result<(), Fail> {
             Err(TableFault::BadHeader { column: 2 }),
         ),
         ("p_a,m\n1,5\n", Err(TableFault::BadHeader { column: 2 })),
+        (
+            "p_a\u{1f},w\n1,5\n",
+            Err(TableFault::BadHeader { column: 1 }),
+        ),
+        ("p_a\u{7f},w\n1,5\n", Ok(&[1, 5])),
         (
             "p_a,w,w\n1,5,5\n",
             Err(TableFault::TwiceNamed { column: 3 }),

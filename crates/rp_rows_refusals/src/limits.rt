@@ -1,5 +1,6 @@
 ghost use Rattle.std.specs.Prelude.{◌≤◌};
 
+use crate::given::{CROSSED, VIOLATION};
 use crate::outcome::{Ended, gives, run_over, tells};
 use rp_run::Status;
 use std::alloc::{AllocError, Global};
@@ -190,6 +191,99 @@ fn eight_pairs(rt: HostRuntime) -> Result<(), Fail> {
         let got = over_pairs(rt.alloc(), words, 8, empty)?;
         let told = tells(&got, Status::Refused, "rp: TooManyTypes\n");
         assert!(rt; told, "{words:?} {} {}", got.out, got.err);
+    }
+    Ok(())
+}
+
+/// On each budget of each pair a choice above the other budget, and one where the two meet.
+fn choices_that_meet(alloc: Global, n: u32) -> Result<String, AllocError>
+    requires { n ≤ 8 }
+{
+    let mut text = String::from_str(alloc, "budget,q_a,q_b,n\n")?;
+    for i in 0..n {
+        let (a, b) = (2 * i + 1, 2 * i + 2);
+        text.push_str(format!(in alloc; "{a},2,1,1\n{a},1,1,1\n{b},1,2,1\n{b},1,1,1\n")?.as_str())?;
+    }
+    Ok(text)
+}
+
+/// Each pair with choices that meet has four rational types, so six have 4^6; with one more choice, below the other budget,
+/// there are 4^5 * 5. Of one unit on each budget the first patch gets all.
+#[test]
+fn as_many_types_as_the_limit_and_more(rt: HostRuntime) -> Result<(), Fail> {
+    let alloc = rt.alloc();
+    let budgets = pairs(alloc, 6)?;
+    let mut choices = choices_that_meet(alloc, 6)?;
+    let certificate = "{\"items\":[{\"den\":\"1\",\"item\":\"random\",\"parts\":[\
+        [[1,3,5,7,9,11,13,15,17,19,21,23],\"1\"]],\"total\":\"1\"}],\"kind\":\"random\",\"version\":1}\n";
+    let report =
+        "budgets 12 patches 24 types 4096 total 1\napportioned per 1\nrandom mixture over 1\n\
+        part 1 3 5 7 9 11 13 15 17 19 21 23 weight 1\n";
+    for (words, text) in [(RANDOM, report), (CHECKED, "accepted items 1 withheld 0\n")] {
+        let mut per_1 = Vec::from_slice(alloc, words)?;
+        per_1.extend_from_slice(&["--per", "1"])?;
+        let files = &[
+            ("b.csv", budgets.as_str()),
+            ("c.csv", choices.as_str()),
+            ("v.json", certificate),
+        ];
+        let got = run_over(alloc, per_1.as_slice(), files)?;
+        assert!(rt; gives(&got, Status::Done, text), "{} {}", got.out, got.err);
+    }
+    choices.push_str("12,2,0,1\n")?;
+    for words in [RANDOM, CHECKED] {
+        let files = &[
+            ("b.csv", budgets.as_str()),
+            ("c.csv", choices.as_str()),
+            ("v.json", certificate),
+        ];
+        let got = run_over(alloc, words, files)?;
+        let told = tells(&got, Status::Refused, "rp: TooManyTypes\n");
+        assert!(rt; told, "{words:?} {} {}", got.out, got.err);
+    }
+    Ok(())
+}
+
+/// Line feeds alone are no record; with a byte past the limit a file is not looked at.
+#[test]
+fn files_of_the_most_bytes_and_of_one_more(rt: HostRuntime) -> Result<(), Fail> {
+    let alloc = rt.alloc();
+    let most = String::from_utf8(vec![in alloc; b'\n'; 4_194_304]?)?;
+    let more = String::from_utf8(vec![in alloc; b'\n'; 4_194_305]?)?;
+    let (most, more) = (most.as_str(), more.as_str());
+    for (budgets, choices, line) in [
+        (most, VIOLATION, "rp: b.csv: Empty\n"),
+        (more, VIOLATION, "rp: b.csv: TooLong\n"),
+        (more, more, "rp: b.csv: TooLong\n"),
+        (CROSSED, most, "rp: c.csv: Empty\n"),
+        (CROSSED, more, "rp: c.csv: TooLong\n"),
+    ] {
+        let files = &[("b.csv", budgets), ("c.csv", choices), ("v.json", "")];
+        for words in [RANDOM, CHECKED] {
+            let got = run_over(alloc, words, files)?;
+            let told = tells(&got, Status::Refused, line);
+            assert!(rt; told, "{line} {words:?} {}", got.err);
+        }
+    }
+    Ok(())
+}
+
+/// Spaces alone are no JSON.
+#[test]
+fn certificates_of_the_most_bytes_and_of_one_more(rt: HostRuntime) -> Result<(), Fail> {
+    let alloc = rt.alloc();
+    for (size, line) in [
+        (16_777_216, "rp: v.json: NotJson\n"),
+        (16_777_217, "rp: v.json: TooLong\n"),
+    ] {
+        let certificate = String::from_utf8(vec![in alloc; b' '; size]?)?;
+        let files = &[
+            ("b.csv", CROSSED),
+            ("c.csv", VIOLATION),
+            ("v.json", certificate.as_str()),
+        ];
+        let got = run_over(alloc, CHECKED, files)?;
+        assert!(rt; tells(&got, Status::Refused, line), "{line} {}", got.err);
     }
     Ok(())
 }

@@ -68,6 +68,9 @@ fn pairs_over_worked_tables(rt: HostRuntime) -> Result<(), Fail> {
             "pair 1 2\n",
         ),
         ("p_a,q_a\n9999999,1\n", "pair none\n"),
+        ("p_a\u{7f}b,q_a\u{7f}b\n3,2\n", "pair none\n"),
+        ("p_\u{7f},q_\u{7f}\n3,2\n", "pair none\n"),
+        ("p_a b,q_a b\n3,2\n", "pair none\n"),
         (
             "q_b,obs,p_a,p_b,q_a\n2,1999,1,2,1\n1,2000,2,1,2\n",
             "pair 1 2\n",

@@ -133,6 +133,22 @@ fn faults_of_the_bundles_are_told_with_their_file(rt: HostRuntime) -> Result<(),
     Ok(())
 }
 
+/// Line feeds alone are no record; with a byte past the limit the bundles are not looked at.
+#[test]
+fn bundles_of_the_most_bytes_and_of_one_more(rt: HostRuntime) -> Result<(), Fail> {
+    let alloc = rt.alloc();
+    for (size, line) in [
+        (4_194_304, "rp: b.csv: Empty\n"),
+        (4_194_305, "rp: b.csv: TooLong\n"),
+    ] {
+        let bundles = String::from_utf8(vec![in alloc; b'\n'; size]?)?;
+        let bundles = Some(bundles.as_str());
+        let told = ends(alloc, Some(TABLE), bundles, &[], Status::Refused, line)?;
+        assert!(rt; told, "{line}");
+    }
+    Ok(())
+}
+
 #[test]
 fn a_file_that_cannot_be_read_is_named(rt: HostRuntime) -> Result<(), Fail> {
     let alloc = rt.alloc();
