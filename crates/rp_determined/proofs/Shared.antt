@@ -33,7 +33,7 @@ module _ (n : ℕ) (budget whole rest : ℕ → ℕ) (total : ℕ) where
       let here = counts_same (budget i) (budget i) (one i) refl in
       let there = counts_same (budget i) (budget i) (other i) refl in
       let found = other_more (λ k. if budget k == budget i then one k else 0) (λ k. if budget k == budget i then other k else 0) n i
-          (a.together i within ∙ sym (b.together i within)) within (omega (arith, here, there, raised, not_raised)) in
+      (a.together i within ∙ sym (b.together i within)) within (omega (arith, here, there, raised, not_raised)) in
       go found.0 found.1 (counts_less (budget found.0) (budget i) (one found.0) (other found.0) found.2)
     where
       go : (h : ℕ) → h < n → (budget h ≡ budget i) × (one h < other h) → ⊥
@@ -69,18 +69,18 @@ module _ (input : RandomInput) where
   -- what patches with a unit share
   shared : (unit : ℕ) (p : PatchList) → ArePatchesOf input (Some unit) p → IsPatchList p
       → IsShared (length (all_chosen input)) budget_of (λ i. (times_of i * unit) / times_on input (budget_of i))
-          (λ i. (times_of i * unit) % times_on input (budget_of i)) unit (units_at p)
+      (λ i. (times_of i * unit) % times_on input (budget_of i)) unit (units_at p)
   shared unit p are valid = record {
     each = λ i l. subst (λ w. (units_at p i ≡ w) ⊎ (units_at p i ≡ w + 1)) (whole i (in_p i l)) (units.each i (in_p i l));
     together = λ i l.
         (λ k. sum_below (sym are.count k) (λ h. if budget_of h == budget_of i then units_at p h else 0))
         ∙ sum_below-same _ _ (length p.patches)
-            (λ h m. λ k. if sym (are.budget h m) k == sym (are.budget i (in_p i l)) k then units_at p h else 0)
+        (λ h m. λ k. if sym (are.budget h m) k == sym (are.budget i (in_p i l)) k then units_at p h else 0)
         ∙ units.together (budget_at p i) (valid.on_budgets i (in_p i l))
         ∙ units.total;
     largest = λ h i l m same up down. by h i (in_p h l) (in_p i m)
         (units.largest h i (in_p h l) (in_p i m) (are.budget h (in_p h l) ∙ same ∙ sym (are.budget i (in_p i m)))
-            (up ∙ ap (λ w. w + 1) (sym (whole h (in_p h l)))) (down ∙ sym (whole i (in_p i m))));
+        (up ∙ ap (λ w. w + 1) (sym (whole h (in_p h l)))) (down ∙ sym (whole i (in_p i m))));
   }
     where
       units : HasApportionedUnits input unit p
@@ -99,9 +99,9 @@ module _ (input : RandomInput) where
 
       by : (h i : ℕ) → h < length p.patches → i < length p.patches
           → ((times_of i * p.total) % times_on input (budget_at p i) < (times_of h * p.total) % times_on input (budget_at p h))
-            ⊎ (((times_of h * p.total) % times_on input (budget_at p h) ≡ (times_of i * p.total) % times_on input (budget_at p i)) × (h < i))
+          ⊎ (((times_of h * p.total) % times_on input (budget_at p h) ≡ (times_of i * p.total) % times_on input (budget_at p i)) × (h < i))
           → ((times_of i * unit) % times_on input (budget_of i) < (times_of h * unit) % times_on input (budget_of h))
-            ⊎ (((times_of h * unit) % times_on input (budget_of h) ≡ (times_of i * unit) % times_on input (budget_of i)) × (h < i))
+          ⊎ (((times_of h * unit) % times_on input (budget_of h) ≡ (times_of i * unit) % times_on input (budget_of i)) × (h < i))
       by h i l m (inl less) = inl (omega (arith, less, rest h l, rest i m))
       by h i l m (inr (same, first)) = inr (sym (rest h l) ∙ same ∙ rest i m, first)
 
@@ -131,14 +131,14 @@ module _ (input : RandomInput) where
   same_units None p q a valid b valid_q i l =
       let units : HasExactUnits input p = a.units in
       let positive : 0 < times_on input (budget_of i) =
-          above_zero (times_on input (budget_of i)) p.total
-              (units.total.0.1 (budget_of i) (omega (arith, a.budget i l, valid.on_budgets i l, a.budgets))) units.total.0.0 in
+      above_zero (times_on input (budget_of i)) p.total
+      (units.total.0.1 (budget_of i) (omega (arith, a.budget i l, valid.on_budgets i l, a.budgets))) units.total.0.0 in
       eq_of_mul-eq-mul_right (times_on input (budget_of i)) positive (units_at p i) (units_at q i)
-          (exact p a i l ∙ ap (λ t. times_of i * t) (same_total None p q a b) ∙ sym (exact q b i (omega (arith, l, a.count, b.count))))
+      (exact p a i l ∙ ap (λ t. times_of i * t) (same_total None p q a b) ∙ sym (exact q b i (omega (arith, l, a.count, b.count))))
   same_units (Some unit) p q a valid b valid_q i l =
       same_shares (length (all_chosen input)) budget_of (λ i. (times_of i * unit) / times_on input (budget_of i))
-          (λ i. (times_of i * unit) % times_on input (budget_of i)) unit (units_at p) (units_at q)
-          (shared unit p a valid) (shared unit q b valid_q) i (omega (arith, l, a.count))
+      (λ i. (times_of i * unit) % times_on input (budget_of i)) unit (units_at p) (units_at q)
+      (shared unit p a valid) (shared unit q b valid_q) i (omega (arith, l, a.count))
 
   same_patch : (x y : Patch) → x.budget ≡ y.budget → x.signs ≡ y.signs → x.units ≡ y.units → x ≡ y
   same_patch x y budget signs units = λ k. record { budget = budget k; signs = signs k; units = units k }
@@ -147,9 +147,9 @@ module _ (input : RandomInput) where
       → p.patches ≡ q.patches
   same_patches asked p q a valid b valid_q =
       ext_get_or no_patch p.patches q.patches (a.count ∙ sym b.count) (λ i l.
-          let m : i < length q.patches = omega (arith, l, a.count, b.count) in
-          same_patch (patch_at p i) (patch_at q i) (a.budget i l ∙ sym (b.budget i m)) (a.signs i l ∙ sym (b.signs i m))
-              (same_units asked p q a valid b valid_q i l))
+      let m : i < length q.patches = omega (arith, l, a.count, b.count) in
+      same_patch (patch_at p i) (patch_at q i) (a.budget i l ∙ sym (b.budget i m)) (a.signs i l ∙ sym (b.signs i m))
+      (same_units asked p q a valid b valid_q i l))
 
   -- all of the list
   pub same_list : (asked : Option ℕ) (p q : PatchList) → ArePatchesOf input asked p → IsPatchList p → ArePatchesOf input asked q → IsPatchList q → p ≡ q

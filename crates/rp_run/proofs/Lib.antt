@@ -4,6 +4,7 @@ mod AskedLemmas
 pub mod FileLemmas
 pub mod GainsLemmas
 pub mod OneOrOther
+pub mod OneInput
 pub mod PatchesApart
 pub mod Pigeons
 pub mod PassedOn
