@@ -48,51 +48,51 @@ two_files first second over =
 
 module _
     (patches_once : (input : RandomInput) (asked : Option ℕ) (one other : PatchList)
-        → ArePatchesOf input asked one → IsPatchList one
-        → ArePatchesOf input asked other → IsPatchList other → one ≡ other)
+    → ArePatchesOf input asked one → IsPatchList one
+    → ArePatchesOf input asked other → IsPatchList other → one ≡ other)
     (types_once : (p : PatchList) (one other : List (List ℕ))
-        → AreRationalTypes p one → AreRationalTypes p other → one ≡ other)
-    where
-  typed_one : (budgets : BudgetList) (choices : ChoiceList) (per : Option ℕ) → GivesOne (TypedPatchesOf budgets choices per)
-  typed_one budgets choices per =
-      then_one (PatchesOf (input_of budgets choices) per) (λ p. AndThen (TypesOf p) (λ types. Just (Ok (typed p types))))
-      (λ p q are also. patches_once (input_of budgets choices) per p q are.0 are.1 also.0 also.1)
-      (λ p. over_one (TypesOf p) (typed p) (λ one other are also. types_once p one other are.0 also.0))
-    where
-      typed : PatchList → List (List ℕ) → TypedPatches
-      typed p types = record { patches = p; types = types }
+    → AreRationalTypes p one → AreRationalTypes p other → one ≡ other)
+  where
+    typed_one : (budgets : BudgetList) (choices : ChoiceList) (per : Option ℕ) → GivesOne (TypedPatchesOf budgets choices per)
+    typed_one budgets choices per =
+        then_one (PatchesOf (input_of budgets choices) per) (λ p. AndThen (TypesOf p) (λ types. Just (Ok (typed p types))))
+        (λ p q are also. patches_once (input_of budgets choices) per p q are.0 are.1 also.0 also.1)
+        (λ p. over_one (TypesOf p) (typed p) (λ one other are also. types_once p one other are.0 also.0))
+      where
+        typed : PatchList → List (List ℕ) → TypedPatches
+        typed p types = record { patches = p; types = types }
 
-  pub denotes_one : (line : Line) (bytes : ℕ → List ℕ) (one other : Input)
-      → Denotes line bytes (Ok one) → Denotes line bytes (Ok other) → one ≡ other
-  denotes_one (Pairs table) bytes = one_file (numbers_in table table_in (bytes 0)) PairsOver
-  denotes_one (Analyse table) bytes = one_file (numbers_in table table_in (bytes 0)) AnalyseOver
-  denotes_one (Certify table) bytes = one_file (numbers_in table table_in (bytes 0)) CertifyOver
-  denotes_one (Check table certificate) bytes =
-      let first = numbers_in table table_in (bytes 0) in
-      let second = CertificateIn certificate TableKind (bytes 1) in
-      then_one (Just first) (λ t. AndThen second (λ c. Just (Ok (CheckOver t c)))) (just_one first)
-      (λ t. over_one second (CheckOver t) (certificate_single certificate TableKind (bytes 1)).one)
-  denotes_one (Demand table new json) bytes =
-      two_files (numbers_in table table_in (bytes 0)) (λ t. numbers_in new (prices_beside true t) (bytes 1)) (λ t p. DemandOver t p json)
-  denotes_one (Welfare table new json) bytes =
-      two_files (numbers_in table table_in (bytes 0)) (λ t. numbers_in new (prices_beside false t) (bytes 1)) (λ t p. WelfareOver t p json)
-  denotes_one (Utility table bundles) bytes =
-      two_files (numbers_in table table_in (bytes 0)) (λ t. numbers_in bundles (bundles_beside t) (bytes 1)) UtilityOver
-  denotes_one (Random budgets choices per json) bytes =
-      let first = numbers_in budgets budgets_in (bytes 0) in
-      let second = λ (b : BudgetList). numbers_in choices (choices_on b) (bytes 1) in
-      let made = λ (b : BudgetList) (c : ChoiceList). AndThen (TypedPatchesOf b c per) (λ given. Just (Ok (RandomOver given json))) in
-      then_one (Just first) (λ b. AndThen (Just (second b)) (made b)) (just_one first)
-      (λ b. then_one (Just (second b)) (made b) (just_one (second b))
-      (λ c. over_one (TypedPatchesOf b c per) (λ given. RandomOver given json) (typed_one b c per)))
-  denotes_one (CheckRandom budgets choices certificate per) bytes =
-      let first = numbers_in budgets budgets_in (bytes 0) in
-      let second = λ (b : BudgetList). numbers_in choices (choices_on b) (bytes 1) in
-      let third = CertificateIn certificate RandomKind (bytes 2) in
-      let made = λ (b : BudgetList) (c : ChoiceList) (read : Certificate).
-          AndThen (TypedPatchesOf b c per) (λ given. Just (Ok (CheckRandomOver given read))) in
-      then_one (Just first) (λ b. AndThen (Just (second b)) (λ c. AndThen third (made b c))) (just_one first)
-      (λ b. then_one (Just (second b)) (λ c. AndThen third (made b c)) (just_one (second b))
-      (λ c. then_one third (made b c) (certificate_single certificate RandomKind (bytes 2)).one
-      (λ read. over_one (TypedPatchesOf b c per) (λ given. CheckRandomOver given read) (typed_one b c per))))
-  denotes_one (Trial seed rows goods) bytes = just_one (Ok (TrialOver seed rows goods))
+    pub denotes_one : (line : Line) (bytes : ℕ → List ℕ) (one other : Input)
+        → Denotes line bytes (Ok one) → Denotes line bytes (Ok other) → one ≡ other
+    denotes_one (Pairs table) bytes = one_file (numbers_in table table_in (bytes 0)) PairsOver
+    denotes_one (Analyse table) bytes = one_file (numbers_in table table_in (bytes 0)) AnalyseOver
+    denotes_one (Certify table) bytes = one_file (numbers_in table table_in (bytes 0)) CertifyOver
+    denotes_one (Check table certificate) bytes =
+        let first = numbers_in table table_in (bytes 0) in
+        let second = CertificateIn certificate TableKind (bytes 1) in
+        then_one (Just first) (λ t. AndThen second (λ c. Just (Ok (CheckOver t c)))) (just_one first)
+        (λ t. over_one second (CheckOver t) (certificate_single certificate TableKind (bytes 1)).one)
+    denotes_one (Demand table new json) bytes =
+        two_files (numbers_in table table_in (bytes 0)) (λ t. numbers_in new (prices_beside true t) (bytes 1)) (λ t p. DemandOver t p json)
+    denotes_one (Welfare table new json) bytes =
+        two_files (numbers_in table table_in (bytes 0)) (λ t. numbers_in new (prices_beside false t) (bytes 1)) (λ t p. WelfareOver t p json)
+    denotes_one (Utility table bundles) bytes =
+        two_files (numbers_in table table_in (bytes 0)) (λ t. numbers_in bundles (bundles_beside t) (bytes 1)) UtilityOver
+    denotes_one (Random budgets choices per json) bytes =
+        let first = numbers_in budgets budgets_in (bytes 0) in
+        let second = λ (b : BudgetList). numbers_in choices (choices_on b) (bytes 1) in
+        let made = λ (b : BudgetList) (c : ChoiceList). AndThen (TypedPatchesOf b c per) (λ given. Just (Ok (RandomOver given json))) in
+        then_one (Just first) (λ b. AndThen (Just (second b)) (made b)) (just_one first)
+        (λ b. then_one (Just (second b)) (made b) (just_one (second b))
+        (λ c. over_one (TypedPatchesOf b c per) (λ given. RandomOver given json) (typed_one b c per)))
+    denotes_one (CheckRandom budgets choices certificate per) bytes =
+        let first = numbers_in budgets budgets_in (bytes 0) in
+        let second = λ (b : BudgetList). numbers_in choices (choices_on b) (bytes 1) in
+        let third = CertificateIn certificate RandomKind (bytes 2) in
+        let made = λ (b : BudgetList) (c : ChoiceList) (read : Certificate).
+        AndThen (TypedPatchesOf b c per) (λ given. Just (Ok (CheckRandomOver given read))) in
+        then_one (Just first) (λ b. AndThen (Just (second b)) (λ c. AndThen third (made b c))) (just_one first)
+        (λ b. then_one (Just (second b)) (λ c. AndThen third (made b c)) (just_one (second b))
+        (λ c. then_one third (made b c) (certificate_single certificate RandomKind (bytes 2)).one
+        (λ read. over_one (TypedPatchesOf b c per) (λ given. CheckRandomOver given read) (typed_one b c per))))
+    denotes_one (Trial seed rows goods) bytes = just_one (Ok (TrialOver seed rows goods))
