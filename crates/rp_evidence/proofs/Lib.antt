@@ -12,6 +12,7 @@ pub mod DemandLaws
 pub mod DemandMixtures
 mod DemandTries
 pub mod InnerDemand
+pub mod InnerExists
 pub mod Index
 pub mod IndexExists
 pub mod IndexThreshold
@@ -34,3 +35,5 @@ pub mod Values
 pub mod Violations
 pub mod Walks
 pub mod WelfareLaws
+pub mod WelfareModels
+pub mod WelfarePrograms

@@ -17,4 +17,5 @@ pub mod Ranks
 pub mod StandardNumbers
 pub mod Walk
 pub mod Welfare
+pub mod WelfareModels
 pub mod Withheld
