@@ -10,6 +10,7 @@ mod HomotheticTries
 pub mod DemandBounds
 pub mod DemandLaws
 pub mod DemandMixtures
+pub mod Enumerations
 mod DemandTries
 pub mod InnerDemand
 pub mod InnerExists
