@@ -1,7 +1,6 @@
 -- Words that only the crate's own functions and their proofs need, and no definition rests on: marks on observations, and what
 -- steps lead to.
-use Rattle.std.specs.Prelude.{◌<◌, ◌↔◌, ◌⊎◌, ℕ, Bool, false, IsTrue, List, Contains, slice_index_or}
-use Rattle.std.specs.List.Sorted.{IsStrictlyIncreasing}
+use Rattle.std.specs.Prelude.{◌<◌, ◌↔◌, ◌⊎◌, ℕ, Bool, false, IsTrue, List, slice_index_or}
 use Rattle.rp_check.specs.declared.reach.Way.{Way}
 use Rattle.rp_check.specs.declared.reach.Way.TheVariants.{Onward, Back}
 use Rattle.rp_evidence.specs.Demand.{BuysWithRest, IsBelow, NewBudget}
@@ -30,8 +29,3 @@ IsLedTo n step marks t = (s : ℕ) × (s < n) × IsMarked marks s × (walk : Lis
 abbrev pub IsStrictStart : TableInput → NewBudget → ℕ → Type 0
 IsStrictStart input budget v =
     BuysWithRest input budget v ⊎ ((u : ℕ) × (u < input.n) × IsBelow input budget u × IsStrict input.cost 1 1 u v)
-
--- The list has just those below n of which P holds, in increasing order.
-pub record ListsThose (n : ℕ) (P : ℕ → Type 0) (those : List ℕ) : Type 0 where
-  pub rising : IsStrictlyIncreasing those
-  pub just_these : (t : ℕ) → Contains those t ↔ ((t < n) × P t)

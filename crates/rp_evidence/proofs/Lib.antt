@@ -10,8 +10,10 @@ mod HomotheticTries
 pub mod DemandBounds
 pub mod DemandLaws
 pub mod DemandMixtures
+pub mod Enumerations
 mod DemandTries
 pub mod InnerDemand
+pub mod InnerExists
 pub mod Index
 pub mod IndexExists
 pub mod IndexThreshold
@@ -34,3 +36,5 @@ pub mod Values
 pub mod Violations
 pub mod Walks
 pub mod WelfareLaws
+pub mod WelfareModels
+pub mod WelfarePrograms

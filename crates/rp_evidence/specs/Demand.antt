@@ -107,6 +107,14 @@ pub record IsInnerDemand (input : TableInput) (budget : NewBudget) (bundle : Fra
       ⊎ (((s : ℕ) → s < input.n → ¬ Buys input budget s)
       × ((g : ℕ) → g < input.goods → bundle.num g ≡ all_on_first budget g))
 
+-- Some demand supports: the set of supporting demands is not empty.
+abbrev pub HasSupport : TableInput → NewBudget → Type 0
+HasSupport input budget = (bundle : FractionBundle) × IsSupportingDemand input budget bundle
+
+-- There is an inner demand, and it is a supporting demand.
+abbrev pub HasInnerSupport : TableInput → NewBudget → Type 0
+HasInnerSupport input budget = (bundle : FractionBundle) × IsInnerDemand input budget bundle × IsSupportingDemand input budget bundle
+
 -- ---- how much of a good supporting demands have
 
 -- The bundle has less of good g than num/den, and more.

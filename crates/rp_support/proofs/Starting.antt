@@ -1,6 +1,5 @@
 -- The observations below and strictly below by where the walks to them start.
 use Rattle.std.proofs.Common.{◌≡◌, ◌<◌, ◌⊎◌, ◌↔◌, inl, inr, ℕ, Bool, List, [], ◌∷◌, ◌++◌, Contains, length, refl, subst, arith, IsTrue, slice_index_or}
-use Rattle.std.proofs.lemmas.List.{get_or_default}
 use Rattle.rp_evidence.specs.Demand.{Buys, BuysWithRest, IsBelow, IsStrictlyBelow, NewBudget}
 use Rattle.rp_evidence.specs.DemandPrograms.{ListsBelow, ListsStrictlyBelow}
 use Rattle.rp_evidence.specs.Input.{TableInput}
@@ -9,7 +8,9 @@ use Rattle.rp_evidence.specs.Walk.{HasStep, HasStepFrom, IsWalk, LeadsTo}
 use Rattle.rp_evidence.proofs.Levels.{strict_to_weak}
 use Rattle.rp_evidence.proofs.Walks.{ends_below, has_step_right, leads_by_step, leads_on, reaches_by, rest_of_reach, starts_below}
 use Rattle.rp_pref.specs.Closure.{IsClosureOf, Reached, reaches_in}
-use Rattle.rp_support.specs.Starts.{AreTold, IsLedTo, IsStrictStart, LeadsOn, ListsThose}
+use Rattle.rp_evidence.specs.Enumeration.{Enumerates}
+use Rattle.rp_evidence.proofs.Enumerations.{enumerates_observed, enumerates_same}
+use Rattle.rp_support.specs.Starts.{AreTold, IsLedTo, IsStrictStart, LeadsOn}
 
 module _ (input : TableInput) (budget : NewBudget) where
   below_by : (s t : ℕ) (w : List ℕ) → Buys input budget s → LeadsTo input.n (IsWeak input.cost 1 1) s t w → IsBelow input budget t
@@ -105,27 +106,20 @@ module _ (input : TableInput) (budget : NewBudget) where
         back s s_in (inl e) = inl e
         back s s_in (inr r) = inr ((closed.exact s t s_in t_in).1 r)
 
-    those_exactly : (Q : ℕ → Type 0) → ((t : ℕ) → ((s : ℕ) × (s < input.n) × P s × LeadsOn input s t) ↔ Q t) → (those : List ℕ)
-        → ListsThose input.n (IsLedTo reached starts) those → ListsThose input.n Q those
-    those_exactly Q same those lists = record {
-      rising = lists.rising;
-      just_these = λ t. (
-        (λ c. let h = (lists.just_these t).0 c in (h.0, (same t).0 ((led_exactly t h.0).0 h.1))),
-        (λ h. (lists.just_these t).1 (h.0, (led_exactly t h.0).1 ((same t).1 h.1))),
-      );
-    }
+    pub enumerates_led : (Q : ℕ → Type 0) → ((t : ℕ) → ((s : ℕ) × (s < input.n) × P s × LeadsOn input s t) ↔ Q t) → (list : List ℕ)
+        → Enumerates input.n (IsLedTo reached starts) list → Enumerates input.n Q list
+    enumerates_led Q same list lists =
+        enumerates_same input.n (IsLedTo reached starts) Q (λ t t_in. ((λ h. (same t).0 ((led_exactly t t_in).0 h)), (λ q. (led_exactly t t_in).1 ((same t).1 q)))) list lists
 
   pub lists_below : (reached : Reached) → IsClosureOf reached input.n (IsWeak input.cost 1 1) → (starts : List Bool) → AreTold input.n (Buys input budget) starts
-      → (those : List ℕ) → ListsThose input.n (IsLedTo reached starts) those → ListsBelow input budget those
+      → (those : List ℕ) → Enumerates input.n (IsLedTo reached starts) those → ListsBelow input budget those
   lists_below reached closed starts told those lists =
-      let l = those_exactly reached closed (Buys input budget) starts told (IsBelow input budget) below_exactly those lists in
-      record { rising = l.rising; just_these = l.just_these }
+      enumerates_led reached closed (Buys input budget) starts told (IsBelow input budget) below_exactly those lists
 
   pub lists_strictly_below : (reached : Reached) → IsClosureOf reached input.n (IsWeak input.cost 1 1) → (starts : List Bool) → AreTold input.n (IsStrictStart input budget) starts
-      → (those : List ℕ) → ListsThose input.n (IsLedTo reached starts) those → ListsStrictlyBelow input budget those
+      → (those : List ℕ) → Enumerates input.n (IsLedTo reached starts) those → ListsStrictlyBelow input budget those
   lists_strictly_below reached closed starts told those lists =
-      let l = those_exactly reached closed (IsStrictStart input budget) starts told (IsStrictlyBelow input budget) strictly_exactly those lists in
-      record { rising = l.rising; just_these = l.just_these }
+      enumerates_led reached closed (IsStrictStart input budget) starts told (IsStrictlyBelow input budget) strictly_exactly those lists
 
   pub strict_start_told : (below : List ℕ) → ListsBelow input budget below → (v : ℕ) (b : Bool) → ¬ BuysWithRest input budget v
       → IsTrue b ↔ ((u : ℕ) × Contains below u × IsStrict input.cost 1 1 u v) → IsTrue b ↔ IsStrictStart input budget v
@@ -140,5 +134,4 @@ module _ (input : TableInput) (budget : NewBudget) where
   )
 
   pub below_observed : (below : List ℕ) → ListsBelow input budget below → (k d : ℕ) → k < length below → slice_index_or below k d < input.n
-  below_observed below lists k d l =
-      ((lists.just_these (slice_index_or below k d)).0 (k, l, get_or_default below k (slice_index_or below k d) d l)).0
+  below_observed below lists = enumerates_observed input.n (IsBelow input budget) below lists

@@ -1,7 +1,6 @@
 -- How the observations below a new budget, and strictly below it, are found: from where the walks to them start
 -- (after Varian 1982).
-use Rattle.std.specs.Prelude.{◌≡◌, ◌<◌, ◌↔◌, ◌⊎◌, ℕ, Bool, false, List, Contains, IsTrue, length, slice_index_or}
-use Rattle.std.specs.List.Sorted.{IsStrictlyIncreasing}
+use Rattle.std.specs.Prelude.{◌≡◌, ◌<◌, ◌↔◌, ◌⊎◌, ℕ, Bool, false, List, IsTrue, length, slice_index_or}
 use Rattle.rp_evidence.specs.Demand.{BuysWithRest, IsBelow, NewBudget}
 use Rattle.rp_evidence.specs.Input.{TableInput}
 use Rattle.rp_evidence.specs.Preference.{IsStrict, IsWeak}
@@ -32,8 +31,3 @@ pub record AreTold (n : ℕ) (P : ℕ → Type 0) (told : List Bool) : Type 0 wh
 abbrev pub IsLedTo : Reached → List Bool → ℕ → Type 0
 IsLedTo reached starts t =
     (s : ℕ) × (s < reached.n) × IsTrue (slice_index_or starts s false) × ((s ≡ t) ⊎ IsTrue (reaches_in reached s t))
-
--- The list has just those below n of which P holds, in increasing order.
-pub record ListsThose (n : ℕ) (P : ℕ → Type 0) (those : List ℕ) : Type 0 where
-  pub rising : IsStrictlyIncreasing those
-  pub just_these : (t : ℕ) → Contains those t ↔ ((t < n) × P t)
