@@ -1,5 +1,5 @@
-use Rattle.rp_determined.proofs.Shared.{same_list}
-use Rattle.rp_determined.proofs.TypesApart.{types_once}
+use Rattle.rp_patch.proofs.Determined.{same_list}
+use Rattle.rp_types.proofs.Determined.{types_once}
 use Rattle.rp_run.proofs.OneInput.{denotes_one}
 use Rattle.rp_run.proofs.laws.bytes_denote_one_input.Goals as goal
 

@@ -9,7 +9,7 @@ use Rattle.rp_patch.specs.Choices.{RandomInput, times_on}
 use Rattle.rp_patch.specs.Patches.{IsPatchList, PatchList, budget_at, no_patch, patch_at, units_at}
 use Rattle.rp_patch.specs.Units.{ArePatchesOf, HasApportionedUnits, HasExactUnits, all_chosen, chosen_at}
 use Rattle.rp_patch.specs.declared.listed.Patch.{Patch}
-use Rattle.rp_determined.proofs.Apart.{counts_less, counts_same, other_more}
+use Rattle.rp_patch.proofs.Apart.{counts_less, counts_same, other_more}
 
 -- Units of the first n places, which share the total of their budgets: each has the whole part or one more, the largest rests first.
 pub record IsShared (n : ℕ) (budget whole rest : ℕ → ℕ) (total : ℕ) (units : ℕ → ℕ) : Type 0 where
