@@ -5,7 +5,7 @@ use Rattle.std.proofs.lemmas.List.{length-replicate}
 use Rattle.std.specs.Option.{ForSome}
 use Rattle.std.specs.Prelude.{unwrap_or}
 use Rattle.rp_evidence.specs.declared.certificate.Kind.{Kind}
-use Rattle.rp_run.specs.CommandLine.{Line, files_of}
+use Rattle.rp_words.specs.CommandLine.{Line, files_of}
 use Rattle.rp_run.specs.Answers.{Files, IsContent, AreContents, HasInput}
 use Rattle.rp_run.specs.Inputs.{Denotes, Input}
 use Rattle.rp_run.specs.Readings.{AndThen, CertificateIn, Just, Numbers, Reading, all_bytes, most_bytes, most_certificate_bytes}

@@ -9,13 +9,6 @@ pub mod PatchesApart
 pub mod Pigeons
 pub mod PassedOn
 pub mod ReadBackLemmas
-pub mod RandomShapes
 pub mod RunLemmas
 pub mod TrialLemmas
 mod UtilityLemmas
-pub mod WordLemmas
-pub mod ShapeLemmas
-mod KeptRows
-mod KeptWalk
-mod ReadRows
-pub mod MatchesNameALine

@@ -10,8 +10,8 @@ use Rattle.rp_patch.specs.Patches.{IsPatchList, PatchList}
 use Rattle.rp_patch.specs.Types.{AreRationalTypes}
 use Rattle.rp_patch.specs.Units.{ArePatchesOf}
 use Rattle.rp_run.proofs.OneOrOther.{certificate_single}
-use Rattle.rp_run.specs.CommandLine.{Line, Pairs, Analyse, Certify, Check, Demand, Welfare}
-use Rattle.rp_run.specs.CommandLine.{Utility, Random, CheckRandom, Trial}
+use Rattle.rp_words.specs.CommandLine.{Line, Pairs, Analyse, Certify, Check, Demand, Welfare}
+use Rattle.rp_words.specs.CommandLine.{Utility, Random, CheckRandom, Trial}
 use Rattle.rp_run.specs.Inputs.{Denotes, Input, PairsOver, AnalyseOver, CertifyOver, CheckOver, DemandOver, WelfareOver}
 use Rattle.rp_run.specs.Inputs.{UtilityOver, RandomOver, CheckRandomOver, TrialOver}
 use Rattle.rp_run.specs.RandomInputs.{PatchesOf, TypedPatches, TypedPatchesOf, TypesOf}

@@ -14,7 +14,7 @@ use Rattle.rp_table.specs.ChoiceLists.{ChoiceList}
 use Rattle.rp_patch.specs.Choices.{input_of}
 use Rattle.rp_run.proofs.PatchesApart.{alike, patches_apart, types_apart}
 use Rattle.rp_run.specs.RandomInputs.{TypedPatchesOf}
-use Rattle.rp_run.specs.CommandLine.{Line, Pairs, Analyse, Certify, Check, Demand, Welfare, Utility, Random, CheckRandom, Trial}
+use Rattle.rp_words.specs.CommandLine.{Line, Pairs, Analyse, Certify, Check, Demand, Welfare, Utility, Random, CheckRandom, Trial}
 use Rattle.rp_run.specs.Inputs.{Denotes, Input, PairsOver, AnalyseOver, CertifyOver, CheckOver, DemandOver, WelfareOver, UtilityOver, RandomOver, CheckRandomOver, TrialOver}
 use Rattle.rp_run.specs.Readings.{AndThen, CertificateIn, Just, Reading, numbers_in}
 

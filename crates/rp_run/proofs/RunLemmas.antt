@@ -1,7 +1,7 @@
 -- What a cause tells of what was asked, when there is none, and that no line is both answered and refused.
 use Rattle.std.proofs.Common.{◌≡◌, ◌⊎◌, inl, inr, List, ℕ, Option, Some, Ok, Err, sym, subst, refl}
 use Rattle.std.specs.List.{Contains}
-use Rattle.rp_run.specs.CommandLine.{Line, files_of}
+use Rattle.rp_words.specs.CommandLine.{Line, files_of}
 use Rattle.rp_run.specs.Inputs.{Input, PairsOver, AnalyseOver, CertifyOver, CheckOver, DemandOver, WelfareOver, UtilityOver, RandomOver, CheckRandomOver, TrialOver}
 use Rattle.rp_run.proofs.OneOrOther.{denotes_apart}
 use Rattle.rp_agreement.proofs.Excluding.{only_accepted}

@@ -16,7 +16,7 @@ use Rattle.rp_run.specs.Demands.{IsDemandText}
 use Rattle.rp_run.specs.Welfares.{IsWelfareText}
 use Rattle.rp_run.specs.UtilityText.{IsUtilityText}
 use Rattle.rp_run.specs.TrialText.{IsTrialText}
-use Rattle.rp_run.specs.CommandLine.{Line, files_of, file_at}
+use Rattle.rp_words.specs.CommandLine.{Line, files_of, file_at}
 use Rattle.rp_run.specs.Inputs.{Input, PairsOver, AnalyseOver, CertifyOver, CheckOver, DemandOver, WelfareOver, UtilityOver, RandomOver, CheckRandomOver, TrialOver, Denotes}
 use Rattle.rp_run.specs.declared.status.Status.{Status}
 use Rattle.rp_run.specs.declared.status.Status.TheVariants as status

@@ -5,7 +5,7 @@ use Rattle.rp_text.specs.declared.fault.TableFault.TheVariants as fault
 use Rattle.rp_json.specs.declared.fault.JsonFault.{JsonFault}
 use Rattle.rp_json.specs.declared.fault.JsonFault.TheVariants as json_fault
 use Rattle.rp_run.specs.FaultTexts.{fault_text, json_fault_text}
-use Rattle.rp_run.specs.CommandLine.{Line, files_of}
+use Rattle.rp_words.specs.CommandLine.{Line, files_of}
 use Rattle.rp_run.specs.Readings.{Reading}
 use Rattle.rp_run.specs.Answers.{Files, IsContent, RefusesWith}
 use Rattle.rp_patch.specs.declared.fault.PatchFault.{PatchFault}

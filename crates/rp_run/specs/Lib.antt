@@ -10,9 +10,6 @@ pub mod AskedItems
 pub mod Demands
 pub mod Welfares
 pub mod UtilityText
-pub mod Commands
-pub mod CommandLine
-pub mod Shapes
 pub mod Inputs
 pub mod Matching
 pub mod Checked

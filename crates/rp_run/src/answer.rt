@@ -2,14 +2,15 @@ ghost use Rattle.std.specs.Prelude.{◌≡◌, ◌≤◌, ℕ, List, IfOk, IfErr
 ghost use Rattle.rp_run.specs.Answers.{Answers, AnswersLine};
 ghost use Rattle.rp_run.specs.Endings.{Rose};
 ghost use Rattle.rp_run.specs.Causes.{IsCause};
-ghost use Rattle.rp_run.specs.Matching.{HasMatchingGoods, IsSized};
-ghost use Rattle.rp_run.specs.Named.{named_line, named_input};
+ghost use Rattle.rp_run.specs.Matching.{HasMatchingGoods};
+ghost use Rattle.rp_run.specs.Named.{named_input};
+ghost use Rattle.rp_words.specs.Named.{named_line};
+ghost use Rattle.rp_words.specs.Ranges.{IsSized};
 
 use crate::checks::{check_answer, check_random_answer};
 use crate::demands::demand_text;
 use crate::files::Cause;
 use crate::input::{Input, read_input};
-use crate::line::Line;
 use crate::randoms::random_text;
 use crate::status::Status;
 use crate::text::{analysis_text, pairs_text};
@@ -19,6 +20,7 @@ use crate::welfares::welfare_text;
 use rp_num::NoMemory;
 use rp_outside::Desk;
 use rp_table::Costs;
+use rp_words::Line;
 use std::alloc::Global;
 
 /// A whole text for the output, and how a call ends that has written it.

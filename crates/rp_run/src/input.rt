@@ -1,20 +1,21 @@
 ghost use Rattle.std.specs.Prelude.{◌≡◌, ◌≤◌, ℕ, Bool, List, IfOk, IfErr};
-ghost use Rattle.rp_run.specs.CommandLine.{Check, CheckRandom, Demand, Random, Utility, Welfare};
+ghost use Rattle.rp_words.specs.CommandLine.{Check, CheckRandom, Demand, Random, Utility, Welfare};
 ghost use Rattle.rp_run.specs.Inputs.{CheckOver, DemandOver, RandomOver, UtilityOver, WelfareOver};
-ghost use Rattle.rp_run.specs.Matching.{AreTyped, HasMatchingGoods, IsSized, IsSpentOn, IsUnit};
+ghost use Rattle.rp_run.specs.Matching.{AreTyped, HasMatchingGoods, IsSpentOn};
 ghost use Rattle.rp_table.specs.Tables.{goods_of};
 ghost use Rattle.rp_evidence.specs.Kinds.{IsCertificateOf};
 ghost use Rattle.rp_evidence.specs.declared.certificate.Kind.TheVariants.{Table as TableKind};
 ghost use Rattle.rp_run.specs.Answers.{HasInput};
 ghost use Rattle.rp_run.specs.Endings.{Rose};
 ghost use Rattle.rp_run.specs.Causes.{IsCause};
-ghost use Rattle.rp_run.specs.Named.{named_line, named_input, typed};
+ghost use Rattle.rp_run.specs.Named.{named_input, typed};
+ghost use Rattle.rp_words.specs.Named.{named_line};
+ghost use Rattle.rp_words.specs.Ranges.{IsSized, IsUnit};
 
 use crate::files::{
     Cause, load_budgets, load_bundles, load_certificate, load_choices, load_prices,
     load_prices_with_expenditure, load_table,
 };
-use crate::line::Line;
 use crate::patches::patches_of;
 use rp_evidence::{Certificate, Kind};
 use rp_num::Seq;
@@ -22,6 +23,7 @@ use rp_outside::Desk;
 use rp_patch::Patches;
 use rp_table::{Bundles, Prices, Table};
 use rp_types::Rational;
+use rp_words::Line;
 use std::alloc::Global;
 
 /// A command over what its files hold.

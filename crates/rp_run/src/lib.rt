@@ -4,13 +4,11 @@
 mod answer;
 mod asked;
 mod checks;
-mod command;
 mod demands;
 mod fault_text;
 mod files;
 mod input;
 mod laws;
-mod line;
 mod patches;
 mod randoms;
 mod running;

@@ -2,9 +2,9 @@ ghost use Rattle.std.specs.Prelude.{◌≡◌, ◌⊎◌, ◌≤◌, ℕ, List, 
 ghost use Rattle.clap.specs.Faults.{fault_of};
 ghost use Rattle.rp_outside.specs.Faults.{HasRisen};
 ghost use Rattle.rp_outside.specs.Told.{Stays, Grows, GrowsByPrefix};
-ghost use Rattle.rp_run.specs.CommandLine.{Line as Asked, line_in};
-ghost use Rattle.rp_run.specs.Commands.{program};
-ghost use Rattle.rp_run.specs.Shapes.{HasShape, shape_of};
+ghost use Rattle.rp_words.specs.CommandLine.{Line as Asked, line_in};
+ghost use Rattle.rp_words.specs.Commands.{program};
+ghost use Rattle.rp_words.specs.Shapes.{HasShape, shape_of};
 ghost use Rattle.rp_run.specs.Answers.{AnswersAsked, IsAccepted, IsRefused};
 ghost use Rattle.rp_run.specs.Answers.{IsAcceptedOver, IsRejectedOver, MayBe, MustBe};
 ghost use Rattle.rp_run.specs.FaultLines.{write_line};
@@ -14,10 +14,10 @@ ghost use Rattle.rp_run.specs.Causes.{status_of_cause, cause_line};
 
 use crate::answer::{Answer, answer_line};
 use crate::files::Cause;
-use crate::line::{read_line, usage};
 use crate::status::Status;
 use crate::telling::tell;
 use rp_outside::{Desk, Sink, pour};
+use rp_words::{read_line, usage};
 use std::alloc::Global;
 
 /// Answers the words of a command line over the files of a desk. The answer goes to `out`, and the reason

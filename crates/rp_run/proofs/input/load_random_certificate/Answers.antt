@@ -1,7 +1,7 @@
 use Rattle.std.proofs.Common.{Ok, ◌∙◌, ◌≤◌, arith, refl}
 use Rattle.rp_evidence.specs.declared.certificate.Kind.TheVariants.{Random as RandomKind}
 use Rattle.rp_text.specs.Denotation.{budgets_in, choices_on}
-use Rattle.rp_run.specs.CommandLine.{CheckRandom}
+use Rattle.rp_words.specs.CommandLine.{CheckRandom}
 use Rattle.rp_run.specs.Inputs.{CheckRandomOver}
 use Rattle.rp_run.specs.Named.{typed}
 use Rattle.rp_run.specs.RandomInputs.{TypedPatchesOf}

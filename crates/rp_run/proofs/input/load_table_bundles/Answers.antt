@@ -1,6 +1,6 @@
 use Rattle.std.proofs.Common.{Ok, refl}
 use Rattle.rp_text.specs.Denotation.{table_in, bundles_beside}
-use Rattle.rp_run.specs.CommandLine.{Utility}
+use Rattle.rp_words.specs.CommandLine.{Utility}
 use Rattle.rp_run.specs.Inputs.{UtilityOver}
 use Rattle.rp_run.specs.Readings.{Just, Numbers}
 use Rattle.rp_run.specs.Endings.{Rose}

@@ -1,7 +1,7 @@
 use Rattle.std.proofs.Common.{Ok, refl}
 use Rattle.rp_evidence.specs.declared.certificate.Kind.TheVariants.{Table as TableKind}
 use Rattle.rp_text.specs.Denotation.{table_in}
-use Rattle.rp_run.specs.CommandLine.{Check}
+use Rattle.rp_words.specs.CommandLine.{Check}
 use Rattle.rp_run.specs.Inputs.{CheckOver}
 use Rattle.rp_run.specs.Readings.{CertificateIn, Just, Numbers}
 use Rattle.rp_run.specs.Endings.{Rose}

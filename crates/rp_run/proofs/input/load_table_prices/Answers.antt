@@ -1,6 +1,6 @@
 use Rattle.std.proofs.Common.{Bool, Ok, refl, false}
 use Rattle.rp_text.specs.Denotation.{table_in, prices_beside}
-use Rattle.rp_run.specs.CommandLine.{Welfare}
+use Rattle.rp_words.specs.CommandLine.{Welfare}
 use Rattle.rp_run.specs.Inputs.{WelfareOver}
 use Rattle.rp_run.specs.Readings.{Just, Numbers}
 use Rattle.rp_run.specs.Endings.{Rose}

@@ -1,6 +1,6 @@
 use Rattle.std.proofs.Common.{Bool, Ok, refl, true}
 use Rattle.rp_text.specs.Denotation.{table_in, prices_beside}
-use Rattle.rp_run.specs.CommandLine.{Demand}
+use Rattle.rp_words.specs.CommandLine.{Demand}
 use Rattle.rp_run.specs.Inputs.{DemandOver}
 use Rattle.rp_run.specs.Readings.{Just, Numbers}
 use Rattle.rp_run.specs.Endings.{Rose}

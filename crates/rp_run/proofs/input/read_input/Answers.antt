@@ -1,9 +1,9 @@
 use Rattle.std.proofs.Common.{refl}
 use Rattle.rp_text.specs.Denotation.{table_in}
-use Rattle.rp_run.specs.CommandLine.{Pairs, Analyse, Certify, Trial}
+use Rattle.rp_words.specs.CommandLine.{Pairs, Analyse, Certify, Trial}
 use Rattle.rp_run.specs.Inputs.{PairsOver, AnalyseOver, CertifyOver, TrialOver}
 use Rattle.rp_run.specs.Readings.{Numbers}
-use Rattle.rp_run.specs.Named.{named_line}
+use Rattle.rp_words.specs.Named.{named_line}
 use Rattle.rp_run.specs.Endings.{Rose}
 use Rattle.rp_run.specs.Causes.{IsCause}
 use Rattle.rp_run.proofs.FileLemmas.{one_cause, one_input, no_files}

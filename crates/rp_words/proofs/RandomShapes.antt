@@ -12,8 +12,8 @@ use Rattle.clap.specs.Lexer.{long_of, short_of}
 use Rattle.clap.specs.Simple.{Shape, built, label_of, subcommand_of}
 use Rattle.clap.specs.ValueTests.{is_unsigned_in}
 use Rattle.clap.specs.Walk.{Row, Text, answers_to, finished, first_of, nothing_held, one_of, rows_after, settled, walk, walk_from}
-use Rattle.rp_run.specs.CommandLine.{Line, Random, CheckRandom, json_of, line_named, number_of, random_line, check_random_line}
-use Rattle.rp_run.specs.Commands.{command_shape, program}
+use Rattle.rp_words.specs.CommandLine.{Line, Random, CheckRandom, json_of, line_named, number_of, random_line, check_random_line}
+use Rattle.rp_words.specs.Commands.{command_shape, program}
 
 -- a word that is no flag
 pub record IsPlainWord (word : List ℕ) : Type 0 where

@@ -13,10 +13,10 @@ use Rattle.clap.specs.Lexer.{long_of, short_of}
 use Rattle.clap.specs.Simple.{subcommand_of}
 use Rattle.clap.specs.ValueTests.{is_unsigned_in}
 use Rattle.clap.specs.declared.builder.value_parser.ValueParser.TheVariants.{Unsigned}
-use Rattle.rp_run.specs.CommandLine.{Line, Pairs, Analyse, Certify, Check, Demand, Welfare, Utility, Random, CheckRandom, Trial, line_named, line_of}
-use Rattle.rp_run.specs.Commands.{program}
-use Rattle.rp_run.proofs.RandomShapes.{IsPlainWord, both_free, both_named, checked_free, checked_named, per_free, per_named, plain_free, plain_named}
-use Rattle.rp_run.specs.Shapes.{HasShape, is_file_name, shape_of}
+use Rattle.rp_words.specs.CommandLine.{Line, Pairs, Analyse, Certify, Check, Demand, Welfare, Utility, Random, CheckRandom, Trial, line_named, line_of}
+use Rattle.rp_words.specs.Commands.{program}
+use Rattle.rp_words.proofs.RandomShapes.{IsPlainWord, both_free, both_named, checked_free, checked_named, per_free, per_named, plain_free, plain_named}
+use Rattle.rp_words.specs.Shapes.{HasShape, is_file_name, shape_of}
 
 plain_word : (b : ℕ) (rest : List ℕ) → (b == 45) ≡ false → IsPlainWord (b ∷ rest)
 plain_word b rest other = record { dashes = rw other refl; long = rw other refl; short = rw other refl }

@@ -2,9 +2,9 @@ use Rattle.std.proofs.Common.{ℕ, ◌∙◌, ap}
 use Rattle.std.specs.Prelude.{option_and_then}
 use Rattle.clap.specs.Matches.{found_of, one_text}
 use Rattle.clap.proofs.WalkLemmas.{one_text-rows}
-use Rattle.rp_run.specs.CommandLine.{number_in}
-use Rattle.rp_run.proofs.WordLemmas.{number_given, number_refused}
-use Rattle.rp_run.proofs.line.number_of.Goals as goal
+use Rattle.rp_words.specs.CommandLine.{number_in}
+use Rattle.rp_words.proofs.WordLemmas.{number_given, number_refused}
+use Rattle.rp_words.proofs.line.number_of.Goals as goal
 
 pub returns-in-Some-clause-exact : goal.returns-in-Some-clause-exact
 returns-in-Some-clause-exact c =

@@ -1,8 +1,8 @@
 use Rattle.std.proofs.Common.{◌≡◌, false, map, take}
 use Rattle.clap.specs.Simple.{app_of}
 use Rattle.clap.specs.declared.builder.command.Command.TheViews.{out-Command}
-use Rattle.rp_run.specs.Commands.{alone, command_shape, file_rule}
-use Rattle.rp_run.proofs.command.over_files.Given as goal
+use Rattle.rp_words.specs.Commands.{alone, command_shape, file_rule}
+use Rattle.rp_words.proofs.command.over_files.Given as goal
 
 abbrev pub invariant-loop-file : goal.invariant-loop-file
 invariant-loop-file l = record {

@@ -6,11 +6,11 @@ use Rattle.clap.specs.Faults.{built_fault, check_fault, defaults_fault, entered_
 use Rattle.clap.specs.Kinds.{or_else}
 use Rattle.clap.specs.Simple.{App, Shape, argument_words, built, entered, filled, filled_from, with_index, label_of, names_of, rows_at, subcommand_of}
 use Rattle.clap.specs.Walk.{Row, Rule, Text, answers_to, arg_by_id, first_of, finished, nothing_held, rows_after, settled, walk, walk_from}
-use Rattle.rp_run.specs.CommandLine.{Line, Pairs, Analyse, Certify, Demand, Welfare, table_line, check_line, new_prices_line, utility_line, random_line, check_random_line, trial_line, command_line, line_named, line_of, number_of}
-use Rattle.rp_run.specs.Commands.{program, file_rule, number_rule, new_prices_shape, random_shape, check_random_shape, trial_shape}
-use Rattle.rp_run.proofs.KeptRows.{all_found, are_kept, first_free, kept_from, every, second_free}
-use Rattle.rp_run.proofs.KeptWalk.{AreTaken, level_taken, none_wanted}
-use Rattle.rp_run.proofs.ReadRows.{number_read, required_read}
+use Rattle.rp_words.specs.CommandLine.{Line, Pairs, Analyse, Certify, Demand, Welfare, table_line, check_line, new_prices_line, utility_line, random_line, check_random_line, trial_line, command_line, line_named, line_of, number_of}
+use Rattle.rp_words.specs.Commands.{program, file_rule, number_rule, new_prices_shape, random_shape, check_random_shape, trial_shape}
+use Rattle.rp_words.proofs.KeptRows.{all_found, are_kept, first_free, kept_from, every, second_free}
+use Rattle.rp_words.proofs.KeptWalk.{AreTaken, level_taken, none_wanted}
+use Rattle.rp_words.proofs.ReadRows.{number_read, required_read}
 
 -- the rows of the command name a line, where it takes its words
 abbrev NamesALine : Shape → Type 0

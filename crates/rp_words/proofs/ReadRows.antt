@@ -14,9 +14,9 @@ use Rattle.clap.specs.Values.{read_as}
 use Rattle.clap.specs.ValueTests.{is_unsigned_in}
 use Rattle.clap.specs.Walk.{Row, Rule, Text, arg_by_id, first_of, one_of, reading_by}
 use Rattle.clap.specs.declared.builder.value_parser.ValueParser.TheVariants.{Unsigned}
-use Rattle.rp_run.specs.CommandLine.{number_in, number_of}
-use Rattle.rp_run.proofs.KeptRows.{AreGood, IsFilled, IsGood, all_found, first_free}
-use Rattle.rp_run.proofs.KeptWalk.{AreTaken}
+use Rattle.rp_words.specs.CommandLine.{number_in, number_of}
+use Rattle.rp_words.proofs.KeptRows.{AreGood, IsFilled, IsGood, all_found, first_free}
+use Rattle.rp_words.proofs.KeptWalk.{AreTaken}
 
 -- the one that is found passes the test
 found_passes : {X : Type 0} (p : X → Bool) (x : X) (xs : List X) → find p xs ≡ Some x → p x ≡ true

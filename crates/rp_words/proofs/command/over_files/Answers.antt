@@ -2,8 +2,8 @@ use Rattle.std.proofs.Common.{◌≤◌, ◌||◌, [], length, ◌∙◌, ap₂,
 use Rattle.std.proofs.lemmas.List.{take_all}
 use Rattle.clap.specs.Simple.{app_of}
 use Rattle.clap.specs.Walk.{rule_of}
-use Rattle.rp_run.proofs.WordLemmas.{file_more}
-use Rattle.rp_run.proofs.command.over_files.Goals as goal
+use Rattle.rp_words.proofs.WordLemmas.{file_more}
+use Rattle.rp_words.proofs.command.over_files.Goals as goal
 
 pub loop-file-init : goal.loop-file-init
 loop-file-init c = record { shape = c.new-command.ensures.app; local = c.new-command.ensures.local }

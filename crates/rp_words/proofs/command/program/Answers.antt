@@ -1,7 +1,7 @@
 use Rattle.std.proofs.Common.{◌≡◌, ◌∙◌, ap, ap₂, codes}
 use Rattle.clap.specs.Simple.{App, app_of, app_of_fields, new_app, with_subcommand}
-use Rattle.rp_run.proofs.WordLemmas.{needing, without_help_flag, without_help_command}
-use Rattle.rp_run.proofs.command.program.Goals as goal
+use Rattle.rp_words.proofs.WordLemmas.{needing, without_help_flag, without_help_command}
+use Rattle.rp_words.proofs.command.program.Goals as goal
 
 pub returns : goal.returns
 returns c =

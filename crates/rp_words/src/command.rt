@@ -2,9 +2,9 @@ ghost use Rattle.std.specs.Prelude.{◌≡◌, false, IfOk, map};
 ghost use Rattle.clap.specs.Simple.{app_of};
 ghost use Rattle.clap.specs.Walk.{rule_of};
 ghost use Rattle.clap.specs.declared.builder.command.Command.TheViews.{out-Command};
-ghost use Rattle.rp_run.specs.Commands.{program, alone, check_random_shape, new_prices_shape};
-ghost use Rattle.rp_run.specs.Commands.{random_shape, trial_shape};
-ghost use Rattle.rp_run.specs.Commands.{command_shape, file_rule, json_rule, number_rule, per_rule};
+ghost use Rattle.rp_words.specs.Commands.{program, alone, check_random_shape, new_prices_shape};
+ghost use Rattle.rp_words.specs.Commands.{random_shape, trial_shape};
+ghost use Rattle.rp_words.specs.Commands.{command_shape, file_rule, json_rule, number_rule, per_rule};
 
 use clap::builder::ValueParser;
 use clap::{Arg, ArgAction, Command};

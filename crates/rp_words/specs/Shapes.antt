@@ -2,7 +2,7 @@
 -- words).
 use Rattle.std.specs.Prelude.{◌≡◌, ◌==◌, ◌<◌, ◌≤◌, ◌^◌, ℕ, Bool, true, false, not, List, [], ◌∷◌, ◌++◌, Option, Some, None, IfSome, codes, if◌then◌else◌}
 use Rattle.std.specs.Fmt.{decimal}
-use Rattle.rp_run.specs.CommandLine.{Line, Pairs, Analyse, Certify, Check, Demand, Welfare, Utility, Random, CheckRandom, Trial}
+use Rattle.rp_words.specs.CommandLine.{Line, Pairs, Analyse, Certify, Check, Demand, Welfare, Utility, Random, CheckRandom, Trial}
 
 -- a word that names a file: it is not empty and begins with no minus sign
 abbrev pub is_file_name : List ℕ → Bool

@@ -1,12 +1,16 @@
-ghost use Rattle.std.specs.Prelude.{◌≡◌, Some, None, ◌≤◌, ◌&&◌, nat_le, if◌then◌else◌, IfOk, IfSome, map, option_map, string_bytes};
+ghost use Rattle.std.specs.Prelude.{◌≡◌, ℕ, List, [], ◌∷◌, Ok, Some, None, ◌≤◌, ◌&&◌, nat_le, if◌then◌else◌, IfOk, IfSome, map, option_map, string_bytes};
 ghost use Rattle.clap.specs.Words.{found_of, rows_of, subcommand_rows_of};
 ghost use Rattle.clap.specs.Walk.{first_of};
-ghost use Rattle.rp_run.specs.CommandLine.{Pairs, Analyse, line_of, line_named, command_line, number_of};
-ghost use Rattle.rp_run.specs.CommandLine.{Certify, Demand, Welfare, check_line, json_of, new_prices_line, table_line, trial_line, utility_line};
-ghost use Rattle.rp_run.specs.CommandLine.{check_random_line, per_of, random_line};
-ghost use Rattle.rp_run.specs.FaultLines.{usage_text};
-ghost use Rattle.rp_run.specs.Matching.{IsSized, IsUnit};
-ghost use Rattle.rp_run.specs.Named.{named_line};
+ghost use Rattle.clap.specs.Faults.{fault_of};
+ghost use Rattle.rp_words.specs.Commands.{program};
+ghost use Rattle.rp_words.specs.Shapes.{HasShape, shape_of};
+ghost use Rattle.rp_words.specs.CommandLine.{Line as Asked};
+ghost use Rattle.rp_words.specs.CommandLine.{Pairs, Analyse, line_of, line_named, command_line, number_of};
+ghost use Rattle.rp_words.specs.CommandLine.{Certify, Demand, Welfare, check_line, json_of, new_prices_line, table_line, trial_line, utility_line};
+ghost use Rattle.rp_words.specs.CommandLine.{check_random_line, per_of, random_line};
+ghost use Rattle.rp_words.specs.Usage.{usage_text};
+ghost use Rattle.rp_words.specs.Ranges.{IsSized, IsUnit};
+ghost use Rattle.rp_words.specs.Named.{named_line};
 
 use crate::command::program;
 use clap::ArgMatches;
@@ -16,7 +20,7 @@ use std::alloc::Global;
 
 /// A command with its files and numbers, as the words name them.
 #[derive(Clone, Copy)]
-pub(crate) enum Line<'a> {
+pub enum Line<'a> {
     Pairs {
         table: &'a str,
     },
@@ -64,20 +68,22 @@ pub(crate) enum Line<'a> {
 }
 
 /// How the program is called.
-pub(crate) fn usage() -> &'static [u8]
+pub fn usage() -> &'static [u8]
     ensures { result.now ≡ usage_text }
 {
     b"usage: rp pairs TABLE\n       rp analyse TABLE\n       rp certify TABLE\n       rp check TABLE CERT\n       rp demand TABLE NEW [--json]\n       rp welfare TABLE NEW [--json]\n       rp utility TABLE BUNDLES\n       rp random BUDGETS CHOICES [--per N] [--json]\n       rp checkrandom BUDGETS CHOICES CERT [--per N]\n       rp trial SEED ROWS GOODS\n"
 }
 
 /// The line that the words denote, or none. The first word is the program's name.
-pub(crate) fn read_line<'a>(
-    alloc: Global,
-    words: &'a [String],
-) -> Result<Option<Line<'a>>, NoMemory>
+pub fn read_line<'a>(alloc: Global, words: &'a [String]) -> Result<Option<Line<'a>>, NoMemory>
     ensures exact { IfOk result (λ asked.
         option_map named_line asked ≡ line_of (map string_bytes words.entry.now)) }
     ensures sized { IfOk result (λ asked. IfSome asked (λ line. IsSized (named_line line))) }
+    ensures refused_by_clap { result ≡ Ok None
+        → ¬ (fault_of program (map string_bytes words.entry.now) ≡ []) }
+    ensures shapes { (line : Asked) (name : List ℕ) → HasShape line
+        → map string_bytes words.entry.now ≡ name ∷ shape_of line
+        → line_of (map string_bytes words.entry.now) ≡ Some line }
 {
     let program = program(alloc)?;
     match program.try_get_matches_from(words) {

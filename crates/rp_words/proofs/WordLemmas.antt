@@ -18,8 +18,8 @@ use Rattle.clap.specs.declared.error.kind.ErrorKind.TheVariants.{OutOfMemory}
 use Rattle.clap.specs.declared.parser.matches.ArgMatches.{ArgMatches}
 use Rattle.clap.specs.ValueTests.{is_numeral, is_unsigned_in}
 use Rattle.clap.specs.declared.builder.value_parser.ValueParser.TheVariants.{Unsigned}
-use Rattle.rp_run.specs.CommandLine.{Line, line_named, line_of, number_in}
-use Rattle.rp_run.specs.Commands.{alone, command_shape, file_rule, program}
+use Rattle.rp_words.specs.CommandLine.{Line, line_named, line_of, number_in}
+use Rattle.rp_words.specs.Commands.{alone, command_shape, file_rule, program}
 
 -- a numeral that fits passes the first two tests
 fits : (text : List ℕ) → IsNumeral 10 (without_leading_plus text) → digits_value 10 (without_leading_plus text) < 2 ^ 64

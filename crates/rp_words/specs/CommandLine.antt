@@ -9,7 +9,7 @@ use Rattle.clap.specs.Faults.{fault_of}
 use Rattle.clap.specs.Simple.{subcommand_of}
 use Rattle.clap.specs.ValueTests.{is_unsigned_in}
 use Rattle.clap.specs.Walk.{Row, Text, first_of, is_empty, one_of}
-use Rattle.rp_run.specs.Commands.{program}
+use Rattle.rp_words.specs.Commands.{program}
 
 -- a command with its files and numbers
 pub data Line : Type 0 where
