@@ -1,6 +1,3 @@
-pub mod AcceptedLemmas
-pub mod AskedRecords
-mod AskedLemmas
 pub mod FileLemmas
 pub mod GainsLemmas
 pub mod OneOrOther
@@ -8,7 +5,4 @@ pub mod OneInput
 pub mod PatchesApart
 pub mod Pigeons
 pub mod PassedOn
-pub mod ReadBackLemmas
 pub mod RunLemmas
-pub mod TrialLemmas
-mod UtilityLemmas

@@ -14,7 +14,8 @@ use Rattle.rp_words.specs.CommandLine.{Line, Pairs, Analyse, Certify, Check, Dem
 use Rattle.rp_words.specs.CommandLine.{Utility, Random, CheckRandom, Trial}
 use Rattle.rp_run.specs.Inputs.{Denotes, Input, PairsOver, AnalyseOver, CertifyOver, CheckOver, DemandOver, WelfareOver}
 use Rattle.rp_run.specs.Inputs.{UtilityOver, RandomOver, CheckRandomOver, TrialOver}
-use Rattle.rp_run.specs.RandomInputs.{PatchesOf, TypedPatches, TypedPatchesOf, TypesOf}
+use Rattle.rp_run.specs.RandomInputs.{PatchesOf, TypedPatchesOf, TypesOf}
+use Rattle.rp_answers.specs.Typed.{TypedPatches}
 use Rattle.rp_run.specs.Readings.{AndThen, CertificateIn, Just, Reading, numbers_in}
 
 -- one value is read at most

@@ -8,18 +8,18 @@ use Rattle.rp_agreement.proofs.Excluding.{only_accepted}
 use Rattle.rp_check.specs.CheckVerdict.{IsVerdictOn}
 use Rattle.rp_check.specs.RandomVerdict.{IsRandomVerdictOn}
 use Rattle.rp_agreement.proofs.ExcludingRandom.{only_accepted_on_patches}
-use Rattle.rp_run.specs.RandomInputs.{TypedPatches}
+use Rattle.rp_answers.specs.Typed.{TypedPatches}
 use Rattle.rp_check.specs.declared.verdict.Verdict.{Verdict}
 use Rattle.rp_check.specs.declared.verdict.Verdict.TheVariants.{Accepted, Rejected}
 use Rattle.rp_evidence.specs.Input.{input_of_table}
 use Rattle.rp_evidence.specs.declared.certificate.Certificate.{Certificate}
 use Rattle.rp_table.specs.Tables.{Observations}
 use Rattle.rp_run.specs.Answers.{Files, Answers, AnswersLine, IsAccepted, IsAcceptedOver, IsRefused, IsRejectedOver, MayBe, MustBe}
-use Rattle.rp_run.specs.Checked.{IsRandomCheck, IsTableCheck, verdict_status}
+use Rattle.rp_answers.specs.Checked.{IsRandomCheck, IsTableCheck, verdict_status}
 use Rattle.rp_run.specs.Endings.{IsEnd, IsFaultLine, Rose, NoneRose}
 use Rattle.rp_run.specs.Causes.{status_of_cause, cause_line, IsCause}
-use Rattle.rp_run.specs.declared.status.Status.{Status}
-use Rattle.rp_run.specs.declared.status.Status.TheVariants as status
+use Rattle.rp_answers.specs.declared.status.Status.{Status}
+use Rattle.rp_answers.specs.declared.status.Status.TheVariants as status
 use Rattle.rp_run.specs.declared.files.Cause.{Cause}
 use Rattle.rp_run.specs.declared.files.Cause.TheVariants.{Read, Refused, NoMemory}
 

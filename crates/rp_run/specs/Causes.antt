@@ -15,8 +15,8 @@ use Rattle.rp_types.specs.declared.fault.TypesFault.TheVariants as types_fault
 use Rattle.rp_run.specs.FaultLines.{file_line, read_line, memory_line, patch_line, types_line}
 use Rattle.rp_run.specs.declared.files.Cause.{Cause}
 use Rattle.rp_run.specs.declared.files.Cause.TheVariants.{Read, Refused, NoMemory}
-use Rattle.rp_run.specs.declared.status.Status.{Status}
-use Rattle.rp_run.specs.declared.status.Status.TheVariants as status
+use Rattle.rp_answers.specs.declared.status.Status.{Status}
+use Rattle.rp_answers.specs.declared.status.Status.TheVariants as status
 
 abbrev pub status_of_cause : Cause → Status
 status_of_cause (Read file) = status.ReadFault

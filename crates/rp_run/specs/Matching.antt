@@ -1,26 +1,13 @@
 -- That lists beside a table have its goods, that a certificate is of its kind, and that a trial is of a size that a table may have. Only
 -- proofs need these words: what a file denotes beside a table has them.
-use Rattle.std.specs.Prelude.{◌≡◌, ◌≤◌, length}
-use Rattle.rp_table.specs.PriceLists.{PriceList}
-use Rattle.rp_table.specs.Rows.{rows_count}
-use Rattle.rp_table.specs.Tables.{Observations, goods_of}
+use Rattle.std.specs.Prelude.{◌≡◌}
+use Rattle.rp_table.specs.Tables.{goods_of}
 use Rattle.rp_evidence.specs.Kinds.{IsCertificateOf}
 use Rattle.rp_evidence.specs.declared.certificate.Kind.TheVariants.{Table as TableKind, Random as RandomKind}
-use Rattle.rp_patch.specs.Types.{AreRationalTypes}
-use Rattle.rp_types.specs.declared.TheConstants.{TYPES}
 use Rattle.rp_words.specs.Ranges.{IsTrialSize}
-use Rattle.rp_run.specs.RandomInputs.{TypedPatches}
+use Rattle.rp_answers.specs.Demands.{IsSpentOn}
+use Rattle.rp_answers.specs.Typed.{AreTyped}
 use Rattle.rp_run.specs.Inputs.{Input, PairsOver, AnalyseOver, CertifyOver, CheckOver, DemandOver, WelfareOver, UtilityOver, RandomOver, CheckRandomOver, TrialOver}
-
--- the prices have the table's goods, and each record has an expenditure
-pub record IsSpentOn (table : Observations) (new : PriceList) : Type 0 where
-  pub goods : new.goods ≡ goods_of table
-  pub spent : length new.m ≡ rows_count new.prices new.goods
-
--- these are all rational types of patches, within the limit
-pub record AreTyped (given : TypedPatches) : Type 0 where
-  pub all : AreRationalTypes given.patches given.types
-  pub few : length given.types ≤ TYPES
 
 abbrev pub HasMatchingGoods : Input → Type 0
 HasMatchingGoods (PairsOver table) = Unit {0}

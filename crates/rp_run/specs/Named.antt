@@ -1,16 +1,8 @@
 -- An input of `src/`, as that which contracts speak of.
-use Rattle.std.specs.Prelude.{List}
-use Rattle.rp_patch.specs.Patches.{PatchList}
-use Rattle.rp_types.specs.Listed.{types_of}
-use Rattle.rp_types.specs.declared.types.Rational.{Rational}
-use Rattle.rp_run.specs.RandomInputs.{TypedPatches}
+use Rattle.rp_answers.specs.Typed.{typed}
 use Rattle.rp_run.specs.Inputs.{Input, PairsOver, AnalyseOver, CertifyOver, CheckOver, DemandOver, WelfareOver, UtilityOver, RandomOver, CheckRandomOver, TrialOver}
 use Rattle.rp_run.specs.declared.input.Input.{Input as Held}
 use Rattle.rp_run.specs.declared.input.Input.TheVariants.{Pairs as HeldPairs, Analyse as HeldAnalyse, Certify as HeldCertify, Check as HeldCheck, Demand as HeldDemand, Welfare as HeldWelfare, Utility as HeldUtility, Random as HeldRandom, CheckRandom as HeldCheckRandom, Trial as HeldTrial}
-
--- patches with the types in a list
-abbrev pub typed : PatchList → List Rational → TypedPatches
-typed patches types = record { patches = patches; types = types_of types }
 
 abbrev pub named_input : Held → Input
 named_input (HeldPairs table) = PairsOver table

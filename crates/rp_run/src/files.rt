@@ -8,7 +8,7 @@ ghost use Rattle.rp_run.specs.FaultLines as text;
 ghost use Rattle.rp_run.specs.Answers.{IsContent};
 ghost use Rattle.rp_run.specs.Endings.{Rose};
 ghost use Rattle.rp_run.specs.Readings.{CertificateIn, Numbers, all_bytes};
-ghost use Rattle.rp_run.specs.Matching.{IsSpentOn};
+ghost use Rattle.rp_answers.specs.Demands.{IsSpentOn};
 ghost use Rattle.rp_run.specs.Causes.{IsJsonRefusalOf, IsRefusal, IsRefusalOf, IsFileCause, IsLoaded};
 
 use crate::fault_text::{text_of_fault, text_of_json_fault};

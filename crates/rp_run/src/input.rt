@@ -1,14 +1,17 @@
 ghost use Rattle.std.specs.Prelude.{◌≡◌, ◌≤◌, ℕ, Bool, List, IfOk, IfErr};
 ghost use Rattle.rp_words.specs.CommandLine.{Check, CheckRandom, Demand, Random, Utility, Welfare};
 ghost use Rattle.rp_run.specs.Inputs.{CheckOver, DemandOver, RandomOver, UtilityOver, WelfareOver};
-ghost use Rattle.rp_run.specs.Matching.{AreTyped, HasMatchingGoods, IsSpentOn};
+ghost use Rattle.rp_run.specs.Matching.{HasMatchingGoods};
+ghost use Rattle.rp_answers.specs.Typed.{AreTyped};
+ghost use Rattle.rp_answers.specs.Demands.{IsSpentOn};
 ghost use Rattle.rp_table.specs.Tables.{goods_of};
 ghost use Rattle.rp_evidence.specs.Kinds.{IsCertificateOf};
 ghost use Rattle.rp_evidence.specs.declared.certificate.Kind.TheVariants.{Table as TableKind};
 ghost use Rattle.rp_run.specs.Answers.{HasInput};
 ghost use Rattle.rp_run.specs.Endings.{Rose};
 ghost use Rattle.rp_run.specs.Causes.{IsCause};
-ghost use Rattle.rp_run.specs.Named.{named_input, typed};
+ghost use Rattle.rp_run.specs.Named.{named_input};
+ghost use Rattle.rp_answers.specs.Typed.{typed};
 ghost use Rattle.rp_words.specs.Named.{named_line};
 ghost use Rattle.rp_words.specs.Ranges.{IsSized, IsUnit};
 

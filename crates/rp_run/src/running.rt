@@ -12,10 +12,10 @@ ghost use Rattle.rp_run.specs.Endings.{IsEnd, IsSilent, IsFaultLine, Rose, NoneR
 ghost use Rattle.rp_run.specs.Gains.{Gains};
 ghost use Rattle.rp_run.specs.Causes.{status_of_cause, cause_line};
 
-use crate::answer::{Answer, answer_line};
+use crate::answer::answer_line;
 use crate::files::Cause;
-use crate::status::Status;
 use crate::telling::tell;
+use rp_answers::{Answer, Status};
 use rp_outside::{Desk, Sink, pour};
 use rp_words::{read_line, usage};
 use std::alloc::Global;

@@ -5,7 +5,7 @@ ghost use Rattle.rp_run.specs.Answers.{IsAcceptedOver, IsRejectedOver, MayBe, Mu
 ghost use Rattle.rp_run.specs.Endings.{IsEnd};
 
 use crate::running::run;
-use crate::status::Status;
+use rp_answers::Status;
 use rp_outside::{SureDesk, SureSink};
 use std::alloc::Global;
 

@@ -3,7 +3,7 @@ use Rattle.rp_evidence.specs.declared.certificate.Kind.TheVariants.{Random as Ra
 use Rattle.rp_text.specs.Denotation.{budgets_in, choices_on}
 use Rattle.rp_words.specs.CommandLine.{Random}
 use Rattle.rp_run.specs.Inputs.{RandomOver}
-use Rattle.rp_run.specs.Named.{typed}
+use Rattle.rp_answers.specs.Typed.{typed}
 use Rattle.rp_run.specs.RandomInputs.{TypedPatchesOf}
 use Rattle.rp_run.specs.Readings.{AndThen, CertificateIn, Just, Numbers}
 use Rattle.rp_run.specs.Endings.{Rose}
