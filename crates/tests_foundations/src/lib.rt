@@ -7,3 +7,5 @@ mod grids;
 mod numbers;
 #[cfg(test)]
 mod outside;
+#[cfg(test)]
+mod wide_numbers;
