@@ -63,8 +63,20 @@ fn fractions_that_agree_in_their_high_words(rt: HostRuntime) {
         // (here the cross products are 2^128 and 1, and 2^128 + 2^64 and 2^128)
         (1 << 64, 1, 1, 1 << 64, Ordering::Greater),
         ((1 << 64) + 1, 1, 1 << 64, 1, Ordering::Greater),
-        ((1 << 64) + 1, 1 << 64, 1 << 64, (1 << 64) - 1, Ordering::Less),
-        (FIBONACCI, FIBONACCI_BEFORE, FIBONACCI_BEFORE, 48558529144435440119720805669229197641, Ordering::Less),
+        (
+            (1 << 64) + 1,
+            1 << 64,
+            1 << 64,
+            (1 << 64) - 1,
+            Ordering::Less,
+        ),
+        (
+            FIBONACCI,
+            FIBONACCI_BEFORE,
+            FIBONACCI_BEFORE,
+            48558529144435440119720805669229197641,
+            Ordering::Less,
+        ),
     ] {
         assert_eq!(rt;
             Frac::new(a, b).cmp(Frac::new(c, d)),
@@ -79,13 +91,31 @@ fn products_with_ones_and_with_small_sides(rt: HostRuntime) {
     for (a, b, c, d, product) in [
         (WIDTH, WIDTH - 1, 1, 1, Some((WIDTH, WIDTH - 1))),
         (1, 1, 3, WIDTH, Some((3, WIDTH))),
-        (1 << 63, 1, (1 << 64) - 1, 1, Some(((1 << 127) - (1 << 63), 1))),
+        (
+            1 << 63,
+            1,
+            (1 << 64) - 1,
+            1,
+            Some(((1 << 127) - (1 << 63), 1)),
+        ),
         (1, 1 << 63, 1, 1 << 64, None),
         (1 << 126, 3, 3, 1 << 126, Some((1, 1))),
         (1 << 126, 3, 9, 1 << 50, Some((3 << 76, 1))),
         (WIDTH, 1 << 60, 1 << 61, WIDTH, Some((2, 1))),
-        (FIBONACCI, FIBONACCI_BEFORE, FIBONACCI_BEFORE, 2, Some((FIBONACCI, 2))),
-        (FIBONACCI, FIBONACCI_BEFORE, 2, 1, Some((FIBONACCI, FIBONACCI_BEFORE / 2))),
+        (
+            FIBONACCI,
+            FIBONACCI_BEFORE,
+            FIBONACCI_BEFORE,
+            2,
+            Some((FIBONACCI, 2)),
+        ),
+        (
+            FIBONACCI,
+            FIBONACCI_BEFORE,
+            2,
+            1,
+            Some((FIBONACCI, FIBONACCI_BEFORE / 2)),
+        ),
         (FIBONACCI, FIBONACCI_BEFORE, 4, 1, None),
     ] {
         let got = Frac::new(a, b).mul(Frac::new(c, d)).ok();
