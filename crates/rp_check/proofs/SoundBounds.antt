@@ -22,6 +22,7 @@ use Rattle.rp_evidence.specs.declared.garp.Garp.TheVariants.{Cycle}
 use Rattle.rp_evidence.proofs.DemandBounds.{lower_is_infimum, upper_is_supremum}
 use Rattle.rp_evidence.proofs.DemandLaws.{supporting_exactly}
 use Rattle.rp_evidence.proofs.Walks.{starts_below}
+use Rattle.rp_evidence.proofs.EqualOrReached.{starts_in}
 use Rattle.rp_evidence.proofs.WelfareLaws.{pair_is_least}
 use Rattle.rp_farkas.specs.Listing.{numerator_at}
 use Rattle.rp_check.specs.DemandFailure.{BoundHolds, DemandBoundsFail, DemandFails, GoodFails}
@@ -133,13 +134,6 @@ module _ (input : TableInput) (shown : Bool) (sound : IsTrue shown → MeetsGarp
       (pair_is_least input prices t reached lists pair.den (numerator_at pair.y) (slice_index pair.x) equal.equal)
   lower_proves prices t (Wide step) holds = tt
 
-  starts_in : (s t : ℕ) → EqualsOrReaches input s t → s < input.n
-  starts_in s t (walk, leads) = first_in walk leads
-    where
-      first_in : (walk : List ℕ) → IsWalk input.n (IsWeak input.cost 1 1) s t walk → s < input.n
-      first_in [] leads = absurd leads
-      first_in (x ∷ rest) (is, leads) = subst (λ y. y < input.n) is (starts_below input.n (IsWeak input.cost 1 1) x t rest leads)
-
   pub welfare_proves : (prices : List ℕ) (t : ℕ) (part : WelfarePart) → WelfareFails input shown prices t part (Ok tt) → ProvesWelfare input prices t part
   welfare_proves prices t (WelfareBounds upper at lower) ((one_each, (fit, priced)), (((t_in, at_in), ((is_shown, (leads, (costs, (least, (low, all))))), bounded)), done)) = (
     one_each,
@@ -150,7 +144,7 @@ module _ (input : TableInput) (shown : Bool) (sound : IsTrue shown → MeetsGarp
         observed = at_in;
         leads = leads;
         costs = sym costs;
-        least = λ r reaches. least r (starts_in r t reaches) reaches;
+        least = λ r reaches. least r (starts_in input r t reaches) reaches;
       };
       lower_is = lower_proves (slice_index prices) t lower low;
     },

@@ -11,6 +11,7 @@ pub mod DemandBounds
 pub mod DemandLaws
 pub mod DemandMixtures
 pub mod Enumerations
+pub mod EqualOrReached
 mod DemandTries
 pub mod InnerDemand
 pub mod InnerExists
@@ -21,6 +22,7 @@ mod IndexTries
 pub mod Levels
 pub mod Loops
 pub mod Places
+pub mod StrictStarts
 pub mod Supporting
 pub mod Reaching
 pub mod SameAfriat

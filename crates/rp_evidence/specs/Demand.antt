@@ -65,6 +65,12 @@ pub record IsStrictlyBelow (input : TableInput) (budget : NewBudget) (t : ℕ) :
   pub leads : IsWalk input.n (IsWeak input.cost 1 1) from t walk
   pub strict : BuysWithRest input budget from ⊎ HasStep (IsStrict input.cost 1 1) walk
 
+-- A walk from v on makes what it leads to strictly below: money is left for the bundle of v, or an observation below is
+-- strictly preferred to v.
+abbrev pub IsStrictStart : TableInput → NewBudget → ℕ → Type 0
+IsStrictStart input budget v =
+    BuysWithRest input budget v ⊎ ((u : ℕ) × (u < input.n) × IsBelow input budget u × IsStrict input.cost 1 1 u v)
+
 -- The bundle costs at least what was spent at each observation below.
 abbrev pub CostsEnough : TableInput → NewBudget → FractionBundle → Type 0
 CostsEnough input budget bundle = (t : ℕ) → t < input.n → IsBelow input budget t

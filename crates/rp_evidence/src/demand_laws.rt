@@ -6,11 +6,20 @@ ghost use Rattle.rp_table.specs.Tables.{IsTable, Observations, goods_of, records
 ghost use Rattle.rp_evidence.specs.Demand.{CostsEnough, CostsMore, FractionBundle};
 ghost use Rattle.rp_evidence.specs.Demand.{HasInnerSupport, HasSupport, IsInfimum};
 ghost use Rattle.rp_evidence.specs.Demand.{IsInnerDemand, IsOnBudget, IsSupportingDemand};
-ghost use Rattle.rp_evidence.specs.Demand.{IsSupremum, NewBudget, mixed};
+ghost use Rattle.rp_evidence.specs.Demand.{IsStrictStart, IsStrictlyBelow, IsSupremum, NewBudget};
+ghost use Rattle.rp_evidence.specs.Demand.{mixed};
 ghost use Rattle.rp_evidence.specs.DemandEvidence.{budget_of};
 ghost use Rattle.rp_evidence.specs.DemandPrograms.{ListsBelow, lower_program, upper_program};
 ghost use Rattle.rp_evidence.specs.Garp.{MeetsGarp};
 ghost use Rattle.rp_evidence.specs.Input.{TableInput, input_of_table};
+ghost use Rattle.rp_evidence.specs.Welfare.{EqualsOrReaches};
+
+/// An observation is strictly below exactly where it is, or is reached from, one whose bundle the budget buys with money
+/// left, or to which an observation below is strictly preferred.
+pub fn strictly_below_from_strict_starts()
+    ensures { (input : TableInput) (budget : NewBudget) (t : ℕ) → IsStrictlyBelow input budget t
+        ↔ ((v : ℕ) × (v < input.n) × IsStrictStart input budget v × EqualsOrReaches input v t) }
+{}
 
 /// Where the table meets the axiom, a bundle on the budget is a supporting demand exactly where it costs at least
 /// what was spent at every observation below, and more at every one strictly below.

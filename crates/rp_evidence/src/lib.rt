@@ -29,7 +29,7 @@ pub use certificate::{Certificate, Item, Kind, withheld};
 pub use demand::{Bound, DemandPart, GoodBounds, Point, WelfarePart};
 pub use demand_laws::{
     equal_pairs_bound_goods, inner_demands_exist, inner_demands_support, mixtures_support,
-    supporting_demands_cost_enough,
+    strictly_below_from_strict_starts, supporting_demands_cost_enough,
 };
 pub use efficiency::Efficiency;
 pub use efficiency_laws::{efficiency_index_is_threshold, efficiency_index_is_unique};

@@ -1,11 +1,12 @@
 ghost use Rattle.std.specs.Prelude.{◌≡◌, ◌<◌, ◌↔◌, ℕ, All, Contains, IfOk, IsTrue, length};
-ghost use Rattle.rp_evidence.specs.Demand.{Buys};
+ghost use Rattle.rp_evidence.specs.Demand.{Buys, IsStrictStart};
 ghost use Rattle.rp_evidence.specs.DemandPrograms.{ListsBelow, ListsStrictlyBelow};
 ghost use Rattle.rp_evidence.specs.Preference.{IsStrict};
+ghost use Rattle.rp_pref.specs.Closure.{IsWeakClosureOf};
 ghost use Rattle.rp_table.specs.Cost.{cost_of};
 ghost use Rattle.rp_table.specs.Tables.{records_of};
 ghost use Rattle.rp_support.specs.Asked.{asked_of, input_of};
-ghost use Rattle.rp_support.specs.Starts.{AreTold, IsLedTo, IsStrictStart, IsWeakClosureOf};
+ghost use Rattle.rp_support.specs.Starts.{AreTold, IsLedTo};
 ghost use Rattle.rp_evidence.specs.Enumeration.{Enumerates};
 
 use crate::budget::Budget;

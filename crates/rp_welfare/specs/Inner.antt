@@ -2,18 +2,12 @@
 use Rattle.std.specs.Prelude.{◌≡◌, ℕ, ◌<◌, ◌≤◌, ◌⊎◌, List, length, slice_index}
 use Rattle.rp_evidence.specs.Demand.{spending}
 use Rattle.rp_evidence.specs.Input.{TableInput, input_of_table}
-use Rattle.rp_evidence.specs.Preference.{IsWeak}
 use Rattle.rp_evidence.specs.Welfare.{EqualsOrReaches}
 use Rattle.rp_evidence.specs.declared.demand.Bound.{Bound}
 use Rattle.rp_evidence.specs.declared.demand.Bound.TheVariants.{Shown}
 use Rattle.rp_farkas.specs.declared.entry.Pair.{Pair}
 use Rattle.rp_num.specs.Fraction.{Fraction, IsLowestTerms}
-use Rattle.rp_pref.specs.Closure.{IsClosureOf, Reached}
 use Rattle.rp_table.specs.Tables.{Observations}
-
--- The closure is that of the weak steps of the input.
-abbrev pub ClosesWeakSteps : Reached → TableInput → Type 0
-ClosesWeakSteps reached input = IsClosureOf reached input.n (IsWeak input.cost 1 1)
 
 -- What the bundle of observation s costs at the prices.
 abbrev pub cost_at_prices : Observations → (ℕ → ℕ) → ℕ → ℕ

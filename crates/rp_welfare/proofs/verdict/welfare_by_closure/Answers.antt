@@ -5,13 +5,14 @@ use Rattle.rp_evidence.specs.Welfare.{NoneWorthMore, welfare_program}
 use Rattle.rp_evidence.proofs.AfriatModels.{model_meets_garp}
 use Rattle.rp_evidence.proofs.WelfareModels.{bounds_hold}
 use Rattle.rp_evidence.proofs.WelfarePrograms.{none_worth_more}
+use Rattle.rp_pref.proofs.WeakClosures.{closure_of_table}
 use Rattle.rp_welfare.proofs.LowerBounds.{lower_at_most}
-use Rattle.rp_welfare.proofs.SameTable.{closes_of_table, meets_by_ranks, violates_by_cycle}
+use Rattle.rp_welfare.proofs.SameTable.{meets_by_ranks, violates_by_cycle}
 use Rattle.rp_welfare.proofs.verdict.welfare_by_closure.Goals as goal
 
 pub first_cheapest-upper-requires-clause-closes : goal.first_cheapest-upper-requires-clause-closes
 first_cheapest-upper-requires-clause-closes c =
-    closes_of_table c.args.table.now c.args.costs.now c.requires.costs c.args.closure.now c.requires.closes
+    closure_of_table c.args.table.now c.args.costs.now c.requires.costs c.args.closure.now c.requires.closes
 
 pub lower_bound-requires-clause-sound : goal.lower_bound-requires-clause-sound
 lower_bound-requires-clause-sound c =
@@ -19,7 +20,7 @@ lower_bound-requires-clause-sound c =
 
 pub lower_bound-requires-clause-closes : goal.lower_bound-requires-clause-closes
 lower_bound-requires-clause-closes c =
-    closes_of_table c.args.table.now c.args.costs.now c.requires.costs c.args.closure.now c.requires.closes
+    closure_of_table c.args.table.now c.args.costs.now c.requires.costs c.args.closure.now c.requires.closes
 
 pub returns-in_ok-walk-in-Cycle-clause-proves : goal.returns-in_ok-walk-in-Cycle-clause-proves
 returns-in_ok-walk-in-Cycle-clause-proves c =
