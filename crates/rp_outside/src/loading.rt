@@ -1,4 +1,4 @@
-ghost use Rattle.std.specs.Prelude.{◌≡◌, ◌+◌, ◌^◌, ◌<◌, ◌≤◌, ℕ, List, IfOk, IsErr, IsErrOf, Ok};
+ghost use Rattle.std.specs.Prelude.{◌≡◌, ◌+◌, ◌^◌, ◌<◌, ◌≤◌, ◌⊎◌, ℕ, List, IfOk, IsErr, IsErrOf, Ok};
 ghost use Rattle.std.specs.Prelude.{length, vec_len};
 ghost use Rattle.std.specs.Option.{ForSome};
 ghost use Rattle.rp_outside.specs.Faults.{HasRisen, next_count};
@@ -46,9 +46,15 @@ pub fn load<D: Desk>(
     ensures past_limit { ForSome (D.bytes desk.old name.now)
         (λ bs. limit < length bs → IsErr result) }
 
+    // So a read that failed is told, and told as nothing else.
+    ensures else_stays { IsErrOf result LoadFault.Read
+        ⊎ ((other : List ℕ) → D.faults desk.new other ≡ D.faults desk.old other) }
+
     // How often the desk is asked: no read but the last may come back empty.
     ensures reads { D.calls desk.new ≤ D.calls desk.old + limit + 1 }
     ensures byte_a_read { IfOk result (λ v. D.calls desk.new ≤ D.calls desk.old + vec_len v + 1) }
+    ensures told_reads { ForSome (D.bytes desk.old name.now)
+        (λ bs. D.calls desk.new ≤ D.calls desk.old + length bs + 1) }
     ensures some_read { HasRisen (D.calls desk.old) (D.calls desk.new) }
 
     // In every outcome, for every name.
@@ -89,6 +95,8 @@ fn take_turn<D: Desk>(
         → HasRisen (D.faults desk.old name.now) (D.faults desk.new name.now) }
     ensures too_long_only { IsErrOf result LoadFault.TooLong
         → ForSome (D.bytes desk.old name.now) (λ bs. limit < length bs) }
+    ensures else_stays { IsErrOf result LoadFault.Read
+        ⊎ ((other : List ℕ) → D.faults desk.new other ≡ D.faults desk.old other) }
     ensures bytes_stay { (other : List ℕ) → D.bytes desk.new other ≡ D.bytes desk.old other }
     ensures never_falls { (other : List ℕ) → D.faults desk.old other ≤ D.faults desk.new other }
     ensures call_counted { D.calls desk.new ≡ next_count (D.calls desk.old) }
