@@ -2,6 +2,7 @@ ghost use Rattle.std.specs.Prelude.{◌≡◌, ◌+◌, ◌^◌, ◌<◌, ◌≤
 ghost use Rattle.std.specs.Prelude.{length, vec_len};
 ghost use Rattle.std.specs.Option.{ForSome};
 ghost use Rattle.rp_outside.specs.Faults.{HasRisen, next_count};
+ghost use Rattle.rp_outside.specs.Reads.{calls_through};
 ghost use Rattle.rp_outside.specs.Told.{BeginsWith};
 
 use crate::desks::{Desk, DeskFault};
@@ -53,8 +54,8 @@ pub fn load<D: Desk>(
     // How often the desk is asked: no read but the last may come back empty.
     ensures reads { D.calls desk.new ≤ D.calls desk.old + limit + 1 }
     ensures byte_a_read { IfOk result (λ v. D.calls desk.new ≤ D.calls desk.old + vec_len v + 1) }
-    ensures told_reads { ForSome (D.bytes desk.old name.now)
-        (λ bs. D.calls desk.new ≤ D.calls desk.old + length bs + 1) }
+    ensures read_through { D.calls desk.new
+        ≤ D.calls desk.old + calls_through limit (D.bytes desk.old name.now) }
     ensures some_read { HasRisen (D.calls desk.old) (D.calls desk.new) }
 
     // In every outcome, for every name.
