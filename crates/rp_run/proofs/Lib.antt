@@ -12,6 +12,7 @@ pub mod ReadBackLemmas
 pub mod RandomShapes
 pub mod RunLemmas
 pub mod TrialLemmas
+pub mod TurnLemmas
 mod UtilityLemmas
 pub mod WordLemmas
 pub mod ShapeLemmas

@@ -18,6 +18,7 @@ pub mod Matching
 pub mod Checked
 pub mod Randoms
 pub mod Answers
+pub mod Turns
 pub mod Endings
 pub mod Gains
 pub mod Causes
