@@ -6,3 +6,4 @@ pub mod PatchesApart
 pub mod Pigeons
 pub mod PassedOn
 pub mod RunLemmas
+pub mod TurnLemmas

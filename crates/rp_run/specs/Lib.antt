@@ -5,6 +5,7 @@ pub mod RandomInputs
 pub mod Inputs
 pub mod Matching
 pub mod Answers
+pub mod Turns
 pub mod Endings
 pub mod Gains
 pub mod Causes

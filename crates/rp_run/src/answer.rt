@@ -1,6 +1,7 @@
 ghost use Rattle.std.specs.Prelude.{◌≡◌, ◌≤◌, ℕ, List, IfOk, IfErr};
 ghost use Rattle.rp_run.specs.Answers.{Answers, AnswersLine};
 ghost use Rattle.rp_run.specs.Endings.{Rose};
+ghost use Rattle.rp_run.specs.Turns.{AreReadInTurn, AsksForFirst};
 ghost use Rattle.rp_run.specs.Causes.{IsCause};
 ghost use Rattle.rp_run.specs.Matching.{HasMatchingGoods};
 ghost use Rattle.rp_run.specs.Named.{named_input};
@@ -30,7 +31,10 @@ pub(crate) fn answer_line<'a, D: Desk>(
         AnswersLine (D.bytes desk.old) (named_line line.entry) answer.status answer.text.items) }
     ensures caused { IfErr result
         (IsCause (D.bytes desk.old) (Rose (D.faults desk.old) (D.faults desk.new))
+        (AsksForFirst (D.bytes desk.old) (D.calls desk.old) (D.calls desk.new))
         (named_line line.entry)) }
+    ensures in_turn { AreReadInTurn (D.bytes desk.old)
+        (D.calls desk.old) (D.calls desk.new) (named_line line.entry) }
     ensures bytes_stay { (other : List ℕ) → D.bytes desk.new other ≡ D.bytes desk.old other }
     ensures never_falls { (other : List ℕ) → D.faults desk.old other ≤ D.faults desk.new other }
 {

@@ -10,6 +10,7 @@ ghost use Rattle.rp_run.specs.Answers.{IsAcceptedOver, IsRejectedOver, MayBe, Mu
 ghost use Rattle.rp_run.specs.FaultLines.{write_line};
 ghost use Rattle.rp_run.specs.Endings.{IsEnd, IsSilent, IsFaultLine, Rose, NoneRose};
 ghost use Rattle.rp_run.specs.Gains.{Gains};
+ghost use Rattle.rp_run.specs.Turns.{AreReadInTurn, AsksForFirst};
 ghost use Rattle.rp_run.specs.Causes.{status_of_cause, cause_line};
 
 use crate::answer::answer_line;
@@ -62,8 +63,15 @@ pub fn run<D: Desk, O: Sink, E: Sink>(
     ensures quiet { IsEnd result → Stays (E.written err.old) (E.written err.new) }
     ensures told { ¬ IsEnd result → (line : List ℕ)
         × IsFaultLine (D.bytes desk.old) (Rose (D.faults desk.old) (D.faults desk.new))
+        (AsksForFirst (D.bytes desk.old) (D.calls desk.old) (D.calls desk.new))
         (line_in words.now.items) result line
         × Gains (E.written err.old) (E.written err.new) (E.faults err.old) (E.faults err.new) line }
+
+    // How often the desk is asked for the files of the words, and in which order.
+    ensures in_turn { (line : Asked) → line_in words.now.items ≡ Some line
+        → AreReadInTurn (D.bytes desk.old) (D.calls desk.old) (D.calls desk.new) line }
+    ensures none_asked { line_in words.now.items ≡ None
+        → D.calls desk.new ≡ D.calls desk.old }
 
     // When there is one.
     ensures complete { (line : Asked) → line_in words.now.items ≡ Some line
