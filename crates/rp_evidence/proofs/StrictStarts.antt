@@ -1,5 +1,5 @@
 -- The observations below and strictly below by where the walks to them start.
-use Rattle.std.proofs.Common.{◌≡◌, ◌<◌, ◌⊎◌, ◌↔◌, inl, inr, ℕ, List, [], ◌∷◌, ◌++◌, refl, subst, arith}
+use Rattle.std.proofs.Common.{◌<◌, ◌⊎◌, ◌↔◌, inl, inr, ℕ, List, [], ◌∷◌, ◌++◌, refl, subst, arith}
 use Rattle.rp_evidence.specs.Demand.{Buys, BuysWithRest, IsBelow, IsStrictStart, IsStrictlyBelow, NewBudget}
 use Rattle.rp_evidence.specs.Input.{TableInput}
 use Rattle.rp_evidence.specs.Preference.{IsStrict, IsWeak}

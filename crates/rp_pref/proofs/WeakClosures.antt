@@ -1,5 +1,5 @@
 -- The closure of the weak steps of costs is that of the table that they are of.
-use Rattle.std.proofs.Common.{ℕ, subst}
+use Rattle.std.proofs.Common.{subst}
 use Rattle.rp_table.specs.Cost.{CostTable, IsCostsOf, cost_at, cost_of}
 use Rattle.rp_table.specs.Tables.{Observations, records_of}
 use Rattle.rp_evidence.specs.Input.{input_of_table}

@@ -1,7 +1,6 @@
 -- From the costs in memory to the table.
 use Rattle.std.proofs.Common.{◌≡◌, ℕ, List, subst}
 use Rattle.rp_evidence.specs.Garp.{IsViolationAt, MeetsGarp, ProvesGarp}
-use Rattle.rp_evidence.specs.Input.{input_of_table}
 use Rattle.rp_evidence.specs.Preference.{AgreeBelow}
 use Rattle.rp_evidence.specs.declared.garp.Garp.{Garp}
 use Rattle.rp_evidence.specs.declared.garp.Garp.TheVariants.{Ranks, Cycle}
