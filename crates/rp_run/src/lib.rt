@@ -24,7 +24,7 @@ mod trials;
 mod utilities;
 mod welfares;
 
-pub use laws::bytes_denote_one_input;
+pub use laws::bytes_denote_one_input_or_refusal;
 pub use running::run;
 pub use status::Status;
 pub use sure::run_surely;
