@@ -1,7 +1,7 @@
 pub mod FileLemmas
 pub mod GainsLemmas
-pub mod OneOrOther
-pub mod OneInput
+pub mod OneFault
+pub mod OneAnswer
 pub mod PatchesApart
 pub mod Pigeons
 pub mod PassedOn

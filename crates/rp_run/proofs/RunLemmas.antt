@@ -5,7 +5,10 @@ use Rattle.std.proofs.lemmas.List.Elements.{Contains-get_or}
 use Rattle.rp_words.specs.CommandLine.{Line, file_at, files_of}
 use Rattle.rp_run.specs.FaultLines.{read_line}
 use Rattle.rp_run.specs.Inputs.{Input, PairsOver, AnalyseOver, CertifyOver, CheckOver, DemandOver, WelfareOver, UtilityOver, RandomOver, CheckRandomOver, TrialOver}
-use Rattle.rp_run.proofs.OneOrOther.{denotes_apart}
+use Rattle.rp_patch.proofs.Determined.{same_list}
+use Rattle.rp_types.proofs.Determined.{types_once}
+use Rattle.rp_run.proofs.OneAnswer.{denotes_one}
+use Rattle.rp_run.specs.Inputs.{Denotes}
 use Rattle.rp_agreement.proofs.Excluding.{only_accepted}
 use Rattle.rp_check.specs.CheckVerdict.{IsVerdictOn}
 use Rattle.rp_check.specs.RandomVerdict.{IsRandomVerdictOn}
@@ -35,6 +38,12 @@ cause_told files rose asks asked line NoMemory is none = refl
 -- a file of a line is among its files
 its_file : (line : Line) (k : ℕ) → k < length (files_of line) → Contains (files_of line) (file_at line k)
 its_file line k within = Contains-get_or (files_of line) k [] within
+
+-- no content of a line's files is both taken and refused
+denotes_apart : (line : Line) (bytes : ℕ → List ℕ) (input : Input) (text : List ℕ) → Denotes line bytes (Ok input) → Denotes line bytes (Err text) → ⊥
+denotes_apart line bytes input text taken refused =
+    let wrong : Ok input ≡ Err text = denotes_one same_list types_once line bytes (Ok input) (Err text) taken refused in
+    cc
 
 -- a line that is answered is not refused
 pub not_both : (files : Files) (asked : Option Line) (line other : Line) (s : Status) (text : List ℕ) → asked ≡ Some line → asked ≡ Some other

@@ -11,7 +11,7 @@ mod running;
 mod sure;
 mod telling;
 
-pub use laws::bytes_denote_one_input;
+pub use laws::bytes_denote_one_input_or_refusal;
 pub use rp_answers::{Status, trial_table};
 pub use running::run;
 pub use sure::run_surely;
