@@ -20,7 +20,7 @@ use Rattle.rp_run.specs.Accepted.{PassesAfter}
 use Rattle.rp_run.specs.Analysis.{certificate_of}
 use Rattle.rp_run.specs.AskedItems.{AreAnswered}
 use Rattle.rp_run.specs.UtilityText.{first_items}
-use Rattle.rp_accepted.proofs.Accepted.{afriat_passes, efficiency_passes, garp_passes, homothetic_passes, quasilinear_passes}
+use Rattle.rp_agreement.proofs.Accepted.{afriat_passes, efficiency_passes, garp_passes, homothetic_passes, quasilinear_passes}
 
 module _ (input : TableInput) (garp : Garp) (proves : Proves input (GarpItem garp)) where
   module _ (afriat : AfriatPart) (afriat_proves : Proves input (AfriatItem afriat)) (afriat_given : IsAfriatVerdict input.n input.cost afriat) where

@@ -13,10 +13,10 @@ use Rattle.rp_table.specs.declared.TheConstants.{LARGEST, LARGEST_EXPENDITURE}
 use Rattle.rp_welfare.specs.Verdict.{IsWelfareVerdict}
 use Rattle.rp_run.specs.Demands.{IsDemandItem}
 use Rattle.rp_run.specs.Welfares.{IsWelfareItem}
-use Rattle.rp_accepted.proofs.AcceptedBounds.{demand_passes, welfare_passes}
-use Rattle.rp_accepted.specs.Given.{AreNewPrices}
-use Rattle.rp_readable.specs.Limited.{IsLimited}
-use Rattle.rp_readable.proofs.BoundsFit.{demand_fits, welfare_fits}
+use Rattle.rp_agreement.proofs.AcceptedBounds.{demand_passes, welfare_passes}
+use Rattle.rp_agreement.specs.Given.{AreNewPrices}
+use Rattle.rp_agreement.specs.Limited.{IsLimited}
+use Rattle.rp_agreement.proofs.BoundsFit.{demand_fits, welfare_fits}
 
 module _ (input : TableInput) (limited : IsLimited input) (garp : Garp) (prices kept : List ℕ) (same : kept ≡ prices) (one_each : length prices ≡ input.goods) (limits : All (λ p. (1 ≤ p) × (p ≤ LARGEST)) prices) where
   new : AreNewPrices input.goods prices

@@ -11,9 +11,9 @@ use Rattle.rp_json.specs.Denoted.{FitsKind}
 use Rattle.rp_json.proofs.ListLemmas.{all_more}
 use Rattle.rp_table.specs.Tables.{IsTable, Observations, records_of}
 use Rattle.rp_table.specs.Cost.{cost_of}
-use Rattle.rp_readable.specs.ReadBack.{IsReadBack}
-use Rattle.rp_readable.proofs.SameValues.{text_read_back}
-use Rattle.rp_readable.proofs.TestsFit.{garp_fits}
+use Rattle.rp_agreement.specs.ReadBack.{IsReadBack}
+use Rattle.rp_agreement.proofs.SameValues.{text_read_back}
+use Rattle.rp_agreement.proofs.TestsFit.{garp_fits}
 use Rattle.rp_run.specs.AskedItems.{AreAnswered, begun_with}
 
 module _ (table : Observations) (valid : IsTable table) (garp : Garp) (proves : Proves (input_of_table table) (GarpItem garp)) (given : IsGarpVerdict (records_of table) (cost_of table) garp) where

@@ -4,10 +4,10 @@ use Rattle.std.specs.List.{Contains}
 use Rattle.rp_run.specs.CommandLine.{Line, files_of}
 use Rattle.rp_run.specs.Inputs.{Input, PairsOver, AnalyseOver, CertifyOver, CheckOver, DemandOver, WelfareOver, UtilityOver, RandomOver, CheckRandomOver, TrialOver}
 use Rattle.rp_run.proofs.OneOrOther.{denotes_apart}
-use Rattle.rp_accepted.proofs.Excluding.{only_accepted}
+use Rattle.rp_agreement.proofs.Excluding.{only_accepted}
 use Rattle.rp_check.specs.CheckVerdict.{IsVerdictOn}
 use Rattle.rp_check.specs.RandomVerdict.{IsRandomVerdictOn}
-use Rattle.rp_accepted.proofs.ExcludingRandom.{only_accepted_on_patches}
+use Rattle.rp_agreement.proofs.ExcludingRandom.{only_accepted_on_patches}
 use Rattle.rp_run.specs.RandomInputs.{TypedPatches}
 use Rattle.rp_check.specs.declared.verdict.Verdict.{Verdict}
 use Rattle.rp_check.specs.declared.verdict.Verdict.TheVariants.{Accepted, Rejected}

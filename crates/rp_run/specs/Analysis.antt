@@ -17,7 +17,7 @@ use Rattle.rp_effic.specs.Verdict.{IsEfficiencyVerdict}
 use Rattle.rp_garp.specs.Verdict.{IsGarpVerdict}
 use Rattle.rp_homo.specs.Verdict.{IsHomotheticVerdict}
 use Rattle.rp_quasi.specs.Verdict.{IsQuasilinearVerdict}
-use Rattle.rp_readable.specs.ReadBack.{IsReadBack}
+use Rattle.rp_agreement.specs.ReadBack.{IsReadBack}
 use Rattle.rp_run.specs.Accepted.{IsAcceptedOn}
 use Rattle.rp_run.specs.ShownText.{shown_text}
 

@@ -9,7 +9,7 @@ use Rattle.rp_evidence.specs.declared.certificate.Item.TheVariants.{Garp as Garp
 use Rattle.rp_evidence.specs.declared.certificate.Kind.TheVariants.{Table}
 use Rattle.rp_evidence.specs.declared.garp.Garp.{Garp}
 use Rattle.rp_garp.specs.Verdict.{IsGarpVerdict}
-use Rattle.rp_readable.specs.ReadBack.{IsReadBack}
+use Rattle.rp_agreement.specs.ReadBack.{IsReadBack}
 use Rattle.rp_run.specs.Accepted.{IsAcceptedOn}
 
 -- the certificate of a table with a verdict on the axiom and then these items

@@ -1,5 +1,5 @@
 ghost use Rattle.std.specs.Prelude.{◌≡◌, IfOk};
-ghost use Rattle.rp_readable.specs.ReadBack.{random_certificate};
+ghost use Rattle.rp_agreement.specs.ReadBack.{random_certificate};
 ghost use Rattle.rp_run.specs.Matching.{AreTyped};
 ghost use Rattle.rp_run.specs.Named.{typed};
 ghost use Rattle.rp_run.specs.Randoms.{IsRandomAnswer, IsRandomText};

@@ -4,7 +4,7 @@ use Rattle.rp_evidence.specs.Proves.{Proves}
 use Rattle.rp_evidence.specs.declared.certificate.Item.TheVariants.{Garp as GarpItem}
 use Rattle.rp_evidence.specs.declared.certificate.Kind.TheVariants.{Table}
 use Rattle.rp_garp.specs.Verdict.{IsGarpVerdict}
-use Rattle.rp_readable.specs.ReadBack.{IsReadBack}
+use Rattle.rp_agreement.specs.ReadBack.{IsReadBack}
 use Rattle.rp_run.specs.Accepted.{IsAcceptedOn}
 use Rattle.rp_run.proofs.AcceptedLemmas.{asked_accepted}
 use Rattle.rp_run.proofs.AskedLemmas.{garp_there, garp_given_there}

@@ -1,6 +1,6 @@
 use Rattle.std.proofs.Common.{◌∙◌}
 use Rattle.rp_evidence.specs.Input.{input_of_table}
-use Rattle.rp_readable.proofs.ItemsFit.{table_limited}
+use Rattle.rp_agreement.proofs.ItemsFit.{table_limited}
 use Rattle.rp_run.proofs.AskedRecords.{demand_record}
 use Rattle.rp_run.proofs.demands.demand_item.Goals as goal
 

@@ -1,13 +1,13 @@
 use Rattle.std.proofs.Common.{◌≡◌, ◌∙◌, ap, subst, sym}
-use Rattle.rp_accepted.proofs.AcceptedRandom.{random_certificate_passes}
+use Rattle.rp_agreement.proofs.AcceptedRandom.{random_certificate_passes}
 use Rattle.rp_check.specs.RandomVerdict.{IsRandomVerdictOn}
 use Rattle.rp_check.specs.declared.verdict.Verdict.TheVariants.{Accepted}
 use Rattle.rp_evidence.specs.declared.certificate.Certificate.{Certificate}
 use Rattle.rp_types.specs.Listed.{types_of}
 use Rattle.rp_evidence.specs.declared.certificate.Kind.TheVariants.{Random as RandomKind}
-use Rattle.rp_readable.proofs.ItemsFit.{random_readable}
-use Rattle.rp_readable.proofs.SameValues.{text_read_back}
-use Rattle.rp_readable.specs.ReadBack.{IsReadBack, random_certificate}
+use Rattle.rp_agreement.proofs.ItemsFit.{random_readable}
+use Rattle.rp_agreement.proofs.SameValues.{text_read_back}
+use Rattle.rp_agreement.specs.ReadBack.{IsReadBack, random_certificate}
 use Rattle.rp_run.proofs.randoms.random_answer.Goals as goal
 
 pub returns : goal.returns

@@ -22,9 +22,9 @@ use Rattle.rp_homo.proofs.SameVerdicts.{verdict_same as homothetic_verdict_same}
 use Rattle.rp_quasi.proofs.SameVerdicts.{verdict_same as quasilinear_verdict_same}
 use Rattle.rp_table.specs.Cost.{cost_at, cost_of}
 use Rattle.rp_evidence.specs.declared.certificate.Kind.TheVariants.{Table}
-use Rattle.rp_readable.specs.ReadBack.{IsReadBack}
-use Rattle.rp_readable.proofs.ItemsFit.{analysis_readable, table_limited}
-use Rattle.rp_readable.proofs.SameValues.{text_read_back}
+use Rattle.rp_agreement.specs.ReadBack.{IsReadBack}
+use Rattle.rp_agreement.proofs.ItemsFit.{analysis_readable, table_limited}
+use Rattle.rp_agreement.proofs.SameValues.{text_read_back}
 use Rattle.rp_run.specs.Analysis.{certificate_of}
 use Rattle.rp_run.proofs.text.analyse.Goals as goal
 

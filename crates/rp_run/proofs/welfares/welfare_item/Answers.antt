@@ -1,7 +1,7 @@
 use Rattle.std.proofs.Common.{◌∙◌}
 use Rattle.rp_evidence.specs.Input.{input_of_table}
 use Rattle.rp_run.proofs.AskedLemmas.{garp_there}
-use Rattle.rp_readable.proofs.ItemsFit.{table_limited}
+use Rattle.rp_agreement.proofs.ItemsFit.{table_limited}
 use Rattle.rp_run.proofs.AskedRecords.{welfare_record}
 use Rattle.rp_run.proofs.welfares.welfare_item.Goals as goal
 
