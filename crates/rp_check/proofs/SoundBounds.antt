@@ -1,5 +1,5 @@
 -- What is found nothing wrong with proves its verdict: demand and welfare.
-use Rattle.std.proofs.Common.{◌≡◌, ◌*◌, ◌<◌, ◌≤◌, ℕ, [], ◌∷◌, List, Bool, IsTrue, Ok, ap, arith, slice_index, slice_index_or, subst, sym}
+use Rattle.std.proofs.Common.{◌≡◌, ◌*◌, ◌<◌, ◌≤◌, ℕ, List, Bool, IsTrue, Ok, ap, arith, slice_index, slice_index_or, sym}
 use Rattle.std.proofs.Math.Nat.{eq_of_mul-eq-mul_right, le_of_mul-le-mul_right, lt_of_mul-lt-mul_right, mul-le-mul_right, mul-lt-mul_of_pos_right}
 use Rattle.rp_num.specs.Fraction.{Fraction, IsLowestTerms}
 use Rattle.rp_evidence.specs.Demand.{FractionBundle, IsInfimum, IsSupportingDemand, IsSupremum, NewBudget, spending}
@@ -7,9 +7,7 @@ use Rattle.rp_evidence.specs.DemandEvidence.{ProvesDemand, ProvesDemandBounds, P
 use Rattle.rp_evidence.specs.DemandPrograms.{ListsBelow, lower_program, upper_program}
 use Rattle.rp_evidence.specs.Garp.{MeetsGarp}
 use Rattle.rp_evidence.specs.Input.{TableInput}
-use Rattle.rp_evidence.specs.Preference.{IsWeak}
-use Rattle.rp_evidence.specs.Walk.{IsWalk}
-use Rattle.rp_evidence.specs.Welfare.{EqualsOrReaches, IsLowerWelfare}
+use Rattle.rp_evidence.specs.Welfare.{IsLowerWelfare}
 use Rattle.rp_evidence.specs.declared.demand.Bound.{Bound}
 use Rattle.rp_evidence.specs.declared.demand.Bound.TheVariants.{Shown, Wide}
 use Rattle.rp_evidence.specs.declared.demand.DemandPart.{DemandPart}
@@ -21,7 +19,7 @@ use Rattle.rp_evidence.specs.declared.demand.WelfarePart.TheVariants.{Bounds as 
 use Rattle.rp_evidence.specs.declared.garp.Garp.TheVariants.{Cycle}
 use Rattle.rp_evidence.proofs.DemandBounds.{lower_is_infimum, upper_is_supremum}
 use Rattle.rp_evidence.proofs.DemandLaws.{supporting_exactly}
-use Rattle.rp_evidence.proofs.Walks.{starts_below}
+use Rattle.rp_evidence.proofs.EqualOrReached.{starts_in}
 use Rattle.rp_evidence.proofs.WelfareLaws.{pair_is_least}
 use Rattle.rp_farkas.specs.Listing.{numerator_at}
 use Rattle.rp_check.specs.DemandFailure.{BoundHolds, DemandBoundsFail, DemandFails, GoodFails}
@@ -133,13 +131,6 @@ module _ (input : TableInput) (shown : Bool) (sound : IsTrue shown → MeetsGarp
       (pair_is_least input prices t reached lists pair.den (numerator_at pair.y) (slice_index pair.x) equal.equal)
   lower_proves prices t (Wide step) holds = tt
 
-  starts_in : (s t : ℕ) → EqualsOrReaches input s t → s < input.n
-  starts_in s t (walk, leads) = first_in walk leads
-    where
-      first_in : (walk : List ℕ) → IsWalk input.n (IsWeak input.cost 1 1) s t walk → s < input.n
-      first_in [] leads = absurd leads
-      first_in (x ∷ rest) (is, leads) = subst (λ y. y < input.n) is (starts_below input.n (IsWeak input.cost 1 1) x t rest leads)
-
   pub welfare_proves : (prices : List ℕ) (t : ℕ) (part : WelfarePart) → WelfareFails input shown prices t part (Ok tt) → ProvesWelfare input prices t part
   welfare_proves prices t (WelfareBounds upper at lower) ((one_each, (fit, priced)), (((t_in, at_in), ((is_shown, (leads, (costs, (least, (low, all))))), bounded)), done)) = (
     one_each,
@@ -150,7 +141,7 @@ module _ (input : TableInput) (shown : Bool) (sound : IsTrue shown → MeetsGarp
         observed = at_in;
         leads = leads;
         costs = sym costs;
-        least = λ r reaches. least r (starts_in r t reaches) reaches;
+        least = λ r reaches. least r (starts_in input r t reaches) reaches;
       };
       lower_is = lower_proves (slice_index prices) t lower low;
     },

@@ -9,28 +9,22 @@ use Rattle.rp_evidence.specs.declared.failure.Failure.{Failure}
 use Rattle.rp_evidence.specs.declared.failure.Reason.TheVariants.{Number}
 use Rattle.rp_patch.specs.Clauses.{InOrder, Unless}
 use Rattle.rp_check.specs.PricesFailure.{PricesFail}
-use Rattle.rp_check.specs.Reach.{AreMarked, IsMarked, ListsThose}
+use Rattle.rp_evidence.specs.Enumeration.{Enumerates}
+use Rattle.rp_check.specs.Reach.{AreMarked, IsMarked}
 use Rattle.rp_check.specs.WalkFailure.{ViolationFails}
 use Rattle.rp_check.specs.WelfareFailure.{CostHolds, LowerHolds, WelfareBoundsFail, WelfareFails, WelfarePartFails}
-use Rattle.rp_check.proofs.Listing.{those_unique}
+use Rattle.rp_evidence.proofs.Enumerations.{enumerates_same, enumeration_is_one}
 use Rattle.rp_check.proofs.Passing.{then_last}
-use Rattle.rp_check.proofs.Setting.{those_same}
 
 module _ (input : TableInput) (t : ℕ) where
-  pub lists_reached : (marks : List Bool) (list : List ℕ) → AreMarked input.n (EqualsOrReaches input t) marks → ListsThose input.n (IsMarked marks) list → ListsReached input t list
-  lists_reached marks list are lists =
-      let l = those_same input.n (IsMarked marks) (EqualsOrReaches input t) are list lists in
-      record { rising = l.rising; just_these = l.just_these }
-
-  one_list : (xs ys : List ℕ) → ListsReached input t xs → ListsReached input t ys → xs ≡ ys
-  one_list xs ys one other =
-      those_unique input.n (EqualsOrReaches input t) xs ys (record { rising = one.rising; just_these = one.just_these }) (record { rising = other.rising; just_these = other.just_these })
+  pub lists_reached : (marks : List Bool) (list : List ℕ) → AreMarked input.n (EqualsOrReaches input t) marks → Enumerates input.n (IsMarked marks) list → ListsReached input t list
+  lists_reached marks list are lists = enumerates_same input.n (IsMarked marks) (EqualsOrReaches input t) are list lists
 
   pub lower_told : (prices : ℕ → ℕ) (lower : Bound) (list : List ℕ) (b : Bool) → ListsReached input t list
       → IsTrue b ↔ CostHolds (welfare_program input prices list) input.goods prices lower → IsTrue b ↔ LowerHolds input prices t lower
   lower_told prices lower list b lists told = (
     (λ h. (list, lists, told.0 h)),
-    (λ h. told.1 (subst (λ (xs : List ℕ). CostHolds (welfare_program input prices xs) input.goods prices lower) (one_list h.0 list h.1 lists) h.2)),
+    (λ h. told.1 (subst (λ (xs : List ℕ). CostHolds (welfare_program input prices xs) input.goods prices lower) (enumeration_is_one input.n (EqualsOrReaches input t) h.0 list h.1 lists) h.2)),
   )
 
 -- ---- the parts of an item

@@ -1,12 +1,9 @@
 -- Words that only the crate's own functions and their proofs need, and no definition rests on: marks on observations, and what
 -- steps lead to.
-use Rattle.std.specs.Prelude.{◌<◌, ◌↔◌, ◌⊎◌, ℕ, Bool, false, IsTrue, List, Contains, slice_index_or}
-use Rattle.std.specs.List.Sorted.{IsStrictlyIncreasing}
+use Rattle.std.specs.Prelude.{◌<◌, ◌↔◌, ℕ, Bool, false, IsTrue, List, slice_index_or}
 use Rattle.rp_check.specs.declared.reach.Way.{Way}
 use Rattle.rp_check.specs.declared.reach.Way.TheVariants.{Onward, Back}
-use Rattle.rp_evidence.specs.Demand.{BuysWithRest, IsBelow, NewBudget}
-use Rattle.rp_evidence.specs.Input.{TableInput}
-use Rattle.rp_evidence.specs.Preference.{IsStrict, IsWeak}
+use Rattle.rp_evidence.specs.Preference.{IsWeak}
 use Rattle.rp_evidence.specs.Walk.{LeadsTo}
 
 -- Observation t is marked.
@@ -25,13 +22,3 @@ step_of Back c s t = IsWeak c 1 1 t s
 -- Steps, or none, lead from a marked observation to t.
 abbrev pub IsLedTo : ℕ → (ℕ → ℕ → Type 0) → List Bool → ℕ → Type 0
 IsLedTo n step marks t = (s : ℕ) × (s < n) × IsMarked marks s × (walk : List ℕ) × LeadsTo n step s t walk
-
--- Where a walk from v on is strict: money is left for the bundle of v, or an observation below is strictly preferred to v.
-abbrev pub IsStrictStart : TableInput → NewBudget → ℕ → Type 0
-IsStrictStart input budget v =
-    BuysWithRest input budget v ⊎ ((u : ℕ) × (u < input.n) × IsBelow input budget u × IsStrict input.cost 1 1 u v)
-
--- The list has just those below n of which P holds, in increasing order.
-pub record ListsThose (n : ℕ) (P : ℕ → Type 0) (those : List ℕ) : Type 0 where
-  pub rising : IsStrictlyIncreasing those
-  pub just_these : (t : ℕ) → Contains those t ↔ ((t < n) × P t)

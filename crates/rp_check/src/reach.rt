@@ -1,5 +1,6 @@
 ghost use Rattle.std.specs.Prelude.{◌≡◌, ◌<◌, ◌≤◌, ◌↔◌, ◌⊎◌, ℕ, IsTrue, MatchOption, length, take};
-ghost use Rattle.rp_check.specs.Reach.{AreMarked, IsLedTo, IsMarked, ListsThose, step_of};
+ghost use Rattle.rp_evidence.specs.Enumeration.{Enumerates};
+ghost use Rattle.rp_check.specs.Reach.{AreMarked, IsLedTo, IsMarked, step_of};
 ghost use Rattle.rp_table.specs.Cost.{cost_of};
 ghost use Rattle.rp_table.specs.Tables.{records_of};
 
@@ -90,7 +91,7 @@ pub fn mark_only(n: u32, t: u32, marks: &mut [bool])
 /// Whether the list is that of the marked observations, in increasing order.
 pub fn lists_marked(n: u32, marks: &[bool], list: &[u32]) -> bool
     requires { n ≤ length marks.now }
-    ensures { IsTrue result ↔ ListsThose n (IsMarked marks.now) list.now }
+    ensures { IsTrue result ↔ Enumerates n (IsMarked marks.now) list.now }
 {
     let mut at = 0;
     for t in 0..n {
@@ -109,7 +110,7 @@ pub fn list_marked(n: u32, marks: &[bool], list: &mut [u32]) -> usize
     requires marks { n ≤ length marks.now }
     requires list { n ≤ length list.old }
     ensures few { result ≤ n }
-    ensures listed { ListsThose n (IsMarked marks.now) (take result list.new) }
+    ensures listed { Enumerates n (IsMarked marks.now) (take result list.new) }
 {
     let mut count = 0;
     for t in 0..n {

@@ -1,8 +1,8 @@
 ghost use Rattle.std.specs.Prelude.{◌≡◌, ◌<◌, ◌≤◌, ◌↔◌, ℕ, IsTrue, length};
 ghost use Rattle.rp_check.specs.Asked.{AreSets, budget_at, input_of};
 ghost use Rattle.rp_check.specs.DemandFailure.{SetsFail};
-ghost use Rattle.rp_check.specs.Reach.{AreMarked, IsMarked, IsStrictStart};
-ghost use Rattle.rp_evidence.specs.Demand.{Buys, IsBelow};
+ghost use Rattle.rp_check.specs.Reach.{AreMarked, IsMarked};
+ghost use Rattle.rp_evidence.specs.Demand.{Buys, IsBelow, IsStrictStart};
 ghost use Rattle.rp_evidence.specs.Preference.{IsStrict};
 ghost use Rattle.rp_table.specs.Cost.{cost_of};
 ghost use Rattle.rp_table.specs.Tables.{records_of};

@@ -10,8 +10,11 @@ mod HomotheticTries
 pub mod DemandBounds
 pub mod DemandLaws
 pub mod DemandMixtures
+pub mod Enumerations
+pub mod EqualOrReached
 mod DemandTries
 pub mod InnerDemand
+pub mod InnerExists
 pub mod Index
 pub mod IndexExists
 pub mod IndexThreshold
@@ -19,6 +22,7 @@ mod IndexTries
 pub mod Levels
 pub mod Loops
 pub mod Places
+pub mod StrictStarts
 pub mod Supporting
 pub mod Reaching
 pub mod SameAfriat
@@ -34,3 +38,5 @@ pub mod Values
 pub mod Violations
 pub mod Walks
 pub mod WelfareLaws
+pub mod WelfareModels
+pub mod WelfarePrograms

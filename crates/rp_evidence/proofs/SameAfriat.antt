@@ -1,10 +1,10 @@
 -- Afriat's numbers are the same for all costs that are the same between the observations.
-use Rattle.std.proofs.Common.{◌≡◌, ◌<◌, ℕ, sym, subst, ◌∙◌}
+use Rattle.std.proofs.Common.{◌≡◌, ◌<◌, ℕ, subst, ◌∙◌}
 use Rattle.std.specs.Prelude.{ℤ, pos, ◌+ℤ◌, ◌-ℤ◌, ◌*ℤ◌, ◌≤ℤ◌}
 use Rattle.rp_evidence.specs.Afriat.{IsAfriatModel, allowed}
 use Rattle.rp_evidence.specs.AfriatEvidence.{ProvesAfriat}
 use Rattle.rp_evidence.specs.Preference.{AgreeBelow, IsWeak}
-use Rattle.rp_evidence.specs.StandardNumbers.{AllowsHigher, AreNumbersOf, AreStandardNumbers, IsClassUtility, IsMultiplier}
+use Rattle.rp_evidence.specs.StandardNumbers.{AllowsHigher, AreStandardNumbers, IsClassUtility, IsMultiplier}
 use Rattle.rp_evidence.specs.declared.afriat.AfriatPart.{AfriatPart}
 use Rattle.rp_evidence.specs.declared.afriat.AfriatPart.TheVariants.{Model, NoModel, Wide}
 use Rattle.rp_evidence.proofs.SameCosts.{agree_back, count_same, violation_same, weak_same}

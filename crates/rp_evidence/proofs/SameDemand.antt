@@ -1,22 +1,20 @@
 -- Evidence on demand and welfare for one input is evidence for every other that agrees with it.
-use Rattle.std.proofs.Common.{◌≡◌, ◌<◌, ◌≤◌, ◌+◌, ◌*◌, ◌⊎◌, ◌↔◌, inl, inr, ℕ, zero, suc, List, [], ◌∷◌, length, refl, sym, ap, subst, ◌∙◌, arith, cond, ltb, true, false}
+use Rattle.std.proofs.Common.{◌≡◌, ◌<◌, ◌≤◌, ◌+◌, ◌*◌, ◌⊎◌, inl, inr, ℕ, List, [], ◌∷◌, sym, ap, subst, ◌∙◌, arith}
 use Rattle.std.specs.Prelude.{slice_index, slice_index_or}
-use Rattle.std.proofs.lemmas.Bool.{cases_lt, lt-ltb, le-ltb}
+use Rattle.std.proofs.lemmas.Bool.{cases_lt}
 use Rattle.rp_table.specs.Sums.{sum_below}
 use Rattle.rp_table.proofs.SumsBelow.{sum_below-same}
-use Rattle.rp_evidence.specs.Demand.{NewBudget, FractionBundle, Buys, BuysWithRest, IsBelow, IsInfimum, IsOnBudget, IsStrictlyBelow, IsSupportingDemand, IsSupremum, enlarged, spending}
-use Rattle.rp_evidence.specs.DemandEvidence.{ProvesDemand, ProvesDemandBounds, ProvesGood, ProvesLower, ProvesLowerWelfare, ProvesUpper, ProvesWelfare, ProvesWelfareBounds, budget_of, bundle_of}
+use Rattle.rp_evidence.specs.Demand.{NewBudget, FractionBundle, IsBelow, IsInfimum, IsStrictlyBelow, IsSupportingDemand, IsSupremum, enlarged, spending}
+use Rattle.rp_evidence.specs.DemandEvidence.{ProvesDemand, ProvesLower, ProvesLowerWelfare, ProvesUpper, ProvesWelfare, budget_of, bundle_of}
 use Rattle.rp_evidence.specs.DemandPrograms.{ListsBelow, ListsStrictlyBelow}
-use Rattle.rp_evidence.specs.Garp.{MeetsGarp}
 use Rattle.rp_evidence.specs.Input.{AgreeInputs, TableInput}
 use Rattle.rp_evidence.specs.Preference.{AgreeBelow, IsStrict, IsWeak}
-use Rattle.rp_evidence.specs.Walk.{HasStep, IsWalk, LeadsTo}
-use Rattle.rp_evidence.specs.Welfare.{EqualsOrReaches, IsInRegion, IsLowerWelfare, IsUpperWelfare}
+use Rattle.rp_evidence.specs.Walk.{HasStep, IsWalk}
+use Rattle.rp_evidence.specs.Welfare.{EqualsOrReaches, IsInRegion, IsUpperWelfare}
 use Rattle.rp_evidence.specs.declared.demand.Bound.{Bound}
 use Rattle.rp_evidence.specs.declared.demand.Bound.TheVariants.{Shown, Wide}
 use Rattle.rp_evidence.specs.declared.demand.DemandPart.{DemandPart}
 use Rattle.rp_evidence.specs.declared.demand.DemandPart.TheVariants.{Bounds, NoModel}
-use Rattle.rp_evidence.specs.declared.demand.GoodBounds.{GoodBounds}
 use Rattle.rp_evidence.specs.declared.demand.WelfarePart.{WelfarePart}
 use Rattle.rp_evidence.specs.declared.demand.WelfarePart.TheVariants.{Bounds as WelfareBounds, NoModel as NoWelfare}
 use Rattle.rp_evidence.proofs.DemandLaws.{is_enlarged}

@@ -96,8 +96,9 @@ module _ (input : TableInput) (prices : ℕ → ℕ) (t : ℕ) (reached : List �
           ends q [] l = absurd l
           ends q (y ∷ w) l = ends_below input.n (IsWeak input.cost 1 1) y q w l.1
 
-  feasible : (bundle : FractionBundle) → IsInRegion input t bundle → IsFeasiblePrices (welfare_program input prices reached) bundle.den bundle.num
-  feasible bundle r = record { den_positive = r.fraction; columns_hold = columns }
+  -- a bundle of the region is a feasible price vector
+  pub region_is_feasible : (bundle : FractionBundle) → IsInRegion input t bundle → IsFeasiblePrices (welfare_program input prices reached) bundle.den bundle.num
+  region_is_feasible bundle r = record { den_positive = r.fraction; columns_hold = columns }
     where
       columns : (j : ℕ) → j < length reached → (pos (input.cost (slice_index reached j) (slice_index reached j)) *ℤ pos bundle.den) ≤ℤ column_times (welfare_program input prices reached) j bundle.num
       columns j l =
@@ -110,7 +111,7 @@ module _ (input : TableInput) (prices : ℕ → ℕ) (t : ℕ) (reached : List �
   pair_is_least den y x pair = record {
     fraction = best.feasible.den_positive;
     none_less = λ bundle r.
-        let h = best.no_lower bundle.den bundle.num (feasible bundle r) in
+        let h = best.no_lower bundle.den bundle.num (region_is_feasible bundle r) in
         let k = rw (total_of_sum input.goods prices x, total_of_sum input.goods prices bundle.num) at h in
         omega (arith, ints, k);
     reached = (record { den = den; num = x }, in_region den x best.feasible, refl);

@@ -65,6 +65,12 @@ pub record IsStrictlyBelow (input : TableInput) (budget : NewBudget) (t : ℕ) :
   pub leads : IsWalk input.n (IsWeak input.cost 1 1) from t walk
   pub strict : BuysWithRest input budget from ⊎ HasStep (IsStrict input.cost 1 1) walk
 
+-- A walk from v on makes what it leads to strictly below: money is left for the bundle of v, or an observation below is
+-- strictly preferred to v.
+abbrev pub IsStrictStart : TableInput → NewBudget → ℕ → Type 0
+IsStrictStart input budget v =
+    BuysWithRest input budget v ⊎ ((u : ℕ) × (u < input.n) × IsBelow input budget u × IsStrict input.cost 1 1 u v)
+
 -- The bundle costs at least what was spent at each observation below.
 abbrev pub CostsEnough : TableInput → NewBudget → FractionBundle → Type 0
 CostsEnough input budget bundle = (t : ℕ) → t < input.n → IsBelow input budget t
@@ -106,6 +112,14 @@ pub record IsInnerDemand (input : TableInput) (budget : NewBudget) (bundle : Fra
       × ((g : ℕ) → g < input.goods → bundle.num g ≡ with_rest_on_first input budget s g))
       ⊎ (((s : ℕ) → s < input.n → ¬ Buys input budget s)
       × ((g : ℕ) → g < input.goods → bundle.num g ≡ all_on_first budget g))
+
+-- Some demand supports: the set of supporting demands is not empty.
+abbrev pub HasSupport : TableInput → NewBudget → Type 0
+HasSupport input budget = (bundle : FractionBundle) × IsSupportingDemand input budget bundle
+
+-- There is an inner demand, and it is a supporting demand.
+abbrev pub HasInnerSupport : TableInput → NewBudget → Type 0
+HasInnerSupport input budget = (bundle : FractionBundle) × IsInnerDemand input budget bundle × IsSupportingDemand input budget bundle
 
 -- ---- how much of a good supporting demands have
 

@@ -1,20 +1,18 @@
 -- The two linear programs of a good: the least and the greatest that a bundle on the new budget can have of it where it costs
 -- enough (this project's own form; duality of linear programming as in Gale, Kuhn and Tucker 1951).
-use Rattle.std.specs.Prelude.{ℕ, ◌+◌, ◌<◌, ◌↔◌, ◌==◌, ℤ, pos, neg_ℤ, List, Contains, length, slice_index, if◌then◌else◌, nat_lt}
-use Rattle.std.specs.List.Sorted.{IsStrictlyIncreasing}
+use Rattle.std.specs.Prelude.{ℕ, ◌+◌, ◌==◌, ℤ, pos, neg_ℤ, List, length, slice_index, if◌then◌else◌, nat_lt}
 use Rattle.rp_farkas.specs.LinearProgram.{LinearProgram}
 use Rattle.rp_evidence.specs.Demand.{IsBelow, IsStrictlyBelow, NewBudget}
+use Rattle.rp_evidence.specs.Enumeration.{Enumerates}
 use Rattle.rp_evidence.specs.Input.{TableInput}
 
 -- The list has just the observations below, in increasing order.
-pub record ListsBelow (input : TableInput) (budget : NewBudget) (below : List ℕ) : Type 0 where
-  pub rising : IsStrictlyIncreasing below
-  pub just_these : (t : ℕ) → Contains below t ↔ ((t < input.n) × IsBelow input budget t)
+abbrev pub ListsBelow : TableInput → NewBudget → List ℕ → Type 0
+ListsBelow input budget below = Enumerates input.n (IsBelow input budget) below
 
 -- The list has just the observations strictly below, in increasing order.
-pub record ListsStrictlyBelow (input : TableInput) (budget : NewBudget) (strict : List ℕ) : Type 0 where
-  pub rising : IsStrictlyIncreasing strict
-  pub just_these : (t : ℕ) → Contains strict t ↔ ((t < input.n) × IsStrictlyBelow input budget t)
+abbrev pub ListsStrictlyBelow : TableInput → NewBudget → List ℕ → Type 0
+ListsStrictlyBelow input budget strict = Enumerates input.n (IsStrictlyBelow input budget) strict
 
 -- The columns of both programs: the prices of each observation below, the new prices, and the new prices negated.
 abbrev pub demand_entry : TableInput → NewBudget → List ℕ → ℕ → ℕ → ℤ

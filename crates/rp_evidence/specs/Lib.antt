@@ -3,6 +3,7 @@ pub mod AfriatEvidence
 pub mod Count
 pub mod First
 pub mod Efficiency
+pub mod Enumeration
 pub mod Garp
 pub mod Homothetic
 pub mod Demand
@@ -17,4 +18,5 @@ pub mod Ranks
 pub mod StandardNumbers
 pub mod Walk
 pub mod Welfare
+pub mod WelfareModels
 pub mod Withheld

@@ -1,8 +1,10 @@
 -- Bounds on the money metric: what it costs at new prices to be as well off as at an observation (after Varian 1982).
-use Rattle.std.specs.Prelude.{◌≡◌, ℕ, ◌*◌, ◌<◌, ◌≤◌, ◌↔◌, pos, List, Contains, length, slice_index}
-use Rattle.std.specs.List.Sorted.{IsStrictlyIncreasing}
+use Rattle.std.specs.Prelude.{◌≡◌, ℕ, ◌*◌, ◌<◌, ◌≤◌, ℤ, pos, ◌*ℤ◌, ◌≤ℤ◌, List, length, slice_index}
 use Rattle.rp_farkas.specs.LinearProgram.{LinearProgram}
+use Rattle.rp_farkas.specs.Point.{IsFeasiblePoint, value_of}
+use Rattle.rp_evidence.specs.Afriat.{IsUtility}
 use Rattle.rp_evidence.specs.Demand.{FractionBundle, spending}
+use Rattle.rp_evidence.specs.Enumeration.{Enumerates}
 use Rattle.rp_evidence.specs.Input.{TableInput}
 use Rattle.rp_evidence.specs.Preference.{IsWeak}
 use Rattle.rp_evidence.specs.Walk.{IsWalk}
@@ -34,9 +36,8 @@ pub record IsUpperWelfare (input : TableInput) (prices : ℕ → ℕ) (t s cost 
   pub least : (r : ℕ) → EqualsOrReaches input r t → cost ≤ spending input.goods prices (input.quantity r)
 
 -- The list has just t and the observations that it reaches, in increasing order.
-pub record ListsReached (input : TableInput) (t : ℕ) (reached : List ℕ) : Type 0 where
-  pub rising : IsStrictlyIncreasing reached
-  pub just_these : (s : ℕ) → Contains reached s ↔ ((s < input.n) × EqualsOrReaches input t s)
+abbrev pub ListsReached : TableInput → ℕ → List ℕ → Type 0
+ListsReached input t reached = Enumerates input.n (EqualsOrReaches input t) reached
 
 -- The program whose prices are the bundles of the region, at the least cost: a column for each listed observation, its prices
 -- worth what was spent there, and the new prices on the right side.
@@ -48,3 +49,16 @@ welfare_program input prices reached = record {
   b = λ i. pos (prices i);
   c = λ j. pos (input.cost (slice_index reached j) (slice_index reached j));
 }
+
+-- No feasible point of the program is worth more than the whole number k.
+abbrev pub NoneWorthMore : LinearProgram → ℕ → Type 0
+NoneWorthMore p k = (den : ℕ) (y : ℕ → ℕ) → IsFeasiblePoint p den y → value_of p y ≤ℤ pos (k * den)
+
+-- ---- as good as an observation, in an Afriat model
+
+-- By the numbers of the model the bundle is as good as observation t or better: it has at least the utility of t.
+pub record IsAsGoodAs (input : TableInput) (utility : ℕ → ℤ) (multiplier : ℕ → ℕ) (bundle : FractionBundle) (t : ℕ) : Type 0 where
+  pub fraction : 0 < bundle.den
+  pub value : ℤ
+  pub value_is : IsUtility input.n input.cost utility multiplier bundle.den (λ s. spending input.goods (input.price s) bundle.num) value
+  pub at_least : (pos bundle.den *ℤ utility t) ≤ℤ value

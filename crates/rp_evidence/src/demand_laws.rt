@@ -1,12 +1,25 @@
 //! Laws of supporting demand at new prices. Each function is empty: its contract is the law.
-ghost use Rattle.std.specs.Prelude.{◌↔◌, ◌<◌, ℕ, List};
+ghost use Rattle.std.specs.Prelude.{◌≡◌, ◌↔◌, ◌<◌, ◌≤◌, ℕ, All, List, length};
 ghost use Rattle.rp_farkas.specs.EqualPair.{IsEqualPair};
-ghost use Rattle.rp_evidence.specs.Demand.{CostsEnough, CostsMore, FractionBundle, IsInfimum};
+ghost use Rattle.rp_table.specs.Cost.{cost_of};
+ghost use Rattle.rp_table.specs.Tables.{IsTable, Observations, goods_of, records_of};
+ghost use Rattle.rp_evidence.specs.Demand.{CostsEnough, CostsMore, FractionBundle};
+ghost use Rattle.rp_evidence.specs.Demand.{HasInnerSupport, HasSupport, IsInfimum};
 ghost use Rattle.rp_evidence.specs.Demand.{IsInnerDemand, IsOnBudget, IsSupportingDemand};
-ghost use Rattle.rp_evidence.specs.Demand.{IsSupremum, NewBudget, mixed};
+ghost use Rattle.rp_evidence.specs.Demand.{IsStrictStart, IsStrictlyBelow, IsSupremum, NewBudget};
+ghost use Rattle.rp_evidence.specs.Demand.{mixed};
+ghost use Rattle.rp_evidence.specs.DemandEvidence.{budget_of};
 ghost use Rattle.rp_evidence.specs.DemandPrograms.{ListsBelow, lower_program, upper_program};
 ghost use Rattle.rp_evidence.specs.Garp.{MeetsGarp};
-ghost use Rattle.rp_evidence.specs.Input.{TableInput};
+ghost use Rattle.rp_evidence.specs.Input.{TableInput, input_of_table};
+ghost use Rattle.rp_evidence.specs.Welfare.{EqualsOrReaches};
+
+/// An observation is strictly below exactly where it is, or is reached from, one whose bundle the budget buys with money
+/// left, or to which an observation below is strictly preferred.
+pub fn strictly_below_from_strict_starts()
+    ensures { (input : TableInput) (budget : NewBudget) (t : ℕ) → IsStrictlyBelow input budget t
+        ↔ ((v : ℕ) × (v < input.n) × IsStrictStart input budget v × EqualsOrReaches input v t) }
+{}
 
 /// Where the table meets the axiom, a bundle on the budget is a supporting demand exactly where it costs at least
 /// what was spent at every observation below, and more at every one strictly below.
@@ -23,6 +36,22 @@ pub fn inner_demands_support()
         → MeetsGarp input.n input.cost 1 1 → 0 < input.goods → 0 < budget.prices 0
         → ((t : ℕ) → t < input.n → 0 < input.price t 0)
         → IsInnerDemand input budget bundle → IsSupportingDemand input budget bundle }
+{}
+
+/// Where the table meets the axiom there is an inner demand at every positive prices and every expenditure, whatever
+/// their size, and it is a supporting demand; so the set of supporting demands is never empty.
+pub fn inner_demands_exist()
+    ensures inner { (input : TableInput) (budget : NewBudget)
+        → MeetsGarp input.n input.cost 1 1 → 0 < input.goods → 0 < budget.prices 0
+        → ((t : ℕ) → t < input.n → 0 < input.price t 0) → HasInnerSupport input budget }
+    ensures of_tables { (table : Observations) (prices : List ℕ) (m : ℕ)
+        → IsTable table → MeetsGarp (records_of table) (cost_of table) 1 1
+        → length prices ≡ goods_of table → All (λ p. 1 ≤ p) prices
+        → HasInnerSupport (input_of_table table) (budget_of prices m) }
+    ensures never_empty { (table : Observations) (prices : List ℕ) (m : ℕ)
+        → IsTable table → MeetsGarp (records_of table) (cost_of table) 1 1
+        → length prices ≡ goods_of table → All (λ p. 1 ≤ p) prices
+        → HasSupport (input_of_table table) (budget_of prices m) }
 {}
 
 /// Where the table meets the axiom, each mixture of a bundle on the budget that costs enough with a supporting demand

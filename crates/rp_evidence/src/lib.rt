@@ -28,8 +28,8 @@ pub use afriat_laws::{
 pub use certificate::{Certificate, Item, Kind, withheld};
 pub use demand::{Bound, DemandPart, GoodBounds, Point, WelfarePart};
 pub use demand_laws::{
-    equal_pairs_bound_goods, inner_demands_support, mixtures_support,
-    supporting_demands_cost_enough,
+    equal_pairs_bound_goods, inner_demands_exist, inner_demands_support, mixtures_support,
+    strictly_below_from_strict_starts, supporting_demands_cost_enough,
 };
 pub use efficiency::Efficiency;
 pub use efficiency_laws::{efficiency_index_is_threshold, efficiency_index_is_unique};
@@ -50,4 +50,5 @@ pub use relations::{Preference, Relation};
 pub use value_laws::{bound_products_meet_homothetic_test, bound_steps_meet_quasilinear_test};
 pub use welfare_laws::{
     equal_pairs_bound_welfare, reaching_bundles_are_in_region, welfare_bounds_hold,
+    welfare_evidence_holds_in_every_model, welfare_programs_are_bounded,
 };

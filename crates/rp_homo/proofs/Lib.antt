@@ -1,3 +1,4 @@
+pub mod Unreduced
 pub mod Steps
 pub mod Walks
 pub mod Verdicts

@@ -1,8 +1,8 @@
-ghost use Rattle.std.specs.Prelude.{◌≡◌, ◌<◌, ◌≤◌, ◌*◌, ◌^◌};
-ghost use Rattle.rp_num.specs.Fraction.{IsLowestTerms};
+ghost use Rattle.std.specs.Prelude.{◌≡◌, ◌<◌, ◌≤◌, ◌*◌, ◌^◌, IfSome};
+ghost use Rattle.rp_num.specs.Fraction.{FitsPart, IsLowestTerms};
 ghost use Rattle.rp_table.specs.Cost.{cost_at};
 
-use rp_num::{Frac, Wide};
+use rp_num::{FRACTION_WIDTH, Frac, Wide, cmp_products};
 use rp_table::Costs;
 use rp_walk::Total;
 use std::cmp::Ordering;
@@ -60,6 +60,19 @@ impl Total for Products<'_> {
         a.cmp(b) == Ordering::Less
     }
 
+    /// The product is looked at as it stands before it is reduced: no divisor is sought.
+    fn improves_nothing(&self, v: Frac, t: u32, s: u32, best: Frac) -> bool {
+        let across = self.costs.cost(t, s);
+        let own = self.costs.cost(t, t);
+        let Some(num) = unreduced(v.num(), across) else {
+            return false;
+        };
+        let Some(den) = unreduced(v.den(), own) else {
+            return false;
+        };
+        cmp_products(num, best.den(), best.num(), den) != Ordering::Less
+    }
+
     fn pair_breaks(&self, s: u32, t: u32) -> bool {
         let across = product(self.costs.cost(s, t), self.costs.cost(t, s));
         let own = product(self.costs.cost(s, s), self.costs.cost(t, t));
@@ -74,6 +87,17 @@ impl Total for Products<'_> {
     ghost stays = { λ a. products_stay a.costs.now.n (cost_at a.costs.now) };
 
     ghost fits_alike = { products_fit_alike };
+}
+
+/// A part of a fraction times a cost, where that is within the width.
+fn unreduced(part: u128, cost: u64) -> Option<u128>
+    ensures value { IfSome result (λ p. p ≡ part * cost) }
+    ensures fits { IfSome result FitsPart }
+{
+    match part.checked_mul(u128::from(cost)) {
+        Some(p) if p <= FRACTION_WIDTH => Some(p),
+        _ => None,
+    }
 }
 
 /// The product of two costs.

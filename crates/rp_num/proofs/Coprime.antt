@@ -27,7 +27,7 @@ mod-scaled a b z hb hz =
     ap (λ n. n % (b * z)) (sym parts) ∙ mod-mul-add (a / b) (b * z) (a % b * z) low
 
 -- scaled numbers have the scaled greatest common divisor
-IsGcd-scaled : (n a b g z : ℕ) → b < n → 0 < z → IsGcd a b g → IsGcd (a * z) (b * z) (g * z)
+pub IsGcd-scaled : (n a b g z : ℕ) → b < n → 0 < z → IsGcd a b g → IsGcd (a * z) (b * z) (g * z)
 IsGcd-scaled zero a b g z below hz h = absurd (omega arith)
 IsGcd-scaled (suc n) a zero g z below hz h =
     let e = same_from_IsGcd a 0 g a h (IsGcd-from_zero a 0 refl) in

@@ -5,4 +5,5 @@ pub mod DecimalText
 pub mod FractionText
 pub mod Lowest
 pub mod ReadLemmas
+pub mod Twos
 mod Worked

@@ -1,9 +1,10 @@
-ghost use Rattle.std.specs.Prelude.{◌≡◌, ℕ, ◌*◌, ◌^◌, ◌<◌, ◌≤◌, ◌↔◌, IfOk, OnErr, IsErr};
+ghost use Rattle.std.specs.Prelude.{◌≡◌, ℕ, ◌*◌, ◌/◌, ◌^◌, ◌<◌, ◌≤◌, ◌↔◌, IfOk, OnErr, IsErr};
 ghost use Rattle.rp_num.specs.Fraction.{FitsPart, Fraction, IsLowestTerms, FitsWidth, PassesWidth};
 ghost use Rattle.rp_num.specs.Fraction.{fraction_cmp};
 
 use crate::Wide;
-use crate::euclid::{compare, gcd};
+use crate::divisor::gcd;
+use crate::order::cmp_products;
 use std::cmp::Ordering;
 use std::marker::Model;
 
@@ -74,17 +75,25 @@ impl Frac {
     {
         let down = gcd(self.num, other.den);
         let up = gcd(other.num, self.den);
-        let num = product(self.num / down, other.num / up)?;
-        let den = product(self.den / up, other.den / down)?;
+        let num = product(quotient(self.num, down), quotient(other.num, up))?;
+        let den = product(quotient(self.den, up), quotient(other.den, down))?;
         Ok(Frac { num, den })
     }
 
-    /// The exact order of the two numbers, by Euclid's steps, so that no product is formed.
+    /// The exact order of the two numbers, by their cross products.
     pub fn cmp(self, other: Frac) -> Ordering
         ensures { result ≡ fraction_cmp self other }
     {
-        compare(self.num, self.den, other.num, other.den)
+        cmp_products(self.num, other.den, other.num, self.den)
     }
+}
+
+/// The quotient, with no division where the divisor is 1.
+fn quotient(n: u128, by: u128) -> u128
+    requires { 0 < by }
+    ensures { result ≡ n / by }
+{
+    if by == 1 { n } else { n / by }
 }
 
 /// The product of two parts, within the width.

@@ -2,18 +2,20 @@
 #![tactic(auto)]
 
 mod decimal;
-mod euclid;
+mod divisor;
 mod frac;
 mod laws;
 mod list;
+mod order;
 mod print;
 mod read;
 
 pub use decimal::{Decimal, NumFault, read_decimal};
-pub use euclid::gcd;
+pub use divisor::gcd;
 pub use frac::{FRACTION_WIDTH, Frac};
 pub use laws::{cross_products_decide, lowest_terms_are_unique, lowest_terms_decide_width};
 pub use list::Seq;
+pub use order::cmp_products;
 pub use print::{print_frac, print_i128, print_u128};
 pub use read::{read_frac, read_i128, read_u128};
 use std::alloc::{AllocError, AllocFailed};

@@ -9,10 +9,10 @@ pub record IsLoadedSoFar (told : Option (List ℕ)) (front : List ℕ) (limit ca
   pub calls_rise : (calls_before ≤ calls) ⊎ (last_count ≤ calls)
   pub calls_counted : calls ≤ calls_before + length front
 
--- what each read of a desk keeps, for every name
+-- what each read of a desk that does not fail keeps, for every name
 pub record KeepsNames (bytes_before bytes : List ℕ → Option (List ℕ)) (faults_before faults : List ℕ → ℕ) : Type 0 where
   pub bytes_stay : (name : List ℕ) → bytes name ≡ bytes_before name
-  pub never_falls : (name : List ℕ) → faults_before name ≤ faults name
+  pub faults_stay : (name : List ℕ) → faults name ≡ faults_before name
 
 -- what a pour keeps: the first `at` bytes went out, and each write took at least one of them
 pub record IsPouredSoFar (before now : Option (List ℕ)) (bytes : List ℕ) (at calls_before calls faults_before faults : ℕ) : Type 0 where

@@ -4,6 +4,7 @@ pub mod Files
 pub mod MemoryDesk
 pub mod MemorySink
 pub mod NamedFile
+pub mod Reads
 pub mod SureDesk
 pub mod SystemCounts
 pub mod Told

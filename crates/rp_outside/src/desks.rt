@@ -33,6 +33,8 @@ pub trait Desk {
             (λ bs. (length into.new ≡ 0) ⊎ (length bs ≤ at))) }
         ensures failed_counted { IsErrOf result DeskFault.Failed
             → HasRisen (faults self.old name.now) (faults self.new name.now) }
+        ensures else_stays { IsErrOf result DeskFault.Failed
+            ⊎ ((other : List ℕ) → faults self.new other ≡ faults self.old other) }
 
         // In every outcome, for every name.
         ensures bytes_stay { (other : List ℕ) → bytes self.new other ≡ bytes self.old other }

@@ -79,12 +79,13 @@ impl<R: Files> Desk for FileDesk<'_, R> {
         ensures never_falls { (other : List ℕ) → self.old.faults ≤ self.new.faults }
         ensures failed_counted { IsErrOf result DeskFault.Failed
             → HasRisen self.old.faults self.new.faults }
+        ensures else_stays { IsErrOf result DeskFault.Failed
+            ⊎ ((other : List ℕ) → self.new.faults ≡ self.old.faults) }
         ensures call_counted { self.new.calls ≡ next_count self.old.calls }
 
         // Beyond what every desk does.
         ensures failed_counts { IsErrOf result DeskFault.Failed
             → self.new.faults ≡ next_count self.old.faults }
-        ensures else_stays { IsErrOf result DeskFault.Failed ⊎ (self.new.faults ≡ self.old.faults) }
     {
         self.calls = self.calls.saturating_add(1);
         match read_kept(self.rt, self.alloc, &mut self.kept, name, at, into) {

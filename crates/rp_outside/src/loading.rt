@@ -1,7 +1,8 @@
-ghost use Rattle.std.specs.Prelude.{◌≡◌, ◌+◌, ◌^◌, ◌<◌, ◌≤◌, ℕ, List, IfOk, IsErr, IsErrOf, Ok};
+ghost use Rattle.std.specs.Prelude.{◌≡◌, ◌+◌, ◌^◌, ◌<◌, ◌≤◌, ◌⊎◌, ℕ, List, IfOk, IsErr, IsErrOf, Ok};
 ghost use Rattle.std.specs.Prelude.{length, vec_len};
 ghost use Rattle.std.specs.Option.{ForSome};
 ghost use Rattle.rp_outside.specs.Faults.{HasRisen, next_count};
+ghost use Rattle.rp_outside.specs.Reads.{calls_through};
 ghost use Rattle.rp_outside.specs.Told.{BeginsWith};
 
 use crate::desks::{Desk, DeskFault};
@@ -46,9 +47,15 @@ pub fn load<D: Desk>(
     ensures past_limit { ForSome (D.bytes desk.old name.now)
         (λ bs. limit < length bs → IsErr result) }
 
+    // So a read that failed is told, and told as nothing else.
+    ensures else_stays { IsErrOf result LoadFault.Read
+        ⊎ ((other : List ℕ) → D.faults desk.new other ≡ D.faults desk.old other) }
+
     // How often the desk is asked: no read but the last may come back empty.
     ensures reads { D.calls desk.new ≤ D.calls desk.old + limit + 1 }
     ensures byte_a_read { IfOk result (λ v. D.calls desk.new ≤ D.calls desk.old + vec_len v + 1) }
+    ensures read_through { D.calls desk.new
+        ≤ D.calls desk.old + calls_through limit (D.bytes desk.old name.now) }
     ensures some_read { HasRisen (D.calls desk.old) (D.calls desk.new) }
 
     // In every outcome, for every name.
@@ -89,6 +96,8 @@ fn take_turn<D: Desk>(
         → HasRisen (D.faults desk.old name.now) (D.faults desk.new name.now) }
     ensures too_long_only { IsErrOf result LoadFault.TooLong
         → ForSome (D.bytes desk.old name.now) (λ bs. limit < length bs) }
+    ensures else_stays { IsErrOf result LoadFault.Read
+        ⊎ ((other : List ℕ) → D.faults desk.new other ≡ D.faults desk.old other) }
     ensures bytes_stay { (other : List ℕ) → D.bytes desk.new other ≡ D.bytes desk.old other }
     ensures never_falls { (other : List ℕ) → D.faults desk.old other ≤ D.faults desk.new other }
     ensures call_counted { D.calls desk.new ≡ next_count (D.calls desk.old) }

@@ -1,8 +1,11 @@
 pub mod Adding
+pub mod Apart
 pub mod Apportioning
 pub mod ChosenFacts
 pub mod ChosenLaws
+pub mod Determined
 pub mod Extending
+pub mod FirstChosen
 pub mod MadeOf
 pub mod Multiples
 pub mod PartLaws
@@ -14,4 +17,5 @@ pub mod Shares
 pub mod Sharing
 pub mod Sums
 pub mod Tallied
+pub mod Tallying
 pub mod Tried

@@ -2,6 +2,7 @@ pub mod Added
 pub mod Apportioned
 pub mod Choices
 pub mod Clauses
+pub mod FirstChoices
 pub mod Joined
 pub mod Mixtures
 pub mod Multiples

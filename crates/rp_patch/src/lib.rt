@@ -4,6 +4,7 @@
 mod chosen;
 mod fault;
 mod laws;
+mod limits;
 mod listed;
 pub mod of_choices;
 pub mod part;
@@ -14,7 +15,11 @@ mod tally;
 mod totals;
 
 pub use fault::PatchFault;
-pub use laws::patches_without_units_change_nothing;
+pub use laws::{
+    patches_are_determined, patches_are_numbered_by_first_choice,
+    patches_without_units_change_nothing,
+};
+pub use limits::limits_in_numbers;
 pub use listed::Patches;
 
 /// The most patches of all budgets together.

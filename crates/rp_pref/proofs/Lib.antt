@@ -7,3 +7,4 @@ pub mod Tables
 pub mod Throughs
 pub mod Walking
 pub mod Words
+pub mod WeakClosures

@@ -1,6 +1,8 @@
 -- Which observations reach which (the transitive closure of revealed preference, Varian 1982).
 use Rattle.std.specs.Prelude.{◌≡◌, ◌<◌, ◌↔◌, ◌==◌, ◌||◌, ℕ, Bool, false, List, [], IsTrue, map, slice_index_or}
 use Rattle.std.specs.List.{range_with_len}
+use Rattle.rp_evidence.specs.Input.{TableInput}
+use Rattle.rp_evidence.specs.Preference.{IsWeak}
 use Rattle.rp_evidence.specs.Walk.{Reaches}
 
 -- For n observations a row of n truth values for each.
@@ -24,3 +26,7 @@ counts_in reached s t = (t == s) || reaches_in reached s t
 pub record IsClosureOf (reached : Reached) (n : ℕ) (step : ℕ → ℕ → Type 0) : Type 0 where
   pub size : reached.n ≡ n
   pub exact : (s t : ℕ) → s < n → t < n → IsTrue (reaches_in reached s t) ↔ Reaches n step s t
+
+-- The closure is that of the weak steps of a table: its pairs are those that reach.
+abbrev pub IsWeakClosureOf : Reached → TableInput → Type 0
+IsWeakClosureOf reached input = IsClosureOf reached input.n (IsWeak input.cost 1 1)

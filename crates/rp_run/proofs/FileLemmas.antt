@@ -5,7 +5,7 @@ use Rattle.std.proofs.lemmas.List.{length-replicate}
 use Rattle.std.specs.Option.{ForSome}
 use Rattle.std.specs.Prelude.{unwrap_or}
 use Rattle.rp_evidence.specs.declared.certificate.Kind.{Kind}
-use Rattle.rp_run.specs.CommandLine.{Line, files_of}
+use Rattle.rp_words.specs.CommandLine.{Line, files_of}
 use Rattle.rp_run.specs.Answers.{Files, IsContent, AreContents, HasInput}
 use Rattle.rp_run.specs.Inputs.{Denotes, Input}
 use Rattle.rp_run.specs.Readings.{AndThen, CertificateIn, Just, Numbers, Reading, all_bytes, most_bytes, most_certificate_bytes}
@@ -52,13 +52,13 @@ pub one_input : {A : Type 0} (files : Files) (line : Line) (file : List ℕ) (re
 one_input files line file reading over value named denoted (bytes, content, read) =
     ((λ _. bytes), one_content files line file bytes named content, denoted (λ _. bytes) (Ok (over value)) (value, read, refl))
 
-pub one_cause : {A : Type 0} (files : Files) (rose : List ℕ → Type 0) (line : Line) (file : List ℕ) (reading : List ℕ → Reading A) (over : A → Input) (why : Cause)
+pub one_cause : {A : Type 0} (files : Files) (rose : List ℕ → Type 0) (asks : Line → ℕ → Type 0) (line : Line) (file : List ℕ) (reading : List ℕ → Reading A) (over : A → Input) (why : Cause)
     → files_of line ≡ file ∷ [] → ((bytes : ℕ → List ℕ) (r : Result Input (List ℕ)) → AndThen (reading (bytes 0)) (λ v. Just (Ok (over v))) r → Denotes line bytes r)
-    → IsFileCause files rose file reading why → IsCause files rose line why
-one_cause files rose line file reading over (Read name) named denoted (same, up) = rw (named, same) ((0, lit< tt, refl), up)
-one_cause files rose line file reading over (Refused text) named denoted (bytes, content, refused) =
+    → asks line 1 → IsFileCause files rose file reading why → IsCause files rose asks line why
+one_cause files rose asks line file reading over (Read name) named denoted once (same, up) = rw (named, same) (0, lit< tt, refl, up, once)
+one_cause files rose asks line file reading over (Refused text) named denoted once (bytes, content, refused) =
     ((λ _. bytes), one_content files line file bytes named content, denoted (λ _. bytes) (Err text.items) (inl refused))
-one_cause files rose line file reading over NoMemory named denoted none = tt
+one_cause files rose asks line file reading over NoMemory named denoted once none = tt
 
 -- the contents of two files
 pub two_bytes : List ℕ → List ℕ → ℕ → List ℕ
@@ -91,7 +91,7 @@ pub moved_value : {A : Type 0} (files later : Files) (file : List ℕ) (reading 
     → later file ≡ files file → HoldsValue later file reading value → HoldsValue files file reading value
 moved_value files later file reading value same (bytes, content, read) = (bytes, (λ told is. content told (same ∙ is)), read)
 
-module _ {A B : Type 0} (files : Files) (rose : List ℕ → Type 0) (line : Line) (f s : List ℕ) (reading : List ℕ → Reading A) (after : A → List ℕ → Reading B) (last : A → B → Reading Input)
+module _ {A B : Type 0} (files : Files) (rose : List ℕ → Type 0) (asks : Line → ℕ → Type 0) (line : Line) (f s : List ℕ) (reading : List ℕ → Reading A) (after : A → List ℕ → Reading B) (last : A → B → Reading Input)
     (named : files_of line ≡ f ∷ s ∷ [])
     (denoted : (bytes : ℕ → List ℕ) (r : Result Input (List ℕ)) → AndThen (reading (bytes 0)) (λ a. AndThen (after a (bytes 1)) (last a)) r → Denotes line bytes r) where
   -- a line over two files has the input that they give
@@ -101,24 +101,24 @@ module _ {A B : Type 0} (files : Files) (rose : List ℕ → Type 0) (line : Lin
       (two_bytes first second, two_contents files line f s first second named one two, denoted (two_bytes first second) (Ok input) (a, read, (b, then_read, made)))
 
   -- or the cause why the first gives none, whatever the second holds
-  pub first_cause : (why : Cause) → IsFileCause files rose f reading why → IsCause files rose line why
+  pub first_cause : (why : Cause) → asks line 1 → IsFileCause files rose f reading why → IsCause files rose asks line why
   unfolding two_bytes
-  first_cause (Read name) (same, up) = rw (named, same) ((0, lit< tt, refl), up)
-  first_cause (Refused text) (first, one, refused) =
+  first_cause (Read name) once (same, up) = rw (named, same) (0, lit< tt, refl, up, once)
+  first_cause (Refused text) once (first, one, refused) =
       let second = unwrap_or (files s) [] in
       (two_bytes first second, two_contents files line f s first second named one (some_content (files s)), denoted (two_bytes first second) (Err text.items) (inl refused))
-  first_cause NoMemory none = tt
+  first_cause NoMemory once none = tt
 
   -- or the cause why the second gives none
-  pub second_cause : (a : A) (why : Cause) → HoldsValue files f reading a → IsFileCause files rose s (after a) why → IsCause files rose line why
+  pub second_cause : (a : A) (why : Cause) → asks line 2 → HoldsValue files f reading a → IsFileCause files rose s (after a) why → IsCause files rose asks line why
   unfolding two_bytes
-  second_cause a (Read name) held (same, up) = rw (named, same) ((1, lit< tt, refl), up)
-  second_cause a (Refused text) (first, one, read) (second, two, refused) =
+  second_cause a (Read name) once held (same, up) = rw (named, same) (1, lit< tt, refl, up, once)
+  second_cause a (Refused text) once (first, one, read) (second, two, refused) =
       (two_bytes first second, two_contents files line f s first second named one two, denoted (two_bytes first second) (Err text.items) (inr (a, read, inl refused)))
-  second_cause a NoMemory held none = tt
+  second_cause a NoMemory once held none = tt
 
   -- or the cause why nothing is made of what they give
-  pub last_cause : (a : A) (b : B) (why : Cause) → HoldsValue files f reading a → HoldsValue files s (after a) b → IsReadingCause (last a b) why → IsCause files rose line why
+  pub last_cause : (a : A) (b : B) (why : Cause) → HoldsValue files f reading a → HoldsValue files s (after a) b → IsReadingCause (last a b) why → IsCause files rose asks line why
   unfolding two_bytes
   last_cause a b (Read name) held also none = absurd none
   last_cause a b (Refused text) (first, one, read) (second, two, then_read) refused =
@@ -144,7 +144,7 @@ three_contents : (files : Files) (line : Line) (f s t first second third : List 
 three_contents files line f s t first second third named one two three =
     subst (λ (names : List (List ℕ)). (k : ℕ) → k < length names → IsContent files (slice_index_or names k []) (three_bytes first second third k)) (sym named) (three_of files f s t first second third one two three)
 
-module _ {A B C : Type 0} (files : Files) (rose : List ℕ → Type 0) (line : Line) (f s t : List ℕ) (reading : List ℕ → Reading A) (after : A → List ℕ → Reading B) (third : List ℕ → Reading C)
+module _ {A B C : Type 0} (files : Files) (rose : List ℕ → Type 0) (asks : Line → ℕ → Type 0) (line : Line) (f s t : List ℕ) (reading : List ℕ → Reading A) (after : A → List ℕ → Reading B) (third : List ℕ → Reading C)
     (last : A → B → C → Reading Input) (named : files_of line ≡ f ∷ s ∷ t ∷ [])
     (denoted : (bytes : ℕ → List ℕ) (r : Result Input (List ℕ)) → AndThen (reading (bytes 0)) (λ a. AndThen (after a (bytes 1)) (λ b. AndThen (third (bytes 2)) (last a b))) r → Denotes line bytes r) where
   -- a line over three files has the input that they give
@@ -154,31 +154,31 @@ module _ {A B C : Type 0} (files : Files) (rose : List ℕ → Type 0) (line : L
       (three_bytes x y z, three_contents files line f s t x y z named one two three, denoted (three_bytes x y z) (Ok input) (a, read, (b, then_read, (c, last_read, made))))
 
   -- or the cause why the first gives none, and so the others
-  pub three_first : (why : Cause) → IsFileCause files rose f reading why → IsCause files rose line why
+  pub three_first : (why : Cause) → asks line 1 → IsFileCause files rose f reading why → IsCause files rose asks line why
   unfolding three_bytes
-  three_first (Read name) (same, up) = rw (named, same) ((0, lit< tt, refl), up)
-  three_first (Refused text) (x, one, refused) =
+  three_first (Read name) once (same, up) = rw (named, same) (0, lit< tt, refl, up, once)
+  three_first (Refused text) once (x, one, refused) =
       let y = unwrap_or (files s) [] in
       let z = unwrap_or (files t) [] in
       (three_bytes x y z, three_contents files line f s t x y z named one (some_content (files s)) (some_content (files t)), denoted (three_bytes x y z) (Err text.items) (inl refused))
-  three_first NoMemory none = tt
+  three_first NoMemory once none = tt
 
-  pub three_second : (a : A) (why : Cause) → HoldsValue files f reading a → IsFileCause files rose s (after a) why → IsCause files rose line why
+  pub three_second : (a : A) (why : Cause) → asks line 2 → HoldsValue files f reading a → IsFileCause files rose s (after a) why → IsCause files rose asks line why
   unfolding three_bytes
-  three_second a (Read name) held (same, up) = rw (named, same) ((1, lit< tt, refl), up)
-  three_second a (Refused text) (x, one, read) (y, two, refused) =
+  three_second a (Read name) once held (same, up) = rw (named, same) (1, lit< tt, refl, up, once)
+  three_second a (Refused text) once (x, one, read) (y, two, refused) =
       let z = unwrap_or (files t) [] in
       (three_bytes x y z, three_contents files line f s t x y z named one two (some_content (files t)), denoted (three_bytes x y z) (Err text.items) (inr (a, read, inl refused)))
-  three_second a NoMemory held none = tt
+  three_second a NoMemory once held none = tt
 
-  pub three_third : (a : A) (b : B) (why : Cause) → HoldsValue files f reading a → HoldsValue files s (after a) b → IsFileCause files rose t third why → IsCause files rose line why
+  pub three_third : (a : A) (b : B) (why : Cause) → asks line 3 → HoldsValue files f reading a → HoldsValue files s (after a) b → IsFileCause files rose t third why → IsCause files rose asks line why
   unfolding three_bytes
-  three_third a b (Read name) held also (same, up) = rw (named, same) ((2, lit< tt, refl), up)
-  three_third a b (Refused text) (x, one, read) (y, two, then_read) (z, three, refused) =
+  three_third a b (Read name) once held also (same, up) = rw (named, same) (2, lit< tt, refl, up, once)
+  three_third a b (Refused text) once (x, one, read) (y, two, then_read) (z, three, refused) =
       (three_bytes x y z, three_contents files line f s t x y z named one two three, denoted (three_bytes x y z) (Err text.items) (inr (a, read, inr (b, then_read, inl refused))))
-  three_third a b NoMemory held also none = tt
+  three_third a b NoMemory once held also none = tt
 
-  pub three_last : (a : A) (b : B) (c : C) (why : Cause) → HoldsValue files f reading a → HoldsValue files s (after a) b → HoldsValue files t third c → IsReadingCause (last a b c) why → IsCause files rose line why
+  pub three_last : (a : A) (b : B) (c : C) (why : Cause) → HoldsValue files f reading a → HoldsValue files s (after a) b → HoldsValue files t third c → IsReadingCause (last a b c) why → IsCause files rose asks line why
   unfolding three_bytes
   three_last a b c (Read name) held also too none = absurd none
   three_last a b c (Refused text) (x, one, read) (y, two, then_read) (z, three, last_read) refused =

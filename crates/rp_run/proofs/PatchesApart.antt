@@ -21,7 +21,7 @@ use Rattle.rp_run.proofs.Pigeons.{no_longer}
 -- ---- patches
 
 -- more budgets have more patches
-chosen_within : (input : RandomInput) (j n : ℕ) → j ≤ n → length (chosen_below input j) ≤ length (chosen_below input n)
+pub chosen_within : (input : RandomInput) (j n : ℕ) → j ≤ n → length (chosen_below input j) ≤ length (chosen_below input n)
 chosen_within input j zero le =
     let none : j ≡ 0 = omega (arith, le) in
     subst (λ m. length (chosen_below input m) ≤ length (chosen_below input 0)) (sym none) (omega arith)

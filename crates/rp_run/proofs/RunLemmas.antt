@@ -1,34 +1,49 @@
 -- What a cause tells of what was asked, when there is none, and that no line is both answered and refused.
-use Rattle.std.proofs.Common.{◌≡◌, ◌⊎◌, inl, inr, List, ℕ, Option, Some, Ok, Err, sym, subst, refl}
+use Rattle.std.proofs.Common.{◌≡◌, ◌⊎◌, ◌<◌, inl, inr, List, [], length, ℕ, Option, Some, Ok, Err, sym, subst, ap, refl}
 use Rattle.std.specs.List.{Contains}
-use Rattle.rp_run.specs.CommandLine.{Line, files_of}
+use Rattle.std.proofs.lemmas.List.Elements.{Contains-get_or}
+use Rattle.rp_words.specs.CommandLine.{Line, file_at, files_of}
+use Rattle.rp_run.specs.FaultLines.{read_line}
 use Rattle.rp_run.specs.Inputs.{Input, PairsOver, AnalyseOver, CertifyOver, CheckOver, DemandOver, WelfareOver, UtilityOver, RandomOver, CheckRandomOver, TrialOver}
-use Rattle.rp_run.proofs.OneOrOther.{denotes_apart}
-use Rattle.rp_accepted.proofs.Excluding.{only_accepted}
+use Rattle.rp_patch.proofs.Determined.{same_list}
+use Rattle.rp_types.proofs.Determined.{types_once}
+use Rattle.rp_run.proofs.OneAnswer.{denotes_one}
+use Rattle.rp_run.specs.Inputs.{Denotes}
+use Rattle.rp_agreement.proofs.Excluding.{only_accepted}
 use Rattle.rp_check.specs.CheckVerdict.{IsVerdictOn}
 use Rattle.rp_check.specs.RandomVerdict.{IsRandomVerdictOn}
-use Rattle.rp_accepted.proofs.ExcludingRandom.{only_accepted_on_patches}
-use Rattle.rp_run.specs.RandomInputs.{TypedPatches}
+use Rattle.rp_agreement.proofs.ExcludingRandom.{only_accepted_on_patches}
+use Rattle.rp_answers.specs.Typed.{TypedPatches}
 use Rattle.rp_check.specs.declared.verdict.Verdict.{Verdict}
 use Rattle.rp_check.specs.declared.verdict.Verdict.TheVariants.{Accepted, Rejected}
 use Rattle.rp_evidence.specs.Input.{input_of_table}
 use Rattle.rp_evidence.specs.declared.certificate.Certificate.{Certificate}
 use Rattle.rp_table.specs.Tables.{Observations}
 use Rattle.rp_run.specs.Answers.{Files, Answers, AnswersLine, IsAccepted, IsAcceptedOver, IsRefused, IsRejectedOver, MayBe, MustBe}
-use Rattle.rp_run.specs.Checked.{IsRandomCheck, IsTableCheck, verdict_status}
+use Rattle.rp_answers.specs.Checked.{IsRandomCheck, IsTableCheck, verdict_status}
 use Rattle.rp_run.specs.Endings.{IsEnd, IsFaultLine, Rose, NoneRose}
 use Rattle.rp_run.specs.Causes.{status_of_cause, cause_line, IsCause}
-use Rattle.rp_run.specs.declared.status.Status.{Status}
-use Rattle.rp_run.specs.declared.status.Status.TheVariants as status
+use Rattle.rp_answers.specs.declared.status.Status.{Status}
+use Rattle.rp_answers.specs.declared.status.Status.TheVariants as status
 use Rattle.rp_run.specs.declared.files.Cause.{Cause}
 use Rattle.rp_run.specs.declared.files.Cause.TheVariants.{Read, Refused, NoMemory}
 
 -- the line of a cause that holds is the fault line of its status
-pub cause_told : (files : Files) (rose : List ℕ → Type 0) (asked : Option Line) (line : Line) (why : Cause) → asked ≡ Some line
-    → IsCause files rose line why → IsFaultLine files rose asked (status_of_cause why) (cause_line why)
-cause_told files rose asked line (Read file) is (its, up) = (line, file.now, is, its, up, refl)
-cause_told files rose asked line (Refused text) is refused = (line, is, refused)
-cause_told files rose asked line NoMemory is none = refl
+pub cause_told : (files : Files) (rose : List ℕ → Type 0) (asks : Line → ℕ → Type 0) (asked : Option Line) (line : Line) (why : Cause) → asked ≡ Some line
+    → IsCause files rose asks line why → IsFaultLine files rose asks asked (status_of_cause why) (cause_line why)
+cause_told files rose asks asked line (Read file) is (k, within, its, up, once) = (line, k, is, within, subst rose its up, ap read_line its, once)
+cause_told files rose asks asked line (Refused text) is refused = (line, is, refused)
+cause_told files rose asks asked line NoMemory is none = refl
+
+-- a file of a line is among its files
+its_file : (line : Line) (k : ℕ) → k < length (files_of line) → Contains (files_of line) (file_at line k)
+its_file line k within = Contains-get_or (files_of line) k [] within
+
+-- no content of a line's files is both taken and refused
+denotes_apart : (line : Line) (bytes : ℕ → List ℕ) (input : Input) (text : List ℕ) → Denotes line bytes (Ok input) → Denotes line bytes (Err text) → ⊥
+denotes_apart line bytes input text taken refused =
+    let wrong : Ok input ≡ Err text = denotes_one same_list types_once line bytes (Ok input) (Err text) taken refused in
+    cc
 
 -- a line that is answered is not refused
 pub not_both : (files : Files) (asked : Option Line) (line other : Line) (s : Status) (text : List ℕ) → asked ≡ Some line → asked ≡ Some other
@@ -40,25 +55,25 @@ not_both files asked line other s text is also answers refused =
     denotes_apart line had.0 answers.0 err.0 had.2 err.1
 
 -- a cause of a line that nothing refuses, while no count of its files rose, is want of memory
-pub cause_of_accepted : (files : Files) (before after : List ℕ → ℕ) (asked : Option Line) (line other : Line) (why : Cause) → asked ≡ Some line → asked ≡ Some other
-    → IsAccepted files other → NoneRose other before after → IsCause files (Rose before after) line why → status_of_cause why ≡ status.NoMemory
-cause_of_accepted files before after asked line other (Read file) is also accepted calm (its, up) =
+pub cause_of_accepted : (files : Files) (before after : List ℕ → ℕ) (asks : Line → ℕ → Type 0) (asked : Option Line) (line other : Line) (why : Cause) → asked ≡ Some line → asked ≡ Some other
+    → IsAccepted files other → NoneRose other before after → IsCause files (Rose before after) asks line why → status_of_cause why ≡ status.NoMemory
+cause_of_accepted files before after asks asked line other (Read file) is also accepted calm (k, within, its, up, once) =
     let same : line ≡ other = cc in
-    absurd (calm file.now (subst (λ (l : Line). Contains (files_of l) file.now) same its) up)
-cause_of_accepted files before after asked line other (Refused text) is also accepted calm (bytes, contents, refused) =
+    absurd (calm file.now (subst (λ (l : Line). Contains (files_of l) file.now) same (subst (Contains (files_of line)) (sym its) (its_file line k within))) up)
+cause_of_accepted files before after asks asked line other (Refused text) is also accepted calm (bytes, contents, refused) =
     let same : line ≡ other = cc in
     let ok = subst (λ (l : Line). IsAccepted files l) (sym same) accepted bytes contents in
     absurd (denotes_apart line bytes ok.0 text.items ok.1 refused)
-cause_of_accepted files before after asked line other NoMemory is also accepted calm none = refl
+cause_of_accepted files before after asks asked line other NoMemory is also accepted calm none = refl
 
 -- a cause while no count of the line's files rose is a refusal or want of memory
-pub cause_of_calm : (files : Files) (before after : List ℕ → ℕ) (asked : Option Line) (line other : Line) (why : Cause) → asked ≡ Some line → asked ≡ Some other
-    → NoneRose other before after → IsCause files (Rose before after) line why → (status_of_cause why ≡ status.Refused) ⊎ (status_of_cause why ≡ status.NoMemory)
-cause_of_calm files before after asked line other (Read file) is also calm (its, up) =
+pub cause_of_calm : (files : Files) (before after : List ℕ → ℕ) (asks : Line → ℕ → Type 0) (asked : Option Line) (line other : Line) (why : Cause) → asked ≡ Some line → asked ≡ Some other
+    → NoneRose other before after → IsCause files (Rose before after) asks line why → (status_of_cause why ≡ status.Refused) ⊎ (status_of_cause why ≡ status.NoMemory)
+cause_of_calm files before after asks asked line other (Read file) is also calm (k, within, its, up, once) =
     let same : line ≡ other = cc in
-    absurd (calm file.now (subst (λ (l : Line). Contains (files_of l) file.now) same its) up)
-cause_of_calm files before after asked line other (Refused text) is also calm refused = inl refl
-cause_of_calm files before after asked line other NoMemory is also calm none = inr refl
+    absurd (calm file.now (subst (λ (l : Line). Contains (files_of l) file.now) same (subst (Contains (files_of line)) (sym its) (its_file line k within))) up)
+cause_of_calm files before after asks asked line other (Refused text) is also calm refused = inl refl
+cause_of_calm files before after asks asked line other NoMemory is also calm none = inr refl
 
 -- ---- the checker's verdict
 

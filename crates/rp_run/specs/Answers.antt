@@ -8,18 +8,18 @@ use Rattle.rp_check.specs.RandomVerdict.{IsRandomVerdictOn}
 use Rattle.rp_check.specs.declared.verdict.Verdict.TheVariants.{Accepted, Rejected}
 use Rattle.rp_evidence.specs.Input.{input_of_table}
 use Rattle.rp_evidence.specs.declared.failure.Reason.{Reason}
-use Rattle.rp_run.specs.PairsText.{IsPairsText}
-use Rattle.rp_run.specs.Analysis.{IsAnalysisText}
-use Rattle.rp_run.specs.Checked.{IsRandomCheck, IsTableCheck}
-use Rattle.rp_run.specs.Randoms.{IsRandomText}
-use Rattle.rp_run.specs.Demands.{IsDemandText}
-use Rattle.rp_run.specs.Welfares.{IsWelfareText}
-use Rattle.rp_run.specs.UtilityText.{IsUtilityText}
-use Rattle.rp_run.specs.TrialText.{IsTrialText}
-use Rattle.rp_run.specs.CommandLine.{Line, files_of, file_at}
+use Rattle.rp_answers.specs.PairsText.{IsPairsText}
+use Rattle.rp_answers.specs.Analysis.{IsAnalysisText}
+use Rattle.rp_answers.specs.Checked.{IsRandomCheck, IsTableCheck}
+use Rattle.rp_answers.specs.Randoms.{IsRandomText}
+use Rattle.rp_answers.specs.Demands.{IsDemandText}
+use Rattle.rp_answers.specs.Welfares.{IsWelfareText}
+use Rattle.rp_answers.specs.UtilityText.{IsUtilityText}
+use Rattle.rp_answers.specs.TrialText.{IsTrialText}
+use Rattle.rp_words.specs.CommandLine.{Line, files_of, file_at}
 use Rattle.rp_run.specs.Inputs.{Input, PairsOver, AnalyseOver, CertifyOver, CheckOver, DemandOver, WelfareOver, UtilityOver, RandomOver, CheckRandomOver, TrialOver, Denotes}
-use Rattle.rp_run.specs.declared.status.Status.{Status}
-use Rattle.rp_run.specs.declared.status.Status.TheVariants as status
+use Rattle.rp_answers.specs.declared.status.Status.{Status}
+use Rattle.rp_answers.specs.declared.status.Status.TheVariants as status
 
 -- the bytes of each file, told or not
 abbrev pub Files : Type 0

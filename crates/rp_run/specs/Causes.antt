@@ -1,11 +1,11 @@
 -- Why there is no answer, as the code says it: what each cause stands for, its status and its line.
-use Rattle.std.specs.Prelude.{◌≡◌, ◌≢◌, ℕ, List, Result, Ok, Err, Contains, MatchResult}
+use Rattle.std.specs.Prelude.{◌≡◌, ◌≢◌, ◌<◌, ℕ, suc, List, Result, Ok, Err, MatchResult, length}
 use Rattle.rp_text.specs.declared.fault.TableFault.{TableFault}
 use Rattle.rp_text.specs.declared.fault.TableFault.TheVariants as fault
 use Rattle.rp_json.specs.declared.fault.JsonFault.{JsonFault}
 use Rattle.rp_json.specs.declared.fault.JsonFault.TheVariants as json_fault
 use Rattle.rp_run.specs.FaultTexts.{fault_text, json_fault_text}
-use Rattle.rp_run.specs.CommandLine.{Line, files_of}
+use Rattle.rp_words.specs.CommandLine.{Line, file_at, files_of}
 use Rattle.rp_run.specs.Readings.{Reading}
 use Rattle.rp_run.specs.Answers.{Files, IsContent, RefusesWith}
 use Rattle.rp_patch.specs.declared.fault.PatchFault.{PatchFault}
@@ -15,8 +15,8 @@ use Rattle.rp_types.specs.declared.fault.TypesFault.TheVariants as types_fault
 use Rattle.rp_run.specs.FaultLines.{file_line, read_line, memory_line, patch_line, types_line}
 use Rattle.rp_run.specs.declared.files.Cause.{Cause}
 use Rattle.rp_run.specs.declared.files.Cause.TheVariants.{Read, Refused, NoMemory}
-use Rattle.rp_run.specs.declared.status.Status.{Status}
-use Rattle.rp_run.specs.declared.status.Status.TheVariants as status
+use Rattle.rp_answers.specs.declared.status.Status.{Status}
+use Rattle.rp_answers.specs.declared.status.Status.TheVariants as status
 
 abbrev pub status_of_cause : Cause → Status
 status_of_cause (Read file) = status.ReadFault
@@ -78,8 +78,10 @@ abbrev pub IsLoaded : {A : Type 0} → Files → (List ℕ → Type 0) → List 
 IsLoaded files rose file reading result =
     MatchResult result (HoldsValue files file reading) (IsFileCause files rose file reading)
 
--- why a line has no input: a count of one of its files rose, or some content of them is refused
-abbrev pub IsCause : Files → (List ℕ → Type 0) → Line → Cause → Type 0
-IsCause files rose line (Read file) = Contains (files_of line) file.now × rose file.now
-IsCause files rose line (Refused text) = RefusesWith files line text.items
-IsCause files rose line NoMemory = Unit {0}
+-- why a line has no input: the count of its k-th file (from 0) rose, and none was asked for after it; or some content of them
+-- is refused. `asks line n` says that the desk was asked for no more than the first n files
+abbrev pub IsCause : Files → (List ℕ → Type 0) → (Line → ℕ → Type 0) → Line → Cause → Type 0
+IsCause files rose asks line (Read file) =
+    (k : ℕ) × (k < length (files_of line)) × (file.now ≡ file_at line k) × rose file.now × asks line (suc k)
+IsCause files rose asks line (Refused text) = RefusesWith files line text.items
+IsCause files rose asks line NoMemory = Unit {0}

@@ -1,12 +1,13 @@
 -- How a call of the program ends: the statuses with an answer, those that leave the output as it was, and the line
 -- on standard error with its cause.
-use Rattle.std.specs.Prelude.{◌≡◌, ℕ, List, Option, Some, Contains}
+use Rattle.std.specs.Prelude.{◌≡◌, ◌<◌, ℕ, suc, List, Option, Some, Contains, length}
 use Rattle.rp_outside.specs.Faults.{HasRisen}
-use Rattle.rp_run.specs.CommandLine.{Line, files_of}
+use Rattle.rp_words.specs.CommandLine.{Line, file_at, files_of}
 use Rattle.rp_run.specs.Answers.{Files, RefusesWith}
-use Rattle.rp_run.specs.FaultLines.{usage_text, read_line, write_line, memory_line}
-use Rattle.rp_run.specs.declared.status.Status.{Status}
-use Rattle.rp_run.specs.declared.status.Status.TheVariants.{Done, Rejected, Usage, ReadFault, Refused, WriteFault, NoMemory}
+use Rattle.rp_words.specs.Usage.{usage_text}
+use Rattle.rp_run.specs.FaultLines.{read_line, write_line, memory_line}
+use Rattle.rp_answers.specs.declared.status.Status.{Status}
+use Rattle.rp_answers.specs.declared.status.Status.TheVariants.{Done, Rejected, Usage, ReadFault, Refused, WriteFault, NoMemory}
 
 -- the count of faults of a file has risen, from the counts before to those after
 abbrev pub Rose : (List ℕ → ℕ) → (List ℕ → ℕ) → List ℕ → Type 0
@@ -37,14 +38,14 @@ IsSilent WriteFault = ⊥
 IsSilent NoMemory = Unit {0}
 
 -- the text is the line of a status that is no end, and its cause holds; `rose file` says that the count of faults of
--- a file has risen
-abbrev pub IsFaultLine : Files → (List ℕ → Type 0) → Option Line → Status → List ℕ → Type 0
-IsFaultLine files rose asked Done text = ⊥
-IsFaultLine files rose asked Rejected text = ⊥
-IsFaultLine files rose asked Usage text = text ≡ usage_text
-IsFaultLine files rose asked ReadFault text =
-    (line : Line) × (file : List ℕ)
-    × (asked ≡ Some line) × Contains (files_of line) file × rose file × (text ≡ read_line file)
-IsFaultLine files rose asked Refused text = (line : Line) × (asked ≡ Some line) × RefusesWith files line text
-IsFaultLine files rose asked WriteFault text = text ≡ write_line
-IsFaultLine files rose asked NoMemory text = text ≡ memory_line
+-- a file has risen, and `asks line n` that the desk was asked for no more than the first n files of a line
+abbrev pub IsFaultLine : Files → (List ℕ → Type 0) → (Line → ℕ → Type 0) → Option Line → Status → List ℕ → Type 0
+IsFaultLine files rose asks asked Done text = ⊥
+IsFaultLine files rose asks asked Rejected text = ⊥
+IsFaultLine files rose asks asked Usage text = text ≡ usage_text
+IsFaultLine files rose asks asked ReadFault text =
+    (line : Line) × (k : ℕ) × (asked ≡ Some line) × (k < length (files_of line))
+    × rose (file_at line k) × (text ≡ read_line (file_at line k)) × asks line (suc k)
+IsFaultLine files rose asks asked Refused text = (line : Line) × (asked ≡ Some line) × RefusesWith files line text
+IsFaultLine files rose asks asked WriteFault text = text ≡ write_line
+IsFaultLine files rose asks asked NoMemory text = text ≡ memory_line

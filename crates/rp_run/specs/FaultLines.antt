@@ -6,14 +6,6 @@ use Rattle.rp_patch.specs.declared.fault.PatchFault.TheVariants.{TooManyPatches,
 use Rattle.rp_types.specs.declared.fault.TypesFault.{TypesFault}
 use Rattle.rp_types.specs.declared.fault.TypesFault.TheVariants.{TooManyCombinations, TooManyTypes, NoMemory as NoTypesMemory}
 
--- how the program is called
-abbrev pub usage_text : List ℕ
-usage_text =
-    codes "usage: rp pairs TABLE" ++ 10 ∷ codes "       rp analyse TABLE" ++ 10 ∷ codes "       rp certify TABLE" ++ 10 ∷ codes "       rp check TABLE CERT" ++ 10 ∷
-    codes "       rp demand TABLE NEW [--json]" ++ 10 ∷ codes "       rp welfare TABLE NEW [--json]" ++ 10 ∷ codes "       rp utility TABLE BUNDLES" ++ 10 ∷
-    codes "       rp random BUDGETS CHOICES [--per N] [--json]" ++ 10 ∷ codes "       rp checkrandom BUDGETS CHOICES CERT [--per N]" ++ 10 ∷
-    codes "       rp trial SEED ROWS GOODS" ++ 10 ∷ []
-
 -- what is wrong with a file
 abbrev pub file_line : List ℕ → List ℕ → List ℕ
 file_line file fault = codes "rp: " ++ file ++ codes ": " ++ fault ++ 10 ∷ []

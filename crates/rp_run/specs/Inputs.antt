@@ -7,8 +7,9 @@ use Rattle.rp_table.specs.PriceLists.{PriceList}
 use Rattle.rp_text.specs.Denotation.{bundles_beside, prices_beside}
 use Rattle.rp_evidence.specs.declared.certificate.Certificate.{Certificate}
 use Rattle.rp_evidence.specs.declared.certificate.Kind.TheVariants.{Table as TableKind, Random as RandomKind}
-use Rattle.rp_run.specs.CommandLine.{Line, Pairs, Analyse, Certify, Check, Demand, Welfare, Utility, Random, CheckRandom, Trial}
-use Rattle.rp_run.specs.RandomInputs.{BudgetsIn, ChoicesIn, TypedPatches, TypedPatchesOf}
+use Rattle.rp_words.specs.CommandLine.{Line, Pairs, Analyse, Certify, Check, Demand, Welfare, Utility, Random, CheckRandom, Trial}
+use Rattle.rp_run.specs.RandomInputs.{BudgetsIn, ChoicesIn, TypedPatchesOf}
+use Rattle.rp_answers.specs.Typed.{TypedPatches}
 use Rattle.rp_run.specs.Readings.{AndThen, CertificateIn, Just, Numbers, Reading, TableIn}
 
 -- a command over what its files hold

@@ -14,6 +14,7 @@ use Rattle.rp_types.specs.Listed.{SaysWhy as SaysWhyNoTypes}
 use Rattle.rp_types.specs.declared.TheConstants.{COMBINATIONS, TYPES}
 use Rattle.rp_types.specs.declared.fault.TypesFault.{TypesFault}
 use Rattle.rp_types.specs.declared.fault.TypesFault.TheVariants as types_fault
+use Rattle.rp_answers.specs.Typed.{TypedPatches}
 use Rattle.rp_run.specs.FaultLines.{patch_line, types_line}
 use Rattle.rp_run.specs.Readings.{AndThen, Just, Numbers, Reading}
 
@@ -23,11 +24,6 @@ BudgetsIn budgets bytes = Numbers budgets budgets_in (bytes 0)
 
 abbrev pub ChoicesIn : List ℕ → BudgetList → (ℕ → List ℕ) → Reading ChoiceList
 ChoicesIn choices budgets bytes = Numbers choices (choices_on budgets) (bytes 1)
-
--- patches with all their rational types
-pub record TypedPatches : Type 0 where
-  pub patches : PatchList
-  pub types : List (List ℕ)
 
 -- the patches of choices, with their units
 abbrev pub PatchesOf : RandomInput → Option ℕ → Reading PatchList

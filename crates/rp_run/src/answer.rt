@@ -1,32 +1,24 @@
 ghost use Rattle.std.specs.Prelude.{◌≡◌, ◌≤◌, ℕ, List, IfOk, IfErr};
 ghost use Rattle.rp_run.specs.Answers.{Answers, AnswersLine};
 ghost use Rattle.rp_run.specs.Endings.{Rose};
+ghost use Rattle.rp_run.specs.Turns.{AreReadInTurn, AsksForFirst};
 ghost use Rattle.rp_run.specs.Causes.{IsCause};
-ghost use Rattle.rp_run.specs.Matching.{HasMatchingGoods, IsSized};
-ghost use Rattle.rp_run.specs.Named.{named_line, named_input};
+ghost use Rattle.rp_run.specs.Matching.{HasMatchingGoods};
+ghost use Rattle.rp_run.specs.Named.{named_input};
+ghost use Rattle.rp_words.specs.Named.{named_line};
+ghost use Rattle.rp_words.specs.Ranges.{IsSized};
 
-use crate::checks::{check_answer, check_random_answer};
-use crate::demands::demand_text;
 use crate::files::Cause;
 use crate::input::{Input, read_input};
-use crate::line::Line;
-use crate::randoms::random_text;
-use crate::status::Status;
-use crate::text::{analysis_text, pairs_text};
-use crate::trials::trial_text;
-use crate::utilities::utility_text;
-use crate::welfares::welfare_text;
+use rp_answers::{
+    Answer, Status, analysis_text, check_answer, check_random_answer, demand_text, pairs_text,
+    random_text, trial_text, utility_text, welfare_text,
+};
 use rp_num::NoMemory;
 use rp_outside::Desk;
 use rp_table::Costs;
+use rp_words::Line;
 use std::alloc::Global;
-
-/// A whole text for the output, and how a call ends that has written it.
-#[derive(Drop)]
-pub(crate) struct Answer {
-    pub(crate) status: Status,
-    pub(crate) text: Vec<u8>,
-}
 
 /// The answer to a line over its files.
 pub(crate) fn answer_line<'a, D: Desk>(
@@ -39,7 +31,10 @@ pub(crate) fn answer_line<'a, D: Desk>(
         AnswersLine (D.bytes desk.old) (named_line line.entry) answer.status answer.text.items) }
     ensures caused { IfErr result
         (IsCause (D.bytes desk.old) (Rose (D.faults desk.old) (D.faults desk.new))
+        (AsksForFirst (D.bytes desk.old) (D.calls desk.old) (D.calls desk.new))
         (named_line line.entry)) }
+    ensures in_turn { AreReadInTurn (D.bytes desk.old)
+        (D.calls desk.old) (D.calls desk.new) (named_line line.entry) }
     ensures bytes_stay { (other : List ℕ) → D.bytes desk.new other ≡ D.bytes desk.old other }
     ensures never_falls { (other : List ℕ) → D.faults desk.old other ≤ D.faults desk.new other }
 {

@@ -1,4 +1,4 @@
-ghost use Rattle.std.specs.Prelude.{◌≡◌, ◌++◌, ℕ, true, false, ◌^◌, ◌<◌, ◌≤◌, List, IfOk, IfErr, length, codes};
+ghost use Rattle.std.specs.Prelude.{◌≡◌, ◌+◌, ◌++◌, ℕ, true, false, ◌^◌, ◌<◌, ◌≤◌, List, IfOk, IfErr, length, codes};
 ghost use Rattle.rp_evidence.specs.Kinds.{IsCertificateOf};
 ghost use Rattle.rp_patch.specs.Choices.{AreChoicesFrom};
 ghost use Rattle.rp_table.specs.Tables.{goods_of};
@@ -7,8 +7,9 @@ ghost use Rattle.rp_text.specs.Denotation.{prices_beside, table_in};
 ghost use Rattle.rp_run.specs.FaultLines as text;
 ghost use Rattle.rp_run.specs.Answers.{IsContent};
 ghost use Rattle.rp_run.specs.Endings.{Rose};
+ghost use Rattle.rp_run.specs.Turns.{calls_of_certificate, calls_of_numbers};
 ghost use Rattle.rp_run.specs.Readings.{CertificateIn, Numbers, all_bytes};
-ghost use Rattle.rp_run.specs.Matching.{IsSpentOn};
+ghost use Rattle.rp_answers.specs.Demands.{IsSpentOn};
 ghost use Rattle.rp_run.specs.Causes.{IsJsonRefusalOf, IsRefusal, IsRefusalOf, IsFileCause, IsLoaded};
 
 use crate::fault_text::{text_of_fault, text_of_json_fault};
@@ -44,6 +45,8 @@ pub(crate) fn load_table<'a, D: Desk>(
 ) -> Result<Table, Cause<'a>>
     ensures loaded { IsLoaded (D.bytes desk.old) (Rose (D.faults desk.old) (D.faults desk.new))
         file.now (Numbers file.now table_in) result }
+    ensures read_through { D.calls desk.new ≤ D.calls desk.old
+        + calls_of_numbers (D.bytes desk.old) file.now }
     ensures bytes_stay { (other : List ℕ) → D.bytes desk.new other ≡ D.bytes desk.old other }
     ensures never_falls { (other : List ℕ) → D.faults desk.old other ≤ D.faults desk.new other }
 {
@@ -64,6 +67,8 @@ pub(crate) fn load_bundles<'a, D: Desk>(
     ensures loaded { IsLoaded (D.bytes desk.old) (Rose (D.faults desk.old) (D.faults desk.new))
         file.now (Numbers file.now (bundles_beside table.now)) result }
     ensures goods { IfOk result (λ bundles. bundles.goods ≡ goods_of table.now) }
+    ensures read_through { D.calls desk.new ≤ D.calls desk.old
+        + calls_of_numbers (D.bytes desk.old) file.now }
     ensures bytes_stay { (other : List ℕ) → D.bytes desk.new other ≡ D.bytes desk.old other }
     ensures never_falls { (other : List ℕ) → D.faults desk.old other ≤ D.faults desk.new other }
 {
@@ -84,6 +89,8 @@ pub(crate) fn load_prices_with_expenditure<'a, D: Desk>(
     ensures loaded { IsLoaded (D.bytes desk.old) (Rose (D.faults desk.old) (D.faults desk.new))
         file.now (Numbers file.now (prices_beside true table.now)) result }
     ensures goods { IfOk result (λ new. IsSpentOn table.now new) }
+    ensures read_through { D.calls desk.new ≤ D.calls desk.old
+        + calls_of_numbers (D.bytes desk.old) file.now }
     ensures bytes_stay { (other : List ℕ) → D.bytes desk.new other ≡ D.bytes desk.old other }
     ensures never_falls { (other : List ℕ) → D.faults desk.old other ≤ D.faults desk.new other }
 {
@@ -104,6 +111,8 @@ pub(crate) fn load_prices<'a, D: Desk>(
     ensures loaded { IsLoaded (D.bytes desk.old) (Rose (D.faults desk.old) (D.faults desk.new))
         file.now (Numbers file.now (prices_beside false table.now)) result }
     ensures goods { IfOk result (λ new. new.goods ≡ goods_of table.now) }
+    ensures read_through { D.calls desk.new ≤ D.calls desk.old
+        + calls_of_numbers (D.bytes desk.old) file.now }
     ensures bytes_stay { (other : List ℕ) → D.bytes desk.new other ≡ D.bytes desk.old other }
     ensures never_falls { (other : List ℕ) → D.faults desk.old other ≤ D.faults desk.new other }
 {
@@ -122,6 +131,8 @@ pub(crate) fn load_budgets<'a, D: Desk>(
 ) -> Result<Budgets, Cause<'a>>
     ensures loaded { IsLoaded (D.bytes desk.old) (Rose (D.faults desk.old) (D.faults desk.new))
         file.now (Numbers file.now budgets_in) result }
+    ensures read_through { D.calls desk.new ≤ D.calls desk.old
+        + calls_of_numbers (D.bytes desk.old) file.now }
     ensures bytes_stay { (other : List ℕ) → D.bytes desk.new other ≡ D.bytes desk.old other }
     ensures never_falls { (other : List ℕ) → D.faults desk.old other ≤ D.faults desk.new other }
 {
@@ -142,6 +153,8 @@ pub(crate) fn load_choices<'a, D: Desk>(
     ensures loaded { IsLoaded (D.bytes desk.old) (Rose (D.faults desk.old) (D.faults desk.new))
         file.now (Numbers file.now (choices_on budgets.now)) result }
     ensures from { IfOk result (AreChoicesFrom budgets.now) }
+    ensures read_through { D.calls desk.new ≤ D.calls desk.old
+        + calls_of_numbers (D.bytes desk.old) file.now }
     ensures bytes_stay { (other : List ℕ) → D.bytes desk.new other ≡ D.bytes desk.old other }
     ensures never_falls { (other : List ℕ) → D.faults desk.old other ≤ D.faults desk.new other }
 {
@@ -162,6 +175,8 @@ pub(crate) fn load_certificate<'a, D: Desk>(
     ensures loaded { IsLoaded (D.bytes desk.old) (Rose (D.faults desk.old) (D.faults desk.new))
         file.now (CertificateIn file.now kind) result }
     ensures kind { IfOk result (IsCertificateOf kind) }
+    ensures read_through { D.calls desk.new ≤ D.calls desk.old
+        + calls_of_certificate (D.bytes desk.old) file.now }
     ensures bytes_stay { (other : List ℕ) → D.bytes desk.new other ≡ D.bytes desk.old other }
     ensures never_falls { (other : List ℕ) → D.faults desk.old other ≤ D.faults desk.new other }
 {
@@ -187,6 +202,8 @@ fn load_numbers<'a, D: Desk>(
     ensures caused { IfErr result
         (IsFileCause (D.bytes desk.old) (Rose (D.faults desk.old) (D.faults desk.new))
         file.now (Numbers file.now all_bytes)) }
+    ensures read_through { D.calls desk.new ≤ D.calls desk.old
+        + calls_of_numbers (D.bytes desk.old) file.now }
     ensures bytes_stay { (other : List ℕ) → D.bytes desk.new other ≡ D.bytes desk.old other }
     ensures never_falls { (other : List ℕ) → D.faults desk.old other ≤ D.faults desk.new other }
 {

@@ -1,20 +1,25 @@
 ghost use Rattle.std.specs.Prelude.{◌≡◌, ◌≤◌, ℕ, Bool, List, IfOk, IfErr};
-ghost use Rattle.rp_run.specs.CommandLine.{Check, CheckRandom, Demand, Random, Utility, Welfare};
+ghost use Rattle.rp_words.specs.CommandLine.{Check, CheckRandom, Demand, Random, Utility, Welfare};
 ghost use Rattle.rp_run.specs.Inputs.{CheckOver, DemandOver, RandomOver, UtilityOver, WelfareOver};
-ghost use Rattle.rp_run.specs.Matching.{AreTyped, HasMatchingGoods, IsSized, IsSpentOn, IsUnit};
+ghost use Rattle.rp_run.specs.Matching.{HasMatchingGoods};
+ghost use Rattle.rp_answers.specs.Typed.{AreTyped};
+ghost use Rattle.rp_answers.specs.Demands.{IsSpentOn};
 ghost use Rattle.rp_table.specs.Tables.{goods_of};
 ghost use Rattle.rp_evidence.specs.Kinds.{IsCertificateOf};
 ghost use Rattle.rp_evidence.specs.declared.certificate.Kind.TheVariants.{Table as TableKind};
 ghost use Rattle.rp_run.specs.Answers.{HasInput};
 ghost use Rattle.rp_run.specs.Endings.{Rose};
+ghost use Rattle.rp_run.specs.Turns.{AreReadInTurn, AsksForFirst};
 ghost use Rattle.rp_run.specs.Causes.{IsCause};
-ghost use Rattle.rp_run.specs.Named.{named_line, named_input, typed};
+ghost use Rattle.rp_run.specs.Named.{named_input};
+ghost use Rattle.rp_answers.specs.Typed.{typed};
+ghost use Rattle.rp_words.specs.Named.{named_line};
+ghost use Rattle.rp_words.specs.Ranges.{IsSized, IsUnit};
 
 use crate::files::{
     Cause, load_budgets, load_bundles, load_certificate, load_choices, load_prices,
     load_prices_with_expenditure, load_table,
 };
-use crate::line::Line;
 use crate::patches::patches_of;
 use rp_evidence::{Certificate, Kind};
 use rp_num::Seq;
@@ -22,6 +27,7 @@ use rp_outside::Desk;
 use rp_patch::Patches;
 use rp_table::{Bundles, Prices, Table};
 use rp_types::Rational;
+use rp_words::Line;
 use std::alloc::Global;
 
 /// A command over what its files hold.
@@ -51,7 +57,10 @@ pub(crate) fn read_input<'a, D: Desk>(
     ensures goods { IfOk result (λ input. HasMatchingGoods (named_input input)) }
     ensures caused { IfErr result
         (IsCause (D.bytes desk.old) (Rose (D.faults desk.old) (D.faults desk.new))
+        (AsksForFirst (D.bytes desk.old) (D.calls desk.old) (D.calls desk.new))
         (named_line line.entry)) }
+    ensures in_turn { AreReadInTurn (D.bytes desk.old)
+        (D.calls desk.old) (D.calls desk.new) (named_line line.entry) }
     ensures bytes_stay { (other : List ℕ) → D.bytes desk.new other ≡ D.bytes desk.old other }
     ensures never_falls { (other : List ℕ) → D.faults desk.old other ≤ D.faults desk.new other }
 {
@@ -106,7 +115,10 @@ fn load_table_certificate<'a, D: Desk>(
     ensures kind { IfOk result (λ both. IsCertificateOf TableKind both.1) }
     ensures caused { IfErr result
         (IsCause (D.bytes desk.old) (Rose (D.faults desk.old) (D.faults desk.new))
+        (AsksForFirst (D.bytes desk.old) (D.calls desk.old) (D.calls desk.new))
         (Check first.now second.now)) }
+    ensures in_turn { AreReadInTurn (D.bytes desk.old)
+        (D.calls desk.old) (D.calls desk.new) (Check first.now second.now) }
     ensures bytes_stay { (other : List ℕ) → D.bytes desk.new other ≡ D.bytes desk.old other }
     ensures never_falls { (other : List ℕ) → D.faults desk.old other ≤ D.faults desk.new other }
 {
@@ -126,7 +138,10 @@ fn load_table_prices_with_expenditure<'a, D: Desk>(
         (Demand first.now second.now json) (DemandOver both.0 both.1 json)) }
     ensures goods { IfOk result (λ both. IsSpentOn both.0 both.1) }
     ensures caused { IfErr result (λ why. (json : Bool) → IsCause (D.bytes desk.old)
-        (Rose (D.faults desk.old) (D.faults desk.new)) (Demand first.now second.now json) why) }
+        (Rose (D.faults desk.old) (D.faults desk.new))
+        (AsksForFirst (D.bytes desk.old) (D.calls desk.old) (D.calls desk.new)) (Demand first.now second.now json) why) }
+    ensures in_turn { (json : Bool) → AreReadInTurn (D.bytes desk.old)
+        (D.calls desk.old) (D.calls desk.new) (Demand first.now second.now json) }
     ensures bytes_stay { (other : List ℕ) → D.bytes desk.new other ≡ D.bytes desk.old other }
     ensures never_falls { (other : List ℕ) → D.faults desk.old other ≤ D.faults desk.new other }
 {
@@ -146,7 +161,10 @@ fn load_table_prices<'a, D: Desk>(
         (Welfare first.now second.now json) (WelfareOver both.0 both.1 json)) }
     ensures goods { IfOk result (λ both. both.1.goods ≡ goods_of both.0) }
     ensures caused { IfErr result (λ why. (json : Bool) → IsCause (D.bytes desk.old)
-        (Rose (D.faults desk.old) (D.faults desk.new)) (Welfare first.now second.now json) why) }
+        (Rose (D.faults desk.old) (D.faults desk.new))
+        (AsksForFirst (D.bytes desk.old) (D.calls desk.old) (D.calls desk.new)) (Welfare first.now second.now json) why) }
+    ensures in_turn { (json : Bool) → AreReadInTurn (D.bytes desk.old)
+        (D.calls desk.old) (D.calls desk.new) (Welfare first.now second.now json) }
     ensures bytes_stay { (other : List ℕ) → D.bytes desk.new other ≡ D.bytes desk.old other }
     ensures never_falls { (other : List ℕ) → D.faults desk.old other ≤ D.faults desk.new other }
 {
@@ -167,7 +185,10 @@ fn load_table_bundles<'a, D: Desk>(
     ensures goods { IfOk result (λ both. both.1.goods ≡ goods_of both.0) }
     ensures caused { IfErr result
         (IsCause (D.bytes desk.old) (Rose (D.faults desk.old) (D.faults desk.new))
+        (AsksForFirst (D.bytes desk.old) (D.calls desk.old) (D.calls desk.new))
         (Utility first.now second.now)) }
+    ensures in_turn { AreReadInTurn (D.bytes desk.old)
+        (D.calls desk.old) (D.calls desk.new) (Utility first.now second.now) }
     ensures bytes_stay { (other : List ℕ) → D.bytes desk.new other ≡ D.bytes desk.old other }
     ensures never_falls { (other : List ℕ) → D.faults desk.old other ≤ D.faults desk.new other }
 {
@@ -190,7 +211,10 @@ fn load_patches<'a, D: Desk>(
     ensures typed { IfOk result (λ both. AreTyped (typed both.0 both.1)) }
     ensures caused { IfErr result (λ why. (json : Bool) → IsCause (D.bytes desk.old)
         (Rose (D.faults desk.old) (D.faults desk.new))
+        (AsksForFirst (D.bytes desk.old) (D.calls desk.old) (D.calls desk.new))
         (Random first.now second.now per json) why) }
+    ensures in_turn { (json : Bool) → AreReadInTurn (D.bytes desk.old)
+        (D.calls desk.old) (D.calls desk.new) (Random first.now second.now per json) }
     ensures bytes_stay { (other : List ℕ) → D.bytes desk.new other ≡ D.bytes desk.old other }
     ensures never_falls { (other : List ℕ) → D.faults desk.old other ≤ D.faults desk.new other }
 {
@@ -215,7 +239,10 @@ fn load_random_certificate<'a, D: Desk>(
     ensures kind { IfOk result (λ input. HasMatchingGoods (named_input input)) }
     ensures caused { IfErr result
         (IsCause (D.bytes desk.old) (Rose (D.faults desk.old) (D.faults desk.new))
+        (AsksForFirst (D.bytes desk.old) (D.calls desk.old) (D.calls desk.new))
         (CheckRandom first.now second.now third.now per)) }
+    ensures in_turn { AreReadInTurn (D.bytes desk.old)
+        (D.calls desk.old) (D.calls desk.new) (CheckRandom first.now second.now third.now per) }
     ensures bytes_stay { (other : List ℕ) → D.bytes desk.new other ≡ D.bytes desk.old other }
     ensures never_falls { (other : List ℕ) → D.faults desk.old other ≤ D.faults desk.new other }
 {

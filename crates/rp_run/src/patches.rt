@@ -2,9 +2,10 @@ ghost use Rattle.std.specs.Prelude.{◌≡◌, ◌+◌, ◌++◌, ◌∷◌, [],
 ghost use Rattle.std.specs.Fmt.{decimal};
 ghost use Rattle.rp_patch.specs.Choices.{AreChoicesFrom};
 ghost use Rattle.rp_run.specs.Causes.{IsPatchRefusal, IsReadingCause, IsTypesRefusal};
-ghost use Rattle.rp_run.specs.Matching.{AreTyped, IsUnit};
-ghost use Rattle.rp_run.specs.Named.{typed};
+ghost use Rattle.rp_answers.specs.Typed.{AreTyped};
+ghost use Rattle.rp_answers.specs.Typed.{typed};
 ghost use Rattle.rp_run.specs.RandomInputs.{TypedPatchesOf};
+ghost use Rattle.rp_words.specs.Ranges.{IsUnit};
 
 use crate::files::Cause;
 use rp_num::{NoMemory, Seq, print_u128};

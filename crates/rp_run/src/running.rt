@@ -2,22 +2,23 @@ ghost use Rattle.std.specs.Prelude.{◌≡◌, ◌⊎◌, ◌≤◌, ℕ, List, 
 ghost use Rattle.clap.specs.Faults.{fault_of};
 ghost use Rattle.rp_outside.specs.Faults.{HasRisen};
 ghost use Rattle.rp_outside.specs.Told.{Stays, Grows, GrowsByPrefix};
-ghost use Rattle.rp_run.specs.CommandLine.{Line as Asked, line_in};
-ghost use Rattle.rp_run.specs.Commands.{program};
-ghost use Rattle.rp_run.specs.Shapes.{HasShape, shape_of};
+ghost use Rattle.rp_words.specs.CommandLine.{Line as Asked, line_in};
+ghost use Rattle.rp_words.specs.Commands.{program};
+ghost use Rattle.rp_words.specs.Shapes.{HasShape, shape_of};
 ghost use Rattle.rp_run.specs.Answers.{AnswersAsked, IsAccepted, IsRefused};
 ghost use Rattle.rp_run.specs.Answers.{IsAcceptedOver, IsRejectedOver, MayBe, MustBe};
 ghost use Rattle.rp_run.specs.FaultLines.{write_line};
 ghost use Rattle.rp_run.specs.Endings.{IsEnd, IsSilent, IsFaultLine, Rose, NoneRose};
 ghost use Rattle.rp_run.specs.Gains.{Gains};
+ghost use Rattle.rp_run.specs.Turns.{AreReadInTurn, AsksForFirst};
 ghost use Rattle.rp_run.specs.Causes.{status_of_cause, cause_line};
 
-use crate::answer::{Answer, answer_line};
+use crate::answer::answer_line;
 use crate::files::Cause;
-use crate::line::{read_line, usage};
-use crate::status::Status;
 use crate::telling::tell;
+use rp_answers::{Answer, Status};
 use rp_outside::{Desk, Sink, pour};
+use rp_words::{read_line, usage};
 use std::alloc::Global;
 
 /// Answers the words of a command line over the files of a desk. The answer goes to `out`, and the reason
@@ -62,8 +63,15 @@ pub fn run<D: Desk, O: Sink, E: Sink>(
     ensures quiet { IsEnd result → Stays (E.written err.old) (E.written err.new) }
     ensures told { ¬ IsEnd result → (line : List ℕ)
         × IsFaultLine (D.bytes desk.old) (Rose (D.faults desk.old) (D.faults desk.new))
+        (AsksForFirst (D.bytes desk.old) (D.calls desk.old) (D.calls desk.new))
         (line_in words.now.items) result line
         × Gains (E.written err.old) (E.written err.new) (E.faults err.old) (E.faults err.new) line }
+
+    // How often the desk is asked for the files of the words, and in which order.
+    ensures in_turn { (line : Asked) → line_in words.now.items ≡ Some line
+        → AreReadInTurn (D.bytes desk.old) (D.calls desk.old) (D.calls desk.new) line }
+    ensures none_asked { line_in words.now.items ≡ None
+        → D.calls desk.new ≡ D.calls desk.old }
 
     // When there is one.
     ensures complete { (line : Asked) → line_in words.now.items ≡ Some line

@@ -1,11 +1,11 @@
 ghost use Rattle.std.specs.Prelude.{◌≡◌, ◌⊎◌, Some, None};
-ghost use Rattle.rp_run.specs.CommandLine.{Line as Asked, line_in};
+ghost use Rattle.rp_words.specs.CommandLine.{Line as Asked, line_in};
 ghost use Rattle.rp_run.specs.Answers.{IsAccepted, IsRefused, all_told};
 ghost use Rattle.rp_run.specs.Answers.{IsAcceptedOver, IsRejectedOver, MayBe, MustBe};
 ghost use Rattle.rp_run.specs.Endings.{IsEnd};
 
 use crate::running::run;
-use crate::status::Status;
+use rp_answers::Status;
 use rp_outside::{SureDesk, SureSink};
 use std::alloc::Global;
 

@@ -8,7 +8,7 @@ use Rattle.rp_farkas.specs.LinearProgram.{LinearProgram}
 use Rattle.rp_farkas.specs.Prices.{IsFeasiblePrices, cost_of}
 use Rattle.rp_farkas.specs.declared.entry.Pair.{Pair}
 use Rattle.rp_farkas.proofs.Duality.{weak_duality}
-use Rattle.rp_evidence.specs.Demand.{FractionBundle, IsSupportingDemand, NewBudget}
+use Rattle.rp_evidence.specs.Demand.{FractionBundle, HasSupport, IsSupportingDemand, NewBudget}
 use Rattle.rp_evidence.specs.DemandPrograms.{ListsBelow, demand_program}
 use Rattle.rp_evidence.specs.Input.{TableInput}
 use Rattle.rp_evidence.specs.declared.demand.Bound.{Bound}
@@ -20,7 +20,7 @@ use Rattle.rp_simplex.specs.Outcome.{IsOutcome, PassesWidth}
 use Rattle.rp_simplex.specs.SameOutcome.{IsSameOutcome}
 use Rattle.rp_simplex.specs.declared.outcome.Outcome.{Outcome}
 use Rattle.rp_simplex.specs.declared.outcome.Outcome.TheVariants.{Optimal, Wide as WideRun}
-use Rattle.rp_support.specs.Bounds.{HasSupport, IsBoundOf}
+use Rattle.rp_support.specs.Bounds.{IsBoundOf}
 
 IsShown : Bound → Type 0
 IsShown (Shown value pair) = Unit {0}

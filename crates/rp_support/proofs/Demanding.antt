@@ -8,16 +8,14 @@ use Rattle.rp_evidence.specs.DemandEvidence.{ProvesLower, ProvesUpper, budget_of
 use Rattle.rp_evidence.specs.DemandPrograms.{ListsBelow, demand_program, lower_program, upper_program}
 use Rattle.rp_evidence.specs.Garp.{MeetsGarp, ProvesGarp}
 use Rattle.rp_evidence.specs.Input.{TableInput, input_of_table}
-use Rattle.rp_evidence.specs.Preference.{IsWeak}
 use Rattle.rp_evidence.specs.declared.demand.Bound.{Bound}
 use Rattle.rp_evidence.specs.declared.demand.Bound.TheVariants.{Shown, Wide}
 use Rattle.rp_evidence.specs.declared.demand.GoodBounds.{GoodBounds}
 use Rattle.rp_evidence.specs.declared.garp.Garp.{Garp}
 use Rattle.rp_evidence.proofs.DemandBounds.{lower_is_infimum, mixtures, priced, upper_is_supremum}
 use Rattle.rp_evidence.proofs.InnerDemand.{inner_demand_supports}
-use Rattle.rp_evidence.proofs.SameCosts.{garp_same, reach_same, weak_same}
+use Rattle.rp_evidence.proofs.SameCosts.{garp_same}
 use Rattle.rp_farkas.specs.Listing.{numerator_at}
-use Rattle.rp_pref.specs.Closure.{IsClosureOf, Reached}
 use Rattle.rp_table.specs.Cost.{CostTable, IsCostsOf, cost_at, cost_of}
 use Rattle.rp_table.specs.Tables.{IsTable, Observations, goods_of, price_of, records_of}
 use Rattle.rp_support.specs.Bounds.{AreBoundsOf, AreMixed, IsBoundOf, Mixes}
@@ -29,15 +27,6 @@ module _ (table : Observations) (costs : CostTable) (of : IsCostsOf costs table)
   pub garp_of_table : (verdict : Garp) → ProvesGarp costs.n (cost_at costs) verdict → ProvesGarp (records_of table) (cost_of table) verdict
   garp_of_table verdict proves =
       garp_same (records_of table) (cost_at costs) (cost_of table) verdict of.each (subst (λ n. ProvesGarp n (cost_at costs) verdict) of.size proves)
-
-  pub closure_of_table : (reached : Reached) → IsClosureOf reached costs.n (IsWeak (cost_at costs) 1 1) → IsClosureOf reached (records_of table) (IsWeak (cost_of table) 1 1)
-  closure_of_table reached closed =
-      let k = subst (λ n. IsClosureOf reached n (IsWeak (cost_at costs) 1 1)) of.size closed in
-      let same = reach_same (records_of table) (IsWeak (cost_at costs) 1 1) (IsWeak (cost_of table) 1 1) (weak_same (records_of table) (cost_at costs) (cost_of table) 1 1 of.each) in
-      record {
-        size = k.size;
-        exact = λ s t a b. ((λ h. (same s t).0 ((k.exact s t a b).0 h)), (λ r. (k.exact s t a b).1 ((same s t).1 r)));
-      }
 
 -- ---- bounds in lowest terms
 

@@ -45,7 +45,3 @@ pub record AreMixed (input : TableInput) (budget : NewBudget) (below : List ℕ)
   pub upper : (g : ℕ) (d : GoodBounds) → g < input.goods → Mixes input budget inner (slice_index_or goods g d).upper
   pub lower_bounded : (g : ℕ) → g < input.goods → ¬ HasNoBound (lower_program input budget below g)
   pub upper_bounded : (g : ℕ) → g < input.goods → ¬ HasNoBound (upper_program input budget below g)
-
--- Some demand supports.
-abbrev pub HasSupport : TableInput → NewBudget → Type 0
-HasSupport input budget = (bundle : FractionBundle) × IsSupportingDemand input budget bundle

@@ -1,12 +1,13 @@
 ghost use Rattle.std.specs.Prelude.{◌≡◌, ◌<◌, ◌↔◌, ℕ, All, Contains, IfOk, IsTrue, length};
-ghost use Rattle.rp_evidence.specs.Demand.{Buys};
+ghost use Rattle.rp_evidence.specs.Demand.{Buys, IsStrictStart};
 ghost use Rattle.rp_evidence.specs.DemandPrograms.{ListsBelow, ListsStrictlyBelow};
 ghost use Rattle.rp_evidence.specs.Preference.{IsStrict};
+ghost use Rattle.rp_pref.specs.Closure.{IsWeakClosureOf};
 ghost use Rattle.rp_table.specs.Cost.{cost_of};
 ghost use Rattle.rp_table.specs.Tables.{records_of};
 ghost use Rattle.rp_support.specs.Asked.{asked_of, input_of};
-ghost use Rattle.rp_support.specs.Starts.{AreTold, IsLedTo, IsStrictStart, IsWeakClosureOf};
-ghost use Rattle.rp_support.specs.Starts.{ListsThose};
+ghost use Rattle.rp_support.specs.Starts.{AreTold, IsLedTo};
+ghost use Rattle.rp_evidence.specs.Enumeration.{Enumerates};
 
 use crate::budget::Budget;
 use rp_num::NoMemory;
@@ -93,7 +94,7 @@ fn some_strict(budget: &Budget, list: &[u32], v: u32) -> bool
 fn led_to(alloc: Global, closure: &Closure, n: u32, starts: &[bool]) -> Result<Vec<u32>, NoMemory>
     requires size { closure.now.n ≡ n }
     requires one_each { length starts.now ≡ n }
-    ensures { IfOk result (λ those. ListsThose n (IsLedTo closure.now starts.now) those.items) }
+    ensures { IfOk result (λ those. Enumerates n (IsLedTo closure.now starts.now) those.items) }
 {
     let mut those = Vec::new(alloc);
     for t in 0..n {

@@ -1,8 +1,9 @@
 ghost use Rattle.std.specs.Prelude.{◌<◌, IfOk};
+ghost use Rattle.rp_evidence.specs.Demand.{HasSupport};
 ghost use Rattle.rp_evidence.specs.DemandPrograms.{ListsBelow, lower_program, upper_program};
 ghost use Rattle.rp_table.specs.Tables.{goods_of};
 ghost use Rattle.rp_support.specs.Asked.{asked_of, input_of};
-ghost use Rattle.rp_support.specs.Bounds.{AreBoundsOf, HasSupport, IsBoundOf};
+ghost use Rattle.rp_support.specs.Bounds.{AreBoundsOf, IsBoundOf};
 
 use crate::bound::bound_of;
 use crate::budget::Budget;

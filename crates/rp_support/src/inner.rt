@@ -7,7 +7,7 @@ ghost use Rattle.rp_table.specs.Tables.{goods_of, records_of};
 ghost use Rattle.rp_support.specs.Asked.{asked_of, input_of};
 ghost use Rattle.rp_support.specs.Inner.{IsStart, inner_numerator};
 ghost use Rattle.rp_support.specs.Trying.{IsBetter};
-ghost use Rattle.rp_support.specs.Starts.{IsWeakClosureOf};
+ghost use Rattle.rp_pref.specs.Closure.{IsWeakClosureOf};
 
 use crate::budget::Budget;
 use rp_evidence::Point;

@@ -6,9 +6,7 @@ mod bound;
 mod budget;
 mod goods;
 mod inner;
-mod laws;
 mod programs;
 mod verdict;
 
-pub use laws::strictly_below_from_strict_starts;
 pub use verdict::demand;

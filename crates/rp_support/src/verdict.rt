@@ -6,7 +6,7 @@ ghost use Rattle.rp_table.specs.Cost.{IsCostsOf, cost_at, cost_of};
 ghost use Rattle.rp_table.specs.Tables.{goods_of, records_of};
 ghost use Rattle.rp_support.specs.Asked.{asked_of, input_of};
 ghost use Rattle.rp_support.specs.Verdict.{HasMixtures, IsDemandGiven, IsGivenWhereMet};
-ghost use Rattle.rp_support.specs.Starts.{IsWeakClosureOf};
+ghost use Rattle.rp_pref.specs.Closure.{IsWeakClosureOf};
 
 use crate::below::{below, strictly_below};
 use crate::budget::Budget;

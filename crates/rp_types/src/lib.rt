@@ -3,10 +3,14 @@
 
 mod combinations;
 mod fault;
+mod laws;
+mod limits;
 mod search;
 mod types;
 
 pub use fault::TypesFault;
+pub use laws::rational_types_are_determined;
+pub use limits::limits_in_numbers;
 pub use types::{Rational, rational_types};
 
 /// The largest product of the numbers of patches of the budgets.

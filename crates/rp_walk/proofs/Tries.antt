@@ -94,12 +94,17 @@ IsTried-taken w exact x t old old_from n new new_from v h in_values in_from same
           get_or-set_same new_from n t 0 in_from,
         )
 
--- the same, of the value that was found and the one that stands there
+-- the same, of the value that stands there
+pub IsTried-idle_at : {V : Type 0} (w : TotalRule) (exact : V → ExactTotal) (x : ExactTotal) (t : ℕ) (old : List V) (old_from : List ℕ) (n : ℕ) (new : List V) (new_from : List ℕ) (here : V) → IsTried w exact x t old old_from n new new_from → n < length new → here ≡ get_or new n here → ¬ (IsLess (w.after x t n) (exact here)) → IsTried w exact x t old old_from (n + 1) new new_from
+IsTried-idle_at w exact x t old old_from n new new_from here h below at above =
+    let e : totals_of exact w.empty new n ≡ exact here = totals_of-at exact w.empty new n here below ∙ ap exact (sym at) in
+    IsTried-kept w exact x t old old_from n new new_from h (subst (λ (y : ExactTotal). ¬ (IsLess (w.after x t n) y)) (sym e) above)
+
+-- and of that and the value that was found
 pub IsTried-kept_at : {V : Type 0} (w : TotalRule) (exact : V → ExactTotal) (x : ExactTotal) (t : ℕ) (old : List V) (old_from : List ℕ) (n : ℕ) (new : List V) (new_from : List ℕ) (found here : V) → IsTried w exact x t old old_from n new new_from → n < length new → here ≡ get_or new n here → SameTotal (exact found) (w.after x t n) → ¬ (IsLess (exact found) (exact here)) → IsTried w exact x t old old_from (n + 1) new new_from
 IsTried-kept_at w exact x t old old_from n new new_from found here h below at same above =
-    let e : totals_of exact w.empty new n ≡ exact here = totals_of-at exact w.empty new n here below ∙ ap exact (sym at) in
-    let p = not_more_trans (exact here) (exact found) (w.after x t n) above (not_less-same (w.after x t n) (exact found) (sym same)) in
-    IsTried-kept w exact x t old old_from n new new_from h (subst (λ (y : ExactTotal). ¬ (IsLess (w.after x t n) y)) (sym e) p)
+    IsTried-idle_at w exact x t old old_from n new new_from here h below at
+    (not_more_trans (exact here) (exact found) (w.after x t n) above (not_less-same (w.after x t n) (exact found) (sym same)))
 
 pub IsTried-taken_at : {V : Type 0} (w : TotalRule) (exact : V → ExactTotal) (x : ExactTotal) (t : ℕ) (old : List V) (old_from : List ℕ) (n : ℕ) (new : List V) (new_from : List ℕ) (found here : V) → IsTried w exact x t old old_from n new new_from → n < length new → n < length new_from → here ≡ get_or new n here → SameTotal (exact found) (w.after x t n) → IsLess (exact found) (exact here) → IsTried w exact x t old old_from (n + 1) (set new n found) (set new_from n t)
 IsTried-taken_at w exact x t old old_from n new new_from found here h below below_from at same less =

@@ -94,14 +94,17 @@ fn try_steps<T: Total>(
     ensures fit_before { IfSome result (StepsFit (T.rule total.now) T.fits (T.exact v) from) }
 {
     for to in 0..total.n() {
-        match total.step(v, from, to) {
-            Ok(found) => {
-                if total.less(found, next.values[to as usize]) {
-                    next.values[to as usize] = found;
-                    next.from[to as usize] = from;
+        let best = next.values[to as usize];
+        if !total.improves_nothing(v, from, to, best) {
+            match total.step(v, from, to) {
+                Ok(found) => {
+                    if total.less(found, best) {
+                        next.values[to as usize] = found;
+                        next.from[to as usize] = from;
+                    }
                 }
+                Err(_) => return Some(to),
             }
-            Err(_) => return Some(to),
         }
     }
     None

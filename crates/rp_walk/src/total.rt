@@ -45,6 +45,18 @@ pub trait Total {
     fn less(&self, a: Self::Value, b: Self::Value) -> bool
         ensures { IsTrue result ↔ IsLess (exact a) (exact b) };
 
+    /// Whether a cheap look shows that a further step from `t` to `s` takes the total `v` to no less
+    /// than `best`, and fits. A step of which this is false may do so too.
+    fn improves_nothing(&self, v: Self::Value, t: u32, s: u32, best: Self::Value) -> bool
+        requires from { t < (rule self.now).count }
+        requires to { s < (rule self.now).count }
+        ensures not_less { IsTrue result
+            → ¬ (IsLess ((rule self.now).after (exact v) t s) (exact best)) }
+        ensures fits { IsTrue result → fits ((rule self.now).after (exact v) t s) }
+    {
+        false
+    }
+
     /// Whether going on from `s` to `t` and back to `s` lowers every total that a walk reaches at `s`.
     fn pair_breaks(&self, s: u32, t: u32) -> bool
         requires from { s < (rule self.now).count }

@@ -6,7 +6,7 @@ use Rattle.rp_evidence.specs.Input.{TableInput}
 use Rattle.rp_evidence.specs.Welfare.{EqualsOrReaches}
 use Rattle.rp_welfare.specs.Inner.{IsBefore, IsCheapestBelow}
 use Rattle.rp_welfare.specs.Verdict.{IsFirstCheapest}
-use Rattle.rp_welfare.proofs.Reaching.{leads_to_itself}
+use Rattle.rp_evidence.proofs.EqualOrReached.{equals}
 
 module _ (input : TableInput) (prices : ℕ → ℕ) (t : ℕ) where
   abbrev own_cost : ℕ → ℕ
@@ -15,7 +15,7 @@ module _ (input : TableInput) (prices : ℕ → ℕ) (t : ℕ) where
   pub starts_with_own : (s cost : ℕ) → t < input.n → s ≡ t → cost ≡ own_cost t → IsCheapestBelow input prices t 0 s cost
   starts_with_own s cost l e c = record {
     observed = omega (arith, l, e);
-    leads = leads_to_itself input s t (omega (arith, l, e)) e;
+    leads = equals input s t (omega (arith, l, e)) e;
     costs = subst (λ z. spending input.goods prices (input.quantity z) ≡ cost) (sym e) (sym c);
     least = λ r b k. absurd (omega (arith, b));
     first = λ r b f k. absurd (omega (arith, b));

@@ -1,4 +1,3 @@
-pub mod Reaching
 pub mod Cheapest
 pub mod LowerBounds
 pub mod SameTable

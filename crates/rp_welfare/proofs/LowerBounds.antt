@@ -1,55 +1,27 @@
 -- The lower bound from the outcome of the run: never unbounded, and in lowest terms.
-use Rattle.std.proofs.Common.{◌≡◌, ◌<◌, ◌≤◌, ◌*◌, ℕ, pos, ◌*ℤ◌, ◌≤ℤ◌, List, length, slice_index, refl, subst, ap, arith}
-use Rattle.std.proofs.lemmas.Int.{ints}
-use Rattle.std.proofs.lemmas.List.{get_or_default}
+use Rattle.std.proofs.Common.{◌≡◌, ◌<◌, ◌≤◌, ◌*◌, ℕ, List, length, slice_index, subst, ap, arith}
 use Rattle.std.proofs.Math.Nat.{le_of_mul-le-mul_right, mul-le-mul_right}
-use Rattle.rp_evidence.specs.Demand.{FractionBundle, spending}
+use Rattle.rp_evidence.specs.Demand.{spending}
 use Rattle.rp_evidence.specs.DemandEvidence.{ProvesLowerWelfare}
 use Rattle.rp_evidence.specs.Garp.{MeetsGarp}
 use Rattle.rp_evidence.specs.Input.{TableInput}
-use Rattle.rp_evidence.specs.Welfare.{IsInRegion, IsLowerWelfare, IsUpperWelfare, ListsReached, welfare_program}
+use Rattle.rp_evidence.specs.Welfare.{IsLowerWelfare, IsUpperWelfare, ListsReached, welfare_program}
 use Rattle.rp_evidence.specs.declared.demand.Bound.{Bound}
 use Rattle.rp_evidence.specs.declared.demand.Bound.TheVariants.{Shown, Wide}
-use Rattle.rp_evidence.proofs.DemandBounds.{total_of_sum}
 use Rattle.rp_evidence.proofs.WelfareLaws.{pair_is_least, reaching_in_region}
+use Rattle.rp_evidence.proofs.WelfarePrograms.{has_bound}
 use Rattle.rp_farkas.specs.Best.{HasNoBound}
 use Rattle.rp_farkas.specs.Listing.{numerator_at}
 use Rattle.rp_farkas.specs.LinearProgram.{LinearProgram}
-use Rattle.rp_farkas.specs.Prices.{IsFeasiblePrices, column_times, cost_of}
 use Rattle.rp_farkas.specs.PairCheck.{IsShownPair}
 use Rattle.rp_farkas.specs.declared.entry.Entry.{Entry}
 use Rattle.rp_farkas.specs.declared.entry.Pair.{Pair}
-use Rattle.rp_farkas.proofs.Duality.{weak_duality}
 use Rattle.rp_num.specs.Fraction.{Fraction, IsLowestTerms}
 use Rattle.rp_simplex.specs.Evidence.{IsEvidence}
 use Rattle.rp_simplex.specs.declared.outcome.Outcome.{Outcome}
 use Rattle.rp_simplex.specs.declared.outcome.Outcome.TheVariants.{Optimal, Unbounded}
 use Rattle.rp_welfare.specs.Inner.{IsShownFrom}
 use Rattle.rp_welfare.specs.Verdict.{IsAtMost}
-use Rattle.rp_welfare.proofs.Reaching.{leads_to_itself}
-
--- what a feasible price vector costs bounds the values
-pub prices_bound : (p : LinearProgram) (den : ℕ) (x : ℕ → ℕ) → IsFeasiblePrices p den x → HasNoBound p → ⊥
-prices_bound p den x feasible none =
-    let beyond = none (cost_of p x) den feasible.den_positive in
-    let h = weak_duality p beyond.den den beyond.point x beyond.feasible feasible in
-    omega (arith, ints, h, beyond.above)
-
-module _ (input : TableInput) (prices : ℕ → ℕ) (t : ℕ) (reached : List ℕ) (lists : ListsReached input t reached) where
-  -- a bundle of the region is a feasible price vector
-  region_is_feasible : (bundle : FractionBundle) → IsInRegion input t bundle → IsFeasiblePrices (welfare_program input prices reached) bundle.den bundle.num
-  region_is_feasible bundle r = record { den_positive = r.fraction; columns_hold = columns }
-    where
-      columns : (j : ℕ) → j < length reached → (pos (input.cost (slice_index reached j) (slice_index reached j)) *ℤ pos bundle.den) ≤ℤ column_times (welfare_program input prices reached) j bundle.num
-      columns j l =
-          let there = (lists.just_these (slice_index reached j)).0 (j, l, get_or_default reached j (slice_index reached j) 0 l) in
-          let h = r.dear (slice_index reached j) there.1 in
-          rw (total_of_sum input.goods (input.price (slice_index reached j)) bundle.num) (omega (arith, ints, h))
-
-  pub welfare_has_bound : t < input.n → MeetsGarp input.n input.cost 1 1 → HasNoBound (welfare_program input prices reached) → ⊥
-  welfare_has_bound observed sound =
-      prices_bound (welfare_program input prices reached) 1 (input.quantity t)
-      (region_is_feasible (record { den = 1; num = input.quantity t }) (reaching_in_region input t t sound (leads_to_itself input t t observed refl)))
 
 -- ---- a bound in lowest terms
 
@@ -88,7 +60,7 @@ module _ (input : TableInput) (prices : List ℕ) (t : ℕ) (reached : List ℕ)
   pub never_unbounded : t < input.n → MeetsGarp input.n input.cost 1 1 → (den : ℕ) (point ray : List Entry) → o ≡ Unbounded den point ray → ⊥
   never_unbounded observed sound den point ray e =
       let h = subst (λ (r : Outcome). IsEvidence p r) e evidence in
-      welfare_has_bound input (slice_index prices) t reached lists observed sound (subst (λ (q : LinearProgram). HasNoBound q) is h.1)
+      has_bound input (slice_index prices) t reached lists sound observed (subst (λ (q : LinearProgram). HasNoBound q) is h.1)
 
   module _ (pair : Pair) (optimal : o ≡ Optimal pair) (goods : length prices ≡ input.goods) (bound : Bound) (shown : IsShownFrom prices pair bound) where
     lowest : IsLowestTerms (spending input.goods (slice_index prices) (slice_index pair.x)) pair.den shown.0

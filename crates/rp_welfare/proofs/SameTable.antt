@@ -1,16 +1,12 @@
 -- From the costs in memory to the table.
-use Rattle.std.proofs.Common.{◌≡◌, ◌↔◌, ℕ, List, subst}
+use Rattle.std.proofs.Common.{◌≡◌, ℕ, List, subst}
 use Rattle.rp_evidence.specs.Garp.{IsViolationAt, MeetsGarp, ProvesGarp}
-use Rattle.rp_evidence.specs.Input.{input_of_table}
-use Rattle.rp_evidence.specs.Preference.{AgreeBelow, IsWeak}
-use Rattle.rp_evidence.specs.Walk.{Reaches}
+use Rattle.rp_evidence.specs.Preference.{AgreeBelow}
 use Rattle.rp_evidence.specs.declared.garp.Garp.{Garp}
 use Rattle.rp_evidence.specs.declared.garp.Garp.TheVariants.{Ranks, Cycle}
-use Rattle.rp_evidence.proofs.SameCosts.{garp_same, reach_same, weak_same}
-use Rattle.rp_pref.specs.Closure.{IsClosureOf, Reached}
+use Rattle.rp_evidence.proofs.SameCosts.{garp_same}
 use Rattle.rp_table.specs.Cost.{CostTable, IsCostsOf, cost_at, cost_of}
 use Rattle.rp_table.specs.Tables.{Observations, records_of}
-use Rattle.rp_welfare.specs.Inner.{ClosesWeakSteps}
 
 module _ (table : Observations) (costs : CostTable) (of : IsCostsOf costs table) where
   agree : AgreeBelow (records_of table) (cost_at costs) (cost_of table)
@@ -20,16 +16,6 @@ module _ (table : Observations) (costs : CostTable) (of : IsCostsOf costs table)
   verdict_of_table verdict h =
       garp_same (records_of table) (cost_at costs) (cost_of table) verdict agree
       (subst (λ n. ProvesGarp n (cost_at costs) verdict) of.size h)
-
-  pub closes_of_table : (closure : Reached) → IsClosureOf closure costs.n (IsWeak (cost_at costs) 1 1) → ClosesWeakSteps closure (input_of_table table)
-  closes_of_table closure h =
-      let k = subst (λ n. IsClosureOf closure n (IsWeak (cost_at costs) 1 1)) of.size h in
-      let same : (s t : ℕ) → Reaches (records_of table) (IsWeak (cost_at costs) 1 1) s t ↔ Reaches (records_of table) (IsWeak (cost_of table) 1 1) s t
-      = λ s t. reach_same (records_of table) (IsWeak (cost_at costs) 1 1) (IsWeak (cost_of table) 1 1) (weak_same (records_of table) (cost_at costs) (cost_of table) 1 1 agree) s t in
-      record {
-        size = k.size;
-        exact = λ s t a b. (λ r. (same s t).0 ((k.exact s t a b).0 r), λ r. (k.exact s t a b).1 ((same s t).1 r));
-      }
 
   pub meets_by_ranks : (verdict : Garp) (ranks : List ℕ) → ProvesGarp costs.n (cost_at costs) verdict → verdict ≡ Ranks ranks → MeetsGarp (records_of table) (cost_of table) 1 1
   meets_by_ranks verdict ranks h e = (subst (λ (v : Garp). ProvesGarp (records_of table) (cost_of table) v) e (verdict_of_table verdict h)).1

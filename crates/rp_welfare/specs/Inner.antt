@@ -1,20 +1,13 @@
 -- Words that only the crate's own functions and their proofs need; no definition and no public clause rests on them.
-use Rattle.std.specs.Prelude.{◌≡◌, ℕ, ◌<◌, ◌≤◌, ◌⊎◌, ◌↔◌, List, Contains, length, slice_index}
-use Rattle.std.specs.List.Sorted.{IsStrictlyIncreasing}
+use Rattle.std.specs.Prelude.{◌≡◌, ℕ, ◌<◌, ◌≤◌, ◌⊎◌, List, length, slice_index}
 use Rattle.rp_evidence.specs.Demand.{spending}
 use Rattle.rp_evidence.specs.Input.{TableInput, input_of_table}
-use Rattle.rp_evidence.specs.Preference.{IsWeak}
 use Rattle.rp_evidence.specs.Welfare.{EqualsOrReaches}
 use Rattle.rp_evidence.specs.declared.demand.Bound.{Bound}
 use Rattle.rp_evidence.specs.declared.demand.Bound.TheVariants.{Shown}
 use Rattle.rp_farkas.specs.declared.entry.Pair.{Pair}
 use Rattle.rp_num.specs.Fraction.{Fraction, IsLowestTerms}
-use Rattle.rp_pref.specs.Closure.{IsClosureOf, Reached}
 use Rattle.rp_table.specs.Tables.{Observations}
-
--- The closure is that of the weak steps of the input.
-abbrev pub ClosesWeakSteps : Reached → TableInput → Type 0
-ClosesWeakSteps reached input = IsClosureOf reached input.n (IsWeak input.cost 1 1)
 
 -- What the bundle of observation s costs at the prices.
 abbrev pub cost_at_prices : Observations → (ℕ → ℕ) → ℕ → ℕ
@@ -31,12 +24,6 @@ pub record IsCheapestBelow (input : TableInput) (prices : ℕ → ℕ) (t end s 
   pub costs : spending input.goods prices (input.quantity s) ≡ cost
   pub least : (r : ℕ) → r < end → EqualsOrReaches input r t → cost ≤ spending input.goods prices (input.quantity r)
   pub first : (r : ℕ) → r < end → r < s → EqualsOrReaches input r t → cost < spending input.goods prices (input.quantity r)
-
--- The list has just those of the first observations that t equals or reaches, in increasing order.
-pub record ListsReachedBelow (input : TableInput) (t end : ℕ) (reached : List ℕ) : Type 0 where
-  pub rising : IsStrictlyIncreasing reached
-  pub just_these : (s : ℕ) → Contains reached s ↔ ((s < end) × EqualsOrReaches input t s)
-  pub few : length reached ≤ end
 
 -- The bound that shows the pair with the cost of its price side.
 abbrev pub IsShownFrom : List ℕ → Pair → Bound → Type 0

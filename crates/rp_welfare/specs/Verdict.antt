@@ -4,7 +4,7 @@ use Rattle.std.specs.Prelude.{◌≡◌, ℕ, ◌*◌, ◌<◌, ◌≤◌, List,
 use Rattle.rp_evidence.specs.Demand.{spending}
 use Rattle.rp_evidence.specs.Garp.{MeetsGarp}
 use Rattle.rp_evidence.specs.Input.{TableInput}
-use Rattle.rp_evidence.specs.Welfare.{EqualsOrReaches, IsUpperWelfare, ListsReached, welfare_program}
+use Rattle.rp_evidence.specs.Welfare.{EqualsOrReaches, IsUpperWelfare, ListsReached, NoneWorthMore, welfare_program}
 use Rattle.rp_evidence.specs.declared.demand.Bound.{Bound}
 use Rattle.rp_evidence.specs.declared.demand.Bound.TheVariants.{Shown, Wide}
 use Rattle.rp_evidence.specs.declared.demand.WelfarePart.{WelfarePart}
@@ -63,3 +63,10 @@ IsAtMost (Wide step) upper = Unit {0}
 abbrev pub HasLowerAtMostUpper : WelfarePart → Type 0
 HasLowerAtMostUpper (Bounds upper at lower) = IsAtMost lower upper
 HasLowerAtMostUpper (NoModel walk) = Unit {0}
+
+-- Where bounds are given the program of the lower one is bounded, not its run alone: no feasible point of it is worth more than
+-- the upper bound.
+abbrev pub HasBoundedProgram : TableInput → List ℕ → ℕ → WelfarePart → Type 0
+HasBoundedProgram input prices t (Bounds upper at lower) =
+    (reached : List ℕ) → ListsReached input t reached → NoneWorthMore (welfare_program input (slice_index prices) reached) upper
+HasBoundedProgram input prices t (NoModel walk) = Unit {0}

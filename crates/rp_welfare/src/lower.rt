@@ -7,7 +7,8 @@ ghost use Rattle.rp_farkas.specs.Limits.{FitsEvidence};
 ghost use Rattle.rp_table.specs.Cost.{IsCostsOf, cost_of};
 ghost use Rattle.rp_table.specs.Tables.{goods_of, records_of};
 ghost use Rattle.rp_table.specs.declared.TheConstants.{GOODS, LARGEST};
-ghost use Rattle.rp_welfare.specs.Inner.{ClosesWeakSteps, IsShownFrom};
+ghost use Rattle.rp_pref.specs.Closure.{IsWeakClosureOf};
+ghost use Rattle.rp_welfare.specs.Inner.{IsShownFrom};
 ghost use Rattle.rp_welfare.specs.Verdict.{IsLowerBound};
 
 use crate::program::LowerProgram;
@@ -31,7 +32,7 @@ pub(crate) fn lower_bound(
 ) -> Result<Bound, NoMemory>
     requires costs { IsCostsOf costs.now table.now }
     requires sound { MeetsGarp (records_of table.now) (cost_of table.now) 1 1 }
-    requires closes { ClosesWeakSteps closure.now (input_of_table table.now) }
+    requires closes { IsWeakClosureOf closure.now (input_of_table table.now) }
     requires goods { length prices.now ≡ goods_of table.now }
     requires prices { All (λ p. (1 ≤ p) × (p ≤ LARGEST)) prices.now }
     requires observed { t < records_of table.now }

@@ -3,7 +3,7 @@ ghost use Rattle.rp_evidence.specs.Input.{TableInput, input_of_table};
 ghost use Rattle.rp_evidence.specs.Welfare.{EqualsOrReaches, ListsReached};
 ghost use Rattle.rp_table.specs.Tables.{records_of};
 ghost use Rattle.rp_table.specs.declared.TheConstants.{RECORDS};
-ghost use Rattle.rp_welfare.specs.Inner.{ClosesWeakSteps};
+ghost use Rattle.rp_pref.specs.Closure.{IsWeakClosureOf};
 
 use rp_num::NoMemory;
 use rp_pref::Closure;
@@ -14,7 +14,7 @@ use std::alloc::Global;
 pub(crate) fn equals_or_reaches(closure: &Closure, s: u32, t: u32) -> bool
     requires from { s < closure.now.n }
     requires to { t < closure.now.n }
-    ensures { (input : TableInput) → ClosesWeakSteps closure.now input
+    ensures { (input : TableInput) → IsWeakClosureOf closure.now input
         → IsTrue result ↔ EqualsOrReaches input s t }
 {
     s == t || closure.reaches(s, t)
@@ -27,7 +27,7 @@ pub(crate) fn reached_from(
     closure: &Closure,
     t: u32,
 ) -> Result<Vec<u32>, NoMemory>
-    requires closes { ClosesWeakSteps closure.now (input_of_table table.now) }
+    requires closes { IsWeakClosureOf closure.now (input_of_table table.now) }
     requires observed { t < records_of table.now }
     ensures listed { IfOk result
         (λ reached. ListsReached (input_of_table table.now) t reached.items) }

@@ -2,7 +2,8 @@ ghost use Rattle.std.specs.Prelude.{◌≡◌, ◌≤◌, ◌<◌, ◌↔◌, Is
 ghost use Rattle.rp_evidence.specs.Input.{input_of_table};
 ghost use Rattle.rp_table.specs.Tables.{goods_of, records_of};
 ghost use Rattle.rp_table.specs.declared.TheConstants.{LARGEST};
-ghost use Rattle.rp_welfare.specs.Inner.{ClosesWeakSteps, IsBefore, cost_at_prices};
+ghost use Rattle.rp_pref.specs.Closure.{IsWeakClosureOf};
+ghost use Rattle.rp_welfare.specs.Inner.{IsBefore, cost_at_prices};
 ghost use Rattle.rp_welfare.specs.Verdict.{IsFirstCheapest};
 
 use crate::reached::equals_or_reaches;
@@ -18,7 +19,7 @@ pub(crate) struct Cheapest {
 
 /// The first observation of least cost among those that equal or reach `t`.
 pub(crate) fn first_cheapest(table: &Table, closure: &Closure, prices: &[u32], t: u32) -> Cheapest
-    requires closes { ClosesWeakSteps closure.now (input_of_table table.now) }
+    requires closes { IsWeakClosureOf closure.now (input_of_table table.now) }
     requires goods { length prices.now ≡ goods_of table.now }
     requires prices { All (λ p. (1 ≤ p) × (p ≤ LARGEST)) prices.now }
     requires observed { t < records_of table.now }

@@ -3,11 +3,13 @@ ghost use Rattle.rp_evidence.specs.DemandEvidence.{ProvesWelfare};
 ghost use Rattle.rp_evidence.specs.Garp.{ProvesGarp};
 ghost use Rattle.rp_evidence.specs.Input.{input_of_table};
 ghost use Rattle.rp_evidence.specs.Preference.{IsWeak};
+ghost use Rattle.rp_evidence.specs.WelfareModels.{HoldsInEveryModel};
 ghost use Rattle.rp_pref.specs.Closure.{IsClosureOf};
 ghost use Rattle.rp_table.specs.Cost.{IsCostsOf, cost_at};
 ghost use Rattle.rp_table.specs.Tables.{goods_of};
 ghost use Rattle.rp_table.specs.declared.TheConstants.{LARGEST};
-ghost use Rattle.rp_welfare.specs.Verdict.{HasLowerAtMostUpper, IsWelfareVerdict};
+ghost use Rattle.rp_welfare.specs.Verdict.{HasBoundedProgram, HasLowerAtMostUpper};
+ghost use Rattle.rp_welfare.specs.Verdict.{IsWelfareVerdict};
 
 use crate::lower::lower_bound;
 use crate::upper::first_cheapest;
@@ -37,6 +39,10 @@ pub fn welfare(
     ensures given { IfOk result (λ part.
         IsWelfareVerdict (input_of_table table.now) prices.now t verdict.now part) }
     ensures lower_at_most_upper { IfOk result HasLowerAtMostUpper }
+    ensures in_every_model { IfOk result
+        (λ part. HoldsInEveryModel (input_of_table table.now) prices.now t part) }
+    ensures bounded { IfOk result
+        (λ part. HasBoundedProgram (input_of_table table.now) prices.now t part) }
 {
     let closure = Closure::of(alloc, costs, Level { num: 1, den: 1 }, Steps::Weak)?;
     welfare_by_closure(alloc, table, costs, verdict, &closure, prices, t)
@@ -63,6 +69,10 @@ pub fn welfare_by_closure(
     ensures given { IfOk result (λ part.
         IsWelfareVerdict (input_of_table table.now) prices.now t verdict.now part) }
     ensures lower_at_most_upper { IfOk result HasLowerAtMostUpper }
+    ensures in_every_model { IfOk result
+        (λ part. HoldsInEveryModel (input_of_table table.now) prices.now t part) }
+    ensures bounded { IfOk result
+        (λ part. HasBoundedProgram (input_of_table table.now) prices.now t part) }
 {
     match verdict {
         Garp::Cycle(walk) => {

@@ -1,7 +1,7 @@
 use Rattle.std.proofs.Common.{refl, sym, ◌∙◌, arith}
 use Rattle.std.proofs.lemmas.Bool.{false≢true}
 use Rattle.rp_check.specs.Reach.{IsMarked}
-use Rattle.rp_check.proofs.Listing.{those_without, those_written}
+use Rattle.rp_evidence.proofs.Enumerations.{enumerates_without, enumerates_written}
 use Rattle.rp_check.proofs.reach.list_marked.Goals as goal
 use Rattle.rp_check.proofs.reach.list_marked.Goals.{then-marks-t, else-marks-t}
 
@@ -12,10 +12,10 @@ loop-t-preserved c =
     elim c.if-marks-t.branch [
       | then-marks-t w ↦ rw (w.count-is, w.list-is) (record {
         few = omega (arith, l.invariant.few);
-        listed = those_written P l.t l.count l.list l.invariant.listed w.if-marks-t.true (omega (arith, l.invariant.few, l.auto.list, c.requires.list, c.loop-t-test.true)) _ refl;
+        listed = enumerates_written P l.t l.count l.list l.invariant.listed w.if-marks-t.true (omega (arith, l.invariant.few, l.auto.list, c.requires.list, c.loop-t-test.true)) _ refl;
       })
       | else-marks-t w ↦ rw (w.count-is, w.list-is) (record {
         few = omega (arith, l.invariant.few);
-        listed = those_without P l.t _ l.invariant.listed (λ h. false≢true (sym w.if-marks-t.false ∙ h));
+        listed = enumerates_without P l.t _ l.invariant.listed (λ h. false≢true (sym w.if-marks-t.false ∙ h));
       })
     ]

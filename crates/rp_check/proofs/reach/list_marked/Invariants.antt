@@ -1,9 +1,10 @@
 use Rattle.std.proofs.Common.{◌≤◌, take}
-use Rattle.rp_check.specs.Reach.{IsMarked, ListsThose}
+use Rattle.rp_evidence.specs.Enumeration.{Enumerates}
+use Rattle.rp_check.specs.Reach.{IsMarked}
 use Rattle.rp_check.proofs.reach.list_marked.Given as goal
 
 abbrev pub invariant-loop-t : goal.invariant-loop-t
 invariant-loop-t l = record {
   few : l.count ≤ l.t;
-  listed : ListsThose l.t (IsMarked l.marks) (take l.count l.list);
+  listed : Enumerates l.t (IsMarked l.marks) (take l.count l.list);
 }

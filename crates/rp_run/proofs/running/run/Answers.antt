@@ -1,9 +1,11 @@
-use Rattle.std.proofs.Common.{◌≡◌, ◌∙◌, Some, None, map, string_bytes, sym, inl, inr}
-use Rattle.rp_run.specs.CommandLine.{line_in}
-use Rattle.rp_run.specs.Named.{named_line}
-use Rattle.rp_run.proofs.MatchesNameALine.{refused_where_no_line}
+use Rattle.std.proofs.Common.{◌≡◌, ◌∙◌, Some, None, map, string_bytes, sym, subst, inl, inr}
+use Rattle.rp_words.specs.CommandLine.{line_in}
+use Rattle.rp_words.specs.Named.{named_line}
+use Rattle.rp_run.specs.Turns.{AreReadInTurn, AsksForFirst}
+use Rattle.rp_run.proofs.TurnLemmas.{unread}
+use Rattle.rp_words.proofs.MatchesNameALine.{refused_where_no_line}
 use Rattle.rp_run.proofs.RunLemmas.{cause_of_accepted, done_line_apart, line_rejected, not_both, rejected_line_apart}
-use Rattle.rp_run.proofs.ShapeLemmas.{shape_given}
+use Rattle.rp_words.proofs.ShapeLemmas.{shape_given}
 use Rattle.rp_run.proofs.running.run.Goals as goal
 
 pub returns-in_default-clause-shapes : goal.returns-in_default-clause-shapes
@@ -34,7 +36,8 @@ returns-in-Err-clause-complete g c = λ line is accepted calm _.
     let asked : line_in c.args.words.now.items ≡ Some (named_line c.in-Some.line) = rw (c.in-Some.is, c.as_slice.ensures.value) at (sym c.in-Ok.ensures.exact) in
     let before = g.D.Desk.faults c.args.desk.now in
     let after = g.D.Desk.faults c.answer_line.new.desk in
-    inr (rw c.refuse-in-Err.ensures.status (cause_of_accepted (g.D.Desk.bytes c.args.desk.now) before after (line_in c.args.words.now.items) (named_line c.in-Some.line) line c.in-Err.cause asked is accepted calm c.in-Err.ensures.caused))
+    let asks = AsksForFirst (g.D.Desk.bytes c.args.desk.now) (g.D.Desk.calls c.args.desk.now) (g.D.Desk.calls c.answer_line.new.desk) in
+    inr (rw c.refuse-in-Err.ensures.status (cause_of_accepted (g.D.Desk.bytes c.args.desk.now) before after asks (line_in c.args.words.now.items) (named_line c.in-Some.line) line c.in-Err.cause asked is accepted calm c.in-Err.ensures.caused))
 
 pub returns-in-Ok-answer_line-clause-rejected : goal.returns-in-Ok-answer_line-clause-rejected
 returns-in-Ok-answer_line-clause-rejected g c = λ rejected.
@@ -62,3 +65,21 @@ returns-in-Ok-answer_line-clause-never_rejected g c = λ line is must rejected.
       | inl same ↦ rejected_line_apart (g.D.Desk.bytes c.args.desk.now) (line_in c.args.words.now.items) (named_line c.in-Some.line) line answer.answer.status answer.answer.text.items asked is answer.ensures.answered must (sym same ∙ rejected)
       | inr fault ↦ (let wrong = sym fault ∙ rejected in cc)
     ]
+
+pub returns-in_default-clause-in_turn : goal.returns-in_default-clause-in_turn
+returns-in_default-clause-in_turn g c = λ line is. unread (g.D.Desk.bytes c.args.desk.now) (g.D.Desk.calls c.args.desk.now) line
+
+pub returns-in_default-asked-clause-in_turn : goal.returns-in_default-asked-clause-in_turn
+returns-in_default-asked-clause-in_turn g c = λ line is. unread (g.D.Desk.bytes c.args.desk.now) (g.D.Desk.calls c.args.desk.now) line
+
+pub returns-in-Ok-answer_line-clause-in_turn : goal.returns-in-Ok-answer_line-clause-in_turn
+returns-in-Ok-answer_line-clause-in_turn g c = λ line is.
+    let asked : line_in c.args.words.now.items ≡ Some (named_line c.in-Some.line) = rw (c.in-Some.is, c.as_slice.ensures.value) at (sym c.in-Ok.ensures.exact) in
+    let same : named_line c.in-Some.line ≡ line = cc in
+    subst (λ l. AreReadInTurn (g.D.Desk.bytes c.args.desk.now) (g.D.Desk.calls c.args.desk.now) (g.D.Desk.calls c.answer_line.new.desk) l) same c.in-Ok-answer_line.ensures.in_turn
+
+pub returns-in-Err-clause-in_turn : goal.returns-in-Err-clause-in_turn
+returns-in-Err-clause-in_turn g c = λ line is.
+    let asked : line_in c.args.words.now.items ≡ Some (named_line c.in-Some.line) = rw (c.in-Some.is, c.as_slice.ensures.value) at (sym c.in-Ok.ensures.exact) in
+    let same : named_line c.in-Some.line ≡ line = cc in
+    subst (λ l. AreReadInTurn (g.D.Desk.bytes c.args.desk.now) (g.D.Desk.calls c.args.desk.now) (g.D.Desk.calls c.answer_line.new.desk) l) same c.in-Err.ensures.in_turn

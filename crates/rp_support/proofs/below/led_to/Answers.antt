@@ -1,5 +1,5 @@
 use Rattle.rp_support.specs.Starts.{IsLedTo}
-use Rattle.rp_support.proofs.Listing.{those_with_in, those_without}
+use Rattle.rp_evidence.proofs.Enumerations.{enumerates_pushed, enumerates_without}
 use Rattle.std.proofs.lemmas.Bool.{false≢true}
 use Rattle.std.proofs.Common.{sym, ◌∙◌}
 use Rattle.rp_support.proofs.below.led_to.Goals as goal
@@ -10,6 +10,6 @@ loop-t-preserved c =
     let P = IsLedTo c.args.closure.now c.args.starts.now in
     let l = c.loop-t in
     elim c.if-is_led_to.branch [
-      | then-is_led_to+in_ok-push w ↦ rw w.those-is (those_with_in P l.t l.those.items l.invariant (c.is_led_to.ensures.0 w.if-is_led_to.true) _ w.in_ok-push.ensures.items)
-      | else-is_led_to w ↦ rw w.those-is (those_without P l.t l.those.items l.invariant (λ h. false≢true (sym w.if-is_led_to.false ∙ c.is_led_to.ensures.1 h)))
+      | then-is_led_to+in_ok-push w ↦ rw w.those-is (enumerates_pushed P l.t l.those.items l.invariant (c.is_led_to.ensures.0 w.if-is_led_to.true) _ w.in_ok-push.ensures.items)
+      | else-is_led_to w ↦ rw w.those-is (enumerates_without P l.t l.those.items l.invariant (λ h. false≢true (sym w.if-is_led_to.false ∙ c.is_led_to.ensures.1 h)))
     ]

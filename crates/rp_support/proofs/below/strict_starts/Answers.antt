@@ -1,7 +1,7 @@
 use Rattle.std.proofs.Common.{arith}
 use Rattle.rp_evidence.specs.DemandEvidence.{budget_of}
 use Rattle.rp_evidence.specs.Input.{input_of_table}
-use Rattle.rp_support.specs.Starts.{IsStrictStart}
+use Rattle.rp_evidence.specs.Demand.{IsStrictStart}
 use Rattle.rp_support.proofs.Listing.{told_more}
 use Rattle.rp_support.proofs.below.strict_starts.Goals as goal
 

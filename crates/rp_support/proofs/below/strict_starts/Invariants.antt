@@ -1,7 +1,7 @@
 use Rattle.std.proofs.Common.{◌≡◌, ◌<◌, ◌↔◌, ℕ, false, IsTrue, slice_index_or, vec_len}
 use Rattle.rp_evidence.specs.DemandEvidence.{budget_of}
 use Rattle.rp_evidence.specs.Input.{input_of_table}
-use Rattle.rp_support.specs.Starts.{IsStrictStart}
+use Rattle.rp_evidence.specs.Demand.{IsStrictStart}
 use Rattle.rp_support.proofs.below.strict_starts.Given as goal
 
 abbrev pub invariant-loop-v : goal.invariant-loop-v

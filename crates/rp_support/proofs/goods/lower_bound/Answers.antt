@@ -6,7 +6,7 @@ use Rattle.rp_evidence.specs.DemandEvidence.{budget_of}
 use Rattle.rp_evidence.specs.Input.{input_of_table}
 use Rattle.rp_table.specs.Tables.{records_of}
 use Rattle.rp_support.proofs.Bounding.{support_bounds}
-use Rattle.rp_support.proofs.Listing.{rising_few}
+use Rattle.rp_evidence.proofs.Enumerations.{enumerates_few}
 use Rattle.rp_support.proofs.Starting.{below_observed}
 use Rattle.rp_support.proofs.goods.lower_bound.Goals as goal
 
@@ -18,8 +18,7 @@ make-requires-clause-observed c =
 pub make-requires-clause-few : goal.make-requires-clause-few
 make-requires-clause-few c =
     let b = c.args.budget.now in
-    rising_few (records_of b.table.now) (IsBelow (input_of_table b.table.now) (budget_of b.prices.now b.m)) c.args.below.now
-    (record { rising = c.requires.below.rising; just_these = c.requires.below.just_these })
+    enumerates_few (records_of b.table.now) (IsBelow (input_of_table b.table.now) (budget_of b.prices.now b.m)) c.args.below.now c.requires.below
 
 pub bound_of-requires-clause-bounded : goal.bound_of-requires-clause-bounded
 bound_of-requires-clause-bounded c =

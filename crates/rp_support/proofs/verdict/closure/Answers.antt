@@ -1,5 +1,5 @@
 use Rattle.std.proofs.lemmas.Result.{IfOk-weaker}
-use Rattle.rp_support.proofs.Demanding.{closure_of_table}
+use Rattle.rp_pref.proofs.WeakClosures.{closure_of_table}
 use Rattle.rp_support.proofs.verdict.closure.Goals as goal
 
 pub returns : goal.returns

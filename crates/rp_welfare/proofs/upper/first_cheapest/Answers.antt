@@ -3,7 +3,7 @@ use Rattle.std.proofs.lemmas.Bool.{false≢true}
 use Rattle.rp_evidence.specs.Input.{TableInput, input_of_table}
 use Rattle.rp_welfare.specs.Inner.{IsCheapestBelow}
 use Rattle.rp_welfare.proofs.Cheapest.{cheapest_changes, cheapest_of_all, cheapest_skips, cheapest_stays, starts_with_own}
-use Rattle.rp_welfare.proofs.Reaching.{leads_from_below}
+use Rattle.rp_evidence.proofs.EqualOrReached.{starts_in}
 use Rattle.rp_welfare.proofs.upper.first_cheapest.Goals as goal
 use Rattle.rp_welfare.proofs.upper.first_cheapest.Goals.{then-equals_or_reaches+then-is_before, then-equals_or_reaches+else-is_before, else-equals_or_reaches}
 
@@ -39,5 +39,5 @@ returns c =
     let l = c.loop-s in
     let input : TableInput = input_of_table a.table.now in
     let end : l.s ≡ input.n = omega (arith, c.loop-s-test.false, l.auto.s-end, c.n-s-end.ensures.count) in
-    cheapest_of_all input (slice_index a.prices.now) a.t l.best.at l.best.cost (λ r k. leads_from_below input r a.t k)
+    cheapest_of_all input (slice_index a.prices.now) a.t l.best.at l.best.cost (λ r k. starts_in input r a.t k)
     (subst (λ (n : ℕ). IsCheapestBelow input (slice_index a.prices.now) a.t n l.best.at l.best.cost) end l.invariant)

@@ -1,13 +1,18 @@
 use Rattle.std.proofs.Common.{List, ℕ, slice_index, sym, subst, ◌∙◌, arith}
 use Rattle.rp_evidence.specs.Garp.{IsViolationAt}
 use Rattle.rp_evidence.specs.Input.{TableInput, input_of_table}
+use Rattle.rp_evidence.specs.Welfare.{NoneWorthMore, welfare_program}
+use Rattle.rp_evidence.proofs.AfriatModels.{model_meets_garp}
+use Rattle.rp_evidence.proofs.WelfareModels.{bounds_hold}
+use Rattle.rp_evidence.proofs.WelfarePrograms.{none_worth_more}
+use Rattle.rp_pref.proofs.WeakClosures.{closure_of_table}
 use Rattle.rp_welfare.proofs.LowerBounds.{lower_at_most}
-use Rattle.rp_welfare.proofs.SameTable.{closes_of_table, meets_by_ranks, violates_by_cycle}
+use Rattle.rp_welfare.proofs.SameTable.{meets_by_ranks, violates_by_cycle}
 use Rattle.rp_welfare.proofs.verdict.welfare_by_closure.Goals as goal
 
 pub first_cheapest-upper-requires-clause-closes : goal.first_cheapest-upper-requires-clause-closes
 first_cheapest-upper-requires-clause-closes c =
-    closes_of_table c.args.table.now c.args.costs.now c.requires.costs c.args.closure.now c.requires.closes
+    closure_of_table c.args.table.now c.args.costs.now c.requires.costs c.args.closure.now c.requires.closes
 
 pub lower_bound-requires-clause-sound : goal.lower_bound-requires-clause-sound
 lower_bound-requires-clause-sound c =
@@ -15,7 +20,7 @@ lower_bound-requires-clause-sound c =
 
 pub lower_bound-requires-clause-closes : goal.lower_bound-requires-clause-closes
 lower_bound-requires-clause-closes c =
-    closes_of_table c.args.table.now c.args.costs.now c.requires.costs c.args.closure.now c.requires.closes
+    closure_of_table c.args.table.now c.args.costs.now c.requires.costs c.args.closure.now c.requires.closes
 
 pub returns-in_ok-walk-in-Cycle-clause-proves : goal.returns-in_ok-walk-in-Cycle-clause-proves
 returns-in_ok-walk-in-Cycle-clause-proves c =
@@ -48,3 +53,24 @@ returns-in_ok-lower-in-Ranks-clause-lower_at_most_upper c =
     lower_at_most input (slice_index c.args.prices.now) c.args.t c.first_cheapest-upper.result.at c.first_cheapest-upper.result.cost _
     (meets_by_ranks c.args.table.now c.args.costs.now c.requires.costs c.args.verdict.now _ c.requires.verdict c.in-Ranks.is)
     c.first_cheapest-upper.ensures.upper c.in_ok-lower-in-Ranks.ensures.proves
+
+pub returns-in_ok-walk-in-Cycle-clause-in_every_model : goal.returns-in_ok-walk-in-Cycle-clause-in_every_model
+returns-in_ok-walk-in-Cycle-clause-in_every_model c = λ utility multiplier model.
+    let input : TableInput = input_of_table c.args.table.now in
+    model_meets_garp input.n input.cost utility multiplier model _
+    (violates_by_cycle c.args.table.now c.args.costs.now c.requires.costs c.args.verdict.now _ c.requires.verdict c.in-Cycle.is)
+
+pub returns-in_ok-lower-in-Ranks-clause-in_every_model : goal.returns-in_ok-lower-in-Ranks-clause-in_every_model
+returns-in_ok-lower-in-Ranks-clause-in_every_model c = λ utility multiplier model.
+    bounds_hold (input_of_table c.args.table.now) utility multiplier model (slice_index c.args.prices.now) c.args.t
+    c.first_cheapest-upper.result.cost c.first_cheapest-upper.result.at c.in_ok-lower-in-Ranks.lower
+    (returns-in_ok-lower-in-Ranks-clause-proves c).1
+
+pub returns-in_ok-lower-in-Ranks-clause-bounded : goal.returns-in_ok-lower-in-Ranks-clause-bounded
+returns-in_ok-lower-in-Ranks-clause-bounded c = λ reached lists.
+    let input : TableInput = input_of_table c.args.table.now in
+    let upper = c.first_cheapest-upper.ensures.upper in
+    subst (λ (k : ℕ). NoneWorthMore (welfare_program input (slice_index c.args.prices.now) reached) k) upper.costs
+    (none_worth_more input (slice_index c.args.prices.now) c.args.t reached lists
+    (meets_by_ranks c.args.table.now c.args.costs.now c.requires.costs c.args.verdict.now _ c.requires.verdict c.in-Ranks.is)
+    c.first_cheapest-upper.result.at upper.leads)

@@ -1,5 +1,0 @@
-use Rattle.rp_accepted.proofs.AcceptedRandom.{random_passes}
-use Rattle.rp_accepted.proofs.laws.random_accepted.Goals as goal
-
-pub returns : goal.returns
-returns c = λ p types part is few all. random_passes p is types few all part

@@ -1,0 +1,16 @@
+pub mod Accepted
+pub mod AcceptedBounds
+pub mod AcceptedItems
+pub mod AcceptedRandom
+pub mod BoundsFit
+pub mod Closed
+pub mod Excluding
+pub mod ExcludingRandom
+pub mod ItemsFit
+pub mod Lists
+pub mod Narrow
+pub mod NewRows
+pub mod RandomFits
+pub mod SameValues
+pub mod TestsFit
+mod Tries

@@ -1,0 +1,70 @@
+ghost use Rattle.std.specs.Prelude.{◌≡◌, ◌≤◌, ◌∷◌, [], All, List, length, ℕ};
+ghost use Rattle.rp_agreement.specs.Given.{ProvesAsGiven};
+ghost use Rattle.rp_agreement.specs.Limited.{IsLimited};
+ghost use Rattle.rp_agreement.specs.ReadBack.{IsReadBack, certificate_from, random_certificate};
+ghost use Rattle.rp_check.specs.CheckVerdict.{IsVerdictOn};
+ghost use Rattle.rp_check.specs.RandomVerdict.{IsRandomVerdictOn};
+ghost use Rattle.rp_check.specs.declared.verdict.Verdict.{Verdict};
+ghost use Rattle.rp_check.specs.declared.verdict.Verdict.TheVariants.{Accepted};
+ghost use Rattle.rp_evidence.specs.Garp.{ProvesGarp};
+ghost use Rattle.rp_evidence.specs.Input.{TableInput};
+ghost use Rattle.rp_evidence.specs.declared.certificate.Certificate.{Certificate};
+ghost use Rattle.rp_evidence.specs.declared.certificate.Item.{Item};
+ghost use Rattle.rp_evidence.specs.declared.certificate.Item.TheVariants.{Garp as GarpItem};
+ghost use Rattle.rp_evidence.specs.declared.certificate.Item.TheVariants.{Random as RandomItem};
+ghost use Rattle.rp_evidence.specs.declared.certificate.Kind.{Kind};
+ghost use Rattle.rp_evidence.specs.declared.certificate.Kind.TheVariants.{Random, Table};
+ghost use Rattle.rp_evidence.specs.declared.garp.Garp.{Garp};
+ghost use Rattle.rp_evidence.specs.declared.random.RandomPart.{RandomPart};
+ghost use Rattle.rp_json.specs.Denoted.{IsReadable};
+ghost use Rattle.rp_patch.specs.Patches.{IsPatchList, PatchList};
+ghost use Rattle.rp_patch.specs.RandomEvidence.{ProvesRandom};
+ghost use Rattle.rp_patch.specs.Types.{AreRationalTypes};
+ghost use Rattle.rp_random.specs.Verdict.{IsRandomVerdict};
+ghost use Rattle.rp_types.specs.declared.TheConstants.{TYPES};
+
+/// The text of a certificate that can be read back denotes it, and nothing else but for want of memory.
+pub fn readable_texts_are_read_back()
+    ensures { (kind : Kind) (c : Certificate) → IsReadable kind c → IsReadBack kind c }
+{}
+
+/// A certificate of a table that begins with a verdict on the axiom and goes on with items as they are given from it is
+/// accepted, and can be read back: its text denotes it.
+pub fn certificates_agree()
+    ensures accepted { (input : TableInput) (verdict : Garp) (rest : List Item)
+        → ProvesGarp input.n input.cost verdict → All (ProvesAsGiven input verdict) rest
+        → IsVerdictOn input (GarpItem verdict ∷ rest) Accepted }
+    ensures readable { (input : TableInput) (verdict : Garp) (rest : List Item) → IsLimited input
+        → ProvesAsGiven input verdict (GarpItem verdict) → All (ProvesAsGiven input verdict) rest
+        → IsReadable Table (certificate_from verdict rest) }
+    ensures read_back { (input : TableInput) (verdict : Garp) (rest : List Item) → IsLimited input
+        → ProvesAsGiven input verdict (GarpItem verdict) → All (ProvesAsGiven input verdict) rest
+        → IsReadBack Table (certificate_from verdict rest) }
+{}
+
+/// So is and can the certificate of random choices.
+pub fn random_certificates_agree()
+    ensures accepted { (p : PatchList) (types : List (List ℕ)) (part : RandomPart)
+        → IsPatchList p → length types ≤ TYPES → AreRationalTypes p types
+        → IsRandomVerdict p types part
+        → IsRandomVerdictOn p (RandomItem p.total part ∷ []) Accepted }
+    ensures readable { (p : PatchList) (types : List (List ℕ)) (part : RandomPart)
+        → IsPatchList p → ProvesRandom p p.total part → IsRandomVerdict p types part
+        → IsReadable Random (random_certificate p.total part) }
+    ensures read_back { (p : PatchList) (types : List (List ℕ)) (part : RandomPart)
+        → IsPatchList p → ProvesRandom p p.total part → IsRandomVerdict p types part
+        → IsReadBack Random (random_certificate p.total part) }
+{}
+
+/// What is accepted is not rejected: the checker's verdict on it is no other.
+pub fn accepted_is_not_rejected()
+    ensures { (input : TableInput) (items : List Item) (verdict : Verdict)
+        → IsVerdictOn input items Accepted → IsVerdictOn input items verdict → verdict ≡ Accepted }
+{}
+
+/// What is accepted on random choices is not rejected: the checker's verdict on it is no other.
+pub fn accepted_is_not_rejected_on_patches()
+    ensures { (p : PatchList) (items : List Item) (verdict : Verdict)
+        → IsRandomVerdictOn p items Accepted → IsRandomVerdictOn p items verdict
+        → verdict ≡ Accepted }
+{}

@@ -1,0 +1,133 @@
+ghost use Rattle.std.specs.Prelude.{◌<◌, ◌≤◌, List, length, ℕ};
+ghost use Rattle.rp_afriat.specs.Verdict.{IsAfriatVerdict};
+ghost use Rattle.rp_agreement.specs.Given.{AreNewPrices, IsNewExpenditure, Passes};
+ghost use Rattle.rp_agreement.specs.Given.{AreNewPrices, IsNewExpenditure};
+ghost use Rattle.rp_agreement.specs.Limited.{IsLimited};
+ghost use Rattle.rp_check.specs.AfriatFailure.{AfriatFails};
+ghost use Rattle.rp_check.specs.DemandFailure.{DemandFails};
+ghost use Rattle.rp_check.specs.EfficiencyFailure.{EfficiencyFails};
+ghost use Rattle.rp_check.specs.GarpFailure.{GarpFails};
+ghost use Rattle.rp_check.specs.HomotheticFailure.{HomotheticFails};
+ghost use Rattle.rp_check.specs.ItemFailure.{shows_garp};
+ghost use Rattle.rp_check.specs.QuasilinearFailure.{QuasilinearFails};
+ghost use Rattle.rp_check.specs.WelfareFailure.{WelfareFails};
+ghost use Rattle.rp_effic.specs.Verdict.{IsEfficiencyVerdict};
+ghost use Rattle.rp_evidence.specs.AfriatEvidence.{ProvesAfriat};
+ghost use Rattle.rp_evidence.specs.DemandEvidence.{ProvesDemand, ProvesWelfare, budget_of};
+ghost use Rattle.rp_evidence.specs.Efficiency.{ProvesEfficiency};
+ghost use Rattle.rp_evidence.specs.Garp.{ProvesGarp};
+ghost use Rattle.rp_evidence.specs.Homothetic.{ProvesHomothetic};
+ghost use Rattle.rp_evidence.specs.Input.{TableInput, input_of_table};
+ghost use Rattle.rp_evidence.specs.Input.{TableInput};
+ghost use Rattle.rp_evidence.specs.Quasilinear.{ProvesQuasilinear};
+ghost use Rattle.rp_evidence.specs.declared.afriat.AfriatPart.{AfriatPart};
+ghost use Rattle.rp_evidence.specs.declared.certificate.Item.TheVariants.{Garp as GarpItem};
+ghost use Rattle.rp_evidence.specs.declared.demand.DemandPart.{DemandPart};
+ghost use Rattle.rp_evidence.specs.declared.demand.WelfarePart.{WelfarePart};
+ghost use Rattle.rp_evidence.specs.declared.efficiency.Efficiency.{Efficiency};
+ghost use Rattle.rp_evidence.specs.declared.garp.Garp.{Garp};
+ghost use Rattle.rp_evidence.specs.declared.homothetic.Homothetic.{Homothetic};
+ghost use Rattle.rp_evidence.specs.declared.quasilinear.Quasi.{Quasi};
+ghost use Rattle.rp_evidence.specs.declared.random.RandomPart.{RandomPart};
+ghost use Rattle.rp_garp.specs.Verdict.{IsGarpVerdict};
+ghost use Rattle.rp_homo.specs.Verdict.{IsHomotheticVerdict};
+ghost use Rattle.rp_json.specs.Limits.{FitsAfriat, FitsDemand, FitsEfficiency, FitsGarp};
+ghost use Rattle.rp_json.specs.Limits.{FitsHomothetic, FitsQuasilinear, FitsRandom, FitsWelfare};
+ghost use Rattle.rp_patch.specs.Patches.{IsPatchList, PatchList};
+ghost use Rattle.rp_patch.specs.RandomEvidence.{ProvesRandom};
+ghost use Rattle.rp_patch.specs.RandomFailure.{RandomFails};
+ghost use Rattle.rp_patch.specs.Types.{AreRationalTypes};
+ghost use Rattle.rp_quasi.specs.Verdict.{IsQuasilinearVerdict};
+ghost use Rattle.rp_random.specs.Verdict.{IsRandomVerdict};
+ghost use Rattle.rp_support.specs.Verdict.{IsDemandGiven};
+ghost use Rattle.rp_table.specs.Tables.{IsTable, Observations};
+ghost use Rattle.rp_table.specs.declared.TheConstants.{RECORDS};
+ghost use Rattle.rp_types.specs.declared.TheConstants.{TYPES};
+ghost use Rattle.rp_welfare.specs.Verdict.{IsWelfareVerdict};
+
+/// What a table gives is within the limits of tables.
+pub fn tables_are_limited()
+    ensures { (table : Observations) → IsTable table → IsLimited (input_of_table table) }
+{}
+
+/// Nothing is found wrong with evidence that proves a verdict on the generalized axiom; as it is given it is within the limits in
+/// which evidence is read back.
+pub fn garp_agrees()
+    ensures accepted { (n : ℕ) (c : ℕ → ℕ → ℕ) (verdict : Garp)
+        → ProvesGarp n c verdict → Passes (GarpFails n c 1 1 verdict) }
+    ensures readable { (n : ℕ) (c : ℕ → ℕ → ℕ) (verdict : Garp) → n ≤ RECORDS
+        → ProvesGarp n c verdict → IsGarpVerdict n c verdict → FitsGarp verdict }
+{}
+
+/// So it is with what is given by Afriat's theorem.
+pub fn afriat_agrees()
+    ensures accepted { (n : ℕ) (c : ℕ → ℕ → ℕ) (part : AfriatPart)
+        → ProvesAfriat n c part → IsAfriatVerdict n c part → Passes (AfriatFails n c part) }
+    ensures readable { (n : ℕ) (c : ℕ → ℕ → ℕ) (part : AfriatPart) → n ≤ RECORDS
+        → ProvesAfriat n c part → IsAfriatVerdict n c part → FitsAfriat part }
+{}
+
+/// So it is with what is given for the efficiency index, its level in lowest terms.
+pub fn efficiency_agrees()
+    ensures accepted { (n : ℕ) (c : ℕ → ℕ → ℕ) (evidence : Efficiency)
+        → ProvesEfficiency n c evidence → IsEfficiencyVerdict n c evidence
+        → Passes (EfficiencyFails n c evidence) }
+    ensures readable { (n : ℕ) (c : ℕ → ℕ → ℕ) (evidence : Efficiency) → n ≤ RECORDS
+        → ProvesEfficiency n c evidence → IsEfficiencyVerdict n c evidence
+        → FitsEfficiency evidence }
+{}
+
+/// So it is with what is given for the homothetic test, its fractions in lowest terms.
+pub fn homothetic_agrees()
+    ensures accepted { (n : ℕ) (c : ℕ → ℕ → ℕ) (verdict : Homothetic)
+        → ProvesHomothetic n c verdict → IsHomotheticVerdict n c verdict
+        → Passes (HomotheticFails n c verdict) }
+    ensures readable { (n : ℕ) (c : ℕ → ℕ → ℕ) (verdict : Homothetic) → n ≤ RECORDS
+        → ProvesHomothetic n c verdict → IsHomotheticVerdict n c verdict
+        → FitsHomothetic verdict }
+{}
+
+/// So it is with what is given for the quasilinear test.
+pub fn quasilinear_agrees()
+    ensures accepted { (n : ℕ) (c : ℕ → ℕ → ℕ) (verdict : Quasi)
+        → ProvesQuasilinear n c verdict → IsQuasilinearVerdict n c verdict
+        → Passes (QuasilinearFails n c verdict) }
+    ensures readable { (n : ℕ) (c : ℕ → ℕ → ℕ) (verdict : Quasi) → n ≤ RECORDS
+        → ProvesQuasilinear n c verdict → IsQuasilinearVerdict n c verdict
+        → FitsQuasilinear verdict }
+{}
+
+/// So it is with what is given on demand at new prices, after the verdict on the axiom that it is given from; its bounds are in lowest
+/// terms.
+pub fn demand_agrees()
+    ensures accepted { (input : TableInput) (verdict : Garp) (prices : List ℕ) (m : ℕ) (part : DemandPart)
+        → AreNewPrices input.goods prices → IsNewExpenditure m
+        → ProvesDemand input prices m part → IsDemandGiven input (budget_of prices m) verdict part
+        → Passes (DemandFails input (shows_garp (GarpItem verdict)) prices m part) }
+    ensures readable { (input : TableInput) (verdict : Garp) (prices : List ℕ) (m : ℕ) (part : DemandPart)
+        → IsLimited input → AreNewPrices input.goods prices → IsNewExpenditure m
+        → ProvesDemand input prices m part → IsDemandGiven input (budget_of prices m) verdict part
+        → FitsDemand prices m part }
+{}
+
+/// So it is with what is given on welfare, after the verdict on the axiom that it is given from; its lower bound is in lowest terms.
+pub fn welfare_agrees()
+    ensures accepted { (input : TableInput) (verdict : Garp) (prices : List ℕ) (t : ℕ) (part : WelfarePart)
+        → AreNewPrices input.goods prices → t < input.n → ProvesGarp input.n input.cost verdict
+        → ProvesWelfare input prices t part → IsWelfareVerdict input prices t verdict part
+        → Passes (WelfareFails input (shows_garp (GarpItem verdict)) prices t part) }
+    ensures readable { (input : TableInput) (verdict : Garp) (prices : List ℕ) (t : ℕ) (part : WelfarePart)
+        → IsLimited input → AreNewPrices input.goods prices → t < input.n
+        → ProvesWelfare input prices t part → IsWelfareVerdict input prices t verdict part
+        → FitsWelfare prices t part }
+{}
+
+/// So it is with what is given for random choices.
+pub fn random_agrees()
+    ensures accepted { (p : PatchList) (types : List (List ℕ)) (part : RandomPart)
+        → IsPatchList p → length types ≤ TYPES → AreRationalTypes p types
+        → IsRandomVerdict p types part → Passes (RandomFails p p.total part) }
+    ensures readable { (p : PatchList) (types : List (List ℕ)) (part : RandomPart)
+        → IsPatchList p → ProvesRandom p p.total part → IsRandomVerdict p types part
+        → FitsRandom p.total part }
+{}

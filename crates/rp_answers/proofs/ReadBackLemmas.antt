@@ -1,0 +1,29 @@
+-- The JSON of the certificates of the program is read back as they are.
+use Rattle.std.proofs.Common.{ℕ, List, slice_index_or, arith, refl}
+use Rattle.rp_evidence.specs.Input.{input_of_table}
+use Rattle.rp_evidence.specs.Proves.{Proves}
+use Rattle.rp_evidence.specs.declared.certificate.Item.{Item}
+use Rattle.rp_evidence.specs.declared.certificate.Item.TheVariants.{Garp as GarpItem}
+use Rattle.rp_evidence.specs.declared.certificate.Kind.TheVariants.{Table}
+use Rattle.rp_evidence.specs.declared.garp.Garp.{Garp}
+use Rattle.rp_garp.specs.Verdict.{IsGarpVerdict}
+use Rattle.rp_json.specs.Denoted.{FitsKind}
+use Rattle.rp_json.proofs.ListLemmas.{all_more}
+use Rattle.rp_table.specs.Tables.{IsTable, Observations, records_of}
+use Rattle.rp_table.specs.Cost.{cost_of}
+use Rattle.rp_agreement.specs.ReadBack.{IsReadBack}
+use Rattle.rp_agreement.proofs.SameValues.{text_read_back}
+use Rattle.rp_agreement.proofs.TestsFit.{garp_fits}
+use Rattle.rp_answers.specs.AskedItems.{AreAnswered, begun_with}
+
+module _ (table : Observations) (valid : IsTable table) (garp : Garp) (proves : Proves (input_of_table table) (GarpItem garp)) (given : IsGarpVerdict (records_of table) (cost_of table) garp) where
+  -- the verdict on the axiom, and then items that can be read back
+  pub asked_read_back : (count : ℕ) (P : ℕ → Item → Type 0) (others : List Item) → AreAnswered count P others → ((k : ℕ) (item : Item) → P k item → FitsKind Table item)
+      → IsReadBack Table (begun_with garp others)
+  asked_read_back count P others answered fit =
+      text_read_back Table (begun_with garp others) (record {
+        of_kind = refl;
+        version = refl;
+        items = all_more (FitsKind Table) (GarpItem garp) others (tt, garp_fits (records_of table) (cost_of table) valid.few_records garp proves given)
+            (λ k d k_in. fit k (slice_index_or others k d) (answered.each k d (omega (arith, k_in, answered.one_each))));
+      })

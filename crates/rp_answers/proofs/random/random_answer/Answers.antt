@@ -1,0 +1,28 @@
+use Rattle.std.proofs.Common.{◌≡◌, ◌∙◌, ap, subst, sym}
+use Rattle.rp_agreement.proofs.AcceptedRandom.{random_certificate_passes}
+use Rattle.rp_check.specs.RandomVerdict.{IsRandomVerdictOn}
+use Rattle.rp_check.specs.declared.verdict.Verdict.TheVariants.{Accepted}
+use Rattle.rp_evidence.specs.declared.certificate.Certificate.{Certificate}
+use Rattle.rp_types.specs.Listed.{types_of}
+use Rattle.rp_evidence.specs.declared.certificate.Kind.TheVariants.{Random as RandomKind}
+use Rattle.rp_agreement.proofs.ItemsFit.{random_readable}
+use Rattle.rp_agreement.proofs.SameValues.{text_read_back}
+use Rattle.rp_agreement.specs.ReadBack.{IsReadBack, random_certificate}
+use Rattle.rp_answers.proofs.random.random_answer.Goals as goal
+
+pub returns : goal.returns
+returns c =
+    let p = c.args.patches.now in
+    let types = types_of c.args.types.now in
+    let part = c.in_ok-part.part in
+    let item : c.in_ok-made.made ≡ random_certificate p.total part = c.in_ok-made.ensures ∙ ap (λ total. random_certificate total part) c.total.ensures in
+    record {
+      part = part;
+      item = item;
+      proves = c.in_ok-part.ensures.proves;
+      given_so = c.in_ok-part.ensures.run;
+      accepted = subst (λ (made : Certificate). IsRandomVerdictOn p made.items Accepted) (sym item)
+          (random_certificate_passes p c.budgets.ensures.valid types c.requires.few c.requires.all part c.in_ok-part.ensures.run);
+      read_back = subst (IsReadBack RandomKind) (sym item)
+          (text_read_back RandomKind (random_certificate p.total part) (random_readable p types part c.budgets.ensures.valid c.in_ok-part.ensures.proves c.in_ok-part.ensures.run));
+    }

@@ -1,0 +1,14 @@
+pub mod Accepted
+pub mod Analysis
+pub mod AskedItems
+pub mod Checked
+pub mod Demands
+pub mod PairsText
+pub mod Randoms
+pub mod ShownText
+pub mod StatusNumbers
+pub mod TrialTable
+pub mod TrialText
+pub mod Typed
+pub mod UtilityText
+pub mod Welfares

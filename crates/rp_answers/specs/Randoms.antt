@@ -1,0 +1,29 @@
+-- What `random` prints: the report, or the JSON, of a certificate with the one item on whether rational types make the choices (McFadden
+-- and Richter 1990).
+use Rattle.std.specs.Prelude.{◌≡◌, ℕ, Bool, List, if◌then◌else◌, length}
+use Rattle.rp_check.specs.RandomVerdict.{IsRandomVerdictOn}
+use Rattle.rp_check.specs.declared.verdict.Verdict.TheVariants.{Accepted}
+use Rattle.rp_evidence.specs.declared.certificate.Certificate.{Certificate}
+use Rattle.rp_evidence.specs.declared.certificate.Kind.TheVariants.{Random as RandomKind}
+use Rattle.rp_evidence.specs.declared.random.RandomPart.{RandomPart}
+use Rattle.rp_json.specs.CertificateValue.{certificate_text}
+use Rattle.rp_patch.specs.RandomEvidence.{ProvesRandom}
+use Rattle.rp_random.specs.Verdict.{IsRandomVerdict}
+use Rattle.rp_agreement.specs.ReadBack.{IsReadBack, random_certificate}
+use Rattle.rp_report.specs.RandomText.{random_report_text}
+use Rattle.rp_answers.specs.Typed.{TypedPatches}
+
+-- the one item proves its verdict and is as it is given, the checker accepts it, and the text of the certificate is read back as the same
+pub record IsRandomAnswer (given : TypedPatches) (certificate : Certificate) : Type 0 where
+  pub part : RandomPart
+  pub item : certificate ≡ random_certificate given.patches.total part
+  pub proves : ProvesRandom given.patches given.patches.total part
+  pub given_so : IsRandomVerdict given.patches given.types part
+  pub accepted : IsRandomVerdictOn given.patches certificate.items Accepted
+  pub read_back : IsReadBack RandomKind certificate
+
+-- the text is that of such a certificate
+abbrev pub IsRandomText : Bool → TypedPatches → List ℕ → Type 0
+IsRandomText json given text =
+    (certificate : Certificate) × IsRandomAnswer given certificate
+    × (text ≡ (if json then certificate_text certificate else random_report_text given.patches (length given.types) certificate.items))

@@ -1,0 +1,60 @@
+-- What `utility` prints: the report of the verdicts on the generalized axiom (Varian 1982) and by Afriat's theorem (Afriat 1967),
+-- and then for each bundle its utility under the numbers of that model.
+use Rattle.std.specs.Prelude.{◌≡◌, ℕ, zero, suc, ◌+◌, ℤ, List, [], ◌∷◌, ◌++◌, codes}
+use Rattle.std.specs.Fmt.{decimal, signed_decimal}
+use Rattle.rp_table.specs.BundleLists.{BundleList}
+use Rattle.rp_table.specs.Cost.{cost_of}
+use Rattle.rp_table.specs.Rows.{row_of, rows_count}
+use Rattle.rp_table.specs.Tables.{Observations, records_of}
+use Rattle.rp_evidence.specs.Afriat.{IsUtility}
+use Rattle.rp_evidence.specs.AfriatEvidence.{multiplier_in, utility_in}
+use Rattle.rp_evidence.specs.Input.{input_of_table}
+use Rattle.rp_evidence.specs.Proves.{Proves}
+use Rattle.rp_evidence.specs.declared.afriat.AfriatPart.{AfriatPart}
+use Rattle.rp_evidence.specs.declared.afriat.AfriatPart.TheVariants.{Model, NoModel, Wide}
+use Rattle.rp_evidence.specs.declared.certificate.Certificate.{Certificate}
+use Rattle.rp_evidence.specs.declared.certificate.Kind.TheVariants.{Table}
+use Rattle.rp_evidence.specs.declared.certificate.Item.TheVariants.{Garp as GarpItem, Afriat as AfriatItem}
+use Rattle.rp_evidence.specs.declared.garp.Garp.{Garp}
+use Rattle.rp_afriat.specs.Bundle.{bundle_cost}
+use Rattle.rp_afriat.specs.Verdict.{IsAfriatVerdict}
+use Rattle.rp_garp.specs.Verdict.{IsGarpVerdict}
+use Rattle.rp_report.specs.ReportText.{report_text}
+use Rattle.rp_answers.specs.Accepted.{IsAcceptedOn}
+
+-- the certificate of a table with these two items
+abbrev pub first_items : Garp → AfriatPart → Certificate
+first_items garp afriat = record { kind = Table; version = 1; items = GarpItem garp ∷ AfriatItem afriat ∷ [] }
+
+-- what is said at a bundle, which is counted from 1
+abbrev pub at_line : ℕ → List ℕ → List ℕ
+at_line k said = codes "at " ++ decimal (k + 1) ++ said ++ 10 ∷ []
+
+-- the line of a bundle: its utility under the numbers of a model; `none` where no model exists; `withheld` where its numbers are
+abbrev pub IsUtilityLine : Observations → AfriatPart → ℕ → List ℕ → List ℕ → Type 0
+IsUtilityLine table (Model numbers) k bundle line =
+    (value : ℤ)
+    × IsUtility (records_of table) (cost_of table) (utility_in numbers) (multiplier_in numbers) 1 (bundle_cost table bundle) value
+    × (line ≡ at_line k (codes " value " ++ signed_decimal value))
+IsUtilityLine table (NoModel walk) k bundle line = line ≡ at_line k (codes " none")
+IsUtilityLine table (Wide at) k bundle line = line ≡ at_line k (codes " withheld")
+
+-- the lines of the first bundles, so many
+abbrev pub AreUtilityLines : Observations → AfriatPart → BundleList → ℕ → List ℕ → Type 0
+AreUtilityLines table part bundles zero text = text ≡ []
+AreUtilityLines table part bundles (suc k) text =
+    (before : List ℕ) × (line : List ℕ) × AreUtilityLines table part bundles k before
+    × IsUtilityLine table part k (row_of bundles.quantities bundles.goods k) line × (text ≡ before ++ line)
+
+-- the text of a table and bundles: both verdicts are true and as they are given, the checker accepts their certificate, and each bundle has its line
+pub record IsUtilityText (table : Observations) (bundles : BundleList) (text : List ℕ) : Type 0 where
+  pub garp : Garp
+  pub afriat : AfriatPart
+  pub lines : List ℕ
+  pub garp_proves : Proves (input_of_table table) (GarpItem garp)
+  pub garp_given : IsGarpVerdict (records_of table) (cost_of table) garp
+  pub afriat_proves : Proves (input_of_table table) (AfriatItem afriat)
+  pub afriat_given : IsAfriatVerdict (records_of table) (cost_of table) afriat
+  pub accepted : IsAcceptedOn (input_of_table table) (first_items garp afriat)
+  pub all_lines : AreUtilityLines table afriat bundles (rows_count bundles.quantities bundles.goods) lines
+  pub text_is : text ≡ report_text table (first_items garp afriat).items ++ lines

@@ -1,0 +1,40 @@
+-- What `welfare` prints: the report, or the JSON, of a certificate with the verdict on the generalized axiom of revealed preference, and then for each
+-- record of new prices the bounds on the money metric of each observation (after Varian 1982), in order.
+use Rattle.std.specs.Prelude.{◌≡◌, ℕ, Bool, ◌*◌, ◌/◌, ◌%◌, List}
+use Rattle.rp_table.specs.PriceLists.{PriceList}
+use Rattle.rp_table.specs.Rows.{row_of, rows_count}
+use Rattle.rp_table.specs.Tables.{Observations}
+use Rattle.rp_evidence.specs.Input.{TableInput, input_of_table}
+use Rattle.rp_evidence.specs.Proves.{Proves}
+use Rattle.rp_evidence.specs.declared.certificate.Certificate.{Certificate}
+use Rattle.rp_evidence.specs.declared.certificate.Item.{Item}
+use Rattle.rp_evidence.specs.declared.certificate.Kind.TheVariants.{Table}
+use Rattle.rp_evidence.specs.declared.certificate.Item.TheVariants.{Welfare}
+use Rattle.rp_evidence.specs.declared.demand.WelfarePart.{WelfarePart}
+use Rattle.rp_evidence.specs.declared.garp.Garp.{Garp}
+use Rattle.rp_welfare.specs.Verdict.{IsWelfareVerdict}
+use Rattle.rp_json.specs.Denoted.{FitsKind}
+use Rattle.rp_answers.specs.Accepted.{PassesAfter}
+use Rattle.rp_answers.specs.AskedItems.{IsAskedOf}
+use Rattle.rp_answers.specs.ShownText.{shown_text}
+
+-- the item on observation t at these prices: it proves its verdict, is as it is given under the verdict on the axiom,
+-- passes the checker, and can be read back
+pub record IsWelfareItem (input : TableInput) (garp : Garp) (prices : List ℕ) (t : ℕ) (item : Item) : Type 0 where
+  pub part : WelfarePart
+  pub of_observation : item ≡ Welfare prices t part
+  pub proves : Proves input item
+  pub given : IsWelfareVerdict input prices t garp part
+  pub passes : PassesAfter input garp item
+  pub readable : FitsKind Table item
+
+-- after the verdict on the axiom, for each record of the new prices, one item for each observation
+abbrev pub IsWelfareCertificate : TableInput → PriceList → Certificate → Type 0
+IsWelfareCertificate input new certificate =
+    IsAskedOf input (rows_count new.prices new.goods * input.n)
+    (λ garp k. IsWelfareItem input garp (row_of new.prices new.goods (k / input.n)) (k % input.n)) certificate
+
+-- the text is that of such a certificate
+abbrev pub IsWelfareText : Bool → Observations → PriceList → List ℕ → Type 0
+IsWelfareText json table new text =
+    (certificate : Certificate) × IsWelfareCertificate (input_of_table table) new certificate × (text ≡ shown_text json table certificate)

@@ -1,0 +1,70 @@
+ghost use Rattle.std.specs.Prelude.{◌≡◌, IfOk};
+ghost use Rattle.rp_evidence.specs.Input.{input_of_table};
+ghost use Rattle.rp_table.specs.Cost.{IsCostsOf};
+ghost use Rattle.rp_answers.specs.Analysis.{IsAnalysis, IsAnalysisText, certificate_of};
+
+use crate::shared::show;
+use rp_afriat::afriat;
+use rp_effic::efficiency;
+use rp_evidence::{AfriatPart, Certificate, Efficiency, Garp, Homothetic, Item, Kind, Quasi};
+use rp_garp::garp;
+use rp_homo::homothetic;
+use rp_num::{NoMemory, Seq};
+use rp_quasi::quasilinear;
+use rp_table::{Costs, Table};
+use std::alloc::Global;
+
+/// The report of the verdicts on a table, or their certificate as JSON.
+pub fn analysis_text(
+    alloc: Global,
+    table: &Table,
+    costs: &Costs,
+    json: bool,
+) -> Result<Vec<u8>, NoMemory>
+    requires { IsCostsOf costs.now table.now }
+    ensures { IfOk result (λ text. IsAnalysisText json table.now text.items) }
+{
+    let certificate = analyse(alloc, table, costs)?;
+    let text = show(alloc, &certificate, table, json)?;
+    Ok(text)
+}
+
+/// The certificate of the verdicts on a table.
+fn analyse(alloc: Global, table: &Table, costs: &Costs) -> Result<Certificate, NoMemory>
+    requires { IsCostsOf costs.now table.now }
+    ensures { IfOk result (IsAnalysis (input_of_table table.now)) }
+{
+    prove!(table.n() >= 1);
+    let garp = garp(alloc, costs)?;
+    let afriat = afriat(alloc, costs, &garp)?;
+    let efficiency = efficiency(alloc, costs)?;
+    let homothetic = homothetic(alloc, costs)?;
+    let quasilinear = quasilinear(alloc, costs)?;
+    let certificate = certificate(alloc, garp, afriat, efficiency, homothetic, quasilinear)?;
+    Ok(certificate)
+}
+
+/// The certificate with these five items.
+fn certificate(
+    alloc: Global,
+    garp: Garp,
+    afriat: AfriatPart,
+    efficiency: Efficiency,
+    homothetic: Homothetic,
+    quasilinear: Quasi,
+) -> Result<Certificate, NoMemory>
+    ensures { IfOk result (λ made. made
+        ≡ certificate_of garp afriat efficiency homothetic quasilinear) }
+{
+    let mut items = Vec::new(alloc);
+    items.push(Item::Garp(garp))?;
+    items.push(Item::Afriat(afriat))?;
+    items.push(Item::Efficiency(efficiency))?;
+    items.push(Item::Homothetic(homothetic))?;
+    items.push(Item::Quasi(quasilinear))?;
+    Ok(Certificate {
+        kind: Kind::Table,
+        version: 1,
+        items: Seq::from_vec(items),
+    })
+}

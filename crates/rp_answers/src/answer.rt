@@ -1,0 +1,8 @@
+use crate::status::Status;
+
+/// A whole text for the output, and how a call ends that has written it.
+#[derive(Drop)]
+pub struct Answer {
+    pub status: Status,
+    pub text: Vec<u8>,
+}

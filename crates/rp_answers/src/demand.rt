@@ -1,0 +1,103 @@
+ghost use Rattle.std.specs.Prelude.{◌≡◌, ◌≤◌, IfOk, All, length, slice_index};
+ghost use Rattle.rp_evidence.specs.Garp.{ProvesGarp};
+ghost use Rattle.rp_evidence.specs.Input.{input_of_table};
+ghost use Rattle.rp_table.specs.Cost.{IsCostsOf, cost_at};
+ghost use Rattle.rp_table.specs.Rows.{row_of, rows_count};
+ghost use Rattle.rp_table.specs.Tables.{goods_of};
+ghost use Rattle.rp_table.specs.declared.TheConstants.{LARGEST, LARGEST_EXPENDITURE};
+ghost use Rattle.rp_answers.specs.AskedItems.{AreAnswered};
+ghost use Rattle.rp_answers.specs.Demands.{IsDemandCertificate, IsDemandItem, IsDemandText};
+ghost use Rattle.rp_answers.specs.Demands.{IsSpentOn};
+
+use crate::shared::{certificate, show};
+use rp_evidence::{Certificate, Garp, Item};
+use rp_garp::garp;
+use rp_num::{NoMemory, Seq};
+use rp_support::demand;
+use rp_table::{Costs, Prices, Table};
+use std::alloc::Global;
+
+/// The report of demand at each record of new prices.
+pub fn demand_text(
+    alloc: Global,
+    table: &Table,
+    costs: &Costs,
+    new: &Prices,
+    json: bool,
+) -> Result<Vec<u8>, NoMemory>
+    requires of_table { IsCostsOf costs.now table.now }
+    requires spent { IsSpentOn table.now new.now }
+    ensures { IfOk result (λ text. IsDemandText json table.now new.now text.items) }
+{
+    let certificate = demand_certificate(alloc, table, costs, new)?;
+    let text = show(alloc, &certificate, table, json)?;
+    Ok(text)
+}
+
+/// The certificate of demand at each record of new prices.
+fn demand_certificate(
+    alloc: Global,
+    table: &Table,
+    costs: &Costs,
+    new: &Prices,
+) -> Result<Certificate, NoMemory>
+    requires of_table { IsCostsOf costs.now table.now }
+    requires spent { IsSpentOn table.now new.now }
+    ensures { IfOk result (IsDemandCertificate (input_of_table table.now) new.now) }
+{
+    prove!(table.n() >= 1);
+    let garp = garp(alloc, costs)?;
+    let others = demand_items(alloc, table, costs, &garp, new)?;
+    let made = certificate(garp, others)?;
+    Ok(made)
+}
+
+/// An item for each record of new prices.
+fn demand_items(
+    alloc: Global,
+    table: &Table,
+    costs: &Costs,
+    garp: &Garp,
+    new: &Prices,
+) -> Result<Vec<Item>, NoMemory>
+    requires of_table { IsCostsOf costs.now table.now }
+    requires verdict { ProvesGarp costs.now.n (cost_at costs.now) garp.now }
+    requires spent { IsSpentOn table.now new.now }
+    ensures { IfOk result (λ items. AreAnswered (rows_count new.now.prices new.now.goods)
+        (λ i. IsDemandItem (input_of_table table.now) garp.now
+        (row_of new.now.prices new.now.goods i) (slice_index new.now.m i)) items.items) }
+{
+    let mut items = Vec::new(alloc);
+    for i in 0..new.count() {
+        let item = demand_item(alloc, table, costs, garp, new.row(i), new.m(i))?;
+        items.push(item)?;
+    }
+    Ok(items)
+}
+
+/// The item on the budget at these prices with `m`.
+fn demand_item(
+    alloc: Global,
+    table: &Table,
+    costs: &Costs,
+    garp: &Garp,
+    prices: &[u32],
+    m: u64,
+) -> Result<Item, NoMemory>
+    requires of_table { IsCostsOf costs.now table.now }
+    requires verdict { ProvesGarp costs.now.n (cost_at costs.now) garp.now }
+    requires goods { length prices.now ≡ goods_of table.now }
+    requires prices { All (λ p. (1 ≤ p) × (p ≤ LARGEST)) prices.now }
+    requires least { 1 ≤ m }
+    requires most { m ≤ LARGEST_EXPENDITURE }
+    ensures { IfOk result (IsDemandItem (input_of_table table.now) garp.now prices.now m) }
+{
+    prove!(table.n() >= 1);
+    let part = demand(alloc, table, costs, garp, prices, m)?;
+    let prices = Vec::from_slice(alloc, prices)?;
+    Ok(Item::Demand {
+        prices: Seq::from_vec(prices),
+        m,
+        part,
+    })
+}

@@ -1,0 +1,27 @@
+//! What each command answers to its input: a module a command, and one for what they share.
+#![tactic(auto)]
+
+mod analysis;
+mod answer;
+mod check;
+mod demand;
+mod generated;
+mod pairs;
+mod random;
+mod shared;
+mod status;
+mod trial;
+mod utility;
+mod welfare;
+
+pub use analysis::analysis_text;
+pub use answer::Answer;
+pub use check::{check_answer, check_random_answer};
+pub use demand::demand_text;
+pub use generated::trial_table;
+pub use pairs::pairs_text;
+pub use random::random_text;
+pub use status::Status;
+pub use trial::trial_text;
+pub use utility::utility_text;
+pub use welfare::welfare_text;

@@ -1,0 +1,44 @@
+//! What the commands share: a certificate that begins with the verdict on the axiom, and its report or its JSON.
+
+ghost use Rattle.rp_evidence.specs.Kinds.{IsCertificateOf};
+ghost use Rattle.rp_evidence.specs.declared.certificate.Kind.TheVariants.{Table as TableKind};
+ghost use Rattle.rp_answers.specs.AskedItems.{begun_with};
+ghost use Rattle.rp_answers.specs.ShownText.{shown_text};
+ghost use Rattle.std.specs.Prelude.{IfOk, ◌≡◌};
+
+use rp_evidence::{Certificate, Garp, Item, Kind};
+use rp_json::write;
+use rp_num::{NoMemory, Seq};
+use rp_report::report;
+use rp_table::Table;
+use std::alloc::Global;
+
+/// The certificate with a verdict on the generalized axiom and then these items.
+pub(crate) fn certificate(garp: Garp, others: Vec<Item>) -> Result<Certificate, NoMemory>
+    ensures { IfOk result (λ made. made ≡ begun_with garp others.items) }
+{
+    let mut items = others;
+    items.insert(0, Item::Garp(garp))?;
+    Ok(Certificate {
+        kind: Kind::Table,
+        version: 1,
+        items: Seq::from_vec(items),
+    })
+}
+
+/// The text of a certificate on a table: its report, or its JSON.
+pub(crate) fn show(
+    alloc: Global,
+    certificate: &Certificate,
+    table: &Table,
+    json: bool,
+) -> Result<Vec<u8>, NoMemory>
+    requires { IsCertificateOf TableKind certificate.now }
+    ensures { IfOk result (λ text. text.items ≡ shown_text json table.now certificate.now) }
+{
+    if json {
+        write(alloc, certificate)
+    } else {
+        report(alloc, certificate, table)
+    }
+}

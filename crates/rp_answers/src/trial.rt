@@ -1,0 +1,125 @@
+ghost use Rattle.std.specs.Prelude.{◌≡◌, ◌++◌, IfOk, OnOk};
+ghost use Rattle.rp_report.specs.ListText.{line_of};
+ghost use Rattle.rp_words.specs.Ranges.{IsTrialSize};
+ghost use Rattle.rp_answers.specs.TrialTable.{trial_of};
+ghost use Rattle.rp_answers.specs.TrialText.{AreVerdicts, IsTrialText, trial_head, verdict_lines};
+ghost use Rattle.rp_answers.specs.TrialText.{garp_word, homothetic_word, quasilinear_word};
+
+use crate::generated::trial_table;
+use rp_effic::efficiency;
+use rp_evidence::{Efficiency, Garp, Homothetic, Quasi};
+use rp_garp::garp;
+use rp_homo::homothetic;
+use rp_num::{NoMemory, print_u128};
+use rp_quasi::quasilinear;
+use rp_report::push_index;
+use rp_table::{Costs, Table};
+use std::alloc::Global;
+
+/// The verdicts on a table, but for Afriat's numbers.
+#[derive(Drop)]
+struct Verdicts {
+    garp: Garp,
+    efficiency: Efficiency,
+    homothetic: Homothetic,
+    quasilinear: Quasi,
+}
+
+/// The verdicts on the trial table of a seed, without their evidence.
+pub fn trial_text(alloc: Global, seed: u64, rows: u32, goods: u32) -> Result<Vec<u8>, NoMemory>
+    requires { IsTrialSize rows goods }
+    ensures { IfOk result (λ text. IsTrialText seed rows goods text.items) }
+{
+    let table = trial_table(alloc, seed, rows, goods)?;
+    let verdicts = verdicts_on(alloc, &table)?;
+    let mut text = head(alloc, seed, rows, goods)?;
+    push_verdicts(alloc, &mut text, &verdicts)?;
+    Ok(text)
+}
+
+/// The verdicts on a table.
+fn verdicts_on(alloc: Global, table: &Table) -> Result<Verdicts, NoMemory>
+    ensures { IfOk result (λ v.
+        AreVerdicts table.now v.garp v.efficiency v.homothetic v.quasilinear) }
+{
+    let costs = Costs::of(alloc, table)?;
+    let garp = garp(alloc, &costs)?;
+    let efficiency = efficiency(alloc, &costs)?;
+    let homothetic = homothetic(alloc, &costs)?;
+    let quasilinear = quasilinear(alloc, &costs)?;
+    Ok(Verdicts {
+        garp,
+        efficiency,
+        homothetic,
+        quasilinear,
+    })
+}
+
+/// The line on which trial it is.
+fn head(alloc: Global, seed: u64, rows: u32, goods: u32) -> Result<Vec<u8>, NoMemory>
+    ensures { IfOk result (λ line. line.items ≡ trial_head seed rows goods) }
+{
+    let mut line = Vec::from_slice(alloc, b"trial ")?;
+    print_u128(alloc, &mut line, u128::from(seed))?;
+    line.extend_from_slice(b" rows ")?;
+    print_u128(alloc, &mut line, u128::from(rows))?;
+    line.extend_from_slice(b" goods ")?;
+    print_u128(alloc, &mut line, u128::from(goods))?;
+    line.extend_from_slice(b"\n")?;
+    Ok(line)
+}
+
+/// Appends a line for each verdict.
+fn push_verdicts(alloc: Global, out: &mut Vec<u8>, verdicts: &Verdicts) -> Result<(), NoMemory>
+    ensures { OnOk result (out.new.items ≡ out.old.items ++ verdict_lines
+        verdicts.now.garp verdicts.now.efficiency
+        verdicts.now.homothetic verdicts.now.quasilinear) }
+{
+    push_verdict(out, b"garp ", garp_word(&verdicts.garp))?;
+    push_index(alloc, out, &verdicts.efficiency)?;
+    push_verdict(out, b"homothetic ", homothetic_word(&verdicts.homothetic))?;
+    push_verdict(
+        out,
+        b"quasilinear ",
+        quasilinear_word(&verdicts.quasilinear),
+    )?;
+    Ok(())
+}
+
+/// Appends the line of a test with its verdict.
+fn push_verdict(out: &mut Vec<u8>, test: &[u8], verdict: &[u8]) -> Result<(), NoMemory>
+    ensures { OnOk result (out.new.items ≡ out.old.items ++ line_of (test.now ++ verdict.now)) }
+{
+    out.extend_from_slice(test)?;
+    out.extend_from_slice(verdict)?;
+    out.extend_from_slice(b"\n")?;
+    Ok(())
+}
+
+fn garp_word(verdict: &Garp) -> &'static [u8]
+    ensures { result.now ≡ garp_word verdict.now }
+{
+    match verdict {
+        Garp::Ranks(_) => b"holds",
+        Garp::Cycle(_) => b"violated",
+    }
+}
+
+fn homothetic_word(verdict: &Homothetic) -> &'static [u8]
+    ensures { result.now ≡ homothetic_word verdict.now }
+{
+    match verdict {
+        Homothetic::Values(_) => b"holds",
+        Homothetic::Cycle { .. } => b"violated",
+        Homothetic::Withheld { .. } => b"withheld",
+    }
+}
+
+fn quasilinear_word(verdict: &Quasi) -> &'static [u8]
+    ensures { result.now ≡ quasilinear_word verdict.now }
+{
+    match verdict {
+        Quasi::Values(_) => b"holds",
+        Quasi::Cycle(_) => b"violated",
+    }
+}

@@ -1,0 +1,120 @@
+ghost use Rattle.std.specs.Prelude.{◌≡◌, ◌++◌, ◌∷◌, ◌≤◌, [], IfOk, All, codes, length};
+ghost use Rattle.std.specs.Fmt.{signed_decimal};
+ghost use Rattle.rp_afriat.specs.Verdict.{IsAfriatVerdict};
+ghost use Rattle.rp_table.specs.Cost.{IsCostsOf, cost_at};
+ghost use Rattle.rp_table.specs.Rows.{rows_count};
+ghost use Rattle.rp_table.specs.Tables.{goods_of};
+ghost use Rattle.rp_table.specs.declared.TheConstants.{LARGEST};
+ghost use Rattle.rp_answers.specs.UtilityText.{AreUtilityLines, IsUtilityLine, IsUtilityText, at_line};
+ghost use Rattle.rp_answers.specs.UtilityText.{first_items};
+
+use rp_afriat::{afriat, utility_at};
+use rp_evidence::{AfriatPart, Certificate, Garp, Item, Kind};
+use rp_garp::garp;
+use rp_num::{NoMemory, Seq, print_i128, print_u128};
+use rp_report::report;
+use rp_table::{Bundles, Costs, Table};
+use std::alloc::Global;
+
+/// The report of the first two verdicts on a table, and the utility of each bundle.
+pub fn utility_text(
+    alloc: Global,
+    table: &Table,
+    costs: &Costs,
+    bundles: &Bundles,
+) -> Result<Vec<u8>, NoMemory>
+    requires of_table { IsCostsOf costs.now table.now }
+    requires goods { bundles.now.goods ≡ goods_of table.now }
+    ensures { IfOk result (λ text. IsUtilityText table.now bundles.now text.items) }
+{
+    let garp = garp(alloc, costs)?;
+    let afriat = afriat(alloc, costs, &garp)?;
+    let lines = utility_lines(alloc, table, costs, &afriat, bundles)?;
+    let certificate = certificate(alloc, garp, afriat)?;
+    let mut text = report(alloc, &certificate, table)?;
+    text.extend_from_slice(lines.as_slice())?;
+    Ok(text)
+}
+
+/// The certificate with these two items.
+fn certificate(alloc: Global, garp: Garp, afriat: AfriatPart) -> Result<Certificate, NoMemory>
+    ensures { IfOk result (λ made. made ≡ first_items garp afriat) }
+{
+    let mut items = Vec::new(alloc);
+    items.push(Item::Garp(garp))?;
+    items.push(Item::Afriat(afriat))?;
+    Ok(Certificate {
+        kind: Kind::Table,
+        version: 1,
+        items: Seq::from_vec(items),
+    })
+}
+
+/// A line for each bundle.
+fn utility_lines(
+    alloc: Global,
+    table: &Table,
+    costs: &Costs,
+    part: &AfriatPart,
+    bundles: &Bundles,
+) -> Result<Vec<u8>, NoMemory>
+    requires of_table { IsCostsOf costs.now table.now }
+    requires goods { bundles.now.goods ≡ goods_of table.now }
+    requires given { IsAfriatVerdict costs.now.n (cost_at costs.now) part.now }
+    ensures { IfOk result (λ text. AreUtilityLines table.now part.now bundles.now
+        (rows_count bundles.now.quantities bundles.now.goods) text.items) }
+{
+    let mut text = Vec::new(alloc);
+    for k in 0..bundles.count() {
+        let line = utility_line(alloc, table, costs, part, k, bundles.row(k))?;
+        text.extend_from_slice(line.as_slice())?;
+    }
+    Ok(text)
+}
+
+/// The line of bundle `k`.
+fn utility_line(
+    alloc: Global,
+    table: &Table,
+    costs: &Costs,
+    part: &AfriatPart,
+    k: u32,
+    bundle: &[u32],
+) -> Result<Vec<u8>, NoMemory>
+    requires of_table { IsCostsOf costs.now table.now }
+    requires given { IsAfriatVerdict costs.now.n (cost_at costs.now) part.now }
+    requires goods { length bundle.now ≡ goods_of table.now }
+    requires limits { All (λ q. q ≤ LARGEST) bundle.now }
+    ensures { IfOk result (λ line. IsUtilityLine table.now part.now k bundle.now line.items) }
+{
+    match part {
+        AfriatPart::Model(numbers) => {
+            let value = utility_at(table, costs, numbers, bundle);
+            let line = value_line(alloc, k, value)?;
+            Ok(line)
+        }
+        AfriatPart::NoModel(_) => said_line(alloc, k, b" none"),
+        AfriatPart::Wide { .. } => said_line(alloc, k, b" withheld"),
+    }
+}
+
+/// `at K value V`, with the bundle counted from 1.
+fn value_line(alloc: Global, k: u32, value: i128) -> Result<Vec<u8>, NoMemory>
+    ensures { IfOk result (λ line. line.items
+        ≡ at_line k (codes " value " ++ signed_decimal value)) }
+{
+    let mut said = Vec::from_slice(alloc, b" value ")?;
+    print_i128(alloc, &mut said, value)?;
+    said_line(alloc, k, said.as_slice())
+}
+
+/// What is said at a bundle, which is counted from 1.
+fn said_line(alloc: Global, k: u32, said: &[u8]) -> Result<Vec<u8>, NoMemory>
+    ensures { IfOk result (λ line. line.items ≡ at_line k said.now) }
+{
+    let mut line = Vec::from_slice(alloc, b"at ")?;
+    print_u128(alloc, &mut line, u128::from(k) + 1)?;
+    line.extend_from_slice(said)?;
+    line.extend_from_slice(b"\n")?;
+    Ok(line)
+}

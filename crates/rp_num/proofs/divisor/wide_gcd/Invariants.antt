@@ -1,0 +1,12 @@
+use Rattle.std.proofs.Common.{◌≡◌, ℕ, ◌+◌, ◌%◌}
+use Rattle.std.specs.Int.{IsGcd}
+use Rattle.rp_num.proofs.divisor.wide_gcd.Given as goal
+
+abbrev pub invariant-loop-y : goal.invariant-loop-y
+invariant-loop-y l = record {
+  odd : l.x % 2 ≡ 1;
+  kept : (g : ℕ) → IsGcd l.x l.y g → IsGcd l.fn.odd l.fn.other g;
+}
+
+abbrev pub decreases-loop-y : goal.decreases-loop-y
+decreases-loop-y l = l.x + l.y

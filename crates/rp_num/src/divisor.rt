@@ -1,0 +1,88 @@
+ghost use Rattle.std.specs.Prelude.{◌≡◌, ℕ, ◌*◌, ◌^◌, ◌%◌, ◌<◌, ◌≤◌, ◌↔◌};
+ghost use Rattle.std.specs.Int.{IsGcd};
+
+/// The greatest number of one word.
+const MOST_WORD: u128 = (1 << 64) - 1;
+
+/// The greatest common divisor, by the binary algorithm (Stein 1967). It is 0 for two zeros.
+pub fn gcd(a: u128, b: u128) -> u128
+    ensures greatest { IsGcd a b result }
+    ensures zero { (result ≡ 0) ↔ ((a ≡ 0) × (b ≡ 0)) }
+{
+    if a < b {
+        ordered_gcd(a, b)
+    } else {
+        ordered_gcd(b, a)
+    }
+}
+
+/// The same, where the lesser number stands first.
+fn ordered_gcd(small: u128, large: u128) -> u128
+    requires { small ≤ large }
+    ensures { IsGcd small large result }
+{
+    if small == 0 {
+        return large;
+    }
+    if small == 1 {
+        return 1;
+    }
+    let twos = small.trailing_zeros();
+    let shared = twos.min(large.trailing_zeros());
+    odd_gcd(small >> twos, large) << shared
+}
+
+/// The greatest common divisor of an odd number and another, in one word as soon as both fit.
+fn odd_gcd(odd: u128, other: u128) -> u128
+    requires { odd % 2 ≡ 1 }
+    ensures { IsGcd odd other result }
+{
+    if odd > MOST_WORD {
+        wide_gcd(odd, other % odd)
+    } else if other > MOST_WORD {
+        u128::from(word_gcd(odd as u64, (other % odd) as u64))
+    } else {
+        u128::from(word_gcd(odd as u64, other as u64))
+    }
+}
+
+/// The same by halving and differences, down to one word.
+fn wide_gcd(odd: u128, other: u128) -> u128
+    requires { odd % 2 ≡ 1 }
+    ensures { IsGcd odd other result }
+{
+    let mut x = odd;
+    let mut y = other;
+    while y > 0 && (x > MOST_WORD || y > MOST_WORD) {
+        let z = y >> y.trailing_zeros();
+        if z < x {
+            y = x - z;
+            x = z;
+        } else {
+            y = z - x;
+        }
+    }
+    if y == 0 {
+        return x;
+    }
+    u128::from(word_gcd(x as u64, y as u64))
+}
+
+/// The same in one word.
+fn word_gcd(odd: u64, other: u64) -> u64
+    requires { odd % 2 ≡ 1 }
+    ensures { IsGcd odd other result }
+{
+    let mut x = odd;
+    let mut y = other;
+    while y > 0 {
+        let z = y >> y.trailing_zeros();
+        if z < x {
+            y = x - z;
+            x = z;
+        } else {
+            y = z - x;
+        }
+    }
+    x
+}

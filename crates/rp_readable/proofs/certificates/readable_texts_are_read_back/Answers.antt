@@ -1,5 +1,0 @@
-use Rattle.rp_readable.proofs.SameValues.{text_read_back}
-use Rattle.rp_readable.proofs.certificates.readable_texts_are_read_back.Goals as goal
-
-pub returns : goal.returns
-returns c = text_read_back

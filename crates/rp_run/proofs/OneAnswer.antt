@@ -1,0 +1,159 @@
+-- The content of a line's files denotes one input or one refusal at most.
+use Rattle.std.proofs.Common.{◌≡◌, ◌⊎◌, ◌≤◌, ℕ, true, false, Option, List, length, Result, Ok, Err, inl, inr, refl, sym, subst, ap, ◌∙◌, arith, codes}
+use Rattle.rp_evidence.specs.declared.certificate.Certificate.{Certificate}
+use Rattle.rp_evidence.specs.declared.certificate.Kind.{Kind}
+use Rattle.rp_evidence.specs.declared.certificate.Kind.TheVariants.{Table as TableKind, Random as RandomKind}
+use Rattle.rp_json.specs.Denoted.{IsDenoted}
+use Rattle.rp_json.specs.declared.fault.JsonFault.{JsonFault}
+use Rattle.rp_json.specs.declared.fault.JsonFault.TheVariants as json_fault
+use Rattle.rp_json.proofs.ItemListLemmas.{denoted_once}
+use Rattle.rp_table.specs.BudgetLists.{BudgetList}
+use Rattle.rp_table.specs.ChoiceLists.{ChoiceList}
+use Rattle.rp_text.specs.Denotation.{budgets_in, bundles_beside, choices_on, prices_beside, table_in}
+use Rattle.rp_patch.specs.Choices.{RandomInput, input_of}
+use Rattle.rp_patch.specs.Patches.{IsPatchList, PatchList}
+use Rattle.rp_patch.specs.Types.{AreRationalTypes}
+use Rattle.rp_patch.specs.Units.{ArePatchesOf}
+use Rattle.rp_run.proofs.OneFault.{json_fault_once, patch_fault_once, types_fault_once}
+use Rattle.rp_run.proofs.PatchesApart.{AreAlike, patches_apart, types_apart}
+use Rattle.rp_run.specs.FaultLines.{file_line, patch_line, types_line}
+use Rattle.rp_run.specs.FaultTexts.{json_fault_text}
+use Rattle.rp_words.specs.CommandLine.{Line, Pairs, Analyse, Certify, Check, Demand, Welfare, Utility, Random, CheckRandom, Trial}
+use Rattle.rp_run.specs.Inputs.{Denotes, Input, PairsOver, AnalyseOver, CertifyOver, CheckOver, DemandOver, WelfareOver, UtilityOver, RandomOver, CheckRandomOver, TrialOver}
+use Rattle.rp_run.specs.RandomInputs.{PatchesOf, TypedPatchesOf, TypesOf}
+use Rattle.rp_answers.specs.Typed.{TypedPatches}
+use Rattle.rp_run.specs.Readings.{AndThen, CertificateIn, Just, Reading, numbers_in}
+
+-- one value is read or one line, at most
+abbrev pub GivesOne : {A : Type 0} → Reading A → Type 0
+GivesOne {A} reading = (one other : Result A (List ℕ)) → reading one → reading other → one ≡ other
+
+just_one : {A : Type 0} (this : Result A (List ℕ)) → GivesOne (Just this)
+just_one this one other is also = sym is ∙ also
+
+ok_same : {A : Type 0} (a b : A) (r s : Result A (List ℕ)) → r ≡ Ok a → s ≡ Ok b → r ≡ s → a ≡ b
+ok_same a b r s is also p = cc
+
+ok_err : {A : Type 0} (a : A) (line : List ℕ) (r s : Result A (List ℕ)) → r ≡ Ok a → s ≡ Err line → r ≡ s → ⊥
+ok_err a line r s is also p = cc
+
+err_same : {A : Type 0} (line other : List ℕ) (r s : Result A (List ℕ)) → r ≡ Err line → s ≡ Err other → r ≡ s → line ≡ other
+err_same line other r s is also p = cc
+
+-- where each of two readings gives one at most, so does the second after the first
+then_one : {A B : Type 0} (first : Reading A) (next : A → Reading B) → GivesOne first → ((a : A) → GivesOne (next a)) → GivesOne (AndThen first next)
+then_one first next once each (Ok b) (Ok c) (x, is, to) (y, also, too) =
+    each x (Ok b) (Ok c) to (subst (λ z. next z (Ok c)) (sym (ok_same x y (Ok x) (Ok y) refl refl (once (Ok x) (Ok y) is also))) too)
+then_one first next once each (Ok b) (Err line) (x, is, to) (inl refused) = absurd (ok_err x line (Ok x) (Err line) refl refl (once (Ok x) (Err line) is refused))
+then_one first next once each (Ok b) (Err line) (x, is, to) (inr (y, also, too)) =
+    each x (Ok b) (Err line) to (subst (λ z. next z (Err line)) (sym (ok_same x y (Ok x) (Ok y) refl refl (once (Ok x) (Ok y) is also))) too)
+then_one first next once each (Err line) (Ok c) (inl refused) (y, also, too) = absurd (ok_err y line (Ok y) (Err line) refl refl (once (Ok y) (Err line) also refused))
+then_one first next once each (Err line) (Ok c) (inr (x, is, to)) (y, also, too) =
+    each x (Err line) (Ok c) to (subst (λ z. next z (Ok c)) (sym (ok_same x y (Ok x) (Ok y) refl refl (once (Ok x) (Ok y) is also))) too)
+then_one first next once each (Err line) (Err other) (inl refused) (inl too) = ap Err (err_same line other (Err line) (Err other) refl refl (once (Err line) (Err other) refused too))
+then_one first next once each (Err line) (Err other) (inl refused) (inr (y, also, too)) = absurd (ok_err y line (Ok y) (Err line) refl refl (once (Ok y) (Err line) also refused))
+then_one first next once each (Err line) (Err other) (inr (x, is, to)) (inl refused) = absurd (ok_err x other (Ok x) (Err other) refl refl (once (Ok x) (Err other) is refused))
+then_one first next once each (Err line) (Err other) (inr (x, is, to)) (inr (y, also, too)) =
+    each x (Err line) (Err other) to (subst (λ z. next z (Err other)) (sym (ok_same x y (Ok x) (Ok y) refl refl (once (Ok x) (Ok y) is also))) too)
+
+-- what is made of one reading, and of one file of numbers or of two
+over_one : {A B : Type 0} (first : Reading A) (over : A → B) → GivesOne first → GivesOne (AndThen first (λ a. Just (Ok (over a))))
+over_one first over once = then_one first (λ a. Just (Ok (over a))) once (λ a. just_one (Ok (over a)))
+
+one_file : {A : Type 0} (first : Result A (List ℕ)) (over : A → Input) → GivesOne (AndThen (Just first) (λ a. Just (Ok (over a))))
+one_file first over = over_one (Just first) over (just_one first)
+
+two_files : {A B : Type 0} (first : Result A (List ℕ)) (second : A → Result B (List ℕ)) (over : A → B → Input)
+    → GivesOne (AndThen (Just first) (λ a. AndThen (Just (second a)) (λ b. Just (Ok (over a b)))))
+two_files first second over =
+    then_one (Just first) (λ a. AndThen (Just (second a)) (λ b. Just (Ok (over a b)))) (just_one first) (λ a. one_file (second a) (over a))
+
+-- a certificate's file
+ok_is : (a b : Certificate) (r : Result Certificate JsonFault) → r ≡ Ok b → (r ≡ Ok a) ⊎ (r ≡ Err json_fault.NoMemory) → a ≡ b
+ok_is a b r is (inl p) = cc
+ok_is a b r is (inr p) = let wrong : Ok b ≡ Err json_fault.NoMemory = sym is ∙ p in absurd cc
+
+no_fault : (a : Certificate) (f : JsonFault) (r : Result Certificate JsonFault) → r ≡ Err f → (f ≡ json_fault.NoMemory → ⊥) → (r ≡ Ok a) ⊎ (r ≡ Err json_fault.NoMemory) → ⊥
+no_fault a f r is other (inl p) = cc
+no_fault a f r is other (inr p) = other cc
+
+certificate_apart : (file : List ℕ) (kind : Kind) (bytes : List ℕ) (a : Certificate) (line : List ℕ) → CertificateIn file kind bytes (Ok a) → CertificateIn file kind bytes (Err line) → ⊥
+certificate_apart file kind bytes a line (few, is) (inl (many, so)) = omega (arith, few, many)
+certificate_apart file kind bytes a line (few, is) (inr (also_few, (f, other, why, so))) = no_fault a f (Err f) refl other (denoted_once kind bytes a (Err f) is why)
+
+certificate_one : (file : List ℕ) (kind : Kind) (bytes : List ℕ) → GivesOne (CertificateIn file kind bytes)
+certificate_one file kind bytes (Ok a) (Ok b) (few, is) (also_few, also) = ap Ok (ok_is a b (Ok b) refl (denoted_once kind bytes a (Ok b) is also))
+certificate_one file kind bytes (Ok a) (Err line) read refused = absurd (certificate_apart file kind bytes a line read refused)
+certificate_one file kind bytes (Err line) (Ok a) refused read = absurd (certificate_apart file kind bytes a line read refused)
+certificate_one file kind bytes (Err line) (Err other) (inl (many, so)) (inl (also, too)) = ap Err (so ∙ sym too)
+certificate_one file kind bytes (Err line) (Err other) (inl (many, so)) (inr (few, why)) = absurd (omega (arith, many, few))
+certificate_one file kind bytes (Err line) (Err other) (inr (few, why)) (inl (many, so)) = absurd (omega (arith, many, few))
+certificate_one file kind bytes (Err line) (Err other) (inr (few, (f, real, why, so))) (inr (also, (g, neither, too, is))) =
+    ap Err (so ∙ ap (λ (x : JsonFault). file_line file (json_fault_text x)) (json_fault_once kind bytes f g real neither why too) ∙ sym is)
+
+-- a list of patches is like itself
+alike_itself : (p : PatchList) → AreAlike p p
+alike_itself p = record { budgets = refl; count = refl; budget = λ i. refl; sign = λ i k. refl }
+
+module _
+    (patches_once : (input : RandomInput) (asked : Option ℕ) (one other : PatchList)
+    → ArePatchesOf input asked one → IsPatchList one
+    → ArePatchesOf input asked other → IsPatchList other → one ≡ other)
+    (types_once : (p : PatchList) (one other : List (List ℕ))
+    → AreRationalTypes p one → AreRationalTypes p other → one ≡ other)
+  where
+    patches_one : (input : RandomInput) (per : Option ℕ) → GivesOne (PatchesOf input per)
+    patches_one input per (Ok p) (Ok q) (are, valid) (also, too) = ap Ok (patches_once input per p q are valid also too)
+    patches_one input per (Ok p) (Err line) (are, valid) (fault, other, why, is) = absurd (patches_apart input per p fault are valid other why)
+    patches_one input per (Err line) (Ok p) (fault, other, why, is) (are, valid) = absurd (patches_apart input per p fault are valid other why)
+    patches_one input per (Err line) (Err text) (f, real, why, is) (g, neither, too, also) =
+        ap Err (is ∙ ap patch_line (patch_fault_once input per f g real neither why too) ∙ sym also)
+
+    types_one : (p : PatchList) → GivesOne (TypesOf p)
+    types_one p (Ok types) (Ok others) (all, few, within) (also, too, inside) = ap Ok (types_once p types others all also)
+    types_one p (Ok types) (Err line) (all, few, within) (fault, other, why, is) = absurd (types_apart p p types fault (alike_itself p) all few within other why)
+    types_one p (Err line) (Ok types) (fault, other, why, is) (all, few, within) = absurd (types_apart p p types fault (alike_itself p) all few within other why)
+    types_one p (Err line) (Err text) (f, real, why, is) (g, neither, too, also) =
+        ap Err (is ∙ ap types_line (types_fault_once p f g real neither why too) ∙ sym also)
+
+    typed_one : (budgets : BudgetList) (choices : ChoiceList) (per : Option ℕ) → GivesOne (TypedPatchesOf budgets choices per)
+    typed_one budgets choices per =
+        then_one (PatchesOf (input_of budgets choices) per) (λ p. AndThen (TypesOf p) (λ types. Just (Ok (typed p types))))
+        (patches_one (input_of budgets choices) per) (λ p. over_one (TypesOf p) (typed p) (types_one p))
+      where
+        typed : PatchList → List (List ℕ) → TypedPatches
+        typed p types = record { patches = p; types = types }
+
+    pub denotes_one : (line : Line) (bytes : ℕ → List ℕ) → GivesOne (Denotes line bytes)
+    denotes_one (Pairs table) bytes = one_file (numbers_in table table_in (bytes 0)) PairsOver
+    denotes_one (Analyse table) bytes = one_file (numbers_in table table_in (bytes 0)) AnalyseOver
+    denotes_one (Certify table) bytes = one_file (numbers_in table table_in (bytes 0)) CertifyOver
+    denotes_one (Check table certificate) bytes =
+        let first = numbers_in table table_in (bytes 0) in
+        let second = CertificateIn certificate TableKind (bytes 1) in
+        then_one (Just first) (λ t. AndThen second (λ c. Just (Ok (CheckOver t c)))) (just_one first)
+        (λ t. over_one second (CheckOver t) (certificate_one certificate TableKind (bytes 1)))
+    denotes_one (Demand table new json) bytes =
+        two_files (numbers_in table table_in (bytes 0)) (λ t. numbers_in new (prices_beside true t) (bytes 1)) (λ t p. DemandOver t p json)
+    denotes_one (Welfare table new json) bytes =
+        two_files (numbers_in table table_in (bytes 0)) (λ t. numbers_in new (prices_beside false t) (bytes 1)) (λ t p. WelfareOver t p json)
+    denotes_one (Utility table bundles) bytes =
+        two_files (numbers_in table table_in (bytes 0)) (λ t. numbers_in bundles (bundles_beside t) (bytes 1)) UtilityOver
+    denotes_one (Random budgets choices per json) bytes =
+        let first = numbers_in budgets budgets_in (bytes 0) in
+        let second = λ (b : BudgetList). numbers_in choices (choices_on b) (bytes 1) in
+        let made = λ (b : BudgetList) (c : ChoiceList). AndThen (TypedPatchesOf b c per) (λ given. Just (Ok (RandomOver given json))) in
+        then_one (Just first) (λ b. AndThen (Just (second b)) (made b)) (just_one first)
+        (λ b. then_one (Just (second b)) (made b) (just_one (second b))
+        (λ c. over_one (TypedPatchesOf b c per) (λ given. RandomOver given json) (typed_one b c per)))
+    denotes_one (CheckRandom budgets choices certificate per) bytes =
+        let first = numbers_in budgets budgets_in (bytes 0) in
+        let second = λ (b : BudgetList). numbers_in choices (choices_on b) (bytes 1) in
+        let third = CertificateIn certificate RandomKind (bytes 2) in
+        let made = λ (b : BudgetList) (c : ChoiceList) (read : Certificate).
+        AndThen (TypedPatchesOf b c per) (λ given. Just (Ok (CheckRandomOver given read))) in
+        then_one (Just first) (λ b. AndThen (Just (second b)) (λ c. AndThen third (made b c))) (just_one first)
+        (λ b. then_one (Just (second b)) (λ c. AndThen third (made b c)) (just_one (second b))
+        (λ c. then_one third (made b c) (certificate_one certificate RandomKind (bytes 2))
+        (λ read. over_one (TypedPatchesOf b c per) (λ given. CheckRandomOver given read) (typed_one b c per))))
+    denotes_one (Trial seed rows goods) bytes = just_one (Ok (TrialOver seed rows goods))

@@ -1,0 +1,136 @@
+-- What is refused is refused for one reason: no two faults of a certificate's bytes, of choices or of patches.
+use Rattle.std.proofs.Common.{◌≡◌, ◌≢◌, ◌⊎◌, ◌<◌, ◌≤◌, ◌+◌, ◌-◌, ◌^◌, ℕ, zero, suc, Bool, true, false, Option, None, List, [], ◌∷◌, All, get_or, length, map, take, drop, min, Some, Result, Ok, Err, inl, inr, refl, sym, ap, subst, ◌∙◌, arith}
+use Rattle.std.proofs.lemmas.Bool.{ltb-false, ltb-true}
+use Rattle.std.specs.Prelude.{nat_lt}
+use Rattle.rp_evidence.specs.declared.certificate.Item.{Item}
+use Rattle.rp_evidence.specs.declared.certificate.Kind.{Kind}
+use Rattle.serde_json.specs.Data.{Data, Items, array, member, no_items, null, number, object, unsigned}
+use Rattle.rp_json.specs.CertificateValue.{item_value}
+use Rattle.rp_json.specs.Denoted.{FitsKind, HasBadItem, HasNoTop, IsDenoted, IsFirstNoItem, IsSpelledSo, Spells, top_value}
+use Rattle.rp_json.specs.declared.fault.JsonFault.{JsonFault}
+use Rattle.rp_json.specs.declared.fault.JsonFault.TheVariants.{BadShape, BadVersion, NoMemory, NotJson}
+use Rattle.rp_json.proofs.ListLemmas.{same_items}
+use Rattle.rp_patch.specs.Choices.{RandomInput}
+use Rattle.rp_patch.specs.Patches.{PatchList}
+use Rattle.rp_patch.specs.Units.{IsLeastMultiple, IsMultiple, PassesPatchesAt, PassesUnitsAt, SaysWhy, all_chosen, chosen_below}
+use Rattle.rp_patch.specs.declared.TheConstants.{PATCHES, UNITS}
+use Rattle.rp_patch.specs.declared.fault.PatchFault.{PatchFault}
+use Rattle.rp_patch.specs.declared.fault.PatchFault.TheVariants as patch_fault
+use Rattle.rp_types.specs.Listed.{SaysWhy as SaysWhyNoTypes}
+use Rattle.rp_types.specs.declared.fault.TypesFault.{TypesFault}
+use Rattle.rp_types.specs.declared.fault.TypesFault.TheVariants as types_fault
+use Rattle.rp_run.proofs.PatchesApart.{chosen_within}
+
+-- neither of two numbers is less
+neither_less : (j k : ℕ) → (j < k → ⊥) → (k < j → ⊥) → j ≡ k
+neither_less j k not_less not_more = go (nat_lt j k) refl (nat_lt k j) refl
+  where
+    go : (t : Bool) → nat_lt j k ≡ t → (u : Bool) → nat_lt k j ≡ u → j ≡ k
+    go true is u also = absurd (not_less (ltb-true j k is))
+    go false is true also = absurd (not_more (ltb-true k j also))
+    go false is false also = omega (arith, ltb-false j k is, ltb-false k j also)
+
+-- ---- a certificate's bytes
+
+abbrev items_in : Data → Items
+items_in (object (member name (array items) ms)) = items
+items_in _ = no_items
+
+abbrev version_in : Data → ℕ
+version_in (object (member a d (member b e (member name (number (unsigned version)) ms)))) = version
+version_in _ = 0
+
+one_value : (bytes : List ℕ) (d e : Data) → Spells bytes d → Spells bytes e → d ≡ e
+one_value bytes d e one two = some_same d e (sym one.1 ∙ two.1)
+  where
+    some_same : (a b : Data) → Some a ≡ Some b → a ≡ b
+    some_same a b p = search
+
+-- items that stand before a value make that value one of an item
+item_before : (kind : Kind) (items : List Item) (values : List Data) (k n : ℕ) → map item_value items ≡ take n values → All (FitsKind kind) items → k < n → k < length values
+    → ((item : Item) → FitsKind kind item → item_value item ≢ get_or values k null) → ⊥
+item_before kind items [] k n same fit less within none = omega (arith, within)
+item_before kind items (v ∷ vs) k zero same fit less within none = omega (arith, less)
+item_before kind [] (v ∷ vs) k (suc n) same fit less within none = let wrong : length {A = Data} [] ≡ suc (length (take n vs)) = ap length same in omega (arith, wrong)
+item_before kind (i ∷ is) (v ∷ vs) zero (suc n) same fit less within none = none i (fit 0 i (omega arith)) (ap (λ ds. get_or ds 0 null) same)
+item_before kind (i ∷ is) (v ∷ vs) (suc k) (suc n) same fit less within none =
+    item_before kind is vs k n (ap (drop 1) same) (λ p d l. fit (suc p) d (omega (arith, l))) (omega (arith, less)) (omega (arith, within)) none
+
+bad_once : (kind : Kind) (values : List Data) (k n : ℕ) → IsFirstNoItem kind values k → IsFirstNoItem kind values n → k < n → ⊥
+bad_once kind values k n first other less = item_before kind other.before.0 values k n other.before.1 other.before.2 less first.within first.none
+
+bad_item_once : (kind : Kind) (d : Data) (item other : ℕ) → HasBadItem kind d item → HasBadItem kind d other → item ≡ other
+bad_item_once kind d item other (values, is, (k, bad, counted)) (also_values, also_is, (n, also_bad, also_counted)) =
+    let same : also_values ≡ values = same_items also_values values (ap items_in (sym also_is ∙ is)) in
+    let moved = subst (λ vs. IsFirstNoItem kind vs n) same also_bad in
+    let one : k ≡ n = neither_less k n (bad_once kind values k n bad moved) (bad_once kind values n k moved bad) in
+    counted ∙ ap (λ m. min (m + 1) (2 ^ 32 - 1)) one ∙ sym also_counted
+
+shape_once : (kind : Kind) (d : Data) (item other : ℕ) → (((item ≡ 0) × HasNoTop kind d) ⊎ HasBadItem kind d item) → (((other ≡ 0) × HasNoTop kind d) ⊎ HasBadItem kind d other) → item ≡ other
+shape_once kind d item other (inl (is, none)) (inl (also, too)) = is ∙ sym also
+shape_once kind d item other (inl (is, none)) (inr (values, top, bad)) = absurd (none 1 values top)
+shape_once kind d item other (inr (values, top, bad)) (inl (is, none)) = absurd (none 1 values top)
+shape_once kind d item other (inr bad) (inr also) = bad_item_once kind d item other bad also
+
+version_apart : (kind : Kind) (bytes : List ℕ) (item : ℕ) → IsSpelledSo kind bytes (Err BadVersion) → IsSpelledSo kind bytes (Err (BadShape item)) → ⊥
+version_apart kind bytes item (d, its, (version, items, is, other)) (e, also, inl (zero_item, none)) =
+    none version items (one_value bytes e d also its ∙ is)
+version_apart kind bytes item (d, its, (version, items, is, other)) (e, also, inr (values, top, bad)) =
+    other (ap version_in (sym is ∙ one_value bytes d e its also ∙ top))
+
+pub json_fault_once : (kind : Kind) (bytes : List ℕ) (f g : JsonFault) → f ≢ NoMemory → g ≢ NoMemory → IsDenoted kind bytes (Err f) → IsDenoted kind bytes (Err g) → f ≡ g
+json_fault_once kind bytes NoMemory g real also is too = absurd (real refl)
+json_fault_once kind bytes NotJson NoMemory real also is too = absurd (also refl)
+json_fault_once kind bytes NotJson NotJson real also is too = refl
+json_fault_once kind bytes NotJson BadVersion real also is too = absurd (is too.0 too.1)
+json_fault_once kind bytes NotJson (BadShape item) real also is too = absurd (is too.0 too.1)
+json_fault_once kind bytes BadVersion NoMemory real also is too = absurd (also refl)
+json_fault_once kind bytes BadVersion NotJson real also is too = absurd (too is.0 is.1)
+json_fault_once kind bytes BadVersion BadVersion real also is too = refl
+json_fault_once kind bytes BadVersion (BadShape item) real also is too = absurd (version_apart kind bytes item is too)
+json_fault_once kind bytes (BadShape item) NoMemory real also is too = absurd (also refl)
+json_fault_once kind bytes (BadShape item) NotJson real also is too = absurd (too is.0 is.1)
+json_fault_once kind bytes (BadShape item) BadVersion real also is too = absurd (version_apart kind bytes item too is)
+json_fault_once kind bytes (BadShape item) (BadShape other) real also (d, its, is) (e, theirs, too) =
+    let same : e ≡ d = one_value bytes e d theirs its in
+    ap BadShape (shape_once kind d item other is (subst (λ x. ((other ≡ 0) × HasNoTop kind x) ⊎ HasBadItem kind x other) same too))
+
+-- ---- choices
+
+passed_once : (input : RandomInput) (j k : ℕ) → PassesPatchesAt input j → PassesPatchesAt input k → j < k → ⊥
+passed_once input j k (below, few, many) (also_below, also_few, also_many) less =
+    let rise = chosen_within input (j + 1) k (omega (arith, less)) in
+    omega (arith, rise, many, also_few)
+
+units_once : (input : RandomInput) (j k : ℕ) → PassesUnitsAt input j → PassesUnitsAt input k → j < k → ⊥
+units_once input j k (below, fits, (m, (multiple, least), many)) (also_below, (n, (also_multiple, also_least), few), also_many) less =
+    let first : IsMultiple input (j + 1) n = (also_multiple.0, λ i l. also_multiple.1 i (omega (arith, less, l))) in
+    let no_more = least n first in
+    omega (arith, no_more, many, few)
+
+patches_units_apart : (input : RandomInput) (j : ℕ) → PassesPatchesAt input j → length (all_chosen input) ≤ PATCHES → ⊥
+patches_units_apart input j (below, few, many) all =
+    let rise = chosen_within input (j + 1) input.budgets (omega (arith, below)) in
+    omega (arith, rise, many, all)
+
+pub patch_fault_once : (input : RandomInput) (asked : Option ℕ) (f g : PatchFault) → f ≢ patch_fault.NoMemory → g ≢ patch_fault.NoMemory → SaysWhy input asked f → SaysWhy input asked g → f ≡ g
+patch_fault_once input asked patch_fault.NoMemory g real also is too = absurd (real refl)
+patch_fault_once input asked (patch_fault.TooManyPatches j) patch_fault.NoMemory real also is too = absurd (also refl)
+patch_fault_once input asked (patch_fault.TooManyPatches j) (patch_fault.TooManyPatches k) real also is too =
+    ap patch_fault.TooManyPatches (neither_less j k (passed_once input j k is too) (passed_once input k j too is))
+patch_fault_once input asked (patch_fault.TooManyPatches j) (patch_fault.NeedUnit k) real also is too = absurd (patches_units_apart input j is too.0)
+patch_fault_once input asked (patch_fault.NeedUnit j) patch_fault.NoMemory real also is too = absurd (also refl)
+patch_fault_once input asked (patch_fault.NeedUnit j) (patch_fault.TooManyPatches k) real also is too = absurd (patches_units_apart input k too is.0)
+patch_fault_once input asked (patch_fault.NeedUnit j) (patch_fault.NeedUnit k) real also (few, none, is) (also_few, also_none, too) =
+    ap patch_fault.NeedUnit (neither_less j k (units_once input j k is too) (units_once input k j too is))
+
+-- ---- patches
+
+pub types_fault_once : (p : PatchList) (f g : TypesFault) → f ≢ types_fault.NoMemory → g ≢ types_fault.NoMemory → SaysWhyNoTypes p f → SaysWhyNoTypes p g → f ≡ g
+types_fault_once p types_fault.NoMemory g real also is too = absurd (real refl)
+types_fault_once p types_fault.TooManyCombinations types_fault.NoMemory real also is too = absurd (also refl)
+types_fault_once p types_fault.TooManyCombinations types_fault.TooManyCombinations real also is too = refl
+types_fault_once p types_fault.TooManyCombinations types_fault.TooManyTypes real also is (fits, more) = absurd (omega (arith, is, fits))
+types_fault_once p types_fault.TooManyTypes types_fault.NoMemory real also is too = absurd (also refl)
+types_fault_once p types_fault.TooManyTypes types_fault.TooManyCombinations real also (fits, more) too = absurd (omega (arith, too, fits))
+types_fault_once p types_fault.TooManyTypes types_fault.TooManyTypes real also is too = refl

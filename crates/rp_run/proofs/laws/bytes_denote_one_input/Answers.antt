@@ -1,7 +1,0 @@
-use Rattle.rp_determined.proofs.Shared.{same_list}
-use Rattle.rp_determined.proofs.TypesApart.{types_once}
-use Rattle.rp_run.proofs.OneInput.{denotes_one}
-use Rattle.rp_run.proofs.laws.bytes_denote_one_input.Goals as goal
-
-pub returns : goal.returns
-returns c = denotes_one same_list types_once

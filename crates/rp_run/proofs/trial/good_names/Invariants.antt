@@ -1,7 +1,0 @@
-use Rattle.std.proofs.Common.{◌≡◌}
-use Rattle.rp_num.specs.Below.{listed}
-use Rattle.rp_run.specs.TrialTable.{good_name}
-use Rattle.rp_run.proofs.trial.good_names.Given as goal
-
-abbrev pub invariant-loop-g : goal.invariant-loop-g
-invariant-loop-g l = l.names.items ≡ listed l.g good_name

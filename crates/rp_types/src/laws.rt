@@ -1,0 +1,10 @@
+//! A law of types. Its function is empty: its contract is the law.
+ghost use Rattle.std.specs.Prelude.{◌≡◌, ℕ, List};
+ghost use Rattle.rp_patch.specs.Patches.{PatchList};
+ghost use Rattle.rp_patch.specs.Types.{AreRationalTypes};
+
+/// Patches have one list of rational types.
+pub fn rational_types_are_determined()
+    ensures { (p : PatchList) (one other : List (List ℕ))
+        → AreRationalTypes p one → AreRationalTypes p other → one ≡ other }
+{}

@@ -1,0 +1,7 @@
+//! The command line: which words are taken, and the command with its files and numbers that they name.
+#![tactic(auto)]
+
+mod command;
+mod line;
+
+pub use line::{Line, read_line, usage};

@@ -1,0 +1,16 @@
+//! Tests of patches, their units, the rational types and their mixtures: worked budgets and choices, limits, and the texts of
+//! the faults.
+#![tactic(auto)]
+
+#[cfg(test)]
+mod edges;
+#[cfg(test)]
+mod faults;
+#[cfg(test)]
+mod given;
+#[cfg(test)]
+mod limits;
+#[cfg(test)]
+mod mixtures;
+#[cfg(test)]
+mod rows;

@@ -1,0 +1,28 @@
+use std::alloc::Global;
+use std::test::Fail;
+use tests_support::tables::{APART, CERTIFICATE, CONTRADICTION, MORE_AND_LESS};
+use tests_support::{Ended, run_over};
+
+/// The usage, with every command.
+pub(crate) const USAGE: &str =
+    "usage: rp pairs TABLE\n       rp analyse TABLE\n       rp certify TABLE\n       rp check TABLE CERT\n\
+    \x20      rp demand TABLE NEW [--json]\n       rp welfare TABLE NEW [--json]\n\
+    \x20      rp utility TABLE BUNDLES\n       rp random BUDGETS CHOICES [--per N] [--json]\n\
+    \x20      rp checkrandom BUDGETS CHOICES CERT [--per N]\n       rp trial SEED ROWS GOODS\n";
+
+/// Runs the words over tables, of which two observations of `t.csv` and of `--x` contradict each other, and bundles, new prices and
+/// a certificate beside them.
+pub(crate) fn answer(alloc: Global, words: &[&str]) -> Result<Ended, Fail> {
+    let files = [
+        ("t.csv", CONTRADICTION),
+        ("--x", CONTRADICTION),
+        ("c.json", CERTIFICATE),
+        ("--c", CERTIFICATE),
+        ("b.csv", "q_a,q_b\n1,1\n"),
+        ("two.csv", APART),
+        ("three.csv", "p_a,p_b,m\n1,1,3\n"),
+        ("even.csv", MORE_AND_LESS),
+        ("dear.csv", "p_a,p_b\n1,2\n"),
+    ];
+    run_over(alloc, words, &files)
+}

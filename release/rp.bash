@@ -1,0 +1,24 @@
+# Completion of rp in bash: the commands, the options of each, and the names of files.
+_rp() {
+  local word=${COMP_WORDS[COMP_CWORD]} before=${COMP_WORDS[COMP_CWORD - 1]} options=
+  COMPREPLY=()
+  if [ "$COMP_CWORD" -eq 1 ]; then
+    mapfile -t COMPREPLY < <(compgen -W "pairs analyse certify check demand welfare utility random checkrandom trial" -- "$word")
+    return
+  fi
+  case ${COMP_WORDS[1]} in
+    demand | welfare) options="--json" ;;
+    random) options="--per --json" ;;
+    checkrandom) options="--per" ;;
+    trial) return ;;
+  esac
+  if [ "$before" = --per ]; then
+    return
+  elif [[ $word == -* ]]; then
+    mapfile -t COMPREPLY < <(compgen -W "$options" -- "$word")
+  else
+    compopt -o filenames 2>/dev/null
+    mapfile -t COMPREPLY < <(compgen -f -- "$word")
+  fi
+}
+complete -F _rp rp ./rp
