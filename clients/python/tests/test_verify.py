@@ -1,0 +1,315 @@
+"""The second checker on evidence made by hand, and each way in which it differs from the program's."""
+
+import copy
+import os
+import unittest
+
+import revealed
+from revealed import NoCertificate, NoTable
+from revealed.verifier import tables, verify_choices, verify_table
+
+ONE = b"p_a,q_a\n2,3\n"
+CONTRADICTION = b"p_a,q_a,p_b,q_b\n1,1,2,2\n2,2,1,1\n"
+APART = b"p_a,q_a,p_b,q_b\n1,2,2,1\n2,1,1,2\n"
+EQUAL = b"p_a,q_a,p_b,q_b\n1,2,1,2\n1,3,1,1\n"
+# costs 8, 4 and 8, 4
+MORE_AND_LESS = b"p_a,q_a,p_b,q_b\n1,4,1,4\n1,2,1,2\n"
+YEARS = b"p_bread,p_wine,q_bread,q_wine\n1.25,2.50,2,1\n2.50,1.25,1,2\n"
+BUDGETS, CHOICES = b"p_a,p_b,w\n1,2,4\n2,1,4\n", b"budget,q_a,q_b,n\n1,2,1,1\n1,0,2,3\n2,1,2,2\n2,2,0,2\n"
+
+RANKS = {"item": "garp", "ranks": [1, 1]}
+DEMAND = {
+    "item": "demand",
+    "prices": ["2", "2"],
+    "expenditure": "6",
+    "below": [1, 2],
+    "strict": [],
+    "inner": {"den": "1", "num": ["2", "1"]},
+    "goods": [
+        {
+            "lower": {"den": "250", "value": "1", "x": ["250", "500"], "y": [[2, "2"], [4, "125"]]},
+            "upper": {"den": "250", "value": "2", "x": ["500", "250"], "y": [[1, "4"], [4, "250"]]},
+        },
+        {
+            "lower": {"den": "250", "value": "1", "x": ["500", "250"], "y": [[1, "2"], [4, "125"]]},
+            "upper": {"den": "250", "value": "2", "x": ["250", "500"], "y": [[2, "4"], [4, "250"]]},
+        },
+    ],
+}
+WELFARE = {
+    "item": "welfare",
+    "prices": ["2", "2"],
+    "observation": 1,
+    "at": 1,
+    "upper": "6",
+    "lower": {"den": "250", "value": "4", "x": ["0", "500"], "y": [[1, "2"]]},
+}
+VIOLATED = {"item": "random", "den": "1", "total": "4", "parts": [[[1, 4], "1"], [[2, 3], "2"]], "weights": ["1", "0", "1", "0"]}
+
+
+def certificate(*items, kind="table"):
+    return revealed.commands.certificate_bytes({"items": list(items), "kind": kind, "version": 1})
+
+
+def changed(item, *path, to):
+    """Returns the item with something else at a place."""
+    other = copy.deepcopy(item)
+    at = other
+    for step in path[:-1]:
+        at = at[step]
+    at[path[-1]] = to
+    return other
+
+
+class Evidence(unittest.TestCase):
+    def proves(self, table, *items):
+        found = verify_table(table, certificate(*items))
+        self.assertTrue(found.accepted, found)
+        self.assertEqual(found.remarks, [])
+
+    def fails(self, table, told, *items):
+        found = verify_table(table, certificate(*items))
+        self.assertFalse(found.accepted, found)
+        self.assertEqual(found.rejected.number, len(items))
+        self.assertIn(told, found.rejected.why)
+
+    def test_garp(self):
+        self.proves(CONTRADICTION, {"item": "garp", "cycle": [2, 1, 2]})
+        self.proves(APART, RANKS)
+        self.proves(EQUAL, RANKS, {"item": "garp", "ranks": [7, 7]})
+        self.proves(MORE_AND_LESS, {"item": "garp", "ranks": [2, 1]})
+        self.fails(MORE_AND_LESS, "strictly", {"item": "garp", "ranks": [1, 1]})
+        self.fails(EQUAL, "weakly", {"item": "garp", "ranks": [1, 2]})
+        self.fails(CONTRADICTION, "axiom fails", RANKS)
+        self.fails(EQUAL, "no step of the walk is strict", {"item": "garp", "cycle": [1, 2, 1]})
+        self.fails(CONTRADICTION, "does not end", {"item": "garp", "cycle": [1, 2]})
+        self.fails(CONTRADICTION, "has a step", {"item": "garp", "cycle": [1]})
+        self.fails(CONTRADICTION, "no observation", {"item": "garp", "cycle": [1, 3, 1]})
+        self.fails(APART, "one rank", {"item": "garp", "ranks": [1]})
+
+    def test_afriat(self):
+        # 4 is spent where the other costs 8: U2 <= U1 - 4 λ1 and U1 <= U2 + 4 λ2
+        self.proves(MORE_AND_LESS, {"item": "afriat", "utility": ["0", "-4"], "lambda": ["1", "1"]})
+        self.fails(MORE_AND_LESS, "allows", {"item": "afriat", "utility": ["0", "-3"], "lambda": ["1", "1"]})
+        self.fails(MORE_AND_LESS, "below 1", {"item": "afriat", "utility": ["0", "-4"], "lambda": ["1", "0"]})
+        self.proves(CONTRADICTION, {"item": "afriat", "cycle": [1, 2, 1]})
+
+    def test_efficiency(self):
+        index = {"item": "efficiency", "level": "4/5", "above": [1, 2, 1], "below": [1, 1], "at_ranks": [2, 2]}
+        self.proves(CONTRADICTION, index)
+        for level in ("9/10", "1"):
+            self.fails(CONTRADICTION, "fails at a lower level", changed(index, "level", to=level))
+        self.fails(CONTRADICTION, "holds at a higher level", changed(index, "level", to="3/4"))
+        self.fails(CONTRADICTION, "above 0", changed(index, "level", to="0"))
+        self.fails(CONTRADICTION, "above 0", changed(index, "level", to="5/4"))
+        self.fails(CONTRADICTION, "above: ", changed(index, "above", to=[]))
+        self.fails(CONTRADICTION, "below: ", changed(index, "below", to=[1]))
+        self.fails(CONTRADICTION, "at the level: ", changed(index, "at_ranks", to=[2, 1]))
+        self.proves(APART, {"item": "efficiency", "level": "1", "above": [], "below": [1, 1], "at_ranks": [1, 1]})
+        self.fails(APART, "nothing above", {"item": "efficiency", "level": "1", "above": [1, 1], "below": [1, 1], "at_ranks": [1, 1]})
+
+    def test_homothetic(self):
+        self.proves(APART, {"item": "homothetic", "values": ["1", "1"]})
+        self.proves(APART, {"item": "homothetic", "values": ["5/4", "1"]})
+        self.fails(APART, "below the value", {"item": "homothetic", "values": ["4/3", "1"]})
+        self.fails(APART, "is 0", {"item": "homothetic", "values": ["0", "1"]})
+        self.proves(CONTRADICTION, {"item": "homothetic", "start": "7/3", "cycle": [1, 2, 1]})
+        self.fails(CONTRADICTION, "start is 0", {"item": "homothetic", "start": "0", "cycle": [1, 2, 1]})
+        self.fails(APART, "not end below", {"item": "homothetic", "start": "1", "cycle": [1, 2, 1]})
+
+    def test_quasilinear(self):
+        self.proves(APART, {"item": "quasilinear", "values": ["1", "0"]})
+        self.fails(APART, "below the value", {"item": "quasilinear", "values": ["2", "0"]})
+        self.proves(CONTRADICTION, {"item": "quasilinear", "cycle": [2, 1, 2]})
+        self.fails(APART, "not below 0", {"item": "quasilinear", "cycle": [1, 2, 1]})
+
+    def test_demand(self):
+        self.proves(YEARS, RANKS, DEMAND)
+        for told, path, to in [
+            ("below are others", ["below"], [1]),
+            ("strictly below are others", ["strict"], [1]),
+            ("expenditure", ["inner", "num"], ["3", "1"]),
+            ("axiom fails", ["inner", "num"], ["0", "3"]),
+            ("another value", ["goods", 0, "lower", "value"], "2"),
+            ("is above b", ["goods", 0, "lower", "y", 0], [2, "3"]),
+            ("not one value", ["goods", 0, "lower", "y"], []),
+            ("below c", ["goods", 1, "upper", "x"], ["249", "501"]),
+            ("twice", ["goods", 0, "lower", "y"], [[2, "1"], [2, "1"], [4, "125"]]),
+            ("one price", ["prices"], ["2"]),
+            ("expenditure is 0", ["expenditure"], "0"),
+        ]:
+            self.fails(YEARS, told, RANKS, changed(DEMAND, *path, to=to))
+        self.fails(YEARS, "no item before it", DEMAND)
+        withheld = changed(DEMAND, "goods", 0, "lower", to={"withheld": "7"})
+        self.assertEqual(verify_table(YEARS, certificate(RANKS, withheld)).withheld, 1)
+        self.proves(CONTRADICTION, {"item": "demand", "prices": ["1", "1"], "expenditure": "1", "cycle": [1, 2, 1]})
+
+    def test_a_demand_with_strict_preference(self):
+        # with money left at 3 and at 3 prices, both observations are strictly below, and demand costs more there
+        table = b"p_a,p_b,q_a,q_b\n1,2,1,1\n2,1,1,1\n"
+        found = verify_table(table, certificate(RANKS, changed(changed(DEMAND, "below", to=[1, 2]), "strict", to=[1, 2])))
+        self.assertNotIn("others", found.rejected.why)
+
+    def test_welfare(self):
+        self.proves(YEARS, RANKS, WELFARE)
+        self.fails(YEARS, "not what its bundle costs", RANKS, changed(WELFARE, "upper", to="5"))
+        self.fails(YEARS, "does not reach", RANKS, changed(WELFARE, "at", to=2))
+        self.fails(YEARS, "another value", RANKS, changed(WELFARE, "lower", "value", to="3"))
+        self.fails(YEARS, "no item before it", WELFARE)
+        self.fails(MORE_AND_LESS, "costs less", {"item": "garp", "ranks": [2, 1]}, {**WELFARE, "observation": 2, "upper": "16", "at": 1})
+
+    def test_random(self):
+        self.assertTrue(verify_choices(BUDGETS, CHOICES, certificate(VIOLATED, kind="random")))
+        for told, path, to in [
+            ("total", ["total"], "5"),
+            ("not rational", ["parts", 0, 0], [2, 4]),
+            ("patch of each", ["parts", 0, 0], [4, 1]),
+            ("more than its units", ["parts", 0, 1], "9"),
+            ("weighs less", ["weights"], ["0", "0", "1", "0"]),
+            ("not what the units weigh", ["weights"], ["2", "0", "1", "0"]),
+            ("denominator is 0", ["den"], "0"),
+            ("one weight", ["weights"], ["1"]),
+        ]:
+            found = verify_choices(BUDGETS, CHOICES, certificate(changed(VIOLATED, *path, to=to), kind="random"))
+            self.assertIn(told, found.rejected.why)
+        mixture = {name: VIOLATED[name] for name in ("item", "den", "total", "parts")}
+        self.assertIn("units", verify_choices(BUDGETS, CHOICES, certificate(mixture, kind="random")).rejected.why)
+
+    def test_what_is_withheld(self):
+        found = verify_table(ONE, certificate({"item": "afriat", "withheld": 1}, {"item": "homothetic", "withheld": [1, 1, 1]}))
+        self.assertEqual((found.accepted, found.withheld, [item.proves for item in found.items]), (True, 2, [None, None]))
+
+
+class Texts(unittest.TestCase):
+    def test_no_certificates(self):
+        good = certificate(RANKS)
+        self.assertTrue(verify_table(APART, good))
+        for text, number in [
+            (b"", 0),
+            (good[:-1], 0),
+            (good + b"{}", 0),
+            (b"\xef\xbb\xbf" + good, 0),
+            (good.replace(b"garp", b"\xff"), 0),
+            (good.replace(b"[1, 1]", b"[1, NaN]"), 0),
+            (good.replace(b"[1, 1]", b"[1, 1e999]"), 0),
+            (good.replace(b'"table"', b'"\\ud800"'), 0),
+            (good.replace(b"[1, 1]", b"[" * 200 + b"]" * 200), 0),
+            (good.replace(b'"table"', b'"random"'), 0),
+            (good.replace(b'"version": 1', b'"version": 2'), 0),
+            (good.replace(b"[1, 1]", b"[1, 1.0]"), 1),
+            (good.replace(b"[1, 1]", b"[1, -1]"), 1),
+            (good.replace(b"[1, 1]", b'["1", 1]'), 1),
+            (good.replace(b"[1, 1]", b"[true, 1]"), 1),
+            (certificate(RANKS, {"item": "homothetic", "values": ["2/4", "1"]}), 2),
+            (certificate(RANKS, {"item": "homothetic", "values": ["2/1", "1"]}), 2),
+            (certificate(RANKS, {"item": "quasilinear", "values": ["-0", "1"]}), 2),
+            (certificate(RANKS, {"item": "quasilinear", "values": ["01", "1"]}), 2),
+            (certificate({"item": "garp", "cycle": [0, 1, 0]}), 1),
+        ]:
+            with self.assertRaises(NoCertificate) as caught:
+                verify_table(APART, text)
+            self.assertEqual(caught.exception.item, number, text)
+
+    def test_no_tables(self):
+        for text in [
+            b"",
+            b"p_a\n1\n",
+            b"p_a,q_a\n",
+            b"p_a,q_a\n1\n",
+            b"p_a,q_a\n1,.5\n",
+            b"p_a,q_a\n0,1\n",
+            b"p_a,q_a\n1,0\n",
+            b"p_a,q_a\n1,1.0000001\n",
+            b"p_a,q_a\n1,10000000\n",
+            b"p_a,q_a,p_a,q_b\n1,1,1,1\n",
+            b"p_a,q_a,x\n1,1,1\n",
+        ]:
+            with self.assertRaises(NoTable):
+                tables.read_table(text)
+        table = tables.read_table(b'\xef\xbb\xbfobs,p_a,q_a\r\n\r\n"x, y", 1.50 ,"2.0"')
+        self.assertEqual((table.prices, table.quantities), ([[15]], [[2]]))
+
+
+class Differences(unittest.TestCase):
+    """What proves its verdict and has not the form that the program's checker asks for: accepted with a remark, rejected there."""
+
+    def differs(self, data, item, told, before=(), kind="table"):
+        claimed = certificate(*before, item, kind=kind)
+        files = (data,) if kind == "table" else data
+        found = verify_table(*files, claimed) if kind == "table" else verify_choices(*files, claimed)
+        self.assertTrue(found.accepted, found)
+        self.assertEqual(len(found.items), len(before) + 1)
+        self.assertTrue(found.items[-1].remarks, item)
+        names = ["table.csv"] if kind == "table" else ["budgets.csv", "choices.csv"]
+        words = ["check" if kind == "table" else "checkrandom", *names, "certificate.json"]
+        ran = revealed.program.call(words, {**dict(zip(names, files)), "certificate.json": claimed})
+        said = ran.out.strip() or ran.said
+        self.assertEqual(said, told)
+
+    def test_widths(self):
+        first = "rejected item 1"
+        self.differs(ONE, {"item": "afriat", "utility": ["0"], "lambda": [str(2**60 + 1)]}, f"{first} Number place 1")
+        self.differs(ONE, {"item": "afriat", "utility": [str(-(2**120) - 1)], "lambda": ["1"]}, f"{first} Number place 1")
+        self.differs(ONE, {"item": "quasilinear", "values": [str(2**100 + 1)]}, f"{first} Number place 1")
+        wide = str(2**127 - 1)
+        self.differs(APART, {"item": "homothetic", "values": [wide, wide]}, f"{first} Wide place 1")
+        self.differs(CONTRADICTION, {"item": "homothetic", "start": wide, "cycle": [1, 2, 1]}, f"{first} Wide place 1")
+
+    def test_types(self):
+        for item in (
+            {"item": "garp", "ranks": [2**32]},
+            {"item": "afriat", "utility": ["0"], "lambda": [str(2**64)]},
+            {"item": "quasilinear", "values": [str(2**127)]},
+            {"item": "homothetic", "values": [str(2**127)]},
+        ):
+            self.differs(ONE, item, "rp: certificate.json: BadShape item 1")
+
+    def test_lists_and_pairs(self):
+        second = "rejected item 2"
+        self.differs(YEARS, changed(DEMAND, "below", to=[2, 1]), f"{second} Set place 1", [RANKS])
+        lower = ["goods", 0, "lower"]
+        self.differs(YEARS, changed(DEMAND, *lower, "y", to=[[4, "125"], [2, "2"]]), f"{second} Bound place 1", [RANKS])
+        self.differs(YEARS, changed(DEMAND, *lower, "y", to=[[2, "2"], [3, "0"], [4, "125"]]), f"{second} Bound place 1", [RANKS])
+        # 500 times 2^55 is above 2^63 - 1 and has 64 bits
+        scaled = {"den": str(250 * 2**55), "value": "1", "x": [str(250 * 2**55), str(500 * 2**55)], "y": [[2, str(2**56)], [4, str(125 * 2**55)]]}
+        self.differs(YEARS, changed(DEMAND, *lower, to=scaled), f"{second} Bound place 1", [RANKS])
+        scaled = {"den": str(250 * 2**55), "value": "4", "x": ["0", str(500 * 2**55)], "y": [[1, str(2**56)]]}
+        self.differs(YEARS, changed(WELFARE, "lower", to=scaled), f"{second} Bound place 1", [RANKS])
+
+    def test_limits_of_new_prices(self):
+        dear = {**DEMAND, "prices": [str(2 * 10**7), str(2 * 10**7)], "expenditure": str(6 * 10**7), "goods": [{"lower": {"withheld": "1"}, "upper": {"withheld": "1"}}] * 2}
+        self.differs(YEARS, dear, "rejected item 2 Number place 1", [RANKS])
+        much = {**DEMAND, "expenditure": str(2 * 10**15), "strict": [1, 2], "inner": {"den": "1", "num": [str(10**15), "0"]}, "goods": dear["goods"]}
+        self.differs(YEARS, much, "rejected item 2 Number place 0", [RANKS])
+
+    def test_random(self):
+        data = (BUDGETS, CHOICES)
+        for path, to, told in [
+            (["parts"], VIOLATED["parts"][::-1], "Order place 2"),
+            (["parts"], [[[1, 4], "1"], [[2, 3], "1"], [[2, 3], "1"]], "Order place 3"),
+            (["parts"], [[[1, 3], "0"], [[1, 4], "1"], [[2, 3], "2"]], "Number place 1"),
+        ]:
+            self.differs(data, changed(VIOLATED, *path, to=to), f"rejected item 1 {told}", kind="random")
+        wide = {**VIOLATED, "den": str(2**63), "parts": [[[1, 4], str(2**63)], [[2, 3], str(2**63)], [[2, 3], str(2**63)]], "weights": [str(2**63), "0", str(2**63), "0"]}
+        self.differs(data, wide, "rejected item 1 Number place 0", kind="random")
+
+
+class Large(unittest.TestCase):
+    """A table of the largest size is slow and takes no more than that."""
+
+    def test_trial_table(self):
+        import random
+
+        choice = random.Random(5)
+        prices = [[choice.randint(1, 99) for _ in range(16)] for _ in range(256)]
+        quantities = [[choice.randint(0, 99) for _ in range(16)] for _ in range(256)]
+        verdict = revealed.analyse(prices, quantities)
+        found = revealed.verify(verdict, verdict)
+        self.assertTrue(found, found)
+        self.assertTrue(revealed.check(verdict, verdict))
+
+
+if __name__ == "__main__":
+    if "RP_EXEC" not in os.environ:
+        raise SystemExit("RP_EXEC has to name the program")
+    unittest.main()
