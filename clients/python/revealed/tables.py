@@ -38,8 +38,8 @@ class Sheet:
     def scale(self, *prefixes):
         """Returns the power of ten that makes the numbers whole of all columns whose names begin so."""
         own = [place for place, name in enumerate(self.names) if name.startswith(prefixes)]
-        numbers = [exact.fraction_of(row[place]) for row in self.texts for place in own]
-        return 10 ** max((exact.places_of(number) for number in numbers), default=0)
+        parts = [row[place].partition(".")[2].rstrip("0") for row in self.texts for place in own]
+        return 10 ** max(map(len, parts), default=0)
 
     def refused(self, fault, places):
         """Returns the refusal of this file, with the row's label, the column's name, what stands there, and a hint."""

@@ -6,7 +6,7 @@ import unittest
 
 import revealed
 from revealed import NoCertificate, NoTable
-from revealed.verifier import tables, verify_choices, verify_table
+from revealed.verifier import demand, tables, verify_choices, verify_table
 
 ONE = b"p_a,q_a\n2,3\n"
 CONTRADICTION = b"p_a,q_a,p_b,q_b\n1,1,2,2\n2,2,1,1\n"
@@ -103,6 +103,7 @@ class Evidence(unittest.TestCase):
         self.fails(CONTRADICTION, "above 0", changed(index, "level", to="0"))
         self.fails(CONTRADICTION, "above 0", changed(index, "level", to="5/4"))
         self.fails(CONTRADICTION, "above: ", changed(index, "above", to=[]))
+        self.fails(CONTRADICTION, "above: ", changed(index, "above", to=[1, 1]))
         self.fails(CONTRADICTION, "below: ", changed(index, "below", to=[1]))
         self.fails(CONTRADICTION, "at the level: ", changed(index, "at_ranks", to=[2, 1]))
         self.proves(APART, {"item": "efficiency", "level": "1", "above": [], "below": [1, 1], "at_ranks": [1, 1]})
@@ -115,12 +116,14 @@ class Evidence(unittest.TestCase):
         self.fails(APART, "is 0", {"item": "homothetic", "values": ["0", "1"]})
         self.proves(CONTRADICTION, {"item": "homothetic", "start": "7/3", "cycle": [1, 2, 1]})
         self.fails(CONTRADICTION, "start is 0", {"item": "homothetic", "start": "0", "cycle": [1, 2, 1]})
+        self.fails(EQUAL, "not end below", {"item": "homothetic", "start": "1", "cycle": [1, 2, 1]})
         self.fails(APART, "not end below", {"item": "homothetic", "start": "1", "cycle": [1, 2, 1]})
 
     def test_quasilinear(self):
         self.proves(APART, {"item": "quasilinear", "values": ["1", "0"]})
         self.fails(APART, "below the value", {"item": "quasilinear", "values": ["2", "0"]})
         self.proves(CONTRADICTION, {"item": "quasilinear", "cycle": [2, 1, 2]})
+        self.fails(EQUAL, "not below 0", {"item": "quasilinear", "cycle": [1, 2, 1]})
         self.fails(APART, "not below 0", {"item": "quasilinear", "cycle": [1, 2, 1]})
 
     def test_demand(self):
@@ -129,7 +132,9 @@ class Evidence(unittest.TestCase):
             ("below are others", ["below"], [1]),
             ("strictly below are others", ["strict"], [1]),
             ("expenditure", ["inner", "num"], ["3", "1"]),
+            ("expenditure", ["inner", "num"], ["1", "1"]),
             ("axiom fails", ["inner", "num"], ["0", "3"]),
+            ("bounds for each good", ["goods"], DEMAND["goods"][:1]),
             ("another value", ["goods", 0, "lower", "value"], "2"),
             ("is above b", ["goods", 0, "lower", "y", 0], [2, "3"]),
             ("not one value", ["goods", 0, "lower", "y"], []),
@@ -144,15 +149,18 @@ class Evidence(unittest.TestCase):
         self.assertEqual(verify_table(YEARS, certificate(RANKS, withheld)).withheld, 1)
         self.proves(CONTRADICTION, {"item": "demand", "prices": ["1", "1"], "expenditure": "1", "cycle": [1, 2, 1]})
 
-    def test_a_demand_with_strict_preference(self):
-        # with money left at 3 and at 3 prices, both observations are strictly below, and demand costs more there
-        table = b"p_a,p_b,q_a,q_b\n1,2,1,1\n2,1,1,1\n"
-        found = verify_table(table, certificate(RANKS, changed(changed(DEMAND, "below", to=[1, 2]), "strict", to=[1, 2])))
-        self.assertNotIn("others", found.rejected.why)
+    def test_strictly_below(self):
+        # the budget buys just the first bundle, which is strictly preferred to the second; from there a weak step leads to
+        # the third alone: its bundle costs as much as the first at the first prices, and as the second at the second
+        table = tables.Table(["a", "b"], [[2, 1], [2, 3], [1, 1]], [[4, 0], [0, 4], [3, 2]])
+        self.assertEqual(demand.observations_below(table, [1, 2], 4), ({0, 1, 2}, {0, 1, 2}))
+        table = tables.Table(["a", "b"], [[2, 1], [2, 1]], [[4, 0], [0, 4]])
+        self.assertEqual(demand.observations_below(table, [1, 2], 4), ({0, 1}, {1}))
 
     def test_welfare(self):
         self.proves(YEARS, RANKS, WELFARE)
         self.fails(YEARS, "not what its bundle costs", RANKS, changed(WELFARE, "upper", to="5"))
+        self.fails(YEARS, "not what its bundle costs", RANKS, changed(WELFARE, "upper", to="7"))
         self.fails(YEARS, "does not reach", RANKS, changed(WELFARE, "at", to=2))
         self.fails(YEARS, "another value", RANKS, changed(WELFARE, "lower", "value", to="3"))
         self.fails(YEARS, "no item before it", WELFARE)
@@ -174,6 +182,14 @@ class Evidence(unittest.TestCase):
             self.assertIn(told, found.rejected.why)
         mixture = {name: VIOLATED[name] for name in ("item", "den", "total", "parts")}
         self.assertIn("units", verify_choices(BUDGETS, CHOICES, certificate(mixture, kind="random")).rejected.why)
+
+    def test_a_mixture_is_no_violation(self):
+        # what was chosen 0 times is in no patch
+        choices = b"budget,q_a,q_b,n\n1,2,1,0\n1,0,2,3\n2,1,2,2\n2,2,0,0\n"
+        mixture = {"item": "random", "den": "1", "total": "6", "parts": [[[1, 2], "6"]]}
+        self.assertTrue(verify_choices(BUDGETS, choices, certificate(mixture, kind="random")))
+        found = verify_choices(BUDGETS, choices, certificate({**mixture, "weights": ["1", "0"]}, kind="random"))
+        self.assertIn("not below the total", found.rejected.why)
 
     def test_what_is_withheld(self):
         found = verify_table(ONE, certificate({"item": "afriat", "withheld": 1}, {"item": "homothetic", "withheld": [1, 1, 1]}))
