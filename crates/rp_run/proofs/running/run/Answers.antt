@@ -1,5 +1,5 @@
 use Rattle.std.proofs.Common.{◌≡◌, ◌∙◌, Some, None, map, string_bytes, sym, inl, inr}
-use Rattle.rp_words.specs.CommandLine.{line_in}
+use Rattle.rp_words.specs.Words.{line_in}
 use Rattle.rp_words.specs.Named.{named_line}
 use Rattle.rp_words.proofs.MatchesNameALine.{refused_where_no_line}
 use Rattle.rp_run.proofs.RunLemmas.{cause_of_accepted, done_line_apart, line_rejected, not_both, rejected_line_apart}
