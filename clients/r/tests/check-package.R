@@ -27,14 +27,14 @@ run <- function(what, words, at = room, env = character(), exe = R) {
     cat("failed:", what, "\n", tail(said, 40), sep = "\n")
     good <<- FALSE
   }
-  said
+  invisible(said)
 }
 
 run("R CMD build", c("CMD", "build", shQuote(file.path(dirname(here), "revealed"))))
 # R CMD check itself takes no folder with blanks.
 plain <- tempfile("revealed")
 dir.create(plain)
-file.copy(Sys.glob(file.path(room, "revealed_*.tar.gz")), plain)
+invisible(file.copy(Sys.glob(file.path(room, "revealed_*.tar.gz")), plain))
 said <- run("R CMD check", c("CMD", "check", "--no-manual", basename(Sys.glob(file.path(plain, "*.tar.gz")))), at = plain)
 ended <- grep("^Status:", said, value = TRUE)
 cat("R CMD check --no-manual:", ended, "\n")
@@ -76,8 +76,8 @@ panel <- file.path(top, "examples", "panel", "panel.py")
 # panel.py takes the program beside it: a tree of links puts ours there.
 tree <- file.path(room, "tree")
 dir.create(file.path(tree, "examples", "panel"), recursive = TRUE)
-file.copy(panel, file.path(tree, "examples", "panel"))
-file.symlink(Sys.getenv("RP_EXEC"), file.path(tree, "rp"))
+invisible(file.copy(panel, file.path(tree, "examples", "panel")))
+invisible(file.symlink(Sys.getenv("RP_EXEC"), file.path(tree, "rp")))
 first <- system.time(
   run("panel.py", c(shQuote(file.path(tree, "examples/panel/panel.py")), shQuote(path), "verdicts.csv"), exe = "python3")
 )[["elapsed"]]

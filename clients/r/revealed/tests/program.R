@@ -12,7 +12,7 @@ caught <- function(call, class) {
     NULL
   }, rp_error = identity)
   stopifnot(inherits(wrong, class))
-  wrong
+  invisible(wrong)
 }
 texts <- as.character
 P <- rbind(c(1, 2), c(2, 1))
@@ -39,9 +39,9 @@ p <- matrix(c(1, 2, 2, 1, 3, 3), 2, dimnames = list(rows, goods))
 q <- matrix(c(1, 2, 2, 1, 1, 1), 2, dimnames = list(rows, goods))
 stopifnot(identical(rp_test(p, q[, 3:1])$certificate, rp_test(p, q)$certificate), setequal(rp_test(p, q)$cycle, rows))
 stopifnot(identical(caught(rp_test(p, replace(q, 3, NA)), "rp_refused")$name, paste0("q_", goods[2])))
-invisible(caught(rp_test(p, q[2:1, ]), "rp_bad_data"))
+caught(rp_test(p, q[2:1, ]), "rp_bad_data")
 colnames(q)[1] <- "cheese"
-invisible(caught(rp_test(p, q), "rp_bad_data"))
+caught(rp_test(p, q), "rp_bad_data")
 stopifnot(identical(rp_test(unname(p), q)$certificate, rp_test(p, unname(q))$certificate))
 
 # ---- numbers
@@ -115,8 +115,8 @@ bad <- rp_welfare(P, P, new = c(1, 1))
 stopifnot(!bad$garp, is.na(texts(bad$bounds$upper)), nrow(bad$bounds) == 2)
 wrong <- caught(rp_demand(years, new = c(bread = 2, wine = 2), m = 0), "rp_refused")
 stopifnot(wrong$fault == "ZeroBundle", wrong$file == "new")
-invisible(caught(rp_demand(years, new = c(bread = 2, cheese = 2), m = 1), "rp_bad_data"))
-invisible(caught(rp_demand(years, new = c(bread = 2, wine = 2)), "rp_bad_data"))
+caught(rp_demand(years, new = c(bread = 2, cheese = 2), m = 1), "rp_bad_data")
+caught(rp_demand(years, new = c(bread = 2, wine = 2)), "rp_bad_data")
 
 # ---- choices
 budgets <- data.frame(p_bread = 1:2, p_wine = 2:1, w = 4)
@@ -146,7 +146,7 @@ dir.create(folder)
 writeLines(c("p_a,q_a", "1,1"), file.path(folder, "a table.csv"))
 cat(rp_test(matrix(1), matrix(1))$certificate, file = file.path(folder, "a certificate.json"))
 stopifnot(rp_check(file.path(folder, "a table.csv"), file.path(folder, "a certificate.json"))$accepted)
-invisible(caught(rp_check("not there.csv", forged), "rp_bad_data"))
+caught(rp_check("not there.csv", forged), "rp_bad_data")
 
 # ---- what is withheld is NA
 text <- paste0(
@@ -167,9 +167,9 @@ for (fault in list(
   list(matrix(1, 257, 1), matrix(1, 257, 1), "TooManyRecords"), list(matrix(1, 1, 17), matrix(1, 1, 17), "TooManyGoods"),
   list(matrix(0, 0, 1), matrix(0, 0, 1), "NoRecords")
 )) stopifnot(caught(rp_test(fault[[1]], fault[[2]]), "rp_refused")$fault == fault[[3]])
-invisible(caught(rp_test(P, P[1, , drop = FALSE]), "rp_bad_data"))
-invisible(caught(rp_test(1:2, 1:2), "rp_bad_data"))
-invisible(caught(rp_test(P, P, digits = 7), "rp_bad_data"))
+caught(rp_test(P, P[1, , drop = FALSE]), "rp_bad_data")
+caught(rp_test(1:2, 1:2), "rp_bad_data")
+caught(rp_test(P, P, digits = 7), "rp_bad_data")
 wrong <- caught(rp_test(years[-5]), "rp_refused")
 stopifnot(wrong$fault == "Unpaired", wrong$name == "p_wine")
 stopifnot(caught(rp_test(cbind(years, P_rent = 1)), "rp_refused")$fault == "BadHeader")
@@ -186,7 +186,7 @@ stopifnot(grepl("row 2024", frame$message[3]), found$answers[[3]]$fault == "Zero
 stopifnot(grepl("3 households, 1", summary(found)$title), summary(found)$table["garp", "violated"] == 1)
 two <- as.data.frame(rp_panel(long, c("household", "obs"), workers = 2))
 stopifnot(nrow(two) == 5, identical(two$obs, c(2024, 2024, 2025, 2025, 2024)))
-invisible(caught(rp_panel(long, "family"), "rp_bad_data"))
+caught(rp_panel(long, "family"), "rp_bad_data")
 many <- data.frame(id = rep(1:50, 2), p_x = rep(1:2, each = 50), p_y = rep(2:1, each = 50), q_x = rep(1:2, each = 50), q_y = rep(2:1, each = 50))
 many$q_x[many$id %% 2 == 0] <- 5
 bar <- tempfile()
