@@ -35,7 +35,8 @@ absolute <- function(place) if (startsWith(place, "/")) place else file.path(get
 
 # Runs the program over files that are given by name, as lines or as bytes, in a folder of their own, and returns how it
 # ended. No name outside of that folder is told to it.
-call_program <- function(words, files, exe, room = tempfile("revealed-")) {
+call_program <- function(words, files, exe) {
+  room <- tempfile("revealed-")
   dir.create(room)
   on.exit(unlink(room, recursive = TRUE))
   for (name in names(files)) {
@@ -47,9 +48,13 @@ call_program <- function(words, files, exe, room = tempfile("revealed-")) {
     "{ cd", shQuote(room), "&&", shQuote(exe), paste(words, collapse = " "), ">out 2>err </dev/null; exit $?; } 2>/dev/null"
   )
   status <- system(line)
-  said <- strsplit(read_text(file.path(room, "err")), "\n", fixed = TRUE)[[1]]
-  said <- paste(said[!startsWith(said, "note: ")], collapse = "\n")
-  list(status = status, out = read_text(file.path(room, "out")), said = said)
+  ended(status, read_text(file.path(room, "out")), read_text(file.path(room, "err")))
+}
+
+# Returns how a call ended: its status, its output, and its own words on standard error.
+ended <- function(status, out, said) {
+  said <- strsplit(said, "\n", fixed = TRUE)[[1]]
+  list(status = status, out = out, said = paste(said[!startsWith(said, "note: ")], collapse = "\n"))
 }
 
 write_lines <- function(lines, path) {
@@ -78,8 +83,11 @@ told_refusal <- function(ran) {
 
 # Returns the output of a call that ends with a status of `good`; else stops with a refusal of one of the sheets, or with
 # rp_failed.
-answer <- function(words, files, exe, sheets = list(), good = 0, room = tempfile("revealed-")) {
-  ran <- call_program(words, files, exe, room)
+answer <- function(words, files, exe, sheets = list(), good = 0) {
+  answer_of(call_program(words, files, exe), sheets, good)
+}
+
+answer_of <- function(ran, sheets, good = 0) {
   if (ran$status %in% good) return(ran$out)
   told <- told_refusal(ran)
   if (is.null(told)) stop(failed(ran$status, ran$said))

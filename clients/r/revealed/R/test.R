@@ -6,8 +6,8 @@ rp_test <- function(p, q = NULL, digits = NULL, exe = NULL) {
   verdict_on(table_of(p, q, digits), rp_program(exe))
 }
 
-verdict_on <- function(table, exe, room = tempfile("revealed-")) {
-  text <- answer(c("certify", "table.csv"), list(table.csv = csv_lines(table)), exe, list(table), room = room)
+verdict_on <- function(table, exe) {
+  text <- answer(c("certify", "table.csv"), list(table.csv = csv_lines(table)), exe, list(table))
   read_verdict(table, text)
 }
 

@@ -76,6 +76,7 @@ common_divisor <- function(a, b) {
 
 # Returns the text of num over den in lowest terms; num may have a sign.
 fraction <- function(num, den) {
+  if (nchar(num) < 16 && nchar(den) < 16) return(small_fraction(as.numeric(num), as.numeric(den)))
   negative <- startsWith(num, "-")
   a <- limbs(sub("^-", "", num))
   b <- limbs(den)
@@ -83,6 +84,18 @@ fraction <- function(num, den) {
   a <- digits_of(divided(a, common)$quotient)
   b <- digits_of(divided(b, common)$quotient)
   paste0(if (negative) "-", a, if (b != "1") paste0("/", b))
+}
+
+# The same below 10^15, where doubles are exact.
+small_fraction <- function(num, den) {
+  a <- abs(num)
+  b <- den
+  while (b != 0) {
+    rest <- a %% b
+    a <- b
+    b <- rest
+  }
+  if (a == den) sprintf("%.0f", num / a) else sprintf("%.0f/%.0f", num / a, den / a)
 }
 
 # Returns texts of whole numbers or fractions, each over ten to the power of `places`, in lowest terms.
