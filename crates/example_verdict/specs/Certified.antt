@@ -1,0 +1,28 @@
+-- What a table of prices and purchases is certified to say.
+use Rattle.std.specs.Prelude.{◌≡◌, All, [], ◌∷◌}
+use Rattle.rp_table.specs.Tables.{Observations}
+use Rattle.rp_evidence.specs.Input.{input_of_table}
+use Rattle.rp_evidence.specs.Proves.{Proves}
+use Rattle.rp_evidence.specs.declared.afriat.AfriatPart.{AfriatPart}
+use Rattle.rp_evidence.specs.declared.certificate.Certificate.{Certificate}
+use Rattle.rp_evidence.specs.declared.certificate.Item.TheVariants.{Garp as GarpItem, Afriat as AfriatItem, Efficiency as EfficiencyItem}
+use Rattle.rp_evidence.specs.declared.certificate.Kind.TheVariants.{Table}
+use Rattle.rp_evidence.specs.declared.efficiency.Efficiency.{Efficiency}
+use Rattle.rp_evidence.specs.declared.garp.Garp.{Garp}
+
+-- The certificate of a table with a verdict on the generalized axiom of revealed preference (Varian 1982), one by
+-- Afriat's theorem (Afriat 1967) and one on the efficiency index (Afriat 1973).
+abbrev pub certificate_of : Garp → AfriatPart → Efficiency → Certificate
+certificate_of garp afriat efficiency = record {
+  kind = Table;
+  version = 1;
+  items = GarpItem garp ∷ AfriatItem afriat ∷ EfficiencyItem efficiency ∷ [];
+}
+
+-- The certificate has these three verdicts, and each proves what it says of the table.
+pub record IsCertifiedBy (table : Observations) (certificate : Certificate) : Type 0 where
+  pub garp : Garp
+  pub afriat : AfriatPart
+  pub efficiency : Efficiency
+  pub items : certificate ≡ certificate_of garp afriat efficiency
+  pub proves : All (Proves (input_of_table table)) certificate.items

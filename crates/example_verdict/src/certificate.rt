@@ -1,0 +1,57 @@
+ghost use Rattle.std.specs.Prelude.{◌≡◌, IfOk};
+ghost use Rattle.rp_check.specs.declared.verdict.Verdict.TheVariants.{Accepted};
+ghost use Rattle.rp_table.specs.Cost.{IsCostsOf};
+ghost use Rattle.example_verdict.specs.Certified.{IsCertifiedBy, certificate_of};
+
+use rp_afriat::afriat;
+use rp_check::{Verdict, check};
+use rp_effic::efficiency;
+use rp_evidence::{AfriatPart, Certificate, Efficiency, Garp, Item, Kind};
+use rp_garp::garp;
+use rp_num::{NoMemory, Seq};
+use rp_table::{Costs, Table};
+use std::alloc::Global;
+
+/// A certificate, and the checker's verdict on it.
+#[derive(Debug, Drop)]
+pub struct Certified {
+    pub certificate: Certificate,
+    pub verdict: Verdict,
+}
+
+/// The verdicts on a table with their evidence, and what the checker says of them from the table and the evidence alone.
+pub fn certify(alloc: Global, table: &Table, costs: &Costs) -> Result<Certified, NoMemory>
+    requires { IsCostsOf costs.now table.now }
+    ensures proves { IfOk result (λ made. IsCertifiedBy table.now made.certificate) }
+    ensures accepted { IfOk result (λ made. made.verdict ≡ Accepted) }
+{
+    let garp = garp(alloc, costs)?;
+    let afriat = afriat(alloc, costs, &garp)?;
+    let efficiency = efficiency(alloc, costs)?;
+    let certificate = certificate(alloc, garp, afriat, efficiency)?;
+    let verdict = check(table, costs, &certificate);
+    Ok(Certified {
+        certificate,
+        verdict,
+    })
+}
+
+/// The certificate with these three verdicts.
+fn certificate(
+    alloc: Global,
+    garp: Garp,
+    afriat: AfriatPart,
+    efficiency: Efficiency,
+) -> Result<Certificate, NoMemory>
+    ensures { IfOk result (λ made. made ≡ certificate_of garp afriat efficiency) }
+{
+    let mut items = Vec::new(alloc);
+    items.push(Item::Garp(garp))?;
+    items.push(Item::Afriat(afriat))?;
+    items.push(Item::Efficiency(efficiency))?;
+    Ok(Certificate {
+        kind: Kind::Table,
+        version: 1,
+        items: Seq::from_vec(items),
+    })
+}
