@@ -109,6 +109,8 @@ d <- rp_demand(tenth, new = data.frame(obs = "next", p_bread = "0.4", p_wine = "
 stopifnot(texts(d$bounds$lower) == "1/10", texts(d$bounds$upper) == "1/5", d$bounds$budget == "next", nrow(as.data.frame(d)) == 2)
 w <- rp_welfare(years, new = rbind(c(2, 2), c(2, 2)))
 stopifnot(texts(w$bounds$lower) == "4", texts(w$bounds$upper) == "6", identical(w$bounds$at, rep(2024:2025, 2)))
+w <- rp_welfare(tenth, new = matrix(c("0.2", "0.2"), 1))
+stopifnot(texts(w$bounds$lower) == "1/25", texts(w$bounds$upper) == "3/50")
 bad <- rp_demand(P, P, new = c(1, 1), m = 2)
 stopifnot(!bad$garp, is.na(texts(bad$bounds$lower)), bad$bounds$reason == "the axiom fails", length(bad$cycle) == 3)
 bad <- rp_welfare(P, P, new = c(1, 1))
