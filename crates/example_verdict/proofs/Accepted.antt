@@ -1,5 +1,5 @@
 -- The checker accepts the certificate of the three verdicts: none of its items fails.
-use Rattle.std.proofs.Common.{◌≡◌, ◌<◌, ℕ, zero, suc, arith, subst, sym}
+use Rattle.std.proofs.Common.{◌≡◌, zero, suc, arith, subst, sym}
 use Rattle.rp_afriat.proofs.SameVerdicts.{verdict_same as afriat_verdict_same}
 use Rattle.rp_afriat.specs.Verdict.{IsAfriatVerdict}
 use Rattle.rp_agreement.proofs.Accepted.{afriat_passes, efficiency_passes, garp_passes}
@@ -58,6 +58,6 @@ module _ (table : Observations) (costs : CostTable) (is : IsCostsOf costs table)
       let efficiency_proves : ProvesEfficiency input.n input.cost efficiency = rw (← is.size) (efficiency_same n here there efficiency agree ep) in
       let efficiency_given : IsEfficiencyVerdict input.n input.cost efficiency = rw (← is.size) (efficiency_verdict_same n here there efficiency agree eg) in
       only_accepted input certificate.items verdict
-        (subst (λ made. IsVerdictOn input made.items Accepted) (sym made)
-          (accepted_on input garp afriat efficiency garp_proves afriat_proves afriat_given efficiency_proves efficiency_given))
-        found
+      (subst (λ made. IsVerdictOn input made.items Accepted) (sym made)
+      (accepted_on input garp afriat efficiency garp_proves afriat_proves afriat_given efficiency_proves efficiency_given))
+      found

@@ -8,7 +8,7 @@ returns-clause-proves c = record {
   efficiency = c.in_ok-efficiency.efficiency;
   items = c.in_ok-certificate.ensures;
   proves = c.check-verdict.ensures.accepted_proves
-    (certificate_accepted c.args.table.now c.args.costs.now c.requires
+      (certificate_accepted c.args.table.now c.args.costs.now c.requires
       c.in_ok-garp.garp c.in_ok-afriat.afriat c.in_ok-efficiency.efficiency c.in_ok-certificate.certificate c.check-verdict.result
       c.in_ok-garp.ensures.proves c.in_ok-afriat.ensures.proves c.in_ok-afriat.ensures.given
       c.in_ok-efficiency.ensures.proves c.in_ok-efficiency.ensures.given
@@ -18,7 +18,7 @@ returns-clause-proves c = record {
 pub returns-clause-accepted : goal.returns-clause-accepted
 returns-clause-accepted c =
     certificate_accepted c.args.table.now c.args.costs.now c.requires
-      c.in_ok-garp.garp c.in_ok-afriat.afriat c.in_ok-efficiency.efficiency c.in_ok-certificate.certificate c.check-verdict.result
-      c.in_ok-garp.ensures.proves c.in_ok-afriat.ensures.proves c.in_ok-afriat.ensures.given
-      c.in_ok-efficiency.ensures.proves c.in_ok-efficiency.ensures.given
-      c.in_ok-certificate.ensures c.check-verdict.ensures.first_failure
+    c.in_ok-garp.garp c.in_ok-afriat.afriat c.in_ok-efficiency.efficiency c.in_ok-certificate.certificate c.check-verdict.result
+    c.in_ok-garp.ensures.proves c.in_ok-afriat.ensures.proves c.in_ok-afriat.ensures.given
+    c.in_ok-efficiency.ensures.proves c.in_ok-efficiency.ensures.given
+    c.in_ok-certificate.ensures c.check-verdict.ensures.first_failure
