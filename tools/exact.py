@@ -57,6 +57,8 @@ def efficiency(costs):
 
     It is the least level at which the steps of a ratio up to it close a walk, and 1 where no ratios below 1 do.
     """
+    if meets_axiom(costs):
+        return Fraction(1), True
     n = len(costs)
     shift = 2 * max(costs[s][s] for s in range(n)).bit_length() + 2
     pairs = [(s, t) for s in range(n) for t in range(n) if costs[s][t] < costs[s][s]]
@@ -127,8 +129,8 @@ def weak_reach(costs):
 def demand_bounds(prices, quantities, new, spent):
     """Returns of each good the infimum and the supremum over the demands with which the axiom still holds.
 
-    They cost what is spent and, at the prices of each observation that the new budget is preferred to, no less than what
-    was spent there (Varian 1982).
+    They cost what is spent and, at the prices of each observation that the new budget is preferred to, no less than
+    what was spent there (Varian 1982).
     """
     costs, goods = costs_of(prices, quantities), range(len(new))
     reach, below = weak_reach(costs), 0
@@ -149,7 +151,7 @@ def demand_bounds(prices, quantities, new, spent):
 
 
 def welfare_bounds(prices, quantities, new):
-    """Returns of each observation the least cost at new prices of its region, and of a bundle that equals or reaches it."""
+    """Returns of each observation the least cost at new prices of its region, and of the bundles that reach or are it."""
     costs, goods = costs_of(prices, quantities), range(len(new))
     reach, bounds = weak_reach(costs), []
     for t in range(len(costs)):

@@ -50,8 +50,8 @@ pub fn tables_are_limited()
     ensures { (table : Observations) → IsTable table → IsLimited (input_of_table table) }
 {}
 
-/// Nothing is found wrong with evidence that proves a verdict on the generalized axiom; as it is given it is within the limits in
-/// which evidence is read back.
+/// Nothing is found wrong with evidence that proves a verdict on the generalized axiom; as it is given it is within
+/// the limits in which evidence is read back.
 pub fn garp_agrees()
     ensures accepted { (n : ℕ) (c : ℕ → ℕ → ℕ) (verdict : Garp)
         → ProvesGarp n c verdict → Passes (GarpFails n c 1 1 verdict) }
@@ -97,26 +97,31 @@ pub fn quasilinear_agrees()
         → FitsQuasilinear verdict }
 {}
 
-/// So it is with what is given on demand at new prices, after the verdict on the axiom that it is given from; its bounds are in lowest
-/// terms.
+/// So it is with what is given on demand at new prices, after the verdict on the axiom that it is given from; its
+/// bounds are in lowest terms.
 pub fn demand_agrees()
-    ensures accepted { (input : TableInput) (verdict : Garp) (prices : List ℕ) (m : ℕ) (part : DemandPart)
+    ensures accepted { (input : TableInput) (verdict : Garp) (prices : List ℕ) (m : ℕ)
+        (part : DemandPart)
         → AreNewPrices input.goods prices → IsNewExpenditure m
         → ProvesDemand input prices m part → IsDemandGiven input (budget_of prices m) verdict part
         → Passes (DemandFails input (shows_garp (GarpItem verdict)) prices m part) }
-    ensures readable { (input : TableInput) (verdict : Garp) (prices : List ℕ) (m : ℕ) (part : DemandPart)
+    ensures readable { (input : TableInput) (verdict : Garp) (prices : List ℕ) (m : ℕ)
+        (part : DemandPart)
         → IsLimited input → AreNewPrices input.goods prices → IsNewExpenditure m
         → ProvesDemand input prices m part → IsDemandGiven input (budget_of prices m) verdict part
         → FitsDemand prices m part }
 {}
 
-/// So it is with what is given on welfare, after the verdict on the axiom that it is given from; its lower bound is in lowest terms.
+/// So it is with what is given on welfare, after the verdict on the axiom that it is given from; its lower bound is
+/// in lowest terms.
 pub fn welfare_agrees()
-    ensures accepted { (input : TableInput) (verdict : Garp) (prices : List ℕ) (t : ℕ) (part : WelfarePart)
+    ensures accepted { (input : TableInput) (verdict : Garp) (prices : List ℕ) (t : ℕ)
+        (part : WelfarePart)
         → AreNewPrices input.goods prices → t < input.n → ProvesGarp input.n input.cost verdict
         → ProvesWelfare input prices t part → IsWelfareVerdict input prices t verdict part
         → Passes (WelfareFails input (shows_garp (GarpItem verdict)) prices t part) }
-    ensures readable { (input : TableInput) (verdict : Garp) (prices : List ℕ) (t : ℕ) (part : WelfarePart)
+    ensures readable { (input : TableInput) (verdict : Garp) (prices : List ℕ) (t : ℕ)
+        (part : WelfarePart)
         → IsLimited input → AreNewPrices input.goods prices → t < input.n
         → ProvesWelfare input prices t part → IsWelfareVerdict input prices t verdict part
         → FitsWelfare prices t part }

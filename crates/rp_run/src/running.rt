@@ -2,7 +2,8 @@ ghost use Rattle.std.specs.Prelude.{◌≡◌, ◌⊎◌, ◌≤◌, ℕ, List, 
 ghost use Rattle.clap.specs.Faults.{fault_of};
 ghost use Rattle.rp_outside.specs.Faults.{HasRisen};
 ghost use Rattle.rp_outside.specs.Told.{Stays, Grows, GrowsByPrefix};
-ghost use Rattle.rp_words.specs.CommandLine.{Line as Asked, line_in};
+ghost use Rattle.rp_words.specs.CommandLine.{Line as Asked};
+ghost use Rattle.rp_words.specs.Words.{line_in};
 ghost use Rattle.rp_words.specs.Commands.{program};
 ghost use Rattle.rp_words.specs.Shapes.{HasShape, shape_of};
 ghost use Rattle.rp_run.specs.Answers.{AnswersAsked, IsAccepted, IsRefused};

@@ -1,5 +1,6 @@
 ghost use Rattle.std.specs.Prelude.{◌≡◌, ◌⊎◌, Some, None};
-ghost use Rattle.rp_words.specs.CommandLine.{Line as Asked, line_in};
+ghost use Rattle.rp_words.specs.CommandLine.{Line as Asked};
+ghost use Rattle.rp_words.specs.Words.{line_in};
 ghost use Rattle.rp_run.specs.Answers.{IsAccepted, IsRefused, all_told};
 ghost use Rattle.rp_run.specs.Answers.{IsAcceptedOver, IsRejectedOver, MayBe, MustBe};
 ghost use Rattle.rp_run.specs.Endings.{IsEnd};

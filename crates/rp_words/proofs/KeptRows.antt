@@ -158,11 +158,11 @@ abbrev pub has_own_ids : List Rule → Bool
 has_own_ids [] = true
 has_own_ids (a ∷ rest) = not (list_any (λ b. bytes_eq a.id b.id) rest) && has_own_ids rest
 
-neither : (x y : Bool) → (x || y) ≡ false → (x ≡ false) × (y ≡ false)
+pub neither : (x y : Bool) → (x || y) ≡ false → (x ≡ false) × (y ≡ false)
 neither true y e = cc
 neither false y e = (refl, e)
 
-not_true : (b : Bool) → not b ≡ true → b ≡ false
+pub not_true : (b : Bool) → not b ≡ true → b ≡ false
 not_true true e = cc
 not_true false e = refl
 
@@ -183,6 +183,26 @@ each_own (a ∷ rest) apart =
 each_kept : (c rules : List Rule) → AllByRecursion (λ b. arg_by_id c b.id ≡ Some b) rules → list_all keeps_values rules ≡ true → AllByRecursion (IsKept c) rules
 each_kept c [] own kept = tt
 each_kept c (a ∷ rest) own kept = let parts = both _ _ kept in (record { own = own.0; kept = parts.0 }, each_kept c rest own.1 parts.1)
+
+-- what is found by the mark of each is itself
+module _ {X : Type 0} (same : X → X → Bool) where
+  abbrev pub is_own : List X → Bool
+  is_own [] = true
+  is_own (a ∷ rest) = same a a && (not (list_any (λ b. same b a) rest) && is_own rest)
+
+  found_below : (a : X) (rest xs : List X) → list_any (λ b. same b a) xs ≡ false → AllByRecursion (λ b. find (same b) rest ≡ Some b) xs
+      → AllByRecursion (λ b. find (same b) (a ∷ rest) ≡ Some b) xs
+  found_below a rest [] other own = tt
+  found_below a rest (b ∷ bs) other own =
+      let apart = neither (same b a) (list_any (λ x. same x a) bs) other in
+      (rw apart.0 own.0, found_below a rest bs apart.1 own.1)
+
+  pub each_found : (xs : List X) → is_own xs ≡ true → AllByRecursion (λ b. find (same b) xs ≡ Some b) xs
+  each_found [] own = tt
+  each_found (a ∷ rest) own =
+      let parts = both (same a a) (not (list_any (λ b. same b a) rest) && is_own rest) own in
+      let more = both (not (list_any (λ b. same b a) rest)) (is_own rest) parts.1 in
+      (rw parts.0 refl, found_below a rest rest (not_true _ more.0) (each_found rest more.1))
 
 -- the test of what the lemmas above ask of the arguments
 abbrev pub are_kept : List Rule → Bool

@@ -1,7 +1,12 @@
+mod FormsTaken
 mod KeptRows
 mod KeptWalk
+mod Leaves
 pub mod MatchesNameALine
-pub mod RandomShapes
+mod PlacesTaken
+mod PlainWords
 mod ReadRows
 pub mod ShapeLemmas
+mod UsesTaken
 pub mod WordLemmas
+pub mod WordLoops

@@ -1,15 +1,19 @@
--- The words that `clap` takes name a line: the matches of each command hold all that its line is made of.
-use Rattle.std.proofs.Common.{◌≡◌, ◌&&◌, ℕ, Bool, true, false, not, List, [], ◌∷◌, Option, Some, None, IsSome, is_some, option_map, codes, refl}
+-- The words that `clap` takes name a line: the matches of a command of any form hold all that its line is made of.
+use Rattle.std.proofs.Common.{◌≡◌, ◌&&◌, ◌++◌, ℕ, Bool, true, false, not, List, [], ◌∷◌, Option, Some, None, IsSome, is_some, map, option_map, refl}
 use Rattle.std.specs.List.{AllByRecursion, find, list_all}
 use Rattle.std.specs.Option.{option_map_or}
+use Rattle.std.specs.Str.{bytes_eq}
 use Rattle.clap.specs.Faults.{built_fault, check_fault, defaults_fault, entered_fault, fault_of, level_fault, settle_fault, walk_fault}
 use Rattle.clap.specs.Kinds.{or_else}
-use Rattle.clap.specs.Simple.{App, Shape, argument_words, built, entered, filled, filled_from, with_index, label_of, names_of, rows_at, subcommand_of}
-use Rattle.clap.specs.Walk.{Row, Rule, Text, answers_to, arg_by_id, first_of, finished, nothing_held, rows_after, settled, walk, walk_from}
-use Rattle.rp_words.specs.CommandLine.{Line, Pairs, Analyse, Certify, Demand, Welfare, table_line, check_line, new_prices_line, utility_line, random_line, check_random_line, trial_line, command_line, line_named, line_of, number_of}
-use Rattle.rp_words.specs.Commands.{program, file_rule, number_rule, new_prices_shape, random_shape, check_random_shape, trial_shape}
-use Rattle.rp_words.proofs.KeptRows.{all_found, are_kept, first_free, kept_from, every, second_free}
+use Rattle.clap.specs.Simple.{App, Shape, argument_words, built, entered, filled, filled_from, index_after, label_of, names_of, rows_at, subcommand_of, with_index}
+use Rattle.clap.specs.Walk.{Row, Rule, Text, answers_to, first_of, finished, nothing_held, rows_after, settled, walk, walk_from}
+use Rattle.rp_words.specs.CommandLine.{Command, Given, command_named, commands}
+use Rattle.rp_words.specs.Commands.{file_rule, number_rule, program, rules_of}
+use Rattle.rp_words.specs.Forms.{Form, Number}
+use Rattle.rp_words.specs.Words.{all_in, command_line, given_in, line_named, line_of, number_of}
+use Rattle.rp_words.proofs.KeptRows.{IsKept, all_found, are_kept, each_found, every, first_free, kept_from, second_free}
 use Rattle.rp_words.proofs.KeptWalk.{AreTaken, level_taken, none_wanted}
+use Rattle.rp_words.proofs.Leaves.{leaf, leaves}
 use Rattle.rp_words.proofs.ReadRows.{number_read, required_read}
 
 -- the rows of the command name a line, where it takes its words
@@ -51,67 +55,52 @@ module _ (a : App) (all_kept : list_all has_kept_rules a.subs ≡ true) (all_nam
       let has = met (is_some (entered a stop)) a.top.subcommand_required required (none_wanted _ _ _ checked).0 in
       stop_named stop has (first_free (entered_fault a stop) (or_else settles (or_else defaults checks)) below)
 
--- the k-th argument of a command, as it is built, where it is a file and where it is a number
-abbrev file_at : ℕ → Text → Rule
-file_at k id = with_index k (filled (file_rule id))
+-- the matches of a command that took its words, of any form
+module _ (c : List Rule) (rows : List Row) (taken : AreTaken c rows) where
+  -- they have a value of each of its arguments of a sort, where they have one of any of that sort
+  module _ {X V : Type 0} (rule : X → Rule) (read : X → List Row → Option V) (reads : (x : X) (i : ℕ) → IsKept c (with_index i (filled (rule x))) → (v : V) × (read x rows ≡ Some v)) where
+    all_read : (xs : List X) (i : ℕ) (more : List Rule) → AllByRecursion (IsKept c) (filled_from i (map rule xs ++ more))
+        → ((vs : List V) × (all_in read xs rows ≡ Some vs)) × ((j : ℕ) × AllByRecursion (IsKept c) (filled_from j more))
+    all_read [] i more kept = (([], refl), (i, kept))
+    all_read (x ∷ xs) i more kept =
+        let later = all_read xs (index_after i (rule x)) more kept.1 in
+        let this = reads x i kept.0 in
+        ((this.0 ∷ later.0.0, rw (this.1, later.0.1) refl), later.1)
 
-abbrev number_at : ℕ → ℕ → ℕ → Text → Rule
-number_at k low high id = with_index k (filled (number_rule low high id))
+  file_reads : (id : Text) (i : ℕ) → IsKept c (with_index i (filled (file_rule id))) → (text : Text) × (first_of id rows ≡ Some text)
+  file_reads id i kept = let read = required_read c rows (with_index i (filled (file_rule id))) taken kept.own refl in (read.text, read.first)
 
--- the rows of a command with these arguments, where it takes the words
-abbrev AreTakenBy : List Rule → List Row → Type 0
-AreTakenBy rules = AreTaken (filled_from 1 rules)
+  number_reads : (number : Number) (i : ℕ) → IsKept c (with_index i (filled (number_rule number))) → (n : ℕ) × (number_of number rows ≡ Some n)
+  number_reads number i kept =
+      let a = with_index i (filled (number_rule number)) in
+      number_read a number rows refl refl (required_read c rows a taken kept.own refl)
 
--- what is read of such an argument
-module _ {rules : List Rule} (rows : List Row) where
-  file_given : (k : ℕ) (id : Text) → AreTaken rules rows → arg_by_id rules id ≡ Some (file_at k id) → (text : Text) × (first_of id rows ≡ Some text)
-  file_given k id taken own = let read = required_read rules rows (file_at k id) taken own refl in (read.text, read.first)
-
-  number_given : (k low high : ℕ) (id : Text) → AreTaken rules rows → arg_by_id rules id ≡ Some (number_at k low high id) → (n : ℕ) × (number_of low high id rows ≡ Some n)
-  number_given k low high id taken own = number_read (number_at k low high id) low high rows refl (required_read rules rows (number_at k low high id) taken own refl)
-
-table_named : (line : List ℕ → Line) (rows : List Row) → AreTakenBy (file_rule (codes "TABLE") ∷ []) rows → IsSome (table_line line rows)
-table_named line rows taken = let table = file_given rows 1 (codes "TABLE") taken refl in rw table.1 refl
-
-check_named : (rows : List Row) → AreTakenBy (file_rule (codes "TABLE") ∷ file_rule (codes "CERT") ∷ []) rows → IsSome (check_line rows)
-check_named rows taken =
-    let table = file_given rows 1 (codes "TABLE") taken refl in
-    let certificate = file_given rows 2 (codes "CERT") taken refl in rw (table.1, certificate.1) refl
-
-new_prices_named : (line : List ℕ → List ℕ → Bool → Line) (rows : List Row) → AreTakenBy (new_prices_shape []).rules rows → IsSome (new_prices_line line rows)
-new_prices_named line rows taken =
-    let table = file_given rows 1 (codes "TABLE") taken refl in
-    let new = file_given rows 2 (codes "NEW") taken refl in rw (table.1, new.1) refl
-
-utility_named : (rows : List Row) → AreTakenBy (file_rule (codes "TABLE") ∷ file_rule (codes "BUNDLES") ∷ []) rows → IsSome (utility_line rows)
-utility_named rows taken =
-    let table = file_given rows 1 (codes "TABLE") taken refl in
-    let bundles = file_given rows 2 (codes "BUNDLES") taken refl in rw (table.1, bundles.1) refl
-
-random_named : (rows : List Row) → AreTakenBy random_shape.rules rows → IsSome (random_line rows)
-random_named rows taken =
-    let budgets = file_given rows 1 (codes "BUDGETS") taken refl in
-    let choices = file_given rows 2 (codes "CHOICES") taken refl in rw (budgets.1, choices.1) refl
-
-check_random_named : (rows : List Row) → AreTakenBy check_random_shape.rules rows → IsSome (check_random_line rows)
-check_random_named rows taken =
-    let budgets = file_given rows 1 (codes "BUDGETS") taken refl in
-    let choices = file_given rows 2 (codes "CHOICES") taken refl in
-    let certificate = file_given rows 3 (codes "CERT") taken refl in rw (budgets.1, choices.1, certificate.1) refl
-
-trial_named : (rows : List Row) → AreTakenBy trial_shape.rules rows → IsSome (trial_line rows)
-trial_named rows taken =
-    let seed = number_given rows 1 0 18446744073709551615 (codes "SEED") taken refl in
-    let count = number_given rows 2 1 256 (codes "ROWS") taken refl in
-    let goods = number_given rows 3 1 16 (codes "GOODS") taken refl in rw (seed.1, count.1, goods.1) refl
+given_named : (form : Form) (rows : List Row) → AreTaken (filled_from 1 (rules_of form)) rows → IsSome (given_in form rows)
+given_named form rows taken =
+    let c = filled_from 1 (rules_of form) in
+    let files = all_read c rows taken file_rule first_of (file_reads c rows taken) form.files 1 _ taken.kept in
+    let numbers = all_read c rows taken number_rule number_of (number_reads c rows taken) form.numbers files.1.0 _ files.1.1 in
+    rw (files.0.1, numbers.0.1) refl
 
 -- in the order of the commands
-each_names : AllByRecursion NamesALine (built program).subs
-each_names = (table_named Pairs, (table_named Analyse, (table_named Certify, (check_named, (new_prices_named Demand, (new_prices_named Welfare, (utility_named, (random_named, (check_random_named, (trial_named, tt))))))))))
+command_names : (command : Command) → command_named command.form.name ≡ Some command → NamesALine (leaf command.form)
+command_names command own rows taken = rw own (go (given_in command.form rows) (given_named command.form rows taken))
+  where
+    go : (given : Option Given) → IsSome given → IsSome (option_map command.line given)
+    go None some = some
+    go (Some given) some = refl
+
+all_names : (some : List Command) → AllByRecursion (λ command. command_named command.form.name ≡ Some command) some → AllByRecursion NamesALine (leaves (map (λ command. command.form) some))
+all_names [] own = tt
+all_names (command ∷ more) own = (command_names command own.0, all_names more own.1)
+
+-- each command is the one of its name
+pub each_own : AllByRecursion (λ command. command_named command.form.name ≡ Some command) commands
+each_own = each_found (λ command other. bytes_eq command.form.name other.form.name) commands refl
 
 -- words without a fault have matches that name a line
 pub matches_name_a_line : (words : List (List ℕ)) → fault_of program words ≡ [] → IsSome (line_named (subcommand_of program words))
-matches_name_a_line words free = built_named (built program) refl each_names (argument_words program words) refl free
+matches_name_a_line words free = built_named (built program) refl (all_names commands each_own) (argument_words program words) refl free
 
 -- so words of which no line comes are refused
 pub refused_where_no_line : (words : List (List ℕ)) → line_of words ≡ None → fault_of program words ≡ [] → ⊥

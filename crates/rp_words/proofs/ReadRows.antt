@@ -14,7 +14,8 @@ use Rattle.clap.specs.Values.{read_as}
 use Rattle.clap.specs.ValueTests.{is_unsigned_in}
 use Rattle.clap.specs.Walk.{Row, Rule, Text, arg_by_id, first_of, one_of, reading_by}
 use Rattle.clap.specs.declared.builder.value_parser.ValueParser.TheVariants.{Unsigned}
-use Rattle.rp_words.specs.CommandLine.{number_in, number_of}
+use Rattle.rp_words.specs.Forms.{Number}
+use Rattle.rp_words.specs.Words.{number_in, number_of}
 use Rattle.rp_words.proofs.KeptRows.{AreGood, IsFilled, IsGood, all_found, first_free}
 use Rattle.rp_words.proofs.KeptWalk.{AreTaken}
 
@@ -74,9 +75,10 @@ required_read rules rows a taken own required =
     given_read rules a own rows taken.good (all_found (λ b. b.required ≡ true → is_given b.id rows ≡ true) (λ b. bytes_eq b.id a.id) a rules taken.given own required)
 
 -- a number is read where the parser takes numbers
-pub number_read : (a : Rule) (low high : ℕ) (rows : List Row) → a.parser ≡ Some (Unsigned low high) → IsRead a rows → (n : ℕ) × (number_of low high a.id rows ≡ Some n)
-number_read a low high rows parser read = (digits_value 10 (without_leading_plus read.text), rw (read.one, parser) (go (is_unsigned_in low high read.text) refl))
+pub number_read : (a : Rule) (number : Number) (rows : List Row) → a.id ≡ number.name → a.parser ≡ Some (Unsigned number.least number.most) → IsRead a rows → (n : ℕ) × (number_of number rows ≡ Some n)
+number_read a number rows named parser read =
+    (digits_value 10 (without_leading_plus read.text), rw (sym named, read.one, parser) (go (is_unsigned_in number.least number.most read.text) refl))
   where
-    go : (b : Bool) → is_unsigned_in low high read.text ≡ b → number_in low high read.text ≡ Some (digits_value 10 (without_leading_plus read.text))
+    go : (b : Bool) → is_unsigned_in number.least number.most read.text ≡ b → number_in number read.text ≡ Some (digits_value 10 (without_leading_plus read.text))
     go true is = rw is refl
     go false is = let wrong = rw (parser, is) at read.taken in cc

@@ -1,226 +1,134 @@
 -- The shapes of the commands are taken, and each denotes its line.
-use Rattle.std.proofs.Common.{◌≡◌, ◌==◌, ◌<◌, ◌≤◌, ◌^◌, ℕ, Bool, true, false, not, List, [], ◌∷◌, Some, None, codes, length, nat_lt, refl, sym, ap, ◌∙◌, arith, lt-ltb}
-use Rattle.std.proofs.lemmas.Bool.{ne_eqb}
-use Rattle.std.specs.Fmt.{decimal}
+use Rattle.std.proofs.Common.{◌≡◌, ◌||◌, ◌++◌, ℕ, Bool, true, false, cond, List, [], ◌∷◌, Some, fold, map, option_map, codes, refl, sym, ap, ◌∙◌}
+use Rattle.std.proofs.lemmas.List.{append-nil, append_assoc}
+use Rattle.std.specs.List.{find, list_all}
 use Rattle.std.specs.Str.{bytes_eq}
-use Rattle.std.specs.Str.Parse.{IsNumeral, digits_value, without_leading_plus}
-use Rattle.std.proofs.lemmas.Fmt.{decimal_is_IsNumeral}
-use Rattle.std.proofs.lemmas.Str.Parse.{digit_from_value}
-use Rattle.clap.proofs.OnLiterals.{clap_on_literals}
-use Rattle.clap.proofs.ValueTestLemmas.{Accepts-accepts}
-use Rattle.clap.specs.Faults.{fault_of}
-use Rattle.clap.specs.Lexer.{long_of, short_of}
-use Rattle.clap.specs.Simple.{subcommand_of}
-use Rattle.clap.specs.ValueTests.{is_unsigned_in}
-use Rattle.clap.specs.declared.builder.value_parser.ValueParser.TheVariants.{Unsigned}
-use Rattle.rp_words.specs.CommandLine.{Line, Pairs, Analyse, Certify, Check, Demand, Welfare, Utility, Random, CheckRandom, Trial, line_named, line_of}
-use Rattle.rp_words.specs.Commands.{program}
-use Rattle.rp_words.proofs.RandomShapes.{IsPlainWord, both_free, both_named, checked_free, checked_named, per_free, per_named, plain_free, plain_named}
-use Rattle.rp_words.specs.Shapes.{HasShape, is_file_name, shape_of}
+use Rattle.std.specs.Bool.{Decides}
+use Rattle.std.proofs.lemmas.Slice.Eq.{bytes_eq-Decides}
+use Rattle.clap.specs.Faults.{built_fault, defaults_fault, fault_of, level_fault, turn_fault, walk_fault}
+use Rattle.clap.specs.Simple.{Shape, built, entered, label_of, names_of, rows_at, subcommand_of}
+use Rattle.clap.specs.Walk.{Names, Row, Text, Walk, answers_to, nothing_held, rows_after, walk, walk_from, walked}
+use Rattle.rp_words.specs.CommandLine.{Command, Given, Line, Pairs, command_named, commands, forms, parts_of}
+use Rattle.rp_words.specs.Commands.{program, program_of}
+use Rattle.rp_words.specs.Forms.{Form}
+use Rattle.rp_words.specs.Shapes.{Fits, HasShape, shape_of, words_of}
+use Rattle.rp_words.specs.Words.{line_of}
+use Rattle.rp_words.proofs.FormsTaken.{end_rows, given_again, is_orderly, orderly, rows_are, words_free}
+use Rattle.rp_words.proofs.KeptRows.{all_found, every}
+use Rattle.rp_words.proofs.Leaves.{leaf, leaves}
+use Rattle.rp_words.proofs.UsesTaken.{and_false}
 
-plain_word : (b : ℕ) (rest : List ℕ) → (b == 45) ≡ false → IsPlainWord (b ∷ rest)
-plain_word b rest other = record { dashes = rw other refl; long = rw other refl; short = rw other refl }
+-- the name of a form is that of its command
+module _ (name : Text) (form : Form) where
+  command_found : (some : List Form) → find (λ x. bytes_eq x.name name) some ≡ Some form → find (λ s. answers_to name (label_of s)) (leaves some) ≡ Some (leaf form)
+  command_found [] is = cc
+  command_found (x ∷ xs) is = go (command_found xs) (bytes_eq x.name name) is
+    where
+      go : (find (λ y. bytes_eq y.name name) xs ≡ Some form → find (λ s. answers_to name (label_of s)) (leaves xs) ≡ Some (leaf form)) → (b : Bool)
+          → cond b (Some x) (find (λ y. bytes_eq y.name name) xs) ≡ Some form → cond (b || false) (Some (leaf x)) (find (λ s. answers_to name (label_of s)) (leaves xs)) ≡ Some (leaf form)
+      go later true is = ap (option_map leaf) is
+      go later false is = later is
 
--- a word that the parser of a file's name takes
-record IsFileWord (word : List ℕ) : Type 0 where
-  pub plain : IsPlainWord word
-  pub filled : nat_lt 0 (length word) ≡ true
+  name_found : (some : List Form) → find (λ x. bytes_eq x.name name) some ≡ Some form → find (answers_to name) (names_of (built (program_of some))) ≡ Some (label_of (leaf form))
+  name_found [] is = cc
+  name_found (x ∷ xs) is = go (name_found xs) (bytes_eq x.name name) is
+    where
+      go : (find (λ y. bytes_eq y.name name) xs ≡ Some form → find (answers_to name) (names_of (built (program_of xs))) ≡ Some (label_of (leaf form))) → (b : Bool)
+          → cond b (Some x) (find (λ y. bytes_eq y.name name) xs) ≡ Some form → cond (b || false) (Some (label_of (leaf x))) (find (answers_to name) (names_of (built (program_of xs)))) ≡ Some (label_of (leaf form))
+      go later true is = ap (option_map (λ (f : Form). label_of (leaf f))) is
+      go later false is = later is
 
-file_word : (word : List ℕ) → is_file_name word ≡ true → IsFileWord word
-file_word [] named = cc
-file_word (b ∷ rest) named = record { plain = plain_word b rest (other (b == 45) named); filled = lt-ltb 0 (length (b ∷ rest)) (omega arith) }
+-- once a command is met, the walk goes over the words after it
+module _ (s : Shape) (names : Names) where
+  abbrev stopped_at : Text → List Text → Walk
+  stopped_at name words = record (walk_from nothing_held) { stopped = Some (name, words) }
+
+  stopped_goes : (name : Text) (words rest : List Text) → fold (walked s.rules names) (stopped_at name words) rest ≡ stopped_at name (words ++ rest)
+  unfolding walked
+  stopped_goes name words [] = ap (stopped_at name) (sym (append-nil words))
+  stopped_goes name words (word ∷ rest) = stopped_goes name (words ++ word ∷ []) rest ∙ ap (stopped_at name) (append_assoc words (word ∷ []) rest)
+
+  stopped_free : (name : Text) (words rest : List Text) → walk_fault s names (stopped_at name words) rest ≡ []
+  unfolding walk_fault walked
+  stopped_free name words [] = refl
+  stopped_free name words (word ∷ rest) = stopped_free name (words ++ word ∷ []) rest
+
+-- so the program takes the words that the command takes, and its matches are those of the command
+module _ (some : List Form) (form : Form) (own : find (λ x. bytes_eq x.name form.name) some ≡ Some form) (rest : List Text) where
+  abbrev app_top : Shape
+  app_top = (built (program_of some)).top
+
+  abbrev app_names : Names
+  app_names = names_of (built (program_of some))
+
+  meets : walked app_top.rules app_names (walk_from nothing_held) form.name ≡ stopped_at app_top app_names form.name []
+  unfolding walked
+  meets = rw (name_found form.name form some own) refl
+
+  meets_free : turn_fault app_top app_names (walk_from nothing_held) form.name ≡ []
+  meets_free = rw (name_found form.name form some own, and_false (bytes_eq form.name (codes "help"))) refl
+
+  walk_stops : walk app_top.rules app_names nothing_held (form.name ∷ rest) ≡ stopped_at app_top app_names form.name rest
+  walk_stops = ap (λ (w : Walk). fold (walked app_top.rules app_names) w rest) meets ∙ stopped_goes app_top app_names form.name [] rest
+
+  walk_stops_free : walk_fault app_top app_names (walk_from nothing_held) (form.name ∷ rest) ≡ []
+  unfolding walk_fault
+  walk_stops_free = rw (meets_free, meets) (stopped_free app_top app_names form.name [] rest)
+
+  program_free : level_fault (leaf form) [] nothing_held rest false [] ≡ [] → built_fault (built (program_of some)) nothing_held (form.name ∷ rest) ≡ []
+  unfolding defaults_fault
+  program_free free = rw (walk_stops_free, walk_stops, command_found form.name form some own, free) refl
+
+  program_named : (name : Text) → subcommand_of (program_of some) (name ∷ form.name ∷ rest) ≡ Some (form.name, rows_after (leaf form).rules [] rest)
+  program_named name =
+      ap (λ (w : Walk). entered (built (program_of some)) w.stopped) walk_stops ∙ ap (option_map (λ (s : Shape). rows_at s rest)) (command_found form.name form some own)
+
+-- each form is found by its name, and each of its arguments where it is looked for
+commands_orderly : list_all (λ command. is_orderly command.form) commands ≡ true
+commands_orderly = refl
+
+names_swap : (one other : Text) → bytes_eq one other ≡ bytes_eq other one
+names_swap one other = go (bytes_eq one other) (bytes_eq other one) (bytes_eq-Decides one other) (bytes_eq-Decides other one)
   where
-    other : (test : Bool) → not test ≡ true → test ≡ false
-    other true is = sym is
-    other false is = refl
+    go : (a b : Bool) → Decides a (one ≡ other) → Decides b (other ≡ one) → a ≡ b
+    go true true d e = refl
+    go true false d e = sym (e.1 (sym (d.0 refl)))
+    go false true d e = d.1 (sym (e.0 refl))
+    go false false d e = refl
 
--- a word that the parser of a number takes, and its number
-record IsNumberWord (low high n : ℕ) (word : List ℕ) : Type 0 where
-  pub plain : IsPlainWord word
-  pub taken : is_unsigned_in low high word ≡ true
-  pub value : digits_value 10 (without_leading_plus word) ≡ n
-
-number_word : (low high n : ℕ) → n < 2 ^ 64 → low ≤ n → n ≤ high → IsNumberWord low high n (decimal n)
-number_word low high n small least most = go (decimal n) (decimal_is_IsNumeral n small).0 (decimal_is_IsNumeral n small).1
+form_found : (name : Text) (command : Command) (some : List Command) → find (λ c. bytes_eq name c.form.name) some ≡ Some command
+    → find (λ form. bytes_eq form.name name) (map (λ c. c.form) some) ≡ Some command.form
+form_found name command [] is = cc
+form_found name command (c ∷ cs) is = rw (names_swap c.form.name name) (go (form_found name command cs) (bytes_eq name c.form.name) is)
   where
-    go : (word : List ℕ) → IsNumeral 10 word → digits_value 10 word ≡ n → IsNumberWord low high n word
-    go [] numeral is = absurd (omega arith)
-    go (b ∷ rest) numeral is =
-        let digit = digit_from_value b numeral.1.0 in
-        let no_plus : without_leading_plus (b ∷ rest) ≡ b ∷ rest = rw (ne_eqb b 43 (λ e. omega arith)) refl in
-        let value : digits_value 10 (without_leading_plus (b ∷ rest)) ≡ n = ap (digits_value 10) no_plus ∙ is in
-        record {
-          plain = plain_word b rest (ne_eqb b 45 (λ e. omega arith));
-          taken = Accepts-accepts false (Unsigned low high) (b ∷ rest) (rw no_plus numeral, omega arith, omega arith, omega arith);
-          value = value;
-        }
+    go : (find (λ c. bytes_eq name c.form.name) cs ≡ Some command → find (λ form. bytes_eq form.name name) (map (λ c. c.form) cs) ≡ Some command.form) → (b : Bool)
+        → cond b (Some c) (find (λ c. bytes_eq name c.form.name) cs) ≡ Some command → cond b (Some c.form) (find (λ form. bytes_eq form.name name) (map (λ c. c.form) cs)) ≡ Some command.form
+    go later true is = ap (option_map (λ (c : Command). c.form)) is
+    go later false is = later is
 
-pairs_free : (name file : List ℕ) → IsFileWord file → fault_of program (name ∷ codes "pairs" ∷ file ∷ []) ≡ []
-unfolding clap_on_literals
-pairs_free name file f = rw (f.plain.dashes, f.plain.long, f.plain.short, f.filled) refl
+-- the words of a command denote its line with what is given
+module _ (command : Command) (own : command_named command.form.name ≡ Some command) (given : Given) (fits : Fits command.form given) (name : Text) where
+  abbrev words : List Text
+  words = name ∷ command.form.name ∷ words_of given
 
-pairs_named : (name file : List ℕ) → IsFileWord file → line_named (subcommand_of program (name ∷ codes "pairs" ∷ file ∷ [])) ≡ Some (Pairs file)
-unfolding clap_on_literals
-pairs_named name file f = rw (f.plain.dashes, f.plain.long, f.plain.short) refl
+  command_denotes : line_of words ≡ Some (command.line given)
+  unfolding line_of
+  command_denotes =
+      let o = orderly command.form (all_found (λ c. is_orderly c.form ≡ true) (λ c. bytes_eq command.form.name c.form.name) command commands (every (λ c. is_orderly c.form) commands commands_orderly) own) in
+      let found = form_found command.form.name command commands own in
+      let free : fault_of program words ≡ [] = program_free forms command.form found (words_of given) (words_free command.form o given fits) in
+      let matches : subcommand_of program words ≡ Some (command.form.name, end_rows command.form o given fits) =
+      program_named forms command.form found (words_of given) name ∙ ap (λ (rows : List Row). Some (command.form.name, rows)) (rows_are command.form o given fits) in
+      rw (free, matches, own, given_again command.form o given fits) refl
 
-certify_free : (name file : List ℕ) → IsFileWord file → fault_of program (name ∷ codes "certify" ∷ file ∷ []) ≡ []
-unfolding clap_on_literals
-certify_free name file f = rw (f.plain.dashes, f.plain.long, f.plain.short, f.filled) refl
-
-certify_named : (name file : List ℕ) → IsFileWord file → line_named (subcommand_of program (name ∷ codes "certify" ∷ file ∷ [])) ≡ Some (Certify file)
-unfolding clap_on_literals
-certify_named name file f = rw (f.plain.dashes, f.plain.long, f.plain.short) refl
-
-analyse_free : (name file : List ℕ) → IsFileWord file → fault_of program (name ∷ codes "analyse" ∷ file ∷ []) ≡ []
-unfolding clap_on_literals
-analyse_free name file f = rw (f.plain.dashes, f.plain.long, f.plain.short, f.filled) refl
-
-analyse_named : (name file : List ℕ) → IsFileWord file → line_named (subcommand_of program (name ∷ codes "analyse" ∷ file ∷ [])) ≡ Some (Analyse file)
-unfolding clap_on_literals
-analyse_named name file f = rw (f.plain.dashes, f.plain.long, f.plain.short) refl
-
-check_free : (name file other : List ℕ) → IsFileWord file → IsFileWord other → fault_of program (name ∷ codes "check" ∷ file ∷ other ∷ []) ≡ []
-unfolding clap_on_literals
-check_free name file other f o = rw (f.plain.dashes, f.plain.long, f.plain.short, o.plain.dashes, o.plain.long, o.plain.short) (rw (f.filled, o.filled) refl)
-
-check_named : (name file other : List ℕ) → IsFileWord file → IsFileWord other → line_named (subcommand_of program (name ∷ codes "check" ∷ file ∷ other ∷ [])) ≡ Some (Check file other)
-unfolding clap_on_literals
-check_named name file other f o = rw (f.plain.dashes, f.plain.long, f.plain.short, o.plain.dashes, o.plain.long, o.plain.short) refl
-
-module _ (name file other : List ℕ) (f : IsFileWord file) (o : IsFileWord other) where
-  demand_free : fault_of program (name ∷ codes "demand" ∷ file ∷ other ∷ []) ≡ []
-  unfolding clap_on_literals
-  demand_free = rw (f.plain.dashes, f.plain.long, f.plain.short, o.plain.dashes, o.plain.long, o.plain.short) (rw (f.filled, o.filled) refl)
-
-  demand_named : line_named (subcommand_of program (name ∷ codes "demand" ∷ file ∷ other ∷ [])) ≡ Some (Demand file other false)
-  unfolding clap_on_literals
-  demand_named = rw (f.plain.dashes, f.plain.long, f.plain.short, o.plain.dashes, o.plain.long, o.plain.short) refl
-
-  demand_json_free : fault_of program (name ∷ codes "demand" ∷ file ∷ other ∷ codes "--json" ∷ []) ≡ []
-  unfolding clap_on_literals
-  demand_json_free = rw (f.plain.dashes, f.plain.long, f.plain.short, o.plain.dashes, o.plain.long, o.plain.short) (rw (f.filled, o.filled) refl)
-
-  demand_json_named : line_named (subcommand_of program (name ∷ codes "demand" ∷ file ∷ other ∷ codes "--json" ∷ [])) ≡ Some (Demand file other true)
-  unfolding clap_on_literals
-  demand_json_named = rw (f.plain.dashes, f.plain.long, f.plain.short, o.plain.dashes, o.plain.long, o.plain.short) refl
-
-module _ (name file other : List ℕ) (f : IsFileWord file) (o : IsFileWord other) where
-  welfare_free : fault_of program (name ∷ codes "welfare" ∷ file ∷ other ∷ []) ≡ []
-  unfolding clap_on_literals
-  welfare_free = rw (f.plain.dashes, f.plain.long, f.plain.short, o.plain.dashes, o.plain.long, o.plain.short) (rw (f.filled, o.filled) refl)
-
-  welfare_named : line_named (subcommand_of program (name ∷ codes "welfare" ∷ file ∷ other ∷ [])) ≡ Some (Welfare file other false)
-  unfolding clap_on_literals
-  welfare_named = rw (f.plain.dashes, f.plain.long, f.plain.short, o.plain.dashes, o.plain.long, o.plain.short) refl
-
-  welfare_json_free : fault_of program (name ∷ codes "welfare" ∷ file ∷ other ∷ codes "--json" ∷ []) ≡ []
-  unfolding clap_on_literals
-  welfare_json_free = rw (f.plain.dashes, f.plain.long, f.plain.short, o.plain.dashes, o.plain.long, o.plain.short) (rw (f.filled, o.filled) refl)
-
-  welfare_json_named : line_named (subcommand_of program (name ∷ codes "welfare" ∷ file ∷ other ∷ codes "--json" ∷ [])) ≡ Some (Welfare file other true)
-  unfolding clap_on_literals
-  welfare_json_named = rw (f.plain.dashes, f.plain.long, f.plain.short, o.plain.dashes, o.plain.long, o.plain.short) refl
-
-utility_free : (name file other : List ℕ) → IsFileWord file → IsFileWord other → fault_of program (name ∷ codes "utility" ∷ file ∷ other ∷ []) ≡ []
-unfolding clap_on_literals
-utility_free name file other f o = rw (f.plain.dashes, f.plain.long, f.plain.short, o.plain.dashes, o.plain.long, o.plain.short) (rw (f.filled, o.filled) refl)
-
-utility_named : (name file other : List ℕ) → IsFileWord file → IsFileWord other → line_named (subcommand_of program (name ∷ codes "utility" ∷ file ∷ other ∷ [])) ≡ Some (Utility file other)
-unfolding clap_on_literals
-utility_named name file other f o = rw (f.plain.dashes, f.plain.long, f.plain.short, o.plain.dashes, o.plain.long, o.plain.short) refl
-
-module _ (name seed rows goods : List ℕ) (s r g : ℕ) (ws : IsNumberWord 0 18446744073709551615 s seed) (wr : IsNumberWord 1 256 r rows) (wg : IsNumberWord 1 16 g goods) where
-  trial_free : fault_of program (name ∷ codes "trial" ∷ seed ∷ rows ∷ goods ∷ []) ≡ []
-  unfolding clap_on_literals
-  trial_free =
-      rw (ws.plain.dashes, ws.plain.long, ws.plain.short, wr.plain.dashes, wr.plain.long, wr.plain.short) (rw (wg.plain.dashes, wg.plain.long, wg.plain.short) (rw ws.taken (rw wr.taken (rw wg.taken refl))))
-
-  trial_named : line_named (subcommand_of program (name ∷ codes "trial" ∷ seed ∷ rows ∷ goods ∷ [])) ≡ Some (Trial s r g)
-  unfolding clap_on_literals
-  trial_named =
-      rw (ws.plain.dashes, ws.plain.long, ws.plain.short, wr.plain.dashes, wr.plain.long, wr.plain.short, wg.plain.dashes, wg.plain.long, wg.plain.short, ws.taken, wr.taken, wg.taken)
-      (λ i. Some (Trial (ws.value i) (wr.value i) (wg.value i)))
-
-module _ (name b c : List ℕ) (wb : IsFileWord b) (wc : IsFileWord c) where
-  random_free : fault_of program (name ∷ codes "random" ∷ b ∷ c ∷ []) ≡ []
-  unfolding clap_on_literals
-  random_free = rw (wb.plain.dashes, wb.plain.long, wb.plain.short, wc.plain.dashes, wc.plain.long, wc.plain.short) (rw (wb.filled, wc.filled) refl)
-
-  random_named : line_named (subcommand_of program (name ∷ codes "random" ∷ b ∷ c ∷ [])) ≡ Some (Random b c None false)
-  unfolding clap_on_literals
-  random_named = rw (wb.plain.dashes, wb.plain.long, wb.plain.short, wc.plain.dashes, wc.plain.long, wc.plain.short) refl
-
-  random_json_free : fault_of program (name ∷ codes "random" ∷ b ∷ c ∷ codes "--json" ∷ []) ≡ []
-  unfolding clap_on_literals
-  random_json_free = rw (wb.plain.dashes, wb.plain.long, wb.plain.short, wc.plain.dashes, wc.plain.long, wc.plain.short) (rw (wb.filled, wc.filled) refl)
-
-  random_json_named : line_named (subcommand_of program (name ∷ codes "random" ∷ b ∷ c ∷ codes "--json" ∷ [])) ≡ Some (Random b c None true)
-  unfolding clap_on_literals
-  random_json_named = rw (wb.plain.dashes, wb.plain.long, wb.plain.short, wc.plain.dashes, wc.plain.long, wc.plain.short) refl
-
--- words without a fault denote the line of their matches
-denotes : (words : List (List ℕ)) (line : Line) → fault_of program words ≡ [] → line_named (subcommand_of program words) ≡ Some line → line_of words ≡ Some line
-unfolding line_of
-denotes words line free named = rw free named
+-- each line is that of its command with what is given to it
+line_again : (line : Line) → (command_named (parts_of line).0.form.name ≡ Some (parts_of line).0) × ((parts_of line).0.line (parts_of line).1 ≡ line)
+line_again (Pairs table) = (refl, refl)
+line_again _ = (refl, refl)
 
 pub shape_taken : (name : List ℕ) (line : Line) → HasShape line → line_of (name ∷ shape_of line) ≡ Some line
-shape_taken name (Pairs table) t = let w = file_word table t in denotes _ (Pairs table) (pairs_free name table w) (pairs_named name table w)
-shape_taken name (Analyse table) t = let w = file_word table t in denotes _ (Analyse table) (analyse_free name table w) (analyse_named name table w)
-shape_taken name (Certify table) t = let w = file_word table t in denotes _ (Certify table) (certify_free name table w) (certify_named name table w)
-shape_taken name (Check table certificate) (t, c) =
-    let w = file_word table t in
-    let o = file_word certificate c in denotes _ (Check table certificate) (check_free name table certificate w o) (check_named name table certificate w o)
-shape_taken name (Demand table new false) (t, n) =
-    let w = file_word table t in
-    let o = file_word new n in denotes _ (Demand table new false) (demand_free name table new w o) (demand_named name table new w o)
-shape_taken name (Demand table new true) (t, n) =
-    let w = file_word table t in
-    let o = file_word new n in denotes _ (Demand table new true) (demand_json_free name table new w o) (demand_json_named name table new w o)
-shape_taken name (Welfare table new false) (t, n) =
-    let w = file_word table t in
-    let o = file_word new n in denotes _ (Welfare table new false) (welfare_free name table new w o) (welfare_named name table new w o)
-shape_taken name (Welfare table new true) (t, n) =
-    let w = file_word table t in
-    let o = file_word new n in denotes _ (Welfare table new true) (welfare_json_free name table new w o) (welfare_json_named name table new w o)
-shape_taken name (Utility table bundles) (t, b) =
-    let w = file_word table t in
-    let o = file_word bundles b in denotes _ (Utility table bundles) (utility_free name table bundles w o) (utility_named name table bundles w o)
-shape_taken name (Random budgets choices None false) (b, c, unit) =
-    let wb = file_word budgets b in
-    let wc = file_word choices c in denotes _ (Random budgets choices None false) (random_free name budgets choices wb wc) (random_named name budgets choices wb wc)
-shape_taken name (Random budgets choices None true) (b, c, unit) =
-    let wb = file_word budgets b in
-    let wc = file_word choices c in denotes _ (Random budgets choices None true) (random_json_free name budgets choices wb wc) (random_json_named name budgets choices wb wc)
-shape_taken name (Random budgets choices (Some n) false) (b, c, (least, most)) =
-    let wb = file_word budgets b in
-    let wc = file_word choices c in
-    let w = number_word 1 1000000000 n (omega (arith, most)) least most in
-    denotes _ (Random budgets choices (Some n) false) (per_free budgets choices (decimal n) wb.plain wc.plain w.plain wb.filled wc.filled n w.taken w.value name)
-    (per_named budgets choices (decimal n) wb.plain wc.plain w.plain wb.filled wc.filled n w.taken w.value name)
-shape_taken name (Random budgets choices (Some n) true) (b, c, (least, most)) =
-    let wb = file_word budgets b in
-    let wc = file_word choices c in
-    let w = number_word 1 1000000000 n (omega (arith, most)) least most in
-    denotes _ (Random budgets choices (Some n) true) (both_free budgets choices (decimal n) wb.plain wc.plain w.plain wb.filled wc.filled n w.taken w.value name)
-    (both_named budgets choices (decimal n) wb.plain wc.plain w.plain wb.filled wc.filled n w.taken w.value name)
-shape_taken name (CheckRandom budgets choices certificate None) (b, c, t, unit) =
-    let wb = file_word budgets b in
-    let wc = file_word choices c in
-    let wt = file_word certificate t in
-    denotes _ (CheckRandom budgets choices certificate None) (plain_free budgets choices certificate wb.plain wc.plain wt.plain wb.filled wc.filled wt.filled name)
-    (plain_named budgets choices certificate wb.plain wc.plain wt.plain wb.filled wc.filled wt.filled name)
-shape_taken name (CheckRandom budgets choices certificate (Some n)) (b, c, t, (least, most)) =
-    let wb = file_word budgets b in
-    let wc = file_word choices c in
-    let wt = file_word certificate t in
-    let w = number_word 1 1000000000 n (omega (arith, most)) least most in
-    denotes _ (CheckRandom budgets choices certificate (Some n)) (checked_free budgets choices certificate (decimal n) wb.plain wc.plain wt.plain w.plain wb.filled wc.filled wt.filled n w.taken w.value name)
-    (checked_named budgets choices certificate (decimal n) wb.plain wc.plain wt.plain w.plain wb.filled wc.filled wt.filled n w.taken w.value name)
-shape_taken name (Trial seed rows goods) (small, some_rows, few_rows, some_goods, few_goods) =
-    let ws = number_word 0 18446744073709551615 seed small (omega arith) (omega arith) in
-    let wr = number_word 1 256 rows (omega arith) some_rows few_rows in
-    let wg = number_word 1 16 goods (omega arith) some_goods few_goods in
-    denotes _ (Trial seed rows goods) (trial_free name (decimal seed) (decimal rows) (decimal goods) seed rows goods ws wr wg) (trial_named name (decimal seed) (decimal rows) (decimal goods) seed rows goods ws wr wg)
+shape_taken name line fits =
+    let again = line_again line in command_denotes (parts_of line).0 again.0 (parts_of line).1 fits name ∙ ap (λ (l : Line). Some l) again.1
 
 -- the same of words that are those of a shape
 pub shape_given : (given : List (List ℕ)) (line : Line) (name : List ℕ) → HasShape line → given ≡ name ∷ shape_of line → line_of given ≡ Some line

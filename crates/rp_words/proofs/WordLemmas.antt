@@ -1,9 +1,8 @@
 -- What the matches of a command give, as the code reads them.
 use Rattle.std.proofs.Common.{◌≡◌, ◌<◌, ◌^◌, ◌&&◌, ℕ, Bool, true, false, List, Option, Some, None, Ok, Err, [], ◌∷◌, ◌+◌, length, take, map, get_or, refl, sym, ap, subst, ◌∙◌, inl, inr, arith, if◌then◌else◌}
 use Rattle.std.proofs.Math.Dec.{eqb-suc-zero}
-use Rattle.std.specs.Prelude.{nat_le, nat_lt, option_and_then}
-use Rattle.std.specs.Borrow.{Bor}
-use Rattle.std.proofs.lemmas.List.{take_more, map-append}
+use Rattle.std.specs.Prelude.{IfOk, Result, nat_le, nat_lt, option_and_then}
+use Rattle.std.proofs.lemmas.List.{append_assoc, take_more, map-append}
 use Rattle.std.specs.Str.Parse.{IsNumeral, ParsesUnsigned, digits_value, without_leading_plus}
 use Rattle.clap.proofs.ValueTestLemmas.{Accepts-accepts, accepts-Accepts}
 use Rattle.clap.proofs.WalkLemmas.{both}
@@ -18,8 +17,10 @@ use Rattle.clap.specs.declared.error.kind.ErrorKind.TheVariants.{OutOfMemory}
 use Rattle.clap.specs.declared.parser.matches.ArgMatches.{ArgMatches}
 use Rattle.clap.specs.ValueTests.{is_numeral, is_unsigned_in}
 use Rattle.clap.specs.declared.builder.value_parser.ValueParser.TheVariants.{Unsigned}
-use Rattle.rp_words.specs.CommandLine.{Line, line_named, line_of, number_in}
-use Rattle.rp_words.specs.Commands.{alone, command_shape, file_rule, program}
+use Rattle.rp_words.specs.CommandLine.{Line}
+use Rattle.rp_words.specs.Commands.{program, with_rules}
+use Rattle.rp_words.specs.Forms.{Number}
+use Rattle.rp_words.specs.Words.{line_named, line_of, number_in}
 
 -- a numeral that fits passes the first two tests
 fits : (text : List ℕ) → IsNumeral 10 (without_leading_plus text) → digits_value 10 (without_leading_plus text) < 2 ^ 64
@@ -33,29 +34,29 @@ fits text numeral small =
 abbrev pub between : ℕ → ℕ → ℕ → Option ℕ
 between low high n = if nat_le low n && nat_le n high then Some n else None
 
-pub number_given : (E : Type 0) (low high : ℕ) (text : Option (List ℕ)) (v : ℕ) → (text ≡ None → Some v ≡ None) → ((t : List ℕ) → text ≡ Some t → ParsesUnsigned {E = E} 64 10 t (Ok v))
-    → between low high v ≡ option_and_then (number_in low high) text
-number_given E low high None v none given = let no : Some v ≡ None = none refl in cc
-number_given E low high (Some t) v none given =
+pub number_given : (E : Type 0) (number : Number) (text : Option (List ℕ)) (v : ℕ) → (text ≡ None → Some v ≡ None) → ((t : List ℕ) → text ≡ Some t → ParsesUnsigned {E = E} 64 10 t (Ok v))
+    → between number.least number.most v ≡ option_and_then (number_in number) text
+number_given E number None v none given = let no : Some v ≡ None = none refl in cc
+number_given E number (Some t) v none given =
     let parsed = given t refl in
     let ok = fits t parsed.0.0 parsed.0.1 in
     rw (parsed.1, ok.0, ok.1) refl
 
-pub number_refused : (E : Type 0) (low high : ℕ) (text : Option (List ℕ)) → ((t : List ℕ) → text ≡ Some t → (e : E) × ParsesUnsigned {E = E} 64 10 t (Err e))
-    → None ≡ option_and_then (number_in low high) text
-number_refused E low high None refused = refl
-number_refused E low high (Some t) refused = let failed = refused t refl in go failed.0 (is_unsigned_in low high t) refl failed.1
+pub number_refused : (E : Type 0) (number : Number) (text : Option (List ℕ)) → ((t : List ℕ) → text ≡ Some t → (e : E) × ParsesUnsigned {E = E} 64 10 t (Err e))
+    → None ≡ option_and_then (number_in number) text
+number_refused E number None refused = refl
+number_refused E number (Some t) refused = let failed = refused t refl in go failed.0 (is_unsigned_in number.least number.most t) refl failed.1
   where
-    go : (e : E) (b : Bool) → is_unsigned_in low high t ≡ b → ParsesUnsigned {E = E} 64 10 t (Err e) → None ≡ number_in low high t
-    go e true in_range refused = let a = accepts-Accepts false (Unsigned low high) t in_range in absurd (refused (a.0, a.1))
+    go : (e : E) (b : Bool) → is_unsigned_in number.least number.most t ≡ b → ParsesUnsigned {E = E} 64 10 t (Err e) → None ≡ number_in number t
+    go e true in_range refused = let a = accepts-Accepts false (Unsigned number.least number.most) t in_range in absurd (refused (a.0, a.1))
     go e false out refused = rw out refl
 
--- a command with one more file
-pub file_more : (name : Text) (xs : List (Bor Text)) (i : ℕ) (d : Bor Text) (old new : App) (rule : Rule) → i < length xs
-    → old ≡ alone (command_shape name (map (λ file. file_rule file.now) (take i xs))) → rule ≡ file_rule (get_or xs i d).now → new ≡ with_rule old rule
-    → new ≡ alone (command_shape name (map (λ file. file_rule file.now) (take (i + 1) xs)))
-file_more name xs i d old new rule within so is added =
-    rw (added, so, is, take_more xs i d within, map-append (λ (file : Bor Text). file_rule file.now) (take i xs) (get_or xs i d ∷ [])) refl
+-- a command with one more argument
+pub rule_more : {A : Type 0} (rule : A → Rule) (xs : List A) (i : ℕ) (d : A) (start old new : App) (added : Rule) → i < length xs
+    → old ≡ with_rules start (map rule (take i xs)) → added ≡ rule (get_or xs i d) → new ≡ with_rule old added → new ≡ with_rules start (map rule (take (i + 1) xs))
+rule_more rule xs i d start old new added within so is more =
+    rw (more, so, is, take_more xs i d within, map-append rule (take i xs) (get_or xs i d ∷ []))
+    (ap (λ (rules : List Rule). with_rules (record start { top = record start.top { rules = [] } }) rules) (append_assoc start.top.rules (map rule (take i xs)) (rule (get_or xs i d) ∷ [])))
 
 -- the settings of the program
 abbrev pub needing : App → App
@@ -95,3 +96,8 @@ words_refused app words e is kinds other =
     some_kind [] (inl memory) = absurd (other memory)
     some_kind [] (inr among) = absurd among
     some_kind (k ∷ ks) has = rw (eqb-suc-zero (length ks)) refl
+
+-- what follows of a value that is there
+pub ok_then : {A F : Type 0} (P Q : A → Type 0) → ((x : A) → P x → Q x) → (r : Result A F) → IfOk r P → IfOk r Q
+ok_then P Q go (Ok x) p = go x p
+ok_then P Q go (Err e) p = tt

@@ -1,15 +1,9 @@
--- What a list of words asks for (this program's own commands). The first word is the program's name. Which words are taken, and
--- with which matches, is said by the library `clap`, as a function of the commands and of the words.
-use Rattle.std.specs.Prelude.{ℕ, Bool, false, List, [], ◌∷◌, Option, Some, None, option_and_then, if◌then◌else◌, codes, map, slice_index_or, string_bytes}
-use Rattle.std.specs.Option.{option_map_or}
+-- The commands of the program: the lines that may be asked for, each by the form of its command and what is given to it (this program's
+-- own commands).
+use Rattle.std.specs.Prelude.{ℕ, Bool, true, false, List, [], ◌∷◌, Option, None, codes, find, map, slice_index_or}
 use Rattle.std.specs.Str.{bytes_eq}
-use Rattle.std.specs.Str.Parse.{digits_value, without_leading_plus}
-use Rattle.std.specs.declared.string.String.{String}
-use Rattle.clap.specs.Faults.{fault_of}
-use Rattle.clap.specs.Simple.{subcommand_of}
-use Rattle.clap.specs.ValueTests.{is_unsigned_in}
-use Rattle.clap.specs.Walk.{Row, Text, first_of, is_empty, one_of}
-use Rattle.rp_words.specs.Commands.{program}
+use Rattle.clap.specs.Walk.{Text}
+use Rattle.rp_words.specs.Forms.{Form, Number, form_over_files, goods, rows, seed}
 
 -- a command with its files and numbers
 pub data Line : Type 0 where
@@ -35,92 +29,108 @@ pub data Line : Type 0 where
   -- the verdicts on the trial table of a seed
   Trial : (seed rows goods : ℕ) → Line
 
+-- what is given to a command: its files and its numbers in the order of the words, and its options
+pub record Given : Type 0 where
+  pub files : List Text
+  pub numbers : List ℕ
+  pub per : Option ℕ
+  pub json : Bool
+
+abbrev pub file : Given → ℕ → List ℕ
+file given k = slice_index_or given.files k []
+
+abbrev pub number : Given → ℕ → ℕ
+number given k = slice_index_or given.numbers k 0
+
+-- a command: its form, and its line with what is given to it
+pub record Command : Type 0 where
+  pub form : Form
+  pub line : Given → Line
+
+-- a command over files alone
+abbrev pub over_files : Text → List Text → (Given → Line) → Command
+over_files name files line = record { form = form_over_files name files; line = line }
+
+-- the same with numbers after the files, and with options
+abbrev pub with_numbers : List Number → Command → Command
+with_numbers numbers command = record command { form = record command.form { numbers = numbers } }
+
+abbrev pub with_per : Command → Command
+with_per command = record command { form = record command.form { per = true } }
+
+abbrev pub with_json : Command → Command
+with_json command = record command { form = record command.form { json = true } }
+
+abbrev pub pairs : Command
+pairs = over_files (codes "pairs") (codes "TABLE" ∷ []) (λ given. Pairs (file given 0))
+
+abbrev pub analyse : Command
+analyse = over_files (codes "analyse") (codes "TABLE" ∷ []) (λ given. Analyse (file given 0))
+
+abbrev pub certify : Command
+certify = over_files (codes "certify") (codes "TABLE" ∷ []) (λ given. Certify (file given 0))
+
+abbrev pub check : Command
+check = over_files (codes "check") (codes "TABLE" ∷ codes "CERT" ∷ []) (λ given. Check (file given 0) (file given 1))
+
+abbrev pub demand : Command
+demand = with_json (over_files (codes "demand") (codes "TABLE" ∷ codes "NEW" ∷ []) (λ given. Demand (file given 0) (file given 1) given.json))
+
+abbrev pub welfare : Command
+welfare = with_json (over_files (codes "welfare") (codes "TABLE" ∷ codes "NEW" ∷ []) (λ given. Welfare (file given 0) (file given 1) given.json))
+
+abbrev pub utility : Command
+utility = over_files (codes "utility") (codes "TABLE" ∷ codes "BUNDLES" ∷ []) (λ given. Utility (file given 0) (file given 1))
+
+abbrev pub random : Command
+random =
+    with_per (with_json (over_files (codes "random") (codes "BUDGETS" ∷ codes "CHOICES" ∷ [])
+    (λ given. Random (file given 0) (file given 1) given.per given.json)))
+
+abbrev pub check_random : Command
+check_random =
+    with_per (over_files (codes "checkrandom") (codes "BUDGETS" ∷ codes "CHOICES" ∷ codes "CERT" ∷ [])
+    (λ given. CheckRandom (file given 0) (file given 1) (file given 2) given.per))
+
+abbrev pub trial : Command
+trial = with_numbers (seed ∷ rows ∷ goods ∷ []) (over_files (codes "trial") [] (λ given. Trial (number given 0) (number given 1) (number given 2)))
+
+-- in the order of the usage text
+abbrev pub commands : List Command
+commands = pairs ∷ analyse ∷ certify ∷ check ∷ demand ∷ welfare ∷ utility ∷ random ∷ check_random ∷ trial ∷ []
+
+abbrev pub forms : List Form
+forms = map (λ command. command.form) commands
+
+-- the command of that name
+abbrev pub command_named : Text → Option Command
+command_named name = find (λ command. bytes_eq name command.form.name) commands
+
+-- what is given where only files are, or only numbers
+abbrev pub files_alone : List Text → Given
+files_alone files = record { files = files; numbers = []; per = None; json = false }
+
+abbrev pub numbers_alone : List ℕ → Given
+numbers_alone numbers = record { files = []; numbers = numbers; per = None; json = false }
+
+-- the command of a line, and what is given to it
+abbrev pub parts_of : Line → Command × Given
+parts_of (Pairs table) = (pairs, files_alone (table ∷ []))
+parts_of (Analyse table) = (analyse, files_alone (table ∷ []))
+parts_of (Certify table) = (certify, files_alone (table ∷ []))
+parts_of (Check table certificate) = (check, files_alone (table ∷ certificate ∷ []))
+parts_of (Demand table new json) = (demand, record (files_alone (table ∷ new ∷ [])) { json = json })
+parts_of (Welfare table new json) = (welfare, record (files_alone (table ∷ new ∷ [])) { json = json })
+parts_of (Utility table bundles) = (utility, files_alone (table ∷ bundles ∷ []))
+parts_of (Random budgets choices per json) = (random, record (files_alone (budgets ∷ choices ∷ [])) { per = per; json = json })
+parts_of (CheckRandom budgets choices certificate per) =
+    (check_random, record (files_alone (budgets ∷ choices ∷ certificate ∷ [])) { per = per })
+parts_of (Trial seed rows goods) = (trial, numbers_alone (seed ∷ rows ∷ goods ∷ []))
+
 -- the files of a line, in the order of the words
 abbrev pub files_of : Line → List (List ℕ)
-files_of (Pairs table) = table ∷ []
-files_of (Analyse table) = table ∷ []
-files_of (Certify table) = table ∷ []
-files_of (Check table certificate) = table ∷ certificate ∷ []
-files_of (Demand table new json) = table ∷ new ∷ []
-files_of (Welfare table new json) = table ∷ new ∷ []
-files_of (Utility table bundles) = table ∷ bundles ∷ []
-files_of (Random budgets choices per json) = budgets ∷ choices ∷ []
-files_of (CheckRandom budgets choices certificate per) = budgets ∷ choices ∷ certificate ∷ []
-files_of (Trial seed rows goods) = []
+files_of line = (parts_of line).1.files
 
 -- the k-th file of a line, from 0
 abbrev pub file_at : Line → ℕ → List ℕ
 file_at line k = slice_index_or (files_of line) k []
-
--- a number from low to high, in decimal digits
-abbrev pub number_in : ℕ → ℕ → Text → Option ℕ
-number_in low high text = if is_unsigned_in low high text then Some (digits_value 10 (without_leading_plus text)) else None
-
-abbrev pub number_of : ℕ → ℕ → Text → List Row → Option ℕ
-number_of low high id rows = option_and_then (number_in low high) (one_of id rows)
-
--- the line of a command over one table, by its matches
-abbrev pub table_line : (List ℕ → Line) → List Row → Option Line
-table_line line rows = option_and_then (λ table. Some (line table)) (first_of (codes "TABLE") rows)
-
-abbrev pub check_line : List Row → Option Line
-check_line rows =
-    option_and_then (λ table. option_and_then (λ certificate. Some (Check table certificate)) (first_of (codes "CERT") rows)) (first_of (codes "TABLE") rows)
-
--- whether JSON is asked for
-abbrev pub json_of : List Row → Bool
-json_of rows = option_map_or (λ text. bytes_eq text (codes "true")) (first_of (codes "json") rows) false
-
--- the line of a command over a table and new prices
-abbrev pub new_prices_line : (List ℕ → List ℕ → Bool → Line) → List Row → Option Line
-new_prices_line line rows =
-    option_and_then (λ table. option_and_then (λ new. Some (line table new (json_of rows))) (first_of (codes "NEW") rows)) (first_of (codes "TABLE") rows)
-
-abbrev pub utility_line : List Row → Option Line
-utility_line rows =
-    option_and_then (λ table. option_and_then (λ bundles. Some (Utility table bundles)) (first_of (codes "BUNDLES") rows)) (first_of (codes "TABLE") rows)
-
--- how many units are asked for on each budget
-abbrev pub per_of : List Row → Option ℕ
-per_of rows = number_of 1 1000000000 (codes "per") rows
-
-abbrev pub random_line : List Row → Option Line
-random_line rows =
-    option_and_then (λ budgets. option_and_then (λ choices. Some (Random budgets choices (per_of rows) (json_of rows)))
-    (first_of (codes "CHOICES") rows)) (first_of (codes "BUDGETS") rows)
-
-abbrev pub check_random_line : List Row → Option Line
-check_random_line rows =
-    option_and_then (λ budgets. option_and_then (λ choices. option_and_then (λ certificate. Some (CheckRandom budgets choices certificate (per_of rows)))
-    (first_of (codes "CERT") rows)) (first_of (codes "CHOICES") rows)) (first_of (codes "BUDGETS") rows)
-
-abbrev pub trial_line : List Row → Option Line
-trial_line rows =
-    option_and_then (λ seed. option_and_then (λ count. option_and_then (λ goods. Some (Trial seed count goods))
-    (number_of 1 16 (codes "GOODS") rows)) (number_of 1 256 (codes "ROWS") rows)) (number_of 0 18446744073709551615 (codes "SEED") rows)
-
--- the line of the command of that name, by its matches
-abbrev pub command_line : Text → List Row → Option Line
-command_line name rows =
-    if bytes_eq name (codes "pairs") then table_line Pairs rows
-    else (if bytes_eq name (codes "analyse") then table_line Analyse rows
-    else (if bytes_eq name (codes "certify") then table_line Certify rows
-    else (if bytes_eq name (codes "check") then check_line rows
-    else (if bytes_eq name (codes "demand") then new_prices_line Demand rows
-    else (if bytes_eq name (codes "welfare") then new_prices_line Welfare rows
-    else (if bytes_eq name (codes "utility") then utility_line rows
-    else (if bytes_eq name (codes "random") then random_line rows
-    else (if bytes_eq name (codes "checkrandom") then check_random_line rows
-    else (if bytes_eq name (codes "trial") then trial_line rows
-    else None)))))))))
-
-abbrev pub line_named : Option (Text × List Row) → Option Line
-line_named matches = option_and_then (λ m. command_line m.0 m.1) matches
-
--- the line that the words denote: that of the matches, where `clap` takes the words
-unfoldable pub line_of : List (List ℕ) → Option Line
-line_of words = if is_empty (fault_of program words) then line_named (subcommand_of program words) else None
-
--- the same of words as strings
-abbrev pub line_in : {Z : Type 0} → List (String Z) → Option Line
-line_in words = line_of (map string_bytes words)

@@ -1,6 +1,8 @@
-pub mod Commands
 pub mod CommandLine
+pub mod Commands
+pub mod Forms
 pub mod Named
 pub mod Ranges
 pub mod Shapes
 pub mod Usage
+pub mod Words

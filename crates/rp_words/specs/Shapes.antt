@@ -1,8 +1,10 @@
--- The shapes in which each line can be written: the command, its files and its numbers, in decimal digits (this program's own
--- words).
-use Rattle.std.specs.Prelude.{◌≡◌, ◌==◌, ◌<◌, ◌≤◌, ◌^◌, ℕ, Bool, true, false, not, List, [], ◌∷◌, ◌++◌, Option, Some, None, IfSome, codes, if◌then◌else◌}
+-- The shapes in which each line can be written, by the form of its command: the command, its files and its numbers, in decimal digits,
+-- and its options (this program's own words).
+use Rattle.std.specs.Prelude.{◌≡◌, ◌==◌, ◌≤◌, ℕ, Bool, true, false, not, List, [], ◌∷◌, ◌++◌, Option, Some, None, IfSome, codes, map, if◌then◌else◌}
 use Rattle.std.specs.Fmt.{decimal}
-use Rattle.rp_words.specs.CommandLine.{Line, Pairs, Analyse, Certify, Check, Demand, Welfare, Utility, Random, CheckRandom, Trial}
+use Rattle.clap.specs.Walk.{Text}
+use Rattle.rp_words.specs.CommandLine.{Given, Line, parts_of}
+use Rattle.rp_words.specs.Forms.{Form, Number, units}
 
 -- a word that names a file: it is not empty and begins with no minus sign
 abbrev pub is_file_name : List ℕ → Bool
@@ -18,31 +20,47 @@ abbrev pub per_words : Option ℕ → List (List ℕ)
 per_words None = []
 per_words (Some n) = codes "--per" ∷ decimal n ∷ []
 
+-- the words that give this to a command
+abbrev pub words_of : Given → List (List ℕ)
+words_of given = given.files ++ (map decimal given.numbers ++ (per_words given.per ++ json_word given.json))
+
 -- the words of a line after the program's name
 abbrev pub shape_of : Line → List (List ℕ)
-shape_of (Pairs table) = codes "pairs" ∷ table ∷ []
-shape_of (Analyse table) = codes "analyse" ∷ table ∷ []
-shape_of (Certify table) = codes "certify" ∷ table ∷ []
-shape_of (Check table certificate) = codes "check" ∷ table ∷ certificate ∷ []
-shape_of (Demand table new json) = codes "demand" ∷ table ∷ new ∷ json_word json
-shape_of (Welfare table new json) = codes "welfare" ∷ table ∷ new ∷ json_word json
-shape_of (Utility table bundles) = codes "utility" ∷ table ∷ bundles ∷ []
-shape_of (Random budgets choices per json) = codes "random" ∷ budgets ∷ choices ∷ (per_words per ++ json_word json)
-shape_of (CheckRandom budgets choices certificate per) = codes "checkrandom" ∷ budgets ∷ choices ∷ certificate ∷ per_words per
-shape_of (Trial seed rows goods) = codes "trial" ∷ decimal seed ∷ decimal rows ∷ decimal goods ∷ []
+shape_of line = (parts_of line).0.form.name ∷ words_of (parts_of line).1
+
+-- a name for each file
+abbrev pub AreNamed : List Text → List Text → Type 0
+AreNamed [] [] = Unit {0}
+AreNamed (id ∷ ids) (file ∷ files) = (is_file_name file ≡ true) × AreNamed ids files
+AreNamed _ _ = ⊥
+
+abbrev pub IsInRange : Number → ℕ → Type 0
+IsInRange number n = (number.least ≤ n) × (n ≤ number.most)
+
+-- a number in range for each number
+abbrev pub AreInRange : List Number → List ℕ → Type 0
+AreInRange [] [] = Unit {0}
+AreInRange (number ∷ numbers) (n ∷ ns) = IsInRange number n × AreInRange numbers ns
+AreInRange _ _ = ⊥
+
+-- units in range where they are asked for, and where the command takes them
+abbrev pub AreUnits : Bool → Option ℕ → Type 0
+AreUnits true per = IfSome per (IsInRange units)
+AreUnits false per = per ≡ None
+
+-- JSON where it is asked for, and where the command has it
+abbrev pub MayAsk : Bool → Bool → Type 0
+MayAsk true json = Unit {0}
+MayAsk false json = json ≡ false
+
+-- the numbers that are given are those of the form, each in its range
+abbrev pub HasRanges : Form → Given → Type 0
+HasRanges form given = AreInRange form.numbers given.numbers × AreUnits form.per given.per
+
+-- what is given fits the form
+abbrev pub Fits : Form → Given → Type 0
+Fits form given = AreNamed form.files given.files × HasRanges form given × MayAsk form.json given.json
 
 -- its files have names and its numbers are in range
 abbrev pub HasShape : Line → Type 0
-HasShape (Pairs table) = is_file_name table ≡ true
-HasShape (Analyse table) = is_file_name table ≡ true
-HasShape (Certify table) = is_file_name table ≡ true
-HasShape (Check table certificate) = (is_file_name table ≡ true) × (is_file_name certificate ≡ true)
-HasShape (Demand table new json) = (is_file_name table ≡ true) × (is_file_name new ≡ true)
-HasShape (Welfare table new json) = (is_file_name table ≡ true) × (is_file_name new ≡ true)
-HasShape (Utility table bundles) = (is_file_name table ≡ true) × (is_file_name bundles ≡ true)
-HasShape (Random budgets choices per json) =
-    (is_file_name budgets ≡ true) × (is_file_name choices ≡ true) × IfSome per (λ n. (1 ≤ n) × (n ≤ 1000000000))
-HasShape (CheckRandom budgets choices certificate per) =
-    (is_file_name budgets ≡ true) × (is_file_name choices ≡ true) × (is_file_name certificate ≡ true)
-    × IfSome per (λ n. (1 ≤ n) × (n ≤ 1000000000))
-HasShape (Trial seed rows goods) = (seed < 2 ^ 64) × (1 ≤ rows) × (rows ≤ 256) × (1 ≤ goods) × (goods ≤ 16)
+HasShape line = Fits (parts_of line).0.form (parts_of line).1

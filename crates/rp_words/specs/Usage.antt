@@ -1,10 +1,24 @@
--- The text that tells how the program is called (this program's own text).
-use Rattle.std.specs.Prelude.{ℕ, List, [], ◌∷◌, ◌++◌, codes}
+-- The text that tells how the program is called, by the forms of its commands (this program's own text).
+use Rattle.std.specs.Prelude.{ℕ, List, [], ◌∷◌, ◌++◌, codes, map, if◌then◌else◌}
+use Rattle.clap.specs.Walk.{Text}
+use Rattle.rp_words.specs.CommandLine.{forms}
+use Rattle.rp_words.specs.Forms.{Form}
 
--- how the program is called
+-- words, each after a blank
+abbrev pub spaced : List Text → List ℕ
+spaced [] = []
+spaced (word ∷ words) = 32 ∷ word ++ spaced words
+
+-- how a command is called
+abbrev pub call_text : Form → List ℕ
+call_text form =
+    codes "rp " ++ form.name ++ spaced form.files ++ spaced (map (λ number. number.name) form.numbers)
+    ++ (if form.per then codes " [--per N]" else []) ++ (if form.json then codes " [--json]" else [])
+
+-- the lines of the calls, where the first begins so, and each further one with as many blanks
+abbrev pub calls_text : List ℕ → List Form → List ℕ
+calls_text start [] = []
+calls_text start (form ∷ more) = start ++ call_text form ++ 10 ∷ calls_text (codes "       ") more
+
 abbrev pub usage_text : List ℕ
-usage_text =
-    codes "usage: rp pairs TABLE" ++ 10 ∷ codes "       rp analyse TABLE" ++ 10 ∷ codes "       rp certify TABLE" ++ 10 ∷ codes "       rp check TABLE CERT" ++ 10 ∷
-    codes "       rp demand TABLE NEW [--json]" ++ 10 ∷ codes "       rp welfare TABLE NEW [--json]" ++ 10 ∷ codes "       rp utility TABLE BUNDLES" ++ 10 ∷
-    codes "       rp random BUDGETS CHOICES [--per N] [--json]" ++ 10 ∷ codes "       rp checkrandom BUDGETS CHOICES CERT [--per N]" ++ 10 ∷
-    codes "       rp trial SEED ROWS GOODS" ++ 10 ∷ []
+usage_text = calls_text (codes "usage: ") forms

@@ -2,10 +2,11 @@ ghost use Rattle.std.specs.Prelude.{◌≡◌, false, IfOk, map};
 ghost use Rattle.clap.specs.Simple.{app_of};
 ghost use Rattle.clap.specs.Walk.{rule_of};
 ghost use Rattle.clap.specs.declared.builder.command.Command.TheViews.{out-Command};
-ghost use Rattle.rp_words.specs.Commands.{program, alone, check_random_shape, new_prices_shape};
-ghost use Rattle.rp_words.specs.Commands.{random_shape, trial_shape};
-ghost use Rattle.rp_words.specs.Commands.{command_shape, file_rule, json_rule, number_rule, per_rule};
+ghost use Rattle.rp_words.specs.Commands.{alone, command_of, program, where_asked, with_rules};
+ghost use Rattle.rp_words.specs.Commands.{file_rule, json_rule, number_rule, per_rule};
+ghost use Rattle.rp_words.specs.Named.{named_form, named_number};
 
+use crate::forms::{Form, Number, UNITS, forms};
 use clap::builder::ValueParser;
 use clap::{Arg, ArgAction, Command};
 use std::alloc::{AllocError, Global};
@@ -15,99 +16,114 @@ use std::alloc::{AllocError, Global};
 pub(crate) fn program<'a>(alloc: Global) -> Result<Command<'a>, AllocError>
     ensures { IfOk result (λ command. app_of command ≡ program) }
 {
-    let top = Command::new(alloc, "rp")
+    let mut program = Command::new(alloc, "rp")
         .subcommand_required(true)
         .disable_help_flag(true)
         .disable_help_subcommand(true);
-    let program = top
-        .subcommand(over_files(alloc, "pairs", &["TABLE"])?)?
-        .subcommand(over_files(alloc, "analyse", &["TABLE"])?)?
-        .subcommand(over_files(alloc, "certify", &["TABLE"])?)?
-        .subcommand(over_files(alloc, "check", &["TABLE", "CERT"])?)?
-        .subcommand(at_new_prices(alloc, "demand")?)?
-        .subcommand(at_new_prices(alloc, "welfare")?)?
-        .subcommand(over_files(alloc, "utility", &["TABLE", "BUNDLES"])?)?
-        .subcommand(random(alloc)?)?
-        .subcommand(check_random(alloc)?)?
-        .subcommand(trial(alloc)?)?;
+    for form in &forms() {
+        program = program.subcommand(command_of(alloc, form)?)?;
+    }
     Ok(program)
 }
 
-/// A command over files.
-fn over_files<'a>(
-    alloc: Global,
-    name: &'a str,
-    files: &[&'a str],
-) -> Result<Command<'a>, AllocError>
+/// The command of a form.
+fn command_of<'a>(alloc: Global, form: &Form) -> Result<Command<'a>, AllocError>
     ensures shape { IfOk result (λ command. app_of command
-        ≡ alone (command_shape name.now (map (λ file. file_rule file.now) files.now))) }
+        ≡ alone (command_of (named_form form.now))) }
     ensures local { IfOk result (λ command. (out-Command command).has_globals ≡ false) }
 {
-    let mut command = Command::new(alloc, name);
-    for file in files {
-        command = command.arg(file_argument(alloc, file))?;
+    let command = Command::new(alloc, form.name);
+    let command = with_files(alloc, command, form.files)?;
+    let command = with_numbers(alloc, command, form.numbers)?;
+    let command = with_option(command, per_argument(alloc), form.per)?;
+    let command = with_option(command, json_argument(alloc), form.json)?;
+    Ok(command)
+}
+
+/// The command with an option that it has or has not.
+fn with_option<'a>(
+    command: Command<'a>,
+    option: Arg<'a>,
+    has: bool,
+) -> Result<Command<'a>, AllocError>
+    requires command { (out-Command command).has_globals ≡ false }
+    requires option { option.global ≡ false }
+    ensures shape { IfOk result (λ more. app_of more
+        ≡ with_rules (app_of command.entry) (where_asked has (rule_of option.entry))) }
+    ensures local { IfOk result (λ more. (out-Command more).has_globals ≡ false) }
+{
+    if has {
+        let more = command.arg(option)?;
+        Ok(more)
+    } else {
+        Ok(command)
     }
-    Ok(command)
 }
 
-/// A command on a table at new prices.
-fn at_new_prices<'a>(alloc: Global, name: &'a str) -> Result<Command<'a>, AllocError>
-    ensures shape { IfOk result (λ command. app_of command ≡ alone (new_prices_shape name.now)) }
-    ensures local { IfOk result (λ command. (out-Command command).has_globals ≡ false) }
+/// The command with files.
+fn with_files<'a>(
+    alloc: Global,
+    command: Command<'a>,
+    files: &[&'static str],
+) -> Result<Command<'a>, AllocError>
+    requires { (out-Command command).has_globals ≡ false }
+    ensures shape { IfOk result (λ more. app_of more
+        ≡ with_rules (app_of command.entry) (map (λ file. file_rule file.now) files.now)) }
+    ensures local { IfOk result (λ more. (out-Command more).has_globals ≡ false) }
 {
-    let command = Command::new(alloc, name)
-        .arg(file_argument(alloc, "TABLE"))?
-        .arg(file_argument(alloc, "NEW"))?
-        .arg(json_argument(alloc))?;
-    Ok(command)
+    let mut more = command;
+    for file in files {
+        more = more.arg(file_argument(alloc, file))?;
+    }
+    Ok(more)
 }
 
-/// The command on choices from budgets.
-fn random<'a>(alloc: Global) -> Result<Command<'a>, AllocError>
-    ensures shape { IfOk result (λ command. app_of command ≡ alone random_shape) }
-    ensures local { IfOk result (λ command. (out-Command command).has_globals ≡ false) }
+/// The command with numbers.
+fn with_numbers<'a>(
+    alloc: Global,
+    command: Command<'a>,
+    numbers: &[Number],
+) -> Result<Command<'a>, AllocError>
+    requires { (out-Command command).has_globals ≡ false }
+    ensures shape { IfOk result (λ more. app_of more ≡ with_rules (app_of command.entry)
+        (map (λ number. number_rule (named_number number)) numbers.now)) }
+    ensures local { IfOk result (λ more. (out-Command more).has_globals ≡ false) }
 {
-    let command = Command::new(alloc, "random")
-        .arg(file_argument(alloc, "BUDGETS"))?
-        .arg(file_argument(alloc, "CHOICES"))?
-        .arg(per_argument(alloc))?
-        .arg(json_argument(alloc))?;
-    Ok(command)
-}
-
-/// The command on a certificate on choices from budgets.
-fn check_random<'a>(alloc: Global) -> Result<Command<'a>, AllocError>
-    ensures shape { IfOk result (λ command. app_of command ≡ alone check_random_shape) }
-    ensures local { IfOk result (λ command. (out-Command command).has_globals ≡ false) }
-{
-    let command = Command::new(alloc, "checkrandom")
-        .arg(file_argument(alloc, "BUDGETS"))?
-        .arg(file_argument(alloc, "CHOICES"))?
-        .arg(file_argument(alloc, "CERT"))?
-        .arg(per_argument(alloc))?;
-    Ok(command)
-}
-
-/// The command over the numbers of a trial.
-fn trial<'a>(alloc: Global) -> Result<Command<'a>, AllocError>
-    ensures shape { IfOk result (λ command. app_of command ≡ alone trial_shape) }
-    ensures local { IfOk result (λ command. (out-Command command).has_globals ≡ false) }
-{
-    let command = Command::new(alloc, "trial")
-        .arg(number_argument(alloc, "SEED", 0, u64::MAX))?
-        .arg(number_argument(alloc, "ROWS", 1, 256))?
-        .arg(number_argument(alloc, "GOODS", 1, 16))?;
-    Ok(command)
+    let mut more = command;
+    for number in numbers {
+        more = more.arg(number_argument(alloc, number))?;
+    }
+    Ok(more)
 }
 
 /// The name of a file, which has to be there.
-fn file_argument<'a>(alloc: Global, id: &'a str) -> Arg<'a>
+fn file_argument<'a>(alloc: Global, id: &'static str) -> Arg<'a>
     ensures rule { rule_of result ≡ file_rule id.now }
     ensures local { result.global ≡ false }
 {
     Arg::new(alloc, id)
         .value_parser(ValueParser::NonEmptyString)
         .required(true)
+}
+
+/// A number in its range, which has to be there.
+fn number_argument<'a>(alloc: Global, number: &Number) -> Arg<'a>
+    ensures rule { rule_of result ≡ number_rule (named_number number.now) }
+    ensures local { result.global ≡ false }
+{
+    Arg::new(alloc, number.name)
+        .value_parser(ValueParser::Unsigned(number.least, number.most))
+        .required(true)
+}
+
+/// How many units there are to be on each budget.
+fn per_argument<'a>(alloc: Global) -> Arg<'a>
+    ensures rule { rule_of result ≡ per_rule }
+    ensures local { result.global ≡ false }
+{
+    Arg::new(alloc, "per")
+        .long("per")
+        .value_parser(ValueParser::Unsigned(UNITS.least, UNITS.most))
 }
 
 /// Whether the answer is to be JSON.
@@ -118,24 +134,4 @@ fn json_argument<'a>(alloc: Global) -> Arg<'a>
     Arg::new(alloc, "json")
         .long("json")
         .action(ArgAction::SetTrue)
-}
-
-/// How many units there are to be on each budget.
-fn per_argument<'a>(alloc: Global) -> Arg<'a>
-    ensures rule { rule_of result ≡ per_rule }
-    ensures local { result.global ≡ false }
-{
-    Arg::new(alloc, "per")
-        .long("per")
-        .value_parser(ValueParser::Unsigned(1, 1_000_000_000))
-}
-
-/// A number in a range, which has to be there.
-fn number_argument<'a>(alloc: Global, id: &'a str, least: u64, most: u64) -> Arg<'a>
-    ensures rule { rule_of result ≡ number_rule least most id.now }
-    ensures local { result.global ≡ false }
-{
-    Arg::new(alloc, id)
-        .value_parser(ValueParser::Unsigned(least, most))
-        .required(true)
 }

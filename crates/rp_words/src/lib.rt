@@ -2,6 +2,8 @@
 #![tactic(auto)]
 
 mod command;
+mod forms;
+mod given;
 mod line;
 
 pub use line::{Line, read_line, usage};

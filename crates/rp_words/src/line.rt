@@ -1,18 +1,17 @@
-ghost use Rattle.std.specs.Prelude.{◌≡◌, ℕ, List, [], ◌∷◌, Ok, Some, None, ◌≤◌, ◌&&◌, nat_le, if◌then◌else◌, IfOk, IfSome, map, option_map, string_bytes};
-ghost use Rattle.clap.specs.Words.{found_of, rows_of, subcommand_rows_of};
-ghost use Rattle.clap.specs.Walk.{first_of};
+ghost use Rattle.std.specs.Prelude.{◌≡◌, ◌≤◌, ℕ, List, [], ◌∷◌, Ok, Some, None, IfOk, IfSome, map, option_map, string_bytes};
 ghost use Rattle.clap.specs.Faults.{fault_of};
+ghost use Rattle.clap.specs.Words.{found_of, rows_of, subcommand_rows_of};
+ghost use Rattle.rp_words.specs.CommandLine.{Line as Asked, command_named};
 ghost use Rattle.rp_words.specs.Commands.{program};
-ghost use Rattle.rp_words.specs.Shapes.{HasShape, shape_of};
-ghost use Rattle.rp_words.specs.CommandLine.{Line as Asked};
-ghost use Rattle.rp_words.specs.CommandLine.{Pairs, Analyse, line_of, line_named, command_line, number_of};
-ghost use Rattle.rp_words.specs.CommandLine.{Certify, Demand, Welfare, check_line, json_of, new_prices_line, table_line, trial_line, utility_line};
-ghost use Rattle.rp_words.specs.CommandLine.{check_random_line, per_of, random_line};
+ghost use Rattle.rp_words.specs.Named.{named_given, named_line};
+ghost use Rattle.rp_words.specs.Ranges.{IsSized};
+ghost use Rattle.rp_words.specs.Shapes.{HasRanges, HasShape, shape_of};
 ghost use Rattle.rp_words.specs.Usage.{usage_text};
-ghost use Rattle.rp_words.specs.Ranges.{IsSized, IsUnit};
-ghost use Rattle.rp_words.specs.Named.{named_line};
+ghost use Rattle.rp_words.specs.Words.{command_line, line_named, line_of};
 
 use crate::command::program;
+use crate::forms::form_named;
+use crate::given::{Given, given_in};
 use clap::ArgMatches;
 use clap::error::ErrorKind;
 use rp_num::NoMemory;
@@ -87,7 +86,7 @@ pub fn read_line<'a>(alloc: Global, words: &'a [String]) -> Result<Option<Line<'
 {
     let program = program(alloc)?;
     match program.try_get_matches_from(words) {
-        Ok(matches) => Ok(line_named(&matches)),
+        Ok(matches) => line_named(alloc, &matches),
         Err(error) => match error.kind() {
             ErrorKind::OutOfMemory => Err(NoMemory),
             _ => Ok(None),
@@ -96,205 +95,98 @@ pub fn read_line<'a>(alloc: Global, words: &'a [String]) -> Result<Option<Line<'
 }
 
 /// The line that the matches name.
-fn line_named<'a>(matches: &ArgMatches<'a>) -> Option<Line<'a>>
-    ensures exact { option_map named_line result ≡ line_named (subcommand_rows_of matches.now) }
-    ensures sized { IfSome result (λ line. IsSized (named_line line)) }
+fn line_named<'a>(alloc: Global, matches: &ArgMatches<'a>) -> Result<Option<Line<'a>>, NoMemory>
+    ensures exact { IfOk result (λ line.
+        option_map named_line line ≡ line_named (subcommand_rows_of matches.now)) }
+    ensures sized { IfOk result (λ line. IfSome line (λ l. IsSized (named_line l))) }
 {
     match matches.subcommand() {
-        Some((name, given)) => command_line(name, given),
-        None => None,
+        Some((name, given)) => command_line(alloc, name, given),
+        None => Ok(None),
     }
 }
 
 /// The line of a command with its matches.
-fn command_line<'a>(name: &str, given: &ArgMatches<'a>) -> Option<Line<'a>>
+fn command_line<'a>(
+    alloc: Global,
+    name: &str,
+    matches: &ArgMatches<'a>,
+) -> Result<Option<Line<'a>>, NoMemory>
+    ensures exact { IfOk result (λ line.
+        option_map named_line line ≡ command_line name.now (rows_of (found_of matches.now))) }
+    ensures sized { IfOk result (λ line. IfSome line (λ l. IsSized (named_line l))) }
+{
+    let Some(form) = form_named(name) else {
+        return Ok(None);
+    };
+    let Some(given) = given_in(alloc, &form, matches)? else {
+        return Ok(None);
+    };
+    Ok(line_with(name, &given))
+}
+
+/// The line of a command with what is given to it.
+fn line_with<'a>(name: &str, given: &Given<'a>) -> Option<Line<'a>>
+    requires { IfSome (command_named name.now)
+        (λ command. HasRanges command.form (named_given given.now)) }
     ensures exact { option_map named_line result
-        ≡ command_line name.now (rows_of (found_of given.now)) }
+        ≡ option_map (λ command. command.line (named_given given.now)) (command_named name.now) }
     ensures sized { IfSome result (λ line. IsSized (named_line line)) }
 {
     if name == "pairs" {
-        pairs_line(given)
+        Some(Line::Pairs {
+            table: given.file(0),
+        })
     } else if name == "analyse" {
-        analyse_line(given)
+        Some(Line::Analyse {
+            table: given.file(0),
+        })
     } else if name == "certify" {
-        certify_line(given)
+        Some(Line::Certify {
+            table: given.file(0),
+        })
     } else if name == "check" {
-        check_line(given)
+        Some(Line::Check {
+            table: given.file(0),
+            certificate: given.file(1),
+        })
     } else if name == "demand" {
-        demand_line(given)
+        Some(Line::Demand {
+            table: given.file(0),
+            new: given.file(1),
+            json: given.json,
+        })
     } else if name == "welfare" {
-        welfare_line(given)
+        Some(Line::Welfare {
+            table: given.file(0),
+            new: given.file(1),
+            json: given.json,
+        })
     } else if name == "utility" {
-        utility_line(given)
+        Some(Line::Utility {
+            table: given.file(0),
+            bundles: given.file(1),
+        })
     } else if name == "random" {
-        random_line(given)
+        Some(Line::Random {
+            budgets: given.file(0),
+            choices: given.file(1),
+            per: given.per,
+            json: given.json,
+        })
     } else if name == "checkrandom" {
-        check_random_line(given)
+        Some(Line::CheckRandom {
+            budgets: given.file(0),
+            choices: given.file(1),
+            certificate: given.file(2),
+            per: given.per,
+        })
     } else if name == "trial" {
-        trial_line(given)
-    } else {
-        None
-    }
-}
-
-fn pairs_line<'a>(given: &ArgMatches<'a>) -> Option<Line<'a>>
-    ensures exact { option_map named_line result ≡ table_line Pairs (rows_of (found_of given.now)) }
-    ensures sized { IfSome result (λ line. IsSized (named_line line)) }
-{
-    let table = text_of(given, "TABLE")?;
-    Some(Line::Pairs { table })
-}
-
-fn analyse_line<'a>(given: &ArgMatches<'a>) -> Option<Line<'a>>
-    ensures exact { option_map named_line result
-        ≡ table_line Analyse (rows_of (found_of given.now)) }
-    ensures sized { IfSome result (λ line. IsSized (named_line line)) }
-{
-    let table = text_of(given, "TABLE")?;
-    Some(Line::Analyse { table })
-}
-
-fn certify_line<'a>(given: &ArgMatches<'a>) -> Option<Line<'a>>
-    ensures exact { option_map named_line result
-        ≡ table_line Certify (rows_of (found_of given.now)) }
-    ensures sized { IfSome result (λ line. IsSized (named_line line)) }
-{
-    let table = text_of(given, "TABLE")?;
-    Some(Line::Certify { table })
-}
-
-fn check_line<'a>(given: &ArgMatches<'a>) -> Option<Line<'a>>
-    ensures exact { option_map named_line result ≡ check_line (rows_of (found_of given.now)) }
-    ensures sized { IfSome result (λ line. IsSized (named_line line)) }
-{
-    let table = text_of(given, "TABLE")?;
-    let certificate = text_of(given, "CERT")?;
-    Some(Line::Check { table, certificate })
-}
-
-fn demand_line<'a>(given: &ArgMatches<'a>) -> Option<Line<'a>>
-    ensures exact { option_map named_line result
-        ≡ new_prices_line Demand (rows_of (found_of given.now)) }
-    ensures sized { IfSome result (λ line. IsSized (named_line line)) }
-{
-    let table = text_of(given, "TABLE")?;
-    let new = text_of(given, "NEW")?;
-    let json = asks_json(given);
-    Some(Line::Demand { table, new, json })
-}
-
-fn welfare_line<'a>(given: &ArgMatches<'a>) -> Option<Line<'a>>
-    ensures exact { option_map named_line result
-        ≡ new_prices_line Welfare (rows_of (found_of given.now)) }
-    ensures sized { IfSome result (λ line. IsSized (named_line line)) }
-{
-    let table = text_of(given, "TABLE")?;
-    let new = text_of(given, "NEW")?;
-    let json = asks_json(given);
-    Some(Line::Welfare { table, new, json })
-}
-
-fn utility_line<'a>(given: &ArgMatches<'a>) -> Option<Line<'a>>
-    ensures exact { option_map named_line result
-        ≡ utility_line (rows_of (found_of given.now)) }
-    ensures sized { IfSome result (λ line. IsSized (named_line line)) }
-{
-    let table = text_of(given, "TABLE")?;
-    let bundles = text_of(given, "BUNDLES")?;
-    Some(Line::Utility { table, bundles })
-}
-
-fn random_line<'a>(given: &ArgMatches<'a>) -> Option<Line<'a>>
-    ensures exact { option_map named_line result ≡ random_line (rows_of (found_of given.now)) }
-    ensures sized { IfSome result (λ line. IsSized (named_line line)) }
-{
-    let budgets = text_of(given, "BUDGETS")?;
-    let choices = text_of(given, "CHOICES")?;
-    let per = per_of(given);
-    let json = asks_json(given);
-    Some(Line::Random {
-        budgets,
-        choices,
-        per,
-        json,
-    })
-}
-
-fn check_random_line<'a>(given: &ArgMatches<'a>) -> Option<Line<'a>>
-    ensures exact { option_map named_line result
-        ≡ check_random_line (rows_of (found_of given.now)) }
-    ensures sized { IfSome result (λ line. IsSized (named_line line)) }
-{
-    let budgets = text_of(given, "BUDGETS")?;
-    let choices = text_of(given, "CHOICES")?;
-    let certificate = text_of(given, "CERT")?;
-    let per = per_of(given);
-    Some(Line::CheckRandom {
-        budgets,
-        choices,
-        certificate,
-        per,
-    })
-}
-
-/// How many units are asked for on each budget.
-fn per_of(given: &ArgMatches<'_>) -> Option<u32>
-    ensures exact { result ≡ per_of (rows_of (found_of given.now)) }
-    ensures within { IsUnit result }
-{
-    match number_of(given, "per", 1, 1_000_000_000) {
-        Some(units) => Some(units as u32),
-        None => None,
-    }
-}
-
-fn trial_line<'a>(given: &ArgMatches<'a>) -> Option<Line<'a>>
-    ensures exact { option_map named_line result ≡ trial_line (rows_of (found_of given.now)) }
-    ensures sized { IfSome result (λ line. IsSized (named_line line)) }
-{
-    let seed = number_of(given, "SEED", 0, u64::MAX)?;
-    let rows = number_of(given, "ROWS", 1, 256)?;
-    let goods = number_of(given, "GOODS", 1, 16)?;
-    Some(Line::Trial {
-        seed,
-        rows: rows as u32,
-        goods: goods as u32,
-    })
-}
-
-/// Whether the answer is to be JSON.
-fn asks_json(given: &ArgMatches<'_>) -> bool
-    ensures { result ≡ json_of (rows_of (found_of given.now)) }
-{
-    match text_of(given, "json") {
-        Some(text) => text == "true",
-        None => false,
-    }
-}
-
-/// The text of an argument.
-fn text_of<'a>(given: &ArgMatches<'a>, id: &str) -> Option<&'a str>
-    ensures { option_map (λ s. s.now) result ≡ first_of id.now (rows_of (found_of given.now)) }
-{
-    given.get_str(id)
-}
-
-/// A number in a range.
-fn number_of(given: &ArgMatches<'_>, id: &str, least: u64, most: u64) -> Option<u64>
-    ensures exact { result ≡ number_of least most id.now (rows_of (found_of given.now)) }
-    ensures within { IfSome result (λ n. (least ≤ n) × (n ≤ most)) }
-{
-    match given.get_one::<u64>(id) {
-        Some(number) => in_range(number, least, most),
-        None => None,
-    }
-}
-
-fn in_range(number: u64, least: u64, most: u64) -> Option<u64>
-    ensures { result ≡ (if nat_le least number && nat_le number most then Some number else None) }
-{
-    if least <= number && number <= most {
-        Some(number)
+        Some(Line::Trial {
+            seed: given.number(0),
+            rows: given.number(1) as u32,
+            goods: given.number(2) as u32,
+        })
     } else {
         None
     }

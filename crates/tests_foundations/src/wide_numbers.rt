@@ -9,6 +9,11 @@ const FIBONACCI: u128 = 127127879743834334146972278486287885163;
 
 const FIBONACCI_BEFORE: u128 = 78569350599398894027251472817058687522;
 
+/// The fraction of two numbers within the width, the second above 0.
+fn fraction(num: u128, den: u128) -> Frac {
+    Frac::new(num.min(WIDTH), den.clamp(1, WIDTH))
+}
+
 #[test]
 fn divisors_on_both_sides_of_a_word(rt: HostRuntime) {
     let word = (1 << 64) - 1;
@@ -79,7 +84,7 @@ fn fractions_that_agree_in_their_high_words(rt: HostRuntime) {
         ),
     ] {
         assert_eq!(rt;
-            Frac::new(a, b).cmp(Frac::new(c, d)),
+            fraction(a, b).cmp(fraction(c, d)),
             order,
             "{a}/{b} and {c}/{d}"
         );
@@ -118,7 +123,7 @@ fn products_with_ones_and_with_small_sides(rt: HostRuntime) {
         ),
         (FIBONACCI, FIBONACCI_BEFORE, 4, 1, None),
     ] {
-        let got = Frac::new(a, b).mul(Frac::new(c, d)).ok();
+        let got = fraction(a, b).mul(fraction(c, d)).ok();
         assert_eq!(rt;
             got.map(|p| (p.num(), p.den())),
             product,

@@ -1,5 +1,5 @@
 use Rattle.std.proofs.Common.{◌≡◌, ◌∙◌, Some, None, map, string_bytes, sym, subst, inl, inr}
-use Rattle.rp_words.specs.CommandLine.{line_in}
+use Rattle.rp_words.specs.Words.{line_in}
 use Rattle.rp_words.specs.Named.{named_line}
 use Rattle.rp_run.specs.Turns.{AreReadInTurn, AsksForFirst}
 use Rattle.rp_run.proofs.TurnLemmas.{unread}

@@ -1,10 +1,13 @@
-use Rattle.std.proofs.Common.{◌≡◌, Some, None, map, string_bytes, sym, ap, ◌∙◌}
+use Rattle.std.proofs.Common.{◌≡◌, None, map, string_bytes, subst, sym, ◌∙◌}
 use Rattle.std.specs.Option.{option_map}
+use Rattle.std.specs.Prelude.{IfOk}
 use Rattle.clap.specs.Simple.{app_of}
+use Rattle.clap.specs.Words.{subcommand_rows_of}
 use Rattle.rp_words.specs.Named.{named_line}
+use Rattle.rp_words.specs.Words.{line_named, line_of}
 use Rattle.rp_words.proofs.MatchesNameALine.{refused_where_no_line}
 use Rattle.rp_words.proofs.ShapeLemmas.{shape_given}
-use Rattle.rp_words.proofs.WordLemmas.{words_taken, words_refused}
+use Rattle.rp_words.proofs.WordLemmas.{ok_then, words_taken, words_refused}
 use Rattle.rp_words.proofs.line.read_line.Goals as goal
 
 pub returns-in_err-program-clause-shapes : goal.returns-in_err-program-clause-shapes
@@ -19,12 +22,16 @@ returns-in-Ok-clause-shapes c = shape_given (map string_bytes c.args.words.now)
 pub returns-in-Ok-clause-exact : goal.returns-in-Ok-clause-exact
 returns-in-Ok-clause-exact c =
     let taken = c.in-Ok in
-    sym (words_taken (app_of c.in_ok-program.program) (map string_bytes c.args.words.now) taken.matches (option_map named_line c.line_named.result) c.in_ok-program.ensures taken.ensures.kinds taken.ensures.matches c.line_named.ensures.exact)
+    let words = map string_bytes c.args.words.now in
+    ok_then (λ line. option_map named_line line ≡ line_named (subcommand_rows_of taken.matches)) (λ line. option_map named_line line ≡ line_of words)
+    (λ line is. sym (words_taken (app_of c.in_ok-program.program) words taken.matches (option_map named_line line) c.in_ok-program.ensures taken.ensures.kinds taken.ensures.matches is))
+    c.line_named.result c.line_named.ensures.exact
 
 pub returns-in-Ok-clause-refused_by_clap : goal.returns-in-Ok-clause-refused_by_clap
 returns-in-Ok-clause-refused_by_clap c = λ is.
-    let none : c.line_named.result ≡ None = cc in
-    refused_where_no_line (map string_bytes c.args.words.now) (sym (returns-in-Ok-clause-exact c) ∙ ap (option_map named_line) none)
+    let words = map string_bytes c.args.words.now in
+    let none : None ≡ line_of words = subst (λ r. IfOk r (λ line. option_map named_line line ≡ line_of words)) is (returns-in-Ok-clause-exact c) in
+    refused_where_no_line words (sym none)
 
 pub returns : goal.returns
 returns c =

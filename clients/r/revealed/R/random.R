@@ -1,0 +1,56 @@
+# Choices of many people from budgets.
+
+rp_random <- function(budgets, choices, per = NULL, digits = NULL, exe = NULL) {
+  own <- choices_of(budgets, choices, per, digits)
+  words <- c("random", "budgets.csv", "choices.csv", "--json", units_of(own$per))
+  text <- answer(words, choice_files(own), rp_program(exe), list(own$budgets, own$choices))
+  read_random(own, text)
+}
+
+units_of <- function(per) if (!is.null(per)) c("--per", per)
+
+choice_files <- function(own) list(budgets.csv = csv_lines(own$budgets), choices.csv = csv_lines(own$choices))
+
+read_random <- function(own, text) {
+  item <- read_certificate(text)[[1]]
+  found <- list(
+    rational = NA, share = exact(NA), reason = NULL, parts = NULL, weights = NULL, total = item$total, certificate = text, choices = own
+  )
+  if (!is.null(item$withheld)) {
+    found$reason <- withheld_at(item$withheld)
+    return(structure(found, class = "rp_random"))
+  }
+  found$rational <- is.null(item$weights)
+  den <- digits_of(product(limbs(item$den), limbs(item$total)))
+  weights <- vapply(item$parts, `[[`, "", 2)
+  found$parts <- list(
+    patches = lapply(item$parts, function(it) as.integer(it[[1]])),
+    share = exact(vapply(weights, fraction, "", den = den, USE.NAMES = FALSE))
+  )
+  found$share <- exact(fraction(digits_of(Reduce(plus, lapply(weights, limbs), 0)), den))
+  if (!found$rational) found$weights <- exact(vapply(item$weights, fraction, "", den = item$den, USE.NAMES = FALSE))
+  structure(found, class = "rp_random")
+}
+
+as.data.frame.rp_random <- function(x, row.names = NULL, optional = FALSE, ...) {
+  found <- data.frame(patches = vapply(x$parts$patches, paste, "", collapse = " "))
+  found$share <- if (is.null(x$parts)) exact(character()) else x$parts$share
+  found
+}
+
+print.rp_random <- function(x, ...) {
+  if (is.na(x$rational)) {
+    cat("random withheld:", x$reason, "\n")
+  } else {
+    cat(if (x$rational) "random mixture" else paste("random violated share", bare(x$share)), "\n")
+    print(as.data.frame(x), row.names = FALSE)
+  }
+  invisible(x)
+}
+
+summary.rp_random <- function(object, ...) {
+  title <- if (is.na(object$rational)) paste("random withheld:", object$reason) else if (object$rational) "random mixture" else {
+    paste("random violated: at most", bare(object$share), "of the choices are those of rational types")
+  }
+  summary_of(as.data.frame(object), title)
+}

@@ -1,0 +1,30 @@
+\name{rp_check}
+\alias{rp_check}
+\alias{print.rp_checked}
+\title{Check a Certificate}
+\description{
+Asks the program's checker whether a certificate, whoever made it, proves its verdicts on a table or on choices.
+}
+\usage{
+rp_check(data, certificate, per = NULL, exe = NULL)
+}
+\arguments{
+\item{data}{an answer of \code{\link{rp_test}}, \code{\link{rp_demand}}, \code{\link{rp_welfare}} or \code{\link{rp_random}};
+a data frame as for \code{rp_test}; a list of prices and quantities, or \code{list(budgets =, choices =)}; or the name of a
+CSV file, or two, of budgets and of choices.}
+\item{certificate}{an answer, its JSON as a text, or the name of its file.}
+\item{per}{the units that were asked for, for choices.}
+\item{exe}{the program, as for \code{\link{rp_test}}.}
+}
+\value{
+An \code{rp_checked}: \code{accepted}; and then \code{items} and how many values in them are \code{withheld}, or the first
+\code{item} that fails, with its \code{reason} and \code{place}. A certificate that is rejected is no error.
+}
+\examples{
+if (!is.null(rp_program(must = FALSE))) {
+  p <- rbind(c(1, 2), c(2, 1))
+  verdict <- rp_test(p, q = p)
+  print(rp_check(verdict, verdict$certificate))
+  print(rp_check(list(p, rbind(c(2, 1), c(1, 2))), verdict$certificate))
+}
+}

@@ -1,0 +1,60 @@
+# How the program is found, and what is made of each status, by programs of our own.
+library(revealed)
+caught <- function(call, class) {
+  wrong <- tryCatch({
+    call
+    NULL
+  }, rp_error = identity)
+  stopifnot(inherits(wrong, class))
+  invisible(wrong)
+}
+folder <- file.path(tempdir(), "a folder of our own")
+dir.create(folder)
+fake <- function(status, said = "", out = "", name = "rp") {
+  path <- file.path(folder, name)
+  writeLines(c("#!/bin/sh", sprintf("printf '%%s\\n' '%s' >&2", said), sprintf("printf '%%s' '%s'", out), status), path)
+  Sys.chmod(path, "755")
+  path
+}
+one <- matrix(1)
+for (it in list(
+  list(2, "usage: rp pairs TABLE"), list(3, "rp: table.csv: read failed"), list(5, "rp: write failed"),
+  list(6, "rp: out of memory"), list(7, ""), list(70, "rp: the command rt is not on the path"), list(1, "")
+)) {
+  wrong <- caught(rp_test(one, one, exe = fake(paste("exit", it[[1]]), it[[2]])), "rp_failed")
+  stopifnot(wrong$status == it[[1]], wrong$said == it[[2]])
+}
+stopifnot(caught(rp_test(one, one, exe = fake("kill -9 $$")), "rp_failed")$status == 137)
+wrong <- caught(rp_test(one, one, exe = fake("exit 4", "rp: table.csv: TooLong")), "rp_refused")
+stopifnot(wrong$fault == "TooLong", is.na(wrong$record))
+budgets <- data.frame(obs = c("low", "high"), p_a = 1, w = 1)
+choices <- data.frame(budget = c("low", "high"), q_a = 1, n = 1)
+wrong <- caught(rp_random(budgets, choices, exe = fake("exit 4", "rp: NeedUnit budget 2")), "rp_refused")
+stopifnot(wrong$fault == "NeedUnit", wrong$budget == 2, wrong$label == "high")
+failing <- rp_panel(data.frame(id = 1, p_a = 1, q_a = 1), "id", exe = fake("exit 6", "rp: out of memory"))
+stopifnot(identical(as.data.frame(failing)$status, 6L), is.na(as.data.frame(failing)$garp))
+
+certificate <- paste0(
+  "{\"items\":[{\"item\":\"garp\",\"ranks\":[1]},{\"item\":\"afriat\",\"lambda\":[\"1\"],\"utility\":[\"0\"]},{\"above\":[],\"at_ranks\":[1],\"below\":[1],",
+  "\"item\":\"efficiency\",\"level\":\"1\"},{\"item\":\"homothetic\",\"values\":[\"1\"]},{\"item\":\"quasilinear\",\"values\":[\"0\"]}],\"kind\":\"table\",\"version\":1}"
+)
+good <- fake("exit 0", "note: answered by the same source", certificate, "rp good")
+stopifnot(rp_test(one, one, exe = good)$garp)
+
+# by argument, then by the variable, then by the path
+bad <- fake("exit 6")
+old <- Sys.getenv(c("RP_EXEC", "PATH"), names = TRUE)
+Sys.setenv(RP_EXEC = good, PATH = paste(folder, old[["PATH"]], sep = ":"))
+stopifnot(rp_test(one, one)$garp, identical(rp_program(bad), bad), identical(rp_program("rp"), bad))
+caught(rp_test(one, one, exe = bad), "rp_failed")
+caught(rp_test(one, one, exe = file.path(folder, "not there")), "rp_no_program")
+caught(rp_test(one, one, exe = folder), "rp_no_program")
+Sys.setenv(RP_EXEC = file.path(folder, "not there"))
+caught(rp_test(one, one), "rp_no_program")
+Sys.unsetenv("RP_EXEC")
+stopifnot(identical(rp_program(), bad))
+Sys.setenv(PATH = file.path(folder, "nothing"))
+caught(rp_test(one, one), "rp_no_program")
+stopifnot(is.null(rp_program(must = FALSE)))
+Sys.setenv(PATH = old[["PATH"]])
+if (nzchar(old[["RP_EXEC"]])) Sys.setenv(RP_EXEC = old[["RP_EXEC"]])

@@ -1,0 +1,37 @@
+-- What the form of a command says (this program's own words): its name, its files and its numbers in the order of the words, and its
+-- options. What `clap` is told, the usage text, the words of a line and what its matches name follow from it.
+use Rattle.std.specs.Prelude.{ℕ, Bool, false, List, [], codes}
+use Rattle.clap.specs.Walk.{Text}
+
+-- a number from least to most
+pub record Number : Type 0 where
+  pub name : Text
+  pub least : ℕ
+  pub most : ℕ
+
+pub record Form : Type 0 where
+  pub name : Text
+  pub files : List Text
+  pub numbers : List Number
+  -- whether it takes `--per N`, which asks for so many units on each budget
+  pub per : Bool
+  -- whether it takes `--json`, which asks for a certificate
+  pub json : Bool
+
+-- the state that a generator starts from, and how many observations and goods a trial table has
+abbrev pub seed : Number
+seed = record { name = codes "SEED"; least = 0; most = 18446744073709551615 }
+
+abbrev pub rows : Number
+rows = record { name = codes "ROWS"; least = 1; most = 256 }
+
+abbrev pub goods : Number
+goods = record { name = codes "GOODS"; least = 1; most = 16 }
+
+-- how many units there are on each budget
+abbrev pub units : Number
+units = record { name = codes "per"; least = 1; most = 1000000000 }
+
+-- a form with files alone
+abbrev pub form_over_files : Text → List Text → Form
+form_over_files name files = record { name = name; files = files; numbers = []; per = false; json = false }
