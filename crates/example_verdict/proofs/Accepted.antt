@@ -1,5 +1,5 @@
 -- The checker accepts the certificate of the three verdicts: none of its items fails.
-use Rattle.std.proofs.Common.{◌≡◌, ◌<◌, ℕ, zero, suc, arith, subst, sym}
+use Rattle.std.proofs.Common.{◌≡◌, zero, suc, arith, subst, sym}
 use Rattle.rp_afriat.proofs.SameVerdicts.{verdict_same as afriat_verdict_same}
 use Rattle.rp_afriat.specs.Verdict.{IsAfriatVerdict}
 use Rattle.rp_agreement.proofs.Accepted.{afriat_passes, efficiency_passes, garp_passes}

@@ -4,8 +4,8 @@
 mod certificate;
 mod example;
 
-ghost use Rattle.std.specs.Prelude.{IfOk};
-ghost use Rattle.example_verdict.specs.Answered.{IsAnswerOn};
+ghost use Rattle.std.specs.Prelude.{◌≡◌, IfOk};
+ghost use Rattle.example_verdict.specs.Answered.{IsAnswerOn, verdict_line};
 ghost use Rattle.example_verdict.specs.Purchases.{purchases};
 
 use certificate::certify;
@@ -35,9 +35,16 @@ fn answer(alloc: Global) -> Result<Vec<u8>, NoMemory>
     let costs = Costs::of(alloc, &table)?;
     let made = certify(alloc, &table, &costs)?;
     let mut text = report(alloc, &made.certificate, &table)?;
-    match made.verdict {
-        Verdict::Accepted => text.extend_from_slice(b"accepted\n")?,
-        Verdict::Rejected { .. } => text.extend_from_slice(b"rejected\n")?,
-    }
+    text.extend_from_slice(line_of(made.verdict))?;
     Ok(text)
+}
+
+/// The line of the checker's verdict.
+fn line_of(verdict: Verdict) -> &'static [u8]
+    ensures { result.now ≡ verdict_line verdict }
+{
+    match verdict {
+        Verdict::Accepted => b"accepted\n",
+        Verdict::Rejected { .. } => b"rejected\n",
+    }
 }
