@@ -91,8 +91,8 @@ big_texts <- function(x, digits) {
   if (!requireNamespace("gmp", quietly = TRUE)) bad_data("numbers of gmp need that package")
   texts <- as.character(x)
   texts[is.na(texts) | texts == "NA"] <- ""
-  fractions <- grepl("/", texts, fixed = TRUE)
-  texts[fractions] <- vapply(strsplit(texts[fractions], "/", fixed = TRUE), function(it) {
+  are_fractions <- grepl("/", texts, fixed = TRUE)
+  texts[are_fractions] <- vapply(strsplit(texts[are_fractions], "/", fixed = TRUE), function(it) {
     # Twenty places: those past the sixth are either all 0, or they are refused, as a third is.
     decimal <- decimal_of(sub("^-", "", it[1]), it[2], if (is.null(digits)) 20L else digits + 20L)
     if (!is.null(digits)) decimal <- plain_decimal(decimal, digits)
