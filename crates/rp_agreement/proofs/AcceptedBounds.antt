@@ -3,7 +3,7 @@ use Rattle.std.proofs.Common.{◌<◌, ℕ, List, Bool, IsTrue, Ok, arith, refl,
 use Rattle.rp_agreement.specs.Given.{AreNewPrices, IsNewExpenditure}
 use Rattle.rp_check.specs.DemandFailure.{BoundHolds, DemandBoundsFail, DemandFails}
 use Rattle.rp_check.specs.ItemFailure.{shows_garp}
-use Rattle.rp_check.specs.PricesFailure.{PricesFail}
+use Rattle.rp_clauses.specs.PricesFailure.{PricesFail}
 use Rattle.rp_check.specs.WelfareFailure.{LowerHolds, WelfareFails}
 use Rattle.rp_evidence.specs.Demand.{NewBudget}
 use Rattle.rp_evidence.specs.DemandEvidence.{ProvesDemand, ProvesDemandBounds, ProvesWelfare, budget_of, bundle_of}
