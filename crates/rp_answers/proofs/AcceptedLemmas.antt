@@ -18,7 +18,7 @@ use Rattle.rp_homo.specs.Verdict.{IsHomotheticVerdict}
 use Rattle.rp_quasi.specs.Verdict.{IsQuasilinearVerdict}
 use Rattle.rp_answers.specs.Accepted.{PassesAfter}
 use Rattle.rp_answers.specs.Analysis.{certificate_of}
-use Rattle.rp_answers.specs.AskedItems.{AreAnswered}
+use Rattle.rp_answers.specs.GarpFirst.{AreAnswered}
 use Rattle.rp_answers.specs.UtilityText.{first_items}
 use Rattle.rp_agreement.proofs.Accepted.{afriat_passes, efficiency_passes, garp_passes, homothetic_passes, quasilinear_passes}
 
@@ -51,9 +51,9 @@ module _ (input : TableInput) (garp : Garp) (proves : Proves input (GarpItem gar
       not_true e = let wrong : false ≡ true = e in cc
 
   -- the verdict on the axiom, and then items that pass after it
-  pub asked_accepted : (count : ℕ) (P : ℕ → Item → Type 0) (others : List Item) → AreAnswered count P others → ((k : ℕ) (item : Item) → P k item → PassesAfter input garp item)
+  pub garp_first_accepted : (count : ℕ) (P : ℕ → Item → Type 0) (others : List Item) → AreAnswered count P others → ((k : ℕ) (item : Item) → P k item → PassesAfter input garp item)
       → IsVerdictOn input (GarpItem garp ∷ others) Accepted
-  asked_accepted count P others answered passes zero k_in other = garp_passes input.n input.cost 1 1 garp proves
-  asked_accepted count P others answered passes (suc k) k_in other =
+  garp_first_accepted count P others answered passes zero k_in other = garp_passes input.n input.cost 1 1 garp proves
+  garp_first_accepted count P others answered passes (suc k) k_in other =
       passes k (slice_index_or others k other) (answered.each k other (omega (arith, k_in, answered.one_each)))
       (shows_garp (GarpItem garp) || one_shows_garp (take k others)) (or_first (shows_garp (GarpItem garp)) (one_shows_garp (take k others)))

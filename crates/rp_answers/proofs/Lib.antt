@@ -1,6 +1,6 @@
 pub mod AcceptedLemmas
-pub mod AskedLemmas
-pub mod AskedRecords
+pub mod BoundItems
+pub mod GarpFirstLemmas
 pub mod ReadBackLemmas
 pub mod TrialLemmas
 pub mod UtilityLemmas

@@ -14,14 +14,14 @@ use Rattle.rp_table.specs.Cost.{cost_of}
 use Rattle.rp_agreement.specs.ReadBack.{IsReadBack}
 use Rattle.rp_agreement.proofs.SameValues.{text_read_back}
 use Rattle.rp_agreement.proofs.TestsFit.{garp_fits}
-use Rattle.rp_answers.specs.AskedItems.{AreAnswered, begun_with}
+use Rattle.rp_answers.specs.GarpFirst.{AreAnswered, garp_first}
 
 module _ (table : Observations) (valid : IsTable table) (garp : Garp) (proves : Proves (input_of_table table) (GarpItem garp)) (given : IsGarpVerdict (records_of table) (cost_of table) garp) where
   -- the verdict on the axiom, and then items that can be read back
-  pub asked_read_back : (count : ℕ) (P : ℕ → Item → Type 0) (others : List Item) → AreAnswered count P others → ((k : ℕ) (item : Item) → P k item → FitsKind Table item)
-      → IsReadBack Table (begun_with garp others)
-  asked_read_back count P others answered fit =
-      text_read_back Table (begun_with garp others) (record {
+  pub garp_first_read_back : (count : ℕ) (P : ℕ → Item → Type 0) (others : List Item) → AreAnswered count P others → ((k : ℕ) (item : Item) → P k item → FitsKind Table item)
+      → IsReadBack Table (garp_first garp others)
+  garp_first_read_back count P others answered fit =
+      text_read_back Table (garp_first garp others) (record {
         of_kind = refl;
         version = refl;
         items = all_more (FitsKind Table) (GarpItem garp) others (tt, garp_fits (records_of table) (cost_of table) valid.few_records garp proves given)

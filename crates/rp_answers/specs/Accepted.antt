@@ -15,4 +15,5 @@ IsAcceptedOn input certificate = IsVerdictOn input certificate.items Accepted
 
 -- it finds nothing wrong with an item that comes after this verdict on the axiom
 abbrev pub PassesAfter : TableInput → Garp → Item → Type 0
-PassesAfter input garp item = (shown : Bool) → (IsTrue (shows_garp (GarpItem garp)) → IsTrue shown) → ItemFails input shown item (Ok tt)
+PassesAfter input garp item =
+    (before : Bool) → (IsTrue (shows_garp (GarpItem garp)) → IsTrue before) → ItemFails input before item (Ok tt)

@@ -19,7 +19,7 @@ use Rattle.rp_homo.specs.Verdict.{IsHomotheticVerdict}
 use Rattle.rp_quasi.specs.Verdict.{IsQuasilinearVerdict}
 use Rattle.rp_agreement.specs.ReadBack.{IsReadBack}
 use Rattle.rp_answers.specs.Accepted.{IsAcceptedOn}
-use Rattle.rp_answers.specs.ShownText.{shown_text}
+use Rattle.rp_answers.specs.ReportOrJson.{report_or_json}
 
 -- the certificate of a table with these five items
 abbrev pub certificate_of : Garp → AfriatPart → Efficiency → Homothetic → Quasi → Certificate
@@ -55,4 +55,4 @@ pub record IsAnalysis (input : TableInput) (certificate : Certificate) : Type 0 
 -- the text is that of such a certificate
 abbrev pub IsAnalysisText : Bool → Observations → List ℕ → Type 0
 IsAnalysisText json table text =
-    (certificate : Certificate) × IsAnalysis (input_of_table table) certificate × (text ≡ shown_text json table certificate)
+    (certificate : Certificate) × IsAnalysis (input_of_table table) certificate × (text ≡ report_or_json json table certificate)

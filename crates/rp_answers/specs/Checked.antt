@@ -1,6 +1,6 @@
--- What `check` and `checkrandom` print: the line of the checker's verdict on a certificate (this program's own text), and what an accepted
--- certificate shows.
-use Rattle.std.specs.Prelude.{◌≡◌, ◌++◌, ◌-◌, ◌^◌, ℕ, List, All, [], ◌∷◌, codes, length, min, sum_by}
+-- What `check` and `checkrandom` print: a line on what the checker says of a certificate (this program's own text), and
+-- what an accepted certificate shows.
+use Rattle.std.specs.Prelude.{◌≡◌, ◌++◌, ◌-◌, ◌^◌, ℕ, List, All, codes, length, min, sum_by}
 use Rattle.std.specs.Fmt.{decimal}
 use Rattle.rp_table.specs.Tables.{Observations}
 use Rattle.rp_check.specs.CheckVerdict.{IsVerdictOn}
@@ -16,6 +16,7 @@ use Rattle.rp_evidence.specs.declared.failure.Reason.{Reason}
 use Rattle.rp_evidence.specs.declared.failure.Reason.TheVariants as reason
 use Rattle.rp_patch.specs.Patches.{PatchList}
 use Rattle.rp_patch.specs.RandomEvidence.{ProvesOnPatches}
+use Rattle.rp_print.specs.ListText.{line_of}
 use Rattle.rp_answers.specs.declared.status.Status.{Status}
 use Rattle.rp_answers.specs.declared.status.Status.TheVariants as status
 
@@ -42,30 +43,38 @@ reason_name reason.Irrational = codes "Irrational"
 abbrev pub withheld_of : List Item → ℕ
 withheld_of items = min (sum_by withheld_in items) (2 ^ 32 - 1)
 
--- the line of a verdict on these items
-abbrev pub verdict_line : List Item → Verdict → List ℕ
-verdict_line items Accepted = codes "accepted items " ++ decimal (length items) ++ codes " withheld " ++ decimal (withheld_of items) ++ 10 ∷ []
-verdict_line items (Rejected item reason place) =
-    codes "rejected item " ++ decimal item ++ 32 ∷ reason_name reason ++ codes " place " ++ decimal place ++ 10 ∷ []
+-- the line on items that are accepted
+abbrev pub accepted_line : List Item → List ℕ
+accepted_line items = line_of (codes "accepted items " ++ decimal (length items) ++ codes " withheld " ++ decimal (withheld_of items))
 
--- the status of a call that tells this verdict
-abbrev pub verdict_status : Verdict → Status
-verdict_status Accepted = status.Done
-verdict_status (Rejected item reason place) = status.Rejected
+-- the line on the item that is rejected
+abbrev pub rejected_line : ℕ → Reason → ℕ → List ℕ
+rejected_line item reason place =
+    line_of (codes "rejected item " ++ decimal item ++ codes " " ++ reason_name reason ++ codes " place " ++ decimal place)
 
--- the status and the text are those of the checker's verdict on a certificate on a table; where it is accepted, each of its items
--- proves its verdict
+-- the line on what the checker says of these items
+abbrev pub check_line : List Item → Verdict → List ℕ
+check_line items Accepted = accepted_line items
+check_line items (Rejected item reason place) = rejected_line item reason place
+
+-- the status of a call that tells it
+abbrev pub check_status : Verdict → Status
+check_status Accepted = status.Done
+check_status (Rejected item reason place) = status.Rejected
+
+-- the status and the text are those of what the checker says of a certificate on a table; where it is accepted, each of its
+-- items proves its verdict
 pub record IsTableCheck (table : Observations) (certificate : Certificate) (s : Status) (text : List ℕ) : Type 0 where
   pub verdict : Verdict
   pub found : IsVerdictOn (input_of_table table) certificate.items verdict
   pub proves : verdict ≡ Accepted → All (Proves (input_of_table table)) certificate.items
-  pub ends : s ≡ verdict_status verdict
-  pub tells : text ≡ verdict_line certificate.items verdict
+  pub ends : s ≡ check_status verdict
+  pub tells : text ≡ check_line certificate.items verdict
 
 -- the same on choices from budgets
 pub record IsRandomCheck (p : PatchList) (certificate : Certificate) (s : Status) (text : List ℕ) : Type 0 where
   pub verdict : Verdict
   pub found : IsRandomVerdictOn p certificate.items verdict
   pub proves : verdict ≡ Accepted → All (ProvesOnPatches p) certificate.items
-  pub ends : s ≡ verdict_status verdict
-  pub tells : text ≡ verdict_line certificate.items verdict
+  pub ends : s ≡ check_status verdict
+  pub tells : text ≡ check_line certificate.items verdict

@@ -16,28 +16,28 @@ use Rattle.rp_evidence.specs.declared.garp.Garp.{Garp}
 use Rattle.rp_support.specs.Verdict.{IsDemandGiven}
 use Rattle.rp_json.specs.Denoted.{FitsKind}
 use Rattle.rp_answers.specs.Accepted.{PassesAfter}
-use Rattle.rp_answers.specs.AskedItems.{IsAskedOf}
-use Rattle.rp_answers.specs.ShownText.{shown_text}
+use Rattle.rp_answers.specs.GarpFirst.{IsGarpFirst}
+use Rattle.rp_answers.specs.ReportOrJson.{report_or_json}
 
 -- the item on the budget at these prices with m: it proves its verdict, is as it is given under the verdict on the axiom,
 -- passes the checker, and can be read back
 pub record IsDemandItem (input : TableInput) (garp : Garp) (prices : List ℕ) (m : ℕ) (item : Item) : Type 0 where
-  pub part : DemandPart
-  pub on_budget : item ≡ Demand prices m part
+  pub evidence : DemandPart
+  pub on_budget : item ≡ Demand prices m evidence
   pub proves : Proves input item
-  pub given : IsDemandGiven input (budget_of prices m) garp part
+  pub given : IsDemandGiven input (budget_of prices m) garp evidence
   pub passes : PassesAfter input garp item
   pub readable : FitsKind Table item
 
 -- after the verdict on the axiom one item for each record of the new prices
 abbrev pub IsDemandCertificate : TableInput → PriceList → Certificate → Type 0
 IsDemandCertificate input new certificate =
-    IsAskedOf input (rows_count new.prices new.goods) (λ garp i. IsDemandItem input garp (row_of new.prices new.goods i) (slice_index new.m i)) certificate
+    IsGarpFirst input (rows_count new.prices new.goods) (λ garp i. IsDemandItem input garp (row_of new.prices new.goods i) (slice_index new.m i)) certificate
 
 -- the text is that of such a certificate
 abbrev pub IsDemandText : Bool → Observations → PriceList → List ℕ → Type 0
 IsDemandText json table new text =
-    (certificate : Certificate) × IsDemandCertificate (input_of_table table) new certificate × (text ≡ shown_text json table certificate)
+    (certificate : Certificate) × IsDemandCertificate (input_of_table table) new certificate × (text ≡ report_or_json json table certificate)
 
 -- the prices have the table's goods, and each record has an expenditure
 pub record IsSpentOn (table : Observations) (new : PriceList) : Type 0 where

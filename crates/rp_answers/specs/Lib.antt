@@ -1,11 +1,11 @@
 pub mod Accepted
 pub mod Analysis
-pub mod AskedItems
 pub mod Checked
 pub mod Demands
+pub mod GarpFirst
 pub mod PairsText
 pub mod Randoms
-pub mod ShownText
+pub mod ReportOrJson
 pub mod StatusNumbers
 pub mod TrialTable
 pub mod TrialText

@@ -1,14 +1,14 @@
 -- The line of the command `pairs` (this program's own text).
-use Rattle.std.specs.Prelude.{◌≡◌, ℕ, ◌+◌, List, [], ◌∷◌, ◌++◌, Option, Some, None, codes}
-use Rattle.std.specs.Fmt.{decimal}
+use Rattle.std.specs.Prelude.{◌≡◌, ℕ, List, [], ◌∷◌, ◌++◌, Option, Some, None, codes}
 use Rattle.rp_table.specs.Tables.{Observations, records_of}
 use Rattle.rp_table.specs.Cost.{cost_of}
 use Rattle.rp_garp.specs.Pairs.{IsPairs}
+use Rattle.rp_print.specs.ListText.{line_of, ordinals_text}
 
 -- `pair S T`, with the observations counted from 1, or `pair none`
 abbrev pub pairs_line : Option (ℕ × ℕ) → List ℕ
-pairs_line None = codes "pair none" ++ 10 ∷ []
-pairs_line (Some p) = codes "pair " ++ decimal (p.0 + 1) ++ codes " " ++ decimal (p.1 + 1) ++ 10 ∷ []
+pairs_line None = line_of (codes "pair none")
+pairs_line (Some p) = line_of (codes "pair " ++ ordinals_text (p.0 ∷ p.1 ∷ []))
 
 -- the text names the first two observations of the table that contradict each other, or none where there are none
 abbrev pub IsPairsText : Observations → List ℕ → Type 0

@@ -14,16 +14,16 @@ use Rattle.rp_report.specs.RandomText.{random_report_text}
 use Rattle.rp_answers.specs.Typed.{TypedPatches}
 
 -- the one item proves its verdict and is as it is given, the checker accepts it, and the text of the certificate is read back as the same
-pub record IsRandomAnswer (given : TypedPatches) (certificate : Certificate) : Type 0 where
-  pub part : RandomPart
-  pub item : certificate ≡ random_certificate given.patches.total part
-  pub proves : ProvesRandom given.patches given.patches.total part
-  pub given_so : IsRandomVerdict given.patches given.types part
-  pub accepted : IsRandomVerdictOn given.patches certificate.items Accepted
+pub record IsRandomAnswer (choices : TypedPatches) (certificate : Certificate) : Type 0 where
+  pub evidence : RandomPart
+  pub item : certificate ≡ random_certificate choices.patches.total evidence
+  pub proves : ProvesRandom choices.patches choices.patches.total evidence
+  pub given : IsRandomVerdict choices.patches choices.types evidence
+  pub accepted : IsRandomVerdictOn choices.patches certificate.items Accepted
   pub read_back : IsReadBack RandomKind certificate
 
 -- the text is that of such a certificate
 abbrev pub IsRandomText : Bool → TypedPatches → List ℕ → Type 0
-IsRandomText json given text =
-    (certificate : Certificate) × IsRandomAnswer given certificate
-    × (text ≡ (if json then certificate_text certificate else random_report_text given.patches (length given.types) certificate.items))
+IsRandomText json choices text =
+    (certificate : Certificate) × IsRandomAnswer choices certificate
+    × (text ≡ (if json then certificate_text certificate else random_report_text choices.patches (length choices.types) certificate.items))

@@ -18,7 +18,7 @@ use Rattle.rp_garp.specs.Verdict.{IsGarpVerdict}
 use Rattle.rp_homo.specs.Verdict.{IsHomotheticVerdict}
 use Rattle.rp_quasi.specs.Verdict.{IsQuasilinearVerdict}
 use Rattle.rp_report.specs.EfficiencyText.{index_text}
-use Rattle.rp_report.specs.ListText.{line_of}
+use Rattle.rp_print.specs.ListText.{line_of}
 use Rattle.rp_table.specs.Cost.{cost_of}
 use Rattle.rp_table.specs.Tables.{Observations, records_of}
 use Rattle.rp_answers.specs.TrialTable.{trial_of}

@@ -12,9 +12,9 @@ pub record TypedPatches : Type 0 where
   pub types : List (List ℕ)
 
 -- these are all rational types of patches, within the limit
-pub record AreTyped (given : TypedPatches) : Type 0 where
-  pub all : AreRationalTypes given.patches given.types
-  pub few : length given.types ≤ TYPES
+pub record AreTyped (choices : TypedPatches) : Type 0 where
+  pub all : AreRationalTypes choices.patches choices.types
+  pub few : length choices.types ≤ TYPES
 
 -- patches with the types in a list
 abbrev pub typed : PatchList → List Rational → TypedPatches

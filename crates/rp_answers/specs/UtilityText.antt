@@ -1,7 +1,7 @@
 -- What `utility` prints: the report of the verdicts on the generalized axiom (Varian 1982) and by Afriat's theorem (Afriat 1967),
 -- and then for each bundle its utility under the numbers of that model.
-use Rattle.std.specs.Prelude.{◌≡◌, ℕ, zero, suc, ◌+◌, ℤ, List, [], ◌∷◌, ◌++◌, codes}
-use Rattle.std.specs.Fmt.{decimal, signed_decimal}
+use Rattle.std.specs.Prelude.{◌≡◌, ℕ, zero, suc, ℤ, List, [], ◌∷◌, ◌++◌, codes}
+use Rattle.std.specs.Fmt.{signed_decimal}
 use Rattle.rp_table.specs.BundleLists.{BundleList}
 use Rattle.rp_table.specs.Cost.{cost_of}
 use Rattle.rp_table.specs.Rows.{row_of, rows_count}
@@ -19,6 +19,7 @@ use Rattle.rp_evidence.specs.declared.garp.Garp.{Garp}
 use Rattle.rp_afriat.specs.Bundle.{bundle_cost}
 use Rattle.rp_afriat.specs.Verdict.{IsAfriatVerdict}
 use Rattle.rp_garp.specs.Verdict.{IsGarpVerdict}
+use Rattle.rp_print.specs.ListText.{line_of, ordinal_text}
 use Rattle.rp_report.specs.ReportText.{report_text}
 use Rattle.rp_answers.specs.Accepted.{IsAcceptedOn}
 
@@ -26,9 +27,9 @@ use Rattle.rp_answers.specs.Accepted.{IsAcceptedOn}
 abbrev pub first_items : Garp → AfriatPart → Certificate
 first_items garp afriat = record { kind = Table; version = 1; items = GarpItem garp ∷ AfriatItem afriat ∷ [] }
 
--- what is said at a bundle, which is counted from 1
+-- the line of bundle k, with these words
 abbrev pub at_line : ℕ → List ℕ → List ℕ
-at_line k said = codes "at " ++ decimal (k + 1) ++ said ++ 10 ∷ []
+at_line k words = line_of (codes "at " ++ ordinal_text k ++ words)
 
 -- the line of a bundle: its utility under the numbers of a model; `none` where no model exists; `withheld` where its numbers are
 abbrev pub IsUtilityLine : Observations → AfriatPart → ℕ → List ℕ → List ℕ → Type 0
@@ -41,10 +42,10 @@ IsUtilityLine table (Wide at) k bundle line = line ≡ at_line k (codes " withhe
 
 -- the lines of the first bundles, so many
 abbrev pub AreUtilityLines : Observations → AfriatPart → BundleList → ℕ → List ℕ → Type 0
-AreUtilityLines table part bundles zero text = text ≡ []
-AreUtilityLines table part bundles (suc k) text =
-    (before : List ℕ) × (line : List ℕ) × AreUtilityLines table part bundles k before
-    × IsUtilityLine table part k (row_of bundles.quantities bundles.goods k) line × (text ≡ before ++ line)
+AreUtilityLines table evidence bundles zero text = text ≡ []
+AreUtilityLines table evidence bundles (suc k) text =
+    (before : List ℕ) × (line : List ℕ) × AreUtilityLines table evidence bundles k before
+    × IsUtilityLine table evidence k (row_of bundles.quantities bundles.goods k) line × (text ≡ before ++ line)
 
 -- the text of a table and bundles: both verdicts are true and as they are given, the checker accepts their certificate, and each bundle has its line
 pub record IsUtilityText (table : Observations) (bundles : BundleList) (text : List ℕ) : Type 0 where

@@ -15,26 +15,26 @@ use Rattle.rp_evidence.specs.declared.garp.Garp.{Garp}
 use Rattle.rp_welfare.specs.Verdict.{IsWelfareVerdict}
 use Rattle.rp_json.specs.Denoted.{FitsKind}
 use Rattle.rp_answers.specs.Accepted.{PassesAfter}
-use Rattle.rp_answers.specs.AskedItems.{IsAskedOf}
-use Rattle.rp_answers.specs.ShownText.{shown_text}
+use Rattle.rp_answers.specs.GarpFirst.{IsGarpFirst}
+use Rattle.rp_answers.specs.ReportOrJson.{report_or_json}
 
 -- the item on observation t at these prices: it proves its verdict, is as it is given under the verdict on the axiom,
 -- passes the checker, and can be read back
 pub record IsWelfareItem (input : TableInput) (garp : Garp) (prices : List ℕ) (t : ℕ) (item : Item) : Type 0 where
-  pub part : WelfarePart
-  pub of_observation : item ≡ Welfare prices t part
+  pub evidence : WelfarePart
+  pub of_observation : item ≡ Welfare prices t evidence
   pub proves : Proves input item
-  pub given : IsWelfareVerdict input prices t garp part
+  pub given : IsWelfareVerdict input prices t garp evidence
   pub passes : PassesAfter input garp item
   pub readable : FitsKind Table item
 
 -- after the verdict on the axiom, for each record of the new prices, one item for each observation
 abbrev pub IsWelfareCertificate : TableInput → PriceList → Certificate → Type 0
 IsWelfareCertificate input new certificate =
-    IsAskedOf input (rows_count new.prices new.goods * input.n)
+    IsGarpFirst input (rows_count new.prices new.goods * input.n)
     (λ garp k. IsWelfareItem input garp (row_of new.prices new.goods (k / input.n)) (k % input.n)) certificate
 
 -- the text is that of such a certificate
 abbrev pub IsWelfareText : Bool → Observations → PriceList → List ℕ → Type 0
 IsWelfareText json table new text =
-    (certificate : Certificate) × IsWelfareCertificate (input_of_table table) new certificate × (text ≡ shown_text json table certificate)
+    (certificate : Certificate) × IsWelfareCertificate (input_of_table table) new certificate × (text ≡ report_or_json json table certificate)

@@ -3,7 +3,7 @@ ghost use Rattle.rp_evidence.specs.Input.{input_of_table};
 ghost use Rattle.rp_table.specs.Cost.{IsCostsOf};
 ghost use Rattle.rp_answers.specs.Analysis.{IsAnalysis, IsAnalysisText, certificate_of};
 
-use crate::shared::show;
+use crate::shared::report_or_json;
 use rp_afriat::afriat;
 use rp_effic::efficiency;
 use rp_evidence::{AfriatPart, Certificate, Efficiency, Garp, Homothetic, Item, Kind, Quasi};
@@ -25,7 +25,7 @@ pub fn analysis_text(
     ensures { IfOk result (λ text. IsAnalysisText json table.now text.items) }
 {
     let certificate = analyse(alloc, table, costs)?;
-    let text = show(alloc, &certificate, table, json)?;
+    let text = report_or_json(alloc, &certificate, table, json)?;
     Ok(text)
 }
 

@@ -1,19 +1,21 @@
-ghost use Rattle.std.specs.Prelude.{◌≡◌, IfOk};
+ghost use Rattle.std.specs.Prelude.{◌≡◌, ◌++◌, IfOk, OnOk};
 ghost use Rattle.rp_evidence.specs.Kinds.{IsCertificateOf};
 ghost use Rattle.rp_evidence.specs.declared.certificate.Kind.TheVariants.{Table as TableKind, Random as RandomKind};
 ghost use Rattle.rp_table.specs.Cost.{IsCostsOf};
-ghost use Rattle.rp_answers.specs.Checked.{IsRandomCheck, IsTableCheck, reason_name, verdict_line, verdict_status};
+ghost use Rattle.rp_answers.specs.Checked.{IsRandomCheck, IsTableCheck, accepted_line, check_line, check_status};
+ghost use Rattle.rp_answers.specs.Checked.{reason_name, rejected_line};
 
 use crate::answer::Answer;
 use crate::status::Status;
 use rp_check::{Reason, Verdict, check, check_random};
 use rp_evidence::{Certificate, withheld};
-use rp_num::{NoMemory, print_u128};
+use rp_num::NoMemory;
 use rp_patch::Patches;
+use rp_print::{LongNumber, Number, push_after};
 use rp_table::{Costs, Table};
 use std::alloc::Global;
 
-/// The checker's verdict on a certificate on a table.
+/// What the checker says of a certificate on a table.
 pub fn check_answer(
     alloc: Global,
     table: &Table,
@@ -25,15 +27,15 @@ pub fn check_answer(
     ensures { IfOk result (λ answer.
         IsTableCheck table.now certificate.now answer.status answer.text.items) }
 {
-    let verdict = check(table, costs, certificate);
-    let text = line_of_verdict(alloc, certificate, verdict)?;
+    let outcome = check(table, costs, certificate);
+    let text = check_line(alloc, certificate, outcome)?;
     Ok(Answer {
-        status: status_of(verdict),
+        status: status_of(outcome),
         text,
     })
 }
 
-/// The checker's verdict on a certificate on choices from budgets.
+/// What the checker says of a certificate on choices from budgets.
 pub fn check_random_answer(
     alloc: Global,
     patches: &Patches,
@@ -43,56 +45,75 @@ pub fn check_random_answer(
     ensures { IfOk result (λ answer.
         IsRandomCheck patches.now certificate.now answer.status answer.text.items) }
 {
-    let verdict = check_random(patches, certificate);
-    let text = line_of_verdict(alloc, certificate, verdict)?;
+    let outcome = check_random(patches, certificate);
+    let text = check_line(alloc, certificate, outcome)?;
     Ok(Answer {
-        status: status_of(verdict),
+        status: status_of(outcome),
         text,
     })
 }
 
-/// How a call ends that tells this verdict.
-fn status_of(verdict: Verdict) -> Status
-    ensures { result ≡ verdict_status verdict }
+/// How a call ends that tells this outcome.
+fn status_of(outcome: Verdict) -> Status
+    ensures { result ≡ check_status outcome }
 {
-    match verdict {
+    match outcome {
         Verdict::Accepted => Status::Done,
         Verdict::Rejected { .. } => Status::Rejected,
     }
 }
 
-/// The line of a verdict on a certificate.
-fn line_of_verdict(
+/// The line on what the checker says of a certificate.
+fn check_line(
     alloc: Global,
     certificate: &Certificate,
-    verdict: Verdict,
+    outcome: Verdict,
 ) -> Result<Vec<u8>, NoMemory>
-    ensures { IfOk result (λ text. text.items ≡ verdict_line certificate.now.items verdict) }
+    ensures { IfOk result (λ text. text.items ≡ check_line certificate.now.items outcome) }
 {
     let mut text = Vec::new(alloc);
-    match verdict {
-        Verdict::Accepted => {
-            text.extend_from_slice(b"accepted items ")?;
-            print_u128(alloc, &mut text, certificate.items.as_slice().len() as u128)?;
-            text.extend_from_slice(b" withheld ")?;
-            print_u128(alloc, &mut text, u128::from(withheld(certificate)))?;
-            text.extend_from_slice(b"\n")?;
-        }
+    match outcome {
+        Verdict::Accepted => push_accepted(alloc, &mut text, certificate)?,
         Verdict::Rejected {
             item,
             reason,
             place,
-        } => {
-            text.extend_from_slice(b"rejected item ")?;
-            print_u128(alloc, &mut text, u128::from(item))?;
-            text.extend_from_slice(b" ")?;
-            text.extend_from_slice(name_of(reason))?;
-            text.extend_from_slice(b" place ")?;
-            print_u128(alloc, &mut text, u128::from(place))?;
-            text.extend_from_slice(b"\n")?;
-        }
+        } => push_rejected(alloc, &mut text, item, reason, place)?,
     }
     Ok(text)
+}
+
+/// Appends the line on a certificate that is accepted.
+fn push_accepted(
+    alloc: Global,
+    out: &mut Vec<u8>,
+    certificate: &Certificate,
+) -> Result<(), NoMemory>
+    ensures { OnOk result (out.new.items ≡ out.old.items ++ accepted_line certificate.now.items) }
+{
+    let items = certificate.items.as_slice().len() as u64;
+    push_after::<LongNumber>(alloc, out, b"accepted items ", items)?;
+    push_after::<Number>(alloc, out, b" withheld ", withheld(certificate))?;
+    out.push(b'\n')?;
+    Ok(())
+}
+
+/// Appends the line on the item that is rejected, which is counted from 1, with the reason and the place.
+fn push_rejected(
+    alloc: Global,
+    out: &mut Vec<u8>,
+    item: u32,
+    reason: Reason,
+    place: u32,
+) -> Result<(), NoMemory>
+    ensures { OnOk result (out.new.items ≡ out.old.items ++ rejected_line item reason place) }
+{
+    push_after::<Number>(alloc, out, b"rejected item ", item)?;
+    out.push(b' ')?;
+    out.extend_from_slice(name_of(reason))?;
+    push_after::<Number>(alloc, out, b" place ", place)?;
+    out.push(b'\n')?;
+    Ok(())
 }
 
 fn name_of(reason: Reason) -> &'static [u8]

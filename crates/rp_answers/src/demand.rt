@@ -5,11 +5,11 @@ ghost use Rattle.rp_table.specs.Cost.{IsCostsOf, cost_at};
 ghost use Rattle.rp_table.specs.Rows.{row_of, rows_count};
 ghost use Rattle.rp_table.specs.Tables.{goods_of};
 ghost use Rattle.rp_table.specs.declared.TheConstants.{LARGEST, LARGEST_EXPENDITURE};
-ghost use Rattle.rp_answers.specs.AskedItems.{AreAnswered};
+ghost use Rattle.rp_answers.specs.GarpFirst.{AreAnswered};
 ghost use Rattle.rp_answers.specs.Demands.{IsDemandCertificate, IsDemandItem, IsDemandText};
 ghost use Rattle.rp_answers.specs.Demands.{IsSpentOn};
 
-use crate::shared::{certificate, show};
+use crate::shared::{garp_first, report_or_json};
 use rp_evidence::{Certificate, Garp, Item};
 use rp_garp::garp;
 use rp_num::{NoMemory, Seq};
@@ -30,7 +30,7 @@ pub fn demand_text(
     ensures { IfOk result (λ text. IsDemandText json table.now new.now text.items) }
 {
     let certificate = demand_certificate(alloc, table, costs, new)?;
-    let text = show(alloc, &certificate, table, json)?;
+    let text = report_or_json(alloc, &certificate, table, json)?;
     Ok(text)
 }
 
@@ -48,7 +48,7 @@ fn demand_certificate(
     prove!(table.n() >= 1);
     let garp = garp(alloc, costs)?;
     let others = demand_items(alloc, table, costs, &garp, new)?;
-    let made = certificate(garp, others)?;
+    let made = garp_first(garp, others)?;
     Ok(made)
 }
 
@@ -93,11 +93,11 @@ fn demand_item(
     ensures { IfOk result (IsDemandItem (input_of_table table.now) garp.now prices.now m) }
 {
     prove!(table.n() >= 1);
-    let part = demand(alloc, table, costs, garp, prices, m)?;
+    let evidence = demand(alloc, table, costs, garp, prices, m)?;
     let prices = Vec::from_slice(alloc, prices)?;
     Ok(Item::Demand {
         prices: Seq::from_vec(prices),
         m,
-        part,
+        part: evidence,
     })
 }

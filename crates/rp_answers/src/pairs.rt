@@ -3,7 +3,8 @@ ghost use Rattle.rp_table.specs.Cost.{IsCostsOf};
 ghost use Rattle.rp_answers.specs.PairsText.{IsPairsText, pairs_line};
 
 use rp_garp::pairs;
-use rp_num::{NoMemory, print_u128};
+use rp_num::NoMemory;
+use rp_print::{push_line, push_ordinals};
 use rp_table::{Costs, Table};
 use std::alloc::Global;
 
@@ -22,14 +23,8 @@ fn line_of_pair(alloc: Global, found: Option<(u32, u32)>) -> Result<Vec<u8>, NoM
 {
     let mut text = Vec::new(alloc);
     match found {
-        None => text.extend_from_slice(b"pair none\n")?,
-        Some((s, t)) => {
-            text.extend_from_slice(b"pair ")?;
-            print_u128(alloc, &mut text, u128::from(s) + 1)?;
-            text.extend_from_slice(b" ")?;
-            print_u128(alloc, &mut text, u128::from(t) + 1)?;
-            text.extend_from_slice(b"\n")?;
-        }
+        None => push_line(&mut text, b"pair none")?,
+        Some((s, t)) => push_ordinals(alloc, &mut text, b"pair ", &[s, t])?,
     }
     Ok(text)
 }

@@ -41,17 +41,20 @@ fn random_answer(
     ensures { IfOk result (IsRandomAnswer (typed patches.now types.now)) }
 {
     prove!(patches.budgets() >= 1);
-    let part = random(alloc, patches, types)?;
-    let made = certificate(alloc, patches.total(), part)?;
+    let evidence = random(alloc, patches, types)?;
+    let made = certificate(alloc, patches.total(), evidence)?;
     Ok(made)
 }
 
 /// The certificate with this one item.
-fn certificate(alloc: Global, total: u64, part: RandomPart) -> Result<Certificate, NoMemory>
-    ensures { IfOk result (λ made. made ≡ random_certificate total part) }
+fn certificate(alloc: Global, total: u64, evidence: RandomPart) -> Result<Certificate, NoMemory>
+    ensures { IfOk result (λ made. made ≡ random_certificate total evidence) }
 {
     let mut items = Vec::new(alloc);
-    items.push(Item::Random { total, part })?;
+    items.push(Item::Random {
+        total,
+        part: evidence,
+    })?;
     Ok(Certificate {
         kind: Kind::Random,
         version: 1,

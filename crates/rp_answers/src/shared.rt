@@ -1,9 +1,10 @@
-//! What the commands share: a certificate that begins with the verdict on the axiom, and its report or its JSON.
+//! What the commands share: a certificate that begins with the verdict on the axiom, and the report of a certificate or
+//! its JSON.
 
 ghost use Rattle.rp_evidence.specs.Kinds.{IsCertificateOf};
 ghost use Rattle.rp_evidence.specs.declared.certificate.Kind.TheVariants.{Table as TableKind};
-ghost use Rattle.rp_answers.specs.AskedItems.{begun_with};
-ghost use Rattle.rp_answers.specs.ShownText.{shown_text};
+ghost use Rattle.rp_answers.specs.GarpFirst.{garp_first};
+ghost use Rattle.rp_answers.specs.ReportOrJson.{report_or_json};
 ghost use Rattle.std.specs.Prelude.{IfOk, ◌≡◌};
 
 use rp_evidence::{Certificate, Garp, Item, Kind};
@@ -14,8 +15,8 @@ use rp_table::Table;
 use std::alloc::Global;
 
 /// The certificate with a verdict on the generalized axiom and then these items.
-pub(crate) fn certificate(garp: Garp, others: Vec<Item>) -> Result<Certificate, NoMemory>
-    ensures { IfOk result (λ made. made ≡ begun_with garp others.items) }
+pub(crate) fn garp_first(garp: Garp, others: Vec<Item>) -> Result<Certificate, NoMemory>
+    ensures { IfOk result (λ made. made ≡ garp_first garp others.items) }
 {
     let mut items = others;
     items.insert(0, Item::Garp(garp))?;
@@ -27,14 +28,14 @@ pub(crate) fn certificate(garp: Garp, others: Vec<Item>) -> Result<Certificate, 
 }
 
 /// The text of a certificate on a table: its report, or its JSON.
-pub(crate) fn show(
+pub(crate) fn report_or_json(
     alloc: Global,
     certificate: &Certificate,
     table: &Table,
     json: bool,
 ) -> Result<Vec<u8>, NoMemory>
     requires { IsCertificateOf TableKind certificate.now }
-    ensures { IfOk result (λ text. text.items ≡ shown_text json table.now certificate.now) }
+    ensures { IfOk result (λ text. text.items ≡ report_or_json json table.now certificate.now) }
 {
     if json {
         write(alloc, certificate)

@@ -1,5 +1,5 @@
 ghost use Rattle.std.specs.Prelude.{◌≡◌, ◌++◌, IfOk, OnOk};
-ghost use Rattle.rp_report.specs.ListText.{line_of};
+ghost use Rattle.rp_print.specs.ListText.{line_of};
 ghost use Rattle.rp_words.specs.Ranges.{IsTrialSize};
 ghost use Rattle.rp_answers.specs.TrialTable.{trial_of};
 ghost use Rattle.rp_answers.specs.TrialText.{AreVerdicts, IsTrialText, trial_head, verdict_lines};
@@ -10,7 +10,8 @@ use rp_effic::efficiency;
 use rp_evidence::{Efficiency, Garp, Homothetic, Quasi};
 use rp_garp::garp;
 use rp_homo::homothetic;
-use rp_num::{NoMemory, print_u128};
+use rp_num::NoMemory;
+use rp_print::{LongNumber, Number, push_after, push_line};
 use rp_quasi::quasilinear;
 use rp_report::push_index;
 use rp_table::{Costs, Table};
@@ -59,13 +60,11 @@ fn verdicts_on(alloc: Global, table: &Table) -> Result<Verdicts, NoMemory>
 fn head(alloc: Global, seed: u64, rows: u32, goods: u32) -> Result<Vec<u8>, NoMemory>
     ensures { IfOk result (λ line. line.items ≡ trial_head seed rows goods) }
 {
-    let mut line = Vec::from_slice(alloc, b"trial ")?;
-    print_u128(alloc, &mut line, u128::from(seed))?;
-    line.extend_from_slice(b" rows ")?;
-    print_u128(alloc, &mut line, u128::from(rows))?;
-    line.extend_from_slice(b" goods ")?;
-    print_u128(alloc, &mut line, u128::from(goods))?;
-    line.extend_from_slice(b"\n")?;
+    let mut line = Vec::new(alloc);
+    push_after::<LongNumber>(alloc, &mut line, b"trial ", seed)?;
+    push_after::<Number>(alloc, &mut line, b" rows ", rows)?;
+    push_after::<Number>(alloc, &mut line, b" goods ", goods)?;
+    line.push(b'\n')?;
     Ok(line)
 }
 
@@ -91,9 +90,7 @@ fn push_verdict(out: &mut Vec<u8>, test: &[u8], verdict: &[u8]) -> Result<(), No
     ensures { OnOk result (out.new.items ≡ out.old.items ++ line_of (test.now ++ verdict.now)) }
 {
     out.extend_from_slice(test)?;
-    out.extend_from_slice(verdict)?;
-    out.extend_from_slice(b"\n")?;
-    Ok(())
+    push_line(out, verdict)
 }
 
 fn garp_word(verdict: &Garp) -> &'static [u8]

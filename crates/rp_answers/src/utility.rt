@@ -11,7 +11,8 @@ ghost use Rattle.rp_answers.specs.UtilityText.{first_items};
 use rp_afriat::{afriat, utility_at};
 use rp_evidence::{AfriatPart, Certificate, Garp, Item, Kind};
 use rp_garp::garp;
-use rp_num::{NoMemory, Seq, print_i128, print_u128};
+use rp_num::{NoMemory, Seq};
+use rp_print::{Ordinal, Signed, push_after, push_line};
 use rp_report::report;
 use rp_table::{Bundles, Costs, Table};
 use std::alloc::Global;
@@ -55,18 +56,18 @@ fn utility_lines(
     alloc: Global,
     table: &Table,
     costs: &Costs,
-    part: &AfriatPart,
+    evidence: &AfriatPart,
     bundles: &Bundles,
 ) -> Result<Vec<u8>, NoMemory>
     requires of_table { IsCostsOf costs.now table.now }
     requires goods { bundles.now.goods ≡ goods_of table.now }
-    requires given { IsAfriatVerdict costs.now.n (cost_at costs.now) part.now }
-    ensures { IfOk result (λ text. AreUtilityLines table.now part.now bundles.now
+    requires given { IsAfriatVerdict costs.now.n (cost_at costs.now) evidence.now }
+    ensures { IfOk result (λ text. AreUtilityLines table.now evidence.now bundles.now
         (rows_count bundles.now.quantities bundles.now.goods) text.items) }
 {
     let mut text = Vec::new(alloc);
     for k in 0..bundles.count() {
-        let line = utility_line(alloc, table, costs, part, k, bundles.row(k))?;
+        let line = utility_line(alloc, table, costs, evidence, k, bundles.row(k))?;
         text.extend_from_slice(line.as_slice())?;
     }
     Ok(text)
@@ -77,24 +78,24 @@ fn utility_line(
     alloc: Global,
     table: &Table,
     costs: &Costs,
-    part: &AfriatPart,
+    evidence: &AfriatPart,
     k: u32,
     bundle: &[u32],
 ) -> Result<Vec<u8>, NoMemory>
     requires of_table { IsCostsOf costs.now table.now }
-    requires given { IsAfriatVerdict costs.now.n (cost_at costs.now) part.now }
+    requires given { IsAfriatVerdict costs.now.n (cost_at costs.now) evidence.now }
     requires goods { length bundle.now ≡ goods_of table.now }
     requires limits { All (λ q. q ≤ LARGEST) bundle.now }
-    ensures { IfOk result (λ line. IsUtilityLine table.now part.now k bundle.now line.items) }
+    ensures { IfOk result (λ line. IsUtilityLine table.now evidence.now k bundle.now line.items) }
 {
-    match part {
+    match evidence {
         AfriatPart::Model(numbers) => {
             let value = utility_at(table, costs, numbers, bundle);
             let line = value_line(alloc, k, value)?;
             Ok(line)
         }
-        AfriatPart::NoModel(_) => said_line(alloc, k, b" none"),
-        AfriatPart::Wide { .. } => said_line(alloc, k, b" withheld"),
+        AfriatPart::NoModel(_) => word_line(alloc, k, b" none"),
+        AfriatPart::Wide { .. } => word_line(alloc, k, b" withheld"),
     }
 }
 
@@ -103,18 +104,19 @@ fn value_line(alloc: Global, k: u32, value: i128) -> Result<Vec<u8>, NoMemory>
     ensures { IfOk result (λ line. line.items
         ≡ at_line k (codes " value " ++ signed_decimal value)) }
 {
-    let mut said = Vec::from_slice(alloc, b" value ")?;
-    print_i128(alloc, &mut said, value)?;
-    said_line(alloc, k, said.as_slice())
+    let mut line = Vec::new(alloc);
+    push_after::<Ordinal>(alloc, &mut line, b"at ", k)?;
+    push_after::<Signed>(alloc, &mut line, b" value ", value)?;
+    line.push(b'\n')?;
+    Ok(line)
 }
 
-/// What is said at a bundle, which is counted from 1.
-fn said_line(alloc: Global, k: u32, said: &[u8]) -> Result<Vec<u8>, NoMemory>
-    ensures { IfOk result (λ line. line.items ≡ at_line k said.now) }
+/// A word at a bundle, which is counted from 1.
+fn word_line(alloc: Global, k: u32, word: &[u8]) -> Result<Vec<u8>, NoMemory>
+    ensures { IfOk result (λ line. line.items ≡ at_line k word.now) }
 {
-    let mut line = Vec::from_slice(alloc, b"at ")?;
-    print_u128(alloc, &mut line, u128::from(k) + 1)?;
-    line.extend_from_slice(said)?;
-    line.extend_from_slice(b"\n")?;
+    let mut line = Vec::new(alloc);
+    push_after::<Ordinal>(alloc, &mut line, b"at ", k)?;
+    push_line(&mut line, word)?;
     Ok(line)
 }

@@ -7,10 +7,10 @@ ghost use Rattle.rp_table.specs.Cost.{IsCostsOf, cost_at};
 ghost use Rattle.rp_table.specs.Rows.{row_of, rows_count};
 ghost use Rattle.rp_table.specs.Tables.{goods_of, records_of};
 ghost use Rattle.rp_table.specs.declared.TheConstants.{LARGEST};
-ghost use Rattle.rp_answers.specs.AskedItems.{AreAnswered};
+ghost use Rattle.rp_answers.specs.GarpFirst.{AreAnswered};
 ghost use Rattle.rp_answers.specs.Welfares.{IsWelfareCertificate, IsWelfareItem, IsWelfareText};
 
-use crate::shared::{certificate, show};
+use crate::shared::{garp_first, report_or_json};
 use rp_evidence::{Certificate, Garp, Item, Level};
 use rp_garp::garp;
 use rp_num::{NoMemory, Seq};
@@ -32,7 +32,7 @@ pub fn welfare_text(
     ensures { IfOk result (λ text. IsWelfareText json table.now new.now text.items) }
 {
     let certificate = welfare_certificate(alloc, table, costs, new)?;
-    let text = show(alloc, &certificate, table, json)?;
+    let text = report_or_json(alloc, &certificate, table, json)?;
     Ok(text)
 }
 
@@ -51,7 +51,7 @@ fn welfare_certificate(
     let garp = garp(alloc, costs)?;
     let closure = Closure::of(alloc, costs, Level { num: 1, den: 1 }, Steps::Weak)?;
     let others = welfare_items(alloc, table, costs, &garp, &closure, new)?;
-    let made = certificate(garp, others)?;
+    let made = garp_first(garp, others)?;
     Ok(made)
 }
 
@@ -102,11 +102,11 @@ fn welfare_item(
     ensures { IfOk result (IsWelfareItem (input_of_table table.now) garp.now prices.now t) }
 {
     prove!(table.n() >= 1);
-    let part = welfare_by_closure(alloc, table, costs, garp, closure, prices, t)?;
+    let evidence = welfare_by_closure(alloc, table, costs, garp, closure, prices, t)?;
     let prices = Vec::from_slice(alloc, prices)?;
     Ok(Item::Welfare {
         prices: Seq::from_vec(prices),
         of: t,
-        part,
+        part: evidence,
     })
 }

@@ -1,5 +1,3 @@
-pub mod Euclid
 mod Goods
-pub mod Texts
-mod Weighing
-mod Worked
+mod RandomExamples
+mod UnitsWeight

@@ -5,9 +5,9 @@ use Rattle.rp_evidence.specs.declared.efficiency.Efficiency.{Efficiency}
 use Rattle.rp_evidence.specs.declared.garp.Garp.{Garp}
 use Rattle.rp_evidence.specs.declared.garp.Garp.TheVariants.{Ranks, Cycle}
 use Rattle.rp_evidence.specs.declared.level.Level.{Level}
-use Rattle.rp_report.specs.ListText.{line_of, numbers_text, observations_text}
+use Rattle.rp_print.specs.ListText.{line_of, numbers_text, ordinals_text}
 
--- a level with its parts as they stand
+-- a level with its numerator and its denominator as they stand
 abbrev pub level_text : Level → List ℕ
 level_text level = fraction_text (record { num = level.num; den = level.den })
 
@@ -19,11 +19,11 @@ attained_text (Cycle cycle) = codes "no"
 -- the evidence at the index
 abbrev pub at_text : Garp → List ℕ
 at_text (Ranks ranks) = line_of (codes "at ranks " ++ numbers_text ranks)
-at_text (Cycle cycle) = line_of (codes "at cycle " ++ observations_text cycle)
+at_text (Cycle cycle) = line_of (codes "at cycle " ++ ordinals_text cycle)
 
--- the evidence above a level whose parts differ
+-- the evidence above a level, where it is not 1
 abbrev pub above_text : Level → List ℕ → List ℕ
-above_text level walk = if level.num == level.den then [] else line_of (codes "above " ++ observations_text walk)
+above_text level walk = if level.num == level.den then [] else line_of (codes "above " ++ ordinals_text walk)
 
 -- the line of the efficiency index and of whether it is attained
 abbrev pub index_text : Efficiency → List ℕ

@@ -4,12 +4,12 @@ use Rattle.std.specs.Fmt.{decimal}
 use Rattle.rp_num.specs.Fraction.{fraction_text}
 use Rattle.rp_evidence.specs.declared.homothetic.Homothetic.{Homothetic}
 use Rattle.rp_evidence.specs.declared.homothetic.Homothetic.TheVariants.{Values, Cycle, Withheld}
-use Rattle.rp_report.specs.ListText.{fractions_text, line_of, observation_text, observations_text}
+use Rattle.rp_print.specs.ListText.{fractions_text, line_of, ordinal_text, ordinals_text}
 
 -- a verdict of the homothetic test
 abbrev pub homothetic_text : Homothetic → List ℕ
 homothetic_text (Values values) = line_of (codes "homothetic holds") ++ line_of (codes "values " ++ fractions_text values)
 homothetic_text (Cycle start cycle) = line_of (codes "homothetic violated") ++ line_of (codes "start " ++ fraction_text start)
-    ++ line_of (codes "cycle " ++ observations_text cycle)
-homothetic_text (Withheld steps from to) = line_of (codes "homothetic withheld steps " ++ decimal steps ++ codes " from " ++ observation_text from
-    ++ codes " to " ++ observation_text to)
+    ++ line_of (codes "cycle " ++ ordinals_text cycle)
+homothetic_text (Withheld steps from to) = line_of (codes "homothetic withheld steps " ++ decimal steps ++ codes " from " ++ ordinal_text from
+    ++ codes " to " ++ ordinal_text to)

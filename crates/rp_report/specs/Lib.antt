@@ -1,11 +1,9 @@
-pub mod EfficiencyText
 pub mod AfriatText
-pub mod BoundText
 pub mod DemandText
+pub mod EfficiencyText
 pub mod GarpText
 pub mod HomotheticText
-pub mod ListText
-pub mod LowestTerms
 pub mod QuasilinearText
 pub mod RandomText
 pub mod ReportText
+pub mod WelfareText

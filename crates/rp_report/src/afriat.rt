@@ -1,30 +1,28 @@
 ghost use Rattle.std.specs.Prelude.{◌≡◌, ◌++◌, OnOk, codes};
 ghost use Rattle.rp_report.specs.AfriatText.{afriat_text};
-ghost use Rattle.rp_report.specs.ListText.{line_of, numbers_text, observation_text, sums_text};
+ghost use Rattle.rp_print.specs.ListText.{line_of, numbers_text, ordinal_text, sums_text};
 
-use crate::lists::{
-    Observation, push_after, push_line, push_long_numbers, push_observations, push_sums,
-};
 use rp_evidence::{AfriatPart, Numbers};
 use rp_num::NoMemory;
+use rp_print::{Ordinal, push_after, push_line, push_long_numbers, push_ordinals, push_sums};
 use std::alloc::Global;
 
 /// Appends the lines of evidence by Afriat's theorem.
 pub(crate) fn push_afriat(
     alloc: Global,
     out: &mut Vec<u8>,
-    part: &AfriatPart,
+    evidence: &AfriatPart,
 ) -> Result<(), NoMemory>
-    ensures { OnOk result (out.new.items ≡ out.old.items ++ afriat_text part.now) }
+    ensures { OnOk result (out.new.items ≡ out.old.items ++ afriat_text evidence.now) }
 {
-    match part {
+    match evidence {
         AfriatPart::Model(numbers) => {
             push_line(out, b"afriat model")?;
             push_model(alloc, out, numbers)
         }
         AfriatPart::NoModel(cycle) => {
             push_line(out, b"afriat none")?;
-            push_observations(alloc, out, b"cycle ", cycle.as_slice())
+            push_ordinals(alloc, out, b"cycle ", cycle.as_slice())
         }
         AfriatPart::Wide { at } => push_withheld(alloc, out, *at),
     }
@@ -40,13 +38,13 @@ fn push_model(alloc: Global, out: &mut Vec<u8>, numbers: &Numbers) -> Result<(),
     push_long_numbers(alloc, out, b"lambda ", numbers.lambda.as_slice())
 }
 
-/// Appends the line on numbers that are withheld. Observations are counted from 1.
+/// Appends the line on numbers that are withheld. Ordinals are counted from 1.
 fn push_withheld(alloc: Global, out: &mut Vec<u8>, at: u32) -> Result<(), NoMemory>
     ensures { OnOk result (
         out.new.items ≡ out.old.items
-        ++ line_of (codes "afriat withheld at " ++ observation_text at)) }
+        ++ line_of (codes "afriat withheld at " ++ ordinal_text at)) }
 {
-    push_after::<Observation>(alloc, out, b"afriat withheld at ", at)?;
+    push_after::<Ordinal>(alloc, out, b"afriat withheld at ", at)?;
     out.push(b'\n')?;
     Ok(())
 }

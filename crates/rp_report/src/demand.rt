@@ -1,13 +1,15 @@
 ghost use Rattle.std.specs.Prelude.{◌≡◌, ◌+◌, ◌++◌, OnOk, codes};
 ghost use Rattle.std.specs.Fmt.{decimal};
-ghost use Rattle.rp_report.specs.BoundText.{bound_text};
+ghost use Rattle.rp_print.specs.BoundText.{bound_text};
 ghost use Rattle.rp_report.specs.DemandText.{budget_line, demand_text, good_text, goods_text, inner_line};
-ghost use Rattle.rp_report.specs.ListText.{line_of};
+ghost use Rattle.rp_print.specs.ListText.{line_of};
 
-use crate::bounds::{push_bound, push_pair_line};
-use crate::lists::{LongNumber, Number, push_after, push_line, push_list, push_observations};
 use rp_evidence::{DemandPart, GoodBounds, Point};
 use rp_num::{NoMemory, print_u128};
+use rp_print::{
+    LongNumber, Number, push_after, push_bound, push_line, push_list, push_numbers_over,
+    push_ordinals, push_pair_line,
+};
 use std::alloc::Global;
 
 /// Appends the lines of demand at new prices.
@@ -16,26 +18,26 @@ pub(crate) fn push_demand(
     out: &mut Vec<u8>,
     prices: &[u32],
     m: u64,
-    part: &DemandPart,
+    evidence: &DemandPart,
 ) -> Result<(), NoMemory>
-    ensures { OnOk result (out.new.items ≡ out.old.items ++ demand_text prices.now m part.now) }
+    ensures { OnOk result (out.new.items ≡ out.old.items ++ demand_text prices.now m evidence.now) }
 {
     push_budget(alloc, out, prices, m)?;
-    match part {
+    match evidence {
         DemandPart::Bounds {
             below,
             strict,
             inner,
             goods,
         } => {
-            push_observations(alloc, out, b"below ", below.as_slice())?;
-            push_observations(alloc, out, b"strict ", strict.as_slice())?;
+            push_ordinals(alloc, out, b"below ", below.as_slice())?;
+            push_ordinals(alloc, out, b"strict ", strict.as_slice())?;
             push_inner(alloc, out, inner)?;
             push_goods(alloc, out, goods.as_slice())
         }
         DemandPart::NoModel(walk) => {
             push_line(out, b"none")?;
-            push_observations(alloc, out, b"cycle ", walk.as_slice())
+            push_ordinals(alloc, out, b"cycle ", walk.as_slice())
         }
     }
 }
@@ -55,11 +57,7 @@ fn push_budget(alloc: Global, out: &mut Vec<u8>, prices: &[u32], m: u64) -> Resu
 fn push_inner(alloc: Global, out: &mut Vec<u8>, inner: &Point) -> Result<(), NoMemory>
     ensures { OnOk result (out.new.items ≡ out.old.items ++ inner_line inner.now) }
 {
-    out.extend_from_slice(b"inner ")?;
-    push_list::<LongNumber>(alloc, out, inner.num.as_slice())?;
-    push_after::<LongNumber>(alloc, out, b" over ", inner.den)?;
-    out.push(b'\n')?;
-    Ok(())
+    push_numbers_over(alloc, out, b"inner ", inner.num.as_slice(), inner.den)
 }
 
 /// Appends the bounds of all goods.

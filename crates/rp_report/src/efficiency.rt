@@ -2,9 +2,9 @@ ghost use Rattle.std.specs.Prelude.{◌≡◌, ◌++◌, OnOk};
 ghost use Rattle.rp_report.specs.EfficiencyText.{above_text, at_text, attained_text};
 ghost use Rattle.rp_report.specs.EfficiencyText.{efficiency_text, index_text, level_text};
 
-use crate::lists::{push_line, push_numbers, push_observations};
 use rp_evidence::{Efficiency, Garp, Level};
-use rp_num::{NoMemory, print_u128};
+use rp_num::NoMemory;
+use rp_print::{LongNumber, Print, push_after, push_line, push_numbers, push_ordinals};
 use std::alloc::Global;
 
 /// Appends the lines of an efficiency index.
@@ -41,26 +41,25 @@ fn attained(at: &Garp) -> &'static [u8]
     }
 }
 
-/// Appends a level with its parts as they stand.
+/// Appends a level with its numerator and its denominator as they stand.
 fn push_level(alloc: Global, out: &mut Vec<u8>, level: Level) -> Result<(), NoMemory>
     ensures { OnOk result (out.new.items ≡ out.old.items ++ level_text level) }
 {
-    print_u128(alloc, out, u128::from(level.num))?;
-    if level.den != 1 {
-        out.push(b'/')?;
-        print_u128(alloc, out, u128::from(level.den))?;
+    LongNumber::push(alloc, out, level.num)?;
+    if level.den == 1 {
+        return Ok(());
     }
-    Ok(())
+    push_after::<LongNumber>(alloc, out, b"/", level.den)
 }
 
-/// Appends the line on every greater level, where the parts of the index differ.
+/// Appends the line on every greater level, where the index is not 1.
 fn push_above(alloc: Global, out: &mut Vec<u8>, level: Level, above: &[u32]) -> Result<(), NoMemory>
     ensures { OnOk result (out.new.items ≡ out.old.items ++ above_text level above.now) }
 {
     if level.num == level.den {
         return Ok(());
     }
-    push_observations(alloc, out, b"above ", above)
+    push_ordinals(alloc, out, b"above ", above)
 }
 
 /// Appends the line on the index itself.
@@ -69,6 +68,6 @@ fn push_at(alloc: Global, out: &mut Vec<u8>, at: &Garp) -> Result<(), NoMemory>
 {
     match at {
         Garp::Ranks(ranks) => push_numbers(alloc, out, b"at ranks ", ranks.as_slice()),
-        Garp::Cycle(cycle) => push_observations(alloc, out, b"at cycle ", cycle.as_slice()),
+        Garp::Cycle(cycle) => push_ordinals(alloc, out, b"at cycle ", cycle.as_slice()),
     }
 }

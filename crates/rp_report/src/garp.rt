@@ -1,9 +1,9 @@
 ghost use Rattle.std.specs.Prelude.{◌≡◌, ◌++◌, OnOk};
 ghost use Rattle.rp_report.specs.GarpText.{garp_text};
 
-use crate::lists::{push_line, push_numbers, push_observations};
 use rp_evidence::Garp;
 use rp_num::NoMemory;
+use rp_print::{push_line, push_numbers, push_ordinals};
 use std::alloc::Global;
 
 /// Appends the lines of a verdict on the generalized axiom of revealed preference.
@@ -17,7 +17,7 @@ pub(crate) fn push_garp(alloc: Global, out: &mut Vec<u8>, verdict: &Garp) -> Res
         }
         Garp::Cycle(cycle) => {
             push_line(out, b"garp violated")?;
-            push_observations(alloc, out, b"cycle ", cycle.as_slice())
+            push_ordinals(alloc, out, b"cycle ", cycle.as_slice())
         }
     }
 }

@@ -2,14 +2,13 @@ ghost use Rattle.std.specs.Prelude.{◌≡◌, ◌++◌, All, IfOk, Ok, OnOk};
 ghost use Rattle.std.specs.List.{flat_map};
 ghost use Rattle.rp_evidence.specs.Kinds.{IsCertificateOf, IsOfKind};
 ghost use Rattle.rp_patch.specs.RandomFailure.{ItemFailsOnPatches};
-ghost use Rattle.rp_report.specs.RandomText.{asked_text, counts_text};
-ghost use Rattle.rp_report.specs.RandomText.{random_item_text, random_report_text};
+ghost use Rattle.rp_report.specs.RandomText.{counts_text, random_item_text, random_report_text};
 
-use crate::lists::{LongNumber, Number, push_after, push_number_line};
 use crate::random::push_random;
 use rp_evidence::{Certificate, Item, Kind};
 use rp_num::NoMemory;
 use rp_patch::Patches;
+use rp_print::{LongNumber, Number, push_after, push_apportioned};
 use std::alloc::Global;
 
 /// The report of a certificate on random choices: lines on the patches, of which so many types are rational, and then the
@@ -28,7 +27,7 @@ pub fn report_random(
 {
     let mut text = Vec::new(alloc);
     push_counts(alloc, &mut text, patches, types)?;
-    push_asked(alloc, &mut text, patches)?;
+    push_apportioned(alloc, &mut text, patches.asked())?;
     push_items(alloc, &mut text, patches, certificate.items.as_slice())?;
     Ok(text)
 }
@@ -48,16 +47,6 @@ fn push_counts(
     push_after::<LongNumber>(alloc, out, b" total ", patches.total())?;
     out.push(b'\n')?;
     Ok(())
-}
-
-/// Appends the line on the unit that was asked for.
-fn push_asked(alloc: Global, out: &mut Vec<u8>, patches: &Patches) -> Result<(), NoMemory>
-    ensures { OnOk result (out.new.items ≡ out.old.items ++ asked_text patches.now.asked) }
-{
-    match patches.asked() {
-        Some(unit) => push_number_line(alloc, out, b"apportioned per ", u64::from(unit)),
-        None => Ok(()),
-    }
 }
 
 /// Appends the lines of each item.

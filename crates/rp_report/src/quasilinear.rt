@@ -1,9 +1,9 @@
 ghost use Rattle.std.specs.Prelude.{◌≡◌, ◌++◌, OnOk};
 ghost use Rattle.rp_report.specs.QuasilinearText.{quasilinear_text};
 
-use crate::lists::{push_line, push_observations, push_sums};
 use rp_evidence::Quasi;
 use rp_num::NoMemory;
+use rp_print::{push_line, push_ordinals, push_sums};
 use std::alloc::Global;
 
 /// Appends the lines of a verdict of the quasilinear test.
@@ -21,7 +21,7 @@ pub(crate) fn push_quasilinear(
         }
         Quasi::Cycle(cycle) => {
             push_line(out, b"quasilinear violated")?;
-            push_observations(alloc, out, b"cycle ", cycle.as_slice())
+            push_ordinals(alloc, out, b"cycle ", cycle.as_slice())
         }
     }
 }

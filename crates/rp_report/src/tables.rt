@@ -1,17 +1,17 @@
 ghost use Rattle.std.specs.Prelude.{◌≡◌, ◌++◌, IfOk, OnOk};
 ghost use Rattle.rp_evidence.specs.Kinds.{IsCertificateOf, IsOfKind};
-ghost use Rattle.rp_report.specs.ReportText.{head_text, item_text, report_text};
+ghost use Rattle.rp_report.specs.ReportText.{item_text, report_text};
 
 use crate::afriat::push_afriat;
 use crate::demand::push_demand;
 use crate::efficiency::push_efficiency;
 use crate::garp::push_garp;
 use crate::homothetic::push_homothetic;
-use crate::lists::{Number, push_after};
 use crate::quasilinear::push_quasilinear;
 use crate::welfare::push_welfare;
 use rp_evidence::{Certificate, Item, Kind};
 use rp_num::NoMemory;
+use rp_print::push_head;
 use rp_table::Table;
 use std::alloc::Global;
 
@@ -28,18 +28,6 @@ pub fn report(alloc: Global, certificate: &Certificate, table: &Table) -> Result
     Ok(text)
 }
 
-/// Appends the line on the table.
-fn push_head(alloc: Global, out: &mut Vec<u8>, table: &Table) -> Result<(), NoMemory>
-    ensures { OnOk result (out.new.items ≡ out.old.items ++ head_text table.now) }
-{
-    push_after::<Number>(alloc, out, b"observations ", table.n())?;
-    push_after::<Number>(alloc, out, b" goods ", table.goods())?;
-    push_after::<Number>(alloc, out, b" places ", u32::from(table.price_places()))?;
-    push_after::<Number>(alloc, out, b" ", u32::from(table.quantity_places()))?;
-    out.push(b'\n')?;
-    Ok(())
-}
-
 /// Appends the lines of an item on a table.
 fn push_item(alloc: Global, out: &mut Vec<u8>, item: &Item) -> Result<(), NoMemory>
     requires { IsOfKind Kind.Table item.now }
@@ -47,7 +35,7 @@ fn push_item(alloc: Global, out: &mut Vec<u8>, item: &Item) -> Result<(), NoMemo
 {
     match item {
         Item::Garp(verdict) => push_garp(alloc, out, verdict),
-        Item::Afriat(part) => push_afriat(alloc, out, part),
+        Item::Afriat(evidence) => push_afriat(alloc, out, evidence),
         Item::Efficiency(evidence) => push_efficiency(alloc, out, evidence),
         Item::Homothetic(verdict) => push_homothetic(alloc, out, verdict),
         Item::Quasi(verdict) => push_quasilinear(alloc, out, verdict),

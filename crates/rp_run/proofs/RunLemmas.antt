@@ -20,7 +20,7 @@ use Rattle.rp_evidence.specs.Input.{input_of_table}
 use Rattle.rp_evidence.specs.declared.certificate.Certificate.{Certificate}
 use Rattle.rp_table.specs.Tables.{Observations}
 use Rattle.rp_run.specs.Answers.{Files, Answers, AnswersLine, IsAccepted, IsAcceptedOver, IsRefused, IsRejectedOver, MayBe, MustBe}
-use Rattle.rp_answers.specs.Checked.{IsRandomCheck, IsTableCheck, verdict_status}
+use Rattle.rp_answers.specs.Checked.{IsRandomCheck, IsTableCheck, check_status as verdict_status}
 use Rattle.rp_run.specs.Endings.{IsEnd, IsFaultLine, Rose, NoneRose}
 use Rattle.rp_run.specs.Causes.{status_of_cause, cause_line, IsCause}
 use Rattle.rp_answers.specs.declared.status.Status.{Status}

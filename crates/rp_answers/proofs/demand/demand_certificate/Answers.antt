@@ -6,9 +6,9 @@ use Rattle.rp_evidence.specs.declared.certificate.Kind.TheVariants.{Table}
 use Rattle.rp_garp.specs.Verdict.{IsGarpVerdict}
 use Rattle.rp_agreement.specs.ReadBack.{IsReadBack}
 use Rattle.rp_answers.specs.Accepted.{IsAcceptedOn}
-use Rattle.rp_answers.proofs.AcceptedLemmas.{asked_accepted}
-use Rattle.rp_answers.proofs.AskedLemmas.{garp_there, garp_given_there}
-use Rattle.rp_answers.proofs.ReadBackLemmas.{asked_read_back}
+use Rattle.rp_answers.proofs.AcceptedLemmas.{garp_first_accepted}
+use Rattle.rp_answers.proofs.GarpFirstLemmas.{garp_there, garp_given_there}
+use Rattle.rp_answers.proofs.ReadBackLemmas.{garp_first_read_back}
 use Rattle.rp_answers.proofs.demand.demand_certificate.Goals as goal
 
 pub returns : goal.returns
@@ -27,6 +27,6 @@ returns c =
       garp_proves = proves;
       garp_given = given;
       answered = c.in_ok-others.ensures;
-      accepted = subst (IsAcceptedOn input) (sym c.in_ok-made.ensures) (asked_accepted input garp proves _ _ others c.in_ok-others.ensures (λ k item is. is.passes));
-      read_back = subst (IsReadBack Table) (sym c.in_ok-made.ensures) (asked_read_back table c.n.ensures.valid garp proves given _ _ others c.in_ok-others.ensures (λ k item is. is.readable));
+      accepted = subst (IsAcceptedOn input) (sym c.in_ok-made.ensures) (garp_first_accepted input garp proves _ _ others c.in_ok-others.ensures (λ k item is. is.passes));
+      read_back = subst (IsReadBack Table) (sym c.in_ok-made.ensures) (garp_first_read_back table c.n.ensures.valid garp proves given _ _ others c.in_ok-others.ensures (λ k item is. is.readable));
     }

@@ -1,11 +1,11 @@
 use Rattle.std.proofs.Common.{◌∙◌}
 use Rattle.rp_evidence.specs.Input.{input_of_table}
 use Rattle.rp_agreement.proofs.ItemsFit.{table_limited}
-use Rattle.rp_answers.proofs.AskedRecords.{demand_record}
+use Rattle.rp_answers.proofs.BoundItems.{demand_record}
 use Rattle.rp_answers.proofs.demand.demand_item.Goals as goal
 
 pub returns : goal.returns
 returns c =
     let q = c.requires in
-    let given = c.in_ok-part.ensures in
-    demand_record (input_of_table c.args.table.now) (table_limited c.args.table.now c.n.ensures.valid) c.args.garp.now c.args.prices.now c.from_vec.result (c.from_vec.ensures ∙ c.in_ok-prices.ensures.items) q.goods q.prices c.args.m c.in_ok-part.part q.least q.most given.proves given.given
+    let given = c.in_ok-evidence.ensures in
+    demand_record (input_of_table c.args.table.now) (table_limited c.args.table.now c.n.ensures.valid) c.args.garp.now c.args.prices.now c.from_vec.result (c.from_vec.ensures ∙ c.in_ok-prices.ensures.items) q.goods q.prices c.args.m c.in_ok-evidence.evidence q.least q.most given.proves given.given

@@ -1,7 +1,7 @@
 use Rattle.std.proofs.Common.{slice_index}
 use Rattle.rp_evidence.specs.Input.{input_of_table}
 use Rattle.rp_table.specs.Rows.{row_of}
-use Rattle.rp_answers.specs.AskedItems.{AreAnswered}
+use Rattle.rp_answers.specs.GarpFirst.{AreAnswered}
 use Rattle.rp_answers.specs.Demands.{IsDemandItem}
 use Rattle.rp_answers.proofs.demand.demand_items.Given as goal
 

@@ -2,11 +2,11 @@ use Rattle.std.proofs.Common.{slice_index}
 use Rattle.rp_evidence.specs.Input.{input_of_table}
 use Rattle.rp_table.specs.Rows.{row_of, rows_count}
 use Rattle.rp_answers.specs.Demands.{IsDemandItem}
-use Rattle.rp_answers.proofs.AskedLemmas.{asked_of_table}
+use Rattle.rp_answers.proofs.GarpFirstLemmas.{garp_first_of_table}
 use Rattle.rp_answers.proofs.demand.demand_text.Goals as goal
 
-pub show-requires : goal.show-requires
-show-requires c =
+pub report_or_json-requires : goal.report_or_json-requires
+report_or_json-requires c =
     let new = c.args.new.now in
     let input = input_of_table c.args.table.now in
-    asked_of_table input (rows_count new.prices new.goods) (λ garp i. IsDemandItem input garp (row_of new.prices new.goods i) (slice_index new.m i)) c.in_ok-certificate.certificate c.in_ok-certificate.ensures (λ garp i item is. is.proves)
+    garp_first_of_table input (rows_count new.prices new.goods) (λ garp i. IsDemandItem input garp (row_of new.prices new.goods i) (slice_index new.m i)) c.in_ok-certificate.certificate c.in_ok-certificate.ensures (λ garp i item is. is.proves)

@@ -14,15 +14,15 @@ pub returns : goal.returns
 returns c =
     let p = c.args.patches.now in
     let types = types_of c.args.types.now in
-    let part = c.in_ok-part.part in
-    let item : c.in_ok-made.made ≡ random_certificate p.total part = c.in_ok-made.ensures ∙ ap (λ total. random_certificate total part) c.total.ensures in
+    let evidence = c.in_ok-evidence.evidence in
+    let item : c.in_ok-made.made ≡ random_certificate p.total evidence = c.in_ok-made.ensures ∙ ap (λ total. random_certificate total evidence) c.total.ensures in
     record {
-      part = part;
+      evidence = evidence;
       item = item;
-      proves = c.in_ok-part.ensures.proves;
-      given_so = c.in_ok-part.ensures.run;
+      proves = c.in_ok-evidence.ensures.proves;
+      given = c.in_ok-evidence.ensures.run;
       accepted = subst (λ (made : Certificate). IsRandomVerdictOn p made.items Accepted) (sym item)
-          (random_certificate_passes p c.budgets.ensures.valid types c.requires.few c.requires.all part c.in_ok-part.ensures.run);
+          (random_certificate_passes p c.budgets.ensures.valid types c.requires.few c.requires.all evidence c.in_ok-evidence.ensures.run);
       read_back = subst (IsReadBack RandomKind) (sym item)
-          (text_read_back RandomKind (random_certificate p.total part) (random_readable p types part c.budgets.ensures.valid c.in_ok-part.ensures.proves c.in_ok-part.ensures.run));
+          (text_read_back RandomKind (random_certificate p.total evidence) (random_readable p types evidence c.budgets.ensures.valid c.in_ok-evidence.ensures.proves c.in_ok-evidence.ensures.run));
     }

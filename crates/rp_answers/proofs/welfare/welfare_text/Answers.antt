@@ -3,12 +3,12 @@ use Rattle.rp_evidence.specs.Input.{input_of_table}
 use Rattle.rp_table.specs.Rows.{row_of, rows_count}
 use Rattle.rp_table.specs.Tables.{records_of}
 use Rattle.rp_answers.specs.Welfares.{IsWelfareItem}
-use Rattle.rp_answers.proofs.AskedLemmas.{asked_of_table}
+use Rattle.rp_answers.proofs.GarpFirstLemmas.{garp_first_of_table}
 use Rattle.rp_answers.proofs.welfare.welfare_text.Goals as goal
 
-pub show-requires : goal.show-requires
-show-requires c =
+pub report_or_json-requires : goal.report_or_json-requires
+report_or_json-requires c =
     let new = c.args.new.now in
     let n = records_of c.args.table.now in
     let input = input_of_table c.args.table.now in
-    asked_of_table input (rows_count new.prices new.goods * n) (λ garp k. IsWelfareItem input garp (row_of new.prices new.goods (k / n)) (k % n)) c.in_ok-certificate.certificate c.in_ok-certificate.ensures (λ garp k item is. is.proves)
+    garp_first_of_table input (rows_count new.prices new.goods * n) (λ garp k. IsWelfareItem input garp (row_of new.prices new.goods (k / n)) (k % n)) c.in_ok-certificate.certificate c.in_ok-certificate.ensures (λ garp k item is. is.proves)

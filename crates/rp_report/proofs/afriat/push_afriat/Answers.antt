@@ -2,8 +2,8 @@ use Rattle.std.proofs.Common.{◌≡◌, ℕ, List, ◌++◌, OnOk, ap, sym, sub
 use Rattle.std.specs.Prelude.{codes}
 use Rattle.rp_evidence.specs.declared.afriat.AfriatPart.{AfriatPart}
 use Rattle.rp_report.specs.AfriatText.{afriat_text}
-use Rattle.rp_report.specs.ListText.{line_of, numbers_text, sums_text}
-use Rattle.rp_report.proofs.Texts.{on_ok, three_pieces}
+use Rattle.rp_print.specs.ListText.{line_of, numbers_text, sums_text}
+use Rattle.rp_print.proofs.Texts.{on_ok, three_pieces}
 use Rattle.rp_report.proofs.afriat.push_afriat.Goals as goal
 
 pub returns-in_ok-push_line-in-Model : goal.returns-in_ok-push_line-in-Model

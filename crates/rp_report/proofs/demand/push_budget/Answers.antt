@@ -1,7 +1,7 @@
 use Rattle.std.specs.Prelude.{codes}
 use Rattle.std.specs.Fmt.{decimal}
-use Rattle.rp_report.specs.ListText.{numbers_text}
-use Rattle.rp_report.proofs.Texts.{two_numbers}
+use Rattle.rp_print.specs.ListText.{numbers_text}
+use Rattle.rp_print.proofs.Texts.{two_numbers}
 use Rattle.rp_report.proofs.demand.push_budget.Goals as goal
 
 pub returns : goal.returns

@@ -1,6 +1,6 @@
 use Rattle.std.proofs.lemmas.Result.{IfOk-equal}
 use Rattle.std.specs.Prelude.{codes}
-use Rattle.rp_report.proofs.Texts.{index_line}
+use Rattle.rp_print.proofs.Texts.{index_line}
 use Rattle.rp_report.specs.EfficiencyText.{attained_text, level_text}
 use Rattle.rp_report.proofs.efficiency.push_index.Goals as goal
 

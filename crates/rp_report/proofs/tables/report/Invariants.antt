@@ -1,6 +1,7 @@
 use Rattle.std.proofs.Common.{◌≡◌, ◌++◌, take}
 use Rattle.std.specs.List.{flat_map}
-use Rattle.rp_report.specs.ReportText.{head_text, item_text}
+use Rattle.rp_print.specs.HeadText.{head_text}
+use Rattle.rp_report.specs.ReportText.{item_text}
 use Rattle.rp_report.proofs.tables.report.Given as goal
 
 abbrev pub invariant-loop-item : goal.invariant-loop-item

@@ -1,11 +1,11 @@
 use Rattle.std.proofs.lemmas.Result.{IfOk-equal}
 use Rattle.std.specs.Prelude.{codes}
-use Rattle.rp_report.specs.ListText.{numbers_text, observation_text}
-use Rattle.rp_report.proofs.Texts.{two_words}
+use Rattle.rp_print.specs.ListText.{numbers_text, ordinal_text}
+use Rattle.rp_print.proofs.Texts.{two_words}
 use Rattle.rp_report.proofs.welfare.push_head.Goals as goal
 
 pub returns : goal.returns
 returns c =
     IfOk-equal c.push_after.result c.push_after.new.out.items _ _ c.push_after.ensures
     (rw (c.in_ok-push_list.ensures, c.in_ok-extend_from_slice.ensures.items)
-    (two_words c.args.out.now.items (codes "welfare prices ") (numbers_text c.args.prices.now) (codes " observation ") (observation_text c.args.of)))
+    (two_words c.args.out.now.items (codes "welfare prices ") (numbers_text c.args.prices.now) (codes " observation ") (ordinal_text c.args.of)))

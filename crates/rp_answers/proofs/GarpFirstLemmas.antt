@@ -1,0 +1,48 @@
+-- Certificates that begin with the verdict on the generalized axiom, and their items.
+use Rattle.std.proofs.Common.{◌<◌, ℕ, refl, sym, subst}
+use Rattle.std.proofs.lemmas.List.Elements.{All-cons}
+use Rattle.rp_evidence.specs.Garp.{ProvesGarp}
+use Rattle.rp_evidence.specs.Input.{TableInput, input_of_table}
+use Rattle.rp_evidence.specs.Kinds.{IsCertificateOf, IsOfKind}
+use Rattle.rp_evidence.specs.Preference.{AgreeBelow}
+use Rattle.rp_evidence.specs.Proves.{Proves}
+use Rattle.rp_evidence.specs.declared.certificate.Certificate.{Certificate}
+use Rattle.rp_evidence.specs.declared.certificate.Item.{Item}
+use Rattle.rp_evidence.specs.declared.certificate.Item.TheVariants.{Garp as GarpItem, Afriat as AfriatItem, Efficiency as EfficiencyItem, Homothetic as HomotheticItem, Quasi as QuasiItem, Demand as DemandItem, Welfare as WelfareItem, Random as RandomItem}
+use Rattle.rp_evidence.specs.declared.certificate.Kind.TheVariants.{Table}
+use Rattle.rp_evidence.specs.declared.garp.Garp.{Garp}
+use Rattle.rp_evidence.proofs.SameCosts.{garp_same}
+use Rattle.rp_garp.specs.Verdict.{IsGarpVerdict}
+use Rattle.rp_garp.proofs.SameVerdicts.{garp_verdict_same}
+use Rattle.rp_table.specs.Cost.{CostTable, IsCostsOf, cost_at, cost_of}
+use Rattle.rp_table.specs.Tables.{Observations, records_of}
+use Rattle.rp_answers.specs.GarpFirst.{IsGarpFirst}
+
+module _ (costs : CostTable) (table : Observations) (is : IsCostsOf costs table) (verdict : Garp) where
+  same : AgreeBelow costs.n (cost_at costs) (cost_of table)
+  same s t s_in t_in = is.each s t (rw is.size at s_in) (rw is.size at t_in)
+
+  -- a verdict at the costs of a table is one of the table
+  pub garp_there : ProvesGarp costs.n (cost_at costs) verdict → Proves (input_of_table table) (GarpItem verdict)
+  garp_there proves = rw (← is.size) (garp_same costs.n (cost_at costs) (cost_of table) verdict same proves)
+
+  pub garp_given_there : IsGarpVerdict costs.n (cost_at costs) verdict → IsGarpVerdict (records_of table) (cost_of table) verdict
+  garp_given_there given = rw (← is.size) (garp_verdict_same costs.n (cost_at costs) (cost_of table) same verdict given)
+
+-- an item that proves its verdict on a table may stand in a certificate on one
+proved_of_table : (input : TableInput) (item : Item) → Proves input item → IsOfKind Table item
+proved_of_table input (GarpItem verdict) proves = tt
+proved_of_table input (AfriatItem evidence) proves = tt
+proved_of_table input (EfficiencyItem evidence) proves = tt
+proved_of_table input (HomotheticItem verdict) proves = tt
+proved_of_table input (QuasiItem verdict) proves = tt
+proved_of_table input (DemandItem prices m evidence) proves = tt
+proved_of_table input (WelfareItem prices t evidence) proves = tt
+proved_of_table input (RandomItem total evidence) proves = absurd proves
+
+-- so a certificate whose items prove theirs is one on a table
+pub garp_first_of_table : (input : TableInput) (count : ℕ) (P : Garp → ℕ → Item → Type 0) (certificate : Certificate) → IsGarpFirst input count P certificate
+    → ((garp : Garp) (k : ℕ) (item : Item) → P garp k item → Proves input item) → IsCertificateOf Table certificate
+garp_first_of_table input count P certificate first proves =
+    subst (λ (c : Certificate). IsCertificateOf Table c) (sym first.items)
+    (refl, All-cons (IsOfKind Table) (GarpItem first.garp) first.others tt (λ k d k_in. proved_of_table input _ (proves first.garp k _ (first.answered.each k d (subst (λ n. k < n) first.answered.one_each k_in)))))

@@ -1,9 +1,0 @@
-//! Laws over what the report cites. Each function is empty: its contract is the law.
-ghost use Rattle.std.specs.Prelude.{ℕ, ◌≤◌};
-ghost use Rattle.rp_num.specs.Fraction.{IsLowestTerms};
-ghost use Rattle.rp_report.specs.LowestTerms.{lowest_terms};
-
-/// Euclid's steps bring each fraction with a positive denominator to its lowest terms.
-pub fn shares_are_in_lowest_terms()
-    ensures { (n d : ℕ) → 1 ≤ d → IsLowestTerms n d (lowest_terms n d) }
-{}
