@@ -3,12 +3,14 @@ ghost use Rattle.rp_evidence.specs.Demand.{HasSupport};
 ghost use Rattle.rp_evidence.specs.DemandPrograms.{ListsBelow, lower_program, upper_program};
 ghost use Rattle.rp_table.specs.Tables.{goods_of};
 ghost use Rattle.rp_support.specs.Asked.{asked_of, input_of};
-ghost use Rattle.rp_support.specs.Bounds.{AreBoundsOf, IsBoundOf};
+ghost use Rattle.rp_bound.specs.ProgramBound.{IsBoundOf};
+ghost use Rattle.rp_support.specs.Bounds.{AreBoundsOf};
 
-use crate::bound::bound_of;
 use crate::budget::Budget;
 use crate::programs::{Lower, Upper};
+use rp_bound::bound_of;
 use rp_evidence::{Bound, GoodBounds};
+use rp_farkas::Measure;
 use rp_num::NoMemory;
 use std::alloc::Global;
 
@@ -34,9 +36,9 @@ fn lower_bound(alloc: Global, budget: &Budget, below: &[u32], g: u32) -> Result<
     requires support { HasSupport (input_of budget.now) (asked_of budget.now) }
     requires good { g < goods_of budget.now.table.now }
     ensures { IfOk result (λ bound. IsBoundOf (lower_program (input_of budget.now)
-        (asked_of budget.now) below.now g) g bound) }
+        (asked_of budget.now) below.now g) (λ x. x g) bound) }
 {
-    bound_of(alloc, &Lower::make(budget, below, g), g)
+    bound_of(alloc, &Lower::make(budget, below, g), Measure::Price(g))
 }
 
 /// The greatest of good `g`.
@@ -45,7 +47,7 @@ fn upper_bound(alloc: Global, budget: &Budget, below: &[u32], g: u32) -> Result<
     requires support { HasSupport (input_of budget.now) (asked_of budget.now) }
     requires good { g < goods_of budget.now.table.now }
     ensures { IfOk result (λ bound. IsBoundOf (upper_program (input_of budget.now)
-        (asked_of budget.now) below.now g) g bound) }
+        (asked_of budget.now) below.now g) (λ x. x g) bound) }
 {
-    bound_of(alloc, &Upper::make(budget, below, g), g)
+    bound_of(alloc, &Upper::make(budget, below, g), Measure::Price(g))
 }
