@@ -1,16 +1,12 @@
 -- Demand at new prices that a table supports (Varian 1982, on forecasting demand; with fractions of goods): the bundles on a
 -- new budget with which the table still meets the generalized axiom, and how much of a good they can have.
 use Rattle.std.specs.Prelude.{◌≡◌, ℕ, ◌+◌, ◌*◌, ◌-◌, ◌<◌, ◌≤◌, ◌⊎◌, ◌==◌, List, slice_index, if◌then◌else◌, nat_lt}
-use Rattle.rp_table.specs.Sums.{sum_below}
+pub use Rattle.rp_table.specs.Spending.{spending}
 use Rattle.rp_evidence.specs.Count.{AreCounts}
 use Rattle.rp_evidence.specs.Garp.{MeetsGarp}
 use Rattle.rp_evidence.specs.Input.{TableInput}
 use Rattle.rp_evidence.specs.Preference.{IsWeak, IsStrict}
 use Rattle.rp_evidence.specs.Walk.{IsWalk, HasStep}
-
--- What a bundle costs at prices, both given by good.
-abbrev pub spending : ℕ → (ℕ → ℕ) → (ℕ → ℕ) → ℕ
-spending goods prices bundle = sum_below goods (λ g. prices g * bundle g)
 
 -- A budget at which no choice was seen yet: the price of each good, and what is spent.
 pub record NewBudget : Type 0 where

@@ -1,2 +1,3 @@
 pub mod SumsBelow
+pub mod SpendingLaws
 mod Tried

@@ -1,6 +1,7 @@
 -- Budgets: prices of goods, and what there is to spend at them (Kitamura and Stoye 2018), in scaled whole numbers.
 use Rattle.std.specs.Prelude.{◌≡◌, ℕ, ◌*◌, ◌≤◌, List, length, All}
-use Rattle.rp_table.specs.declared.TheConstants.{GOODS, LARGEST, LARGEST_EXPENDITURE, BUDGETS}
+use Rattle.rp_table.specs.Limits.{IsPrice, IsExpenditure}
+use Rattle.rp_table.specs.declared.TheConstants.{GOODS, BUDGETS}
 
 -- the goods' names, a price of each good, by budget and then good, and the income of each budget
 pub record BudgetList : Type 0 where
@@ -15,5 +16,5 @@ pub record IsBudgetList (list : BudgetList) : Type 0 where
   pub some_budgets : 1 ≤ length list.w
   pub few_budgets : length list.w ≤ BUDGETS
   pub all_prices : length list.prices ≡ length list.w * length list.names
-  pub price_limits : All (λ p. (1 ≤ p) × (p ≤ LARGEST)) list.prices
-  pub income_limits : All (λ w. (1 ≤ w) × (w ≤ LARGEST_EXPENDITURE)) list.w
+  pub price_limits : All IsPrice list.prices
+  pub income_limits : All IsExpenditure list.w

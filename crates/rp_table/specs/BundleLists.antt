@@ -1,7 +1,8 @@
 -- Bundles of goods, in scaled whole numbers (this project's own form).
 use Rattle.std.specs.Prelude.{◌≡◌, ℕ, ◌*◌, ◌≤◌, List, length, All}
 use Rattle.rp_table.specs.Rows.{rows_count}
-use Rattle.rp_table.specs.declared.TheConstants.{GOODS, LARGEST, NEW_RECORDS}
+use Rattle.rp_table.specs.Limits.{IsQuantity}
+use Rattle.rp_table.specs.declared.TheConstants.{GOODS, NEW_RECORDS}
 
 -- a quantity of each good, by bundle and then good
 pub record BundleList : Type 0 where
@@ -15,4 +16,4 @@ pub record IsBundleList (list : BundleList) : Type 0 where
   pub some_records : 1 ≤ rows_count list.quantities list.goods
   pub few_records : rows_count list.quantities list.goods ≤ NEW_RECORDS
   pub all_quantities : length list.quantities ≡ rows_count list.quantities list.goods * list.goods
-  pub quantity_limits : All (λ q. q ≤ LARGEST) list.quantities
+  pub quantity_limits : All IsQuantity list.quantities

@@ -1,5 +1,6 @@
 -- Choices from budgets: which bundle on which budget, and how many times (Kitamura and Stoye 2018).
 use Rattle.std.specs.Prelude.{◌≡◌, ℕ, ◌*◌, ◌<◌, ◌≤◌, List, length, All}
+use Rattle.rp_table.specs.Limits.{IsQuantity}
 use Rattle.rp_table.specs.declared.TheConstants.{GOODS, LARGEST, BUDGETS, CHOICES}
 
 -- for each choice the number of its budget, from 0, its quantity of each good, and its count
@@ -18,5 +19,5 @@ pub record IsChoiceList (list : ChoiceList) : Type 0 where
   pub all_quantities : length list.quantities ≡ length list.budget * list.goods
   pub all_times : length list.times ≡ length list.budget
   pub budget_limits : All (λ j. j < BUDGETS) list.budget
-  pub quantity_limits : All (λ q. q ≤ LARGEST) list.quantities
+  pub quantity_limits : All IsQuantity list.quantities
   pub times_limits : All (λ n. n ≤ LARGEST) list.times

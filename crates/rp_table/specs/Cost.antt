@@ -1,14 +1,13 @@
 -- What one observation's bundle costs at another's prices (Varian 1982, "The Nonparametric Approach to
 -- Demand Analysis", section 1).
 use Rattle.std.specs.Prelude.{◌≡◌, ℕ, ◌+◌, ◌*◌, ◌^◌, ◌<◌, ◌≤◌, List, length, All, slice_index}
-use Rattle.rp_table.specs.Sums.{sum_below}
+use Rattle.rp_table.specs.Spending.{spending}
 use Rattle.rp_table.specs.declared.TheConstants.{RECORDS}
 use Rattle.rp_table.specs.Tables.{Observations, goods_of, records_of, price_of, quantity_of}
 
--- the cost of the bundle of observation t at the prices of observation s: the sum over the goods of price
--- times quantity
+-- the cost of the bundle of observation t at the prices of observation s
 abbrev pub cost_of : Observations → ℕ → ℕ → ℕ
-cost_of table s t = sum_below (goods_of table) (λ g. price_of table s g * quantity_of table t g)
+cost_of table s t = spending (goods_of table) (price_of table s) (quantity_of table t)
 
 -- the costs of n observations, by prices and then bundles
 pub record CostTable : Type 0 where

@@ -1,4 +1,7 @@
 pub mod Sums
+pub mod Spending
+pub mod Limits
+pub mod NewPrices
 pub mod Names
 pub mod Tables
 pub mod Cost

@@ -1,7 +1,8 @@
 -- Prices at which something is asked, and what is spent at them, in scaled whole numbers (this project's own form).
 use Rattle.std.specs.Prelude.{◌≡◌, ℕ, ◌*◌, ◌≤◌, ◌⊎◌, List, length, All}
 use Rattle.rp_table.specs.Rows.{rows_count}
-use Rattle.rp_table.specs.declared.TheConstants.{GOODS, LARGEST, LARGEST_EXPENDITURE, NEW_RECORDS}
+use Rattle.rp_table.specs.Limits.{IsPrice, IsExpenditure}
+use Rattle.rp_table.specs.declared.TheConstants.{GOODS, NEW_RECORDS}
 
 -- a price of each good, by record and then good, and an expenditure for each record or for none
 pub record PriceList : Type 0 where
@@ -17,5 +18,5 @@ pub record IsPriceList (list : PriceList) : Type 0 where
   pub few_records : rows_count list.prices list.goods ≤ NEW_RECORDS
   pub all_prices : length list.prices ≡ rows_count list.prices list.goods * list.goods
   pub all_expenditures : (length list.m ≡ 0) ⊎ (length list.m ≡ rows_count list.prices list.goods)
-  pub price_limits : All (λ p. (1 ≤ p) × (p ≤ LARGEST)) list.prices
-  pub expenditure_limits : All (λ m. (1 ≤ m) × (m ≤ LARGEST_EXPENDITURE)) list.m
+  pub price_limits : All IsPrice list.prices
+  pub expenditure_limits : All IsExpenditure list.m

@@ -2,7 +2,8 @@
 -- A price of 125 with two places stands for 1.25.
 use Rattle.std.specs.Prelude.{◌≡◌, ◌≢◌, ℕ, ◌+◌, ◌*◌, ◌/◌, ◌<◌, ◌≤◌, List, length, All, AllPairs, slice_index}
 use Rattle.rp_table.specs.Sums.{sum_below}
-use Rattle.rp_table.specs.declared.TheConstants.{RECORDS, GOODS, PLACES, LARGEST}
+use Rattle.rp_table.specs.Limits.{IsPrice, IsQuantity}
+use Rattle.rp_table.specs.declared.TheConstants.{RECORDS, GOODS, PLACES}
 
 -- the goods' names, and by observation and then good the prices and the quantities, each with the
 -- number of decimal places that its scale stands for
@@ -43,8 +44,8 @@ pub record IsTable (table : Observations) : Type 0 where
   pub few_records : records_of table ≤ RECORDS
   pub all_prices : length table.prices ≡ records_of table * goods_of table
   pub all_quantities : length table.quantities ≡ records_of table * goods_of table
-  pub price_limits : All (λ p. (1 ≤ p) × (p ≤ LARGEST)) table.prices
-  pub quantity_limits : All (λ q. q ≤ LARGEST) table.quantities
+  pub price_limits : All IsPrice table.prices
+  pub quantity_limits : All IsQuantity table.quantities
   pub bought : (t : ℕ) → t < records_of table → 1 ≤ bundle_size table t
   pub few_price_places : table.price_places ≤ PLACES
   pub few_quantity_places : table.quantity_places ≤ PLACES

@@ -1,9 +1,10 @@
 ghost use Rattle.std.specs.Prelude.{◌≡◌, ◌<◌, ◌≤◌, Some, All, length, slice_get, slice_index};
 ghost use Rattle.rp_table.specs.Rows.{row_of};
 ghost use Rattle.rp_table.specs.BudgetLists.{IsBudgetList};
+ghost use Rattle.rp_table.specs.Limits.{IsPrice};
 
 use crate::rows::row_at;
-use crate::{LARGEST, LARGEST_EXPENDITURE, Name};
+use crate::{LARGEST_EXPENDITURE, Name};
 use std::marker::Model;
 
 /// Budgets: prices of the goods, and an income to spend at them.
@@ -71,7 +72,7 @@ impl Budgets {
         requires { j < length self.now.w }
         ensures exact { result.now ≡ row_of self.now.prices (length self.now.names) j }
         ensures all_goods { length result.now ≡ length self.now.names }
-        ensures within { All (λ p. (1 ≤ p) × (p ≤ LARGEST)) result.now }
+        ensures within { All IsPrice result.now }
     {
         row_at(self.prices.as_slice(), self.names.len(), j as usize)
     }

@@ -1,8 +1,8 @@
 ghost use Rattle.std.specs.Prelude.{◌≡◌, ◌<◌, ◌≤◌, All, length};
 ghost use Rattle.rp_table.specs.Rows.{rows_count, row_of};
 ghost use Rattle.rp_table.specs.BundleLists.{IsBundleList};
+ghost use Rattle.rp_table.specs.Limits.{IsQuantity};
 
-use crate::LARGEST;
 use crate::rows::row_at;
 use std::marker::Model;
 
@@ -46,7 +46,7 @@ impl Bundles {
         requires { i < rows_count self.now.quantities self.now.goods }
         ensures exact { result.now ≡ row_of self.now.quantities self.now.goods i }
         ensures all_goods { length result.now ≡ self.now.goods }
-        ensures within { All (λ q. q ≤ LARGEST) result.now }
+        ensures within { All IsQuantity result.now }
     {
         row_at(self.quantities.as_slice(), self.goods as usize, i as usize)
     }

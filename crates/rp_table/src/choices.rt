@@ -1,6 +1,7 @@
 ghost use Rattle.std.specs.Prelude.{◌≡◌, ◌<◌, ◌≤◌, All, length, slice_index};
 ghost use Rattle.rp_table.specs.Rows.{row_of};
 ghost use Rattle.rp_table.specs.ChoiceLists.{IsChoiceList};
+ghost use Rattle.rp_table.specs.Limits.{IsQuantity};
 
 use crate::rows::row_at;
 use crate::{BUDGETS, LARGEST};
@@ -86,7 +87,7 @@ impl Choices {
         requires { i < length self.now.budget }
         ensures exact { result.now ≡ row_of self.now.quantities self.now.goods i }
         ensures all_goods { length result.now ≡ self.now.goods }
-        ensures within { All (λ q. q ≤ LARGEST) result.now }
+        ensures within { All IsQuantity result.now }
     {
         row_at(self.quantities.as_slice(), self.goods as usize, i as usize)
     }

@@ -2,7 +2,7 @@ ghost use Rattle.std.specs.Prelude.{◌≡◌, ℕ, ◌<◌, ◌≤◌, ◌^◌,
 ghost use Rattle.rp_table.specs.Tables.{records_of};
 ghost use Rattle.rp_table.specs.Cost.{IsCostTable, IsCostsOf, cost_at, cost_of};
 
-use crate::Table;
+use crate::{Table, cost_of_bundle};
 use rp_num::NoMemory;
 use std::alloc::Global;
 use std::marker::Model;
@@ -32,7 +32,8 @@ impl Costs {
         let n = table.n();
         let mut entries = Vec::new(alloc);
         for place in 0..n * n {
-            entries.push(bundle_cost(table, place / n, place % n))?;
+            let (s, t) = (place / n, place % n);
+            entries.push(cost_at_prices(table, s, t))?;
         }
         Ok(Costs { n, entries })
     }
@@ -57,17 +58,14 @@ impl Costs {
     }
 }
 
-/// The sum over the goods of price at `s` times quantity at `t`.
-fn bundle_cost(table: &Table, s: u32, t: u32) -> u64
+/// What the bundle of observation `t` costs at the prices of observation `s`.
+fn cost_at_prices(table: &Table, s: u32, t: u32) -> u64
     requires prices { s < records_of table.now }
     requires bundle { t < records_of table.now }
     ensures exact { result ≡ cost_of table.now s t }
     ensures positive { 1 ≤ result }
     ensures below { result < 2 ^ 51 }
 {
-    let mut total = 0;
-    for g in 0..table.goods() {
-        total += u64::from(table.price(s, g)) * u64::from(table.quantity(t, g));
-    }
-    total
+    prove!(table.goods() > 0);
+    cost_of_bundle(table.prices(s), table.bundle(t))
 }

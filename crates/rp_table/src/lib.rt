@@ -7,8 +7,10 @@ mod choices;
 mod costs;
 mod limits;
 mod name;
+mod new_prices;
 mod prices;
 mod rows;
+mod spending;
 mod table;
 
 pub use budgets::Budgets;
@@ -17,7 +19,9 @@ pub use choices::Choices;
 pub use costs::Costs;
 pub use limits::limits_in_numbers;
 pub use name::Name;
+pub use new_prices::{NewBudget, NewPrices};
 pub use prices::Prices;
+pub use spending::{cost_of_bundle, cost_of_numerators};
 pub use table::Table;
 
 /// The most bytes of the name of a good.

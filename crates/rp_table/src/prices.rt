@@ -1,9 +1,10 @@
-ghost use Rattle.std.specs.Prelude.{◌≡◌, ◌<◌, ◌≤◌, All, length, slice_index};
+ghost use Rattle.std.specs.Prelude.{◌≡◌, ◌<◌, ◌≤◌, length, slice_index};
 ghost use Rattle.rp_table.specs.Rows.{rows_count, row_of};
+ghost use Rattle.rp_table.specs.NewPrices.{AreNewPrices};
 ghost use Rattle.rp_table.specs.PriceLists.{IsPriceList};
 
+use crate::LARGEST_EXPENDITURE;
 use crate::rows::row_at;
-use crate::{LARGEST, LARGEST_EXPENDITURE};
 use std::marker::Model;
 
 /// Prices at which something is asked, each record with an expenditure or none with one.
@@ -15,6 +16,7 @@ pub struct Prices {
 }
 
 impl Model for Prices {
+    ghost use Rattle.rp_table.specs.NewPrices.{AreNewPrices};
     ghost use Rattle.rp_table.specs.PriceLists.{PriceList, IsPriceList};
 
     ghost Value = { PriceList };
@@ -47,7 +49,7 @@ impl Prices {
         requires { i < rows_count self.now.prices self.now.goods }
         ensures exact { result.now ≡ row_of self.now.prices self.now.goods i }
         ensures all_goods { length result.now ≡ self.now.goods }
-        ensures within { All (λ p. (1 ≤ p) × (p ≤ LARGEST)) result.now }
+        ensures new { AreNewPrices self.now.goods result.now }
     {
         row_at(self.prices.as_slice(), self.goods as usize, i as usize)
     }

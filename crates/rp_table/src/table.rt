@@ -1,6 +1,8 @@
-ghost use Rattle.std.specs.Prelude.{◌≡◌, ℕ, ◌<◌, ◌≤◌, Some, slice_get};
+ghost use Rattle.std.specs.Prelude.{◌≡◌, ℕ, ◌<◌, ◌≤◌, All, Some, length, slice_get, slice_index};
+ghost use Rattle.rp_table.specs.Limits.{IsPrice, IsQuantity};
 ghost use Rattle.rp_table.specs.Tables.{IsTable, goods_of, records_of, price_of, quantity_of};
 
+use crate::rows::row_at;
 use crate::{LARGEST, Name};
 use std::marker::Model;
 
@@ -120,6 +122,28 @@ impl Table {
         ensures within { result ≤ LARGEST }
     {
         self.quantities[t as usize * self.names.len() + g as usize]
+    }
+
+    /// The scaled prices of observation `t`, one for each good.
+    pub fn prices(&self, t: u32) -> &[u32]
+        requires { t < records_of self.now }
+        ensures all_goods { length result.now ≡ goods_of self.now }
+        ensures each { (g : ℕ) → g < goods_of self.now
+            → slice_index result.now g ≡ price_of self.now t g }
+        ensures within { All IsPrice result.now }
+    {
+        row_at(self.prices.as_slice(), self.names.len(), t as usize)
+    }
+
+    /// The scaled quantities that were bought at observation `t`, one of each good.
+    pub fn bundle(&self, t: u32) -> &[u32]
+        requires { t < records_of self.now }
+        ensures all_goods { length result.now ≡ goods_of self.now }
+        ensures each { (g : ℕ) → g < goods_of self.now
+            → slice_index result.now g ≡ quantity_of self.now t g }
+        ensures within { All IsQuantity result.now }
+    {
+        row_at(self.quantities.as_slice(), self.names.len(), t as usize)
     }
 
     /// A scaled price is the price times 10 to this power.
