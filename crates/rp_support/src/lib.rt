@@ -2,7 +2,6 @@
 #![tactic(auto)]
 
 mod below;
-mod budget;
 mod goods;
 mod inner;
 mod programs;

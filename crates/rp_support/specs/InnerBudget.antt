@@ -2,10 +2,10 @@
 use Rattle.rp_evidence.specs.Demand.{NewBudget}
 use Rattle.rp_evidence.specs.DemandEvidence.{budget_of}
 use Rattle.rp_evidence.specs.Input.{TableInput, input_of_table}
-use Rattle.rp_support.specs.declared.budget.Budget.{Budget}
+use Rattle.rp_table.specs.declared.new_prices.NewBudget.{NewBudget as Budget}
 
 abbrev pub input_of : Budget → TableInput
-input_of budget = input_of_table budget.table.now
+input_of budget = input_of_table budget.at.table.now
 
-abbrev pub asked_of : Budget → NewBudget
-asked_of budget = budget_of budget.prices.now budget.m
+abbrev pub new_budget : Budget → NewBudget
+new_budget budget = budget_of budget.at.prices.now budget.m

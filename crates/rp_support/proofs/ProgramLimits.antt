@@ -9,6 +9,8 @@ use Rattle.rp_evidence.specs.DemandPrograms.{demand_entry, demand_program, deman
 use Rattle.rp_evidence.specs.Input.{input_of_table}
 use Rattle.rp_farkas.specs.Limits.{IsWithinLimits, largest_entry}
 use Rattle.rp_table.specs.Cost.{CostTable, IsCostTable, IsCostsOf, cost_of}
+use Rattle.rp_table.specs.Limits.{IsExpenditure}
+use Rattle.rp_table.specs.NewPrices.{AreNewPrices}
 use Rattle.rp_table.specs.Tables.{IsTable, Observations, goods_of, price_of, records_of}
 
 abs_negated : (n k : ℕ) → n ≤ k → unsigned_abs (neg_ℤ (pos n)) ≤ k
@@ -27,7 +29,7 @@ at_least_0 true n m = omega (arith, ints)
 at_least_0 false n m = omega (arith, ints)
 
 module _ (table : Observations) (costs : CostTable) (prices : List ℕ) (m : ℕ) (below : List ℕ) (valid : IsTable table) (valid_costs : IsCostTable costs) (of : IsCostsOf costs table)
-    (each_good : length prices ≡ goods_of table) (within : All (λ p. (1 ≤ p) × (p ≤ 9999999)) prices) (spends : m ≤ 1600000000000000)
+    (new : AreNewPrices (goods_of table) prices) (spends : IsExpenditure m)
     (observed : All (λ t. t < records_of table) below) (few : length below ≤ records_of table) where
   price_small : (t g : ℕ) → t < records_of table → g < goods_of table → price_of table t g ≤ largest_entry
   price_small t g t_in g_in =
@@ -35,7 +37,7 @@ module _ (table : Observations) (costs : CostTable) (prices : List ℕ) (m : ℕ
       omega arith
 
   new_price_small : (g : ℕ) → g < goods_of table → slice_index prices g ≤ largest_entry
-  new_price_small g g_in = let h = (within g 0 (omega (arith, each_good))).1 in omega arith
+  new_price_small g g_in = let h = (new.fit g 0 (omega (arith, new.one_each))).1 in omega arith
 
   spent_small : (t : ℕ) → t < records_of table → cost_of table t t ≤ largest_entry
   spent_small t t_in =
@@ -60,7 +62,7 @@ module _ (table : Observations) (costs : CostTable) (prices : List ℕ) (m : ℕ
   ]
     where
       rest : unsigned_abs (cond (eqb j (length below)) (pos m) (neg_ℤ (pos m))) ≤ largest_entry
-      rest = abs_either (eqb j (length below)) _ _ largest_entry (omega (arith, spends)) (abs_negated m largest_entry (omega (arith, spends)))
+      rest = abs_either (eqb j (length below)) _ _ largest_entry (omega (arith, spends.1)) (abs_negated m largest_entry (omega (arith, spends.1)))
 
   with_right : (right : ℕ → ℤ) → ((i : ℕ) → i < goods_of table → unsigned_abs (right i) ≤ largest_entry) → ((i : ℕ) → i < goods_of table → pos 0 ≤ℤ right i)
       → IsWithinLimits (demand_program (input_of_table table) (budget_of prices m) below right)

@@ -5,8 +5,8 @@ use Rattle.std.proofs.lemmas.List.{get_or_append_left, get_or_push, length_push}
 
 -- one more truth value
 module _ (P : ℕ → Type 0) (xs : List Bool) (s : ℕ) (b : Bool) (one_each : length xs ≡ s) (each : (k : ℕ) → k < s → IsTrue (slice_index_or xs k false) ↔ P k) (last : IsTrue b ↔ P s) where
-  pub told_more : (ys : List Bool) → ys ≡ xs ++ b ∷ [] → (k : ℕ) → k < s + 1 → IsTrue (slice_index_or ys k false) ↔ P k
-  told_more ys e k l = rw e (elim (cases_eq k s) [
+  pub mark_more : (ys : List Bool) → ys ≡ xs ++ b ∷ [] → (k : ℕ) → k < s + 1 → IsTrue (slice_index_or ys k false) ↔ P k
+  mark_more ys e k l = rw e (elim (cases_eq k s) [
     | inl at ↦ subst (λ x. IsTrue (slice_index_or (xs ++ b ∷ []) x false) ↔ P x) (sym at) (subst (λ z. IsTrue z ↔ P s) (sym (get_or_push xs b false s one_each)) last)
     | inr not ↦ subst (λ z. IsTrue z ↔ P k) (sym (get_or_append_left xs (b ∷ []) false k (omega arith))) (each k (omega arith))
   ])

@@ -17,9 +17,11 @@ use Rattle.rp_evidence.proofs.InnerDemand.{inner_demand_supports}
 use Rattle.rp_evidence.proofs.SameCosts.{garp_same}
 use Rattle.rp_farkas.specs.Listing.{numerator_at}
 use Rattle.rp_table.specs.Cost.{CostTable, IsCostsOf, cost_at, cost_of}
+use Rattle.rp_table.specs.NewPrices.{AreNewPrices}
 use Rattle.rp_table.specs.Tables.{IsTable, Observations, goods_of, price_of, records_of}
-use Rattle.rp_support.specs.Bounds.{AreBoundsOf, AreMixed, IsBoundOf, Mixes}
-use Rattle.rp_support.proofs.Bounding.{support_bounds}
+use Rattle.rp_bound.specs.ProgramBound.{IsBoundOf}
+use Rattle.rp_support.specs.Bounds.{AreBoundsOf, AreMixed, Mixes}
+use Rattle.rp_support.proofs.SupportPrices.{support_bounds}
 
 -- ---- the costs of a table
 
@@ -65,7 +67,7 @@ module _ (input : TableInput) (budget : NewBudget) (g num den : ℕ) (value : Fr
 
 -- ---- the inner demand
 
-module _ (table : Observations) (prices : List ℕ) (m : ℕ) (valid : IsTable table) (each_good : length prices ≡ goods_of table) (within : All (λ p. (1 ≤ p) × (p ≤ 9999999)) prices)
+module _ (table : Observations) (prices : List ℕ) (m : ℕ) (valid : IsTable table) (new : AreNewPrices (goods_of table) prices)
     (sound : MeetsGarp (records_of table) (cost_of table) 1 1) where
   some_price : (t : ℕ) → t < records_of table → 0 < price_of table t 0
   some_price t t_in =
@@ -73,7 +75,7 @@ module _ (table : Observations) (prices : List ℕ) (m : ℕ) (valid : IsTable t
       omega (arith, h)
 
   some_price_of_good : (g : ℕ) → g < goods_of table → 0 < slice_index prices g
-  some_price_of_good g g_in = let h = (within g 0 (omega (arith, each_good))).0 in omega (arith, h)
+  some_price_of_good g g_in = let h = (new.fit g 0 (omega (arith, new.one_each))).0 in omega (arith, h)
 
   pub inner_supports : (bundle : FractionBundle) → IsInnerDemand (input_of_table table) (budget_of prices m) bundle → IsSupportingDemand (input_of_table table) (budget_of prices m) bundle
   inner_supports bundle inner =
@@ -83,32 +85,32 @@ module _ (table : Observations) (prices : List ℕ) (m : ℕ) (valid : IsTable t
 
   module _ (below : List ℕ) (lists : ListsBelow (input_of_table table) (budget_of prices m) below) (inner : FractionBundle) (kept : IsSupportingDemand (input_of_table table) (budget_of prices m) inner)
       (g : ℕ) (g_in : g < goods_of table) where
-    pub proves_lower : (bound : Bound) → IsBoundOf (lower_program (input_of_table table) (budget_of prices m) below g) g bound → ProvesLower (input_of_table table) (budget_of prices m) g bound
+    pub proves_lower : (bound : Bound) → IsBoundOf (lower_program (input_of_table table) (budget_of prices m) below g) (λ x. x g) bound → ProvesLower (input_of_table table) (budget_of prices m) g bound
     proves_lower (Shown value pair) is =
-        infimum_reduced (input_of_table table) (budget_of prices m) g (slice_index pair.x g) pair.den value is.shows.2
-        (lower_is_infimum (input_of_table table) (budget_of prices m) below lists sound inner kept g pair.den (numerator_at pair.y) (slice_index pair.x) g_in is.shows.1.equal)
+        infimum_reduced (input_of_table table) (budget_of prices m) g (slice_index pair.x g) pair.den value is.value.1
+        (lower_is_infimum (input_of_table table) (budget_of prices m) below lists sound inner kept g pair.den (numerator_at pair.y) (slice_index pair.x) g_in is.value.0.equal)
     proves_lower (Wide step) is = tt
 
-    pub proves_upper : (bound : Bound) → IsBoundOf (upper_program (input_of_table table) (budget_of prices m) below g) g bound → ProvesUpper (input_of_table table) (budget_of prices m) g bound
+    pub proves_upper : (bound : Bound) → IsBoundOf (upper_program (input_of_table table) (budget_of prices m) below g) (λ x. x g) bound → ProvesUpper (input_of_table table) (budget_of prices m) g bound
     proves_upper (Shown value pair) is =
-        supremum_reduced (input_of_table table) (budget_of prices m) g (slice_index pair.x g) pair.den value is.shows.2
-        (upper_is_supremum (input_of_table table) (budget_of prices m) below lists sound inner kept g pair.den (numerator_at pair.y) (slice_index pair.x) g_in (some_price_of_good g g_in) is.shows.1.equal)
+        supremum_reduced (input_of_table table) (budget_of prices m) g (slice_index pair.x g) pair.den value is.value.1
+        (upper_is_supremum (input_of_table table) (budget_of prices m) below lists sound inner kept g pair.den (numerator_at pair.y) (slice_index pair.x) g_in (some_price_of_good g g_in) is.value.0.equal)
     proves_upper (Wide step) is = tt
 
 -- ---- mixtures, and bounded programs
 
 module _ (input : TableInput) (budget : NewBudget) (below : List ℕ) (lists : ListsBelow input budget below) (sound : MeetsGarp input.n input.cost 1 1)
     (inner : FractionBundle) (kept : IsSupportingDemand input budget inner) where
-  pub mixes : (right : ℕ → ℤ) (g : ℕ) (bound : Bound) → IsBoundOf (demand_program input budget below right) g bound → Mixes input budget inner bound
-  mixes right g (Shown value pair) is = λ k some.
+  pub mixes : (right : ℕ → ℤ) (measure : (ℕ → ℕ) → ℕ) (bound : Bound) → IsBoundOf (demand_program input budget below right) measure bound → Mixes input budget inner bound
+  mixes right measure (Shown value pair) is = λ k some.
       mixtures input budget below lists sound inner kept right pair.den (slice_index pair.x)
-      (priced input budget below right pair.den (slice_index pair.x) is.shows.1.equal.prices) k some
-  mixes right g (Wide step) is = tt
+      (priced input budget below right pair.den (slice_index pair.x) is.value.0.equal.prices) k some
+  mixes right measure (Wide step) is = tt
 
   pub are_mixed : (goods : List GoodBounds) → AreBoundsOf input budget below goods → AreMixed input budget below inner goods
   are_mixed goods bounds = record {
-    lower = λ g d g_in. mixes _ g _ (bounds.lower g d g_in);
-    upper = λ g d g_in. mixes _ g _ (bounds.upper g d g_in);
+    lower = λ g d g_in. mixes _ _ _ (bounds.lower g d g_in);
+    upper = λ g d g_in. mixes _ _ _ (bounds.upper g d g_in);
     lower_bounded = λ g g_in. support_bounds input budget below lists _ (inner, kept);
     upper_bounded = λ g g_in. support_bounds input budget below lists _ (inner, kept);
   }

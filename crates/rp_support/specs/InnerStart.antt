@@ -1,7 +1,18 @@
--- Words that only proofs need, and no definition rests on: which observation to begin from, of the first k.
+-- Which observation the inner demand begins from, of the first k that were tried. No definition and no public clause rests
+-- on these words.
 use Rattle.std.specs.Prelude.{◌≡◌, ◌<◌, ◌⊎◌, ℕ, List, Option, Some, None, slice_index}
-use Rattle.rp_evidence.specs.Demand.{Buys, NewBudget, spending}
+use Rattle.rp_evidence.specs.Demand.{Buys, IsInnerStart, NewBudget, all_on_first, spending, with_rest_on_first}
 use Rattle.rp_evidence.specs.Input.{TableInput}
+
+-- The observation to begin from, or none where the budget buys no bundle of the table.
+abbrev pub IsStart : TableInput → NewBudget → List ℕ → Option ℕ → Type 0
+IsStart input budget counts (Some s) = IsInnerStart input budget counts s
+IsStart input budget counts None = (s : ℕ) → s < input.n → ¬ Buys input budget s
+
+-- What the inner demand has of good g, over the price of good 0.
+abbrev pub inner_numerator : TableInput → NewBudget → Option ℕ → ℕ → ℕ
+inner_numerator input budget (Some s) g = with_rest_on_first input budget s g
+inner_numerator input budget None g = all_on_first budget g
 
 -- s comes before b: it has a greater count, or the same count and a lower cost at the new prices.
 abbrev pub ComesBefore : TableInput → NewBudget → List ℕ → ℕ → ℕ → Type 0
