@@ -4,6 +4,7 @@ use Rattle.std.proofs.lemmas.Int.{ints}
 use Rattle.std.proofs.Math.Nat.{le_of_mul-le-mul_right, mul-le-mul_right}
 use Rattle.std.specs.Int.RustNames.{unsigned_abs}
 use Rattle.rp_num.specs.Fraction.{Fraction, IsLowestTerms}
+use Rattle.rp_evidence.specs.BoundEvidence.{BoundHolds}
 use Rattle.rp_evidence.specs.declared.demand.Bound.{Bound}
 use Rattle.rp_evidence.specs.declared.demand.Bound.TheVariants.{Shown, Wide}
 use Rattle.rp_farkas.specs.Best.{HasNoBound, IsBestPrices, IsLeastCost}
@@ -60,6 +61,22 @@ module _ (p : LinearProgram) (measure : (ℕ → ℕ) → ℕ) (o : Outcome) (ru
   -- a bounded program has no unbounded run
   pub never_unbounded : ¬ HasNoBound p → (den : ℕ) (point ray : List Entry) → o ≡ Unbounded den point ray → ⊥
   never_unbounded bounded den point ray e = bounded (subst (λ (r : Outcome). IsEvidence p r) e evidence).1
+
+-- ---- another word for the same measure
+
+module _ (p : LinearProgram) (m m' : (ℕ → ℕ) → ℕ) (same : (x : ℕ → ℕ) → m x ≡ m' x) where
+  same_value : (bound : Bound) → BoundHolds p m bound → BoundHolds p m' bound
+  same_value (Shown value pair) holds = (holds.0, subst (λ (n : ℕ). IsLowestTerms n pair.den value) (same (slice_index pair.x)) holds.1)
+  same_value (Wide step) holds = tt
+
+  pub same_measure : (bound : Bound) → IsBoundOf p m bound → IsBoundOf p m' bound
+  same_measure bound is = record {
+    run = is.run;
+    only = is.only;
+    withheld = is.withheld;
+    evidence = is.evidence;
+    value = same_value bound is.value;
+  }
 
 -- ---- the least cost in lowest terms
 

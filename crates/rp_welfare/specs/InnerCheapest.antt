@@ -1,12 +1,8 @@
--- Words that only the crate's own functions and their proofs need; no definition and no public clause rests on them.
-use Rattle.std.specs.Prelude.{◌≡◌, ℕ, ◌<◌, ◌≤◌, ◌⊎◌, List, length, slice_index}
+-- The cheapest of the first observations that equal or reach one. No definition and no public clause rests on these words.
+use Rattle.std.specs.Prelude.{◌≡◌, ℕ, ◌<◌, ◌≤◌, ◌⊎◌}
 use Rattle.rp_evidence.specs.Demand.{spending}
 use Rattle.rp_evidence.specs.Input.{TableInput, input_of_table}
 use Rattle.rp_evidence.specs.Welfare.{EqualsOrReaches}
-use Rattle.rp_evidence.specs.declared.demand.Bound.{Bound}
-use Rattle.rp_evidence.specs.declared.demand.Bound.TheVariants.{Shown}
-use Rattle.rp_farkas.specs.declared.entry.Pair.{Pair}
-use Rattle.rp_num.specs.Fraction.{Fraction, IsLowestTerms}
 use Rattle.rp_table.specs.Tables.{Observations}
 
 -- What the bundle of observation s costs at the prices.
@@ -24,9 +20,3 @@ pub record IsCheapestBelow (input : TableInput) (prices : ℕ → ℕ) (t end s 
   pub costs : spending input.goods prices (input.quantity s) ≡ cost
   pub least : (r : ℕ) → r < end → EqualsOrReaches input r t → cost ≤ spending input.goods prices (input.quantity r)
   pub first : (r : ℕ) → r < end → r < s → EqualsOrReaches input r t → cost < spending input.goods prices (input.quantity r)
-
--- The bound that shows the pair with the cost of its price side.
-abbrev pub IsShownFrom : List ℕ → Pair → Bound → Type 0
-IsShownFrom prices pair bound =
-    (value : Fraction) × (bound ≡ Shown value pair)
-    × IsLowestTerms (spending (length prices) (slice_index prices) (slice_index pair.x)) pair.den value
