@@ -1,8 +1,8 @@
--- What a bundle costs at the prices of an observation: the sum over the goods of price times quantity.
-use Rattle.std.specs.Prelude.{ℕ, ◌*◌, List, slice_index}
-use Rattle.rp_table.specs.Sums.{sum_below}
+-- What a bundle of its own costs at the prices of an observation (Varian 1982, section 1).
+use Rattle.std.specs.Prelude.{ℕ, List, slice_index}
+use Rattle.rp_table.specs.Spending.{spending}
 use Rattle.rp_table.specs.Tables.{Observations, goods_of, price_of}
 
 -- the cost of the bundle at the prices of observation s
 abbrev pub bundle_cost : Observations → List ℕ → ℕ → ℕ
-bundle_cost table bundle s = sum_below (goods_of table) (λ g. price_of table s g * slice_index bundle g)
+bundle_cost table bundle s = spending (goods_of table) (price_of table s) (slice_index bundle)

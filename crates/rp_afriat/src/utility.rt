@@ -1,15 +1,15 @@
-ghost use Rattle.std.specs.Prelude.{◌≡◌, ◌<◌, ◌≤◌, ◌^◌, ℕ, All, length};
+ghost use Rattle.std.specs.Prelude.{◌≡◌, ◌<◌, ◌≤◌, ℕ, All, length};
 ghost use Rattle.rp_evidence.specs.Afriat.{IsUtility, allowed_for};
 ghost use Rattle.rp_evidence.specs.AfriatEvidence.{AreOneEach, multiplier_in, utility_in};
 ghost use Rattle.rp_evidence.specs.StandardNumbers.{AllFit};
 ghost use Rattle.rp_table.specs.Cost.{IsCostsOf, cost_at};
-ghost use Rattle.rp_table.specs.Tables.{goods_of, records_of};
-ghost use Rattle.rp_table.specs.declared.TheConstants.{LARGEST};
+ghost use Rattle.rp_table.specs.Limits.{IsQuantity};
+ghost use Rattle.rp_table.specs.Tables.{goods_of};
 ghost use Rattle.rp_afriat.specs.Bundle.{bundle_cost};
 
 use crate::bounds::bound;
 use rp_evidence::Numbers;
-use rp_table::{Costs, Table};
+use rp_table::{Costs, Table, cost_of_bundle};
 
 /// The utility of a bundle of whole numbers, scaled as the table's quantities, under the numbers of an Afriat model:
 /// the least of the bounds that the observations set. No memory is taken.
@@ -18,7 +18,7 @@ pub fn utility_at(table: &Table, costs: &Costs, numbers: &Numbers, bundle: &[u32
     requires each { AreOneEach costs.now.n numbers.now }
     requires fit { AllFit costs.now.n (utility_in numbers.now) (multiplier_in numbers.now) }
     requires goods { length bundle.now ≡ goods_of table.now }
-    requires limits { All (λ q. q ≤ LARGEST) bundle.now }
+    requires limits { All IsQuantity bundle.now }
     ensures { IsUtility costs.now.n (cost_at costs.now) (utility_in numbers.now)
         (multiplier_in numbers.now)
         1 (bundle_cost table.now bundle.now) result }
@@ -37,7 +37,7 @@ fn bound_at(table: &Table, costs: &Costs, numbers: &Numbers, bundle: &[u32], s: 
     requires each { AreOneEach costs.now.n numbers.now }
     requires fit { AllFit costs.now.n (utility_in numbers.now) (multiplier_in numbers.now) }
     requires goods { length bundle.now ≡ goods_of table.now }
-    requires limits { All (λ q. q ≤ LARGEST) bundle.now }
+    requires limits { All IsQuantity bundle.now }
     requires observed { s < costs.now.n }
     ensures { result ≡ allowed_for (cost_at costs.now) (utility_in numbers.now)
         (multiplier_in numbers.now)
@@ -45,25 +45,7 @@ fn bound_at(table: &Table, costs: &Costs, numbers: &Numbers, bundle: &[u32], s: 
 {
     let u = numbers.u.as_slice()[s as usize];
     let lambda = numbers.lambda.as_slice()[s as usize];
-    bound(
-        u,
-        lambda,
-        cost_of_bundle(table, bundle, s),
-        costs.cost(s, s),
-    )
-}
-
-/// What the bundle costs at the prices of observation `s`.
-fn cost_of_bundle(table: &Table, bundle: &[u32], s: u32) -> u64
-    requires goods { length bundle.now ≡ goods_of table.now }
-    requires limits { All (λ q. q ≤ LARGEST) bundle.now }
-    requires observed { s < records_of table.now }
-    ensures exact { result ≡ bundle_cost table.now bundle.now s }
-    ensures below { result < 2 ^ 51 }
-{
-    let mut total = 0;
-    for g in 0..table.goods() {
-        total += u64::from(table.price(s, g)) * u64::from(bundle[g as usize]);
-    }
-    total
+    prove!(table.goods() > 0);
+    let cost = cost_of_bundle(table.prices(s), bundle);
+    bound(u, lambda, cost, costs.cost(s, s))
 }

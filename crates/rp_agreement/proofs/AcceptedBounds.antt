@@ -1,6 +1,7 @@
 -- What proves its verdict and is as it is given passes: demand and welfare.
 use Rattle.std.proofs.Common.{◌<◌, ℕ, List, Bool, IsTrue, Ok, arith, refl, sym, slice_index, slice_index_or}
-use Rattle.rp_agreement.specs.Given.{AreNewPrices, IsNewExpenditure}
+use Rattle.rp_table.specs.Limits.{IsExpenditure}
+use Rattle.rp_table.specs.NewPrices.{AreNewPrices}
 use Rattle.rp_check.specs.DemandFailure.{BoundHolds, DemandBoundsFail, DemandFails}
 use Rattle.rp_check.specs.ItemFailure.{shows_garp}
 use Rattle.rp_check.specs.PricesFailure.{PricesFail}
@@ -70,7 +71,7 @@ module _ (input : TableInput) (shown : Bool) where
       )
 
   pub demand_passes : (verdict : Garp) (prices : List ℕ) (m : ℕ) (part : DemandPart) → (IsTrue (shows_garp (GarpItem verdict)) → IsTrue shown)
-      → AreNewPrices input.goods prices → IsNewExpenditure m → ProvesDemand input prices m part → IsDemandGiven input (budget_of prices m) verdict part
+      → AreNewPrices input.goods prices → IsExpenditure m → ProvesDemand input prices m part → IsDemandGiven input (budget_of prices m) verdict part
       → DemandFails input shown prices m part (Ok tt)
   demand_passes (Ranks ranks) prices m (Bounds below strict inner goods) is_shown new spent proves given = (
     prices_pass input.goods prices new,

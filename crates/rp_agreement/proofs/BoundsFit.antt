@@ -2,7 +2,8 @@
 use Rattle.std.proofs.Common.{◌≡◌, ◌<◌, ◌≤◌, ◌+◌, ◌-◌, ◌*◌, ◌^◌, ◌==◌, ℕ, zero, suc, Bool, true, false, List, [], ◌∷◌, length, All, arith, inl, inr, subst, slice_index, if◌then◌else◌}
 use Rattle.std.proofs.lemmas.List.{get_or_default}
 use Rattle.std.proofs.lemmas.Nat.{mul-le}
-use Rattle.rp_agreement.specs.Given.{AreNewPrices, IsNewExpenditure}
+use Rattle.rp_table.specs.Limits.{IsExpenditure}
+use Rattle.rp_table.specs.NewPrices.{AreNewPrices}
 use Rattle.rp_evidence.specs.Demand.{IsBelow, IsInnerDemand, IsStrictlyBelow, NewBudget, spending}
 use Rattle.rp_evidence.specs.DemandEvidence.{ProvesDemand, ProvesWelfare, budget_of, bundle_of}
 use Rattle.rp_evidence.specs.DemandPrograms.{lower_program, upper_program}
@@ -110,7 +111,7 @@ module _ (input : TableInput) (limited : IsLimited input) (prices : List ℕ) (n
 
   -- ---- demand
 
-  module _ (m : ℕ) (spends : IsNewExpenditure m) where
+  module _ (m : ℕ) (spends : IsExpenditure m) where
     abbrev budget : NewBudget
     budget = budget_of prices m
 

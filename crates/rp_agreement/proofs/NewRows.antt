@@ -2,7 +2,7 @@
 use Rattle.std.proofs.Common.{◌≡◌, ◌<◌, ◌≤◌, ◌+◌, ◌*◌, ℕ, List, arith, drop, length}
 use Rattle.std.proofs.Math.Nat.{mul-le-mul_right}
 use Rattle.std.proofs.lemmas.List.Elements.{All-drop, All-take}
-use Rattle.rp_agreement.specs.Given.{AreNewPrices}
+use Rattle.rp_table.specs.NewPrices.{AreNewPrices}
 use Rattle.rp_table.specs.PriceLists.{IsPriceList, PriceList}
 use Rattle.rp_table.specs.Rows.{row_of, rows_count}
 use Rattle.rp_table.specs.declared.TheConstants.{LARGEST}

@@ -1,5 +1,5 @@
 -- What the searches give for a table, item by item (sources at each kind of evidence), and what it is that nothing is found wrong with it.
-use Rattle.std.specs.Prelude.{◌≡◌, ◌<◌, ◌≤◌, ℕ, List, All, length, Ok}
+use Rattle.std.specs.Prelude.{◌<◌, Ok}
 use Rattle.rp_afriat.specs.Verdict.{IsAfriatVerdict}
 use Rattle.rp_patch.specs.Clauses.{Finding}
 use Rattle.rp_effic.specs.Verdict.{IsEfficiencyVerdict}
@@ -13,21 +13,13 @@ use Rattle.rp_garp.specs.Verdict.{IsGarpVerdict}
 use Rattle.rp_homo.specs.Verdict.{IsHomotheticVerdict}
 use Rattle.rp_quasi.specs.Verdict.{IsQuasilinearVerdict}
 use Rattle.rp_support.specs.Verdict.{IsDemandGiven}
-use Rattle.rp_table.specs.declared.TheConstants.{LARGEST, LARGEST_EXPENDITURE}
+use Rattle.rp_table.specs.Limits.{IsExpenditure}
+use Rattle.rp_table.specs.NewPrices.{AreNewPrices}
 use Rattle.rp_welfare.specs.Verdict.{IsWelfareVerdict}
 
 -- Nothing is found wrong.
 abbrev pub Passes : Finding → Type 0
 Passes finding = finding (Ok tt)
-
--- New prices within their limits: one for each good.
-pub record AreNewPrices (goods : ℕ) (prices : List ℕ) : Type 0 where
-  pub one_each : length prices ≡ goods
-  pub fit : All (λ p. (1 ≤ p) × (p ≤ LARGEST)) prices
-
--- What is spent at new prices is within its limits.
-abbrev pub IsNewExpenditure : ℕ → Type 0
-IsNewExpenditure m = (1 ≤ m) × (m ≤ LARGEST_EXPENDITURE)
 
 -- The item is as the search for its kind gives it. Demand and welfare are given from this verdict on the axiom, at new
 -- prices that are within their limits.
@@ -38,7 +30,7 @@ IsGivenFrom input verdict (EfficiencyItem evidence) = IsEfficiencyVerdict input.
 IsGivenFrom input verdict (HomotheticItem own) = IsHomotheticVerdict input.n input.cost own
 IsGivenFrom input verdict (QuasiItem own) = IsQuasilinearVerdict input.n input.cost own
 IsGivenFrom input verdict (DemandItem prices m part) =
-    AreNewPrices input.goods prices × IsNewExpenditure m × IsDemandGiven input (budget_of prices m) verdict part
+    AreNewPrices input.goods prices × IsExpenditure m × IsDemandGiven input (budget_of prices m) verdict part
 IsGivenFrom input verdict (WelfareItem prices t part) =
     AreNewPrices input.goods prices × (t < input.n) × IsWelfareVerdict input prices t verdict part
 IsGivenFrom input verdict (RandomItem total part) = ⊥

@@ -1,7 +1,6 @@
 ghost use Rattle.std.specs.Prelude.{◌<◌, ◌≤◌, List, length, ℕ};
 ghost use Rattle.rp_afriat.specs.Verdict.{IsAfriatVerdict};
-ghost use Rattle.rp_agreement.specs.Given.{AreNewPrices, IsNewExpenditure, Passes};
-ghost use Rattle.rp_agreement.specs.Given.{AreNewPrices, IsNewExpenditure};
+ghost use Rattle.rp_agreement.specs.Given.{Passes};
 ghost use Rattle.rp_agreement.specs.Limited.{IsLimited};
 ghost use Rattle.rp_check.specs.AfriatFailure.{AfriatFails};
 ghost use Rattle.rp_check.specs.DemandFailure.{DemandFails};
@@ -40,6 +39,8 @@ ghost use Rattle.rp_patch.specs.Types.{AreRationalTypes};
 ghost use Rattle.rp_quasi.specs.Verdict.{IsQuasilinearVerdict};
 ghost use Rattle.rp_random.specs.Verdict.{IsRandomVerdict};
 ghost use Rattle.rp_support.specs.Verdict.{IsDemandGiven};
+ghost use Rattle.rp_table.specs.Limits.{IsExpenditure};
+ghost use Rattle.rp_table.specs.NewPrices.{AreNewPrices};
 ghost use Rattle.rp_table.specs.Tables.{IsTable, Observations};
 ghost use Rattle.rp_table.specs.declared.TheConstants.{RECORDS};
 ghost use Rattle.rp_types.specs.declared.TheConstants.{TYPES};
@@ -102,12 +103,12 @@ pub fn quasilinear_agrees()
 pub fn demand_agrees()
     ensures accepted { (input : TableInput) (verdict : Garp) (prices : List ℕ) (m : ℕ)
         (part : DemandPart)
-        → AreNewPrices input.goods prices → IsNewExpenditure m
+        → AreNewPrices input.goods prices → IsExpenditure m
         → ProvesDemand input prices m part → IsDemandGiven input (budget_of prices m) verdict part
         → Passes (DemandFails input (shows_garp (GarpItem verdict)) prices m part) }
     ensures readable { (input : TableInput) (verdict : Garp) (prices : List ℕ) (m : ℕ)
         (part : DemandPart)
-        → IsLimited input → AreNewPrices input.goods prices → IsNewExpenditure m
+        → IsLimited input → AreNewPrices input.goods prices → IsExpenditure m
         → ProvesDemand input prices m part → IsDemandGiven input (budget_of prices m) verdict part
         → FitsDemand prices m part }
 {}

@@ -14,7 +14,7 @@ use Rattle.rp_welfare.specs.Verdict.{IsWelfareVerdict}
 use Rattle.rp_answers.specs.Demands.{IsDemandItem}
 use Rattle.rp_answers.specs.Welfares.{IsWelfareItem}
 use Rattle.rp_agreement.proofs.AcceptedBounds.{demand_passes, welfare_passes}
-use Rattle.rp_agreement.specs.Given.{AreNewPrices}
+use Rattle.rp_table.specs.NewPrices.{AreNewPrices}
 use Rattle.rp_agreement.specs.Limited.{IsLimited}
 use Rattle.rp_agreement.proofs.BoundsFit.{demand_fits, welfare_fits}
 

@@ -1,21 +1,21 @@
-ghost use Rattle.std.specs.Prelude.{◌≡◌, ◌<◌, ◌≤◌, ◌^◌, All, length, slice_index};
+ghost use Rattle.std.specs.Prelude.{◌≡◌, ◌<◌, ◌≤◌, ◌^◌, length, slice_index};
 ghost use Rattle.rp_check.specs.PricesFailure.{ExpenditureFails, PricesFail};
 ghost use Rattle.rp_evidence.specs.Demand.{spending};
+ghost use Rattle.rp_table.specs.NewPrices.{AreNewPrices};
 ghost use Rattle.rp_table.specs.Tables.{goods_of, price_of, quantity_of, records_of};
 ghost use Rattle.rp_table.specs.declared.TheConstants.{LARGEST};
 
 use crate::input::Input;
 use crate::walk::fails;
 use rp_evidence::{Failure, Reason};
-use rp_table::{LARGEST, LARGEST_EXPENDITURE};
+use rp_table::{LARGEST, LARGEST_EXPENDITURE, cost_of_bundle, cost_of_numerators};
 
 /// New prices, one for each good and within their limits, beside the table that they are set against.
 #[derive(Clone, Copy)]
 pub struct NewPrices<'a> {
     pub input: Input<'a>,
     pub prices: &'a [u32],
-    ghost each_good: { length prices.now ≡ goods_of input.table.now },
-    ghost within: { All (λ p. (1 ≤ p) × (p ≤ LARGEST)) prices.now },
+    ghost new: { AreNewPrices (goods_of input.table.now) prices.now },
 }
 
 impl NewPrices<'_> {
@@ -36,11 +36,8 @@ impl NewPrices<'_> {
             (slice_index self.now.prices.now) (quantity_of self.now.input.table.now s) }
         ensures below { result < 2 ^ 51 }
     {
-        let mut total = 0;
-        for g in 0..self.input.table.goods() {
-            total += u64::from(self.price(g)) * u64::from(self.input.table.quantity(s, g));
-        }
-        total
+        prove!(self.input.table.goods() > 0);
+        cost_of_bundle(self.prices, self.input.table.bundle(s))
     }
 
     /// What numerators of the goods cost at the new prices.
@@ -50,11 +47,8 @@ impl NewPrices<'_> {
             (slice_index self.now.prices.now) (slice_index numerators.now) }
         ensures below { result < 2 ^ 92 }
     {
-        let mut total = 0;
-        for g in 0..self.input.table.goods() {
-            total += u128::from(self.price(g)) * u128::from(numerators[g as usize]);
-        }
-        total
+        prove!(self.input.table.goods() > 0);
+        cost_of_numerators(self.prices, numerators)
     }
 
     /// What numerators of the goods cost at the prices of observation `t`.
@@ -64,11 +58,8 @@ impl NewPrices<'_> {
         ensures exact { result ≡ spending (goods_of self.now.input.table.now)
             (price_of self.now.input.table.now t) (slice_index numerators.now) }
     {
-        let mut total = 0;
-        for g in 0..self.input.table.goods() {
-            total += u128::from(self.input.table.price(t, g)) * u128::from(numerators[g as usize]);
-        }
-        total
+        prove!(self.input.table.goods() > 0);
+        cost_of_numerators(self.input.table.prices(t), numerators)
     }
 }
 

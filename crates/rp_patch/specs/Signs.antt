@@ -5,12 +5,12 @@ use Rattle.std.specs.List.{range_with_len}
 use Rattle.std.specs.Ordering.{nat_cmp}
 use Rattle.std.specs.declared.cmp.Ordering.{Ordering}
 use Rattle.std.specs.declared.cmp.Ordering.TheVariants.{Less, Equal, Greater}
-use Rattle.rp_table.specs.Sums.{sum_below}
+use Rattle.rp_table.specs.Spending.{spending}
 use Rattle.rp_patch.specs.Choices.{RandomInput}
 
 -- What choice i costs at the prices of budget k.
 abbrev pub cost_on : RandomInput → ℕ → ℕ → ℕ
-cost_on input k i = sum_below input.goods (λ g. input.price k g * input.quantity i g)
+cost_on input k i = spending input.goods (input.price k) (input.quantity i)
 
 -- 1 for greater, 0 for equal, -1 for less.
 abbrev pub sign_of : Ordering → ℤ

@@ -1,42 +1,24 @@
 //! On which side of each budget the bundle of a choice lies.
-ghost use Rattle.std.specs.Prelude.{◌≡◌, ◌<◌, ◌≤◌, ◌*◌, ◌^◌, All, IfOk, length, slice_index};
-ghost use Rattle.rp_table.specs.Sums.{sum_below};
+ghost use Rattle.std.specs.Prelude.{◌≡◌, ◌<◌, ◌^◌, IfOk, length};
 ghost use Rattle.rp_patch.specs.Choices.{AreChoicesFrom, input_of};
-ghost use Rattle.rp_patch.specs.Signs.{cost_on as cost_of, sign_to as sign_of_choice};
+ghost use Rattle.rp_patch.specs.Signs.{cost_on as cost_of_choice, sign_to as sign_of_choice};
 ghost use Rattle.rp_patch.specs.Signs.{signs_of as signs_of_choice};
 
 use rp_num::NoMemory;
-use rp_table::{Budgets, Choices, LARGEST};
+use rp_table::{Budgets, Choices, cost_of_bundle};
 use std::alloc::Global;
 use std::cmp::Ordering;
-
-/// The sum of price times quantity.
-fn cost(prices: &[u32], quantities: &[u32]) -> u64
-    requires goods { length prices.now ≡ length quantities.now }
-    requires few { length prices.now ≤ 16 }
-    requires prices { All (λ p. (1 ≤ p) × (p ≤ LARGEST)) prices.now }
-    requires quantities { All (λ q. q ≤ LARGEST) quantities.now }
-    ensures exact { result ≡ sum_below (length prices.now)
-        (λ g. slice_index prices.now g * slice_index quantities.now g) }
-    ensures below { result < 2 ^ 51 }
-{
-    let mut total = 0;
-    for g in 0..prices.len() {
-        total += u64::from(prices[g]) * u64::from(quantities[g]);
-    }
-    total
-}
 
 /// What choice `i` costs at the prices of budget `k`.
 fn cost_on(budgets: &Budgets, choices: &Choices, k: u32, i: u32) -> u64
     requires from { AreChoicesFrom budgets.now choices.now }
     requires budget { k < length budgets.now.w }
     requires choice { i < length choices.now.budget }
-    ensures exact { result ≡ cost_of (input_of budgets.now choices.now) k i }
+    ensures exact { result ≡ cost_of_choice (input_of budgets.now choices.now) k i }
     ensures below { result < 2 ^ 51 }
 {
     prove!(budgets.goods() <= 16);
-    cost(budgets.row(k), choices.row(i))
+    cost_of_bundle(budgets.row(k), choices.row(i))
 }
 
 /// 1 where choice `i`, scaled to cost the income of its budget, costs more than the income of budget `k`, -1 where it
