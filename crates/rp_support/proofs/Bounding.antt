@@ -16,7 +16,7 @@ use Rattle.rp_evidence.specs.declared.demand.Bound.TheVariants.{Shown, Wide}
 use Rattle.rp_evidence.proofs.DemandBounds.{IsPriced, prices_feasible}
 use Rattle.rp_evidence.proofs.DemandLaws.{enough_where_kept}
 use Rattle.rp_simplex.specs.Evidence.{IsEvidence}
-use Rattle.rp_simplex.specs.Outcome.{IsOutcome, PassesWidth}
+use Rattle.rp_simplex.specs.Outcome.{IsOutcome, EndsPastWidth}
 use Rattle.rp_simplex.specs.SameOutcome.{IsSameOutcome}
 use Rattle.rp_simplex.specs.declared.outcome.Outcome.{Outcome}
 use Rattle.rp_simplex.specs.declared.outcome.Outcome.TheVariants.{Optimal, Wide as WideRun}
@@ -47,7 +47,7 @@ module _ (p : LinearProgram) (g : ℕ) where
   withheld o step e outcome only = record {
     shows = subst (λ r. IsOutcome p r) e outcome;
     withheld = λ other. (
-      (λ same. subst (λ n. PassesWidth p n) (ap step_in same) (subst (λ r. IsOutcome p r) e outcome)),
+      (λ same. subst (λ n. EndsPastWidth p n) (ap step_in same) (subst (λ r. IsOutcome p r) e outcome)),
       (λ passes. ap (λ n. Wide n) (subst (λ r. IsSameOutcome p r (WideRun other)) e (only (WideRun other) passes))),
     );
   }

@@ -11,19 +11,19 @@ use Rattle.rp_farkas.specs.Best.{HasNoBound}
 use Rattle.rp_farkas.specs.LinearProgram.{LinearProgram}
 use Rattle.rp_farkas.specs.PairCheck.{IsShownPair}
 use Rattle.rp_num.specs.Fraction.{IsLowestTerms}
-use Rattle.rp_simplex.specs.Outcome.{EndsOptimal, PassesWidth}
+use Rattle.rp_simplex.specs.Outcome.{EndsOptimal, EndsPastWidth}
 
 -- A shown bound is the price of row g in the pair at which the run of the program ends, in lowest terms; a withheld one has
 -- the step at which the run passes its width.
 abbrev pub ShowsBound : LinearProgram → ℕ → Bound → Type 0
 ShowsBound p g (Shown value pair) =
     EndsOptimal p pair × IsShownPair p pair × IsLowestTerms (slice_index pair.x g) pair.den value
-ShowsBound p g (Wide step) = PassesWidth p step
+ShowsBound p g (Wide step) = EndsPastWidth p step
 
 -- The bound is that of the program, and it is withheld at a step exactly where the run passes its width at that step.
 pub record IsBoundOf (p : LinearProgram) (g : ℕ) (bound : Bound) : Type 0 where
   pub shows : ShowsBound p g bound
-  pub withheld : (step : ℕ) → (bound ≡ Wide step) ↔ PassesWidth p step
+  pub withheld : (step : ℕ) → (bound ≡ Wide step) ↔ EndsPastWidth p step
 
 -- One pair of bounds for each good, each of them that of its program.
 pub record AreBoundsOf (input : TableInput) (budget : NewBudget) (below : List ℕ) (goods : List GoodBounds) : Type 0 where
