@@ -23,8 +23,8 @@ use Rattle.rp_patch.specs.Patches.{IsPatchList, PatchList}
 use Rattle.rp_patch.specs.RandomFailure.{ComesInOrder, HasFitNumbers, IsWithinWidth, PartsFail, RandomFails, part_at}
 use Rattle.rp_patch.specs.Types.{AreRationalTypes, IsRationalType}
 use Rattle.rp_patch.proofs.Sharing.{at_most_all, makes_all}
-use Rattle.rp_random.specs.Verdict.{IsMadeFrom, IsRandomVerdict, IsShownFrom, parts_of}
-use Rattle.rp_random.proofs.Shown.{fit_parts, heavy, partial, same}
+use Rattle.rp_random.specs.Verdict.{IsOutcomeVerdict, IsRandomVerdict, IsPairVerdict, shares_of}
+use Rattle.rp_random.proofs.VerdictLemmas.{fit_parts, heavy, partial, same}
 use Rattle.rp_simplex.specs.Outcome.{IsOutcome}
 use Rattle.rp_simplex.specs.declared.outcome.Outcome.{Outcome}
 use Rattle.rp_simplex.specs.declared.outcome.Outcome.TheVariants.{Optimal, Unbounded, Wide as PassedWidth}
@@ -46,16 +46,16 @@ module _ (types : List (List ℕ)) (entries : List Entry) where
   abbrev as_part : Entry → Share
   as_part entry = record { patches = slice_index_or types entry.at []; weight = entry.value }
 
-  as_many : length (parts_of types entries) ≡ length entries
+  as_many : length (shares_of types entries) ≡ length entries
   as_many = length-map entries as_part
 
-  made_from : (k : ℕ) → k < length entries → part_at (parts_of types entries) k ≡ as_part (slice_index_or entries k no_entry)
+  made_from : (k : ℕ) → k < length entries → part_at (shares_of types entries) k ≡ as_part (slice_index_or entries k no_entry)
   made_from k l = get_or-map as_part entries k no_entry no_part l
 
-  type_from : (k : ℕ) → k < length entries → (part_at (parts_of types entries) k).patches ≡ slice_index_or types (slice_index_or entries k no_entry).at []
+  type_from : (k : ℕ) → k < length entries → (part_at (shares_of types entries) k).patches ≡ slice_index_or types (slice_index_or entries k no_entry).at []
   type_from k l = ap (λ (q : Share). q.patches) (made_from k l)
 
-  weight_from : (k : ℕ) → k < length entries → (part_at (parts_of types entries) k).weight ≡ (slice_index_or entries k no_entry).value
+  weight_from : (k : ℕ) → k < length entries → (part_at (shares_of types entries) k).weight ≡ (slice_index_or entries k no_entry).value
   weight_from k l = ap (λ (q : Share). q.weight) (made_from k l)
 
 module _ (p : PatchList) (is : IsPatchList p) (types : List (List ℕ)) (few : length types ≤ TYPES) (all : AreRationalTypes p types) where
@@ -70,7 +70,7 @@ module _ (p : PatchList) (is : IsPatchList p) (types : List (List ℕ)) (few : l
   }
 
   module _ (pair : Pair) (shown : IsShownPair (random_program p types) pair) where
-    numbers_fit : (weights : List ℕ) → All IsWithinWidth weights → HasFitNumbers pair.den (parts_of types pair.y) weights
+    numbers_fit : (weights : List ℕ) → All IsWithinWidth weights → HasFitNumbers pair.den (shares_of types pair.y) weights
     numbers_fit weights fit = record {
       fraction = shown.den_positive;
       den_fits = omega (arith, shown.den_fits);
@@ -79,7 +79,7 @@ module _ (p : PatchList) (is : IsPatchList p) (types : List (List ℕ)) (few : l
     }
 
     rises : (j k : ℕ) → k ≡ j + 1 → k < length pair.y
-        → slice_cmp nat_cmp (part_at (parts_of types pair.y) j).patches (part_at (parts_of types pair.y) k).patches ≡ Less
+        → slice_cmp nat_cmp (part_at (shares_of types pair.y) j).patches (part_at (shares_of types pair.y) k).patches ≡ Less
     rises j k next l =
         let before = slice_index_or pair.y j no_entry in
         let here = slice_index_or pair.y k no_entry in
@@ -93,29 +93,29 @@ module _ (p : PatchList) (is : IsPatchList p) (types : List (List ℕ)) (few : l
         let ordered = Less-from_sorted (slice_cmp nat_cmp) types before.at here.at [] all.rising less (shown.y_listed.columns k no_entry l) in
         (λ i. slice_cmp nat_cmp (type_from types pair.y j j_in i) (type_from types pair.y k l i)) ∙ ordered
 
-    in_order : (k : ℕ) → k < length pair.y → ComesInOrder (parts_of types pair.y) k
+    in_order : (k : ℕ) → k < length pair.y → ComesInOrder (shares_of types pair.y) k
     in_order k l = elim (cases_eq k 0) [
       | inl first ↦ inl first
       | inr later ↦ inr (rises (k - 1) k (omega (arith, later)) l)
     ]
 
-    parts_pass : PartsFail p (parts_of types pair.y) (Ok tt)
+    parts_pass : PartsFail p (shares_of types pair.y) (Ok tt)
     parts_pass k l =
         let listed : k < length pair.y = omega (arith, l, as_many types pair.y) in
-        let part = part_at (parts_of types pair.y) k in
-        let rational : IsRationalType p part.patches = (partial p is types all pair shown).rational part (k, l, get_or_default (parts_of types pair.y) k part no_part l) in
+        let part = part_at (shares_of types pair.y) k in
+        let rational : IsRationalType p part.patches = (partial p is types all pair shown).rational part (k, l, get_or_default (shares_of types pair.y) k part no_part l) in
         let some : 0 < part.weight = subst (λ (w : ℕ). 0 < w) (sym (weight_from types pair.y k listed)) (shown.y_listed.positive k no_entry listed) in
         (rational.0, (some, (rational, (in_order k listed, tt))))
 
-    mixture_passes : weight_of (parts_of types pair.y) ≡ pair.den * p.total → RandomFails p p.total (Mixture pair.den (parts_of types pair.y)) (Ok tt)
+    mixture_passes : weight_of (shares_of types pair.y) ≡ pair.den * p.total → RandomFails p p.total (Mixture pair.den (shares_of types pair.y)) (Ok tt)
     mixture_passes whole =
-        let exact = makes_all p is pair.den (parts_of types pair.y) (partial p is types all pair shown) whole in
+        let exact = makes_all p is pair.den (shares_of types pair.y) (partial p is types all pair shown) whole in
         (refl, ((numbers_fit [] (λ k d l. absurd (omega (arith, l))), (parts_pass, (exact.exact, tt))), tt))
 
-    violation_passes : weight_of (parts_of types pair.y) ≢ pair.den * p.total → RandomFails p p.total (Violated pair.den (parts_of types pair.y) pair.x) (Ok tt)
+    violation_passes : weight_of (shares_of types pair.y) ≢ pair.den * p.total → RandomFails p p.total (Violated pair.den (shares_of types pair.y) pair.x) (Ok tt)
     violation_passes less =
         let found = partial p is types all pair shown in
-        let most = at_most_all p is pair.den (parts_of types pair.y) found in
+        let most = at_most_all p is pair.den (shares_of types pair.y) found in
         let fit : All IsWithinWidth pair.x = λ k d l. omega (arith, shown.x_fits k d l) in (
           refl,
           (
@@ -136,17 +136,17 @@ module _ (p : PatchList) (is : IsPatchList p) (types : List (List ℕ)) (few : l
           ),
         )
 
-    pair_passes : (part : RandomPart) → IsShownFrom p types pair part → RandomFails p p.total part (Ok tt)
+    pair_passes : (part : RandomPart) → IsPairVerdict p types pair part → RandomFails p p.total part (Ok tt)
     pair_passes (Mixture den parts) h = subst (λ (d : ℕ). RandomFails p p.total (Mixture d parts) (Ok tt)) (sym h.0)
         (subst (λ (ps : List Share). RandomFails p p.total (Mixture pair.den ps) (Ok tt)) (sym h.1)
         (mixture_passes (ap weight_of (sym h.1) ∙ h.2 ∙ ap (λ d. d * p.total) h.0)))
     pair_passes (Violated den parts weights) h = subst (λ (d : ℕ). RandomFails p p.total (Violated d parts weights) (Ok tt)) (sym h.0)
         (subst (λ (ps : List Share). RandomFails p p.total (Violated pair.den ps weights) (Ok tt)) (sym h.1)
-        (subst (λ (ws : List ℕ). RandomFails p p.total (Violated pair.den (parts_of types pair.y) ws) (Ok tt)) (sym h.2)
+        (subst (λ (ws : List ℕ). RandomFails p p.total (Violated pair.den (shares_of types pair.y) ws) (Ok tt)) (sym h.2)
         (violation_passes (λ e. h.3 (ap weight_of h.1 ∙ e ∙ ap (λ d. d * p.total) (sym h.0))))))
     pair_passes (Wide step) h = absurd h
 
-  made_passes : (outcome : Outcome) (part : RandomPart) → IsOutcome (random_program p types) outcome → IsMadeFrom p types outcome part → RandomFails p p.total part (Ok tt)
+  made_passes : (outcome : Outcome) (part : RandomPart) → IsOutcome (random_program p types) outcome → IsOutcomeVerdict p types outcome part → RandomFails p p.total part (Ok tt)
   made_passes (Optimal pair) part run made = pair_passes pair (outcome_shows (random_program p types) (Optimal pair) within_limits run).0 part made
   made_passes (PassedWidth step) part run made = subst (λ (q : RandomPart). RandomFails p p.total q (Ok tt)) (sym made) (refl, (tt, tt))
   made_passes (Unbounded den point ray) part run made = absurd made

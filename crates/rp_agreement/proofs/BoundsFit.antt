@@ -33,7 +33,7 @@ use Rattle.rp_num.specs.Fraction.{Fraction, FitsPart, FitsWidth, IsLowestTerms}
 use Rattle.rp_num.specs.Spelled.{IsReduced}
 use Rattle.rp_num.proofs.Coprime.{IsGcd-exists}
 use Rattle.rp_num.proofs.Lowest.{FitsWidth-divided, IsLowestTerms-divided, IsLowestTerms-itself, same_IsLowestTerms}
-use Rattle.rp_simplex.specs.Outcome.{IsOutcome, PassesWidth}
+use Rattle.rp_simplex.specs.Outcome.{IsOutcome, EndsPastWidth}
 use Rattle.rp_simplex.specs.Evidence.{IsEvidence}
 use Rattle.rp_support.specs.Bounds.{AreBoundsOf, ShowsBound}
 use Rattle.rp_support.specs.Verdict.{IsDemandGiven}
@@ -83,7 +83,7 @@ pair_fits p pair value num few shown small lowest = (
   entries_fit p.cols pair.y few shown.y_listed,
 )
 
-step_fits : (p : LinearProgram) (step : ℕ) → PassesWidth p step → FitsLong step
+step_fits : (p : LinearProgram) (step : ℕ) → EndsPastWidth p step → FitsLong step
 step_fits p step passes = omega (arith, passes.step_is)
 
 good_fits : (p : LinearProgram) (g : ℕ) (bound : Bound) → p.cols ≤ 2 ^ 31 → g < p.rows → ShowsBound p g bound → FitsBound bound

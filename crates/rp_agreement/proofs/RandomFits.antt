@@ -17,7 +17,7 @@ use Rattle.rp_patch.specs.Mixtures.{random_program}
 use Rattle.rp_patch.specs.Patches.{IsPatchList, PatchList}
 use Rattle.rp_patch.specs.RandomEvidence.{ProvesRandom}
 use Rattle.rp_patch.specs.Types.{IsRationalType, IsType}
-use Rattle.rp_random.specs.Verdict.{IsMadeFrom, IsRandomVerdict, parts_of}
+use Rattle.rp_random.specs.Verdict.{IsOutcomeVerdict, IsRandomVerdict, shares_of}
 use Rattle.rp_simplex.specs.Outcome.{EndsOptimal, IsOutcome}
 use Rattle.rp_simplex.specs.declared.outcome.Outcome.{Outcome}
 use Rattle.rp_simplex.specs.declared.outcome.Outcome.TheVariants.{Optimal, Unbounded, Wide as PassedWidth}
@@ -30,7 +30,7 @@ module _ (p : LinearProgram) (pair : Pair) (ends : EndsOptimal p pair) where
 
   price_fits : (s : ℕ) → s < p.rows → slice_index pair.x s < 2 ^ 63
   price_fits s s_in =
-      subst (λ (z : ℤ). FitsEvidence (unsigned_abs z)) (sym (ends.x_shown s s_in)) (ends.within.entries_fit p.rows (suc s) (omega arith) (omega (arith, s_in)))
+      subst (λ (z : ℤ). FitsEvidence (unsigned_abs z)) (sym (ends.x_at s s_in)) (ends.within.entries_fit p.rows (suc s) (omega arith) (omega (arith, s_in)))
 
   prices_fit : All FitsLong pair.x
   prices_fit k d within = omega (arith, price_fits k (omega (arith, within, ends.x_length)), get_or_default pair.x k d 0 within)
@@ -42,7 +42,7 @@ patches_fit p type valid is k d within =
     omega (arith, valid.few_patches, is.patch k (omega (arith, within, is.one_each)), get_or_default type k d 0 within)
 
 -- the weights are those of the entries
-weights_fit : (types : List (List ℕ)) (entries : List Entry) → All (λ e. FitsEvidence e.value) entries → All (λ part. FitsLong part.weight) (parts_of types entries)
+weights_fit : (types : List (List ℕ)) (entries : List Entry) → All (λ e. FitsEvidence e.value) entries → All (λ part. FitsLong part.weight) (shares_of types entries)
 weights_fit types [] all k d within = absurd (omega (arith, within))
 weights_fit types (e ∷ es) all zero d within = omega (arith, all 0 e (omega arith))
 weights_fit types (e ∷ es) all (suc k) d within = weights_fit types es (all_rest (λ e. FitsEvidence e.value) e es all) k d (omega (arith, within))
@@ -51,7 +51,7 @@ module _ (p : PatchList) (types : List (List ℕ)) (valid : IsPatchList p) where
   total_fits : FitsLong p.total
   total_fits = omega (arith, valid.few_units)
 
-  shares_fit : (pair : Pair) (parts : List Share) → EndsOptimal (random_program p types) pair → parts ≡ parts_of types pair.y
+  shares_fit : (pair : Pair) (parts : List Share) → EndsOptimal (random_program p types) pair → parts ≡ shares_of types pair.y
       → ((part : Share) → Contains parts part → IsRationalType p part.patches) → All FitsShare parts
   shares_fit pair parts ends are rational k d within = (
     patches_fit p (get_or parts k d).patches valid (rational (get_or parts k d) (Contains-get_or parts k d within)).0,
@@ -61,7 +61,7 @@ module _ (p : PatchList) (types : List (List ℕ)) (valid : IsPatchList p) where
   pub random_fits : (part : RandomPart) → ProvesRandom p p.total part → IsRandomVerdict p types part → FitsRandom p.total part
   random_fits part proves given = go given.outcome part given.run given.made proves
     where
-      go : (outcome : Outcome) (part : RandomPart) → IsOutcome (random_program p types) outcome → IsMadeFrom p types outcome part → ProvesRandom p p.total part → FitsRandom p.total part
+      go : (outcome : Outcome) (part : RandomPart) → IsOutcome (random_program p types) outcome → IsOutcomeVerdict p types outcome part → ProvesRandom p p.total part → FitsRandom p.total part
       go (Optimal pair) (Mixture den parts) ends (den_is, are, whole) (total, mixture) = (
         subst FitsLong (sym den_is) (den_fits (random_program p types) pair ends),
         shares_fit pair parts ends are mixture.rational,

@@ -5,7 +5,8 @@ use Rattle.std.proofs.lemmas.Int.{ints}
 use Rattle.std.proofs.lemmas.List.{get_or_default}
 use Rattle.rp_num.specs.Spelled.{FitsSum, IsReduced}
 use Rattle.rp_afriat.specs.Verdict.{IsAfriatVerdict}
-use Rattle.rp_effic.specs.Verdict.{IsAt, IsEfficiencyVerdict}
+use Rattle.rp_effic.specs.Verdict.{IsEfficiencyVerdict}
+use Rattle.rp_pref.specs.Violation.{IsVerdictOn}
 use Rattle.rp_evidence.specs.AfriatEvidence.{ProvesAfriat}
 use Rattle.rp_evidence.specs.Efficiency.{BoundsFromAbove, ProvesEfficiency}
 use Rattle.rp_evidence.specs.Garp.{ProvesGarp, ProvesOfPreference}
@@ -55,7 +56,7 @@ module _ (n : ℕ) (c : ℕ → ℕ → ℕ) (few : n ≤ RECORDS) where
   afriat_fits (NoModel walk) proves given = walk_fits n few (IsWeak c 1 1) walk proves.0
   afriat_fits (Wide at) proves (meets, (count, utility, multiplier, standard, first)) = omega (arith, few, first.observed)
 
-  at_fits : (num den : ℕ) (at : Garp) → ProvesOfPreference n (IsWeak c num den) (IsStrict c num den) at → IsAt n (IsWeak c num den) (IsStrict c num den) at → FitsGarp at
+  at_fits : (num den : ℕ) (at : Garp) → ProvesOfPreference n (IsWeak c num den) (IsStrict c num den) at → IsVerdictOn n (IsWeak c num den) (IsStrict c num den) at → FitsGarp at
   at_fits num den (Ranks ranks) proves given = counts_fit n few (IsWeak c num den) ranks given
   at_fits num den (Cycle walk) proves given = walk_fits n few (IsWeak c num den) walk proves.0
 

@@ -14,8 +14,8 @@ use Rattle.std.proofs.lemmas.Map.Keys.{Less-from_sorted}
 use Rattle.std.proofs.lemmas.Nat.{div-mul-add, mod-mul-add, mul-add-lt}
 use Rattle.rp_evidence.specs.Efficiency.{IsRatio}
 use Rattle.rp_evidence.proofs.Ratios.{ratio_same}
-use Rattle.rp_effic.specs.RatioOrder.{cross_cmp, cross_total, level_den}
-use Rattle.rp_effic.specs.Ratios.{HasRatios, Rise}
+use Rattle.rp_effic.specs.InnerRatioOrder.{cross_cmp, cross_total, level_den}
+use Rattle.rp_effic.specs.InnerRatios.{HasRatios, Rise}
 use Rattle.rp_effic.specs.declared.ratio.Ratio.{Ratio}
 
 -- the ratio of the pair at this place is in the list, where it is at most 1

@@ -1,19 +1,18 @@
 -- The first ratio with a closed walk of weak steps is the index.
-use Rattle.std.proofs.Common.{◌≡◌, ◌<◌, ◌≤◌, ◌*◌, ◌+◌, ℕ, Bool, List, [], ◌∷◌, length, get_or, inl, inr, refl, sym, ap, subst, ◌∙◌, arith}
+use Rattle.std.proofs.Common.{◌≡◌, ◌<◌, ◌≤◌, ◌*◌, ◌+◌, ℕ, List, [], ◌∷◌, length, get_or, inl, inr, refl, sym, ap, subst, ◌∙◌, arith}
 use Rattle.std.proofs.Math.Nat.{mul-le-mul_left, mul-lt-mul_of_pos_left, lt_of_mul-lt-mul_left}
-use Rattle.std.proofs.lemmas.Bool.{cases_lt, cases_order, false≢true}
-use Rattle.std.proofs.lemmas.List.{get_or_default, length-map}
+use Rattle.std.proofs.lemmas.Bool.{cases_lt, cases_order}
+use Rattle.std.proofs.lemmas.List.{get_or_default}
 use Rattle.std.proofs.lemmas.Nat.{mul-add-lt}
 use Rattle.rp_num.specs.Fraction.{IsLowestTerms}
 use Rattle.rp_evidence.specs.Efficiency.{IsEfficiencyIndex, IsRatio}
 use Rattle.rp_evidence.proofs.Index.{NoLowerCycle, closed_rises, index_by_cycle, index_same}
 use Rattle.rp_table.specs.Cost.{CostTable, IsCostTable, cost_at}
-use Rattle.rp_effic.specs.Cycles.{HasCycle, cycle_values, has_cycle, has_cycle-true, true-has_cycle}
-use Rattle.rp_effic.specs.Places.{IsFirstTrue}
-use Rattle.rp_effic.specs.RatioOrder.{level_den}
-use Rattle.rp_effic.specs.Ratios.{AreRatios}
+use Rattle.rp_effic.specs.InnerCycles.{HasCycle, HasCycleFrom}
+use Rattle.rp_effic.specs.Monotone.{IsFirstTrue}
+use Rattle.rp_effic.specs.InnerRatioOrder.{level_den}
+use Rattle.rp_effic.specs.InnerRatios.{AreRatios}
 use Rattle.rp_effic.specs.declared.ratio.Ratio.{Ratio}
-use Rattle.rp_effic.proofs.Asked.{value_is}
 
 -- every cost between observations is positive
 pub cost_positive : (costs : CostTable) → IsCostTable costs → (s t : ℕ) → s < costs.n → t < costs.n → 0 < cost_at costs s t
@@ -22,17 +21,15 @@ cost_positive costs valid s t s_in t_in =
     let limits = valid.limits (s * costs.n + t) 0 within in
     omega (arith, limits.0)
 
-module _ (costs : CostTable) (valid : IsCostTable costs) (ratios : List Ratio) (are : AreRatios costs.n (cost_at costs) ratios) (place : ℕ) (first : IsFirstTrue (cycle_values costs ratios) place) where
-  has_test : Ratio → Bool
-  has_test r = has_cycle costs.n (cost_at costs) r.part r.whole
-
-  own : (s : ℕ) → s < costs.n → 0 < cost_at costs s s
-  own s s_in = cost_positive costs valid s s s_in s_in
+module _ (costs : CostTable) (valid : IsCostTable costs) (ratios : List Ratio) (are : AreRatios costs.n (cost_at costs) ratios) (place : ℕ) (first : IsFirstTrue (length ratios) (HasCycleFrom costs ratios) place) where
+  spent : (s : ℕ) → s < costs.n → 0 < cost_at costs s s
+  spent s s_in = cost_positive costs valid s s s_in s_in
 
   -- a ratio with a cycle stands at the place or after it
   not_before : (k : ℕ) (r : Ratio) → k < length ratios → get_or ratios k r ≡ r → HasCycle costs.n (cost_at costs) r.part r.whole → place ≤ k
   not_before k r within there cycle = elim (cases_lt k place) [
-    | inl earlier ↦ absurd (false≢true (sym (first.none_before k earlier) ∙ (value_is costs ratios k r within there ∙ true-has_cycle costs.n (cost_at costs) r.part r.whole cycle)))
+    | inl earlier ↦ absurd (first.none_before k earlier
+        (λ d. subst (λ (x : Ratio). HasCycle costs.n (cost_at costs) x.part x.whole) (sym (get_or_default ratios k d r within ∙ there)) cycle))
     | inr later ↦ later
   ]
 
@@ -49,7 +46,7 @@ module _ (costs : CostTable) (valid : IsCostTable costs) (ratios : List Ratio) (
       let top : c u u * r.part ≤ c u u * r.whole = mul-le-mul_left (c u u) r.level.1 in
       let small : c u v < c u u = lt_of_mul-lt-mul_left r.whole (omega arith) in
       let a = are.complete u v u_in v_in (omega arith) in
-      let later = not_before a.0 a.1 a.2 a.3 (walk, closed_rises costs.n (c u v) (c u u) a.1.part a.1.whole c walk (own u u_in) (omega (arith, a.4)) closed) in
+      let later = not_before a.0 a.1 a.2 a.3 (walk, closed_rises costs.n (c u v) (c u u) a.1.part a.1.whole c walk (spent u u_in) (omega (arith, a.4)) closed) in
       after a.0 a.1 a.2 a.3 a.4 later
     where
       apart : (y : Ratio) → IsRatio (cost_at costs) y.part y.whole u v → r.part * y.whole ≤ y.part * r.whole → ⊥
@@ -69,10 +66,8 @@ module _ (costs : CostTable) (valid : IsCostTable costs) (ratios : List Ratio) (
 
   index_there : (r : Ratio) → ((d : Ratio) → get_or ratios place d ≡ r) → IsEfficiencyIndex costs.n (cost_at costs) r.part r.whole
   index_there r there =
-      let within = place_within in
-      let long = length-map ratios (λ (r : Ratio). has_cycle costs.n (cost_at costs) r.part r.whole) in
-      let cycle = has_cycle-true costs.n (cost_at costs) r.part r.whole (sym (value_is costs ratios place r within (there r)) ∙ first.true_there (omega (arith, long))) in
-      index_by_cycle costs.n (cost_at costs) own r.part r.whole cycle.0 r.level cycle.1 (none_lower r there)
+      let cycle = subst (λ (x : Ratio). HasCycle costs.n (cost_at costs) x.part x.whole) (there r) (first.holds_there place_within r) in
+      index_by_cycle costs.n (cost_at costs) spent r.part r.whole cycle.0 r.level cycle.1 (none_lower r there)
 
   pub index_at_place : (r : Ratio) (num den : ℕ) → get_or ratios place r ≡ r → IsLowestTerms r.part r.whole (record { num = num; den = den }) → IsEfficiencyIndex costs.n (cost_at costs) num den
   index_at_place r num den there lowest =

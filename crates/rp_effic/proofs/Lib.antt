@@ -1,6 +1,6 @@
-pub mod Asked
-pub mod AtLevel
+pub mod CycleTests
+pub mod Returns
 pub mod Collected
-pub mod Halving
+pub mod FirstTrueLemmas
 pub mod Indexed
 pub mod SameVerdicts

@@ -1,6 +1,5 @@
-pub mod Counted
-pub mod Cycles
-pub mod Places
-pub mod RatioOrder
-pub mod Ratios
+pub mod InnerCycles
+pub mod Monotone
+pub mod InnerRatioOrder
+pub mod InnerRatios
 pub mod Verdict

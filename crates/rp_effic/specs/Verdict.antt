@@ -1,14 +1,12 @@
 -- The evidence that is given for the efficiency index (Afriat 1973): which fraction, which ranks, and which walks.
-use Rattle.std.specs.Prelude.{◌≡◌, ◌≢◌, ◌<◌, ◌^◌, ◌++◌, ◌∷◌, [], ℕ, List}
+use Rattle.std.specs.Prelude.{◌≡◌, ◌≢◌, ◌<◌, ◌^◌, [], ℕ, List}
 use Rattle.rp_num.specs.Fraction.{IsLowestTerms}
 use Rattle.rp_evidence.specs.Count.{AreCounts}
-use Rattle.rp_evidence.specs.First.{IsFirstRelated}
 use Rattle.rp_evidence.specs.Preference.{IsStrict, IsWeak}
 use Rattle.rp_evidence.specs.Walk.{IsShortestWalk, Reaches}
-use Rattle.rp_evidence.specs.declared.garp.Garp.{Garp}
-use Rattle.rp_evidence.specs.declared.garp.Garp.TheVariants.{Ranks, Cycle}
 use Rattle.rp_evidence.specs.declared.level.Level.{Level}
 use Rattle.rp_evidence.specs.declared.efficiency.Efficiency.{Efficiency}
+use Rattle.rp_pref.specs.Violation.{IsVerdictOn}
 
 -- The level is in lowest terms, and its parts are below 2^51, as costs are.
 pub record IsLowestLevel (level : Level) : Type 0 where
@@ -26,19 +24,9 @@ pub record IsAbove (n : ℕ) (c : ℕ → ℕ → ℕ) (num den : ℕ) (walk : L
   pub none_at_one : num ≡ den → walk ≡ []
   pub return_below_one : num ≢ den → (s : ℕ) × IsFirstReturn n (IsWeak c num den) s walk
 
--- s reaches t, and t is strictly preferred to s: a violation goes from s to t and back.
-abbrev pub IsLoop : ℕ → (ℕ → ℕ → Type 0) → (ℕ → ℕ → Type 0) → ℕ → ℕ → Type 0
-IsLoop n weak strict s t = Reaches n weak s t × strict t s
-
--- The ranks are the counts; a cycle is a walk of fewest weak steps between the first two observations that make a loop, and then the first.
-abbrev pub IsAt : ℕ → (ℕ → ℕ → Type 0) → (ℕ → ℕ → Type 0) → Garp → Type 0
-IsAt n weak strict (Ranks ranks) = AreCounts n weak ranks
-IsAt n weak strict (Cycle cycle) =
-    (s : ℕ) × (t : ℕ) × (walk : List ℕ) × IsFirstRelated n (IsLoop n weak strict) s t × IsShortestWalk n weak s t walk × (cycle ≡ walk ++ s ∷ [])
-
 -- What is given: the index in lowest terms, the counts over the strict steps at it, and over the weak ones where it is attained.
 pub record IsEfficiencyVerdict (n : ℕ) (c : ℕ → ℕ → ℕ) (evidence : Efficiency) : Type 0 where
   pub level : IsLowestLevel evidence.level
   pub below : AreCounts n (IsStrict c evidence.level.num evidence.level.den) evidence.below
   pub above : IsAbove n c evidence.level.num evidence.level.den evidence.above
-  pub at : IsAt n (IsWeak c evidence.level.num evidence.level.den) (IsStrict c evidence.level.num evidence.level.den) evidence.at
+  pub at : IsVerdictOn n (IsWeak c evidence.level.num evidence.level.den) (IsStrict c evidence.level.num evidence.level.den) evidence.at

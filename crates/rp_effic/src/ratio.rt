@@ -2,7 +2,7 @@ ghost use Rattle.std.specs.Prelude.{◌≡◌, ◌<◌, ◌*◌, ◌^◌, refl};
 ghost use Rattle.std.specs.Cmp.{eq_by_cmp_equiv, partial_equiv_from_equiv, po};
 ghost use Rattle.std.specs.Ordering.{as_partial_cmp, eq_by_cmp};
 ghost use Rattle.rp_evidence.specs.Preference.{IsLevel};
-ghost use Rattle.rp_effic.specs.RatioOrder.{cross_cmp, cross_total, level_den};
+ghost use Rattle.rp_effic.specs.InnerRatioOrder.{cross_cmp, cross_total, level_den};
 
 use std::cmp::Ordering;
 

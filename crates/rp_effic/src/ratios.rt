@@ -1,6 +1,6 @@
 ghost use Rattle.std.specs.Prelude.{◌≡◌, ◌<◌, ◌≤◌, ◌*◌, ◌^◌, IfNone, IfOk, IfSome, length};
 ghost use Rattle.rp_table.specs.Cost.{cost_at};
-ghost use Rattle.rp_effic.specs.Ratios.{AreRatios, HasRatios};
+ghost use Rattle.rp_effic.specs.InnerRatios.{AreRatios, HasRatios};
 
 use crate::ratio::Ratio;
 use rp_num::NoMemory;

@@ -1,7 +1,7 @@
 ghost use Rattle.std.specs.Prelude.{◌<◌, ◌^◌, length};
-ghost use Rattle.rp_effic.specs.Ratios.{Rise};
+ghost use Rattle.rp_effic.specs.InnerRatios.{Rise};
 
-use crate::ask::Ask;
+use crate::monotone::Monotone;
 use crate::ratio::Ratio;
 use crate::returning::first_return;
 use rp_evidence::Level;
@@ -10,29 +10,32 @@ use rp_pref::{Closure, Steps};
 use rp_table::Costs;
 use std::alloc::Global;
 
-/// Asks of rising ratios whether a closed walk of weak steps exists at each.
+/// At which of some rising ratios a closed walk of weak steps exists.
 #[derive(Drop)]
 pub struct Thresholds<'a> {
     pub costs: &'a Costs,
     pub ratios: &'a [Ratio],
-    pub asks: u64,
+    pub tests: u64,
     ghost rising: { Rise ratios.now },
     ghost few: { length ratios.now < 2 ^ 32 },
 }
 
-impl Ask for Thresholds<'_> {
-    ghost use Rattle.rp_effic.specs.Cycles.{cycle_values};
+impl Monotone for Thresholds<'_> {
+    ghost use Rattle.std.specs.Prelude.{length};
+    ghost use Rattle.rp_effic.specs.InnerCycles.{HasCycleFrom};
 
-    ghost values = { λ a. cycle_values a.costs.now a.ratios.now };
+    ghost holds = { λ a. HasCycleFrom a.costs.now a.ratios.now };
 
-    ghost asks = { λ a. a.asks };
+    ghost places = { λ a. length a.ratios.now };
+
+    ghost tests = { λ a. a.tests };
 
     fn size(&self) -> u32 {
         self.ratios.len() as u32
     }
 
-    fn ask(&mut self, alloc: Global, i: u32) -> Result<bool, NoMemory> {
-        self.asks += 1;
+    fn test(&mut self, alloc: Global, i: u32) -> Result<bool, NoMemory> {
+        self.tests += 1;
         let ratio = self.ratios[i as usize];
         let level = Level {
             num: ratio.part,

@@ -3,11 +3,11 @@ ghost use Rattle.rp_evidence.specs.Efficiency.{IsLeastGreatestRatio, ProvesEffic
 ghost use Rattle.rp_table.specs.Cost.{cost_at};
 ghost use Rattle.rp_effic.specs.Verdict.{IsEfficiencyVerdict};
 
-use crate::at_level::{above, at_level, counts};
+use crate::above::above_index;
 use crate::index::efficiency_index;
 use rp_evidence::Efficiency;
 use rp_num::NoMemory;
-use rp_pref::{Closure, Steps};
+use rp_pref::{Closure, Steps, counts, verdict_at};
 use rp_table::Costs;
 use std::alloc::Global;
 
@@ -26,8 +26,8 @@ pub fn efficiency(alloc: Global, costs: &Costs) -> Result<Efficiency, NoMemory>
     let strict = Closure::of(alloc, costs, level, Steps::Strict)?;
     let below = counts(alloc, costs, &strict)?;
     let weak = Closure::of(alloc, costs, level, Steps::Weak)?;
-    let above = above(alloc, costs, level, &weak)?;
-    let at = at_level(alloc, costs, level, &weak)?;
+    let above = above_index(alloc, costs, level, &weak)?;
+    let at = verdict_at(alloc, costs, level, &weak)?;
     Ok(Efficiency {
         level,
         below,

@@ -1,2 +1,1 @@
 pub mod SameVerdicts
-pub mod Verdicts

@@ -3,7 +3,7 @@ use Rattle.std.proofs.Common.{◌≡◌, ℕ, zero, suc, ◌+◌, ◌-◌, ◌*�
 use Rattle.std.proofs.lemmas.List.{length-map, length-replicate, length-take-le, take-map, drop-map, map-append, take-append-le, drop-append-le, drop-take, take-replicate, drop-replicate, replicate_more, set_at}
 use Rattle.std.specs.List.{refill}
 use Rattle.rp_grid.specs.Places.{somes, IsRun}
-use Rattle.rp_grid.specs.Lends.{spliced}
+use Rattle.rp_grid.specs.InnerLends.{spliced}
 use Rattle.rp_grid.specs.Held.{cut}
 
 pub row_fits : (r rows cols : ℕ) → r < rows → r * cols + cols ≤ rows * cols

@@ -1,7 +1,7 @@
 pub mod Cut
 pub mod Exchange
-pub mod Holding
+pub mod HeldLemmas
 pub mod Memory
-pub mod Reading
-pub mod Sharing
+pub mod RowLemmas
+pub mod SharedPlaces
 pub mod Sizes

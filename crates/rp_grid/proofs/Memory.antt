@@ -36,7 +36,7 @@ use Rattle.std.specs.Prelude.{Option, Some, None}
 use Rattle.std.specs.Mem.{type_size}
 use Rattle.std.proofs.mem.Param.{El, R, el_x, elτ}
 use Rattle.std.proofs.RcSteps.{Good, word}
-use Rattle.rp_grid.specs.Ownership.{slot, slots, slot_lent, slots_lent}
+use Rattle.rp_grid.specs.InnerOwnership.{slot, slots, slot_lent, slots_lent}
 use Rattle.rp_grid.specs.contracts.block.Places as C-type
 use Rattle.rp_grid.specs.contracts.block.Base as B-type
 

@@ -1,6 +1,6 @@
 pub mod GridLends
 pub mod Held
-pub mod Lends
-pub mod Ownership
+pub mod InnerLends
+pub mod InnerOwnership
 pub mod Places
 pub mod Rows

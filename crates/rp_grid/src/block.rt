@@ -7,7 +7,7 @@ ghost use Rattle.std.specs.Vec.Ownership.{FitsInBlock};
 ghost use base.Fml.{ftrue};
 ghost use denote.RawPtr.{Ptr};
 ghost use Rattle.rp_grid.specs.Places.{IsRun};
-ghost use Rattle.rp_grid.specs.Ownership.{places_own, places_lent, deed_owns};
+ghost use Rattle.rp_grid.specs.InnerOwnership.{places_own, places_lent, deed_owns};
 
 use std::alloc::{AllocError, Allocator};
 use std::marker::{Model, PhantomData};
@@ -102,7 +102,7 @@ pub(crate) fn deallocate<T, A: Allocator>(
 }
 
 impl<T> Places<T> {
-    ghost use Rattle.rp_grid.specs.Lends.{lends_run};
+    ghost use Rattle.rp_grid.specs.InnerLends.{lends_run};
 
     /// Fills an empty place.
     pub(crate) fn write(&mut self, base: Base<T>, index: usize, item: T)

@@ -10,7 +10,7 @@ use Rattle.rp_walk.specs.ExactTotal.{ExactTotal, IsLess, SameTotal}
 use Rattle.rp_walk.specs.Walk.{AreObservations, total_after}
 use Rattle.rp_walk.specs.LeastTotals.{IsLeast, StepsFitAlong, WalkFits}
 use Rattle.rp_walk.specs.Settled.{HasLeastTotals, IsFirstBreakingPair, FallsBelowStart, NoPairBreaks, PairBreaks}
-use Rattle.rp_walk.specs.Outcome.{SettlesInCycle, SettlesInValues, SettlesInWide, IsBreakingCycle, IsLevelCycle}
+use Rattle.rp_walk.specs.Outcome.{SettlesInCycle, SettlesInValues, SettlesInWide, IsBreakingCycle, IsRoundCycle}
 use Rattle.rp_walk.proofs.Order.{not_more_trans, not_less-same}
 use Rattle.rp_walk.proofs.Leads.{leads_from, leads_to}
 use Rattle.rp_walk.proofs.Numbers.{less-pos, pos-less, same_pos}
@@ -319,7 +319,7 @@ GivesCycle-settled n c positive limited start walk terms fits h =
         same_lowest start (record { num = 1; den = 1 }) terms.positive (omega arith) terms.coprime (λ d left right. eq-one_of_dvd-one left)
         (same_pos (start.num * 1) (1 * start.den) (same ∙ (λ i. pos (1 * at_least_one-is start.den terms.positive i))))
 
-    comes : IsBreakingCycle (products n c) (as_total start) walk ⊎ IsLevelCycle (products n c) FitsFraction (as_total start) walk → IsPairCycle n c start walk ⊎ IsLongCycle n c start walk
+    comes : IsBreakingCycle (products n c) (as_total start) walk ⊎ IsRoundCycle (products n c) FitsFraction (as_total start) walk → IsPairCycle n c start walk ⊎ IsLongCycle n c start walk
     comes (inl p) = inl (record {
       s = p.s;
       t = p.t;
@@ -329,7 +329,7 @@ GivesCycle-settled n c positive limited start walk terms fits h =
     })
     comes (inr l) = inr (record { no_pair = NoPairFalls-breaks n c positive l.no_pair; none_too_wide = l.none_too_wide; first_part = l.first_part })
 
-    products_fit : IsBreakingCycle (products n c) (as_total start) walk ⊎ IsLevelCycle (products n c) FitsFraction (as_total start) walk → ProductsFit c start walk
+    products_fit : IsBreakingCycle (products n c) (as_total start) walk ⊎ IsRoundCycle (products n c) FitsFraction (as_total start) walk → ProductsFit c start walk
     products_fit (inl p) =
         let hs : p.s < n = omega (arith, p.first_pair.in_order, p.first_pair.within) in
         subst (λ (xs : List ℕ). ProductsFit c start xs) (sym p.walk_is)

@@ -6,7 +6,7 @@ use Rattle.std.specs.Prelude.{pos, ◌*ℤ◌}
 use Rattle.rp_walk.specs.ExactTotal.{ExactTotal, SameTotal}
 use Rattle.rp_walk.specs.Walk.{KeepsOrder}
 use Rattle.rp_walk.specs.LeastTotals.{FitsAlike}
-use Rattle.rp_walk.proofs.Levels.{SameTotal-trans}
+use Rattle.rp_walk.proofs.Rounds.{SameTotal-trans}
 use Rattle.rp_walk.proofs.Numbers.{from_nat, parts_of_product, same_from_nat, to_nat}
 use Rattle.rp_homo.specs.Products.{FitsFraction, as_total, at_least_one, products}
 

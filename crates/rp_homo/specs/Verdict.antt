@@ -2,7 +2,7 @@
 use Rattle.std.specs.Prelude.{◌≡◌, ℕ, ◌*◌, ◌<◌, ◌⊎◌, List, [], ◌∷◌, length}
 use Rattle.rp_num.specs.Fraction.{Fraction, FitsWidth, IsLowestTerms, PassesWidth}
 use Rattle.rp_walk.specs.LeastTotals.{IsFirstTooWide, NoneTooWide}
-use Rattle.rp_walk.specs.LevelWalk.{IsCutFromLevels}
+use Rattle.rp_walk.specs.RoundWalk.{IsCutFromRounds}
 use Rattle.rp_walk.specs.Walk.{IsSimpleCycle}
 use Rattle.rp_evidence.specs.Walk.{AnyStep, IsClosedWalk}
 use Rattle.rp_evidence.specs.Homothetic.{EndsBelow, IsLeastProduct, MeetsHomotheticTest, ProductsFit, value_at}
@@ -43,12 +43,12 @@ pub record IsPairCycle (n : ℕ) (c : ℕ → ℕ → ℕ) (start : Fraction) (w
   pub start_is : start ≡ record { num = 1; den = 1 }
   pub walk_is : walk ≡ s ∷ t ∷ s ∷ []
 
--- No pair falls, and no product is too wide. The cycle is the first closed part of the walk that the levels give, and
+-- No pair falls, and no product is too wide. The cycle is the first closed part of the walk that the rounds give, and
 -- the start is the product there.
 pub record IsLongCycle (n : ℕ) (c : ℕ → ℕ → ℕ) (start : Fraction) (walk : List ℕ) : Type 0 where
   pub no_pair : NoPairFalls n c
   pub none_too_wide : NoneTooWide (products n c) FitsFraction
-  pub first_part : IsCutFromLevels (products n c) (as_total start) walk
+  pub first_part : IsCutFromRounds (products n c) (as_total start) walk
 
 -- A closed walk that goes through no observation twice, along which the start is multiplied below itself, and when it
 -- comes. The start, in lowest terms, and the products along the walk are within the width.

@@ -31,10 +31,6 @@ digits_value_after-take_more [] n i below = absurd (omega arith)
 digits_value_after-take_more (d ∷ ds) n zero below = refl
 digits_value_after-take_more (d ∷ ds) n (suc i) below = digits_value_after-take_more ds (n * 10 + digit_value d) i (omega arith)
 
--- a limit on the way changes nothing above it
-pub min-step : (m x d : ℕ) → 1 ≤ m → min (min x m * 10 + d) m ≡ min (x * 10 + d) m
-min-step m x d h = omega arith
-
 -- numbers that agree below a limit still do with further digits
 min-digits_value_after : (m : ℕ) (ds : List ℕ) (a b : ℕ) → 1 ≤ m → min a m ≡ min b m → min (digits_value_after 10 a ds) m ≡ min (digits_value_after 10 b ds) m
 min-digits_value_after m [] a b h e = e

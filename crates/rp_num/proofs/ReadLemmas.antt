@@ -28,10 +28,6 @@ pub Ok-injective : {A E : Type 0} (a b : A) (r : Result A E) → r ≡ Ok a → 
 Ok-injective a b (Ok x) p q = search
 Ok-injective a b (Err e) p q = absurd cc
 
-narrow_sum : (z : ℤ) → FitsSum z → mag z < 10 ^ 64
-narrow_sum (pos n) h = omega arith
-narrow_sum (negsuc n) h = omega arith
-
 -- the same for a whole number with its sign
 pub parsed_sum : {E : Type 0} (z : ℤ) (text : List ℕ) (r : Result ℤ E) → FitsSum z → signed_decimal z ≡ text → ParsesSigned w128 10 text r → r ≡ Ok z
 parsed_sum (pos n) text r h e p =

@@ -2,10 +2,10 @@
 use Rattle.std.specs.Prelude.{◌≡◌, ◌≢◌, ℕ, suc, ◌^◌, ◌<◌, ℤ, pos, negsuc, List, Option, Some, None}
 use Rattle.rp_num.specs.Fraction.{Fraction, FitsWidth, IsLowestTerms}
 
--- What is read of a text: the value that is shown so, or that none within the limits is.
+-- What is read of a text: the value that is printed so, or that none within the limits is.
 abbrev pub IsSpelled : {X : Type 0} → (X → List ℕ) → (X → Type 0) → List ℕ → Option X → Type 0
-IsSpelled shown fits text (Some x) = (shown x ≡ text) × fits x
-IsSpelled shown fits text None = (x : _) → fits x → shown x ≢ text
+IsSpelled printed fits text (Some x) = (printed x ≡ text) × fits x
+IsSpelled printed fits text None = (x : _) → fits x → printed x ≢ text
 
 -- A whole number of 128 bits that is not negative.
 abbrev pub FitsWhole : ℕ → Type 0

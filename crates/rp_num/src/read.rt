@@ -43,7 +43,7 @@ pub fn read_i128(alloc: Global, text: &str) -> Result<Option<i128>, NoMemory>
 pub fn read_frac(alloc: Global, text: &str) -> Result<Option<Frac>, NoMemory>
     ensures { IfOk result (λ o. IsSpelled fraction_text IsReduced text.now o) }
 {
-    let (num, den) = parts_of(text);
+    let (num, den) = split_at_stroke(text);
     let Some(num) = read_part(alloc, num)? else {
         return Ok(None);
     };
@@ -57,7 +57,7 @@ pub fn read_frac(alloc: Global, text: &str) -> Result<Option<Frac>, NoMemory>
 }
 
 /// What stands before the stroke and after it; `1` where there is none.
-fn parts_of(text: &str) -> (&str, &str)
+fn split_at_stroke(text: &str) -> (&str, &str)
     ensures { (f : Fraction) → FitsWidth f → fraction_text f ≡ text.now
         → (result.0.now ≡ decimal f.num) × (result.1.now ≡ decimal f.den) }
 {

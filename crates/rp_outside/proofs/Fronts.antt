@@ -3,7 +3,7 @@ use Rattle.std.proofs.lemmas.List.{length-take-le, take_all}
 use Rattle.std.proofs.Math.Seq.{take-add}
 use Rattle.rp_outside.specs.Faults.{next_count}
 use Rattle.rp_outside.specs.Reads.{calls_through}
-use Rattle.rp_outside.specs.Told.{BeginsWith}
+use Rattle.rp_outside.specs.Known.{BeginsWith}
 
 -- a front and the n bytes that stand after it are a longer front
 pub longer_front : (bs front piece : List ℕ) (n : ℕ) → (length front ≤ length bs) × (take (length front) bs ≡ front) → (piece ≡ take n (drop (length front) bs)) × (n ≤ length (drop (length front) bs)) → (length (front ++ piece) ≤ length bs) × (take (length (front ++ piece)) bs ≡ front ++ piece)
@@ -17,6 +17,6 @@ pub whole_front : (bs front : List ℕ) → (length front ≤ length bs) × (tak
 whole_front bs front f h = sym f.1 ∙ take_all (length front) bs h
 
 -- a front that came in no more calls than it has bytes, and one call more, are no more calls than it takes to read it all
-pub calls_so_far : (told : Option (List ℕ)) (front : List ℕ) (limit before calls : ℕ) → BeginsWith told front → length front ≤ limit → calls ≤ before + length front → next_count calls ≤ before + calls_through limit told
+pub calls_so_far : (known : Option (List ℕ)) (front : List ℕ) (limit before calls : ℕ) → BeginsWith known front → length front ≤ limit → calls ≤ before + length front → next_count calls ≤ before + calls_through limit known
 calls_so_far None front limit before calls begins few counted = omega (arith, few, counted)
 calls_so_far (Some bytes) front limit before calls begins few counted = omega (arith, (begins bytes refl).0, few, counted)

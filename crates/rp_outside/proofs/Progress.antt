@@ -1,11 +1,11 @@
 use Rattle.std.proofs.Common.{◌≡◌, ℕ, ◌+◌, ◌<◌, ◌≤◌, ◌⊎◌, List, Option, length, take}
 use Rattle.rp_outside.specs.Faults.{HasRisen, last_count}
-use Rattle.rp_outside.specs.Told.{BeginsWith, Grows}
+use Rattle.rp_outside.specs.Known.{BeginsWith, Grows}
 
 -- what a load keeps: it has the first bytes of its name, and each read gave at least one of them
-pub record IsLoadedSoFar (told : Option (List ℕ)) (front : List ℕ) (limit calls_before calls : ℕ) : Type 0 where
+pub record IsLoadedSoFar (known : Option (List ℕ)) (front : List ℕ) (limit calls_before calls : ℕ) : Type 0 where
   pub in_limit : length front ≤ limit
-  pub begins : BeginsWith told front
+  pub begins : BeginsWith known front
   pub calls_rise : (calls_before ≤ calls) ⊎ (last_count ≤ calls)
   pub calls_counted : calls ≤ calls_before + length front
 

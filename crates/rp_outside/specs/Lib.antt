@@ -7,4 +7,4 @@ pub mod NamedFile
 pub mod Reads
 pub mod SureDesk
 pub mod SystemCounts
-pub mod Told
+pub mod Known

@@ -72,7 +72,7 @@ impl<R: Files> Desk for FileDesk<'_, R> {
 
     fn read_at(&mut self, name: &str, at: u64, into: &mut [u8]) -> Result<u64, DeskFault>
         ensures within { IfOk result (λ n. n ≤ length into.new) }
-        ensures told_bytes { IfOk result (λ n. ForSome None
+        ensures known_bytes { IfOk result (λ n. ForSome None
             (λ bs. (take n into.new ≡ take n (drop at bs)) × (n ≤ length (drop at bs)))) }
         ensures none_only_at_end { IfOk result (λ n. n ≡ 0 → ForSome None
             (λ bs. (length into.new ≡ 0) ⊎ (length {A = ℕ} bs ≤ at))) }

@@ -1,9 +1,8 @@
-ghost use Rattle.std.specs.Prelude.{◌≡◌, ◌+◌, ◌^◌, ◌<◌, ◌≤◌, ◌⊎◌, ℕ, List, IfOk, IsErr, IsErrOf, Ok};
+ghost use Rattle.std.specs.Prelude.{◌≡◌, ◌+◌, ◌^◌, ◌<◌, ◌≤◌, ◌⊎◌, IfOk, IsErrOf, Ok};
 ghost use Rattle.std.specs.Prelude.{length, vec_len};
-ghost use Rattle.std.specs.Option.{ForSome};
-ghost use Rattle.rp_outside.specs.Faults.{HasRisen, next_count};
+ghost use Rattle.rp_outside.specs.Faults.{EachStays, HasRisen, NoneFalls, next_count};
 ghost use Rattle.rp_outside.specs.Reads.{calls_through};
-ghost use Rattle.rp_outside.specs.Told.{BeginsWith};
+ghost use Rattle.rp_outside.specs.Known.{AreAll, AreAtMost, AreMoreThan, BeginsWith};
 
 use crate::desks::{Desk, DeskFault};
 use std::alloc::Global;
@@ -36,20 +35,19 @@ pub fn load<D: Desk>(
     limit: u64,
 ) -> Result<Vec<u8>, LoadFault>
     requires { limit < 2 ^ 32 }
-    ensures whole { IfOk result (λ v. ForSome (D.bytes desk.old name.now) (λ bs. v.items ≡ bs)) }
+    ensures whole { IfOk result (λ v. AreAll (D.bytes desk.old name.now) v.items) }
     ensures within_limit { IfOk result (λ v. vec_len v ≤ limit) }
     ensures read_counted { IsErrOf result LoadFault.Read
         → HasRisen (D.faults desk.old name.now) (D.faults desk.new name.now) }
     ensures too_long_only { IsErrOf result LoadFault.TooLong
-        → ForSome (D.bytes desk.old name.now) (λ bs. limit < length bs) }
+        → AreMoreThan limit (D.bytes desk.old name.now) }
 
     // So more bytes than the limit are `TooLong`, unless a read failed or memory ran out.
-    ensures past_limit { ForSome (D.bytes desk.old name.now)
-        (λ bs. limit < length bs → IsErr result) }
+    ensures past_limit { IfOk result (λ _. AreAtMost limit (D.bytes desk.old name.now)) }
 
-    // So a read that failed is told, and told as nothing else.
+    // So a read that failed is answered by that fault and by no other.
     ensures else_stays { IsErrOf result LoadFault.Read
-        ⊎ ((other : List ℕ) → D.faults desk.new other ≡ D.faults desk.old other) }
+        ⊎ EachStays (D.faults desk.old) (D.faults desk.new) }
 
     // How often the desk is asked: no read but the last may come back empty.
     ensures reads { D.calls desk.new ≤ D.calls desk.old + limit + 1 }
@@ -59,8 +57,8 @@ pub fn load<D: Desk>(
     ensures some_read { HasRisen (D.calls desk.old) (D.calls desk.new) }
 
     // In every outcome, for every name.
-    ensures bytes_stay { (other : List ℕ) → D.bytes desk.new other ≡ D.bytes desk.old other }
-    ensures never_falls { (other : List ℕ) → D.faults desk.old other ≤ D.faults desk.new other }
+    ensures bytes_stay { EachStays (D.bytes desk.old) (D.bytes desk.new) }
+    ensures never_falls { NoneFalls (D.faults desk.old) (D.faults desk.new) }
 {
     let mut bytes = Vec::new(alloc);
     let mut chunk = [0u8; CHUNK as usize];
@@ -91,15 +89,15 @@ fn take_turn<D: Desk>(
         × (vec_len bytes.new ≤ limit)
         × BeginsWith (D.bytes desk.old name.now) bytes.new.items }
     ensures ended { result ≡ Ok Turn.Ended → (bytes.new.items ≡ bytes.old.items)
-        × ForSome (D.bytes desk.old name.now) (λ bs. bytes.new.items ≡ bs) }
+        × AreAll (D.bytes desk.old name.now) bytes.new.items }
     ensures read_counted { IsErrOf result LoadFault.Read
         → HasRisen (D.faults desk.old name.now) (D.faults desk.new name.now) }
     ensures too_long_only { IsErrOf result LoadFault.TooLong
-        → ForSome (D.bytes desk.old name.now) (λ bs. limit < length bs) }
+        → AreMoreThan limit (D.bytes desk.old name.now) }
     ensures else_stays { IsErrOf result LoadFault.Read
-        ⊎ ((other : List ℕ) → D.faults desk.new other ≡ D.faults desk.old other) }
-    ensures bytes_stay { (other : List ℕ) → D.bytes desk.new other ≡ D.bytes desk.old other }
-    ensures never_falls { (other : List ℕ) → D.faults desk.old other ≤ D.faults desk.new other }
+        ⊎ EachStays (D.faults desk.old) (D.faults desk.new) }
+    ensures bytes_stay { EachStays (D.bytes desk.old) (D.bytes desk.new) }
+    ensures never_falls { NoneFalls (D.faults desk.old) (D.faults desk.new) }
     ensures call_counted { D.calls desk.new ≡ next_count (D.calls desk.old) }
 {
     let at = bytes.len() as u64;

@@ -10,7 +10,7 @@ use crate::planned::is_listed;
 use std::marker::Model;
 
 /// Files in memory, with failures at planned calls. One count of faults stands for every name; a name
-/// that it has not is not told.
+/// that it has not is not known.
 #[derive(Debug, Drop)]
 pub struct MemDesk {
     files: Vec<MemFile>,

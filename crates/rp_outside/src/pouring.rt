@@ -1,6 +1,6 @@
 ghost use Rattle.std.specs.Prelude.{◌≡◌, ◌+◌, ◌<◌, ◌≤◌, OnErr, OnOk, length};
 ghost use Rattle.rp_outside.specs.Faults.{HasRisen};
-ghost use Rattle.rp_outside.specs.Told.{FallsShort, Grows, GrowsByPrefix};
+ghost use Rattle.rp_outside.specs.Known.{FallsShort, Grows, GrowsByPrefix};
 
 use crate::sinks::{Failed, Sink};
 

@@ -1,15 +1,15 @@
 ghost use Rattle.std.specs.Prelude.{◌≡◌, ◌<◌, ◌≤◌, ℕ, List, Option, IfOk, OnErr, length, take};
 ghost use Rattle.rp_outside.specs.Faults.{HasRisen, next_count};
-ghost use Rattle.rp_outside.specs.Told.{Grows, Stays};
+ghost use Rattle.rp_outside.specs.Known.{Grows, Stays};
 
 /// A write that the outside refused; the count of its sink rose.
 #[derive(Clone, Copy, Debug, PartialEq, Eq)]
 pub struct Failed;
 
-/// A place that bytes go to, in order. What was written is told or not told, and a clause on content
+/// A place that bytes go to, in order. What was written is known or not known, and a clause on content
 /// holds where it is.
 pub trait Sink {
-    /// All that was written, where it is told.
+    /// All that was written, where it is known.
     ghost written: { Self → Option (List ℕ) };
 
     /// The count of faults.

@@ -10,7 +10,7 @@ use crate::sinks::{Failed, Sink};
 use std::marker::Model;
 
 /// Files in memory that are always read. A contract sees them and how many calls there were. A name
-/// that it has not is read as empty, and told to be.
+/// that it has not is read as empty, and known to be.
 #[derive(Debug, Drop)]
 pub struct SureDesk {
     files: Vec<MemFile>,

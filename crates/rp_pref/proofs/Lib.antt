@@ -1,10 +1,12 @@
-pub mod Closing
-pub mod Deepening
+pub mod ClosureLemmas
+pub mod DepthLemmas
 pub mod Noted
 pub mod Rounds
-pub mod Searching
+pub mod SearchLemmas
 pub mod Tables
 pub mod Throughs
-pub mod Walking
+pub mod WalkLemmas
 pub mod Words
 pub mod WeakClosures
+pub mod VerdictLemmas
+pub mod SameVerdicts

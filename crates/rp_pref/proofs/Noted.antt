@@ -6,10 +6,10 @@ use Rattle.std.proofs.lemmas.List.{length-replicate}
 use Rattle.rp_evidence.specs.Count.{IsNumberOf}
 use Rattle.rp_evidence.specs.Walk.{Reaches}
 use Rattle.rp_grid.specs.Rows.{Rows, row_of, filled}
-use Rattle.rp_pref.specs.Bits.{bit_in, has_bit, HoldsBits}
+use Rattle.rp_pref.specs.InnerBits.{bit_in, has_bit, HoldsBits}
 use Rattle.rp_pref.specs.Closure.{IsClosureOf, reached_by, reaches_in, counts_in}
-use Rattle.rp_pref.specs.Through.{LeadsThrough}
-use Rattle.rp_pref.proofs.Closing.{counted}
+use Rattle.rp_pref.specs.InnerThrough.{ReachesThrough}
+use Rattle.rp_pref.proofs.ClosureLemmas.{counted}
 use Rattle.rp_pref.proofs.Tables.{reaches_in_by}
 use Rattle.rp_pref.proofs.Throughs.{through_from_reaches, reaches_from_through, through_ends_below}
 use Rattle.rp_evidence.proofs.SameCosts.{reach_same}
@@ -38,7 +38,7 @@ pub record HasNotedRows (old now : Rows ℕ) (n end : ℕ) (step : ℕ → ℕ �
 
 module _ (n : ℕ) (first last : Rows ℕ) (step : ℕ → ℕ → Type 0)
     (noted : (s t : ℕ) → s < n → IsTrue (has_bit first s t) ↔ ((t < n) × step s t))
-    (closed : (s t : ℕ) → s < n → IsTrue (has_bit last s t) ↔ LeadsThrough n (λ a b. IsTrue (has_bit first a b)) s t) where
+    (closed : (s t : ℕ) → s < n → IsTrue (has_bit last s t) ↔ ReachesThrough n (λ a b. IsTrue (has_bit first a b)) s t) where
   abbrev Noted : ℕ → ℕ → Type 0
   Noted a b = IsTrue (has_bit first a b)
 
@@ -61,13 +61,13 @@ module _ (n : ℕ) (first last : Rows ℕ) (step : ℕ → ℕ → Type 0)
 pub made_closure : (n m words : ℕ) (start first last : Rows ℕ) (step : ℕ → ℕ → Type 0) → n ≡ m → n ≤ words * 64 → words ≤ 1024 → start ≡ filled n words 0
     → length first.rows ≡ length start.rows → first.cols ≡ start.cols → length last.rows ≡ length first.rows → last.cols ≡ first.cols
     → ((s t : ℕ) → s < m → IsTrue (has_bit first s t) ↔ ((t < m) × step s t))
-    → ((s t : ℕ) → s < length first.rows → IsTrue (has_bit last s t) ↔ LeadsThrough (length first.rows) (λ a b. IsTrue (has_bit first a b)) s t)
+    → ((s t : ℕ) → s < length first.rows → IsTrue (has_bit last s t) ↔ ReachesThrough (length first.rows) (λ a b. IsTrue (has_bit first a b)) s t)
     → HoldsBits n last × IsClosureOf (reached_by n (has_bit last)) m step
 made_closure n m words start first last step size enough small new count_first cols_first count_last cols_last noted closed =
     let rows : length first.rows ≡ n = count_first ∙ ap (λ g. length g.rows) new ∙ length-replicate n (replicate words 0) in
     let cols : last.cols ≡ words = cols_last ∙ cols_first ∙ ap (λ g. g.cols) new in
     let steps = subst (λ k. (s t : ℕ) → s < k → IsTrue (has_bit first s t) ↔ ((t < k) × step s t)) (sym size) noted in
-    let walks = subst (λ k. (s t : ℕ) → s < k → IsTrue (has_bit last s t) ↔ LeadsThrough k (λ a b. IsTrue (has_bit first a b)) s t) rows closed in (
+    let walks = subst (λ k. (s t : ℕ) → s < k → IsTrue (has_bit last s t) ↔ ReachesThrough k (λ a b. IsTrue (has_bit first a b)) s t) rows closed in (
       record {
         rows = count_last ∙ rows;
         enough = omega (arith, enough, cols);

@@ -4,8 +4,8 @@ use Rattle.std.specs.Int.{bit_at}
 use Rattle.std.proofs.lemmas.Bool.{cases_eq, cases_lt}
 use Rattle.std.proofs.lemmas.List.{get_or_past}
 use Rattle.rp_grid.specs.Rows.{Rows, row_of, AreEqual}
-use Rattle.rp_pref.specs.Bits.{bit_in, has_bit}
-use Rattle.rp_pref.specs.Through.{LeadsThrough}
+use Rattle.rp_pref.specs.InnerBits.{bit_in, has_bit}
+use Rattle.rp_pref.specs.InnerThrough.{ReachesThrough}
 use Rattle.rp_pref.proofs.Words.{or_false, bit_of_or}
 
 -- ---- one row takes in another
@@ -93,4 +93,4 @@ module _ (old now : Rows ℕ) (k s : ℕ) (so_far : HasGone old now k s) where
 pub record HasClosed (old now : Rows ℕ) (k : ℕ) : Type 0 where
   pub count : length now.rows ≡ length old.rows
   pub cols : now.cols ≡ old.cols
-  pub rows : (s t : ℕ) → s < length old.rows → IsTrue (has_bit now s t) ↔ LeadsThrough k (λ a b. IsTrue (has_bit old a b)) s t
+  pub rows : (s t : ℕ) → s < length old.rows → IsTrue (has_bit now s t) ↔ ReachesThrough k (λ a b. IsTrue (has_bit old a b)) s t

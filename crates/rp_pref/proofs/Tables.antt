@@ -5,7 +5,7 @@ use Rattle.std.proofs.lemmas.List.{get_or-map}
 use Rattle.std.proofs.lemmas.List.FromFn.{get_or-range_with_len, length-range_with_len}
 use Rattle.std.proofs.lemmas.Nat.{div-mul-add, mod-mul-add, mul-add-lt}
 use Rattle.rp_pref.specs.Closure.{reached_by, reaches_in}
-use Rattle.rp_pref.specs.Search.{IsStepIn}
+use Rattle.rp_pref.specs.InnerSearch.{IsStepIn}
 
 -- what holds of each place holds of each row and column
 pub by_rows : (n : ℕ) (items : List Bool) (R : ℕ → ℕ → Type 0) (end : ℕ) → n * n ≤ end → ((k : ℕ) → k < end → IsTrue (get_or items k false) ↔ R (k / n) (k % n)) → (s t : ℕ) → s < n → t < n → IsStepIn items n s t ↔ R s t

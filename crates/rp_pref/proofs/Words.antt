@@ -6,8 +6,8 @@ use lib.Count.{ones_step}
 use Rattle.std.proofs.lemmas.Bool.{cases_eq, eq-eqb, ne_eqb}
 use Rattle.std.proofs.lemmas.Nat.{div-mul-add, mod-mul-add, ones_le_self}
 use Rattle.std.proofs.lemmas.Nat.Bits.{bit_at_or, bit_at-pow_same, bit_at-pow_other, bit_at-suc, bit_at_lowest}
-use Rattle.rp_pref.specs.Bits.{bit_in}
-use Rattle.rp_pref.proofs.Closing.{count_more}
+use Rattle.rp_pref.specs.InnerBits.{bit_in}
+use Rattle.rp_pref.proofs.ClosureLemmas.{count_more}
 
 pub or_false : (a : Bool) → (a || false) ≡ a
 or_false true = refl

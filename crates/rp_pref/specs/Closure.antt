@@ -1,6 +1,7 @@
 -- Which observations reach which (the transitive closure of revealed preference, Varian 1982).
-use Rattle.std.specs.Prelude.{◌≡◌, ◌<◌, ◌↔◌, ◌==◌, ◌||◌, ℕ, Bool, false, List, [], IsTrue, map, slice_index_or}
+use Rattle.std.specs.Prelude.{◌≡◌, ◌<◌, ◌↔◌, ◌==◌, ◌||◌, ◌⊎◌, ℕ, Bool, false, List, [], IsTrue, length, map, slice_index, slice_index_or}
 use Rattle.std.specs.List.{range_with_len}
+use Rattle.rp_evidence.specs.Count.{IsNumberOf}
 use Rattle.rp_evidence.specs.Input.{TableInput}
 use Rattle.rp_evidence.specs.Preference.{IsWeak}
 use Rattle.rp_evidence.specs.Walk.{Reaches}
@@ -30,3 +31,12 @@ pub record IsClosureOf (reached : Reached) (n : ℕ) (step : ℕ → ℕ → Typ
 -- The closure is that of the weak steps of a table: its pairs are those that reach.
 abbrev pub IsWeakClosureOf : Reached → TableInput → Type 0
 IsWeakClosureOf reached input = IsClosureOf reached input.n (IsWeak input.cost 1 1)
+
+-- How many observations the closure reaches from s, with s itself among them.
+abbrev pub IsCountIn : Reached → ℕ → ℕ → Type 0
+IsCountIn reached s k = IsNumberOf reached.n (λ t. (t ≡ s) ⊎ IsTrue (reaches_in reached s t)) k
+
+-- The list has that number of each observation.
+pub record AreCounted (reached : Reached) (counts : List ℕ) : Type 0 where
+  pub one_each : length counts ≡ reached.n
+  pub each : (s : ℕ) → s < reached.n → IsCountIn reached s (slice_index counts s)

@@ -1,5 +1,6 @@
-pub mod Bits
+pub mod InnerBits
 pub mod Closure
-pub mod Search
+pub mod InnerSearch
 pub mod Steps
-pub mod Through
+pub mod Violation
+pub mod InnerThrough

@@ -1,6 +1,8 @@
 -- The steps of which walks are made: all weak ones of a level, or all strict ones (Varian 1982; levels after Afriat).
 use Rattle.std.specs.Prelude.{ℕ}
 use Rattle.rp_evidence.specs.Preference.{IsWeak, IsStrict}
+use Rattle.rp_evidence.specs.declared.level.Level.{Level}
+use Rattle.rp_table.specs.Cost.{CostTable, cost_at}
 use Rattle.rp_pref.specs.declared.steps.Steps.{Steps}
 use Rattle.rp_pref.specs.declared.steps.Steps.TheVariants.{Weak, Strict}
 
@@ -8,3 +10,11 @@ use Rattle.rp_pref.specs.declared.steps.Steps.TheVariants.{Weak, Strict}
 abbrev pub IsStep : Steps → (ℕ → ℕ → ℕ) → ℕ → ℕ → ℕ → ℕ → Type 0
 IsStep Weak c num den = IsWeak c num den
 IsStep Strict c num den = IsStrict c num den
+
+-- The weak preference that a table of costs reveals at a level.
+abbrev pub WeakAt : CostTable → Level → ℕ → ℕ → Type 0
+WeakAt costs level = IsWeak (cost_at costs) level.num level.den
+
+-- And the strict one.
+abbrev pub StrictAt : CostTable → Level → ℕ → ℕ → Type 0
+StrictAt costs level = IsStrict (cost_at costs) level.num level.den

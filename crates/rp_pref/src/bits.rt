@@ -4,9 +4,9 @@ ghost use Rattle.std.specs.Prelude.{count_by, length};
 ghost use Rattle.std.specs.List.{range_with_len};
 ghost use Rattle.rp_evidence.specs.Preference.{IsLevel};
 ghost use Rattle.rp_table.specs.Cost.{cost_at};
-ghost use Rattle.rp_pref.specs.Bits.{bit_in, has_bit};
+ghost use Rattle.rp_pref.specs.InnerBits.{bit_in, has_bit};
 ghost use Rattle.rp_pref.specs.Steps.{IsStep};
-ghost use Rattle.rp_pref.specs.Through.{LeadsThrough};
+ghost use Rattle.rp_pref.specs.InnerThrough.{ReachesThrough};
 
 use rp_grid::Grid;
 
@@ -81,7 +81,7 @@ pub fn close(bits: &mut Grid<u64>)
     ensures count { length bits.new.rows ≡ length bits.old.rows }
     ensures cols { bits.new.cols ≡ bits.old.cols }
     ensures rows { (s t : ℕ) → s < length bits.old.rows
-        → IsTrue (has_bit bits.new s t) ↔ LeadsThrough (length bits.old.rows) (λ a b. IsTrue
+        → IsTrue (has_bit bits.new s t) ↔ ReachesThrough (length bits.old.rows) (λ a b. IsTrue
         (has_bit bits.old a b)) s t }
 {
     for k in 0..bits.rows() {

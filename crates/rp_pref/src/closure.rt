@@ -4,7 +4,7 @@ ghost use Rattle.rp_evidence.specs.Count.{IsCount, IsNumberOf};
 ghost use Rattle.rp_evidence.specs.Preference.{IsLevel};
 ghost use Rattle.rp_evidence.specs.Walk.{Reaches};
 ghost use Rattle.rp_table.specs.Cost.{CostTable, cost_at};
-ghost use Rattle.rp_pref.specs.Bits.{has_bit};
+ghost use Rattle.rp_pref.specs.InnerBits.{has_bit};
 ghost use Rattle.rp_pref.specs.Closure.{IsClosureOf, Reached, reaches_in};
 ghost use Rattle.rp_pref.specs.Steps.{IsStep};
 ghost use Rattle.rp_pref.specs.declared.steps.Steps.{Steps};
@@ -26,7 +26,7 @@ pub struct Closure {
 }
 
 impl Model for Closure {
-    ghost use Rattle.rp_pref.specs.Bits.{HoldsBits, has_bit};
+    ghost use Rattle.rp_pref.specs.InnerBits.{HoldsBits, has_bit};
     ghost use Rattle.rp_pref.specs.Closure.{Reached, reached_by};
 
     ghost Value = { Reached };

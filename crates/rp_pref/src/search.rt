@@ -1,8 +1,8 @@
 ghost use Rattle.std.specs.Prelude.{◌≡◌, ◌≢◌, ◌<◌, ◌≤◌, ◌+◌, ◌*◌, ◌^◌, ℕ, IsTrue, IfOk, false};
 ghost use Rattle.std.specs.Prelude.{length, slice_index};
 ghost use Rattle.rp_table.specs.declared.TheConstants.{RECORDS};
-ghost use Rattle.rp_pref.specs.Search.{AddsDepth, AreDepths, AreFirst, AreLeastDepths};
-ghost use Rattle.rp_pref.specs.Search.{AreLookedFrom, FindsMore, GoesTo, IsLookedFrom};
+ghost use Rattle.rp_pref.specs.InnerSearch.{AddsDepth, AreDepths, AreFirst, AreLeastDepths};
+ghost use Rattle.rp_pref.specs.InnerSearch.{AreLookedFrom, FindsMore, GoesTo, IsLookedFrom};
 
 use rp_num::NoMemory;
 use std::alloc::Global;

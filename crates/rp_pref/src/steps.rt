@@ -1,7 +1,7 @@
 ghost use Rattle.std.specs.Prelude.{◌≡◌, ◌<◌, ◌*◌, ◌↔◌, ℕ, IsTrue, IfOk, length};
 ghost use Rattle.rp_evidence.specs.Preference.{IsLevel, IsStrict, IsWeak};
 ghost use Rattle.rp_table.specs.Cost.{cost_at};
-ghost use Rattle.rp_pref.specs.Search.{IsStepIn};
+ghost use Rattle.rp_pref.specs.InnerSearch.{IsStepIn};
 ghost use Rattle.rp_pref.specs.Steps.{IsStep};
 
 use rp_evidence::Level;

@@ -2,7 +2,7 @@ ghost use Rattle.std.specs.Prelude.{◌≡◌, ◌<◌, ◌+◌, IfOk, IfNone, I
 ghost use Rattle.rp_evidence.specs.Preference.{IsLevel};
 ghost use Rattle.rp_evidence.specs.Walk.{IsShortestWalk, IsWalk, Reaches};
 ghost use Rattle.rp_table.specs.Cost.{cost_at};
-ghost use Rattle.rp_pref.specs.Search.{IsNoted, LeadBack};
+ghost use Rattle.rp_pref.specs.InnerSearch.{IsNoted, LeadBack};
 ghost use Rattle.rp_pref.specs.Steps.{IsStep};
 
 use crate::search::{ShortestWalks, walks_from};

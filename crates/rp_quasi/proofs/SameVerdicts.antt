@@ -1,7 +1,7 @@
 -- The verdict for some costs is the verdict for all that are the same between the observations.
 use Rattle.std.proofs.Common.{ℕ, ◌⊎◌, inl, inr}
 use Rattle.std.specs.Prelude.{pos, ◌+ℤ◌, ◌*ℤ◌}
-use Rattle.rp_walk.specs.LevelWalk.{IsCutFromLevels}
+use Rattle.rp_walk.specs.RoundWalk.{IsCutFromRounds}
 use Rattle.rp_walk.specs.Outcome.{IsBreakingCycle}
 use Rattle.rp_walk.specs.Settled.{NoPairBreaks}
 use Rattle.rp_walk.specs.Sums.{sums, whole_total}
@@ -34,7 +34,7 @@ verdict_same n c d (Cycle walk) same p = record {
     alike : Alike n (after c) (after d)
     alike = after_same n c d same
 
-    comes : IsBreakingCycle (sums n (step_sum c)) p.start walk ⊎ (NoPairBreaks (sums n (step_sum c)) × IsCutFromLevels (sums n (step_sum c)) p.start walk) → IsBreakingCycle (sums n (step_sum d)) p.start walk ⊎ (NoPairBreaks (sums n (step_sum d)) × IsCutFromLevels (sums n (step_sum d)) p.start walk)
+    comes : IsBreakingCycle (sums n (step_sum c)) p.start walk ⊎ (NoPairBreaks (sums n (step_sum c)) × IsCutFromRounds (sums n (step_sum c)) p.start walk) → IsBreakingCycle (sums n (step_sum d)) p.start walk ⊎ (NoPairBreaks (sums n (step_sum d)) × IsCutFromRounds (sums n (step_sum d)) p.start walk)
     comes (inl q) = inl (breaking_cycle_same n (whole_total (pos 0)) (after c) (after d) alike p.start walk q)
     comes (inr q) = inr (
       no_breaks_same n (whole_total (pos 0)) (after c) (after d) alike q.0,

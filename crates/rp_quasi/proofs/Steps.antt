@@ -13,7 +13,7 @@ around_costs a b c d h = omega (arith, ints)
 costs_around : (a b c d : ℕ) → ((pos a -ℤ pos b) +ℤ (pos c -ℤ pos d)) <ℤ pos 0 → a + c < b + d
 costs_around a b c d h = omega (arith, ints)
 
--- the walk s, t, s ends below every start exactly where the costs across are less than the own costs
+-- the walk s, t, s ends below every start exactly where the costs across are less than those of the two observations alone
 pub breaks_by_costs : (n : ℕ) (c : ℕ → ℕ → ℕ) (s t : ℕ) → s < n → (c s t + c t s < c s s + c t t) ↔ PairBreaks (sums n (step_sum c)) s t
 breaks_by_costs n c s t hs =
     let by_sum = breaks_by_sum n (step_sum c) s t hs in (

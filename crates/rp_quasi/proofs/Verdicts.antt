@@ -6,10 +6,10 @@ use Rattle.std.proofs.Math.Nat.{mul-le-mul_right}
 use Rattle.std.specs.Prelude.{ℤ, pos, neg_ℤ, ◌+ℤ◌, ◌-ℤ◌, ◌<ℤ◌, ◌≤ℤ◌}
 use Rattle.rp_walk.specs.ExactTotal.{ExactTotal}
 use Rattle.rp_walk.specs.LeastTotals.{IsLeast}
-use Rattle.rp_walk.specs.LevelWalk.{IsCutFromLevels}
+use Rattle.rp_walk.specs.RoundWalk.{IsCutFromRounds}
 use Rattle.rp_walk.specs.Settled.{FallsBelowStart, HasLeastTotals, NoPairBreaks}
-use Rattle.rp_walk.specs.Outcome.{IsBreakingCycle, IsLevelCycle, SettlesInCycle, SettlesInWide}
-use Rattle.rp_walk.specs.Sums.{AddsWithin, FitsSum, added_along, sums, whole_total}
+use Rattle.rp_walk.specs.Outcome.{IsBreakingCycle, IsRoundCycle, SettlesInCycle, SettlesInWide}
+use Rattle.rp_walk.specs.Sums.{AddsWithin, FitsI128, added_along, sums, whole_total}
 use Rattle.rp_walk.proofs.Leads.{leads_from, leads_to}
 use Rattle.rp_walk.proofs.SumWalks.{least_sum_limits, negative_from, never_wide, no_negative_walk, sum_bound, sum_is, sum_lowest}
 use Rattle.rp_evidence.specs.Walk.{AnyStep, IsWalk}
@@ -62,7 +62,7 @@ IsNegativeCycle-falls n c start walk v =
       negative = subst (λ z. z <ℤ pos 0) (along_is c v.first v.rest) (negative_from n (step_sum c) start v.first v.rest v.ends_below);
     })
 
-pub GivesNegativeCycle-settled : (n : ℕ) (c : ℕ → ℕ → ℕ) (start : ExactTotal) (walk : List ℕ) → SettlesInCycle (sums n (step_sum c)) FitsSum start walk → GivesNegativeCycle n c walk
+pub GivesNegativeCycle-settled : (n : ℕ) (c : ℕ → ℕ → ℕ) (start : ExactTotal) (walk : List ℕ) → SettlesInCycle (sums n (step_sum c)) FitsI128 start walk → GivesNegativeCycle n c walk
 GivesNegativeCycle-settled n c start walk h = record {
   negative = IsNegativeCycle-falls n c start walk h.falls;
   simple = h.simple;
@@ -70,7 +70,7 @@ GivesNegativeCycle-settled n c start walk h = record {
   comes = comes h.comes;
 }
   where
-    comes : IsBreakingCycle (sums n (step_sum c)) start walk ⊎ IsLevelCycle (sums n (step_sum c)) FitsSum start walk → IsBreakingCycle (sums n (step_sum c)) start walk ⊎ (NoPairBreaks (sums n (step_sum c)) × IsCutFromLevels (sums n (step_sum c)) start walk)
+    comes : IsBreakingCycle (sums n (step_sum c)) start walk ⊎ IsRoundCycle (sums n (step_sum c)) FitsI128 start walk → IsBreakingCycle (sums n (step_sum c)) start walk ⊎ (NoPairBreaks (sums n (step_sum c)) × IsCutFromRounds (sums n (step_sum c)) start walk)
     comes (inl p) = inl p
     comes (inr l) = inr (l.no_pair, l.first_part)
 
@@ -88,7 +88,7 @@ step_within c limit n t s ht hs = difference (c t s) (c t t) (limit t s) (limit 
     difference : (a b : ℕ) → a < 2 ^ 51 → b < 2 ^ 51 → ((pos a -ℤ pos b) ≤ℤ pos (2 ^ 51)) × (neg_ℤ (pos (2 ^ 51)) ≤ℤ (pos a -ℤ pos b))
     difference a b ha hb = (omega (arith, ints), omega (arith, ints))
 
-pub sums_stay_narrow : (n : ℕ) (c : ℕ → ℕ → ℕ) → n ≤ RECORDS → ((i j : ℕ) → c i j < 2 ^ 51) → (k t s : ℕ) → ¬ (SettlesInWide (sums n (step_sum c)) FitsSum k t s)
+pub sums_stay_narrow : (n : ℕ) (c : ℕ → ℕ → ℕ) → n ≤ RECORDS → ((i j : ℕ) → c i j < 2 ^ 51) → (k t s : ℕ) → ¬ (SettlesInWide (sums n (step_sum c)) FitsI128 k t s)
 sums_stay_narrow n c few limit =
     let far = mul-le-mul_right {m = n} {n = RECORDS} (2 ^ 51) few in
     never_wide n (step_sum c) (2 ^ 51) (step_within c limit n) (omega (arith, far))

@@ -1,7 +1,7 @@
 -- The verdict of the quasilinear test, with its evidence (cyclical monotonicity: Rockafellar 1970, section 24).
 use Rattle.std.specs.Prelude.{◌≡◌, ℕ, ◌^◌, ◌<◌, ℤ, pos, neg_ℤ, ◌<ℤ◌, ◌≤ℤ◌, ◌⊎◌, List, length, slice_index_or}
 use Rattle.rp_walk.specs.ExactTotal.{ExactTotal}
-use Rattle.rp_walk.specs.LevelWalk.{IsCutFromLevels}
+use Rattle.rp_walk.specs.RoundWalk.{IsCutFromRounds}
 use Rattle.rp_walk.specs.Outcome.{IsBreakingCycle}
 use Rattle.rp_walk.specs.Settled.{NoPairBreaks}
 use Rattle.rp_walk.specs.Sums.{sums}
@@ -22,13 +22,13 @@ pub record AreLeastSums (n : ℕ) (c : ℕ → ℕ → ℕ) (values : List ℤ) 
   pub limits : (s : ℕ) → s < n → IsLimitedSum (slice_index_or values s (pos 0))
 
 -- A closed walk with a negative sum that goes through no observation twice: s, t, s where s and t are the first pair
--- that breaks, else the first closed part of the walk that the levels give, whose sum there is the start.
+-- that breaks, else the first closed part of the walk that the rounds give, whose sum there is the start.
 pub record GivesNegativeCycle (n : ℕ) (c : ℕ → ℕ → ℕ) (walk : List ℕ) : Type 0 where
   pub negative : IsNegativeCycle n c walk
   pub simple : IsSimpleCycle n walk
   pub start : ExactTotal
   pub comes : IsBreakingCycle (sums n (step_sum c)) start walk
-      ⊎ (NoPairBreaks (sums n (step_sum c)) × IsCutFromLevels (sums n (step_sum c)) start walk)
+      ⊎ (NoPairBreaks (sums n (step_sum c)) × IsCutFromRounds (sums n (step_sum c)) start walk)
 
 -- Values where the test holds, and then the least sums; else a closed walk with a negative sum.
 abbrev pub IsQuasilinearVerdict : ℕ → (ℕ → ℕ → ℕ) → Quasi → Type 0

@@ -30,13 +30,13 @@ impl Total for Sums<'_> {
 
     ghost use Rattle.rp_table.specs.Cost.{cost_at};
     ghost use Rattle.rp_evidence.specs.Quasilinear.{step_sum};
-    ghost use Rattle.rp_walk.specs.Sums.{FitsSum, sums, whole_total};
+    ghost use Rattle.rp_walk.specs.Sums.{FitsI128, sums, whole_total};
 
     ghost rule = { λ a. sums a.costs.now.n (step_sum (cost_at a.costs.now)) };
 
     ghost exact = { whole_total };
 
-    ghost fits = { FitsSum };
+    ghost fits = { FitsI128 };
 
     fn n(&self) -> u32 {
         self.costs.n()
@@ -59,11 +59,11 @@ impl Total for Sums<'_> {
 
     fn pair_breaks(&self, s: u32, t: u32) -> bool {
         let across = self.costs.cost(s, t) + self.costs.cost(t, s);
-        let own = self.costs.cost(s, s) + self.costs.cost(t, t);
-        across < own
+        let spent = self.costs.cost(s, s) + self.costs.cost(t, t);
+        across < spent
     }
 
-    ghost use Rattle.rp_quasi.specs.SumLaws.{costs_fit_alike, costs_keep_order, costs_stay};
+    ghost use Rattle.rp_quasi.specs.InnerSumLaws.{costs_fit_alike, costs_keep_order, costs_stay};
 
     ghost keeps_order = { λ a. costs_keep_order a.costs.now.n (cost_at a.costs.now) };
 

@@ -14,22 +14,22 @@ use Rattle.rp_simplex.specs.declared.outcome.Outcome.{Outcome}
 use Rattle.rp_simplex.specs.declared.outcome.Outcome.TheVariants.{Optimal, Unbounded, Wide as PassedWidth}
 
 -- The types of positive weight, in order: those of the listed entries of a point.
-abbrev pub parts_of : List (List ℕ) → List Entry → List Share
-parts_of types entries = map (λ entry. record { patches = slice_index_or types entry.at []; weight = entry.value }) entries
+abbrev pub shares_of : List (List ℕ) → List Entry → List Share
+shares_of types entries = map (λ entry. record { patches = slice_index_or types entry.at []; weight = entry.value }) entries
 
 -- From an equal pair: a mixture where its types have the whole total, else a violation, with its price side as weights.
-abbrev pub IsShownFrom : PatchList → List (List ℕ) → Pair → RandomPart → Type 0
-IsShownFrom p types pair (Mixture den parts) =
-    (den ≡ pair.den) × (parts ≡ parts_of types pair.y) × (weight_of parts ≡ den * p.total)
-IsShownFrom p types pair (Violated den parts weights) =
-    (den ≡ pair.den) × (parts ≡ parts_of types pair.y) × (weights ≡ pair.x) × (weight_of parts ≢ den * p.total)
-IsShownFrom p types pair (Wide step) = ⊥
+abbrev pub IsPairVerdict : PatchList → List (List ℕ) → Pair → RandomPart → Type 0
+IsPairVerdict p types pair (Mixture den parts) =
+    (den ≡ pair.den) × (parts ≡ shares_of types pair.y) × (weight_of parts ≡ den * p.total)
+IsPairVerdict p types pair (Violated den parts weights) =
+    (den ≡ pair.den) × (parts ≡ shares_of types pair.y) × (weights ≡ pair.x) × (weight_of parts ≢ den * p.total)
+IsPairVerdict p types pair (Wide step) = ⊥
 
 -- What an outcome of the run gives.
-abbrev pub IsMadeFrom : PatchList → List (List ℕ) → Outcome → RandomPart → Type 0
-IsMadeFrom p types (Optimal pair) part = IsShownFrom p types pair part
-IsMadeFrom p types (PassedWidth step) part = part ≡ Wide step
-IsMadeFrom p types (Unbounded den point ray) part = ⊥
+abbrev pub IsOutcomeVerdict : PatchList → List (List ℕ) → Outcome → RandomPart → Type 0
+IsOutcomeVerdict p types (Optimal pair) part = IsPairVerdict p types pair part
+IsOutcomeVerdict p types (PassedWidth step) part = part ≡ Wide step
+IsOutcomeVerdict p types (Unbounded den point ray) part = ⊥
 
 -- The verdict is made from the outcome of the run of the program of random utility over these types, and the run has no other: it
 -- never ends unbounded, and the verdict is withheld just where it passes its width, at that step.
@@ -38,4 +38,4 @@ pub record IsRandomVerdict (p : PatchList) (types : List (List ℕ)) (part : Ran
   pub run : IsOutcome (random_program p types) outcome
   pub only : (other : Outcome) → IsOutcome (random_program p types) other
       → IsSameOutcome (random_program p types) outcome other
-  pub made : IsMadeFrom p types outcome part
+  pub made : IsOutcomeVerdict p types outcome part

@@ -2,7 +2,7 @@
 //! Kitamura and Stoye 2018).
 #![tactic(auto)]
 
-mod parts;
+mod shares;
 mod program;
 mod verdict;
 

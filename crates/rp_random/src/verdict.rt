@@ -1,15 +1,14 @@
-ghost use Rattle.std.specs.Prelude.{◌≡◌, ◌≤◌, ◌↔◌, ℕ, IfOk, length};
-ghost use Rattle.rp_patch.specs.Added.{AddsPatches};
+ghost use Rattle.std.specs.Prelude.{◌≤◌, IfOk, length};
 ghost use Rattle.rp_farkas.specs.PairCheck.{IsShownPair};
-ghost use Rattle.rp_patch.specs.Mixtures.{HasMixture, IsGreatestShare, random_program};
-ghost use Rattle.rp_patch.specs.Patches.{PatchList};
+ghost use Rattle.rp_patch.specs.Mixtures.{random_program};
 ghost use Rattle.rp_patch.specs.RandomEvidence.{ProvesRandom};
 ghost use Rattle.rp_patch.specs.Types.{AreRationalTypes};
-ghost use Rattle.rp_random.specs.Verdict.{IsRandomVerdict, IsShownFrom};
+ghost use Rattle.rp_random.specs.Added.{IsUnchangedByAdded};
+ghost use Rattle.rp_random.specs.Verdict.{IsRandomVerdict, IsPairVerdict};
 ghost use Rattle.rp_types.specs.Listed.{types_of};
 ghost use Rattle.rp_types.specs.declared.TheConstants.{TYPES};
 
-use crate::parts::{listed_parts, weight_of};
+use crate::shares::{listed_shares, weight_of};
 use crate::program::RandomProgram;
 use rp_evidence::RandomPart;
 use rp_farkas::Pair;
@@ -30,24 +29,22 @@ pub fn random(
     requires few { length types.now ≤ TYPES }
     ensures proves { IfOk result (ProvesRandom patches.now patches.now.total) }
     ensures run { IfOk result (IsRandomVerdict patches.now (types_of types.now)) }
-    ensures mixtures_with_added { (more : PatchList) (place : ℕ → ℕ)
-        → AddsPatches patches.now more place → HasMixture patches.now ↔ HasMixture more }
-    ensures share_with_added { (more : PatchList) (place : ℕ → ℕ)
-        → AddsPatches patches.now more place → (num den : ℕ)
-        → IsGreatestShare patches.now num den ↔ IsGreatestShare more num den }
+
+    // Patches that nobody chose, had they been counted too, would change nothing.
+    ensures added { IsUnchangedByAdded patches.now }
 {
     prove!(patches.budgets() >= 1);
     patches_without_units_change_nothing();
     let program = RandomProgram::make(patches, types.as_slice());
     match maximize(alloc, &program)? {
-        Outcome::Optimal(pair) => shown(alloc, patches, types.as_slice(), pair),
+        Outcome::Optimal(pair) => verdict_of_pair(alloc, patches, types.as_slice(), pair),
         Outcome::Unbounded { .. } => unreachable!(),
         Outcome::Wide { step } => Ok(RandomPart::Wide { step }),
     }
 }
 
 /// What an equal pair shows: a mixture where the types have the whole total, else that there is none.
-fn shown(
+fn verdict_of_pair(
     alloc: Global,
     patches: &Patches,
     types: &[Rational],
@@ -55,9 +52,9 @@ fn shown(
 ) -> Result<RandomPart, NoMemory>
     requires few { length types.now ≤ TYPES }
     requires pair { IsShownPair (random_program patches.now (types_of types.now)) pair }
-    ensures { IfOk result (IsShownFrom patches.now (types_of types.now) pair) }
+    ensures { IfOk result (IsPairVerdict patches.now (types_of types.now) pair) }
 {
-    let parts = listed_parts(alloc, types, pair.y.as_slice())?;
+    let parts = listed_shares(alloc, types, pair.y.as_slice())?;
     let whole = u128::from(pair.den) * u128::from(patches.total());
     if weight_of(parts.as_slice()) == whole {
         return Ok(RandomPart::Mixture {

@@ -6,7 +6,7 @@ use Rattle.std.proofs.lemmas.List.{take-append-le}
 use Rattle.std.specs.List.{flat_map}
 use Rattle.std.proofs.lemmas.Grind.{flat_map-append}
 use Rattle.std.proofs.lemmas.List.Concat.{flat_map-cons}
-use Rattle.rp_outside.specs.Told.{Grows, GrowsByPrefix}
+use Rattle.rp_outside.specs.Known.{Grows, GrowsByPrefix}
 use Rattle.rp_outside.specs.Faults.{HasRisen}
 
 -- nothing is gained

@@ -1,7 +1,7 @@
 ghost use Rattle.std.specs.Prelude.{◌≡◌, ◌⊎◌, ◌≤◌, ℕ, List, [], ◌∷◌, Some, None, map, string_bytes};
 ghost use Rattle.clap.specs.Faults.{fault_of};
 ghost use Rattle.rp_outside.specs.Faults.{HasRisen};
-ghost use Rattle.rp_outside.specs.Told.{Stays, Grows, GrowsByPrefix};
+ghost use Rattle.rp_outside.specs.Known.{Stays, Grows, GrowsByPrefix};
 ghost use Rattle.rp_words.specs.CommandLine.{Line as Asked};
 ghost use Rattle.rp_words.specs.Words.{line_in};
 ghost use Rattle.rp_words.specs.Commands.{program};

@@ -26,8 +26,3 @@ pub above_zero : (r v : ℤ) → mag r < 2 ^ 63 → r ≡ v → le_z (to_z w64 (
 above_zero r v fits e h =
     let read : le_z r (pos 0) ≡ false = subst (λ z. le_z z (pos 0) ≡ false) (back64 r fits) h in
     omega (arith, ints)
-
-pub difference_read : (a b r x y : ℤ) → mag a < 2 ^ 127 → mag b < 2 ^ 127 → mag r < 2 ^ 127
-    → r ≡ to_z w128 (of_z w128 a) -ℤ to_z w128 (of_z w128 b) → a ≡ x → b ≡ y → to_z w128 (of_z w128 r) ≡ x -ℤ y
-difference_read a b r x y fits_a fits_b fits_r e is_x is_y =
-    back128 r fits_r ∙ e ∙ ap (λ z. z -ℤ to_z w128 (of_z w128 b)) (back128 a fits_a ∙ is_x) ∙ ap (λ z. x -ℤ z) (back128 b fits_b ∙ is_y)

@@ -6,7 +6,7 @@ use lib.Signed.{lt_z}
 use Rattle.rp_simplex.specs.ExactTableau.{ExactTableau}
 use Rattle.rp_simplex.specs.Lexicographic.{IsLexLess}
 use Rattle.rp_simplex.specs.Choice.{IsLeaving, IsUnbounded}
-use Rattle.rp_simplex.specs.Inner.{HasNoTies, LeavesBelow}
+use Rattle.rp_simplex.specs.InnerTableau.{HasNoTies, LeavesBelow}
 use Rattle.rp_simplex.proofs.Ring.{at, ◌⊗◌, ring}
 use Rattle.rp_simplex.proofs.Linear.{cancel, cancel_less, as_pos}
 use Rattle.rp_farkas.proofs.Integers.{times_strict}

@@ -14,7 +14,7 @@ use Rattle.rp_simplex.specs.FirstTableau.{IsFirstTableau}
 use Rattle.rp_simplex.specs.Lexicographic.{IsLexLess}
 use Rattle.rp_simplex.specs.Choice.{IsEntering, IsOptimal, IsLeaving, IsUnbounded}
 use Rattle.rp_simplex.specs.Pivot.{cleared, DividesAll, IsPivot}
-use Rattle.rp_simplex.specs.Run.{Reaches, begins, pivots}
+use Rattle.rp_simplex.specs.Run.{IsTableauAfter, begins, pivots}
 use Rattle.rp_simplex.specs.Width.{IsWithinWidth}
 use Rattle.rp_simplex.proofs.Linear.{cancel}
 use Rattle.rp_simplex.proofs.Sound.{IsSound}
@@ -139,7 +139,7 @@ pivot_same p t u t' u' r c sound same entering leaving a b =
     }
 
 -- the run reaches one tableau after each number of pivots
-pub determined : (p : LinearProgram) {k : ℕ} {t u : ExactTableau} → IsWithinLimits p → Reaches p k t → Reaches p k u → IsSame p.rows (width_of p) t u
+pub determined : (p : LinearProgram) {k : ℕ} {t u : ExactTableau} → IsWithinLimits p → IsTableauAfter p k t → IsTableauAfter p k u → IsSame p.rows (width_of p) t u
 determined p limits (begins {t} f) (begins {t = u} g) = first_same p t u f g
 determined p limits (pivots {t} {u = t'} {r} {c} before within entering leaving pivot) (pivots {t = u} {u = u'} {r = s} {c = d} before' within' entering' leaving' pivot') =
     let same = determined p limits before before' in
@@ -151,19 +151,19 @@ determined p limits (pivots {t} {u = t'} {r} {c} before within entering leaving 
 
 -- ---- where the run stops
 pub record Stops (p : LinearProgram) (k : ℕ) (t : ExactTableau) : Type 0 where
-  pub reached : Reaches p k t
+  pub reached : IsTableauAfter p k t
   pub no_pivot : (c r : ℕ) → IsWithinWidth p.rows (width_of p) t → IsEntering p.rows (width_of p) t c → IsLeaving p.rows (width_of p) t c r → ⊥
 
 pub record GoesOn (p : LinearProgram) (k : ℕ) : Type 0 where
   pub tableau : ExactTableau
   pub column : ℕ
   pub row : ℕ
-  pub reached : Reaches p k tableau
+  pub reached : IsTableauAfter p k tableau
   pub within : IsWithinWidth p.rows (width_of p) tableau
   pub entering : IsEntering p.rows (width_of p) tableau column
   pub leaving : IsLeaving p.rows (width_of p) tableau column row
 
-went_on : (p : LinearProgram) {j : ℕ} {u : ExactTableau} (k : ℕ) → Reaches p j u → k < j → GoesOn p k
+went_on : (p : LinearProgram) {j : ℕ} {u : ExactTableau} (k : ℕ) → IsTableauAfter p j u → k < j → GoesOn p k
 went_on p k (begins f) l = absurd (omega arith)
 went_on p k (pivots {k = m} {t} {r} {c} before within entering leaving pivot) l = elim (cases_eq k m) [
   | inl e ↦ subst (GoesOn p) (sym e) (record { tableau = t; column = c; row = r; reached = before; within = within; entering = entering; leaving = leaving })
@@ -192,7 +192,7 @@ leaving_moved rows width t u c r same hc h =
           (h.least i hi ne (subst (λ z. pos 0 <ℤ z) (sym at_i) above));
     }
 
-stops_last : (p : LinearProgram) {k j : ℕ} {t u : ExactTableau} → IsWithinLimits p → Stops p k t → Reaches p j u → j ≤ k
+stops_last : (p : LinearProgram) {k j : ℕ} {t u : ExactTableau} → IsWithinLimits p → Stops p k t → IsTableauAfter p j u → j ≤ k
 stops_last p {k} {j} {t} limits stop reached = elim (cases_lt k j) [
   | inl over ↦
       let on : GoesOn p k = went_on p k reached over in
@@ -207,4 +207,4 @@ one_end p {k} {j} {t} {u} limits a b =
     let one : j ≤ k = stops_last p limits a b.reached in
     let two : k ≤ j = stops_last p limits b a.reached in
     let e : k ≡ j = omega arith in
-    (e, determined p limits (subst (λ n. Reaches p n t) e a.reached) b.reached)
+    (e, determined p limits (subst (λ n. IsTableauAfter p n t) e a.reached) b.reached)

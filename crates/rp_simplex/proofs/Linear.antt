@@ -7,7 +7,7 @@ use borrow.Author.Differences.{up, down, same_in, same_out, product_is, lt_out, 
 use Rattle.rp_farkas.specs.Total.{total}
 use Rattle.rp_farkas.proofs.Integers.{times_strict}
 use Rattle.rp_farkas.proofs.Totals.{total-same, total-zero, total-add, total-scale}
-use Rattle.rp_simplex.specs.Combined.{delta}
+use Rattle.rp_simplex.specs.InnerCombined.{delta}
 use Rattle.rp_simplex.proofs.Ring.{at, ◌⊕◌, ◌⊖◌, ◌⊗◌, ring}
 
 pub delta-same : (i : ℕ) → delta i i ≡ pos 1

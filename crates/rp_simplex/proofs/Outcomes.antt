@@ -18,12 +18,12 @@ use Rattle.rp_simplex.specs.declared.outcome.Outcome.TheVariants.{Optimal, Unbou
 use Rattle.rp_simplex.specs.ExactTableau.{ExactTableau, width_of}
 use Rattle.rp_simplex.specs.Choice.{IsUnbounded}
 use Rattle.rp_simplex.specs.Readout.{IsReadAt}
-use Rattle.rp_simplex.specs.Outcome.{EndsOptimal, EndsUnbounded, PassesWidth, IsOutcome}
+use Rattle.rp_simplex.specs.Outcome.{EndsOptimal, EndsUnbounded, EndsPastWidth, IsOutcome}
 use Rattle.rp_simplex.specs.SameOutcome.{IsSamePair, IsSameRay, IsSameOutcome}
 use Rattle.rp_simplex.specs.Evidence.{IsEvidence}
 use Rattle.rp_simplex.proofs.Sound.{IsSound}
 use Rattle.rp_simplex.proofs.Steps.{reached_sound}
-use Rattle.rp_simplex.proofs.Reading.{find_below, point_feasible, is_ray, equal_pair}
+use Rattle.rp_simplex.proofs.ReadoutLemmas.{find_below, point_feasible, is_ray, equal_pair}
 use Rattle.rp_simplex.proofs.Determined.{IsSame, Stops, one_end, entering_same, not_optimal, not_unbounded, within_same, turned}
 
 itself : (rows width : ℕ) (t : ExactTableau) → IsSame rows width t t
@@ -41,7 +41,7 @@ unbounded_stops p den point ray e = record {
       not_unbounded p.rows (width_of p) e.last e.last same c r h.in_width k (subst (IsUnbounded p.rows e.last) (sym column) e.unbounded);
 }
 
-wide_stops : (p : LinearProgram) (step : ℕ) (e : PassesWidth p step) → Stops p e.steps e.last
+wide_stops : (p : LinearProgram) (step : ℕ) (e : EndsPastWidth p step) → Stops p e.steps e.last
 wide_stops p step e = record { reached = e.reached; no_pivot = λ c r w h k. e.passes w }
 
 -- two readings of one tableau are one
@@ -60,8 +60,8 @@ optimal_same p a b limits e f =
     let same = (one_end p limits (optimal_stops p a e) (optimal_stops p b f)).1 in
     record {
       den = e.den ∙ same.den ∙ sym f.den;
-      point = read_same p.rows p.cols e.last f.last (λ i. e.last.at i 0) (λ i. f.last.at i 0) 0 0 (pos 0) (pos 0) (numerator_at a.y) (numerator_at b.y) same.basis (λ i hi. same.entries i 0 (omega arith) (omega arith)) refl refl e.y_shown f.y_shown;
-      prices = λ s hs. ap up (e.x_shown s hs ∙ same.entries p.rows (suc s) (omega arith) (omega arith) ∙ sym (f.x_shown s hs));
+      point = read_same p.rows p.cols e.last f.last (λ i. e.last.at i 0) (λ i. f.last.at i 0) 0 0 (pos 0) (pos 0) (numerator_at a.y) (numerator_at b.y) same.basis (λ i hi. same.entries i 0 (omega arith) (omega arith)) refl refl e.y_at f.y_at;
+      prices = λ s hs. ap up (e.x_at s hs ∙ same.entries p.rows (suc s) (omega arith) (omega arith) ∙ sym (f.x_at s hs));
     }
 
 unbounded_same : (p : LinearProgram) (d e : ℕ) (y z r s : List Entry) → IsWithinLimits p → EndsUnbounded p d y r → EndsUnbounded p e z s → IsSameRay p d e y z r s
@@ -70,12 +70,12 @@ unbounded_same p d e y z r s limits a b =
     let column : a.column ≡ b.column = entering_same p.rows (width_of p) a.last b.last same a.column b.column a.entering b.entering in
     record {
       den = a.same_den ∙ same.den ∙ sym b.same_den;
-      point = read_same p.rows p.cols a.last b.last (λ i. a.last.at i 0) (λ i. b.last.at i 0) 0 0 (pos 0) (pos 0) (numerator_at y) (numerator_at z) same.basis (λ i hi. same.entries i 0 (omega arith) (omega arith)) refl refl a.point_shown b.point_shown;
+      point = read_same p.rows p.cols a.last b.last (λ i. a.last.at i 0) (λ i. b.last.at i 0) 0 0 (pos 0) (pos 0) (numerator_at y) (numerator_at z) same.basis (λ i hi. same.entries i 0 (omega arith) (omega arith)) refl refl a.point_at b.point_at;
       ray = read_same p.rows p.cols a.last b.last (λ i. neg_ℤ (a.last.at i a.column)) (λ i. neg_ℤ (b.last.at i b.column)) a.column b.column (pos a.last.den) (pos b.last.den) (numerator_at r) (numerator_at s) same.basis
-          (λ i hi. ap neg_ℤ (same.entries i a.column (omega arith) a.entering.in_width ∙ ap (b.last.at i) column)) column (ap pos same.den) a.ray_shown b.ray_shown;
+          (λ i hi. ap neg_ℤ (same.entries i a.column (omega arith) a.entering.in_width ∙ ap (b.last.at i) column)) column (ap pos same.den) a.ray_at b.ray_at;
     }
 
-wide_same : (p : LinearProgram) (m n : ℕ) → IsWithinLimits p → PassesWidth p m → PassesWidth p n → m ≡ n
+wide_same : (p : LinearProgram) (m n : ℕ) → IsWithinLimits p → EndsPastWidth p m → EndsPastWidth p n → m ≡ n
 wide_same p m n limits a b =
     let steps : a.steps ≡ b.steps = (one_end p limits (wide_stops p m a) (wide_stops p n b)).0 in
     a.step_is ∙ ap (λ k. min k (2 ^ 64 - 1)) steps ∙ sym b.step_is
@@ -85,12 +85,12 @@ optimal_or_unbounded p a d y r limits e f =
     let same = (one_end p limits (optimal_stops p a e) (unbounded_stops p d y r f)).1 in
     not_optimal p.rows (width_of p) f.last e.last (turned p.rows (width_of p) e.last f.last same) f.column f.entering e.optimal
 
-optimal_or_wide : (p : LinearProgram) (a : Pair) (n : ℕ) → IsWithinLimits p → EndsOptimal p a → PassesWidth p n → ⊥
+optimal_or_wide : (p : LinearProgram) (a : Pair) (n : ℕ) → IsWithinLimits p → EndsOptimal p a → EndsPastWidth p n → ⊥
 optimal_or_wide p a n limits e f =
     let same = (one_end p limits (optimal_stops p a e) (wide_stops p n f)).1 in
     f.passes (within_same p.rows (width_of p) e.last f.last same e.within)
 
-unbounded_or_wide : (p : LinearProgram) (d : ℕ) (y r : List Entry) (n : ℕ) → IsWithinLimits p → EndsUnbounded p d y r → PassesWidth p n → ⊥
+unbounded_or_wide : (p : LinearProgram) (d : ℕ) (y r : List Entry) (n : ℕ) → IsWithinLimits p → EndsUnbounded p d y r → EndsPastWidth p n → ⊥
 unbounded_or_wide p d y r n limits e f =
     let same = (one_end p limits (unbounded_stops p d y r e) (wide_stops p n f)).1 in
     f.passes (within_same p.rows (width_of p) e.last f.last same e.within)
@@ -110,7 +110,7 @@ outcome_same p (Wide n) (Unbounded d y r) limits e f = unbounded_or_wide p d y r
 pub outcome_shows : (p : LinearProgram) (o : Outcome) → IsWithinLimits p → IsOutcome p o → IsEvidence p o
 outcome_shows p (Optimal pair) limits e =
     let sound : IsSound p e.last = reached_sound p limits e.reached in
-    let there : IsEqualPair p e.last.den (numerator_at pair.y) (slice_index pair.x) = equal_pair p e.last (numerator_at pair.y) (slice_index pair.x) sound e.optimal e.y_shown e.x_shown in
+    let there : IsEqualPair p e.last.den (numerator_at pair.y) (slice_index pair.x) = equal_pair p e.last (numerator_at pair.y) (slice_index pair.x) sound e.optimal e.y_at e.x_at in
     let pair_is : IsEqualPair p pair.den (numerator_at pair.y) (slice_index pair.x) = subst (λ d. IsEqualPair p d (numerator_at pair.y) (slice_index pair.x)) (sym e.den) there in (
       record {
         den_positive = subst (λ d. 0 < d) (sym e.den) sound.den_positive;
@@ -118,7 +118,7 @@ outcome_shows p (Optimal pair) limits e =
         y_listed = e.y_listed;
         x_length = e.x_length;
         x_fits = All-from_get_or (λ v. v < 2 ^ 63) pair.x 0 (λ s l.
-            subst (λ z. unsigned_abs z < 2 ^ 63) (sym (e.x_shown s (omega (arith, e.x_length)))) (e.within.entries_fit p.rows (suc s) (omega arith) (omega (arith, e.x_length))));
+            subst (λ z. unsigned_abs z < 2 ^ 63) (sym (e.x_at s (omega (arith, e.x_length)))) (e.within.entries_fit p.rows (suc s) (omega arith) (omega (arith, e.x_length))));
         equal = pair_is;
       },
       best_point p pair.den (numerator_at pair.y) (slice_index pair.x) pair_is,
@@ -126,8 +126,8 @@ outcome_shows p (Optimal pair) limits e =
     )
 outcome_shows p (Unbounded den point ray) limits e =
     let sound : IsSound p e.last = reached_sound p limits e.reached in
-    let feasible : IsFeasiblePoint p den (numerator_at point) = subst (λ d. IsFeasiblePoint p d (numerator_at point)) (sym e.same_den) (point_feasible p e.last sound (numerator_at point) e.point_shown) in
-    let ray_is : IsRay p (numerator_at ray) = is_ray p e.last sound e.column (numerator_at ray) e.entering e.unbounded e.ray_shown in (
+    let feasible : IsFeasiblePoint p den (numerator_at point) = subst (λ d. IsFeasiblePoint p d (numerator_at point)) (sym e.same_den) (point_feasible p e.last sound (numerator_at point) e.point_at) in
+    let ray_is : IsRay p (numerator_at ray) = is_ray p e.last sound e.column (numerator_at ray) e.entering e.unbounded e.ray_at in (
       record {
         den_positive = subst (λ d. 0 < d) (sym e.same_den) sound.den_positive;
         den_fits = subst (λ d. d < 2 ^ 63) (sym e.same_den) e.within.den_fits;

@@ -10,7 +10,7 @@ use Rattle.rp_simplex.specs.FirstTableau.{first_entry}
 use Rattle.rp_simplex.specs.Lexicographic.{IsLexLess}
 use Rattle.rp_simplex.specs.Choice.{IsEntering, IsLeaving}
 use Rattle.rp_simplex.specs.Pivot.{cleared, IsPivot}
-use Rattle.rp_simplex.specs.Combined.{delta}
+use Rattle.rp_simplex.specs.InnerCombined.{delta}
 use Rattle.rp_simplex.proofs.Ring.{at, ◌⊕◌, ◌⊖◌, ◌⊗◌, ring}
 use Rattle.rp_simplex.proofs.Linear.{delta-same, delta-other, total-cleared, total-weighed, total-scaled, total-changed, cancel, cancel_less, as_pos, positive_times}
 use Rattle.rp_simplex.proofs.Sound.{IsSound, sign_cases}

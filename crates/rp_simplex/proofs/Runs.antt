@@ -10,20 +10,20 @@ use Rattle.rp_simplex.specs.FirstTableau.{IsFirstTableau}
 use Rattle.rp_simplex.specs.Choice.{IsEntering, IsLeaving}
 use Rattle.rp_simplex.specs.Width.{IsWithinWidth}
 use Rattle.rp_simplex.specs.Pivot.{IsPivot}
-use Rattle.rp_simplex.specs.Run.{Reaches, begins, pivots}
-use Rattle.rp_simplex.specs.Shown.{exact, IsShapedFor}
-use Rattle.rp_simplex.specs.Inner.{HasDistinctBasis, HasNoTies}
+use Rattle.rp_simplex.specs.Run.{IsTableauAfter, begins, pivots}
+use Rattle.rp_simplex.specs.InnerStage.{exact, IsShapedFor}
+use Rattle.rp_simplex.specs.InnerTableau.{HasDistinctBasis, HasNoTies}
 use Rattle.rp_simplex.proofs.Linear.{delta-other}
 use Rattle.rp_simplex.proofs.Sound.{IsSound}
 use Rattle.rp_simplex.proofs.PivotSound.{objective_rises}
-use Rattle.rp_simplex.proofs.Reading.{distinct, right_side}
+use Rattle.rp_simplex.proofs.ReadoutLemmas.{distinct, right_side}
 use Rattle.rp_simplex.proofs.Steps.{reached_sound, no_tie}
 use Rattle.rp_simplex.proofs.Ends.{distance, distance_falls}
 
 -- the loop holds the run's tableau after some number of pivots, and counts them
 pub record IsAt (p : LinearProgram) (t : Stage) (step : ℕ) : Type 0 where
   pub steps : ℕ
-  pub reached : Reaches p steps (exact t)
+  pub reached : IsTableauAfter p steps (exact t)
   pub counted : step ≡ min steps (2 ^ 64 - 1)
   pub shape : IsShapedFor p t
 
@@ -83,7 +83,7 @@ module _ (p : LinearProgram) (limits : IsWithinLimits p) (t : Stage) (step : ℕ
     leaving_there = reshape (λ rows width. IsLeaving rows width (exact t) c r) p t here.shape leaving
 
     -- one more pivot, to a tableau of any width
-    pub reaches_next : (v : ExactTableau) → IsPivot t.rows t.width (exact t) r c v → Reaches p (suc here.steps) v
+    pub reaches_next : (v : ExactTableau) → IsPivot t.rows t.width (exact t) r c v → IsTableauAfter p (suc here.steps) v
     reaches_next v pivot = pivots here.reached within entering_there leaving_there (reshape (λ rows width. IsPivot rows width (exact t) r c v) p t here.shape pivot)
 
     pub moves : (next_step : ℕ) → IsPivot t.rows t.width (exact t) r c (exact u) → u.rows ≡ t.rows → u.width ≡ t.width → next_step ≡ min (suc here.steps) (2 ^ 64 - 1) → IsAt p u next_step

@@ -14,15 +14,15 @@ use Rattle.rp_simplex.specs.Outcome.{IsOutcome}
 use Rattle.rp_simplex.specs.Pivot.{IsPivot}
 use Rattle.rp_simplex.specs.Readout.{IsReadAt}
 use Rattle.rp_simplex.specs.ReadProgram.{IsSameProgram, program_in}
-use Rattle.rp_simplex.specs.Run.{Reaches, begins, pivots}
-use Rattle.rp_simplex.specs.Shown.{exact, IsShapedFor}
+use Rattle.rp_simplex.specs.Run.{IsTableauAfter, begins, pivots}
+use Rattle.rp_simplex.specs.InnerStage.{exact, IsShapedFor}
 use Rattle.rp_simplex.specs.Width.{IsWithinWidth}
-use Rattle.rp_simplex.specs.Written.{HasFirstEntries}
+use Rattle.rp_simplex.specs.InnerRows.{HasFirstEntries}
 use Rattle.rp_simplex.specs.declared.outcome.Outcome.{Outcome}
 use Rattle.rp_simplex.specs.declared.outcome.Outcome.TheVariants.{Optimal, Unbounded, Wide}
 use Rattle.rp_simplex.specs.declared.stage.Stage.{Stage}
 use Rattle.rp_simplex.specs.declared.room.Room.{Room}
-use Rattle.rp_simplex.specs.Ready.{HasRooms, IsReady}
+use Rattle.rp_simplex.specs.InnerReady.{HasRooms, IsReady}
 use Rattle.rp_simplex.proofs.Sound.{first-slack, first-right}
 
 -- ---- the entries of tableau 0 past the slacks
@@ -122,7 +122,7 @@ module _ (p q : LinearProgram) (same : IsSameProgram p q) where
     b_not_negative = λ i hi. let li : i < p.rows = omega (arith, same.rows) in subst (λ z. pos 0 ≤ℤ z) (same.b i li) (limits.b_not_negative i li);
   }
 
-  same_reaches : {k : ℕ} {t : ExactTableau} → Reaches p k t → Reaches q k t
+  same_reaches : {k : ℕ} {t : ExactTableau} → IsTableauAfter p k t → IsTableauAfter q k t
   same_reaches (begins {t} first) = begins (same_first t first)
   same_reaches (pivots {k} {t} {u} {r} {c} before within entering leaving pivot) =
       pivots (same_reaches before) (move (λ rows width. IsWithinWidth rows width t) within) (move (λ rows width. IsEntering rows width t c) entering)
@@ -140,9 +140,9 @@ module _ (p q : LinearProgram) (same : IsSameProgram p q) where
     optimal = move (λ rows width. IsOptimal rows width e.last) e.optimal;
     den = e.den;
     y_listed = subst (λ n. IsListing n pair.y) same.cols e.y_listed;
-    y_shown = same_reading e.last (λ i. e.last.at i 0) 0 (pos 0) (numerator_at pair.y) e.y_shown;
+    y_at = same_reading e.last (λ i. e.last.at i 0) 0 (pos 0) (numerator_at pair.y) e.y_at;
     x_length = e.x_length ∙ same.rows;
-    x_shown = move (λ rows _. (s : ℕ) → s < rows → pos (slice_index pair.x s) ≡ e.last.at rows (suc s)) e.x_shown;
+    x_at = move (λ rows _. (s : ℕ) → s < rows → pos (slice_index pair.x s) ≡ e.last.at rows (suc s)) e.x_at;
   }
   same_outcome (Unbounded den point ray) e = record {
     steps = e.steps;
@@ -154,9 +154,9 @@ module _ (p q : LinearProgram) (same : IsSameProgram p q) where
     unbounded = move (λ rows _. IsUnbounded rows e.last e.column) e.unbounded;
     same_den = e.same_den;
     point_listed = subst (λ n. IsListing n point) same.cols e.point_listed;
-    point_shown = same_reading e.last (λ i. e.last.at i 0) 0 (pos 0) (numerator_at point) e.point_shown;
+    point_at = same_reading e.last (λ i. e.last.at i 0) 0 (pos 0) (numerator_at point) e.point_at;
     ray_listed = subst (λ n. IsListing n ray) same.cols e.ray_listed;
-    ray_shown = same_reading e.last (λ i. neg_ℤ (e.last.at i e.column)) e.column (pos e.last.den) (numerator_at ray) e.ray_shown;
+    ray_at = same_reading e.last (λ i. neg_ℤ (e.last.at i e.column)) e.column (pos e.last.den) (numerator_at ray) e.ray_at;
   }
   same_outcome (Wide step) e = record {
     steps = e.steps;

@@ -9,7 +9,7 @@ use Rattle.rp_farkas.proofs.Totals.{total-same}
 use Rattle.rp_simplex.specs.ExactTableau.{ExactTableau, width_of}
 use Rattle.rp_simplex.specs.FirstTableau.{IsFirstTableau, first_entry}
 use Rattle.rp_simplex.specs.Lexicographic.{IsLexLess}
-use Rattle.rp_simplex.specs.Combined.{delta}
+use Rattle.rp_simplex.specs.InnerCombined.{delta}
 use Rattle.rp_simplex.proofs.Linear.{delta-same, delta-other, total-delta, total-delta_past}
 
 pub record IsSound (p : LinearProgram) (t : ExactTableau) : Type 0 where

@@ -4,12 +4,12 @@ use Rattle.std.proofs.lemmas.Int.{ints}
 use Rattle.rp_farkas.specs.LinearProgram.{LinearProgram}
 use Rattle.rp_farkas.specs.Limits.{IsWithinLimits}
 use Rattle.rp_simplex.specs.ExactTableau.{ExactTableau, width_of}
-use Rattle.rp_simplex.specs.Run.{Reaches, begins, pivots}
+use Rattle.rp_simplex.specs.Run.{IsTableauAfter, begins, pivots}
 use Rattle.rp_simplex.proofs.Linear.{delta-same, delta-other, positive_times}
 use Rattle.rp_simplex.proofs.Sound.{IsSound, first_sound}
 use Rattle.rp_simplex.proofs.PivotSound.{pivot_sound}
 
-pub reached_sound : (p : LinearProgram) {k : ℕ} {t : ExactTableau} → IsWithinLimits p → Reaches p k t → IsSound p t
+pub reached_sound : (p : LinearProgram) {k : ℕ} {t : ExactTableau} → IsWithinLimits p → IsTableauAfter p k t → IsSound p t
 reached_sound p limits (begins first) = first_sound p _ first limits
 reached_sound p limits (pivots {t} {u} {r} {c} before within entering leaving pivot) =
     pivot_sound p t r c u (reached_sound p limits before) entering leaving pivot

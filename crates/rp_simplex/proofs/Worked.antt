@@ -21,8 +21,8 @@ use Rattle.rp_simplex.specs.Choice.{IsEntering, IsLeaving}
 use Rattle.rp_simplex.specs.Width.{IsWithinWidth}
 use Rattle.rp_simplex.specs.Pivot.{cleared, IsPivot}
 use Rattle.rp_simplex.specs.Run.{begins, pivots}
-use Rattle.rp_simplex.specs.Readout.{ShowsPoint, ShowsRay}
-use Rattle.rp_simplex.specs.Outcome.{EndsOptimal, EndsUnbounded, PassesWidth}
+use Rattle.rp_simplex.specs.Readout.{IsPointAt, IsRayAt}
+use Rattle.rp_simplex.specs.Outcome.{EndsOptimal, EndsUnbounded, EndsPastWidth}
 
 -- ---- tests of every place below a bound
 abbrev test_below : ℕ → (ℕ → Bool) → Bool
@@ -215,7 +215,7 @@ two-others zero hj none ne = absurd (none 0 (lit< tt) refl)
 two-others (suc zero) hj none ne = absurd (none 1 (lit< tt) refl)
 two-others (suc (suc j)) hj none ne = absurd (omega arith)
 
-two-shown : ShowsPoint two_rows third_of_two (numerator_at two_point)
+two-shown : IsPointAt two_rows third_of_two (numerator_at two_point)
 two-shown = record { basic = two-basic; entering = λ j hj e. absurd (omega arith); others = two-others }
 
 -- the run ends there, with y = (3/13, 1/13) and x = (1/13, 3/13)
@@ -228,9 +228,9 @@ two_rows-ends = record {
   optimal = λ j one l. before_five (λ k. pos 0 ≤ℤ third_of_two.at 2 k) (le_z_yes tt) (le_z_yes tt) (le_z_yes tt) (le_z_yes tt) j one l;
   den = refl;
   y_listed = two-listed;
-  y_shown = two-shown;
+  y_at = two-shown;
   x_length = refl;
-  x_shown = below_two (λ s. pos (slice_index (1 ∷ 3 ∷ []) s) ≡ third_of_two.at 2 (suc s)) refl refl;
+  x_at = below_two (λ s. pos (slice_index (1 ∷ 3 ∷ []) s) ≡ third_of_two.at 2 (suc s)) refl refl;
 }
 
 -- ---- a program whose first pivot passes the width: once the denominator is 2^50, one entry is 2^100 - 2^50 + 1
@@ -279,7 +279,7 @@ wide-pivot = record {
   stays = λ i hi ne. below_two (λ k. k ≢ 0 → second_of_wide.basis k ≡ first_of_wide.basis k) (λ off. absurd (off refl)) (λ off. refl) i hi ne;
 }
 
-pub wide_rows-passes : PassesWidth wide_rows 1
+pub wide_rows-passes : EndsPastWidth wide_rows 1
 wide_rows-passes = record {
   steps = 1;
   last = second_of_wide;
@@ -295,14 +295,14 @@ one_row = listed_program 1 1 (negsuc 0 ∷ []) (pos 1 ∷ []) (pos 1 ∷ [])
 abbrev first_of_one : ExactTableau
 first_of_one = listed_tableau 3 1 (1 ∷ []) (pos 1 ∷ pos 1 ∷ negsuc 0 ∷ pos 0 ∷ pos 0 ∷ negsuc 0 ∷ [])
 
-one-shown_ray : ShowsRay one_row first_of_one 2 (numerator_at (record { at = 0; value = 1 } ∷ []))
+one-shown_ray : IsRayAt one_row first_of_one 2 (numerator_at (record { at = 0; value = 1 } ∷ []))
 one-shown_ray = record {
   basic = λ j i hj hi e. below_one (λ k. first_of_one.basis k ≡ suc (1 + j) → pos (numerator_at (record { at = 0; value = 1 } ∷ []) j) ≡ neg_ℤ (first_of_one.at k 2)) (λ q. absurd (omega arith)) i hi e;
   entering = λ j hj e. below_one (λ k. pos (numerator_at (record { at = 0; value = 1 } ∷ []) k) ≡ pos 1) refl j hj;
   others = λ j hj none ne. below_one (λ k. 2 ≢ suc (1 + k) → numerator_at (record { at = 0; value = 1 } ∷ []) k ≡ 0) (λ off. absurd (off refl)) j hj ne;
 }
 
-one-shown_point : ShowsPoint one_row first_of_one (numerator_at [])
+one-shown_point : IsPointAt one_row first_of_one (numerator_at [])
 one-shown_point = record {
   basic = λ j i hj hi e. below_one (λ k. first_of_one.basis k ≡ suc (1 + j) → pos (numerator_at [] j) ≡ first_of_one.at k 0) (λ q. absurd (omega arith)) i hi e;
   entering = λ j hj e. absurd (omega arith);
@@ -348,9 +348,9 @@ one_row-ends = record {
   unbounded = below_one (λ i. first_of_one.at i 2 ≤ℤ pos 0) (le_z_yes tt);
   same_den = refl;
   point_listed = one-no_points;
-  point_shown = one-shown_point;
+  point_at = one-shown_point;
   ray_listed = one-listed;
-  ray_shown = one-shown_ray;
+  ray_at = one-shown_ray;
 }
 
 -- ---- the columns (1, 2), (2, 1), (1, 1) and (-1, -1) with the right sides (1, 0) and the objective (4, 4, 3, -3), whose
@@ -507,7 +507,7 @@ four-others (suc (suc zero)) hj none ne = refl
 four-others (suc (suc (suc zero))) hj none ne = absurd (none 0 (lit< tt) refl)
 four-others (suc (suc (suc (suc j)))) hj none ne = absurd (omega arith)
 
-four-shown : ShowsPoint four_columns fourth_of_four (numerator_at four_point)
+four-shown : IsPointAt four_columns fourth_of_four (numerator_at four_point)
 four-shown = record { basic = four-basic; entering = λ j hj e. absurd (omega arith); others = four-others }
 
 -- the run ends with columns 2 and 4 at 1, and the prices (1, 2)
@@ -520,7 +520,7 @@ four_columns-ends = record {
   optimal = not_negative_before (fourth_of_four.at 2) 6 refl;
   den = refl;
   y_listed = four-listed;
-  y_shown = four-shown;
+  y_at = four-shown;
   x_length = refl;
-  x_shown = below_two (λ s. pos (slice_index (1 ∷ 2 ∷ []) s) ≡ fourth_of_four.at 2 (suc s)) refl refl;
+  x_at = below_two (λ s. pos (slice_index (1 ∷ 2 ∷ []) s) ≡ fourth_of_four.at 2 (suc s)) refl refl;
 }

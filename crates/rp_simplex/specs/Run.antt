@@ -7,9 +7,9 @@ use Rattle.rp_simplex.specs.Choice.{IsEntering, IsLeaving}
 use Rattle.rp_simplex.specs.Pivot.{IsPivot}
 use Rattle.rp_simplex.specs.Width.{IsWithinWidth}
 
--- t is the tableau that the run reaches after k pivots; the run goes on from tableaus within the width alone.
-pub data Reaches (p : LinearProgram) : ℕ → ExactTableau → Type 0 where
-  begins : {t : ExactTableau} → IsFirstTableau p t → Reaches p zero t
-  pivots : {k : ℕ} {t u : ExactTableau} {r c : ℕ} → Reaches p k t → IsWithinWidth p.rows (width_of p) t
+-- t is the tableau of the run after k pivots; the run goes on from tableaus within the width alone.
+pub data IsTableauAfter (p : LinearProgram) : ℕ → ExactTableau → Type 0 where
+  begins : {t : ExactTableau} → IsFirstTableau p t → IsTableauAfter p zero t
+  pivots : {k : ℕ} {t u : ExactTableau} {r c : ℕ} → IsTableauAfter p k t → IsWithinWidth p.rows (width_of p) t
       → IsEntering p.rows (width_of p) t c → IsLeaving p.rows (width_of p) t c r
-      → IsPivot p.rows (width_of p) t r c u → Reaches p (suc k) u
+      → IsPivot p.rows (width_of p) t r c u → IsTableauAfter p (suc k) u

@@ -1,9 +1,9 @@
 ghost use Rattle.std.specs.Prelude.{◌≡◌, ◌+◌, ◌<◌, ◌≤◌, ℕ, pos, ◌*ℤ◌, ◌<ℤ◌, ◌⊎◌, MatchBool};
 ghost use Rattle.std.specs.Prelude.{MatchOption};
 ghost use Rattle.rp_simplex.specs.Choice.{IsLeaving, IsUnbounded};
-ghost use Rattle.rp_simplex.specs.Inner.{HasNoTies, LeavesBelow};
+ghost use Rattle.rp_simplex.specs.InnerTableau.{HasNoTies, LeavesBelow};
 ghost use Rattle.rp_simplex.specs.Lexicographic.{IsLexLess};
-ghost use Rattle.rp_simplex.specs.Shown.{exact};
+ghost use Rattle.rp_simplex.specs.InnerStage.{exact};
 
 use crate::stage::Stage;
 

@@ -3,7 +3,7 @@ ghost use Prim.Native.Nat.{◌∣◌};
 ghost use Rattle.std.specs.Prelude.{◌≡◌, ◌*◌, ◌^◌, ◌<◌, ◌≤◌, pos, ◌*ℤ◌, ◌<ℤ◌, MatchOption};
 ghost use Rattle.std.specs.Int.RustNames.{unsigned_abs};
 ghost use Rattle.rp_farkas.specs.Limits.{FitsEvidence};
-ghost use Rattle.rp_simplex.specs.Written.{IsQuotient};
+ghost use Rattle.rp_simplex.specs.InnerRows.{IsQuotient};
 
 /// The width of evidence, for numbers before the common divisor is taken out.
 pub const WIDTH: u128 = rp_farkas::EVIDENCE_WIDTH as u128;

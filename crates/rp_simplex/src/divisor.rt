@@ -5,8 +5,8 @@ ghost use Rattle.std.specs.Prelude.{◌≡◌, ℕ, ◌^◌, ◌<◌, ◌≤◌,
 ghost use Rattle.std.specs.Int.RustNames.{unsigned_abs};
 ghost use Rattle.rp_farkas.specs.Limits.{FitsEvidence};
 ghost use Rattle.rp_simplex.specs.Pivot.{DividesAll};
-ghost use Rattle.rp_simplex.specs.Shown.{exact, renewed};
-ghost use Rattle.rp_simplex.specs.Written.{moved};
+ghost use Rattle.rp_simplex.specs.InnerStage.{exact, renewed};
+ghost use Rattle.rp_simplex.specs.InnerRows.{moved};
 
 use crate::stage::{Stage, product};
 use rp_num::gcd;

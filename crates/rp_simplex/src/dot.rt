@@ -1,7 +1,7 @@
 ghost use Rattle.std.specs.Prelude.{◌≡◌, suc, ◌*◌, ◌^◌, ◌<◌, ◌≤◌, ◌+ℤ◌, ◌*ℤ◌, length};
 ghost use Rattle.std.specs.Int.RustNames.{unsigned_abs};
 ghost use Rattle.rp_farkas.specs.Limits.{FitsEvidence, largest_entry, most_rows};
-ghost use Rattle.rp_simplex.specs.Combined.{AreSmall, ElementsFit, dot};
+ghost use Rattle.rp_simplex.specs.InnerCombined.{AreSmall, ElementsFit, dot};
 
 /// A running sum of at most 64 products of a multiplier and an entry of tableau 0, and one more: it stays within 128
 /// bits, since 65 * 2^63 * 2^51 is below 2^121.

@@ -2,12 +2,12 @@ ghost use Rattle.std.specs.Prelude.{◌≡◌, ℕ, suc, ◌+◌, ◌<◌, ◌�
 ghost use Rattle.std.specs.Int.RustNames.{unsigned_abs};
 ghost use Rattle.rp_farkas.specs.Limits.{largest_entry, most_rows};
 ghost use Rattle.rp_grid.specs.Rows.{AreEqual, row_of};
-ghost use Rattle.rp_simplex.specs.Combined.{AreSmall, delta};
+ghost use Rattle.rp_simplex.specs.InnerCombined.{AreSmall, delta};
 ghost use Rattle.rp_simplex.specs.ExactTableau.{width_of};
 ghost use Rattle.rp_simplex.specs.FirstTableau.{IsFirstTableau, first_entry};
 ghost use Rattle.rp_simplex.specs.Cells.{cell};
-ghost use Rattle.rp_simplex.specs.Written.{HasFirstEntries, IsFirstEntry, IsWritten};
-ghost use Rattle.rp_simplex.specs.Shown.{exact, IsShapedFor};
+ghost use Rattle.rp_simplex.specs.InnerRows.{HasFirstEntries, IsFirstEntry, IsWritten};
+ghost use Rattle.rp_simplex.specs.InnerStage.{exact, IsShapedFor};
 
 use crate::stage::Stage;
 use rp_farkas::Lp;

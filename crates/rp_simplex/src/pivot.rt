@@ -1,6 +1,6 @@
 ghost use Rattle.std.specs.Prelude.{◌≡◌, ◌^◌, ◌<◌, pos, ◌*ℤ◌, ◌<ℤ◌, MatchOption};
 ghost use Rattle.rp_simplex.specs.Pivot.{IsPivot, PivotPasses};
-ghost use Rattle.rp_simplex.specs.Shown.{exact};
+ghost use Rattle.rp_simplex.specs.InnerStage.{exact};
 
 use crate::division::WIDTH;
 use crate::divisor::common_divisor;

@@ -3,8 +3,8 @@ ghost use Rattle.std.specs.Prelude.{◌≡◌, suc, ◌^◌, ◌<◌, ◌≤◌,
 ghost use Rattle.std.specs.Int.RustNames.{unsigned_abs};
 ghost use Rattle.rp_farkas.specs.Limits.{largest_entry, most_rows};
 ghost use Rattle.rp_simplex.specs.Choice.{IsEntering, IsOptimal};
-ghost use Rattle.rp_simplex.specs.Combined.{AreSmall, ElementsFit, IsGathered, dot};
-ghost use Rattle.rp_simplex.specs.Shown.{exact};
+ghost use Rattle.rp_simplex.specs.InnerCombined.{AreSmall, ElementsFit, IsGathered, dot};
+ghost use Rattle.rp_simplex.specs.InnerStage.{exact};
 
 use crate::dot::plus_product;
 use crate::stage::Stage;

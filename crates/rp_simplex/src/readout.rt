@@ -2,9 +2,9 @@ ghost use Rattle.std.specs.Prelude.{◌≡◌, ◌≢◌, ℕ, suc, ◌+◌, ◌
 ghost use Rattle.std.specs.Prelude.{length, vec_capacity, vec_len, slice_index};
 ghost use Rattle.rp_farkas.specs.Limits.{FitsEvidence, most_columns};
 ghost use Rattle.rp_farkas.specs.Listing.{IsListing, numerator_at};
-ghost use Rattle.rp_simplex.specs.Inner.{HasDistinctBasis, HasRoom};
+ghost use Rattle.rp_simplex.specs.InnerTableau.{HasDistinctBasis, HasRoom};
 ghost use Rattle.rp_simplex.specs.Readout.{IsReadAt};
-ghost use Rattle.rp_simplex.specs.Shown.{exact};
+ghost use Rattle.rp_simplex.specs.InnerStage.{exact};
 
 use crate::stage::Stage;
 use rp_farkas::Entry;

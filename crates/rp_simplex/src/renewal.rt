@@ -1,13 +1,13 @@
 //! The multipliers after a pivot.
 ghost use Prim.Native.Nat.{◌∣◌};
-ghost use Rattle.std.specs.Prelude.{◌≡◌, ◌≢◌, ℕ, suc, ◌^◌, ◌<◌, ◌≤◌, pos, ◌*ℤ◌, MatchBool, length};
+ghost use Rattle.std.specs.Prelude.{◌≡◌, ◌≢◌, ℕ, suc, ◌^◌, ◌<◌, ◌≤◌, ◌*ℤ◌, length};
 ghost use Rattle.std.specs.Int.RustNames.{unsigned_abs};
 ghost use Rattle.rp_farkas.specs.Limits.{FitsEvidence, largest_entry, most_rows};
 ghost use Rattle.rp_grid.specs.Rows.{row_of};
 ghost use Rattle.rp_simplex.specs.Cells.{cell};
-ghost use Rattle.rp_simplex.specs.Combined.{AreSmall, dot};
-ghost use Rattle.rp_simplex.specs.Written.{ArePivoted, AreRenewed, FactorsFit, FitEvidence, HasDivided};
-ghost use Rattle.rp_simplex.specs.Written.{OnePasses, less_multiple, factor, moved};
+ghost use Rattle.rp_simplex.specs.InnerCombined.{AreSmall, dot};
+ghost use Rattle.rp_simplex.specs.InnerRows.{DividesEach, DividesRow, DividesRows, FactorsFit};
+ghost use Rattle.rp_simplex.specs.InnerRows.{FitEvidence, RenewsRows, less_multiple, factor, moved};
 
 use crate::division::quotient;
 use crate::divisor::difference_of_products;
@@ -27,11 +27,10 @@ fn clear_row(grid: &mut Grid<i64>, r: u32, pivot: i64, i: u32, factor: i64, divi
     requires pivot_fit { FitEvidence grid.old r }
     requires positive { 0 < divisor }
     requires small { divisor < 2 ^ 127 }
-    requires divides { (s : ℕ) → s < grid.old.cols
-        → divisor ∣ unsigned_abs (less_multiple grid.old r i pivot factor s) }
-    ensures { MatchBool result
-        (HasDivided grid.old grid.new i (less_multiple grid.old r i pivot factor) divisor)
-        (OnePasses grid.old.cols (less_multiple grid.old r i pivot factor) divisor) }
+    requires divides { DividesEach grid.old.cols divisor
+        (less_multiple grid.old r i pivot factor) }
+    ensures { DividesRow result grid.old grid.new i (less_multiple grid.old r i pivot factor)
+        divisor }
 {
     let cols = grid.cols();
     let mut rows = grid.two(i, r);
@@ -52,11 +51,8 @@ fn scale_row(grid: &mut Grid<i64>, i: u32, by: i64, divisor: u128) -> bool
     requires by { FitsEvidence (unsigned_abs by) }
     requires positive { 0 < divisor }
     requires small { divisor < 2 ^ 127 }
-    requires divides { (j : ℕ) → j < grid.old.cols
-        → divisor ∣ unsigned_abs (cell grid.old i j *ℤ by) }
-    ensures { MatchBool result
-        (HasDivided grid.old grid.new i (λ j. cell grid.old i j *ℤ by) divisor)
-        (OnePasses grid.old.cols (λ j. cell grid.old i j *ℤ by) divisor) }
+    requires divides { DividesEach grid.old.cols divisor (λ j. cell grid.old i j *ℤ by) }
+    ensures { DividesRow result grid.old grid.new i (λ j. cell grid.old i j *ℤ by) divisor }
 {
     for j in 0..grid.cols() as usize {
         let entry = product(grid.row(i)[j], by);
@@ -79,11 +75,10 @@ fn renew_row(grid: &mut Grid<i64>, r: u32, pivot: i64, i: u32, factor: i64, divi
     requires pivot_fit { FitEvidence grid.old r }
     requires positive { 0 < divisor }
     requires small { divisor < 2 ^ 127 }
-    requires divides { (s : ℕ) → s < grid.old.cols
-        → divisor ∣ unsigned_abs (less_multiple grid.old r i pivot factor s) }
-    ensures { MatchBool result
-        (HasDivided grid.old grid.new i (less_multiple grid.old r i pivot factor) divisor)
-        (OnePasses grid.old.cols (less_multiple grid.old r i pivot factor) divisor) }
+    requires divides { DividesEach grid.old.cols divisor
+        (less_multiple grid.old r i pivot factor) }
+    ensures { DividesRow result grid.old grid.new i (less_multiple grid.old r i pivot factor)
+        divisor }
 {
     if factor != 0 {
         return clear_row(grid, r, pivot, i, factor, divisor);
@@ -119,10 +114,7 @@ fn renew_others(grid: &mut Grid<i64>, column: &[i64], r: u32, pivot: i64, diviso
     requires divides { (i s : ℕ) → i < length grid.old.rows → i ≢ r → s < grid.old.cols
         → divisor ∣ unsigned_abs
         (less_multiple grid.old r i pivot (factor grid.old column.now i) s) }
-    ensures { MatchBool result (AreRenewed grid.old grid.new r pivot (factor grid.old column.now)
-        divisor (length grid.old.rows))
-        ((i : ℕ) × (i < length grid.old.rows) × (i ≢ r) × OnePasses grid.old.cols
-        (less_multiple grid.old r i pivot (factor grid.old column.now i)) divisor) }
+    ensures { RenewsRows result grid.old grid.new r pivot (factor grid.old column.now) divisor }
 {
     for i in 0..grid.rows() {
         if i != r {
@@ -157,10 +149,8 @@ pub fn renew(
     requires divides { (i s : ℕ) → i < length grid.old.rows → s < grid.old.cols
         → divisor ∣ unsigned_abs
         (moved grid.old den r pivot i (factor grid.old column.now i) s) }
-    ensures { MatchBool result (ArePivoted grid.old grid.new
-        (λ i. moved grid.old den r pivot i (factor grid.old column.now i)) divisor)
-        ((i : ℕ) × (i < length grid.old.rows) × OnePasses grid.old.cols
-        (moved grid.old den r pivot i (factor grid.old column.now i)) divisor) }
+    ensures { DividesRows result grid.old grid.new
+        (λ i. moved grid.old den r pivot i (factor grid.old column.now i)) divisor }
 {
     renew_others(grid, column, r, pivot, divisor) && scale_row(grid, r, den as i64, divisor)
 }

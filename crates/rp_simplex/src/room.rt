@@ -1,5 +1,5 @@
 ghost use Rattle.std.specs.Prelude.{IfOk};
-ghost use Rattle.rp_simplex.specs.Ready.{HasRooms};
+ghost use Rattle.rp_simplex.specs.InnerReady.{HasRooms};
 
 use rp_farkas::Entry;
 use rp_num::NoMemory;

@@ -3,7 +3,7 @@ ghost use Rattle.rp_simplex.specs.Outcome.{IsOutcome};
 ghost use Rattle.rp_simplex.specs.SameOutcome.{IsSameOutcome};
 ghost use Rattle.rp_simplex.specs.Evidence.{IsEvidence};
 ghost use Rattle.rp_simplex.specs.ReadProgram.{program_in};
-ghost use Rattle.rp_simplex.specs.Ready.{IsReady};
+ghost use Rattle.rp_simplex.specs.InnerReady.{IsReady};
 
 use crate::choice::leaving_row;
 use crate::outcome::Outcome;

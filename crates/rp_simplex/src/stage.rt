@@ -3,7 +3,7 @@ ghost use Rattle.std.specs.Int.RustNames.{unsigned_abs};
 ghost use Rattle.rp_farkas.specs.Limits.{FitsEvidence, largest_entry, most_columns, most_rows};
 ghost use Rattle.rp_grid.specs.Rows.{AreEqual, row_of};
 ghost use Rattle.rp_simplex.specs.Cells.{cell};
-ghost use Rattle.rp_simplex.specs.Combined.{AreSmall, combination, delta};
+ghost use Rattle.rp_simplex.specs.InnerCombined.{AreSmall, combination, delta};
 
 use crate::dot::dot_product;
 use rp_grid::Grid;
@@ -51,7 +51,7 @@ pub fn product(a: i64, b: i64) -> i128
 }
 
 impl Stage {
-    ghost use Rattle.rp_simplex.specs.Shown.{exact};
+    ghost use Rattle.rp_simplex.specs.InnerStage.{exact};
 
     /// The numerator in row i and column j.
     pub fn entry(&self, i: usize, j: usize) -> i64

@@ -26,7 +26,7 @@ impl Model for Tableau {
     ghost use Rattle.std.specs.Prelude.{ℤ};
     ghost use Rattle.std.specs.Coded.{coded_ℤ};
     ghost use Rattle.rp_grid.specs.Rows.{Rows, rows_code};
-    ghost use Rattle.rp_simplex.specs.Ready.{IsReady};
+    ghost use Rattle.rp_simplex.specs.InnerReady.{IsReady};
 
     ghost Value = { Rows ℤ };
 

@@ -3,8 +3,8 @@ ghost use Rattle.std.specs.Prelude.{◌≡◌, ℕ, suc, ◌^◌, ◌<◌, ◌�
 ghost use Rattle.std.specs.Int.RustNames.{unsigned_abs};
 ghost use Rattle.rp_farkas.specs.Limits.{FitsEvidence, largest_entry, most_rows};
 ghost use Rattle.rp_grid.specs.Rows.{row_of};
-ghost use Rattle.rp_simplex.specs.Combined.{AreSmall, ElementsFit, dot};
-ghost use Rattle.rp_simplex.specs.Written.{FitEvidence};
+ghost use Rattle.rp_simplex.specs.InnerCombined.{AreSmall, ElementsFit, dot};
+ghost use Rattle.rp_simplex.specs.InnerRows.{FitEvidence};
 
 use crate::division::WIDTH;
 use crate::dot::dot_product;

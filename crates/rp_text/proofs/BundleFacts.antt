@@ -11,7 +11,7 @@ use Rattle.rp_text.specs.Denotation.{first_fault, bundle_list, bundles_of, denot
 use Rattle.rp_text.specs.declared.fault.TableFault.{TableFault}
 use Rattle.rp_text.proofs.FineHeaders.{FineHeaders, fine_headers}
 use Rattle.rp_text.proofs.ColumnSizes.{sizes_in, sizes_are}
-use Rattle.rp_text.proofs.GivenHeaders.{numbers_within, rows_of_goods, numbers_of_goods}
+use Rattle.rp_text.proofs.FixedHeaders.{numbers_within, rows_of_goods, numbers_of_goods}
 use Rattle.rp_text.proofs.StageLemmas.{value_denoted, fault_denoted}
 use Rattle.rp_text.proofs.TableMade.{counted, passed}
 

@@ -21,7 +21,7 @@ use Rattle.rp_text.proofs.RowLemmas.{all_listed}
 use Rattle.rp_text.proofs.FieldFaults.{role_is}
 use Rattle.rp_text.proofs.FineHeaders.{FineHeaders, fine_headers, column_there}
 use Rattle.rp_text.proofs.ColumnSizes.{sizes_in, sizes_are, within_limit, budget_at}
-use Rattle.rp_text.proofs.GivenHeaders.{numbers_within, numbers_of_goods}
+use Rattle.rp_text.proofs.FixedHeaders.{numbers_within, numbers_of_goods}
 use Rattle.rp_text.proofs.StageLemmas.{value_denoted, fault_denoted}
 use Rattle.rp_text.proofs.TableMade.{counted, passed}
 

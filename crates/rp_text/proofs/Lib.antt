@@ -3,7 +3,7 @@ pub mod CsvLemmas
 pub mod FieldLemmas
 pub mod ColumnLemmas
 pub mod HeaderLemmas
-mod Tried
+mod Worked
 pub mod FieldFaults
 pub mod PassedOn
 pub mod NameLemmas
@@ -18,11 +18,11 @@ pub mod ColumnSizes
 pub mod TableFacts
 pub mod RowMore
 pub mod TableMade
-pub mod GivenHeaders
+pub mod FixedHeaders
 pub mod AmountColumns
 pub mod PriceFacts
 pub mod BundleFacts
-pub mod GivenLemmas
+pub mod FixedGoods
 pub mod SheetStages
 pub mod PlainNumbers
 pub mod PlainHeaders
@@ -30,7 +30,7 @@ pub mod PlainRecords
 pub mod PlainTables
 pub mod PlainLines
 pub mod PlainBytes
-mod PlainTried
+mod WorkedPlain
 pub mod BudgetFacts
 pub mod ChoiceFacts
 pub mod ChosenFacts

@@ -14,7 +14,7 @@ use Rattle.rp_text.specs.Headers.{headers_in, has, header_fault, headers_stage, 
 use Rattle.rp_text.specs.Plain.{IsPlainName, IsPlainHeader}
 use Rattle.rp_text.specs.declared.form.Role.TheVariants.{Price, Quantity}
 use Rattle.rp_text.proofs.GoodHeaders.{price_says, quantity_says}
-use Rattle.rp_text.proofs.GivenLemmas.{own_goods, no_goods_fault}
+use Rattle.rp_text.proofs.FixedGoods.{own_goods, no_goods_fault}
 use Rattle.rp_text.proofs.PlaceLemmas.{present, found_at, not_listed, one_place}
 use Rattle.rp_text.proofs.PlainNumbers.{trimmed_is}
 

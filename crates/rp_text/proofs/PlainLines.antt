@@ -10,7 +10,7 @@ use Rattle.csv.specs.Machine.{next_record}
 use Rattle.csv.specs.Reading.{default_config, records_from, strip_bom}
 use Rattle.csv.specs.declared.parser.State.TheVariants as st
 use Rattle.rp_num.specs.Below.{listed}
-use Rattle.rp_text.specs.Plain.{parts_of, parts_in}
+use Rattle.rp_text.specs.Plain.{lines_of, fields_in}
 use Rattle.rp_text.specs.Records.{records_of}
 use Rattle.rp_text.specs.Texts.{text_at}
 
@@ -54,13 +54,13 @@ start_same [] rest fields ordinary = refl
 start_same (byte ∷ line) rest fields ordinary = rw (ne_eqb byte 34 (All-head Ordinary byte line ordinary).1) refl
 
 -- a field ends, and the others of the line come after it
-one_more : (fields : List (List ℕ)) (field line : List ℕ) → (fields ++ field ∷ []) ++ grown [] (parts_in line) ≡ fields ++ grown field ([] ∷ parts_in line)
+one_more : (fields : List (List ℕ)) (field line : List ℕ) → (fields ++ field ∷ []) ++ grown [] (fields_in line) ≡ fields ++ grown field ([] ∷ fields_in line)
 unfolding grown
-one_more fields field line = rw (grown-nil (parts_in line) (some_parts line 44), append-nil field) (append_assoc fields (field ∷ []) (parts_in line))
+one_more fields field line = rw (grown-nil (fields_in line) (some_parts line 44), append-nil field) (append_assoc fields (field ∷ []) (fields_in line))
 
 -- the rest of a line, inside a field
 in_line : (line rest : List ℕ) (fields : List (List ℕ)) (field : List ℕ) → All Ordinary line → All Inside line
-    → next_record default_config st.InField fields field (line ++ 10 ∷ rest) ≡ Some (fields ++ grown field (parts_in line), st.StartRecord, rest)
+    → next_record default_config st.InField fields field (line ++ 10 ∷ rest) ≡ Some (fields ++ grown field (fields_in line), st.StartRecord, rest)
 unfolding next_record grown
 in_line [] rest fields field ordinary inside = rw (append-nil field) refl
 in_line (byte ∷ line) rest fields field ordinary inside =
@@ -73,7 +73,7 @@ in_line (byte ∷ line) rest fields field ordinary inside =
       | inr other ↦
           rw (other, ne_eqb byte 13 (All-head Ordinary byte line ordinary).0, All-head Inside byte line inside)
           (in_line line rest fields (field ++ byte ∷ []) others within
-          ∙ ap (λ (all : List (List ℕ)). Some (fields ++ all, st.StartRecord, rest)) (grown-onto field byte (parts_in line)))
+          ∙ ap (λ (all : List (List ℕ)). Some (fields ++ all, st.StartRecord, rest)) (grown-onto field byte (fields_in line)))
     ]
 
 -- the start of a record is read as its first field is
@@ -85,10 +85,10 @@ begin_same (byte ∷ line) rest some ordinary inside = rw (ne_eqb byte 13 (All-h
 
 -- a line that is not empty is a record of its parts
 one_line : (line rest : List ℕ) → line ≢ [] → All Ordinary line → All Inside line
-    → next_record default_config st.StartRecord [] [] (line ++ 10 ∷ rest) ≡ Some (parts_in line, st.StartRecord, rest)
+    → next_record default_config st.StartRecord [] [] (line ++ 10 ∷ rest) ≡ Some (fields_in line, st.StartRecord, rest)
 one_line line rest some ordinary inside =
     begin_same line rest some ordinary inside ∙ start_same line rest [] ordinary ∙ in_line line rest [] [] ordinary inside
-    ∙ ap (λ (all : List (List ℕ)). Some (all, st.StartRecord, rest)) (grown-nil (parts_in line) (some_parts line 44))
+    ∙ ap (λ (all : List (List ℕ)). Some (all, st.StartRecord, rest)) (grown-nil (fields_in line) (some_parts line 44))
 
 -- a first line, the line feed at its end, and what comes after it
 record FirstLine (bytes : List ℕ) : Type 0 where
@@ -96,7 +96,7 @@ record FirstLine (bytes : List ℕ) : Type 0 where
   rest : List ℕ
   whole : bytes ≡ first ++ 10 ∷ rest
   inside : All Inside first
-  parts : parts_of bytes ≡ first ∷ parts_of rest
+  parts : lines_of bytes ≡ first ∷ lines_of rest
 
 -- a byte before the first line
 longer_line : (byte : ℕ) (bytes : List ℕ) → Inside byte → FirstLine bytes → FirstLine (byte ∷ bytes)
@@ -121,7 +121,7 @@ empty_line byte bytes feed =
     }
 
 -- a text is one part, or it has a first line
-first_line : (bytes : List ℕ) → (parts_of bytes ≡ bytes ∷ []) ⊎ FirstLine bytes
+first_line : (bytes : List ℕ) → (lines_of bytes ≡ bytes ∷ []) ⊎ FirstLine bytes
 first_line [] = inl refl
 first_line (byte ∷ bytes) = elim (cases_Bool (byte == 10)) [
   | inl feed ↦ inr (empty_line byte bytes feed)
@@ -151,7 +151,7 @@ nothing_left (suc m) = refl
 
 -- the first record, and then the others
 next_line : (m : ℕ) (bytes line rest : List ℕ) → bytes ≡ line ++ 10 ∷ rest → line ≢ [] → All Ordinary line → All Inside line
-    → records_from default_config (suc m) st.StartRecord bytes ≡ parts_in line ∷ records_from default_config m st.StartRecord rest
+    → records_from default_config (suc m) st.StartRecord bytes ≡ fields_in line ∷ records_from default_config m st.StartRecord rest
 unfolding records_from
 next_line m bytes line rest whole some ordinary inside = rw (whole, one_line line rest some ordinary inside) refl
 
@@ -160,27 +160,27 @@ abbrev AreEnded : List (List ℕ) → ℕ → Type 0
 AreEnded parts n = (length parts ≡ n + 1) × (text_at parts n ≡ []) × ((k : ℕ) → k < n → text_at parts k ≢ [])
 
 -- the lines of a text, with steps enough
-lines_from : (n m : ℕ) (bytes : List ℕ) → n ≤ m → All Ordinary bytes → AreEnded (parts_of bytes) n
-    → records_from default_config m st.StartRecord bytes ≡ listed n (λ k. parts_in (text_at (parts_of bytes) k))
+lines_from : (n m : ℕ) (bytes : List ℕ) → n ≤ m → All Ordinary bytes → AreEnded (lines_of bytes) n
+    → records_from default_config m st.StartRecord bytes ≡ listed n (λ k. fields_in (text_at (lines_of bytes) k))
 lines_from zero m bytes enough ordinary ended = elim (first_line bytes) [
   | inl whole ↦
       let empty : bytes ≡ [] = ap (λ (parts : List (List ℕ)). text_at parts 0) (sym whole) ∙ ended.1 in
       rw empty (nothing_left m)
   | inr cut ↦
-      let more : length (parts_of bytes) ≡ suc (length (parts_of cut.rest)) = ap (λ (parts : List (List ℕ)). length parts) cut.parts in
+      let more : length (lines_of bytes) ≡ suc (length (lines_of cut.rest)) = ap (λ (parts : List (List ℕ)). length parts) cut.parts in
       absurd (omega (arith, more, ended.0, some_parts cut.rest 10))
 ]
 lines_from (suc n) zero bytes enough ordinary ended = absurd (omega arith)
 lines_from (suc n) (suc m) bytes enough ordinary ended = elim (first_line bytes) [
   | inl whole ↦
-      let one : length (parts_of bytes) ≡ 1 = ap (λ (parts : List (List ℕ)). length parts) whole in
+      let one : length (lines_of bytes) ≡ 1 = ap (λ (parts : List (List ℕ)). length parts) whole in
       absurd (omega (arith, one, ended.0))
   | inr cut ↦
-      let parts : AreEnded (cut.first ∷ parts_of cut.rest) (suc n) = subst (λ (all : List (List ℕ)). AreEnded all (suc n)) cut.parts ended in
+      let parts : AreEnded (cut.first ∷ lines_of cut.rest) (suc n) = subst (λ (all : List (List ℕ)). AreEnded all (suc n)) cut.parts ended in
       let plain = front_all Ordinary cut.first 10 cut.rest (subst (λ (all : List ℕ). All Ordinary all) cut.whole ordinary) in
-      let others : AreEnded (parts_of cut.rest) n = (omega (arith, parts.0), parts.1, λ k within. parts.2 (suc k) (omega arith)) in
+      let others : AreEnded (lines_of cut.rest) n = (omega (arith, parts.0), parts.1, λ k within. parts.2 (suc k) (omega arith)) in
       rw (next_line m bytes cut.first cut.rest cut.whole (parts.2 0 (omega arith)) plain.0 cut.inside, lines_from n m cut.rest (omega arith) plain.1 others, cut.parts)
-      (sym (listed_first n (λ k. parts_in (text_at (cut.first ∷ parts_of cut.rest) k))))
+      (sym (listed_first n (λ k. fields_in (text_at (cut.first ∷ lines_of cut.rest) k))))
 ]
 
 -- no byte order mark comes first
@@ -194,8 +194,8 @@ no_mark (a ∷ b ∷ c ∷ rest) ordinary =
     rw (ne_eqb a 239 (λ same. absurd (omega (arith, same, low)))) refl
 
 -- each line that ends with a line feed is a record of its parts, where none is empty and nothing comes after the last one
-pub plain_records : (bytes : List ℕ) (n : ℕ) → All Ordinary bytes → length (parts_of bytes) ≡ n + 1 → text_at (parts_of bytes) n ≡ []
-    → ((k : ℕ) → k < n → text_at (parts_of bytes) k ≢ []) → records_of bytes ≡ listed n (λ k. parts_in (text_at (parts_of bytes) k))
+pub plain_records : (bytes : List ℕ) (n : ℕ) → All Ordinary bytes → length (lines_of bytes) ≡ n + 1 → text_at (lines_of bytes) n ≡ []
+    → ((k : ℕ) → k < n → text_at (lines_of bytes) k ≢ []) → records_of bytes ≡ listed n (λ k. fields_in (text_at (lines_of bytes) k))
 unfolding records_of
 plain_records bytes n ordinary counted last some =
     let enough : n ≤ length bytes + 1 = omega (arith, counted, few_parts bytes 10) in
@@ -229,9 +229,9 @@ all_of_parts P (byte ∷ bytes) mark marked each = elim (cases_Bool (byte == mar
 ]
 
 -- a line with a part that is not empty is not empty
-pub parts_some : (line : List ℕ) (k : ℕ) → text_at (parts_in line) k ≢ [] → line ≢ []
+pub parts_some : (line : List ℕ) (k : ℕ) → text_at (fields_in line) k ≢ [] → line ≢ []
 parts_some line k some empty = some (rw empty (no_part k))
   where
-    no_part : (k : ℕ) → text_at (parts_in []) k ≡ []
+    no_part : (k : ℕ) → text_at (fields_in []) k ≡ []
     no_part zero = refl
     no_part (suc k) = refl

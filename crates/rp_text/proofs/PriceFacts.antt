@@ -24,7 +24,7 @@ use Rattle.rp_text.proofs.RowLemmas.{all_listed}
 use Rattle.rp_text.proofs.FineHeaders.{FineHeaders, fine_headers}
 use Rattle.rp_text.proofs.ColumnSizes.{sizes_in, sizes_are}
 use Rattle.rp_text.proofs.AmountColumns.{expenditure_header, expenditure_says, amount_within}
-use Rattle.rp_text.proofs.GivenHeaders.{prices_within, rows_of_goods, numbers_of_goods}
+use Rattle.rp_text.proofs.FixedHeaders.{prices_within, rows_of_goods, numbers_of_goods}
 use Rattle.rp_text.proofs.StageLemmas.{value_denoted, fault_denoted}
 use Rattle.rp_text.proofs.TableMade.{counted, passed}
 

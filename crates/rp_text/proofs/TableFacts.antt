@@ -57,9 +57,6 @@ module _ (headers : List (List ℕ)) (records : List (List (List ℕ))) (good : 
   rows_count : length (sizes_of table_form headers (figures_of table_form headers records)) ≡ rows_in records
   rows_count = sizes_are table_form headers records
 
-  price_number : ℕ → ℕ → ℕ
-  price_number t g = slice_index (text_at (sizes_of table_form headers (figures_of table_form headers records)) t) (column_of price_mark headers (names_with is_price headers) g)
-
   records_are : records_of (table_of headers (figures_of table_form headers records)) ≡ rows_in records
   unfolding table_of
   records_are =

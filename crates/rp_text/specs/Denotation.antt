@@ -10,9 +10,9 @@ use Rattle.rp_num.specs.Below.{first_there, rows_below, listed}
 use Rattle.rp_text.specs.Texts.{text_at, place_of}
 use Rattle.rp_text.specs.ChoiceCounts.{column_named, choices_stage}
 use Rattle.rp_text.specs.Forms.{table_form, prices_form, bundles_form, budgets_form, choices_form}
-use Rattle.rp_text.specs.Records.{records_of, record_at}
+use Rattle.rp_text.specs.Records.{records_of}
 use Rattle.rp_text.specs.Columns.{names_with, is_price, price_mark, quantity_mark}
-use Rattle.rp_text.specs.Headers.{headers_in, headers_stage, goods_stage}
+use Rattle.rp_text.specs.Headers.{headers_in, headers_of, headers_stage, goods_stage}
 use Rattle.rp_text.specs.Fields.{figures_of, count_stage, fields_stage}
 use Rattle.rp_text.specs.Sizes.{places_of, sizes_of, sizes_stage}
 use Rattle.rp_text.specs.declared.form.Form.{Form}
@@ -67,7 +67,7 @@ table_under headers records = table_of headers (figures_of table_form headers re
 
 -- what records denote as a table
 unfoldable pub denoted_table : List (List (List ℕ)) → Result Observations TableFault
-denoted_table records = unless_fault (first_fault table_form [] records) (table_under (headers_in (record_at records 0)) records)
+denoted_table records = unless_fault (first_fault table_form [] records) (table_under (headers_of records) records)
 
 -- what the bytes of a file denote as a table
 abbrev pub table_in : List ℕ → Result Observations TableFault
@@ -92,7 +92,7 @@ prices_of with_m places goods headers figures = price_list with_m headers goods 
 -- what records denote as new prices of these goods, beside a table whose quantities have these places
 unfoldable pub denoted_prices : Bool → ℕ → List (List ℕ) → List (List (List ℕ)) → Result PriceList TableFault
 denoted_prices with_m places goods records =
-    let headers = headers_in (record_at records 0) in
+    let headers = headers_of records in
     unless_fault (first_fault (prices_form with_m places) goods records) (prices_of with_m places goods headers (figures_of (prices_form with_m places) headers records))
 
 -- what the bytes of a file denote as new prices of these goods
@@ -117,7 +117,7 @@ bundles_of places goods headers figures = bundle_list headers goods (sizes_of (b
 -- what records denote as bundles of these goods, beside a table whose quantities have these places
 unfoldable pub denoted_bundles : ℕ → List (List ℕ) → List (List (List ℕ)) → Result BundleList TableFault
 denoted_bundles places goods records =
-    let headers = headers_in (record_at records 0) in
+    let headers = headers_of records in
     unless_fault (first_fault (bundles_form places) goods records) (bundles_of places goods headers (figures_of (bundles_form places) headers records))
 
 -- what the bytes of a file denote as bundles of these goods
@@ -143,7 +143,7 @@ budgets_of headers figures = budget_list headers (names_with is_price headers) (
 -- what records denote as budgets
 unfoldable pub denoted_budgets : List (List (List ℕ)) → Result BudgetList TableFault
 denoted_budgets records =
-    let headers = headers_in (record_at records 0) in
+    let headers = headers_of records in
     unless_fault (first_fault budgets_form [] records) (budgets_of headers (figures_of budgets_form headers records))
 
 -- what the bytes of a file denote as budgets
@@ -166,7 +166,7 @@ choices_of budgets goods headers figures = choice_list headers goods (sizes_of (
 -- what records denote as choices on so many budgets over these goods
 unfoldable pub denoted_choices : ℕ → List (List ℕ) → List (List (List ℕ)) → Result ChoiceList TableFault
 denoted_choices budgets goods records =
-    let headers = headers_in (record_at records 0) in
+    let headers = headers_of records in
     unless_fault (first_fault (choices_form budgets) goods records) (choices_of budgets goods headers (figures_of (choices_form budgets) headers records))
 
 -- what the bytes of a file denote as choices on so many budgets over these goods

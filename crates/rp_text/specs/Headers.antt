@@ -1,10 +1,11 @@
 -- The first fault in the headers of a file: one that such files do not take, one that came before, a good
--- whose partner is missing or that is not given, a column that is missing, and too many goods.
+-- whose partner is missing or that is not fixed, a column that is missing, and too many goods.
 use Rattle.std.specs.Prelude.{ℕ, Bool, false, not, ◌&&◌, ◌||◌, ◌==◌, nat_lt, if◌then◌else◌, List, [], ◌∷◌, ◌++◌, length, map, take, codes, Option, None, Some, is_some}
 use Rattle.std.specs.Option.{option_map_or}
 use Rattle.rp_table.specs.declared.TheConstants.{GOODS}
 use Rattle.rp_num.specs.Below.{first_of, first_there, any_below}
 use Rattle.rp_text.specs.Texts.{trimmed, text_at, place_of, number_of}
+use Rattle.rp_text.specs.Records.{record_at}
 use Rattle.rp_text.specs.Columns.{role_of, role_at, takes, is_price, is_quantity, names_with, name_in, price_mark, quantity_mark}
 use Rattle.rp_text.specs.declared.form.Form.{Form}
 use Rattle.rp_text.specs.declared.form.Role.{Role}
@@ -14,6 +15,10 @@ use Rattle.rp_text.specs.declared.fault.TableFault.TheVariants as fault
 -- the headers in a record, without the blanks round them
 abbrev pub headers_in : List (List ℕ) → List (List ℕ)
 headers_in fields = map trimmed fields
+
+-- the headers of a file with these records: those in its first one
+abbrev pub headers_of : List (List (List ℕ)) → List (List ℕ)
+headers_of records = headers_in (record_at records 0)
 
 -- whether a column has that header
 abbrev pub has : List (List ℕ) → List ℕ → Bool
@@ -41,9 +46,9 @@ pair_fault headers c =
     then Some (fault.Unpaired (number_of c))
     else None
 
--- a column of a good that is not among those given
-unfoldable pub given_fault : List (List ℕ) → List (List ℕ) → ℕ → Option TableFault
-given_fault goods headers c =
+-- a column of a good that is not one of the fixed goods
+unfoldable pub other_goods_fault : List (List ℕ) → List (List ℕ) → ℕ → Option TableFault
+other_goods_fault goods headers c =
     if (is_price (role_at headers c) || is_quantity (role_at headers c)) && not (has goods (name_in (text_at headers c)))
     then Some (fault.OtherGoods (number_of c))
     else None
@@ -51,7 +56,7 @@ given_fault goods headers c =
 -- the columns of goods that are there, in order
 unfoldable pub present_fault : Form → List (List ℕ) → List (List ℕ) → Option TableFault
 present_fault form goods headers =
-    if form.given_goods then first_of (length headers) (given_fault goods headers)
+    if form.fixed_goods then first_of (length headers) (other_goods_fault goods headers)
     else if form.prices && form.quantities then first_of (length headers) (pair_fault headers)
     else None
 
@@ -70,15 +75,15 @@ lacks_column form headers =
 abbrev pub good_mark : Form → List ℕ
 good_mark form = if form.prices then price_mark else quantity_mark
 
--- whether one of the given goods has no column
+-- whether one of the fixed goods has no column
 abbrev pub lacks_good : Form → List (List ℕ) → List (List ℕ) → Bool
 lacks_good form goods headers = any_below (length goods) (λ g. not (has headers (good_mark form ++ text_at goods g)))
 
--- columns that are missing: every good or another needed one, and then one of the goods that are given
+-- columns that are missing: every good or another needed one, and then one of the fixed goods
 unfoldable pub missing_fault : Form → List (List ℕ) → List (List ℕ) → Option TableFault
 missing_fault form goods headers =
     if (length (names_of form headers) == 0) || lacks_column form headers then Some (fault.Unpaired 0)
-    else if form.given_goods && lacks_good form goods headers then Some (fault.OtherGoods 0)
+    else if form.fixed_goods && lacks_good form goods headers then Some (fault.OtherGoods 0)
     else None
 
 -- more goods than the limit

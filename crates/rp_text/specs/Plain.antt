@@ -10,12 +10,12 @@ use Rattle.rp_table.specs.declared.TheConstants.{GOODS, NAME_BYTES}
 use Rattle.rp_text.specs.Texts.{text_at}
 
 -- the parts between the line feeds: the last one comes after the last line feed
-abbrev pub parts_of : List ℕ → List (List ℕ)
-parts_of bytes = slice_split (λ byte. byte == 10) bytes
+abbrev pub lines_of : List ℕ → List (List ℕ)
+lines_of bytes = slice_split (λ byte. byte == 10) bytes
 
 -- the parts of a line between its commas
-abbrev pub parts_in : List ℕ → List (List ℕ)
-parts_in line = slice_split (λ byte. byte == 44) line
+abbrev pub fields_in : List ℕ → List (List ℕ)
+fields_in line = slice_split (λ byte. byte == 44) line
 
 -- 1 to NAME_BYTES letters a to z
 pub record IsPlainName (name : List ℕ) : Type 0 where
@@ -54,10 +54,10 @@ pub record IsPlainRecord (fields : List (List ℕ)) (goods : ℕ) (price quantit
 
 -- the bytes are of the plain form, and denote that table
 pub record IsPlainTable (bytes : List ℕ) (table : Observations) : Type 0 where
-  pub lines : length (parts_of bytes) ≡ records_of table + 2
-  pub ended : text_at (parts_of bytes) (records_of table + 1) ≡ []
-  pub header : IsPlainHeader (parts_in (text_at (parts_of bytes) 0)) table.names
-  pub records : (t : ℕ) → t < records_of table → IsPlainRecord (parts_in (text_at (parts_of bytes) (t + 1))) (goods_of table) (price_of table t) (quantity_of table t)
+  pub lines : length (lines_of bytes) ≡ records_of table + 2
+  pub ended : text_at (lines_of bytes) (records_of table + 1) ≡ []
+  pub header : IsPlainHeader (fields_in (text_at (lines_of bytes) 0)) table.names
+  pub records : (t : ℕ) → t < records_of table → IsPlainRecord (fields_in (text_at (lines_of bytes) (t + 1))) (goods_of table) (price_of table t) (quantity_of table t)
   pub within : IsTable table
   pub price_scale : table.price_places ≡ 0
   pub quantity_scale : table.quantity_places ≡ 0

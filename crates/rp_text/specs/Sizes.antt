@@ -6,7 +6,8 @@ use Rattle.rp_table.specs.declared.TheConstants.{LARGEST, LARGEST_EXPENDITURE}
 use Rattle.rp_num.specs.Below.{first_of, greatest_below, listed}
 use Rattle.rp_text.specs.Texts.{number_of}
 use Rattle.rp_text.specs.Columns.{role_at, is_price, is_quantity, is_income}
-use Rattle.rp_text.specs.Fields.{nothing}
+use Rattle.rp_text.specs.Fields.{nothing, figures_of}
+use Rattle.rp_text.specs.Headers.{headers_of}
 use Rattle.rp_text.specs.declared.form.Form.{Form}
 use Rattle.rp_text.specs.declared.form.Role.{Role}
 use Rattle.rp_text.specs.declared.form.Role.TheVariants.{Observation, Price, Quantity, Expenditure, Income, Budget, Times}
@@ -32,12 +33,12 @@ unfoldable pub greatest_places : List (List ℕ) → List (List Decimal) → Rol
 greatest_places headers figures role =
     greatest_below (length figures) (λ t. greatest_below (length headers) (λ c. if shares_scale role (role_at headers c) then (figure_at figures t c).places else 0))
 
--- the places of the scale of a role: the greatest in the file, or for quantities the given one. An
+-- the places of the scale of a role: the greatest in the file, or for quantities the fixed one. An
 -- expenditure is a sum of prices times quantities
 unfoldable pub places_of : Form → List (List ℕ) → List (List Decimal) → Role → ℕ
 places_of form headers figures Observation = 0
 places_of form headers figures Price = greatest_places headers figures Price
-places_of form headers figures Quantity = if form.given_places then form.places else greatest_places headers figures Quantity
+places_of form headers figures Quantity = if form.fixed_places then form.places else greatest_places headers figures Quantity
 places_of form headers figures Expenditure = greatest_places headers figures Price + form.places
 places_of form headers figures Income = greatest_places headers figures Income
 places_of form headers figures Budget = 0
@@ -72,6 +73,13 @@ scaled form headers figures t c = result_unwrap_or (size_at form headers figures
 -- the scaled numbers of all records
 abbrev pub sizes_of : Form → List (List ℕ) → List (List Decimal) → List (List ℕ)
 sizes_of form headers figures = listed (length figures) (λ t. listed (length headers) (scaled form headers figures t))
+
+-- the numbers and the scaled numbers that records of this kind of file hold under their headers
+abbrev pub sheet_figures : Form → List (List (List ℕ)) → List (List Decimal)
+sheet_figures form records = figures_of form (headers_of records) records
+
+abbrev pub sheet_sizes : Form → List (List (List ℕ)) → List (List ℕ)
+sheet_sizes form records = sizes_of form (headers_of records) (sheet_figures form records)
 
 -- the records in order, and in each the columns in order
 unfoldable pub sizes_stage : Form → List (List ℕ) → List (List Decimal) → Option TableFault

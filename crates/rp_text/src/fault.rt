@@ -51,7 +51,7 @@ pub enum TableFault {
     /// A good that the table or the budgets have not; column 0 where one of theirs is missing.
     #[error("OtherGoods")]
     OtherGoods { column: u32 },
-    /// A number of more places than the scale that is given.
+    /// A number of more places than the fixed scale.
     #[error("TooFine")]
     TooFine { row: u32, column: u32 },
     /// A choice on a budget that there is not.

@@ -31,13 +31,13 @@ pub struct Form {
     pub income: bool,
     /// Whether there are the columns `budget` and `n`.
     pub choices: bool,
-    /// Whether the goods are given, and not named by the file.
-    pub given_goods: bool,
-    /// Whether quantities have the scale that is given, and not one of their own.
-    pub given_places: bool,
-    /// The decimal places of the scale of quantities that is given.
+    /// Whether the goods are fixed beforehand, and not named by the file.
+    pub fixed_goods: bool,
+    /// Whether the scale of quantities is fixed beforehand, and not the file's.
+    pub fixed_places: bool,
+    /// The decimal places of that scale of quantities.
     pub places: u8,
-    /// How many budgets are given.
+    /// How many budgets there are.
     pub budgets: u32,
     /// The most records.
     pub most: u32,
@@ -54,8 +54,8 @@ impl Form {
             expenditure: false,
             income: false,
             choices: false,
-            given_goods: false,
-            given_places: false,
+            fixed_goods: false,
+            fixed_places: false,
             places: 0,
             budgets: 0,
             most: RECORDS,
@@ -73,8 +73,8 @@ impl Form {
             expenditure: with_m,
             income: false,
             choices: false,
-            given_goods: true,
-            given_places: true,
+            fixed_goods: true,
+            fixed_places: true,
             places,
             budgets: 0,
             most: NEW_RECORDS,
@@ -91,8 +91,8 @@ impl Form {
             expenditure: false,
             income: false,
             choices: false,
-            given_goods: true,
-            given_places: true,
+            fixed_goods: true,
+            fixed_places: true,
             places,
             budgets: 0,
             most: NEW_RECORDS,
@@ -109,8 +109,8 @@ impl Form {
             expenditure: false,
             income: true,
             choices: false,
-            given_goods: false,
-            given_places: false,
+            fixed_goods: false,
+            fixed_places: false,
             places: 0,
             budgets: 0,
             most: BUDGETS,
@@ -128,8 +128,8 @@ impl Form {
             expenditure: false,
             income: false,
             choices: true,
-            given_goods: true,
-            given_places: false,
+            fixed_goods: true,
+            fixed_places: false,
             places: 0,
             budgets,
             most: CHOICES,

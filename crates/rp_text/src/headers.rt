@@ -1,8 +1,7 @@
 ghost use Rattle.std.specs.Prelude.{◌≡◌, ◌<◌, Some, None, true, false, IfOk, MatchOption, length};
 ghost use Rattle.std.specs.Option.{option_map_or};
-ghost use Rattle.rp_text.specs.Records.{record_at};
 ghost use Rattle.rp_text.specs.Columns.{role_of, takes};
-ghost use Rattle.rp_text.specs.Headers.{headers_in, headers_stage};
+ghost use Rattle.rp_text.specs.Headers.{headers_of, headers_stage};
 ghost use Rattle.rp_text.specs.Refusals.{RefusedAt};
 
 use crate::TableFault;
@@ -20,11 +19,11 @@ pub fn read_columns<'a>(
     records: &'a Records,
 ) -> Result<Columns<'a>, TableFault>
     requires { 0 < length records.now }
-    ensures read { IfOk result (λ columns. columns ≡ headers_in (record_at records.now 0)) }
+    ensures read { IfOk result (λ columns. columns ≡ headers_of records.now) }
     ensures faultless { IfOk result
-        (λ _. headers_stage form.now (headers_in (record_at records.now 0)) ≡ None) }
+        (λ _. headers_stage form.now (headers_of records.now) ≡ None) }
     ensures refused { RefusedAt result
-        (headers_stage form.now (headers_in (record_at records.now 0))) }
+        (headers_stage form.now (headers_of records.now)) }
 {
     let mut columns = Columns::new(alloc);
     for c in 0..records.headers() {

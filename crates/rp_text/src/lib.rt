@@ -8,7 +8,7 @@ mod columns;
 mod fault;
 mod fields;
 mod form;
-mod given;
+mod fixed_goods;
 mod goods;
 mod headers;
 mod numbers;

@@ -1,9 +1,8 @@
 ghost use Rattle.std.specs.Prelude.{◌≡◌, ◌+◌, ◌<◌, ◌==◌, ◌&&◌, Some, None, nat_lt, OnOk, IfOk};
 ghost use Rattle.std.specs.Prelude.{IfErr, All, length, codes, slice_index_or};
-ghost use Rattle.rp_text.specs.Records.{record_at};
-ghost use Rattle.rp_text.specs.Headers.{headers_in};
-ghost use Rattle.rp_text.specs.Fields.{nothing, figures_of, count_stage};
-ghost use Rattle.rp_text.specs.Sizes.{sizes_of, figure_at};
+ghost use Rattle.rp_text.specs.Headers.{headers_of};
+ghost use Rattle.rp_text.specs.Fields.{nothing, count_stage};
+ghost use Rattle.rp_text.specs.Sizes.{sheet_figures, sheet_sizes};
 ghost use Rattle.rp_num.specs.Below.{any_below};
 ghost use Rattle.rp_text.specs.ChoiceCounts.{choices_stage, is_chosen};
 ghost use Rattle.rp_text.specs.Denotation.{first_fault};
@@ -13,7 +12,7 @@ use crate::TableFault;
 use crate::columns::Columns;
 use crate::fields::read_figures;
 use crate::form::Form;
-use crate::given::check_goods;
+use crate::fixed_goods::check_goods;
 use crate::headers::read_columns;
 use crate::records::Records;
 use crate::sizes::read_sizes;
@@ -37,14 +36,10 @@ pub fn read_sheet<'a>(
     goods: &[Name],
     records: &'a Records,
 ) -> Result<Sheet<'a>, TableFault>
-    ensures columns { IfOk result (λ sheet. sheet.columns ≡ headers_in (record_at records.now 0)) }
+    ensures columns { IfOk result (λ sheet. sheet.columns ≡ headers_of records.now) }
     ensures figures { IfOk result
-        (λ sheet. sheet.figures.items
-        ≡ figures_of form.now (headers_in (record_at records.now 0)) records.now) }
-    ensures sizes { IfOk result
-        (λ sheet. sheet.sizes.items
-        ≡ sizes_of form.now (headers_in (record_at records.now 0))
-        (figures_of form.now (headers_in (record_at records.now 0)) records.now)) }
+        (λ sheet. sheet.figures.items ≡ sheet_figures form.now records.now) }
+    ensures sizes { IfOk result (λ sheet. sheet.sizes.items ≡ sheet_sizes form.now records.now) }
     ensures faultless { IfOk result (λ _. first_fault form.now goods.now records.now ≡ None) }
     ensures refused { RefusedAt result (first_fault form.now goods.now records.now) }
 {

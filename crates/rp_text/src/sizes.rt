@@ -25,7 +25,7 @@ pub fn places_of(form: &Form, columns: &Columns<'_>, figures: &[Seq<Decimal>], r
 {
     match role {
         Role::Price => u32::from(greatest_places(columns, figures, Role::Price)),
-        Role::Quantity if form.given_places => u32::from(form.places),
+        Role::Quantity if form.fixed_places => u32::from(form.places),
         Role::Quantity => u32::from(greatest_places(columns, figures, Role::Quantity)),
         Role::Expenditure => {
             u32::from(greatest_places(columns, figures, Role::Price)) + u32::from(form.places)

@@ -1,3 +1,3 @@
-pub mod Combining
+pub mod CombinationLemmas
 pub mod Determined
-pub mod Listing
+pub mod ListedTypes

@@ -1,1 +1,2 @@
+pub mod InnerListed
 pub mod Listed

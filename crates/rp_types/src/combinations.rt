@@ -1,6 +1,6 @@
 ghost use Rattle.std.specs.Prelude.{◌≡◌, ◌<◌, ◌≤◌, IfErr, IfOk};
 ghost use Rattle.rp_patch.specs.Types.{combinations, patches_on as patches_of_budget};
-ghost use Rattle.rp_types.specs.Listed.{SaysTooMany};
+ghost use Rattle.rp_types.specs.InnerListed.{SaysTooMany};
 
 use crate::{COMBINATIONS, TypesFault};
 use rp_patch::{PATCHES, Patches};

@@ -1,7 +1,7 @@
 //! All rational types by a search, depth first over the budgets, that leaves a part with a violation.
 ghost use Rattle.std.specs.Prelude.{◌≡◌, IfErr, OnOk};
 ghost use Rattle.rp_patch.specs.Parts.{IsPart, taken_in};
-ghost use Rattle.rp_types.specs.Listed.{AreListedBefore, AreListedThrough, SaysMore};
+ghost use Rattle.rp_types.specs.InnerListed.{AreListedBefore, AreListedThrough, SaysMore};
 
 use crate::types::Rational;
 use crate::{TYPES, TypesFault};

@@ -4,18 +4,18 @@ use Rattle.rp_walk.specs.ExactTotal.{ExactTotal, IsLess, SameTotal}
 use Rattle.rp_walk.specs.Walk.{IsSimpleCycle, TotalRule, end_of, prefix_total, total_after, KeepsOrder}
 use Rattle.rp_walk.specs.LeastTotals.{IsLeastWithin, IsLive, NoneTooWide}
 use Rattle.rp_walk.specs.Settled.{FallsBelowStart}
-use Rattle.rp_walk.specs.LevelWalk.{CameFrom, IsLevelWalk}
+use Rattle.rp_walk.specs.RoundWalk.{CameFrom, IsRoundWalk}
 use Rattle.rp_walk.proofs.Order.{less_not_more, not_more_less, not_less-same}
 use Rattle.rp_walk.proofs.Paths.{after-same, IsTotal-prefix, closed_part_below, live_less_shorter}
-use Rattle.rp_walk.proofs.Levels.{IsLeastWithin-zero}
+use Rattle.rp_walk.proofs.Rounds.{IsLeastWithin-zero}
 
--- A walk that the levels found: p 0, p 1, .. to p k.
+-- A walk that the rounds found: p 0, p 1, .. to p k.
 pub record IsFound (w : TotalRule) (k : ℕ) (p : ℕ → ℕ) : Type 0 where
   pub ends_within : p k < w.count
   pub live : IsLive w k (p k)
   pub came : (m : ℕ) → m < k → CameFrom w m (p (suc m)) (p m)
 
-pub IsFound-given : (w : TotalRule) (walk : List ℕ) → IsLevelWalk w walk → IsFound w w.count (λ m. get_or walk m 0)
+pub IsFound-given : (w : TotalRule) (walk : List ℕ) → IsRoundWalk w walk → IsFound w w.count (λ m. get_or walk m 0)
 IsFound-given w walk given = record {
   ends_within = given.ends.within;
   live = given.ends.live;
@@ -50,7 +50,7 @@ found_least w k p found (suc m) h =
 pub found_fits : (w : TotalRule) (fits : ExactTotal → Type 0) (k : ℕ) (p : ℕ → ℕ) → IsFound w k p → k ≤ w.count → NoneTooWide w fits → (m : ℕ) → m < k → ¬ (¬ (fits (w.after (prefix_total w p m) (p m) (p (suc m)))))
 found_fits w fits k p found few none m h nofit =
     none m (p m) (p (suc m)) (record {
-      level_within = omega arith;
+      round_within = omega arith;
       from_within = found_within w k p found m (omega arith);
       to_within = found_within w k p found (suc m) (omega arith);
       live = found_live w k p found m (omega arith);

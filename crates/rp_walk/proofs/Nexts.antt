@@ -2,24 +2,9 @@ use Rattle.std.proofs.Common.{◌≡◌, ℕ, zero, suc, ◌+◌, ◌<◌, ◌�
 use Rattle.std.proofs.lemmas.Bool.{cases_lt}
 use Rattle.rp_walk.specs.ExactTotal.{ExactTotal, IsLess, SameTotal}
 use Rattle.rp_walk.specs.Walk.{TotalRule}
-use Rattle.rp_walk.specs.InnerLevels.{totals_of, IsNext, IsTried, StepsFit, TriedFits}
+use Rattle.rp_walk.specs.InnerRounds.{totals_of, IsNext, IsTried, StepsFit, TriedFits}
 use Rattle.rp_walk.proofs.Order.{IsLess-irrefl, IsLess-asym, less_not_more, not_more_less, not_more_trans, less_or_not, not_less-same}
-use Rattle.rp_walk.proofs.Levels.{not_above}
-
--- before any step is tried, the next level is this one
-pub IsNext-none : (w : TotalRule) (f : ℕ → ExactTotal) (from came : ℕ → ℕ) → ((s : ℕ) → s < w.count → w.count ≤ came s) → IsNext w f from 0 f came
-IsNext-none w f from came still = record {
-  kept = λ s hs h. refl;
-  tried_from = λ s hs h. absurd (clash s hs h);
-  live_from = λ s hs h. absurd (clash s hs h);
-  taken = λ s hs h. absurd (clash s hs h);
-  less = λ s hs h. absurd (clash s hs h);
-  lowest = λ s t hs h live. absurd (omega arith);
-  first = λ s t hs h. absurd (clash s hs h);
-}
-  where
-    clash : (s : ℕ) → s < w.count → came s < w.count → ⊥
-    clash s hs h = omega (arith, still s hs)
+use Rattle.rp_walk.proofs.Rounds.{not_above}
 
 -- an observation that is not gone on from changes nothing
 pub IsNext-idle : (w : TotalRule) (f : ℕ → ExactTotal) (from : ℕ → ℕ) (t : ℕ) (g : ℕ → ExactTotal) (came : ℕ → ℕ) → IsNext w f from t g came → w.count ≤ from t → IsNext w f from (t + 1) g came
@@ -150,8 +135,3 @@ TriedFits-idle w fits f from t h idle t' s below hs live = by_cases (cases_lt t'
         let e : t' ≡ t = omega arith in
         let p : from t < w.count = subst (λ n. from n < w.count) e live in
         absurd (omega arith)
-
-pub get_or-replicate_at : (n k : ℕ) (s : ℕ) → s < n → get_or (replicate n k) s 0 ≡ k
-get_or-replicate_at zero k s h = absurd (omega arith)
-get_or-replicate_at (suc n) k zero h = refl
-get_or-replicate_at (suc n) k (suc s) h = get_or-replicate_at n k s (omega arith)

@@ -31,13 +31,6 @@ not_more_then_less a a' b c c' d e e' f hb hd hf left right =
     let q = mul-lt-mul_of_pos_right {k = b} right hb in
     lt_of_mul-lt-mul_right d (omega arith)
 
-not_more_twice : (a a' b c c' d e e' f : ℕ) → 1 ≤ b → 1 ≤ d → 1 ≤ f → a * d + c' * b ≤ c * b + a' * d → c * f + e' * d ≤ e * d + c' * f → a * f + e' * b ≤ e * b + a' * f
-not_more_twice a a' b c c' d e e' f hb hd hf left right =
-    let p = mul-le-mul_right f left in
-    let q = mul-le-mul_right b right in
-    let all : (a * f + e' * b) * d ≤ (e * b + a' * f) * d = omega arith in
-    le_of_mul-le-mul_right all hd
-
 pub IsLess-irrefl : (x : ExactTotal) → ¬ (IsLess x x)
 IsLess-irrefl x h =
     let p = to_nat x.num x.num x.den x.den h in
@@ -69,9 +62,6 @@ IsLess-asym x y h back =
     let q = to_nat y.num x.num y.den x.den back in
     absurd (omega arith)
 
-pub IsLess-trans : (x y z : ExactTotal) → IsLess x y → IsLess y z → IsLess x z
-IsLess-trans x y z h g = less_not_more x y z h (IsLess-asym y z g)
-
 -- two totals can be compared
 pub less_or_not : (x y : ExactTotal) → IsLess x y ⊎ (¬ (IsLess x y))
 less_or_not x y =
@@ -80,12 +70,6 @@ less_or_not x y =
     decided : (up x.num * y.den + down y.num * x.den < up y.num * x.den + down x.num * y.den) ⊎ (up y.num * x.den + down x.num * y.den ≤ up x.num * y.den + down y.num * x.den) → IsLess x y ⊎ (¬ (IsLess x y))
     decided (inl h) = inl (from_nat x.num y.num x.den y.den h)
     decided (inr h) = inr (not_from_nat x.num y.num x.den y.den h)
-
-pub SameTotal-refl : (x : ExactTotal) → SameTotal x x
-SameTotal-refl x = refl
-
-pub SameTotal-sym : (x y : ExactTotal) → SameTotal x y → SameTotal y x
-SameTotal-sym x y h = sym h
 
 pub not_less-same : (x y : ExactTotal) → SameTotal x y → ¬ (IsLess x y)
 not_less-same x y h less =

@@ -97,7 +97,7 @@ closed_part_below w keeps p k a b within shorter before below same =
     decided (inl h) = h
     decided (inr kept) = absurd (refuted kept)
 
--- the least total at a level that made it less is less than that of every walk with fewer steps
+-- the least total at a round that made it less is less than that of every walk with fewer steps
 pub live_less_shorter : (w : TotalRule) (k s : ℕ) (x : ExactTotal) → IsLeastWithin w k s x → IsLive w k s → IsLessThanShorter w k s x
 live_less_shorter w k s x least (inl e) j y few reached = absurd (omega arith)
 live_less_shorter w k s x least (inr (x', y', hx, hy, less)) j y few reached =

@@ -5,21 +5,21 @@ use Rattle.std.proofs.Math.Nat.{mul-le-mul_right}
 use Rattle.rp_walk.specs.ExactTotal.{ExactTotal, SameTotal}
 use Rattle.rp_walk.specs.Walk.{TotalRule, KeepsOrder}
 use Rattle.rp_walk.specs.LeastTotals.{IsLive, IsLeast, IsLeastWithin, NoneTooWide, FitsAlike}
-use Rattle.rp_walk.specs.InnerLevels.{Remembers, AreLevelTotals, totals_of}
-use Rattle.rp_walk.specs.LevelWalk.{CameFrom, IsFirstLive}
-use Rattle.rp_walk.specs.InnerAdvance.{IsNextLevel, StopsAt}
+use Rattle.rp_walk.specs.InnerRounds.{Remembers, AreRoundTotals, totals_of}
+use Rattle.rp_walk.specs.RoundWalk.{CameFrom, IsFirstLive}
+use Rattle.rp_walk.specs.InnerAdvance.{IsNextRound, StopsAt}
 use Rattle.rp_walk.specs.Settled.{NoPairBreaks}
 use Rattle.rp_walk.specs.Outcome.{SettlesInValues, SettlesInWide}
 use Rattle.rp_walk.proofs.Paths.{IsLeastWithin-same}
-use Rattle.rp_walk.proofs.Levels.{AreLevelTotals-next, IsLeastWithin-zero}
+use Rattle.rp_walk.proofs.Rounds.{AreRoundTotals-next, IsLeastWithin-zero}
 use Rattle.rp_walk.proofs.Stops.{NoneBelow, NoneBelow-next, NoneTooWide-stable, NoneTooWide-all, IsFirstTooWide-found, IsLeast-stable, CameFrom-next, idle_not_live}
 use Rattle.rp_walk.proofs.Tries.{totals_of-at}
 
--- what the computation keeps when it comes to level k
+-- what the computation keeps when it comes to round k
 pub record IsRun {V : Type 0} (w : TotalRule) (fits : ExactTotal → Type 0) (exact : V → ExactTotal) (k : ℕ) (values : List V) (from history : List ℕ) : Type 0 where
   pub values_len : length values ≡ w.count
   pub from_len : length from ≡ w.count
-  pub level : AreLevelTotals w k (totals_of exact w.empty values) (λ s. get_or from s 0)
+  pub round : AreRoundTotals w k (totals_of exact w.empty values) (λ s. get_or from s 0)
   pub none_below : NoneBelow w fits k
   pub history_len : length history ≡ k * w.count
   pub remembers : Remembers w k history
@@ -30,7 +30,7 @@ pub IsRun-start : {V : Type 0} (w : TotalRule) (fits : ExactTotal → Type 0) (e
 IsRun-start {V} w fits exact start n values from history is_n is_start is_values is_from is_history = record {
   values_len = ap length is_values ∙ length-replicate n start ∙ is_n;
   from_len = ap length is_from ∙ length-replicate n 0 ∙ is_n;
-  level = record {
+  round = record {
     least = λ s hs. subst (λ (x : ExactTotal). IsLeastWithin w 0 s x) (sym (total s hs))
         (IsLeastWithin-same w 0 s w.empty (exact start) (IsLeastWithin-zero w s hs) (sym is_start));
     live = λ s hs h. inl refl;
@@ -70,8 +70,8 @@ Remembers-more w k history came len h here k' s below hs live = by_cases (cases_
         let at_k = subst (λ n. CameFrom w k s n) (sym entry) (here s hs live_k) in
         subst (λ n. CameFrom w n s (get_or (history ++ came) (k' * w.count + s) 0)) e at_k
 
--- where the next level makes no total less, each step from it fits
-next_fit : {V : Type 0} (w : TotalRule) (fits : ExactTotal → Type 0) (exact : V → ExactTotal) (k : ℕ) (values next : List V) (from came history : List ℕ) → IsRun w fits exact k values from history → IsNextLevel w fits exact values from next came → (t s : ℕ) → t < w.count → s < w.count → w.count ≤ get_or came t 0 → ¬ (¬ (fits (w.after (totals_of exact w.empty next t) t s)))
+-- where the next round makes no total less, each step from it fits
+next_fit : {V : Type 0} (w : TotalRule) (fits : ExactTotal → Type 0) (exact : V → ExactTotal) (k : ℕ) (values next : List V) (from came history : List ℕ) → IsRun w fits exact k values from history → IsNextRound w fits exact values from next came → (t s : ℕ) → t < w.count → s < w.count → w.count ≤ get_or came t 0 → ¬ (¬ (fits (w.after (totals_of exact w.empty next t) t s)))
 next_fit w fits exact k values next from came history run h t s ht hs idle =
     subst (λ (x : ExactTotal). ¬ (¬ (fits (w.after x t s)))) (sym (h.next.kept t ht idle)) (by_cases (cases_lt (get_or from t 0) w.count))
   where
@@ -79,41 +79,41 @@ next_fit w fits exact k values next from came history run h t s ht hs idle =
     by_cases (inl b) = h.fit t s ht hs b
     by_cases (inr b) = run.idle_fit t s ht hs b
 
-pub IsRun-next : {V : Type 0} (w : TotalRule) (keeps : KeepsOrder w) (fits : ExactTotal → Type 0) (alike : FitsAlike fits) (exact : V → ExactTotal) (k j : ℕ) (values next : List V) (from came history all : List ℕ) → j ≡ suc k → IsRun w fits exact k values from history → IsNextLevel w fits exact values from next came → all ≡ history ++ came → (s : ℕ) → s < w.count → get_or came s 0 < w.count → IsRun w fits exact j next came all
+pub IsRun-next : {V : Type 0} (w : TotalRule) (keeps : KeepsOrder w) (fits : ExactTotal → Type 0) (alike : FitsAlike fits) (exact : V → ExactTotal) (k j : ℕ) (values next : List V) (from came history all : List ℕ) → j ≡ suc k → IsRun w fits exact k values from history → IsNextRound w fits exact values from next came → all ≡ history ++ came → (s : ℕ) → s < w.count → get_or came s 0 < w.count → IsRun w fits exact j next came all
 IsRun-next w keeps fits alike exact k j values next from came history all is_j run h is_all s hs better =
     subst (λ n. IsRun w fits exact n next came all) (sym is_j) (record {
       values_len = h.values_len;
       from_len = h.from_len;
-      level = level;
-      none_below = NoneBelow-next w keeps fits alike k (totals_of exact w.empty values) (λ i. get_or from i 0) run.level h.fit run.none_below;
+      round = round;
+      none_below = NoneBelow-next w keeps fits alike k (totals_of exact w.empty values) (λ i. get_or from i 0) run.round h.fit run.none_below;
       history_len = ap length is_all ∙ omega (arith, length-append history came, run.history_len, h.from_len);
       remembers = subst (λ (xs : List ℕ). Remembers w (suc k) xs) (sym is_all) (Remembers-more w k history came run.history_len run.remembers came_from);
       idle_fit = λ t i ht hi idle. next_fit w fits exact k values next from came history run h t i ht hi idle;
       improved = λ p. (s, hs, better);
     })
   where
-    level : AreLevelTotals w (suc k) (totals_of exact w.empty next) (λ i. get_or came i 0)
-    level = AreLevelTotals-next w keeps k (totals_of exact w.empty values) (totals_of exact w.empty next) (λ i. get_or from i 0) (λ i. get_or came i 0) run.level h.next
+    round : AreRoundTotals w (suc k) (totals_of exact w.empty next) (λ i. get_or came i 0)
+    round = AreRoundTotals-next w keeps k (totals_of exact w.empty values) (totals_of exact w.empty next) (λ i. get_or from i 0) (λ i. get_or came i 0) run.round h.next
 
     came_from : (i : ℕ) → i < w.count → IsLive w (suc k) i → CameFrom w k i (get_or came i 0)
     came_from i hi live = by_cases (cases_lt (get_or came i 0) w.count)
       where
         by_cases : (get_or came i 0 < w.count) ⊎ (w.count ≤ get_or came i 0) → CameFrom w k i (get_or came i 0)
-        by_cases (inl b) = CameFrom-next w keeps k (totals_of exact w.empty values) (totals_of exact w.empty next) (λ m. get_or from m 0) (λ m. get_or came m 0) i run.level h.next hi b
-        by_cases (inr b) = absurd (idle_not_live w (suc k) (totals_of exact w.empty next) (λ m. get_or came m 0) i level hi b live)
+        by_cases (inl b) = CameFrom-next w keeps k (totals_of exact w.empty values) (totals_of exact w.empty next) (λ m. get_or from m 0) (λ m. get_or came m 0) i run.round h.next hi b
+        by_cases (inr b) = absurd (idle_not_live w (suc k) (totals_of exact w.empty next) (λ m. get_or came m 0) i round hi b live)
 
--- a level that makes no total less
-pub SettlesInValues-run : {V : Type 0} (w : TotalRule) (keeps : KeepsOrder w) (fits : ExactTotal → Type 0) (alike : FitsAlike fits) (exact : V → ExactTotal) (k n : ℕ) (values next result : List V) (from came history : List ℕ) → n ≡ w.count → IsRun w fits exact k values from history → IsNextLevel w fits exact values from next came → ((s : ℕ) → s < n → n ≤ get_or came s 0) → result ≡ next → NoPairBreaks w → SettlesInValues w fits exact result
+-- a round that makes no total less
+pub SettlesInValues-run : {V : Type 0} (w : TotalRule) (keeps : KeepsOrder w) (fits : ExactTotal → Type 0) (alike : FitsAlike fits) (exact : V → ExactTotal) (k n : ℕ) (values next result : List V) (from came history : List ℕ) → n ≡ w.count → IsRun w fits exact k values from history → IsNextRound w fits exact values from next came → ((s : ℕ) → s < n → n ≤ get_or came s 0) → result ≡ next → NoPairBreaks w → SettlesInValues w fits exact result
 SettlesInValues-run {V} w keeps fits alike exact k n values next result from came history is_n run h still is_result no_pair =
     subst (λ (xs : List V). SettlesInValues w fits exact xs) (sym is_result) (record {
       no_pair = no_pair;
-      none_too_wide = NoneTooWide-stable w keeps fits k (totals_of exact w.empty values) (totals_of exact w.empty next) (λ i. get_or from i 0) (λ i. get_or came i 0) run.level h.next none
-          (NoneBelow-next w keeps fits alike k (totals_of exact w.empty values) (λ i. get_or from i 0) run.level h.fit run.none_below);
+      none_too_wide = NoneTooWide-stable w keeps fits k (totals_of exact w.empty values) (totals_of exact w.empty next) (λ i. get_or from i 0) (λ i. get_or came i 0) run.round h.next none
+          (NoneBelow-next w keeps fits alike k (totals_of exact w.empty values) (λ i. get_or from i 0) run.round h.fit run.none_below);
       one_each = h.values_len;
       steps_fit = λ t s d ht hs. subst (λ (x : ExactTotal). ¬ (¬ (fits (w.after x t s)))) (totals_of-at exact w.empty next t d (omega (arith, h.values_len)))
           (next_fit w fits exact k values next from came history run h t s ht hs (none t ht));
       least = λ s d hs. subst (λ (x : ExactTotal). IsLeast w s x) (totals_of-at exact w.empty next s d (omega (arith, h.values_len)))
-          (IsLeast-stable w keeps k (totals_of exact w.empty values) (totals_of exact w.empty next) (λ i. get_or from i 0) (λ i. get_or came i 0) run.level h.next none s hs);
+          (IsLeast-stable w keeps k (totals_of exact w.empty values) (totals_of exact w.empty next) (λ i. get_or from i 0) (λ i. get_or came i 0) run.round h.next none s hs);
     })
   where
     none : (s : ℕ) → s < w.count → w.count ≤ get_or came s 0
@@ -123,18 +123,18 @@ SettlesInValues-run {V} w keeps fits alike exact k n values next result from cam
 pub SettlesInWide-run : {V : Type 0} (w : TotalRule) (keeps : KeepsOrder w) (fits : ExactTotal → Type 0) (alike : FitsAlike fits) (exact : V → ExactTotal) (k t s : ℕ) (values : List V) (from history : List ℕ) → k < w.count → IsRun w fits exact k values from history → StopsAt w fits exact values from t s → NoPairBreaks w → SettlesInWide w fits k t s
 SettlesInWide-run w keeps fits alike exact k t s values from history hk run h no_pair = record {
   no_pair = no_pair;
-  first = IsFirstTooWide-found w keeps fits alike k (totals_of exact w.empty values) (λ i. get_or from i 0) t s run.level run.none_below hk
+  first = IsFirstTooWide-found w keeps fits alike k (totals_of exact w.empty values) (λ i. get_or from i 0) t s run.round run.none_below hk
       h.from_within h.to_within h.live h.fit_before h.fit_to_before h.not_fit;
 }
 
--- past the last level
+-- past the last round
 pub NoneTooWide-run : {V : Type 0} (w : TotalRule) (fits : ExactTotal → Type 0) (exact : V → ExactTotal) (k : ℕ) (values : List V) (from history : List ℕ) → w.count ≤ k → IsRun w fits exact k values from history → NoneTooWide w fits
 NoneTooWide-run w fits exact k values from history past run = NoneTooWide-all w fits k past run.none_below
 
--- the first observation that a level made less
+-- the first observation that a round made less
 pub IsFirstLive-run : {V : Type 0} (w : TotalRule) (fits : ExactTotal → Type 0) (exact : V → ExactTotal) (k s : ℕ) (values : List V) (from history : List ℕ) → IsRun w fits exact k values from history → s < w.count → get_or from s 0 < w.count → ((i : ℕ) → i < s → w.count ≤ get_or from i 0) → IsFirstLive w k s
 IsFirstLive-run w fits exact k s values from history run hs better before = record {
   within = hs;
-  live = run.level.live s hs better;
-  none_before = λ i i_before. idle_not_live w k (totals_of exact w.empty values) (λ m. get_or from m 0) i run.level (omega arith) (before i i_before);
+  live = run.round.live s hs better;
+  none_before = λ i i_before. idle_not_live w k (totals_of exact w.empty values) (λ m. get_or from m 0) i run.round (omega arith) (before i i_before);
 }

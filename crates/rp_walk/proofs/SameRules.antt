@@ -3,7 +3,7 @@ use Rattle.std.proofs.Common.{◌≡◌, ◌<◌, ◌≤◌, inl, inr, ℕ, zero
 use Rattle.rp_walk.specs.ExactTotal.{ExactTotal, IsLess, SameTotal}
 use Rattle.rp_walk.specs.Walk.{IsTotal, TotalRule, prefix_total, total_after}
 use Rattle.rp_walk.specs.LeastTotals.{IsFirstTooWide, IsLeastWithin, IsLive, IsTooWide, NoneTooWide}
-use Rattle.rp_walk.specs.LevelWalk.{CameFrom, Carries, IsCutFromLevels, IsFirstLive}
+use Rattle.rp_walk.specs.RoundWalk.{CameFrom, Carries, IsCutFromRounds, IsFirstLive}
 use Rattle.rp_walk.specs.Settled.{IsFirstBreakingPair, NoPairBreaks, PairBreaks}
 use Rattle.rp_walk.specs.Outcome.{IsBreakingCycle}
 use Rattle.rp_walk.proofs.Walks.{All-cons}
@@ -61,7 +61,7 @@ live_same n e f g same k t (inr h) = inr (h.0, h.1, least_same n e f g same k t 
 
 pub wide_same : (n : ℕ) (e : ExactTotal) (f g : After) → Alike n f g → (fits : ExactTotal → Type 0) (k t s : ℕ) → IsTooWide (rule n e f) fits k t s → IsTooWide (rule n e g) fits k t s
 wide_same n e f g same fits k t s h = record {
-  level_within = h.level_within;
+  round_within = h.round_within;
   from_within = h.from_within;
   to_within = h.to_within;
   live = live_same n e f g same k t h.live;
@@ -81,7 +81,7 @@ first_wide_same n e f g same fits k t s h = record {
   none_before = λ k' t' s' before wide. h.none_before k' t' s' before (wide_same n e g f (alike_back n f g same) fits k' t' s' wide);
 }
 
--- ---- the walk that the levels give
+-- ---- the walk that the rounds give
 
 carries_same : (n : ℕ) (e : ExactTotal) (f g : After) → Alike n f g → (k t s : ℕ) → t < n → s < n → Carries (rule n e f) k t s → Carries (rule n e g) k t s
 carries_same n e f g same k t s ht hs h x least =
@@ -105,7 +105,7 @@ first_live_same n e f g same k s h = record {
   none_before = λ i before live. h.none_before i before (live_same n e g f (alike_back n f g same) k i live);
 }
 
-pub cut_same : (n : ℕ) (e : ExactTotal) (f g : After) → Alike n f g → (start : ExactTotal) (cycle : List ℕ) → IsCutFromLevels (rule n e f) start cycle → IsCutFromLevels (rule n e g) start cycle
+pub cut_same : (n : ℕ) (e : ExactTotal) (f g : After) → Alike n f g → (start : ExactTotal) (cycle : List ℕ) → IsCutFromRounds (rule n e f) start cycle → IsCutFromRounds (rule n e g) start cycle
 cut_same n e f g same start cycle h = record {
   walk = h.walk;
   is_given = record {

@@ -6,8 +6,8 @@ use Rattle.std.specs.Prelude.{ℤ, pos, ◌+ℤ◌, ◌*ℤ◌, ◌<ℤ◌}
 use Rattle.rp_walk.specs.ExactTotal.{ExactTotal, SameTotal}
 use Rattle.rp_walk.specs.Walk.{KeepsOrder}
 use Rattle.rp_walk.specs.LeastTotals.{FitsAlike}
-use Rattle.rp_walk.specs.Sums.{FitsSum, sums, whole_total}
-use Rattle.rp_walk.proofs.Levels.{SameTotal-trans}
+use Rattle.rp_walk.specs.Sums.{FitsI128, sums, whole_total}
+use Rattle.rp_walk.proofs.Rounds.{SameTotal-trans}
 use Rattle.rp_walk.proofs.Numbers.{parts_of_sum, parts_of_product}
 
 -- the parts of a + k * b, all times d
@@ -44,5 +44,5 @@ pub sums_stay : (n : ℕ) (added : ℕ → ℕ → ℤ) → ((t : ℕ) → t < n
 sums_stay n added none x t ht =
     subst (λ k. (x.num +ℤ (k *ℤ pos x.den)) *ℤ pos x.den ≡ x.num *ℤ pos x.den) (sym (none t ht)) (nothing_added x.num x.den)
 
-pub sums_fit_alike : FitsAlike FitsSum
+pub sums_fit_alike : FitsAlike FitsI128
 sums_fit_alike x y h (z, fits, same) = (z, fits, SameTotal-trans y x (whole_total z) (sym h) same)

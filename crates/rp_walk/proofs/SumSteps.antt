@@ -8,7 +8,7 @@ use Rattle.std.specs.Prelude.{ℤ, pos, ◌+ℤ◌, ◌*ℤ◌, ◌<ℤ◌, Fits
 use Rattle.std.proofs.Math.Nat.{mul-lt-mul_of_pos_right}
 use Rattle.rp_walk.specs.ExactTotal.{ExactTotal}
 use Rattle.rp_walk.specs.Settled.{PairBreaks}
-use Rattle.rp_walk.specs.Sums.{FitsSum, sums, whole_total}
+use Rattle.rp_walk.specs.Sums.{FitsI128, sums, whole_total}
 use Rattle.rp_walk.proofs.SumLaws.{parts_times}
 use Rattle.rp_walk.proofs.Walks.{IsTotal-here}
 
@@ -40,13 +40,13 @@ same_number : (v k z : ℤ) → (v +ℤ (k *ℤ pos 1)) *ℤ pos 1 ≡ z *ℤ po
 same_number v k z h = omega (arith, ints)
 
 -- a sum that some `i128` stands for is found
-pub sum_fits : (v k k' : ℤ) → FitsSigned w128 v → FitsSigned w128 k → k ≡ k' → FitsSum ((after_whole v k')) → FitsSigned w128 (to_z w128 (of_z w128 v) +ℤ to_z w128 (of_z w128 k))
+pub sum_fits : (v k k' : ℤ) → FitsSigned w128 v → FitsSigned w128 k → k ≡ k' → FitsI128 ((after_whole v k')) → FitsSigned w128 (to_z w128 (of_z w128 v) +ℤ to_z w128 (of_z w128 k))
 sum_fits v k k' hv hk e (z, fits, same) =
     let sum : z ≡ v +ℤ k = same_number v k' z same ∙ ap (λ n. v +ℤ n) (sym e) in
     rw (to_z-of_z w128 v hv, to_z-of_z w128 k hk) (subst (λ n. FitsSigned w128 n) sum fits)
 
 -- and what is found stands for the sum
-pub found_fits : (v k k' : ℤ) → FitsSigned w128 v → FitsSigned w128 k → k ≡ k' → FitsSigned w128 (to_z w128 (of_z w128 v) +ℤ to_z w128 (of_z w128 k)) → FitsSum (after_whole v k')
+pub found_fits : (v k k' : ℤ) → FitsSigned w128 v → FitsSigned w128 k → k ≡ k' → FitsSigned w128 (to_z w128 (of_z w128 v) +ℤ to_z w128 (of_z w128 k)) → FitsI128 (after_whole v k')
 found_fits v k k' hv hk e fits =
     let sum : to_z w128 (of_z w128 v) +ℤ to_z w128 (of_z w128 k) ≡ v +ℤ k = rw (to_z-of_z w128 v hv, to_z-of_z w128 k hk) refl in
     (v +ℤ k, subst (λ n. FitsSigned w128 n) sum fits, same_from v k' k e)

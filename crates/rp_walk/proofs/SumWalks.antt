@@ -10,7 +10,7 @@ use Rattle.rp_walk.specs.Walk.{AreObservations, IsTotal, StartsAlike, end_of, to
 use Rattle.rp_walk.specs.LeastTotals.{IsLeast}
 use Rattle.rp_walk.specs.Settled.{FallsBelowStart, HasLeastTotals}
 use Rattle.rp_walk.specs.Outcome.{SettlesInWide}
-use Rattle.rp_walk.specs.Sums.{AddsWithin, FitsSum, added_along, sums, whole_total}
+use Rattle.rp_walk.specs.Sums.{AddsWithin, FitsI128, added_along, sums, whole_total}
 use Rattle.rp_walk.proofs.SumLaws.{parts_times, sums_keep_order, sums_fit_alike}
 use Rattle.rp_walk.proofs.Numbers.{parts_of_sum}
 use Rattle.rp_walk.proofs.Order.{not_more_trans, not_less-same}
@@ -186,7 +186,7 @@ least_sum_limits n added b limit s z hs least = (
         (along_within n added b limit total.first total.rest total.walk.begins_within total.walk.goes_within).1)
 
 -- where as many steps as there are observations stay within an `i128`, no sum is too wide
-pub never_wide : (n : ℕ) (added : ℕ → ℕ → ℤ) (b : ℕ) → AddsWithin n added b → n * b < 2 ^ 127 → (k t s : ℕ) → ¬ (SettlesInWide (sums n added) FitsSum k t s)
+pub never_wide : (n : ℕ) (added : ℕ → ℕ → ℤ) (b : ℕ) → AddsWithin n added b → n * b < 2 ^ 127 → (k t s : ℕ) → ¬ (SettlesInWide (sums n added) FitsI128 k t s)
 never_wide n added b limit small k t s wide =
     let too = wide.first.too_wide in
     let x = too.not_fit in
@@ -194,8 +194,8 @@ never_wide n added b limit small k t s wide =
     let walk = r.3 in
     let steps = after-same (sums n added) (sums_keep_order n added) r.1 x.0 t s too.from_within too.to_within r.4 in
     x.2 (sums_fit_alike ((sums n added).after r.1 t s) ((sums n added).after x.0 t s) steps
-    (subst (λ (y : ExactTotal). FitsSum ((sums n added).after y t s)) walk.total
-    (fit walk.first walk.rest walk.walk.begins_within walk.walk.goes_within (omega (arith, walk.steps, r.2, too.level_within)) too.from_within too.to_within)))
+    (subst (λ (y : ExactTotal). FitsI128 ((sums n added).after y t s)) walk.total
+    (fit walk.first walk.rest walk.walk.begins_within walk.walk.goes_within (omega (arith, walk.steps, r.2, too.round_within)) too.from_within too.to_within)))
   where
     same : (y k v : ℤ) (d : ℕ) → d ≡ 1 → y ≡ pos 0 +ℤ (v *ℤ pos 1) → (y +ℤ (k *ℤ pos d)) *ℤ pos 1 ≡ (v +ℤ k) *ℤ pos d
     same y k v d ed ey = subst (λ m. (y +ℤ (k *ℤ pos m)) *ℤ pos 1 ≡ (v +ℤ k) *ℤ pos m) (sym ed) (at_one y k v ey)
@@ -208,7 +208,7 @@ never_wide n added b limit small k t s wide =
         let sum = parts_of_sum v k in
         fits_bound (v +ℤ k) (m + b) (omega arith) (omega (arith, ints)) (omega (arith, ints))
 
-    fit : (first : ℕ) (rest : List ℕ) → first < n → All (λ m. m < n) rest → length rest < n → t < n → s < n → FitsSum ((sums n added).after (total_after (sums n added) (whole_total (pos 0)) first rest) t s)
+    fit : (first : ℕ) (rest : List ℕ) → first < n → All (λ m. m < n) rest → length rest < n → t < n → s < n → FitsI128 ((sums n added).after (total_after (sums n added) (whole_total (pos 0)) first rest) t s)
     fit first rest begins within short ht hs =
         let total = total_after (sums n added) (whole_total (pos 0)) first rest in
         let rows = mul-le-mul_right {m = length rest + 1} {n = n} b (omega arith) in (

@@ -4,15 +4,15 @@ use Rattle.std.proofs.lemmas.Bool.{cases_lt}
 use Rattle.rp_walk.specs.ExactTotal.{ExactTotal, IsLess, SameTotal}
 use Rattle.rp_walk.specs.Walk.{IsSimpleCycle, TotalRule, prefix_total, total_after, KeepsOrder}
 use Rattle.rp_walk.specs.LeastTotals.{IsLive, NoneTooWide, FitsAlike, StepsFitAlong, WalkFits}
-use Rattle.rp_walk.specs.InnerLevels.{Remembers}
-use Rattle.rp_walk.specs.LevelWalk.{CameFrom, IsFirstClosedPart, IsFirstLive, IsLevelWalk}
+use Rattle.rp_walk.specs.InnerRounds.{Remembers}
+use Rattle.rp_walk.specs.RoundWalk.{CameFrom, IsFirstClosedPart, IsFirstLive, IsRoundWalk}
 use Rattle.rp_walk.specs.InnerPairs.{NoPartnerBelow}
 use Rattle.rp_walk.specs.Settled.{IsFirstBreakingPair, NoPairBreaks, PairBreaks, FallsBelowStart}
 use Rattle.rp_walk.specs.Outcome.{SettlesInCycle}
 use Rattle.rp_walk.proofs.Order.{less_not_more, not_more_less, not_less-same}
 use Rattle.rp_walk.proofs.Walks.{IsTotal-here}
 use Rattle.rp_walk.proofs.Paths.{after-same}
-use Rattle.rp_walk.proofs.Levels.{SameTotal-trans}
+use Rattle.rp_walk.proofs.Rounds.{SameTotal-trans}
 use Rattle.rp_walk.proofs.Cycles.{IsFound, IsFound-given, IsSimpleCycle-part, found_within, found_fits, segment, drop-segment, FallsBelowStart-part, total_after-same}
 use Rattle.rp_walk.proofs.Unbounded.{no_least_totals}
 
@@ -82,14 +82,14 @@ SettlesInCycle-pair w keeps fits start s t pair is_empty = record {
 
 -- ---- the way back
 
--- from a level on, the list holds a walk that the levels found
-pub record IsTraced (w : TotalRule) (level : ℕ) (walk : List ℕ) : Type 0 where
+-- from a round on, the list holds a walk that the rounds found
+pub record IsTraced (w : TotalRule) (round : ℕ) (walk : List ℕ) : Type 0 where
   pub len : length walk ≡ w.count + 1
-  pub level_in : level ≤ w.count
+  pub round_in : round ≤ w.count
   pub ends : IsFirstLive w w.count (get_or walk w.count 0)
-  pub within : get_or walk level 0 < w.count
-  pub live : IsLive w level (get_or walk level 0)
-  pub came : (m : ℕ) → level ≤ m → m < w.count → CameFrom w m (get_or walk (suc m) 0) (get_or walk m 0)
+  pub within : get_or walk round 0 < w.count
+  pub live : IsLive w round (get_or walk round 0)
+  pub came : (m : ℕ) → round ≤ m → m < w.count → CameFrom w m (get_or walk (suc m) 0) (get_or walk m 0)
 
 pub IsTraced-none : (w : TotalRule) (end : ℕ) → IsFirstLive w w.count end → IsTraced w w.count (replicate (w.count + 1) end)
 IsTraced-none w end first =
@@ -97,7 +97,7 @@ IsTraced-none w end first =
     let ends = subst (λ n. IsFirstLive w w.count n) (sym e) first in
     record {
       len = length-replicate (w.count + 1) end;
-      level_in = omega arith;
+      round_in = omega arith;
       ends = ends;
       within = ends.within;
       live = ends.live;
@@ -110,14 +110,14 @@ IsTraced-start w walk n m end is_n is_m is_walk first =
     subst (λ k. IsTraced w k walk) (sym is_n)
     (subst (λ (xs : List ℕ). IsTraced w w.count xs) (sym whole) (IsTraced-none w end first))
 
-pub IsTraced-back : (w : TotalRule) (history walk : List ℕ) (level from to v : ℕ) → IsTraced w level walk → 0 < level → from ≡ level - 1 → Remembers w w.count history → to ≡ get_or walk (from + 1) 0 → v ≡ get_or history (from * w.count + to) 0 → IsTraced w from (set walk from v)
-IsTraced-back w history walk level from to v h some is_from remembers is_to is_v =
-    let n : level ≡ suc from = omega arith in
+pub IsTraced-back : (w : TotalRule) (history walk : List ℕ) (round from to v : ℕ) → IsTraced w round walk → 0 < round → from ≡ round - 1 → Remembers w w.count history → to ≡ get_or walk (from + 1) 0 → v ≡ get_or history (from * w.count + to) 0 → IsTraced w from (set walk from v)
+IsTraced-back w history walk round from to v h some is_from remembers is_to is_v =
+    let n : round ≡ suc from = omega arith in
     let next : from + 1 ≡ suc from = omega arith in
     let to_is : get_or walk (suc from) 0 ≡ to = ap (λ m. get_or walk m 0) (sym next) ∙ sym is_to in
     let to_in : to < w.count = subst (λ m. m < w.count) to_is (subst (λ m. get_or walk m 0 < w.count) n h.within) in
     let live_to : IsLive w (suc from) to = subst (λ m. IsLive w (suc from) m) to_is (subst (λ m. IsLive w m (get_or walk m 0)) n h.live) in
-    let from_in : from < w.count = omega (arith, h.level_in) in
+    let from_in : from < w.count = omega (arith, h.round_in) in
     let came = subst (λ m. CameFrom w from to m) (sym is_v) (remembers from to from_in to_in live_to) in
     let inside : from < length walk = omega (arith, h.len) in
     let here : get_or (set walk from v) from 0 ≡ v = get_or-set_same walk from v 0 inside in
@@ -125,7 +125,7 @@ IsTraced-back w history walk level from to v h some is_from remembers is_to is_v
     let to_same : get_or (set walk from v) (suc from) 0 ≡ to = get_or-set_other walk from (suc from) v 0 (λ e. absurd (omega arith)) ∙ to_is in
     record {
       len = length-set walk from v ∙ h.len;
-      level_in = omega arith;
+      round_in = omega arith;
       ends = subst (λ m. IsFirstLive w w.count m) (sym end_same) h.ends;
       within = subst (λ m. m < w.count) (sym here) came.within;
       live = subst (λ m. IsLive w from m) (sym here) came.live;
@@ -142,13 +142,6 @@ IsTraced-back w history walk level from to v h some is_from remembers is_to is_v
     by_cases m lo hi (inr b) came =
         let e : from ≡ m = omega arith in
         subst (λ k. CameFrom w k (get_or (set walk from v) (suc k) 0) (get_or (set walk from v) k 0)) e came
-
-pub IsLevelWalk-traced : (w : TotalRule) (walk : List ℕ) (level : ℕ) → level ≡ 0 → IsTraced w level walk → IsLevelWalk w walk
-IsLevelWalk-traced w walk level e h = record {
-  one_more = h.len;
-  ends = h.ends;
-  came = λ m below. h.came m (omega arith) below;
-}
 
 -- ---- the total along the way
 
@@ -179,7 +172,7 @@ StepsFitAlong-part w keeps fits alike p found none a (suc d) x few same =
       StepsFitAlong-part w keeps fits alike p found none (suc a) d (w.after x (p a) (p (suc a))) (omega arith) steps,
     )
 
-pub SettlesInCycle-cut : (w : TotalRule) (keeps : KeepsOrder w) (fits : ExactTotal → Type 0) (alike : FitsAlike fits) (start : ExactTotal) (walk steps : List ℕ) (a b : ℕ) → IsLevelWalk w walk → IsFirstClosedPart walk a b → SameTotal (prefix_total w (λ m. get_or walk m 0) a) start → steps ≡ take (b + 1 - a) (drop a walk) → NoPairBreaks w → NoneTooWide w fits → SettlesInCycle w fits start steps
+pub SettlesInCycle-cut : (w : TotalRule) (keeps : KeepsOrder w) (fits : ExactTotal → Type 0) (alike : FitsAlike fits) (start : ExactTotal) (walk steps : List ℕ) (a b : ℕ) → IsRoundWalk w walk → IsFirstClosedPart walk a b → SameTotal (prefix_total w (λ m. get_or walk m 0) a) start → steps ≡ take (b + 1 - a) (drop a walk) → NoPairBreaks w → NoneTooWide w fits → SettlesInCycle w fits start steps
 SettlesInCycle-cut w keeps fits alike start walk steps a b given first is_start is_steps no_pair none =
     let found = IsFound-given w walk given in
     let len = given.one_more in

@@ -2,7 +2,7 @@ use Rattle.std.proofs.Common.{◌≡◌, ℕ, zero, suc, ◌+◌, ◌<◌, ◌�
 use Rattle.std.proofs.lemmas.Bool.{cases_lt}
 use Rattle.rp_walk.specs.ExactTotal.{ExactTotal, IsLess, SameTotal}
 use Rattle.rp_walk.specs.Walk.{TotalRule}
-use Rattle.rp_walk.specs.InnerLevels.{totals_of, IsTried, StepsFit}
+use Rattle.rp_walk.specs.InnerRounds.{totals_of, IsTried, StepsFit}
 use Rattle.rp_walk.proofs.Order.{not_more_less, not_more_trans, not_less-same}
 
 -- a value stands for its exact total
@@ -22,15 +22,6 @@ totals_of-set_other exact e (x ∷ vs) zero zero v ne = absurd (ne refl)
 totals_of-set_other exact e (x ∷ vs) zero (suc s) v ne = refl
 totals_of-set_other exact e (x ∷ vs) (suc t) zero v ne = refl
 totals_of-set_other exact e (x ∷ vs) (suc t) (suc s) v ne = totals_of-set_other exact e vs t s v (λ p. ne (ap suc p))
-
-pub IsTried-none : {V : Type 0} (w : TotalRule) (exact : V → ExactTotal) (x : ExactTotal) (t : ℕ) (old : List V) (old_from : List ℕ) → IsTried w exact x t old old_from 0 old old_from
-IsTried-none w exact x t old old_from = record {
-  values_len = refl;
-  from_len = refl;
-  kept = λ s h. absurd (omega arith);
-  taken = λ s h. absurd (omega arith);
-  rest = λ s h. (refl, refl);
-}
 
 -- a step that is no less leaves what stood there
 pub IsTried-kept : {V : Type 0} (w : TotalRule) (exact : V → ExactTotal) (x : ExactTotal) (t : ℕ) (old : List V) (old_from : List ℕ) (n : ℕ) (new : List V) (new_from : List ℕ) → IsTried w exact x t old old_from n new new_from → ¬ (IsLess (w.after x t n) (totals_of exact w.empty new n)) → IsTried w exact x t old old_from (n + 1) new new_from

@@ -101,7 +101,7 @@ HasShort-lowest w keeps (suc fuel) j s y few reached lowest =
         (All-cons (λ x. x < w.count) reached.first reached.rest reached.walk.begins_within reached.walk.goes_within)
         (omega (arith, reached.steps))) recurse
 
--- where the last level made a total less, some observation has no least total over the walks of any length
+-- where the last round made a total less, some observation has no least total over the walks of any length
 pub no_least_totals : (w : TotalRule) (keeps : KeepsOrder w) (s : ℕ) → s < w.count → IsLive w w.count s → ¬ (HasLeastTotals w)
 no_least_totals w keeps s hs (inl e) all = absurd (omega arith)
 no_least_totals w keeps s hs (inr (x, y, hx, hy, less)) all =

@@ -27,9 +27,9 @@ abbrev pub IsLive : TotalRule → ℕ → ℕ → Type 0
 IsLive w k t =
     (k ≡ 0) ⊎ ((x y : ExactTotal) × IsLeastWithin w k t x × IsLeastWithin w (k - 1) t y × IsLess x y)
 
--- Below level `count`, a step that can matter takes the least total to t out of what fits.
+-- Below round `count`, a step that can matter takes the least total to t out of what fits.
 pub record IsTooWide (w : TotalRule) (fits : ExactTotal → Type 0) (k t s : ℕ) : Type 0 where
-  pub level_within : k < w.count
+  pub round_within : k < w.count
   pub from_within : t < w.count
   pub to_within : s < w.count
   pub live : IsLive w k t

@@ -1,10 +1,10 @@
 pub mod ExactTotal
 pub mod Walk
 pub mod LeastTotals
-pub mod LevelWalk
+pub mod RoundWalk
 pub mod Settled
 pub mod InnerPairs
-pub mod InnerLevels
+pub mod InnerRounds
 pub mod InnerAdvance
 pub mod Outcome
 pub mod Sums

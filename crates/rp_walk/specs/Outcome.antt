@@ -1,9 +1,9 @@
--- What the levelled computation of least totals comes to (this project's own, after Bellman 1958 and Ford 1956).
+-- What the computation of least totals by rounds comes to (this project's own, after Bellman 1958 and Ford 1956).
 use Rattle.std.specs.Prelude.{◌≡◌, ℕ, ◌<◌, ◌⊎◌, List, [], ◌∷◌, length, slice_index_or}
 use Rattle.rp_walk.specs.ExactTotal.{ExactTotal, SameTotal}
 use Rattle.rp_walk.specs.Walk.{IsSimpleCycle, TotalRule}
 use Rattle.rp_walk.specs.LeastTotals.{IsLeast, IsFirstTooWide, NoneTooWide, WalkFits}
-use Rattle.rp_walk.specs.LevelWalk.{IsCutFromLevels}
+use Rattle.rp_walk.specs.RoundWalk.{IsCutFromRounds}
 use Rattle.rp_walk.specs.Settled.{IsFirstBreakingPair, NoPairBreaks, FallsBelowStart, HasLeastTotals}
 use Rattle.rp_walk.specs.declared.outcome.Settled.{Settled}
 use Rattle.rp_walk.specs.declared.outcome.Settled.TheVariants.{Values, Cycle, Wide}
@@ -26,26 +26,26 @@ pub record IsBreakingCycle (w : TotalRule) (start : ExactTotal) (walk : List ℕ
   pub walk_is : walk ≡ s ∷ t ∷ s ∷ []
 
 -- No pair breaks and no triple is too wide, but some observation has no least total over the walks of
--- any length. Each step along the cycle fits. It is the first closed part of the walk that the levels give.
-pub record IsLevelCycle (w : TotalRule) (fits : ExactTotal → Type 0) (start : ExactTotal) (walk : List ℕ) : Type 0 where
+-- any length. Each step along the cycle fits. It is the first closed part of the walk that the rounds give.
+pub record IsRoundCycle (w : TotalRule) (fits : ExactTotal → Type 0) (start : ExactTotal) (walk : List ℕ) : Type 0 where
   pub no_pair : NoPairBreaks w
   pub none_too_wide : NoneTooWide w fits
   pub no_least : ¬ (HasLeastTotals w)
   pub steps_fit : WalkFits w fits start walk
-  pub first_part : IsCutFromLevels w start walk
+  pub first_part : IsCutFromRounds w start walk
 
 -- A closed walk that ends below its start and goes through no observation twice, and when it comes.
 pub record SettlesInCycle (w : TotalRule) (fits : ExactTotal → Type 0) (start : ExactTotal) (walk : List ℕ) : Type 0 where
   pub falls : FallsBelowStart w start walk
   pub simple : IsSimpleCycle w.count walk
-  pub comes : IsBreakingCycle w start walk ⊎ IsLevelCycle w fits start walk
+  pub comes : IsBreakingCycle w start walk ⊎ IsRoundCycle w fits start walk
 
 -- No pair breaks, and this is the first triple that is too wide.
 pub record SettlesInWide (w : TotalRule) (fits : ExactTotal → Type 0) (k t s : ℕ) : Type 0 where
   pub no_pair : NoPairBreaks w
   pub first : IsFirstTooWide w fits k t s
 
--- What the levelled computation comes to.
+-- What the computation by rounds comes to.
 abbrev pub IsSettled : {V : Type 0} → TotalRule → (ExactTotal → Type 0) → (V → ExactTotal) → Settled V → Type 0
 IsSettled w fits exact (Values values) = SettlesInValues w fits exact values
 IsSettled w fits exact (Cycle start walk) = SettlesInCycle w fits (exact start) walk

@@ -27,5 +27,5 @@ abbrev pub AddsWithin : ℕ → (ℕ → ℕ → ℤ) → ℕ → Type 0
 AddsWithin n added b = (t s : ℕ) → t < n → s < n → (added t s ≤ℤ pos b) × (neg_ℤ (pos b) ≤ℤ added t s)
 
 -- A sum that an `i128` can stand for.
-abbrev pub FitsSum : ExactTotal → Type 0
-FitsSum x = (z : ℤ) × FitsSigned w128 z × SameTotal x (whole_total z)
+abbrev pub FitsI128 : ExactTotal → Type 0
+FitsI128 x = (z : ℤ) × FitsSigned w128 z × SameTotal x (whole_total z)

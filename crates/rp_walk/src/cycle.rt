@@ -1,16 +1,16 @@
 ghost use Rattle.std.specs.Prelude.{◌≡◌, ℕ, suc, ◌*◌, ◌<◌, IfOk, IfSome, IfNone, All, length};
 ghost use Rattle.std.specs.Prelude.{slice_index};
 ghost use Rattle.rp_walk.specs.ExactTotal.{SameTotal};
-ghost use Rattle.rp_walk.specs.InnerLevels.{Remembers};
+ghost use Rattle.rp_walk.specs.InnerRounds.{Remembers};
 ghost use Rattle.rp_walk.specs.InnerPairs.{NoPartnerBelow};
 ghost use Rattle.rp_walk.specs.LeastTotals.{NoneTooWide};
-ghost use Rattle.rp_walk.specs.LevelWalk.{IsFirstClosedPart, IsFirstLive, IsLevelWalk};
+ghost use Rattle.rp_walk.specs.RoundWalk.{IsFirstClosedPart, IsFirstLive, IsRoundWalk};
 ghost use Rattle.rp_walk.specs.Outcome.{IsSettled};
 ghost use Rattle.rp_walk.specs.Settled.{IsFirstBreakingPair, NoPairBreaks, PairBreaks};
 ghost use Rattle.rp_walk.specs.Walk.{prefix_total};
 
-use crate::level::filled;
 use crate::outcome::Settled;
+use crate::round::filled;
 use crate::total::Total;
 use rp_num::{NoMemory, Seq};
 use std::alloc::Global;
@@ -65,7 +65,7 @@ pub(crate) fn cycle_of_pair<T: Total>(
     })
 }
 
-/// The first closed part of the walk of as many steps as there are observations that the levels found
+/// The first closed part of the walk of as many steps as there are observations that the rounds found
 /// to `end`.
 pub(crate) fn cycle_within<T: Total>(
     alloc: Global,
@@ -80,7 +80,7 @@ pub(crate) fn cycle_within<T: Total>(
     requires none_too_wide { NoneTooWide (T.rule total.now) T.fits }
     ensures { IfOk result (IsSettled (T.rule total.now) T.fits T.exact) }
 {
-    let walk = level_walk(alloc, total, history, end)?;
+    let walk = round_walk(alloc, total, history, end)?;
     let (first, last) = first_closed_part(alloc, walk.as_slice(), total.n())?;
     let start = total_at(total, walk.as_slice(), first);
     let steps = Vec::from_slice(alloc, &walk[first..last + 1])?;
@@ -90,8 +90,8 @@ pub(crate) fn cycle_within<T: Total>(
     })
 }
 
-/// The walk that the levels found to `end`, from its last observation back to its first.
-fn level_walk<T: Total>(
+/// The walk that the rounds found to `end`, from its last observation back to its first.
+fn round_walk<T: Total>(
     alloc: Global,
     total: &T,
     history: &[u32],
@@ -100,15 +100,15 @@ fn level_walk<T: Total>(
     requires history_len { let n = (T.rule total.now).count in length history.now ≡ n * n }
     requires remembers { Remembers (T.rule total.now) (T.rule total.now).count history.now }
     requires end_first { IsFirstLive (T.rule total.now) (T.rule total.now).count end }
-    ensures { IfOk result (λ walk. IsLevelWalk (T.rule total.now) walk.items) }
+    ensures { IfOk result (λ walk. IsRoundWalk (T.rule total.now) walk.items) }
 {
     let n = total.n() as usize;
     let mut walk = filled(alloc, total.n() + 1, end)?;
-    let mut level = n;
-    while level > 0 {
-        level -= 1;
-        let to = walk[level + 1] as usize;
-        walk[level] = history[level * n + to];
+    let mut round = n;
+    while round > 0 {
+        round -= 1;
+        let to = walk[round + 1] as usize;
+        walk[round] = history[round * n + to];
     }
     Ok(walk)
 }

@@ -2,7 +2,7 @@
 ghost use Rattle.std.specs.Prelude.{◌≡◌, ℕ, ◌+◌, ◌<◌, ◌≤◌, List};
 ghost use Rattle.rp_walk.specs.ExactTotal.{ExactTotal, IsLess, SameTotal};
 ghost use Rattle.rp_walk.specs.LeastTotals.{IsLessThanShorter};
-ghost use Rattle.rp_walk.specs.LevelWalk.{IsCutFromLevels};
+ghost use Rattle.rp_walk.specs.RoundWalk.{IsCutFromRounds};
 ghost use Rattle.rp_walk.specs.Settled.{HasLeastTotals, FallsBelowStart};
 ghost use Rattle.rp_walk.specs.Walk.{KeepsOrder, StartsAlike, TotalRule, prefix_total};
 
@@ -22,9 +22,9 @@ pub fn least_totals_leave_no_fall()
         → (start : ExactTotal) (walk : List ℕ) → ¬ (FallsBelowStart w start walk) }
 {}
 
-/// The walk that the levels give is one, and so are its first closed part and the total there.
-pub fn one_cycle_is_cut_from_levels()
+/// The walk that the rounds give is one, and so are its first closed part and the total there.
+pub fn one_cycle_is_cut_from_rounds()
     ensures { (w : TotalRule) (start other : ExactTotal) (x y : List ℕ)
-        → IsCutFromLevels w start x → IsCutFromLevels w other y
+        → IsCutFromRounds w start x → IsCutFromRounds w other y
         → (x ≡ y) × SameTotal start other }
 {}

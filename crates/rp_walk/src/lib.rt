@@ -1,14 +1,14 @@
-//! Least totals over walks, level by level, for every kind of total.
+//! Least totals over walks, round by round, for every kind of total.
 #![tactic(auto)]
 
 mod cycle;
 mod laws;
-mod level;
 mod outcome;
+mod round;
 mod total;
 
 pub use laws::{
-    least_totals_leave_no_fall, long_walk_holds_closed_part, one_cycle_is_cut_from_levels,
+    least_totals_leave_no_fall, long_walk_holds_closed_part, one_cycle_is_cut_from_rounds,
 };
 pub use outcome::{Settled, settle};
 pub use total::Total;

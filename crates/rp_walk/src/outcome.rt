@@ -3,12 +3,12 @@ ghost use Rattle.rp_walk.specs.Outcome.{IsSettled};
 ghost use Rattle.rp_walk.specs.Settled.{NoPairBreaks};
 
 use crate::cycle::{cycle_of_pair, cycle_within, first_breaking_pair};
-use crate::level::{Advance, LevelTotals, next_level};
+use crate::round::{Advance, RoundTotals, next_round};
 use crate::total::Total;
 use rp_num::{NoMemory, Seq};
 use std::alloc::Global;
 
-/// What the levelled computation of least totals comes to.
+/// What the computation of least totals by rounds comes to.
 #[derive(Debug, Drop)]
 pub enum Settled<V> {
     /// The least total over the walks of any length that end at each observation.
@@ -20,26 +20,26 @@ pub enum Settled<V> {
 }
 
 /// The least totals over walks of any length, a closed walk that ends below its start, or the first
-/// step whose total passes the width, level by level (Bellman 1958; Ford 1956).
+/// step whose total passes the width, round by round (Bellman 1958; Ford 1956).
 pub fn settle<T: Total>(alloc: Global, total: &T) -> Result<Settled<T::Value>, NoMemory>
     ensures { IfOk result (IsSettled (T.rule total.now) T.fits T.exact) }
 {
     match first_breaking_pair(total) {
         Some((s, t)) => cycle_of_pair(alloc, total, s, t),
-        None => settle_by_levels(alloc, total),
+        None => settle_by_rounds(alloc, total),
     }
 }
 
 /// The same, where no pair breaks.
-fn settle_by_levels<T: Total>(alloc: Global, total: &T) -> Result<Settled<T::Value>, NoMemory>
+fn settle_by_rounds<T: Total>(alloc: Global, total: &T) -> Result<Settled<T::Value>, NoMemory>
     requires { NoPairBreaks (T.rule total.now) }
     ensures { IfOk result (IsSettled (T.rule total.now) T.fits T.exact) }
 {
     let n = total.n();
-    let mut level = LevelTotals::at_zero(alloc, n, total.start())?;
+    let mut round = RoundTotals::at_zero(alloc, n, total.start())?;
     let mut history = Vec::new(alloc);
     for steps in 0..n {
-        match next_level(alloc, total, &level)? {
+        match next_round(alloc, total, &round)? {
             Advance::TooWide { from, to } => return Ok(Settled::Wide { steps, from, to }),
             Advance::Next(next) => {
                 match next.first_improved(n) {
@@ -47,11 +47,11 @@ fn settle_by_levels<T: Total>(alloc: Global, total: &T) -> Result<Settled<T::Val
                     Some(_) => {}
                 }
                 history.extend_from_slice(next.from.as_slice())?;
-                level = next;
+                round = next;
             }
         }
     }
-    match level.first_improved(n) {
+    match round.first_improved(n) {
         Some(end) => cycle_within(alloc, total, history.as_slice(), end),
         None => unreachable!(),
     }

@@ -29,7 +29,7 @@ fn push_parts(alloc: Global, text: &mut String, parts: &[Share]) -> Result<(), F
 }
 
 /// The evidence, in a line.
-fn told(alloc: Global, part: &RandomPart) -> Result<String, Fail> {
+fn text_of(alloc: Global, part: &RandomPart) -> Result<String, Fail> {
     let mut text = String::new(alloc);
     match part {
         RandomPart::Mixture { den, parts } => {
@@ -58,7 +58,7 @@ fn found(alloc: Global, made: &Patches) -> Result<String, Fail> {
     match rational_types(alloc, made) {
         Ok(types) => {
             let part = random(alloc, made, &types)?;
-            told(alloc, &part)
+            text_of(alloc, &part)
         }
         Err(fault) => Ok(fault.to_string(alloc)?),
     }

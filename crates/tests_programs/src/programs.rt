@@ -81,7 +81,7 @@ fn listing(alloc: Global, places: &[(u32, u64)]) -> Result<Seq<Entry>, Fail> {
 }
 
 /// The outcome as text: its kind, the denominator, the entries as column:value, then the prices or the ray.
-fn told(alloc: Global, outcome: &Outcome) -> Result<String, Fail> {
+fn text_of(alloc: Global, outcome: &Outcome) -> Result<String, Fail> {
     let mut text = String::new(alloc);
     match outcome {
         Outcome::Optimal(pair) => {
@@ -123,9 +123,9 @@ pub(crate) fn outcome(
 ) -> Result<(String, bool), Fail> {
     let program = program(rt, alloc, a, b, c)?;
     let outcome = maximize(alloc, &program)?;
-    let text = told(alloc, &outcome)?;
+    let text = text_of(alloc, &outcome)?;
     let solved = Tableau::of(alloc, &program)?.solve();
-    assert_eq!(rt; told(alloc, &solved)?, text);
+    assert_eq!(rt; text_of(alloc, &solved)?, text);
     let taken = match &outcome {
         Outcome::Optimal(pair) => check_pair(&program, pair),
         Outcome::Unbounded { den, point, ray } => check_ray(&program, *den, point, ray),

@@ -3,7 +3,7 @@ use Rattle.std.proofs.Common.{◌≡◌, ℕ, sym, arith}
 use Rattle.std.proofs.lemmas.Int.{ints}
 use Rattle.rp_walk.specs.ExactTotal.{ExactTotal, SameTotal}
 use Rattle.rp_walk.specs.LeastTotals.{FitsAlike}
-use Rattle.rp_walk.proofs.Levels.{SameTotal-trans}
+use Rattle.rp_walk.proofs.Rounds.{SameTotal-trans}
 use Rattle.rp_walk.specs.Sums.{whole_total}
 use Rattle.tests_verdicts.specs.Ladder.{FitsOne}
 

@@ -1,3 +1,2 @@
 pub mod Ladder
 pub mod LadderLaws
-pub mod Rising

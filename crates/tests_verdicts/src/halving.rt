@@ -1,36 +1,38 @@
-use rp_effic::{Ask, first_true};
+use rp_effic::{Monotone, first_true};
 use rp_num::NoMemory;
 use std::alloc::Global;
 use std::test::Fail;
 
-/// So many places, of which those from the first true one on are true.
+/// So many places, and the first at which a condition holds.
 #[derive(Drop)]
 struct Places {
     first: u32,
     size: u32,
-    asks: u64,
+    tests: u64,
 }
 
-impl Ask for Places {
-    ghost use Rattle.tests_verdicts.specs.Rising.{values_from};
+impl Monotone for Places {
+    ghost use Rattle.std.specs.Prelude.{◌≤◌};
 
-    ghost values = { λ a. values_from a.first a.size };
+    ghost holds = { λ a i. a.first ≤ i };
 
-    ghost asks = { λ a. a.asks };
+    ghost places = { λ a. a.size };
+
+    ghost tests = { λ a. a.tests };
 
     fn size(&self) -> u32 {
         self.size
     }
 
-    fn ask(&mut self, _alloc: Global, i: u32) -> Result<bool, NoMemory> {
-        self.asks += 1;
+    fn test(&mut self, _alloc: Global, i: u32) -> Result<bool, NoMemory> {
+        self.tests += 1;
         Ok(i >= self.first)
     }
 }
 
-/// The first true place, and at most how many asks find it.
+/// The first true place, and at most how many tests find it.
 #[test]
-fn the_first_true_place_and_its_asks(rt: HostRuntime) -> Result<(), Fail> {
+fn the_first_true_place_and_its_tests(rt: HostRuntime) -> Result<(), Fail> {
     for (first, size, wanted, most) in [
         (2u32, 4u32, 2u32, 3u64),
         (2, 2, 2, 2),
@@ -47,14 +49,14 @@ fn the_first_true_place_and_its_asks(rt: HostRuntime) -> Result<(), Fail> {
         let mut places = Places {
             first,
             size,
-            asks: 0,
+            tests: 0,
         };
         assert_eq!(rt;
             first_true(rt.alloc(), &mut places)?,
             wanted,
             "of {size} from {first}"
         );
-        assert!(rt; places.asks <= most, "asks of {size} from {first}");
+        assert!(rt; places.tests <= most, "tests of {size} from {first}");
     }
     Ok(())
 }

@@ -6,7 +6,7 @@ use std::alloc::Global;
 use std::test::Fail;
 
 /// The index, whether it is attained, and the three lists of evidence, with observations counted from 1.
-fn shown(alloc: Global, file: &str) -> Result<String, Fail> {
+fn text_of(alloc: Global, file: &str) -> Result<String, Fail> {
     let table = read_table(alloc, file.as_bytes())?;
     let costs = Costs::of(alloc, &table)?;
     let found = efficiency(alloc, &costs)?;
@@ -64,7 +64,7 @@ fn the_index_of_worked_tables(rt: HostRuntime) -> Result<(), Fail> {
         ),
         ("p_a,q_a\n3,2\n", "1/1, below 1, above, ranks 1"),
     ] {
-        let got = shown(rt.alloc(), file)?;
+        let got = text_of(rt.alloc(), file)?;
         assert_eq!(rt; got.as_str(), wanted, "the index of {file}");
     }
     Ok(())
@@ -75,7 +75,7 @@ fn the_index_of_worked_tables(rt: HostRuntime) -> Result<(), Fail> {
 fn the_index_of_a_long_walk_that_no_pair_walks(rt: HostRuntime) -> Result<(), Fail> {
     let file = "p_a,q_a,p_b,q_b,p_c,q_c,p_d,q_d\n\
         10,1,9,0,20,0,20,0\n20,0,10,1,8,0,20,0\n20,0,20,0,10,1,7,0\n6,0,20,0,20,0,10,1\n";
-    let got = shown(rt.alloc(), file)?;
+    let got = text_of(rt.alloc(), file)?;
     assert_eq!(rt;
         got.as_str(),
         "9/10, below 1 4 3 2, above 1 2 3 4 1, cycle 1 2 3 4 1"
@@ -86,7 +86,7 @@ fn the_index_of_a_long_walk_that_no_pair_walks(rt: HostRuntime) -> Result<(), Fa
 /// 2/4 and 3/6 are one level.
 #[test]
 fn equal_ratios_of_different_pairs(rt: HostRuntime) -> Result<(), Fail> {
-    let got = shown(rt.alloc(), "p_a,q_a,p_b,q_b\n4,1,2,0\n3,0,6,1\n")?;
+    let got = text_of(rt.alloc(), "p_a,q_a,p_b,q_b\n4,1,2,0\n3,0,6,1\n")?;
     assert_eq!(rt; got.as_str(), "1/2, below 1 1, above 1 2 1, ranks 2 2");
     Ok(())
 }
@@ -114,7 +114,7 @@ fn greatest(alloc: Global) -> Result<String, Fail> {
 #[test]
 fn own_costs_near_the_limit(rt: HostRuntime) -> Result<(), Fail> {
     let file = greatest(rt.alloc())?;
-    let got = shown(rt.alloc(), file.as_str())?;
+    let got = text_of(rt.alloc(), file.as_str())?;
     assert_eq!(rt;
         got.as_str(),
         "1599999660000018/1599999660000019, below 1 1, above 1 2 1, ranks 2 2"

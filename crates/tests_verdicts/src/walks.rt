@@ -38,7 +38,7 @@ impl Total for Ladder {
     type Value = i8;
 
     ghost use Rattle.rp_evidence.specs.Quasilinear.{step_sum};
-    ghost use Rattle.rp_quasi.specs.SumLaws.{costs_keep_order, costs_stay};
+    ghost use Rattle.rp_quasi.specs.InnerSumLaws.{costs_keep_order, costs_stay};
     ghost use Rattle.tests_verdicts.specs.Ladder.{FitsOne, ladder_cost};
     ghost use Rattle.tests_verdicts.specs.LadderLaws.{ones_fit_alike};
     ghost use Rattle.rp_walk.specs.Sums.{sums, whole_total};

@@ -2,7 +2,7 @@ use Rattle.std.proofs.Common.{◌≡◌, ◌<◌, ◌/◌, ℕ}
 use Rattle.std.specs.Int.{IsGcd}
 use Rattle.rp_num.specs.Fraction.{IsLowestTerms}
 use Rattle.rp_num.proofs.Lowest.{IsLowestTerms-divided}
-use Rattle.rp_effic.specs.RatioOrder.{level_den}
+use Rattle.rp_effic.specs.InnerRatioOrder.{level_den}
 use Rattle.rp_effic.proofs.index.in_lowest_terms.Goals as goal
 
 divided : (a b p q g : ℕ) → p ≡ a → q ≡ b → 0 < b → IsGcd p q g → IsLowestTerms a b (record { num = p / g; den = q / g })

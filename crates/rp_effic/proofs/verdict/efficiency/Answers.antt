@@ -4,12 +4,13 @@ use Rattle.rp_evidence.proofs.Counts.{counts_order_steps}
 use Rattle.rp_evidence.proofs.Index.{no_strict_cycle}
 use Rattle.rp_evidence.proofs.IndexThreshold.{index_is_least, walk_at_index}
 use Rattle.rp_table.specs.Cost.{cost_at}
-use Rattle.rp_effic.proofs.AtLevel.{above_bounds, counts_of}
+use Rattle.rp_pref.proofs.VerdictLemmas.{counts_of}
+use Rattle.rp_effic.proofs.Returns.{above_bounds}
 use Rattle.rp_effic.proofs.Indexed.{cost_positive}
 use Rattle.rp_effic.proofs.verdict.efficiency.Goals as goal
 
-pub above-requires-clause-returns : goal.above-requires-clause-returns
-above-requires-clause-returns c =
+pub above_index-requires-clause-returns : goal.above_index-requires-clause-returns
+above_index-requires-clause-returns c =
     let costs = c.args.costs.now in
     let level = c.in_ok-level.level in
     walk_at_index costs.n (cost_at costs) c.n-n.ensures.valid.some (cost_positive costs c.n-n.ensures.valid) level.num level.den c.in_ok-level.ensures.index

@@ -44,7 +44,7 @@ use denote.Builtin.{usize}
 use Rattle.std.specs.Prelude.{None}
 use Rattle.std.proofs.mem.Param.{El, R, elτ}
 use Rattle.std.proofs.RawLayout.{as_written}
-use Rattle.rp_grid.specs.Ownership.{slots}
+use Rattle.rp_grid.specs.InnerOwnership.{slots}
 use Rattle.rp_grid.proofs.Memory.{Cr, Bs, Mark, sz, mark, mark_made, word_made}
 use base.Fml.{Incl-trans}
 use lib.ListN.{replicate, length-replicate}

@@ -39,7 +39,7 @@ use types.Run.{bin}
 use denote.Builtin.{usize}
 use Rattle.std.proofs.mem.Param.{El, R, elτ}
 use Rattle.std.proofs.RawLayout.{as_raw}
-use Rattle.rp_grid.specs.Ownership.{places_own}
+use Rattle.rp_grid.specs.InnerOwnership.{places_own}
 use Rattle.rp_grid.proofs.Memory.{Cr, Bs, sz, mark, mark_had, word_had}
 use base.Fml.{Incl-trans}
 use lib.Dec.{T}
@@ -58,7 +58,7 @@ use denote.Triple.Statement.{Triple}
 use denote.Triple.Call.{calls_at_last}
 use Rattle.std.proofs.alloc.Calls.{Al, second, token, gives_key, Gives, at_gives, Gives-goes, Gives-Gives}
 use Rattle.rp_grid.proofs.Sizes.{uncapped, block_ty, block_size, block_align, args, P}
-use Rattle.rp_grid.specs.Ownership.{deed_owns}
+use Rattle.rp_grid.specs.InnerOwnership.{deed_owns}
 use Rattle.rp_grid.proofs.Memory.{to_room}
 use Rattle.rp_grid.specs.contracts.block.Deed as D-type
 use Rattle.rp_grid.specs.contracts.block.deallocate as F

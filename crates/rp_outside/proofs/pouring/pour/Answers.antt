@@ -19,7 +19,7 @@ loop-at-preserved g c =
 
 pub returns-in-Err-clause-falls_short : goal.returns-in-Err-clause-falls_short
 returns-in-Err-clause-falls_short g c =
-    FallsShort-front _ _ c.args.bytes.now c.loop-at.at c.loop-at-test.true (λ w told. c.in-Err.ensures.failed_stays _ (c.loop-at.invariant.gone_out w told))
+    FallsShort-front _ _ c.args.bytes.now c.loop-at.at c.loop-at-test.true (λ w known. c.in-Err.ensures.failed_stays _ (c.loop-at.invariant.gone_out w known))
 
 pub returns-in-Err-clause-some_write : goal.returns-in-Err-clause-some_write
 returns-in-Err-clause-some_write g c = λ _. rw c.in-Err.ensures.call_counted (HasRisen-next _ _ c.loop-at.invariant.calls_rise)

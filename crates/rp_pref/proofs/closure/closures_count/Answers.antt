@@ -1,6 +1,6 @@
 use Rattle.rp_table.specs.Cost.{cost_at}
 use Rattle.rp_pref.specs.Steps.{IsStep}
-use Rattle.rp_pref.proofs.Closing.{count_by_closure}
+use Rattle.rp_pref.proofs.ClosureLemmas.{count_by_closure}
 use Rattle.rp_pref.proofs.closure.closures_count.Goals as goal
 
 pub returns : goal.returns

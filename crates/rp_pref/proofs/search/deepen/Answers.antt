@@ -1,6 +1,6 @@
 use Rattle.std.proofs.Common.{◌∙◌, sym}
 use Rattle.std.proofs.lemmas.Bool.{false≢true}
-use Rattle.rp_pref.proofs.Deepening.{deepens_at, deepens_past}
+use Rattle.rp_pref.proofs.DepthLemmas.{deepens_at, deepens_past}
 use Rattle.rp_pref.proofs.search.deepen.Goals as goal
 use Rattle.rp_pref.proofs.search.deepen.Goals.{then-depths-u+then-look, then-depths-u+else-look, else-depths-u}
 

@@ -1,4 +1,4 @@
-use Rattle.rp_pref.specs.Search.{Deepens}
+use Rattle.rp_pref.specs.InnerSearch.{Deepens}
 use Rattle.rp_pref.proofs.search.deepen.Given as goal
 
 abbrev pub invariant-loop-u : goal.invariant-loop-u

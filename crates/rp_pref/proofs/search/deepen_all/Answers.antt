@@ -1,4 +1,4 @@
-use Rattle.rp_pref.proofs.Deepening.{goes_deeper, goes_no_deeper}
+use Rattle.rp_pref.proofs.DepthLemmas.{goes_deeper, goes_no_deeper}
 use Rattle.rp_pref.proofs.search.deepen_all.Goals as goal
 
 pub loop-depth-preserved : goal.loop-depth-preserved

@@ -1,4 +1,4 @@
-use Rattle.rp_pref.specs.Search.{GoesTo, left_of}
+use Rattle.rp_pref.specs.InnerSearch.{GoesTo, left_of}
 use Rattle.rp_pref.proofs.search.deepen_all.Given as goal
 
 abbrev pub invariant-loop-depth : goal.invariant-loop-depth

@@ -1,5 +1,5 @@
 use Rattle.std.proofs.Common.{◌≡◌, vec_len}
-use Rattle.rp_pref.specs.Search.{AreFirst}
+use Rattle.rp_pref.specs.InnerSearch.{AreFirst}
 use Rattle.rp_pref.proofs.search.first_depths.Given as goal
 
 abbrev pub invariant-loop-t : goal.invariant-loop-t

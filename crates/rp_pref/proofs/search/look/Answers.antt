@@ -1,6 +1,6 @@
 use Rattle.std.proofs.Common.{◌∙◌, sym}
 use Rattle.std.proofs.lemmas.Bool.{false≢true}
-use Rattle.rp_pref.proofs.Searching.{looks_past, looks_at}
+use Rattle.rp_pref.proofs.SearchLemmas.{looks_past, looks_at}
 use Rattle.rp_pref.proofs.search.look.Goals as goal
 use Rattle.rp_pref.proofs.search.look.Goals.{then-table-u+then-depths-t-eq0, else-table-u, else-table-u-via-then-table-u+else-depths-t-eq0, else-table-u-via-else-table-u}
 

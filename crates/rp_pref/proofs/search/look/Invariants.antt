@@ -1,4 +1,4 @@
-use Rattle.rp_pref.specs.Search.{LooksFrom}
+use Rattle.rp_pref.specs.InnerSearch.{LooksFrom}
 use Rattle.rp_pref.proofs.search.look.Given as goal
 
 abbrev pub invariant-loop-t : goal.invariant-loop-t

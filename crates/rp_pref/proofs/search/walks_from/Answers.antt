@@ -1,5 +1,5 @@
 use Rattle.std.proofs.Common.{arith}
-use Rattle.rp_pref.proofs.Deepening.{goes_to_first}
+use Rattle.rp_pref.proofs.DepthLemmas.{goes_to_first}
 use Rattle.rp_pref.proofs.search.walks_from.Goals as goal
 
 pub deepen_all-requires-clause-first : goal.deepen_all-requires-clause-first

@@ -1,6 +1,6 @@
 use Rattle.std.proofs.Common.{◌≡◌, ◌<◌, ◌+◌, length, reverse, slice_index}
 use Rattle.rp_evidence.specs.Walk.{IsWalk}
-use Rattle.rp_pref.specs.Search.{IsNoted}
+use Rattle.rp_pref.specs.InnerSearch.{IsNoted}
 use Rattle.rp_pref.proofs.walk.walk_back.Given as goal
 
 abbrev pub invariant-loop-at : goal.invariant-loop-at

@@ -2,7 +2,7 @@ use Rattle.std.proofs.Common.{◌≡◌, ◌∙◌, sym, arith, slice_index}
 use Rattle.std.proofs.lemmas.List.{get_or_read}
 use Rattle.rp_table.specs.Cost.{cost_at}
 use Rattle.rp_pref.specs.Steps.{IsStep}
-use Rattle.rp_pref.proofs.Walking.{none_by_search, shortest_by_search}
+use Rattle.rp_pref.proofs.WalkLemmas.{none_by_search, shortest_by_search}
 use Rattle.rp_pref.proofs.walk.walk_between.Goals as goal
 
 pub returns-then-index-eq0-clause-none : goal.returns-then-index-eq0-clause-none

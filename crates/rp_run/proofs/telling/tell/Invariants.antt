@@ -1,6 +1,6 @@
 use Rattle.std.proofs.Common.{◌≤◌, take}
 use Rattle.std.specs.List.{flat_map}
-use Rattle.rp_outside.specs.Told.{Grows}
+use Rattle.rp_outside.specs.Known.{Grows}
 use Rattle.rp_run.proofs.telling.tell.Given as goal
 
 abbrev pub invariant-loop-piece : goal.invariant-loop-piece

@@ -1,7 +1,7 @@
 use Rattle.std.proofs.Common.{subst, Option}
 use Rattle.std.proofs.Common.{ℕ}
-use Rattle.rp_simplex.specs.Shown.{exact}
-use Rattle.rp_simplex.specs.Inner.{LeavesBelow}
+use Rattle.rp_simplex.specs.InnerStage.{exact}
+use Rattle.rp_simplex.specs.InnerTableau.{LeavesBelow}
 use Rattle.rp_simplex.proofs.Bits.{at_most_zero, above_zero}
 use Rattle.rp_simplex.proofs.Choices.{keep, replaced, kept}
 use Rattle.rp_simplex.proofs.choice.better_row.Goals as goal

@@ -2,7 +2,7 @@ use Rattle.std.proofs.Common.{ℕ, ℤ, ◌*ℤ◌, sym, ◌∙◌, below_more}
 use mir.Val.{to_z, of_z}
 use Rattle.std.specs.Int.{w128}
 use Rattle.rp_simplex.proofs.Bits.{back128, same_bits, other_bits}
-use Rattle.rp_simplex.specs.Shown.{exact}
+use Rattle.rp_simplex.specs.InnerStage.{exact}
 use Rattle.rp_simplex.proofs.Choices.{first_difference}
 use Rattle.rp_simplex.proofs.choice.is_lesser.Goals as goal
 

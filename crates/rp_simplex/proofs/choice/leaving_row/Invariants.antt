@@ -1,5 +1,5 @@
-use Rattle.rp_simplex.specs.Shown.{exact}
-use Rattle.rp_simplex.specs.Inner.{LeavesBelow}
+use Rattle.rp_simplex.specs.InnerStage.{exact}
+use Rattle.rp_simplex.specs.InnerTableau.{LeavesBelow}
 use Rattle.rp_simplex.proofs.choice.leaving_row.Given as goal
 
 abbrev pub invariant-loop-i : goal.invariant-loop-i

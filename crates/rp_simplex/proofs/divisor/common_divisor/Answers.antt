@@ -5,10 +5,10 @@ use Rattle.std.specs.Int.RustNames.{unsigned_abs}
 use Rattle.std.proofs.lemmas.Bool.{cases_eq}
 use Rattle.std.proofs.lemmas.Nat.Gcd.{dvd_refl, dvd_trans}
 use mir.Val.{to_z, of_z}
-use Rattle.rp_simplex.specs.Shown.{exact, renewed}
-use Rattle.rp_simplex.specs.Written.{moved}
+use Rattle.rp_simplex.specs.InnerStage.{exact, renewed}
+use Rattle.rp_simplex.specs.InnerRows.{moved}
 use Rattle.rp_simplex.proofs.Bits.{back64}
-use Rattle.rp_simplex.proofs.Combining.{all_divided, divides_each}
+use Rattle.rp_simplex.proofs.CombinationLemmas.{all_divided, divides_each}
 use Rattle.rp_simplex.proofs.divisor.common_divisor.Goals as goal
 
 pub loop-i-init : goal.loop-i-init

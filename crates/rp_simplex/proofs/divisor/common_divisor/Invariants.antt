@@ -1,7 +1,7 @@
 use Prim.Native.Nat.{◌∣◌}
 use Rattle.std.proofs.Common.{ℕ, ◌<◌, ◌≤◌}
 use Rattle.std.specs.Int.RustNames.{unsigned_abs}
-use Rattle.rp_simplex.specs.Shown.{renewed}
+use Rattle.rp_simplex.specs.InnerStage.{renewed}
 use Rattle.rp_simplex.proofs.divisor.common_divisor.Given as goal
 
 abbrev pub invariant-loop-i : goal.invariant-loop-i

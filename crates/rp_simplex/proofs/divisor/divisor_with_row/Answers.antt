@@ -4,9 +4,9 @@ use Rattle.std.specs.Int.{w64}
 use mir.Val.{to_z, of_z}
 use Rattle.std.specs.Int.RustNames.{unsigned_abs}
 use Rattle.std.proofs.lemmas.Nat.Gcd.{dvd_refl, dvd_trans}
-use Rattle.rp_simplex.specs.Written.{moved}
+use Rattle.rp_simplex.specs.InnerRows.{moved}
 use Rattle.rp_simplex.proofs.Bits.{back128}
-use Rattle.rp_simplex.proofs.Clearing.{same_moved}
+use Rattle.rp_simplex.proofs.ClearedRows.{same_moved}
 use Rattle.rp_simplex.proofs.OneMore.{not_zero, one_divides, still_divides}
 use Rattle.rp_simplex.proofs.divisor.divisor_with_row.Goals as goal
 

@@ -1,7 +1,7 @@
 use Prim.Native.Nat.{◌∣◌}
 use Rattle.std.proofs.Common.{ℕ, ◌<◌}
 use Rattle.std.specs.Int.RustNames.{unsigned_abs}
-use Rattle.rp_simplex.specs.Written.{moved}
+use Rattle.rp_simplex.specs.InnerRows.{moved}
 use Rattle.rp_simplex.proofs.divisor.divisor_with_row.Given as goal
 
 abbrev pub invariant-loop-s : goal.invariant-loop-s

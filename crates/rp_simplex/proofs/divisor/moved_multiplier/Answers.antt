@@ -1,6 +1,6 @@
 use Rattle.std.proofs.Common.{◌-ℤ◌, ◌*ℤ◌, sym, ◌∙◌}
 use Rattle.rp_simplex.proofs.Bits.{back64, back128}
-use Rattle.rp_simplex.proofs.Clearing.{back, moved-other}
+use Rattle.rp_simplex.proofs.ClearedRows.{back, moved-other}
 use Rattle.rp_simplex.proofs.divisor.moved_multiplier.Goals as goal
 
 pub returns-else-i-r-clause-value : goal.returns-else-i-r-clause-value

@@ -1,6 +1,6 @@
 use Rattle.std.proofs.Common.{pos, ◌*ℤ◌, get_or, refl, ◌∙◌, arith}
 use Rattle.rp_simplex.proofs.Bits.{back128}
-use Rattle.rp_simplex.proofs.Summing.{product_more, total_start}
+use Rattle.rp_simplex.proofs.DotLemmas.{product_more, total_start}
 use Rattle.rp_simplex.proofs.dot.dot_product.Goals as goal
 
 pub loop-s-init : goal.loop-s-init

@@ -1,7 +1,7 @@
 use Rattle.std.proofs.Common.{◌≡◌, ◌*◌, ◌≤◌}
 use Rattle.std.specs.Int.RustNames.{unsigned_abs}
-use Rattle.rp_simplex.specs.Combined.{dot}
-use Rattle.rp_simplex.proofs.Summing.{product_bound}
+use Rattle.rp_simplex.specs.InnerCombined.{dot}
+use Rattle.rp_simplex.proofs.DotLemmas.{product_bound}
 use Rattle.rp_simplex.proofs.dot.dot_product.Given as goal
 
 abbrev pub invariant-loop-s : goal.invariant-loop-s

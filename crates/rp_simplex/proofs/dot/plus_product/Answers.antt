@@ -1,4 +1,4 @@
-use Rattle.rp_simplex.proofs.Summing.{plus_read}
+use Rattle.rp_simplex.proofs.DotLemmas.{plus_read}
 use Rattle.rp_simplex.proofs.dot.plus_product.Goals as goal
 
 pub returns : goal.returns

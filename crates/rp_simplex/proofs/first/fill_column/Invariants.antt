@@ -1,4 +1,4 @@
-use Rattle.rp_simplex.specs.Written.{IsFirstEntry, IsWritten}
+use Rattle.rp_simplex.specs.InnerRows.{IsFirstEntry, IsWritten}
 use Rattle.rp_simplex.proofs.first.fill_column.Given as goal
 
 abbrev pub invariant-loop-i : goal.invariant-loop-i

@@ -1,5 +1,5 @@
 use Rattle.std.proofs.Common.{arith}
-use Rattle.rp_simplex.proofs.Starting.{first_tableau, starting_fits, starting_objective, starting_slacks}
+use Rattle.rp_simplex.proofs.FirstTableauLemmas.{first_tableau, starting_fits, starting_objective, starting_slacks}
 use Rattle.rp_simplex.proofs.first.first_stage.Goals as goal
 
 pub largest_of-largest-requires : goal.largest_of-largest-requires

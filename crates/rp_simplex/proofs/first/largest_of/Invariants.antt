@@ -1,7 +1,7 @@
 use Rattle.std.proofs.Common.{ℕ, ◌<◌, ◌≤◌}
 use Rattle.rp_farkas.specs.Limits.{largest_entry}
 use Rattle.rp_grid.specs.Rows.{row_of}
-use Rattle.rp_simplex.specs.Combined.{AreSmall}
+use Rattle.rp_simplex.specs.InnerCombined.{AreSmall}
 use Rattle.rp_simplex.proofs.first.largest_of.Given as goal
 
 abbrev pub invariant-loop-j : goal.invariant-loop-j

@@ -2,7 +2,7 @@ use Rattle.std.proofs.Common.{◌≡◌, ℕ, suc, ◌<◌, ◌≤◌, length}
 use Rattle.rp_grid.specs.Rows.{AreEqual}
 use Rattle.rp_simplex.specs.Cells.{cell}
 use Rattle.rp_simplex.specs.ExactTableau.{width_of}
-use Rattle.rp_simplex.specs.Written.{IsFirstEntry}
+use Rattle.rp_simplex.specs.InnerRows.{IsFirstEntry}
 use Rattle.rp_simplex.proofs.first.starting_columns.Given as goal
 
 abbrev pub invariant-loop-j : goal.invariant-loop-j

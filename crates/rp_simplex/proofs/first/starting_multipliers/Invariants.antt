@@ -1,7 +1,7 @@
 use Rattle.std.proofs.Common.{◌≡◌, ℕ, ◌<◌, ◌≤◌, pos, length}
 use Rattle.rp_grid.specs.Rows.{AreEqual}
 use Rattle.rp_simplex.specs.Cells.{cell}
-use Rattle.rp_simplex.specs.Combined.{delta}
+use Rattle.rp_simplex.specs.InnerCombined.{delta}
 use Rattle.rp_simplex.proofs.first.starting_multipliers.Given as goal
 
 abbrev pub invariant-loop-i : goal.invariant-loop-i

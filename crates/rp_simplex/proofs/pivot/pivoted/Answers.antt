@@ -6,12 +6,12 @@ use mir.Val.{to_z, of_z}
 use Rattle.std.proofs.lemmas.List.{get_or-set_same, get_or-set_other}
 use Rattle.rp_grid.specs.Rows.{row_of}
 use Rattle.rp_simplex.specs.Cells.{cell}
-use Rattle.rp_simplex.specs.Combined.{dot}
-use Rattle.rp_simplex.specs.Shown.{exact, renewed}
-use Rattle.rp_simplex.specs.Written.{ArePivoted, factor, moved}
+use Rattle.rp_simplex.specs.InnerCombined.{dot}
+use Rattle.rp_simplex.specs.InnerStage.{exact, renewed}
+use Rattle.rp_simplex.specs.InnerRows.{ArePivoted, factor, moved}
 use Rattle.rp_simplex.proofs.Bits.{back64}
-use Rattle.rp_simplex.proofs.Combining.{entries_after, multiplier_fits, objective_after}
-use Rattle.rp_simplex.proofs.Passing.{passes_by_combination, passes_by_multiplier}
+use Rattle.rp_simplex.proofs.CombinationLemmas.{entries_after, multiplier_fits, objective_after}
+use Rattle.rp_simplex.proofs.PassedWidth.{passes_by_combination, passes_by_multiplier}
 use Rattle.rp_simplex.proofs.Pivoted.{Taken, pivot_by, passes_by_den, quotient_positive, divisor_small, whole_quotient}
 use Rattle.rp_simplex.proofs.pivot.pivoted.Goals as goal
 use Rattle.rp_simplex.proofs.pivot.pivoted.Goals.{After-common_divisor-divisor, After-row-column, After-renew, then-not-renew-via-then-not-renew, then-not-renew-via-else-not-renew+then-not-all_fit}

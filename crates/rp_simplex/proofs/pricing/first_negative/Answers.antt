@@ -1,5 +1,5 @@
 use Rattle.std.proofs.Common.{arith}
-use Rattle.rp_simplex.proofs.Combining.{row_elements_fit}
+use Rattle.rp_simplex.proofs.CombinationLemmas.{row_elements_fit}
 use Rattle.rp_simplex.proofs.pricing.first_negative.Goals as goal
 
 pub gather-count-requires-clause-fit : goal.gather-count-requires-clause-fit

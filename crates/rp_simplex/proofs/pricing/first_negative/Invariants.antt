@@ -1,5 +1,5 @@
 use Rattle.std.proofs.Common.{ℕ, ◌<◌, ◌≤◌, pos, ◌≤ℤ◌}
-use Rattle.rp_simplex.specs.Shown.{exact}
+use Rattle.rp_simplex.specs.InnerStage.{exact}
 use Rattle.rp_simplex.proofs.pricing.first_negative.Given as goal
 
 abbrev pub invariant-loop-j : goal.invariant-loop-j

@@ -1,6 +1,6 @@
 use Rattle.std.proofs.Common.{◌≤◌, ◌+◌, ℕ, List, length, sym, subst, arith}
-use Rattle.rp_simplex.specs.Combined.{IsGathered}
-use Rattle.rp_simplex.proofs.Gathering.{gathered_start, gathered_zero, still}
+use Rattle.rp_simplex.specs.InnerCombined.{IsGathered}
+use Rattle.rp_simplex.proofs.GatheredPlaces.{gathered_start, gathered_zero, still}
 use Rattle.rp_simplex.proofs.pricing.gather.Goals as goal
 use Rattle.rp_simplex.proofs.pricing.gather.Goals.{then-multipliers-s-ne0, else-multipliers-s-ne0}
 

@@ -1,4 +1,4 @@
-use Rattle.rp_simplex.specs.Combined.{IsGathered}
+use Rattle.rp_simplex.specs.InnerCombined.{IsGathered}
 use Rattle.std.proofs.Common.{◌≤◌, length}
 use Rattle.rp_simplex.proofs.pricing.gather.Given as goal
 

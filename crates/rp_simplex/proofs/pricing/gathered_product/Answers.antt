@@ -1,7 +1,7 @@
 use Rattle.std.proofs.Common.{◌≡◌, ℕ, ℤ, pos, ◌*ℤ◌, get_or, refl, sym, ◌∙◌, ap, arith}
 use Rattle.rp_farkas.specs.Total.{total}
 use Rattle.rp_simplex.proofs.Bits.{back128}
-use Rattle.rp_simplex.proofs.Summing.{product_more, total_start}
+use Rattle.rp_simplex.proofs.DotLemmas.{product_more, total_start}
 use Rattle.rp_simplex.proofs.pricing.gathered_product.Goals as goal
 
 pub loop-k-init : goal.loop-k-init

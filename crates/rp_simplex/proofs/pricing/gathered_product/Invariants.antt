@@ -1,7 +1,7 @@
 use Rattle.std.proofs.Common.{◌≡◌, ◌*◌, ◌≤◌, pos, ◌*ℤ◌, get_or}
 use Rattle.std.specs.Int.RustNames.{unsigned_abs}
 use Rattle.rp_farkas.specs.Total.{total}
-use Rattle.rp_simplex.proofs.Summing.{product_bound}
+use Rattle.rp_simplex.proofs.DotLemmas.{product_bound}
 use Rattle.rp_simplex.proofs.pricing.gathered_product.Given as goal
 
 abbrev pub invariant-loop-k : goal.invariant-loop-k

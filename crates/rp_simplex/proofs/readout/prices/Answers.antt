@@ -1,6 +1,6 @@
 use Rattle.std.proofs.Common.{◌+◌, pos, ◌≤ℤ◌, arith, add-one}
 use Rattle.std.proofs.lemmas.Int.{ints}
-use Rattle.rp_simplex.specs.Shown.{exact}
+use Rattle.rp_simplex.specs.InnerStage.{exact}
 use Rattle.rp_simplex.proofs.readout.prices.Goals as goal
 
 pub overflow_cast-entry : goal.overflow_cast-entry

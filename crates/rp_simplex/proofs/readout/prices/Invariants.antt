@@ -1,5 +1,5 @@
 use Rattle.std.proofs.Common.{◌≡◌, ℕ, suc, ◌<◌, ◌≤◌, pos, vec_capacity, vec_len, slice_index}
-use Rattle.rp_simplex.specs.Shown.{exact}
+use Rattle.rp_simplex.specs.InnerStage.{exact}
 use Rattle.rp_simplex.proofs.readout.prices.Given as goal
 
 abbrev pub invariant-loop-s : goal.invariant-loop-s

@@ -1,6 +1,6 @@
 use Rattle.std.proofs.Common.{◌≤◌, pos, neg_ℤ, vec_capacity, vec_len}
 use Rattle.rp_farkas.specs.Listing.{IsListing, numerator_at}
-use Rattle.rp_simplex.specs.Shown.{exact}
+use Rattle.rp_simplex.specs.InnerStage.{exact}
 use Rattle.rp_simplex.specs.Readout.{IsReadAt}
 use Rattle.rp_simplex.proofs.readout.ray.Given as goal
 

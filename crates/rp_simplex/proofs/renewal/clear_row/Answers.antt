@@ -3,8 +3,8 @@ use Rattle.std.proofs.Common.{◌≡◌, ◌*◌, ◌^◌, ◌≤◌, rules, sym
 use Rattle.std.specs.Int.{w64, w128}
 use Rattle.std.specs.Int.RustNames.{unsigned_abs}
 use mir.Val.{to_z, of_z}
-use Rattle.rp_simplex.specs.Written.{IsQuotient, less_multiple}
-use Rattle.rp_simplex.proofs.Clearing.{all_written, cleared_read, other_numbers, row_more, same_row}
+use Rattle.rp_simplex.specs.InnerRows.{IsQuotient, less_multiple}
+use Rattle.rp_simplex.proofs.ClearedRows.{all_written, cleared_read, other_numbers, row_more, same_row}
 use Rattle.rp_simplex.proofs.renewal.clear_row.Goals as goal
 use Rattle.rp_simplex.proofs.renewal.clear_row.Goals.{After-difference_of_products-number}
 

@@ -1,5 +1,5 @@
 use Rattle.std.proofs.Common.{◌≡◌}
-use Rattle.rp_simplex.specs.Written.{IsQuotient, IsWritten, less_multiple}
+use Rattle.rp_simplex.specs.InnerRows.{IsQuotient, IsWritten, less_multiple}
 use Rattle.rp_simplex.proofs.renewal.clear_row.Given as goal
 
 abbrev pub invariant-loop-s : goal.invariant-loop-s

@@ -4,8 +4,8 @@ use Rattle.std.specs.Int.{w64}
 use Rattle.std.specs.Int.RustNames.{unsigned_abs}
 use mir.Val.{to_z, of_z}
 use Rattle.std.proofs.lemmas.Int.{to_z_pos}
-use Rattle.rp_simplex.specs.Written.{ArePivoted, OnePasses, factor, less_multiple, moved}
-use Rattle.rp_simplex.proofs.Clearing.{back, moved-other, pivot_row_last, same_pivot_row}
+use Rattle.rp_simplex.specs.InnerRows.{ArePivoted, OnePasses, factor, less_multiple, moved}
+use Rattle.rp_simplex.proofs.ClearedRows.{back, moved-other, pivot_row_last, same_pivot_row}
 use Rattle.rp_simplex.proofs.renewal.renew.Goals as goal
 
 pub renew_others-requires-clause-divides : goal.renew_others-requires-clause-divides

@@ -3,8 +3,8 @@ use Rattle.std.proofs.Common.{◌≡◌, ℕ, ◌+◌, ◌*◌, ◌^◌, ◌≤�
 use Rattle.std.specs.Int.{w64}
 use Rattle.std.specs.Int.RustNames.{unsigned_abs}
 use mir.Val.{to_z, of_z}
-use Rattle.rp_simplex.specs.Written.{AreRenewed, factor, less_multiple}
-use Rattle.rp_simplex.proofs.Clearing.{back, factor_read, row_left_out, rows_more, same_multiple}
+use Rattle.rp_simplex.specs.InnerRows.{AreRenewed, factor, less_multiple}
+use Rattle.rp_simplex.proofs.ClearedRows.{back, factor_read, row_left_out, rows_more, same_multiple}
 use Rattle.rp_simplex.proofs.renewal.renew_others.Goals as goal
 use Rattle.rp_simplex.proofs.renewal.renew_others.Goals.{After-renew_row, After-factor_of-factor, then-i-r+else-not-renew_row, else-i-r}
 

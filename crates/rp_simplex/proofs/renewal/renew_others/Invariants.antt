@@ -1,4 +1,4 @@
-use Rattle.rp_simplex.specs.Written.{AreRenewed, factor}
+use Rattle.rp_simplex.specs.InnerRows.{AreRenewed, factor}
 use Rattle.rp_simplex.proofs.renewal.renew_others.Given as goal
 
 abbrev pub invariant-loop-i : goal.invariant-loop-i

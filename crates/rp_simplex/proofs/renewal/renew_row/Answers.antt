@@ -1,7 +1,7 @@
 use Prim.Native.Nat.{◌∣◌}
 use Rattle.std.proofs.Common.{sym, subst}
 use Rattle.std.specs.Int.RustNames.{unsigned_abs}
-use Rattle.rp_simplex.proofs.Clearing.{other_numbers, same_row, times_pivot}
+use Rattle.rp_simplex.proofs.ClearedRows.{other_numbers, same_row, times_pivot}
 use Rattle.rp_simplex.proofs.renewal.renew_row.Goals as goal
 
 pub clear_row-requires-clause-divides : goal.clear_row-requires-clause-divides

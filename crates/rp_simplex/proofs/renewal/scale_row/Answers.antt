@@ -4,7 +4,7 @@ use Rattle.std.specs.Int.{w64, w128}
 use Rattle.std.specs.Int.RustNames.{unsigned_abs}
 use mir.Val.{to_z, of_z}
 use Rattle.rp_simplex.specs.Cells.{cell}
-use Rattle.rp_simplex.proofs.Clearing.{back, scaled_read, scaled_more}
+use Rattle.rp_simplex.proofs.ClearedRows.{back, scaled_read, scaled_more}
 use Rattle.rp_simplex.proofs.renewal.scale_row.Goals as goal
 use Rattle.rp_simplex.proofs.renewal.scale_row.Goals.{After-product-entry}
 

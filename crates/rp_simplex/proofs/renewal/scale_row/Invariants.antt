@@ -1,6 +1,6 @@
 use Rattle.std.proofs.Common.{◌*ℤ◌}
 use Rattle.rp_simplex.specs.Cells.{cell}
-use Rattle.rp_simplex.specs.Written.{IsQuotient, IsWritten}
+use Rattle.rp_simplex.specs.InnerRows.{IsQuotient, IsWritten}
 use Rattle.rp_simplex.proofs.renewal.scale_row.Given as goal
 
 abbrev pub invariant-loop-j : goal.invariant-loop-j

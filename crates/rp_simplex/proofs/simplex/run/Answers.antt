@@ -2,7 +2,7 @@ use Rattle.rp_simplex.proofs.Runs.{cols_of, starts, distinct_basis, sides, no_ti
 use Rattle.rp_simplex.specs.ReadProgram.{program_in}
 use Rattle.rp_simplex.specs.declared.outcome.Outcome.TheVariants.{Optimal, Unbounded, Wide}
 use Rattle.rp_simplex.proofs.Outcomes.{whole}
-use Rattle.rp_simplex.proofs.Ending.{ends_optimal, ends_unbounded, passes_width, next_count}
+use Rattle.rp_simplex.proofs.OutcomeLemmas.{ends_optimal, ends_unbounded, passes_width, next_count}
 use Rattle.rp_simplex.proofs.simplex.run.Goals as goal
 
 pub loop-column-init : goal.loop-column-init

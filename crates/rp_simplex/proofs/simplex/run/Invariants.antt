@@ -1,5 +1,5 @@
 use Rattle.rp_simplex.specs.ReadProgram.{program_in}
-use Rattle.rp_simplex.specs.Shown.{exact}
+use Rattle.rp_simplex.specs.InnerStage.{exact}
 use Rattle.rp_simplex.proofs.Ends.{distance}
 use Rattle.rp_simplex.proofs.Runs.{IsAt}
 use Rattle.rp_simplex.proofs.simplex.run.Given as goal

@@ -2,7 +2,7 @@ use Rattle.std.proofs.Common.{◌^◌, ◌<◌, List, ℤ, length, inl, inr, sym
 use Rattle.std.specs.Int.RustNames.{unsigned_abs}
 use Rattle.std.proofs.lemmas.Bool.{cases_eq}
 use Rattle.rp_grid.specs.Rows.{row_of}
-use Rattle.rp_simplex.specs.Combined.{dot}
+use Rattle.rp_simplex.specs.InnerCombined.{dot}
 use Rattle.rp_simplex.proofs.width.all_fit.Goals as goal
 use Rattle.rp_simplex.proofs.width.all_fit.Goals.{else-not-surely_fits-via-then-not-surely_fits+else-not-row_fits, else-not-surely_fits-via-else-not-surely_fits}
 

@@ -1,8 +1,8 @@
 use Rattle.std.proofs.Common.{◌≡◌, ◌*◌, ◌^◌, ◌<◌, ◌≤◌, List, ℤ, length, ◌-◌, ◌∙◌, ap, arith}
 use Rattle.std.specs.Int.RustNames.{unsigned_abs}
 use Rattle.std.proofs.lemmas.Bool.{leb-true}
-use Rattle.rp_simplex.specs.Combined.{AreSmall, dot}
-use Rattle.rp_simplex.proofs.Summing.{bounded_dot, magnitude, magnitude_start, magnitude_more, read_size, small_anywhere, surely}
+use Rattle.rp_simplex.specs.InnerCombined.{AreSmall, dot}
+use Rattle.rp_simplex.proofs.DotLemmas.{bounded_dot, magnitude, magnitude_start, magnitude_more, read_size, small_anywhere, surely}
 use Rattle.rp_simplex.proofs.width.surely_fits.Goals as goal
 
 pub loop-s-init : goal.loop-s-init

@@ -1,5 +1,5 @@
 use Rattle.std.proofs.Common.{◌≡◌, ◌*◌, ◌^◌, ◌≤◌}
-use Rattle.rp_simplex.proofs.Summing.{magnitude}
+use Rattle.rp_simplex.proofs.DotLemmas.{magnitude}
 use Rattle.rp_simplex.proofs.width.surely_fits.Given as goal
 
 abbrev pub invariant-loop-s : goal.invariant-loop-s

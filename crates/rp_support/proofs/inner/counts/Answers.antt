@@ -1,7 +1,7 @@
 use Rattle.std.proofs.Common.{◌≡◌, ◌<◌, arith}
 use Rattle.rp_evidence.specs.Count.{IsCount}
 use Rattle.rp_evidence.specs.Preference.{IsWeak}
-use Rattle.rp_pref.proofs.Closing.{count_by_closure}
+use Rattle.rp_pref.proofs.ClosureLemmas.{count_by_closure}
 use Rattle.rp_table.specs.Cost.{cost_of}
 use Rattle.rp_table.specs.Tables.{records_of}
 use Rattle.rp_support.proofs.ListSteps.{length_more, number_more}

@@ -1,6 +1,6 @@
 use Rattle.std.proofs.Common.{◌≡◌, ◌+◌, ◌*◌, add-one, arith, refl}
 use Rattle.rp_patch.specs.Types.{combinations}
-use Rattle.rp_types.proofs.Combining.{too_many_ways}
+use Rattle.rp_types.proofs.CombinationLemmas.{too_many_ways}
 use Rattle.rp_types.proofs.combinations.test_combinations.Goals as goal
 
 pub returns-then-product-gt-COMBINATIONS-clause-refused :

@@ -1,7 +1,7 @@
 use Rattle.std.proofs.Common.{◌++◌, ◌∷◌, [], List, ℕ, arith, rules, subst}
 use Rattle.rp_patch.specs.Parts.{taken_in}
-use Rattle.rp_types.specs.Listed.{AreListedBefore, AreListedThrough}
-use Rattle.rp_types.proofs.Listing.{first_listed, last_listed, next_listed, passed_by}
+use Rattle.rp_types.specs.InnerListed.{AreListedBefore, AreListedThrough}
+use Rattle.rp_types.proofs.ListedTypes.{first_listed, last_listed, next_listed, passed_by}
 use Rattle.rp_types.proofs.search.+extend.Goals as goal
 use Rattle.rp_types.proofs.search.+extend.Goals.{in-Some+in_ok-extend, in_default}
 

@@ -1,6 +1,6 @@
 use Rattle.std.proofs.Common.{◌-◌, ◌++◌, ◌∷◌, []}
 use Rattle.rp_patch.specs.Parts.{taken_in}
-use Rattle.rp_types.specs.Listed.{AreListedBefore}
+use Rattle.rp_types.specs.InnerListed.{AreListedBefore}
 use Rattle.rp_types.proofs.search.+extend.Given as goal
 
 abbrev pub decreases-extend : goal.decreases-extend

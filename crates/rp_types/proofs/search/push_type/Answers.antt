@@ -1,7 +1,7 @@
 use Rattle.std.proofs.Common.{◌≡◌, ◌<◌, ◌∙◌, ◌++◌, ◌∷◌, [], ap, length, rules}
 use Rattle.rp_patch.specs.Parts.{taken_in}
 use Rattle.rp_patch.proofs.SearchLaws.{whole_part}
-use Rattle.rp_types.proofs.Listing.{one_more_listed, too_many}
+use Rattle.rp_types.proofs.ListedTypes.{one_more_listed, too_many}
 use Rattle.rp_types.proofs.search.push_type.Goals as goal
 
 pub returns-then-len-clause-refused : goal.returns-then-len-clause-refused

@@ -2,7 +2,7 @@ use Rattle.std.proofs.Common.{subst, sym, List}
 use Rattle.rp_patch.specs.Types.{AreRationalTypes}
 use Rattle.rp_types.specs.Listed.{types_of}
 use Rattle.rp_types.specs.declared.types.Rational.{Rational}
-use Rattle.rp_types.proofs.Listing.{all_listed, none_listed}
+use Rattle.rp_types.proofs.ListedTypes.{all_listed, none_listed}
 use Rattle.rp_types.proofs.types.rational_types.Goals as goal
 
 pub extend-requires-clause-so_far : goal.extend-requires-clause-so_far

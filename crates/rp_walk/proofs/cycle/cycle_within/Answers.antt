@@ -1,7 +1,7 @@
 use Rattle.std.proofs.Common.{List, ℕ, subst, ◌∙◌, arith, get_or, ap, length, take, drop, ◌+◌, ◌-◌}
 use Rattle.rp_walk.specs.ExactTotal.{SameTotal}
 use Rattle.rp_walk.specs.Walk.{prefix_total}
-use Rattle.rp_walk.specs.LevelWalk.{IsFirstClosedPart}
+use Rattle.rp_walk.specs.RoundWalk.{IsFirstClosedPart}
 use Rattle.rp_walk.proofs.Cycles.{IsFound-given, found_fits}
 use Rattle.rp_walk.proofs.Traces.{SettlesInCycle-cut}
 use Rattle.rp_walk.proofs.cycle.cycle_within.Goals as goal

@@ -11,7 +11,7 @@ use denote.Struct.Lending.{of_Lends}
 use Rattle.std.specs.contracts.marker.PhantomData as marker
 use Rattle.rp_grid.specs.contracts.block.Places as C
 use Rattle.rp_grid.proofs.block.Places.TheLaw.Statement.{statement}
-use Rattle.rp_grid.proofs.Sharing.{places_lent_laws, Lends-places}
+use Rattle.rp_grid.proofs.SharedPlaces.{places_lent_laws, Lends-places}
 
 pub shares : (R : RattleType) (L : Laws R) → statement R L
 shares R L = of_Lends (C.struct R) (C.the_codes R.Denot R.coded (marker.the_row RawPtr).coded) (C.the_heap R) (C.the_lent R)

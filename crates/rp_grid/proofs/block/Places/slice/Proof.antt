@@ -49,7 +49,7 @@ use Rattle.std.proofs.lemmas.List.{length-map}
 use Rattle.std.proofs.mem.Param.{El, R, args, el_x}
 use Rattle.std.proofs.ptr.Rows.{times_below}
 use Rattle.rp_grid.specs.Places.{IsRun}
-use Rattle.rp_grid.specs.Ownership.{places_lent}
+use Rattle.rp_grid.specs.InnerOwnership.{places_lent}
 use Rattle.rp_grid.proofs.Memory.{Cr, Bs, sz, word_had, run_seen}
 use denote.Slice.{ShrSlice, slice_val, elements_shared}
 use types.Run.{size_word}

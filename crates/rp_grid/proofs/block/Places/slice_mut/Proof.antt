@@ -49,7 +49,7 @@ use Rattle.std.proofs.lemmas.List.{length-map}
 use Rattle.std.proofs.mem.Param.{El, R, args, el_x}
 use Rattle.std.proofs.ptr.Rows.{times_below}
 use Rattle.rp_grid.specs.Places.{somes, IsRun}
-use Rattle.rp_grid.specs.Ownership.{slots, places_own}
+use Rattle.rp_grid.specs.InnerOwnership.{slots, places_own}
 use Rattle.rp_grid.proofs.Memory.{Cr, Bs, Mark, sz, Place, word_had, Around, run_out, run_in, to_cells, of_cells}
 use types.SemTy.{cells}
 use denote.Array.{Array}
@@ -58,7 +58,7 @@ use denote.Follow.{follows}
 use denote.FollowSlice.{Elements, lends_Elements}
 use lib.Seq.{take_at as take_front}
 use Rattle.std.specs.List.{refill}
-use Rattle.rp_grid.specs.Lends.{with_slots, spliced}
+use Rattle.rp_grid.specs.InnerLends.{with_slots, spliced}
 use types.Run.{size_word}
 use Rattle.rp_grid.proofs.Sizes.{uncapped}
 use Rattle.rp_grid.specs.contracts.block.Places.slice_mut.Key.{name as #self}

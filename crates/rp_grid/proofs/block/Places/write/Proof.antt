@@ -46,7 +46,7 @@ use Rattle.std.specs.Prelude.{Some, None}
 use Rattle.std.proofs.mem.Param.{El, R, args, elτ}
 use Rattle.std.proofs.ptr.Rows.{times_below, one_below}
 use Rattle.std.proofs.RawLayout.{as_written}
-use Rattle.rp_grid.specs.Ownership.{slot, slots, places_own}
+use Rattle.rp_grid.specs.InnerOwnership.{slot, slots, places_own}
 use Rattle.rp_grid.proofs.Memory.{Cr, Bs, sz, Place, word_had, value_in, tells, Besides, slot_out, slot_in}
 use Rattle.rp_grid.specs.contracts.block.Places.write.Key.{name as #self}
 use Rattle.rp_grid.proofs.block.Places.write.Statement as stated

@@ -1,4 +1,4 @@
-use Rattle.rp_grid.proofs.Holding.{equal}
+use Rattle.rp_grid.proofs.HeldLemmas.{equal}
 use Rattle.rp_grid.proofs.grid.Grid.cols.Goals as goal
 
 pub returns-clause-equal : goal.returns-clause-equal

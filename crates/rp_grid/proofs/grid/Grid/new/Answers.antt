@@ -1,5 +1,5 @@
 use Rattle.std.proofs.Common.{◌∙◌}
-use Rattle.rp_grid.proofs.Holding.{made}
+use Rattle.rp_grid.proofs.HeldLemmas.{made}
 use Rattle.rp_grid.proofs.grid.Grid.new.Goals as goal
 
 pub invariant_of-result : goal.invariant_of-result

@@ -1,6 +1,6 @@
 use Rattle.std.proofs.Common.{◌<◌, length, sym, ap, ◌∙◌, subst}
 use Rattle.rp_grid.specs.Rows.{row_of}
-use Rattle.rp_grid.proofs.Holding.{asks, equal, shown}
+use Rattle.rp_grid.proofs.HeldLemmas.{asks, equal, shown}
 use Rattle.rp_grid.proofs.grid.Grid.row.Goals as goal
 
 pub slice-requires : goal.slice-requires

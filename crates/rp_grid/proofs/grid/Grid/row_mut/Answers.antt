@@ -1,7 +1,7 @@
 use Rattle.std.proofs.Common.{◌<◌, length, refl, sym, ap, ◌∙◌, subst, drop, take_at}
 use Rattle.rp_grid.specs.Held.{held}
 use Rattle.rp_grid.specs.Rows.{row_of}
-use Rattle.rp_grid.proofs.Holding.{asks, equal, shown, lent}
+use Rattle.rp_grid.proofs.HeldLemmas.{asks, equal, shown, lent}
 use Rattle.rp_grid.proofs.grid.Grid.row_mut.Goals as goal
 
 pub slice_mut-requires : goal.slice_mut-requires

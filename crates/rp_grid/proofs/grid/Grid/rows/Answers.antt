@@ -1,7 +1,7 @@
 use Rattle.std.proofs.Common.{sym}
 use Rattle.rp_grid.specs.Places.{somes}
 use Rattle.rp_grid.proofs.Cut.{cut_count}
-use Rattle.rp_grid.proofs.Holding.{equal}
+use Rattle.rp_grid.proofs.HeldLemmas.{equal}
 use Rattle.rp_grid.proofs.grid.Grid.rows.Goals as goal
 
 pub returns-clause-count : goal.returns-clause-count

@@ -1,4 +1,4 @@
-use Rattle.rp_simplex.proofs.Combining.{column_small, row_elements_fit}
+use Rattle.rp_simplex.proofs.CombinationLemmas.{column_small, row_elements_fit}
 use Rattle.rp_simplex.proofs.stage.Stage.entry.Goals as goal
 
 pub dot_product-requires-clause-fit : goal.dot_product-requires-clause-fit

@@ -3,8 +3,8 @@ use Rattle.std.specs.Int.RustNames.{unsigned_abs}
 use Rattle.std.specs.Int.{w64}
 use mir.Val.{to_z, of_z}
 use Rattle.rp_simplex.specs.Cells.{cell}
-use Rattle.rp_simplex.proofs.Clearing.{back}
-use Rattle.rp_simplex.proofs.Combining.{multiplier_fits}
+use Rattle.rp_simplex.proofs.ClearedRows.{back}
+use Rattle.rp_simplex.proofs.CombinationLemmas.{multiplier_fits}
 use Rattle.rp_simplex.proofs.stage.Stage.multiplier.Goals as goal
 
 pub returns-clause-fits : goal.returns-clause-fits

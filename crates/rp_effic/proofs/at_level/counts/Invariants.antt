@@ -1,9 +1,0 @@
-use Rattle.std.proofs.Common.{◌≡◌, ◌<◌, ℕ, length, slice_index}
-use Rattle.rp_effic.specs.Counted.{IsCountIn}
-use Rattle.rp_effic.proofs.at_level.counts.Given as goal
-
-abbrev pub invariant-loop-s : goal.invariant-loop-s
-invariant-loop-s l = record {
-  one_each : length l.counts.items ≡ l.s;
-  each : (t : ℕ) → t < l.s → IsCountIn l.closure t (slice_index l.counts.items t);
-}

@@ -1,9 +1,0 @@
-use Rattle.std.proofs.Common.{ℕ, ◌<◌}
-use Rattle.rp_evidence.specs.Preference.{IsStrict, IsWeak}
-use Rattle.rp_table.specs.Cost.{cost_at}
-use Rattle.rp_effic.specs.Verdict.{IsLoop}
-use Rattle.rp_effic.proofs.at_level.first_back.Given as goal
-
-abbrev pub invariant-loop-t : goal.invariant-loop-t
-invariant-loop-t l = (j : ℕ) → j < l.t
-    → ¬ IsLoop l.costs.n (IsWeak (cost_at l.costs) l.level.num l.level.den) (IsStrict (cost_at l.costs) l.level.num l.level.den) l.s j

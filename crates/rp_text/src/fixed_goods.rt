@@ -1,0 +1,207 @@
+ghost use Rattle.std.specs.Prelude.{◌≡◌, ◌<◌, ◌||◌, ◌&&◌, ℕ, List, None, not, if◌then◌else◌, OnOk};
+ghost use Rattle.std.specs.Prelude.{IfOk, length};
+ghost use Rattle.std.specs.Str.{bytes_eq};
+ghost use Rattle.indexmap.specs.IndexSet.{contains_by};
+ghost use Rattle.rp_num.specs.Below.{first_of};
+ghost use Rattle.rp_text.specs.Texts.{text_at};
+ghost use Rattle.rp_text.specs.Columns.{role_at, name_in, is_price, is_quantity};
+ghost use Rattle.rp_text.specs.Headers as Headers;
+ghost use Rattle.rp_text.specs.Headers.{has, names_of, other_goods_fault, present_fault, missing_fault};
+ghost use Rattle.rp_text.specs.Headers.{goods_stage};
+ghost use Rattle.rp_text.specs.Refusals.{RefusedAt};
+
+use crate::TableFault;
+use crate::columns::Columns;
+use crate::form::{Form, Role};
+use crate::goods::{check_pairs, lacks};
+use crate::roles::name_in;
+use crate::texts::number_of;
+use indexmap::IndexSet;
+use rp_num::NoMemory;
+use rp_table::{GOODS, Name};
+use std::alloc::Global;
+
+/// Looks at the columns of the goods: those that are there, those that are missing, and their number.
+pub fn check_goods(
+    alloc: Global,
+    form: &Form,
+    goods: &[Name],
+    columns: &Columns<'_>,
+) -> Result<(), TableFault>
+    ensures fine { OnOk result (goods_stage form.now goods.now columns.now ≡ None) }
+    ensures refused { RefusedAt result (goods_stage form.now goods.now columns.now) }
+{
+    check_present(alloc, form, goods, columns)?;
+    check_missing(alloc, form, goods, columns)?;
+    if count_goods(form, columns) > GOODS as usize {
+        return Err(TableFault::TooManyGoods);
+    }
+    Ok(())
+}
+
+/// Looks at the columns of goods that are there.
+#[tactic(auto, unfolding(crate::specs::Headers::present_fault))]
+fn check_present(
+    alloc: Global,
+    form: &Form,
+    goods: &[Name],
+    columns: &Columns<'_>,
+) -> Result<(), TableFault>
+    ensures fine { OnOk result (present_fault form.now goods.now columns.now ≡ None) }
+    ensures refused { RefusedAt result (present_fault form.now goods.now columns.now) }
+{
+    if form.fixed_goods {
+        return check_other_goods(alloc, goods, columns);
+    }
+    if !form.prices {
+        return Ok(());
+    }
+    if !form.quantities {
+        return Ok(());
+    }
+    check_pairs(alloc, columns)
+}
+
+/// Looks for the first column of a good that is not one of the fixed goods.
+fn check_other_goods(alloc: Global, goods: &[Name], columns: &Columns<'_>) -> Result<(), TableFault>
+    ensures fine { OnOk result
+        (first_of (length columns.now) (other_goods_fault goods.now columns.now) ≡ None) }
+    ensures refused { RefusedAt result
+        (first_of (length columns.now) (other_goods_fault goods.now columns.now)) }
+{
+    let fixed = names_found(alloc, goods)?;
+    for c in 0..columns.len() {
+        if is_other_good(&fixed, columns, c) {
+            return Err(TableFault::OtherGoods {
+                column: number_of(c),
+            });
+        }
+    }
+    Ok(())
+}
+
+/// The names of goods, to be found by name.
+fn names_found<'a>(alloc: Global, names: &'a [Name]) -> Result<IndexSet<&'a [u8]>, NoMemory>
+    ensures { IfOk result (λ found. (name : List ℕ)
+        → contains_by (λ key. bytes_eq name key.now) found ≡ has names.now name) }
+{
+    let mut found = IndexSet::new(alloc);
+    for name in names {
+        found.insert(name.as_bytes())?;
+    }
+    Ok(found)
+}
+
+/// Whether column `c` is that of a good that is not one of the fixed goods.
+fn is_other_good(fixed: &IndexSet<&[u8]>, columns: &Columns<'_>, c: usize) -> bool
+    requires { c < length columns.now }
+    ensures { result ≡ ((is_price (role_at columns.now c) || is_quantity (role_at columns.now c))
+        && not (contains_by (λ key. bytes_eq (name_in (text_at columns.now c)) key.now)
+        fixed.now)) }
+{
+    let listed = fixed.contains(name_in(columns.header(c)));
+    match columns.role(c) {
+        Role::Price | Role::Quantity => !listed,
+        _ => false,
+    }
+}
+
+/// Looks for a column that is missing.
+fn check_missing(
+    alloc: Global,
+    form: &Form,
+    goods: &[Name],
+    columns: &Columns<'_>,
+) -> Result<(), TableFault>
+    ensures fine { OnOk result (missing_fault form.now goods.now columns.now ≡ None) }
+    ensures refused { RefusedAt result (missing_fault form.now goods.now columns.now) }
+{
+    if count_goods(form, columns) == 0 {
+        return Err(TableFault::Unpaired { column: 0 });
+    }
+    if lacks_column(form, columns) {
+        return Err(TableFault::Unpaired { column: 0 });
+    }
+    if !form.fixed_goods {
+        return Ok(());
+    }
+    if lacks_good(alloc, form, goods, columns)? {
+        return Err(TableFault::OtherGoods { column: 0 });
+    }
+    Ok(())
+}
+
+/// Whether a column is missing that is no good's.
+fn lacks_column(form: &Form, columns: &Columns<'_>) -> bool
+    ensures { result ≡ Headers.lacks_column form.now columns.now }
+{
+    if lacks_named(form.expenditure, columns, b"m") {
+        return true;
+    }
+    if lacks_named(form.income, columns, b"w") {
+        return true;
+    }
+    if lacks_named(form.choices, columns, b"budget") {
+        return true;
+    }
+    lacks_named(form.choices, columns, b"n")
+}
+
+/// Whether a column that is wanted is missing.
+fn lacks_named(wanted: bool, columns: &Columns<'_>, header: &[u8]) -> bool
+    ensures { result ≡ (wanted && not (has columns.now header.now)) }
+{
+    if wanted {
+        columns.find(header).is_none()
+    } else {
+        false
+    }
+}
+
+/// Whether one of the fixed goods has no column.
+fn lacks_good(
+    alloc: Global,
+    form: &Form,
+    goods: &[Name],
+    columns: &Columns<'_>,
+) -> Result<bool, NoMemory>
+    ensures { IfOk result (λ missing. missing ≡ Headers.lacks_good form.now goods.now columns.now) }
+{
+    for good in goods {
+        if lacks(alloc, columns, good_mark(form), good.as_bytes())? {
+            return Ok(true);
+        }
+    }
+    Ok(false)
+}
+
+/// What the column of a good is headed by, before its name.
+fn good_mark(form: &Form) -> &'static [u8]
+    ensures { result.now ≡ Headers.good_mark form.now }
+{
+    if form.prices { b"p_" } else { b"q_" }
+}
+
+/// How many goods have columns.
+fn count_goods(form: &Form, columns: &Columns<'_>) -> usize
+    ensures { result ≡ length (names_of form.now columns.now) }
+{
+    let mut count = 0;
+    for c in 0..columns.len() {
+        if is_named(form, columns.role(c)) {
+            count += 1;
+        }
+    }
+    count
+}
+
+/// Whether a column of that role names a good.
+fn is_named(form: &Form, role: Role) -> bool
+    ensures { result ≡ (if form.now.prices then is_price else is_quantity) role }
+{
+    if form.prices {
+        role.is_price()
+    } else {
+        role.is_quantity()
+    }
+}
