@@ -41,13 +41,13 @@ module _ (table : Observations) (costs : CostTable) (is : IsCostsOf costs table)
   agree s t s_in t_in = is.each s t (rw is.size at s_in) (rw is.size at t_in)
 
   -- from the costs that were computed: what the checker says of the certificate
-  pub certificate_accepted : (garp : Garp) (afriat : AfriatPart) (efficiency : Efficiency) (certificate : Certificate) (verdict : Verdict)
+  pub certificate_accepted : (garp : Garp) (afriat : AfriatPart) (efficiency : Efficiency) (certificate : Certificate) (outcome : Verdict)
       → ProvesGarp costs.n (cost_at costs) garp
       → ProvesAfriat costs.n (cost_at costs) afriat → IsAfriatVerdict costs.n (cost_at costs) afriat
       → ProvesEfficiency costs.n (cost_at costs) efficiency → IsEfficiencyVerdict costs.n (cost_at costs) efficiency
       → certificate ≡ certificate_of garp afriat efficiency
-      → IsVerdictOn (input_of_table table) certificate.items verdict → verdict ≡ Accepted
-  certificate_accepted garp afriat efficiency certificate verdict gp ap ag ep eg made found =
+      → IsVerdictOn (input_of_table table) certificate.items outcome → outcome ≡ Accepted
+  certificate_accepted garp afriat efficiency certificate outcome gp ap ag ep eg made found =
       let n = costs.n in
       let here = cost_at costs in
       let there = cost_of table in
@@ -57,7 +57,7 @@ module _ (table : Observations) (costs : CostTable) (is : IsCostsOf costs table)
       let afriat_given : IsAfriatVerdict input.n input.cost afriat = rw (← is.size) (afriat_verdict_same n here there afriat agree ag) in
       let efficiency_proves : ProvesEfficiency input.n input.cost efficiency = rw (← is.size) (efficiency_same n here there efficiency agree ep) in
       let efficiency_given : IsEfficiencyVerdict input.n input.cost efficiency = rw (← is.size) (efficiency_verdict_same n here there efficiency agree eg) in
-      only_accepted input certificate.items verdict
+      only_accepted input certificate.items outcome
       (subst (λ made. IsVerdictOn input made.items Accepted) (sym made)
       (accepted_on input garp afriat efficiency garp_proves afriat_proves afriat_given efficiency_proves efficiency_given))
       found

@@ -12,27 +12,27 @@ use rp_num::{NoMemory, Seq};
 use rp_table::{Costs, Table};
 use std::alloc::Global;
 
-/// A certificate, and the checker's verdict on it.
+/// A certificate, and what the checker says of it.
 #[derive(Debug, Drop)]
 pub struct Certified {
     pub certificate: Certificate,
-    pub verdict: Verdict,
+    pub outcome: Verdict,
 }
 
 /// The verdicts on a table with their evidence, and what the checker says of them from the table and the evidence alone.
 pub fn certify(alloc: Global, table: &Table, costs: &Costs) -> Result<Certified, NoMemory>
     requires { IsCostsOf costs.now table.now }
     ensures proves { IfOk result (λ made. IsCertifiedBy table.now made.certificate) }
-    ensures accepted { IfOk result (λ made. made.verdict ≡ Accepted) }
+    ensures accepted { IfOk result (λ made. made.outcome ≡ Accepted) }
 {
     let garp = garp(alloc, costs)?;
     let afriat = afriat(alloc, costs, &garp)?;
     let efficiency = efficiency(alloc, costs)?;
     let certificate = certificate(alloc, garp, afriat, efficiency)?;
-    let verdict = check(table, costs, &certificate);
+    let outcome = check(table, costs, &certificate);
     Ok(Certified {
         certificate,
-        verdict,
+        outcome,
     })
 }
 

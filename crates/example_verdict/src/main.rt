@@ -5,7 +5,7 @@ mod certificate;
 mod example;
 
 ghost use Rattle.std.specs.Prelude.{◌≡◌, IfOk};
-ghost use Rattle.example_verdict.specs.Answered.{IsAnswerOn, verdict_line};
+ghost use Rattle.example_verdict.specs.Answered.{IsAnswerOn, check_line};
 ghost use Rattle.example_verdict.specs.Purchases.{purchases};
 
 use certificate::certify;
@@ -35,15 +35,15 @@ fn answer(alloc: Global) -> Result<Vec<u8>, NoMemory>
     let costs = Costs::of(alloc, &table)?;
     let made = certify(alloc, &table, &costs)?;
     let mut text = report(alloc, &made.certificate, &table)?;
-    text.extend_from_slice(line_of(made.verdict))?;
+    text.extend_from_slice(check_line(made.outcome))?;
     Ok(text)
 }
 
-/// The line of the checker's verdict.
-fn line_of(verdict: Verdict) -> &'static [u8]
-    ensures { result.now ≡ verdict_line verdict }
+/// The line on what the checker says.
+fn check_line(outcome: Verdict) -> &'static [u8]
+    ensures { result.now ≡ check_line outcome }
 {
-    match verdict {
+    match outcome {
         Verdict::Accepted => b"accepted\n",
         Verdict::Rejected { .. } => b"rejected\n",
     }

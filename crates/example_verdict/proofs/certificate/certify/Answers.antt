@@ -7,18 +7,18 @@ returns-clause-proves c = record {
   afriat = c.in_ok-afriat.afriat;
   efficiency = c.in_ok-efficiency.efficiency;
   items = c.in_ok-certificate.ensures;
-  proves = c.check-verdict.ensures.accepted_proves
+  proves = c.check-outcome.ensures.accepted_proves
       (certificate_accepted c.args.table.now c.args.costs.now c.requires
-      c.in_ok-garp.garp c.in_ok-afriat.afriat c.in_ok-efficiency.efficiency c.in_ok-certificate.certificate c.check-verdict.result
+      c.in_ok-garp.garp c.in_ok-afriat.afriat c.in_ok-efficiency.efficiency c.in_ok-certificate.certificate c.check-outcome.result
       c.in_ok-garp.ensures.proves c.in_ok-afriat.ensures.proves c.in_ok-afriat.ensures.given
       c.in_ok-efficiency.ensures.proves c.in_ok-efficiency.ensures.given
-      c.in_ok-certificate.ensures c.check-verdict.ensures.first_failure);
+      c.in_ok-certificate.ensures c.check-outcome.ensures.first_failure);
 }
 
 pub returns-clause-accepted : goal.returns-clause-accepted
 returns-clause-accepted c =
     certificate_accepted c.args.table.now c.args.costs.now c.requires
-    c.in_ok-garp.garp c.in_ok-afriat.afriat c.in_ok-efficiency.efficiency c.in_ok-certificate.certificate c.check-verdict.result
+    c.in_ok-garp.garp c.in_ok-afriat.afriat c.in_ok-efficiency.efficiency c.in_ok-certificate.certificate c.check-outcome.result
     c.in_ok-garp.ensures.proves c.in_ok-afriat.ensures.proves c.in_ok-afriat.ensures.given
     c.in_ok-efficiency.ensures.proves c.in_ok-efficiency.ensures.given
-    c.in_ok-certificate.ensures c.check-verdict.ensures.first_failure
+    c.in_ok-certificate.ensures c.check-outcome.ensures.first_failure
