@@ -13,7 +13,7 @@ use Rattle.rp_farkas.specs.Prices.{IsFeasiblePrices, cost_of}
 use Rattle.rp_farkas.specs.declared.entry.Entry.{Entry}
 use Rattle.rp_farkas.specs.declared.entry.Pair.{Pair}
 use Rattle.rp_simplex.specs.Evidence.{IsEvidence}
-use Rattle.rp_simplex.specs.Outcome.{IsOutcome, PassesWidth}
+use Rattle.rp_simplex.specs.Outcome.{IsOutcome, EndsPastWidth}
 use Rattle.rp_simplex.specs.SameOutcome.{IsSameOutcome}
 use Rattle.rp_simplex.specs.declared.outcome.Outcome.{Outcome}
 use Rattle.rp_simplex.specs.declared.outcome.Outcome.TheVariants.{Optimal, Unbounded, Wide as PassedWidth}
@@ -51,7 +51,7 @@ module _ (p : LinearProgram) (measure : (ℕ → ℕ) → ℕ) (o : Outcome) (ru
         run = passes;
         only = others;
         withheld = λ other. (
-          (λ same. subst (λ (n : ℕ). PassesWidth p n) (ap step_in same) passes),
+          (λ same. subst (λ (n : ℕ). EndsPastWidth p n) (ap step_in same) passes),
           (λ passes'. ap (λ (n : ℕ). Wide n) (others (PassedWidth other) passes')),
         );
         evidence = tt;

@@ -7,7 +7,7 @@ use Rattle.rp_evidence.specs.declared.demand.Bound.TheVariants.{Shown, Wide}
 use Rattle.rp_farkas.specs.Best.{IsLeastCost}
 use Rattle.rp_farkas.specs.LinearProgram.{LinearProgram}
 use Rattle.rp_simplex.specs.Evidence.{IsEvidence}
-use Rattle.rp_simplex.specs.Outcome.{IsOutcome, PassesWidth}
+use Rattle.rp_simplex.specs.Outcome.{IsOutcome, EndsPastWidth}
 use Rattle.rp_simplex.specs.SameOutcome.{IsSameOutcome}
 use Rattle.rp_simplex.specs.declared.outcome.Outcome.{Outcome}
 use Rattle.rp_simplex.specs.declared.outcome.Outcome.TheVariants.{Optimal, Wide as PassedWidth}
@@ -23,7 +23,7 @@ outcome_of (Wide step) = PassedWidth step
 pub record IsBoundOf (p : LinearProgram) (measure : (ℕ → ℕ) → ℕ) (bound : Bound) : Type 0 where
   pub run : IsOutcome p (outcome_of bound)
   pub only : (other : Outcome) → IsOutcome p other → IsSameOutcome p (outcome_of bound) other
-  pub withheld : (step : ℕ) → (bound ≡ Wide step) ↔ PassesWidth p step
+  pub withheld : (step : ℕ) → (bound ≡ Wide step) ↔ EndsPastWidth p step
   pub evidence : IsEvidence p (outcome_of bound)
   pub value : BoundHolds p measure bound
 
