@@ -3,11 +3,11 @@ use Rattle.std.proofs.Common.{◌≡◌, ◌≢◌, ◌<◌, ◌*◌, ◌⊎◌,
 use Rattle.std.proofs.lemmas.Int.{ints}
 use Rattle.std.proofs.lemmas.Bool.{cases_eq}
 use Rattle.rp_afriat.specs.Verdict.{IsAfriatVerdict}
-use Rattle.rp_check.specs.AfriatFailure.{AfriatFails}
-use Rattle.rp_check.specs.EfficiencyFailure.{AboveFails, EfficiencyFails}
-use Rattle.rp_check.specs.GarpFailure.{GarpFails}
-use Rattle.rp_check.specs.HomotheticFailure.{HomotheticFails}
-use Rattle.rp_check.specs.QuasilinearFailure.{QuasilinearFails}
+use Rattle.rp_clauses.specs.AfriatFailure.{AfriatFails}
+use Rattle.rp_clauses.specs.EfficiencyFailure.{AboveFails, EfficiencyFails}
+use Rattle.rp_clauses.specs.GarpFailure.{GarpFails}
+use Rattle.rp_clauses.specs.HomotheticFailure.{HomotheticFails}
+use Rattle.rp_clauses.specs.QuasilinearFailure.{QuasilinearFails}
 use Rattle.rp_effic.specs.Verdict.{IsEfficiencyVerdict}
 use Rattle.rp_evidence.specs.AfriatEvidence.{ProvesAfriat}
 use Rattle.rp_evidence.specs.Efficiency.{BoundsFromAbove, ProvesEfficiency}
@@ -28,7 +28,7 @@ use Rattle.rp_evidence.specs.declared.quasilinear.Quasi.TheVariants.{Values, Cyc
 use Rattle.rp_homo.specs.Verdict.{IsHomotheticVerdict}
 use Rattle.rp_num.specs.Fraction.{Fraction}
 use Rattle.rp_quasi.specs.Verdict.{IsLimitedSum, IsQuasilinearVerdict}
-use Rattle.rp_check.specs.QuasilinearFailure.{FitsValue}
+use Rattle.rp_clauses.specs.QuasilinearFailure.{FitsValue}
 use Rattle.rp_agreement.proofs.Closed.{closed_passes, violation_passes, weak_passes}
 use Rattle.rp_agreement.proofs.Narrow.{narrow_after}
 

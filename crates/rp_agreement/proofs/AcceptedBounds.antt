@@ -4,7 +4,7 @@ use Rattle.rp_table.specs.Limits.{IsExpenditure}
 use Rattle.rp_table.specs.NewPrices.{AreNewPrices}
 use Rattle.rp_check.specs.DemandFailure.{BoundHolds, DemandBoundsFail, DemandFails}
 use Rattle.rp_check.specs.ItemFailure.{shows_garp}
-use Rattle.rp_check.specs.PricesFailure.{PricesFail}
+use Rattle.rp_clauses.specs.PricesFailure.{PricesFail}
 use Rattle.rp_check.specs.WelfareFailure.{LowerHolds, WelfareFails}
 use Rattle.rp_evidence.specs.Demand.{NewBudget}
 use Rattle.rp_evidence.specs.DemandEvidence.{ProvesDemand, ProvesDemandBounds, ProvesWelfare, budget_of, bundle_of}

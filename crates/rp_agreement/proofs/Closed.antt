@@ -1,6 +1,6 @@
 -- Closed walks and violations by their steps pass by the places of their entries.
 use Rattle.std.proofs.Common.{◌≡◌, ◌<◌, ◌-◌, ℕ, suc, List, [], ◌∷◌, length, Ok, arith, subst, sym, slice_index, add-one}
-use Rattle.rp_check.specs.WalkFailure.{AtStep, ClosedWalkFails, ViolationFails, WeakStepsFail}
+use Rattle.rp_clauses.specs.WalkFailure.{AtStep, ClosedWalkFails, ViolationFails, WeakStepsFail}
 use Rattle.rp_evidence.specs.Garp.{IsViolationAt}
 use Rattle.rp_evidence.specs.Preference.{IsStrict, IsWeak}
 use Rattle.rp_evidence.specs.Walk.{IsClosedWalk, LeadsTo}

@@ -1,15 +1,15 @@
 -- Where nothing is found wrong, nothing wrong can be found: no list of clauses both holds and fails.
 use Rattle.std.proofs.Common.{ℕ, ◌≡◌, Bool, List, [], Ok, Err, inl, inr, refl, slice_index, take, slice_index_or}
-use Rattle.rp_check.specs.AfriatFailure.{AfriatFails}
+use Rattle.rp_clauses.specs.AfriatFailure.{AfriatFails}
 use Rattle.rp_check.specs.CheckVerdict.{IsVerdictOn}
 use Rattle.rp_check.specs.DemandFailure.{DemandBoundsFail, DemandFails, GoodFails, GoodsFail, InnerFails, SetsFail}
-use Rattle.rp_check.specs.EfficiencyFailure.{AboveFails, EfficiencyFails, PartsFail}
-use Rattle.rp_check.specs.GarpFailure.{GarpFails, OrderingFails}
-use Rattle.rp_check.specs.HomotheticFailure.{HomotheticFails, ProductsFail, StepFails}
+use Rattle.rp_clauses.specs.EfficiencyFailure.{AboveFails, EfficiencyFails, LevelFails}
+use Rattle.rp_clauses.specs.GarpFailure.{GarpFails, OrderingFails}
+use Rattle.rp_clauses.specs.HomotheticFailure.{HomotheticFails, ProductsFail, StepFails}
 use Rattle.rp_check.specs.ItemFailure.{ItemFails, one_shows_garp}
-use Rattle.rp_check.specs.PricesFailure.{PricesFail}
-use Rattle.rp_check.specs.QuasilinearFailure.{QuasilinearFails}
-use Rattle.rp_check.specs.WalkFailure.{ClosedWalkFails, ViolationFails}
+use Rattle.rp_clauses.specs.PricesFailure.{PricesFail}
+use Rattle.rp_clauses.specs.QuasilinearFailure.{QuasilinearFails}
+use Rattle.rp_clauses.specs.WalkFailure.{ClosedWalkFails, ViolationFails}
 use Rattle.rp_check.specs.WelfareFailure.{WelfareBoundsFail, WelfareFails, WelfarePartFails}
 use Rattle.rp_check.specs.declared.verdict.Verdict.{Verdict}
 use Rattle.rp_check.specs.declared.verdict.Verdict.TheVariants.{Accepted, Rejected}
@@ -89,7 +89,7 @@ module _ (e : Failure) where
     above_excludes num den walk (inr (other, (closed, (weak, done)))) (inr (same, inr (h, inl (k, within, (not, is), before)))) = not (weak k within)
     above_excludes num den walk (inr (other, (closed, (weak, done)))) (inr (same, inr (h, inr none))) = none.1
 
-    parts_exclude : (num den : ℕ) (below above : List ℕ) (at : Garp) → PartsFail n c num den below above at (Ok tt) → PartsFail n c num den below above at (Err e) → ⊥
+    parts_exclude : (num den : ℕ) (below above : List ℕ) (at : Garp) → LevelFails n c num den below above at (Ok tt) → LevelFails n c num den below above at (Err e) → ⊥
     parts_exclude num den below above at (orders, (bounds, (is_at, done))) (inl found) = ordering_excludes num den below orders found
     parts_exclude num den below above at (orders, (bounds, (is_at, done))) (inr (h, inl found)) = above_excludes num den above bounds found
     parts_exclude num den below above at (orders, (bounds, (is_at, done))) (inr (h, inr (i, inl found))) = garp_excludes num den at is_at found

@@ -2,7 +2,7 @@
 use Rattle.std.proofs.Common.{◌≡◌, ◌<◌, ◌-◌, ◌+◌, ◌*◌, ℕ, zero, suc, List, [], ◌∷◌, length, take, arith, subst, sym, add-one}
 use Rattle.rp_num.specs.Fraction.{Fraction, PassesWidth}
 use Rattle.rp_evidence.specs.Homothetic.{ProductsFit, StepsFitFrom, product_from}
-use Rattle.rp_check.specs.HomotheticFailure.{IsWideAfter}
+use Rattle.rp_clauses.specs.HomotheticFailure.{IsWideAfter}
 
 -- two numbers that are equal to those of a fraction
 same_width : (num den num' den' : ℕ) → num ≡ num' → den ≡ den' → PassesWidth num' den' → PassesWidth num den

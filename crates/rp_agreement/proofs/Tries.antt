@@ -1,6 +1,6 @@
 -- Tries at worked costs: what the laws speak of is there.
 use Rattle.std.proofs.Common.{ℕ, [], ◌∷◌, Ok, arith, inl, refl, ◌==◌, if◌then◌else◌}
-use Rattle.rp_check.specs.GarpFailure.{GarpFails}
+use Rattle.rp_clauses.specs.GarpFailure.{GarpFails}
 use Rattle.rp_evidence.specs.Garp.{IsViolationAt}
 use Rattle.rp_evidence.specs.declared.garp.Garp.TheVariants.{Cycle}
 use Rattle.rp_agreement.proofs.Accepted.{garp_passes}

@@ -24,7 +24,7 @@ use Rattle.rp_evidence.proofs.WelfareLaws.{pair_is_least}
 use Rattle.rp_farkas.specs.Listing.{numerator_at}
 use Rattle.rp_check.specs.DemandFailure.{BoundHolds, DemandBoundsFail, DemandFails, GoodFails}
 use Rattle.rp_check.specs.WelfareFailure.{LowerHolds, WelfareFails}
-use Rattle.rp_check.proofs.Sound.{garp_proves}
+use Rattle.rp_clauses.proofs.SoundTests.{garp_proves}
 
 -- ---- a number and its lowest terms
 
@@ -83,7 +83,7 @@ module _ (input : TableInput) (num den : ℕ) (value : Fraction) (lowest : IsLow
     );
   }
 
-module _ (input : TableInput) (shown : Bool) (sound : IsTrue shown → MeetsGarp input.n input.cost 1 1) where
+module _ (input : TableInput) (garp_shown : Bool) (sound : IsTrue garp_shown → MeetsGarp input.n input.cost 1 1) where
   -- ---- demand
 
   module _ (budget : NewBudget) (below : List ℕ) (lists : ListsBelow input budget below) (meets : MeetsGarp input.n input.cost 1 1) (inner : FractionBundle) (kept : IsSupportingDemand input budget inner) (g : ℕ) (g_in : g < input.goods) (some : 0 < budget.prices g) where
@@ -103,7 +103,7 @@ module _ (input : TableInput) (shown : Bool) (sound : IsTrue shown → MeetsGarp
     proves_good bounds (lower, (upper, done)) = (proves_lower bounds.lower lower, proves_upper bounds.upper upper)
 
   demand_bounds_prove : (budget : NewBudget) (below strict : List ℕ) (inner : Point) (goods : List GoodBounds) → ((g : ℕ) → g < input.goods → 0 < budget.prices g)
-      → DemandBoundsFail input shown budget below strict inner goods (Ok tt) → ProvesDemandBounds input budget below strict inner goods
+      → DemandBoundsFail input garp_shown budget below strict inner goods (Ok tt) → ProvesDemandBounds input budget below strict inner goods
   demand_bounds_prove budget below strict inner goods some (is_shown, ((below_listed, (strict_listed, listed)), ((den, (length_is, (spent, (enough, point)))), ((one_each, (each, all)), done)))) =
       let kept : IsSupportingDemand input budget (bundle_of inner) =
       (supporting_exactly input budget (bundle_of inner) (sound is_shown) (record { fraction = den; spent = spent })).1
@@ -118,7 +118,7 @@ module _ (input : TableInput) (shown : Bool) (sound : IsTrue shown → MeetsGarp
         each = λ g d g_in. proves_good budget below below_listed (sound is_shown) (bundle_of inner) kept g g_in (some g g_in) (slice_index_or goods g d) (each g g_in d);
       }
 
-  pub demand_proves : (prices : List ℕ) (m : ℕ) (part : DemandPart) → DemandFails input shown prices m part (Ok tt) → ProvesDemand input prices m part
+  pub demand_proves : (prices : List ℕ) (m : ℕ) (evidence : DemandPart) → DemandFails input garp_shown prices m evidence (Ok tt) → ProvesDemand input prices m evidence
   demand_proves prices m (Bounds below strict inner goods) ((one_each, (fit, priced)), (spent, (bounds, done))) =
       (one_each, demand_bounds_prove (budget_of prices m) below strict inner goods (λ g g_in. (fit g g_in).0) bounds)
   demand_proves prices m (NoModel walk) (priced, (spent, (violation, done))) = garp_proves input.n input.cost 1 1 (Cycle walk) violation
@@ -131,7 +131,7 @@ module _ (input : TableInput) (shown : Bool) (sound : IsTrue shown → MeetsGarp
       (pair_is_least input prices t reached lists pair.den (numerator_at pair.y) (slice_index pair.x) equal.equal)
   lower_proves prices t (Wide step) holds = tt
 
-  pub welfare_proves : (prices : List ℕ) (t : ℕ) (part : WelfarePart) → WelfareFails input shown prices t part (Ok tt) → ProvesWelfare input prices t part
+  pub welfare_proves : (prices : List ℕ) (t : ℕ) (evidence : WelfarePart) → WelfareFails input garp_shown prices t evidence (Ok tt) → ProvesWelfare input prices t evidence
   welfare_proves prices t (WelfareBounds upper at lower) ((one_each, (fit, priced)), (((t_in, at_in), ((is_shown, (leads, (costs, (least, (low, all))))), bounded)), done)) = (
     one_each,
     record {

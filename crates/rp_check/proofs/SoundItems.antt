@@ -13,7 +13,7 @@ use Rattle.rp_evidence.specs.declared.failure.Failure.{Failure}
 use Rattle.rp_evidence.specs.declared.garp.Garp.TheVariants.{Ranks, Cycle}
 use Rattle.rp_check.specs.CheckVerdict.{ItemFailsAt}
 use Rattle.rp_check.specs.ItemFailure.{ItemFails, one_shows_garp, shows_garp}
-use Rattle.rp_check.proofs.Sound.{afriat_proves, efficiency_proves, garp_proves, homothetic_proves, quasilinear_proves}
+use Rattle.rp_clauses.proofs.SoundTests.{afriat_proves, efficiency_proves, garp_proves, homothetic_proves, quasilinear_proves}
 use Rattle.rp_check.proofs.SoundBounds.{demand_proves, welfare_proves}
 
 any_item : Item
@@ -36,27 +36,27 @@ shows_at_end [] item = or_false (shows_garp item)
 shows_at_end (x ∷ items) item = ap (λ b. shows_garp x || b) (shows_at_end items item) ∙ or_assoc (shows_garp x) (one_shows_garp items) (shows_garp item)
 
 module _ (input : TableInput) (positive : (s : ℕ) → s < input.n → 0 < input.cost s s) where
-  pub item_proves : (shown : Bool) → (IsTrue shown → MeetsGarp input.n input.cost 1 1) → (item : Item) → IsOfKind TableKind item → ItemFails input shown item (Ok tt) → Proves input item
-  item_proves shown sound (GarpItem verdict) kind found = garp_proves input.n input.cost 1 1 verdict found
-  item_proves shown sound (AfriatItem part) kind found = afriat_proves input.n input.cost part found
-  item_proves shown sound (EfficiencyItem evidence) kind found = efficiency_proves input.n input.cost positive evidence found
-  item_proves shown sound (HomotheticItem verdict) kind found = homothetic_proves input.n input.cost verdict found
-  item_proves shown sound (QuasiItem verdict) kind found = quasilinear_proves input.n input.cost verdict found
-  item_proves shown sound (DemandItem prices m part) kind found = demand_proves input shown sound prices m part found
-  item_proves shown sound (WelfareItem prices of part) kind found = welfare_proves input shown sound prices of part found
-  item_proves shown sound (RandomItem total part) kind found = absurd kind
+  pub item_proves : (garp_shown : Bool) → (IsTrue garp_shown → MeetsGarp input.n input.cost 1 1) → (item : Item) → IsOfKind TableKind item → ItemFails input garp_shown item (Ok tt) → Proves input item
+  item_proves garp_shown sound (GarpItem evidence) kind found = garp_proves input.n input.cost 1 1 evidence found
+  item_proves garp_shown sound (AfriatItem evidence) kind found = afriat_proves input.n input.cost evidence found
+  item_proves garp_shown sound (EfficiencyItem evidence) kind found = efficiency_proves input.n input.cost positive evidence found
+  item_proves garp_shown sound (HomotheticItem evidence) kind found = homothetic_proves input.n input.cost evidence found
+  item_proves garp_shown sound (QuasiItem evidence) kind found = quasilinear_proves input.n input.cost evidence found
+  item_proves garp_shown sound (DemandItem prices m evidence) kind found = demand_proves input garp_shown sound prices m evidence found
+  item_proves garp_shown sound (WelfareItem prices of evidence) kind found = welfare_proves input garp_shown sound prices of evidence found
+  item_proves garp_shown sound (RandomItem total evidence) kind found = absurd kind
 
   -- an item that shows the axiom by ranks, and proves it
   shown_by : (item : Item) → IsTrue (shows_garp item) → Proves input item → MeetsGarp input.n input.cost 1 1
   shown_by (GarpItem (Ranks ranks)) is proves = proves.1
   shown_by (GarpItem (Cycle walk)) is proves = absurd (cc)
-  shown_by (AfriatItem part) is proves = absurd (cc)
+  shown_by (AfriatItem evidence) is proves = absurd (cc)
   shown_by (EfficiencyItem evidence) is proves = absurd (cc)
-  shown_by (HomotheticItem verdict) is proves = absurd (cc)
-  shown_by (QuasiItem verdict) is proves = absurd (cc)
-  shown_by (DemandItem prices m part) is proves = absurd (cc)
-  shown_by (WelfareItem prices of part) is proves = absurd (cc)
-  shown_by (RandomItem total part) is proves = absurd (cc)
+  shown_by (HomotheticItem evidence) is proves = absurd (cc)
+  shown_by (QuasiItem evidence) is proves = absurd (cc)
+  shown_by (DemandItem prices m evidence) is proves = absurd (cc)
+  shown_by (WelfareItem prices of evidence) is proves = absurd (cc)
+  shown_by (RandomItem total evidence) is proves = absurd (cc)
 
   -- all of the first m items prove their verdicts, and the axiom holds where one of them shows it
   module _ (items : List Item) (kinds : All (IsOfKind TableKind) items) where
@@ -79,13 +79,13 @@ module _ (input : TableInput) (positive : (s : ℕ) → s < input.n → 0 < inpu
         meets sound proves (inr is) = shown_by (slice_index_or items m any_item) is proves
 
 -- what a turn of the loop over the items finds at its place
-module _ (input : TableInput) (items : List Item) (k : ℕ) (item : Item) (shown : Bool) (within : k < length items) (is : item ≡ slice_index_or items k item) (so_far : shown ≡ one_shows_garp (take k items)) where
-  pub at_place : (r : Result (Unit {0}) Failure) → ItemFails input shown item r → ItemFailsAt input items k r
+module _ (input : TableInput) (items : List Item) (k : ℕ) (item : Item) (garp_shown : Bool) (within : k < length items) (is : item ≡ slice_index_or items k item) (so_far : garp_shown ≡ one_shows_garp (take k items)) where
+  pub at_place : (r : Result (Unit {0}) Failure) → ItemFails input garp_shown item r → ItemFailsAt input items k r
   at_place r found other =
       subst (λ b. ItemFails input b (slice_index_or items k other) r) so_far
-      (subst (λ x. ItemFails input shown x r) (get_or_read items k item within is other) found)
+      (subst (λ x. ItemFails input garp_shown x r) (get_or_read items k item within is other) found)
 
-  pub shown_more : (one_shows_garp (take (k + 1) items)) ≡ (shown || shows_garp item)
+  pub shown_more : (one_shows_garp (take (k + 1) items)) ≡ (garp_shown || shows_garp item)
   shown_more =
       ap one_shows_garp (take_more items k item within) ∙ shows_at_end (take k items) (slice_index_or items k item)
-      ∙ ap (λ b. b || shows_garp (slice_index_or items k item)) (sym so_far) ∙ ap (λ x. shown || shows_garp x) (sym is)
+      ∙ ap (λ b. b || shows_garp (slice_index_or items k item)) (sym so_far) ∙ ap (λ x. garp_shown || shows_garp x) (sym is)

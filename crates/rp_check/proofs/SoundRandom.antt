@@ -16,12 +16,12 @@ use Rattle.rp_patch.specs.Types.{IsRationalType}
 use Rattle.rp_patch.proofs.Sharing.{is_greatest, none_makes}
 
 module _ (p : PatchList) (is : IsPatchList p) where
-  all_rational : (parts : List Share) → PartsFail p parts (Ok tt) → (part : Share) → Contains parts part → IsRationalType p part.patches
-  all_rational parts found part given =
+  all_rational : (parts : List Share) → PartsFail p parts (Ok tt) → (share : Share) → Contains parts share → IsRationalType p share.patches
+  all_rational parts found share given =
       let none : Share = record { patches = []; weight = 0 } in
-      subst (λ (q : Share). IsRationalType p q.patches) (sym (get_or_default parts given.0 part none given.1) ∙ given.2) (found given.0 given.1).1.1.0
+      subst (λ (q : Share). IsRationalType p q.patches) (sym (get_or_default parts given.0 share none given.1) ∙ given.2) (found given.0 given.1).1.1.0
 
-  pub random_sound : (total : ℕ) (part : RandomPart) → RandomFails p total part (Ok tt) → ProvesRandom p total part
+  pub random_sound : (total : ℕ) (evidence : RandomPart) → RandomFails p total evidence (Ok tt) → ProvesRandom p total evidence
   random_sound total (Mixture den parts) (same, ((numbers, (types, (exact, end))), done)) = (
     same,
     record {
@@ -47,14 +47,14 @@ module _ (p : PatchList) (is : IsPatchList p) where
   random_sound total (Wide step) found = tt
 
   pub random_item_sound : (item : Item) → IsOfKind RandomKind item → ItemFailsOnPatches p item (Ok tt) → ProvesOnPatches p item
-  random_item_sound (GarpItem verdict) kind found = absurd kind
-  random_item_sound (AfriatItem part) kind found = absurd kind
+  random_item_sound (GarpItem evidence) kind found = absurd kind
+  random_item_sound (AfriatItem evidence) kind found = absurd kind
   random_item_sound (EfficiencyItem evidence) kind found = absurd kind
-  random_item_sound (HomotheticItem verdict) kind found = absurd kind
-  random_item_sound (QuasiItem verdict) kind found = absurd kind
-  random_item_sound (DemandItem prices m part) kind found = absurd kind
-  random_item_sound (WelfareItem prices of part) kind found = absurd kind
-  random_item_sound (RandomItem total part) kind found = random_sound total part found
+  random_item_sound (HomotheticItem evidence) kind found = absurd kind
+  random_item_sound (QuasiItem evidence) kind found = absurd kind
+  random_item_sound (DemandItem prices m evidence) kind found = absurd kind
+  random_item_sound (WelfareItem prices of evidence) kind found = absurd kind
+  random_item_sound (RandomItem total evidence) kind found = random_sound total evidence found
 
   pub random_items_sound : (items : List Item) → All (IsOfKind RandomKind) items
       → ((k : ℕ) → k < length items → (other : Item) → ItemFailsOnPatches p (slice_index_or items k other) (Ok tt)) → All (ProvesOnPatches p) items

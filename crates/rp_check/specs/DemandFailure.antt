@@ -1,8 +1,8 @@
 -- When evidence on demand at new prices fails (this program's own order of clauses; Varian 1982).
 use Rattle.std.specs.Prelude.{◌≡◌, ◌+◌, ◌*◌, ◌<◌, ◌≤◌, ℕ, Bool, IsTrue, List, [], ◌∷◌, length, slice_index, slice_index_or}
 use Rattle.rp_patch.specs.Clauses.{Finding, Unless, InOrder, FirstBelow, FirstUnless}
-use Rattle.rp_check.specs.PricesFailure.{ExpenditureFails, PricesFail}
-use Rattle.rp_check.specs.WalkFailure.{ViolationFails}
+use Rattle.rp_clauses.specs.PricesFailure.{ExpenditureFails, PricesFail}
+use Rattle.rp_clauses.specs.WalkFailure.{ViolationFails}
 use Rattle.rp_evidence.specs.Demand.{FractionBundle, IsBelow, IsStrictlyBelow, NewBudget, spending}
 use Rattle.rp_evidence.specs.DemandEvidence.{budget_of, bundle_of}
 use Rattle.rp_evidence.specs.DemandPrograms.{ListsBelow, ListsStrictlyBelow, lower_program, upper_program}
@@ -63,10 +63,10 @@ abbrev pub SetsFail : TableInput → NewBudget → List ℕ → List ℕ → Fin
 SetsFail input budget below strict = InOrder (
     Unless (ListsBelow input budget below) Set 1 ∷ Unless (ListsStrictlyBelow input budget strict) Set 2 ∷ [])
 
--- Bounds; `shown` says whether an item before this one shows by ranks that the axiom holds.
+-- Bounds; `garp_shown` says whether an item before this one shows by ranks that the axiom holds.
 abbrev pub DemandBoundsFail : TableInput → Bool → NewBudget → List ℕ → List ℕ → InnerPoint → List GoodBounds → Finding
-DemandBoundsFail input shown budget below strict inner goods = InOrder (
-    Unless (IsTrue shown) NoGarp 0
+DemandBoundsFail input garp_shown budget below strict inner goods = InOrder (
+    Unless (IsTrue garp_shown) NoGarp 0
     ∷ SetsFail input budget below strict
     ∷ InnerFails input budget inner
     ∷ GoodsFail input budget below goods
@@ -74,13 +74,13 @@ DemandBoundsFail input shown budget below strict inner goods = InOrder (
 
 -- Bounds, or a violation.
 abbrev pub DemandPartFails : TableInput → Bool → NewBudget → DemandPart → Finding
-DemandPartFails input shown budget (Bounds below strict inner goods) = DemandBoundsFail input shown budget below strict inner goods
-DemandPartFails input shown budget (NoModel walk) = ViolationFails input.n input.cost 1 1 walk
+DemandPartFails input garp_shown budget (Bounds below strict inner goods) = DemandBoundsFail input garp_shown budget below strict inner goods
+DemandPartFails input garp_shown budget (NoModel walk) = ViolationFails input.n input.cost 1 1 walk
 
 -- An item on demand: the new prices, what is spent at them, and then its part.
 abbrev pub DemandFails : TableInput → Bool → List ℕ → ℕ → DemandPart → Finding
-DemandFails input shown prices m part = InOrder (
+DemandFails input garp_shown prices m evidence = InOrder (
     PricesFail input.goods prices
     ∷ ExpenditureFails m
-    ∷ DemandPartFails input shown (budget_of prices m) part
+    ∷ DemandPartFails input garp_shown (budget_of prices m) evidence
     ∷ [])

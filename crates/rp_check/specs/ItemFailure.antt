@@ -1,12 +1,12 @@
 -- When an item of a certificate on a table fails (this program's own order of clauses; sources at each kind of evidence).
 use Rattle.std.specs.Prelude.{◌||◌, Bool, true, false, List, [], ◌∷◌}
-use Rattle.rp_check.specs.AfriatFailure.{AfriatFails}
+use Rattle.rp_clauses.specs.AfriatFailure.{AfriatFails}
 use Rattle.rp_patch.specs.Clauses.{Finding, InOrder}
 use Rattle.rp_check.specs.DemandFailure.{DemandFails}
-use Rattle.rp_check.specs.EfficiencyFailure.{EfficiencyFails}
-use Rattle.rp_check.specs.GarpFailure.{GarpFails}
-use Rattle.rp_check.specs.HomotheticFailure.{HomotheticFails}
-use Rattle.rp_check.specs.QuasilinearFailure.{QuasilinearFails}
+use Rattle.rp_clauses.specs.EfficiencyFailure.{EfficiencyFails}
+use Rattle.rp_clauses.specs.GarpFailure.{GarpFails}
+use Rattle.rp_clauses.specs.HomotheticFailure.{HomotheticFails}
+use Rattle.rp_clauses.specs.QuasilinearFailure.{QuasilinearFails}
 use Rattle.rp_check.specs.WelfareFailure.{WelfareFails}
 use Rattle.rp_evidence.specs.Input.{TableInput}
 use Rattle.rp_evidence.specs.declared.certificate.Item.{Item}
@@ -23,14 +23,14 @@ abbrev pub one_shows_garp : List Item → Bool
 one_shows_garp [] = false
 one_shows_garp (item ∷ rest) = shows_garp item || one_shows_garp rest
 
--- What is found wrong with an item; `shown` says whether an item before it shows by ranks that the axiom holds.
+-- What is found wrong with an item; `garp_shown` says whether an item before it shows by ranks that the axiom holds.
 -- A certificate on a table has no random item.
 abbrev pub ItemFails : TableInput → Bool → Item → Finding
-ItemFails input shown (GarpItem verdict) = GarpFails input.n input.cost 1 1 verdict
-ItemFails input shown (AfriatItem part) = AfriatFails input.n input.cost part
-ItemFails input shown (EfficiencyItem evidence) = EfficiencyFails input.n input.cost evidence
-ItemFails input shown (HomotheticItem verdict) = HomotheticFails input.n input.cost verdict
-ItemFails input shown (QuasiItem verdict) = QuasilinearFails input.n input.cost verdict
-ItemFails input shown (DemandItem prices m part) = DemandFails input shown prices m part
-ItemFails input shown (WelfareItem prices of part) = WelfareFails input shown prices of part
-ItemFails input shown (RandomItem total part) = InOrder []
+ItemFails input garp_shown (GarpItem evidence) = GarpFails input.n input.cost 1 1 evidence
+ItemFails input garp_shown (AfriatItem evidence) = AfriatFails input.n input.cost evidence
+ItemFails input garp_shown (EfficiencyItem evidence) = EfficiencyFails input.n input.cost evidence
+ItemFails input garp_shown (HomotheticItem evidence) = HomotheticFails input.n input.cost evidence
+ItemFails input garp_shown (QuasiItem evidence) = QuasilinearFails input.n input.cost evidence
+ItemFails input garp_shown (DemandItem prices m evidence) = DemandFails input garp_shown prices m evidence
+ItemFails input garp_shown (WelfareItem prices of evidence) = WelfareFails input garp_shown prices of evidence
+ItemFails input garp_shown (RandomItem total evidence) = InOrder []

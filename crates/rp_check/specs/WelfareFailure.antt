@@ -1,8 +1,8 @@
 -- When evidence on the money metric fails (this program's own order of clauses; after Varian 1982).
 use Rattle.std.specs.Prelude.{◌≡◌, ◌<◌, ◌≤◌, ℕ, Bool, IsTrue, List, [], ◌∷◌, slice_index}
 use Rattle.rp_patch.specs.Clauses.{Finding, Unless, InOrder, FirstUnless}
-use Rattle.rp_check.specs.PricesFailure.{PricesFail}
-use Rattle.rp_check.specs.WalkFailure.{ViolationFails}
+use Rattle.rp_clauses.specs.PricesFailure.{PricesFail}
+use Rattle.rp_clauses.specs.WalkFailure.{ViolationFails}
 use Rattle.rp_evidence.specs.Demand.{spending}
 use Rattle.rp_evidence.specs.Input.{TableInput}
 use Rattle.rp_evidence.specs.Welfare.{EqualsOrReaches, ListsReached, welfare_program}
@@ -33,10 +33,10 @@ abbrev pub IsNotAboveAt : TableInput → (ℕ → ℕ) → ℕ → ℕ → ℕ �
 IsNotAboveAt input prices t upper s =
     EqualsOrReaches input s t → upper ≤ spending input.goods prices (input.quantity s)
 
--- Bounds; `shown` says whether an item before this one shows by ranks that the axiom holds.
+-- Bounds; `garp_shown` says whether an item before this one shows by ranks that the axiom holds.
 abbrev pub WelfareBoundsFail : TableInput → Bool → (ℕ → ℕ) → ℕ → ℕ → ℕ → Bound → Finding
-WelfareBoundsFail input shown prices t upper at lower = InOrder (
-    Unless (IsTrue shown) NoGarp 0
+WelfareBoundsFail input garp_shown prices t upper at lower = InOrder (
+    Unless (IsTrue garp_shown) NoGarp 0
     ∷ Unless (EqualsOrReaches input at t) Set 1
     ∷ Unless (upper ≡ spending input.goods prices (input.quantity at)) Point 0
     ∷ FirstUnless input.n (IsNotAboveAt input prices t upper) Least
@@ -45,14 +45,14 @@ WelfareBoundsFail input shown prices t upper at lower = InOrder (
 
 -- Bounds, of which the observation that the upper one stands at is looked at too; or a violation.
 abbrev pub WelfarePartFails : TableInput → Bool → (ℕ → ℕ) → ℕ → WelfarePart → Finding
-WelfarePartFails input shown prices t (Bounds upper at lower) = InOrder (
+WelfarePartFails input garp_shown prices t (Bounds upper at lower) = InOrder (
     Unless ((t < input.n) × (at < input.n)) Number 0
-    ∷ WelfareBoundsFail input shown prices t upper at lower
+    ∷ WelfareBoundsFail input garp_shown prices t upper at lower
     ∷ [])
-WelfarePartFails input shown prices t (NoModel walk) = InOrder (
+WelfarePartFails input garp_shown prices t (NoModel walk) = InOrder (
     Unless (t < input.n) Number 0 ∷ ViolationFails input.n input.cost 1 1 walk ∷ [])
 
 -- An item on welfare: the new prices, and then its part.
 abbrev pub WelfareFails : TableInput → Bool → List ℕ → ℕ → WelfarePart → Finding
-WelfareFails input shown prices t part = InOrder (
-    PricesFail input.goods prices ∷ WelfarePartFails input shown (slice_index prices) t part ∷ [])
+WelfareFails input garp_shown prices t evidence = InOrder (
+    PricesFail input.goods prices ∷ WelfarePartFails input garp_shown (slice_index prices) t evidence ∷ [])

@@ -9,7 +9,7 @@ ghost use Rattle.rp_num.specs.Fraction.{FitsPart, IsLowestTerms};
 ghost use Rattle.rp_table.specs.Tables.{goods_of, records_of};
 ghost use Rattle.rp_table.specs.declared.TheConstants.{LARGEST_EXPENDITURE, RECORDS};
 
-use crate::prices::NewPrices;
+use rp_clauses::prices::NewPrices;
 use rp_farkas::Lp;
 use rp_num::Frac;
 
@@ -17,32 +17,32 @@ use rp_num::Frac;
 /// the budget.
 #[derive(Clone, Copy)]
 pub struct Lower<'a> {
-    asked: NewPrices<'a>,
+    new_prices: NewPrices<'a>,
     m: u64,
     below: &'a [u32],
     good: u32,
-    ghost observed: { All (λ t. t < records_of asked.input.table.now) below.now },
+    ghost observed: { All (λ t. t < records_of new_prices.input.table.now) below.now },
     ghost few: { length below.now ≤ RECORDS },
     ghost spends: { m ≤ LARGEST_EXPENDITURE },
-    ghost within: { IsWithinLimits (lower_program (input_of_table asked.input.table.now)
-        (budget_of asked.prices.now m) below.now good) },
+    ghost within: { IsWithinLimits (lower_program (input_of_table new_prices.input.table.now)
+        (budget_of new_prices.prices.now m) below.now good) },
 }
 
 impl<'a> Lower<'a> {
     /// The program of good `good` over the listed observations, at the expenditure `m`.
-    pub fn make(asked: &NewPrices<'a>, m: u64, below: &'a [u32], good: u32) -> Lower<'a>
-        requires observed { All (λ t. t < records_of asked.now.input.table.now) below.now }
+    pub fn make(new_prices: &NewPrices<'a>, m: u64, below: &'a [u32], good: u32) -> Lower<'a>
+        requires observed { All (λ t. t < records_of new_prices.now.input.table.now) below.now }
         requires few { length below.now ≤ RECORDS }
         requires spends { m ≤ LARGEST_EXPENDITURE }
-        requires good { good < goods_of asked.now.input.table.now }
+        requires good { good < goods_of new_prices.now.input.table.now }
         ensures { ⟦<Lower<'a> as Lp>⟧.program result
-            ≡ lower_program (input_of_table asked.now.input.table.now)
-            (budget_of asked.now.prices.now m) below.now good }
+            ≡ lower_program (input_of_table new_prices.now.input.table.now)
+            (budget_of new_prices.now.prices.now m) below.now good }
     {
-        prove!(asked.input.table.goods() > 0);
-        prove!(asked.input.costs.n() > 0);
+        prove!(new_prices.input.table.goods() > 0);
+        prove!(new_prices.input.costs.n() > 0);
         Lower {
-            asked: *asked,
+            new_prices: *new_prices,
             m,
             below,
             good,
@@ -55,13 +55,13 @@ impl Lp for Lower<'_> {
     ghost use Rattle.rp_evidence.specs.DemandPrograms.{lower_program};
     ghost use Rattle.rp_evidence.specs.Input.{input_of_table};
 
-    ghost program = { λ p. lower_program (input_of_table p.asked.input.table.now)
-        (budget_of p.asked.prices.now p.m) p.below.now p.good };
+    ghost program = { λ p. lower_program (input_of_table p.new_prices.input.table.now)
+        (budget_of p.new_prices.prices.now p.m) p.below.now p.good };
 
     ghost within_limits = { λ p. p.within };
 
     fn rows(&self) -> u32 {
-        self.asked.input.table.goods()
+        self.new_prices.input.table.goods()
     }
 
     fn cols(&self) -> u32 {
@@ -69,7 +69,7 @@ impl Lp for Lower<'_> {
     }
 
     fn a(&self, i: u32, j: u32) -> i64 {
-        entry(&self.asked, self.below, i, j)
+        entry(&self.new_prices, self.below, i, j)
     }
 
     fn b(&self, i: u32) -> i64 {
@@ -77,7 +77,7 @@ impl Lp for Lower<'_> {
     }
 
     fn c(&self, j: u32) -> i64 {
-        worth(&self.asked, self.m, self.below, j)
+        worth(&self.new_prices, self.m, self.below, j)
     }
 }
 
@@ -85,32 +85,32 @@ impl Lp for Lower<'_> {
 /// right side.
 #[derive(Clone, Copy)]
 pub struct Upper<'a> {
-    asked: NewPrices<'a>,
+    new_prices: NewPrices<'a>,
     m: u64,
     below: &'a [u32],
     good: u32,
-    ghost observed: { All (λ t. t < records_of asked.input.table.now) below.now },
+    ghost observed: { All (λ t. t < records_of new_prices.input.table.now) below.now },
     ghost few: { length below.now ≤ RECORDS },
     ghost spends: { m ≤ LARGEST_EXPENDITURE },
-    ghost within: { IsWithinLimits (upper_program (input_of_table asked.input.table.now)
-        (budget_of asked.prices.now m) below.now good) },
+    ghost within: { IsWithinLimits (upper_program (input_of_table new_prices.input.table.now)
+        (budget_of new_prices.prices.now m) below.now good) },
 }
 
 impl<'a> Upper<'a> {
     /// The program of good `good` over the listed observations, at the expenditure `m`.
-    pub fn make(asked: &NewPrices<'a>, m: u64, below: &'a [u32], good: u32) -> Upper<'a>
-        requires observed { All (λ t. t < records_of asked.now.input.table.now) below.now }
+    pub fn make(new_prices: &NewPrices<'a>, m: u64, below: &'a [u32], good: u32) -> Upper<'a>
+        requires observed { All (λ t. t < records_of new_prices.now.input.table.now) below.now }
         requires few { length below.now ≤ RECORDS }
         requires spends { m ≤ LARGEST_EXPENDITURE }
-        requires good { good < goods_of asked.now.input.table.now }
+        requires good { good < goods_of new_prices.now.input.table.now }
         ensures { ⟦<Upper<'a> as Lp>⟧.program result
-            ≡ upper_program (input_of_table asked.now.input.table.now)
-            (budget_of asked.now.prices.now m) below.now good }
+            ≡ upper_program (input_of_table new_prices.now.input.table.now)
+            (budget_of new_prices.now.prices.now m) below.now good }
     {
-        prove!(asked.input.table.goods() > 0);
-        prove!(asked.input.costs.n() > 0);
+        prove!(new_prices.input.table.goods() > 0);
+        prove!(new_prices.input.costs.n() > 0);
         Upper {
-            asked: *asked,
+            new_prices: *new_prices,
             m,
             below,
             good,
@@ -123,13 +123,13 @@ impl Lp for Upper<'_> {
     ghost use Rattle.rp_evidence.specs.DemandPrograms.{upper_program};
     ghost use Rattle.rp_evidence.specs.Input.{input_of_table};
 
-    ghost program = { λ p. upper_program (input_of_table p.asked.input.table.now)
-        (budget_of p.asked.prices.now p.m) p.below.now p.good };
+    ghost program = { λ p. upper_program (input_of_table p.new_prices.input.table.now)
+        (budget_of p.new_prices.prices.now p.m) p.below.now p.good };
 
     ghost within_limits = { λ p. p.within };
 
     fn rows(&self) -> u32 {
-        self.asked.input.table.goods()
+        self.new_prices.input.table.goods()
     }
 
     fn cols(&self) -> u32 {
@@ -137,54 +137,54 @@ impl Lp for Upper<'_> {
     }
 
     fn a(&self, i: u32, j: u32) -> i64 {
-        entry(&self.asked, self.below, i, j)
+        entry(&self.new_prices, self.below, i, j)
     }
 
     fn b(&self, i: u32) -> i64 {
         if i == self.good {
             0
         } else {
-            i64::from(self.asked.price(i))
+            i64::from(self.new_prices.price(i))
         }
     }
 
     fn c(&self, j: u32) -> i64 {
-        worth(&self.asked, self.m, self.below, j)
+        worth(&self.new_prices, self.m, self.below, j)
     }
 }
 
 /// The entry of both programs in row `i` and column `j`: the price of good `i` at an observation below or at the new prices, in
 /// the last column negated.
-fn entry(asked: &NewPrices<'_>, below: &[u32], i: u32, j: u32) -> i64
-    requires observed { All (λ t. t < records_of asked.now.input.table.now) below.now }
+fn entry(new_prices: &NewPrices<'_>, below: &[u32], i: u32, j: u32) -> i64
+    requires observed { All (λ t. t < records_of new_prices.now.input.table.now) below.now }
     requires few { length below.now ≤ RECORDS }
-    requires row { i < goods_of asked.now.input.table.now }
+    requires row { i < goods_of new_prices.now.input.table.now }
     requires column { j < length below.now + 2 }
-    ensures { (m : ℕ) → result ≡ demand_entry (input_of_table asked.now.input.table.now)
-        (budget_of asked.now.prices.now m) below.now i j }
+    ensures { (m : ℕ) → result ≡ demand_entry (input_of_table new_prices.now.input.table.now)
+        (budget_of new_prices.now.prices.now m) below.now i j }
 {
     let j = j as usize;
     if j < below.len() {
-        i64::from(asked.input.table.price(below[j], i))
+        i64::from(new_prices.input.table.price(below[j], i))
     } else if j == below.len() {
-        i64::from(asked.price(i))
+        i64::from(new_prices.price(i))
     } else {
-        -i64::from(asked.price(i))
+        -i64::from(new_prices.price(i))
     }
 }
 
 /// What column `j` of both programs is worth: what was spent at an observation below or is spent at the new prices, in the last
 /// column negated.
-fn worth(asked: &NewPrices<'_>, m: u64, below: &[u32], j: u32) -> i64
-    requires observed { All (λ t. t < records_of asked.now.input.table.now) below.now }
+fn worth(new_prices: &NewPrices<'_>, m: u64, below: &[u32], j: u32) -> i64
+    requires observed { All (λ t. t < records_of new_prices.now.input.table.now) below.now }
     requires spends { m ≤ LARGEST_EXPENDITURE }
     requires column { j < length below.now + 2 }
-    ensures { result ≡ demand_worth (input_of_table asked.now.input.table.now)
-        (budget_of asked.now.prices.now m) below.now j }
+    ensures { result ≡ demand_worth (input_of_table new_prices.now.input.table.now)
+        (budget_of new_prices.now.prices.now m) below.now j }
 {
     let j = j as usize;
     if j < below.len() {
-        asked.input.cost(below[j], below[j]) as i64
+        new_prices.input.cost(below[j], below[j]) as i64
     } else if j == below.len() {
         m as i64
     } else {
@@ -196,27 +196,27 @@ fn worth(asked: &NewPrices<'_>, m: u64, below: &[u32], j: u32) -> i64
 /// with its prices and what was spent there.
 #[derive(Clone, Copy)]
 pub struct Least<'a> {
-    asked: NewPrices<'a>,
+    new_prices: NewPrices<'a>,
     reached: &'a [u32],
-    ghost observed: { All (λ s. s < records_of asked.input.table.now) reached.now },
+    ghost observed: { All (λ s. s < records_of new_prices.input.table.now) reached.now },
     ghost few: { length reached.now ≤ RECORDS },
-    ghost within: { IsWithinLimits (welfare_program (input_of_table asked.input.table.now)
-        (slice_index asked.prices.now) reached.now) },
+    ghost within: { IsWithinLimits (welfare_program (input_of_table new_prices.input.table.now)
+        (slice_index new_prices.prices.now) reached.now) },
 }
 
 impl<'a> Least<'a> {
     /// The program over the listed observations.
-    pub fn make(asked: &NewPrices<'a>, reached: &'a [u32]) -> Least<'a>
-        requires observed { All (λ s. s < records_of asked.now.input.table.now) reached.now }
+    pub fn make(new_prices: &NewPrices<'a>, reached: &'a [u32]) -> Least<'a>
+        requires observed { All (λ s. s < records_of new_prices.now.input.table.now) reached.now }
         requires few { length reached.now ≤ RECORDS }
         ensures { ⟦<Least<'a> as Lp>⟧.program result
-            ≡ welfare_program (input_of_table asked.now.input.table.now)
-            (slice_index asked.now.prices.now) reached.now }
+            ≡ welfare_program (input_of_table new_prices.now.input.table.now)
+            (slice_index new_prices.now.prices.now) reached.now }
     {
-        prove!(asked.input.table.goods() > 0);
-        prove!(asked.input.costs.n() > 0);
+        prove!(new_prices.input.table.goods() > 0);
+        prove!(new_prices.input.costs.n() > 0);
         Least {
-            asked: *asked,
+            new_prices: *new_prices,
             reached,
         }
     }
@@ -227,13 +227,13 @@ impl Lp for Least<'_> {
     ghost use Rattle.rp_evidence.specs.Input.{input_of_table};
     ghost use Rattle.rp_evidence.specs.Welfare.{welfare_program};
 
-    ghost program = { λ p. welfare_program (input_of_table p.asked.input.table.now)
-        (slice_index p.asked.prices.now) p.reached.now };
+    ghost program = { λ p. welfare_program (input_of_table p.new_prices.input.table.now)
+        (slice_index p.new_prices.prices.now) p.reached.now };
 
     ghost within_limits = { λ p. p.within };
 
     fn rows(&self) -> u32 {
-        self.asked.input.table.goods()
+        self.new_prices.input.table.goods()
     }
 
     fn cols(&self) -> u32 {
@@ -241,16 +241,21 @@ impl Lp for Least<'_> {
     }
 
     fn a(&self, i: u32, j: u32) -> i64 {
-        i64::from(self.asked.input.table.price(self.reached[j as usize], i))
+        i64::from(
+            self.new_prices
+                .input
+                .table
+                .price(self.reached[j as usize], i),
+        )
     }
 
     fn b(&self, i: u32) -> i64 {
-        i64::from(self.asked.price(i))
+        i64::from(self.new_prices.price(i))
     }
 
     fn c(&self, j: u32) -> i64 {
         let s = self.reached[j as usize];
-        self.asked.input.cost(s, s) as i64
+        self.new_prices.input.cost(s, s) as i64
     }
 }
 

@@ -8,10 +8,10 @@ ghost use Rattle.rp_evidence.specs.declared.certificate.Kind.TheVariants.{Table 
 ghost use Rattle.rp_table.specs.Cost.{IsCostsOf};
 
 use crate::Verdict;
-use crate::input::Input;
 use crate::item::{check_item, shows_garp};
-use crate::walk::capped;
+use rp_clauses::input::Input;
 use rp_evidence::Certificate;
+use rp_patch::capped;
 use rp_table::{Costs, Table};
 
 /// The verdict on a certificate on a table: its first item that fails, by the first of its clauses that fails. What is
@@ -24,16 +24,16 @@ pub fn check(table: &Table, costs: &Costs, certificate: &Certificate) -> Verdict
         → All (Proves (input_of_table table.now)) certificate.now.items }
 {
     let input = Input::new(table, costs);
-    let mut shown = false;
+    let mut garp_shown = false;
     for (k, item) in certificate.items.as_slice().iter().enumerate() {
-        if let Err(found) = check_item(&input, shown, item) {
+        if let Err(found) = check_item(&input, garp_shown, item) {
             return Verdict::Rejected {
                 item: capped(k + 1),
                 reason: found.reason,
                 place: found.place,
             };
         }
-        shown |= shows_garp(item);
+        garp_shown |= shows_garp(item);
     }
     Verdict::Accepted
 }

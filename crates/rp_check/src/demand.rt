@@ -1,5 +1,5 @@
 ghost use Rattle.std.specs.Prelude.{◌≡◌, ◌<◌, ◌≤◌, ◌↔◌, IsTrue, length};
-ghost use Rattle.rp_check.specs.Asked.{AreFewOf, AreSets, budget_at, input_of};
+ghost use Rattle.rp_check.specs.InnerSets.{AreFewOf, AreSets, budget_at, input_of};
 ghost use Rattle.rp_check.specs.DemandFailure.{BoundHolds, CostsEnoughAt, DemandBoundsFail};
 ghost use Rattle.rp_check.specs.DemandFailure.{DemandFails, GoodFails, GoodsFail, InnerFails};
 ghost use Rattle.rp_evidence.specs.DemandEvidence.{bundle_of};
@@ -9,54 +9,59 @@ ghost use Rattle.rp_table.specs.Tables.{goods_of, records_of};
 ghost use Rattle.rp_table.specs.declared.TheConstants.{LARGEST_EXPENDITURE};
 
 use crate::bounds::{Lower, Upper, is_fraction};
-use crate::input::Input;
-use crate::prices::{NewPrices, expenditure_fits, prices_fit};
-use crate::reach::ROOM;
-use crate::sets::{Sets, lists_hold};
-use crate::walk::{fails, violation};
+use crate::sets::{Sets, check_lists};
+use rp_clauses::input::Input;
+use rp_clauses::prices::{NewPrices, check_expenditure, check_prices};
+use rp_clauses::reach::ROOM;
+use rp_clauses::walk::check_violation;
 use rp_evidence::{Bound, DemandPart, Failure, GoodBounds, Level, Point, Reason};
 use rp_farkas::{Lp, check_pair};
+use rp_patch::fails;
 
-/// Checks evidence on demand at new prices when `m` is spent; `shown` says whether an item before it shows by ranks that the
+/// Checks evidence on demand at new prices when `m` is spent; `garp_shown` says whether an item before it shows by ranks that the
 /// axiom holds.
-pub fn demand(
+pub fn check_demand(
     input: &Input<'_>,
-    shown: bool,
+    garp_shown: bool,
     prices: &[u32],
     m: u64,
-    part: &DemandPart,
+    evidence: &DemandPart,
 ) -> Result<(), Failure>
-    ensures { DemandFails (input_of_table input.now.table.now) shown prices.now m part.now result }
+    ensures { DemandFails (input_of_table input.now.table.now) garp_shown prices.now m evidence.now result }
 {
-    prices_fit(input, prices)?;
-    expenditure_fits(m)?;
-    let asked = NewPrices {
+    check_prices(input, prices)?;
+    check_expenditure(m)?;
+    let new_prices = NewPrices {
         input: *input,
         prices,
     };
-    match part {
+    match evidence {
         DemandPart::Bounds {
             below,
             strict,
             inner,
             goods,
-        } => bounds(
-            &asked,
-            shown,
+        } => check_bounds(
+            &new_prices,
+            garp_shown,
             m,
             below.as_slice(),
             strict.as_slice(),
             inner,
             goods.as_slice(),
         ),
-        DemandPart::NoModel(walk) => violation(input, Level { num: 1, den: 1 }, walk.as_slice()),
+        DemandPart::NoModel(walk) => check_violation(
+            input,
+            Level { num: 1, den: 1 },
+            walk.as_slice(),
+        ),
     }
 }
 
 /// Checks the sets of observations, the inner point and the bounds of each good.
-fn bounds(
-    asked: &NewPrices<'_>,
-    shown: bool,
+fn check_bounds(
+    new_prices: &NewPrices<'_>,
+    garp_shown: bool,
     m: u64,
     below: &[u32],
     strict: &[u32],
@@ -64,37 +69,42 @@ fn bounds(
     goods: &[GoodBounds],
 ) -> Result<(), Failure>
     requires { m ≤ LARGEST_EXPENDITURE }
-    ensures { DemandBoundsFail (input_of asked.now) shown
-        (budget_at asked.now m) below.now strict.now inner.now goods.now result }
+    ensures { DemandBoundsFail (input_of new_prices.now) garp_shown
+        (budget_at new_prices.now m) below.now strict.now inner.now goods.now result }
 {
-    if !shown {
+    if !garp_shown {
         return fails(Reason::NoGarp, 0);
     }
-    prove!(asked.input.n() as usize <= ROOM);
-    let sets = Sets::of(asked, m);
-    lists_hold(asked, m, &sets, below, strict)?;
-    inner_holds(asked, m, &sets, inner)?;
-    goods_hold(asked, m, below, goods)
+    prove!(new_prices.input.n() as usize <= ROOM);
+    let sets = Sets::of(new_prices, m);
+    check_lists(new_prices, m, &sets, below, strict)?;
+    check_inner(new_prices, m, &sets, inner)?;
+    check_goods(new_prices, m, below, goods)
 }
 
 /// Checks the inner point: a denominator, one numerator for each good, on the budget, and dear enough at each observation.
-fn inner_holds(asked: &NewPrices<'_>, m: u64, sets: &Sets, inner: &Point) -> Result<(), Failure>
+fn check_inner(
+    new_prices: &NewPrices<'_>,
+    m: u64,
+    sets: &Sets,
+    inner: &Point,
+) -> Result<(), Failure>
     requires spends { m ≤ LARGEST_EXPENDITURE }
-    requires sets { AreSets (input_of asked.now) (budget_at asked.now m) sets.now }
-    ensures { InnerFails (input_of asked.now) (budget_at asked.now m) inner.now result }
+    requires sets { AreSets (input_of new_prices.now) (budget_at new_prices.now m) sets.now }
+    ensures { InnerFails (input_of new_prices.now) (budget_at new_prices.now m) inner.now result }
 {
     let num = inner.num.as_slice();
     if inner.den == 0 {
         return fails(Reason::Number, 0);
     }
-    if num.len() != asked.input.table.goods() as usize {
+    if num.len() != new_prices.input.table.goods() as usize {
         return fails(Reason::Shape, 1);
     }
-    if asked.numerator_cost(num) != u128::from(inner.den) * u128::from(m) {
+    if new_prices.numerator_cost(num) != u128::from(inner.den) * u128::from(m) {
         return fails(Reason::Point, 0);
     }
-    for t in 0..asked.input.n() {
-        if !costs_enough(asked, m, sets, inner, t) {
+    for t in 0..new_prices.input.n() {
+        if !costs_enough(new_prices, m, sets, inner, t) {
             return fails(Reason::Point, t as usize + 1);
         }
     }
@@ -102,16 +112,16 @@ fn inner_holds(asked: &NewPrices<'_>, m: u64, sets: &Sets, inner: &Point) -> Res
 }
 
 /// Whether the point costs at least what was spent at `t` where it is below, and more where it is strictly below.
-fn costs_enough(asked: &NewPrices<'_>, m: u64, sets: &Sets, inner: &Point, t: u32) -> bool
-    requires sets { AreSets (input_of asked.now) (budget_at asked.now m) sets.now }
-    requires goods { length inner.now.num ≡ goods_of asked.now.input.table.now }
-    requires observed { t < records_of asked.now.input.table.now }
-    ensures { IsTrue result ↔ CostsEnoughAt (input_of asked.now) (budget_at asked.now m)
+fn costs_enough(new_prices: &NewPrices<'_>, m: u64, sets: &Sets, inner: &Point, t: u32) -> bool
+    requires sets { AreSets (input_of new_prices.now) (budget_at new_prices.now m) sets.now }
+    requires goods { length inner.now.num ≡ goods_of new_prices.now.input.table.now }
+    requires observed { t < records_of new_prices.now.input.table.now }
+    ensures { IsTrue result ↔ CostsEnoughAt (input_of new_prices.now) (budget_at new_prices.now m)
         (bundle_of inner.now) t }
 {
-    prove!(asked.input.n() as usize <= ROOM);
-    let cost = asked.numerator_cost_at(t, inner.num.as_slice());
-    let spent = u128::from(inner.den) * u128::from(asked.input.cost(t, t));
+    prove!(new_prices.input.n() as usize <= ROOM);
+    let cost = new_prices.numerator_cost_at(t, inner.num.as_slice());
+    let spent = u128::from(inner.den) * u128::from(new_prices.input.cost(t, t));
     if sets.strict[t as usize] && cost <= spent {
         return false;
     }
@@ -119,68 +129,68 @@ fn costs_enough(asked: &NewPrices<'_>, m: u64, sets: &Sets, inner: &Point, t: u3
 }
 
 /// Checks the bounds of each good.
-fn goods_hold(
-    asked: &NewPrices<'_>,
+fn check_goods(
+    new_prices: &NewPrices<'_>,
     m: u64,
     below: &[u32],
     goods: &[GoodBounds],
 ) -> Result<(), Failure>
     requires spends { m ≤ LARGEST_EXPENDITURE }
-    requires below { AreFewOf (records_of asked.now.input.table.now) below.now }
-    ensures { GoodsFail (input_of asked.now) (budget_at asked.now m) below.now goods.now result }
+    requires below { AreFewOf (records_of new_prices.now.input.table.now) below.now }
+    ensures { GoodsFail (input_of new_prices.now) (budget_at new_prices.now m) below.now goods.now result }
 {
-    let count = asked.input.table.goods();
+    let count = new_prices.input.table.goods();
     if goods.len() != count as usize {
         return fails(Reason::Shape, 2);
     }
     for g in 0..count {
-        good_holds(asked, m, below, g, &goods[g as usize])?;
+        check_good(new_prices, m, below, g, &goods[g as usize])?;
     }
     Ok(())
 }
 
 /// Checks the bounds of good `g`, first the lower one.
-fn good_holds(
-    asked: &NewPrices<'_>,
+fn check_good(
+    new_prices: &NewPrices<'_>,
     m: u64,
     below: &[u32],
     g: u32,
     bounds: &GoodBounds,
 ) -> Result<(), Failure>
     requires spends { m ≤ LARGEST_EXPENDITURE }
-    requires below { AreFewOf (records_of asked.now.input.table.now) below.now }
-    requires good { g < goods_of asked.now.input.table.now }
-    ensures { GoodFails (input_of asked.now) (budget_at asked.now m) below.now g bounds.now result }
+    requires below { AreFewOf (records_of new_prices.now.input.table.now) below.now }
+    requires good { g < goods_of new_prices.now.input.table.now }
+    ensures { GoodFails (input_of new_prices.now) (budget_at new_prices.now m) below.now g bounds.now result }
 {
-    if !lower_holds(asked, m, below, g, &bounds.lower) {
+    if !lower_holds(new_prices, m, below, g, &bounds.lower) {
         return fails(Reason::Bound, 2 * g as usize + 1);
     }
-    if !upper_holds(asked, m, below, g, &bounds.upper) {
+    if !upper_holds(new_prices, m, below, g, &bounds.upper) {
         return fails(Reason::Bound, 2 * g as usize + 2);
     }
     Ok(())
 }
 
 /// Whether a shown lower bound of good `g` is that of its pair.
-fn lower_holds(asked: &NewPrices<'_>, m: u64, below: &[u32], g: u32, bound: &Bound) -> bool
+fn lower_holds(new_prices: &NewPrices<'_>, m: u64, below: &[u32], g: u32, bound: &Bound) -> bool
     requires spends { m ≤ LARGEST_EXPENDITURE }
-    requires below { AreFewOf (records_of asked.now.input.table.now) below.now }
-    requires good { g < goods_of asked.now.input.table.now }
+    requires below { AreFewOf (records_of new_prices.now.input.table.now) below.now }
+    requires good { g < goods_of new_prices.now.input.table.now }
     ensures { IsTrue result ↔ BoundHolds
-        (lower_program (input_of asked.now) (budget_at asked.now m) below.now g) g bound.now }
+        (lower_program (input_of new_prices.now) (budget_at new_prices.now m) below.now g) g bound.now }
 {
-    price_is(&Lower::make(asked, m, below, g), g, bound)
+    price_is(&Lower::make(new_prices, m, below, g), g, bound)
 }
 
 /// Whether a shown upper bound of good `g` is that of its pair.
-fn upper_holds(asked: &NewPrices<'_>, m: u64, below: &[u32], g: u32, bound: &Bound) -> bool
+fn upper_holds(new_prices: &NewPrices<'_>, m: u64, below: &[u32], g: u32, bound: &Bound) -> bool
     requires spends { m ≤ LARGEST_EXPENDITURE }
-    requires below { AreFewOf (records_of asked.now.input.table.now) below.now }
-    requires good { g < goods_of asked.now.input.table.now }
+    requires below { AreFewOf (records_of new_prices.now.input.table.now) below.now }
+    requires good { g < goods_of new_prices.now.input.table.now }
     ensures { IsTrue result ↔ BoundHolds
-        (upper_program (input_of asked.now) (budget_at asked.now m) below.now g) g bound.now }
+        (upper_program (input_of new_prices.now) (budget_at new_prices.now m) below.now g) g bound.now }
 {
-    price_is(&Upper::make(asked, m, below, g), g, bound)
+    price_is(&Upper::make(new_prices, m, below, g), g, bound)
 }
 
 /// Whether a shown bound is the price of row `g` in an equal pair of the program.

@@ -4,14 +4,14 @@ ghost use Rattle.rp_evidence.specs.Input.{input_of_table};
 ghost use Rattle.rp_evidence.specs.Kinds.{IsOfKind};
 ghost use Rattle.rp_evidence.specs.declared.certificate.Kind.TheVariants.{Table};
 
-use crate::afriat::afriat;
-use crate::demand::demand;
-use crate::efficiency::efficiency;
-use crate::garp::garp;
-use crate::homothetic::homothetic;
-use crate::input::Input;
-use crate::quasilinear::quasilinear;
-use crate::welfare::welfare;
+use crate::demand::check_demand;
+use crate::welfare::check_welfare;
+use rp_clauses::afriat::check_afriat;
+use rp_clauses::efficiency::check_efficiency;
+use rp_clauses::garp::check_garp;
+use rp_clauses::homothetic::check_homothetic;
+use rp_clauses::input::Input;
+use rp_clauses::quasilinear::check_quasilinear;
 use rp_evidence::{Failure, Garp, Item, Level};
 
 /// Whether the item shows by ranks that the generalized axiom holds.
@@ -21,19 +21,31 @@ pub fn shows_garp(item: &Item) -> bool
     matches!(item, Item::Garp(Garp::Ranks(_)))
 }
 
-/// Checks an item; `shown` says whether an item before it shows by ranks that the axiom holds.
-pub fn check_item(input: &Input<'_>, shown: bool, item: &Item) -> Result<(), Failure>
+/// Checks an item; `garp_shown` says whether an item before it shows by ranks that the axiom holds.
+pub fn check_item(input: &Input<'_>, garp_shown: bool, item: &Item) -> Result<(), Failure>
     requires { IsOfKind Table item.now }
-    ensures { ItemFails (input_of_table input.now.table.now) shown item.now result }
+    ensures { ItemFails (input_of_table input.now.table.now) garp_shown item.now result }
 {
     match item {
-        Item::Garp(verdict) => garp(input, Level { num: 1, den: 1 }, verdict),
-        Item::Afriat(part) => afriat(input, part),
-        Item::Efficiency(evidence) => efficiency(input, evidence),
-        Item::Homothetic(verdict) => homothetic(input, verdict),
-        Item::Quasi(verdict) => quasilinear(input, verdict),
-        Item::Demand { prices, m, part } => demand(input, shown, prices.as_slice(), *m, part),
-        Item::Welfare { prices, of, part } => welfare(input, shown, prices.as_slice(), *of, part),
+        Item::Garp(evidence) => check_garp(input, Level { num: 1, den: 1 }, evidence),
+        Item::Afriat(evidence) => check_afriat(input, evidence),
+        Item::Efficiency(evidence) => check_efficiency(input, evidence),
+        Item::Homothetic(evidence) => check_homothetic(input, evidence),
+        Item::Quasi(evidence) => check_quasilinear(input, evidence),
+        Item::Demand { prices, m, part } => check_demand(
+            input,
+            garp_shown,
+            prices.as_slice(),
+            *m,
+            part,
+        ),
+        Item::Welfare { prices, of, part } => check_welfare(
+            input,
+            garp_shown,
+            prices.as_slice(),
+            *of,
+            part,
+        ),
         Item::Random { .. } => Ok(()),
     }
 }

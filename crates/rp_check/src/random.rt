@@ -4,38 +4,19 @@ ghost use Rattle.rp_check.specs.declared.verdict.Verdict.TheVariants.{Accepted};
 ghost use Rattle.rp_evidence.specs.Kinds.{IsCertificateOf};
 ghost use Rattle.rp_evidence.specs.declared.certificate.Kind.TheVariants.{Random as RandomKind};
 ghost use Rattle.rp_patch.specs.RandomEvidence.{ProvesOnPatches};
-ghost use Rattle.rp_patch.specs.RandomFailure.{ItemFailsOnPatches, RandomFails};
+ghost use Rattle.rp_patch.specs.RandomFailure.{ItemFailsOnPatches};
 
 use crate::Verdict;
-use crate::mixture::{mixture, no_mixture};
-use crate::walk::{capped, fails};
-use rp_evidence::{Certificate, Failure, Item, RandomPart, Reason};
-use rp_patch::Patches;
-
-/// Checks evidence on random choices (McFadden and Richter 1990) for the units of these patches.
-fn random(patches: &Patches, total: u64, part: &RandomPart) -> Result<(), Failure>
-    ensures { RandomFails patches.now total part.now result }
-{
-    if total != patches.total() {
-        return fails(Reason::Units, 0);
-    }
-    match part {
-        RandomPart::Mixture { den, parts } => mixture(patches, *den, parts.as_slice()),
-        RandomPart::Violated {
-            den,
-            parts,
-            weights,
-        } => no_mixture(patches, *den, parts.as_slice(), weights.as_slice()),
-        RandomPart::Wide { .. } => Ok(()),
-    }
-}
+use rp_evidence::{Certificate, Failure, Item};
+use rp_mixture::check_choices;
+use rp_patch::{Patches, capped};
 
 /// Checks an item. One on a table is none on random choices.
-fn check_item(patches: &Patches, item: &Item) -> Result<(), Failure>
+fn check_random_item(patches: &Patches, item: &Item) -> Result<(), Failure>
     ensures { ItemFailsOnPatches patches.now item.now result }
 {
     match item {
-        Item::Random { total, part } => random(patches, *total, part),
+        Item::Random { total, part } => check_choices(patches, *total, part),
         _ => Ok(()),
     }
 }
@@ -50,7 +31,7 @@ pub fn check_random(patches: &Patches, certificate: &Certificate) -> Verdict
 {
     prove!(patches.budgets() <= 48);
     for (k, item) in certificate.items.as_slice().iter().enumerate() {
-        if let Err(found) = check_item(patches, item) {
+        if let Err(found) = check_random_item(patches, item) {
             return Verdict::Rejected {
                 item: capped(k + 1),
                 reason: found.reason,

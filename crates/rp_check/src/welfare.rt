@@ -1,8 +1,8 @@
 ghost use Rattle.std.specs.Prelude.{◌≡◌, ◌≤◌, ◌<◌, ◌↔◌, ◌∷◌, [], IsTrue, length, slice_index};
-ghost use Rattle.rp_check.specs.Asked.{AreFewOf, input_of};
+ghost use Rattle.rp_check.specs.InnerSets.{AreFewOf, input_of};
 ghost use Rattle.rp_patch.specs.Clauses.{FirstUnless, InOrder, Unless};
-ghost use Rattle.rp_check.specs.Reach.{AreMarked};
-ghost use Rattle.rp_check.specs.WalkFailure.{ViolationFails};
+ghost use Rattle.rp_clauses.specs.InnerMarks.{AreMarked};
+ghost use Rattle.rp_clauses.specs.WalkFailure.{ViolationFails};
 ghost use Rattle.rp_check.specs.WelfareFailure.{CostHolds, IsNotAboveAt, LowerHolds};
 ghost use Rattle.rp_check.specs.WelfareFailure.{WelfareBoundsFail, WelfareFails, WelfarePartFails};
 ghost use Rattle.rp_evidence.specs.Input.{input_of_table};
@@ -13,42 +13,43 @@ ghost use Rattle.rp_table.specs.Cost.{cost_of};
 ghost use Rattle.rp_table.specs.Tables.{goods_of, records_of};
 
 use crate::bounds::{Least, is_fraction};
-use crate::input::Input;
-use crate::prices::{NewPrices, prices_fit};
-use crate::reach::{ROOM, Way, list_marked, mark_only, spread};
-use crate::walk::{fails, violation};
+use rp_clauses::input::Input;
+use rp_clauses::prices::{NewPrices, check_prices};
+use rp_clauses::reach::{ROOM, Way, mark_only, spread, write_marked};
+use rp_clauses::walk::check_violation;
 use rp_evidence::{Bound, Failure, Level, Reason, WelfarePart};
 use rp_farkas::check_pair;
+use rp_patch::fails;
 
-/// Checks evidence on the money metric of observation `t`, from 0, at new prices; `shown` says whether an item before it shows
+/// Checks evidence on the money metric of observation `t`, from 0, at new prices; `garp_shown` says whether an item before it shows
 /// by ranks that the axiom holds.
-pub fn welfare(
+pub fn check_welfare(
     input: &Input<'_>,
-    shown: bool,
+    garp_shown: bool,
     prices: &[u32],
     t: u32,
-    part: &WelfarePart,
+    evidence: &WelfarePart,
 ) -> Result<(), Failure>
-    ensures { WelfareFails (input_of_table input.now.table.now) shown prices.now t part.now result }
+    ensures { WelfareFails (input_of_table input.now.table.now) garp_shown prices.now t evidence.now result }
 {
-    prices_fit(input, prices)?;
-    let asked = NewPrices {
+    check_prices(input, prices)?;
+    let new_prices = NewPrices {
         input: *input,
         prices,
     };
-    match part {
+    match evidence {
         WelfarePart::Bounds { upper, at, lower } => {
             if t >= input.n() || *at >= input.n() {
                 return fails(Reason::Number, 0);
             }
-            bounds(&asked, shown, t, *upper, *at, lower)
+            check_bounds(&new_prices, garp_shown, t, *upper, *at, lower)
         }
-        WelfarePart::NoModel(walk) => no_model(input, t, walk.as_slice()),
+        WelfarePart::NoModel(walk) => check_no_model(input, t, walk.as_slice()),
     }
 }
 
 /// Checks the observation, and then the violation.
-fn no_model(input: &Input<'_>, t: u32, walk: &[u32]) -> Result<(), Failure>
+fn check_no_model(input: &Input<'_>, t: u32, walk: &[u32]) -> Result<(), Failure>
     ensures { InOrder (
         Unless (t < records_of input.now.table.now) Number 0
         ∷ ViolationFails (records_of input.now.table.now) (cost_of input.now.table.now) 1 1 walk.now
@@ -57,52 +58,57 @@ fn no_model(input: &Input<'_>, t: u32, walk: &[u32]) -> Result<(), Failure>
     if t >= input.n() {
         return fails(Reason::Number, 0);
     }
-    violation(input, Level { num: 1, den: 1 }, walk)
+    check_violation(input, Level { num: 1, den: 1 }, walk)
 }
 
 /// Checks the upper bound and where it stands, and then the lower bound.
-fn bounds(
-    asked: &NewPrices<'_>,
-    shown: bool,
+fn check_bounds(
+    new_prices: &NewPrices<'_>,
+    garp_shown: bool,
     t: u32,
     upper: u64,
     at: u32,
     lower: &Bound,
 ) -> Result<(), Failure>
-    requires observed { t < records_of asked.now.input.table.now }
-    requires at { at < records_of asked.now.input.table.now }
-    ensures { WelfareBoundsFail (input_of asked.now) shown (slice_index asked.now.prices.now) t
+    requires observed { t < records_of new_prices.now.input.table.now }
+    requires at { at < records_of new_prices.now.input.table.now }
+    ensures { WelfareBoundsFail (input_of new_prices.now) garp_shown (slice_index new_prices.now.prices.now) t
         upper at lower.now result }
 {
-    if !shown {
+    if !garp_shown {
         return fails(Reason::NoGarp, 0);
     }
-    prove!(asked.input.n() as usize <= ROOM);
-    let marks = reaching(&asked.input, t);
+    prove!(new_prices.input.n() as usize <= ROOM);
+    let marks = reaching(&new_prices.input, t);
     if !marks[at as usize] {
         return fails(Reason::Set, 1);
     }
-    if upper != asked.spending(at) {
+    if upper != new_prices.spending(at) {
         return fails(Reason::Point, 0);
     }
-    none_cheaper(asked, t, &marks, upper)?;
-    if !lower_holds(asked, t, lower) {
+    check_none_cheaper(new_prices, t, &marks, upper)?;
+    if !lower_holds(new_prices, t, lower) {
         return fails(Reason::Bound, 1);
     }
     Ok(())
 }
 
 /// Checks that no observation that equals or reaches `t` costs less.
-fn none_cheaper(asked: &NewPrices<'_>, t: u32, reaching: &[bool], upper: u64) -> Result<(), Failure>
-    requires room { records_of asked.now.input.table.now ≤ length reaching.now }
-    requires marked { AreMarked (records_of asked.now.input.table.now)
-        (λ s. EqualsOrReaches (input_of asked.now) s t) reaching.now }
-    ensures { FirstUnless (records_of asked.now.input.table.now)
-        (IsNotAboveAt (input_of asked.now) (slice_index asked.now.prices.now) t upper)
+fn check_none_cheaper(
+    new_prices: &NewPrices<'_>,
+    t: u32,
+    reaching: &[bool],
+    upper: u64,
+) -> Result<(), Failure>
+    requires room { records_of new_prices.now.input.table.now ≤ length reaching.now }
+    requires marked { AreMarked (records_of new_prices.now.input.table.now)
+        (λ s. EqualsOrReaches (input_of new_prices.now) s t) reaching.now }
+    ensures { FirstUnless (records_of new_prices.now.input.table.now)
+        (IsNotAboveAt (input_of new_prices.now) (slice_index new_prices.now.prices.now) t upper)
         LeastReason result }
 {
-    for s in 0..asked.input.n() {
-        if reaching[s as usize] && asked.spending(s) < upper {
+    for s in 0..new_prices.input.n() {
+        if reaching[s as usize] && new_prices.spending(s) < upper {
             return fails(Reason::Least, s as usize + 1);
         }
     }
@@ -136,29 +142,33 @@ fn reached(input: &Input<'_>, t: u32) -> [bool; ROOM]
 }
 
 /// Whether a shown lower bound of `t` is that of its pair.
-fn lower_holds(asked: &NewPrices<'_>, t: u32, lower: &Bound) -> bool
-    requires { t < records_of asked.now.input.table.now }
+fn lower_holds(new_prices: &NewPrices<'_>, t: u32, lower: &Bound) -> bool
+    requires { t < records_of new_prices.now.input.table.now }
     ensures { IsTrue result
-        ↔ LowerHolds (input_of asked.now) (slice_index asked.now.prices.now) t lower.now }
+        ↔ LowerHolds (input_of new_prices.now) (slice_index new_prices.now.prices.now) t lower.now }
 {
-    prove!(asked.input.n() as usize <= ROOM);
-    let marks = reached(&asked.input, t);
+    prove!(new_prices.input.n() as usize <= ROOM);
+    let marks = reached(&new_prices.input, t);
     let mut list = [0; ROOM];
-    let count = list_marked(asked.input.n(), &marks, &mut list);
-    cost_holds(asked, &list[..count], lower)
+    let count = write_marked(new_prices.input.n(), &marks, &mut list);
+    cost_holds(new_prices, &list[..count], lower)
 }
 
 /// Whether a shown bound is what the price side costs in an equal pair of the program over these observations.
-fn cost_holds(asked: &NewPrices<'_>, list: &[u32], bound: &Bound) -> bool
-    requires { AreFewOf (records_of asked.now.input.table.now) list.now }
-    ensures { IsTrue result ↔ CostHolds (welfare_program (input_of asked.now)
-        (slice_index asked.now.prices.now) list.now) (goods_of asked.now.input.table.now)
-        (slice_index asked.now.prices.now) bound.now }
+fn cost_holds(new_prices: &NewPrices<'_>, list: &[u32], bound: &Bound) -> bool
+    requires { AreFewOf (records_of new_prices.now.input.table.now) list.now }
+    ensures { IsTrue result ↔ CostHolds (welfare_program (input_of new_prices.now)
+        (slice_index new_prices.now.prices.now) list.now) (goods_of new_prices.now.input.table.now)
+        (slice_index new_prices.now.prices.now) bound.now }
 {
     match bound {
         Bound::Shown { value, pair } => {
-            check_pair(&Least::make(asked, list), pair)
-                && is_fraction(*value, asked.numerator_cost(pair.x.as_slice()), pair.den)
+            check_pair(&Least::make(new_prices, list), pair)
+                && is_fraction(
+                    *value,
+                    new_prices.numerator_cost(pair.x.as_slice()),
+                    pair.den,
+                )
         }
         Bound::Wide { .. } => true,
     }

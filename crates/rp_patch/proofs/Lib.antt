@@ -3,6 +3,7 @@ pub mod Apart
 pub mod Apportioning
 pub mod ChosenFacts
 pub mod ChosenLaws
+pub mod ClauseLemmas
 pub mod Determined
 pub mod Extending
 pub mod FirstChosen

@@ -2,6 +2,7 @@
 #![tactic(auto)]
 
 mod chosen;
+mod failure;
 mod fault;
 mod laws;
 mod limits;
@@ -14,6 +15,7 @@ mod signs;
 mod tally;
 mod totals;
 
+pub use failure::{capped, fails};
 pub use fault::PatchFault;
 pub use laws::{
     patches_are_determined, patches_are_numbered_by_first_choice,

@@ -1,7 +1,7 @@
 use Rattle.std.proofs.Common.{ℕ, eqb, sym, subst, ap, ◌∙◌}
 use Rattle.std.proofs.lemmas.Bool.{eqb-true}
 use Rattle.rp_num.specs.Fraction.{IsLowestTerms}
-use Rattle.rp_check.proofs.Reduced.{told_by_den, told_by_num}
+use Rattle.rp_check.proofs.LowestTerms.{told_by_den, told_by_num}
 use Rattle.rp_check.proofs.bounds.is_fraction.Goals as goal
 
 pub returns-then-num : goal.returns-then-num

@@ -9,7 +9,7 @@ returns-in-Err-clause-first_failure c = (
   c.loop-k.k,
   omega (arith, ap length c.as_slice-item-items.ensures),
   c.capped.ensures,
-  at_place (input_of_table c.args.table.now) c.args.certificate.now.items c.loop-k.k c.item-item.result c.loop-k.shown
+  at_place (input_of_table c.args.table.now) c.args.certificate.now.items c.loop-k.k c.item-item.result c.loop-k.garp_shown
       (omega (arith, ap length c.as_slice-item-items.ensures)) (rw c.as_slice-item-items.ensures at c.item-item.is) c.loop-k.invariant.0
       (Err c.in-Err.found) (rw c.new-input.ensures.of at c.in-Err.ensures),
   c.loop-k.invariant.1,
@@ -22,10 +22,10 @@ loop-k-preserved c =
     let k = c.loop-k.k in
     let within : k < length items = omega (arith, ap length c.as_slice-item-items.ensures) in
     let is = rw c.as_slice-item-items.ensures at c.item-item.is in (
-      ap (λ b. c.loop-k.shown || b) c.shows_garp-shown.ensures
-          ∙ sym (shown_more input items k c.item-item.result c.loop-k.shown within is c.loop-k.invariant.0),
+      ap (λ b. c.loop-k.garp_shown || b) c.shows_garp-garp_shown.ensures
+          ∙ sym (shown_more input items k c.item-item.result c.loop-k.garp_shown within is c.loop-k.invariant.0),
       below_more (λ j. ItemFailsAt input items j (Ok tt)) k c.loop-k.invariant.1
-          (at_place input items k c.item-item.result c.loop-k.shown within is c.loop-k.invariant.0
+          (at_place input items k c.item-item.result c.loop-k.garp_shown within is c.loop-k.invariant.0
           (Ok tt) (rw c.new-input.ensures.of at c.in_default.ensures)),
     )
 

@@ -6,5 +6,5 @@ use Rattle.rp_check.proofs.certificate.check.Given as goal
 
 abbrev pub invariant-loop-k : goal.invariant-loop-k
 invariant-loop-k l =
-    (l.shown ≡ one_shows_garp (take l.k l.certificate.items))
+    (l.garp_shown ≡ one_shows_garp (take l.k l.certificate.items))
     × ((k : ℕ) → k < l.k → ItemFailsAt (input_of_table l.table) l.certificate.items k (Ok tt))

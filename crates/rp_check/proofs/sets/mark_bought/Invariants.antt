@@ -1,8 +1,8 @@
 use Rattle.rp_evidence.specs.Demand.{Buys}
 use Rattle.rp_evidence.specs.DemandEvidence.{budget_of}
 use Rattle.rp_evidence.specs.Input.{input_of_table}
-use Rattle.rp_check.specs.Reach.{AreMarked}
+use Rattle.rp_clauses.specs.InnerMarks.{AreMarked}
 use Rattle.rp_check.proofs.sets.mark_bought.Given as goal
 
 abbrev pub invariant-loop-s : goal.invariant-loop-s
-invariant-loop-s l = AreMarked l.s (Buys (input_of_table l.asked.input.table.now) (budget_of l.asked.prices.now l.m)) l.marks
+invariant-loop-s l = AreMarked l.s (Buys (input_of_table l.new_prices.input.table.now) (budget_of l.new_prices.prices.now l.m)) l.marks

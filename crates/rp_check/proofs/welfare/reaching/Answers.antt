@@ -1,7 +1,7 @@
 use Rattle.std.proofs.Common.{ℕ, ◌≡◌, subst}
 use Rattle.rp_evidence.specs.Input.{input_of_table}
-use Rattle.rp_check.specs.Reach.{AreMarked}
-use Rattle.rp_check.proofs.Below.{marks_reaching}
+use Rattle.rp_clauses.specs.InnerMarks.{AreMarked}
+use Rattle.rp_check.proofs.MarkedSets.{marks_reaching}
 use Rattle.rp_check.proofs.welfare.reaching.Goals as goal
 
 pub returns : goal.returns

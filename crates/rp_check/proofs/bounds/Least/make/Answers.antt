@@ -1,9 +1,9 @@
-use Rattle.rp_check.proofs.Limiting.{welfare_within}
+use Rattle.rp_check.proofs.ProgramLimits.{welfare_within}
 use Rattle.rp_check.proofs.bounds.Least.make.Goals as goal
 
 pub invariant_of-result : goal.invariant_of-result
 invariant_of-result c =
-    let a = c.args.asked.now in
+    let a = c.args.new_prices.now in
     record {
       observed = c.requires.observed;
       few = c.requires.few;

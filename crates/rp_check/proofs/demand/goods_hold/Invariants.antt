@@ -1,8 +1,0 @@
-use Rattle.std.proofs.Common.{ℕ, ◌<◌, Ok}
-use Rattle.rp_evidence.specs.DemandEvidence.{budget_of}
-use Rattle.rp_evidence.specs.Input.{input_of_table}
-use Rattle.rp_check.specs.DemandFailure.{GoodFailsAt}
-use Rattle.rp_check.proofs.demand.goods_hold.Given as goal
-
-abbrev pub invariant-loop-g : goal.invariant-loop-g
-invariant-loop-g l = (k : ℕ) → k < l.g → GoodFailsAt (input_of_table l.asked.input.table.now) (budget_of l.asked.prices.now l.m) l.below l.goods k (Ok tt)

@@ -1,6 +1,0 @@
-use Rattle.rp_table.specs.Cost.{cost_of}
-use Rattle.rp_check.proofs.Products.{IsAfter}
-use Rattle.rp_check.proofs.homothetic.products.Given as goal
-
-abbrev pub invariant-loop-k : goal.invariant-loop-k
-invariant-loop-k l = IsAfter (cost_of l.input.table.now) l.start l.walk l.k l.product

@@ -1,0 +1,12 @@
+//! Clauses of the checker on a table: closed walks, ranks, what steps lead to, new prices, and the tests of a table.
+#![tactic(auto)]
+
+pub mod afriat;
+pub mod efficiency;
+pub mod garp;
+pub mod homothetic;
+pub mod input;
+pub mod prices;
+pub mod quasilinear;
+pub mod reach;
+pub mod walk;
