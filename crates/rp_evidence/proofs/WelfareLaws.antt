@@ -82,7 +82,7 @@ module _ (input : TableInput) (prices : ℕ → ℕ) (t : ℕ) (reached : List �
   column_is : (j : ℕ) (x : ℕ → ℕ) → column_times (welfare_program input prices reached) j x ≡ pos (spending input.goods (input.price (slice_index reached j)) x)
   column_is j x = total_of_sum input.goods (input.price (slice_index reached j)) x
 
-  in_region : (den : ℕ) (x : ℕ → ℕ) → IsFeasiblePrices (welfare_program input prices reached) den x → IsInRegion input t (record { den = den; num = x })
+  pub in_region : (den : ℕ) (x : ℕ → ℕ) → IsFeasiblePrices (welfare_program input prices reached) den x → IsInRegion input t (record { den = den; num = x })
   in_region den x f = record { fraction = f.den_positive; dear = dear }
     where
       dear : (s : ℕ) → EqualsOrReaches input t s → den * input.cost s s ≤ spending input.goods (input.price s) x

@@ -1,5 +1,6 @@
 pub mod Afriat
 pub mod AfriatEvidence
+pub mod BoundEvidence
 pub mod Count
 pub mod First
 pub mod Efficiency

@@ -4,3 +4,4 @@ pub mod Duality
 pub mod Listings
 pub mod SumSteps
 pub mod Worked
+pub mod Costs

@@ -9,3 +9,4 @@ pub mod Ray
 pub mod Best
 pub mod Listing
 pub mod PairCheck
+pub mod Measure

@@ -16,3 +16,7 @@ cost_of p x = total p.rows (λ i. p.b i *ℤ pos (x i))
 pub record IsFeasiblePrices (p : LinearProgram) (den : ℕ) (x : ℕ → ℕ) : Type 0 where
   pub den_positive : 0 < den
   pub columns_hold : (j : ℕ) → j < p.cols → (p.c j *ℤ pos den) ≤ℤ column_times p j x
+
+-- Some prices are feasible.
+abbrev pub HasFeasiblePrices : LinearProgram → Type 0
+HasFeasiblePrices p = (den : ℕ) × (x : ℕ → ℕ) × IsFeasiblePrices p den x

@@ -1,5 +1,5 @@
-pub mod Bounding
-pub mod Demanding
-pub mod Limiting
-pub mod Listing
-pub mod Starting
+pub mod BelowLists
+pub mod DemandLemmas
+pub mod ListSteps
+pub mod ProgramLimits
+pub mod SupportPrices

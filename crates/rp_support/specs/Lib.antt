@@ -1,6 +1,5 @@
-pub mod Asked
 pub mod Bounds
-pub mod Inner
-pub mod Starts
-pub mod Trying
+pub mod InnerBudget
+pub mod InnerMarks
+pub mod InnerStart
 pub mod Verdict

@@ -5,85 +5,85 @@ ghost use Rattle.rp_evidence.specs.Preference.{IsStrict};
 ghost use Rattle.rp_pref.specs.Closure.{IsWeakClosureOf};
 ghost use Rattle.rp_table.specs.Cost.{cost_of};
 ghost use Rattle.rp_table.specs.Tables.{records_of};
-ghost use Rattle.rp_support.specs.Asked.{asked_of, input_of};
-ghost use Rattle.rp_support.specs.Starts.{AreTold, IsLedTo};
+ghost use Rattle.rp_support.specs.InnerBudget.{input_of, new_budget};
+ghost use Rattle.rp_support.specs.InnerMarks.{AreMarks, IsReachedFrom};
 ghost use Rattle.rp_evidence.specs.Enumeration.{Enumerates};
 
-use crate::budget::Budget;
 use rp_num::NoMemory;
 use rp_pref::Closure;
+use rp_table::NewBudget;
 use std::alloc::Global;
 
 /// The observations below the budget, in order.
-pub fn below(alloc: Global, budget: &Budget, closure: &Closure) -> Result<Vec<u32>, NoMemory>
+pub fn below(alloc: Global, budget: &NewBudget, closure: &Closure) -> Result<Vec<u32>, NoMemory>
     requires { IsWeakClosureOf closure.now (input_of budget.now) }
     ensures { IfOk result (λ below.
-        ListsBelow (input_of budget.now) (asked_of budget.now) below.items) }
+        ListsBelow (input_of budget.now) (new_budget budget.now) below.items) }
 {
     let starts = bought(alloc, budget)?;
-    led_to(alloc, closure, budget.table.n(), &starts)
+    reached_from(alloc, closure, budget.at.table.n(), &starts)
 }
 
 /// The observations strictly below the budget, in order, from those that are below.
 pub fn strictly_below(
     alloc: Global,
-    budget: &Budget,
+    budget: &NewBudget,
     closure: &Closure,
     below: &[u32],
 ) -> Result<Vec<u32>, NoMemory>
     requires closed { IsWeakClosureOf closure.now (input_of budget.now) }
-    requires below { ListsBelow (input_of budget.now) (asked_of budget.now) below.now }
+    requires below { ListsBelow (input_of budget.now) (new_budget budget.now) below.now }
     ensures { IfOk result (λ strict.
-        ListsStrictlyBelow (input_of budget.now) (asked_of budget.now) strict.items) }
+        ListsStrictlyBelow (input_of budget.now) (new_budget budget.now) strict.items) }
 {
     let starts = strict_starts(alloc, budget, below)?;
-    led_to(alloc, closure, budget.table.n(), &starts)
+    reached_from(alloc, closure, budget.at.table.n(), &starts)
 }
 
 /// Of each observation, whether the budget buys its bundle.
-fn bought(alloc: Global, budget: &Budget) -> Result<Vec<bool>, NoMemory>
-    ensures { IfOk result (λ told. AreTold (records_of budget.now.table.now)
-        (Buys (input_of budget.now) (asked_of budget.now)) told.items) }
+fn bought(alloc: Global, budget: &NewBudget) -> Result<Vec<bool>, NoMemory>
+    ensures { IfOk result (λ marks. AreMarks (records_of budget.now.at.table.now)
+        (Buys (input_of budget.now) (new_budget budget.now)) marks.items) }
 {
-    let mut told = Vec::new(alloc);
-    for s in 0..budget.table.n() {
-        told.push(budget.spending(s) <= budget.m)?;
+    let mut marks = Vec::new(alloc);
+    for s in 0..budget.at.table.n() {
+        marks.push(budget.at.spending(s) <= budget.m)?;
     }
-    Ok(told)
+    Ok(marks)
 }
 
 /// Of each observation, whether a walk from it on is strict.
-fn strict_starts(alloc: Global, budget: &Budget, below: &[u32]) -> Result<Vec<bool>, NoMemory>
-    requires { ListsBelow (input_of budget.now) (asked_of budget.now) below.now }
-    ensures { IfOk result (λ told. AreTold (records_of budget.now.table.now)
-        (IsStrictStart (input_of budget.now) (asked_of budget.now)) told.items) }
+fn strict_starts(alloc: Global, budget: &NewBudget, below: &[u32]) -> Result<Vec<bool>, NoMemory>
+    requires { ListsBelow (input_of budget.now) (new_budget budget.now) below.now }
+    ensures { IfOk result (λ marks. AreMarks (records_of budget.now.at.table.now)
+        (IsStrictStart (input_of budget.now) (new_budget budget.now)) marks.items) }
 {
-    let mut told = Vec::new(alloc);
-    for v in 0..budget.table.n() {
-        told.push(is_strict_start(budget, below, v))?;
+    let mut marks = Vec::new(alloc);
+    for v in 0..budget.at.table.n() {
+        marks.push(is_strict_start(budget, below, v))?;
     }
-    Ok(told)
+    Ok(marks)
 }
 
 /// Whether a walk from `v` on is strict.
-fn is_strict_start(budget: &Budget, below: &[u32], v: u32) -> bool
-    requires below { ListsBelow (input_of budget.now) (asked_of budget.now) below.now }
-    requires observed { v < records_of budget.now.table.now }
+fn is_strict_start(budget: &NewBudget, below: &[u32], v: u32) -> bool
+    requires below { ListsBelow (input_of budget.now) (new_budget budget.now) below.now }
+    requires observed { v < records_of budget.now.at.table.now }
     ensures { IsTrue result
-        ↔ IsStrictStart (input_of budget.now) (asked_of budget.now) v }
+        ↔ IsStrictStart (input_of budget.now) (new_budget budget.now) v }
 {
-    budget.spending(v) < budget.m || some_strict(budget, below, v)
+    budget.at.spending(v) < budget.m || some_strict(budget, below, v)
 }
 
 /// Whether some observation of the list is strictly preferred to `v`.
-fn some_strict(budget: &Budget, list: &[u32], v: u32) -> bool
-    requires listed { All (λ u. u < records_of budget.now.table.now) list.now }
-    requires observed { v < records_of budget.now.table.now }
+fn some_strict(budget: &NewBudget, list: &[u32], v: u32) -> bool
+    requires listed { All (λ u. u < records_of budget.now.at.table.now) list.now }
+    requires observed { v < records_of budget.now.at.table.now }
     ensures { IsTrue result
-        ↔ ((u : ℕ) × Contains list.now u × IsStrict (cost_of budget.now.table.now) 1 1 u v) }
+        ↔ ((u : ℕ) × Contains list.now u × IsStrict (cost_of budget.now.at.table.now) 1 1 u v) }
 {
     for u in list {
-        if budget.cost(*u, v) < budget.cost(*u, *u) {
+        if budget.at.cost(*u, v) < budget.at.cost(*u, *u) {
             return true;
         }
     }
@@ -91,26 +91,32 @@ fn some_strict(budget: &Budget, list: &[u32], v: u32) -> bool
 }
 
 /// The observations that a start is or reaches, in order.
-fn led_to(alloc: Global, closure: &Closure, n: u32, starts: &[bool]) -> Result<Vec<u32>, NoMemory>
+fn reached_from(
+    alloc: Global,
+    closure: &Closure,
+    n: u32,
+    starts: &[bool],
+) -> Result<Vec<u32>, NoMemory>
     requires size { closure.now.n ≡ n }
     requires one_each { length starts.now ≡ n }
-    ensures { IfOk result (λ those. Enumerates n (IsLedTo closure.now starts.now) those.items) }
+    ensures { IfOk result (λ reached.
+        Enumerates n (IsReachedFrom closure.now starts.now) reached.items) }
 {
-    let mut those = Vec::new(alloc);
+    let mut reached = Vec::new(alloc);
     for t in 0..n {
-        if is_led_to(closure, n, starts, t) {
-            those.push(t)?;
+        if is_reached(closure, n, starts, t) {
+            reached.push(t)?;
         }
     }
-    Ok(those)
+    Ok(reached)
 }
 
 /// Whether a start is `t` or reaches it.
-fn is_led_to(closure: &Closure, n: u32, starts: &[bool], t: u32) -> bool
+fn is_reached(closure: &Closure, n: u32, starts: &[bool], t: u32) -> bool
     requires size { closure.now.n ≡ n }
     requires one_each { length starts.now ≡ n }
     requires observed { t < n }
-    ensures { IsTrue result ↔ IsLedTo closure.now starts.now t }
+    ensures { IsTrue result ↔ IsReachedFrom closure.now starts.now t }
 {
     for s in 0..n {
         if starts[s as usize] && (s == t || closure.reaches(s, t)) {

@@ -2,25 +2,27 @@ ghost use Rattle.std.specs.Prelude.{◌<◌, IfOk};
 ghost use Rattle.rp_evidence.specs.Demand.{HasSupport};
 ghost use Rattle.rp_evidence.specs.DemandPrograms.{ListsBelow, lower_program, upper_program};
 ghost use Rattle.rp_table.specs.Tables.{goods_of};
-ghost use Rattle.rp_support.specs.Asked.{asked_of, input_of};
-ghost use Rattle.rp_support.specs.Bounds.{AreBoundsOf, IsBoundOf};
+ghost use Rattle.rp_support.specs.InnerBudget.{input_of, new_budget};
+ghost use Rattle.rp_bound.specs.ProgramBound.{IsBoundOf};
+ghost use Rattle.rp_support.specs.Bounds.{AreBoundsOf};
 
-use crate::bound::bound_of;
-use crate::budget::Budget;
 use crate::programs::{Lower, Upper};
+use rp_bound::bound_of;
 use rp_evidence::{Bound, GoodBounds};
+use rp_farkas::Measure;
 use rp_num::NoMemory;
+use rp_table::NewBudget;
 use std::alloc::Global;
 
 /// The bounds of each good.
-pub fn goods(alloc: Global, budget: &Budget, below: &[u32]) -> Result<Vec<GoodBounds>, NoMemory>
-    requires below { ListsBelow (input_of budget.now) (asked_of budget.now) below.now }
-    requires support { HasSupport (input_of budget.now) (asked_of budget.now) }
+pub fn goods(alloc: Global, budget: &NewBudget, below: &[u32]) -> Result<Vec<GoodBounds>, NoMemory>
+    requires below { ListsBelow (input_of budget.now) (new_budget budget.now) below.now }
+    requires support { HasSupport (input_of budget.now) (new_budget budget.now) }
     ensures { IfOk result (λ goods. AreBoundsOf (input_of budget.now)
-        (asked_of budget.now) below.now goods.items) }
+        (new_budget budget.now) below.now goods.items) }
 {
     let mut goods = Vec::new(alloc);
-    for g in 0..budget.table.goods() {
+    for g in 0..budget.at.table.goods() {
         let lower = lower_bound(alloc, budget, below, g)?;
         let upper = upper_bound(alloc, budget, below, g)?;
         goods.push(GoodBounds { lower, upper })?;
@@ -29,23 +31,23 @@ pub fn goods(alloc: Global, budget: &Budget, below: &[u32]) -> Result<Vec<GoodBo
 }
 
 /// The least of good `g`.
-fn lower_bound(alloc: Global, budget: &Budget, below: &[u32], g: u32) -> Result<Bound, NoMemory>
-    requires below { ListsBelow (input_of budget.now) (asked_of budget.now) below.now }
-    requires support { HasSupport (input_of budget.now) (asked_of budget.now) }
-    requires good { g < goods_of budget.now.table.now }
+fn lower_bound(alloc: Global, budget: &NewBudget, below: &[u32], g: u32) -> Result<Bound, NoMemory>
+    requires below { ListsBelow (input_of budget.now) (new_budget budget.now) below.now }
+    requires support { HasSupport (input_of budget.now) (new_budget budget.now) }
+    requires good { g < goods_of budget.now.at.table.now }
     ensures { IfOk result (λ bound. IsBoundOf (lower_program (input_of budget.now)
-        (asked_of budget.now) below.now g) g bound) }
+        (new_budget budget.now) below.now g) (λ x. x g) bound) }
 {
-    bound_of(alloc, &Lower::make(budget, below, g), g)
+    bound_of(alloc, &Lower::make(budget, below, g), Measure::Price(g))
 }
 
 /// The greatest of good `g`.
-fn upper_bound(alloc: Global, budget: &Budget, below: &[u32], g: u32) -> Result<Bound, NoMemory>
-    requires below { ListsBelow (input_of budget.now) (asked_of budget.now) below.now }
-    requires support { HasSupport (input_of budget.now) (asked_of budget.now) }
-    requires good { g < goods_of budget.now.table.now }
+fn upper_bound(alloc: Global, budget: &NewBudget, below: &[u32], g: u32) -> Result<Bound, NoMemory>
+    requires below { ListsBelow (input_of budget.now) (new_budget budget.now) below.now }
+    requires support { HasSupport (input_of budget.now) (new_budget budget.now) }
+    requires good { g < goods_of budget.now.at.table.now }
     ensures { IfOk result (λ bound. IsBoundOf (upper_program (input_of budget.now)
-        (asked_of budget.now) below.now g) g bound) }
+        (new_budget budget.now) below.now g) (λ x. x g) bound) }
 {
-    bound_of(alloc, &Upper::make(budget, below, g), g)
+    bound_of(alloc, &Upper::make(budget, below, g), Measure::Price(g))
 }

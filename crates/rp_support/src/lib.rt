@@ -2,11 +2,9 @@
 #![tactic(auto)]
 
 mod below;
-mod bound;
-mod budget;
 mod goods;
 mod inner;
 mod programs;
 mod verdict;
 
-pub use verdict::demand;
+pub use verdict::{demand, demand_by_closure};

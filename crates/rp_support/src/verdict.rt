@@ -1,21 +1,23 @@
-ghost use Rattle.std.specs.Prelude.{◌≡◌, ◌≤◌, All, IfOk, length};
+ghost use Rattle.std.specs.Prelude.{IfOk};
 ghost use Rattle.rp_evidence.specs.DemandEvidence.{ProvesDemand, budget_of};
 ghost use Rattle.rp_evidence.specs.Garp.{MeetsGarp, ProvesGarp};
 ghost use Rattle.rp_evidence.specs.Input.{input_of_table};
+ghost use Rattle.rp_evidence.specs.Preference.{IsWeak};
+ghost use Rattle.rp_pref.specs.Closure.{IsClosureOf, IsWeakClosureOf};
 ghost use Rattle.rp_table.specs.Cost.{IsCostsOf, cost_at, cost_of};
+ghost use Rattle.rp_table.specs.Limits.{IsExpenditure};
+ghost use Rattle.rp_table.specs.NewPrices.{AreNewPrices};
 ghost use Rattle.rp_table.specs.Tables.{goods_of, records_of};
-ghost use Rattle.rp_support.specs.Asked.{asked_of, input_of};
+ghost use Rattle.rp_support.specs.InnerBudget.{input_of, new_budget};
 ghost use Rattle.rp_support.specs.Verdict.{HasMixtures, IsDemandGiven, IsGivenWhereMet};
-ghost use Rattle.rp_pref.specs.Closure.{IsWeakClosureOf};
 
 use crate::below::{below, strictly_below};
-use crate::budget::Budget;
 use crate::goods::goods;
 use crate::inner::inner;
 use rp_evidence::{DemandPart, Garp, Level};
 use rp_num::{NoMemory, Seq};
 use rp_pref::{Closure, Steps};
-use rp_table::{Costs, LARGEST, LARGEST_EXPENDITURE, Table};
+use rp_table::{Costs, NewBudget, NewPrices, Table};
 use std::alloc::Global;
 
 /// What the table supports at new prices when `m` is spent (Varian 1982), or the violation of the verdict. Prices are
@@ -30,10 +32,34 @@ pub fn demand(
 ) -> Result<DemandPart, NoMemory>
     requires costs { IsCostsOf costs.now table.now }
     requires verdict { ProvesGarp costs.now.n (cost_at costs.now) verdict.now }
-    requires goods { length prices.now ≡ goods_of table.now }
-    requires prices { All (λ p. (1 ≤ p) × (p ≤ LARGEST)) prices.now }
-    requires least { 1 ≤ m }
-    requires most { m ≤ LARGEST_EXPENDITURE }
+    requires prices { AreNewPrices (goods_of table.now) prices.now }
+    requires spent { IsExpenditure m }
+    ensures proves { IfOk result (λ part.
+        ProvesDemand (input_of_table table.now) prices.now m part) }
+    ensures given { IfOk result (λ part.
+        IsDemandGiven (input_of_table table.now) (budget_of prices.now m) verdict.now part) }
+    ensures mixtures { IfOk result (λ part.
+        HasMixtures (input_of_table table.now) (budget_of prices.now m) part) }
+{
+    let closure = Closure::of(alloc, costs, Level { num: 1, den: 1 }, Steps::Weak)?;
+    demand_by_closure(alloc, table, costs, verdict, &closure, prices, m)
+}
+
+/// `demand` by a closure of the weak steps that is there already.
+pub fn demand_by_closure(
+    alloc: Global,
+    table: &Table,
+    costs: &Costs,
+    verdict: &Garp,
+    closure: &Closure,
+    prices: &[u32],
+    m: u64,
+) -> Result<DemandPart, NoMemory>
+    requires costs { IsCostsOf costs.now table.now }
+    requires verdict { ProvesGarp costs.now.n (cost_at costs.now) verdict.now }
+    requires closes { IsClosureOf closure.now costs.now.n (IsWeak (cost_at costs.now) 1 1) }
+    requires prices { AreNewPrices (goods_of table.now) prices.now }
+    requires spent { IsExpenditure m }
     ensures proves { IfOk result (λ part.
         ProvesDemand (input_of_table table.now) prices.now m part) }
     ensures given { IfOk result (λ part.
@@ -43,13 +69,12 @@ pub fn demand(
 {
     match verdict {
         Garp::Ranks(_) => {
-            let budget = Budget {
+            let at = NewPrices {
                 table,
                 costs,
                 prices,
-                m,
             };
-            bounds(alloc, &budget)
+            bounds(alloc, &NewBudget { at, m }, closure)
         }
         Garp::Cycle(walk) => {
             let walk = Vec::from_slice(alloc, walk.as_slice())?;
@@ -59,20 +84,21 @@ pub fn demand(
 }
 
 /// What is given where the table meets the axiom.
-fn bounds(alloc: Global, budget: &Budget) -> Result<DemandPart, NoMemory>
-    requires { MeetsGarp (records_of budget.now.table.now) (cost_of budget.now.table.now) 1 1 }
+fn bounds(alloc: Global, budget: &NewBudget, closure: &Closure) -> Result<DemandPart, NoMemory>
+    requires sound { MeetsGarp (records_of budget.now.at.table.now)
+        (cost_of budget.now.at.table.now) 1 1 }
+    requires closes { IsWeakClosureOf closure.now (input_of budget.now) }
     ensures proves { IfOk result (λ part.
-        ProvesDemand (input_of budget.now) budget.now.prices.now budget.now.m part) }
+        ProvesDemand (input_of budget.now) budget.now.at.prices.now budget.now.m part) }
     ensures given { IfOk result (λ part. IsGivenWhereMet (input_of budget.now)
-        (asked_of budget.now) part) }
+        (new_budget budget.now) part) }
     ensures mixtures { IfOk result (λ part. HasMixtures (input_of budget.now)
-        (asked_of budget.now) part) }
+        (new_budget budget.now) part) }
 {
-    prove!(budget.table.goods() > 0);
-    let closure = closure(alloc, budget)?;
-    let below = below(alloc, budget, &closure)?;
-    let strict = strictly_below(alloc, budget, &closure, &below)?;
-    let inner = inner(alloc, budget, &closure)?;
+    prove!(budget.at.table.goods() > 0);
+    let below = below(alloc, budget, closure)?;
+    let strict = strictly_below(alloc, budget, closure, &below)?;
+    let inner = inner(alloc, budget, closure)?;
     let goods = goods(alloc, budget, &below)?;
     Ok(DemandPart::Bounds {
         below: Seq::from_vec(below),
@@ -80,12 +106,4 @@ fn bounds(alloc: Global, budget: &Budget) -> Result<DemandPart, NoMemory>
         inner,
         goods: Seq::from_vec(goods),
     })
-}
-
-/// Which observations reach which by weak steps.
-fn closure(alloc: Global, budget: &Budget) -> Result<Closure, NoMemory>
-    ensures { IfOk result (λ closure.
-        IsWeakClosureOf closure (input_of budget.now)) }
-{
-    Closure::of(alloc, budget.costs, Level { num: 1, den: 1 }, Steps::Weak)
 }

@@ -4,7 +4,7 @@ use Rattle.std.proofs.lemmas.Bool.{cases_eq, cases_lt}
 use Rattle.rp_evidence.specs.Demand.{spending}
 use Rattle.rp_evidence.specs.Input.{TableInput}
 use Rattle.rp_evidence.specs.Welfare.{EqualsOrReaches}
-use Rattle.rp_welfare.specs.Inner.{IsBefore, IsCheapestBelow}
+use Rattle.rp_welfare.specs.InnerCheapest.{IsBefore, IsCheapestBelow}
 use Rattle.rp_welfare.specs.Verdict.{IsFirstCheapest}
 use Rattle.rp_evidence.proofs.EqualOrReached.{equals}
 

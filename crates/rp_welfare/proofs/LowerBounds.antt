@@ -1,77 +1,63 @@
--- The lower bound from the outcome of the run: never unbounded, and in lowest terms.
-use Rattle.std.proofs.Common.{◌≡◌, ◌<◌, ◌≤◌, ◌*◌, ℕ, List, length, slice_index, subst, ap, arith}
-use Rattle.std.proofs.Math.Nat.{le_of_mul-le-mul_right, mul-le-mul_right}
-use Rattle.rp_evidence.specs.Demand.{spending}
+-- The lower bound from the bound of its program.
+use Rattle.std.proofs.Common.{◌≡◌, ◌<◌, ◌≤◌, ◌*◌, ℕ, ℤ, pos, ◌*ℤ◌, ◌≤ℤ◌, List, slice_index, refl, subst, ap, arith}
+use Rattle.std.proofs.lemmas.Int.{ints}
+use Rattle.std.specs.Int.RustNames.{unsigned_abs}
+use Rattle.rp_bound.specs.ProgramBound.{IsBoundOf, ShowsLeastCost}
+use Rattle.rp_bound.proofs.RunBounds.{same_measure}
+use Rattle.rp_evidence.specs.Demand.{FractionBundle, spending}
 use Rattle.rp_evidence.specs.DemandEvidence.{ProvesLowerWelfare}
 use Rattle.rp_evidence.specs.Garp.{MeetsGarp}
 use Rattle.rp_evidence.specs.Input.{TableInput}
-use Rattle.rp_evidence.specs.Welfare.{IsLowerWelfare, IsUpperWelfare, ListsReached, welfare_program}
+use Rattle.rp_evidence.specs.Welfare.{IsInRegion, IsLowerWelfare, IsUpperWelfare, ListsReached, welfare_program}
 use Rattle.rp_evidence.specs.declared.demand.Bound.{Bound}
 use Rattle.rp_evidence.specs.declared.demand.Bound.TheVariants.{Shown, Wide}
-use Rattle.rp_evidence.proofs.WelfareLaws.{pair_is_least, reaching_in_region}
-use Rattle.rp_evidence.proofs.WelfarePrograms.{has_bound}
-use Rattle.rp_farkas.specs.Best.{HasNoBound}
-use Rattle.rp_farkas.specs.Listing.{numerator_at}
-use Rattle.rp_farkas.specs.LinearProgram.{LinearProgram}
-use Rattle.rp_farkas.specs.PairCheck.{IsShownPair}
-use Rattle.rp_farkas.specs.declared.entry.Entry.{Entry}
-use Rattle.rp_farkas.specs.declared.entry.Pair.{Pair}
-use Rattle.rp_num.specs.Fraction.{Fraction, IsLowestTerms}
-use Rattle.rp_simplex.specs.Evidence.{IsEvidence}
-use Rattle.rp_simplex.specs.declared.outcome.Outcome.{Outcome}
-use Rattle.rp_simplex.specs.declared.outcome.Outcome.TheVariants.{Optimal, Unbounded}
-use Rattle.rp_welfare.specs.Inner.{IsShownFrom}
+use Rattle.rp_evidence.proofs.DemandBounds.{total_of_sum}
+use Rattle.rp_evidence.proofs.EqualOrReached.{equals}
+use Rattle.rp_evidence.proofs.WelfareLaws.{in_region, reaching_in_region, region_is_feasible}
+use Rattle.rp_farkas.specs.Best.{IsLeastCost}
+use Rattle.rp_farkas.specs.Measure.{measured}
+use Rattle.rp_farkas.specs.Prices.{HasFeasiblePrices, cost_of}
+use Rattle.rp_farkas.specs.declared.measure.Measure.TheVariants.{Cost}
 use Rattle.rp_welfare.specs.Verdict.{IsAtMost}
 
--- ---- a bound in lowest terms
+-- what the price side of the program costs is what it costs at the new prices
+module _ (input : TableInput) (prices : ℕ → ℕ) (reached : List ℕ) where
+  cost_is : (x : ℕ → ℕ) → cost_of (welfare_program input prices reached) x ≡ pos (spending input.goods prices x)
+  cost_is x = total_of_sum input.goods prices x
 
-scaled_at_most : (n d n' d' b s : ℕ) → 0 < d → n' * d ≡ n * d' → n * b ≤ s * d → n' * b ≤ s * d'
-scaled_at_most n d n' d' b s positive same h =
-    let p : n * b * d' ≤ s * d * d' = mul-le-mul_right d' h in
-    let q : n' * d * b ≡ n * d' * b = ap (λ (z : ℕ). z * b) same in
-    let r : n' * b * d ≤ s * d' * d = omega (arith, p, q) in
-    le_of_mul-le-mul_right r positive
+  pub cost_bound : (bound : Bound) → IsBoundOf (welfare_program input prices reached) (measured (welfare_program input prices reached) Cost) bound
+      → IsBoundOf (welfare_program input prices reached) (spending input.goods prices) bound
+  cost_bound bound is =
+      same_measure (welfare_program input prices reached) (measured (welfare_program input prices reached) Cost) (spending input.goods prices) (λ x. ap unsigned_abs (cost_is x)) bound is
 
-scaled_same : (n d n' d' b s : ℕ) → 0 < d → n' * d ≡ n * d' → s * d ≡ n * b → s * d' ≡ n' * b
-scaled_same n d n' d' b s positive same h =
-    let p : s * d * d' ≡ n * b * d' = ap (λ (z : ℕ). z * d') h in
-    let q : n' * d * b ≡ n * d' * b = ap (λ (z : ℕ). z * b) same in
-    let low : s * d' * d ≤ n' * b * d = omega (arith, p, q) in
-    let high : n' * b * d ≤ s * d' * d = omega (arith, p, q) in
-    let low' : s * d' ≤ n' * b = le_of_mul-le-mul_right low positive in
-    let high' : n' * b ≤ s * d' = le_of_mul-le-mul_right high positive in
-    omega (arith, low', high')
+module _ (input : TableInput) (prices : ℕ → ℕ) (t : ℕ) (reached : List ℕ) (lists : ListsReached input t reached) where
+  -- the bundle of t is a feasible price vector
+  pub own_prices : t < input.n → MeetsGarp input.n input.cost 1 1 → HasFeasiblePrices (welfare_program input prices reached)
+  own_prices t_in sound =
+      (1, input.quantity t, region_is_feasible input prices t reached lists (record { den = 1; num = input.quantity t }) (reaching_in_region input t t sound (equals input t t t_in refl)))
 
-pub lower_in_lowest_terms : (input : TableInput) (prices : ℕ → ℕ) (t n d : ℕ) (f : Fraction) → IsLowestTerms n d f → IsLowerWelfare input prices t n d → IsLowerWelfare input prices t f.num f.den
-lower_in_lowest_terms input prices t n d f lowest lower = record {
-  fraction = omega (arith, lowest.positive);
-  none_less = λ bundle r.
-      scaled_at_most n d f.num f.den bundle.den (spending input.goods prices bundle.num) lower.fraction lowest.same_number (lower.none_less bundle r);
-  reached = (
-    lower.reached.0,
-    lower.reached.1,
-    scaled_same n d f.num f.den lower.reached.0.den (spending input.goods prices lower.reached.0.num) lower.fraction lowest.same_number lower.reached.2,
-  );
-}
+  -- the least cost of the program is the least over the region
+  least_over_region : (num den : ℕ) → IsLeastCost (welfare_program input prices reached) num den → IsLowerWelfare input prices t num den
+  least_over_region num den least = record {
+    fraction = least.fraction;
+    none_less = none_less;
+    reached = (record { den = least.attained.0; num = least.attained.1 }, in_region input prices t reached lists least.attained.0 least.attained.1 least.attained.2, same);
+  }
+    where
+      none_less : (bundle : FractionBundle) → IsInRegion input t bundle → num * bundle.den ≤ spending input.goods prices bundle.num * den
+      none_less bundle r =
+          let h = least.none_less bundle.den bundle.num (region_is_feasible input prices t reached lists bundle r) in
+          let k = subst (λ (z : ℤ). pos (num * bundle.den) ≤ℤ (z *ℤ pos den)) (cost_is input prices reached bundle.num) h in
+          omega (arith, ints, k)
 
--- ---- what the run gives
+      same : spending input.goods prices least.attained.1 * den ≡ num * least.attained.0
+      same =
+          let k = subst (λ (z : ℤ). (z *ℤ pos den) ≡ pos (num * least.attained.0)) (cost_is input prices reached least.attained.1) least.attained.3 in
+          omega (arith, ints, k)
 
-module _ (input : TableInput) (prices : List ℕ) (t : ℕ) (reached : List ℕ) (lists : ListsReached input t reached) (p : LinearProgram) (is : p ≡ welfare_program input (slice_index prices) reached) (o : Outcome) (evidence : IsEvidence p o) where
-  pub never_unbounded : t < input.n → MeetsGarp input.n input.cost 1 1 → (den : ℕ) (point ray : List Entry) → o ≡ Unbounded den point ray → ⊥
-  never_unbounded observed sound den point ray e =
-      let h = subst (λ (r : Outcome). IsEvidence p r) e evidence in
-      has_bound input (slice_index prices) t reached lists sound observed (subst (λ (q : LinearProgram). HasNoBound q) is h.1)
-
-  module _ (pair : Pair) (optimal : o ≡ Optimal pair) (goods : length prices ≡ input.goods) (bound : Bound) (shown : IsShownFrom prices pair bound) where
-    lowest : IsLowestTerms (spending input.goods (slice_index prices) (slice_index pair.x)) pair.den shown.0
-    lowest = subst (λ (k : ℕ). IsLowestTerms (spending k (slice_index prices) (slice_index pair.x)) pair.den shown.0) goods shown.2
-
-    pub shown_proves : ProvesLowerWelfare input (slice_index prices) t bound
-    shown_proves =
-        let h = subst (λ (r : Outcome). IsEvidence p r) optimal evidence in
-        let k = subst (λ (q : LinearProgram). IsShownPair q pair) is h.0 in
-        rw shown.1 (lower_in_lowest_terms input (slice_index prices) t (spending input.goods (slice_index prices) (slice_index pair.x)) pair.den shown.0 lowest
-        (pair_is_least input (slice_index prices) t reached lists pair.den (numerator_at pair.y) (slice_index pair.x) k.equal))
+  pub least_proves : (bound : Bound) → ShowsLeastCost (welfare_program input prices reached) bound → ProvesLowerWelfare input prices t bound
+  least_proves (Shown value pair) least = least_over_region value.num value.den least
+  least_proves (Wide step) least = tt
 
 -- the lower bound is at most the upper one: the bundle of the upper one lies in the region
 pub lower_at_most : (input : TableInput) (prices : ℕ → ℕ) (t s cost : ℕ) (bound : Bound) → MeetsGarp input.n input.cost 1 1 → IsUpperWelfare input prices t s cost → ProvesLowerWelfare input prices t bound → IsAtMost bound cost

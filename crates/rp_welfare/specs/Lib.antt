@@ -1,2 +1,2 @@
 pub mod Verdict
-pub mod Inner
+pub mod InnerCheapest

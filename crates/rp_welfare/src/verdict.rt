@@ -1,4 +1,4 @@
-ghost use Rattle.std.specs.Prelude.{◌≡◌, ◌<◌, ◌≤◌, All, IfOk, length};
+ghost use Rattle.std.specs.Prelude.{◌<◌, IfOk};
 ghost use Rattle.rp_evidence.specs.DemandEvidence.{ProvesWelfare};
 ghost use Rattle.rp_evidence.specs.Garp.{ProvesGarp};
 ghost use Rattle.rp_evidence.specs.Input.{input_of_table};
@@ -6,8 +6,8 @@ ghost use Rattle.rp_evidence.specs.Preference.{IsWeak};
 ghost use Rattle.rp_evidence.specs.WelfareModels.{HoldsInEveryModel};
 ghost use Rattle.rp_pref.specs.Closure.{IsClosureOf};
 ghost use Rattle.rp_table.specs.Cost.{IsCostsOf, cost_at};
+ghost use Rattle.rp_table.specs.NewPrices.{AreNewPrices};
 ghost use Rattle.rp_table.specs.Tables.{goods_of};
-ghost use Rattle.rp_table.specs.declared.TheConstants.{LARGEST};
 ghost use Rattle.rp_welfare.specs.Verdict.{HasBoundedProgram, HasLowerAtMostUpper};
 ghost use Rattle.rp_welfare.specs.Verdict.{IsWelfareVerdict};
 
@@ -16,7 +16,7 @@ use crate::upper::first_cheapest;
 use rp_evidence::{Garp, Level, WelfarePart};
 use rp_num::{NoMemory, Seq};
 use rp_pref::{Closure, Steps};
-use rp_table::{Costs, Table};
+use rp_table::{Costs, NewPrices, Table};
 use std::alloc::Global;
 
 /// The bounds of observation `t`, from 0, at the new prices, from a true verdict on the generalized axiom: the upper one
@@ -31,8 +31,7 @@ pub fn welfare(
 ) -> Result<WelfarePart, NoMemory>
     requires costs { IsCostsOf costs.now table.now }
     requires verdict { ProvesGarp costs.now.n (cost_at costs.now) verdict.now }
-    requires goods { length prices.now ≡ goods_of table.now }
-    requires prices { All (λ p. (1 ≤ p) × (p ≤ LARGEST)) prices.now }
+    requires prices { AreNewPrices (goods_of table.now) prices.now }
     requires observed { t < costs.now.n }
     ensures proves { IfOk result
         (λ part. ProvesWelfare (input_of_table table.now) prices.now t part) }
@@ -61,8 +60,7 @@ pub fn welfare_by_closure(
     requires costs { IsCostsOf costs.now table.now }
     requires verdict { ProvesGarp costs.now.n (cost_at costs.now) verdict.now }
     requires closes { IsClosureOf closure.now costs.now.n (IsWeak (cost_at costs.now) 1 1) }
-    requires goods { length prices.now ≡ goods_of table.now }
-    requires prices { All (λ p. (1 ≤ p) × (p ≤ LARGEST)) prices.now }
+    requires prices { AreNewPrices (goods_of table.now) prices.now }
     requires observed { t < costs.now.n }
     ensures proves { IfOk result
         (λ part. ProvesWelfare (input_of_table table.now) prices.now t part) }
@@ -80,8 +78,13 @@ pub fn welfare_by_closure(
             Ok(WelfarePart::NoModel(Seq::from_vec(walk)))
         }
         Garp::Ranks(_) => {
-            let upper = first_cheapest(table, closure, prices, t);
-            let lower = lower_bound(alloc, table, costs, closure, prices, t)?;
+            let new = NewPrices {
+                table,
+                costs,
+                prices,
+            };
+            let upper = first_cheapest(&new, closure, t);
+            let lower = lower_bound(alloc, &new, closure, t)?;
             Ok(WelfarePart::Bounds {
                 upper: upper.cost,
                 at: upper.at,

@@ -6,6 +6,6 @@ use Rattle.rp_support.proofs.below.bought.Given as goal
 
 abbrev pub invariant-loop-s : goal.invariant-loop-s
 invariant-loop-s l = record {
-  one_each : vec_len l.told ≡ l.s;
-  each : (k : ℕ) → k < l.s → IsTrue (slice_index_or l.told.items k false) ↔ Buys (input_of_table l.budget.table.now) (budget_of l.budget.prices.now l.budget.m) k;
+  one_each : vec_len l.marks ≡ l.s;
+  each : (k : ℕ) → k < l.s → IsTrue (slice_index_or l.marks.items k false) ↔ Buys (input_of_table l.budget.at.table.now) (budget_of l.budget.at.prices.now l.budget.m) k;
 }

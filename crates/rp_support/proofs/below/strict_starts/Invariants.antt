@@ -6,6 +6,6 @@ use Rattle.rp_support.proofs.below.strict_starts.Given as goal
 
 abbrev pub invariant-loop-v : goal.invariant-loop-v
 invariant-loop-v l = record {
-  one_each : vec_len l.told ≡ l.v;
-  each : (k : ℕ) → k < l.v → IsTrue (slice_index_or l.told.items k false) ↔ IsStrictStart (input_of_table l.budget.table.now) (budget_of l.budget.prices.now l.budget.m) k;
+  one_each : vec_len l.marks ≡ l.v;
+  each : (k : ℕ) → k < l.v → IsTrue (slice_index_or l.marks.items k false) ↔ IsStrictStart (input_of_table l.budget.at.table.now) (budget_of l.budget.at.prices.now l.budget.m) k;
 }

@@ -4,12 +4,12 @@ use Rattle.rp_evidence.specs.Preference.{IsWeak}
 use Rattle.rp_pref.proofs.Closing.{count_by_closure}
 use Rattle.rp_table.specs.Cost.{cost_of}
 use Rattle.rp_table.specs.Tables.{records_of}
-use Rattle.rp_support.proofs.Listing.{length_more, number_more}
+use Rattle.rp_support.proofs.ListSteps.{length_more, number_more}
 use Rattle.rp_support.proofs.inner.counts.Goals as goal
 
 pub loop-s-preserved : goal.loop-s-preserved
 loop-s-preserved c =
-    let table = c.args.budget.now.table.now in
+    let table = c.args.budget.now.at.table.now in
     let n = records_of table in
     let step = IsWeak (cost_of table) 1 1 in
     let l = c.loop-s in
@@ -22,7 +22,7 @@ loop-s-preserved c =
 
 pub returns : goal.returns
 returns c =
-    let n = records_of c.args.budget.now.table.now in
+    let n = records_of c.args.budget.now.at.table.now in
     let l = c.loop-s in
     let end : l.s ≡ n = omega (arith, c.loop-s-test.false, l.auto.s-end, c.n-s-end.ensures.count) in
     record {

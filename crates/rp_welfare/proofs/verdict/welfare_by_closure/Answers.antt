@@ -31,7 +31,7 @@ returns-in_ok-walk-in-Cycle-clause-proves c =
 
 pub returns-in_ok-lower-in-Ranks-clause-proves : goal.returns-in_ok-lower-in-Ranks-clause-proves
 returns-in_ok-lower-in-Ranks-clause-proves c = (
-  c.requires.goods,
+  c.requires.prices.one_each,
   record {
     sound = meets_by_ranks c.args.table.now c.args.costs.now c.requires.costs c.args.verdict.now _ c.requires.verdict c.in-Ranks.is;
     observed = omega (arith, c.requires.observed, c.requires.costs.size);

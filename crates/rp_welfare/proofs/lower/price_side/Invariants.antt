@@ -1,9 +1,0 @@
-use Rattle.std.proofs.Common.{◌≡◌, ◌*◌, ◌≤◌, slice_index}
-use Rattle.rp_table.specs.Sums.{sum_below}
-use Rattle.rp_welfare.proofs.lower.price_side.Given as goal
-
-abbrev pub invariant-loop-g : goal.invariant-loop-g
-invariant-loop-g l = record {
-  so_far : l.cost ≡ sum_below l.g (λ g. slice_index l.prices g * slice_index l.x g);
-  at_most : l.cost ≤ l.g * 92233711145175721225224192;
-}
