@@ -2,11 +2,6 @@ ghost use Rattle.std.specs.Prelude.{◌≡◌, ◌<◌, ◌≤◌, ◌*◌, ◌^
 ghost use Rattle.rp_evidence.specs.StandardNumbers.{FitsMultiplier, FitsUtility};
 ghost use Rattle.rp_afriat.specs.Filling.{IsRoundedUp};
 
-/// The largest utility in absolute value.
-pub const WIDEST_UTILITY: i128 = 1 << 120;
-/// The largest multiplier.
-pub const WIDEST_MULTIPLIER: u64 = 1 << 60;
-
 /// The bound that the numbers of an observation set: its utility, and for each unit that a bundle costs beyond what
 /// was spent there its multiplier.
 pub fn bound(u: i128, lambda: u64, cost: u64, spent: u64) -> i128

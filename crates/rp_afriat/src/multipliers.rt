@@ -6,7 +6,8 @@ ghost use Rattle.rp_evidence.specs.StandardNumbers.{FitsUtility, IsMultiplier};
 ghost use Rattle.rp_table.specs.Cost.{cost_at};
 ghost use Rattle.rp_afriat.specs.Filling.{AreMultipliersSet, IsTooSteep, utility_of};
 
-use crate::bounds::{WIDEST_MULTIPLIER, rounded_up};
+use crate::bounds::rounded_up;
+use rp_evidence::MULTIPLIER_WIDTH;
 use rp_table::Costs;
 
 /// The multiplier of an observation, of which the utility is known, and those of all higher classes.
@@ -56,7 +57,7 @@ pub fn set_multipliers(
         let i = s as usize;
         if counts[i] == class {
             let least = multiplier(costs, counts, u, s);
-            if least > u128::from(WIDEST_MULTIPLIER) {
+            if least > u128::from(MULTIPLIER_WIDTH) {
                 return Some(s);
             }
             lambda[i] = least as u64;

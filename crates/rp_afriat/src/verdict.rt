@@ -10,10 +10,9 @@ ghost use Rattle.rp_afriat.specs.Filling.{AreFilledAbove, AreForEach, FitAbove};
 ghost use Rattle.rp_afriat.specs.Filling.{StandardNumbersPassAt};
 ghost use Rattle.rp_afriat.specs.Verdict.{IsAfriatVerdict};
 
-use crate::bounds::WIDEST_UTILITY;
 use crate::classes::{class_utility, first_of, set_utility};
 use crate::multipliers::set_multipliers;
-use rp_evidence::{AfriatPart, Garp, Level, Numbers};
+use rp_evidence::{AfriatPart, Garp, Level, Numbers, UTILITY_WIDTH};
 use rp_num::{NoMemory, Seq};
 use rp_pref::{Closure, Steps};
 use rp_table::Costs;
@@ -124,5 +123,5 @@ fn fill_class(
 fn utility_fits(x: i128) -> bool
     ensures { IsTrue result ↔ FitsUtility x }
 {
-    -WIDEST_UTILITY <= x && x <= WIDEST_UTILITY
+    -UTILITY_WIDTH <= x && x <= UTILITY_WIDTH
 }

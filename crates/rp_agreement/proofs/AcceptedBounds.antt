@@ -23,7 +23,8 @@ use Rattle.rp_evidence.specs.declared.garp.Garp.{Garp}
 use Rattle.rp_evidence.specs.declared.garp.Garp.TheVariants.{Ranks, Cycle}
 use Rattle.rp_evidence.proofs.DemandLaws.{enough_where_kept, more_where_kept}
 use Rattle.rp_farkas.specs.LinearProgram.{LinearProgram}
-use Rattle.rp_support.specs.Bounds.{AreBoundsOf, ShowsBound}
+use Rattle.rp_bound.specs.ProgramBound.{IsBoundOf}
+use Rattle.rp_support.specs.Bounds.{AreBoundsOf}
 use Rattle.rp_support.specs.Verdict.{IsDemandGiven}
 use Rattle.rp_welfare.specs.Verdict.{IsLowerBound, IsWelfareVerdict}
 use Rattle.rp_agreement.proofs.Closed.{violation_passes}
@@ -31,9 +32,9 @@ use Rattle.rp_agreement.proofs.Closed.{violation_passes}
 prices_pass : (goods : ℕ) (prices : List ℕ) → AreNewPrices goods prices → PricesFail goods prices (Ok tt)
 prices_pass goods prices new = (new.one_each, ((λ g g_in. new.fit g 0 (omega (arith, new.one_each))), tt))
 
-bound_holds : (p : LinearProgram) (g : ℕ) (bound : Bound) → ShowsBound p g bound → BoundHolds p g bound
-bound_holds p g (Shown value pair) shows = (shows.1, shows.2)
-bound_holds p g (Wide step) shows = tt
+bound_holds : (p : LinearProgram) (g : ℕ) (bound : Bound) → IsBoundOf p (λ x. x g) bound → BoundHolds p g bound
+bound_holds p g (Shown value pair) is = is.value
+bound_holds p g (Wide step) is = tt
 
 module _ (input : TableInput) (shown : Bool) where
   demand_bounds_pass : (budget : NewBudget) (below strict : List ℕ) (inner : Point) (goods : List GoodBounds) → IsTrue shown
@@ -58,8 +59,8 @@ module _ (input : TableInput) (shown : Bool) where
                 proves.one_each,
                 (
                   (λ g g_in d. (
-                    bound_holds _ g (slice_index_or goods g d).lower (bounds.lower g d g_in).shows,
-                    (bound_holds _ g (slice_index_or goods g d).upper (bounds.upper g d g_in).shows, tt),
+                    bound_holds _ g (slice_index_or goods g d).lower (bounds.lower g d g_in),
+                    (bound_holds _ g (slice_index_or goods g d).upper (bounds.upper g d g_in), tt),
                   )),
                   tt,
                 ),
@@ -85,7 +86,7 @@ module _ (input : TableInput) (shown : Bool) where
   )
 
   lower_holds : (prices : ℕ → ℕ) (t : ℕ) (lower : Bound) → IsLowerBound input prices t lower → LowerHolds input prices t lower
-  lower_holds prices t (Shown value pair) is = (is.reached, is.listed, (is.evidence.0, is.value))
+  lower_holds prices t (Shown value pair) is = (is.reached, is.listed, is.is_bound.value)
   lower_holds prices t (Wide step) is = (is.reached, is.listed, tt)
 
   -- where the axiom holds a verdict on it that proves itself shows it

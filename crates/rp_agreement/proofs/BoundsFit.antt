@@ -33,13 +33,13 @@ use Rattle.rp_num.specs.Fraction.{Fraction, FitsPart, FitsWidth, IsLowestTerms}
 use Rattle.rp_num.specs.Spelled.{IsReduced}
 use Rattle.rp_num.proofs.Coprime.{IsGcd-exists}
 use Rattle.rp_num.proofs.Lowest.{FitsWidth-divided, IsLowestTerms-divided, IsLowestTerms-itself, same_IsLowestTerms}
-use Rattle.rp_simplex.specs.Outcome.{IsOutcome, EndsPastWidth}
-use Rattle.rp_simplex.specs.Evidence.{IsEvidence}
-use Rattle.rp_support.specs.Bounds.{AreBoundsOf, ShowsBound}
+use Rattle.rp_simplex.specs.Outcome.{EndsPastWidth}
+use Rattle.rp_bound.specs.ProgramBound.{IsBoundOf}
+use Rattle.rp_support.specs.Bounds.{AreBoundsOf}
 use Rattle.rp_support.specs.Verdict.{IsDemandGiven}
 use Rattle.rp_table.specs.Sums.{sum_below}
 use Rattle.rp_table.specs.declared.TheConstants.{LARGEST, RECORDS}
-use Rattle.rp_welfare.specs.Verdict.{HasValue, IsLowerBound, IsWelfareVerdict, outcome_of}
+use Rattle.rp_welfare.specs.Verdict.{IsLowerBound, IsWelfareVerdict}
 use Rattle.rp_agreement.specs.Limited.{IsLimited}
 use Rattle.rp_agreement.proofs.Lists.{listed_fit, rising_few, walk_fits}
 
@@ -86,10 +86,13 @@ pair_fits p pair value num few shown small lowest = (
 step_fits : (p : LinearProgram) (step : ℕ) → EndsPastWidth p step → FitsLong step
 step_fits p step passes = omega (arith, passes.step_is)
 
-good_fits : (p : LinearProgram) (g : ℕ) (bound : Bound) → p.cols ≤ 2 ^ 31 → g < p.rows → ShowsBound p g bound → FitsBound bound
-good_fits p g (Shown value pair) few row (ends, shown, lowest) =
-    pair_fits p pair value (slice_index pair.x g) few shown (omega (arith, shown.x_fits g 0 (omega (arith, row, shown.x_length)))) lowest
-good_fits p g (Wide step) few row passes = step_fits p step passes
+bound_fits : (p : LinearProgram) (measure : (ℕ → ℕ) → ℕ) (bound : Bound) → p.cols ≤ 2 ^ 31 → ((pair : Pair) → IsShownPair p pair → measure (slice_index pair.x) < 2 ^ 127)
+    → IsBoundOf p measure bound → FitsBound bound
+bound_fits p measure (Shown value pair) few small is = pair_fits p pair value (measure (slice_index pair.x)) few is.value.0 (small pair is.value.0) is.value.1
+bound_fits p measure (Wide step) few small is = step_fits p step is.run
+
+good_fits : (p : LinearProgram) (g : ℕ) (bound : Bound) → p.cols ≤ 2 ^ 31 → g < p.rows → IsBoundOf p (λ x. x g) bound → FitsBound bound
+good_fits p g bound few row is = bound_fits p (λ x. x g) bound few (λ pair shown. omega (arith, shown.x_fits g 0 (omega (arith, row, shown.x_length)))) is
 
 -- ---- at new prices
 
@@ -137,8 +140,8 @@ module _ (input : TableInput) (limited : IsLimited input) (prices : List ℕ) (n
     goods_fit below goods short are k d within =
         let g_in : k < input.goods = omega (arith, within, are.one_each) in
         let narrow : length below + 2 ≤ 2 ^ 31 = omega (arith, short, few) in (
-          good_fits (lower_program input budget below k) k _ narrow g_in (are.lower k d g_in).shows,
-          good_fits (upper_program input budget below k) k _ narrow g_in (are.upper k d g_in).shows,
+          good_fits (lower_program input budget below k) k _ narrow g_in (are.lower k d g_in),
+          good_fits (upper_program input budget below k) k _ narrow g_in (are.upper k d g_in),
         )
 
     pub demand_fits : (verdict : Garp) (part : DemandPart) → ProvesDemand input prices m part → IsDemandGiven input budget verdict part → FitsDemand prices m part
@@ -171,15 +174,11 @@ module _ (input : TableInput) (limited : IsLimited input) (prices : List ℕ) (n
       omega (arith, sum, limited.few_goods)
 
   lower_fits : (t : ℕ) (bound : Bound) → IsLowerBound input (slice_index prices) t bound → FitsBound bound
-  lower_fits t bound lower = go bound lower.run lower.evidence lower.value
+  lower_fits t bound lower =
+      bound_fits (welfare_program input (slice_index prices) lower.reached) (spending input.goods (slice_index prices)) bound narrow (λ pair shown. side_fits pair.x shown.x_fits) lower.is_bound
     where
       narrow : length lower.reached ≤ 2 ^ 31
       narrow = omega (arith, few, rising_few input.n few lower.reached (EqualsOrReaches input t) lower.listed.rising (λ s. (lower.listed.just_these s).0))
-
-      go : (bound : Bound) → IsOutcome (welfare_program input (slice_index prices) lower.reached) (outcome_of bound) → IsEvidence (welfare_program input (slice_index prices) lower.reached) (outcome_of bound) → HasValue input (slice_index prices) bound → FitsBound bound
-      go (Shown value pair) run evidence lowest =
-          pair_fits (welfare_program input (slice_index prices) lower.reached) pair value (spending input.goods (slice_index prices) (slice_index pair.x)) narrow evidence.0 (side_fits pair.x evidence.0.x_fits) lowest
-      go (Wide step) run evidence none = step_fits (welfare_program input (slice_index prices) lower.reached) step run
 
   pub welfare_fits : (t : ℕ) → t < input.n → (verdict : Garp) (part : WelfarePart) → ProvesWelfare input prices t part → IsWelfareVerdict input prices t verdict part → FitsWelfare prices t part
   welfare_fits t t_in verdict (WelfareBounds upper at lower) proves given = (

@@ -2,7 +2,7 @@
 -- functions and their proofs need.
 use Rattle.std.specs.Prelude.{◌<◌, ◌≤◌, ℕ, All, List, length}
 use Rattle.rp_clauses.specs.InnerMarks.{AreMarked}
-use Rattle.rp_clauses.specs.declared.prices.NewPrices.{NewPrices}
+use Rattle.rp_table.specs.declared.new_prices.NewPrices.{NewPrices}
 use Rattle.rp_check.specs.declared.sets.Sets.{Sets}
 use Rattle.rp_evidence.specs.Demand.{IsBelow, IsStrictlyBelow, NewBudget}
 use Rattle.rp_evidence.specs.DemandEvidence.{budget_of}
@@ -10,7 +10,7 @@ use Rattle.rp_evidence.specs.Input.{TableInput, input_of_table}
 use Rattle.rp_table.specs.declared.TheConstants.{RECORDS}
 
 abbrev pub input_of : NewPrices → TableInput
-input_of new_prices = input_of_table new_prices.input.table.now
+input_of new_prices = input_of_table new_prices.table.now
 
 abbrev pub budget_at : NewPrices → ℕ → NewBudget
 budget_at new_prices m = budget_of new_prices.prices.now m

@@ -7,11 +7,12 @@ ghost use Rattle.rp_evidence.specs.Welfare.{welfare_program};
 ghost use Rattle.rp_farkas.specs.Limits.{IsWithinLimits};
 ghost use Rattle.rp_num.specs.Fraction.{FitsPart, IsLowestTerms};
 ghost use Rattle.rp_table.specs.Tables.{goods_of, records_of};
-ghost use Rattle.rp_table.specs.declared.TheConstants.{LARGEST_EXPENDITURE, RECORDS};
+ghost use Rattle.rp_table.specs.Limits.{IsExpenditure};
+ghost use Rattle.rp_table.specs.declared.TheConstants.{RECORDS};
 
-use rp_clauses::prices::NewPrices;
 use rp_farkas::Lp;
 use rp_num::Frac;
+use rp_table::NewPrices;
 
 /// The program whose prices have the least of a good: a row for each good, a column for each observation below, and two for
 /// the budget.
@@ -21,26 +22,26 @@ pub struct Lower<'a> {
     m: u64,
     below: &'a [u32],
     good: u32,
-    ghost observed: { All (λ t. t < records_of new_prices.input.table.now) below.now },
+    ghost observed: { All (λ t. t < records_of new_prices.table.now) below.now },
     ghost few: { length below.now ≤ RECORDS },
-    ghost spends: { m ≤ LARGEST_EXPENDITURE },
-    ghost within: { IsWithinLimits (lower_program (input_of_table new_prices.input.table.now)
+    ghost spends: { IsExpenditure m },
+    ghost within: { IsWithinLimits (lower_program (input_of_table new_prices.table.now)
         (budget_of new_prices.prices.now m) below.now good) },
 }
 
 impl<'a> Lower<'a> {
     /// The program of good `good` over the listed observations, at the expenditure `m`.
     pub fn make(new_prices: &NewPrices<'a>, m: u64, below: &'a [u32], good: u32) -> Lower<'a>
-        requires observed { All (λ t. t < records_of new_prices.now.input.table.now) below.now }
+        requires observed { All (λ t. t < records_of new_prices.now.table.now) below.now }
         requires few { length below.now ≤ RECORDS }
-        requires spends { m ≤ LARGEST_EXPENDITURE }
-        requires good { good < goods_of new_prices.now.input.table.now }
+        requires spends { IsExpenditure m }
+        requires good { good < goods_of new_prices.now.table.now }
         ensures { ⟦<Lower<'a> as Lp>⟧.program result
-            ≡ lower_program (input_of_table new_prices.now.input.table.now)
+            ≡ lower_program (input_of_table new_prices.now.table.now)
             (budget_of new_prices.now.prices.now m) below.now good }
     {
-        prove!(new_prices.input.table.goods() > 0);
-        prove!(new_prices.input.costs.n() > 0);
+        prove!(new_prices.table.goods() > 0);
+        prove!(new_prices.costs.n() > 0);
         Lower {
             new_prices: *new_prices,
             m,
@@ -55,13 +56,13 @@ impl Lp for Lower<'_> {
     ghost use Rattle.rp_evidence.specs.DemandPrograms.{lower_program};
     ghost use Rattle.rp_evidence.specs.Input.{input_of_table};
 
-    ghost program = { λ p. lower_program (input_of_table p.new_prices.input.table.now)
+    ghost program = { λ p. lower_program (input_of_table p.new_prices.table.now)
         (budget_of p.new_prices.prices.now p.m) p.below.now p.good };
 
     ghost within_limits = { λ p. p.within };
 
     fn rows(&self) -> u32 {
-        self.new_prices.input.table.goods()
+        self.new_prices.table.goods()
     }
 
     fn cols(&self) -> u32 {
@@ -89,26 +90,26 @@ pub struct Upper<'a> {
     m: u64,
     below: &'a [u32],
     good: u32,
-    ghost observed: { All (λ t. t < records_of new_prices.input.table.now) below.now },
+    ghost observed: { All (λ t. t < records_of new_prices.table.now) below.now },
     ghost few: { length below.now ≤ RECORDS },
-    ghost spends: { m ≤ LARGEST_EXPENDITURE },
-    ghost within: { IsWithinLimits (upper_program (input_of_table new_prices.input.table.now)
+    ghost spends: { IsExpenditure m },
+    ghost within: { IsWithinLimits (upper_program (input_of_table new_prices.table.now)
         (budget_of new_prices.prices.now m) below.now good) },
 }
 
 impl<'a> Upper<'a> {
     /// The program of good `good` over the listed observations, at the expenditure `m`.
     pub fn make(new_prices: &NewPrices<'a>, m: u64, below: &'a [u32], good: u32) -> Upper<'a>
-        requires observed { All (λ t. t < records_of new_prices.now.input.table.now) below.now }
+        requires observed { All (λ t. t < records_of new_prices.now.table.now) below.now }
         requires few { length below.now ≤ RECORDS }
-        requires spends { m ≤ LARGEST_EXPENDITURE }
-        requires good { good < goods_of new_prices.now.input.table.now }
+        requires spends { IsExpenditure m }
+        requires good { good < goods_of new_prices.now.table.now }
         ensures { ⟦<Upper<'a> as Lp>⟧.program result
-            ≡ upper_program (input_of_table new_prices.now.input.table.now)
+            ≡ upper_program (input_of_table new_prices.now.table.now)
             (budget_of new_prices.now.prices.now m) below.now good }
     {
-        prove!(new_prices.input.table.goods() > 0);
-        prove!(new_prices.input.costs.n() > 0);
+        prove!(new_prices.table.goods() > 0);
+        prove!(new_prices.costs.n() > 0);
         Upper {
             new_prices: *new_prices,
             m,
@@ -123,13 +124,13 @@ impl Lp for Upper<'_> {
     ghost use Rattle.rp_evidence.specs.DemandPrograms.{upper_program};
     ghost use Rattle.rp_evidence.specs.Input.{input_of_table};
 
-    ghost program = { λ p. upper_program (input_of_table p.new_prices.input.table.now)
+    ghost program = { λ p. upper_program (input_of_table p.new_prices.table.now)
         (budget_of p.new_prices.prices.now p.m) p.below.now p.good };
 
     ghost within_limits = { λ p. p.within };
 
     fn rows(&self) -> u32 {
-        self.new_prices.input.table.goods()
+        self.new_prices.table.goods()
     }
 
     fn cols(&self) -> u32 {
@@ -156,16 +157,16 @@ impl Lp for Upper<'_> {
 /// The entry of both programs in row `i` and column `j`: the price of good `i` at an observation below or at the new prices, in
 /// the last column negated.
 fn entry(new_prices: &NewPrices<'_>, below: &[u32], i: u32, j: u32) -> i64
-    requires observed { All (λ t. t < records_of new_prices.now.input.table.now) below.now }
+    requires observed { All (λ t. t < records_of new_prices.now.table.now) below.now }
     requires few { length below.now ≤ RECORDS }
-    requires row { i < goods_of new_prices.now.input.table.now }
+    requires row { i < goods_of new_prices.now.table.now }
     requires column { j < length below.now + 2 }
-    ensures { (m : ℕ) → result ≡ demand_entry (input_of_table new_prices.now.input.table.now)
+    ensures { (m : ℕ) → result ≡ demand_entry (input_of_table new_prices.now.table.now)
         (budget_of new_prices.now.prices.now m) below.now i j }
 {
     let j = j as usize;
     if j < below.len() {
-        i64::from(new_prices.input.table.price(below[j], i))
+        i64::from(new_prices.table.price(below[j], i))
     } else if j == below.len() {
         i64::from(new_prices.price(i))
     } else {
@@ -176,15 +177,15 @@ fn entry(new_prices: &NewPrices<'_>, below: &[u32], i: u32, j: u32) -> i64
 /// What column `j` of both programs is worth: what was spent at an observation below or is spent at the new prices, in the last
 /// column negated.
 fn worth(new_prices: &NewPrices<'_>, m: u64, below: &[u32], j: u32) -> i64
-    requires observed { All (λ t. t < records_of new_prices.now.input.table.now) below.now }
-    requires spends { m ≤ LARGEST_EXPENDITURE }
+    requires observed { All (λ t. t < records_of new_prices.now.table.now) below.now }
+    requires spends { IsExpenditure m }
     requires column { j < length below.now + 2 }
-    ensures { result ≡ demand_worth (input_of_table new_prices.now.input.table.now)
+    ensures { result ≡ demand_worth (input_of_table new_prices.now.table.now)
         (budget_of new_prices.now.prices.now m) below.now j }
 {
     let j = j as usize;
     if j < below.len() {
-        new_prices.input.cost(below[j], below[j]) as i64
+        new_prices.cost(below[j], below[j]) as i64
     } else if j == below.len() {
         m as i64
     } else {
@@ -198,23 +199,23 @@ fn worth(new_prices: &NewPrices<'_>, m: u64, below: &[u32], j: u32) -> i64
 pub struct Least<'a> {
     new_prices: NewPrices<'a>,
     reached: &'a [u32],
-    ghost observed: { All (λ s. s < records_of new_prices.input.table.now) reached.now },
+    ghost observed: { All (λ s. s < records_of new_prices.table.now) reached.now },
     ghost few: { length reached.now ≤ RECORDS },
-    ghost within: { IsWithinLimits (welfare_program (input_of_table new_prices.input.table.now)
+    ghost within: { IsWithinLimits (welfare_program (input_of_table new_prices.table.now)
         (slice_index new_prices.prices.now) reached.now) },
 }
 
 impl<'a> Least<'a> {
     /// The program over the listed observations.
     pub fn make(new_prices: &NewPrices<'a>, reached: &'a [u32]) -> Least<'a>
-        requires observed { All (λ s. s < records_of new_prices.now.input.table.now) reached.now }
+        requires observed { All (λ s. s < records_of new_prices.now.table.now) reached.now }
         requires few { length reached.now ≤ RECORDS }
         ensures { ⟦<Least<'a> as Lp>⟧.program result
-            ≡ welfare_program (input_of_table new_prices.now.input.table.now)
+            ≡ welfare_program (input_of_table new_prices.now.table.now)
             (slice_index new_prices.now.prices.now) reached.now }
     {
-        prove!(new_prices.input.table.goods() > 0);
-        prove!(new_prices.input.costs.n() > 0);
+        prove!(new_prices.table.goods() > 0);
+        prove!(new_prices.costs.n() > 0);
         Least {
             new_prices: *new_prices,
             reached,
@@ -227,13 +228,13 @@ impl Lp for Least<'_> {
     ghost use Rattle.rp_evidence.specs.Input.{input_of_table};
     ghost use Rattle.rp_evidence.specs.Welfare.{welfare_program};
 
-    ghost program = { λ p. welfare_program (input_of_table p.new_prices.input.table.now)
+    ghost program = { λ p. welfare_program (input_of_table p.new_prices.table.now)
         (slice_index p.new_prices.prices.now) p.reached.now };
 
     ghost within_limits = { λ p. p.within };
 
     fn rows(&self) -> u32 {
-        self.new_prices.input.table.goods()
+        self.new_prices.table.goods()
     }
 
     fn cols(&self) -> u32 {
@@ -241,12 +242,7 @@ impl Lp for Least<'_> {
     }
 
     fn a(&self, i: u32, j: u32) -> i64 {
-        i64::from(
-            self.new_prices
-                .input
-                .table
-                .price(self.reached[j as usize], i),
-        )
+        i64::from(self.new_prices.table.price(self.reached[j as usize], i))
     }
 
     fn b(&self, i: u32) -> i64 {
@@ -255,7 +251,7 @@ impl Lp for Least<'_> {
 
     fn c(&self, j: u32) -> i64 {
         let s = self.reached[j as usize];
-        self.new_prices.input.cost(s, s) as i64
+        self.new_prices.cost(s, s) as i64
     }
 }
 

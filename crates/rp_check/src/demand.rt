@@ -6,17 +6,18 @@ ghost use Rattle.rp_evidence.specs.DemandEvidence.{bundle_of};
 ghost use Rattle.rp_evidence.specs.DemandPrograms.{lower_program, upper_program};
 ghost use Rattle.rp_evidence.specs.Input.{input_of_table};
 ghost use Rattle.rp_table.specs.Tables.{goods_of, records_of};
-ghost use Rattle.rp_table.specs.declared.TheConstants.{LARGEST_EXPENDITURE};
+ghost use Rattle.rp_table.specs.Limits.{IsExpenditure};
 
 use crate::bounds::{Lower, Upper, is_fraction};
 use crate::sets::{Sets, check_lists};
 use rp_clauses::input::Input;
-use rp_clauses::prices::{NewPrices, check_expenditure, check_prices};
+use rp_clauses::prices::{check_expenditure, check_prices};
 use rp_clauses::reach::ROOM;
 use rp_clauses::walk::check_violation;
 use rp_evidence::{Bound, DemandPart, Failure, GoodBounds, Level, Point, Reason};
 use rp_farkas::{Lp, check_pair};
 use rp_patch::fails;
+use rp_table::NewPrices;
 
 /// Checks evidence on demand at new prices when `m` is spent; `garp_shown` says whether an item before it shows by ranks that the
 /// axiom holds.
@@ -32,7 +33,8 @@ pub fn check_demand(
     check_prices(input, prices)?;
     check_expenditure(m)?;
     let new_prices = NewPrices {
-        input: *input,
+        table: input.table,
+        costs: input.costs,
         prices,
     };
     match evidence {
@@ -68,14 +70,14 @@ fn check_bounds(
     inner: &Point,
     goods: &[GoodBounds],
 ) -> Result<(), Failure>
-    requires { m ≤ LARGEST_EXPENDITURE }
+    requires { IsExpenditure m }
     ensures { DemandBoundsFail (input_of new_prices.now) garp_shown
         (budget_at new_prices.now m) below.now strict.now inner.now goods.now result }
 {
     if !garp_shown {
         return fails(Reason::NoGarp, 0);
     }
-    prove!(new_prices.input.n() as usize <= ROOM);
+    prove!(new_prices.n() as usize <= ROOM);
     let sets = Sets::of(new_prices, m);
     check_lists(new_prices, m, &sets, below, strict)?;
     check_inner(new_prices, m, &sets, inner)?;
@@ -89,7 +91,7 @@ fn check_inner(
     sets: &Sets,
     inner: &Point,
 ) -> Result<(), Failure>
-    requires spends { m ≤ LARGEST_EXPENDITURE }
+    requires spends { IsExpenditure m }
     requires sets { AreSets (input_of new_prices.now) (budget_at new_prices.now m) sets.now }
     ensures { InnerFails (input_of new_prices.now) (budget_at new_prices.now m) inner.now result }
 {
@@ -97,13 +99,13 @@ fn check_inner(
     if inner.den == 0 {
         return fails(Reason::Number, 0);
     }
-    if num.len() != new_prices.input.table.goods() as usize {
+    if num.len() != new_prices.table.goods() as usize {
         return fails(Reason::Shape, 1);
     }
     if new_prices.numerator_cost(num) != u128::from(inner.den) * u128::from(m) {
         return fails(Reason::Point, 0);
     }
-    for t in 0..new_prices.input.n() {
+    for t in 0..new_prices.n() {
         if !costs_enough(new_prices, m, sets, inner, t) {
             return fails(Reason::Point, t as usize + 1);
         }
@@ -114,14 +116,14 @@ fn check_inner(
 /// Whether the point costs at least what was spent at `t` where it is below, and more where it is strictly below.
 fn costs_enough(new_prices: &NewPrices<'_>, m: u64, sets: &Sets, inner: &Point, t: u32) -> bool
     requires sets { AreSets (input_of new_prices.now) (budget_at new_prices.now m) sets.now }
-    requires goods { length inner.now.num ≡ goods_of new_prices.now.input.table.now }
-    requires observed { t < records_of new_prices.now.input.table.now }
+    requires goods { length inner.now.num ≡ goods_of new_prices.now.table.now }
+    requires observed { t < records_of new_prices.now.table.now }
     ensures { IsTrue result ↔ CostsEnoughAt (input_of new_prices.now) (budget_at new_prices.now m)
         (bundle_of inner.now) t }
 {
-    prove!(new_prices.input.n() as usize <= ROOM);
+    prove!(new_prices.n() as usize <= ROOM);
     let cost = new_prices.numerator_cost_at(t, inner.num.as_slice());
-    let spent = u128::from(inner.den) * u128::from(new_prices.input.cost(t, t));
+    let spent = u128::from(inner.den) * u128::from(new_prices.cost(t, t));
     if sets.strict[t as usize] && cost <= spent {
         return false;
     }
@@ -135,11 +137,11 @@ fn check_goods(
     below: &[u32],
     goods: &[GoodBounds],
 ) -> Result<(), Failure>
-    requires spends { m ≤ LARGEST_EXPENDITURE }
-    requires below { AreFewOf (records_of new_prices.now.input.table.now) below.now }
+    requires spends { IsExpenditure m }
+    requires below { AreFewOf (records_of new_prices.now.table.now) below.now }
     ensures { GoodsFail (input_of new_prices.now) (budget_at new_prices.now m) below.now goods.now result }
 {
-    let count = new_prices.input.table.goods();
+    let count = new_prices.table.goods();
     if goods.len() != count as usize {
         return fails(Reason::Shape, 2);
     }
@@ -157,9 +159,9 @@ fn check_good(
     g: u32,
     bounds: &GoodBounds,
 ) -> Result<(), Failure>
-    requires spends { m ≤ LARGEST_EXPENDITURE }
-    requires below { AreFewOf (records_of new_prices.now.input.table.now) below.now }
-    requires good { g < goods_of new_prices.now.input.table.now }
+    requires spends { IsExpenditure m }
+    requires below { AreFewOf (records_of new_prices.now.table.now) below.now }
+    requires good { g < goods_of new_prices.now.table.now }
     ensures { GoodFails (input_of new_prices.now) (budget_at new_prices.now m) below.now g bounds.now result }
 {
     if !lower_holds(new_prices, m, below, g, &bounds.lower) {
@@ -173,9 +175,9 @@ fn check_good(
 
 /// Whether a shown lower bound of good `g` is that of its pair.
 fn lower_holds(new_prices: &NewPrices<'_>, m: u64, below: &[u32], g: u32, bound: &Bound) -> bool
-    requires spends { m ≤ LARGEST_EXPENDITURE }
-    requires below { AreFewOf (records_of new_prices.now.input.table.now) below.now }
-    requires good { g < goods_of new_prices.now.input.table.now }
+    requires spends { IsExpenditure m }
+    requires below { AreFewOf (records_of new_prices.now.table.now) below.now }
+    requires good { g < goods_of new_prices.now.table.now }
     ensures { IsTrue result ↔ BoundHolds
         (lower_program (input_of new_prices.now) (budget_at new_prices.now m) below.now g) g bound.now }
 {
@@ -184,9 +186,9 @@ fn lower_holds(new_prices: &NewPrices<'_>, m: u64, below: &[u32], g: u32, bound:
 
 /// Whether a shown upper bound of good `g` is that of its pair.
 fn upper_holds(new_prices: &NewPrices<'_>, m: u64, below: &[u32], g: u32, bound: &Bound) -> bool
-    requires spends { m ≤ LARGEST_EXPENDITURE }
-    requires below { AreFewOf (records_of new_prices.now.input.table.now) below.now }
-    requires good { g < goods_of new_prices.now.input.table.now }
+    requires spends { IsExpenditure m }
+    requires below { AreFewOf (records_of new_prices.now.table.now) below.now }
+    requires good { g < goods_of new_prices.now.table.now }
     ensures { IsTrue result ↔ BoundHolds
         (upper_program (input_of new_prices.now) (budget_at new_prices.now m) below.now g) g bound.now }
 {

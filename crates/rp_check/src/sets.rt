@@ -8,10 +8,10 @@ ghost use Rattle.rp_table.specs.Cost.{cost_of};
 ghost use Rattle.rp_table.specs.Tables.{records_of};
 
 use rp_clauses::input::Input;
-use rp_clauses::prices::NewPrices;
 use rp_clauses::reach::{ROOM, Way, is_marked_list, spread};
 use rp_evidence::{Failure, Level, Reason};
 use rp_patch::fails;
+use rp_table::NewPrices;
 
 /// Which observations are below a new budget, and which strictly below.
 #[derive(Drop)]
@@ -25,42 +25,65 @@ impl Sets {
     pub fn of(new_prices: &NewPrices<'_>, m: u64) -> Sets
         ensures { AreSets (input_of new_prices.now) (budget_at new_prices.now m) result }
     {
-        prove!(new_prices.input.n() as usize <= ROOM);
+        prove!(new_prices.n() as usize <= ROOM);
+        let input = Input {
+            table: new_prices.table,
+            costs: new_prices.costs,
+        };
         let mut below = [false; ROOM];
         mark_bought(new_prices, m, &mut below);
-        spread(&new_prices.input, Way::Onward, &mut below);
+        spread(&input, Way::Onward, &mut below);
         let mut strict = [false; ROOM];
         mark_strict_starts(new_prices, m, &below, &mut strict);
-        spread(&new_prices.input, Way::Onward, &mut strict);
+        spread(&input, Way::Onward, &mut strict);
         Sets { below, strict }
     }
 }
 
 /// Marks the observations of which the budget buys the bundle.
 fn mark_bought(new_prices: &NewPrices<'_>, m: u64, marks: &mut [bool])
-    requires { records_of new_prices.now.input.table.now ≤ length marks.old }
-    ensures { AreMarked (records_of new_prices.now.input.table.now)
+    requires { records_of new_prices.now.table.now ≤ length marks.old }
+    ensures { AreMarked (records_of new_prices.now.table.now)
         (Buys (input_of new_prices.now) (budget_at new_prices.now m))
         marks.new }
 {
-    for s in 0..new_prices.input.n() {
+    for s in 0..new_prices.n() {
         marks[s as usize] = new_prices.spending(s) <= m;
     }
 }
 
 /// Marks the observations from which on a walk is strict, from those that are below.
 fn mark_strict_starts(new_prices: &NewPrices<'_>, m: u64, below: &[bool], marks: &mut [bool])
-    requires room { records_of new_prices.now.input.table.now ≤ length marks.old }
-    requires some { records_of new_prices.now.input.table.now ≤ length below.now }
-    requires below { AreMarked (records_of new_prices.now.input.table.now)
+    requires room { records_of new_prices.now.table.now ≤ length marks.old }
+    requires some { records_of new_prices.now.table.now ≤ length below.now }
+    requires below { AreMarked (records_of new_prices.now.table.now)
         (IsBelow (input_of new_prices.now) (budget_at new_prices.now m))
         below.now }
-    ensures { AreMarked (records_of new_prices.now.input.table.now)
+    ensures { AreMarked (records_of new_prices.now.table.now)
         (IsStrictStart (input_of new_prices.now) (budget_at new_prices.now m)) marks.new }
 {
-    for v in 0..new_prices.input.n() {
-        marks[v as usize] = new_prices.spending(v) < m || some_strict(&new_prices.input, below, v);
+    for v in 0..new_prices.n() {
+        marks[v as usize] = is_strict_start(new_prices, m, below, v);
     }
+}
+
+/// Whether money is left for the bundle of `v`, or an observation below is strictly preferred to it.
+fn is_strict_start(new_prices: &NewPrices<'_>, m: u64, below: &[bool], v: u32) -> bool
+    requires some { records_of new_prices.now.table.now ≤ length below.now }
+    requires below { AreMarked (records_of new_prices.now.table.now)
+        (IsBelow (input_of new_prices.now) (budget_at new_prices.now m))
+        below.now }
+    requires observed { v < records_of new_prices.now.table.now }
+    ensures { IsTrue result ↔ IsStrictStart (input_of new_prices.now) (budget_at new_prices.now m) v }
+{
+    if new_prices.spending(v) < m {
+        return true;
+    }
+    let input = Input {
+        table: new_prices.table,
+        costs: new_prices.costs,
+    };
+    some_strict(&input, below, v)
 }
 
 /// Whether some marked observation is strictly preferred to `v`.
@@ -89,7 +112,7 @@ pub fn check_lists(
     requires sets { AreSets (input_of new_prices.now) (budget_at new_prices.now m) sets.now }
     ensures { SetsFail (input_of new_prices.now) (budget_at new_prices.now m) below.now strict.now result }
 {
-    let n = new_prices.input.n();
+    let n = new_prices.n();
     if !is_marked_list(n, &sets.below, below) {
         return fails(Reason::Set, 1);
     }

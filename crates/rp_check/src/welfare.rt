@@ -14,12 +14,13 @@ ghost use Rattle.rp_table.specs.Tables.{goods_of, records_of};
 
 use crate::bounds::{Least, is_fraction};
 use rp_clauses::input::Input;
-use rp_clauses::prices::{NewPrices, check_prices};
+use rp_clauses::prices::check_prices;
 use rp_clauses::reach::{ROOM, Way, mark_only, spread, write_marked};
 use rp_clauses::walk::check_violation;
 use rp_evidence::{Bound, Failure, Level, Reason, WelfarePart};
 use rp_farkas::check_pair;
 use rp_patch::fails;
+use rp_table::NewPrices;
 
 /// Checks evidence on the money metric of observation `t`, from 0, at new prices; `garp_shown` says whether an item before it shows
 /// by ranks that the axiom holds.
@@ -34,7 +35,8 @@ pub fn check_welfare(
 {
     check_prices(input, prices)?;
     let new_prices = NewPrices {
-        input: *input,
+        table: input.table,
+        costs: input.costs,
         prices,
     };
     match evidence {
@@ -70,16 +72,20 @@ fn check_bounds(
     at: u32,
     lower: &Bound,
 ) -> Result<(), Failure>
-    requires observed { t < records_of new_prices.now.input.table.now }
-    requires at { at < records_of new_prices.now.input.table.now }
+    requires observed { t < records_of new_prices.now.table.now }
+    requires at { at < records_of new_prices.now.table.now }
     ensures { WelfareBoundsFail (input_of new_prices.now) garp_shown (slice_index new_prices.now.prices.now) t
         upper at lower.now result }
 {
     if !garp_shown {
         return fails(Reason::NoGarp, 0);
     }
-    prove!(new_prices.input.n() as usize <= ROOM);
-    let marks = reaching(&new_prices.input, t);
+    prove!(new_prices.n() as usize <= ROOM);
+    let input = Input {
+        table: new_prices.table,
+        costs: new_prices.costs,
+    };
+    let marks = reaching(&input, t);
     if !marks[at as usize] {
         return fails(Reason::Set, 1);
     }
@@ -100,14 +106,14 @@ fn check_none_cheaper(
     reaching: &[bool],
     upper: u64,
 ) -> Result<(), Failure>
-    requires room { records_of new_prices.now.input.table.now ≤ length reaching.now }
-    requires marked { AreMarked (records_of new_prices.now.input.table.now)
+    requires room { records_of new_prices.now.table.now ≤ length reaching.now }
+    requires marked { AreMarked (records_of new_prices.now.table.now)
         (λ s. EqualsOrReaches (input_of new_prices.now) s t) reaching.now }
-    ensures { FirstUnless (records_of new_prices.now.input.table.now)
+    ensures { FirstUnless (records_of new_prices.now.table.now)
         (IsNotAboveAt (input_of new_prices.now) (slice_index new_prices.now.prices.now) t upper)
         LeastReason result }
 {
-    for s in 0..new_prices.input.n() {
+    for s in 0..new_prices.n() {
         if reaching[s as usize] && new_prices.spending(s) < upper {
             return fails(Reason::Least, s as usize + 1);
         }
@@ -143,22 +149,26 @@ fn reached(input: &Input<'_>, t: u32) -> [bool; ROOM]
 
 /// Whether a shown lower bound of `t` is that of its pair.
 fn lower_holds(new_prices: &NewPrices<'_>, t: u32, lower: &Bound) -> bool
-    requires { t < records_of new_prices.now.input.table.now }
+    requires { t < records_of new_prices.now.table.now }
     ensures { IsTrue result
         ↔ LowerHolds (input_of new_prices.now) (slice_index new_prices.now.prices.now) t lower.now }
 {
-    prove!(new_prices.input.n() as usize <= ROOM);
-    let marks = reached(&new_prices.input, t);
+    prove!(new_prices.n() as usize <= ROOM);
+    let input = Input {
+        table: new_prices.table,
+        costs: new_prices.costs,
+    };
+    let marks = reached(&input, t);
     let mut list = [0; ROOM];
-    let count = write_marked(new_prices.input.n(), &marks, &mut list);
+    let count = write_marked(new_prices.n(), &marks, &mut list);
     cost_holds(new_prices, &list[..count], lower)
 }
 
 /// Whether a shown bound is what the price side costs in an equal pair of the program over these observations.
 fn cost_holds(new_prices: &NewPrices<'_>, list: &[u32], bound: &Bound) -> bool
-    requires { AreFewOf (records_of new_prices.now.input.table.now) list.now }
+    requires { AreFewOf (records_of new_prices.now.table.now) list.now }
     ensures { IsTrue result ↔ CostHolds (welfare_program (input_of new_prices.now)
-        (slice_index new_prices.now.prices.now) list.now) (goods_of new_prices.now.input.table.now)
+        (slice_index new_prices.now.prices.now) list.now) (goods_of new_prices.now.table.now)
         (slice_index new_prices.now.prices.now) bound.now }
 {
     match bound {

@@ -1,4 +1,4 @@
-pub mod FractionLemmas
+pub mod HomotheticSteps
 pub mod MarkLemmas
 pub mod MarkedLists
 pub mod OwnCosts

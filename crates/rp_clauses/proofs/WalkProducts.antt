@@ -7,8 +7,8 @@ use Rattle.rp_evidence.specs.Homothetic.{EndsBelow, next_costs, own_costs, produ
 use Rattle.rp_evidence.specs.declared.failure.Failure.{Failure}
 use Rattle.rp_evidence.specs.declared.failure.Reason.TheVariants.{NotLess, Wide}
 use Rattle.rp_patch.specs.Clauses.{failure}
+use Rattle.rp_num.proofs.Products.{below_cross, taken_lowest, taken_wide}
 use Rattle.rp_clauses.specs.HomotheticFailure.{IsWideAfter, ProductsFail}
-use Rattle.rp_clauses.proofs.FractionLemmas.{below_cross, taken_lowest, taken_wide}
 
 from_more : (f : ℕ → ℕ → ℕ) (t : ℕ) (rest : List ℕ) (k : ℕ) → k < length rest → product_from f t (take (suc k) rest) ≡ product_from f t (take k rest) * f (slice_index (t ∷ rest) k) (slice_index (t ∷ rest) (suc k))
 from_more f t [] k within = absurd (omega arith)

@@ -11,20 +11,15 @@ ghost use Rattle.rp_table.specs.Tables.{records_of};
 
 use crate::input::Input;
 use crate::walk::check_violation;
-use rp_evidence::{AfriatPart, Failure, Level, Numbers, Reason};
+use rp_evidence::{AfriatPart, Failure, Level, MULTIPLIER_WIDTH, Numbers, Reason, UTILITY_WIDTH};
 use rp_patch::fails;
 
 /// The level at which all that was spent counts.
 const ONE: Level = Level { num: 1, den: 1 };
 
-/// The greatest utility of a model in absolute value, and its greatest multiplier.
-const UTILITY_WIDTH: i128 = 1 << 120;
-
-const MULTIPLIER_WIDTH: u64 = 1 << 60;
-
 /// A utility and a product of a multiplier, all within their widths: they stay within 128 bits.
 fn plus_product(utility: i128, added: i128, multiplier: u64) -> i128
-    requires utility { unsigned_abs utility ≤ 2 ^ 120 }
+    requires utility { FitsUtility utility }
     requires added { unsigned_abs added ≤ 2 ^ 51 }
     requires multiplier { FitsMultiplier multiplier }
     ensures { result ≡ utility +ℤ (added *ℤ pos multiplier) }

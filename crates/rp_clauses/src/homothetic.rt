@@ -26,10 +26,8 @@ fn taken_on(input: &Input<'_>, value: Frac, t: u32, s: u32) -> Result<Frac, Wide
     ensures fraction { 1 ≤ value.den }
     ensures own { 1 ≤ cost_of input.now.table.now t t }
 {
-    let across = u128::from(input.cost(t, s));
-    let own = u128::from(input.cost(t, t));
     prove!(value.den() > 0);
-    value.mul(Frac::new(across, own))
+    value.times(input.cost(t, s), input.cost(t, t))
 }
 
 /// Whether a fraction is below another.

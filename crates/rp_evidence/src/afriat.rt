@@ -2,6 +2,11 @@ ghost use Rattle.std.specs.Prelude.{◌≡◌};
 
 use rp_num::Seq;
 
+/// The greatest utility of a model in absolute value.
+pub const UTILITY_WIDTH: i128 = 1 << 120;
+/// The greatest multiplier of a model.
+pub const MULTIPLIER_WIDTH: u64 = 1 << 60;
+
 /// The numbers of an Afriat model (Afriat 1967; Varian 1982): by observation the utility `u` and the multiplier
 /// `lambda`, which is the marginal utility of expenditure there.
 #[derive(Debug, Drop)]

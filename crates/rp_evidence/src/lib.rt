@@ -19,7 +19,7 @@ mod relations;
 mod value_laws;
 mod welfare_laws;
 
-pub use afriat::{AfriatPart, Numbers};
+pub use afriat::{AfriatPart, MULTIPLIER_WIDTH, Numbers, UTILITY_WIDTH};
 pub use afriat_laws::{
     fitting_numbers_pass_nowhere, models_exclude_violations, models_exist, observed_utilities,
     standard_numbers_are_a_model, standard_numbers_are_unique, standard_numbers_exist,

@@ -1,6 +1,5 @@
 ghost use Rattle.std.specs.Prelude.{◌≡◌, ◌<◌, ◌≤◌, ◌*◌, ◌^◌, IfSome};
-ghost use Rattle.rp_num.specs.Fraction.{FitsPart, IsLowestTerms};
-ghost use Rattle.rp_table.specs.Cost.{cost_at};
+ghost use Rattle.rp_num.specs.Fraction.{FitsPart};
 
 use rp_num::{FRACTION_WIDTH, Frac, Wide, cmp_products};
 use rp_table::Costs;
@@ -11,22 +10,6 @@ use std::cmp::Ordering;
 #[derive(Drop)]
 pub(crate) struct Products<'a> {
     pub(crate) costs: &'a Costs,
-}
-
-impl Products<'_> {
-    /// The factor of the step from `t` to `s`.
-    fn factor(&self, t: u32, s: u32) -> Frac
-        requires from { t < self.now.costs.now.n }
-        requires to { s < self.now.costs.now.n }
-        ensures lowest { let c = cost_at self.now.costs.now in
-            IsLowestTerms (c t s) (c t t) result }
-        ensures across { 1 ≤ cost_at self.now.costs.now t s }
-        ensures own { 1 ≤ cost_at self.now.costs.now t t }
-    {
-        let across = self.costs.cost(t, s);
-        let own = self.costs.cost(t, t);
-        Frac::new(u128::from(across), u128::from(own))
-    }
 }
 
 impl Total for Products<'_> {
@@ -51,7 +34,7 @@ impl Total for Products<'_> {
 
     fn step(&self, v: Frac, t: u32, s: u32) -> Result<Frac, Wide> {
         prove!(v.den() > 0);
-        v.mul(self.factor(t, s))
+        v.times(self.costs.cost(t, s), self.costs.cost(t, t))
     }
 
     fn less(&self, a: Frac, b: Frac) -> bool {

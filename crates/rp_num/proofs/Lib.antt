@@ -4,6 +4,7 @@ pub mod Compare
 pub mod DecimalText
 pub mod FractionText
 pub mod Lowest
+pub mod Products
 pub mod ReadLemmas
 pub mod Twos
 mod Worked

@@ -80,6 +80,17 @@ impl Frac {
         Ok(Frac { num, den })
     }
 
+    /// The exact product with `num/den`, in lowest terms. `Wide` where that passes the width of a fraction.
+    pub fn times(self, num: u64, den: u64) -> Result<Frac, Wide>
+        requires { 1 ≤ den }
+        ensures product { IfOk result (λ p. IsLowestTerms (self.num * num) (self.den * den) p) }
+        ensures fits { IfOk result FitsWidth }
+        ensures wide { IsErr result ↔ (PassesWidth (self.num * num) (self.den * den)) }
+    {
+        prove!(self.den() > 0);
+        self.mul(Frac::new(u128::from(num), u128::from(den)))
+    }
+
     /// The exact order of the two numbers, by their cross products.
     pub fn cmp(self, other: Frac) -> Ordering
         ensures { result ≡ fraction_cmp self other }

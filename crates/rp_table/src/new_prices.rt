@@ -4,7 +4,7 @@ ghost use Rattle.rp_table.specs.Limits.{IsExpenditure};
 ghost use Rattle.rp_table.specs.NewPrices.{AreNewPrices};
 ghost use Rattle.rp_table.specs.Spending.{spending};
 ghost use Rattle.rp_table.specs.Tables.{goods_of, price_of, quantity_of, records_of};
-ghost use Rattle.rp_table.specs.declared.TheConstants.{LARGEST};
+ghost use Rattle.rp_table.specs.declared.TheConstants.{LARGEST, RECORDS};
 
 use crate::{Costs, Table, cost_of_bundle, cost_of_numerators};
 
@@ -27,6 +27,15 @@ pub struct NewBudget<'a> {
 }
 
 impl NewPrices<'_> {
+    /// How many observations the table has.
+    pub fn n(&self) -> u32
+        ensures count { result ≡ records_of self.now.table.now }
+        ensures some { 1 ≤ result }
+        ensures few { result ≤ RECORDS }
+    {
+        self.costs.n()
+    }
+
     /// The new price of good `g`.
     pub fn price(&self, g: u32) -> u32
         requires { g < goods_of self.now.table.now }

@@ -5,4 +5,4 @@ use Rattle.rp_clauses.specs.InnerMarks.{AreMarked}
 use Rattle.rp_check.proofs.sets.mark_strict_starts.Given as goal
 
 abbrev pub invariant-loop-v : goal.invariant-loop-v
-invariant-loop-v l = AreMarked l.v (IsStrictStart (input_of_table l.new_prices.input.table.now) (budget_of l.new_prices.prices.now l.m)) l.marks
+invariant-loop-v l = AreMarked l.v (IsStrictStart (input_of_table l.new_prices.table.now) (budget_of l.new_prices.prices.now l.m)) l.marks

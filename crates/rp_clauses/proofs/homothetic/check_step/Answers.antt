@@ -1,7 +1,7 @@
 use Rattle.std.proofs.Common.{arith, refl}
 use Rattle.std.proofs.lemmas.List.{get_or_read}
 use Rattle.rp_table.specs.Cost.{cost_of}
-use Rattle.rp_clauses.proofs.FractionLemmas.{step_below, step_holds, step_wide}
+use Rattle.rp_clauses.proofs.HomotheticSteps.{step_below, step_holds, step_wide}
 use Rattle.rp_clauses.proofs.homothetic.check_step.Goals as goal
 
 pub returns-then-is_below : goal.returns-then-is_below

@@ -7,6 +7,6 @@ invariant_of-result c =
     record {
       observed = c.requires.observed;
       few = c.requires.few;
-      within = welfare_within a.input.table.now a.input.costs.now a.prices.now c.args.reached.now c.goods.ensures.valid c.n.ensures.valid a.input.same a.new.one_each a.new.fit
+      within = welfare_within a.table.now a.costs.now a.prices.now c.args.reached.now c.goods.ensures.valid c.n.ensures.valid a.of_table a.new.one_each a.new.fit
           c.requires.observed c.requires.few;
     }

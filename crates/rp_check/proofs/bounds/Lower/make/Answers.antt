@@ -8,6 +8,6 @@ invariant_of-result c =
       observed = c.requires.observed;
       few = c.requires.few;
       spends = c.requires.spends;
-      within = lower_within a.input.table.now a.input.costs.now a.prices.now c.args.m c.args.below.now c.goods.ensures.valid c.n.ensures.valid a.input.same a.new.one_each a.new.fit c.requires.spends
+      within = lower_within a.table.now a.costs.now a.prices.now c.args.m c.args.below.now c.goods.ensures.valid c.n.ensures.valid a.of_table a.new.one_each a.new.fit c.requires.spends.1
           c.requires.observed c.requires.few c.args.good;
     }
