@@ -17,7 +17,7 @@ use Rattle.rp_simplex.specs.Outcome.{IsOutcome, EndsPastWidth}
 use Rattle.rp_simplex.specs.SameOutcome.{IsSameOutcome}
 use Rattle.rp_simplex.specs.declared.outcome.Outcome.{Outcome}
 use Rattle.rp_simplex.specs.declared.outcome.Outcome.TheVariants.{Optimal, Unbounded, Wide as PassedWidth}
-use Rattle.rp_bound.specs.ProgramBound.{IsBoundOf, outcome_of}
+use Rattle.rp_bound.specs.ProgramBound.{IsBoundOf}
 
 IsShown : Bound → Type 0
 IsShown (Shown value pair) = Unit {0}

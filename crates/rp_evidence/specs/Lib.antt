@@ -17,6 +17,7 @@ pub mod Proves
 pub mod Quasilinear
 pub mod Ranks
 pub mod StandardNumbers
+pub mod SupportedBudget
 pub mod Walk
 pub mod Welfare
 pub mod WelfareModels

@@ -9,9 +9,10 @@ ghost use Rattle.rp_evidence.specs.Demand.{IsInnerDemand, IsOnBudget, IsSupporti
 ghost use Rattle.rp_evidence.specs.Demand.{IsStrictStart, IsStrictlyBelow, IsSupremum, NewBudget};
 ghost use Rattle.rp_evidence.specs.Demand.{mixed};
 ghost use Rattle.rp_evidence.specs.DemandEvidence.{budget_of};
-ghost use Rattle.rp_evidence.specs.DemandPrograms.{ListsBelow, lower_program, upper_program};
+ghost use Rattle.rp_evidence.specs.DemandPrograms.{lower_program, upper_program};
 ghost use Rattle.rp_evidence.specs.Garp.{MeetsGarp};
 ghost use Rattle.rp_evidence.specs.Input.{TableInput, input_of_table};
+ghost use Rattle.rp_evidence.specs.SupportedBudget.{SupportedBudget};
 ghost use Rattle.rp_evidence.specs.Welfare.{EqualsOrReaches};
 
 /// An observation is strictly below exactly where it is, or is reached from, one whose bundle the budget buys with money
@@ -67,18 +68,11 @@ pub fn mixtures_support()
 /// Where the table meets the axiom and some demand supports, an equal pair of a good's lower program has the infimum
 /// of the good on its price side, and one of its upper program the supremum.
 pub fn equal_pairs_bound_goods()
-    ensures lower { (input : TableInput) (budget : NewBudget) (below : List ℕ)
-        (inner : FractionBundle)
-        (g den : ℕ) (y x : ℕ → ℕ)
-        → ListsBelow input budget below → MeetsGarp input.n input.cost 1 1
-        → IsSupportingDemand input budget inner → g < input.goods
-        → IsEqualPair (lower_program input budget below g) den y x → IsInfimum input budget g
-        (x g) den }
-    ensures upper { (input : TableInput) (budget : NewBudget) (below : List ℕ)
-        (inner : FractionBundle)
-        (g den : ℕ) (y x : ℕ → ℕ)
-        → ListsBelow input budget below → MeetsGarp input.n input.cost 1 1
-        → IsSupportingDemand input budget inner → g < input.goods → 0 < budget.prices g
-        → IsEqualPair (upper_program input budget below g) den y x → IsSupremum input budget g
-        (x g) den }
+    ensures lower { (at : SupportedBudget) (g den : ℕ) (y x : ℕ → ℕ) → g < at.input.goods
+        → IsEqualPair (lower_program at.input at.budget at.below g) den y x
+        → IsInfimum at.input at.budget g (x g) den }
+    ensures upper { (at : SupportedBudget) (g den : ℕ) (y x : ℕ → ℕ) → g < at.input.goods
+        → 0 < at.budget.prices g
+        → IsEqualPair (upper_program at.input at.budget at.below g) den y x
+        → IsSupremum at.input at.budget g (x g) den }
 {}

@@ -1,5 +1,5 @@
 -- The whole verdict: the costs of a table, the inner demand, and what shown bounds are.
-use Rattle.std.proofs.Common.{◌≡◌, ◌<◌, ◌≤◌, ◌+◌, ◌*◌, ℕ, ℤ, All, List, length, subst, ap, arith, slice_index}
+use Rattle.std.proofs.Common.{◌≡◌, ◌<◌, ◌+◌, ◌*◌, ℕ, ℤ, List, subst, ap, arith, slice_index}
 use Rattle.std.proofs.lemmas.Nat.{mul-add-lt}
 use Rattle.std.proofs.Math.Nat.{lt_of_mul-lt-mul_left, mul-lt-mul_of_pos_left}
 use Rattle.rp_num.specs.Fraction.{Fraction, IsLowestTerms}

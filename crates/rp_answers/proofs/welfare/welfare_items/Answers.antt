@@ -1,7 +1,7 @@
 use Rattle.std.proofs.Common.{ℕ, ◌/◌, ◌%◌, arith}
 use Rattle.rp_evidence.specs.Input.{input_of_table}
 use Rattle.rp_evidence.specs.declared.certificate.Item.{Item}
-use Rattle.rp_support.proofs.Listing.{entry_more}
+use Rattle.rp_support.proofs.ListSteps.{entry_more}
 use Rattle.rp_table.specs.Rows.{row_of}
 use Rattle.rp_table.specs.Tables.{records_of}
 use Rattle.rp_answers.specs.Welfares.{IsWelfareItem}

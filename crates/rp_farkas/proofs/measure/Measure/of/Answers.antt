@@ -11,5 +11,5 @@ returns-in-Cost-clause-below g c =
     let fits : FitsSigned w128 c.cost_sum.result = record { sfits = c.cost_sum.type_inv } in
     let same = ap unsigned_abs (to_z-of_z w128 c.cost_sum.result fits) in
     let positive = subst (λ (z : ℤ). pos 0 ≤ℤ z) (sym c.cost_sum.ensures)
-        (cost_not_negative p (g.met.P.Lp.within_limits c.args.p.now).b_not_negative (slice_index c.args.x.now)) in
+    (cost_not_negative p (g.met.P.Lp.within_limits c.args.p.now).b_not_negative (slice_index c.args.x.now)) in
     omega (arith, same, fits_without_sign c.cost_sum.result positive fits, c.unsigned_abs.ensures.value)
