@@ -18,8 +18,8 @@ use rp_evidence::{Bound, DemandPart, Failure, GoodBounds, Level, Point, Reason};
 use rp_farkas::{Lp, check_pair};
 use rp_patch::fails;
 
-/// Checks evidence on demand at new prices when `m` is spent; `garp_shown` says whether an item before it shows by ranks that the
-/// axiom holds.
+/// Checks evidence on demand at new prices when `m` is spent; `garp_shown` says whether an item before it shows by
+/// ranks that the axiom holds.
 pub fn check_demand(
     input: &Input<'_>,
     garp_shown: bool,
@@ -27,7 +27,8 @@ pub fn check_demand(
     m: u64,
     evidence: &DemandPart,
 ) -> Result<(), Failure>
-    ensures { DemandFails (input_of_table input.now.table.now) garp_shown prices.now m evidence.now result }
+    ensures { DemandFails (input_of_table input.now.table.now) garp_shown prices.now m
+        evidence.now result }
 {
     check_prices(input, prices)?;
     check_expenditure(m)?;
@@ -82,7 +83,8 @@ fn check_bounds(
     check_goods(new_prices, m, below, goods)
 }
 
-/// Checks the inner point: a denominator, one numerator for each good, on the budget, and dear enough at each observation.
+/// Checks the inner point: a denominator, one numerator for each good, on the budget, and dear enough at each
+/// observation.
 fn check_inner(
     new_prices: &NewPrices<'_>,
     m: u64,
@@ -137,7 +139,8 @@ fn check_goods(
 ) -> Result<(), Failure>
     requires spends { m ≤ LARGEST_EXPENDITURE }
     requires below { AreFewOf (records_of new_prices.now.input.table.now) below.now }
-    ensures { GoodsFail (input_of new_prices.now) (budget_at new_prices.now m) below.now goods.now result }
+    ensures { GoodsFail (input_of new_prices.now) (budget_at new_prices.now m)
+        below.now goods.now result }
 {
     let count = new_prices.input.table.goods();
     if goods.len() != count as usize {
@@ -160,7 +163,8 @@ fn check_good(
     requires spends { m ≤ LARGEST_EXPENDITURE }
     requires below { AreFewOf (records_of new_prices.now.input.table.now) below.now }
     requires good { g < goods_of new_prices.now.input.table.now }
-    ensures { GoodFails (input_of new_prices.now) (budget_at new_prices.now m) below.now g bounds.now result }
+    ensures { GoodFails (input_of new_prices.now) (budget_at new_prices.now m)
+        below.now g bounds.now result }
 {
     if !lower_holds(new_prices, m, below, g, &bounds.lower) {
         return fails(Reason::Bound, 2 * g as usize + 1);
@@ -177,7 +181,8 @@ fn lower_holds(new_prices: &NewPrices<'_>, m: u64, below: &[u32], g: u32, bound:
     requires below { AreFewOf (records_of new_prices.now.input.table.now) below.now }
     requires good { g < goods_of new_prices.now.input.table.now }
     ensures { IsTrue result ↔ BoundHolds
-        (lower_program (input_of new_prices.now) (budget_at new_prices.now m) below.now g) g bound.now }
+        (lower_program (input_of new_prices.now) (budget_at new_prices.now m) below.now g)
+        g bound.now }
 {
     price_is(&Lower::make(new_prices, m, below, g), g, bound)
 }
@@ -188,7 +193,8 @@ fn upper_holds(new_prices: &NewPrices<'_>, m: u64, below: &[u32], g: u32, bound:
     requires below { AreFewOf (records_of new_prices.now.input.table.now) below.now }
     requires good { g < goods_of new_prices.now.input.table.now }
     ensures { IsTrue result ↔ BoundHolds
-        (upper_program (input_of new_prices.now) (budget_at new_prices.now m) below.now g) g bound.now }
+        (upper_program (input_of new_prices.now) (budget_at new_prices.now m) below.now g)
+        g bound.now }
 {
     price_is(&Upper::make(new_prices, m, below, g), g, bound)
 }

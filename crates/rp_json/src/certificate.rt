@@ -1,6 +1,7 @@
 ghost use Rattle.std.specs.Prelude.{◌≡◌, IfOk};
 ghost use Rattle.serde_json.specs.View.{view};
-ghost use Rattle.rp_json.specs.CertificateValue.{certificate_text, certificate_value, item_value, kind_name};
+ghost use Rattle.rp_json.specs.CertificateValue.{certificate_text, certificate_value, item_value};
+ghost use Rattle.rp_json.specs.CertificateValue.{kind_name};
 ghost use Rattle.rp_notation.specs.Values.{list_value};
 
 use rp_evidence::{Certificate, Item, Kind};

@@ -1,4 +1,5 @@
--- What is read of JSON values: the one entry within its limits that has this value, or that none has (this program's own format).
+-- What is read of JSON values: the one entry within its limits that has this value, or that none has (this program's
+-- own format).
 use Rattle.std.specs.Prelude.{◌≡◌, ◌≢◌, ◌<◌, ◌+◌, ◌^◌, ℕ, List, All, Option, Some, None}
 use Rattle.serde_json.specs.Data.{Data}
 

@@ -8,8 +8,8 @@ use rp_num::NoMemory;
 use serde_json::Value;
 use std::alloc::Global;
 
-/// Several entries one after another, each in a notation of its own: `()` for none, and else the notation of the first one
-/// with those of the others.
+/// Several entries one after another, each in a notation of its own: `()` for none, and else the notation of the first
+/// one with those of the others.
 pub trait Fields {
     type Entries: Drop;
 

@@ -1,5 +1,5 @@
-//! Notations of the entries of certificates as JSON: numbers, observations, fractions, lists, names, and the members of an
-//! object.
+//! Notations of the entries of certificates as JSON: numbers, observations, fractions, lists, names, and the members of
+//! an object.
 #![tactic(auto)]
 
 pub mod fields;

@@ -10,7 +10,8 @@ use Rattle.rp_notation.specs.Values.{list_value, natural_value, naturals_value, 
 abbrev pub share_value : Share → Data
 share_value share = array (item (observations_value share.patches) (item (natural_value share.weight) no_items))
 
--- a mixture, a partial mixture with the weights of the patches, or the step at which the run of the program passes its width
+-- a mixture, a partial mixture with the weights of the patches, or the step at which the run of the program passes its
+-- width
 abbrev pub random_value : ℕ → RandomPart → Data
 random_value total (Mixture den parts) = object (member (codes "den") (natural_value den) (member (codes "item") (string (codes "random"))
     (member (codes "parts") (list_value share_value parts) (member (codes "total") (natural_value total) no_members))))

@@ -1,7 +1,8 @@
 ghost use Rattle.std.specs.Prelude.{◌≡◌, IfOk, codes};
 ghost use Rattle.serde_json.specs.Data.{object, member, no_members};
 ghost use Rattle.serde_json.specs.View.{view};
-ghost use Rattle.rp_program_items.specs.BoundValue.{bound_value, entry_value, good_value, point_value};
+ghost use Rattle.rp_program_items.specs.BoundValue.{bound_value, entry_value, good_value};
+ghost use Rattle.rp_program_items.specs.BoundValue.{point_value};
 ghost use Rattle.rp_program_items.specs.Limits.{FitsBound, FitsEntry, FitsGood, FitsPoint};
 ghost use Rattle.rp_notation.specs.Values.{list_value, naturals_value};
 

@@ -144,7 +144,8 @@ const BOUNDS: [&str; 7] = [
     "strict",
 ];
 
-/// The observations below, the expenditure, the goods, a point, the item's name, the prices, and the observations strictly below.
+/// The observations below, the expenditure, the goods, a point, the item's name, the prices, and the observations
+/// strictly below.
 type BoundsFields = (
     Seq<Observation>,
     (Natural, (Seq<Good>, (Bundle, PricesFields))),

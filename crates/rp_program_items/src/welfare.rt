@@ -122,7 +122,8 @@ pub fn read_welfare(alloc: Global, value: &Value) -> Result<Option<Welfare>, NoM
 /// The names of the members of bounds.
 const BOUNDS: [&str; 6] = ["at", "item", "lower", "observation", "prices", "upper"];
 
-/// The observation of the upper bound, the item's name, the lower bound, the observation, the prices and the upper bound.
+/// The observation of the upper bound, the item's name, the lower bound, the observation, the prices and the upper
+/// bound.
 type BoundsFields = (Observation, (Named<WelfareTag>, (AnyBound, PricesFields)));
 
 /// The observation, the prices and the upper bound.

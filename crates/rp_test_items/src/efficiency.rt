@@ -1,7 +1,8 @@
 ghost use Rattle.std.specs.Prelude.{◌≡◌, IfOk, IfSome, None, OnOk, codes};
 ghost use Rattle.serde_json.specs.Data.{string, member, no_members};
 ghost use Rattle.serde_json.specs.View.{view, members_view};
-ghost use Rattle.rp_test_items.specs.EfficiencyValue.{at_members, below_members, efficiency_value, level_value};
+ghost use Rattle.rp_test_items.specs.EfficiencyValue.{at_members, below_members};
+ghost use Rattle.rp_test_items.specs.EfficiencyValue.{efficiency_value, level_value};
 ghost use Rattle.rp_test_items.specs.Limits.{FitsEfficiency, FitsLevel};
 ghost use Rattle.rp_notation.specs.Reading.{FitsLong, IsRead};
 ghost use Rattle.rp_evidence.specs.declared.efficiency.Efficiency.{Efficiency};
