@@ -3,7 +3,7 @@ use Rattle.std.proofs.Common.{◌≡◌, zero, suc, arith, subst, sym}
 use Rattle.rp_afriat.proofs.SameVerdicts.{verdict_same as afriat_verdict_same}
 use Rattle.rp_afriat.specs.Verdict.{IsAfriatVerdict}
 use Rattle.rp_agreement.proofs.Accepted.{afriat_passes, efficiency_passes, garp_passes}
-use Rattle.rp_agreement.proofs.Excluding.{only_accepted}
+use Rattle.rp_agreement.proofs.OneFinding.{only_accepted}
 use Rattle.rp_check.specs.CheckVerdict.{IsVerdictOn}
 use Rattle.rp_check.specs.declared.verdict.Verdict.{Verdict}
 use Rattle.rp_check.specs.declared.verdict.Verdict.TheVariants.{Accepted}

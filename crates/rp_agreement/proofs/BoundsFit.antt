@@ -26,9 +26,9 @@ use Rattle.rp_farkas.specs.Listing.{IsListing}
 use Rattle.rp_farkas.specs.PairCheck.{IsShownPair}
 use Rattle.rp_farkas.specs.declared.entry.Entry.{Entry}
 use Rattle.rp_farkas.specs.declared.entry.Pair.{Pair}
-use Rattle.rp_json.specs.Limits.{FitsBound, FitsDemand, FitsEntry, FitsGood, FitsPoint, FitsWelfare}
-use Rattle.rp_json.specs.Reading.{FitsCount, FitsLong}
-use Rattle.rp_json.proofs.ListLemmas.{all_rest}
+use Rattle.rp_program_items.specs.Limits.{FitsBound, FitsDemand, FitsEntry, FitsGood, FitsPoint, FitsWelfare}
+use Rattle.rp_notation.specs.Reading.{FitsCount, FitsLong}
+use Rattle.rp_notation.proofs.ListLemmas.{all_rest}
 use Rattle.rp_num.specs.Fraction.{Fraction, FitsPart, FitsWidth, IsLowestTerms}
 use Rattle.rp_num.specs.Spelled.{IsReduced}
 use Rattle.rp_num.proofs.Coprime.{IsGcd-exists}

@@ -4,8 +4,8 @@ pub mod AcceptedItems
 pub mod AcceptedRandom
 pub mod BoundsFit
 pub mod Closed
-pub mod Excluding
-pub mod ExcludingRandom
+pub mod OneFinding
+pub mod OneRandomFinding
 pub mod ItemsFit
 pub mod Lists
 pub mod Narrow

@@ -10,8 +10,7 @@ use Rattle.rp_evidence.specs.Count.{AreCounts, IsNumberOf}
 use Rattle.rp_evidence.specs.Walk.{IsClosedWalk}
 use Rattle.rp_evidence.proofs.Counting.{none_twice_is_shorter}
 use Rattle.rp_evidence.proofs.Places.{below_at}
-use Rattle.rp_json.specs.Limits.{FitObservations}
-use Rattle.rp_json.specs.Reading.{FitsCount}
+use Rattle.rp_notation.specs.Reading.{FitObservations, FitsCount}
 use Rattle.rp_table.specs.declared.TheConstants.{RECORDS}
 
 module _ (n : ℕ) (few : n ≤ RECORDS) where

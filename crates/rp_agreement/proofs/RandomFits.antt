@@ -10,9 +10,9 @@ use Rattle.rp_farkas.specs.Limits.{FitsEvidence}
 use Rattle.rp_farkas.specs.LinearProgram.{LinearProgram}
 use Rattle.rp_farkas.specs.declared.entry.Entry.{Entry}
 use Rattle.rp_farkas.specs.declared.entry.Pair.{Pair}
-use Rattle.rp_json.specs.Limits.{FitObservations, FitsRandom, FitsShare}
-use Rattle.rp_json.specs.Reading.{FitsLong}
-use Rattle.rp_json.proofs.ListLemmas.{all_rest}
+use Rattle.rp_notation.specs.Reading.{FitObservations, FitsLong}
+use Rattle.rp_program_items.specs.Limits.{FitsRandom, FitsShare}
+use Rattle.rp_notation.proofs.ListLemmas.{all_rest}
 use Rattle.rp_patch.specs.Mixtures.{random_program}
 use Rattle.rp_patch.specs.Patches.{IsPatchList, PatchList}
 use Rattle.rp_patch.specs.RandomEvidence.{ProvesRandom}

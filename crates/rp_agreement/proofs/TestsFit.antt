@@ -26,7 +26,8 @@ use Rattle.rp_evidence.specs.declared.quasilinear.Quasi.{Quasi}
 use Rattle.rp_evidence.specs.declared.quasilinear.Quasi.TheVariants.{Values as Sums, Cycle as Negative}
 use Rattle.rp_garp.specs.Verdict.{IsGarpVerdict}
 use Rattle.rp_homo.specs.Verdict.{IsHomotheticVerdict}
-use Rattle.rp_json.specs.Limits.{FitObservations, FitsAfriat, FitsEfficiency, FitsGarp, FitsHomothetic, FitsQuasilinear}
+use Rattle.rp_notation.specs.Reading.{FitObservations}
+use Rattle.rp_test_items.specs.Limits.{FitsAfriat, FitsEfficiency, FitsGarp, FitsHomothetic, FitsQuasilinear}
 use Rattle.rp_quasi.specs.Verdict.{IsLimitedSum, IsQuasilinearVerdict}
 use Rattle.rp_table.specs.declared.TheConstants.{RECORDS}
 use Rattle.rp_agreement.proofs.Lists.{counts_fit, walk_fits}

@@ -1,4 +1,5 @@
--- What the searches give for a table, item by item (sources at each kind of evidence), and what it is that nothing is found wrong with it.
+-- What the searches give for a table, item by item (sources at each kind of evidence), and what it is that nothing is
+-- found wrong with it.
 use Rattle.std.specs.Prelude.{◌<◌, Ok}
 use Rattle.rp_afriat.specs.Verdict.{IsAfriatVerdict}
 use Rattle.rp_patch.specs.Clauses.{Finding}

@@ -1,5 +1,6 @@
-//! What the searches give passes the checker and is read back: nothing is found wrong with the evidence that the program makes,
-//! and its numbers are within the limits of the JSON form, so that the text of a certificate denotes that certificate.
+//! What the searches give passes the checker and is read back: nothing is found wrong with the evidence that the
+//! program makes, and its numbers are within the limits of the JSON form, so that the text of a certificate denotes
+//! that certificate.
 #![tactic(auto)]
 
 mod certificates;

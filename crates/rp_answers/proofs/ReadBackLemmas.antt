@@ -8,7 +8,7 @@ use Rattle.rp_evidence.specs.declared.certificate.Kind.TheVariants.{Table}
 use Rattle.rp_evidence.specs.declared.garp.Garp.{Garp}
 use Rattle.rp_garp.specs.Verdict.{IsGarpVerdict}
 use Rattle.rp_json.specs.Denoted.{FitsKind}
-use Rattle.rp_json.proofs.ListLemmas.{all_more}
+use Rattle.rp_notation.proofs.ListLemmas.{all_more}
 use Rattle.rp_table.specs.Tables.{IsTable, Observations, records_of}
 use Rattle.rp_table.specs.Cost.{cost_of}
 use Rattle.rp_agreement.specs.ReadBack.{IsReadBack}

@@ -1,4 +1,5 @@
--- What is answered of a certificate on a table: it is accepted where no item fails, else the first item that does (this program's own).
+-- What is answered of a certificate on a table: it is accepted where no item fails, else the first item that does (this
+-- program's own).
 use Rattle.std.specs.Prelude.{◌≡◌, ◌+◌, ◌<◌, ℕ, List, length, take, slice_index_or, Ok, Err}
 use Rattle.rp_patch.specs.Clauses.{Finding, capped}
 use Rattle.rp_check.specs.ItemFailure.{ItemFails, one_shows_garp}

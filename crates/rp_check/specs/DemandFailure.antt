@@ -18,8 +18,8 @@ use Rattle.rp_farkas.specs.LinearProgram.{LinearProgram}
 use Rattle.rp_farkas.specs.PairCheck.{IsShownPair}
 use Rattle.rp_num.specs.Fraction.{IsLowestTerms}
 
--- A shown bound is an equal pair of the program, and its value is the price of row g in lowest terms. What is withheld is
--- passed over.
+-- A shown bound is an equal pair of the program, and its value is the price of row g in lowest terms. What is withheld
+-- is passed over.
 abbrev pub BoundHolds : LinearProgram → ℕ → Bound → Type 0
 BoundHolds p g (Shown value pair) = IsShownPair p pair × IsLowestTerms (slice_index pair.x g) pair.den value
 BoundHolds p g (Wide step) = Unit {0}
@@ -43,7 +43,8 @@ GoodsFail input budget below goods = InOrder (
     ∷ FirstBelow input.goods (GoodFailsAt input budget below goods)
     ∷ [])
 
--- The bundle costs enough at observation t: at least what was spent there where t is below, and more where it is strictly below.
+-- The bundle costs enough at observation t: at least what was spent there where t is below, and more where it is
+-- strictly below.
 abbrev pub CostsEnoughAt : TableInput → NewBudget → FractionBundle → ℕ → Type 0
 CostsEnoughAt input budget bundle t =
     (IsBelow input budget t → bundle.den * input.cost t t ≤ spending input.goods (input.price t) bundle.num)
@@ -74,7 +75,8 @@ DemandBoundsFail input garp_shown budget below strict inner goods = InOrder (
 
 -- Bounds, or a violation.
 abbrev pub DemandPartFails : TableInput → Bool → NewBudget → DemandPart → Finding
-DemandPartFails input garp_shown budget (Bounds below strict inner goods) = DemandBoundsFail input garp_shown budget below strict inner goods
+DemandPartFails input garp_shown budget (Bounds below strict inner goods) =
+    DemandBoundsFail input garp_shown budget below strict inner goods
 DemandPartFails input garp_shown budget (NoModel walk) = ViolationFails input.n input.cost 1 1 walk
 
 -- An item on demand: the new prices, what is spent at them, and then its part.

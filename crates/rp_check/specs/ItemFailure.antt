@@ -1,4 +1,5 @@
--- When an item of a certificate on a table fails (this program's own order of clauses; sources at each kind of evidence).
+-- When an item of a certificate on a table fails (this program's own order of clauses; sources at each kind of
+-- evidence).
 use Rattle.std.specs.Prelude.{◌||◌, Bool, true, false, List, [], ◌∷◌}
 use Rattle.rp_clauses.specs.AfriatFailure.{AfriatFails}
 use Rattle.rp_patch.specs.Clauses.{Finding, InOrder}

@@ -1,5 +1,5 @@
--- What is answered of a certificate on random choices: it is accepted where no item fails, else the first item that does (this
--- program's own).
+-- What is answered of a certificate on random choices: it is accepted where no item fails, else the first item that
+-- does (this program's own).
 use Rattle.std.specs.Prelude.{◌≡◌, ◌+◌, ◌<◌, ℕ, List, length, slice_index_or, Ok, Err}
 use Rattle.rp_check.specs.declared.verdict.Verdict.{Verdict}
 use Rattle.rp_check.specs.declared.verdict.Verdict.TheVariants.{Accepted, Rejected}

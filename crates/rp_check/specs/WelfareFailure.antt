@@ -15,8 +15,8 @@ use Rattle.rp_farkas.specs.LinearProgram.{LinearProgram}
 use Rattle.rp_farkas.specs.PairCheck.{IsShownPair}
 use Rattle.rp_num.specs.Fraction.{IsLowestTerms}
 
--- A shown bound is an equal pair of the program, and its value is what the price side costs, in lowest terms. What is withheld
--- is passed over.
+-- A shown bound is an equal pair of the program, and its value is what the price side costs, in lowest terms. What is
+-- withheld is passed over.
 abbrev pub CostHolds : LinearProgram → ℕ → (ℕ → ℕ) → Bound → Type 0
 CostHolds p goods prices (Shown value pair) =
     IsShownPair p pair × IsLowestTerms (spending goods prices (slice_index pair.x)) pair.den value

@@ -14,8 +14,8 @@ use rp_farkas::Lp;
 use rp_num::Frac;
 use rp_table::NewPrices;
 
-/// The program whose prices have the least of a good: a row for each good, a column for each observation below, and two for
-/// the budget.
+/// The program whose prices have the least of a good: a row for each good, a column for each observation below, and two
+/// for the budget.
 #[derive(Clone, Copy)]
 pub struct Lower<'a> {
     new_prices: NewPrices<'a>,
@@ -82,8 +82,8 @@ impl Lp for Lower<'_> {
     }
 }
 
-/// The program whose prices have the greatest of a good: with the same rows and columns, and what the other goods cost as its
-/// right side.
+/// The program whose prices have the greatest of a good: with the same rows and columns, and what the other goods cost
+/// as its right side.
 #[derive(Clone, Copy)]
 pub struct Upper<'a> {
     new_prices: NewPrices<'a>,
@@ -154,8 +154,8 @@ impl Lp for Upper<'_> {
     }
 }
 
-/// The entry of both programs in row `i` and column `j`: the price of good `i` at an observation below or at the new prices, in
-/// the last column negated.
+/// The entry of both programs in row `i` and column `j`: the price of good `i` at an observation below or at the new
+/// prices, in the last column negated.
 fn entry(new_prices: &NewPrices<'_>, below: &[u32], i: u32, j: u32) -> i64
     requires observed { All (λ t. t < records_of new_prices.now.table.now) below.now }
     requires few { length below.now ≤ RECORDS }
@@ -174,8 +174,8 @@ fn entry(new_prices: &NewPrices<'_>, below: &[u32], i: u32, j: u32) -> i64
     }
 }
 
-/// What column `j` of both programs is worth: what was spent at an observation below or is spent at the new prices, in the last
-/// column negated.
+/// What column `j` of both programs is worth: what was spent at an observation below or is spent at the new prices, in
+/// the last column negated.
 fn worth(new_prices: &NewPrices<'_>, m: u64, below: &[u32], j: u32) -> i64
     requires observed { All (λ t. t < records_of new_prices.now.table.now) below.now }
     requires spends { IsExpenditure m }
@@ -193,8 +193,8 @@ fn worth(new_prices: &NewPrices<'_>, m: u64, below: &[u32], j: u32) -> i64
     }
 }
 
-/// The program of a lower bound on welfare: a row for each good with its new price, and a column for each listed observation
-/// with its prices and what was spent there.
+/// The program of a lower bound on welfare: a row for each good with its new price, and a column for each listed
+/// observation with its prices and what was spent there.
 #[derive(Clone, Copy)]
 pub struct Least<'a> {
     new_prices: NewPrices<'a>,

@@ -19,8 +19,8 @@ use rp_farkas::{Lp, check_pair};
 use rp_patch::fails;
 use rp_table::NewPrices;
 
-/// Checks evidence on demand at new prices when `m` is spent; `garp_shown` says whether an item before it shows by ranks that the
-/// axiom holds.
+/// Checks evidence on demand at new prices when `m` is spent; `garp_shown` says whether an item before it shows by
+/// ranks that the axiom holds.
 pub fn check_demand(
     input: &Input<'_>,
     garp_shown: bool,
@@ -28,7 +28,8 @@ pub fn check_demand(
     m: u64,
     evidence: &DemandPart,
 ) -> Result<(), Failure>
-    ensures { DemandFails (input_of_table input.now.table.now) garp_shown prices.now m evidence.now result }
+    ensures { DemandFails (input_of_table input.now.table.now) garp_shown prices.now m
+        evidence.now result }
 {
     check_prices(input, prices)?;
     check_expenditure(m)?;
@@ -84,7 +85,8 @@ fn check_bounds(
     check_goods(new_prices, m, below, goods)
 }
 
-/// Checks the inner point: a denominator, one numerator for each good, on the budget, and dear enough at each observation.
+/// Checks the inner point: a denominator, one numerator for each good, on the budget, and dear enough at each
+/// observation.
 fn check_inner(
     new_prices: &NewPrices<'_>,
     m: u64,
@@ -139,7 +141,8 @@ fn check_goods(
 ) -> Result<(), Failure>
     requires spends { IsExpenditure m }
     requires below { AreFewOf (records_of new_prices.now.table.now) below.now }
-    ensures { GoodsFail (input_of new_prices.now) (budget_at new_prices.now m) below.now goods.now result }
+    ensures { GoodsFail (input_of new_prices.now) (budget_at new_prices.now m)
+        below.now goods.now result }
 {
     let count = new_prices.table.goods();
     if goods.len() != count as usize {
@@ -162,7 +165,8 @@ fn check_good(
     requires spends { IsExpenditure m }
     requires below { AreFewOf (records_of new_prices.now.table.now) below.now }
     requires good { g < goods_of new_prices.now.table.now }
-    ensures { GoodFails (input_of new_prices.now) (budget_at new_prices.now m) below.now g bounds.now result }
+    ensures { GoodFails (input_of new_prices.now) (budget_at new_prices.now m)
+        below.now g bounds.now result }
 {
     if !lower_holds(new_prices, m, below, g, &bounds.lower) {
         return fails(Reason::Bound, 2 * g as usize + 1);
@@ -179,7 +183,8 @@ fn lower_holds(new_prices: &NewPrices<'_>, m: u64, below: &[u32], g: u32, bound:
     requires below { AreFewOf (records_of new_prices.now.table.now) below.now }
     requires good { g < goods_of new_prices.now.table.now }
     ensures { IsTrue result ↔ BoundHolds
-        (lower_program (input_of new_prices.now) (budget_at new_prices.now m) below.now g) g bound.now }
+        (lower_program (input_of new_prices.now) (budget_at new_prices.now m) below.now g)
+        g bound.now }
 {
     price_is(&Lower::make(new_prices, m, below, g), g, bound)
 }
@@ -190,7 +195,8 @@ fn upper_holds(new_prices: &NewPrices<'_>, m: u64, below: &[u32], g: u32, bound:
     requires below { AreFewOf (records_of new_prices.now.table.now) below.now }
     requires good { g < goods_of new_prices.now.table.now }
     ensures { IsTrue result ↔ BoundHolds
-        (upper_program (input_of new_prices.now) (budget_at new_prices.now m) below.now g) g bound.now }
+        (upper_program (input_of new_prices.now) (budget_at new_prices.now m) below.now g)
+        g bound.now }
 {
     price_is(&Upper::make(new_prices, m, below, g), g, bound)
 }

@@ -21,8 +21,8 @@ fn check_random_item(patches: &Patches, item: &Item) -> Result<(), Failure>
     }
 }
 
-/// The verdict on a certificate on random choices: its first item that fails, by the first of its clauses that fails. What is
-/// withheld claims nothing and is passed over.
+/// The verdict on a certificate on random choices: its first item that fails, by the first of its clauses that fails.
+/// What is withheld claims nothing and is passed over.
 pub fn check_random(patches: &Patches, certificate: &Certificate) -> Verdict
     requires { IsCertificateOf RandomKind certificate.now }
     ensures first_failure { IsRandomVerdictOn patches.now certificate.now.items result }

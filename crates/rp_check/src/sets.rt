@@ -110,7 +110,8 @@ pub fn check_lists(
     strict: &[u32],
 ) -> Result<(), Failure>
     requires sets { AreSets (input_of new_prices.now) (budget_at new_prices.now m) sets.now }
-    ensures { SetsFail (input_of new_prices.now) (budget_at new_prices.now m) below.now strict.now result }
+    ensures { SetsFail (input_of new_prices.now) (budget_at new_prices.now m)
+        below.now strict.now result }
 {
     let n = new_prices.n();
     if !is_marked_list(n, &sets.below, below) {

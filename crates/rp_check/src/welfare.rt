@@ -22,8 +22,8 @@ use rp_farkas::check_pair;
 use rp_patch::fails;
 use rp_table::NewPrices;
 
-/// Checks evidence on the money metric of observation `t`, from 0, at new prices; `garp_shown` says whether an item before it shows
-/// by ranks that the axiom holds.
+/// Checks evidence on the money metric of observation `t`, from 0, at new prices; `garp_shown` says whether an item
+/// before it shows by ranks that the axiom holds.
 pub fn check_welfare(
     input: &Input<'_>,
     garp_shown: bool,
@@ -31,7 +31,8 @@ pub fn check_welfare(
     t: u32,
     evidence: &WelfarePart,
 ) -> Result<(), Failure>
-    ensures { WelfareFails (input_of_table input.now.table.now) garp_shown prices.now t evidence.now result }
+    ensures { WelfareFails (input_of_table input.now.table.now) garp_shown prices.now t
+        evidence.now result }
 {
     check_prices(input, prices)?;
     let new_prices = NewPrices {
@@ -74,8 +75,8 @@ fn check_bounds(
 ) -> Result<(), Failure>
     requires observed { t < records_of new_prices.now.table.now }
     requires at { at < records_of new_prices.now.table.now }
-    ensures { WelfareBoundsFail (input_of new_prices.now) garp_shown (slice_index new_prices.now.prices.now) t
-        upper at lower.now result }
+    ensures { WelfareBoundsFail (input_of new_prices.now) garp_shown
+        (slice_index new_prices.now.prices.now) t upper at lower.now result }
 {
     if !garp_shown {
         return fails(Reason::NoGarp, 0);

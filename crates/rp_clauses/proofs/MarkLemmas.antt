@@ -7,13 +7,6 @@ use Rattle.rp_evidence.specs.Walk.{LeadsTo}
 use Rattle.rp_evidence.proofs.Walks.{leads_more, starts_below}
 use Rattle.rp_clauses.specs.InnerMarks.{AreMarked, IsLedTo, IsMarked}
 
-pub marked_or_not : (marks : List Bool) (t : ℕ) → IsMarked marks t ⊎ (¬ IsMarked marks t)
-marked_or_not marks t = go (slice_index_or marks t false)
-  where
-    go : (b : Bool) → IsTrue b ⊎ (¬ IsTrue b)
-    go true = inl refl
-    go false = inr (λ h. false≢true h)
-
 -- ---- where the steps from one observation lead is marked, up to v
 
 pub record IsTakenTo (step : ℕ → Type 0) (old new : List Bool) (v : ℕ) : Type 0 where

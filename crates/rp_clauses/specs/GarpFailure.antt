@@ -1,4 +1,5 @@
--- When evidence for the generalized axiom fails at a level (this program's own order of clauses; ranks: after Varian 1982).
+-- When evidence for the generalized axiom fails at a level (this program's own order of clauses; ranks: after Varian
+-- 1982).
 use Rattle.std.specs.Prelude.{◌≡◌, ◌<◌, ◌≤◌, ℕ, List, [], ◌∷◌, length, slice_index}
 use Rattle.rp_patch.specs.Clauses.{Finding, Unless, InOrder, FirstUnless}
 use Rattle.rp_clauses.specs.WalkFailure.{ViolationFails}

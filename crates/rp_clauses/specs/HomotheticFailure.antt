@@ -37,7 +37,8 @@ ValuesFail n c values = InOrder (
     ∷ AllStepsFail n c values
     ∷ [])
 
--- After k steps of the walk the start has been multiplied by c(t,s)/c(t,t) at each: that is past the width of fractions.
+-- After k steps of the walk the start has been multiplied by c(t,s)/c(t,t) at each: that is past the width of
+-- fractions.
 abbrev pub IsWideAfter : (ℕ → ℕ → ℕ) → Fraction → List ℕ → ℕ → Type 0
 IsWideAfter c start walk k =
     PassesWidth (start.num * next_costs c (take (k + 1) walk)) (start.den * own_costs c (take (k + 1) walk))

@@ -1,5 +1,5 @@
--- Words that only the crate's own functions and their proofs need, and no definition rests on: marks on observations, and what
--- steps lead to.
+-- Words that only the crate's own functions and their proofs need, and no definition rests on: marks on observations,
+-- and what steps lead to.
 use Rattle.std.specs.Prelude.{◌<◌, ◌↔◌, ℕ, Bool, false, IsTrue, List, slice_index_or}
 use Rattle.rp_clauses.specs.declared.reach.Way.{Way}
 use Rattle.rp_clauses.specs.declared.reach.Way.TheVariants.{Onward, Back}

@@ -1,4 +1,4 @@
-ghost use Rattle.std.specs.Prelude.{◌≡◌, ◌+◌, ◌-◌, ◌<◌, ◌^◌, ℕ, Err, length, slice_index};
+ghost use Rattle.std.specs.Prelude.{◌+◌, ◌-◌, ◌<◌, ◌^◌, ℕ, length, slice_index};
 ghost use Rattle.rp_clauses.specs.WalkFailure.{ClosedWalkFails, ObservationsFail, StrictStepFails};
 ghost use Rattle.rp_clauses.specs.WalkFailure.{ViolationFails, WeakStepsFail};
 ghost use Rattle.rp_table.specs.Cost.{cost_of};

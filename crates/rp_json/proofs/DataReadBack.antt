@@ -18,8 +18,8 @@ use Rattle.serde_json.specs.Written.{outline, items_outline, members_outline, co
 use Rattle.serde_json.proofs.Numbers.{number_of-decimal}
 use Rattle.serde_json.proofs.Texts.{print-outline}
 use Rattle.rp_json.proofs.LineFeed.{tokens_of_line}
-use Rattle.rp_json.proofs.ListLemmas.{all_first, all_rest}
-use Rattle.rp_json.specs.Values.{list_value}
+use Rattle.rp_notation.proofs.ListLemmas.{all_first, all_rest}
+use Rattle.rp_notation.specs.Values.{list_value}
 
 -- The text of the value is UTF-8, and the grammar reads it as the value, which nests at most k deep.
 pub record ReadsBack (k : ℕ) (d : Data) : Type 0 where
@@ -73,12 +73,12 @@ array_reads k ds h = record {
   utf8 = IsUtf8-append (91 ∷ []) _ (IsUtf8-are_ascii (91 ∷ []) refl) (items_utf8 k false ds h);
 }
 
-each_reads : {X : Type 0} (k : ℕ) (shown : X → Data) (fits : X → Type 0) → ((x : X) → fits x → ReadsBack k (shown x)) → (xs : List X) → All fits xs → EachReads k (items_of (map shown xs))
-each_reads k shown fits one [] h = tt
-each_reads k shown fits one (x ∷ xs) h = (one x (all_first fits x xs h), each_reads k shown fits one xs (all_rest fits x xs h))
+each_reads : {X : Type 0} (k : ℕ) (value_of : X → Data) (fits : X → Type 0) → ((x : X) → fits x → ReadsBack k (value_of x)) → (xs : List X) → All fits xs → EachReads k (items_of (map value_of xs))
+each_reads k value_of fits one [] h = tt
+each_reads k value_of fits one (x ∷ xs) h = (one x (all_first fits x xs h), each_reads k value_of fits one xs (all_rest fits x xs h))
 
-pub list_reads : {X : Type 0} (k : ℕ) (shown : X → Data) (fits : X → Type 0) → ((x : X) → fits x → ReadsBack k (shown x)) → (xs : List X) → All fits xs → ReadsBack (suc k) (list_value shown xs)
-list_reads k shown fits one xs h = array_reads k _ (each_reads k shown fits one xs h)
+pub list_reads : {X : Type 0} (k : ℕ) (value_of : X → Data) (fits : X → Type 0) → ((x : X) → fits x → ReadsBack k (value_of x)) → (xs : List X) → All fits xs → ReadsBack (suc k) (list_value value_of xs)
+list_reads k value_of fits one xs h = array_reads k _ (each_reads k value_of fits one xs h)
 
 -- ---- objects
 

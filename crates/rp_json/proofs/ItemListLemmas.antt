@@ -8,11 +8,11 @@ use Rattle.rp_evidence.specs.declared.certificate.Kind.{Kind}
 use Rattle.serde_json.specs.Data.{Data, Items, array, member, no_items, null, number, object, unsigned}
 use Rattle.rp_json.specs.CertificateValue.{certificate_text, certificate_value, item_value}
 use Rattle.rp_json.specs.Denoted.{FitsKind, IsDenoted, IsDenotedBy, IsFirstNoItem, IsReadable, IsSpelledSo, Spells, top_value}
-use Rattle.rp_json.specs.ItemLists.{AreItems}
+use Rattle.rp_json.specs.InnerItems.{AreItems}
 use Rattle.rp_json.specs.Limits.{FitsItem}
 use Rattle.rp_json.specs.declared.fault.JsonFault.{JsonFault}
 use Rattle.rp_json.specs.declared.fault.JsonFault.TheVariants.{BadShape, BadVersion, NoMemory, NotJson}
-use Rattle.rp_json.proofs.ListLemmas.{AreSoFar, same_items}
+use Rattle.rp_notation.proofs.ListLemmas.{AreSoFar, same_items}
 use Rattle.rp_json.proofs.ReadsBack.{certificate_text_read, certificate_text_utf8}
 
 module _ {V : Type 0} (seen : V → Data) where
@@ -40,7 +40,7 @@ module _ {V : Type 0} (seen : V → Data) where
   }
 
 pub all_items : (kind : Kind) (values : List Data) (items : List Item) → AreSoFar item_value (FitsKind kind) values items → AreItems kind values items
-all_items kind values items so = record { shown = so.0; fit = so.1; only = so.2 }
+all_items kind values items so = record { same_values = so.0; fit = so.1; only = so.2 }
 
 -- ---- certificates
 
@@ -58,7 +58,7 @@ pub certificate_found : (kind : Kind) (d : Data) (version : ℕ) (values : List 
 certificate_found kind d version values items is one are = (whole, record { of_kind = refl; version = refl; items = are.fit }, only)
   where
     whole : certificate_value (record { kind = kind; version = 1; items = items }) ≡ d
-    whole = ap (top_value kind 1) are.shown ∙ ap (λ v. top_value kind v values) (sym one) ∙ sym is
+    whole = ap (top_value kind 1) are.same_values ∙ ap (λ v. top_value kind v values) (sym one) ∙ sym is
 
     only : (other : Certificate) → IsReadable kind other → certificate_value other ≡ d → other ≡ record { kind = kind; version = 1; items = items }
     only other readable e =

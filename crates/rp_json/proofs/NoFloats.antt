@@ -24,21 +24,21 @@ use Rattle.rp_evidence.specs.declared.quasilinear.Quasi.{Quasi}
 use Rattle.rp_evidence.specs.declared.quasilinear.Quasi.TheVariants.{Values as Sums, Cycle as Negative}
 use Rattle.serde_json.specs.Data.{Data, Members}
 use Rattle.serde_json.specs.Written.{has_float, members_have_float}
-use Rattle.rp_json.specs.AfriatValue.{afriat_value}
-use Rattle.rp_json.specs.BoundValue.{bound_value, entry_value, good_value}
+use Rattle.rp_test_items.specs.AfriatValue.{afriat_value}
+use Rattle.rp_program_items.specs.BoundValue.{bound_value, entry_value, good_value}
 use Rattle.rp_json.specs.CertificateValue.{certificate_value, item_value}
-use Rattle.rp_json.specs.DemandValue.{demand_value, welfare_value}
-use Rattle.rp_json.specs.EfficiencyValue.{at_members, below_members, efficiency_value}
-use Rattle.rp_json.specs.GarpValue.{garp_value}
-use Rattle.rp_json.specs.HomotheticValue.{homothetic_value}
-use Rattle.rp_json.specs.QuasilinearValue.{quasilinear_value}
-use Rattle.rp_json.specs.RandomValue.{random_value, share_value}
-use Rattle.rp_json.specs.Values.{count_value, fraction_value, list_value, natural_value, observation_value, signed_value}
+use Rattle.rp_program_items.specs.DemandValue.{demand_value, welfare_value}
+use Rattle.rp_test_items.specs.EfficiencyValue.{at_members, below_members, efficiency_value}
+use Rattle.rp_test_items.specs.GarpValue.{garp_value}
+use Rattle.rp_test_items.specs.HomotheticValue.{homothetic_value}
+use Rattle.rp_test_items.specs.QuasilinearValue.{quasilinear_value}
+use Rattle.rp_program_items.specs.RandomValue.{random_value, share_value}
+use Rattle.rp_notation.specs.Values.{count_value, fraction_value, list_value, natural_value, observation_value, signed_value}
 
 -- nor has a list of values without one
-no_list : {X : Type 0} (shown : X → Data) → ((x : X) → has_float (shown x) ≡ false) → (xs : List X) → has_float (list_value shown xs) ≡ false
-no_list shown none [] = refl
-no_list shown none (x ∷ xs) = rw (none x) (no_list shown none xs)
+no_list : {X : Type 0} (value_of : X → Data) → ((x : X) → has_float (value_of x) ≡ false) → (xs : List X) → has_float (list_value value_of xs) ≡ false
+no_list value_of none [] = refl
+no_list value_of none (x ∷ xs) = rw (none x) (no_list value_of none xs)
 
 no_counts : (xs : List ℕ) → has_float (list_value count_value xs) ≡ false
 no_counts xs = no_list count_value (λ _. refl) xs

@@ -34,18 +34,20 @@ use Rattle.rp_evidence.specs.declared.random.Share.{Share}
 use Rattle.rp_farkas.specs.declared.entry.Entry.{Entry}
 use Rattle.serde_json.specs.Data.{object, member}
 use Rattle.serde_json.specs.Read.{read}
-use Rattle.rp_json.specs.AfriatValue.{afriat_value}
-use Rattle.rp_json.specs.BoundValue.{bound_value, entry_value, good_value, point_value}
+use Rattle.rp_test_items.specs.AfriatValue.{afriat_value}
+use Rattle.rp_program_items.specs.BoundValue.{bound_value, entry_value, good_value, point_value}
 use Rattle.rp_json.specs.CertificateValue.{certificate_text, certificate_value, item_value, kind_name}
-use Rattle.rp_json.specs.DemandValue.{demand_value, welfare_value}
-use Rattle.rp_json.specs.EfficiencyValue.{at_members, below_members, efficiency_value}
-use Rattle.rp_json.specs.GarpValue.{garp_value}
-use Rattle.rp_json.specs.HomotheticValue.{homothetic_value}
-use Rattle.rp_json.specs.Limits.{FitObservations, FitsAfriat, FitsBound, FitsDemand, FitsEfficiency, FitsEntry, FitsGarp, FitsGood, FitsHomothetic, FitsItem, FitsPoint, FitsQuasilinear, FitsRandom, FitsShare, FitsWelfare}
-use Rattle.rp_json.specs.QuasilinearValue.{quasilinear_value}
-use Rattle.rp_json.specs.RandomValue.{random_value, share_value}
-use Rattle.rp_json.specs.Reading.{FitsCount, FitsLong, FitsObservation}
-use Rattle.rp_json.specs.Values.{count_value, counts_value, fraction_value, natural_value, naturals_value, observation_value, observations_value, signed_value}
+use Rattle.rp_program_items.specs.DemandValue.{demand_value, welfare_value}
+use Rattle.rp_test_items.specs.EfficiencyValue.{at_members, below_members, efficiency_value}
+use Rattle.rp_test_items.specs.GarpValue.{garp_value}
+use Rattle.rp_test_items.specs.HomotheticValue.{homothetic_value}
+use Rattle.rp_notation.specs.Reading.{FitObservations, FitsCount, FitsLong, FitsObservation}
+use Rattle.rp_test_items.specs.Limits.{FitsAfriat, FitsEfficiency, FitsGarp, FitsHomothetic, FitsQuasilinear}
+use Rattle.rp_program_items.specs.Limits.{FitsBound, FitsDemand, FitsEntry, FitsGood, FitsPoint, FitsRandom, FitsShare, FitsWelfare}
+use Rattle.rp_json.specs.Limits.{FitsItem}
+use Rattle.rp_test_items.specs.QuasilinearValue.{quasilinear_value}
+use Rattle.rp_program_items.specs.RandomValue.{random_value, share_value}
+use Rattle.rp_notation.specs.Values.{count_value, counts_value, fraction_value, natural_value, naturals_value, observation_value, observations_value, signed_value}
 use Rattle.rp_json.proofs.DataReadBack.{ReadsBack, text_reads, number_reads, array_reads, list_reads, object_reads, line_utf8, line_reads}
 
 -- ---- numbers

@@ -7,25 +7,25 @@ use Rattle.rp_evidence.specs.declared.certificate.Kind.{Kind}
 use Rattle.rp_evidence.specs.declared.certificate.Kind.TheVariants.{Table, Random}
 use Rattle.serde_json.specs.Data.{Data, object, string, member, no_members}
 use Rattle.serde_json.specs.Written.{compact_text}
-use Rattle.rp_json.specs.AfriatValue.{afriat_value}
-use Rattle.rp_json.specs.DemandValue.{demand_value, welfare_value}
-use Rattle.rp_json.specs.EfficiencyValue.{efficiency_value}
-use Rattle.rp_json.specs.GarpValue.{garp_value}
-use Rattle.rp_json.specs.HomotheticValue.{homothetic_value}
-use Rattle.rp_json.specs.QuasilinearValue.{quasilinear_value}
-use Rattle.rp_json.specs.RandomValue.{random_value}
-use Rattle.rp_json.specs.Values.{count_value, list_value}
+use Rattle.rp_test_items.specs.AfriatValue.{afriat_value}
+use Rattle.rp_program_items.specs.DemandValue.{demand_value, welfare_value}
+use Rattle.rp_test_items.specs.EfficiencyValue.{efficiency_value}
+use Rattle.rp_test_items.specs.GarpValue.{garp_value}
+use Rattle.rp_test_items.specs.HomotheticValue.{homothetic_value}
+use Rattle.rp_test_items.specs.QuasilinearValue.{quasilinear_value}
+use Rattle.rp_program_items.specs.RandomValue.{random_value}
+use Rattle.rp_notation.specs.Values.{count_value, list_value}
 
 -- an item
 abbrev pub item_value : Item → Data
-item_value (GarpItem verdict) = garp_value verdict
-item_value (AfriatItem part) = afriat_value part
+item_value (GarpItem evidence) = garp_value evidence
+item_value (AfriatItem evidence) = afriat_value evidence
 item_value (EfficiencyItem evidence) = efficiency_value evidence
-item_value (HomotheticItem verdict) = homothetic_value verdict
-item_value (QuasiItem verdict) = quasilinear_value verdict
-item_value (DemandItem prices m part) = demand_value prices m part
-item_value (WelfareItem prices of part) = welfare_value prices of part
-item_value (RandomItem total part) = random_value total part
+item_value (HomotheticItem evidence) = homothetic_value evidence
+item_value (QuasiItem evidence) = quasilinear_value evidence
+item_value (DemandItem prices m evidence) = demand_value prices m evidence
+item_value (WelfareItem prices of evidence) = welfare_value prices of evidence
+item_value (RandomItem total evidence) = random_value total evidence
 
 -- what a certificate is about
 abbrev pub kind_name : Kind → List ℕ

@@ -1,5 +1,5 @@
--- What bytes denote as a certificate of a kind, or their first refusal (this program's own format). Bytes are read as `serde_json`
--- reads them, so every spelling of a value denotes the same.
+-- What bytes denote as a certificate of a kind, or their first refusal (this program's own format). Bytes are read as
+-- `serde_json` reads them, so every spelling of a value denotes the same.
 use Rattle.std.specs.Prelude.{◌≡◌, ◌≢◌, ◌⊎◌, ◌<◌, ◌+◌, ◌-◌, ◌^◌, ℕ, List, All, length, map, min, slice_index_or, take, codes, Result, Ok, Err, IsUtf8, Some}
 use Rattle.rp_evidence.specs.Kinds.{IsOfKind}
 use Rattle.rp_evidence.specs.declared.certificate.Certificate.{Certificate}

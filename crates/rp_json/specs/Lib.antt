@@ -1,15 +1,4 @@
-pub mod AfriatValue
-pub mod BoundValue
 pub mod CertificateValue
-pub mod DemandValue
 pub mod Denoted
-pub mod EfficiencyValue
-pub mod GarpValue
-pub mod HomotheticValue
-pub mod QuasilinearValue
-pub mod RandomValue
-pub mod ItemLists
+pub mod InnerItems
 pub mod Limits
-pub mod Members
-pub mod Reading
-pub mod Values

@@ -1,18 +1,19 @@
 ghost use Rattle.std.specs.Prelude.{◌≡◌, IfOk};
 ghost use Rattle.serde_json.specs.View.{view};
-ghost use Rattle.rp_json.specs.CertificateValue.{certificate_text, certificate_value, item_value, kind_name};
-ghost use Rattle.rp_json.specs.Values.{list_value};
+ghost use Rattle.rp_json.specs.CertificateValue.{certificate_text, certificate_value, item_value};
+ghost use Rattle.rp_json.specs.CertificateValue.{kind_name};
+ghost use Rattle.rp_notation.specs.Values.{list_value};
 
-use crate::afriat::show_afriat;
-use crate::demand::show_demand;
-use crate::efficiency::show_efficiency;
-use crate::garp::show_garp;
-use crate::homothetic::show_homothetic;
-use crate::quasilinear::show_quasilinear;
-use crate::random::show_random;
-use crate::welfare::show_welfare;
 use rp_evidence::{Certificate, Item, Kind};
 use rp_num::NoMemory;
+use rp_program_items::demand::demand_value;
+use rp_program_items::random::random_value;
+use rp_program_items::welfare::welfare_value;
+use rp_test_items::afriat::afriat_value;
+use rp_test_items::efficiency::efficiency_value;
+use rp_test_items::garp::garp_value;
+use rp_test_items::homothetic::homothetic_value;
+use rp_test_items::quasilinear::quasilinear_value;
 use serde_json::{Value, json};
 use std::alloc::Global;
 
@@ -21,23 +22,23 @@ use std::alloc::Global;
 pub fn write(alloc: Global, certificate: &Certificate) -> Result<Vec<u8>, NoMemory>
     ensures { IfOk result (λ text. text.items ≡ certificate_text certificate.now) }
 {
-    let value = show_certificate(alloc, certificate)?;
+    let value = certificate_value(alloc, certificate)?;
     let mut text = value.to_vec(alloc)?;
     text.push(b'\n')?;
     Ok(text)
 }
 
 /// Makes the value of a certificate.
-fn show_certificate(alloc: Global, certificate: &Certificate) -> Result<Value, NoMemory>
+fn certificate_value(alloc: Global, certificate: &Certificate) -> Result<Value, NoMemory>
     ensures { IfOk result (λ v. view v ≡ certificate_value certificate.now) }
 {
-    let items = show_items(alloc, certificate.items.as_slice())?;
-    let kind = name(certificate.kind);
+    let items = items_value(alloc, certificate.items.as_slice())?;
+    let kind = kind_name(certificate.kind);
     Ok(json!(in alloc; {"items": items, "kind": kind, "version": certificate.version})?)
 }
 
 /// What a certificate of this kind says that it is about.
-pub(crate) fn name(kind: Kind) -> &'static str
+pub(crate) fn kind_name(kind: Kind) -> &'static str
     ensures { result.now ≡ kind_name kind }
 {
     match kind {
@@ -47,28 +48,28 @@ pub(crate) fn name(kind: Kind) -> &'static str
 }
 
 /// Makes the array of the items' values.
-fn show_items(alloc: Global, items: &[Item]) -> Result<Value, NoMemory>
+fn items_value(alloc: Global, items: &[Item]) -> Result<Value, NoMemory>
     ensures { IfOk result (λ v. view v ≡ list_value item_value items.now) }
 {
     let mut values = Vec::with_capacity(alloc, items.len())?;
     for item in items {
-        values.push(show_item(alloc, item)?)?;
+        values.push(item_value(alloc, item)?)?;
     }
     Ok(Value::Array(values))
 }
 
 /// Makes the value of an item.
-fn show_item(alloc: Global, item: &Item) -> Result<Value, NoMemory>
+fn item_value(alloc: Global, item: &Item) -> Result<Value, NoMemory>
     ensures { IfOk result (λ v. view v ≡ item_value item.now) }
 {
     match item {
-        Item::Garp(verdict) => show_garp(alloc, verdict),
-        Item::Afriat(part) => show_afriat(alloc, part),
-        Item::Efficiency(evidence) => show_efficiency(alloc, evidence),
-        Item::Homothetic(verdict) => show_homothetic(alloc, verdict),
-        Item::Quasi(verdict) => show_quasilinear(alloc, verdict),
-        Item::Demand { prices, m, part } => show_demand(alloc, prices.as_slice(), *m, part),
-        Item::Welfare { prices, of, part } => show_welfare(alloc, prices.as_slice(), *of, part),
-        Item::Random { total, part } => show_random(alloc, *total, part),
+        Item::Garp(evidence) => garp_value(alloc, evidence),
+        Item::Afriat(evidence) => afriat_value(alloc, evidence),
+        Item::Efficiency(evidence) => efficiency_value(alloc, evidence),
+        Item::Homothetic(evidence) => homothetic_value(alloc, evidence),
+        Item::Quasi(evidence) => quasilinear_value(alloc, evidence),
+        Item::Demand { prices, m, part } => demand_value(alloc, prices.as_slice(), *m, part),
+        Item::Welfare { prices, of, part } => welfare_value(alloc, prices.as_slice(), *of, part),
+        Item::Random { total, part } => random_value(alloc, *total, part),
     }
 }

@@ -2,18 +2,18 @@ ghost use Rattle.std.specs.Prelude.{◌≡◌, IfOk};
 ghost use Rattle.serde_json.specs.View.{view};
 ghost use Rattle.rp_json.specs.CertificateValue.{item_value};
 ghost use Rattle.rp_json.specs.Denoted.{FitsKind};
-ghost use Rattle.rp_json.specs.Reading.{IsRead};
+ghost use Rattle.rp_notation.specs.Reading.{IsRead};
 
-use crate::afriat::read_afriat;
-use crate::demand::{Demand, read_demand};
-use crate::efficiency::read_efficiency;
-use crate::garp::read_garp;
-use crate::homothetic::read_homothetic;
-use crate::quasilinear::read_quasilinear;
-use crate::random::{Random, read_random};
-use crate::welfare::{Welfare, read_welfare};
 use rp_evidence::{Item, Kind};
 use rp_num::NoMemory;
+use rp_program_items::demand::{Demand, read_demand};
+use rp_program_items::random::{Random, read_random};
+use rp_program_items::welfare::{Welfare, read_welfare};
+use rp_test_items::afriat::read_afriat;
+use rp_test_items::efficiency::read_efficiency;
+use rp_test_items::garp::read_garp;
+use rp_test_items::homothetic::read_homothetic;
+use rp_test_items::quasilinear::read_quasilinear;
 use serde_json::Value;
 use std::alloc::Global;
 
@@ -35,23 +35,23 @@ fn read_table_item(alloc: Global, value: &Value) -> Result<Option<Item>, NoMemor
     ensures { IfOk result (λ o. IsRead item_value (FitsKind Kind.Table) (view value.now) o) }
 {
     match read_garp(alloc, value)? {
-        Some(verdict) => return Ok(Some(Item::Garp(verdict))),
+        Some(garp) => return Ok(Some(Item::Garp(garp))),
         None => {}
     }
     match read_afriat(alloc, value)? {
-        Some(part) => return Ok(Some(Item::Afriat(part))),
+        Some(afriat) => return Ok(Some(Item::Afriat(afriat))),
         None => {}
     }
     match read_efficiency(alloc, value)? {
-        Some(evidence) => return Ok(Some(Item::Efficiency(evidence))),
+        Some(efficiency) => return Ok(Some(Item::Efficiency(efficiency))),
         None => {}
     }
     match read_homothetic(alloc, value)? {
-        Some(verdict) => return Ok(Some(Item::Homothetic(verdict))),
+        Some(homothetic) => return Ok(Some(Item::Homothetic(homothetic))),
         None => {}
     }
     match read_quasilinear(alloc, value)? {
-        Some(verdict) => return Ok(Some(Item::Quasi(verdict))),
+        Some(quasilinear) => return Ok(Some(Item::Quasi(quasilinear))),
         None => {}
     }
     match read_demand(alloc, value)? {

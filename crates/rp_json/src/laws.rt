@@ -5,8 +5,8 @@ ghost use Rattle.rp_json.specs.CertificateValue.{certificate_text, certificate_v
 ghost use Rattle.rp_json.specs.Denoted.{IsDenoted, IsReadable, Spells};
 ghost use Rattle.rp_json.specs.declared.fault.JsonFault.TheVariants as fault;
 
-/// What is written of a certificate is read as that certificate: its text denotes nothing else, but for want of memory. And
-/// the text spells the certificate's value.
+/// What is written of a certificate is read as that certificate: its text denotes nothing else, but for want of memory.
+/// And the text spells the certificate's value.
 pub fn what_is_written_is_read()
     ensures text { (kind : Kind) (c : Certificate) → IsReadable kind c
         → Spells (certificate_text c) (certificate_value c) }

@@ -2,14 +2,14 @@ ghost use Rattle.std.specs.Prelude.{◌≡◌, ◌≢◌, ℕ, List, IfOk, Match
 ghost use Rattle.serde_json.specs.Data.{Data};
 ghost use Rattle.serde_json.specs.View.{view};
 ghost use Rattle.rp_json.specs.Denoted.{HasNoTop, IsDenoted, IsDenotedBy, top_value};
-ghost use Rattle.rp_json.specs.ItemLists.{AreItemsBy, tops};
-ghost use Rattle.rp_json.specs.Members.{views};
+ghost use Rattle.rp_json.specs.InnerItems.{AreItemsBy, tops};
+ghost use Rattle.rp_notation.specs.InnerMembers.{views};
 
-use crate::certificate::name;
+use crate::certificate::kind_name;
 use crate::fault::JsonFault;
 use crate::items::read_item;
-use crate::objects::values_of;
 use rp_evidence::{Certificate, Item, Kind};
+use rp_notation::objects::values_of;
 use rp_num::{NoMemory, Seq};
 use serde_json::Value;
 use std::alloc::Global;
@@ -72,19 +72,19 @@ fn top_of<'a>(values: &[&'a Value], kind: Kind) -> Option<(u64, &'a [Value])>
         ((version : ℕ) (items : List Data) → views values.now ≢ tops kind version items)
         (λ top. views values.now ≡ tops kind top.0 (map view top.1.now)) }
 {
-    let [items, told, version] = values else {
+    let [items, kind_text, version] = values else {
         return None;
     };
     let Some(items) = items.as_array() else {
         return None;
     };
-    let Some(told) = told.as_str() else {
+    let Some(kind_text) = kind_text.as_str() else {
         return None;
     };
     let Some(version) = version.as_u64() else {
         return None;
     };
-    if told == name(kind) {
+    if kind_text == kind_name(kind) {
         Some((version, items.as_slice()))
     } else {
         None

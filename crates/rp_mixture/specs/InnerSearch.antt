@@ -29,5 +29,7 @@ pub record IsSearching (p : PatchList) (weights : List ℕ) (least : ℕ) (parts
   pub within : i ≤ length p.patches
   pub each : (k : ℕ) → k ≤ depth → IsPart p (part_at parts k) × ((part_at parts k).taken ≡ k)
   pub grown : (k : ℕ) → k < depth
-      → taken_in (part_at parts (k + 1)) ≡ taken_in (part_at parts k) ++ slice_index (taken_in (part_at parts (k + 1))) k ∷ []
-  pub weighed : (type : List ℕ) → IsRationalType p type → Before type (front_of parts depth i) → least ≤ type_weight weights type
+      → taken_in (part_at parts (k + 1))
+      ≡ taken_in (part_at parts k) ++ slice_index (taken_in (part_at parts (k + 1))) k ∷ []
+  pub weighed : (type : List ℕ) → IsRationalType p type → Before type (front_of parts depth i)
+      → least ≤ type_weight weights type

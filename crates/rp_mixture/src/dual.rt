@@ -1,5 +1,5 @@
-//! The search for a rational type that weighs less than it should, depth first over the budgets. A part with a violation is left,
-//! and so is one whose patches weigh enough by themselves.
+//! The search for a rational type that weighs less than it should, depth first over the budgets. A part with a
+//! violation is left, and so is one whose patches weigh enough by themselves.
 ghost use Rattle.std.specs.Prelude.{◌≡◌, ◌<◌, ◌≤◌, ◌↔◌, ℕ, List, IsTrue, length, slice_index};
 ghost use Rattle.rp_patch.specs.Mixtures.{type_weight};
 ghost use Rattle.rp_patch.specs.Types.{IsRationalType};
@@ -21,8 +21,8 @@ fn weight_of_type(weights: &[u64], numbers: &[u32]) -> u128
     weight
 }
 
-/// Whether every rational type weighs at least `least`. `parts` is room for the parts on the way: the one at place d has a patch
-/// of each of the first d budgets.
+/// Whether every rational type weighs at least `least`. `parts` is room for the parts on the way: the one at place d
+/// has a patch of each of the first d budgets.
 fn all_weigh_by(patches: &Patches, least: u64, weights: &[u64], parts: &mut [Part]) -> bool
     requires one_each { length weights.now ≡ length patches.now.patches }
     requires room { length parts.old ≡ 48 }

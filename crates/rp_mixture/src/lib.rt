@@ -1,4 +1,5 @@
-//! Clauses of the checker on random choices: mixtures of rational types, and weights of patches that show that there is none.
+//! Clauses of the checker on random choices: mixtures of rational types, and weights of patches that show that there is
+//! none.
 #![tactic(auto)]
 
 mod choices;

@@ -9,7 +9,7 @@ use Rattle.rp_json.specs.CertificateValue.{item_value}
 use Rattle.rp_json.specs.Denoted.{FitsKind, HasBadItem, HasNoTop, IsDenoted, IsFirstNoItem, IsSpelledSo, Spells, top_value}
 use Rattle.rp_json.specs.declared.fault.JsonFault.{JsonFault}
 use Rattle.rp_json.specs.declared.fault.JsonFault.TheVariants.{BadShape, BadVersion, NoMemory, NotJson}
-use Rattle.rp_json.proofs.ListLemmas.{same_items}
+use Rattle.rp_notation.proofs.ListLemmas.{same_items}
 use Rattle.rp_patch.specs.Choices.{RandomInput}
 use Rattle.rp_patch.specs.Patches.{PatchList}
 use Rattle.rp_patch.specs.Units.{IsLeastMultiple, IsMultiple, PassesPatchesAt, PassesUnitsAt, SaysWhy, all_chosen, chosen_below}

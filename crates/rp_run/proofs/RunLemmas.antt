@@ -9,10 +9,10 @@ use Rattle.rp_patch.proofs.Determined.{same_list}
 use Rattle.rp_types.proofs.Determined.{types_once}
 use Rattle.rp_run.proofs.OneAnswer.{denotes_one}
 use Rattle.rp_run.specs.Inputs.{Denotes}
-use Rattle.rp_agreement.proofs.Excluding.{only_accepted}
+use Rattle.rp_agreement.proofs.OneFinding.{only_accepted}
 use Rattle.rp_check.specs.CheckVerdict.{IsVerdictOn}
 use Rattle.rp_check.specs.RandomVerdict.{IsRandomVerdictOn}
-use Rattle.rp_agreement.proofs.ExcludingRandom.{only_accepted_on_patches}
+use Rattle.rp_agreement.proofs.OneRandomFinding.{only_accepted_on_patches}
 use Rattle.rp_answers.specs.Typed.{TypedPatches}
 use Rattle.rp_check.specs.declared.verdict.Verdict.{Verdict}
 use Rattle.rp_check.specs.declared.verdict.Verdict.TheVariants.{Accepted, Rejected}

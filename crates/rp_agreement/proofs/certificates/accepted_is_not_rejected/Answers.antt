@@ -1,4 +1,4 @@
-use Rattle.rp_agreement.proofs.Excluding.{only_accepted}
+use Rattle.rp_agreement.proofs.OneFinding.{only_accepted}
 use Rattle.rp_agreement.proofs.certificates.accepted_is_not_rejected.Goals as goal
 
 pub returns : goal.returns

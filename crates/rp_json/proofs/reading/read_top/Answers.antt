@@ -1,7 +1,7 @@
 use Rattle.std.proofs.Common.{rules, refl, sym, ◌∙◌}
 use Rattle.serde_json.specs.View.{members_view, view}
-use Rattle.rp_json.specs.ItemLists.{tops}
-use Rattle.rp_json.proofs.MemberLemmas.{is_object, same_object}
+use Rattle.rp_json.specs.InnerItems.{tops}
+use Rattle.rp_notation.proofs.MemberLemmas.{is_object, same_object}
 use Rattle.rp_json.proofs.reading.read_top.Goals as goal
 
 pub returns-in-None : goal.returns-in-None

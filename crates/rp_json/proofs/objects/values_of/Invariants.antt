@@ -1,7 +1,0 @@
-use Rattle.serde_json.specs.View.{members_view}
-use Rattle.rp_json.specs.Members.{texts, views}
-use Rattle.rp_json.proofs.MemberLemmas.{AreSeen}
-use Rattle.rp_json.proofs.objects.values_of.Given as goal
-
-abbrev pub invariant-loop-name : goal.invariant-loop-name
-invariant-loop-name l = AreSeen (texts l.names) (members_view l.fn.members.entries) (members_view l.name-iterator) (views l.values.items)

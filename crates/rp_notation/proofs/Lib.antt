@@ -1,0 +1,5 @@
+pub mod FractionTexts
+pub mod ListLemmas
+pub mod MemberLemmas
+pub mod NumberLemmas
+pub mod ShapeDifferences

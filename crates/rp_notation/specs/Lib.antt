@@ -1,0 +1,3 @@
+pub mod InnerMembers
+pub mod Reading
+pub mod Values

@@ -1,0 +1,4 @@
+pub mod BoundValue
+pub mod DemandValue
+pub mod Limits
+pub mod RandomValue
