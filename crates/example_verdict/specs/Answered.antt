@@ -15,4 +15,5 @@ check_line (Rejected item reason place) = codes "rejected\n"
 -- The report of a certificate whose verdicts are proved of the table, and then that the checker accepts it.
 abbrev pub IsAnswerOn : Observations → List ℕ → Type 0
 IsAnswerOn table text =
-    (certificate : Certificate) × IsCertifiedBy table certificate × (text ≡ report_text table certificate.items ++ check_line Accepted)
+    (certificate : Certificate) × IsCertifiedBy table certificate
+    × (text ≡ report_text table certificate.items ++ check_line Accepted)

@@ -5,7 +5,8 @@ use Rattle.rp_evidence.specs.Input.{input_of_table}
 use Rattle.rp_evidence.specs.Proves.{Proves}
 use Rattle.rp_evidence.specs.declared.afriat.AfriatPart.{AfriatPart}
 use Rattle.rp_evidence.specs.declared.certificate.Certificate.{Certificate}
-use Rattle.rp_evidence.specs.declared.certificate.Item.TheVariants.{Garp as GarpItem, Afriat as AfriatItem, Efficiency as EfficiencyItem}
+use Rattle.rp_evidence.specs.declared.certificate.Item.TheVariants.{Garp as GarpItem, Afriat as AfriatItem}
+use Rattle.rp_evidence.specs.declared.certificate.Item.TheVariants.{Efficiency as EfficiencyItem}
 use Rattle.rp_evidence.specs.declared.certificate.Kind.TheVariants.{Table}
 use Rattle.rp_evidence.specs.declared.efficiency.Efficiency.{Efficiency}
 use Rattle.rp_evidence.specs.declared.garp.Garp.{Garp}

@@ -19,7 +19,8 @@ pub struct Certified {
     pub outcome: Verdict,
 }
 
-/// The verdicts on a table with their evidence, and what the checker says of them from the table and the evidence alone.
+/// The verdicts on a table with their evidence, and what the checker says of them from the table and the evidence
+/// alone.
 pub fn certify(alloc: Global, table: &Table, costs: &Costs) -> Result<Certified, NoMemory>
     requires { IsCostsOf costs.now table.now }
     ensures proves { IfOk result (λ made. IsCertifiedBy table.now made.certificate) }

@@ -20,8 +20,8 @@ use Rattle.rp_table.specs.Names.{IsName}
 use Rattle.rp_table.specs.declared.TheConstants.{RECORDS, GOODS}
 use Rattle.rp_table.specs.Tables.{IsTable, records_of, quantity_of}
 use Rattle.rp_text.proofs.RowLemmas.{length-rows, row_number, all_rows, sum_at_least}
-use Rattle.rp_answers.specs.TrialTable.{drawn_price, drawn_quantity, some_bought, record_generator, trial_generator, good_name, trial_of}
-use Rattle.rp_draws.specs.Words.{after_words, word_after}
+use Rattle.rp_answers.specs.TrialTable.{drawn_price, drawn_quantity, some_bought, record_generator, good_name, trial_of}
+use Rattle.rp_draws.specs.Words.{after_words, generator_of, word_after}
 
 -- one more price
 pub prices_more : (g here : Lcg) (k word price : ℕ) (row more : List ℕ) → row ≡ listed k (drawn_price g) → here ≡ after_words g k → word ≡ word_after here 0 → price ≡ 1 + word % 99 → more ≡ row ++ price ∷ [] → more ≡ listed (k + 1) (drawn_price g)
@@ -147,12 +147,12 @@ trial_is_table seed rows goods some_rows few_rows some_goods few_goods =
 pub record_more : (seed goods k : ℕ) (here priced_after after : Lcg) → here ≡ record_generator seed goods k → priced_after ≡ after_words here goods → after ≡ after_words priced_after goods → after ≡ record_generator seed goods (k + 1)
 record_more seed goods k here priced_after after is priced bought =
     bought ∙ ap (λ (h : Lcg). after_words h goods) priced ∙ words_later here goods goods ∙ ap (λ (h : Lcg). after_words h (goods + goods)) is
-    ∙ words_later (trial_generator seed) (k * (goods + goods)) (goods + goods)
-    ∙ (let e : k * (goods + goods) + (goods + goods) ≡ (k + 1) * (goods + goods) = omega arith in ap (after_words (trial_generator seed)) e)
+    ∙ words_later (generator_of seed) (k * (goods + goods)) (goods + goods)
+    ∙ (let e : k * (goods + goods) + (goods + goods) ≡ (k + 1) * (goods + goods) = omega arith in ap (after_words (generator_of seed)) e)
 
-pub first_record : (seed goods : ℕ) (g : Lcg) → g ≡ trial_generator seed → g ≡ record_generator seed goods 0
+pub first_record : (seed goods : ℕ) (g : Lcg) → g ≡ generator_of seed → g ≡ record_generator seed goods 0
 unfolding after_words
-first_record seed goods g is = is ∙ (let e : 0 ≡ 0 * (goods + goods) = omega arith in ap (after_words (trial_generator seed)) e)
+first_record seed goods g is = is ∙ (let e : 0 ≡ 0 * (goods + goods) = omega arith in ap (after_words (generator_of seed)) e)
 
 -- one more row
 pub row_more : (k goods : ℕ) (f : ℕ → ℕ → ℕ) (rows row more : List ℕ) → rows ≡ rows_below k goods f → row ≡ listed goods (f k) → more ≡ rows ++ row → more ≡ rows_below (k + 1) goods f

@@ -1,5 +1,5 @@
--- What `analyse` and `certify` print: the report, or the JSON, of a certificate that has one item for each test, in a fixed order, each
--- with evidence that proves its verdict.
+-- What `analyse` and `certify` print: the report, or the JSON, of a certificate that has one item for each test, in a
+-- fixed order, each with evidence that proves its verdict.
 use Rattle.std.specs.Prelude.{◌≡◌, ℕ, Bool, List, [], ◌∷◌}
 use Rattle.rp_table.specs.Tables.{Observations}
 use Rattle.rp_evidence.specs.Input.{TableInput, input_of_table}
@@ -8,7 +8,9 @@ use Rattle.rp_evidence.specs.declared.certificate.Certificate.{Certificate}
 use Rattle.rp_evidence.specs.declared.afriat.AfriatPart.{AfriatPart}
 use Rattle.rp_evidence.specs.declared.efficiency.Efficiency.{Efficiency}
 use Rattle.rp_evidence.specs.declared.garp.Garp.{Garp}
-use Rattle.rp_evidence.specs.declared.certificate.Item.TheVariants.{Garp as GarpItem, Afriat as AfriatItem, Efficiency as EfficiencyItem, Homothetic as HomotheticItem, Quasi as QuasiItem}
+use Rattle.rp_evidence.specs.declared.certificate.Item.TheVariants.{Garp as GarpItem, Afriat as AfriatItem}
+use Rattle.rp_evidence.specs.declared.certificate.Item.TheVariants.{Efficiency as EfficiencyItem}
+use Rattle.rp_evidence.specs.declared.certificate.Item.TheVariants.{Homothetic as HomotheticItem, Quasi as QuasiItem}
 use Rattle.rp_evidence.specs.declared.homothetic.Homothetic.{Homothetic}
 use Rattle.rp_evidence.specs.declared.quasilinear.Quasi.{Quasi}
 use Rattle.rp_evidence.specs.declared.certificate.Kind.TheVariants.{Table}
@@ -26,12 +28,13 @@ abbrev pub certificate_of : Garp → AfriatPart → Efficiency → Homothetic �
 certificate_of garp afriat efficiency homothetic quasilinear = record {
   kind = Table;
   version = 1;
-  items = GarpItem garp ∷ AfriatItem afriat ∷ EfficiencyItem efficiency ∷ HomotheticItem homothetic ∷ QuasiItem quasilinear ∷ [];
+  items = GarpItem garp ∷ AfriatItem afriat ∷ EfficiencyItem efficiency ∷ HomotheticItem homothetic
+      ∷ QuasiItem quasilinear ∷ [];
 }
 
 -- the certificate of what a table says: the verdicts on the generalized axiom of revealed preference (Varian 1982), by
--- Afriat's theorem (Afriat 1967), on the efficiency index (Afriat 1973), of the homothetic test (Varian 1983) and of the
--- quasilinear test, as they are given; the checker accepts it, and its JSON is read back as it
+-- Afriat's theorem (Afriat 1967), on the efficiency index (Afriat 1973), of the homothetic test (Varian 1983) and of
+-- the quasilinear test, as they are given; the checker accepts it, and its JSON is read back as it
 pub record IsAnalysis (input : TableInput) (certificate : Certificate) : Type 0 where
   pub garp : Garp
   pub afriat : AfriatPart
@@ -55,4 +58,5 @@ pub record IsAnalysis (input : TableInput) (certificate : Certificate) : Type 0 
 -- the text is that of such a certificate
 abbrev pub IsAnalysisText : Bool → Observations → List ℕ → Type 0
 IsAnalysisText json table text =
-    (certificate : Certificate) × IsAnalysis (input_of_table table) certificate × (text ≡ report_or_json json table certificate)
+    (certificate : Certificate) × IsAnalysis (input_of_table table) certificate
+    × (text ≡ report_or_json json table certificate)

@@ -45,12 +45,14 @@ withheld_of items = min (sum_by withheld_in items) (2 ^ 32 - 1)
 
 -- the line on items that are accepted
 abbrev pub accepted_line : List Item → List ℕ
-accepted_line items = line_of (codes "accepted items " ++ decimal (length items) ++ codes " withheld " ++ decimal (withheld_of items))
+accepted_line items =
+    line_of (codes "accepted items " ++ decimal (length items) ++ codes " withheld " ++ decimal (withheld_of items))
 
 -- the line on the item that is rejected
 abbrev pub rejected_line : ℕ → Reason → ℕ → List ℕ
 rejected_line item reason place =
-    line_of (codes "rejected item " ++ decimal item ++ codes " " ++ reason_name reason ++ codes " place " ++ decimal place)
+    line_of (codes "rejected item " ++ decimal item ++ codes " " ++ reason_name reason
+    ++ codes " place " ++ decimal place)
 
 -- the line on what the checker says of these items
 abbrev pub check_line : List Item → Verdict → List ℕ
@@ -62,8 +64,8 @@ abbrev pub check_status : Verdict → Status
 check_status Accepted = status.Done
 check_status (Rejected item reason place) = status.Rejected
 
--- the status and the text are those of what the checker says of a certificate on a table; where it is accepted, each of its
--- items proves its verdict
+-- the status and the text are those of what the checker says of a certificate on a table; where it is accepted, each of
+-- its items proves its verdict
 pub record IsTableCheck (table : Observations) (certificate : Certificate) (s : Status) (text : List ℕ) : Type 0 where
   pub verdict : Verdict
   pub found : IsVerdictOn (input_of_table table) certificate.items verdict

@@ -1,5 +1,5 @@
--- What `demand` prints: the report, or the JSON, of a certificate with the verdict on the generalized axiom of revealed preference, and then demand
--- at each record of new prices (Varian 1982), in order.
+-- What `demand` prints: the report, or the JSON, of a certificate with the verdict on the generalized axiom of revealed
+-- preference, and then demand at each record of new prices (Varian 1982), in order.
 use Rattle.std.specs.Prelude.{◌≡◌, ℕ, Bool, List, length, slice_index}
 use Rattle.rp_table.specs.PriceLists.{PriceList}
 use Rattle.rp_table.specs.Rows.{row_of, rows_count}
@@ -19,8 +19,8 @@ use Rattle.rp_answers.specs.Accepted.{PassesAfter}
 use Rattle.rp_answers.specs.GarpFirst.{IsGarpFirst}
 use Rattle.rp_answers.specs.ReportOrJson.{report_or_json}
 
--- the item on the budget at these prices with m: it proves its verdict, is as it is given under the verdict on the axiom,
--- passes the checker, and can be read back
+-- the item on the budget at these prices with m: it proves its verdict, is as it is given under the verdict on the
+-- axiom, passes the checker, and can be read back
 pub record IsDemandItem (input : TableInput) (garp : Garp) (prices : List ℕ) (m : ℕ) (item : Item) : Type 0 where
   pub evidence : DemandPart
   pub on_budget : item ≡ Demand prices m evidence
@@ -32,12 +32,14 @@ pub record IsDemandItem (input : TableInput) (garp : Garp) (prices : List ℕ) (
 -- after the verdict on the axiom one item for each record of the new prices
 abbrev pub IsDemandCertificate : TableInput → PriceList → Certificate → Type 0
 IsDemandCertificate input new certificate =
-    IsGarpFirst input (rows_count new.prices new.goods) (λ garp i. IsDemandItem input garp (row_of new.prices new.goods i) (slice_index new.m i)) certificate
+    IsGarpFirst input (rows_count new.prices new.goods)
+    (λ garp i. IsDemandItem input garp (row_of new.prices new.goods i) (slice_index new.m i)) certificate
 
 -- the text is that of such a certificate
 abbrev pub IsDemandText : Bool → Observations → PriceList → List ℕ → Type 0
 IsDemandText json table new text =
-    (certificate : Certificate) × IsDemandCertificate (input_of_table table) new certificate × (text ≡ report_or_json json table certificate)
+    (certificate : Certificate) × IsDemandCertificate (input_of_table table) new certificate
+    × (text ≡ report_or_json json table certificate)
 
 -- the prices have the table's goods, and each record has an expenditure
 pub record IsSpentOn (table : Observations) (new : PriceList) : Type 0 where

@@ -1,5 +1,5 @@
--- A certificate on a table that begins with the verdict on the generalized axiom of revealed preference (Varian 1982), and
--- has one item for each of several questions under that verdict, in order.
+-- A certificate on a table that begins with the verdict on the generalized axiom of revealed preference (Varian 1982),
+-- and has one item for each of several questions under that verdict, in order.
 use Rattle.std.specs.Prelude.{◌≡◌, ℕ, ◌<◌, List, ◌∷◌, length, slice_index_or}
 use Rattle.rp_evidence.specs.Input.{TableInput}
 use Rattle.rp_evidence.specs.Proves.{Proves}
@@ -21,9 +21,10 @@ pub record AreAnswered (count : ℕ) (IsAnswer : ℕ → Item → Type 0) (items
   pub one_each : length items ≡ count
   pub each : (k : ℕ) (d : Item) → k < count → IsAnswer k (slice_index_or items k d)
 
--- the verdict on the axiom is true and as it is given, the items after it answer so many questions under it, the checker
--- accepts them all, and the JSON of the certificate is read back as it
-pub record IsGarpFirst (input : TableInput) (count : ℕ) (IsAnswer : Garp → ℕ → Item → Type 0) (certificate : Certificate) : Type 0 where
+-- the verdict on the axiom is true and as it is given, the items after it answer so many questions under it, the
+-- checker accepts them all, and the JSON of the certificate is read back as it
+pub record IsGarpFirst (input : TableInput) (count : ℕ) (IsAnswer : Garp → ℕ → Item → Type 0)
+    (certificate : Certificate) : Type 0 where
   pub garp : Garp
   pub others : List Item
   pub items : certificate ≡ garp_first garp others

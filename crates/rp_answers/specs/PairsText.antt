@@ -12,4 +12,5 @@ pairs_line (Some p) = line_of (codes "pair " ++ ordinals_text (p.0 ∷ p.1 ∷ [
 
 -- the text names the first two observations of the table that contradict each other, or none where there are none
 abbrev pub IsPairsText : Observations → List ℕ → Type 0
-IsPairsText table text = (found : Option (ℕ × ℕ)) × IsPairs (records_of table) (cost_of table) found × (text ≡ pairs_line found)
+IsPairsText table text =
+    (found : Option (ℕ × ℕ)) × IsPairs (records_of table) (cost_of table) found × (text ≡ pairs_line found)

@@ -1,5 +1,5 @@
--- What `random` prints: the report, or the JSON, of a certificate with the one item on whether rational types make the choices (McFadden
--- and Richter 1990).
+-- What `random` prints: the report, or the JSON, of a certificate with the one item on whether rational types make the
+-- choices (McFadden and Richter 1990).
 use Rattle.std.specs.Prelude.{◌≡◌, ℕ, Bool, List, if◌then◌else◌, length}
 use Rattle.rp_check.specs.RandomVerdict.{IsRandomVerdictOn}
 use Rattle.rp_check.specs.declared.verdict.Verdict.TheVariants.{Accepted}
@@ -13,7 +13,8 @@ use Rattle.rp_agreement.specs.ReadBack.{IsReadBack, random_certificate}
 use Rattle.rp_report.specs.RandomText.{random_report_text}
 use Rattle.rp_answers.specs.Typed.{TypedPatches}
 
--- the one item proves its verdict and is as it is given, the checker accepts it, and the text of the certificate is read back as the same
+-- the one item proves its verdict and is as it is given, the checker accepts it, and the text of the certificate is read
+-- back as the same
 pub record IsRandomAnswer (choices : TypedPatches) (certificate : Certificate) : Type 0 where
   pub evidence : RandomPart
   pub item : certificate ≡ random_certificate choices.patches.total evidence
@@ -26,4 +27,5 @@ pub record IsRandomAnswer (choices : TypedPatches) (certificate : Certificate) :
 abbrev pub IsRandomText : Bool → TypedPatches → List ℕ → Type 0
 IsRandomText json choices text =
     (certificate : Certificate) × IsRandomAnswer choices certificate
-    × (text ≡ (if json then certificate_text certificate else random_report_text choices.patches (length choices.types) certificate.items))
+    × (text ≡ (if json then certificate_text certificate
+    else random_report_text choices.patches (length choices.types) certificate.items))

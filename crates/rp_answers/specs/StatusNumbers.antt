@@ -1,7 +1,8 @@
 -- The number that the program ends with for each status (a convention of this project's own).
 use Rattle.std.specs.Prelude.{ℕ}
 use Rattle.rp_answers.specs.declared.status.Status.{Status}
-use Rattle.rp_answers.specs.declared.status.Status.TheVariants.{Done, Rejected, Usage, ReadFault, Refused, WriteFault, NoMemory}
+use Rattle.rp_answers.specs.declared.status.Status.TheVariants.{Done, Rejected, Usage, ReadFault, Refused}
+use Rattle.rp_answers.specs.declared.status.Status.TheVariants.{WriteFault, NoMemory}
 
 abbrev pub status_number : Status → ℕ
 status_number Done = 0

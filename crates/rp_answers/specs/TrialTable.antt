@@ -1,18 +1,12 @@
--- The trial table of a seed: prices and quantities by successive words of the generator PCG XSH RR 64/32 (O'Neill, "PCG: a
--- family of simple fast space-efficient statistically good algorithms for random number generation"), stream 1. How words
--- become prices and quantities is this project's own.
+-- The trial table of a seed: prices and quantities by successive words of its generator. How words become prices and
+-- quantities is this project's own.
 use Rattle.std.specs.Prelude.{ℕ, ◌+◌, ◌*◌, ◌%◌, ◌==◌, ◌&&◌, List, ◌++◌, codes, if◌then◌else◌}
 use Rattle.std.specs.Fmt.{decimal}
-use Rattle.rp_draws.specs.Words.{after_words, word_after}
-use Rattle.rand_pcg.specs.Lcg.{Lcg, started, increment_of}
-use Rattle.rand_pcg.specs.Pcg.{multiplier_64}
+use Rattle.rp_draws.specs.Words.{after_words, generator_of, word_after}
+use Rattle.rand_pcg.specs.Lcg.{Lcg}
 use Rattle.rp_num.specs.Below.{listed, rows_below}
 use Rattle.rp_table.specs.Sums.{sum_below}
 use Rattle.rp_table.specs.Tables.{Observations}
-
--- the generator of a seed
-unfoldable pub trial_generator : ℕ → Lcg
-trial_generator seed = started 64 multiplier_64 seed (increment_of 64 1)
 
 -- the price of good g of a record whose words come from there on: 1 to 99
 abbrev pub drawn_price : Lcg → ℕ → ℕ
@@ -28,7 +22,7 @@ some_bought goods quantity g = if (sum_below goods quantity == 0) && (g == 0) th
 
 -- the generator from which record t is drawn: each record before it took a word for each price and for each quantity
 abbrev pub record_generator : ℕ → ℕ → ℕ → Lcg
-record_generator seed goods t = after_words (trial_generator seed) (t * (goods + goods))
+record_generator seed goods t = after_words (generator_of seed) (t * (goods + goods))
 
 -- g1, g2, ..
 abbrev pub good_name : ℕ → List ℕ

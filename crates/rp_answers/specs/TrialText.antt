@@ -1,16 +1,19 @@
--- What `trial` prints: the verdicts on the trial table of a seed, without their evidence (this program's own text). They are those on
--- the generalized axiom of revealed preference (Varian 1982), on the efficiency index (Afriat 1973), of the homothetic test (Varian
--- 1983) and of the quasilinear test.
+-- What `trial` prints: the verdicts on the trial table of a seed, without their evidence (this program's own text). They
+-- are those on the generalized axiom of revealed preference (Varian 1982), on the efficiency index (Afriat 1973), of the
+-- homothetic test (Varian 1983) and of the quasilinear test.
 use Rattle.std.specs.Prelude.{◌≡◌, ℕ, List, ◌++◌, codes}
 use Rattle.std.specs.Fmt.{decimal}
 use Rattle.rp_evidence.specs.Input.{input_of_table}
 use Rattle.rp_evidence.specs.Proves.{Proves}
-use Rattle.rp_evidence.specs.declared.certificate.Item.TheVariants.{Garp as GarpItem, Efficiency as EfficiencyItem, Homothetic as HomotheticItem, Quasi as QuasiItem}
+use Rattle.rp_evidence.specs.declared.certificate.Item.TheVariants.{Garp as GarpItem}
+use Rattle.rp_evidence.specs.declared.certificate.Item.TheVariants.{Efficiency as EfficiencyItem}
+use Rattle.rp_evidence.specs.declared.certificate.Item.TheVariants.{Homothetic as HomotheticItem, Quasi as QuasiItem}
 use Rattle.rp_evidence.specs.declared.efficiency.Efficiency.{Efficiency}
 use Rattle.rp_evidence.specs.declared.garp.Garp.{Garp}
 use Rattle.rp_evidence.specs.declared.garp.Garp.TheVariants.{Ranks, Cycle as GarpCycle}
 use Rattle.rp_evidence.specs.declared.homothetic.Homothetic.{Homothetic}
-use Rattle.rp_evidence.specs.declared.homothetic.Homothetic.TheVariants.{Values as HomotheticValues, Cycle as HomotheticCycle, Withheld}
+use Rattle.rp_evidence.specs.declared.homothetic.Homothetic.TheVariants.{Values as HomotheticValues}
+use Rattle.rp_evidence.specs.declared.homothetic.Homothetic.TheVariants.{Cycle as HomotheticCycle, Withheld}
 use Rattle.rp_evidence.specs.declared.quasilinear.Quasi.{Quasi}
 use Rattle.rp_evidence.specs.declared.quasilinear.Quasi.TheVariants.{Values as QuasiValues, Cycle as QuasiCycle}
 use Rattle.rp_effic.specs.Verdict.{IsEfficiencyVerdict}
@@ -38,15 +41,18 @@ quasilinear_word (QuasiCycle cycle) = codes "violated"
 
 -- which trial it is
 abbrev pub trial_head : ℕ → ℕ → ℕ → List ℕ
-trial_head seed rows goods = line_of (codes "trial " ++ decimal seed ++ codes " rows " ++ decimal rows ++ codes " goods " ++ decimal goods)
+trial_head seed rows goods =
+    line_of (codes "trial " ++ decimal seed ++ codes " rows " ++ decimal rows ++ codes " goods " ++ decimal goods)
 
 abbrev pub verdict_lines : Garp → Efficiency → Homothetic → Quasi → List ℕ
 verdict_lines garp efficiency homothetic quasilinear =
     line_of (codes "garp " ++ garp_word garp) ++ index_text efficiency
-    ++ line_of (codes "homothetic " ++ homothetic_word homothetic) ++ line_of (codes "quasilinear " ++ quasilinear_word quasilinear)
+    ++ line_of (codes "homothetic " ++ homothetic_word homothetic)
+    ++ line_of (codes "quasilinear " ++ quasilinear_word quasilinear)
 
 -- the verdicts of a table without Afriat's numbers: each is true, and as it is given
-pub record AreVerdicts (table : Observations) (garp : Garp) (efficiency : Efficiency) (homothetic : Homothetic) (quasilinear : Quasi) : Type 0 where
+pub record AreVerdicts (table : Observations) (garp : Garp) (efficiency : Efficiency) (homothetic : Homothetic)
+    (quasilinear : Quasi) : Type 0 where
   pub garp_proves : Proves (input_of_table table) (GarpItem garp)
   pub garp_given : IsGarpVerdict (records_of table) (cost_of table) garp
   pub efficiency_proves : Proves (input_of_table table) (EfficiencyItem efficiency)

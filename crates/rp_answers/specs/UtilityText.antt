@@ -1,5 +1,5 @@
--- What `utility` prints: the report of the verdicts on the generalized axiom (Varian 1982) and by Afriat's theorem (Afriat 1967),
--- and then for each bundle its utility under the numbers of that model.
+-- What `utility` prints: the report of the verdicts on the generalized axiom (Varian 1982) and by Afriat's theorem
+-- (Afriat 1967), and then for each bundle its utility under the numbers of that model.
 use Rattle.std.specs.Prelude.{◌≡◌, ℕ, zero, suc, ℤ, List, [], ◌∷◌, ◌++◌, codes}
 use Rattle.std.specs.Fmt.{signed_decimal}
 use Rattle.rp_table.specs.BundleLists.{BundleList}
@@ -31,11 +31,13 @@ first_items garp afriat = record { kind = Table; version = 1; items = GarpItem g
 abbrev pub at_line : ℕ → List ℕ → List ℕ
 at_line k words = line_of (codes "at " ++ ordinal_text k ++ words)
 
--- the line of a bundle: its utility under the numbers of a model; `none` where no model exists; `withheld` where its numbers are
+-- the line of a bundle: its utility under the numbers of a model; `none` where no model exists; `withheld` where its
+-- numbers are
 abbrev pub IsUtilityLine : Observations → AfriatPart → ℕ → List ℕ → List ℕ → Type 0
 IsUtilityLine table (Model numbers) k bundle line =
     (value : ℤ)
-    × IsUtility (records_of table) (cost_of table) (utility_in numbers) (multiplier_in numbers) 1 (bundle_cost table bundle) value
+    × IsUtility (records_of table) (cost_of table) (utility_in numbers) (multiplier_in numbers) 1
+    (bundle_cost table bundle) value
     × (line ≡ at_line k (codes " value " ++ signed_decimal value))
 IsUtilityLine table (NoModel walk) k bundle line = line ≡ at_line k (codes " none")
 IsUtilityLine table (Wide at) k bundle line = line ≡ at_line k (codes " withheld")
@@ -47,7 +49,8 @@ AreUtilityLines table evidence bundles (suc k) text =
     (before : List ℕ) × (line : List ℕ) × AreUtilityLines table evidence bundles k before
     × IsUtilityLine table evidence k (row_of bundles.quantities bundles.goods k) line × (text ≡ before ++ line)
 
--- the text of a table and bundles: both verdicts are true and as they are given, the checker accepts their certificate, and each bundle has its line
+-- the text of a table and bundles: both verdicts are true and as they are given, the checker accepts their certificate,
+-- and each bundle has its line
 pub record IsUtilityText (table : Observations) (bundles : BundleList) (text : List ℕ) : Type 0 where
   pub garp : Garp
   pub afriat : AfriatPart

@@ -6,7 +6,7 @@ ghost use Rattle.rp_draws.specs.Words.{after_words, word_after};
 ghost use Rattle.rp_answers.specs.TrialTable.{drawn_price, some_bought};
 
 use rand_pcg::Lcg64Xsh32;
-use rp_draws::draw;
+use rp_draws::{draw, generator};
 use rp_num::{NoMemory, print_u128};
 use rp_table::{Name, Table};
 use std::alloc::Global;
@@ -20,7 +20,7 @@ pub fn trial_table(alloc: Global, seed: u64, rows: u32, goods: u32) -> Result<Ta
     requires few_goods { goods ≤ GOODS }
     ensures { IfOk result (λ table. table ≡ trial_of seed rows goods) }
 {
-    let mut generator = Lcg64Xsh32::new(seed, 1);
+    let mut generator = generator(seed);
     let mut prices = Vec::new(alloc);
     let mut quantities = Vec::new(alloc);
     for _ in 0..rows {

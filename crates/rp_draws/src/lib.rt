@@ -1,6 +1,6 @@
-//! The words of a generator, one after another, for every crate that draws.
+//! The generator of a seed and its words, one after another, for every crate that draws.
 #![tactic(auto)]
 
 mod words;
 
-pub use words::draw;
+pub use words::{draw, generator};

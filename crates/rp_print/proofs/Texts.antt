@@ -34,9 +34,13 @@ two_numbers old w1 n1 w2 n2 = simp append_assoc
 pub two_words : (old w1 n1 w2 n2 : List ℕ) → (((old ++ w1) ++ n1) ++ w2) ++ n2 ≡ old ++ (w1 ++ n1 ++ w2 ++ n2)
 two_words old w1 n1 w2 n2 = simp append_assoc
 
--- a line in two pieces, and another line
+-- a line in two pieces, and what comes after it
 pub line_in_two : (old head tail more : List ℕ) → (((old ++ head) ++ tail) ++ 10 ∷ []) ++ more ≡ old ++ (line_of (head ++ tail) ++ more)
 line_in_two old head tail more = simp append_assoc
+
+-- a line that begins with a name
+pub named_line : (old name words value : List ℕ) → (old ++ name) ++ line_of (words ++ value) ≡ old ++ line_of (name ++ words ++ value)
+named_line old name words value = simp append_assoc
 
 -- five texts, one after another
 pub five_texts : (old a b c d e : List ℕ) → ((((old ++ a) ++ b) ++ c) ++ d) ++ e ≡ old ++ (a ++ b ++ c ++ d ++ e)

@@ -21,5 +21,5 @@ pub use list::{
     push_fractions, push_list, push_long_numbers, push_numbers, push_numbers_over, push_ordinals,
     push_sums,
 };
-pub use mixture::{push_apportioned, push_parts};
+pub use mixture::{push_apportioned, push_mixture, push_violation};
 pub use quotient::lowest_terms;

@@ -19,7 +19,8 @@ inner_line inner = line_of (codes "inner " ++ over_text inner.num inner.den)
 -- the bounds of good g, and their pairs
 abbrev pub good_text : ℕ → GoodBounds → List ℕ
 good_text g bounds =
-    line_of (codes "good " ++ ordinal_text g ++ codes " lower " ++ bound_text bounds.lower ++ codes " upper " ++ bound_text bounds.upper)
+    line_of (codes "good " ++ ordinal_text g ++ codes " lower " ++ bound_text bounds.lower
+    ++ codes " upper " ++ bound_text bounds.upper)
     ++ pair_line (codes "lower ") bounds.lower ++ pair_line (codes "upper ") bounds.upper
 
 -- the bounds of the goods from g on

@@ -27,9 +27,11 @@ above_text level walk = if level.num == level.den then [] else line_of (codes "a
 
 -- the line of the efficiency index and of whether it is attained
 abbrev pub index_text : Efficiency → List ℕ
-index_text evidence = line_of (codes "efficiency " ++ level_text evidence.level ++ codes " attained " ++ attained_text evidence.at)
+index_text evidence =
+    line_of (codes "efficiency " ++ level_text evidence.level ++ codes " attained " ++ attained_text evidence.at)
 
 -- the efficiency index, with its evidence
 abbrev pub efficiency_text : Efficiency → List ℕ
-efficiency_text evidence = index_text evidence
-    ++ line_of (codes "below " ++ numbers_text evidence.below) ++ above_text evidence.level evidence.above ++ at_text evidence.at
+efficiency_text evidence =
+    index_text evidence ++ line_of (codes "below " ++ numbers_text evidence.below)
+    ++ above_text evidence.level evidence.above ++ at_text evidence.at

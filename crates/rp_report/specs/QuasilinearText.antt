@@ -6,5 +6,7 @@ use Rattle.rp_print.specs.ListText.{line_of, ordinals_text, sums_text}
 
 -- a verdict of the quasilinear test
 abbrev pub quasilinear_text : Quasi → List ℕ
-quasilinear_text (Values values) = line_of (codes "quasilinear holds") ++ line_of (codes "values " ++ sums_text values)
-quasilinear_text (Cycle cycle) = line_of (codes "quasilinear violated") ++ line_of (codes "cycle " ++ ordinals_text cycle)
+quasilinear_text (Values values) =
+    line_of (codes "quasilinear holds") ++ line_of (codes "values " ++ sums_text values)
+quasilinear_text (Cycle cycle) =
+    line_of (codes "quasilinear violated") ++ line_of (codes "cycle " ++ ordinals_text cycle)

@@ -2,28 +2,30 @@
 use Rattle.std.specs.Prelude.{ℕ, ◌*◌, List, [], ◌++◌, codes, length}
 use Rattle.std.specs.List.{flat_map}
 use Rattle.std.specs.Fmt.{decimal}
-use Rattle.rp_num.specs.Fraction.{Fraction, fraction_text}
+use Rattle.rp_num.specs.Fraction.{Fraction}
 use Rattle.rp_evidence.specs.declared.certificate.Item.{Item}
-use Rattle.rp_evidence.specs.declared.certificate.Item.TheVariants.{Garp as GarpItem, Afriat as AfriatItem, Efficiency as EfficiencyItem, Homothetic as HomotheticItem, Quasi as QuasiItem, Demand as DemandItem, Welfare as WelfareItem, Random as RandomItem}
+use Rattle.rp_evidence.specs.declared.certificate.Item.TheVariants.{Garp as GarpItem, Afriat as AfriatItem}
+use Rattle.rp_evidence.specs.declared.certificate.Item.TheVariants.{Efficiency as EfficiencyItem}
+use Rattle.rp_evidence.specs.declared.certificate.Item.TheVariants.{Homothetic as HomotheticItem, Quasi as QuasiItem}
+use Rattle.rp_evidence.specs.declared.certificate.Item.TheVariants.{Demand as DemandItem, Welfare as WelfareItem, Random as RandomItem}
 use Rattle.rp_evidence.specs.declared.random.RandomPart.{RandomPart}
 use Rattle.rp_evidence.specs.declared.random.RandomPart.TheVariants.{Mixture, Violated, Wide}
 use Rattle.rp_patch.specs.Mixtures.{units_weight}
 use Rattle.rp_patch.specs.Patches.{PatchList}
-use Rattle.rp_print.specs.ListText.{line_of, ordinal_text, over_text}
+use Rattle.rp_print.specs.ListText.{line_of, ordinal_text}
 use Rattle.rp_print.specs.LowestTerms.{lowest_terms}
-use Rattle.rp_print.specs.MixtureText.{apportioned_text, parts_text}
+use Rattle.rp_print.specs.MixtureText.{apportioned_text, mixture_text, violation_text}
 
 -- what the units of the patches weigh over the denominator, as a share of the total, in lowest terms
 abbrev pub share_of : PatchList → ℕ → List ℕ → Fraction
 share_of p den weights = lowest_terms (units_weight p weights) (den * p.total)
 
--- evidence on random choices, its patches counted from 1: a mixture; or the greatest share, with the weights that show it and a
--- partial mixture that has it; or the step at which the run of the program passes its width
+-- evidence on random choices, its patches counted from 1: a mixture; or the greatest share, with the weights that show
+-- it and a partial mixture that has it; or the step at which the run of the program passes its width
 abbrev pub random_text : PatchList → RandomPart → List ℕ
-random_text p (Mixture den parts) = line_of (codes "random mixture over " ++ decimal den) ++ parts_text ordinal_text parts
+random_text p (Mixture den parts) = mixture_text (codes "random") ordinal_text den parts
 random_text p (Violated den parts weights) =
-    line_of (codes "random violated share " ++ fraction_text (share_of p den weights))
-    ++ line_of (codes "weights " ++ over_text weights den) ++ parts_text ordinal_text parts
+    violation_text (codes "random") ordinal_text (share_of p den weights) den weights parts
 random_text p (Wide step) = line_of (codes "random withheld " ++ decimal step)
 
 -- the patches, of which so many types are rational
@@ -44,4 +46,5 @@ random_item_text p (RandomItem total evidence) = random_text p evidence
 
 -- the report of these items on patches of which so many types are rational
 abbrev pub random_report_text : PatchList → ℕ → List Item → List ℕ
-random_report_text p types items = counts_text p types ++ apportioned_text p.asked ++ flat_map (random_item_text p) items
+random_report_text p types items =
+    counts_text p types ++ apportioned_text p.asked ++ flat_map (random_item_text p) items

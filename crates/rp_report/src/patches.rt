@@ -11,8 +11,8 @@ use rp_patch::Patches;
 use rp_print::{LongNumber, Number, push_after, push_apportioned};
 use std::alloc::Global;
 
-/// The report of a certificate on random choices: lines on the patches, of which so many types are rational, and then the
-/// lines of each item.
+/// The report of a certificate on random choices: lines on the patches, of which so many types are rational, and then
+/// the lines of each item.
 pub fn report_random(
     alloc: Global,
     certificate: &Certificate,

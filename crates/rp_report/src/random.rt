@@ -7,9 +7,7 @@ ghost use Rattle.rp_report.specs.RandomText.{random_text, share_of};
 use rp_evidence::RandomPart;
 use rp_num::{Frac, NoMemory};
 use rp_patch::Patches;
-use rp_print::{
-    Ordinal, lowest_terms, push_fraction_line, push_number_line, push_numbers_over, push_parts,
-};
+use rp_print::{Ordinal, lowest_terms, push_mixture, push_number_line, push_violation};
 use std::alloc::Global;
 
 /// Appends the lines of evidence on random choices.
@@ -24,18 +22,24 @@ pub(crate) fn push_random(
 {
     match evidence {
         RandomPart::Mixture { den, parts } => {
-            push_number_line(alloc, out, b"random mixture over ", *den)?;
-            push_parts::<Ordinal>(alloc, out, parts.as_slice())
+            push_mixture::<Ordinal>(alloc, out, b"random", *den, parts.as_slice())
         }
         RandomPart::Violated {
             den,
             parts,
             weights,
         } => {
-            let share = share(patches, *den, weights.as_slice());
-            push_fraction_line(alloc, out, b"random violated share ", share)?;
-            push_numbers_over(alloc, out, b"weights ", weights.as_slice(), *den)?;
-            push_parts::<Ordinal>(alloc, out, parts.as_slice())
+            let weights = weights.as_slice();
+            let share = share(patches, *den, weights);
+            push_violation::<Ordinal>(
+                alloc,
+                out,
+                b"random",
+                share,
+                *den,
+                weights,
+                parts.as_slice(),
+            )
         }
         RandomPart::Wide { step } => push_number_line(alloc, out, b"random withheld ", *step),
     }

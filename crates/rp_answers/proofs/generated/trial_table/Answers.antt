@@ -1,13 +1,12 @@
 use Rattle.std.proofs.Common.{◌≡◌, ◌∙◌, ◌++◌, ap, sym, subst, arith, List, ℕ}
 use Rattle.rp_table.specs.Tables.{IsTable}
-use Rattle.rp_answers.specs.TrialTable.{trial_generator, record_generator, drawn_price, drawn_quantity, some_bought}
+use Rattle.rp_answers.specs.TrialTable.{record_generator, drawn_price, drawn_quantity, some_bought}
 use Rattle.rp_answers.proofs.TrialLemmas.{first_record, record_more, row_more, quantities_after, trial_is_table, trial_is}
 use Rattle.rp_answers.proofs.generated.trial_table.Goals as goal
 
 pub loop-init : goal.loop-init
-unfolding trial_generator
 loop-init c = record {
-  moved = first_record c.args.seed c.args.goods c.new-generator.result c.new-generator.ensures;
+  moved = first_record c.args.seed c.args.goods c.generator-generator.result c.generator-generator.ensures;
   priced = c.new-prices.ensures.items;
   bought = c.new-quantities.ensures.items;
 }
