@@ -1,5 +1,5 @@
--- For the proofs alone: the ratios at which a table may come to be inconsistent, what a bundle costs at the prices of an
--- observation over what was spent there.
+-- For the proofs alone: the ratios at which a table may come to be inconsistent, what a bundle costs at the prices of
+-- an observation over what was spent there.
 use Rattle.std.specs.Prelude.{ℕ, ◌*◌, ◌<◌, ◌≤◌, List, length, slice_index_or}
 use Rattle.std.specs.List.{Any}
 use Rattle.rp_evidence.specs.Efficiency.{IsRatio}

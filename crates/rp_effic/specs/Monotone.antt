@@ -1,4 +1,5 @@
--- Conditions on places in order that hold, from some place on, at every place (monotone predicates, as of binary search).
+-- Conditions on places in order that hold, from some place on, at every place (monotone predicates, as of binary
+-- search).
 use Rattle.std.specs.Prelude.{◌<◌, ◌≤◌, ℕ}
 
 -- Where the condition holds at one of n places, it holds at all later ones.

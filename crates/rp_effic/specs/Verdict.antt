@@ -24,7 +24,8 @@ pub record IsAbove (n : ℕ) (c : ℕ → ℕ → ℕ) (num den : ℕ) (walk : L
   pub none_at_one : num ≡ den → walk ≡ []
   pub return_below_one : num ≢ den → (s : ℕ) × IsFirstReturn n (IsWeak c num den) s walk
 
--- What is given: the index in lowest terms, the counts over the strict steps at it, and over the weak ones where it is attained.
+-- What is given: the index in lowest terms, the counts over the strict steps at it, and over the weak ones where it is
+-- attained.
 pub record IsEfficiencyVerdict (n : ℕ) (c : ℕ → ℕ → ℕ) (evidence : Efficiency) : Type 0 where
   pub level : IsLowestLevel evidence.level
   pub below : AreCounts n (IsStrict c evidence.level.num evidence.level.den) evidence.below

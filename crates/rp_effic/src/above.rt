@@ -9,7 +9,7 @@ ghost use Rattle.rp_effic.specs.Verdict.{IsAbove};
 use crate::returning::first_return;
 use rp_evidence::Level;
 use rp_num::{NoMemory, Seq};
-use rp_pref::{Closure, shortest_weak_walk};
+use rp_pref::{AtLevel, Closure, shortest_weak_walk};
 use rp_table::Costs;
 use std::alloc::Global;
 
@@ -29,7 +29,7 @@ pub fn above_index(
         return Ok(Seq::from_vec(Vec::new(alloc)));
     }
     match first_return(costs, closure) {
-        Some(s) => shortest_weak_walk(alloc, costs, level, s, s),
+        Some(s) => shortest_weak_walk(alloc, &AtLevel { costs, level }, s, s),
         None => unreachable!(),
     }
 }

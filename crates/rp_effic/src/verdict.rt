@@ -7,7 +7,7 @@ use crate::above::above_index;
 use crate::index::efficiency_index;
 use rp_evidence::Efficiency;
 use rp_num::NoMemory;
-use rp_pref::{Closure, Steps, counts, verdict_at};
+use rp_pref::{Closure, Steps, verdict_at};
 use rp_table::Costs;
 use std::alloc::Global;
 
@@ -24,7 +24,7 @@ pub fn efficiency(alloc: Global, costs: &Costs) -> Result<Efficiency, NoMemory>
     prove!(n > 0);
     let level = efficiency_index(alloc, costs)?;
     let strict = Closure::of(alloc, costs, level, Steps::Strict)?;
-    let below = counts(alloc, costs, &strict)?;
+    let below = strict.counts(alloc)?;
     let weak = Closure::of(alloc, costs, level, Steps::Weak)?;
     let above = above_index(alloc, costs, level, &weak)?;
     let at = verdict_at(alloc, costs, level, &weak)?;

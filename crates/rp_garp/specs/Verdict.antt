@@ -4,7 +4,7 @@ use Rattle.rp_evidence.specs.Preference.{IsStrict, IsWeak}
 use Rattle.rp_evidence.specs.declared.garp.Garp.{Garp}
 use Rattle.rp_pref.specs.Violation.{IsVerdictOn}
 
--- The ranks are the counts over the preference at the level 1; a cycle is that of the first two observations that violate
--- the axiom.
+-- The ranks are the counts over the preference at the level 1; a cycle is that of the first two observations that
+-- violate the axiom.
 abbrev pub IsGarpVerdict : ℕ → (ℕ → ℕ → ℕ) → Garp → Type 0
 IsGarpVerdict n c verdict = IsVerdictOn n (IsWeak c 1 1) (IsStrict c 1 1) verdict

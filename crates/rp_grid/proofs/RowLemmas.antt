@@ -1,8 +1,7 @@
 -- What is read of a grid after one row or one element of it was written, for the crates above.
-use Rattle.std.proofs.Common.{◌≡◌, ◌≢◌, ℕ, ◌<◌, inl, inr, List, [], length, get_or, slice_set, replicate, ap, ◌∙◌, arith, length-set, get_or-set_same, get_or-set_other}
-use Rattle.std.proofs.lemmas.List.{get_or-replicate}
+use Rattle.std.proofs.Common.{◌≡◌, ◌≢◌, ℕ, ◌<◌, inl, inr, List, [], length, get_or, slice_set, ap, ◌∙◌, arith, length-set, get_or-set_same, get_or-set_other}
 use Rattle.std.proofs.lemmas.Bool.{cases_eq}
-use Rattle.rp_grid.specs.Rows.{Rows, row_of, AreEqual, with_row, with_cell, filled}
+use Rattle.rp_grid.specs.Rows.{Rows, row_of, AreEqual, with_row, with_cell}
 
 module _ {X : Type 0} where
   pub same_count : (g : Rows X) (r : ℕ) (xs : List X) → length (with_row g r xs).rows ≡ length g.rows
@@ -28,6 +27,3 @@ module _ {X : Type 0} where
         ap (λ k. length (row_of (with_row g r xs) k)) same ∙ ap length (row_written g r xs there) ∙ long
     | inr other ↦ ap length (row_stays g r s xs other) ∙ equal s (omega (arith, same_count g r xs))
   ]
-
-  pub row_filled : (rows cols r : ℕ) (x : X) → r < rows → row_of (filled rows cols x) r ≡ replicate cols x
-  row_filled rows cols r x lt = get_or-replicate rows r (replicate cols x) [] lt

@@ -1,4 +1,5 @@
--- A desk and a sink in memory that give and take at most so many bytes a call, over the ones that give and take all (this project's own).
+-- A desk and a sink in memory that give and take at most so many bytes a call, over the ones that give and take all
+-- (this project's own).
 use Rattle.std.specs.Prelude.{ℕ, ◌≡◌, ◌-◌, Bool, List, Result, drop, length, min, take}
 use Rattle.rp_outside.specs.MemoryDesk.{DeskState, after_read}
 use Rattle.rp_outside.specs.MemorySink.{SinkState, after_write}
@@ -8,7 +9,8 @@ pub record DripDeskState : Type 0 where
   pub desk : DeskState
   pub piece : ℕ
 
--- n bytes from the place `at` on stand at the front of `into`: the least of a piece, of what has room and of what there is
+-- n bytes from the place `at` on stand at the front of `into`: the least of a piece, of what has room and of what there
+-- is
 abbrev pub ReadsPiece : ℕ → List ℕ → ℕ → List ℕ → ℕ → Type 0
 ReadsPiece piece bs at into n = (n ≡ min piece (min (length into) (length bs - at))) × (take n into ≡ take n (drop at bs))
 

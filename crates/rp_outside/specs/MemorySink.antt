@@ -1,8 +1,10 @@
--- A sink in memory with a limit, whose failures are planned: what it holds, and what a write does to it (this project's own).
+-- A sink in memory with a limit, whose failures are planned: what it holds, and what a write does to it (this project's
+-- own).
 use Rattle.std.specs.Prelude.{ℕ, ◌<◌, ◌≤◌, ◌⊎◌, List, ◌++◌, Contains, Result, Ok, Err, length, take}
 use Rattle.rp_outside.specs.Faults.{next_count}
 
--- what was written, the most that can be, the numbers of the calls that fail, how many calls there were, and the count of faults
+-- what was written, the most that can be, the numbers of the calls that fail, how many calls there were, and the count
+-- of faults
 pub record SinkState : Type 0 where
   pub written : List ℕ
   pub limit : ℕ

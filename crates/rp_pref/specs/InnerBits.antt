@@ -1,5 +1,5 @@
--- For the proofs alone: rows of bits in words of 64, where bit t of a row is bit t % 64 of its word t / 64. A closure is
--- seen as what its bits say (Closure).
+-- For the proofs alone: rows of bits in words of 64, where bit t of a row is bit t % 64 of its word t / 64. A closure
+-- is seen as what its bits say (Closure).
 use Rattle.std.specs.Prelude.{◌≡◌, ℕ, ◌*◌, ◌/◌, ◌%◌, ◌<◌, ◌≤◌, ◌==◌, Bool, IsTrue, List, length, slice_index}
 use Rattle.std.specs.Int.{bit_at}
 use Rattle.rp_grid.specs.Rows.{Rows, row_of}

@@ -50,7 +50,8 @@ IsLookedFrom table n u end depths = (t : ℕ) → t < end → IsStepIn table n u
 abbrev pub AreLookedFrom : List Bool → ℕ → ℕ → ℕ → List ℕ → Type 0
 AreLookedFrom table n depth end depths = (u : ℕ) → u < end → slice_index depths u ≡ depth → IsLookedFrom table n u n depths
 
--- Every observation that a walk of at most this many steps, and at least one, reaches from s has a depth, and no such walk there is shorter.
+-- Every observation that a walk of at most this many steps, and at least one, reaches from s has a depth, and no such
+-- walk there is shorter.
 abbrev pub AreLeastUpTo : List Bool → ℕ → ℕ → ℕ → List ℕ → Type 0
 AreLeastUpTo table n s most depths =
     (t : ℕ) (walk : List ℕ) → IsWalk n (IsStepIn table n) s t walk → 1 < length walk → length walk ≤ most + 1

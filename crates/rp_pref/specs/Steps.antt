@@ -1,4 +1,5 @@
--- The steps of which walks are made: all weak ones of a level, or all strict ones (Varian 1982; levels after Afriat).
+-- The steps of which walks are made: all weak ones of a preference, or all strict ones (Varian 1982; levels after
+-- Afriat).
 use Rattle.std.specs.Prelude.{ℕ}
 use Rattle.rp_evidence.specs.Preference.{IsWeak, IsStrict}
 use Rattle.rp_evidence.specs.declared.level.Level.{Level}
@@ -6,10 +7,14 @@ use Rattle.rp_table.specs.Cost.{CostTable, cost_at}
 use Rattle.rp_pref.specs.declared.steps.Steps.{Steps}
 use Rattle.rp_pref.specs.declared.steps.Steps.TheVariants.{Weak, Strict}
 
+-- The steps of the chosen kind, of these weak and these strict ones.
+abbrev pub StepOf : Steps → (ℕ → ℕ → Type 0) → (ℕ → ℕ → Type 0) → ℕ → ℕ → Type 0
+StepOf Weak weak strict s t = weak s t
+StepOf Strict weak strict s t = strict s t
+
 -- There is a step of the chosen kind at the level num/den.
 abbrev pub IsStep : Steps → (ℕ → ℕ → ℕ) → ℕ → ℕ → ℕ → ℕ → Type 0
-IsStep Weak c num den = IsWeak c num den
-IsStep Strict c num den = IsStrict c num den
+IsStep steps c num den = StepOf steps (IsWeak c num den) (IsStrict c num den)
 
 -- The weak preference that a table of costs reveals at a level.
 abbrev pub WeakAt : CostTable → Level → ℕ → ℕ → Type 0

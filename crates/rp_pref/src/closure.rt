@@ -5,15 +5,17 @@ ghost use Rattle.rp_evidence.specs.Preference.{IsLevel};
 ghost use Rattle.rp_evidence.specs.Walk.{Reaches};
 ghost use Rattle.rp_table.specs.Cost.{CostTable, cost_at};
 ghost use Rattle.rp_pref.specs.InnerBits.{has_bit};
-ghost use Rattle.rp_pref.specs.Closure.{IsClosureOf, Reached, reaches_in};
-ghost use Rattle.rp_pref.specs.Steps.{IsStep};
+ghost use Rattle.rp_pref.specs.Closure.{AreCounted, IsClosureOf, Reached};
+ghost use Rattle.rp_pref.specs.Closure.{reaches_in};
+ghost use Rattle.rp_pref.specs.Steps.{IsStep, StepOf};
 ghost use Rattle.rp_pref.specs.declared.steps.Steps.{Steps};
 
 use crate::bits::{close, count_set, is_set, set, words_for};
-use crate::steps::{Steps, is_step};
+use crate::revealed::{AtLevel, Revealed, has_step};
+use crate::steps::Steps;
 use rp_evidence::Level;
 use rp_grid::Grid;
-use rp_num::NoMemory;
+use rp_num::{NoMemory, Seq};
 use rp_table::Costs;
 use std::alloc::Global;
 use std::marker::Model;
@@ -44,9 +46,21 @@ impl Closure {
             IsClosureOf closure costs.now.n (IsStep steps (cost_at costs.now)
             level.num level.den)) }
     {
-        let n = costs.n();
+        Closure::over(alloc, &AtLevel { costs, level }, steps)
+    }
+
+    /// The closure of the chosen steps of a preference.
+    pub fn over<P: Revealed>(
+        alloc: Global,
+        preference: &P,
+        steps: Steps,
+    ) -> Result<Closure, NoMemory>
+        ensures { IfOk result (λ closure. IsClosureOf closure (P.count preference.now)
+            (StepOf steps (P.weak preference.now) (P.strict preference.now))) }
+    {
+        let n = preference.n();
         let mut bits = Grid::new(alloc, n, words_for(n), 0u64)?;
-        note_steps(&mut bits, costs, level, steps);
+        note_steps(&mut bits, preference, steps);
         close(&mut bits);
         Ok(Closure { n, bits })
     }
@@ -58,6 +72,24 @@ impl Closure {
         ensures { result ≡ reaches_in self.now s t }
     {
         is_set(&self.bits, s, t)
+    }
+
+    /// How many observations there are.
+    fn n(&self) -> u32
+        ensures { result ≡ self.now.n }
+    {
+        self.n
+    }
+
+    /// How many observations each observation is or reaches.
+    pub fn counts(&self, alloc: Global) -> Result<Seq<u32>, NoMemory>
+        ensures { IfOk result (AreCounted self.now) }
+    {
+        let mut counts = Vec::new(alloc);
+        for s in 0..self.n() {
+            counts.push(self.count(s))?;
+        }
+        Ok(Seq::from_vec(counts))
     }
 
     /// How many observations are reached from `s`, with `s` itself among them.
@@ -78,36 +110,36 @@ pub fn closures_count()
 {}
 
 /// Notes the chosen steps from every observation.
-fn note_steps(bits: &mut Grid<u64>, costs: &Costs, level: Level, steps: Steps)
-    requires level { IsLevel level.num level.den }
-    requires rows { length bits.old.rows ≡ costs.now.n }
-    requires enough { costs.now.n ≤ bits.old.cols * 64 }
+fn note_steps<P: Revealed>(bits: &mut Grid<u64>, preference: &P, steps: Steps)
+    requires rows { length bits.old.rows ≡ P.count preference.now }
+    requires enough { P.count preference.now ≤ bits.old.cols * 64 }
     requires clear { (s t : ℕ) → has_bit bits.old s t ≡ false }
     ensures count { length bits.new.rows ≡ length bits.old.rows }
     ensures cols { bits.new.cols ≡ bits.old.cols }
-    ensures exact { (s t : ℕ) → s < costs.now.n → IsTrue (has_bit bits.new s t)
-        ↔ ((t < costs.now.n) × IsStep steps (cost_at costs.now) level.num level.den s t) }
+    ensures exact { (s t : ℕ) → s < P.count preference.now → IsTrue (has_bit bits.new s t)
+        ↔ ((t < P.count preference.now)
+        × StepOf steps (P.weak preference.now) (P.strict preference.now) s t) }
 {
-    for s in 0..costs.n() {
-        note_steps_from(bits, costs, level, steps, s);
+    for s in 0..preference.n() {
+        note_steps_from(bits, preference, steps, s);
     }
 }
 
 /// Notes the chosen steps from `s`.
-fn note_steps_from(bits: &mut Grid<u64>, costs: &Costs, level: Level, steps: Steps, s: u32)
-    requires level { IsLevel level.num level.den }
-    requires rows { length bits.old.rows ≡ costs.now.n }
-    requires enough { costs.now.n ≤ bits.old.cols * 64 }
-    requires from { s < costs.now.n }
+fn note_steps_from<P: Revealed>(bits: &mut Grid<u64>, preference: &P, steps: Steps, s: u32)
+    requires rows { length bits.old.rows ≡ P.count preference.now }
+    requires enough { P.count preference.now ≤ bits.old.cols * 64 }
+    requires from { s < P.count preference.now }
     requires clear { (t : ℕ) → has_bit bits.old s t ≡ false }
     ensures count { length bits.new.rows ≡ length bits.old.rows }
     ensures cols { bits.new.cols ≡ bits.old.cols }
     ensures row { (t : ℕ) → IsTrue (has_bit bits.new s t)
-        ↔ ((t < costs.now.n) × IsStep steps (cost_at costs.now) level.num level.den s t) }
+        ↔ ((t < P.count preference.now)
+        × StepOf steps (P.weak preference.now) (P.strict preference.now) s t) }
     ensures others { (a t : ℕ) → a ≢ s → has_bit bits.new a t ≡ has_bit bits.old a t }
 {
-    for t in 0..costs.n() {
-        if is_step(costs, level, steps, s, t) {
+    for t in 0..preference.n() {
+        if has_step(preference, steps, s, t) {
             set(bits, s, t);
         }
     }

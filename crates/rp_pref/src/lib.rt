@@ -3,12 +3,14 @@
 
 mod bits;
 mod closure;
+mod revealed;
 mod search;
 mod steps;
 mod verdict;
 mod walk;
 
 pub use closure::{Closure, closures_count};
+pub use revealed::{AtLevel, Revealed};
 pub use steps::{Steps, strict, weak};
-pub use verdict::{counts, shortest_weak_walk, verdict_at};
-pub use walk::walk_between;
+pub use verdict::{shortest_weak_walk, verdict_at, verdict_over};
+pub use walk::{shortest_walk, walk_between};

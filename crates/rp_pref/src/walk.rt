@@ -1,12 +1,13 @@
-ghost use Rattle.std.specs.Prelude.{◌≡◌, ◌<◌, ◌+◌, IfOk, IfNone, IfSome, length, slice_index};
+ghost use Rattle.std.specs.Prelude.{◌≡◌, ◌<◌, ◌≤◌, ◌+◌, ◌*◌, ◌↔◌, ℕ, IfOk, IfNone, IfSome, length, slice_index};
 ghost use Rattle.rp_evidence.specs.Preference.{IsLevel};
 ghost use Rattle.rp_evidence.specs.Walk.{IsShortestWalk, IsWalk, Reaches};
 ghost use Rattle.rp_table.specs.Cost.{cost_at};
-ghost use Rattle.rp_pref.specs.InnerSearch.{IsNoted, LeadBack};
-ghost use Rattle.rp_pref.specs.Steps.{IsStep};
+ghost use Rattle.rp_pref.specs.InnerSearch.{IsNoted, IsStepIn, LeadBack};
+ghost use Rattle.rp_pref.specs.Steps.{IsStep, StepOf};
 
+use crate::revealed::{AtLevel, Revealed, has_step};
 use crate::search::{ShortestWalks, walks_from};
-use crate::steps::{Steps, step_table};
+use crate::steps::Steps;
 use rp_evidence::Level;
 use rp_num::{NoMemory, Seq};
 use rp_table::Costs;
@@ -31,14 +32,54 @@ pub fn walk_between(
     ensures none { IfOk result (λ found. IfNone found (
         ¬ Reaches costs.now.n (IsStep steps (cost_at costs.now) level.num level.den) s t)) }
 {
-    let n = costs.n() as usize;
-    let table = step_table(alloc, costs, level, steps)?;
+    shortest_walk(alloc, &AtLevel { costs, level }, steps, s, t)
+}
+
+/// The same over any preference.
+pub fn shortest_walk<P: Revealed>(
+    alloc: Global,
+    preference: &P,
+    steps: Steps,
+    s: u32,
+    t: u32,
+) -> Result<Option<Seq<u32>>, NoMemory>
+    requires from { s < P.count preference.now }
+    requires to { t < P.count preference.now }
+    ensures shortest { IfOk result (λ found. IfSome found (λ walk. IsShortestWalk
+        (P.count preference.now)
+        (StepOf steps (P.weak preference.now) (P.strict preference.now)) s t walk)) }
+    ensures none { IfOk result (λ found. IfNone found (¬ Reaches (P.count preference.now)
+        (StepOf steps (P.weak preference.now) (P.strict preference.now)) s t)) }
+{
+    let n = preference.n() as usize;
+    let table = step_table(alloc, preference, steps)?;
     let walks = walks_from(alloc, &table, n, s as usize)?;
     if walks.depths[t as usize] == 0 {
         return Ok(None);
     }
     let walk = walk_back(alloc, &walks, n, s, t)?;
     Ok(Some(walk))
+}
+
+/// All steps of the chosen kind, by start and then by end.
+fn step_table<P: Revealed>(
+    alloc: Global,
+    preference: &P,
+    steps: Steps,
+) -> Result<Vec<bool>, NoMemory>
+    ensures size { IfOk result (λ table. length table.items
+        ≡ P.count preference.now * P.count preference.now) }
+    ensures exact { IfOk result (λ table. (s t : ℕ)
+        → s < P.count preference.now → t < P.count preference.now
+        → IsStepIn table.items (P.count preference.now) s t
+        ↔ StepOf steps (P.weak preference.now) (P.strict preference.now) s t) }
+{
+    let n = preference.n();
+    let mut table = Vec::new(alloc);
+    for place in 0..n * n {
+        table.push(has_step(preference, steps, place / n, place % n))?;
+    }
+    Ok(table)
 }
 
 /// The walk that was noted for `t`, from `s` on.

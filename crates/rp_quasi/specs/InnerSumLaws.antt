@@ -1,5 +1,5 @@
--- For the proofs alone: the sums of a table keep the laws of a kind of total. Proofs and no definitions; they stand here
--- since the code cites them.
+-- For the proofs alone: the sums of a table keep the laws of a kind of total. Proofs and no definitions; they stand
+-- here since the code cites them.
 use Rattle.std.proofs.Common.{◌≡◌, ℕ, ◌<◌, arith}
 use Rattle.std.proofs.lemmas.Int.{ints}
 use Rattle.std.specs.Prelude.{pos, ◌-ℤ◌}

@@ -1,5 +1,5 @@
--- What is given for random choices: by the run of the program of random utility (McFadden and Richter 1990; this program's own
--- run).
+-- What is given for random choices: by the run of the program of random utility (McFadden and Richter 1990; this
+-- program's own run).
 use Rattle.std.specs.Prelude.{◌≡◌, ◌≢◌, ◌*◌, ℕ, List, map, slice_index_or, []}
 use Rattle.rp_evidence.specs.declared.random.RandomPart.{RandomPart}
 use Rattle.rp_evidence.specs.declared.random.RandomPart.TheVariants.{Mixture, Violated, Wide}
@@ -31,8 +31,8 @@ IsOutcomeVerdict p types (Optimal pair) part = IsPairVerdict p types pair part
 IsOutcomeVerdict p types (PassedWidth step) part = part ≡ Wide step
 IsOutcomeVerdict p types (Unbounded den point ray) part = ⊥
 
--- The verdict is made from the outcome of the run of the program of random utility over these types, and the run has no other: it
--- never ends unbounded, and the verdict is withheld just where it passes its width, at that step.
+-- The verdict is made from the outcome of the run of the program of random utility over these types, and the run has no
+-- other: it never ends unbounded, and the verdict is withheld just where it passes its width, at that step.
 pub record IsRandomVerdict (p : PatchList) (types : List (List ℕ)) (part : RandomPart) : Type 0 where
   pub outcome : Outcome
   pub run : IsOutcome (random_program p types) outcome

@@ -2,8 +2,8 @@
 //! Kitamura and Stoye 2018).
 #![tactic(auto)]
 
-mod shares;
 mod program;
+mod shares;
 mod verdict;
 
 pub use verdict::random;

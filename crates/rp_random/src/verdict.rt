@@ -8,8 +8,8 @@ ghost use Rattle.rp_random.specs.Verdict.{IsRandomVerdict, IsPairVerdict};
 ghost use Rattle.rp_types.specs.Listed.{types_of};
 ghost use Rattle.rp_types.specs.declared.TheConstants.{TYPES};
 
-use crate::shares::{listed_shares, weight_of};
 use crate::program::RandomProgram;
+use crate::shares::{listed_shares, weight_of};
 use rp_evidence::RandomPart;
 use rp_farkas::Pair;
 use rp_num::{NoMemory, Seq};

@@ -1,4 +1,5 @@
--- For the proofs alone: rows of a grid that are written one element after the other. No public clause cites these words.
+-- For the proofs alone: rows of a grid that are written one element after the other. No public clause cites these
+-- words.
 use Prim.Native.Nat.{◌∣◌}
 use Rattle.std.specs.Prelude.{ℕ, ◌≡◌, ◌≢◌, ◌*◌, ◌^◌, ◌<◌, ◌≤◌, ℤ, pos, ◌*ℤ◌, ◌-ℤ◌, List, Bool, MatchBool, if◌then◌else◌, ◌==◌, length}
 use Rattle.std.specs.Int.RustNames.{unsigned_abs}
@@ -59,6 +60,11 @@ pub record AreRenewed (old new : Rows ℤ) (r : ℕ) (p : ℤ) (f : ℕ → ℤ)
   pub left : (i : ℕ) → n ≤ i → row_of new i ≡ row_of old i
   pub pivot_row : row_of new r ≡ row_of old r
 
+-- d divides each number of all rows but row r after the pivot.
+abbrev pub DividesOthers : Rows ℤ → ℕ → ℤ → (ℕ → ℤ) → ℕ → Type 0
+DividesOthers g r p f d =
+    (i s : ℕ) → i < length g.rows → i ≢ r → s < g.cols → d ∣ unsigned_abs (less_multiple g r i p (f i) s)
+
 -- What becomes of all rows but row r: they are renewed, or one of their numbers passes the width.
 abbrev pub RenewsRows : Bool → Rows ℤ → Rows ℤ → ℕ → ℤ → (ℕ → ℤ) → ℕ → Type 0
 RenewsRows done old new r p f d = MatchBool done (AreRenewed old new r p f d (length old.rows))
@@ -83,6 +89,10 @@ pub record ArePivoted (old new : Rows ℤ) (f : ℕ → ℕ → ℤ) (d : ℕ) :
   pub cols : new.cols ≡ old.cols
   pub equal : AreEqual new
   pub done : (i j : ℕ) → i < length old.rows → j < old.cols → IsQuotient (f i j) d (cell new i j)
+
+-- d divides each of the numbers that are to stand in the rows.
+abbrev pub DividesAllOf : Rows ℤ → (ℕ → ℕ → ℤ) → ℕ → Type 0
+DividesAllOf g f d = (i s : ℕ) → i < length g.rows → s < g.cols → d ∣ unsigned_abs (f i s)
 
 -- What becomes of the rows into which the numbers f are written, each divided by d: all of them stand there, or one of
 -- them passes the width.

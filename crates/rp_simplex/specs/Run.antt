@@ -1,4 +1,5 @@
--- The run of the simplex, tableau by tableau (Dantzig 1963, by the lexicographic rule of Dantzig, Orden and Wolfe 1955).
+-- The run of the simplex, tableau by tableau (Dantzig 1963, by the lexicographic rule of Dantzig, Orden and Wolfe
+-- 1955).
 use Rattle.std.specs.Prelude.{ℕ, zero, suc}
 use Rattle.rp_farkas.specs.LinearProgram.{LinearProgram}
 use Rattle.rp_simplex.specs.ExactTableau.{ExactTableau, width_of}

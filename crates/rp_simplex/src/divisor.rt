@@ -5,7 +5,7 @@ ghost use Rattle.std.specs.Prelude.{◌≡◌, ℕ, ◌^◌, ◌<◌, ◌≤◌,
 ghost use Rattle.std.specs.Int.RustNames.{unsigned_abs};
 ghost use Rattle.rp_farkas.specs.Limits.{FitsEvidence};
 ghost use Rattle.rp_simplex.specs.Pivot.{DividesAll};
-ghost use Rattle.rp_simplex.specs.InnerStage.{exact, renewed};
+ghost use Rattle.rp_simplex.specs.InnerStage.{DividesMoved, DividesRenewed, exact};
 ghost use Rattle.rp_simplex.specs.InnerRows.{moved};
 
 use crate::stage::{Stage, product};
@@ -60,11 +60,8 @@ fn divisor_with_row(t: &Stage, r: usize, pivot: i64, i: usize, factor: i64, so_f
     requires positive { 0 < so_far }
     ensures positive { 0 < result }
     ensures divides { result ∣ so_far }
-    ensures divides_row { (s : ℕ) → s ≤ t.now.rows
-        → result ∣ unsigned_abs (moved t.now.multipliers t.now.den r pivot i factor s) }
-    ensures greatest { (k : ℕ) → k ∣ so_far
-        → ((s : ℕ) → s ≤ t.now.rows
-        → k ∣ unsigned_abs (moved t.now.multipliers t.now.den r pivot i factor s)) → k ∣ result }
+    ensures divides_row { DividesMoved t.now r pivot i factor result }
+    ensures greatest { (k : ℕ) → k ∣ so_far → DividesMoved t.now r pivot i factor k → k ∣ result }
 {
     let mut divisor = so_far;
     for s in 0..t.rows + 1 {
@@ -88,8 +85,7 @@ pub fn common_divisor(t: &Stage, r: usize, c: usize, den: u128) -> u128
     ensures positive { 0 < result }
     ensures divides { result ∣ den }
     ensures divides_all { DividesAll t.now.rows t.now.width (exact t.now) r c result }
-    ensures divides_multipliers { (i s : ℕ) → i ≤ t.now.rows → s ≤ t.now.rows
-        → result ∣ unsigned_abs (renewed t.now r c i s) }
+    ensures divides_multipliers { DividesRenewed t.now r c result }
     ensures greatest { (k : ℕ) → DividesAll t.now.rows t.now.width (exact t.now) r c k
         → k ∣ result }
 {

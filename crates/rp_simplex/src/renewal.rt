@@ -1,12 +1,12 @@
 //! The multipliers after a pivot.
-ghost use Prim.Native.Nat.{◌∣◌};
 ghost use Rattle.std.specs.Prelude.{◌≡◌, ◌≢◌, ℕ, suc, ◌^◌, ◌<◌, ◌≤◌, ◌*ℤ◌, length};
 ghost use Rattle.std.specs.Int.RustNames.{unsigned_abs};
 ghost use Rattle.rp_farkas.specs.Limits.{FitsEvidence, largest_entry, most_rows};
 ghost use Rattle.rp_grid.specs.Rows.{row_of};
 ghost use Rattle.rp_simplex.specs.Cells.{cell};
 ghost use Rattle.rp_simplex.specs.InnerCombined.{AreSmall, dot};
-ghost use Rattle.rp_simplex.specs.InnerRows.{DividesEach, DividesRow, DividesRows, FactorsFit};
+ghost use Rattle.rp_simplex.specs.InnerRows.{DividesAllOf, DividesEach, DividesOthers, DividesRow};
+ghost use Rattle.rp_simplex.specs.InnerRows.{DividesRows, FactorsFit};
 ghost use Rattle.rp_simplex.specs.InnerRows.{FitEvidence, RenewsRows, less_multiple, factor, moved};
 
 use crate::division::quotient;
@@ -111,9 +111,7 @@ fn renew_others(grid: &mut Grid<i64>, column: &[i64], r: u32, pivot: i64, diviso
     requires factors_fit { FactorsFit grid.old column.now }
     requires positive { 0 < divisor }
     requires small { divisor < 2 ^ 127 }
-    requires divides { (i s : ℕ) → i < length grid.old.rows → i ≢ r → s < grid.old.cols
-        → divisor ∣ unsigned_abs
-        (less_multiple grid.old r i pivot (factor grid.old column.now i) s) }
+    requires divides { DividesOthers grid.old r pivot (factor grid.old column.now) divisor }
     ensures { RenewsRows result grid.old grid.new r pivot (factor grid.old column.now) divisor }
 {
     for i in 0..grid.rows() {
@@ -146,9 +144,8 @@ pub fn renew(
     requires den { FitsEvidence den }
     requires positive { 0 < divisor }
     requires small { divisor < 2 ^ 127 }
-    requires divides { (i s : ℕ) → i < length grid.old.rows → s < grid.old.cols
-        → divisor ∣ unsigned_abs
-        (moved grid.old den r pivot i (factor grid.old column.now i) s) }
+    requires divides { DividesAllOf grid.old
+        (λ i. moved grid.old den r pivot i (factor grid.old column.now i)) divisor }
     ensures { DividesRows result grid.old grid.new
         (λ i. moved grid.old den r pivot i (factor grid.old column.now i)) divisor }
 {

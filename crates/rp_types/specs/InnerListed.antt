@@ -1,4 +1,5 @@
--- For the proofs alone: what the search for rational types keeps, and what each of its parts refuses. No public clause cites these words.
+-- For the proofs alone: what the search for rational types keeps, and what each of its parts refuses. No public clause
+-- cites these words.
 use Rattle.std.specs.Prelude.{◌<◌, ◌≤◌, ◌⊎◌, ◌↔◌, ℕ, List, Contains, length}
 use Rattle.std.specs.Cmp.Lexicographic.{slice_cmp}
 use Rattle.std.specs.List.Sorted.{IsStrictlySortedBy}

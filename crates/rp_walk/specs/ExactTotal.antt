@@ -1,4 +1,5 @@
--- Exact totals of walks and their order: fractions of whole numbers (Landau, Foundations of Analysis, chapters 2 and 4).
+-- Exact totals of walks and their order: fractions of whole numbers (Landau, Foundations of Analysis, chapters 2 and
+-- 4).
 use Rattle.std.specs.Prelude.{◌≡◌, ℕ, ◌≤◌, ℤ, pos, ◌*ℤ◌, ◌<ℤ◌}
 
 -- The exact total of a walk as a fraction: whole numbers of any size, the denominator positive. A sum has the

@@ -1,4 +1,5 @@
--- Least totals over walks of at most k steps and of any length (Bellman 1958; Ford 1956), and which of them fit (this project's own).
+-- Least totals over walks of at most k steps and of any length (Bellman 1958; Ford 1956), and which of them fit (this
+-- project's own).
 use Rattle.std.specs.Prelude.{List, [], ◌∷◌, ◌≡◌, ℕ, ◌-◌, ◌<◌, ◌≤◌, ◌⊎◌}
 use Rattle.rp_walk.specs.ExactTotal.{ExactTotal, IsLess, SameTotal}
 use Rattle.rp_walk.specs.Walk.{TotalRule, IsTotal}

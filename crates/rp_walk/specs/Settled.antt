@@ -1,4 +1,5 @@
--- Pairs that break, closed walks that fall below their start, and least totals at all observations (this project's own).
+-- Pairs that break, closed walks that fall below their start, and least totals at all observations (this project's
+-- own).
 use Rattle.std.specs.Prelude.{◌≡◌, ℕ, ◌<◌, ◌⊎◌, List, [], ◌∷◌, length}
 use Rattle.rp_walk.specs.ExactTotal.{ExactTotal, IsLess, SameTotal}
 use Rattle.rp_walk.specs.Walk.{TotalRule, AreObservations, IsTotal, end_of, total_after}

@@ -1,4 +1,5 @@
--- Sums of whole numbers over the steps of walks, as a kind of total (cyclical monotonicity: Rockafellar 1970, section 24).
+-- Sums of whole numbers over the steps of walks, as a kind of total (cyclical monotonicity: Rockafellar 1970, section
+-- 24).
 use Rattle.std.specs.Prelude.{ℕ, ◌<◌, ℤ, pos, neg_ℤ, ◌+ℤ◌, ◌*ℤ◌, ◌≤ℤ◌, FitsSigned, List, [], ◌∷◌}
 use mir.Syntax.{w128}
 use Rattle.std.proofs.Common.{lit≤}

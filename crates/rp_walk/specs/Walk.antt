@@ -1,4 +1,5 @@
--- Totals along walks, for every kind of total (this project's own; sums after Rockafellar 1970, products after Varian 1983).
+-- Totals along walks, for every kind of total (this project's own; sums after Rockafellar 1970, products after Varian
+-- 1983).
 use Rattle.std.specs.Prelude.{◌≡◌, ◌≢◌, ℕ, zero, suc, ◌+◌, ◌<◌, ◌≤◌, ◌↔◌, List, [], ◌∷◌, length, All, slice_index}
 use Rattle.rp_walk.specs.ExactTotal.{ExactTotal, IsLess}
 
