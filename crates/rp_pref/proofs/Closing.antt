@@ -9,7 +9,7 @@ use Rattle.std.proofs.lemmas.List.Sums.{count_by-le-length}
 use Rattle.std.proofs.lemmas.Nat.{mul-add-lt}
 use Rattle.rp_evidence.specs.Count.{IsCount, IsNumberOf}
 use Rattle.rp_evidence.specs.Walk.{Reaches}
-use Rattle.rp_evidence.proofs.Counting.{number_by_test, number_same}
+use Rattle.rp_evidence.proofs.CountLists.{number_by_test, number_same}
 use Rattle.rp_pref.specs.Closure.{IsClosureOf, Reached, counts_in, reaches_in}
 use Rattle.rp_pref.specs.Search.{IsStepIn, AreDepths, AreLeastDepths}
 use Rattle.rp_pref.proofs.Walking.{reached_by_depth, depth_of_reached}
