@@ -7,7 +7,7 @@ use Rattle.rp_evidence.specs.Preference.{IsWeak}
 use Rattle.rp_evidence.specs.StandardNumbers.{AreStandardNumbers, FitsMultiplier, FitsUtility, IsClassUtility, IsMultiplier, PassWidthFirstAt}
 use Rattle.rp_evidence.proofs.AfriatClasses.{AgreeAbove, class_utility_is_one, class_utility_same, multiplier_is_one, multiplier_same, standard_above_agree, standard_above_same}
 use Rattle.rp_evidence.proofs.AfriatTheorem.{count_is_some, count_is_within, standard_exists_for}
-use Rattle.rp_afriat.specs.Filling.{AreFilledAbove, AreMultipliersSet, FitAbove, IsClassSet, IsTooSteep, StandardNumbersPassAt, utility_of}
+use Rattle.rp_afriat.specs.InnerFilling.{AreFilledAbove, AreMultipliersSet, FitAbove, IsClassSet, IsTooSteep, StandardNumbersPassAt, utility_of}
 
 -- the utilities of a class are x below m, and all others are as they were
 pub record IsClassSetBelow (m : ℕ) (counts : List ℕ) (class : ℕ) (x : ℤ) (before after : List ℤ) : Type 0 where
@@ -20,9 +20,6 @@ module _ (n : ℕ) (c : ℕ → ℕ → ℕ) (counts : List ℕ) (class : ℕ) (
 
   pub empty_filled : ((s : ℕ) → s < n → ¬ (slice_index counts s ≡ class)) → AreFilledAbove n c counts u lambda (class - 1)
   empty_filled none t a l = filled t a (let d = none t a in omega arith)
-
-  pub empty_fit : ((s : ℕ) → s < n → ¬ (slice_index counts s ≡ class)) → FitAbove n counts u lambda (class - 1)
-  empty_fit none t a l = fit t a (let d = none t a in omega arith)
 
   -- ---- a class that is filled
 

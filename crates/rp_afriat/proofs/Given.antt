@@ -7,7 +7,7 @@ use Rattle.rp_evidence.specs.Garp.{MeetsGarp}
 use Rattle.rp_evidence.specs.Preference.{IsWeak}
 use Rattle.rp_evidence.specs.declared.afriat.AfriatPart.TheVariants.{Model}
 use Rattle.rp_evidence.proofs.AfriatTheorem.{standard_model}
-use Rattle.rp_afriat.specs.Filling.{AreFilledAbove, AreForEach, FitAbove}
+use Rattle.rp_afriat.specs.InnerFilling.{AreFilledAbove, AreForEach, FitAbove}
 use Rattle.rp_afriat.specs.Verdict.{IsAfriatVerdict}
 use Rattle.rp_afriat.proofs.Fillings.{all_fit, standard_numbers}
 

@@ -7,7 +7,7 @@ use Rattle.std.specs.Int.{int_min}
 use Rattle.std.specs.Option.{unwrap_or}
 use Rattle.rp_evidence.specs.Afriat.{allowed}
 use Rattle.rp_evidence.specs.StandardNumbers.{IsClassUtility}
-use Rattle.rp_afriat.specs.Filling.{IsAllowed, IsAllowedInClass, IsLeastOf, lesser_of, utility_of}
+use Rattle.rp_afriat.specs.InnerFilling.{IsAllowed, IsAllowedInClass, IsLeastOf, lesser_of, utility_of}
 
 pub at_most_left : (x y : ℤ) → int_min x y ≤ℤ x
 at_most_left x y = omega (arith, ints, clamps)

@@ -1,5 +1,5 @@
 -- The utility of a bundle, one observation after another.
-use Rattle.std.proofs.Common.{◌≡◌, ◌<◌, ◌+◌, inl, inr, ℕ, sym, subst, ◌∙◌, arith}
+use Rattle.std.proofs.Common.{◌≡◌, ◌+◌, inl, inr, ℕ, sym, subst, ◌∙◌, arith}
 use Rattle.std.proofs.lemmas.Bool.{cases_eq}
 use Rattle.std.proofs.lemmas.Int.{ints}
 use Rattle.std.specs.Int.{int_min}
@@ -8,18 +8,6 @@ use Rattle.rp_evidence.specs.Afriat.{IsUtility, allowed_for}
 use Rattle.rp_afriat.proofs.Leasts.{at_most_left, at_most_right, one_of}
 
 module _ (c : ℕ → ℕ → ℕ) (u : ℕ → ℤ) (m : ℕ → ℕ) (cost : ℕ → ℕ) where
-  pub first_bound : (x : ℤ) → x ≡ allowed_for c u m 1 cost 0 → IsUtility 1 c u m 1 cost x
-  first_bound x e = record {
-    reached = (0, omega arith, e);
-    least = λ s l. subst (λ k. x ≤ℤ allowed_for c u m 1 cost k) (none_other s l) (same x (allowed_for c u m 1 cost 0) e);
-  }
-    where
-      same : (x y : ℤ) → x ≡ y → x ≤ℤ y
-      same x y e = omega (arith, ints)
-
-      none_other : (s : ℕ) → s < 1 → 0 ≡ s
-      none_other s l = omega arith
-
   pub one_more_bound : (s : ℕ) (x y : ℤ) → IsUtility s c u m 1 cost x → y ≡ allowed_for c u m 1 cost s → IsUtility (s + 1) c u m 1 cost (int_min x y)
   one_more_bound s x y is e = record {
     reached = elim (one_of x y) [

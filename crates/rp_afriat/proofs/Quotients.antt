@@ -7,7 +7,7 @@ use Rattle.std.specs.Prelude.{ℤ, pos, ◌+ℤ◌, ◌-ℤ◌, ◌*ℤ◌, ◌�
 use Rattle.rp_evidence.specs.StandardNumbers.{FitsMultiplier, IsMultiplier}
 use Rattle.rp_evidence.proofs.AfriatStages.{IsNeeded}
 use Rattle.rp_evidence.proofs.AfriatSums.{allowed_parts}
-use Rattle.rp_afriat.specs.Filling.{AreMultipliersSet, IsRoundedUp, utility_of}
+use Rattle.rp_afriat.specs.InnerFilling.{AreMultipliersSet, IsRoundedUp, utility_of}
 
 filled : (x y : ℤ) (k a b e : ℕ) → b + e ≡ a → (y -ℤ x) ≤ℤ pos (k * e) → y ≤ℤ (x +ℤ (pos k *ℤ (pos a -ℤ pos b)))
 filled x y k a b e s h =

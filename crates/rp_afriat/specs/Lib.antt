@@ -1,3 +1,3 @@
 pub mod Bundle
-pub mod Filling
+pub mod InnerFilling
 pub mod Verdict

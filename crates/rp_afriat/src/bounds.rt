@@ -1,6 +1,6 @@
 ghost use Rattle.std.specs.Prelude.{◌≡◌, ◌<◌, ◌≤◌, ◌*◌, ◌^◌, ℕ, ◌+ℤ◌, ◌-ℤ◌, ◌*ℤ◌, ◌≤ℤ◌, neg_ℤ, pos};
 ghost use Rattle.rp_evidence.specs.StandardNumbers.{FitsMultiplier, FitsUtility};
-ghost use Rattle.rp_afriat.specs.Filling.{IsRoundedUp};
+ghost use Rattle.rp_afriat.specs.InnerFilling.{IsRoundedUp};
 
 /// The bound that the numbers of an observation set: its utility, and for each unit that a bundle costs beyond what
 /// was spent there its multiplier.

@@ -1,8 +1,8 @@
 ghost use Rattle.std.specs.Prelude.{◌≡◌, ◌<◌, ◌≤◌, ℕ, IfNone, IfSome, length, slice_index};
 ghost use Rattle.rp_evidence.specs.StandardNumbers.{IsClassUtility};
 ghost use Rattle.rp_table.specs.Cost.{cost_at};
-ghost use Rattle.rp_afriat.specs.Filling.{AreForEach, FitAbove, IsAllowed, IsAllowedInClass};
-ghost use Rattle.rp_afriat.specs.Filling.{IsClassSet, IsLeastOf, lesser_of, utility_of};
+ghost use Rattle.rp_afriat.specs.InnerFilling.{AreForEach, FitAbove, IsAllowed, IsAllowedInClass};
+ghost use Rattle.rp_afriat.specs.InnerFilling.{IsClassSet, IsLeastOf, lesser_of, utility_of};
 
 use crate::bounds::bound;
 use rp_table::Costs;

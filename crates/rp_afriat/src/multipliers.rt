@@ -4,7 +4,7 @@ ghost use Rattle.rp_evidence.specs.Count.{AreCounts};
 ghost use Rattle.rp_evidence.specs.Preference.{IsWeak};
 ghost use Rattle.rp_evidence.specs.StandardNumbers.{FitsUtility, IsMultiplier};
 ghost use Rattle.rp_table.specs.Cost.{cost_at};
-ghost use Rattle.rp_afriat.specs.Filling.{AreMultipliersSet, IsTooSteep, utility_of};
+ghost use Rattle.rp_afriat.specs.InnerFilling.{AreMultipliersSet, IsTooSteep, utility_of};
 
 use crate::bounds::rounded_up;
 use rp_evidence::MULTIPLIER_WIDTH;

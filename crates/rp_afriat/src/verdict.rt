@@ -6,8 +6,8 @@ ghost use Rattle.rp_evidence.specs.Garp.{MeetsGarp, ProvesGarp};
 ghost use Rattle.rp_evidence.specs.Preference.{IsWeak};
 ghost use Rattle.rp_evidence.specs.StandardNumbers.{FitsUtility};
 ghost use Rattle.rp_table.specs.Cost.{cost_at};
-ghost use Rattle.rp_afriat.specs.Filling.{AreFilledAbove, AreForEach, FitAbove};
-ghost use Rattle.rp_afriat.specs.Filling.{StandardNumbersPassAt};
+ghost use Rattle.rp_afriat.specs.InnerFilling.{AreFilledAbove, AreForEach, FitAbove};
+ghost use Rattle.rp_afriat.specs.InnerFilling.{StandardNumbersPassAt};
 ghost use Rattle.rp_afriat.specs.Verdict.{IsAfriatVerdict};
 
 use crate::classes::{class_utility, first_of, set_utility};

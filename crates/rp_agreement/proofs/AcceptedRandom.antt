@@ -22,7 +22,7 @@ use Rattle.rp_patch.specs.Mixtures.{random_program, uses, weight_of}
 use Rattle.rp_patch.specs.Patches.{IsPatchList, PatchList}
 use Rattle.rp_patch.specs.RandomFailure.{ComesInOrder, HasFitNumbers, IsWithinWidth, PartsFail, RandomFails, part_at}
 use Rattle.rp_patch.specs.Types.{AreRationalTypes, IsRationalType}
-use Rattle.rp_patch.proofs.Sharing.{at_most_all, makes_all}
+use Rattle.rp_patch.proofs.MixtureWeights.{at_most_all, makes_all}
 use Rattle.rp_random.specs.Verdict.{IsOutcomeVerdict, IsRandomVerdict, IsPairVerdict, shares_of}
 use Rattle.rp_random.proofs.VerdictLemmas.{fit_parts, heavy, partial, same}
 use Rattle.rp_simplex.specs.Outcome.{IsOutcome}

@@ -8,7 +8,7 @@ use Rattle.std.proofs.lemmas.Map.Keys.{sorted_from_strictly_increasing}
 use Rattle.std.proofs.lemmas.Map.Views.{length-le_from_below}
 use Rattle.rp_evidence.specs.Count.{AreCounts, IsNumberOf}
 use Rattle.rp_evidence.specs.Walk.{IsClosedWalk}
-use Rattle.rp_evidence.proofs.Counting.{none_twice_is_shorter}
+use Rattle.rp_evidence.proofs.CountLists.{none_twice_is_shorter}
 use Rattle.rp_evidence.proofs.Places.{below_at}
 use Rattle.rp_notation.specs.Reading.{FitObservations, FitsCount}
 use Rattle.rp_table.specs.declared.TheConstants.{RECORDS}

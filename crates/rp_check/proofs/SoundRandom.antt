@@ -13,7 +13,7 @@ use Rattle.rp_patch.specs.Patches.{IsPatchList, PatchList}
 use Rattle.rp_patch.specs.RandomEvidence.{ProvesOnPatches, ProvesRandom}
 use Rattle.rp_patch.specs.RandomFailure.{ItemFailsOnPatches, PartsFail, RandomFails}
 use Rattle.rp_patch.specs.Types.{IsRationalType}
-use Rattle.rp_patch.proofs.Sharing.{is_greatest, none_makes}
+use Rattle.rp_patch.proofs.MixtureWeights.{is_greatest, none_makes}
 
 module _ (p : PatchList) (is : IsPatchList p) where
   all_rational : (parts : List Share) → PartsFail p parts (Ok tt) → (share : Share) → Contains parts share → IsRationalType p share.patches

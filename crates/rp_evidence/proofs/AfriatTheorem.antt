@@ -12,7 +12,7 @@ use Rattle.rp_evidence.proofs.AfriatClasses.{class_utility_is_one, standard_abov
 use Rattle.rp_evidence.proofs.AfriatStages.{standard_above_exists}
 use Rattle.rp_evidence.proofs.Counts.{count_falls, count_is_one, count_never_rises}
 use Rattle.rp_evidence.proofs.Levels.{strict_to_weak}
-use Rattle.rp_evidence.proofs.Reaching.{count_of, count_of-counts, count_of-within}
+use Rattle.rp_evidence.proofs.Reachability.{count_of, count_of-counts, count_of-within}
 use Rattle.rp_evidence.proofs.Violations.{reach_and_strict}
 
 weak_or_not : (c : ℕ → ℕ → ℕ) (s t : ℕ) → IsWeak c 1 1 s t ⊎ ¬ IsWeak c 1 1 s t

@@ -4,7 +4,7 @@ use Rattle.rp_evidence.specs.Count.{AreCounts, IsCount}
 use Rattle.rp_evidence.specs.Garp.{HasNoViolation}
 use Rattle.rp_evidence.specs.Ranks.{RespectPreference, OrderSteps}
 use Rattle.rp_evidence.specs.Walk.{IsClosedWalk, Reaches}
-use Rattle.rp_evidence.proofs.Counting.{number_grows, number_grows_past, number_is_one}
+use Rattle.rp_evidence.proofs.CountLists.{number_grows, number_grows_past, number_is_one}
 use Rattle.rp_evidence.proofs.Violations.{reach_and_strict}
 use Rattle.rp_evidence.proofs.Walks.{reach_by_step, reach_on}
 

@@ -6,7 +6,7 @@ use Rattle.rp_evidence.specs.Garp.{MeetsGarp}
 use Rattle.rp_evidence.specs.Input.{TableInput}
 use Rattle.rp_evidence.specs.Preference.{IsWeak, IsStrict}
 use Rattle.rp_evidence.specs.Walk.{LeadsTo, IsWalk, HasStep, HasStepFrom}
-use Rattle.rp_evidence.proofs.Supporting.{IsEnlarged, Leads, LeadsStrictly, clear, only_in_table, costs_enough, costs_more}
+use Rattle.rp_evidence.proofs.SupportingDemands.{IsEnlarged, Leads, LeadsStrictly, clear, only_in_table, costs_enough, costs_more}
 
 pick : {A : Type 0} (b d : Bool) (x y : A) → b ≡ d → cond b x y ≡ cond d x y
 pick b d x y e = ap (λ z. cond z x y) e

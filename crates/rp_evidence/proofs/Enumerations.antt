@@ -5,12 +5,6 @@ use Rattle.std.proofs.lemmas.List.{ext_get_or, get_or_append_left, get_or_defaul
 use Rattle.std.specs.List.Sorted.{IsStrictlyIncreasing}
 use Rattle.rp_evidence.specs.Enumeration.{Enumerates}
 
-pub enumerates_none : (P : ℕ → Type 0) → Enumerates 0 P []
-enumerates_none P = record {
-  rising = λ k l. absurd (omega arith);
-  just_these = λ t. (λ c. absurd (omega (arith, c.1)), λ h. absurd (omega (arith, h.0)));
-}
-
 module _ (P : ℕ → Type 0) (t : ℕ) (xs : List ℕ) (lists : Enumerates t P xs) where
   pub enumerates_without : ¬ P t → Enumerates (t + 1) P xs
   enumerates_without not = record {

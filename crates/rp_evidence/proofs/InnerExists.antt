@@ -13,7 +13,7 @@ use Rattle.rp_evidence.specs.Input.{TableInput, input_of_table}
 use Rattle.rp_evidence.specs.Preference.{IsWeak}
 use Rattle.rp_evidence.proofs.IndexExists.{weak_told}
 use Rattle.rp_evidence.proofs.InnerDemand.{inner_demand_supports}
-use Rattle.rp_evidence.proofs.Reaching.{count_of, count_of-counts}
+use Rattle.rp_evidence.proofs.Reachability.{count_of, count_of-counts}
 
 -- the first n numbers of a sequence
 listed : (f : ℕ → ℕ) (n : ℕ) → (xs : List ℕ) × (length xs ≡ n) × ((k : ℕ) → k < n → slice_index xs k ≡ f k)

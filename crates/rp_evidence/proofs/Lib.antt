@@ -4,7 +4,7 @@ pub mod AfriatStages
 pub mod AfriatSums
 pub mod AfriatTheorem
 mod AfriatTries
-pub mod Counting
+pub mod CountLists
 pub mod Counts
 mod HomotheticTries
 pub mod DemandBounds
@@ -23,8 +23,8 @@ pub mod Levels
 pub mod Loops
 pub mod Places
 pub mod StrictStarts
-pub mod Supporting
-pub mod Reaching
+pub mod SupportingDemands
+pub mod Reachability
 pub mod SameAfriat
 pub mod Ratios
 pub mod SameCosts

@@ -8,13 +8,6 @@ use Rattle.rp_evidence.specs.Walk.{LeadsTo, IsClosedWalk, HasStep, HasStepFrom}
 use Rattle.rp_evidence.proofs.Levels.{weak_rises}
 use Rattle.rp_evidence.proofs.Walks.{leads_by_weaker, starts_below}
 
--- a ratio that is at most another, which is at most a third
-pub ratio_trans : (a b x y p q : ℕ) → 0 < y → a * y ≤ x * b → x * q ≤ p * y → a * q ≤ p * b
-ratio_trans a b x y p q pos l m =
-    let k : q * (a * y) ≤ q * (x * b) = mul-le-mul_left q l in
-    let j : b * (x * q) ≤ b * (p * y) = mul-le-mul_left b m in
-    le_of_mul-le-mul_left {k = y} (omega arith) pos
-
 -- at most, then less
 pub ratio_then_less : (a b x y p q : ℕ) → 0 < b → a * y ≤ x * b → x * q < p * y → a * q < p * b
 ratio_then_less a b x y p q pos l m =

@@ -7,7 +7,7 @@ use Rattle.rp_evidence.specs.Ranks.{OrderSteps, OrderStrictSteps, RespectLevel, 
 use Rattle.rp_evidence.specs.Walk.{IsShortestWalk, IsWalk, Reaches}
 use Rattle.rp_evidence.specs.declared.garp.Garp.{Garp}
 use Rattle.rp_evidence.specs.declared.garp.Garp.TheVariants.{Ranks, Cycle}
-use Rattle.rp_evidence.proofs.Counting.{number_same}
+use Rattle.rp_evidence.proofs.CountLists.{number_same}
 use Rattle.rp_evidence.proofs.Violations.{violates_by_weaker}
 use Rattle.rp_evidence.proofs.Walks.{walks_by_weaker}
 

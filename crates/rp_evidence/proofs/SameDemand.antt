@@ -18,7 +18,7 @@ use Rattle.rp_evidence.specs.declared.demand.DemandPart.TheVariants.{Bounds, NoM
 use Rattle.rp_evidence.specs.declared.demand.WelfarePart.{WelfarePart}
 use Rattle.rp_evidence.specs.declared.demand.WelfarePart.TheVariants.{Bounds as WelfareBounds, NoModel as NoWelfare}
 use Rattle.rp_evidence.proofs.DemandLaws.{is_enlarged}
-use Rattle.rp_evidence.proofs.Supporting.{IsEnlarged}
+use Rattle.rp_evidence.proofs.SupportingDemands.{IsEnlarged}
 use Rattle.rp_evidence.proofs.SameCosts.{meets_same, strict_same, violation_same, walk_same, weak_same}
 use Rattle.rp_evidence.proofs.Walks.{ends_below, has_weaker_step, starts_below}
 

@@ -1,3 +1,3 @@
 pub mod Products
 pub mod Verdict
-pub mod ProductLaws
+pub mod InnerProductLaws

@@ -62,8 +62,8 @@ impl Total for Products<'_> {
         across < own
     }
 
-    ghost use Rattle.rp_homo.specs.ProductLaws.{products_fit_alike};
-    ghost use Rattle.rp_homo.specs.ProductLaws.{products_keep_order, products_stay};
+    ghost use Rattle.rp_homo.specs.InnerProductLaws.{products_fit_alike};
+    ghost use Rattle.rp_homo.specs.InnerProductLaws.{products_keep_order, products_stay};
 
     ghost keeps_order = { λ a. products_keep_order a.costs.now.n (cost_at a.costs.now) };
 

@@ -8,7 +8,7 @@ use Rattle.rp_table.specs.BudgetLists.{BudgetList}
 use Rattle.rp_table.specs.ChoiceLists.{ChoiceList}
 use Rattle.rp_patch.specs.Choices.{RandomInput, input_of}
 use Rattle.rp_patch.specs.Signs.{signs_of}
-use Rattle.rp_patch.specs.Tallies.{tallied, tally_of}
+use Rattle.rp_patch.specs.InnerTallies.{tallied, tally_of}
 use Rattle.rp_patch.specs.Units.{chosen_as, chosen_below, tally_by, tally_on}
 use Rattle.rp_patch.specs.declared.chosen.Chosen.{Chosen}
 

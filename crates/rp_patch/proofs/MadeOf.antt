@@ -7,7 +7,7 @@ use Rattle.std.proofs.lemmas.Nat.Gcd.{mod-eq-zero_of_dvd}
 use Rattle.std.proofs.Math.Nat.{dvd-mul_left, dvd_trans}
 use Rattle.rp_table.specs.Sums.{sum_below}
 use Rattle.rp_table.proofs.SumsBelow.{sum_below-same}
-use Rattle.rp_patch.specs.Apportioned.{AreRaisedBelow, AreUnited, AreWhole, IsAhead, IsShared, IsTotal, portion_at, portions_on, raised_on, units_of, whole_on}
+use Rattle.rp_patch.specs.InnerApportioned.{AreRaisedBelow, AreUnited, AreWhole, IsAhead, IsShared, IsTotal, portion_at, portions_on, raised_on, units_of, whole_on}
 use Rattle.rp_table.specs.BudgetLists.{BudgetList}
 use Rattle.rp_table.specs.ChoiceLists.{ChoiceList}
 use Rattle.rp_patch.specs.Choices.{AreChoicesFrom, RandomInput, input_of, times_on}
@@ -17,7 +17,7 @@ use Rattle.rp_patch.specs.declared.chosen.Chosen.{Chosen}
 use Rattle.rp_patch.specs.declared.listed.Patch.{Patch}
 use Rattle.rp_patch.specs.declared.portion.Portion.{Portion}
 use Rattle.rp_patch.proofs.ChosenLaws.{chosen_budget, chosen_rising, chosen_signs, chosen_times, chosen_total}
-use Rattle.rp_patch.proofs.Raising.{same_whole}
+use Rattle.rp_patch.proofs.RaisedBudgets.{same_whole}
 use Rattle.rp_patch.proofs.Shares.{cancelled, sum_plus, sum_scaled_at_most}
 use Rattle.rp_patch.proofs.Sums.{some_times, sum_at_least}
 

@@ -6,7 +6,7 @@ use Rattle.std.proofs.Math.Nat.{div-add-mod', dvd-mul_left, dvd_trans, dvd_of_mu
 use Rattle.std.proofs.lemmas.Nat.Gcd.{le_of_dvd, mod-eq-zero_of_dvd}
 use Rattle.rp_num.proofs.Coprime.{IsCoprime-divided, divides_other_factor}
 use Rattle.rp_patch.specs.Choices.{RandomInput, times_on}
-use Rattle.rp_patch.specs.Multiples.{IsCommon}
+use Rattle.rp_patch.specs.InnerMultiples.{IsCommon}
 use Rattle.rp_patch.specs.Units.{IsLeastMultiple, IsMultiple}
 
 whole_part : (a g : ℕ) → g ∣ a → a / g * g ≡ a

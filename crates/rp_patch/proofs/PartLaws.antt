@@ -6,13 +6,13 @@ use Rattle.std.proofs.lemmas.Int.{ints}
 use Rattle.rp_evidence.specs.Walk.{LeadsTo}
 use Rattle.rp_evidence.proofs.Violations.{has_reach_and_strict, reach_and_strict}
 use Rattle.rp_evidence.proofs.Walks.{ends_below, leads_by_weaker, reach_starts_below, reach_ends_below, rest_of_reach, starts_below}
-use Rattle.rp_patch.specs.Joined.{IsJoined}
+use Rattle.rp_patch.specs.InnerJoined.{IsJoined}
 use Rattle.rp_patch.specs.Parts.{IsRationalBelow, IsTaken, Leads, taken_in}
 use Rattle.rp_patch.specs.Patches.{PatchList, budget_at, sign_at}
 use Rattle.rp_patch.specs.Sets.{Has}
 use Rattle.rp_patch.specs.Types.{IsStrictBy, IsWeakBy}
 use Rattle.rp_patch.specs.declared.part.Part.{Part}
-use Rattle.rp_patch.proofs.Extending.{In, Out, taken_apart, through, wider}
+use Rattle.rp_patch.proofs.ExtendedWalks.{In, Out, taken_apart, through, wider}
 
 module _ (p : PatchList) (old new : Part) (i from into : ℕ) (taken : IsTaken p old) (count : length (taken_in old) ≡ old.taken) (in_patches : i < length p.patches)
     (next : budget_at p i ≡ old.taken) (room : old.taken < p.budgets) (more : new.taken ≡ old.taken + 1) (longer : taken_in new ≡ taken_in old ++ i ∷ [])

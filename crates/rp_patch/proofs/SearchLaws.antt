@@ -35,13 +35,6 @@ pub begins_itself : (type : List ℕ) → Begins type type
 begins_itself [] = tt
 begins_itself (x ∷ type) = (refl, begins_itself type)
 
--- with the next patch it has
-pub begins_more : (type front : List ℕ) → Begins type front → length front < length type → Begins type (front ++ slice_index type (length front) ∷ [])
-begins_more [] [] h l = absurd (omega (arith, l))
-begins_more (y ∷ type) [] h l = (refl, tt)
-begins_more [] (x ∷ front) h l = absurd h
-begins_more (y ∷ type) (x ∷ front) h l = (h.0, begins_more type front h.1 (omega (arith, l)))
-
 -- ---- what no rational type begins with
 
 leads_wider : (n m : ℕ) (weak : ℕ → ℕ → Type 0) → n ≤ m → (s t : ℕ) (walk : List ℕ) → LeadsTo n weak s t walk → LeadsTo m weak s t walk

@@ -1,7 +1,6 @@
 -- What evidence on random choices has to be to prove its verdict (McFadden and Richter 1990; the weights of the patches are
 -- the dual side of the program of random utility).
-use Rattle.std.specs.Prelude.{◌≡◌, ◌≤◌, ℕ, List, All, length}
-use Rattle.rp_evidence.specs.declared.certificate.Certificate.{Certificate}
+use Rattle.std.specs.Prelude.{◌≡◌, ◌≤◌, ℕ, List, length}
 use Rattle.rp_evidence.specs.declared.certificate.Item.{Item}
 use Rattle.rp_evidence.specs.declared.certificate.Item.TheVariants.{Garp as GarpItem, Afriat as AfriatItem, Efficiency as EfficiencyItem, Homothetic as HomotheticItem, Quasi as QuasiItem, Demand as DemandItem, Welfare as WelfareItem, Random as RandomItem}
 use Rattle.rp_evidence.specs.declared.random.RandomPart.{RandomPart}
@@ -37,7 +36,3 @@ ProvesOnPatches p (QuasiItem verdict) = ⊥
 ProvesOnPatches p (DemandItem prices m part) = ⊥
 ProvesOnPatches p (WelfareItem prices of part) = ⊥
 ProvesOnPatches p (RandomItem total part) = ProvesRandom p total part
-
--- Every item of a certificate does.
-abbrev pub ProvesAllOnPatches : PatchList → Certificate → Type 0
-ProvesAllOnPatches p certificate = All (ProvesOnPatches p) certificate.items

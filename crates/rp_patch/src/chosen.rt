@@ -3,7 +3,7 @@ ghost use Rattle.std.specs.Prelude.{◌≡◌, ◌<◌, ◌≤◌, ◌++◌, [],
 ghost use Rattle.std.specs.Prelude.{slice_index_or};
 ghost use Rattle.indexmap.specs.IndexMap.{index_map_len};
 ghost use Rattle.rp_patch.specs.Choices.{AreChoicesFrom, input_of};
-ghost use Rattle.rp_patch.specs.Tallies.{SaysWhyChosen, tallied};
+ghost use Rattle.rp_patch.specs.InnerTallies.{SaysWhyChosen, tallied};
 ghost use Rattle.rp_patch.specs.Units.{all_chosen as chosen_in, chosen_as};
 
 use crate::tally::{all_signs, tally_on};

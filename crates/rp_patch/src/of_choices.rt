@@ -1,7 +1,7 @@
 //! The patches that choices fall in, with their units.
 ghost use Rattle.std.specs.Prelude.{◌≡◌, ◌<◌, ◌≤◌, ℕ, IfErr, IfOk, IfSome, length};
-ghost use Rattle.rp_patch.specs.Apportioned.{AreUnited, IsTotal, SaysWhyTotal};
-ghost use Rattle.rp_patch.specs.Apportioned.{portion_at, units_of};
+ghost use Rattle.rp_patch.specs.InnerApportioned.{AreUnited, IsTotal, SaysWhyTotal};
+ghost use Rattle.rp_patch.specs.InnerApportioned.{portion_at, units_of};
 ghost use Rattle.rp_patch.specs.Choices.{AreChoicesFrom, input_of};
 ghost use Rattle.rp_patch.specs.Patches.{IsPatchList};
 ghost use Rattle.rp_patch.specs.Units.{ArePatchesOf, SaysWhy};

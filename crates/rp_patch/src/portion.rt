@@ -1,10 +1,10 @@
 //! How the units of a total are shared out among the patches of each budget.
 ghost use Rattle.std.specs.Prelude.{◌≡◌, ◌<◌, ◌≤◌, ◌↔◌, ℕ, true, All, IfOk, IfSome, IsTrue, length};
 ghost use Rattle.std.specs.Prelude.{MatchOption, nat_lt};
-ghost use Rattle.rp_patch.specs.Apportioned.{AreRaisedBelow, AreWhole, IsLeft, IsNextUp};
-ghost use Rattle.rp_patch.specs.Apportioned.{IsRaisedBy, IsShared, RaisesFirst};
-ghost use Rattle.rp_patch.specs.Apportioned.{portion_at, portion_of as portion_of_chosen};
-ghost use Rattle.rp_patch.specs.Apportioned.{portions_on, raised_on, whole_on as whole_of_budget};
+ghost use Rattle.rp_patch.specs.InnerApportioned.{AreRaisedBelow, AreWhole, IsLeft, IsNextUp};
+ghost use Rattle.rp_patch.specs.InnerApportioned.{IsRaisedBy, IsShared, RaisesFirst};
+ghost use Rattle.rp_patch.specs.InnerApportioned.{portion_at, portion_of as portion_of_chosen};
+ghost use Rattle.rp_patch.specs.InnerApportioned.{portions_on, raised_on, whole_on as whole_of_budget};
 ghost use Rattle.rp_patch.specs.Choices.{AreChoicesFrom, input_of};
 ghost use Rattle.rp_patch.specs.Units.{all_chosen};
 

@@ -4,7 +4,7 @@ ghost use Rattle.std.specs.Prelude.{map, nat_lt, slice_index, slice_index_or};
 ghost use Rattle.std.specs.List.{range_with_len};
 ghost use Rattle.rp_patch.specs.Choices.{AreChoicesFrom, input_of};
 ghost use Rattle.rp_patch.specs.Signs.{signs_of as signs_of_choice};
-ghost use Rattle.rp_patch.specs.Tallies.{AtMost, tallied, tally_of};
+ghost use Rattle.rp_patch.specs.InnerTallies.{AtMost, tallied, tally_of};
 ghost use Rattle.rp_patch.specs.Units.{counted};
 
 use crate::signs::signs_of;

@@ -1,7 +1,7 @@
 //! How many choices were made on each budget, and what they have in common.
 ghost use Rattle.std.specs.Prelude.{◌≡◌, ◌<◌, ◌≤◌, ◌*◌, IfErr, IfOk, length};
 ghost use Rattle.rp_patch.specs.Choices.{AreChoicesFrom, input_of, times_on as times_of};
-ghost use Rattle.rp_patch.specs.Multiples.{IsCommon};
+ghost use Rattle.rp_patch.specs.InnerMultiples.{IsCommon};
 ghost use Rattle.rp_patch.specs.Units.{IsLeastMultiple, PassesUnitsAt};
 
 use crate::UNITS;

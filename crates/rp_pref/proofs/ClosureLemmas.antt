@@ -6,7 +6,7 @@ use Rattle.std.proofs.lemmas.List.{map-id}
 use Rattle.std.proofs.lemmas.List.FromFn.{sum_by-map-range_with_len_more}
 use Rattle.rp_evidence.specs.Count.{IsCount, IsNumberOf}
 use Rattle.rp_evidence.specs.Walk.{Reaches}
-use Rattle.rp_evidence.proofs.Counting.{number_by_test, number_same}
+use Rattle.rp_evidence.proofs.CountLists.{number_by_test, number_same}
 use Rattle.rp_pref.specs.Closure.{IsClosureOf, Reached, counts_in, reaches_in}
 
 pub count_more : (p : ℕ → Bool) (m : ℕ) → count_by p (range_with_len 0 (m + 1)) ≡ count_by p (range_with_len 0 m) + cond (p m) 1 0

@@ -25,7 +25,7 @@ use Rattle.rp_patch.specs.Mixtures.{IsPartialMixture, random_program, type_weigh
 use Rattle.rp_patch.specs.Patches.{IsPatchList, PatchList, units_at}
 use Rattle.rp_patch.specs.RandomEvidence.{ProvesRandom}
 use Rattle.rp_patch.specs.Types.{AreRationalTypes, IsRationalType}
-use Rattle.rp_patch.proofs.Sharing.{at_most_all, is_greatest, makes_all, none_makes, of_cons, on_cons, weighed}
+use Rattle.rp_patch.proofs.MixtureWeights.{at_most_all, is_greatest, makes_all, none_makes, of_cons, on_cons, weighed}
 use Rattle.rp_simplex.specs.Outcome.{IsOutcome}
 use Rattle.rp_simplex.specs.SameOutcome.{IsSameOutcome}
 use Rattle.rp_simplex.specs.declared.outcome.Outcome.{Outcome}

@@ -1,10 +1,6 @@
 -- Laws of sums over the numbers below a bound.
-use Rattle.std.proofs.Common.{◌≡◌, ℕ, zero, suc, ◌+◌, ◌<◌, ◌≤◌, refl, arith, add-one}
+use Rattle.std.proofs.Common.{◌≡◌, ℕ, zero, suc, ◌<◌, ◌≤◌, refl, arith}
 use Rattle.rp_table.specs.Sums.{sum_below}
-
--- one more summand
-pub sum_below-more : (f : ℕ → ℕ) (k : ℕ) → sum_below (k + 1) f ≡ sum_below k f + f k
-sum_below-more f k = rw add-one refl
 
 -- a sum of greater terms is greater
 pub sum_below-mono : (f h : ℕ → ℕ) (k : ℕ) → ((i : ℕ) → i < k → f i ≤ h i) → sum_below k f ≤ sum_below k h

@@ -4,7 +4,7 @@ use Rattle.std.proofs.lemmas.Int.{to_z-of_z}
 use Rattle.std.specs.Prelude.{FitsSigned}
 use Rattle.rp_evidence.specs.StandardNumbers.{IsClassUtility}
 use Rattle.rp_table.specs.Cost.{cost_at}
-use Rattle.rp_afriat.specs.Filling.{IsAllowedInClass, IsLeastOf, utility_of}
+use Rattle.rp_afriat.specs.InnerFilling.{IsAllowedInClass, IsLeastOf, utility_of}
 use Rattle.rp_afriat.proofs.Leasts.{class_no_more, class_one_more, least_is_utility}
 use Rattle.rp_afriat.proofs.classes.class_utility.Goals as goal
 use Rattle.rp_afriat.proofs.classes.class_utility.Goals.{then-counts-t, else-counts-t}

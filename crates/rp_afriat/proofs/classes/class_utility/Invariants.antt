@@ -1,5 +1,5 @@
 use Rattle.rp_table.specs.Cost.{cost_at}
-use Rattle.rp_afriat.specs.Filling.{IsAllowedInClass, IsLeastOf}
+use Rattle.rp_afriat.specs.InnerFilling.{IsAllowedInClass, IsLeastOf}
 use Rattle.rp_afriat.proofs.classes.class_utility.Given as goal
 
 abbrev pub invariant-loop-t : goal.invariant-loop-t

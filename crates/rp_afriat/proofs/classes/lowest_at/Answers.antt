@@ -3,7 +3,7 @@ use Rattle.std.proofs.Common.{rules, ◌≡◌, ◌<◌, ◌+◌, slice_index, s
 use Rattle.std.proofs.lemmas.Int.{to_z-of_z}
 use Rattle.std.specs.Prelude.{FitsSigned}
 use Rattle.rp_table.specs.Cost.{cost_at}
-use Rattle.rp_afriat.specs.Filling.{IsAllowed, IsLeastOf, utility_of}
+use Rattle.rp_afriat.specs.InnerFilling.{IsAllowed, IsLeastOf, utility_of}
 use Rattle.rp_afriat.proofs.Leasts.{allowed_no_more, allowed_one_more}
 use Rattle.rp_afriat.proofs.Widths.{bound_same, utility_is_signed}
 use Rattle.rp_afriat.proofs.classes.lowest_at.Goals as goal

@@ -1,5 +1,5 @@
 use Rattle.rp_table.specs.Cost.{cost_at}
-use Rattle.rp_afriat.specs.Filling.{IsAllowed, IsLeastOf}
+use Rattle.rp_afriat.specs.InnerFilling.{IsAllowed, IsLeastOf}
 use Rattle.rp_afriat.proofs.classes.lowest_at.Given as goal
 
 abbrev pub invariant-loop-s : goal.invariant-loop-s

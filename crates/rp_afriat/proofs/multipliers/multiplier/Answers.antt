@@ -3,7 +3,7 @@ use Rattle.rp_evidence.specs.StandardNumbers.{IsMultiplier}
 use Rattle.rp_evidence.proofs.AfriatStages.{multiplier_passed, multiplier_raised}
 use Rattle.rp_evidence.proofs.AfriatTheorem.{costs_more}
 use Rattle.rp_table.specs.Cost.{cost_at}
-use Rattle.rp_afriat.specs.Filling.{utility_of}
+use Rattle.rp_afriat.specs.InnerFilling.{utility_of}
 use Rattle.rp_afriat.proofs.Quotients.{rounded_is_needed}
 use Rattle.rp_afriat.proofs.Widths.{difference_same}
 use Rattle.rp_afriat.proofs.multipliers.multiplier.Goals as goal

@@ -1,5 +1,5 @@
 use Rattle.rp_table.specs.Cost.{cost_at}
-use Rattle.rp_afriat.specs.Filling.{AreMultipliersSet}
+use Rattle.rp_afriat.specs.InnerFilling.{AreMultipliersSet}
 use Rattle.rp_afriat.proofs.multipliers.set_multipliers.Given as goal
 
 abbrev pub invariant-loop-s : goal.invariant-loop-s

@@ -1,6 +1,6 @@
 use Rattle.std.proofs.Common.{◌-◌}
 use Rattle.rp_table.specs.Cost.{cost_at}
-use Rattle.rp_afriat.specs.Filling.{AreFilledAbove, AreForEach, FitAbove}
+use Rattle.rp_afriat.specs.InnerFilling.{AreFilledAbove, AreForEach, FitAbove}
 use Rattle.rp_afriat.proofs.verdict.fill.Given as goal
 
 abbrev pub invariant-loop-done : goal.invariant-loop-done

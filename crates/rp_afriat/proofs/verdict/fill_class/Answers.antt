@@ -6,7 +6,7 @@ use Rattle.std.proofs.lemmas.Int.{to_z-of_z}
 use Rattle.std.specs.Prelude.{FitsSigned}
 use Rattle.rp_evidence.specs.StandardNumbers.{FitsUtility}
 use Rattle.rp_table.specs.Cost.{cost_at}
-use Rattle.rp_afriat.specs.Filling.{AreFilledAbove, AreMultipliersSet, FitAbove, IsClassSet, IsTooSteep, StandardNumbersPassAt}
+use Rattle.rp_afriat.specs.InnerFilling.{AreFilledAbove, AreMultipliersSet, FitAbove, IsClassSet, IsTooSteep, StandardNumbersPassAt}
 use Rattle.rp_afriat.proofs.Fillings.{class_filled, class_fits, empty_filled, stops_at_multiplier, stops_at_utility}
 use Rattle.rp_afriat.proofs.Lists.{if_none, if_some_both}
 use Rattle.rp_afriat.proofs.verdict.fill_class.Goals as goal

@@ -1,6 +1,6 @@
 use Rattle.std.proofs.Common.{◌<◌, length, arith, sym, ◌∙◌}
 use Rattle.std.proofs.lemmas.List.{append-nil}
-use Rattle.rp_patch.specs.Tallies.{tallied}
+use Rattle.rp_patch.specs.InnerTallies.{tallied}
 use Rattle.rp_patch.proofs.ChosenFacts.{all_pushed, length_tallied, one_pushed}
 use Rattle.rp_patch.proofs.chosen.push_chosen.Goals as goal
 

@@ -1,5 +1,5 @@
 use Rattle.std.proofs.Common.{◌≡◌, ◌++◌, map, take}
-use Rattle.rp_patch.specs.Tallies.{tallied}
+use Rattle.rp_patch.specs.InnerTallies.{tallied}
 use Rattle.rp_patch.specs.Units.{chosen_as}
 use Rattle.rp_patch.proofs.chosen.push_chosen.Given as goal
 

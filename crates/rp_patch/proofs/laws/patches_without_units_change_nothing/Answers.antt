@@ -1,4 +1,4 @@
-use Rattle.rp_patch.proofs.Adding.{same_mixtures, same_shares}
+use Rattle.rp_patch.proofs.AddedPatches.{same_mixtures, same_shares}
 use Rattle.rp_patch.proofs.laws.patches_without_units_change_nothing.Goals as goal
 
 pub returns-clause-mixtures : goal.returns-clause-mixtures

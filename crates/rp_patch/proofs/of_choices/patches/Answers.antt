@@ -1,5 +1,5 @@
 use Rattle.std.proofs.Common.{◌∙◌, ap, arith, length, refl, subst, sym}
-use Rattle.rp_patch.specs.Apportioned.{AreRaisedBelow}
+use Rattle.rp_patch.specs.InnerApportioned.{AreRaisedBelow}
 use Rattle.rp_patch.specs.Choices.{input_of}
 use Rattle.rp_patch.specs.Patches.{PatchList}
 use Rattle.rp_patch.specs.Units.{ArePatchesOf}

@@ -1,4 +1,4 @@
-use Rattle.rp_patch.specs.Apportioned.{AreUnited}
+use Rattle.rp_patch.specs.InnerApportioned.{AreUnited}
 use Rattle.rp_patch.proofs.of_choices.united.Given as goal
 
 abbrev pub invariant-loop-i : goal.invariant-loop-i

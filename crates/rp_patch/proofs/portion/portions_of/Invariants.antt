@@ -1,4 +1,4 @@
-use Rattle.rp_patch.specs.Apportioned.{IsShared}
+use Rattle.rp_patch.specs.InnerApportioned.{IsShared}
 use Rattle.rp_patch.specs.Choices.{input_of}
 use Rattle.rp_patch.proofs.portion.portions_of.Given as goal
 

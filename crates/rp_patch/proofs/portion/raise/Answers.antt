@@ -1,8 +1,8 @@
 use Rattle.std.proofs.Common.{◌+◌, false, ap, refl, subst, sym, length, List}
 use Rattle.std.proofs.lemmas.List.{get_or_read}
-use Rattle.rp_patch.specs.Apportioned.{IsNextUp, IsRaisedBy}
+use Rattle.rp_patch.specs.InnerApportioned.{IsNextUp, IsRaisedBy}
 use Rattle.rp_patch.specs.declared.portion.Portion.{Portion}
-use Rattle.rp_patch.proofs.Apportioning.{by_set, one_more_raised, some_left}
+use Rattle.rp_patch.proofs.RaisedPortions.{by_set, one_more_raised, some_left}
 use Rattle.rp_patch.proofs.portion.raise.Goals as goal
 use Rattle.rp_patch.proofs.portion.raise.Goals.{in-Some, in_default}
 

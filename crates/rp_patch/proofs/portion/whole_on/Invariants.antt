@@ -1,6 +1,6 @@
 use Rattle.std.proofs.Common.{◌≡◌, ◌≤◌, ◌*◌, ◌==◌, if◌then◌else◌}
 use Rattle.rp_table.specs.Sums.{sum_below}
-use Rattle.rp_patch.specs.Apportioned.{portion_at}
+use Rattle.rp_patch.specs.InnerApportioned.{portion_at}
 use Rattle.rp_patch.proofs.portion.whole_on.Given as goal
 
 abbrev pub invariant-loop-portion : goal.invariant-loop-portion

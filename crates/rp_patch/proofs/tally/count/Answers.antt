@@ -1,7 +1,7 @@
 use Rattle.std.proofs.Common.{arith, ◌∙◌, ap, ◌≡◌, ◌≤◌, ◌*◌, refl, unwrap_or}
 use Rattle.indexmap.specs.IndexMap.{insert_entry}
-use Rattle.rp_patch.specs.Tallies.{tallied}
-use Rattle.rp_patch.proofs.Tallied.{before, found_at_most, one_more, same}
+use Rattle.rp_patch.specs.InnerTallies.{tallied}
+use Rattle.rp_patch.proofs.TallyMaps.{before, found_at_most, one_more, same}
 use Rattle.rp_patch.proofs.tally.count.Goals as goal
 
 pub overflow_add-before : goal.overflow_add-before

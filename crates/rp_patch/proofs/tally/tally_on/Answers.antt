@@ -1,6 +1,6 @@
 use Rattle.std.proofs.Common.{true, false, ◌∙◌, sym, refl}
 use Rattle.std.proofs.lemmas.Bool.{false≢true}
-use Rattle.rp_patch.proofs.Tallied.{tally_more}
+use Rattle.rp_patch.proofs.TallyMaps.{tally_more}
 use Rattle.rp_patch.proofs.tally.tally_on.Goals as goal
 use Rattle.rp_patch.proofs.tally.tally_on.Goals.{then-is_on+in_ok-count, else-is_on}
 

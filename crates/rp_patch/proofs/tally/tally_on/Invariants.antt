@@ -1,5 +1,5 @@
 use Rattle.std.proofs.Common.{◌≡◌, ◌*◌}
-use Rattle.rp_patch.specs.Tallies.{AtMost, tallied, tally_of}
+use Rattle.rp_patch.specs.InnerTallies.{AtMost, tallied, tally_of}
 use Rattle.rp_patch.proofs.tally.tally_on.Given as goal
 
 abbrev pub invariant-loop-i : goal.invariant-loop-i

@@ -1,6 +1,6 @@
 use Rattle.std.proofs.Common.{arith, subst}
 use Rattle.rp_patch.specs.Choices.{input_of}
-use Rattle.rp_patch.specs.Multiples.{IsCommon}
+use Rattle.rp_patch.specs.InnerMultiples.{IsCommon}
 use Rattle.rp_patch.specs.Units.{IsLeastMultiple}
 use Rattle.rp_patch.proofs.Multiples.{none_yet, one_more}
 use Rattle.rp_patch.proofs.totals.common_total.Goals as goal

@@ -1,4 +1,4 @@
-use Rattle.rp_patch.specs.Joined.{IsJoined}
+use Rattle.rp_patch.specs.InnerJoined.{IsJoined}
 use Rattle.rp_patch.proofs.part.Part.join.Given as goal
 
 abbrev pub invariant-loop-k : goal.invariant-loop-k

@@ -6,7 +6,7 @@ use Rattle.std.specs.Ordering.{int_eq}
 use Rattle.std.proofs.lemmas.List.Elements.{All-nil, All-cons}
 use Rattle.indexmap.specs.IndexMap.{insert_entry}
 use Rattle.rp_table.specs.ChoiceLists.{ChoiceList}
-use Rattle.rp_patch.specs.Tallies.{AtMost, tallied, tally_of}
+use Rattle.rp_patch.specs.InnerTallies.{AtMost, tallied, tally_of}
 use Rattle.rp_patch.specs.Units.{counted}
 
 abbrev pub same : Bor (List ℤ) → Bor (List ℤ) → Bool

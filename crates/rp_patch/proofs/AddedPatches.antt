@@ -10,7 +10,7 @@ use Rattle.rp_patch.specs.Mixtures.{HasMixture, IsGreatestShare, IsMixture, IsPa
 use Rattle.rp_patch.specs.Patches.{PatchList, budget_at, sign_at, units_at}
 use Rattle.rp_patch.specs.Types.{IsRationalType, IsStrictBy, IsWeakBy}
 use Rattle.rp_patch.specs.declared.listed.Patch.{Patch}
-use Rattle.rp_patch.proofs.Sharing.{of_cons, on_cons, uses_some}
+use Rattle.rp_patch.proofs.MixtureWeights.{of_cons, on_cons, uses_some}
 
 module _ (p q : PatchList) (place : ℕ → ℕ) (adds : AddsPatches p q place) where
   abbrev n : ℕ

@@ -6,7 +6,7 @@ use Rattle.std.proofs.lemmas.List.FromFn.{length-range_with_len}
 use Rattle.std.proofs.lemmas.List.Sums.{count_by-le-length}
 use Rattle.rp_evidence.specs.Count.{IsCount}
 use Rattle.rp_evidence.specs.Walk.{LeadsTo, Reaches}
-use Rattle.rp_evidence.proofs.Counting.{number_by_test}
+use Rattle.rp_evidence.proofs.CountLists.{number_by_test}
 use Rattle.rp_evidence.proofs.Walks.{reach_by_step, reach_on, rest_of_reach, starts_below}
 
 -- s leads to t by walks through observations below j alone (after Warshall)

@@ -1,4 +1,4 @@
--- Proofs and no definitions: products keep the laws of a kind of total, and these stand here since the code cites them.
+-- For the proofs alone: products keep the laws of a kind of total. They stand here since the code cites them.
 use borrow.Author.Differences.{up, down}
 use Rattle.std.proofs.Common.{◌+◌, ◌*◌, ap, ◌≡◌, ℕ, ◌<◌, ◌≤◌, arith, sym}
 use Rattle.std.proofs.Math.Nat.{le-max_left, mul-lt-mul_of_pos_right, lt_of_mul-lt-mul_right}

@@ -3,9 +3,9 @@ use Rattle.std.proofs.Common.{◌≡◌, ◌≢◌, ℕ, zero, suc, ◌+◌, ◌
 use Rattle.std.proofs.lemmas.Bool.{cases_eq, eq-eqb, ne_eqb}
 use Rattle.rp_table.specs.Sums.{sum_below}
 use Rattle.rp_table.proofs.SumsBelow.{sum_below-same}
-use Rattle.rp_patch.specs.Apportioned.{AreRaisedBelow, AreSamePortions, IsRaisedBy, portion_at, raised_on, whole_on}
+use Rattle.rp_patch.specs.InnerApportioned.{AreRaisedBelow, AreSamePortions, IsRaisedBy, portion_at, raised_on, whole_on}
 use Rattle.rp_patch.specs.declared.portion.Portion.{Portion}
-use Rattle.rp_patch.proofs.Apportioning.{then_same}
+use Rattle.rp_patch.proofs.RaisedPortions.{then_same}
 
 pub sum_zero : (f : ℕ → ℕ) (n : ℕ) → ((i : ℕ) → f i ≡ 0) → sum_below n f ≡ 0
 sum_zero f zero none = refl

@@ -3,7 +3,7 @@ use Rattle.std.proofs.Common.{◌≡◌, ◌≢◌, ℕ, zero, suc, ◌+◌, ◌
 use Rattle.std.proofs.lemmas.Bool.{cases_eq, eq-eqb, ne_eqb, false≢true}
 use Rattle.rp_table.specs.Sums.{sum_below}
 use Rattle.rp_table.proofs.SumsBelow.{sum_below-same}
-use Rattle.rp_patch.specs.Apportioned.{AreSamePortions, IsAhead, IsLeft, IsRaisedBy, RaisesFirst, portion_at, portions_on, raised_on}
+use Rattle.rp_patch.specs.InnerApportioned.{AreSamePortions, IsAhead, IsLeft, IsRaisedBy, RaisesFirst, portion_at, portions_on, raised_on}
 use Rattle.rp_patch.specs.declared.portion.Portion.{Portion}
 
 -- one term is one more
