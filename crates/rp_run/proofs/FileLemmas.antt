@@ -6,8 +6,9 @@ use Rattle.std.specs.Option.{ForSome}
 use Rattle.std.specs.Prelude.{unwrap_or}
 use Rattle.rp_evidence.specs.declared.certificate.Kind.{Kind}
 use Rattle.rp_words.specs.CommandLine.{Line, files_of}
-use Rattle.rp_run.specs.Answers.{Files, IsContent, AreContents, HasInput}
-use Rattle.rp_run.specs.Inputs.{Denotes, Input}
+use Rattle.rp_run.specs.Answers.{Files, IsContent, AreContents, HasContents}
+use Rattle.rp_run.specs.Contents.{Denotes}
+use Rattle.rp_run.specs.declared.contents.Contents.{Contents}
 use Rattle.rp_run.specs.Readings.{AndThen, CertificateIn, Just, Numbers, Reading, all_bytes, most_bytes, most_certificate_bytes}
 use Rattle.rp_run.specs.FaultLines.{file_line}
 use Rattle.rp_run.specs.Causes.{IsRefusal, IsFileCause, IsReadingCause, HoldsValue, IsCause}
@@ -45,17 +46,23 @@ one_content : (files : Files) (line : Line) (file bytes : List ℕ) → files_of
 one_content files line file bytes named content =
     subst (λ (names : List (List ℕ)). (k : ℕ) → k < length names → IsContent files (slice_index_or names k []) bytes) (sym named) (one_of files file bytes content)
 
+-- a file at its place, whose count rose
+read_at : (rose : List ℕ → Type 0) (asks : ℕ → Type 0) (files names : List (List ℕ)) (k : ℕ) (name : List ℕ) → files ≡ names → k < length names → name ≡ slice_index_or names k []
+    → rose (slice_index_or names k []) → asks (suc k) → (k : ℕ) × (k < length files) × (name ≡ slice_index_or files k []) × rose name × asks (suc k)
+read_at rose asks files names k name named within is up asked =
+    subst (λ (these : List (List ℕ)). (k : ℕ) × (k < length these) × (name ≡ slice_index_or these k []) × rose name × asks (suc k)) (sym named) (k, within, is, subst rose (sym is) up, asked)
+
 -- a line over one file has the input that the file gives, or the cause why the file gives none
-pub one_input : {A : Type 0} (files : Files) (line : Line) (file : List ℕ) (reading : List ℕ → Reading A) (over : A → Input) (value : A)
-    → files_of line ≡ file ∷ [] → ((bytes : ℕ → List ℕ) (r : Result Input (List ℕ)) → AndThen (reading (bytes 0)) (λ v. Just (Ok (over v))) r → Denotes line bytes r)
-    → HoldsValue files file reading value → HasInput files line (over value)
+pub one_input : {A : Type 0} (files : Files) (line : Line) (file : List ℕ) (reading : List ℕ → Reading A) (over : A → Contents) (value : A)
+    → files_of line ≡ file ∷ [] → ((bytes : ℕ → List ℕ) (r : Result Contents (List ℕ)) → AndThen (reading (bytes 0)) (λ v. Just (Ok (over v))) r → Denotes line bytes r)
+    → HoldsValue files file reading value → HasContents files line (over value)
 one_input files line file reading over value named denoted (bytes, content, read) =
     ((λ _. bytes), one_content files line file bytes named content, denoted (λ _. bytes) (Ok (over value)) (value, read, refl))
 
-pub one_cause : {A : Type 0} (files : Files) (rose : List ℕ → Type 0) (asks : Line → ℕ → Type 0) (line : Line) (file : List ℕ) (reading : List ℕ → Reading A) (over : A → Input) (why : Cause)
-    → files_of line ≡ file ∷ [] → ((bytes : ℕ → List ℕ) (r : Result Input (List ℕ)) → AndThen (reading (bytes 0)) (λ v. Just (Ok (over v))) r → Denotes line bytes r)
+pub one_cause : {A : Type 0} (files : Files) (rose : List ℕ → Type 0) (asks : Line → ℕ → Type 0) (line : Line) (file : List ℕ) (reading : List ℕ → Reading A) (over : A → Contents) (why : Cause)
+    → files_of line ≡ file ∷ [] → ((bytes : ℕ → List ℕ) (r : Result Contents (List ℕ)) → AndThen (reading (bytes 0)) (λ v. Just (Ok (over v))) r → Denotes line bytes r)
     → asks line 1 → IsFileCause files rose file reading why → IsCause files rose asks line why
-one_cause files rose asks line file reading over (Read name) named denoted once (same, up) = rw (named, same) (0, lit< tt, refl, up, once)
+one_cause files rose asks line file reading over (Read name) named denoted once (same, up) = read_at rose (asks line) (files_of line) (file ∷ []) 0 name.now named (lit< tt) same up once
 one_cause files rose asks line file reading over (Refused text) named denoted once (bytes, content, refused) =
     ((λ _. bytes), one_content files line file bytes named content, denoted (λ _. bytes) (Err text.items) (inl refused))
 one_cause files rose asks line file reading over NoMemory named denoted once none = tt
@@ -91,11 +98,11 @@ pub moved_value : {A : Type 0} (files later : Files) (file : List ℕ) (reading 
     → later file ≡ files file → HoldsValue later file reading value → HoldsValue files file reading value
 moved_value files later file reading value same (bytes, content, read) = (bytes, (λ told is. content told (same ∙ is)), read)
 
-module _ {A B : Type 0} (files : Files) (rose : List ℕ → Type 0) (asks : Line → ℕ → Type 0) (line : Line) (f s : List ℕ) (reading : List ℕ → Reading A) (after : A → List ℕ → Reading B) (last : A → B → Reading Input)
+module _ {A B : Type 0} (files : Files) (rose : List ℕ → Type 0) (asks : Line → ℕ → Type 0) (line : Line) (f s : List ℕ) (reading : List ℕ → Reading A) (after : A → List ℕ → Reading B) (last : A → B → Reading Contents)
     (named : files_of line ≡ f ∷ s ∷ [])
-    (denoted : (bytes : ℕ → List ℕ) (r : Result Input (List ℕ)) → AndThen (reading (bytes 0)) (λ a. AndThen (after a (bytes 1)) (last a)) r → Denotes line bytes r) where
+    (denoted : (bytes : ℕ → List ℕ) (r : Result Contents (List ℕ)) → AndThen (reading (bytes 0)) (λ a. AndThen (after a (bytes 1)) (last a)) r → Denotes line bytes r) where
   -- a line over two files has the input that they give
-  pub two_input : (a : A) (b : B) (input : Input) → HoldsValue files f reading a → HoldsValue files s (after a) b → last a b (Ok input) → HasInput files line input
+  pub two_input : (a : A) (b : B) (input : Contents) → HoldsValue files f reading a → HoldsValue files s (after a) b → last a b (Ok input) → HasContents files line input
   unfolding two_bytes
   two_input a b input (first, one, read) (second, two, then_read) made =
       (two_bytes first second, two_contents files line f s first second named one two, denoted (two_bytes first second) (Ok input) (a, read, (b, then_read, made)))
@@ -103,7 +110,7 @@ module _ {A B : Type 0} (files : Files) (rose : List ℕ → Type 0) (asks : Lin
   -- or the cause why the first gives none, whatever the second holds
   pub first_cause : (why : Cause) → asks line 1 → IsFileCause files rose f reading why → IsCause files rose asks line why
   unfolding two_bytes
-  first_cause (Read name) once (same, up) = rw (named, same) (0, lit< tt, refl, up, once)
+  first_cause (Read name) once (same, up) = read_at rose (asks line) (files_of line) (f ∷ s ∷ []) 0 name.now named (lit< tt) same up once
   first_cause (Refused text) once (first, one, refused) =
       let second = unwrap_or (files s) [] in
       (two_bytes first second, two_contents files line f s first second named one (some_content (files s)), denoted (two_bytes first second) (Err text.items) (inl refused))
@@ -112,7 +119,7 @@ module _ {A B : Type 0} (files : Files) (rose : List ℕ → Type 0) (asks : Lin
   -- or the cause why the second gives none
   pub second_cause : (a : A) (why : Cause) → asks line 2 → HoldsValue files f reading a → IsFileCause files rose s (after a) why → IsCause files rose asks line why
   unfolding two_bytes
-  second_cause a (Read name) once held (same, up) = rw (named, same) (1, lit< tt, refl, up, once)
+  second_cause a (Read name) once held (same, up) = read_at rose (asks line) (files_of line) (f ∷ s ∷ []) 1 name.now named (lit< tt) same up once
   second_cause a (Refused text) once (first, one, read) (second, two, refused) =
       (two_bytes first second, two_contents files line f s first second named one two, denoted (two_bytes first second) (Err text.items) (inr (a, read, inl refused)))
   second_cause a NoMemory once held none = tt
@@ -145,10 +152,10 @@ three_contents files line f s t first second third named one two three =
     subst (λ (names : List (List ℕ)). (k : ℕ) → k < length names → IsContent files (slice_index_or names k []) (three_bytes first second third k)) (sym named) (three_of files f s t first second third one two three)
 
 module _ {A B C : Type 0} (files : Files) (rose : List ℕ → Type 0) (asks : Line → ℕ → Type 0) (line : Line) (f s t : List ℕ) (reading : List ℕ → Reading A) (after : A → List ℕ → Reading B) (third : List ℕ → Reading C)
-    (last : A → B → C → Reading Input) (named : files_of line ≡ f ∷ s ∷ t ∷ [])
-    (denoted : (bytes : ℕ → List ℕ) (r : Result Input (List ℕ)) → AndThen (reading (bytes 0)) (λ a. AndThen (after a (bytes 1)) (λ b. AndThen (third (bytes 2)) (last a b))) r → Denotes line bytes r) where
+    (last : A → B → C → Reading Contents) (named : files_of line ≡ f ∷ s ∷ t ∷ [])
+    (denoted : (bytes : ℕ → List ℕ) (r : Result Contents (List ℕ)) → AndThen (reading (bytes 0)) (λ a. AndThen (after a (bytes 1)) (λ b. AndThen (third (bytes 2)) (last a b))) r → Denotes line bytes r) where
   -- a line over three files has the input that they give
-  pub three_input : (a : A) (b : B) (c : C) (input : Input) → HoldsValue files f reading a → HoldsValue files s (after a) b → HoldsValue files t third c → last a b c (Ok input) → HasInput files line input
+  pub three_input : (a : A) (b : B) (c : C) (input : Contents) → HoldsValue files f reading a → HoldsValue files s (after a) b → HoldsValue files t third c → last a b c (Ok input) → HasContents files line input
   unfolding three_bytes
   three_input a b c input (x, one, read) (y, two, then_read) (z, three, last_read) made =
       (three_bytes x y z, three_contents files line f s t x y z named one two three, denoted (three_bytes x y z) (Ok input) (a, read, (b, then_read, (c, last_read, made))))
@@ -156,7 +163,7 @@ module _ {A B C : Type 0} (files : Files) (rose : List ℕ → Type 0) (asks : L
   -- or the cause why the first gives none, and so the others
   pub three_first : (why : Cause) → asks line 1 → IsFileCause files rose f reading why → IsCause files rose asks line why
   unfolding three_bytes
-  three_first (Read name) once (same, up) = rw (named, same) (0, lit< tt, refl, up, once)
+  three_first (Read name) once (same, up) = read_at rose (asks line) (files_of line) (f ∷ s ∷ t ∷ []) 0 name.now named (lit< tt) same up once
   three_first (Refused text) once (x, one, refused) =
       let y = unwrap_or (files s) [] in
       let z = unwrap_or (files t) [] in
@@ -165,7 +172,7 @@ module _ {A B C : Type 0} (files : Files) (rose : List ℕ → Type 0) (asks : L
 
   pub three_second : (a : A) (why : Cause) → asks line 2 → HoldsValue files f reading a → IsFileCause files rose s (after a) why → IsCause files rose asks line why
   unfolding three_bytes
-  three_second a (Read name) once held (same, up) = rw (named, same) (1, lit< tt, refl, up, once)
+  three_second a (Read name) once held (same, up) = read_at rose (asks line) (files_of line) (f ∷ s ∷ t ∷ []) 1 name.now named (lit< tt) same up once
   three_second a (Refused text) once (x, one, read) (y, two, refused) =
       let z = unwrap_or (files t) [] in
       (three_bytes x y z, three_contents files line f s t x y z named one two (some_content (files t)), denoted (three_bytes x y z) (Err text.items) (inr (a, read, inl refused)))
@@ -173,7 +180,7 @@ module _ {A B C : Type 0} (files : Files) (rose : List ℕ → Type 0) (asks : L
 
   pub three_third : (a : A) (b : B) (why : Cause) → asks line 3 → HoldsValue files f reading a → HoldsValue files s (after a) b → IsFileCause files rose t third why → IsCause files rose asks line why
   unfolding three_bytes
-  three_third a b (Read name) once held also (same, up) = rw (named, same) (2, lit< tt, refl, up, once)
+  three_third a b (Read name) once held also (same, up) = read_at rose (asks line) (files_of line) (f ∷ s ∷ t ∷ []) 2 name.now named (lit< tt) same up once
   three_third a b (Refused text) once (x, one, read) (y, two, then_read) (z, three, refused) =
       (three_bytes x y z, three_contents files line f s t x y z named one two three, denoted (three_bytes x y z) (Err text.items) (inr (a, read, inr (b, then_read, inl refused))))
   three_third a b NoMemory once held also none = tt
@@ -186,11 +193,11 @@ module _ {A B C : Type 0} (files : Files) (rose : List ℕ → Type 0) (asks : L
   three_last a b c NoMemory held also too none = tt
 
 -- a cause why nothing is made is one why no input is made of it
-pub then_caused : {A : Type 0} (made : Reading A) (over : A → Input) (why : Cause) → IsReadingCause made why → IsReadingCause (AndThen made (λ a. Just (Ok (over a)))) why
+pub then_caused : {A : Type 0} (made : Reading A) (over : A → Contents) (why : Cause) → IsReadingCause made why → IsReadingCause (AndThen made (λ a. Just (Ok (over a)))) why
 then_caused made over (Read name) none = none
 then_caused made over (Refused line) refused = inl refused
 then_caused made over NoMemory none = tt
 
 -- a line without files has its input
-pub no_files : (files : Files) (line : Line) (input : Input) → files_of line ≡ [] → ((bytes : ℕ → List ℕ) → Denotes line bytes (Ok input)) → HasInput files line input
+pub no_files : (files : Files) (line : Line) (input : Contents) → files_of line ≡ [] → ((bytes : ℕ → List ℕ) → Denotes line bytes (Ok input)) → HasContents files line input
 no_files files line input none denoted = ((λ _. []), (λ k within. let empty : k < length {A = List ℕ} [] = rw none at within in let no : ⊥ = omega (arith, empty) in absurd no), denoted (λ _. []))

@@ -1,9 +1,10 @@
 pub mod FileLemmas
 pub mod GainsLemmas
-pub mod OneFault
+pub mod LineLemmas
 pub mod OneAnswer
+pub mod OneFault
+pub mod PassedOn
 pub mod PatchesApart
 pub mod Pigeons
-pub mod PassedOn
 pub mod RunLemmas
 pub mod TurnLemmas

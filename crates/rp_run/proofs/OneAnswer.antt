@@ -1,5 +1,6 @@
 -- The content of a line's files denotes one input or one refusal at most.
-use Rattle.std.proofs.Common.{◌≡◌, ◌⊎◌, ◌≤◌, ℕ, true, false, Option, List, length, Result, Ok, Err, inl, inr, refl, sym, subst, ap, ◌∙◌, arith, codes}
+use Rattle.std.proofs.Common.{◌≡◌, ◌⊎◌, ◌≤◌, ℕ, true, false, Option, Some, List, length, map, Result, Ok, Err, [], ◌∷◌, inl, inr, refl, sym, subst, ap, ◌∙◌, arith, codes}
+use Rattle.std.proofs.lemmas.List.{length-map}
 use Rattle.rp_evidence.specs.declared.certificate.Certificate.{Certificate}
 use Rattle.rp_evidence.specs.declared.certificate.Kind.{Kind}
 use Rattle.rp_evidence.specs.declared.certificate.Kind.TheVariants.{Table as TableKind, Random as RandomKind}
@@ -18,10 +19,15 @@ use Rattle.rp_run.proofs.OneFault.{json_fault_once, patch_fault_once, types_faul
 use Rattle.rp_run.proofs.PatchesApart.{AreAlike, patches_apart, types_apart}
 use Rattle.rp_run.specs.FaultLines.{file_line, patch_line, types_line}
 use Rattle.rp_run.specs.FaultTexts.{json_fault_text}
-use Rattle.rp_words.specs.CommandLine.{Line, Pairs, Analyse, Certify, Check, Demand, Welfare, Utility, Random, CheckRandom, Trial}
-use Rattle.rp_run.specs.Inputs.{Denotes, Input, PairsOver, AnalyseOver, CertifyOver, CheckOver, DemandOver, WelfareOver, UtilityOver, RandomOver, CheckRandomOver, TrialOver}
-use Rattle.rp_run.specs.RandomInputs.{PatchesOf, TypedPatchesOf, TypesOf}
-use Rattle.rp_answers.specs.Typed.{TypedPatches}
+use Rattle.rp_types.specs.Listed.{types_of}
+use Rattle.rp_types.specs.declared.types.Rational.{Rational}
+use Rattle.rp_words.specs.CommandLine.{Given, Line, file, file_set}
+use Rattle.rp_words.specs.declared.form.FileSet.{FileSet}
+use Rattle.rp_words.specs.declared.form.FileSet.TheVariants as files
+use Rattle.rp_run.specs.declared.contents.Contents.{Contents}
+use Rattle.rp_run.specs.declared.contents.Contents.TheVariants as contents
+use Rattle.rp_run.specs.ChoiceContents.{PatchesOf, TypedPatchesOf, TypesOf}
+use Rattle.rp_run.specs.Contents.{ContentsIn, Denotes}
 use Rattle.rp_run.specs.Readings.{AndThen, CertificateIn, Just, Reading, numbers_in}
 
 -- one value is read or one line, at most
@@ -60,10 +66,10 @@ then_one first next once each (Err line) (Err other) (inr (x, is, to)) (inr (y, 
 over_one : {A B : Type 0} (first : Reading A) (over : A → B) → GivesOne first → GivesOne (AndThen first (λ a. Just (Ok (over a))))
 over_one first over once = then_one first (λ a. Just (Ok (over a))) once (λ a. just_one (Ok (over a)))
 
-one_file : {A : Type 0} (first : Result A (List ℕ)) (over : A → Input) → GivesOne (AndThen (Just first) (λ a. Just (Ok (over a))))
+one_file : {A : Type 0} (first : Result A (List ℕ)) (over : A → Contents) → GivesOne (AndThen (Just first) (λ a. Just (Ok (over a))))
 one_file first over = over_one (Just first) over (just_one first)
 
-two_files : {A B : Type 0} (first : Result A (List ℕ)) (second : A → Result B (List ℕ)) (over : A → B → Input)
+two_files : {A B : Type 0} (first : Result A (List ℕ)) (second : A → Result B (List ℕ)) (over : A → B → Contents)
     → GivesOne (AndThen (Just first) (λ a. AndThen (Just (second a)) (λ b. Just (Ok (over a b)))))
 two_files first second over =
     then_one (Just first) (λ a. AndThen (Just (second a)) (λ b. Just (Ok (over a b)))) (just_one first) (λ a. one_file (second a) (over a))
@@ -91,6 +97,14 @@ certificate_one file kind bytes (Err line) (Err other) (inr (few, why)) (inl (ma
 certificate_one file kind bytes (Err line) (Err other) (inr (few, (f, real, why, so))) (inr (also, (g, neither, too, is))) =
     ap Err (so ∙ ap (λ (x : JsonFault). file_line file (json_fault_text x)) (json_fault_once kind bytes f g real neither why too) ∙ sym is)
 
+-- types are those of their patches
+abbrev as_type : List ℕ → Rational
+as_type patches = record { patches = patches }
+
+made_again : (types : List Rational) → map as_type (types_of types) ≡ types
+made_again [] = refl
+made_again (type ∷ types) = ap (λ (more : List Rational). type ∷ more) (made_again types)
+
 -- a list of patches is like itself
 alike_itself : (p : PatchList) → AreAlike p p
 alike_itself p = record { budgets = refl; count = refl; budget = λ i. refl; sign = λ i k. refl }
@@ -109,51 +123,52 @@ module _
     patches_one input per (Err line) (Err text) (f, real, why, is) (g, neither, too, also) =
         ap Err (is ∙ ap patch_line (patch_fault_once input per f g real neither why too) ∙ sym also)
 
+    types_of_one : (one other : List Rational) → types_of one ≡ types_of other → one ≡ other
+    types_of_one one other same = sym (made_again one) ∙ ap (map as_type) same ∙ made_again other
+
     types_one : (p : PatchList) → GivesOne (TypesOf p)
-    types_one p (Ok types) (Ok others) (all, few, within) (also, too, inside) = ap Ok (types_once p types others all also)
-    types_one p (Ok types) (Err line) (all, few, within) (fault, other, why, is) = absurd (types_apart p p types fault (alike_itself p) all few within other why)
-    types_one p (Err line) (Ok types) (fault, other, why, is) (all, few, within) = absurd (types_apart p p types fault (alike_itself p) all few within other why)
+    types_one p (Ok types) (Ok others) (all, few, within) (also, too, inside) = ap Ok (types_of_one types others (types_once p (types_of types) (types_of others) all also))
+    types_one p (Ok types) (Err line) (all, few, within) (fault, other, why, is) = absurd (types_apart p p (types_of types) fault (alike_itself p) all (rw (length-map types (λ (type : Rational). type.patches)) few) within other why)
+    types_one p (Err line) (Ok types) (fault, other, why, is) (all, few, within) = absurd (types_apart p p (types_of types) fault (alike_itself p) all (rw (length-map types (λ (type : Rational). type.patches)) few) within other why)
     types_one p (Err line) (Err text) (f, real, why, is) (g, neither, too, also) =
         ap Err (is ∙ ap types_line (types_fault_once p f g real neither why too) ∙ sym also)
 
     typed_one : (budgets : BudgetList) (choices : ChoiceList) (per : Option ℕ) → GivesOne (TypedPatchesOf budgets choices per)
     typed_one budgets choices per =
-        then_one (PatchesOf (input_of budgets choices) per) (λ p. AndThen (TypesOf p) (λ types. Just (Ok (typed p types))))
-        (patches_one (input_of budgets choices) per) (λ p. over_one (TypesOf p) (typed p) (types_one p))
-      where
-        typed : PatchList → List (List ℕ) → TypedPatches
-        typed p types = record { patches = p; types = types }
+        then_one (PatchesOf (input_of budgets choices) per) (λ p. AndThen (TypesOf p) (λ types. Just (Ok (p, types))))
+        (patches_one (input_of budgets choices) per) (λ p. over_one (TypesOf p) (λ types. (p, types)) (types_one p))
 
-    pub denotes_one : (line : Line) (bytes : ℕ → List ℕ) → GivesOne (Denotes line bytes)
-    denotes_one (Pairs table) bytes = one_file (numbers_in table table_in (bytes 0)) PairsOver
-    denotes_one (Analyse table) bytes = one_file (numbers_in table table_in (bytes 0)) AnalyseOver
-    denotes_one (Certify table) bytes = one_file (numbers_in table table_in (bytes 0)) CertifyOver
-    denotes_one (Check table certificate) bytes =
-        let first = numbers_in table table_in (bytes 0) in
-        let second = CertificateIn certificate TableKind (bytes 1) in
-        then_one (Just first) (λ t. AndThen second (λ c. Just (Ok (CheckOver t c)))) (just_one first)
-        (λ t. over_one second (CheckOver t) (certificate_one certificate TableKind (bytes 1)))
-    denotes_one (Demand table new json) bytes =
-        two_files (numbers_in table table_in (bytes 0)) (λ t. numbers_in new (prices_beside true t) (bytes 1)) (λ t p. DemandOver t p json)
-    denotes_one (Welfare table new json) bytes =
-        two_files (numbers_in table table_in (bytes 0)) (λ t. numbers_in new (prices_beside false t) (bytes 1)) (λ t p. WelfareOver t p json)
-    denotes_one (Utility table bundles) bytes =
-        two_files (numbers_in table table_in (bytes 0)) (λ t. numbers_in bundles (bundles_beside t) (bytes 1)) UtilityOver
-    denotes_one (Random budgets choices per json) bytes =
-        let first = numbers_in budgets budgets_in (bytes 0) in
-        let second = λ (b : BudgetList). numbers_in choices (choices_on b) (bytes 1) in
-        let made = λ (b : BudgetList) (c : ChoiceList). AndThen (TypedPatchesOf b c per) (λ given. Just (Ok (RandomOver given json))) in
+    denoted_one : (set : FileSet) (given : Given) (bytes : ℕ → List ℕ) → GivesOne (ContentsIn set given (λ k. Some (bytes k)))
+    denoted_one files.Nothing given bytes = just_one (Ok contents.Nothing)
+    denoted_one files.Table given bytes = one_file (numbers_in (file given 0) table_in (bytes 0)) contents.Table
+    denoted_one files.TableAndCertificate given bytes =
+        let first = numbers_in (file given 0) table_in (bytes 0) in
+        let second = CertificateIn (file given 1) TableKind (bytes 1) in
+        then_one (Just first) (λ t. AndThen second (λ c. Just (Ok (contents.TableAndCertificate t c)))) (just_one first)
+        (λ t. over_one second (contents.TableAndCertificate t) (certificate_one (file given 1) TableKind (bytes 1)))
+    denoted_one files.TableAndPricesWithExpenditure given bytes =
+        two_files (numbers_in (file given 0) table_in (bytes 0)) (λ t. numbers_in (file given 1) (prices_beside true t) (bytes 1)) contents.TableAndPricesWithExpenditure
+    denoted_one files.TableAndPrices given bytes =
+        two_files (numbers_in (file given 0) table_in (bytes 0)) (λ t. numbers_in (file given 1) (prices_beside false t) (bytes 1)) contents.TableAndPrices
+    denoted_one files.TableAndBundles given bytes =
+        two_files (numbers_in (file given 0) table_in (bytes 0)) (λ t. numbers_in (file given 1) (bundles_beside t) (bytes 1)) contents.TableAndBundles
+    denoted_one files.Choices given bytes =
+        let first = numbers_in (file given 0) budgets_in (bytes 0) in
+        let second = λ (b : BudgetList). numbers_in (file given 1) (choices_on b) (bytes 1) in
+        let made = λ (b : BudgetList) (c : ChoiceList). AndThen (TypedPatchesOf b c given.per) (λ made. Just (Ok (contents.Choices made.0 made.1))) in
         then_one (Just first) (λ b. AndThen (Just (second b)) (made b)) (just_one first)
         (λ b. then_one (Just (second b)) (made b) (just_one (second b))
-        (λ c. over_one (TypedPatchesOf b c per) (λ given. RandomOver given json) (typed_one b c per)))
-    denotes_one (CheckRandom budgets choices certificate per) bytes =
-        let first = numbers_in budgets budgets_in (bytes 0) in
-        let second = λ (b : BudgetList). numbers_in choices (choices_on b) (bytes 1) in
-        let third = CertificateIn certificate RandomKind (bytes 2) in
+        (λ c. over_one (TypedPatchesOf b c given.per) (λ made. contents.Choices made.0 made.1) (typed_one b c given.per)))
+    denoted_one files.ChoicesAndCertificate given bytes =
+        let first = numbers_in (file given 0) budgets_in (bytes 0) in
+        let second = λ (b : BudgetList). numbers_in (file given 1) (choices_on b) (bytes 1) in
+        let third = CertificateIn (file given 2) RandomKind (bytes 2) in
         let made = λ (b : BudgetList) (c : ChoiceList) (read : Certificate).
-        AndThen (TypedPatchesOf b c per) (λ given. Just (Ok (CheckRandomOver given read))) in
+        AndThen (TypedPatchesOf b c given.per) (λ made. Just (Ok (contents.ChoicesAndCertificate made.0 made.1 read))) in
         then_one (Just first) (λ b. AndThen (Just (second b)) (λ c. AndThen third (made b c))) (just_one first)
         (λ b. then_one (Just (second b)) (λ c. AndThen third (made b c)) (just_one (second b))
-        (λ c. then_one third (made b c) (certificate_one certificate RandomKind (bytes 2))
-        (λ read. over_one (TypedPatchesOf b c per) (λ given. CheckRandomOver given read) (typed_one b c per))))
-    denotes_one (Trial seed rows goods) bytes = just_one (Ok (TrialOver seed rows goods))
+        (λ c. then_one third (made b c) (certificate_one (file given 2) RandomKind (bytes 2))
+        (λ read. over_one (TypedPatchesOf b c given.per) (λ made. contents.ChoicesAndCertificate made.0 made.1 read) (typed_one b c given.per))))
+
+    pub denotes_one : (line : Line) (bytes : ℕ → List ℕ) → GivesOne (Denotes line bytes)
+    denotes_one line bytes = denoted_one (file_set line) line.given bytes

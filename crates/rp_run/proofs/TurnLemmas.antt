@@ -1,17 +1,65 @@
 -- In which order a line's files are read, from what each of its loaders says.
-use Rattle.std.proofs.Common.{◌≡◌, ◌≤◌, ◌+◌, ℕ, zero, suc, List, [], ◌∷◌, Some, None, Option, Result, Ok, Err, length, sum, take, subst, ap, sym, arith, refl}
+use Rattle.std.proofs.Common.{◌≡◌, ◌⊎◌, ◌≤◌, ◌+◌, ℕ, zero, suc, List, [], ◌∷◌, Some, None, Option, Result, Ok, Err, inl, inr, length, sum, take, subst, ap, sym, arith, refl}
 use Rattle.std.specs.List.{fold}
 use Rattle.rp_outside.specs.Reads.{calls_through}
 use Rattle.rp_text.specs.declared.fault.TableFault.{TableFault}
+use Rattle.rp_words.specs.CommandLine.{Given, Line, file_set, files_of}
+use Rattle.rp_words.specs.declared.form.FileSet.{FileSet}
+use Rattle.rp_words.specs.declared.form.FileSet.TheVariants.{Nothing}
+use Rattle.rp_run.specs.declared.contents.Contents.{Contents}
 use Rattle.rp_run.specs.Answers.{Files}
 use Rattle.rp_run.specs.Causes.{HoldsValue}
-use Rattle.rp_words.specs.CommandLine.{Line, files_of}
-use Rattle.rp_run.specs.Readings.{Numbers, Reading, most_bytes}
-use Rattle.rp_run.specs.Turns.{AreReadInTurn, AsksForFirst, IsFirstRefused, IsRefusedAt, IsSecondRefused, IsToldRefused, IsToldTaken, calls_of_certificate, calls_of_files, calls_of_numbers}
+use Rattle.rp_run.specs.Contents.{ContentsIn}
+use Rattle.rp_run.specs.Readings.{AndThen, Numbers, Reading, Told}
+use Rattle.rp_run.specs.Turns.{AreReadInTurn, AreRefused, AsksForFirst, calls_of_files, first_told}
+
+-- where the first file is not told, nothing is refused
+none_told : (set : FileSet) (given : Given) (told : ℕ → Option (List ℕ)) (text : List ℕ) → told 0 ≡ None → ContentsIn set given told (Err text) → ⊥
+none_told Nothing given told text is refused = cc
+none_told _ given told text is (inl refused) = let no = rw is at refused in no
+none_told _ given told text is (inr (value, taken, more)) = let no = rw is at taken in no
+
+none_refused : (files : Files) (line : Line) → AreRefused files line 0 → ⊥
+none_refused files line (text, refused) = none_told (file_set line) line.given (first_told files line 0) text refl refused
 
 -- where nothing is asked for
 pub unread : (files : Files) (count : ℕ) (line : Line) → AreReadInTurn files count count line
 unread files count line = record { each_once = omega arith; none_after_refused = λ n refused. omega arith }
+
+-- a file is told and refused, and it is told and has that value
+abbrev pub IsToldRefused : {A : Type 0} → Files → List ℕ → (List ℕ → Reading A) → Type 0
+IsToldRefused files file reading = (bytes : List ℕ) × (files file ≡ Some bytes) × ((text : List ℕ) × reading bytes (Err text))
+
+abbrev pub IsToldTaken : {A : Type 0} → Files → List ℕ → (List ℕ → Reading A) → A → Type 0
+IsToldTaken files file reading value = (bytes : List ℕ) × (files file ≡ Some bytes) × reading bytes (Ok value)
+
+-- nothing is refused after a file that is not told
+pub untold : {A : Type 0} (reading : List ℕ → Reading A) (next : A → Reading Contents) (text : List ℕ) → AndThen (Told reading None) next (Err text) → ⊥
+untold reading next text (inl refused) = refused
+untold reading next text (inr (value, taken, more)) = taken
+
+-- where nothing after it is refused, the file is told and refused
+pub told_refused : {A : Type 0} (files : Files) (file : List ℕ) (reading : List ℕ → Reading A) (next : A → Reading Contents) (text : List ℕ) → ((value : A) → next value (Err text) → ⊥)
+    → AndThen (Told reading (files file)) next (Err text) → IsToldRefused files file reading
+told_refused {A} files file reading next text later refused = go (files file) refl refused
+  where
+    go : (told : Option (List ℕ)) → files file ≡ told → AndThen (Told reading told) next (Err text) → IsToldRefused files file reading
+    go None is (inl refused) = absurd refused
+    go None is (inr (value, taken, more)) = absurd taken
+    go (Some bytes) is (inl refused) = (bytes, is, (text, refused))
+    go (Some bytes) is (inr (value, taken, more)) = absurd (later value more)
+
+-- else it is so, or it is told and taken and what comes next is refused
+pub told_before : {A : Type 0} (files : Files) (file : List ℕ) (reading : List ℕ → Reading A) (next : A → Reading Contents) (text : List ℕ) → AndThen (Told reading (files file)) next (Err text)
+    → IsToldRefused files file reading ⊎ ((value : A) × IsToldTaken files file reading value × next value (Err text))
+told_before {A} files file reading next text refused = go (files file) refl refused
+  where
+    go : (told : Option (List ℕ)) → files file ≡ told → AndThen (Told reading told) next (Err text)
+        → IsToldRefused files file reading ⊎ ((value : A) × IsToldTaken files file reading value × next value (Err text))
+    go None is (inl refused) = absurd refused
+    go None is (inr (value, taken, more)) = absurd taken
+    go (Some bytes) is (inl refused) = inl (bytes, is, (text, refused))
+    go (Some bytes) is (inr (value, taken, more)) = inr (value, (bytes, is, taken), more)
 
 -- a file of numbers that is taken is not told and refused
 pub taken_apart : {A : Type 0} (files : Files) (file : List ℕ) (reading : List ℕ → Result A TableFault) (value : A) → HoldsValue files file (Numbers file reading) value → IsToldRefused files file (Numbers file reading) → ⊥
@@ -45,8 +93,8 @@ module _ (files : Files) (line : Line) (a : ℕ) (rest : List ℕ) (each : calls
   pub first_turn : (before after n : ℕ) → length (files_of line) ≡ suc n → after ≤ before + a → AreReadInTurn files before after line
   first_turn before after n count once = record { each_once = rw (each, count) (first_of before after once n); none_after_refused = stops }
     where
-      stops : (k : ℕ) → IsRefusedAt files line k → AsksForFirst files before after line k
-      stops zero none = absurd none
+      stops : (k : ℕ) → AreRefused files line k → AsksForFirst files before after line k
+      stops zero none = absurd (none_refused files line none)
       stops (suc k) refused = rw each (first_of before after once k)
 
 module _ (files : Files) (line : Line) (a b : ℕ) (rest : List ℕ) (each : calls_of_files files line ≡ a ∷ b ∷ rest) where
@@ -59,11 +107,11 @@ module _ (files : Files) (line : Line) (a b : ℕ) (rest : List ℕ) (each : cal
       let first : 0 + a + b ≤ sum (take (suc (suc n)) (a ∷ b ∷ rest)) = no_less (take n rest) (0 + a + b) in
       omega (arith, once, also, first)
 
-  pub second_turn : (before mid after n : ℕ) → length (files_of line) ≡ suc (suc n) → mid ≤ before + a → after ≤ mid + b → (IsFirstRefused files line → ⊥) → AreReadInTurn files before after line
+  pub second_turn : (before mid after n : ℕ) → length (files_of line) ≡ suc (suc n) → mid ≤ before + a → after ≤ mid + b → (AreRefused files line 1 → ⊥) → AreReadInTurn files before after line
   second_turn before mid after n count once also taken = record { each_once = rw (each, count) (second_of before mid after once also n); none_after_refused = stops }
     where
-      stops : (k : ℕ) → IsRefusedAt files line k → AsksForFirst files before after line k
-      stops zero none = absurd none
+      stops : (k : ℕ) → AreRefused files line k → AsksForFirst files before after line k
+      stops zero none = absurd (none_refused files line none)
       stops (suc zero) refused = absurd (taken refused)
       stops (suc (suc k)) refused = rw each (second_of before mid after once also k)
 
@@ -72,15 +120,20 @@ module _ (files : Files) (line : Line) (a b c : ℕ) (rest : List ℕ) (each : c
   pub asks_three : (before mid then_mid after : ℕ) → mid ≤ before + a → then_mid ≤ mid + b → after ≤ then_mid + c → AsksForFirst files before after line 3
   asks_three before mid then_mid after once also too = rw each (omega (arith, once, also, too))
 
+  third_of : (before mid then_mid after : ℕ) → mid ≤ before + a → then_mid ≤ mid + b → after ≤ then_mid + c → (n : ℕ) → after ≤ before + sum (take (suc (suc (suc n))) (a ∷ b ∷ c ∷ rest))
+  third_of before mid then_mid after once also too n =
+      let first : 0 + a + b + c ≤ sum (take (suc (suc (suc n))) (a ∷ b ∷ c ∷ rest)) = no_less (take n rest) (0 + a + b + c) in
+      omega (arith, once, also, too, first)
+
   pub third_turn : (before mid then_mid after : ℕ) → length (files_of line) ≡ 3 → mid ≤ before + a → then_mid ≤ mid + b → after ≤ then_mid + c
-      → (IsFirstRefused files line → ⊥) → (IsSecondRefused files line → ⊥) → AreReadInTurn files before after line
+      → (AreRefused files line 1 → ⊥) → (AreRefused files line 2 → ⊥) → AreReadInTurn files before after line
   third_turn before mid then_mid after count once also too taken then_taken = record { each_once = rw (each, count) (omega (arith, once, also, too)); none_after_refused = stops }
     where
-      stops : (k : ℕ) → IsRefusedAt files line k → AsksForFirst files before after line k
-      stops zero none = absurd none
+      stops : (k : ℕ) → AreRefused files line k → AsksForFirst files before after line k
+      stops zero none = absurd (none_refused files line none)
       stops (suc zero) refused = absurd (taken refused)
       stops (suc (suc zero)) refused = absurd (then_taken refused)
-      stops (suc (suc (suc k))) refused = absurd refused
+      stops (suc (suc (suc k))) refused = rw each (third_of before mid then_mid after once also too k)
 
 -- the calls for a file, for files of the same contents
 pub calls_later : (files later : Files) (file : List ℕ) (limit before after : ℕ) → later file ≡ files file → after ≤ before + calls_through limit (later file) → after ≤ before + calls_through limit (files file)

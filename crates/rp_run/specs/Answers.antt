@@ -16,8 +16,14 @@ use Rattle.rp_answers.specs.Demands.{IsDemandText}
 use Rattle.rp_answers.specs.Welfares.{IsWelfareText}
 use Rattle.rp_answers.specs.UtilityText.{IsUtilityText}
 use Rattle.rp_answers.specs.TrialText.{IsTrialText}
-use Rattle.rp_words.specs.CommandLine.{Line, files_of, file_at}
-use Rattle.rp_run.specs.Inputs.{Input, PairsOver, AnalyseOver, CertifyOver, CheckOver, DemandOver, WelfareOver, UtilityOver, RandomOver, CheckRandomOver, TrialOver, Denotes}
+use Rattle.rp_answers.specs.Typed.{typed}
+use Rattle.rp_words.specs.CommandLine.{Given, Line, files_of, file_at, number}
+use Rattle.rp_words.specs.declared.commands.Command.{Command}
+use Rattle.rp_words.specs.declared.commands.Command.TheVariants.{Pairs, Analyse, Certify, Check, Demand, Welfare, Utility}
+use Rattle.rp_words.specs.declared.commands.Command.TheVariants.{Random, CheckRandom, Trial}
+use Rattle.rp_run.specs.declared.contents.Contents.{Contents}
+use Rattle.rp_run.specs.declared.contents.Contents.TheVariants as contents
+use Rattle.rp_run.specs.Contents.{Denotes}
 use Rattle.rp_answers.specs.declared.status.Status.{Status}
 use Rattle.rp_answers.specs.declared.status.Status.TheVariants as status
 
@@ -37,26 +43,31 @@ IsContent files file bytes = ForSome (files file) (λ told. bytes ≡ told)
 abbrev pub AreContents : Files → Line → (ℕ → List ℕ) → Type 0
 AreContents files line bytes = (k : ℕ) → k < length (files_of line) → IsContent files (file_at line k) (bytes k)
 
--- the text and the status that answer an input
-abbrev pub Answers : Input → Status → List ℕ → Type 0
-Answers (PairsOver table) s text = (s ≡ status.Done) × IsPairsText table text
-Answers (AnalyseOver table) s text = (s ≡ status.Done) × IsAnalysisText false table text
-Answers (CertifyOver table) s text = (s ≡ status.Done) × IsAnalysisText true table text
-Answers (CheckOver table certificate) s text = IsTableCheck table certificate s text
-Answers (DemandOver table new json) s text = (s ≡ status.Done) × IsDemandText json table new text
-Answers (WelfareOver table new json) s text = (s ≡ status.Done) × IsWelfareText json table new text
-Answers (UtilityOver table bundles) s text = (s ≡ status.Done) × IsUtilityText table bundles text
-Answers (RandomOver given json) s text = (s ≡ status.Done) × IsRandomText json given text
-Answers (CheckRandomOver given certificate) s text = IsRandomCheck given.patches certificate s text
-Answers (TrialOver seed rows goods) s text = (s ≡ status.Done) × IsTrialText seed rows goods text
+-- the text that answers a command which is no check, over what was given to it and what its files hold
+abbrev pub IsText : Command → Given → Contents → List ℕ → Type 0
+IsText Pairs given (contents.Table table) text = IsPairsText table text
+IsText Analyse given (contents.Table table) text = IsAnalysisText false table text
+IsText Certify given (contents.Table table) text = IsAnalysisText true table text
+IsText Demand given (contents.TableAndPricesWithExpenditure table new) text = IsDemandText given.json table new text
+IsText Welfare given (contents.TableAndPrices table new) text = IsWelfareText given.json table new text
+IsText Utility given (contents.TableAndBundles table bundles) text = IsUtilityText table bundles text
+IsText Random given (contents.Choices patches types) text = IsRandomText given.json (typed patches types) text
+IsText Trial given contents.Nothing text = IsTrialText (number given 0) (number given 1) (number given 2) text
+IsText _ given _ text = ⊥
 
--- some content of a line's files denotes that input
-abbrev pub HasInput : Files → Line → Input → Type 0
-HasInput files line input = (bytes : ℕ → List ℕ) × AreContents files line bytes × Denotes line bytes (Ok input)
+-- the text and the status that answer a command
+abbrev pub Answers : Command → Given → Contents → Status → List ℕ → Type 0
+Answers Check given (contents.TableAndCertificate table certificate) s text = IsTableCheck table certificate s text
+Answers CheckRandom given (contents.ChoicesAndCertificate patches types certificate) s text = IsRandomCheck patches certificate s text
+Answers command given held s text = (s ≡ status.Done) × IsText command given held text
+
+-- some bytes of a line's files denote these contents
+abbrev pub HasContents : Files → Line → Contents → Type 0
+HasContents files line held = (bytes : ℕ → List ℕ) × AreContents files line bytes × Denotes line bytes (Ok held)
 
 -- the text and the status answer a line, over some content of its files
 abbrev pub AnswersLine : Files → Line → Status → List ℕ → Type 0
-AnswersLine files line s text = (input : Input) × HasInput files line input × Answers input s text
+AnswersLine files line s text = (held : Contents) × HasContents files line held × Answers line.command line.given held s text
 
 -- the text and the status answer what is asked
 abbrev pub AnswersAsked : Files → Option Line → Status → List ℕ → Type 0
@@ -66,32 +77,32 @@ AnswersAsked files asked s text = (line : Line) × (asked ≡ Some line) × Answ
 abbrev pub RefusesWith : Files → Line → List ℕ → Type 0
 RefusesWith files line text = (bytes : ℕ → List ℕ) × AreContents files line bytes × Denotes line bytes (Err text)
 
--- nothing refuses a line: whatever its files may hold denotes an input
+-- nothing refuses a line: whatever its files may hold denotes contents
 abbrev pub IsAccepted : Files → Line → Type 0
-IsAccepted files line = (bytes : ℕ → List ℕ) → AreContents files line bytes → (input : Input) × Denotes line bytes (Ok input)
+IsAccepted files line = (bytes : ℕ → List ℕ) → AreContents files line bytes → (held : Contents) × Denotes line bytes (Ok held)
 
 -- a line is refused, whatever its files may hold
 abbrev pub IsRefused : Files → Line → Type 0
 IsRefused files line = (bytes : ℕ → List ℕ) → AreContents files line bytes → (text : List ℕ) × Denotes line bytes (Err text)
 
--- the input is a certificate, and the checker rejects it
-abbrev pub IsRejectedOver : Input → Type 0
-IsRejectedOver (CheckOver table certificate) =
+-- there is a certificate among the contents, and the checker rejects it
+abbrev pub IsRejectedOver : Contents → Type 0
+IsRejectedOver (contents.TableAndCertificate table certificate) =
     (item : ℕ) × (reason : Reason) × (place : ℕ) × IsVerdictOn (input_of_table table) certificate.items (Rejected item reason place)
-IsRejectedOver (CheckRandomOver given certificate) =
-    (item : ℕ) × (reason : Reason) × (place : ℕ) × IsRandomVerdictOn given.patches certificate.items (Rejected item reason place)
+IsRejectedOver (contents.ChoicesAndCertificate patches types certificate) =
+    (item : ℕ) × (reason : Reason) × (place : ℕ) × IsRandomVerdictOn patches certificate.items (Rejected item reason place)
 IsRejectedOver _ = ⊥
 
--- the input is a certificate, and the checker accepts it
-abbrev pub IsAcceptedOver : Input → Type 0
-IsAcceptedOver (CheckOver table certificate) = IsVerdictOn (input_of_table table) certificate.items Accepted
-IsAcceptedOver (CheckRandomOver given certificate) = IsRandomVerdictOn given.patches certificate.items Accepted
+-- there is a certificate among the contents, and the checker accepts it
+abbrev pub IsAcceptedOver : Contents → Type 0
+IsAcceptedOver (contents.TableAndCertificate table certificate) = IsVerdictOn (input_of_table table) certificate.items Accepted
+IsAcceptedOver (contents.ChoicesAndCertificate patches types certificate) = IsRandomVerdictOn patches certificate.items Accepted
 IsAcceptedOver _ = ⊥
 
--- some content of a line's files denotes such an input
-abbrev pub MayBe : (Input → Type 0) → Files → Line → Type 0
-MayBe holds files line = (input : Input) × HasInput files line input × holds input
+-- some content of a line's files denotes such contents
+abbrev pub MayBe : (Contents → Type 0) → Files → Line → Type 0
+MayBe holds files line = (held : Contents) × HasContents files line held × holds held
 
--- whatever the files of a line may hold, it denotes no other than such an input
-abbrev pub MustBe : (Input → Type 0) → Files → Line → Type 0
-MustBe holds files line = (bytes : ℕ → List ℕ) → AreContents files line bytes → (input : Input) → Denotes line bytes (Ok input) → holds input
+-- whatever the files of a line may hold, it denotes no other than such contents
+abbrev pub MustBe : (Contents → Type 0) → Files → Line → Type 0
+MustBe holds files line = (bytes : ℕ → List ℕ) → AreContents files line bytes → (held : Contents) → Denotes line bytes (Ok held) → holds held

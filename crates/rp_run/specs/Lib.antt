@@ -1,12 +1,11 @@
 pub mod FaultTexts
 pub mod FaultLines
 pub mod Readings
-pub mod RandomInputs
-pub mod Inputs
+pub mod ChoiceContents
+pub mod Contents
 pub mod Matching
 pub mod Answers
 pub mod Turns
 pub mod Endings
 pub mod Gains
 pub mod Causes
-pub mod Named

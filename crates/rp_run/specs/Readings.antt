@@ -1,6 +1,6 @@
 -- What is read of files: values, and the lines of refusals, which are whole lines for standard error (this program's own order
 -- and texts).
-use Rattle.std.specs.Prelude.{◌≡◌, ◌≢◌, ◌⊎◌, ◌≤◌, ◌<◌, ℕ, nat_lt, if◌then◌else◌, List, length, Result, Ok, Err, codes}
+use Rattle.std.specs.Prelude.{◌≡◌, ◌≢◌, ◌⊎◌, ◌≤◌, ◌<◌, ℕ, nat_lt, if◌then◌else◌, List, length, Option, Some, None, Result, Ok, Err, codes}
 use Rattle.rp_table.specs.Tables.{Observations}
 use Rattle.rp_text.specs.Denotation.{table_in}
 use Rattle.rp_text.specs.declared.fault.TableFault.{TableFault}
@@ -9,6 +9,7 @@ use Rattle.rp_evidence.specs.declared.certificate.Kind.{Kind}
 use Rattle.rp_json.specs.Denoted.{IsDenoted}
 use Rattle.rp_json.specs.declared.fault.JsonFault.{JsonFault}
 use Rattle.rp_json.specs.declared.fault.JsonFault.TheVariants as json_fault
+use Rattle.rp_words.specs.CommandLine.{Given, file}
 use Rattle.rp_run.specs.FaultTexts.{fault_text, json_fault_text}
 use Rattle.rp_run.specs.FaultLines.{file_line}
 
@@ -59,6 +60,15 @@ CertificateIn file kind bytes (Err line) =
     ⊎ ((length bytes ≤ most_certificate_bytes)
     × ((fault : JsonFault) × (fault ≢ json_fault.NoMemory) × IsDenoted kind bytes (Err fault) × (line ≡ file_line file (json_fault_text fault))))
 
+-- what a file holds by a reading, where its bytes are told; nothing is read where they are not
+abbrev pub Told : {A : Type 0} → (List ℕ → Reading A) → Option (List ℕ) → Reading A
+Told reading None result = ⊥
+Told reading (Some bytes) result = reading bytes result
+
+-- the same of the k-th file of what is given, by a reading that has its name
+abbrev pub FileIn : {A : Type 0} → Given → (ℕ → Option (List ℕ)) → ℕ → (List ℕ → List ℕ → Reading A) → Reading A
+FileIn given told k reading = Told (reading (file given k)) (told k)
+
 -- a table in the first file
-abbrev pub TableIn : List ℕ → (ℕ → List ℕ) → Reading Observations
-TableIn table bytes = Numbers table table_in (bytes 0)
+abbrev pub TableIn : Given → (ℕ → Option (List ℕ)) → Reading Observations
+TableIn given told = FileIn given told 0 (λ name. Numbers name table_in)

@@ -3,13 +3,13 @@ ghost use Rattle.rp_run.specs.Answers.{Answers, AnswersLine};
 ghost use Rattle.rp_run.specs.Endings.{Rose};
 ghost use Rattle.rp_run.specs.Turns.{AreReadInTurn, AsksForFirst};
 ghost use Rattle.rp_run.specs.Causes.{IsCause};
-ghost use Rattle.rp_run.specs.Matching.{HasMatchingGoods};
-ghost use Rattle.rp_run.specs.Named.{named_input};
-ghost use Rattle.rp_words.specs.Named.{named_line};
+ghost use Rattle.rp_run.specs.Matching.{AreOf};
+ghost use Rattle.rp_words.specs.CommandLine.{file_set};
+ghost use Rattle.rp_words.specs.Named.{named_given, named_line};
 ghost use Rattle.rp_words.specs.Ranges.{IsSized};
 
+use crate::contents::{Contents, read_contents};
 use crate::files::Cause;
-use crate::input::{Input, read_input};
 use rp_answers::{
     Answer, Status, analysis_text, check_answer, check_random_answer, demand_text, pairs_text,
     random_text, trial_text, utility_text, welfare_text,
@@ -17,76 +17,91 @@ use rp_answers::{
 use rp_num::NoMemory;
 use rp_outside::Desk;
 use rp_table::Costs;
-use rp_words::Line;
+use rp_words::{Command, Line};
 use std::alloc::Global;
 
 /// The answer to a line over its files.
 pub(crate) fn answer_line<'a, D: Desk>(
     alloc: Global,
     desk: &mut D,
-    line: Line<'a>,
+    line: &Line<'a>,
 ) -> Result<Answer, Cause<'a>>
-    requires { IsSized (named_line line) }
+    requires { IsSized (named_line line.now) }
     ensures answered { IfOk result (λ answer.
-        AnswersLine (D.bytes desk.old) (named_line line.entry) answer.status answer.text.items) }
+        AnswersLine (D.bytes desk.old) (named_line line.now) answer.status answer.text.items) }
     ensures caused { IfErr result
         (IsCause (D.bytes desk.old) (Rose (D.faults desk.old) (D.faults desk.new))
         (AsksForFirst (D.bytes desk.old) (D.calls desk.old) (D.calls desk.new))
-        (named_line line.entry)) }
+        (named_line line.now)) }
     ensures in_turn { AreReadInTurn (D.bytes desk.old)
-        (D.calls desk.old) (D.calls desk.new) (named_line line.entry) }
+        (D.calls desk.old) (D.calls desk.new) (named_line line.now) }
     ensures bytes_stay { (other : List ℕ) → D.bytes desk.new other ≡ D.bytes desk.old other }
     ensures never_falls { (other : List ℕ) → D.faults desk.old other ≤ D.faults desk.new other }
 {
-    let input = read_input(alloc, desk, line)?;
-    match answer_over(alloc, &input) {
+    let held = read_contents(alloc, desk, line)?;
+    match answer_over(alloc, line, &held) {
         Ok(answer) => Ok(answer),
         Err(_) => Err(Cause::NoMemory),
     }
 }
 
-/// The answer to an input.
-fn answer_over(alloc: Global, input: &Input) -> Result<Answer, NoMemory>
-    requires { HasMatchingGoods (named_input input.now) }
-    ensures { IfOk result (λ answer.
-        Answers (named_input input.now) answer.status answer.text.items) }
+/// The answer to a line over what its files hold.
+fn answer_over(alloc: Global, line: &Line<'_>, held: &Contents) -> Result<Answer, NoMemory>
+    requires sized { IsSized (named_line line.now) }
+    requires matching { AreOf (file_set (named_line line.now)) held.now }
+    ensures { IfOk result (λ answer. Answers line.now.command (named_given line.now.given)
+        held.now answer.status answer.text.items) }
 {
-    match input {
-        Input::Pairs(table) => {
+    match line.command {
+        Command::Pairs => {
+            let table = held.table();
             let costs = Costs::of(alloc, table)?;
             Ok(done(pairs_text(alloc, table, &costs)?))
         }
-        Input::Analyse(table) => {
+        Command::Analyse => {
+            let table = held.table();
             let costs = Costs::of(alloc, table)?;
             Ok(done(analysis_text(alloc, table, &costs, false)?))
         }
-        Input::Certify(table) => {
+        Command::Certify => {
+            let table = held.table();
             let costs = Costs::of(alloc, table)?;
             Ok(done(analysis_text(alloc, table, &costs, true)?))
         }
-        Input::Check(table, certificate) => {
+        Command::Check => {
+            let (table, certificate) = held.table_and_certificate();
             let costs = Costs::of(alloc, table)?;
             check_answer(alloc, table, &costs, certificate)
         }
-        Input::Demand(table, new, json) => {
+        Command::Demand => {
+            let (table, new) = held.table_and_prices_with_expenditure();
             let costs = Costs::of(alloc, table)?;
-            Ok(done(demand_text(alloc, table, &costs, new, *json)?))
+            Ok(done(demand_text(alloc, table, &costs, new, line.given.json)?))
         }
-        Input::Welfare(table, new, json) => {
+        Command::Welfare => {
+            let (table, new) = held.table_and_prices();
             let costs = Costs::of(alloc, table)?;
-            Ok(done(welfare_text(alloc, table, &costs, new, *json)?))
+            Ok(done(welfare_text(alloc, table, &costs, new, line.given.json)?))
         }
-        Input::Utility(table, bundles) => {
+        Command::Utility => {
+            let (table, bundles) = held.table_and_bundles();
             let costs = Costs::of(alloc, table)?;
             Ok(done(utility_text(alloc, table, &costs, bundles)?))
         }
-        Input::Random(patches, types, json) => {
-            Ok(done(random_text(alloc, patches, types, *json)?))
+        Command::Random => {
+            let (patches, types) = held.choices();
+            Ok(done(random_text(alloc, patches, types, line.given.json)?))
         }
-        Input::CheckRandom(patches, _, certificate) => {
+        Command::CheckRandom => {
+            let (patches, certificate) = held.choices_and_certificate();
             check_random_answer(alloc, patches, certificate)
         }
-        Input::Trial { seed, rows, goods } => { Ok(done(trial_text(alloc, *seed, *rows, *goods)?)) }
+        Command::Trial => {
+            let seed = line.given.number(0);
+            let rows = line.given.number(1) as u32;
+            let goods = line.given.number(2) as u32;
+            Ok(done(trial_text(alloc, seed, rows, goods)?))
+        }
     }
 }
 

@@ -2,15 +2,16 @@
 #![tactic(auto)]
 
 mod answer;
+mod contents;
 mod fault_text;
 mod files;
-mod input;
 mod laws;
 mod patches;
 mod running;
 mod sure;
 mod telling;
 
+pub use contents::Contents;
 pub use laws::bytes_denote_one_input_or_refusal;
 pub use rp_answers::{Status, trial_table};
 pub use running::run;

@@ -4,7 +4,7 @@ ghost use Rattle.rp_patch.specs.Choices.{AreChoicesFrom};
 ghost use Rattle.rp_run.specs.Causes.{IsPatchRefusal, IsReadingCause, IsTypesRefusal};
 ghost use Rattle.rp_answers.specs.Typed.{AreTyped};
 ghost use Rattle.rp_answers.specs.Typed.{typed};
-ghost use Rattle.rp_run.specs.RandomInputs.{TypedPatchesOf};
+ghost use Rattle.rp_run.specs.ChoiceContents.{TypedPatchesOf};
 ghost use Rattle.rp_words.specs.Ranges.{IsUnit};
 
 use crate::files::Cause;
@@ -25,7 +25,7 @@ pub(crate) fn patches_of<'a>(
     requires from { AreChoicesFrom budgets.now choices.now }
     requires unit { IsUnit per }
     ensures made { IfOk result (λ both.
-        TypedPatchesOf budgets.now choices.now per (Ok (typed both.0 both.1))) }
+        TypedPatchesOf budgets.now choices.now per (Ok (both.0, both.1))) }
     ensures typed { IfOk result (λ both. AreTyped (typed both.0 both.1)) }
     ensures caused { IfErr result
         (IsReadingCause (TypedPatchesOf budgets.now choices.now per)) }

@@ -98,7 +98,7 @@ pub fn run<D: Desk, O: Sink, E: Sink>(
         tell(err, &[usage()]);
         return Status::Usage;
     };
-    match answer_line(alloc, desk, line) {
+    match answer_line(alloc, desk, &line) {
         Ok(answer) => finish(&answer, out, err),
         Err(cause) => refuse(&cause, err),
     }

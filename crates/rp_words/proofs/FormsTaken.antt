@@ -18,7 +18,7 @@ use Rattle.clap.specs.declared.builder.value_parser.ValueParser.TheVariants.{Non
 use Rattle.clap.specs.declared.parser.matches.ValueSource.TheVariants.{DefaultValue}
 use Rattle.rp_words.specs.CommandLine.{Given}
 use Rattle.rp_words.specs.Commands.{json_rule, number_rule, per_rule, where_asked}
-use Rattle.rp_words.specs.Forms.{Form, Number, units}
+use Rattle.rp_words.specs.Forms.{Form, Number, file_names, units}
 use Rattle.rp_words.specs.Shapes.{AreInRange, AreNamed, AreUnits, Fits, MayAsk, json_word, per_words, words_of}
 use Rattle.rp_words.specs.Words.{all_in, given_in, json_of, number_of}
 use Rattle.rp_words.proofs.KeptRows.{IsKept, all_found, are_kept, kept_from}
@@ -143,20 +143,20 @@ abbrev number_names : Form → List Text
 number_names form = map (name number_place) form.numbers ++ option_names
 
 abbrev all_names : Form → List Text
-all_names form = map (name file_place) form.files ++ number_names form
+all_names form = map (name file_place) (file_names form.files) ++ number_names form
 
 abbrev pub is_orderly : Form → Bool
 is_orderly form =
     are_kept (leaf form).rules
-    && (are_at file_place (leaf form).rules 1 form.files
-    && (are_at number_place (leaf form).rules (after file_place 1 form.files) form.numbers
+    && (are_at file_place (leaf form).rules 1 (file_names form.files)
+    && (are_at number_place (leaf form).rules (after file_place 1 (file_names form.files)) form.numbers
     && (is_option (leaf form).rules form.per units.name
     && (is_option (leaf form).rules form.json (codes "json")
     && (are_apart (all_names form) && list_all (λ number. nat_lt number.most (2 ^ 64)) form.numbers)))))
 
 pub record IsOrderly (form : Form) : Type 0 where
-  pub files : AreAt file_place (leaf form).rules 1 form.files
-  pub numbers : AreAt number_place (leaf form).rules (after file_place 1 form.files) form.numbers
+  pub files : AreAt file_place (leaf form).rules 1 (file_names form.files)
+  pub numbers : AreAt number_place (leaf form).rules (after file_place 1 (file_names form.files)) form.numbers
   pub per : IsOption (leaf form).rules form.per units.name per_built
   pub json : IsOption (leaf form).rules form.json (codes "json") json_built
   pub apart : are_apart (all_names form) ≡ true
@@ -173,15 +173,15 @@ each_own c (a ∷ rest) kept = (kept.0.own, each_own c rest kept.1)
 pub orderly : (form : Form) → is_orderly form ≡ true → IsOrderly form
 orderly form test =
     let c = (leaf form).rules in
-    let i = after file_place 1 form.files in
+    let i = after file_place 1 (file_names form.files) in
     let t = both (are_kept c) _ test in
-    let t1 = both (are_at file_place c 1 form.files) _ t.1 in
+    let t1 = both (are_at file_place c 1 (file_names form.files)) _ t.1 in
     let t2 = both (are_at number_place c i form.numbers) _ t1.1 in
     let t3 = both (is_option c form.per units.name) _ t2.1 in
     let t4 = both (is_option c form.json (codes "json")) _ t3.1 in
     let t5 = both (are_apart (all_names form)) _ t4.1 in
     let own = each_own c c (kept_from c t.0) in
-    let files = all_at file_place c own 1 form.files (map number_rule form.numbers ++ option_rules form.per form.json) own t1.0 in
+    let files = all_at file_place c own 1 (file_names form.files) (map number_rule form.numbers ++ option_rules form.per form.json) own t1.0 in
     let numbers = all_at number_place c own i form.numbers (option_rules form.per form.json) files.1 t2.0 in
     let options = options_own c form.per form.json (after number_place i form.numbers) numbers.1 in
     record {
@@ -218,10 +218,10 @@ options_default j false has asked rows may fresh = json_default j has asked rows
 
 module _ (form : Form) (o : IsOrderly form) (given : Given) (fits : Fits form given) where
   abbrev pub last : ℕ
-  last = after number_place (after file_place 1 form.files) form.numbers
+  last = after number_place (after file_place 1 (file_names form.files)) form.numbers
 
   abbrev pub with_files : List Row
-  with_files = [] ++ rows_for file_place form.files given.files
+  with_files = [] ++ rows_for file_place (file_names form.files) given.files
 
   abbrev pub with_numbers : List Row
   with_numbers = with_files ++ rows_for number_place form.numbers (map decimal given.numbers)
@@ -229,23 +229,23 @@ module _ (form : Form) (o : IsOrderly form) (given : Given) (fits : Fits form gi
   abbrev pub with_per : List Row
   with_per = with_numbers ++ per_rows given.per
 
-  names_taken : AreTakenAt file_place form.files given.files
-  names_taken = files_taken form.files given.files fits.0
+  names_taken : AreTakenAt file_place (file_names form.files) given.files
+  names_taken = files_taken (file_names form.files) given.files fits.0
 
   ranges_taken : AreTakenAt number_place form.numbers (map decimal given.numbers)
   ranges_taken = numbers_taken form.numbers given.numbers o.small fits.1.0
 
-  files_lead : Leads (leaf form) 1 nothing_held given.files (after file_place 1 form.files) with_files × AreFresh (number_names form) with_files
+  files_lead : Leads (leaf form) 1 nothing_held given.files (after file_place 1 (file_names form.files)) with_files × AreFresh (number_names form) with_files
   files_lead =
-      all_lead file_place (leaf form) form.files given.files (number_names form) 1 nothing_held [] o.files names_taken o.apart (none_fresh (all_names form))
+      all_lead file_place (leaf form) (file_names form.files) given.files (number_names form) 1 nothing_held [] o.files names_taken o.apart (none_fresh (all_names form))
       (record { free = refl; rows_are = refl })
 
   numbers_apart : are_apart (number_names form) ≡ true
-  numbers_apart = apart_after (map (name file_place) form.files) (number_names form) o.apart
+  numbers_apart = apart_after (map (name file_place) (file_names form.files)) (number_names form) o.apart
 
-  numbers_lead : Leads (leaf form) (after file_place 1 form.files) files_lead.0.held (map decimal given.numbers) last with_numbers × AreFresh option_names with_numbers
+  numbers_lead : Leads (leaf form) (after file_place 1 (file_names form.files)) files_lead.0.held (map decimal given.numbers) last with_numbers × AreFresh option_names with_numbers
   numbers_lead =
-      all_lead number_place (leaf form) form.numbers (map decimal given.numbers) option_names (after file_place 1 form.files) files_lead.0.held with_files o.numbers ranges_taken
+      all_lead number_place (leaf form) form.numbers (map decimal given.numbers) option_names (after file_place 1 (file_names form.files)) files_lead.0.held with_files o.numbers ranges_taken
       numbers_apart files_lead.1 files_lead.0.calm
 
   per_lead : (h : Held) (per : Option ℕ) → AreUnits form.per per → IsCalm (leaf form) h with_numbers → Leads (leaf form) last h (per_words per) last (with_numbers ++ per_rows per)
@@ -279,8 +279,8 @@ module _ (form : Form) (o : IsOrderly form) (given : Given) (fits : Fits form gi
       let per = per_lead numbers.held given.per fits.1.1 numbers.calm in
       let json = json_lead per.held given.json fits.2 per.calm in
       let options = then_leads s last last last numbers.held (per_words given.per) (json_word given.json) with_per (with_per ++ json_rows given.json) per json in
-      let rest = then_leads s (after file_place 1 form.files) last last files.held (map decimal given.numbers) (per_words given.per ++ json_word given.json) with_numbers (with_per ++ json_rows given.json) numbers options in
-      then_leads s 1 (after file_place 1 form.files) last nothing_held given.files (map decimal given.numbers ++ (per_words given.per ++ json_word given.json)) with_files (with_per ++ json_rows given.json) files rest
+      let rest = then_leads s (after file_place 1 (file_names form.files)) last last files.held (map decimal given.numbers) (per_words given.per ++ json_word given.json) with_numbers (with_per ++ json_rows given.json) numbers options in
+      then_leads s 1 (after file_place 1 (file_names form.files)) last nothing_held given.files (map decimal given.numbers ++ (per_words given.per ++ json_word given.json)) with_files (with_per ++ json_rows given.json) files rest
 
   -- so the walk ends there, free of faults
   walk_ends : walk (leaf form).rules [] nothing_held (words_of given) ≡ at (leaf form) last lead.held
@@ -296,8 +296,8 @@ module _ (form : Form) (o : IsOrderly form) (given : Given) (fits : Fits form gi
 
   defaults_come : fold with_default (with_per ++ json_rows given.json) (leaf form).rules ≡ end_rows
   defaults_come =
-      no_default_comes file_place form.files 1 (map number_rule form.numbers ++ option_rules form.per form.json) (with_per ++ json_rows given.json)
-      ∙ no_default_comes number_place form.numbers (after file_place 1 form.files) (option_rules form.per form.json) (with_per ++ json_rows given.json)
+      no_default_comes file_place (file_names form.files) 1 (map number_rule form.numbers ++ option_rules form.per form.json) (with_per ++ json_rows given.json)
+      ∙ no_default_comes number_place form.numbers (after file_place 1 (file_names form.files)) (option_rules form.per form.json) (with_per ++ json_rows given.json)
       ∙ options_default last form.per form.json given.json with_per fits.2 (per_fresh given.per)
 
   finished_are : finished (leaf form).rules lead.held ≡ end_rows
@@ -307,12 +307,12 @@ module _ (form : Form) (o : IsOrderly form) (given : Given) (fits : Fits form gi
   rows_are = ap (λ (w : Walk). finished (leaf form).rules w.held) walk_ends ∙ finished_are
 
   -- what is found in them
-  files_found : AreFound file_place form.files given.files end_rows
+  files_found : AreFound file_place (file_names form.files) given.files end_rows
   files_found =
-      found_more file_place form.files given.files with_per (json_in_end form.json given.json)
-      (found_more file_place form.files given.files with_numbers (per_rows given.per)
-      (found_more file_place form.files given.files with_files (rows_for number_place form.numbers (map decimal given.numbers))
-      (all_are_found file_place form.files given.files (number_names form) [] names_taken o.apart (none_fresh (all_names form)))))
+      found_more file_place (file_names form.files) given.files with_per (json_in_end form.json given.json)
+      (found_more file_place (file_names form.files) given.files with_numbers (per_rows given.per)
+      (found_more file_place (file_names form.files) given.files with_files (rows_for number_place form.numbers (map decimal given.numbers))
+      (all_are_found file_place (file_names form.files) given.files (number_names form) [] names_taken o.apart (none_fresh (all_names form)))))
 
   numbers_found : AreFound number_place form.numbers (map decimal given.numbers) end_rows
   numbers_found =
@@ -346,21 +346,21 @@ module _ (form : Form) (o : IsOrderly form) (given : Given) (fits : Fits form gi
   -- which give again what was given
   pub given_again : given_in form end_rows ≡ Some given
   given_again =
-      rw (files_read form.files given.files end_rows files_found, numbers_read form.numbers given.numbers end_rows o.small fits.1.0 numbers_found)
+      rw (files_read (file_names form.files) given.files end_rows files_found, numbers_read form.numbers given.numbers end_rows o.small fits.1.0 numbers_found)
       (λ k. Some (record { files = given.files; numbers = given.numbers; per = per_read form.per given.per fits.1.1 refl k; json = json_read form.json given.json fits.2 refl refl k }))
 
   -- nothing is missed
   checks_free : check_fault (leaf form) end_rows false ≡ []
   checks_free =
-      let none = none_missed file_place form.files given.files end_rows 1 (map number_rule form.numbers ++ option_rules form.per form.json) files_found
-      (none_missed number_place form.numbers (map decimal given.numbers) end_rows (after file_place 1 form.files) (option_rules form.per form.json) numbers_found
+      let none = none_missed file_place (file_names form.files) given.files end_rows 1 (map number_rule form.numbers ++ option_rules form.per form.json) files_found
+      (none_missed number_place form.numbers (map decimal given.numbers) end_rows (after file_place 1 (file_names form.files)) (option_rules form.per form.json) numbers_found
       (options_unmissed form.per form.json last end_rows)) in
       rw none refl
 
   defaults_free : (rows : List Row) → defaults_fault rows (leaf form).rules ≡ []
   defaults_free =
-      no_default_fails file_place form.files 1 (map number_rule form.numbers ++ option_rules form.per form.json)
-      (no_default_fails number_place form.numbers (after file_place 1 form.files) (option_rules form.per form.json) (options_default_free form.per form.json last))
+      no_default_fails file_place (file_names form.files) 1 (map number_rule form.numbers ++ option_rules form.per form.json)
+      (no_default_fails number_place form.numbers (after file_place 1 (file_names form.files)) (option_rules form.per form.json) (options_default_free form.per form.json last))
 
   -- so the command takes the words
   pub words_free : level_fault (leaf form) [] nothing_held (words_of given) false [] ≡ []

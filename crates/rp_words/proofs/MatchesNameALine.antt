@@ -7,9 +7,10 @@ use Rattle.clap.specs.Faults.{built_fault, check_fault, defaults_fault, entered_
 use Rattle.clap.specs.Kinds.{or_else}
 use Rattle.clap.specs.Simple.{App, Shape, argument_words, built, entered, filled, filled_from, index_after, label_of, names_of, rows_at, subcommand_of, with_index}
 use Rattle.clap.specs.Walk.{Row, Rule, Text, answers_to, first_of, finished, nothing_held, rows_after, settled, walk, walk_from}
-use Rattle.rp_words.specs.CommandLine.{Command, Given, command_named, commands}
+use Rattle.rp_words.specs.CommandLine.{Given, Line, command_named, commands, form_of}
+use Rattle.rp_words.specs.declared.commands.Command.{Command}
 use Rattle.rp_words.specs.Commands.{file_rule, number_rule, program, rules_of}
-use Rattle.rp_words.specs.Forms.{Form, Number}
+use Rattle.rp_words.specs.Forms.{Form, Number, file_names}
 use Rattle.rp_words.specs.Words.{all_in, command_line, given_in, line_named, line_of, number_of}
 use Rattle.rp_words.proofs.KeptRows.{IsKept, all_found, are_kept, each_found, every, first_free, kept_from, second_free}
 use Rattle.rp_words.proofs.KeptWalk.{AreTaken, level_taken, none_wanted}
@@ -78,25 +79,28 @@ module _ (c : List Rule) (rows : List Row) (taken : AreTaken c rows) where
 given_named : (form : Form) (rows : List Row) → AreTaken (filled_from 1 (rules_of form)) rows → IsSome (given_in form rows)
 given_named form rows taken =
     let c = filled_from 1 (rules_of form) in
-    let files = all_read c rows taken file_rule first_of (file_reads c rows taken) form.files 1 _ taken.kept in
+    let files = all_read c rows taken file_rule first_of (file_reads c rows taken) (file_names form.files) 1 _ taken.kept in
     let numbers = all_read c rows taken number_rule number_of (number_reads c rows taken) form.numbers files.1.0 _ files.1.1 in
     rw (files.0.1, numbers.0.1) refl
 
 -- in the order of the commands
-command_names : (command : Command) → command_named command.form.name ≡ Some command → NamesALine (leaf command.form)
-command_names command own rows taken = rw own (go (given_in command.form rows) (given_named command.form rows taken))
+command_names : (command : Command) → command_named (form_of command).name ≡ Some command → NamesALine (leaf (form_of command))
+command_names command own rows taken = rw own (go (given_in (form_of command) rows) (given_named (form_of command) rows taken))
   where
-    go : (given : Option Given) → IsSome given → IsSome (option_map command.line given)
+    over : Given → Line
+    over given = record { command = command; given = given }
+
+    go : (given : Option Given) → IsSome given → IsSome (option_map over given)
     go None some = some
     go (Some given) some = refl
 
-all_names : (some : List Command) → AllByRecursion (λ command. command_named command.form.name ≡ Some command) some → AllByRecursion NamesALine (leaves (map (λ command. command.form) some))
+all_names : (some : List Command) → AllByRecursion (λ command. command_named (form_of command).name ≡ Some command) some → AllByRecursion NamesALine (leaves (map form_of some))
 all_names [] own = tt
 all_names (command ∷ more) own = (command_names command own.0, all_names more own.1)
 
 -- each command is the one of its name
-pub each_own : AllByRecursion (λ command. command_named command.form.name ≡ Some command) commands
-each_own = each_found (λ command other. bytes_eq command.form.name other.form.name) commands refl
+pub each_own : AllByRecursion (λ command. command_named (form_of command).name ≡ Some command) commands
+each_own = each_found (λ command other. bytes_eq (form_of command).name (form_of other).name) commands refl
 
 -- words without a fault have matches that name a line
 pub matches_name_a_line : (words : List (List ℕ)) → fault_of program words ≡ [] → IsSome (line_named (subcommand_of program words))

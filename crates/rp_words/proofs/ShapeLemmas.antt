@@ -8,7 +8,9 @@ use Rattle.std.proofs.lemmas.Slice.Eq.{bytes_eq-Decides}
 use Rattle.clap.specs.Faults.{built_fault, defaults_fault, fault_of, level_fault, turn_fault, walk_fault}
 use Rattle.clap.specs.Simple.{Shape, built, entered, label_of, names_of, rows_at, subcommand_of}
 use Rattle.clap.specs.Walk.{Names, Row, Text, Walk, answers_to, nothing_held, rows_after, walk, walk_from, walked}
-use Rattle.rp_words.specs.CommandLine.{Command, Given, Line, Pairs, command_named, commands, forms, parts_of}
+use Rattle.rp_words.specs.CommandLine.{Given, Line, command_named, commands, form_of, forms}
+use Rattle.rp_words.specs.declared.commands.Command.{Command}
+use Rattle.rp_words.specs.declared.commands.Command.TheVariants.{Pairs}
 use Rattle.rp_words.specs.Commands.{program, program_of}
 use Rattle.rp_words.specs.Forms.{Form}
 use Rattle.rp_words.specs.Shapes.{Fits, HasShape, shape_of, words_of}
@@ -84,7 +86,7 @@ module _ (some : List Form) (form : Form) (own : find (λ x. bytes_eq x.name for
       ap (λ (w : Walk). entered (built (program_of some)) w.stopped) walk_stops ∙ ap (option_map (λ (s : Shape). rows_at s rest)) (command_found form.name form some own)
 
 -- each form is found by its name, and each of its arguments where it is looked for
-commands_orderly : list_all (λ command. is_orderly command.form) commands ≡ true
+commands_orderly : list_all (λ command. is_orderly (form_of command)) commands ≡ true
 commands_orderly = refl
 
 names_swap : (one other : Text) → bytes_eq one other ≡ bytes_eq other one
@@ -96,39 +98,41 @@ names_swap one other = go (bytes_eq one other) (bytes_eq other one) (bytes_eq-De
     go false true d e = d.1 (sym (e.0 refl))
     go false false d e = refl
 
-form_found : (name : Text) (command : Command) (some : List Command) → find (λ c. bytes_eq name c.form.name) some ≡ Some command
-    → find (λ form. bytes_eq form.name name) (map (λ c. c.form) some) ≡ Some command.form
+form_found : (name : Text) (command : Command) (some : List Command) → find (λ c. bytes_eq name (form_of c).name) some ≡ Some command
+    → find (λ form. bytes_eq form.name name) (map form_of some) ≡ Some (form_of command)
 form_found name command [] is = cc
-form_found name command (c ∷ cs) is = rw (names_swap c.form.name name) (go (form_found name command cs) (bytes_eq name c.form.name) is)
+form_found name command (c ∷ cs) is = rw (names_swap (form_of c).name name) (go (form_found name command cs) (bytes_eq name (form_of c).name) is)
   where
-    go : (find (λ c. bytes_eq name c.form.name) cs ≡ Some command → find (λ form. bytes_eq form.name name) (map (λ c. c.form) cs) ≡ Some command.form) → (b : Bool)
-        → cond b (Some c) (find (λ c. bytes_eq name c.form.name) cs) ≡ Some command → cond b (Some c.form) (find (λ form. bytes_eq form.name name) (map (λ c. c.form) cs)) ≡ Some command.form
-    go later true is = ap (option_map (λ (c : Command). c.form)) is
+    go : (find (λ c. bytes_eq name (form_of c).name) cs ≡ Some command → find (λ form. bytes_eq form.name name) (map form_of cs) ≡ Some (form_of command)) → (b : Bool)
+        → cond b (Some c) (find (λ c. bytes_eq name (form_of c).name) cs) ≡ Some command → cond b (Some (form_of c)) (find (λ form. bytes_eq form.name name) (map form_of cs)) ≡ Some (form_of command)
+    go later true is = ap (option_map form_of) is
     go later false is = later is
 
 -- the words of a command denote its line with what is given
-module _ (command : Command) (own : command_named command.form.name ≡ Some command) (given : Given) (fits : Fits command.form given) (name : Text) where
+module _ (command : Command) (own : command_named (form_of command).name ≡ Some command) (given : Given) (fits : Fits (form_of command) given) (name : Text) where
   abbrev words : List Text
-  words = name ∷ command.form.name ∷ words_of given
+  words = name ∷ (form_of command).name ∷ words_of given
 
-  command_denotes : line_of words ≡ Some (command.line given)
+  abbrev form : Form
+  form = form_of command
+
+  command_denotes : line_of words ≡ Some (record { command = command; given = given })
   unfolding line_of
   command_denotes =
-      let o = orderly command.form (all_found (λ c. is_orderly c.form ≡ true) (λ c. bytes_eq command.form.name c.form.name) command commands (every (λ c. is_orderly c.form) commands commands_orderly) own) in
-      let found = form_found command.form.name command commands own in
-      let free : fault_of program words ≡ [] = program_free forms command.form found (words_of given) (words_free command.form o given fits) in
-      let matches : subcommand_of program words ≡ Some (command.form.name, end_rows command.form o given fits) =
-      program_named forms command.form found (words_of given) name ∙ ap (λ (rows : List Row). Some (command.form.name, rows)) (rows_are command.form o given fits) in
-      rw (free, matches, own, given_again command.form o given fits) refl
+      let o = orderly form (all_found (λ c. is_orderly (form_of c) ≡ true) (λ c. bytes_eq form.name (form_of c).name) command commands (every (λ c. is_orderly (form_of c)) commands commands_orderly) own) in
+      let found = form_found form.name command commands own in
+      let free : fault_of program words ≡ [] = program_free forms form found (words_of given) (words_free form o given fits) in
+      let matches : subcommand_of program words ≡ Some (form.name, end_rows form o given fits) =
+      program_named forms form found (words_of given) name ∙ ap (λ (rows : List Row). Some (form.name, rows)) (rows_are form o given fits) in
+      rw (free, matches, own, given_again form o given fits) refl
 
--- each line is that of its command with what is given to it
-line_again : (line : Line) → (command_named (parts_of line).0.form.name ≡ Some (parts_of line).0) × ((parts_of line).0.line (parts_of line).1 ≡ line)
-line_again (Pairs table) = (refl, refl)
-line_again _ = (refl, refl)
+-- each command is the one of its name
+each_own : (command : Command) → command_named (form_of command).name ≡ Some command
+each_own Pairs = refl
+each_own _ = refl
 
 pub shape_taken : (name : List ℕ) (line : Line) → HasShape line → line_of (name ∷ shape_of line) ≡ Some line
-shape_taken name line fits =
-    let again = line_again line in command_denotes (parts_of line).0 again.0 (parts_of line).1 fits name ∙ ap (λ (l : Line). Some l) again.1
+shape_taken name line fits = command_denotes line.command (each_own line.command) line.given fits name
 
 -- the same of words that are those of a shape
 pub shape_given : (given : List (List ℕ)) (line : Line) (name : List ℕ) → HasShape line → given ≡ name ∷ shape_of line → line_of given ≡ Some line

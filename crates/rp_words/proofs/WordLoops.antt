@@ -8,12 +8,12 @@ use Rattle.std.proofs.lemmas.List.Folds.{find-append}
 use Rattle.clap.specs.Walk.{Row, Rule, Text, first_of, one_of}
 use Rattle.clap.specs.Simple.{App, with_subcommand}
 use Rattle.rp_words.specs.Commands.{alone, command_of, program_of, with_rules}
-use Rattle.rp_words.specs.Forms.{Form, Number, units}
+use Rattle.rp_words.specs.Forms.{Form, Number, file_names, units}
 use Rattle.std.proofs.lemmas.Bool.{leb-true}
 use Rattle.std.specs.Str.Parse.{digits_value, without_leading_plus}
 use Rattle.clap.proofs.WalkLemmas.{both}
 use Rattle.clap.specs.ValueTests.{is_numeral, is_unsigned_in}
-use Rattle.rp_words.specs.CommandLine.{Command, Given}
+use Rattle.rp_words.specs.CommandLine.{Given}
 use Rattle.rp_words.specs.Shapes.{AreInRange, AreUnits, HasRanges, IsInRange}
 use Rattle.rp_words.specs.Words.{all_in, given_in, json_of, number_in, number_of}
 
@@ -51,29 +51,6 @@ module _ {A X V : Type 0} (read : X → List Row → Option V) (rows : List Row)
       ap (λ (all : List A). all_in read (map of all) rows) (split_at xs i d within)
       ∙ ap (λ (all : List X). all_in read all rows) (map-append of (take i xs) (get_or xs i d ∷ drop (suc i) xs))
       ∙ one_missing read rows (map of (take i xs)) (of (get_or xs i d)) (map of (drop (suc i) xs)) none
-
--- what is looked for is found, or not yet
-module _ {A X : Type 0} (test : X → Bool) (of : A → X) (xs : List A) (i : ℕ) (d : A) (within : i < length xs) (before : find test (map of (take i xs)) ≡ None) where
-  pub not_yet : test (of (get_or xs i d)) ≡ false → find test (map of (take (i + 1) xs)) ≡ None
-  not_yet other =
-      rw (take_more xs i d within, map-append of (take i xs) (get_or xs i d ∷ []))
-      (find-append test (map of (take i xs)) (of (get_or xs i d) ∷ []) ∙ rw (before, other) refl)
-
-  pub found_at : test (of (get_or xs i d)) ≡ true → find test (map of xs) ≡ Some (of (get_or xs i d))
-  found_at same =
-      ap (λ (all : List A). find test (map of all)) (split_at xs i d within)
-      ∙ ap (find test) (map-append of (take i xs) (get_or xs i d ∷ drop (suc i) xs))
-      ∙ find-append test (map of (take i xs)) (of (get_or xs i d) ∷ map of (drop (suc i) xs))
-      ∙ rw (before, same) refl
-
--- what is found among the values is the value of what is found
-pub found_of : {A X : Type 0} (test : X → Bool) (of : A → X) (xs : List A) → find test (map of xs) ≡ option_map of (find (λ x. test (of x)) xs)
-found_of test of [] = refl
-found_of test of (x ∷ xs) = go (found_of test of xs) (test (of x))
-  where
-    go : find test (map of xs) ≡ option_map of (find (λ y. test (of y)) xs) → (b : Bool) → cond b (Some (of x)) (find test (map of xs)) ≡ option_map of (cond b (Some x) (find (λ y. test (of y)) xs))
-    go later true = refl
-    go later false = later
 
 -- a program so far: with no command it is a leaf
 abbrev is_none : List Form → Bool
@@ -136,7 +113,7 @@ numbers_ranged (number ∷ numbers) rows ns is = go (numbers_ranged numbers rows
         subst (λ (all : List ℕ). AreInRange (number ∷ numbers) all) whole (number_ranged number (one_of number.name rows) m one, later ms rest)
 
 pub given_ranged : (form : Form) (rows : List Row) (given : Given) → given_in form rows ≡ Some given → HasRanges form given
-given_ranged form rows given is = go (all_in first_of form.files rows) (all_in number_of form.numbers rows) refl is
+given_ranged form rows given is = go (all_in first_of (file_names form.files) rows) (all_in number_of form.numbers rows) refl is
   where
     per_ranged : (has : Bool) (per : Option ℕ) → (if has then number_of units rows else None) ≡ per → AreUnits has per
     per_ranged true None is = tt
@@ -156,7 +133,30 @@ given_ranged form rows given is = go (all_in first_of form.files rows) (all_in n
         let same : record { files = files; numbers = numbers; per = if form.per then number_of units rows else None; json = if form.json then json_of rows else false } ≡ given = cc in
         subst (λ (g : Given). HasRanges form g) same (numbers_ranged form.numbers rows numbers read, per_ranged form.per (if form.per then number_of units rows else None) refl)
 
--- so what is given to the command of that form is, if there is one
-pub command_ranged : (found : Option Command) (form : Form) (given : Given) → Some form ≡ option_map (λ command. command.form) found → HasRanges form given → IfSome found (λ command. HasRanges command.form given)
-command_ranged None form given is ranges = tt
-command_ranged (Some command) form given is ranges = let same : form ≡ command.form = cc in subst (λ (f : Form). HasRanges f given) same ranges
+-- and all are there
+all_there : {X V : Type 0} (read : X → List Row → Option V) (xs : List X) (rows : List Row) (vs : List V) → all_in read xs rows ≡ Some vs → length vs ≡ length xs
+all_there read [] rows [] is = refl
+all_there read [] rows (v ∷ vs) is = cc
+all_there read (x ∷ xs) rows vs is = go (all_there read xs rows) (read x rows) (all_in read xs rows) refl is
+  where
+    go : ((ws : List _) → all_in read xs rows ≡ Some ws → length ws ≡ length xs) → (first : Option _) (more : Option (List _)) → all_in read xs rows ≡ more
+        → option_and_then (λ w. option_map (λ ws. w ∷ ws) more) first ≡ Some vs → length vs ≡ suc (length xs)
+    go later None more rest is = cc
+    go later (Some w) None rest is = cc
+    go later (Some w) (Some ws) rest is = let whole : w ∷ ws ≡ vs = cc in ap length (sym whole) ∙ ap suc (later ws rest)
+
+pub given_whole : (form : Form) (rows : List Row) (given : Given) → given_in form rows ≡ Some given → length given.files ≡ length (file_names form.files)
+given_whole form rows given is = go (all_in first_of (file_names form.files) rows) refl (all_in number_of form.numbers rows) is
+  where
+    go : (files : Option (List Text)) → all_in first_of (file_names form.files) rows ≡ files → (numbers : Option (List ℕ))
+        → option_and_then (λ files. option_map (λ numbers. record {
+          files = files;
+          numbers = numbers;
+          per = if form.per then number_of units rows else None;
+          json = if form.json then json_of rows else false;
+        }) numbers) files ≡ Some given → length given.files ≡ length (file_names form.files)
+    go None read numbers is = cc
+    go (Some files) read None is = cc
+    go (Some files) read (Some numbers) is =
+        let same : record { files = files; numbers = numbers; per = if form.per then number_of units rows else None; json = if form.json then json_of rows else false } ≡ given = cc in
+        subst (λ (g : Given). length g.files ≡ length (file_names form.files)) same (all_there first_of (file_names form.files) rows files read)

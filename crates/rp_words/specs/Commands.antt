@@ -6,7 +6,7 @@ use Rattle.clap.specs.Walk.{Rule, Text}
 use Rattle.clap.specs.declared.builder.action.ArgAction.TheVariants.{SetTrue}
 use Rattle.clap.specs.declared.builder.value_parser.ValueParser.TheVariants.{NonEmptyString, Unsigned}
 use Rattle.rp_words.specs.CommandLine.{forms}
-use Rattle.rp_words.specs.Forms.{Form, Number, units}
+use Rattle.rp_words.specs.Forms.{Form, Number, file_names, units}
 
 -- the name of a file, which has to be there and is not empty
 abbrev pub file_rule : Text → Rule
@@ -31,7 +31,7 @@ where_asked asked rule = if asked then rule ∷ [] else []
 -- the arguments of a command, in the order of the words
 abbrev pub rules_of : Form → List Rule
 rules_of form =
-    map file_rule form.files ++ (map number_rule form.numbers ++ (where_asked form.per per_rule ++ where_asked form.json json_rule))
+    map file_rule (file_names form.files) ++ (map number_rule form.numbers ++ (where_asked form.per per_rule ++ where_asked form.json json_rule))
 
 -- a command with its arguments
 abbrev pub command_shape : Text → List Rule → Shape

@@ -1,7 +1,9 @@
--- That the numbers of a line are in range. Only proofs need these words: the numbers that words denote have them.
-use Rattle.std.specs.Prelude.{◌≤◌, ℕ, Option, IfSome}
-use Rattle.rp_words.specs.CommandLine.{Line, Random, CheckRandom, Trial}
-use Rattle.rp_words.specs.Forms.{goods, rows, units}
+-- That a line has the files of its command, and its numbers are in range. Only proofs need these words: the lines that words denote
+-- have them.
+use Rattle.std.specs.Prelude.{◌≡◌, ◌≤◌, ℕ, Option, IfSome, length}
+use Rattle.rp_words.specs.CommandLine.{Line, file_set, files_of, form_of}
+use Rattle.rp_words.specs.Forms.{file_names, goods, rows, units}
+use Rattle.rp_words.specs.Shapes.{HasRanges, IsInRange}
 
 -- so many observations and goods make a table
 pub record IsTrialSize (count kinds : ℕ) : Type 0 where
@@ -12,10 +14,8 @@ pub record IsTrialSize (count kinds : ℕ) : Type 0 where
 
 -- a unit that is asked for is in range
 abbrev pub IsUnit : Option ℕ → Type 0
-IsUnit per = IfSome per (λ n. (units.least ≤ n) × (n ≤ units.most))
+IsUnit per = IfSome per (IsInRange units)
 
-abbrev pub IsSized : Line → Type 0
-IsSized (Random budgets choices per json) = IsUnit per
-IsSized (CheckRandom budgets choices certificate per) = IsUnit per
-IsSized (Trial seed rows goods) = IsTrialSize rows goods
-IsSized _ = Unit {0}
+pub record IsSized (line : Line) : Type 0 where
+  pub files : length (files_of line) ≡ length (file_names (file_set line))
+  pub ranges : HasRanges (form_of line.command) line.given

@@ -3,8 +3,8 @@
 use Rattle.std.specs.Prelude.{◌≡◌, ◌==◌, ◌≤◌, ℕ, Bool, true, false, not, List, [], ◌∷◌, ◌++◌, Option, Some, None, IfSome, codes, map, if◌then◌else◌}
 use Rattle.std.specs.Fmt.{decimal}
 use Rattle.clap.specs.Walk.{Text}
-use Rattle.rp_words.specs.CommandLine.{Given, Line, parts_of}
-use Rattle.rp_words.specs.Forms.{Form, Number, units}
+use Rattle.rp_words.specs.CommandLine.{Given, Line, form_of}
+use Rattle.rp_words.specs.Forms.{Form, Number, file_names, units}
 
 -- a word that names a file: it is not empty and begins with no minus sign
 abbrev pub is_file_name : List ℕ → Bool
@@ -26,7 +26,7 @@ words_of given = given.files ++ (map decimal given.numbers ++ (per_words given.p
 
 -- the words of a line after the program's name
 abbrev pub shape_of : Line → List (List ℕ)
-shape_of line = (parts_of line).0.form.name ∷ words_of (parts_of line).1
+shape_of line = (form_of line.command).name ∷ words_of line.given
 
 -- a name for each file
 abbrev pub AreNamed : List Text → List Text → Type 0
@@ -59,8 +59,8 @@ HasRanges form given = AreInRange form.numbers given.numbers × AreUnits form.pe
 
 -- what is given fits the form
 abbrev pub Fits : Form → Given → Type 0
-Fits form given = AreNamed form.files given.files × HasRanges form given × MayAsk form.json given.json
+Fits form given = AreNamed (file_names form.files) given.files × HasRanges form given × MayAsk form.json given.json
 
 -- its files have names and its numbers are in range
 abbrev pub HasShape : Line → Type 0
-HasShape line = Fits (parts_of line).0.form (parts_of line).1
+HasShape line = Fits (form_of line.command) line.given

@@ -2,7 +2,7 @@
 use Rattle.std.specs.Prelude.{ℕ, List, [], ◌∷◌, ◌++◌, codes, map, if◌then◌else◌}
 use Rattle.clap.specs.Walk.{Text}
 use Rattle.rp_words.specs.CommandLine.{forms}
-use Rattle.rp_words.specs.Forms.{Form}
+use Rattle.rp_words.specs.Forms.{Form, file_names}
 
 -- words, each after a blank
 abbrev pub spaced : List Text → List ℕ
@@ -12,7 +12,7 @@ spaced (word ∷ words) = 32 ∷ word ++ spaced words
 -- how a command is called
 abbrev pub call_text : Form → List ℕ
 call_text form =
-    codes "rp " ++ form.name ++ spaced form.files ++ spaced (map (λ number. number.name) form.numbers)
+    codes "rp " ++ form.name ++ spaced (file_names form.files) ++ spaced (map (λ number. number.name) form.numbers)
     ++ (if form.per then codes " [--per N]" else []) ++ (if form.json then codes " [--json]" else [])
 
 -- the lines of the calls, where the first begins so, and each further one with as many blanks

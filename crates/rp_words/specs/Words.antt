@@ -9,9 +9,9 @@ use Rattle.clap.specs.Faults.{fault_of}
 use Rattle.clap.specs.Simple.{subcommand_of}
 use Rattle.clap.specs.ValueTests.{is_unsigned_in}
 use Rattle.clap.specs.Walk.{Row, Text, first_of, is_empty, one_of}
-use Rattle.rp_words.specs.CommandLine.{Given, Line, command_named}
+use Rattle.rp_words.specs.CommandLine.{Given, Line, command_named, form_of}
 use Rattle.rp_words.specs.Commands.{program}
-use Rattle.rp_words.specs.Forms.{Form, Number, units}
+use Rattle.rp_words.specs.Forms.{Form, Number, file_names, units}
 
 -- a number in its range, in decimal digits
 abbrev pub number_in : Number → Text → Option ℕ
@@ -37,11 +37,13 @@ given_in form matches =
       numbers = numbers;
       per = if form.per then number_of units matches else None;
       json = if form.json then json_of matches else false;
-    }) (all_in number_of form.numbers matches)) (all_in first_of form.files matches)
+    }) (all_in number_of form.numbers matches)) (all_in first_of (file_names form.files) matches)
 
 -- the line of the command of that name, by its matches
 abbrev pub command_line : Text → List Row → Option Line
-command_line name matches = option_and_then (λ command. option_map command.line (given_in command.form matches)) (command_named name)
+command_line name matches =
+    option_and_then (λ command. option_map (λ given. record { command = command; given = given }) (given_in (form_of command) matches))
+    (command_named name)
 
 abbrev pub line_named : Option (Text × List Row) → Option Line
 line_named matches = option_and_then (λ m. command_line m.0 m.1) matches

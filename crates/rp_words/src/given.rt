@@ -7,23 +7,25 @@ ghost use Rattle.rp_words.specs.Named.{named_form, named_given, named_number};
 ghost use Rattle.rp_words.specs.Shapes.{HasRanges};
 ghost use Rattle.rp_words.specs.Words.{all_in, given_in, json_of, number_of};
 
-use crate::forms::{Form, Number, UNITS};
+use crate::form::{Form, Number, UNITS};
 use clap::ArgMatches;
 use rp_num::NoMemory;
 use std::alloc::Global;
 
 /// What is given to a command: its files and its numbers in the order of the words, and its options.
 #[derive(Drop)]
-pub(crate) struct Given<'a> {
-    pub(crate) files: Vec<&'a str>,
-    pub(crate) numbers: Vec<u64>,
-    pub(crate) per: Option<u32>,
-    pub(crate) json: bool,
+pub struct Given<'a> {
+    pub files: Vec<&'a str>,
+    pub numbers: Vec<u64>,
+    /// How many units there are to be on each budget.
+    pub per: Option<u32>,
+    /// Whether the answer is to be JSON.
+    pub json: bool,
 }
 
 impl<'a> Given<'a> {
     /// The k-th file, or an empty name.
-    pub(crate) fn file(&self, k: usize) -> &'a str
+    pub fn file(&self, k: usize) -> &'a str
         ensures { result.now ≡ file (named_given self.now) k }
     {
         match self.files.get(k) {
@@ -33,7 +35,7 @@ impl<'a> Given<'a> {
     }
 
     /// The k-th number, or 0.
-    pub(crate) fn number(&self, k: usize) -> u64
+    pub fn number(&self, k: usize) -> u64
         ensures { result ≡ number (named_given self.now) k }
     {
         match self.numbers.get(k) {
@@ -52,7 +54,7 @@ pub(crate) fn given_in<'a>(
     ensures { IfOk result (λ given. option_map named_given given
         ≡ given_in (named_form form.now) (rows_of (found_of matches.now))) }
 {
-    let Some(files) = files_in(alloc, form.files, matches)? else {
+    let Some(files) = files_in(alloc, form.files.names(), matches)? else {
         return Ok(None);
     };
     let Some(numbers) = numbers_in(alloc, form.numbers, matches)? else {

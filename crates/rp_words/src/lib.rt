@@ -1,9 +1,13 @@
 //! The command line: which words are taken, and the command with its files and numbers that they name.
 #![tactic(auto)]
 
-mod command;
-mod forms;
+mod commands;
+mod form;
 mod given;
 mod line;
+mod parser;
 
-pub use line::{Line, read_line, usage};
+pub use commands::{Command, usage};
+pub use form::FileSet;
+pub use given::Given;
+pub use line::{Line, read_line};

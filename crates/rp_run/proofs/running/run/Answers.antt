@@ -4,7 +4,7 @@ use Rattle.rp_words.specs.Named.{named_line}
 use Rattle.rp_run.specs.Turns.{AreReadInTurn, AsksForFirst}
 use Rattle.rp_run.proofs.TurnLemmas.{unread}
 use Rattle.rp_words.proofs.MatchesNameALine.{refused_where_no_line}
-use Rattle.rp_run.proofs.RunLemmas.{cause_of_accepted, done_line_apart, line_rejected, not_both, rejected_line_apart}
+use Rattle.rp_run.proofs.RunLemmas.{cause_of_accepted, cause_of_calm, done_line_apart, line_rejected, not_both, rejected_line_apart}
 use Rattle.rp_words.proofs.ShapeLemmas.{shape_given}
 use Rattle.rp_run.proofs.running.run.Goals as goal
 
@@ -22,22 +22,11 @@ returns-in_default-asked-clause-refused_by_clap g c = λ _.
 pub returns-in-Ok-answer_line-clause-shapes : goal.returns-in-Ok-answer_line-clause-shapes
 returns-in-Ok-answer_line-clause-shapes g c = λ line name has is. shape_given (map string_bytes c.args.words.now.items) line name has is
 
-pub returns-in-Err-clause-shapes : goal.returns-in-Err-clause-shapes
-returns-in-Err-clause-shapes g c = λ line name has is. shape_given (map string_bytes c.args.words.now.items) line name has is
-
 pub returns-in-Ok-answer_line-clause-refused : goal.returns-in-Ok-answer_line-clause-refused
 returns-in-Ok-answer_line-clause-refused g c = λ line is refused calm.
     let answer = c.in-Ok-answer_line in
     let asked : line_in c.args.words.now.items ≡ Some (named_line c.in-Some.line) = rw (c.in-Some.is, c.as_slice.ensures.value) at (sym c.in-Ok.ensures.exact) in
     elim (not_both (g.D.Desk.bytes c.args.desk.now) (line_in c.args.words.now.items) (named_line c.in-Some.line) line answer.answer.status answer.answer.text.items asked is answer.ensures.answered refused) [ ]
-
-pub returns-in-Err-clause-complete : goal.returns-in-Err-clause-complete
-returns-in-Err-clause-complete g c = λ line is accepted calm _.
-    let asked : line_in c.args.words.now.items ≡ Some (named_line c.in-Some.line) = rw (c.in-Some.is, c.as_slice.ensures.value) at (sym c.in-Ok.ensures.exact) in
-    let before = g.D.Desk.faults c.args.desk.now in
-    let after = g.D.Desk.faults c.answer_line.new.desk in
-    let asks = AsksForFirst (g.D.Desk.bytes c.args.desk.now) (g.D.Desk.calls c.args.desk.now) (g.D.Desk.calls c.answer_line.new.desk) in
-    inr (rw c.refuse-in-Err.ensures.status (cause_of_accepted (g.D.Desk.bytes c.args.desk.now) before after asks (line_in c.args.words.now.items) (named_line c.in-Some.line) line c.in-Err.cause asked is accepted calm c.in-Err.ensures.caused))
 
 pub returns-in-Ok-answer_line-clause-rejected : goal.returns-in-Ok-answer_line-clause-rejected
 returns-in-Ok-answer_line-clause-rejected g c = λ rejected.
@@ -78,8 +67,27 @@ returns-in-Ok-answer_line-clause-in_turn g c = λ line is.
     let same : named_line c.in-Some.line ≡ line = cc in
     subst (λ l. AreReadInTurn (g.D.Desk.bytes c.args.desk.now) (g.D.Desk.calls c.args.desk.now) (g.D.Desk.calls c.answer_line.new.desk) l) same c.in-Ok-answer_line.ensures.in_turn
 
-pub returns-in-Err-clause-in_turn : goal.returns-in-Err-clause-in_turn
-returns-in-Err-clause-in_turn g c = λ line is.
+pub returns-clause-shapes : goal.returns-clause-shapes
+returns-clause-shapes g c = λ line name has is. shape_given (map string_bytes c.args.words.now.items) line name has is
+
+pub returns-clause-complete : goal.returns-clause-complete
+returns-clause-complete g c = λ line is accepted calm _.
+    let asked : line_in c.args.words.now.items ≡ Some (named_line c.in-Some.line) = rw (c.in-Some.is, c.as_slice.ensures.value) at (sym c.in-Ok.ensures.exact) in
+    let before = g.D.Desk.faults c.args.desk.now in
+    let after = g.D.Desk.faults c.answer_line.new.desk in
+    let asks = AsksForFirst (g.D.Desk.bytes c.args.desk.now) (g.D.Desk.calls c.args.desk.now) (g.D.Desk.calls c.answer_line.new.desk) in
+    inr (rw c.refuse-in-Err.ensures.status (cause_of_accepted (g.D.Desk.bytes c.args.desk.now) before after asks (line_in c.args.words.now.items) (named_line c.in-Some.line) line c.in-Err.cause asked is accepted calm c.in-Err.ensures.caused))
+
+pub returns-clause-refused : goal.returns-clause-refused
+returns-clause-refused g c = λ line is _ calm.
+    let asked : line_in c.args.words.now.items ≡ Some (named_line c.in-Some.line) = rw (c.in-Some.is, c.as_slice.ensures.value) at (sym c.in-Ok.ensures.exact) in
+    let before = g.D.Desk.faults c.args.desk.now in
+    let after = g.D.Desk.faults c.answer_line.new.desk in
+    let asks = AsksForFirst (g.D.Desk.bytes c.args.desk.now) (g.D.Desk.calls c.args.desk.now) (g.D.Desk.calls c.answer_line.new.desk) in
+    rw c.refuse-in-Err.ensures.status (cause_of_calm (g.D.Desk.bytes c.args.desk.now) before after asks (line_in c.args.words.now.items) (named_line c.in-Some.line) line c.in-Err.cause asked is calm c.in-Err.ensures.caused)
+
+pub returns-clause-in_turn : goal.returns-clause-in_turn
+returns-clause-in_turn g c = λ line is.
     let asked : line_in c.args.words.now.items ≡ Some (named_line c.in-Some.line) = rw (c.in-Some.is, c.as_slice.ensures.value) at (sym c.in-Ok.ensures.exact) in
     let same : named_line c.in-Some.line ≡ line = cc in
     subst (λ l. AreReadInTurn (g.D.Desk.bytes c.args.desk.now) (g.D.Desk.calls c.args.desk.now) (g.D.Desk.calls c.answer_line.new.desk) l) same c.in-Err.ensures.in_turn

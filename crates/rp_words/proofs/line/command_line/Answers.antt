@@ -1,15 +1,18 @@
 use Rattle.std.proofs.Common.{◌≡◌, ◌∙◌, Some, ap, sym}
 use Rattle.std.specs.Option.{option_map}
 use Rattle.clap.specs.Words.{found_of, rows_of}
-use Rattle.rp_words.specs.CommandLine.{command_named}
-use Rattle.rp_words.specs.Named.{named_form, named_given}
+use Rattle.rp_words.specs.CommandLine.{form_of}
+use Rattle.rp_words.specs.Forms.{Form}
+use Rattle.rp_words.specs.Named.{named_given}
 use Rattle.rp_words.specs.Words.{given_in}
-use Rattle.rp_words.proofs.WordLoops.{command_ranged, given_ranged}
+use Rattle.rp_words.proofs.WordLoops.{given_ranged, given_whole}
 use Rattle.rp_words.proofs.line.command_line.Goals as goal
 
-pub line_with-requires : goal.line_with-requires
-line_with-requires c =
-    let form = named_form c.in-Some.form in
+pub returns-clause-sized : goal.returns-clause-sized
+returns-clause-sized c =
+    let form = form_of c.in-Some.command in
+    let rows = rows_of (found_of c.args.matches.now) in
     let given = named_given c.in-Some-2.given in
-    let read : given_in form (rows_of (found_of c.args.matches.now)) ≡ Some given = sym c.in_ok-given.ensures ∙ ap (option_map named_given) c.in-Some-2.is in
-    command_ranged (command_named c.args.name.now) form given c.in-Some.ensures (given_ranged form (rows_of (found_of c.args.matches.now)) given read)
+    let read : given_in form rows ≡ Some given =
+    ap (λ (f : Form). given_in f rows) (sym c.form.ensures) ∙ sym c.in_ok-given.ensures ∙ ap (option_map named_given) c.in-Some-2.is in
+    record { files = given_whole form rows given read; ranges = given_ranged form rows given read }

@@ -1,8 +1,10 @@
-use Rattle.std.proofs.Common.{◌≡◌, None, map, string_bytes, subst, sym, ◌∙◌}
+use Rattle.std.proofs.Common.{◌≡◌, None, map, string_bytes, subst, sym, ◌∙◌, ap}
 use Rattle.std.specs.Option.{option_map}
 use Rattle.std.specs.Prelude.{IfOk}
 use Rattle.clap.specs.Simple.{app_of}
+use Rattle.clap.specs.Values.{kind_of}
 use Rattle.clap.specs.Words.{subcommand_rows_of}
+use Rattle.clap.specs.declared.error.kind.ErrorKind.TheVariants.{OutOfMemory}
 use Rattle.rp_words.specs.Named.{named_line}
 use Rattle.rp_words.specs.Words.{line_named, line_of}
 use Rattle.rp_words.proofs.MatchesNameALine.{refused_where_no_line}
@@ -13,8 +15,8 @@ use Rattle.rp_words.proofs.line.read_line.Goals as goal
 pub returns-in_err-program-clause-shapes : goal.returns-in_err-program-clause-shapes
 returns-in_err-program-clause-shapes c = shape_given (map string_bytes c.args.words.now)
 
-pub returns-in-OutOfMemory-clause-shapes : goal.returns-in-OutOfMemory-clause-shapes
-returns-in-OutOfMemory-clause-shapes c = shape_given (map string_bytes c.args.words.now)
+pub returns-in-Err-clause-shapes : goal.returns-in-Err-clause-shapes
+returns-in-Err-clause-shapes c = shape_given (map string_bytes c.args.words.now)
 
 pub returns-in-Ok-clause-shapes : goal.returns-in-Ok-clause-shapes
 returns-in-Ok-clause-shapes c = shape_given (map string_bytes c.args.words.now)
@@ -33,12 +35,15 @@ returns-in-Ok-clause-refused_by_clap c = λ is.
     let none : None ≡ line_of words = subst (λ r. IfOk r (λ line. option_map named_line line ≡ line_of words)) is (returns-in-Ok-clause-exact c) in
     refused_where_no_line words (sym none)
 
-pub returns : goal.returns
-returns c =
-    let none = words_refused (app_of c.in_ok-program.program) (map string_bytes c.args.words.now) c.in-Err.error c.in_ok-program.ensures c.in-Err.ensures.kinds (λ memory. c.in_default.not-OutOfMemory (c.kind.ensures ∙ memory)) in
-    record {
-      exact = sym none;
-      sized = tt;
-      refused_by_clap = λ is. refused_where_no_line (map string_bytes c.args.words.now) none;
-      shapes = shape_given (map string_bytes c.args.words.now);
-    }
+pub returns-in-Err-clause-exact : goal.returns-in-Err-clause-exact
+returns-in-Err-clause-exact c =
+    let words = map string_bytes c.args.words.now in
+    ok_then (λ line. (line ≡ None) × (kind_of c.in-Err.error ≡ OutOfMemory → ⊥)) (λ line. option_map named_line line ≡ line_of words)
+    (λ line none. ap (option_map named_line) none.0 ∙ sym (words_refused (app_of c.in_ok-program.program) words c.in-Err.error c.in_ok-program.ensures c.in-Err.ensures.kinds none.1))
+    c.no_line.result c.no_line.ensures.none
+
+pub returns-in-Err-clause-refused_by_clap : goal.returns-in-Err-clause-refused_by_clap
+returns-in-Err-clause-refused_by_clap c = λ is.
+    let words = map string_bytes c.args.words.now in
+    let none : None ≡ line_of words = subst (λ r. IfOk r (λ line. option_map named_line line ≡ line_of words)) is (returns-in-Err-clause-exact c) in
+    refused_where_no_line words (sym none)

@@ -1,0 +1,334 @@
+//! What the files of a line hold.
+ghost use Rattle.std.specs.Prelude.{◌≡◌, ◌≤◌, ℕ, List, IfOk, IfErr};
+ghost use Rattle.rp_answers.specs.Demands.{IsSpentOn};
+ghost use Rattle.rp_answers.specs.Typed.{AreTyped, typed};
+ghost use Rattle.rp_evidence.specs.Kinds.{IsCertificateOf};
+ghost use Rattle.rp_evidence.specs.declared.certificate.Kind.TheVariants.{Table as TableKind, Random as RandomKind};
+ghost use Rattle.rp_table.specs.Tables.{goods_of};
+ghost use Rattle.rp_words.specs.CommandLine.{file_set};
+ghost use Rattle.rp_words.specs.Named.{named_line};
+ghost use Rattle.rp_words.specs.Ranges.{IsSized};
+ghost use Rattle.rp_words.specs.declared.form.FileSet.TheVariants as files;
+ghost use Rattle.rp_run.specs.Answers.{HasContents};
+ghost use Rattle.rp_run.specs.Causes.{IsCause};
+ghost use Rattle.rp_run.specs.Endings.{Rose};
+ghost use Rattle.rp_run.specs.Matching.{AreOf};
+ghost use Rattle.rp_run.specs.Turns.{AreReadInTurn, AsksForFirst};
+ghost use Rattle.rp_run.specs.declared.contents.Contents.TheVariants as contents;
+ghost use Rattle.rp_types.specs.declared.types.Rational.{Rational as TypeOf};
+
+use crate::files::{
+    Cause, load_budgets, load_bundles, load_certificate, load_choices, load_prices,
+    load_prices_with_expenditure, load_table,
+};
+use crate::patches::patches_of;
+use rp_evidence::{Certificate, Kind};
+use rp_num::Seq;
+use rp_outside::Desk;
+use rp_patch::Patches;
+use rp_table::{Bundles, Prices, Table};
+use rp_types::Rational;
+use rp_words::{FileSet, Line};
+use std::alloc::Global;
+
+/// What the files of a line hold, by the set of files of its command.
+#[derive(Drop)]
+pub enum Contents {
+    Nothing,
+    Table(Table),
+    TableAndCertificate(Table, Certificate),
+    TableAndPricesWithExpenditure(Table, Prices),
+    TableAndPrices(Table, Prices),
+    TableAndBundles(Table, Bundles),
+    /// The patches of choices from budgets, with their rational types.
+    Choices(Patches, Seq<Rational>),
+    /// The same, with a certificate.
+    ChoicesAndCertificate(Patches, Seq<Rational>, Certificate),
+}
+
+impl Contents {
+    /// The table.
+    pub(crate) fn table(&self) -> &Table
+        requires { AreOf files.Table self.now }
+        ensures { self.now ≡ contents.Table result.now }
+    {
+        match self {
+            Contents::Table(table) => table,
+            _ => unreachable!(),
+        }
+    }
+
+    /// The table, and the certificate on it.
+    pub(crate) fn table_and_certificate(&self) -> (&Table, &Certificate)
+        requires { AreOf files.TableAndCertificate self.now }
+        ensures held { self.now ≡ contents.TableAndCertificate result.0.now result.1.now }
+        ensures kind { IsCertificateOf TableKind result.1.now }
+    {
+        match self {
+            Contents::TableAndCertificate(table, certificate) => (table, certificate),
+            _ => unreachable!(),
+        }
+    }
+
+    /// The table, and the new prices with their expenditures.
+    pub(crate) fn table_and_prices_with_expenditure(&self) -> (&Table, &Prices)
+        requires { AreOf files.TableAndPricesWithExpenditure self.now }
+        ensures held { self.now ≡ contents.TableAndPricesWithExpenditure result.0.now result.1.now }
+        ensures spent { IsSpentOn result.0.now result.1.now }
+    {
+        match self {
+            Contents::TableAndPricesWithExpenditure(table, new) => (table, new),
+            _ => unreachable!(),
+        }
+    }
+
+    /// The table, and the new prices.
+    pub(crate) fn table_and_prices(&self) -> (&Table, &Prices)
+        requires { AreOf files.TableAndPrices self.now }
+        ensures held { self.now ≡ contents.TableAndPrices result.0.now result.1.now }
+        ensures goods { result.1.now.goods ≡ goods_of result.0.now }
+    {
+        match self {
+            Contents::TableAndPrices(table, new) => (table, new),
+            _ => unreachable!(),
+        }
+    }
+
+    /// The table, and the bundles.
+    pub(crate) fn table_and_bundles(&self) -> (&Table, &Bundles)
+        requires { AreOf files.TableAndBundles self.now }
+        ensures held { self.now ≡ contents.TableAndBundles result.0.now result.1.now }
+        ensures goods { result.1.now.goods ≡ goods_of result.0.now }
+    {
+        match self {
+            Contents::TableAndBundles(table, bundles) => (table, bundles),
+            _ => unreachable!(),
+        }
+    }
+
+    /// The patches of choices, and their rational types.
+    pub(crate) fn choices(&self) -> (&Patches, &Seq<Rational>)
+        requires { AreOf files.Choices self.now }
+        ensures held { self.now ≡ contents.Choices result.0.now result.1.now }
+        ensures all { AreTyped (typed result.0.now result.1.now) }
+    {
+        match self {
+            Contents::Choices(patches, types) => (patches, types),
+            _ => unreachable!(),
+        }
+    }
+
+    /// The patches of choices, and the certificate on them.
+    pub(crate) fn choices_and_certificate(&self) -> (&Patches, &Certificate)
+        requires { AreOf files.ChoicesAndCertificate self.now }
+        ensures held { (types : List TypeOf) × (self.now ≡ contents.ChoicesAndCertificate result.0.now types result.1.now) }
+        ensures kind { IsCertificateOf RandomKind result.1.now }
+    {
+        match self {
+            Contents::ChoicesAndCertificate(patches, _, certificate) => (patches, certificate),
+            _ => unreachable!(),
+        }
+    }
+}
+
+/// What the files of a line hold. They are read in the order of the words, each whole before the next.
+pub(crate) fn read_contents<'a, D: Desk>(
+    alloc: Global,
+    desk: &mut D,
+    line: &Line<'a>,
+) -> Result<Contents, Cause<'a>>
+    requires sized { IsSized (named_line line.now) }
+    ensures read { IfOk result (HasContents (D.bytes desk.old) (named_line line.now)) }
+    ensures matching { IfOk result (AreOf (file_set (named_line line.now))) }
+    ensures caused { IfErr result
+        (IsCause (D.bytes desk.old) (Rose (D.faults desk.old) (D.faults desk.new))
+        (AsksForFirst (D.bytes desk.old) (D.calls desk.old) (D.calls desk.new))
+        (named_line line.now)) }
+    ensures in_turn { AreReadInTurn (D.bytes desk.old)
+        (D.calls desk.old) (D.calls desk.new) (named_line line.now) }
+    ensures bytes_stay { (other : List ℕ) → D.bytes desk.new other ≡ D.bytes desk.old other }
+    ensures never_falls { (other : List ℕ) → D.faults desk.old other ≤ D.faults desk.new other }
+{
+    match line.command.files() {
+        FileSet::Nothing => Ok(Contents::Nothing),
+        FileSet::Table => load_table_alone(alloc, desk, line),
+        FileSet::TableAndCertificate => load_table_certificate(alloc, desk, line),
+        FileSet::TableAndPricesWithExpenditure => {
+            load_table_prices_with_expenditure(alloc, desk, line)
+        }
+        FileSet::TableAndPrices => load_table_prices(alloc, desk, line),
+        FileSet::TableAndBundles => load_table_bundles(alloc, desk, line),
+        FileSet::Choices => load_patches(alloc, desk, line),
+        FileSet::ChoicesAndCertificate => load_patches_certificate(alloc, desk, line),
+    }
+}
+
+/// The table in one file.
+fn load_table_alone<'a, D: Desk>(
+    alloc: Global,
+    desk: &mut D,
+    line: &Line<'a>,
+) -> Result<Contents, Cause<'a>>
+    requires sized { IsSized (named_line line.now) }
+    requires files { file_set (named_line line.now) ≡ files.Table }
+    ensures read { IfOk result (HasContents (D.bytes desk.old) (named_line line.now)) }
+    ensures matching { IfOk result (AreOf (file_set (named_line line.now))) }
+    ensures caused { IfErr result
+        (IsCause (D.bytes desk.old) (Rose (D.faults desk.old) (D.faults desk.new))
+        (AsksForFirst (D.bytes desk.old) (D.calls desk.old) (D.calls desk.new))
+        (named_line line.now)) }
+    ensures in_turn { AreReadInTurn (D.bytes desk.old)
+        (D.calls desk.old) (D.calls desk.new) (named_line line.now) }
+    ensures bytes_stay { (other : List ℕ) → D.bytes desk.new other ≡ D.bytes desk.old other }
+    ensures never_falls { (other : List ℕ) → D.faults desk.old other ≤ D.faults desk.new other }
+{
+    let table = load_table(alloc, desk, line.given.file(0))?;
+    Ok(Contents::Table(table))
+}
+
+/// The table in one file, and a certificate on a table in another.
+fn load_table_certificate<'a, D: Desk>(
+    alloc: Global,
+    desk: &mut D,
+    line: &Line<'a>,
+) -> Result<Contents, Cause<'a>>
+    requires sized { IsSized (named_line line.now) }
+    requires files { file_set (named_line line.now) ≡ files.TableAndCertificate }
+    ensures read { IfOk result (HasContents (D.bytes desk.old) (named_line line.now)) }
+    ensures matching { IfOk result (AreOf (file_set (named_line line.now))) }
+    ensures caused { IfErr result
+        (IsCause (D.bytes desk.old) (Rose (D.faults desk.old) (D.faults desk.new))
+        (AsksForFirst (D.bytes desk.old) (D.calls desk.old) (D.calls desk.new))
+        (named_line line.now)) }
+    ensures in_turn { AreReadInTurn (D.bytes desk.old)
+        (D.calls desk.old) (D.calls desk.new) (named_line line.now) }
+    ensures bytes_stay { (other : List ℕ) → D.bytes desk.new other ≡ D.bytes desk.old other }
+    ensures never_falls { (other : List ℕ) → D.faults desk.old other ≤ D.faults desk.new other }
+{
+    let table = load_table(alloc, desk, line.given.file(0))?;
+    let certificate = load_certificate(alloc, desk, line.given.file(1), Kind::Table)?;
+    Ok(Contents::TableAndCertificate(table, certificate))
+}
+
+/// The table in one file, and the new budgets beside it in another.
+fn load_table_prices_with_expenditure<'a, D: Desk>(
+    alloc: Global,
+    desk: &mut D,
+    line: &Line<'a>,
+) -> Result<Contents, Cause<'a>>
+    requires sized { IsSized (named_line line.now) }
+    requires files { file_set (named_line line.now) ≡ files.TableAndPricesWithExpenditure }
+    ensures read { IfOk result (HasContents (D.bytes desk.old) (named_line line.now)) }
+    ensures matching { IfOk result (AreOf (file_set (named_line line.now))) }
+    ensures caused { IfErr result
+        (IsCause (D.bytes desk.old) (Rose (D.faults desk.old) (D.faults desk.new))
+        (AsksForFirst (D.bytes desk.old) (D.calls desk.old) (D.calls desk.new))
+        (named_line line.now)) }
+    ensures in_turn { AreReadInTurn (D.bytes desk.old)
+        (D.calls desk.old) (D.calls desk.new) (named_line line.now) }
+    ensures bytes_stay { (other : List ℕ) → D.bytes desk.new other ≡ D.bytes desk.old other }
+    ensures never_falls { (other : List ℕ) → D.faults desk.old other ≤ D.faults desk.new other }
+{
+    let table = load_table(alloc, desk, line.given.file(0))?;
+    let new = load_prices_with_expenditure(alloc, desk, line.given.file(1), &table)?;
+    Ok(Contents::TableAndPricesWithExpenditure(table, new))
+}
+
+/// The table in one file, and the new prices beside it in another.
+fn load_table_prices<'a, D: Desk>(
+    alloc: Global,
+    desk: &mut D,
+    line: &Line<'a>,
+) -> Result<Contents, Cause<'a>>
+    requires sized { IsSized (named_line line.now) }
+    requires files { file_set (named_line line.now) ≡ files.TableAndPrices }
+    ensures read { IfOk result (HasContents (D.bytes desk.old) (named_line line.now)) }
+    ensures matching { IfOk result (AreOf (file_set (named_line line.now))) }
+    ensures caused { IfErr result
+        (IsCause (D.bytes desk.old) (Rose (D.faults desk.old) (D.faults desk.new))
+        (AsksForFirst (D.bytes desk.old) (D.calls desk.old) (D.calls desk.new))
+        (named_line line.now)) }
+    ensures in_turn { AreReadInTurn (D.bytes desk.old)
+        (D.calls desk.old) (D.calls desk.new) (named_line line.now) }
+    ensures bytes_stay { (other : List ℕ) → D.bytes desk.new other ≡ D.bytes desk.old other }
+    ensures never_falls { (other : List ℕ) → D.faults desk.old other ≤ D.faults desk.new other }
+{
+    let table = load_table(alloc, desk, line.given.file(0))?;
+    let new = load_prices(alloc, desk, line.given.file(1), &table)?;
+    Ok(Contents::TableAndPrices(table, new))
+}
+
+/// The table in one file, and the bundles beside it in another.
+fn load_table_bundles<'a, D: Desk>(
+    alloc: Global,
+    desk: &mut D,
+    line: &Line<'a>,
+) -> Result<Contents, Cause<'a>>
+    requires sized { IsSized (named_line line.now) }
+    requires files { file_set (named_line line.now) ≡ files.TableAndBundles }
+    ensures read { IfOk result (HasContents (D.bytes desk.old) (named_line line.now)) }
+    ensures matching { IfOk result (AreOf (file_set (named_line line.now))) }
+    ensures caused { IfErr result
+        (IsCause (D.bytes desk.old) (Rose (D.faults desk.old) (D.faults desk.new))
+        (AsksForFirst (D.bytes desk.old) (D.calls desk.old) (D.calls desk.new))
+        (named_line line.now)) }
+    ensures in_turn { AreReadInTurn (D.bytes desk.old)
+        (D.calls desk.old) (D.calls desk.new) (named_line line.now) }
+    ensures bytes_stay { (other : List ℕ) → D.bytes desk.new other ≡ D.bytes desk.old other }
+    ensures never_falls { (other : List ℕ) → D.faults desk.old other ≤ D.faults desk.new other }
+{
+    let table = load_table(alloc, desk, line.given.file(0))?;
+    let bundles = load_bundles(alloc, desk, line.given.file(1), &table)?;
+    Ok(Contents::TableAndBundles(table, bundles))
+}
+
+/// The patches of choices from budgets, in two files, with their rational types.
+fn load_patches<'a, D: Desk>(
+    alloc: Global,
+    desk: &mut D,
+    line: &Line<'a>,
+) -> Result<Contents, Cause<'a>>
+    requires sized { IsSized (named_line line.now) }
+    requires files { file_set (named_line line.now) ≡ files.Choices }
+    ensures read { IfOk result (HasContents (D.bytes desk.old) (named_line line.now)) }
+    ensures matching { IfOk result (AreOf (file_set (named_line line.now))) }
+    ensures caused { IfErr result
+        (IsCause (D.bytes desk.old) (Rose (D.faults desk.old) (D.faults desk.new))
+        (AsksForFirst (D.bytes desk.old) (D.calls desk.old) (D.calls desk.new))
+        (named_line line.now)) }
+    ensures in_turn { AreReadInTurn (D.bytes desk.old)
+        (D.calls desk.old) (D.calls desk.new) (named_line line.now) }
+    ensures bytes_stay { (other : List ℕ) → D.bytes desk.new other ≡ D.bytes desk.old other }
+    ensures never_falls { (other : List ℕ) → D.faults desk.old other ≤ D.faults desk.new other }
+{
+    let budgets = load_budgets(alloc, desk, line.given.file(0))?;
+    let choices = load_choices(alloc, desk, line.given.file(1), &budgets)?;
+    let (patches, types) = patches_of(alloc, &budgets, &choices, line.given.per)?;
+    Ok(Contents::Choices(patches, types))
+}
+
+/// The same, and then a certificate on them in a third file, which is read before the patches are made.
+fn load_patches_certificate<'a, D: Desk>(
+    alloc: Global,
+    desk: &mut D,
+    line: &Line<'a>,
+) -> Result<Contents, Cause<'a>>
+    requires sized { IsSized (named_line line.now) }
+    requires files { file_set (named_line line.now) ≡ files.ChoicesAndCertificate }
+    ensures read { IfOk result (HasContents (D.bytes desk.old) (named_line line.now)) }
+    ensures matching { IfOk result (AreOf (file_set (named_line line.now))) }
+    ensures caused { IfErr result
+        (IsCause (D.bytes desk.old) (Rose (D.faults desk.old) (D.faults desk.new))
+        (AsksForFirst (D.bytes desk.old) (D.calls desk.old) (D.calls desk.new))
+        (named_line line.now)) }
+    ensures in_turn { AreReadInTurn (D.bytes desk.old)
+        (D.calls desk.old) (D.calls desk.new) (named_line line.now) }
+    ensures bytes_stay { (other : List ℕ) → D.bytes desk.new other ≡ D.bytes desk.old other }
+    ensures never_falls { (other : List ℕ) → D.faults desk.old other ≤ D.faults desk.new other }
+{
+    let budgets = load_budgets(alloc, desk, line.given.file(0))?;
+    let choices = load_choices(alloc, desk, line.given.file(1), &budgets)?;
+    let certificate = load_certificate(alloc, desk, line.given.file(2), Kind::Random)?;
+    let (patches, types) = patches_of(alloc, &budgets, &choices, line.given.per)?;
+    Ok(Contents::ChoicesAndCertificate(patches, types, certificate))
+}

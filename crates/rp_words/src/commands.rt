@@ -1,0 +1,126 @@
+//! The commands of the program, each with its form.
+ghost use Rattle.std.specs.Prelude.{◌≡◌, Some, None};
+ghost use Rattle.rp_words.specs.CommandLine.{command_named, commands, form_of};
+ghost use Rattle.rp_words.specs.Forms.{over};
+ghost use Rattle.rp_words.specs.Named.{named_form};
+ghost use Rattle.rp_words.specs.Usage.{usage_text};
+
+use crate::form::{FileSet, Form, GOODS, ROWS, SEED};
+
+/// What the program is asked for.
+#[derive(Clone, Copy)]
+pub enum Command {
+    /// The first two observations of a table that contradict each other.
+    Pairs,
+    /// The verdicts on a table, with their evidence.
+    Analyse,
+    /// The same as a certificate.
+    Certify,
+    /// The checker's verdict on a certificate on a table.
+    Check,
+    /// Demand at new prices that a table supports.
+    Demand,
+    /// The bounds on the money metric of a table's observations at new prices.
+    Welfare,
+    /// The utility of bundles under the numbers that a table gives.
+    Utility,
+    /// Whether rational types make the choices from budgets.
+    Random,
+    /// The checker's verdict on a certificate on choices from budgets.
+    CheckRandom,
+    /// The verdicts on the trial table of a seed.
+    Trial,
+}
+
+/// The commands, in the order of the usage text.
+pub(crate) fn commands() -> [Command; 10]
+    ensures { result ≡ commands }
+{
+    [
+        Command::Pairs,
+        Command::Analyse,
+        Command::Certify,
+        Command::Check,
+        Command::Demand,
+        Command::Welfare,
+        Command::Utility,
+        Command::Random,
+        Command::CheckRandom,
+        Command::Trial,
+    ]
+}
+
+impl Command {
+    /// The files that the command is given.
+    pub fn files(self) -> FileSet
+        ensures { result ≡ (form_of self).files }
+    {
+        self.form().files
+    }
+
+    /// The form of the command.
+    pub(crate) fn form(self) -> Form
+        ensures { named_form result ≡ form_of self }
+    {
+        match self {
+            Command::Pairs => over("pairs", FileSet::Table),
+            Command::Analyse => over("analyse", FileSet::Table),
+            Command::Certify => over("certify", FileSet::Table),
+            Command::Check => over("check", FileSet::TableAndCertificate),
+            Command::Demand => Form {
+                json: true,
+                ..over("demand", FileSet::TableAndPricesWithExpenditure)
+            },
+            Command::Welfare => Form {
+                json: true,
+                ..over("welfare", FileSet::TableAndPrices)
+            },
+            Command::Utility => over("utility", FileSet::TableAndBundles),
+            Command::Random => Form {
+                per: true,
+                json: true,
+                ..over("random", FileSet::Choices)
+            },
+            Command::CheckRandom => Form {
+                per: true,
+                ..over("checkrandom", FileSet::ChoicesAndCertificate)
+            },
+            Command::Trial => Form {
+                numbers: &[SEED, ROWS, GOODS],
+                ..over("trial", FileSet::Nothing)
+            },
+        }
+    }
+}
+
+/// A form with files alone.
+fn over(name: &'static str, files: FileSet) -> Form
+    ensures { named_form result ≡ over name.now files }
+{
+    Form {
+        name,
+        files,
+        numbers: &[],
+        per: false,
+        json: false,
+    }
+}
+
+/// The command of that name.
+pub(crate) fn command_named(name: &str) -> Option<Command>
+    ensures { result ≡ command_named name.now }
+{
+    for command in &commands() {
+        if name == command.form().name {
+            return Some(*command);
+        }
+    }
+    None
+}
+
+/// How the program is called.
+pub fn usage() -> &'static [u8]
+    ensures { result.now ≡ usage_text }
+{
+    b"usage: rp pairs TABLE\n       rp analyse TABLE\n       rp certify TABLE\n       rp check TABLE CERT\n       rp demand TABLE NEW [--json]\n       rp welfare TABLE NEW [--json]\n       rp utility TABLE BUNDLES\n       rp random BUDGETS CHOICES [--per N] [--json]\n       rp checkrandom BUDGETS CHOICES CERT [--per N]\n       rp trial SEED ROWS GOODS\n"
+}
