@@ -5,3 +5,5 @@
 mod analyses;
 #[cfg(test)]
 mod bounds;
+#[cfg(test)]
+mod greatest;
