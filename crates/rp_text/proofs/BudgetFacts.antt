@@ -1,5 +1,5 @@
 -- Records without a fault make budgets within the limits.
-use Rattle.std.proofs.Common.{◌≡◌, ℕ, ◌*◌, ◌<◌, ◌≤◌, Bool, true, false, not, ◌&&◌, ◌||◌, List, [], length, slice_index, Option, Some, None, Ok, Err, refl, sym, ap, ◌∙◌, arith}
+use Rattle.std.proofs.Common.{◌≡◌, ℕ, ◌*◌, ◌<◌, ◌≤◌, true, false, List, [], length, slice_index, Option, Some, None, Ok, Err, refl, sym, ap, ◌∙◌, arith}
 use Rattle.std.specs.Prelude.{codes, unwrap_or}
 use Rattle.std.specs.Option.{option_map_or}
 use Rattle.rp_table.specs.declared.TheConstants.{LARGEST_EXPENDITURE}
@@ -14,20 +14,16 @@ use Rattle.rp_text.specs.Sizes.{sizes_stage}
 use Rattle.rp_text.specs.ChoiceCounts.{column_named}
 use Rattle.rp_text.specs.Denotation.{first_fault, column_of, column_numbers, budget_list, budgets_of, denoted_budgets}
 use Rattle.rp_text.specs.declared.form.Role.{Role}
-use Rattle.rp_text.specs.declared.form.Role.TheVariants.{Observation, Price, Quantity, Expenditure, Income, Budget, Times}
+use Rattle.rp_text.specs.declared.form.Role.TheVariants.{Observation, Price, Quantity, Expenditure, Income, Budget, Times, Output, OutputPrice}
 use Rattle.rp_text.specs.declared.fault.TableFault.{TableFault}
 use Rattle.rp_num.proofs.BelowLemmas.{length-listed}
 use Rattle.rp_text.proofs.RowLemmas.{length-rows, all_rows, all_listed}
-use Rattle.rp_text.proofs.FineHeaders.{FineHeaders, fine_headers}
+use Rattle.rp_text.proofs.FineHeaders.{FineHeaders, fine_headers, required_there}
 use Rattle.rp_text.proofs.GoodHeaders.{price_column}
 use Rattle.rp_text.proofs.ColumnSizes.{sizes_in, sizes_are, price_at}
 use Rattle.rp_text.proofs.AmountColumns.{income_header, income_says, amount_within}
 use Rattle.rp_text.proofs.StageLemmas.{value_denoted, fault_denoted}
 use Rattle.rp_text.proofs.TableMade.{counted, passed}
-
-income_test : (m w b n : Bool) → ((false && not m) || (true && not w) || (false && not b) || (false && not n)) ≡ false → w ≡ true
-income_test m true b n e = refl
-income_test m false b n e = cc e
 
 -- only an income says how much is bought
 measured_role : (o : Option Role) → option_map_or (takes budgets_form) o false ≡ true → measures (unwrap_or o Observation) ≡ true → o ≡ Some Income
@@ -39,6 +35,8 @@ measured_role (Some Expenditure) e m = cc e
 measured_role (Some Income) e m = refl
 measured_role (Some Budget) e m = cc m
 measured_role (Some Times) e m = cc m
+measured_role (Some Output) e m = cc m
+measured_role (Some OutputPrice) e m = cc m
 
 module _ (headers : List (List ℕ)) (records : List (List (List ℕ))) (fine : FineHeaders budgets_form headers) (fine_fields : fields_stage budgets_form headers records ≡ None) (fine_sizes : sizes_stage budgets_form headers (figures_of budgets_form headers records) ≡ None) where
   price_within : (t g : ℕ) → t < rows_in records → g < length (names_with is_price headers)
@@ -54,7 +52,7 @@ module _ (headers : List (List ℕ)) (records : List (List (List ℕ))) (fine : 
       × (slice_index (text_at (sizes_in budgets_form headers records) t) (column_named (codes "w") headers) ≤ LARGEST_EXPENDITURE)
   income_within =
       amount_within budgets_form headers records fine fine_fields fine_sizes (codes "w") Income
-      (income_test (has headers (codes "m")) (has headers (codes "w")) (has headers (codes "budget")) (has headers (codes "n")) fine.columns)
+      (required_there (has headers (codes "w")) _ fine.columns).0
       income_says refl
       (λ c column measured. income_header (text_at headers c) (measured_role (role_of (text_at headers c)) (fine.taken c column) measured))
 

@@ -1,5 +1,5 @@
 -- Headers that have no fault in a file of any kind: each has a role that the file takes, and stands once.
-use Rattle.std.proofs.Common.{◌≡◌, ◌≢◌, ℕ, ◌<◌, ◌≤◌, Bool, true, false, not, ◌||◌, ◌==◌, if◌then◌else◌, List, [], length, take, Option, Some, None, is_some, refl, ◌∙◌, arith}
+use Rattle.std.proofs.Common.{◌≡◌, ◌≢◌, ℕ, ◌<◌, ◌≤◌, Bool, true, false, not, ◌&&◌, ◌||◌, ◌==◌, if◌then◌else◌, List, [], length, take, Option, Some, None, is_some, refl, ◌∙◌, arith}
 use Rattle.std.specs.List.{AllPairs}
 use Rattle.std.specs.Option.{option_map_or}
 use Rattle.std.proofs.lemmas.Bool.Decides.{nat_tests}
@@ -74,6 +74,11 @@ fine_headers form goods headers fine of_goods =
       some = not_zero (length (names_of form headers)) missing.0;
       few = lt_false 16 (length (names_of form headers)) (few_test _ _ stages.2);
     }
+
+-- a column that is required is there
+pub required_there : (there rest : Bool) → ((true && not there) || rest) ≡ false → (there ≡ true) × (rest ≡ false)
+required_there true rest e = (refl, e)
+required_there false rest e = cc e
 
 -- one place has each header
 pub same_place : {form : Form} (headers : List (List ℕ)) → FineHeaders form headers → (i j : ℕ) → i < length headers → j < length headers → text_at headers i ≡ text_at headers j → i ≡ j

@@ -7,7 +7,7 @@ use Rattle.std.proofs.Math.Nat.{mul-div_cancel}
 use Rattle.rp_table.specs.Rows.{rows_count}
 use Rattle.rp_num.specs.Below.{any_below}
 use Rattle.rp_text.specs.Texts.{text_at, place_of}
-use Rattle.rp_text.specs.Columns.{role_of, good_role, takes, is_name, price_mark, quantity_mark}
+use Rattle.rp_text.specs.Columns.{role_of, named_role, good_role, takes, is_name, price_mark, quantity_mark}
 use Rattle.rp_text.specs.Headers.{has, good_mark, lacks_column, lacks_good, names_of, missing_fault, goods_stage}
 use Rattle.rp_text.specs.Fields.{figures_of, rows_in, fields_stage}
 use Rattle.rp_text.specs.Sizes.{limit_of, sizes_stage}
@@ -51,7 +51,7 @@ abbrev pub good_kind : Form → Role
 good_kind form = if form.prices then Price else Quantity
 
 price_role : (form : Form) (name : List ℕ) → option_map_or (takes form) (role_of (price_mark ++ name)) false ≡ true → role_of (price_mark ++ name) ≡ Some Price
-unfolding role_of good_role
+unfolding role_of named_role good_role
 price_role form name e = by (is_name name) e
   where
     by : (b : Bool) → option_map_or (takes form) (if not b then None else Some Price) false ≡ true → (if not b then None else Some Price) ≡ Some Price
@@ -59,7 +59,7 @@ price_role form name e = by (is_name name) e
     by false h = cc h
 
 quantity_role : (form : Form) (name : List ℕ) → option_map_or (takes form) (role_of (quantity_mark ++ name)) false ≡ true → role_of (quantity_mark ++ name) ≡ Some Quantity
-unfolding role_of good_role
+unfolding role_of named_role good_role
 quantity_role form name e = by (is_name name) e
   where
     by : (b : Bool) → option_map_or (takes form) (if not b then None else Some Quantity) false ≡ true → (if not b then None else Some Quantity) ≡ Some Quantity

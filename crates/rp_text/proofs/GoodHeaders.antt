@@ -1,23 +1,23 @@
 -- The headers of a table that have no fault: each good has its two columns, once.
 use Rattle.std.proofs.Common.{◌≡◌, ◌≢◌, ℕ, zero, suc, ◌<◌, Bool, true, false, not, ◌&&◌, ◌||◌, nat_eq, if◌then◌else◌, cond, List, [], ◌∷◌, ◌++◌, length, get_or, map, filter, Option, Some, None, refl, sym, ap, ◌∙◌, arith}
-use Rattle.std.specs.Prelude.{codes, unwrap_or}
+use Rattle.std.specs.Prelude.{unwrap_or}
 use Rattle.std.specs.List.{AllPairs, Contains, starts_with}
-use Rattle.std.specs.Option.{option_map_or}
-use Rattle.std.specs.Str.{bytes_eq}
+use Rattle.std.specs.Option.{option_map_or, option_or}
 use Rattle.std.proofs.lemmas.Bool.Decides.{Decides-eqb}
 use Rattle.std.proofs.lemmas.List.{get_or-map, get_or_default, length-map}
 use Rattle.std.proofs.lemmas.List.Elements.{filter_passes, All-filter, All-contains_itself}
 use Rattle.std.proofs.lemmas.List.Kept.{AllPairs-filter}
 use Rattle.std.proofs.lemmas.Slice.Eq.{starts_is}
 use Rattle.rp_text.specs.Texts.{text_at, place_of}
-use Rattle.rp_text.specs.Columns.{role_of, good_role, role_at, takes, measures, is_name, is_price, is_quantity, name_in, names_with, price_mark, quantity_mark}
+use Rattle.rp_text.specs.Columns.{role_of, named_role, good_role, role_at, takes, measures, is_name, is_price, is_quantity, name_in, names_with, price_mark, quantity_mark}
 use Rattle.rp_text.specs.Forms.{table_form}
 use Rattle.rp_text.specs.Headers.{has, partner_of, headers_stage, pair_fault, present_fault, goods_stage}
 use Rattle.rp_text.specs.Sizes.{limit_of}
 use Rattle.rp_text.specs.declared.form.Form.{Form}
 use Rattle.rp_text.specs.declared.form.Role.{Role}
-use Rattle.rp_text.specs.declared.form.Role.TheVariants.{Observation, Price, Quantity, Expenditure, Income, Budget, Times}
+use Rattle.rp_text.specs.declared.form.Role.TheVariants.{Observation, Price, Quantity, Expenditure, Income, Budget, Times, Output, OutputPrice}
 use Rattle.rp_text.specs.declared.fault.TableFault.{TableFault}
+use Rattle.rp_text.proofs.RoleLemmas.{no_good}
 use Rattle.rp_text.proofs.NameLemmas.{price_header}
 use Rattle.rp_text.proofs.PlaceLemmas.{found_at, present, none_below}
 use Rattle.rp_text.proofs.FineHeaders.{FineHeaders, fine_goods, fine_headers, same_place, all_distinct, there_from}
@@ -53,6 +53,8 @@ is_price_role (Some Expenditure) e = cc e
 is_price_role (Some Income) e = cc e
 is_price_role (Some Budget) e = cc e
 is_price_role (Some Times) e = cc e
+is_price_role (Some Output) e = cc e
+is_price_role (Some OutputPrice) e = cc e
 
 pub measured_role : (o : Option Role) → option_map_or (takes table_form) o false ≡ true → measures (unwrap_or o Observation) ≡ true → o ≡ Some Quantity
 measured_role None e m = cc e
@@ -63,6 +65,8 @@ measured_role (Some Expenditure) e m = cc e
 measured_role (Some Income) e m = cc e
 measured_role (Some Budget) e m = cc e
 measured_role (Some Times) e m = cc e
+measured_role (Some Output) e m = cc e
+measured_role (Some OutputPrice) e m = cc e
 
 pub limit_is : (o : Option Role) → option_map_or (takes table_form) o false ≡ true → limit_of (unwrap_or o Observation) ≡ 9999999
 limit_is None e = cc e
@@ -73,6 +77,8 @@ limit_is (Some Expenditure) e = cc e
 limit_is (Some Income) e = cc e
 limit_is (Some Budget) e = refl
 limit_is (Some Times) e = refl
+limit_is (Some Output) e = refl
+limit_is (Some OutputPrice) e = refl
 
 quantity_good : (named p q : Bool) → option_map_or is_quantity (if not named then None else if p then Some Price else if q then Some Quantity else None) false ≡ true → (named ≡ true) × (q ≡ true)
 quantity_good true true q e = cc e
@@ -80,23 +86,17 @@ quantity_good true false true e = (refl, refl)
 quantity_good true false false e = cc e
 quantity_good false p q e = cc e
 
-quantity_role : (a b c d e named p q : Bool)
-    → option_map_or is_quantity (if a then Some Observation else if b then Some Expenditure else if c then Some Income else if d then Some Budget else if e then Some Times
-    else if not named then None else if p then Some Price else if q then Some Quantity else None) false ≡ true
+quantity_role : (o : Option Role) (named p q : Bool) → option_map_or is_quantity o false ≡ false
+    → option_map_or is_quantity (option_or o (if not named then None else if p then Some Price else if q then Some Quantity else None)) false ≡ true
     → (named ≡ true) × (q ≡ true)
-quantity_role true b c d e named p q h = cc h
-quantity_role false true c d e named p q h = cc h
-quantity_role false false true d e named p q h = cc h
-quantity_role false false false true e named p q h = cc h
-quantity_role false false false false true named p q h = cc h
-quantity_role false false false false false named p q h = quantity_good named p q h
+quantity_role None named p q none h = quantity_good named p q h
+quantity_role (Some role) named p q none h = cc (sym none ∙ h)
 
 -- a header of quantities has a mark and a name
 pub quantity_header : (header : List ℕ) → option_map_or is_quantity (role_of header) false ≡ true → (is_name (name_in header) ≡ true) × (starts_with nat_eq header quantity_mark ≡ true)
 unfolding role_of good_role
 quantity_header header e =
-    quantity_role (bytes_eq header (codes "obs")) (bytes_eq header (codes "m")) (bytes_eq header (codes "w")) (bytes_eq header (codes "budget")) (bytes_eq header (codes "n"))
-    (is_name (name_in header)) (starts_with nat_eq header price_mark) (starts_with nat_eq header quantity_mark) e
+    quantity_role (named_role header) (is_name (name_in header)) (starts_with nat_eq header price_mark) (starts_with nat_eq header quantity_mark) (no_good header).1 e
 
 pub marked_price : (header : List ℕ) → starts_with nat_eq header price_mark ≡ true → header ≡ price_mark ++ name_in header
 marked_price header e = (starts_is Decides-eqb header price_mark (starts_with nat_eq header price_mark) refl).0 e
@@ -106,11 +106,11 @@ marked_quantity header e = (starts_is Decides-eqb header quantity_mark (starts_w
 
 -- what a mark and a name say
 pub price_says : (name : List ℕ) → is_name name ≡ true → role_of (price_mark ++ name) ≡ Some Price
-unfolding role_of good_role
+unfolding role_of named_role good_role
 price_says name e = rw e refl
 
 pub quantity_says : (name : List ℕ) → is_name name ≡ true → role_of (quantity_mark ++ name) ≡ Some Quantity
-unfolding role_of good_role
+unfolding role_of named_role good_role
 quantity_says name e = rw e refl
 
 -- the column of prices of a good

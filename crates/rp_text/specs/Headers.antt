@@ -1,12 +1,14 @@
 -- The first fault in the headers of a file: one that such files do not take, one that came before, a good
 -- whose partner is missing or that is not fixed, a column that is missing, and too many goods.
-use Rattle.std.specs.Prelude.{ℕ, Bool, false, not, ◌&&◌, ◌||◌, ◌==◌, nat_lt, if◌then◌else◌, List, [], ◌∷◌, ◌++◌, length, map, take, codes, Option, None, Some, is_some}
+use Rattle.std.specs.Prelude.{ℕ, Bool, false, not, ◌&&◌, ◌||◌, ◌==◌, nat_lt, if◌then◌else◌, List, [], ◌∷◌, ◌++◌, length, map, take, Option, None, Some, is_some}
+use Rattle.std.specs.List.{list_any}
 use Rattle.std.specs.Option.{option_map_or}
 use Rattle.rp_table.specs.declared.TheConstants.{GOODS}
 use Rattle.rp_num.specs.Below.{first_of, first_there, any_below}
 use Rattle.rp_text.specs.Texts.{trimmed, text_at, place_of, number_of}
 use Rattle.rp_text.specs.Records.{record_at}
-use Rattle.rp_text.specs.Columns.{role_of, role_at, takes, is_price, is_quantity, names_with, name_in, price_mark, quantity_mark}
+use Rattle.rp_text.specs.Columns.{role_of, role_at, takes, header_of, is_price, is_quantity, names_with, name_in, price_mark, quantity_mark}
+use Rattle.rp_text.specs.declared.form.Column.{Column}
 use Rattle.rp_text.specs.declared.form.Form.{Form}
 use Rattle.rp_text.specs.declared.form.Role.{Role}
 use Rattle.rp_text.specs.declared.fault.TableFault.{TableFault}
@@ -64,11 +66,14 @@ present_fault form goods headers =
 abbrev pub names_of : Form → List (List ℕ) → List (List ℕ)
 names_of form headers = names_with (if form.prices then is_price else is_quantity) headers
 
+-- whether a column is required and missing
+abbrev pub is_missing : List (List ℕ) → Option Column → Bool
+is_missing headers None = false
+is_missing headers (Some column) = column.required && not (has headers (header_of column.role))
+
 -- whether a column is missing that is no good's
 abbrev pub lacks_column : Form → List (List ℕ) → Bool
-lacks_column form headers =
-    (form.expenditure && not (has headers (codes "m"))) || (form.income && not (has headers (codes "w")))
-    || (form.choices && not (has headers (codes "budget"))) || (form.choices && not (has headers (codes "n")))
+lacks_column form headers = list_any (is_missing headers) form.named
 
 -- what the column of a good is headed by in such a file, before its name: its prices, or its quantities
 -- where there are no prices

@@ -35,8 +35,9 @@ fn read_field(
             units: 0,
             places: 0,
         }),
-        Role::Price => priced(measured(text, row, column), row, column),
-        Role::Quantity | Role::Expenditure | Role::Income => measured(text, row, column),
+        Role::Price | Role::OutputPrice => priced(measured(text, row, column), row, column),
+        Role::Quantity | Role::Output => measured(text, row, column),
+        Role::Expenditure | Role::Income => measured(text, row, column),
         Role::Budget => budgeted(budgets, whole(text, row, column), row),
         Role::Times => whole(text, row, column),
     }

@@ -7,12 +7,12 @@ ghost use Rattle.rp_text.specs.Texts.{text_at};
 ghost use Rattle.rp_text.specs.Columns.{role_at, name_in, is_price, is_quantity};
 ghost use Rattle.rp_text.specs.Headers as Headers;
 ghost use Rattle.rp_text.specs.Headers.{has, names_of, other_goods_fault, present_fault, missing_fault};
-ghost use Rattle.rp_text.specs.Headers.{goods_stage};
+ghost use Rattle.rp_text.specs.Headers.{goods_stage, is_missing};
 ghost use Rattle.rp_text.specs.Refusals.{RefusedAt};
 
 use crate::TableFault;
 use crate::columns::Columns;
-use crate::form::{Form, Role};
+use crate::form::{Column, Form, Role};
 use crate::goods::{check_pairs, lacks};
 use crate::roles::name_in;
 use crate::texts::number_of;
@@ -135,26 +135,16 @@ fn check_missing(
 fn lacks_column(form: &Form, columns: &Columns<'_>) -> bool
     ensures { result ≡ Headers.lacks_column form.now columns.now }
 {
-    if lacks_named(form.expenditure, columns, b"m") {
-        return true;
-    }
-    if lacks_named(form.income, columns, b"w") {
-        return true;
-    }
-    if lacks_named(form.choices, columns, b"budget") {
-        return true;
-    }
-    lacks_named(form.choices, columns, b"n")
+    form.named.iter().any(|column| is_missing(columns, *column))
 }
 
-/// Whether a column that is wanted is missing.
-fn lacks_named(wanted: bool, columns: &Columns<'_>, header: &[u8]) -> bool
-    ensures { result ≡ (wanted && not (has columns.now header.now)) }
+/// Whether a column is required and missing.
+fn is_missing(columns: &Columns<'_>, column: Option<Column>) -> bool
+    ensures { result ≡ is_missing columns.now column }
 {
-    if wanted {
-        columns.find(header).is_none()
-    } else {
-        false
+    match column {
+        Some(column) if column.required => columns.find(column.role.header()).is_none(),
+        _ => false,
     }
 }
 

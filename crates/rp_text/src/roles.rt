@@ -1,6 +1,6 @@
 ghost use Rattle.std.specs.Prelude.{◌≡◌, nat_le};
 ghost use Rattle.std.specs.List.{list_all};
-ghost use Rattle.rp_text.specs.Columns.{role_of, good_role, is_name, name_in};
+ghost use Rattle.rp_text.specs.Columns.{role_of, named_role, good_role, is_name, name_in};
 
 use crate::form::Role;
 use rp_table::NAME_BYTES;
@@ -9,6 +9,14 @@ use rp_table::NAME_BYTES;
 #[tactic(auto, unfolding(crate::specs::Columns::role_of))]
 pub fn role_of(header: &[u8]) -> Option<Role>
     ensures { result ≡ role_of header.now }
+{
+    named_role(header).or(good_role(header))
+}
+
+/// What a column with that header says that is no good's.
+#[tactic(auto, unfolding(crate::specs::Columns::named_role))]
+fn named_role(header: &[u8]) -> Option<Role>
+    ensures { result ≡ named_role header.now }
 {
     if header == b"obs".as_slice() {
         Some(Role::Observation)
@@ -20,8 +28,12 @@ pub fn role_of(header: &[u8]) -> Option<Role>
         Some(Role::Budget)
     } else if header == b"n".as_slice() {
         Some(Role::Times)
+    } else if header == b"y".as_slice() {
+        Some(Role::Output)
+    } else if header == b"p".as_slice() {
+        Some(Role::OutputPrice)
     } else {
-        good_role(header)
+        None
     }
 }
 

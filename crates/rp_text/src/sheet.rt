@@ -11,8 +11,8 @@ ghost use Rattle.rp_text.specs.Refusals.{RefusedAt};
 use crate::TableFault;
 use crate::columns::Columns;
 use crate::fields::read_figures;
-use crate::form::Form;
 use crate::fixed_goods::check_goods;
+use crate::form::Form;
 use crate::headers::read_columns;
 use crate::records::Records;
 use crate::sizes::read_sizes;
@@ -84,9 +84,6 @@ fn check_choices(
     ensures refused { IfErr result
         (λ fault. choices_stage form.now columns.now figures.now ≡ Some fault) }
 {
-    if !form.choices {
-        return Ok(());
-    }
     for j in 0..form.budgets {
         if !is_chosen(columns, figures, j) {
             return Err(TableFault::NoChoices {

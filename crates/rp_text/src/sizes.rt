@@ -24,9 +24,13 @@ pub fn places_of(form: &Form, columns: &Columns<'_>, figures: &[Seq<Decimal>], r
     ensures { result ≡ Sizes.places_of form.now columns.now figures.now role }
 {
     match role {
-        Role::Price => u32::from(greatest_places(columns, figures, Role::Price)),
-        Role::Quantity if form.fixed_places => u32::from(form.places),
-        Role::Quantity => u32::from(greatest_places(columns, figures, Role::Quantity)),
+        Role::Price | Role::OutputPrice => {
+            u32::from(greatest_places(columns, figures, Role::Price))
+        }
+        Role::Quantity | Role::Output if form.fixed_places => u32::from(form.places),
+        Role::Quantity | Role::Output => {
+            u32::from(greatest_places(columns, figures, Role::Quantity))
+        }
         Role::Expenditure => {
             u32::from(greatest_places(columns, figures, Role::Price)) + u32::from(form.places)
         }
