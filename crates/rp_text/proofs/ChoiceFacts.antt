@@ -13,6 +13,7 @@ use Rattle.rp_text.specs.Fields.{rows_in, fields_stage, figures_of}
 use Rattle.rp_text.specs.Sizes.{limit_of, sizes_stage}
 use Rattle.rp_text.specs.ChoiceCounts.{column_named}
 use Rattle.rp_text.specs.Denotation.{first_fault, column_numbers, choice_list, choices_of, denoted_choices}
+use Rattle.rp_text.specs.declared.form.Marks.TheVariants.{Goods}
 use Rattle.rp_text.specs.declared.form.Role.{Role}
 use Rattle.rp_text.specs.declared.form.Role.TheVariants.{Budget, Times}
 use Rattle.rp_text.specs.declared.fault.TableFault.{TableFault}
@@ -25,11 +26,11 @@ use Rattle.rp_text.proofs.FixedHeaders.{numbers_within, numbers_of_goods}
 use Rattle.rp_text.proofs.StageLemmas.{value_denoted, fault_denoted}
 use Rattle.rp_text.proofs.TableMade.{counted, passed}
 
-pub budget_says : role_of (codes "budget") ≡ Some Budget
+pub budget_says : role_of Goods (codes "budget") ≡ Some Budget
 unfolding role_of named_role
 budget_says = refl
 
-pub times_say : role_of (codes "n") ≡ Some Times
+pub times_say : role_of Goods (codes "n") ≡ Some Times
 unfolding role_of named_role
 times_say = refl
 
@@ -47,13 +48,13 @@ module _ (budgets : ℕ) (goods headers : List (List ℕ)) (records : List (List
   budget_within t row =
       let column = column_there headers (codes "budget") both_there.0 in
       let at_column : column_named (codes "budget") headers ≡ column.0 = ap (λ o. unwrap_or o 0) column.2 in
-      rw at_column (budget_at (choices_form budgets) headers records fine_fields fine_sizes t column.0 row column.1 (ap role_of column.3 ∙ budget_says))
+      rw at_column (budget_at (choices_form budgets) headers records fine_fields fine_sizes t column.0 row column.1 (ap (role_of Goods) column.3 ∙ budget_says))
 
   times_within : (t : ℕ) → t < rows_in records → slice_index (text_at (sizes_in (choices_form budgets) headers records) t) (column_named (codes "n") headers) ≤ 9999999
   times_within t row =
       let column = column_there headers (codes "n") both_there.1 in
       let at_column : column_named (codes "n") headers ≡ column.0 = ap (λ o. unwrap_or o 0) column.2 in
-      let role : role_at headers column.0 ≡ Times = role_is headers column.0 Times (ap role_of column.3 ∙ times_say) in
+      let role : role_at Goods headers column.0 ≡ Times = role_is _ headers column.0 Times (ap (role_of Goods) column.3 ∙ times_say) in
       let most = subst (λ (r : Role). slice_index (text_at (sizes_in (choices_form budgets) headers records) t) column.0 ≤ limit_of r) role (within_limit (choices_form budgets) headers records fine_fields fine_sizes t column.0 row column.1) in
       rw at_column most
 

@@ -7,7 +7,8 @@ use Rattle.std.proofs.lemmas.List.{map_push, append-nil}
 use Rattle.std.proofs.lemmas.List.Elements.{filter_more, All-cons, All-nil}
 use Rattle.rp_table.specs.Names.{IsName}
 use Rattle.rp_text.specs.Texts.{text_at}
-use Rattle.rp_text.specs.Columns.{role_of, named_role, good_role, is_name, is_price, names_with, name_in, price_mark, quantity_mark}
+use Rattle.rp_text.specs.Columns.{role_of, named_role, good_role, is_name, is_price, names_with, name_in, mark_of_prices, mark_of_quantities}
+use Rattle.rp_text.specs.declared.form.Marks.{Marks}
 use Rattle.rp_text.specs.declared.form.Role.{Role}
 use Rattle.rp_text.specs.declared.form.Role.TheVariants.{Price, Quantity}
 use Rattle.rp_text.proofs.RoleLemmas.{no_good}
@@ -25,10 +26,10 @@ price_role None named p q none h = price_good named p q h
 price_role (Some role) named p q none h = cc (sym none ∙ h)
 
 -- a header of prices has a mark and a name
-pub price_header : (header : List ℕ) → option_map_or is_price (role_of header) false ≡ true → (is_name (name_in header) ≡ true) × (starts_with nat_eq header price_mark ≡ true)
+pub price_header : (marks : Marks) (header : List ℕ) → option_map_or is_price (role_of marks header) false ≡ true → (is_name (name_in header) ≡ true) × (starts_with nat_eq header (mark_of_prices marks) ≡ true)
 unfolding role_of good_role
-price_header header e =
-    price_role (named_role header) (is_name (name_in header)) (starts_with nat_eq header price_mark) (starts_with nat_eq header quantity_mark) (no_good header).0 e
+price_header marks header e =
+    price_role (named_role header) (is_name (name_in header)) (starts_with nat_eq header (mark_of_prices marks)) (starts_with nat_eq header (mark_of_quantities marks)) (no_good header).0 e
 
 pub and_both : (a b : Bool) → (a && b) ≡ true → (a ≡ true) × (b ≡ true)
 and_both true true e = (refl, refl)
@@ -52,16 +53,16 @@ named name e =
     (grind (arith, nat_tests), grind (arith, nat_tests), printable name both.1)
 
 -- one more header with a name
-pub names_more_yes : (test : Role → Bool) (headers : List (List ℕ)) (c : ℕ) → c < length headers → option_map_or test (role_of (text_at headers c)) false ≡ true
-    → names_with test (take (c + 1) headers) ≡ names_with test (take c headers) ++ name_in (text_at headers c) ∷ []
-names_more_yes test headers c within it =
-    let says : List ℕ → Bool = λ (header : List ℕ). option_map_or test (role_of header) false in
+pub names_more_yes : (marks : Marks) (test : Role → Bool) (headers : List (List ℕ)) (c : ℕ) → c < length headers → option_map_or test (role_of marks (text_at headers c)) false ≡ true
+    → names_with marks test (take (c + 1) headers) ≡ names_with marks test (take c headers) ++ name_in (text_at headers c) ∷ []
+names_more_yes marks test headers c within it =
+    let says : List ℕ → Bool = λ (header : List ℕ). option_map_or test (role_of marks header) false in
     ap (map name_in) (filter_more says headers c [] within ∙ ap (λ (b : Bool). filter says (take c headers) ++ cond b (text_at headers c ∷ []) []) it)
     ∙ map_push name_in (filter says (take c headers)) (text_at headers c)
 
 -- one more header without
-pub names_more_no : (test : Role → Bool) (headers : List (List ℕ)) (c : ℕ) → c < length headers → option_map_or test (role_of (text_at headers c)) false ≡ false
-    → names_with test (take (c + 1) headers) ≡ names_with test (take c headers)
-names_more_no test headers c within other =
-    let says : List ℕ → Bool = λ (header : List ℕ). option_map_or test (role_of header) false in
+pub names_more_no : (marks : Marks) (test : Role → Bool) (headers : List (List ℕ)) (c : ℕ) → c < length headers → option_map_or test (role_of marks (text_at headers c)) false ≡ false
+    → names_with marks test (take (c + 1) headers) ≡ names_with marks test (take c headers)
+names_more_no marks test headers c within other =
+    let says : List ℕ → Bool = λ (header : List ℕ). option_map_or test (role_of marks header) false in
     ap (map name_in) (filter_more says headers c [] within ∙ ap (λ (b : Bool). filter says (take c headers) ++ cond b (text_at headers c ∷ []) []) other ∙ append-nil (filter says (take c headers)))

@@ -16,6 +16,7 @@ use Rattle.rp_text.specs.Fields.{figures_of, rows_in, fields_stage}
 use Rattle.rp_text.specs.Sizes.{sizes_stage}
 use Rattle.rp_text.specs.ChoiceCounts.{column_named}
 use Rattle.rp_text.specs.Denotation.{first_fault, column_numbers, numbers_under, price_list, prices_of, denoted_prices}
+use Rattle.rp_text.specs.declared.form.Marks.TheVariants.{Goods}
 use Rattle.rp_text.specs.declared.form.Role.{Role}
 use Rattle.rp_text.specs.declared.form.Role.TheVariants.{Observation, Price, Quantity, Expenditure, Income, Budget, Times, Output, OutputPrice}
 use Rattle.rp_text.specs.declared.fault.TableFault.{TableFault}
@@ -49,8 +50,8 @@ module _ (places : ℕ) (headers : List (List ℕ)) (records : List (List (List 
   expenditure_within =
       amount_within (prices_form true places) headers records fine fine_fields fine_sizes (codes "m") Expenditure
       (required_there (has headers (codes "m")) _ fine.columns).0
-      expenditure_says refl
-      (λ c column measured. expenditure_header (text_at headers c) (measured_role places (role_of (text_at headers c)) (fine.taken c column) measured))
+      (expenditure_says Goods) refl
+      (λ c column measured. expenditure_header _ (text_at headers c) (measured_role places (role_of Goods (text_at headers c)) (fine.taken c column) measured))
 
   expenditures_within : All (λ m. (1 ≤ m) × (m ≤ LARGEST_EXPENDITURE)) (column_numbers (codes "m") headers (sizes_in (prices_form true places) headers records))
   expenditures_within =

@@ -1,5 +1,6 @@
 -- What the headers of a file say (a format of this project's own). A column has the prices or the
--- quantities of a good, under p_NAME or q_NAME, or it has one of a few other headers.
+-- quantities of a good, under p_NAME or q_NAME, or those of an input, under w_NAME or x_NAME, or it has one of a
+-- few other headers.
 use Rattle.std.specs.Prelude.{ℕ, Bool, true, false, not, ◌&&◌, nat_eq, nat_le, if◌then◌else◌, List, [], length, drop, filter, map, codes, Option, Some, None, unwrap_or}
 use Rattle.std.specs.List.{list_all, list_any, starts_with}
 use Rattle.std.specs.Option.{option_map_or, option_or}
@@ -8,6 +9,8 @@ use Rattle.rp_table.specs.declared.TheConstants.{NAME_BYTES}
 use Rattle.rp_text.specs.Texts.{text_at}
 use Rattle.rp_text.specs.declared.form.Column.{Column}
 use Rattle.rp_text.specs.declared.form.Form.{Form}
+use Rattle.rp_text.specs.declared.form.Marks.{Marks}
+use Rattle.rp_text.specs.declared.form.Marks.TheVariants.{Goods, Inputs}
 use Rattle.rp_text.specs.declared.form.Role.{Role}
 use Rattle.rp_text.specs.declared.form.Role.TheVariants.{Observation, Price, Quantity, Expenditure, Income, Budget, Times, Output, OutputPrice}
 
@@ -23,16 +26,25 @@ price_mark = codes "p_"
 abbrev pub quantity_mark : List ℕ
 quantity_mark = codes "q_"
 
+-- the marks of prices and of quantities: those of goods, and those of a technology's inputs
+abbrev pub mark_of_prices : Marks → List ℕ
+mark_of_prices Goods = price_mark
+mark_of_prices Inputs = codes "w_"
+
+abbrev pub mark_of_quantities : Marks → List ℕ
+mark_of_quantities Goods = quantity_mark
+mark_of_quantities Inputs = codes "x_"
+
 -- the name after the mark
 abbrev pub name_in : List ℕ → List ℕ
 name_in header = drop 2 header
 
--- what the column of a good says
-unfoldable pub good_role : List ℕ → Option Role
-good_role header =
+-- what the column of a good says under these marks
+unfoldable pub good_role : Marks → List ℕ → Option Role
+good_role marks header =
     if not (is_name (name_in header)) then None
-    else if starts_with nat_eq header price_mark then Some Price
-    else if starts_with nat_eq header quantity_mark then Some Quantity
+    else if starts_with nat_eq header (mark_of_prices marks) then Some Price
+    else if starts_with nat_eq header (mark_of_quantities marks) then Some Quantity
     else None
 
 -- what a column says that is no good's
@@ -47,9 +59,9 @@ named_role header =
     else if bytes_eq header (codes "p") then Some OutputPrice
     else None
 
--- what a column with that header says
-unfoldable pub role_of : List ℕ → Option Role
-role_of header = option_or (named_role header) (good_role header)
+-- what a column with that header says, where goods have these marks
+unfoldable pub role_of : Marks → List ℕ → Option Role
+role_of marks header = option_or (named_role header) (good_role marks header)
 
 -- the header of a column that is no good's
 abbrev pub header_of : Role → List ℕ
@@ -150,9 +162,14 @@ has_income_scale Output = false
 has_income_scale OutputPrice = false
 
 -- what the fields of the column at a place say
-abbrev pub role_at : List (List ℕ) → ℕ → Role
-role_at headers c = unwrap_or (role_of (text_at headers c)) Observation
+abbrev pub role_at : Marks → List (List ℕ) → ℕ → Role
+role_at marks headers c = unwrap_or (role_of marks (text_at headers c)) Observation
 
 -- the names in the headers with that role, in order
-abbrev pub names_with : (Role → Bool) → List (List ℕ) → List (List ℕ)
-names_with test headers = map name_in (filter (λ header. option_map_or test (role_of header) false) headers)
+abbrev pub names_with : Marks → (Role → Bool) → List (List ℕ) → List (List ℕ)
+names_with marks test headers = map name_in (filter (λ header. option_map_or test (role_of marks header) false) headers)
+
+-- the columns of a file: what kind of file it is, and its headers
+pub record Layout : Type 0 where
+  pub form : Form
+  pub headers : List (List ℕ)

@@ -3,6 +3,7 @@ use Rattle.std.specs.Prelude.{ℕ, Bool, true, false, if◌then◌else◌, [], �
 use Rattle.rp_table.specs.declared.TheConstants.{RECORDS, NEW_RECORDS, BUDGETS, CHOICES}
 use Rattle.rp_text.specs.declared.form.Column.{Column}
 use Rattle.rp_text.specs.declared.form.Form.{Form}
+use Rattle.rp_text.specs.declared.form.Marks.TheVariants.{Goods, Inputs}
 use Rattle.rp_text.specs.declared.form.Role.{Role}
 use Rattle.rp_text.specs.declared.form.Role.TheVariants.{Expenditure, Income, Budget, Times, Output, OutputPrice}
 
@@ -17,6 +18,7 @@ optional role = Some (record { role = role; required = false })
 -- a table has a column of prices and one of quantities for each good, and names its goods
 abbrev pub table_form : Form
 table_form = record {
+  marks = Goods;
   prices = true;
   quantities = true;
   named = None ∷ None ∷ [];
@@ -31,6 +33,7 @@ table_form = record {
 -- the places of the table's quantities
 abbrev pub prices_form : Bool → ℕ → Form
 prices_form with_m places = record {
+  marks = Goods;
   prices = true;
   quantities = false;
   named = (if with_m then required Expenditure else None) ∷ None ∷ [];
@@ -44,6 +47,7 @@ prices_form with_m places = record {
 -- bundles are quantities of a table's goods, at the scale of the table's quantities
 abbrev pub bundles_form : ℕ → Form
 bundles_form places = record {
+  marks = Goods;
   prices = false;
   quantities = true;
   named = None ∷ None ∷ [];
@@ -57,6 +61,7 @@ bundles_form places = record {
 -- budgets name their goods, and have a price of each and an income
 abbrev pub budgets_form : Form
 budgets_form = record {
+  marks = Goods;
   prices = true;
   quantities = false;
   named = required Income ∷ None ∷ [];
@@ -70,6 +75,7 @@ budgets_form = record {
 -- choices are quantities of the goods of some budgets, with the number of a budget and a count
 abbrev pub choices_form : ℕ → Form
 choices_form budgets = record {
+  marks = Goods;
   prices = false;
   quantities = true;
   named = required Budget ∷ required Times ∷ [];
@@ -84,6 +90,7 @@ choices_form budgets = record {
 -- output, and may have the output's price
 abbrev pub technology_form : Form
 technology_form = record {
+  marks = Inputs;
   prices = true;
   quantities = true;
   named = required Output ∷ optional OutputPrice ∷ [];
@@ -97,6 +104,7 @@ technology_form = record {
 -- what is asked of a technology: new prices of its inputs and an output, at the scale of its quantities
 abbrev pub asked_form : ℕ → Form
 asked_form places = record {
+  marks = Inputs;
   prices = true;
   quantities = false;
   named = required Output ∷ None ∷ [];

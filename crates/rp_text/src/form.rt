@@ -2,7 +2,7 @@ ghost use Rattle.std.specs.Prelude.{◌≡◌};
 ghost use Rattle.std.specs.List.{list_any};
 ghost use Rattle.rp_text.specs.Columns.{takes, measures, is_price, is_quantity, header_of};
 ghost use Rattle.rp_text.specs.Columns.{is_headed, has_price_scale, has_quantity_scale};
-ghost use Rattle.rp_text.specs.Columns.{has_income_scale};
+ghost use Rattle.rp_text.specs.Columns.{has_income_scale, mark_of_prices, mark_of_quantities};
 ghost use Rattle.rp_text.specs.Forms as Forms;
 ghost use Rattle.rp_text.specs.Forms.{table_form, prices_form, bundles_form, budgets_form};
 ghost use Rattle.rp_text.specs.Forms.{choices_form, technology_form, asked_form};
@@ -33,6 +33,15 @@ pub enum Role {
     OutputPrice,
 }
 
+/// What the columns of goods are headed by, before the name of a good.
+#[derive(Clone, Copy, Debug)]
+pub enum Marks {
+    /// `p_` for prices and `q_` for quantities.
+    Goods,
+    /// `w_` and `x_`, for the inputs of a technology.
+    Inputs,
+}
+
 /// A column under a header of its own, in files that have to have it or may have it.
 #[derive(Clone, Copy, Debug)]
 pub struct Column {
@@ -43,6 +52,8 @@ pub struct Column {
 /// What a kind of file has: its columns besides an optional `obs`, its limits, and what it is read beside.
 #[derive(Clone, Copy, Debug)]
 pub struct Form {
+    /// What the columns of goods are headed by.
+    pub marks: Marks,
     /// Whether a good has a column of prices.
     pub prices: bool,
     /// Whether a good has a column of quantities.
@@ -87,6 +98,7 @@ impl Form {
         ensures { result ≡ table_form }
     {
         Form {
+            marks: Marks::Goods,
             prices: true,
             quantities: true,
             named: [None, None],
@@ -104,6 +116,7 @@ impl Form {
         ensures { result ≡ prices_form with_m places }
     {
         Form {
+            marks: Marks::Goods,
             prices: true,
             quantities: false,
             named: [
@@ -127,6 +140,7 @@ impl Form {
         ensures { result ≡ bundles_form places }
     {
         Form {
+            marks: Marks::Goods,
             prices: false,
             quantities: true,
             named: [None, None],
@@ -143,6 +157,7 @@ impl Form {
         ensures { result ≡ budgets_form }
     {
         Form {
+            marks: Marks::Goods,
             prices: true,
             quantities: false,
             named: [required(Role::Income), None],
@@ -160,6 +175,7 @@ impl Form {
         ensures { result ≡ choices_form budgets }
     {
         Form {
+            marks: Marks::Goods,
             prices: false,
             quantities: true,
             named: [required(Role::Budget), required(Role::Times)],
@@ -176,6 +192,7 @@ impl Form {
         ensures { result ≡ technology_form }
     {
         Form {
+            marks: Marks::Inputs,
             prices: true,
             quantities: true,
             named: [required(Role::Output), optional(Role::OutputPrice)],
@@ -193,6 +210,7 @@ impl Form {
         ensures { result ≡ asked_form places }
     {
         Form {
+            marks: Marks::Inputs,
             prices: true,
             quantities: false,
             named: [required(Role::Output), None],
@@ -231,6 +249,28 @@ fn is_headed(header: &[u8], column: Option<Column>) -> bool
     match column {
         Some(column) => column.role.header() == header,
         None => false,
+    }
+}
+
+impl Marks {
+    /// The mark of prices.
+    pub fn prices(self) -> &'static [u8]
+        ensures { result.now ≡ mark_of_prices self }
+    {
+        match self {
+            Marks::Goods => b"p_",
+            Marks::Inputs => b"w_",
+        }
+    }
+
+    /// The mark of quantities.
+    pub fn quantities(self) -> &'static [u8]
+        ensures { result.now ≡ mark_of_quantities self }
+    {
+        match self {
+            Marks::Goods => b"q_",
+            Marks::Inputs => b"x_",
+        }
     }
 }
 
