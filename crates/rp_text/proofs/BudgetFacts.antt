@@ -1,5 +1,5 @@
 -- Records without a fault make budgets within the limits.
-use Rattle.std.proofs.Common.{◌≡◌, ℕ, ◌*◌, ◌<◌, ◌≤◌, Bool, true, false, not, ◌&&◌, ◌||◌, List, [], length, slice_index, Option, Some, None, Ok, Err, refl, sym, ap, ◌∙◌, arith}
+use Rattle.std.proofs.Common.{◌≡◌, ℕ, ◌*◌, ◌<◌, ◌≤◌, true, false, List, [], length, slice_index, Option, Some, None, Ok, Err, refl, sym, ap, ◌∙◌, arith}
 use Rattle.std.specs.Prelude.{codes, unwrap_or}
 use Rattle.std.specs.Option.{option_map_or}
 use Rattle.rp_table.specs.declared.TheConstants.{LARGEST_EXPENDITURE}
@@ -13,21 +13,18 @@ use Rattle.rp_text.specs.Fields.{rows_in, fields_stage, figures_of}
 use Rattle.rp_text.specs.Sizes.{sizes_stage}
 use Rattle.rp_text.specs.ChoiceCounts.{column_named}
 use Rattle.rp_text.specs.Denotation.{first_fault, column_of, column_numbers, budget_list, budgets_of, denoted_budgets}
+use Rattle.rp_text.specs.declared.form.Marks.TheVariants.{Goods}
 use Rattle.rp_text.specs.declared.form.Role.{Role}
-use Rattle.rp_text.specs.declared.form.Role.TheVariants.{Observation, Price, Quantity, Expenditure, Income, Budget, Times}
+use Rattle.rp_text.specs.declared.form.Role.TheVariants.{Observation, Price, Quantity, Expenditure, Income, Budget, Times, Output, OutputPrice}
 use Rattle.rp_text.specs.declared.fault.TableFault.{TableFault}
 use Rattle.rp_num.proofs.BelowLemmas.{length-listed}
 use Rattle.rp_text.proofs.RowLemmas.{length-rows, all_rows, all_listed}
-use Rattle.rp_text.proofs.FineHeaders.{FineHeaders, fine_headers}
+use Rattle.rp_text.proofs.FineHeaders.{FineHeaders, fine_headers, required_there}
 use Rattle.rp_text.proofs.GoodHeaders.{price_column}
 use Rattle.rp_text.proofs.ColumnSizes.{sizes_in, sizes_are, price_at}
 use Rattle.rp_text.proofs.AmountColumns.{income_header, income_says, amount_within}
 use Rattle.rp_text.proofs.StageLemmas.{value_denoted, fault_denoted}
 use Rattle.rp_text.proofs.TableMade.{counted, passed}
-
-income_test : (m w b n : Bool) → ((false && not m) || (true && not w) || (false && not b) || (false && not n)) ≡ false → w ≡ true
-income_test m true b n e = refl
-income_test m false b n e = cc e
 
 -- only an income says how much is bought
 measured_role : (o : Option Role) → option_map_or (takes budgets_form) o false ≡ true → measures (unwrap_or o Observation) ≡ true → o ≡ Some Income
@@ -39,14 +36,16 @@ measured_role (Some Expenditure) e m = cc e
 measured_role (Some Income) e m = refl
 measured_role (Some Budget) e m = cc m
 measured_role (Some Times) e m = cc m
+measured_role (Some Output) e m = cc m
+measured_role (Some OutputPrice) e m = cc m
 
 module _ (headers : List (List ℕ)) (records : List (List (List ℕ))) (fine : FineHeaders budgets_form headers) (fine_fields : fields_stage budgets_form headers records ≡ None) (fine_sizes : sizes_stage budgets_form headers (figures_of budgets_form headers records) ≡ None) where
-  price_within : (t g : ℕ) → t < rows_in records → g < length (names_with is_price headers)
-      → (1 ≤ slice_index (text_at (sizes_in budgets_form headers records) t) (column_of price_mark headers (names_with is_price headers) g))
-      × (slice_index (text_at (sizes_in budgets_form headers records) t) (column_of price_mark headers (names_with is_price headers) g) ≤ 9999999)
+  price_within : (t g : ℕ) → t < rows_in records → g < length (names_with Goods is_price headers)
+      → (1 ≤ slice_index (text_at (sizes_in budgets_form headers records) t) (column_of price_mark headers (names_with Goods is_price headers) g))
+      × (slice_index (text_at (sizes_in budgets_form headers records) t) (column_of price_mark headers (names_with Goods is_price headers) g) ≤ 9999999)
   price_within t g row place =
-      let price = price_column headers g place in
-      let at_column : column_of price_mark headers (names_with is_price headers) g ≡ price.0 = ap (λ o. unwrap_or o 0) price.2 in
+      let price = price_column Goods headers g place in
+      let at_column : column_of price_mark headers (names_with Goods is_price headers) g ≡ price.0 = ap (λ o. unwrap_or o 0) price.2 in
       rw at_column (price_at budgets_form headers records fine_fields fine_sizes t price.0 row price.1 price.3)
 
   income_within : (t : ℕ) → t < rows_in records
@@ -54,9 +53,9 @@ module _ (headers : List (List ℕ)) (records : List (List (List ℕ))) (fine : 
       × (slice_index (text_at (sizes_in budgets_form headers records) t) (column_named (codes "w") headers) ≤ LARGEST_EXPENDITURE)
   income_within =
       amount_within budgets_form headers records fine fine_fields fine_sizes (codes "w") Income
-      (income_test (has headers (codes "m")) (has headers (codes "w")) (has headers (codes "budget")) (has headers (codes "n")) fine.columns)
-      income_says refl
-      (λ c column measured. income_header (text_at headers c) (measured_role (role_of (text_at headers c)) (fine.taken c column) measured))
+      (required_there (has headers (codes "w")) _ fine.columns).0
+      (income_says Goods) refl
+      (λ c column measured. income_header _ (text_at headers c) (measured_role (role_of Goods (text_at headers c)) (fine.taken c column) measured))
 
   rows_count : length (sizes_in budgets_form headers records) ≡ rows_in records
   rows_count = sizes_are budgets_form headers records
@@ -65,21 +64,21 @@ module _ (headers : List (List ℕ)) (records : List (List (List ℕ))) (fine : 
   income_count = length-listed _ (length (sizes_in budgets_form headers records))
 
   -- the budgets are within the limits
-  pub budgets_are : 1 ≤ rows_in records → rows_in records ≤ 48 → IsBudgetList (budget_list headers (names_with is_price headers) (sizes_in budgets_form headers records))
+  pub budgets_are : 1 ≤ rows_in records → rows_in records ≤ 48 → IsBudgetList (budget_list headers (names_with Goods is_price headers) (sizes_in budgets_form headers records))
   budgets_are some few = record {
     some_goods = fine.some;
     few_goods = fine.few;
     some_budgets = rw (income_count, rows_count) some;
     few_budgets = rw (income_count, rows_count) few;
-    all_prices = length-rows (length (sizes_in budgets_form headers records)) (length (names_with is_price headers)) _ ∙ ap (λ (k : ℕ). k * length (names_with is_price headers)) (sym income_count);
-    price_limits = all_rows (λ p. (1 ≤ p) × (p ≤ 9999999)) (length (sizes_in budgets_form headers records)) (length (names_with is_price headers)) _
+    all_prices = length-rows (length (sizes_in budgets_form headers records)) (length (names_with Goods is_price headers)) _ ∙ ap (λ (k : ℕ). k * length (names_with Goods is_price headers)) (sym income_count);
+    price_limits = all_rows (λ p. (1 ≤ p) × (p ≤ 9999999)) (length (sizes_in budgets_form headers records)) (length (names_with Goods is_price headers)) _
         (λ t g row place. let inside : t < rows_in records = omega (arith, rows_count) in price_within t g inside place);
     income_limits = all_listed (λ w. (1 ≤ w) × (w ≤ LARGEST_EXPENDITURE)) (length (sizes_in budgets_form headers records)) _
         (λ t row. let inside : t < rows_in records = omega (arith, rows_count) in income_within t inside);
   }
 
 pub budgets_within : (records : List (List (List ℕ))) → first_fault budgets_form [] records ≡ None
-    → IsBudgetList (budget_list (headers_in (record_at records 0)) (names_with is_price (headers_in (record_at records 0))) (sizes_in budgets_form (headers_in (record_at records 0)) records))
+    → IsBudgetList (budget_list (headers_in (record_at records 0)) (names_with Goods is_price (headers_in (record_at records 0))) (sizes_in budgets_form (headers_in (record_at records 0)) records))
 budgets_within records fine =
     let stages = passed budgets_form [] records fine in
     let count = counted budgets_form records stages.3 in
@@ -91,6 +90,6 @@ unfolding denoted_budgets
 refused_budgets records e faulty = fault_denoted (first_fault budgets_form [] records) _ e faulty
 
 pub budgets_there : (records : List (List (List ℕ))) → first_fault budgets_form [] records ≡ None
-    → denoted_budgets records ≡ Ok (budget_list (headers_in (record_at records 0)) (names_with is_price (headers_in (record_at records 0))) (sizes_in budgets_form (headers_in (record_at records 0)) records))
+    → denoted_budgets records ≡ Ok (budget_list (headers_in (record_at records 0)) (names_with Goods is_price (headers_in (record_at records 0))) (sizes_in budgets_form (headers_in (record_at records 0)) records))
 unfolding denoted_budgets budgets_of
 budgets_there records fine = value_denoted (first_fault budgets_form [] records) _ fine

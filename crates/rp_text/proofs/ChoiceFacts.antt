@@ -1,11 +1,11 @@
 -- Records without a fault make choices within the limits.
-use Rattle.std.proofs.Common.{◌≡◌, ℕ, ◌-◌, ◌*◌, ◌<◌, ◌≤◌, Bool, true, false, not, ◌&&◌, ◌||◌, List, length, map, slice_index, Some, None, Ok, Err, refl, sym, ap, ◌∙◌, subst, arith}
+use Rattle.std.proofs.Common.{◌≡◌, ℕ, ◌-◌, ◌*◌, ◌<◌, ◌≤◌, true, List, length, map, slice_index, Some, None, Ok, Err, refl, sym, ap, ◌∙◌, subst, arith}
 use Rattle.std.specs.Prelude.{codes, unwrap_or}
 use Rattle.std.proofs.lemmas.List.{length-map}
 use Rattle.std.proofs.lemmas.List.Elements.{All-map}
 use Rattle.rp_table.specs.ChoiceLists.{IsChoiceList}
 use Rattle.rp_text.specs.Texts.{text_at}
-use Rattle.rp_text.specs.Columns.{role_of, role_at, quantity_mark}
+use Rattle.rp_text.specs.Columns.{role_of, named_role, role_at, quantity_mark}
 use Rattle.rp_text.specs.Forms.{choices_form}
 use Rattle.rp_text.specs.Records.{record_at}
 use Rattle.rp_text.specs.Headers.{headers_in, has, goods_stage}
@@ -13,29 +13,25 @@ use Rattle.rp_text.specs.Fields.{rows_in, fields_stage, figures_of}
 use Rattle.rp_text.specs.Sizes.{limit_of, sizes_stage}
 use Rattle.rp_text.specs.ChoiceCounts.{column_named}
 use Rattle.rp_text.specs.Denotation.{first_fault, column_numbers, choice_list, choices_of, denoted_choices}
+use Rattle.rp_text.specs.declared.form.Marks.TheVariants.{Goods}
 use Rattle.rp_text.specs.declared.form.Role.{Role}
 use Rattle.rp_text.specs.declared.form.Role.TheVariants.{Budget, Times}
 use Rattle.rp_text.specs.declared.fault.TableFault.{TableFault}
 use Rattle.rp_num.proofs.BelowLemmas.{length-listed}
 use Rattle.rp_text.proofs.RowLemmas.{all_listed}
 use Rattle.rp_text.proofs.FieldFaults.{role_is}
-use Rattle.rp_text.proofs.FineHeaders.{FineHeaders, fine_headers, column_there}
+use Rattle.rp_text.proofs.FineHeaders.{FineHeaders, fine_headers, required_there, column_there}
 use Rattle.rp_text.proofs.ColumnSizes.{sizes_in, sizes_are, within_limit, budget_at}
 use Rattle.rp_text.proofs.FixedHeaders.{numbers_within, numbers_of_goods}
 use Rattle.rp_text.proofs.StageLemmas.{value_denoted, fault_denoted}
 use Rattle.rp_text.proofs.TableMade.{counted, passed}
 
-choice_tests : (m w b n : Bool) → ((false && not m) || (false && not w) || (true && not b) || (true && not n)) ≡ false → (b ≡ true) × (n ≡ true)
-choice_tests m w true true e = (refl, refl)
-choice_tests m w true false e = cc e
-choice_tests m w false n e = cc e
-
-pub budget_says : role_of (codes "budget") ≡ Some Budget
-unfolding role_of
+pub budget_says : role_of Goods (codes "budget") ≡ Some Budget
+unfolding role_of named_role
 budget_says = refl
 
-pub times_say : role_of (codes "n") ≡ Some Times
-unfolding role_of
+pub times_say : role_of Goods (codes "n") ≡ Some Times
+unfolding role_of named_role
 times_say = refl
 
 less_one : (n budgets : ℕ) → n ≤ budgets → budgets ≤ 48 → n - 1 < 48
@@ -44,19 +40,21 @@ less_one n budgets within few = omega arith
 module _ (budgets : ℕ) (goods headers : List (List ℕ)) (records : List (List (List ℕ))) (fine : FineHeaders (choices_form budgets) headers) (sound : goods_stage (choices_form budgets) goods headers ≡ None)
     (fine_fields : fields_stage (choices_form budgets) headers records ≡ None) (fine_sizes : sizes_stage (choices_form budgets) headers (figures_of (choices_form budgets) headers records) ≡ None) where
   pub both_there : (has headers (codes "budget") ≡ true) × (has headers (codes "n") ≡ true)
-  both_there = choice_tests (has headers (codes "m")) (has headers (codes "w")) (has headers (codes "budget")) (has headers (codes "n")) fine.columns
+  both_there =
+      let budget = required_there (has headers (codes "budget")) _ fine.columns in
+      (budget.0, (required_there (has headers (codes "n")) _ budget.1).0)
 
   pub budget_within : (t : ℕ) → t < rows_in records → slice_index (text_at (sizes_in (choices_form budgets) headers records) t) (column_named (codes "budget") headers) ≤ budgets
   budget_within t row =
       let column = column_there headers (codes "budget") both_there.0 in
       let at_column : column_named (codes "budget") headers ≡ column.0 = ap (λ o. unwrap_or o 0) column.2 in
-      rw at_column (budget_at (choices_form budgets) headers records fine_fields fine_sizes t column.0 row column.1 (ap role_of column.3 ∙ budget_says))
+      rw at_column (budget_at (choices_form budgets) headers records fine_fields fine_sizes t column.0 row column.1 (ap (role_of Goods) column.3 ∙ budget_says))
 
   times_within : (t : ℕ) → t < rows_in records → slice_index (text_at (sizes_in (choices_form budgets) headers records) t) (column_named (codes "n") headers) ≤ 9999999
   times_within t row =
       let column = column_there headers (codes "n") both_there.1 in
       let at_column : column_named (codes "n") headers ≡ column.0 = ap (λ o. unwrap_or o 0) column.2 in
-      let role : role_at headers column.0 ≡ Times = role_is headers column.0 Times (ap role_of column.3 ∙ times_say) in
+      let role : role_at Goods headers column.0 ≡ Times = role_is _ headers column.0 Times (ap (role_of Goods) column.3 ∙ times_say) in
       let most = subst (λ (r : Role). slice_index (text_at (sizes_in (choices_form budgets) headers records) t) column.0 ≤ limit_of r) role (within_limit (choices_form budgets) headers records fine_fields fine_sizes t column.0 row column.1) in
       rw at_column most
 

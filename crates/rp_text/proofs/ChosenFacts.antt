@@ -16,6 +16,7 @@ use Rattle.rp_text.specs.ChoiceCounts.{column_named, is_chosen, choices_stage}
 use Rattle.rp_text.specs.Chosen.{IsChosenFrom}
 use Rattle.rp_text.specs.Denotation.{fault_under, first_fault, column_numbers, choice_list}
 use Rattle.rp_text.specs.declared.form.Form.{Form}
+use Rattle.rp_text.specs.declared.form.Marks.TheVariants.{Goods}
 use Rattle.rp_text.specs.declared.form.Role.{Role}
 use Rattle.rp_text.specs.declared.form.Role.TheVariants.{Budget, Times}
 use Rattle.rp_text.specs.declared.fault.TableFault.{TableFault}
@@ -68,12 +69,12 @@ module _ (budgets : ℕ) (goods headers : List (List ℕ)) (records : List (List
     (fine_fields : fields_stage (choices_form budgets) headers records ≡ None) (fine_sizes : sizes_stage (choices_form budgets) headers (figures_of (choices_form budgets) headers records) ≡ None)
     (stage : choices_stage (choices_form budgets) headers (figures_of (choices_form budgets) headers records) ≡ None) where
   -- the scaled number in a column of whole numbers is what was written
-  written : (header : List ℕ) (role : Role) → has headers header ≡ true → role_of header ≡ Some role → places_of (choices_form budgets) headers (figures_of (choices_form budgets) headers records) role ≡ 0 → (t : ℕ) → t < rows_in records
+  written : (header : List ℕ) (role : Role) → has headers header ≡ true → role_of Goods header ≡ Some role → places_of (choices_form budgets) headers (figures_of (choices_form budgets) headers records) role ≡ 0 → (t : ℕ) → t < rows_in records
       → slice_index (text_at (sizes_in (choices_form budgets) headers records) t) (column_named header headers) ≡ (figure_at (figures_of (choices_form budgets) headers records) t (column_named header headers)).units
   written header role there says whole t row =
       let column = column_there headers header there in
       let at_column : column_named header headers ≡ column.0 = ap (λ o. unwrap_or o 0) column.2 in
-      rw at_column (unscaled (choices_form budgets) headers records fine_fields fine_sizes t column.0 role row column.1 (ap role_of column.3 ∙ says) whole)
+      rw at_column (unscaled (choices_form budgets) headers records fine_fields fine_sizes t column.0 role row column.1 (ap (role_of Goods) column.3 ∙ says) whole)
 
   -- a number of a budget is the number of one that there is
   pub on_budgets : 1 ≤ budgets → All (λ j. j < budgets) (map (λ number. number - 1) (column_numbers (codes "budget") headers (sizes_in (choices_form budgets) headers records)))

@@ -11,6 +11,7 @@ use Rattle.indexmap.proofs.CallerLemmas.{insert_entry-new}
 use Rattle.indexmap.proofs.MapLemmas.{some_index}
 use Rattle.rp_text.specs.Texts.{text_at, place_of}
 use Rattle.rp_text.specs.Columns.{role_of}
+use Rattle.rp_text.specs.declared.form.Marks.{Marks}
 use Rattle.rp_text.specs.declared.form.Role.{Role}
 
 -- the headers of a map's entries
@@ -18,8 +19,8 @@ abbrev pub headers_of : List (Bor (List ℕ) × Role) → List (List ℕ)
 headers_of entries = map (λ header. header.now) (keys_of entries)
 
 -- each entry says what its header says
-abbrev pub Agrees : List (Bor (List ℕ) × Role) → Type 0
-Agrees entries = All (λ entry. role_of entry.0.now ≡ Some entry.1) entries
+abbrev pub Agrees : Marks → List (Bor (List ℕ) × Role) → Type 0
+Agrees marks entries = All (λ entry. role_of marks entry.0.now ≡ Some entry.1) entries
 
 first_of_map : {X : Type 0} (p : List ℕ → Bool) (f : X → List ℕ) (xs : List X) → position_or_len (λ x. p (f x)) xs ≡ position_or_len p (map f xs)
 first_of_map p f [] = refl
@@ -38,8 +39,8 @@ header_there (entry ∷ entries) zero header role is =
     ap (λ (e : Bor (List ℕ) × Role). e.0.now) same
 header_there (entry ∷ entries) (suc c) header role is = header_there entries c header role is
 
-pub role_there : (entries : List (Bor (List ℕ) × Role)) (c : ℕ) (header : Bor (List ℕ)) (role : Role) → Agrees entries → Some (header, role) ≡ slice_get entries c → role_of (text_at (headers_of entries) c) ≡ Some role
-role_there entries c header role agrees is =
+pub role_there : (marks : Marks) (entries : List (Bor (List ℕ) × Role)) (c : ℕ) (header : Bor (List ℕ)) (role : Role) → Agrees marks entries → Some (header, role) ≡ slice_get entries c → role_of marks (text_at (headers_of entries) c) ≡ Some role
+role_there marks entries c header role agrees is =
     let within = slice_get_within entries c (header, role) (sym is) in
     let there : get_or entries c (header, role) ≡ (header, role) = get_or_from_slice_get entries c (header, role) (header, role) (sym is) in
     let says = rw there at (agrees c (header, role) within) in
@@ -60,7 +61,7 @@ pub headers-more : (entries : List (Bor (List ℕ) × Role)) (header : Bor (List
 headers-more entries header role =
     ap (map (λ (key : Bor (List ℕ)). key.now)) (map_push (λ (e : Bor (List ℕ) × Role). e.0) entries (header, role)) ∙ map_push (λ (key : Bor (List ℕ)). key.now) (keys_of entries) header
 
-pub agrees-more : (entries after : List (Bor (List ℕ) × Role)) (header : Bor (List ℕ)) (role : Role) → after ≡ entries ++ (header, role) ∷ [] → Agrees entries → role_of header.now ≡ Some role → Agrees after
-agrees-more entries after header role is agrees says =
-    All-same (λ (entry : Bor (List ℕ) × Role). role_of entry.0.now ≡ Some entry.1) after (entries ++ (header, role) ∷ []) is
-    (All-push (λ (entry : Bor (List ℕ) × Role). role_of entry.0.now ≡ Some entry.1) entries (header, role) agrees says)
+pub agrees-more : (marks : Marks) (entries after : List (Bor (List ℕ) × Role)) (header : Bor (List ℕ)) (role : Role) → after ≡ entries ++ (header, role) ∷ [] → Agrees marks entries → role_of marks header.now ≡ Some role → Agrees marks after
+agrees-more marks entries after header role is agrees says =
+    All-same (λ (entry : Bor (List ℕ) × Role). role_of marks entry.0.now ≡ Some entry.1) after (entries ++ (header, role) ∷ []) is
+    (All-push (λ (entry : Bor (List ℕ) × Role). role_of marks entry.0.now ≡ Some entry.1) entries (header, role) agrees says)

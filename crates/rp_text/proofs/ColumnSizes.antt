@@ -44,7 +44,7 @@ over_zero n e = grind (arith, nat_tests)
 
 module _ (form : Form) (headers : List (List ℕ)) (records : List (List (List ℕ))) (fine_fields : fields_stage form headers records ≡ None) (fine_sizes : sizes_stage form headers (figures_of form headers records) ≡ None) where
   -- a scaled number is within the limit of its role
-  pub within_limit : (t c : ℕ) → t < rows_in records → c < length headers → slice_index (text_at (sizes_in form headers records) t) c ≤ limit_of (role_at headers c)
+  pub within_limit : (t c : ℕ) → t < rows_in records → c < length headers → slice_index (text_at (sizes_in form headers records) t) c ≤ limit_of (role_at form.marks headers c)
   within_limit t c row column =
       let inside : t < length (figures_of form headers records) = omega (arith, rows_are form headers records) in
       rw (size_listed form headers (figures_of form headers records) t c inside column) (good_size form headers (figures_of form headers records) t c inside column fine_sizes).1
@@ -56,38 +56,38 @@ module _ (form : Form) (headers : List (List ℕ)) (records : List (List (List �
       rw (size_listed form headers (figures_of form headers records) t c inside column) (some_size form headers (figures_of form headers records) t c inside column fine_sizes units)
 
   -- a scaled price is not 0 and within the limit
-  pub price_at : (t c : ℕ) → t < rows_in records → c < length headers → role_of (text_at headers c) ≡ Some Price
+  pub price_at : (t c : ℕ) → t < rows_in records → c < length headers → role_of form.marks (text_at headers c) ≡ Some Price
       → (1 ≤ slice_index (text_at (sizes_in form headers records) t) c) × (slice_index (text_at (sizes_in form headers records) t) c ≤ 9999999)
   price_at t c row column says =
-      let limit : limit_of (role_at headers c) ≡ 9999999 = ap limit_of (role_is headers c Price says) in
+      let limit : limit_of (role_at form.marks headers c) ≡ 9999999 = ap limit_of (role_is _ headers c Price says) in
       (some_at t c row column (price_units form headers records t c row column fine_fields says), rw (← limit) (within_limit t c row column))
 
   -- a number of a role without places is what was written
-  pub unscaled : (t c : ℕ) (role : Role) → t < rows_in records → c < length headers → role_of (text_at headers c) ≡ Some role → places_of form headers (figures_of form headers records) role ≡ 0
+  pub unscaled : (t c : ℕ) (role : Role) → t < rows_in records → c < length headers → role_of form.marks (text_at headers c) ≡ Some role → places_of form headers (figures_of form headers records) role ≡ 0
       → slice_index (text_at (sizes_in form headers records) t) c ≡ (figure_at (figures_of form headers records) t c).units
   unscaled t c role row column says whole =
       let figures = figures_of form headers records in
       let inside : t < length figures = omega (arith, rows_are form headers records) in
       let size = (good_size form headers figures t c inside column fine_sizes).0 in
-      let places : places_of form headers figures (role_at headers c) ≡ 0 = ap (λ (r : Role). places_of form headers figures r) (role_is headers c role says) ∙ whole in
-      let none : places_of form headers figures (role_at headers c) - (figure_at figures t c).places ≡ 0 = omega (arith, places) in
+      let places : places_of form headers figures (role_at form.marks headers c) ≡ 0 = ap (λ (r : Role). places_of form headers figures r) (role_is _ headers c role says) ∙ whole in
+      let none : places_of form headers figures (role_at form.marks headers c) - (figure_at figures t c).places ≡ 0 = omega (arith, places) in
       let one = ap (λ (k : ℕ). (figure_at figures t c).units * 10 ^ k) none in
       let units : (figure_at figures t c).units * 10 ^ 0 ≡ (figure_at figures t c).units = omega arith in
       size_listed form headers figures t c inside column ∙ size ∙ one ∙ units
 
   -- the number of a budget is that of one there is
-  pub budget_at : (t c : ℕ) → t < rows_in records → c < length headers → role_of (text_at headers c) ≡ Some Budget → slice_index (text_at (sizes_in form headers records) t) c ≤ form.budgets
+  pub budget_at : (t c : ℕ) → t < rows_in records → c < length headers → role_of form.marks (text_at headers c) ≡ Some Budget → slice_index (text_at (sizes_in form headers records) t) c ≤ form.budgets
   unfolding places_of
   budget_at t c row column says = rw (unscaled t c Budget row column says refl) (budget_units form headers records t c row column fine_fields says)
 
   -- where a column says how much is bought, some such number is not 0
-  pub bought_at : (t c : ℕ) → t < rows_in records → c < length headers → measures (role_at headers c) ≡ true
-      → (k : ℕ) × (k < length headers) × (measures (role_at headers k) ≡ true) × (1 ≤ slice_index (text_at (sizes_in form headers records) t) k)
+  pub bought_at : (t c : ℕ) → t < rows_in records → c < length headers → measures (role_at form.marks headers c) ≡ true
+      → (k : ℕ) × (k < length headers) × (measures (role_at form.marks headers k) ≡ true) × (1 ≤ slice_index (text_at (sizes_in form headers records) t) k)
   bought_at t c row column measured =
-      let says : any_below (length headers) (λ k. measures (role_at headers k)) ≡ true = one_holds (λ k. measures (role_at headers k)) c (length headers) column measured in
+      let says : any_below (length headers) (λ k. measures (role_at form.marks headers k)) ≡ true = one_holds (λ k. measures (role_at form.marks headers k)) c (length headers) column measured in
       let bought = bought_test _ _ (good_record form headers records t row fine_fields).1 says in
-      let found = one_below (λ k. measures (role_at headers k) && nat_lt 0 (figure form headers records t k).units) (length headers) bought in
-      let both = and_both (measures (role_at headers found.0)) _ found.2 in
+      let found = one_below (λ k. measures (role_at form.marks headers k) && nat_lt 0 (figure form headers records t k).units) (length headers) bought in
+      let both = and_both (measures (role_at form.marks headers found.0)) _ found.2 in
       let some = over_zero (figure form headers records t found.0).units both.1 in
       let units : 1 ≤ (figure_at (figures_of form headers records) t found.0).units = rw (figure_there form headers records t found.0 row found.1) some in
       (found.0, found.1, both.0, some_at t found.0 row found.1 units)

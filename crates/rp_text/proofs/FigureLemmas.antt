@@ -19,7 +19,7 @@ use Rattle.rp_text.specs.Fields.{nothing, measured, priced, whole, budgeted, fie
 use Rattle.rp_text.specs.Sizes.{figure_at, greatest_places, places_of, limit_of, size_of, size_at, scaled, sizes_of, sizes_stage, shares_scale}
 use Rattle.rp_text.specs.declared.form.Form.{Form}
 use Rattle.rp_text.specs.declared.form.Role.{Role}
-use Rattle.rp_text.specs.declared.form.Role.TheVariants.{Observation, Price, Quantity, Expenditure, Income, Budget, Times}
+use Rattle.rp_text.specs.declared.form.Role.TheVariants.{Observation, Price, Quantity, Expenditure, Income, Budget, Times, Output, OutputPrice}
 use Rattle.rp_text.specs.declared.fault.TableFault.{TableFault}
 use Rattle.rp_text.specs.declared.fault.TableFault.TheVariants as fault
 use Rattle.rp_text.proofs.FieldFaults.{role_is}
@@ -91,6 +91,8 @@ field_few budgets Expenditure text row column = measured_few (decimal_of text) r
 field_few budgets Income text row column = measured_few (decimal_of text) row column (decimal_few text)
 field_few budgets Budget text row column = budgeted_few budgets (whole (decimal_of text) row column) row (whole_few (decimal_of text) row column (decimal_few text))
 field_few budgets Times text row column = whole_few (decimal_of text) row column (decimal_few text)
+field_few budgets Output text row column = measured_few (decimal_of text) row column (decimal_few text)
+field_few budgets OutputPrice text row column = priced_few (measured (decimal_of text) row column) row column (measured_few (decimal_of text) row column (decimal_few text))
 
 unwrap_few : (r : Result Decimal TableFault) → Few r → (result_unwrap_or r nothing).places ≤ 6
 unfolding Few
@@ -100,7 +102,7 @@ unwrap_few (Err e) h = omega arith
 figure_few : (form : Form) (headers : List (List ℕ)) (records : List (List (List ℕ))) (t c : ℕ) → (figure form headers records t c).places ≤ 6
 unfolding field_at
 figure_few form headers records t c =
-    unwrap_few (field_of form.budgets (role_at headers c) (trimmed (text_at (row_at records t) c)) (number_of t) (number_of c)) (field_few form.budgets (role_at headers c) (trimmed (text_at (row_at records t) c)) (number_of t) (number_of c))
+    unwrap_few (field_of form.budgets (role_at form.marks headers c) (trimmed (text_at (row_at records t) c)) (number_of t) (number_of c)) (field_few form.budgets (role_at form.marks headers c) (trimmed (text_at (row_at records t) c)) (number_of t) (number_of c))
 
 -- the rows have the length of the headers
 pub whole_rows : (form : Form) (headers : List (List ℕ)) (records : List (List (List ℕ))) → All (λ row. length row ≡ length headers) (figures_of form headers records)
@@ -118,14 +120,14 @@ pub rows_are : (form : Form) (headers : List (List ℕ)) (records : List (List (
 rows_are form headers records = length-listed (λ t. listed (length headers) (figure form headers records t)) (rows_in records)
 
 -- a scale has at most six places
-pub few_places : (form : Form) (headers : List (List ℕ)) (records : List (List (List ℕ))) (role : Role) → greatest_places headers (figures_of form headers records) role ≤ 6
+pub few_places : (form : Form) (headers : List (List ℕ)) (records : List (List (List ℕ))) (role : Role) → greatest_places form.marks headers (figures_of form headers records) role ≤ 6
 unfolding greatest_places
 few_places form headers records role =
     greatest_at_most _ (length (figures_of form headers records)) 6 (λ t row.
     greatest_at_most _ (length headers) 6 (λ c column.
     let there = figure_there form headers records t c (omega (arith, rows_are form headers records)) column in
     let few : (figure_at (figures_of form headers records) t c).places ≤ 6 = rw there (figure_few form headers records t c) in
-    chosen (shares_scale role (role_at headers c)) (figure_at (figures_of form headers records) t c).places few))
+    chosen (shares_scale role (role_at form.marks headers c)) (figure_at (figures_of form headers records) t c).places few))
   where
     chosen : (b : Bool) (n : ℕ) → n ≤ 6 → (if b then n else 0) ≤ 6
     chosen true n h = h
@@ -138,10 +140,10 @@ record_tests false b f x y e = cc e
 
 -- a record without a fault
 pub good_record : (form : Form) (headers : List (List ℕ)) (records : List (List (List ℕ))) (t : ℕ) → t < rows_in records → fields_stage form headers records ≡ None
-    → (first_of (length headers) (λ c. result_err (field_at form headers records t c)) ≡ None) × (buys_nothing headers (figure form headers records t) ≡ false)
+    → (first_of (length headers) (λ c. result_err (field_at form headers records t c)) ≡ None) × (buys_nothing form.marks headers (figure form headers records t) ≡ false)
 unfolding fields_stage record_fault
 good_record form headers records t row fine_fields =
-    record_tests (length (row_at records t) == length headers) (buys_nothing headers (figure form headers records t)) (first_of (length headers) (λ c. result_err (field_at form headers records t c))) _ _ (none_below (record_fault form headers records) (rows_in records) t fine_fields row)
+    record_tests (length (row_at records t) == length headers) (buys_nothing form.marks headers (figure form headers records t)) (first_of (length headers) (λ c. result_err (field_at form headers records t c))) _ _ (none_below (record_fault form headers records) (rows_in records) t fine_fields row)
 
 some_units : (r : Result Decimal TableFault) (row column : ℕ) (d : Decimal) → priced r row column ≡ Ok d → 1 ≤ d.units
 some_units (Ok e) row column d is = by (e.units == 0) refl (fault.ZeroPrice row column) is
@@ -157,12 +159,12 @@ some_units (Ok e) row column d is = by (e.units == 0) refl (fault.ZeroPrice row 
 some_units (Err e) row column d is = cc is
 
 -- a price is not 0
-pub price_units : (form : Form) (headers : List (List ℕ)) (records : List (List (List ℕ))) (t c : ℕ) → t < rows_in records → c < length headers → fields_stage form headers records ≡ None → role_of (text_at headers c) ≡ Some Price
+pub price_units : (form : Form) (headers : List (List ℕ)) (records : List (List (List ℕ))) (t c : ℕ) → t < rows_in records → c < length headers → fields_stage form headers records ≡ None → role_of form.marks (text_at headers c) ≡ Some Price
     → 1 ≤ (figure_at (figures_of form headers records) t c).units
 unfolding field_at field_of
 price_units form headers records t c row column fine_fields says =
     let ok = fine (field_at form headers records t c) nothing (none_below (λ k. result_err (field_at form headers records t k)) (length headers) c (good_record form headers records t row fine_fields).0 column) in
-    let price = subst (λ (role : Role). field_of form.budgets role (trimmed (text_at (row_at records t) c)) (number_of t) (number_of c) ≡ Ok (figure form headers records t c)) (role_is headers c Price says) ok in
+    let price = subst (λ (role : Role). field_of form.budgets role (trimmed (text_at (row_at records t) c)) (number_of t) (number_of c) ≡ Ok (figure form headers records t c)) (role_is _ headers c Price says) ok in
     let some = some_units (measured (decimal_of (trimmed (text_at (row_at records t) c))) (number_of t) (number_of c)) (number_of t) (number_of c) (figure form headers records t c) price in
     rw (figure_there form headers records t c row column) some
 
@@ -181,12 +183,12 @@ known_units budgets (Ok e) row d is = by (nat_le 1 e.units) (nat_le e.units budg
 known_units budgets (Err e) row d is = cc is
 
 -- the number of a budget is that of one there is
-pub budget_units : (form : Form) (headers : List (List ℕ)) (records : List (List (List ℕ))) (t c : ℕ) → t < rows_in records → c < length headers → fields_stage form headers records ≡ None → role_of (text_at headers c) ≡ Some Budget
+pub budget_units : (form : Form) (headers : List (List ℕ)) (records : List (List (List ℕ))) (t c : ℕ) → t < rows_in records → c < length headers → fields_stage form headers records ≡ None → role_of form.marks (text_at headers c) ≡ Some Budget
     → (figure_at (figures_of form headers records) t c).units ≤ form.budgets
 unfolding field_at field_of
 budget_units form headers records t c row column fine_fields says =
     let ok = fine (field_at form headers records t c) nothing (none_below (λ k. result_err (field_at form headers records t k)) (length headers) c (good_record form headers records t row fine_fields).0 column) in
-    let budget = subst (λ (role : Role). field_of form.budgets role (trimmed (text_at (row_at records t) c)) (number_of t) (number_of c) ≡ Ok (figure form headers records t c)) (role_is headers c Budget says) ok in
+    let budget = subst (λ (role : Role). field_of form.budgets role (trimmed (text_at (row_at records t) c)) (number_of t) (number_of c) ≡ Ok (figure form headers records t c)) (role_is _ headers c Budget says) ok in
     let known = known_units form.budgets (whole (decimal_of (trimmed (text_at (row_at records t) c))) (number_of t) (number_of c)) (number_of t) (figure form headers records t c) budget in
     rw (figure_there form headers records t c row column) known
 
@@ -205,18 +207,18 @@ size_tests d places limit row column v is = by (nat_lt places d.places) (nat_lt 
 
 -- a scaled number without a fault
 pub good_size : (form : Form) (headers : List (List ℕ)) (figures : List (List Decimal)) (t c : ℕ) → t < length figures → c < length headers → sizes_stage form headers figures ≡ None
-    → (scaled form headers figures t c ≡ (figure_at figures t c).units * 10 ^ (places_of form headers figures (role_at headers c) - (figure_at figures t c).places)) × (scaled form headers figures t c ≤ limit_of (role_at headers c))
+    → (scaled form headers figures t c ≡ (figure_at figures t c).units * 10 ^ (places_of form headers figures (role_at form.marks headers c) - (figure_at figures t c).places)) × (scaled form headers figures t c ≤ limit_of (role_at form.marks headers c))
 unfolding sizes_stage size_at
 good_size form headers figures t c row column fine_sizes =
     let in_row = none_below (λ s. first_of (length headers) (λ k. result_err (size_at form headers figures s k))) (length figures) t fine_sizes row in
     let ok = fine (size_at form headers figures t c) 0 (none_below (λ k. result_err (size_at form headers figures t k)) (length headers) c in_row column) in
-    size_tests (figure_at figures t c) (places_of form headers figures (role_at headers c)) (limit_of (role_at headers c)) (number_of t) (number_of c) (scaled form headers figures t c) ok
+    size_tests (figure_at figures t c) (places_of form headers figures (role_at form.marks headers c)) (limit_of (role_at form.marks headers c)) (number_of t) (number_of c) (scaled form headers figures t c) ok
 
 -- units that are not 0 give a scaled number that is not
 pub some_size : (form : Form) (headers : List (List ℕ)) (figures : List (List Decimal)) (t c : ℕ) → t < length figures → c < length headers → sizes_stage form headers figures ≡ None → 1 ≤ (figure_at figures t c).units
     → 1 ≤ scaled form headers figures t c
 some_size form headers figures t c row column fine_sizes some =
-    let k = places_of form headers figures (role_at headers c) - (figure_at figures t c).places in
+    let k = places_of form headers figures (role_at form.marks headers c) - (figure_at figures t c).places in
     let power : 1 ≤ 10 ^ k = pow-le-pow_right {n = 10} (lit< tt) {i = 0} {j = k} (omega arith) in
     let product : 1 * 1 ≤ (figure_at figures t c).units * 10 ^ k = mul-le 1 1 (figure_at figures t c).units (10 ^ k) some power in
     rw (good_size form headers figures t c row column fine_sizes).0 product

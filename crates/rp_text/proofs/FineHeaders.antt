@@ -1,5 +1,5 @@
 -- Headers that have no fault in a file of any kind: each has a role that the file takes, and stands once.
-use Rattle.std.proofs.Common.{◌≡◌, ◌≢◌, ℕ, ◌<◌, ◌≤◌, Bool, true, false, not, ◌||◌, ◌==◌, if◌then◌else◌, List, [], length, take, Option, Some, None, is_some, refl, ◌∙◌, arith}
+use Rattle.std.proofs.Common.{◌≡◌, ◌≢◌, ℕ, ◌<◌, ◌≤◌, Bool, true, false, not, ◌&&◌, ◌||◌, ◌==◌, if◌then◌else◌, List, [], length, take, Option, Some, None, is_some, refl, ◌∙◌, arith}
 use Rattle.std.specs.List.{AllPairs}
 use Rattle.std.specs.Option.{option_map_or}
 use Rattle.std.proofs.lemmas.Bool.Decides.{nat_tests}
@@ -13,7 +13,7 @@ use Rattle.rp_text.proofs.PlaceLemmas.{lt_false, absent, found_at, none_or, none
 
 -- headers without a fault
 pub record FineHeaders (form : Form) (headers : List (List ℕ)) : Type 0 where
-  pub taken : (c : ℕ) → c < length headers → option_map_or (takes form) (role_of (text_at headers c)) false ≡ true
+  pub taken : (c : ℕ) → c < length headers → option_map_or (takes form) (role_of form.marks (text_at headers c)) false ≡ true
   pub distinct : (i j : ℕ) → i < j → j < length headers → text_at headers i ≡ text_at headers j → ⊥
   pub columns : lacks_column form headers ≡ false
   pub some : 1 ≤ length (names_of form headers)
@@ -32,10 +32,10 @@ pub there_from : {A : Type 0} (o : Option A) → is_some o ≡ true → (x : A) 
 there_from None e = cc e
 there_from (Some x) e = (x, refl)
 
-fine_header : (form : Form) (headers : List (List ℕ)) (c : ℕ) → header_fault form headers c ≡ None → (option_map_or (takes form) (role_of (text_at headers c)) false ≡ true) × (place_of (take c headers) (text_at headers c) ≡ None)
+fine_header : (form : Form) (headers : List (List ℕ)) (c : ℕ) → header_fault form headers c ≡ None → (option_map_or (takes form) (role_of form.marks (text_at headers c)) false ≡ true) × (place_of (take c headers) (text_at headers c) ≡ None)
 unfolding header_fault
 fine_header form headers c fine =
-    let both = tests (option_map_or (takes form) (role_of (text_at headers c)) false) (has (take c headers) (text_at headers c)) _ _ fine in
+    let both = tests (option_map_or (takes form) (role_of form.marks (text_at headers c)) false) (has (take c headers) (text_at headers c)) _ _ fine in
     (both.0, absent_from (place_of (take c headers) (text_at headers c)) both.1)
 
 missing_test : (a b : Bool) (f : TableFault) (rest : Option TableFault) → (if a || b then Some f else rest) ≡ None → (a ≡ false) × (b ≡ false)
@@ -62,7 +62,7 @@ fine_goods form goods headers fine =
 pub fine_headers : (form : Form) (goods headers : List (List ℕ)) → headers_stage form headers ≡ None → goods_stage form goods headers ≡ None → FineHeaders form headers
 unfolding headers_stage missing_fault goods_count_fault
 fine_headers form goods headers fine of_goods =
-    let each : (c : ℕ) → c < length headers → (option_map_or (takes form) (role_of (text_at headers c)) false ≡ true) × (place_of (take c headers) (text_at headers c) ≡ None) =
+    let each : (c : ℕ) → c < length headers → (option_map_or (takes form) (role_of form.marks (text_at headers c)) false ≡ true) × (place_of (take c headers) (text_at headers c) ≡ None) =
     λ c within. fine_header form headers c (none_below (header_fault form headers) (length headers) c fine within) in
     let stages = fine_goods form goods headers of_goods in
     let missing = missing_test (length (names_of form headers) == 0) (lacks_column form headers) _ _ stages.1 in
@@ -74,6 +74,11 @@ fine_headers form goods headers fine of_goods =
       some = not_zero (length (names_of form headers)) missing.0;
       few = lt_false 16 (length (names_of form headers)) (few_test _ _ stages.2);
     }
+
+-- a column that is required is there
+pub required_there : (there rest : Bool) → ((true && not there) || rest) ≡ false → (there ≡ true) × (rest ≡ false)
+required_there true rest e = (refl, e)
+required_there false rest e = cc e
 
 -- one place has each header
 pub same_place : {form : Form} (headers : List (List ℕ)) → FineHeaders form headers → (i j : ℕ) → i < length headers → j < length headers → text_at headers i ≡ text_at headers j → i ≡ j

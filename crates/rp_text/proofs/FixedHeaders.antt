@@ -7,12 +7,14 @@ use Rattle.std.proofs.Math.Nat.{mul-div_cancel}
 use Rattle.rp_table.specs.Rows.{rows_count}
 use Rattle.rp_num.specs.Below.{any_below}
 use Rattle.rp_text.specs.Texts.{text_at, place_of}
-use Rattle.rp_text.specs.Columns.{role_of, good_role, takes, is_name, price_mark, quantity_mark}
+use Rattle.rp_text.specs.Columns.{role_of, named_role, good_role, takes, is_name, mark_of_prices, mark_of_quantities}
 use Rattle.rp_text.specs.Headers.{has, good_mark, lacks_column, lacks_good, names_of, missing_fault, goods_stage}
 use Rattle.rp_text.specs.Fields.{figures_of, rows_in, fields_stage}
 use Rattle.rp_text.specs.Sizes.{limit_of, sizes_stage}
 use Rattle.rp_text.specs.Denotation.{column_of, numbers_under}
 use Rattle.rp_text.specs.declared.form.Form.{Form}
+use Rattle.rp_text.specs.declared.form.Marks.{Marks}
+use Rattle.rp_text.specs.declared.form.Marks.TheVariants.{Goods, Inputs}
 use Rattle.rp_text.specs.declared.form.Role.{Role}
 use Rattle.rp_text.specs.declared.form.Role.TheVariants.{Price, Quantity}
 use Rattle.rp_text.specs.declared.fault.TableFault.{TableFault}
@@ -50,30 +52,28 @@ none_missing form goods headers sound =
 abbrev pub good_kind : Form → Role
 good_kind form = if form.prices then Price else Quantity
 
-price_role : (form : Form) (name : List ℕ) → option_map_or (takes form) (role_of (price_mark ++ name)) false ≡ true → role_of (price_mark ++ name) ≡ Some Price
-unfolding role_of good_role
-price_role form name e = by (is_name name) e
-  where
-    by : (b : Bool) → option_map_or (takes form) (if not b then None else Some Price) false ≡ true → (if not b then None else Some Price) ≡ Some Price
-    by true h = refl
-    by false h = cc h
+named_or_none : (form : Form) (role : Role) (b : Bool) → option_map_or (takes form) (if not b then None else Some role) false ≡ true → (if not b then None else Some role) ≡ Some role
+named_or_none form role true e = refl
+named_or_none form role false e = cc e
 
-quantity_role : (form : Form) (name : List ℕ) → option_map_or (takes form) (role_of (quantity_mark ++ name)) false ≡ true → role_of (quantity_mark ++ name) ≡ Some Quantity
-unfolding role_of good_role
-quantity_role form name e = by (is_name name) e
-  where
-    by : (b : Bool) → option_map_or (takes form) (if not b then None else Some Quantity) false ≡ true → (if not b then None else Some Quantity) ≡ Some Quantity
-    by true h = refl
-    by false h = cc h
+price_role : (form : Form) (marks : Marks) (name : List ℕ) → option_map_or (takes form) (role_of marks (mark_of_prices marks ++ name)) false ≡ true → role_of marks (mark_of_prices marks ++ name) ≡ Some Price
+unfolding role_of named_role good_role
+price_role form Goods name e = named_or_none form Price (is_name name) e
+price_role form Inputs name e = named_or_none form Price (is_name name) e
+
+quantity_role : (form : Form) (marks : Marks) (name : List ℕ) → option_map_or (takes form) (role_of marks (mark_of_quantities marks ++ name)) false ≡ true → role_of marks (mark_of_quantities marks ++ name) ≡ Some Quantity
+unfolding role_of named_role good_role
+quantity_role form Goods name e = named_or_none form Quantity (is_name name) e
+quantity_role form Inputs name e = named_or_none form Quantity (is_name name) e
 
 -- a header with the mark of goods that says something is that of a good
-marked_role : (form : Form) (name : List ℕ) → option_map_or (takes form) (role_of (good_mark form ++ name)) false ≡ true → role_of (good_mark form ++ name) ≡ Some (good_kind form)
+marked_role : (form : Form) (name : List ℕ) → option_map_or (takes form) (role_of form.marks (good_mark form ++ name)) false ≡ true → role_of form.marks (good_mark form ++ name) ≡ Some (good_kind form)
 marked_role form name e = by form.prices e
   where
-    by : (b : Bool) → option_map_or (takes form) (role_of ((if b then price_mark else quantity_mark) ++ name)) false ≡ true
-        → role_of ((if b then price_mark else quantity_mark) ++ name) ≡ Some (if b then Price else Quantity)
-    by true h = price_role form name h
-    by false h = quantity_role form name h
+    by : (b : Bool) → option_map_or (takes form) (role_of form.marks ((if b then mark_of_prices form.marks else mark_of_quantities form.marks) ++ name)) false ≡ true
+        → role_of form.marks ((if b then mark_of_prices form.marks else mark_of_quantities form.marks) ++ name) ≡ Some (if b then Price else Quantity)
+    by true h = price_role form form.marks name h
+    by false h = quantity_role form form.marks name h
 
 good_limit : (form : Form) → limit_of (good_kind form) ≡ 9999999
 good_limit form = by form.prices
@@ -84,13 +84,13 @@ good_limit form = by form.prices
 
 -- the column of a given good
 pub good_column : (form : Form) (goods headers : List (List ℕ)) → FineHeaders form headers → form.fixed_goods ≡ true → goods_stage form goods headers ≡ None → (g : ℕ) → g < length goods
-    → (c : ℕ) × (c < length headers) × (place_of headers (good_mark form ++ text_at goods g) ≡ Some c) × (role_of (text_at headers c) ≡ Some (good_kind form))
+    → (c : ℕ) × (c < length headers) × (place_of headers (good_mark form ++ text_at goods g) ≡ Some c) × (role_of form.marks (text_at headers c) ≡ Some (good_kind form))
 good_column form goods headers fine given sound g within =
     let all = given_test form.fixed_goods (lacks_good form goods headers) (none_missing form goods headers sound) given in
     let there = not_false (has headers (good_mark form ++ text_at goods g)) (none_of (λ k. not (has headers (good_mark form ++ text_at goods k))) (length goods) g all within) in
     let column = column_there headers (good_mark form ++ text_at goods g) there in
-    let says = marked_role form (text_at goods g) (subst (λ (h : List ℕ). option_map_or (takes form) (role_of h) false ≡ true) column.3 (fine.taken column.0 column.1)) in
-    (column.0, column.1, column.2, ap role_of column.3 ∙ says)
+    let says = marked_role form (text_at goods g) (subst (λ (h : List ℕ). option_map_or (takes form) (role_of form.marks h) false ≡ true) column.3 (fine.taken column.0 column.1)) in
+    (column.0, column.1, column.2, ap (role_of form.marks) column.3 ∙ says)
 
 module _ (form : Form) (goods headers : List (List ℕ)) (records : List (List (List ℕ))) (fine : FineHeaders form headers) (given : form.fixed_goods ≡ true) (sound : goods_stage form goods headers ≡ None)
     (fine_fields : fields_stage form headers records ≡ None) (fine_sizes : sizes_stage form headers (figures_of form headers records) ≡ None) where
@@ -99,7 +99,7 @@ module _ (form : Form) (goods headers : List (List ℕ)) (records : List (List (
   number_within t g row place =
       let column = good_column form goods headers fine given sound g place in
       let at_column : column_of (good_mark form) headers goods g ≡ column.0 = ap (λ o. unwrap_or o 0) column.2 in
-      let limit = ap limit_of (role_is headers column.0 (good_kind form) column.3) ∙ good_limit form in
+      let limit = ap limit_of (role_is _ headers column.0 (good_kind form) column.3) ∙ good_limit form in
       rw (at_column, ← limit) (within_limit form headers records fine_fields fine_sizes t column.0 row column.1)
 
   -- a scaled price is not 0
@@ -109,7 +109,7 @@ module _ (form : Form) (goods headers : List (List ℕ)) (records : List (List (
   price_within priced t g row place =
       let column = good_column form goods headers fine given sound g place in
       let at_column : column_of (good_mark form) headers goods g ≡ column.0 = ap (λ o. unwrap_or o 0) column.2 in
-      let price : role_of (text_at headers column.0) ≡ Some Price = column.3 ∙ ap (λ (b : Bool). Some (if b then Price else Quantity)) priced in
+      let price : role_of form.marks (text_at headers column.0) ≡ Some Price = column.3 ∙ ap (λ (b : Bool). Some (if b then Price else Quantity)) priced in
       rw at_column (price_at form headers records fine_fields fine_sizes t column.0 row column.1 price)
 
   -- all of them

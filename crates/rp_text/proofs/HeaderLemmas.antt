@@ -16,7 +16,7 @@ header_at fields c within = get_or-map trimmed fields c [] [] within
 
 -- a header that such files do not take
 pub bad_header : (form : Form) (fields : List (List ℕ)) (header : List ℕ) (c number : ℕ) → c < length fields → header ≡ trimmed (text_at fields c) → number ≡ number_of c
-    → first_of c (header_fault form (headers_in fields)) ≡ None → option_map_or (takes form) (role_of header) false ≡ false
+    → first_of c (header_fault form (headers_in fields)) ≡ None → option_map_or (takes form) (role_of form.marks header) false ≡ false
     → headers_stage form (headers_in fields) ≡ Some (fault.BadHeader number)
 unfolding headers_stage header_fault
 bad_header form fields header c number within is told before bad =
@@ -26,7 +26,7 @@ bad_header form fields header c number within is told before bad =
 
 -- a header that stands before
 pub named_before : (form : Form) (fields : List (List ℕ)) (header : List ℕ) (c number : ℕ) → c < length fields → header ≡ trimmed (text_at fields c) → number ≡ number_of c
-    → first_of c (header_fault form (headers_in fields)) ≡ None → option_map_or (takes form) (role_of header) false ≡ true → is_some (place_of (take c (headers_in fields)) header) ≡ true
+    → first_of c (header_fault form (headers_in fields)) ≡ None → option_map_or (takes form) (role_of form.marks header) false ≡ true → is_some (place_of (take c (headers_in fields)) header) ≡ true
     → headers_stage form (headers_in fields) ≡ Some (fault.TwiceNamed number)
 unfolding headers_stage header_fault
 named_before form fields header c number within is told before has there =
@@ -36,7 +36,7 @@ named_before form fields header c number within is told before has there =
 
 -- one more header without a fault
 pub good_header : (form : Form) (fields : List (List ℕ)) (header : List ℕ) (c : ℕ) → c < length fields → header ≡ trimmed (text_at fields c)
-    → first_of c (header_fault form (headers_in fields)) ≡ None → option_map_or (takes form) (role_of header) false ≡ true → is_some (place_of (take c (headers_in fields)) header) ≡ false
+    → first_of c (header_fault form (headers_in fields)) ≡ None → option_map_or (takes form) (role_of form.marks header) false ≡ true → is_some (place_of (take c (headers_in fields)) header) ≡ false
     → first_of (c + 1) (header_fault form (headers_in fields)) ≡ None
 unfolding header_fault
 good_header form fields header c within is before has new =

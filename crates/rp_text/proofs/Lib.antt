@@ -2,6 +2,7 @@ pub mod TextLemmas
 pub mod CsvLemmas
 pub mod FieldLemmas
 pub mod ColumnLemmas
+pub mod RoleLemmas
 pub mod HeaderLemmas
 mod Worked
 pub mod FieldFaults

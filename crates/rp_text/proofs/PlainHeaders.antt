@@ -13,6 +13,7 @@ use Rattle.rp_text.specs.Forms.{table_form}
 use Rattle.rp_text.specs.Headers.{headers_in, has, header_fault, headers_stage, pair_fault, present_fault, goods_stage}
 use Rattle.rp_text.specs.Plain.{IsPlainName, IsPlainHeader}
 use Rattle.rp_text.specs.declared.form.Role.TheVariants.{Price, Quantity}
+use Rattle.rp_text.specs.declared.form.Marks.TheVariants.{Goods}
 use Rattle.rp_text.proofs.GoodHeaders.{price_says, quantity_says}
 use Rattle.rp_text.proofs.FixedGoods.{own_goods, no_goods_fault}
 use Rattle.rp_text.proofs.PlaceLemmas.{present, found_at, not_listed, one_place}
@@ -88,13 +89,13 @@ paired_trimmed (name ∷ names) plain =
     rw (first, second, paired_trimmed names (All-tail IsPlainName name names plain)) refl
 
 -- the names are those of the prices
-paired_names : (names : List (List ℕ)) → All IsPlainName names → names_with is_price (paired names) ≡ names
+paired_names : (names : List (List ℕ)) → All IsPlainName names → names_with Goods is_price (paired names) ≡ names
 unfolding paired
 paired_names [] plain = refl
 paired_names (name ∷ names) plain =
     let here = plain_name name (plain 0 [] (omega arith)) in
     let rest = paired_names names (All-tail IsPlainName name names plain) in
-    rw (price_says name here, quantity_says name here, rest) refl
+    rw (price_says Goods name here, quantity_says Goods name here, rest) refl
 
 -- the headers are the fields, without a change
 pub headers_are : (fields names : List (List ℕ)) → IsPlainHeader fields names → headers_in fields ≡ fields
@@ -102,18 +103,18 @@ headers_are fields names plain =
     let are = paired_from fields names plain.width plain.prices plain.quantities in
     ap (map trimmed) are ∙ paired_trimmed names plain.plain ∙ sym are
 
-pub names_are : (headers names : List (List ℕ)) → IsPlainHeader headers names → names_with is_price headers ≡ names
-names_are headers names plain = ap (names_with is_price) (paired_from headers names plain.width plain.prices plain.quantities) ∙ paired_names names plain.plain
+pub names_are : (headers names : List (List ℕ)) → IsPlainHeader headers names → names_with Goods is_price headers ≡ names
+names_are headers names plain = ap (names_with Goods is_price) (paired_from headers names plain.width plain.prices plain.quantities) ∙ paired_names names plain.plain
 
 module _ (headers names : List (List ℕ)) (plain : IsPlainHeader headers names) where
   name_at : (g : ℕ) → g < length names → is_name (text_at names g) ≡ true
   name_at g below = plain_name (text_at names g) (plain.plain g [] below)
 
-  pub price_role : (g : ℕ) → g < length names → role_of (text_at headers (2 * g)) ≡ Some Price
-  price_role g below = ap role_of (plain.prices g below) ∙ price_says (text_at names g) (name_at g below)
+  pub price_role : (g : ℕ) → g < length names → role_of Goods (text_at headers (2 * g)) ≡ Some Price
+  price_role g below = ap (role_of Goods) (plain.prices g below) ∙ price_says Goods (text_at names g) (name_at g below)
 
-  pub quantity_role : (g : ℕ) → g < length names → role_of (text_at headers (2 * g + 1)) ≡ Some Quantity
-  quantity_role g below = ap role_of (plain.quantities g below) ∙ quantity_says (text_at names g) (name_at g below)
+  pub quantity_role : (g : ℕ) → g < length names → role_of Goods (text_at headers (2 * g + 1)) ≡ Some Quantity
+  quantity_role g below = ap (role_of Goods) (plain.quantities g below) ∙ quantity_says Goods (text_at names g) (name_at g below)
 
   same_name : (i j : ℕ) → i < length names → j < length names → text_at names i ≡ text_at names j → i ≡ j
   same_name = one_place names (λ i j earlier within. plain.distinct i j [] earlier within)
@@ -150,18 +151,18 @@ module _ (headers names : List (List ℕ)) (plain : IsPlainHeader headers names)
       ]
 
   -- each header is one that a table has
-  role_taken : (c : ℕ) → c < length headers → (role_of (text_at headers c) ≡ Some Price) ⊎ (role_of (text_at headers c) ≡ Some Quantity)
+  role_taken : (c : ℕ) → c < length headers → (role_of Goods (text_at headers c) ≡ Some Price) ⊎ (role_of Goods (text_at headers c) ≡ Some Quantity)
   role_taken c below =
       let kind = column_kind c (length names) (omega (arith, plain.width)) in
       elim (kind.2) [
-        | inl even ↦ inl (ap (λ (k : ℕ). role_of (text_at headers k)) even ∙ price_role kind.0 kind.1)
-        | inr odd ↦ inr (ap (λ (k : ℕ). role_of (text_at headers k)) odd ∙ quantity_role kind.0 kind.1)
+        | inl even ↦ inl (ap (λ (k : ℕ). role_of Goods (text_at headers k)) even ∙ price_role kind.0 kind.1)
+        | inr odd ↦ inr (ap (λ (k : ℕ). role_of Goods (text_at headers k)) odd ∙ quantity_role kind.0 kind.1)
       ]
 
   no_header_fault : (c : ℕ) → c < length headers → header_fault table_form headers c ≡ None
   unfolding header_fault
   no_header_fault c below =
-      let taken : option_map_or (takes table_form) (role_of (text_at headers c)) false ≡ true = elim (role_taken c below) [ inl price ↦ rw price refl | inr quantity ↦ rw quantity refl ] in
+      let taken : option_map_or (takes table_form) (role_of Goods (text_at headers c)) false ≡ true = elim (role_taken c below) [ inl price ↦ rw price refl | inr quantity ↦ rw quantity refl ] in
       let new : has (take c headers) (text_at headers c) ≡ false = not_listed (take c headers) (text_at headers c) (λ k within is.
       let earlier : k < c = omega (arith, length-take c headers) in
       let same = same_column k c (omega arith) below (sym (get_or-take c headers k [] earlier) ∙ is) in
@@ -185,18 +186,18 @@ module _ (headers names : List (List ℕ)) (plain : IsPlainHeader headers names)
       let place = found_at headers (quantity_mark ++ text_at names g) found.0 found.1 in
       found.1 ∙ ap Some (same_column found.0 (2 * g + 1) place.0 (omega (arith, plain.width)) (place.1 ∙ sym (plain.quantities g below)))
 
-  no_pair_fault : (c : ℕ) → c < length headers → pair_fault headers c ≡ None
+  no_pair_fault : (c : ℕ) → c < length headers → pair_fault Goods headers c ≡ None
   unfolding pair_fault
   no_pair_fault c below =
       let kind = column_kind c (length names) (omega (arith, plain.width)) in
       elim (kind.2) [
         | inl even ↦
-            let role : role_of (text_at headers c) ≡ Some Price = ap (λ (k : ℕ). role_of (text_at headers k)) even ∙ price_role kind.0 kind.1 in
+            let role : role_of Goods (text_at headers c) ≡ Some Price = ap (λ (k : ℕ). role_of Goods (text_at headers k)) even ∙ price_role kind.0 kind.1 in
             let name : name_in (text_at headers c) ≡ text_at names kind.0 = ap name_in (ap (text_at headers) even ∙ plain.prices kind.0 kind.1) in
             let partner : has headers (quantity_mark ++ name_in (text_at headers c)) ≡ true = ap (λ n. has headers (quantity_mark ++ n)) name ∙ ap is_some (quantity_place kind.0 kind.1) in
             rw (role, partner) refl
         | inr odd ↦
-            let role : role_of (text_at headers c) ≡ Some Quantity = ap (λ (k : ℕ). role_of (text_at headers k)) odd ∙ quantity_role kind.0 kind.1 in
+            let role : role_of Goods (text_at headers c) ≡ Some Quantity = ap (λ (k : ℕ). role_of Goods (text_at headers k)) odd ∙ quantity_role kind.0 kind.1 in
             let name : name_in (text_at headers c) ≡ text_at names kind.0 = ap name_in (ap (text_at headers) odd ∙ plain.quantities kind.0 kind.1) in
             let partner : has headers (price_mark ++ name_in (text_at headers c)) ≡ true = ap (λ n. has headers (price_mark ++ n)) name ∙ ap is_some (price_place kind.0 kind.1) in
             rw (role, partner) refl
@@ -204,11 +205,11 @@ module _ (headers names : List (List ℕ)) (plain : IsPlainHeader headers names)
 
   no_present_fault : present_fault table_form [] headers ≡ None
   unfolding present_fault
-  no_present_fault = none_of (pair_fault headers) (length headers) no_pair_fault
+  no_present_fault = none_of (pair_fault Goods headers) (length headers) no_pair_fault
 
   pub no_goods_stage_fault : goods_stage table_form [] headers ≡ None
   no_goods_stage_fault =
-      let count : length (names_with is_price headers) ≡ length names = ap length (names_are headers names plain) in
+      let count : length (names_with Goods is_price headers) ≡ length names = ap length (names_are headers names plain) in
       let some = plain.some in
       let few = plain.few in
       no_goods_fault table_form [] headers no_present_fault

@@ -16,6 +16,7 @@ use Rattle.rp_text.specs.Plain.{IsPlainHeader, IsPlainRecord, IsNumeral}
 use Rattle.rp_text.specs.declared.form.Role.{Role}
 use Rattle.rp_text.specs.declared.form.Role.TheVariants.{Price, Quantity}
 use Rattle.rp_num.proofs.BelowLemmas.{one_holds}
+use Rattle.rp_text.specs.declared.form.Marks.TheVariants.{Goods}
 use Rattle.rp_text.proofs.FigureLemmas.{figure_there, rows_are, size_listed}
 use Rattle.rp_text.proofs.PlaceLemmas.{greatest_at_most}
 use Rattle.rp_text.proofs.PlainNumbers.{numeral_decimal, numeral_trimmed}
@@ -85,17 +86,17 @@ module _ (headers names : List (List ℕ)) (plain : IsPlainHeader headers names)
         | inr odd ↦ (quantity t kind.0, quantity_most t kind.0 row kind.1, ap (field_at table_form headers records t) odd ∙ quantity_field t kind.0 row kind.1)
       ]
 
-  buys_something : (t : ℕ) → t < rows → buys_nothing headers (figure table_form headers records t) ≡ false
+  buys_something : (t : ℕ) → t < rows → buys_nothing Goods headers (figure table_form headers records t) ≡ false
   buys_something t row =
       let some = some_term (quantity t) (length names) ((each t row).bought) in
       let column : 2 * some.0 + 1 < length headers = omega (arith, plain.width, some.1) in
       let role = quantity_role headers names plain some.0 some.1 in
       let field = quantity_field t some.0 row some.1 in
       let positive = over_zero (quantity t some.0) some.2 in
-      let says : measures (role_at headers (2 * some.0 + 1)) ≡ true = rw role refl in
+      let says : measures (role_at Goods headers (2 * some.0 + 1)) ≡ true = rw role refl in
       let number : nat_lt 0 (figure table_form headers records t (2 * some.0 + 1)).units ≡ true = rw field positive in
-      let measured = one_holds (λ c. measures (role_at headers c)) (2 * some.0 + 1) (length headers) column says in
-      let bought = one_holds (λ c. measures (role_at headers c) && nat_lt 0 (figure table_form headers records t c).units) (2 * some.0 + 1) (length headers) column (rw (says, number) refl) in
+      let measured = one_holds (λ c. measures (role_at Goods headers c)) (2 * some.0 + 1) (length headers) column says in
+      let bought = one_holds (λ c. measures (role_at Goods headers c) && nat_lt 0 (figure table_form headers records t c).units) (2 * some.0 + 1) (length headers) column (rw (says, number) refl) in
       rw (measured, bought) refl
 
   no_record_fault : (t : ℕ) → t < rows → record_fault table_form headers records t ≡ None
@@ -114,7 +115,7 @@ module _ (headers names : List (List ℕ)) (plain : IsPlainHeader headers names)
   figure_is t c n row column is =
       figure_there table_form headers records t c (omega (arith, all)) column ∙ ap (λ r. result_unwrap_or r nothing) is
 
-  no_places_at : (role : Role) → greatest_places headers (figures_of table_form headers records) role ≡ 0
+  no_places_at : (role : Role) → greatest_places Goods headers (figures_of table_form headers records) role ≡ 0
   unfolding greatest_places
   no_places_at role =
       let least = greatest_at_most _ (length (figures_of table_form headers records)) 0 (λ t row.
@@ -122,7 +123,7 @@ module _ (headers names : List (List ℕ)) (plain : IsPlainHeader headers names)
       let inside : t < rows = omega (arith, all, rows_are table_form headers records) in
       let field = field_there t c inside column in
       let none : (figure_at (figures_of table_form headers records) t c).places ≤ 0 = rw (figure_is t c field.0 inside column field.2) (omega arith) in
-      chosen (shares_scale role (role_at headers c)) (figure_at (figures_of table_form headers records) t c).places none)) in
+      chosen (shares_scale role (role_at Goods headers c)) (figure_at (figures_of table_form headers records) t c).places none)) in
       omega (arith, least)
     where
       chosen : (b : Bool) (n : ℕ) → n ≤ 0 → (if b then n else 0) ≤ 0

@@ -1,5 +1,5 @@
 -- Records without a fault make new prices within the limits.
-use Rattle.std.proofs.Common.{◌≡◌, ℕ, ◌*◌, ◌<◌, ◌≤◌, Bool, true, false, not, ◌&&◌, ◌||◌, if◌then◌else◌, ◌⊎◌, inl, inr, List, [], length, slice_index, Option, Some, None, Ok, Err, refl, sym, ap, ◌∙◌, arith}
+use Rattle.std.proofs.Common.{◌≡◌, ℕ, ◌*◌, ◌<◌, ◌≤◌, Bool, true, false, if◌then◌else◌, ◌⊎◌, inl, inr, List, [], length, slice_index, Option, Some, None, Ok, Err, refl, sym, ap, ◌∙◌, arith}
 use Rattle.std.specs.Prelude.{codes, unwrap_or}
 use Rattle.std.specs.List.{All}
 use Rattle.std.specs.Option.{option_map_or}
@@ -16,12 +16,13 @@ use Rattle.rp_text.specs.Fields.{figures_of, rows_in, fields_stage}
 use Rattle.rp_text.specs.Sizes.{sizes_stage}
 use Rattle.rp_text.specs.ChoiceCounts.{column_named}
 use Rattle.rp_text.specs.Denotation.{first_fault, column_numbers, numbers_under, price_list, prices_of, denoted_prices}
+use Rattle.rp_text.specs.declared.form.Marks.TheVariants.{Goods}
 use Rattle.rp_text.specs.declared.form.Role.{Role}
-use Rattle.rp_text.specs.declared.form.Role.TheVariants.{Observation, Price, Quantity, Expenditure, Income, Budget, Times}
+use Rattle.rp_text.specs.declared.form.Role.TheVariants.{Observation, Price, Quantity, Expenditure, Income, Budget, Times, Output, OutputPrice}
 use Rattle.rp_text.specs.declared.fault.TableFault.{TableFault}
 use Rattle.rp_num.proofs.BelowLemmas.{length-listed}
 use Rattle.rp_text.proofs.RowLemmas.{all_listed}
-use Rattle.rp_text.proofs.FineHeaders.{FineHeaders, fine_headers}
+use Rattle.rp_text.proofs.FineHeaders.{FineHeaders, fine_headers, required_there}
 use Rattle.rp_text.proofs.ColumnSizes.{sizes_in, sizes_are}
 use Rattle.rp_text.proofs.AmountColumns.{expenditure_header, expenditure_says, amount_within}
 use Rattle.rp_text.proofs.FixedHeaders.{prices_within, rows_of_goods, numbers_of_goods}
@@ -38,10 +39,8 @@ measured_role places (Some Expenditure) e m = refl
 measured_role places (Some Income) e m = cc e
 measured_role places (Some Budget) e m = cc m
 measured_role places (Some Times) e m = cc m
-
-expenditure_test : (m w b n : Bool) → ((true && not m) || (false && not w) || (false && not b) || (false && not n)) ≡ false → m ≡ true
-expenditure_test true w b n e = refl
-expenditure_test false w b n e = cc e
+measured_role places (Some Output) e m = cc m
+measured_role places (Some OutputPrice) e m = cc m
 
 module _ (places : ℕ) (headers : List (List ℕ)) (records : List (List (List ℕ))) (fine : FineHeaders (prices_form true places) headers)
     (fine_fields : fields_stage (prices_form true places) headers records ≡ None) (fine_sizes : sizes_stage (prices_form true places) headers (figures_of (prices_form true places) headers records) ≡ None) where
@@ -50,9 +49,9 @@ module _ (places : ℕ) (headers : List (List ℕ)) (records : List (List (List 
       × (slice_index (text_at (sizes_in (prices_form true places) headers records) t) (column_named (codes "m") headers) ≤ LARGEST_EXPENDITURE)
   expenditure_within =
       amount_within (prices_form true places) headers records fine fine_fields fine_sizes (codes "m") Expenditure
-      (expenditure_test (has headers (codes "m")) (has headers (codes "w")) (has headers (codes "budget")) (has headers (codes "n")) fine.columns)
-      expenditure_says refl
-      (λ c column measured. expenditure_header (text_at headers c) (measured_role places (role_of (text_at headers c)) (fine.taken c column) measured))
+      (required_there (has headers (codes "m")) _ fine.columns).0
+      (expenditure_says Goods) refl
+      (λ c column measured. expenditure_header _ (text_at headers c) (measured_role places (role_of Goods (text_at headers c)) (fine.taken c column) measured))
 
   expenditures_within : All (λ m. (1 ≤ m) × (m ≤ LARGEST_EXPENDITURE)) (column_numbers (codes "m") headers (sizes_in (prices_form true places) headers records))
   expenditures_within =

@@ -1,5 +1,6 @@
 -- The first fault of records of any kind, from the stages that were passed.
 use Rattle.std.proofs.Common.{◌≡◌, ℕ, ◌<◌, List, [], ◌∷◌, length, Some, None, refl, ◌∙◌, arith}
+use Rattle.rp_text.specs.Columns.{Layout}
 use Rattle.rp_text.specs.Headers.{headers_in, headers_stage, goods_stage}
 use Rattle.rp_text.specs.Records.{record_at}
 use Rattle.rp_text.specs.Fields.{figures_of, count_stage, fields_stage}
@@ -16,24 +17,24 @@ unfolding first_fault
 empty_file form goods [] none = refl
 empty_file form goods (header ∷ rows) none = absurd (omega arith)
 
-module _ (form : Form) (goods : List (List ℕ)) (records : List (List (List ℕ))) (columns : List (List ℕ)) (some : 0 < length records) (read : columns ≡ headers_in (record_at records 0)) (a : headers_stage form (headers_in (record_at records 0)) ≡ None) where
-  pub goods_fault : (e : TableFault) → goods_stage form goods columns ≡ Some e → first_fault form goods records ≡ Some e
-  goods_fault e b = under_headers form goods records some ∙ in_goods form goods (headers_in (record_at records 0)) records e a (rw read at b)
+module _ (form : Form) (goods : List (List ℕ)) (records : List (List (List ℕ))) (columns : Layout) (some : 0 < length records) (is : columns.form ≡ form) (read : columns.headers ≡ headers_in (record_at records 0)) (a : headers_stage form (headers_in (record_at records 0)) ≡ None) where
+  pub goods_fault : (e : TableFault) → goods_stage columns.form goods columns.headers ≡ Some e → first_fault form goods records ≡ Some e
+  goods_fault e b = under_headers form goods records some ∙ in_goods form goods (headers_in (record_at records 0)) records e a (rw (is, read) at b)
 
-  pub count_fault : (e : TableFault) → goods_stage form goods columns ≡ None → count_stage form records ≡ Some e → first_fault form goods records ≡ Some e
-  count_fault e b c = under_headers form goods records some ∙ in_count form goods (headers_in (record_at records 0)) records e a (rw read at b) c
+  pub count_fault : (e : TableFault) → goods_stage columns.form goods columns.headers ≡ None → count_stage form records ≡ Some e → first_fault form goods records ≡ Some e
+  count_fault e b c = under_headers form goods records some ∙ in_count form goods (headers_in (record_at records 0)) records e a (rw (is, read) at b) c
 
-  pub fields_fault : (e : TableFault) → goods_stage form goods columns ≡ None → count_stage form records ≡ None → fields_stage form columns records ≡ Some e → first_fault form goods records ≡ Some e
-  fields_fault e b c d = under_headers form goods records some ∙ in_fields form goods (headers_in (record_at records 0)) records e a (rw read at b) c (rw read at d)
+  pub fields_fault : (e : TableFault) → goods_stage columns.form goods columns.headers ≡ None → count_stage form records ≡ None → fields_stage columns.form columns.headers records ≡ Some e → first_fault form goods records ≡ Some e
+  fields_fault e b c d = under_headers form goods records some ∙ in_fields form goods (headers_in (record_at records 0)) records e a (rw (is, read) at b) c (rw (is, read) at d)
 
-  pub sizes_fault : (e : TableFault) → goods_stage form goods columns ≡ None → count_stage form records ≡ None → fields_stage form columns records ≡ None → sizes_stage form columns (figures_of form columns records) ≡ Some e → first_fault form goods records ≡ Some e
-  sizes_fault e b c d f = under_headers form goods records some ∙ in_sizes form goods (headers_in (record_at records 0)) records e a (rw read at b) c (rw read at d) (rw read at f)
+  pub sizes_fault : (e : TableFault) → goods_stage columns.form goods columns.headers ≡ None → count_stage form records ≡ None → fields_stage columns.form columns.headers records ≡ None → sizes_stage columns.form columns.headers (figures_of columns.form columns.headers records) ≡ Some e → first_fault form goods records ≡ Some e
+  sizes_fault e b c d f = under_headers form goods records some ∙ in_sizes form goods (headers_in (record_at records 0)) records e a (rw (is, read) at b) c (rw (is, read) at d) (rw (is, read) at f)
 
-  pub choices_fault : (e : TableFault) → goods_stage form goods columns ≡ None → count_stage form records ≡ None → fields_stage form columns records ≡ None → sizes_stage form columns (figures_of form columns records) ≡ None → choices_stage form columns (figures_of form columns records) ≡ Some e → first_fault form goods records ≡ Some e
-  choices_fault e b c d f h = under_headers form goods records some ∙ in_choices form goods (headers_in (record_at records 0)) records e a (rw read at b) c (rw read at d) (rw read at f) (rw read at h)
+  pub choices_fault : (e : TableFault) → goods_stage columns.form goods columns.headers ≡ None → count_stage form records ≡ None → fields_stage columns.form columns.headers records ≡ None → sizes_stage columns.form columns.headers (figures_of columns.form columns.headers records) ≡ None → choices_stage columns.form columns.headers (figures_of columns.form columns.headers records) ≡ Some e → first_fault form goods records ≡ Some e
+  choices_fault e b c d f h = under_headers form goods records some ∙ in_choices form goods (headers_in (record_at records 0)) records e a (rw (is, read) at b) c (rw (is, read) at d) (rw (is, read) at f) (rw (is, read) at h)
 
-  pub no_fault : goods_stage form goods columns ≡ None → count_stage form records ≡ None → fields_stage form columns records ≡ None → sizes_stage form columns (figures_of form columns records) ≡ None → choices_stage form columns (figures_of form columns records) ≡ None → first_fault form goods records ≡ None
-  no_fault b c d f h = under_headers form goods records some ∙ in_none form goods (headers_in (record_at records 0)) records a (rw read at b) c (rw read at d) (rw read at f) (rw read at h)
+  pub no_fault : goods_stage columns.form goods columns.headers ≡ None → count_stage form records ≡ None → fields_stage columns.form columns.headers records ≡ None → sizes_stage columns.form columns.headers (figures_of columns.form columns.headers records) ≡ None → choices_stage columns.form columns.headers (figures_of columns.form columns.headers records) ≡ None → first_fault form goods records ≡ None
+  no_fault b c d f h = under_headers form goods records some ∙ in_none form goods (headers_in (record_at records 0)) records a (rw (is, read) at b) c (rw (is, read) at d) (rw (is, read) at f) (rw (is, read) at h)
 
 pub columns_fault : (form : Form) (goods : List (List ℕ)) (records : List (List (List ℕ))) (e : TableFault) → 0 < length records → headers_stage form (headers_in (record_at records 0)) ≡ Some e → first_fault form goods records ≡ Some e
 columns_fault form goods records e some a = under_headers form goods records some ∙ in_headers form goods (headers_in (record_at records 0)) records e a

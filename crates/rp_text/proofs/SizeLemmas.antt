@@ -29,11 +29,11 @@ greatest_more f n greatest here next before is most = rw (add-one, most, before,
 
 -- the scaled number of a column
 pub size_there : (form : Form) (headers : List (List ℕ)) (figures : List (List Decimal)) (places : List ℕ) (t c : ℕ) (role : Role) (figure : Decimal) (limit row column : ℕ) (result : Result ℕ TableFault)
-    → c < length headers → places ≡ listed (length headers) (λ k. places_of form headers figures (role_at headers k)) → role_of (text_at headers c) ≡ Some role
+    → c < length headers → places ≡ listed (length headers) (λ k. places_of form headers figures (role_at form.marks headers k)) → role_of form.marks (text_at headers c) ≡ Some role
     → figure ≡ figure_at figures t c → limit ≡ limit_of role → row ≡ number_of t → column ≡ number_of c → result ≡ size_of figure (get_or places c 0) limit row column
     → size_at form headers figures t c ≡ result
 unfolding size_at
 size_there form headers figures places t c role figure limit row column result within scales says is most told at_column read =
-    let scale : get_or places c 0 ≡ places_of form headers figures (role_at headers c) = rw scales (get-listed (λ k. places_of form headers figures (role_at headers k)) (length headers) c 0 within) in
-    let same = role_is headers c role says in
+    let scale : get_or places c 0 ≡ places_of form headers figures (role_at form.marks headers c) = rw scales (get-listed (λ k. places_of form headers figures (role_at form.marks headers k)) (length headers) c 0 within) in
+    let same = role_is _ headers c role says in
     sym (read ∙ rw (scale, is, most, told, at_column, ← same) refl)

@@ -12,14 +12,15 @@ use Rattle.rp_text.specs.Fields.{figures_of, rows_in, fields_stage}
 use Rattle.rp_text.specs.Sizes.{places_of, sizes_of, sizes_stage}
 use Rattle.rp_text.specs.Denotation.{column_of, numbers_under, table_of}
 use Rattle.rp_text.specs.declared.form.Role.TheVariants.{Price, Quantity}
+use Rattle.rp_text.specs.declared.form.Marks.TheVariants.{Goods}
 use Rattle.rp_text.proofs.PlaceLemmas.{found_at}
 use Rattle.rp_text.proofs.RowLemmas.{length-rows, row_number, all_rows, sum_at_least}
 use Rattle.rp_text.proofs.GoodHeaders.{GoodHeaders, price_column, quantity_good_of, some_quantity, measured_role, limit_is, distinct_names}
 use Rattle.rp_text.proofs.FigureLemmas.{few_places}
 use Rattle.rp_text.proofs.ColumnSizes.{sizes_are, within_limit, price_at, bought_at}
 
-first_column : (headers : List (List ℕ)) → GoodHeaders headers → 0 < length headers
-first_column headers good = let price = price_column headers 0 good.fine.some in omega (arith, price.1)
+first_column : (headers : List (List ℕ)) → GoodHeaders table_form headers → 0 < length headers
+first_column headers good = let price = price_column Goods headers 0 good.fine.some in omega (arith, price.1)
 
 within_headers : (headers : List (List ℕ)) → 0 < length headers → (text : List ℕ) → unwrap_or (place_of headers text) 0 < length headers
 within_headers headers some text = by (place_of headers text) refl
@@ -28,30 +29,30 @@ within_headers headers some text = by (place_of headers text) refl
     by None e = some
     by (Some c) e = (found_at headers text c e).0
 
-module _ (headers : List (List ℕ)) (records : List (List (List ℕ))) (good : GoodHeaders headers) (fine_fields : fields_stage table_form headers records ≡ None) (fine_sizes : sizes_stage table_form headers (figures_of table_form headers records) ≡ None) where
+module _ (headers : List (List ℕ)) (records : List (List (List ℕ))) (good : GoodHeaders table_form headers) (fine_fields : fields_stage table_form headers records ≡ None) (fine_sizes : sizes_stage table_form headers (figures_of table_form headers records) ≡ None) where
   -- a scaled number is within the limit
-  number_within : (t g : ℕ) (mark : List ℕ) → t < rows_in records → slice_index (text_at (sizes_of table_form headers (figures_of table_form headers records)) t) (column_of mark headers (names_with is_price headers) g) ≤ 9999999
+  number_within : (t g : ℕ) (mark : List ℕ) → t < rows_in records → slice_index (text_at (sizes_of table_form headers (figures_of table_form headers records)) t) (column_of mark headers (names_with Goods is_price headers) g) ≤ 9999999
   number_within t g mark row =
-      let c = column_of mark headers (names_with is_price headers) g in
-      let column = within_headers headers (first_column headers good) (mark ++ text_at (names_with is_price headers) g) in
-      let limit = limit_is (role_of (text_at headers c)) (good.fine.taken c column) in
+      let c = column_of mark headers (names_with Goods is_price headers) g in
+      let column = within_headers headers (first_column headers good) (mark ++ text_at (names_with Goods is_price headers) g) in
+      let limit = limit_is (role_of Goods (text_at headers c)) (good.fine.taken c column) in
       rw (← limit) (within_limit table_form headers records fine_fields fine_sizes t c row column)
 
   -- a price is not 0
-  price_positive : (t g : ℕ) → t < rows_in records → g < length (names_with is_price headers) → 1 ≤ slice_index (text_at (sizes_of table_form headers (figures_of table_form headers records)) t) (column_of price_mark headers (names_with is_price headers) g)
+  price_positive : (t g : ℕ) → t < rows_in records → g < length (names_with Goods is_price headers) → 1 ≤ slice_index (text_at (sizes_of table_form headers (figures_of table_form headers records)) t) (column_of price_mark headers (names_with Goods is_price headers) g)
   price_positive t g row place =
-      let price = price_column headers g place in
-      let at_column : column_of price_mark headers (names_with is_price headers) g ≡ price.0 = ap (λ o. unwrap_or o 0) price.2 in
+      let price = price_column Goods headers g place in
+      let at_column : column_of price_mark headers (names_with Goods is_price headers) g ≡ price.0 = ap (λ o. unwrap_or o 0) price.2 in
       rw at_column (price_at table_form headers records fine_fields fine_sizes t price.0 row price.1 price.3).0
 
   -- some good is bought
-  some_bought : (t : ℕ) → t < rows_in records → (g : ℕ) × (g < length (names_with is_price headers)) × (1 ≤ slice_index (text_at (sizes_of table_form headers (figures_of table_form headers records)) t) (column_of quantity_mark headers (names_with is_price headers) g))
+  some_bought : (t : ℕ) → t < rows_in records → (g : ℕ) × (g < length (names_with Goods is_price headers)) × (1 ≤ slice_index (text_at (sizes_of table_form headers (figures_of table_form headers records)) t) (column_of quantity_mark headers (names_with Goods is_price headers) g))
   some_bought t row =
-      let quantity = some_quantity headers good in
+      let quantity = some_quantity headers refl good in
       let column = bought_at table_form headers records fine_fields fine_sizes t quantity.0 row quantity.1 (rw quantity.2 refl) in
-      let role = measured_role (role_of (text_at headers column.0)) (good.fine.taken column.0 column.1) column.2 in
+      let role = measured_role (role_of Goods (text_at headers column.0)) (good.fine.taken column.0 column.1) column.2 in
       let of_good = quantity_good_of headers good column.0 column.1 role in
-      let at_column : column_of quantity_mark headers (names_with is_price headers) of_good.0 ≡ column.0 = ap (λ o. unwrap_or o 0) of_good.2 in
+      let at_column : column_of quantity_mark headers (names_with Goods is_price headers) of_good.0 ≡ column.0 = ap (λ o. unwrap_or o 0) of_good.2 in
       (of_good.0, of_good.1, rw at_column column.3)
 
   rows_count : length (sizes_of table_form headers (figures_of table_form headers records)) ≡ rows_in records
@@ -60,7 +61,7 @@ module _ (headers : List (List ℕ)) (records : List (List (List ℕ))) (good : 
   records_are : records_of (table_of headers (figures_of table_form headers records)) ≡ rows_in records
   unfolding table_of
   records_are =
-      ap (λ (k : ℕ). k / length (names_with is_price headers)) (length-rows (length (sizes_of table_form headers (figures_of table_form headers records))) (length (names_with is_price headers)) _)
+      ap (λ (k : ℕ). k / length (names_with Goods is_price headers)) (length-rows (length (sizes_of table_form headers (figures_of table_form headers records))) (length (names_with Goods is_price headers)) _)
       ∙ mul-div_cancel (length (sizes_of table_form headers (figures_of table_form headers records))) good.fine.some ∙ rows_count
 
   -- the table is within the limits
@@ -72,18 +73,18 @@ module _ (headers : List (List ℕ)) (records : List (List (List ℕ))) (good : 
     distinct = distinct_names headers good.fine;
     some_records = rw records_are some;
     few_records = rw records_are few;
-    all_prices = rw records_are (length-rows (length (sizes_of table_form headers (figures_of table_form headers records))) (length (names_with is_price headers)) _ ∙ ap (λ (k : ℕ). k * length (names_with is_price headers)) rows_count);
-    all_quantities = rw records_are (length-rows (length (sizes_of table_form headers (figures_of table_form headers records))) (length (names_with is_price headers)) _ ∙ ap (λ (k : ℕ). k * length (names_with is_price headers)) rows_count);
-    price_limits = all_rows (λ p. (1 ≤ p) × (p ≤ 9999999)) (length (sizes_of table_form headers (figures_of table_form headers records))) (length (names_with is_price headers)) _
+    all_prices = rw records_are (length-rows (length (sizes_of table_form headers (figures_of table_form headers records))) (length (names_with Goods is_price headers)) _ ∙ ap (λ (k : ℕ). k * length (names_with Goods is_price headers)) rows_count);
+    all_quantities = rw records_are (length-rows (length (sizes_of table_form headers (figures_of table_form headers records))) (length (names_with Goods is_price headers)) _ ∙ ap (λ (k : ℕ). k * length (names_with Goods is_price headers)) rows_count);
+    price_limits = all_rows (λ p. (1 ≤ p) × (p ≤ 9999999)) (length (sizes_of table_form headers (figures_of table_form headers records))) (length (names_with Goods is_price headers)) _
         (λ t g row place. let inside : t < rows_in records = omega (arith, rows_count) in (price_positive t g inside place, number_within t g price_mark inside));
-    quantity_limits = all_rows (λ q. q ≤ 9999999) (length (sizes_of table_form headers (figures_of table_form headers records))) (length (names_with is_price headers)) _
+    quantity_limits = all_rows (λ q. q ≤ 9999999) (length (sizes_of table_form headers (figures_of table_form headers records))) (length (names_with Goods is_price headers)) _
         (λ t g row place. let inside : t < rows_in records = omega (arith, rows_count) in number_within t g quantity_mark inside);
     bought = λ t row.
         let inside : t < rows_in records = rw records_are at row in
         let some_good = some_bought t inside in
         let at_row : t < length (sizes_of table_form headers (figures_of table_form headers records)) = omega (arith, rows_count) in
-        let number = row_number (length (sizes_of table_form headers (figures_of table_form headers records))) (length (names_with is_price headers)) (λ s g. slice_index (text_at (sizes_of table_form headers (figures_of table_form headers records)) s) (column_of quantity_mark headers (names_with is_price headers) g)) t some_good.0 at_row some_good.1 in
-        let least = sum_at_least (quantity_of (table_of headers (figures_of table_form headers records)) t) (length (names_with is_price headers)) some_good.0 some_good.1 in
+        let number = row_number (length (sizes_of table_form headers (figures_of table_form headers records))) (length (names_with Goods is_price headers)) (λ s g. slice_index (text_at (sizes_of table_form headers (figures_of table_form headers records)) s) (column_of quantity_mark headers (names_with Goods is_price headers) g)) t some_good.0 at_row some_good.1 in
+        let least = sum_at_least (quantity_of (table_of headers (figures_of table_form headers records)) t) (length (names_with Goods is_price headers)) some_good.0 some_good.1 in
         let one = some_good.2 in
         omega (arith, least, number, one);
     few_price_places = few_places table_form headers records Price;
@@ -91,15 +92,15 @@ module _ (headers : List (List ℕ)) (records : List (List (List ℕ))) (good : 
   }
 
 -- the numbers of a table within the limits
-pub number_limits : (headers : List (List ℕ)) (figures : List (List Decimal)) → IsTable (table_of headers figures) → (t g : ℕ) → t < length (sizes_of table_form headers figures) → g < length (names_with is_price headers)
-    → (slice_index (text_at (sizes_of table_form headers figures) t) (column_of price_mark headers (names_with is_price headers) g) ≤ 9999999)
-    × (slice_index (text_at (sizes_of table_form headers figures) t) (column_of quantity_mark headers (names_with is_price headers) g) ≤ 9999999)
+pub number_limits : (headers : List (List ℕ)) (figures : List (List Decimal)) → IsTable (table_of headers figures) → (t g : ℕ) → t < length (sizes_of table_form headers figures) → g < length (names_with Goods is_price headers)
+    → (slice_index (text_at (sizes_of table_form headers figures) t) (column_of price_mark headers (names_with Goods is_price headers) g) ≤ 9999999)
+    × (slice_index (text_at (sizes_of table_form headers figures) t) (column_of quantity_mark headers (names_with Goods is_price headers) g) ≤ 9999999)
 unfolding table_of
 number_limits headers figures within t g row place =
     let n = length (sizes_of table_form headers figures) in
-    let goods = length (names_with is_price headers) in
-    let prices = λ (s k : ℕ). slice_index (text_at (sizes_of table_form headers figures) s) (column_of price_mark headers (names_with is_price headers) k) in
-    let quantities = λ (s k : ℕ). slice_index (text_at (sizes_of table_form headers figures) s) (column_of quantity_mark headers (names_with is_price headers) k) in
+    let goods = length (names_with Goods is_price headers) in
+    let prices = λ (s k : ℕ). slice_index (text_at (sizes_of table_form headers figures) s) (column_of price_mark headers (names_with Goods is_price headers) k) in
+    let quantities = λ (s k : ℕ). slice_index (text_at (sizes_of table_form headers figures) s) (column_of quantity_mark headers (names_with Goods is_price headers) k) in
     let below = mul-add-lt t goods g n row place in
     let turned = mul_comm goods n in
     let price = (within.price_limits (t * goods + g) 0 (omega (arith, length-rows n goods prices, below, turned))).1 in
@@ -108,12 +109,12 @@ number_limits headers figures within t g row place =
 
 -- a table from its parts
 pub table_made : (headers : List (List ℕ)) (figures : List (List Decimal)) (given named : List (List ℕ)) (sizes : List (List ℕ)) (prices quantities : List ℕ) (a b : ℕ)
-    → given ≡ names_with is_price headers → named ≡ names_with is_price headers → sizes ≡ sizes_of table_form headers figures
+    → given ≡ names_with Goods is_price headers → named ≡ names_with Goods is_price headers → sizes ≡ sizes_of table_form headers figures
     → prices ≡ numbers_under price_mark headers given sizes → quantities ≡ numbers_under quantity_mark headers given sizes
     → a ≡ places_of table_form headers figures Price → b ≡ places_of table_form headers figures Quantity
     → record { names = named; prices = prices; quantities = quantities; price_places = a; quantity_places = b } ≡ table_of headers figures
 unfolding table_of
 table_made headers figures given named sizes prices quantities a b is_given is_named sized priced counted at_a at_b =
-    let p = priced ∙ ap (λ goods. numbers_under price_mark headers goods sizes) is_given ∙ ap (λ rows. numbers_under price_mark headers (names_with is_price headers) rows) sized in
-    let q = counted ∙ ap (λ goods. numbers_under quantity_mark headers goods sizes) is_given ∙ ap (λ rows. numbers_under quantity_mark headers (names_with is_price headers) rows) sized in
+    let p = priced ∙ ap (λ goods. numbers_under price_mark headers goods sizes) is_given ∙ ap (λ rows. numbers_under price_mark headers (names_with Goods is_price headers) rows) sized in
+    let q = counted ∙ ap (λ goods. numbers_under quantity_mark headers goods sizes) is_given ∙ ap (λ rows. numbers_under quantity_mark headers (names_with Goods is_price headers) rows) sized in
     rw (p, q, is_named, at_a, at_b) refl

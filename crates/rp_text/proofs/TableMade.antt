@@ -47,7 +47,7 @@ pub table_within : (records : List (List (List ℕ))) → first_fault table_form
 table_within records fine =
     let stages = passed table_form [] records fine in
     let count = counted table_form records stages.3 in
-    table_is (headers_in (record_at records 0)) records (good_headers (headers_in (record_at records 0)) stages.1 stages.2) stages.4 stages.5 count.0 count.1
+    table_is (headers_in (record_at records 0)) records (good_headers table_form (headers_in (record_at records 0)) refl refl refl stages.1 stages.2) stages.4 stages.5 count.0 count.1
 
 -- what a file denotes as a table, by its first fault
 pub refused_table : (records : List (List (List ℕ))) (e : TableFault) → first_fault table_form [] records ≡ Some e → denoted_table records ≡ Err e

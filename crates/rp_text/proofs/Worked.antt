@@ -4,7 +4,7 @@ use Rattle.std.specs.Prelude.{⊤, codes}
 use Rattle.csv.specs.Machine.{next_record}
 use Rattle.csv.specs.Reading.{records_from, strip_bom}
 use Rattle.rp_text.specs.Texts.{after_blanks, before_blanks}
-use Rattle.rp_text.specs.Columns.{role_of, good_role}
+use Rattle.rp_text.specs.Columns.{named_role, good_role, role_of}
 use Rattle.rp_text.specs.Records.{records_of}
 use Rattle.rp_text.specs.Headers.{header_fault, headers_stage, pair_fault, other_goods_fault, present_fault, missing_fault, goods_count_fault, goods_stage}
 use Rattle.rp_text.specs.Fields.{field_of, field_at, record_fault, count_stage, fields_stage}
@@ -15,7 +15,7 @@ use Rattle.rp_text.specs.declared.fault.TableFault.TheVariants as fault
 
 -- what computes a file's meaning
 unfoldable on_files : ⊤
-unfolding next_record records_from strip_bom after_blanks before_blanks role_of good_role records_of header_fault headers_stage pair_fault other_goods_fault present_fault missing_fault goods_count_fault goods_stage field_of field_at record_fault count_stage fields_stage greatest_places places_of size_at sizes_stage is_chosen choices_stage fault_under first_fault table_of table_under denoted_table prices_of denoted_prices bundles_of denoted_bundles budgets_of denoted_budgets choices_of denoted_choices
+unfolding next_record records_from strip_bom after_blanks before_blanks named_role good_role role_of records_of header_fault headers_stage pair_fault other_goods_fault present_fault missing_fault goods_count_fault goods_stage field_of field_at record_fault count_stage fields_stage greatest_places places_of size_at sizes_stage is_chosen choices_stage fault_under first_fault table_of table_under denoted_table prices_of denoted_prices bundles_of denoted_bundles budgets_of denoted_budgets choices_of denoted_choices
 on_files = tt
 
 line : List ℕ → List ℕ

@@ -22,6 +22,4 @@ is_chosen headers figures j = any_below (length figures) (λ t.
 -- budgets in order on which nothing was chosen
 unfoldable pub choices_stage : Form → List (List ℕ) → List (List Decimal) → Option TableFault
 choices_stage form headers figures =
-    if form.choices
-    then first_of form.budgets (λ j. if not (is_chosen headers figures j) then Some (fault.NoChoices (number_of j)) else None)
-    else None
+    first_of form.budgets (λ j. if not (is_chosen headers figures j) then Some (fault.NoChoices (number_of j)) else None)

@@ -16,6 +16,7 @@ use Rattle.rp_text.specs.Headers.{headers_in, headers_of, headers_stage, goods_s
 use Rattle.rp_text.specs.Fields.{figures_of, count_stage, fields_stage}
 use Rattle.rp_text.specs.Sizes.{places_of, sizes_of, sizes_stage}
 use Rattle.rp_text.specs.declared.form.Form.{Form}
+use Rattle.rp_text.specs.declared.form.Marks.TheVariants.{Goods}
 use Rattle.rp_text.specs.declared.form.Role.TheVariants.{Price, Quantity}
 use Rattle.rp_text.specs.declared.fault.TableFault.{TableFault}
 use Rattle.rp_text.specs.declared.fault.TableFault.TheVariants as fault
@@ -54,9 +55,9 @@ numbers_under mark headers names sizes =
 -- the table of these numbers
 unfoldable pub table_of : List (List ℕ) → List (List Decimal) → Observations
 table_of headers figures = record {
-  names = names_with is_price headers;
-  prices = numbers_under price_mark headers (names_with is_price headers) (sizes_of table_form headers figures);
-  quantities = numbers_under quantity_mark headers (names_with is_price headers) (sizes_of table_form headers figures);
+  names = names_with Goods is_price headers;
+  prices = numbers_under price_mark headers (names_with Goods is_price headers) (sizes_of table_form headers figures);
+  quantities = numbers_under quantity_mark headers (names_with Goods is_price headers) (sizes_of table_form headers figures);
   price_places = places_of table_form headers figures Price;
   quantity_places = places_of table_form headers figures Quantity;
 }
@@ -138,7 +139,7 @@ budget_list headers names sizes = record {
 
 -- budgets
 unfoldable pub budgets_of : List (List ℕ) → List (List Decimal) → BudgetList
-budgets_of headers figures = budget_list headers (names_with is_price headers) (sizes_of budgets_form headers figures)
+budgets_of headers figures = budget_list headers (names_with Goods is_price headers) (sizes_of budgets_form headers figures)
 
 -- what records denote as budgets
 unfoldable pub denoted_budgets : List (List (List ℕ)) → Result BudgetList TableFault

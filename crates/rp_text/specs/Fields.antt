@@ -12,8 +12,9 @@ use Rattle.rp_text.specs.Texts.{trimmed, text_at, number_of}
 use Rattle.rp_text.specs.Records.{record_at}
 use Rattle.rp_text.specs.Columns.{role_at, measures}
 use Rattle.rp_text.specs.declared.form.Form.{Form}
+use Rattle.rp_text.specs.declared.form.Marks.{Marks}
 use Rattle.rp_text.specs.declared.form.Role.{Role}
-use Rattle.rp_text.specs.declared.form.Role.TheVariants.{Observation, Price, Quantity, Expenditure, Income, Budget, Times}
+use Rattle.rp_text.specs.declared.form.Role.TheVariants.{Observation, Price, Quantity, Expenditure, Income, Budget, Times, Output, OutputPrice}
 use Rattle.rp_text.specs.declared.fault.TableFault.{TableFault}
 use Rattle.rp_text.specs.declared.fault.TableFault.TheVariants as fault
 
@@ -51,6 +52,8 @@ field_of budgets Expenditure text row column = measured (decimal_of text) row co
 field_of budgets Income text row column = measured (decimal_of text) row column
 field_of budgets Budget text row column = budgeted budgets (whole (decimal_of text) row column) row
 field_of budgets Times text row column = whole (decimal_of text) row column
+field_of budgets Output text row column = measured (decimal_of text) row column
+field_of budgets OutputPrice text row column = priced (measured (decimal_of text) row column) row column
 
 -- the t-th record after the headers, from 0
 abbrev pub row_at : List (List (List ℕ)) → ℕ → List (List ℕ)
@@ -63,7 +66,7 @@ rows_in records = length records - 1
 -- what the field at a record and a column says, or its fault
 unfoldable pub field_at : Form → List (List ℕ) → List (List (List ℕ)) → ℕ → ℕ → Result Decimal TableFault
 field_at form headers records t c =
-    field_of form.budgets (role_at headers c) (trimmed (text_at (row_at records t) c)) (number_of t) (number_of c)
+    field_of form.budgets (role_at form.marks headers c) (trimmed (text_at (row_at records t) c)) (number_of t) (number_of c)
 
 -- the number at a record and a column
 abbrev pub figure : Form → List (List ℕ) → List (List (List ℕ)) → ℕ → ℕ → Decimal
@@ -74,17 +77,17 @@ abbrev pub figures_of : Form → List (List ℕ) → List (List (List ℕ)) → 
 figures_of form headers records = listed (rows_in records) (λ t. listed (length headers) (figure form headers records t))
 
 -- whether some column says how much is bought, and each says 0
-abbrev pub buys_nothing : List (List ℕ) → (ℕ → Decimal) → Bool
-buys_nothing headers figures =
-    any_below (length headers) (λ c. measures (role_at headers c))
-    && not (any_below (length headers) (λ c. measures (role_at headers c) && nat_lt 0 (figures c).units))
+abbrev pub buys_nothing : Marks → List (List ℕ) → (ℕ → Decimal) → Bool
+buys_nothing marks headers figures =
+    any_below (length headers) (λ c. measures (role_at marks headers c))
+    && not (any_below (length headers) (λ c. measures (role_at marks headers c) && nat_lt 0 (figures c).units))
 
 -- the fault of the t-th record: its length, then its columns in order, then that nothing is bought
 unfoldable pub record_fault : Form → List (List ℕ) → List (List (List ℕ)) → ℕ → Option TableFault
 record_fault form headers records t =
     if not (length (row_at records t) == length headers) then Some (fault.Ragged (number_of t))
     else option_or (first_of (length headers) (λ c. result_err (field_at form headers records t c)))
-    (if buys_nothing headers (figure form headers records t) then Some (fault.ZeroBundle (number_of t)) else None)
+    (if buys_nothing form.marks headers (figure form headers records t) then Some (fault.ZeroBundle (number_of t)) else None)
 
 -- no record, or more than the limit
 unfoldable pub count_stage : Form → List (List (List ℕ)) → Option TableFault

@@ -1,16 +1,27 @@
 -- The kinds of files, by what each has.
-use Rattle.std.specs.Prelude.{ℕ, Bool, true, false}
+use Rattle.std.specs.Prelude.{ℕ, Bool, true, false, if◌then◌else◌, [], ◌∷◌, Option, Some, None}
 use Rattle.rp_table.specs.declared.TheConstants.{RECORDS, NEW_RECORDS, BUDGETS, CHOICES}
+use Rattle.rp_text.specs.declared.form.Column.{Column}
 use Rattle.rp_text.specs.declared.form.Form.{Form}
+use Rattle.rp_text.specs.declared.form.Marks.TheVariants.{Goods, Inputs}
+use Rattle.rp_text.specs.declared.form.Role.{Role}
+use Rattle.rp_text.specs.declared.form.Role.TheVariants.{Expenditure, Income, Budget, Times, Output, OutputPrice}
+
+-- a column that such a file has to have
+abbrev pub required : Role → Option Column
+required role = Some (record { role = role; required = true })
+
+-- a column that such a file may have
+abbrev pub optional : Role → Option Column
+optional role = Some (record { role = role; required = false })
 
 -- a table has a column of prices and one of quantities for each good, and names its goods
 abbrev pub table_form : Form
 table_form = record {
+  marks = Goods;
   prices = true;
   quantities = true;
-  expenditure = false;
-  income = false;
-  choices = false;
+  named = None ∷ None ∷ [];
   fixed_goods = false;
   fixed_places = false;
   places = 0;
@@ -22,11 +33,10 @@ table_form = record {
 -- the places of the table's quantities
 abbrev pub prices_form : Bool → ℕ → Form
 prices_form with_m places = record {
+  marks = Goods;
   prices = true;
   quantities = false;
-  expenditure = with_m;
-  income = false;
-  choices = false;
+  named = (if with_m then required Expenditure else None) ∷ None ∷ [];
   fixed_goods = true;
   fixed_places = true;
   places = places;
@@ -37,11 +47,10 @@ prices_form with_m places = record {
 -- bundles are quantities of a table's goods, at the scale of the table's quantities
 abbrev pub bundles_form : ℕ → Form
 bundles_form places = record {
+  marks = Goods;
   prices = false;
   quantities = true;
-  expenditure = false;
-  income = false;
-  choices = false;
+  named = None ∷ None ∷ [];
   fixed_goods = true;
   fixed_places = true;
   places = places;
@@ -52,11 +61,10 @@ bundles_form places = record {
 -- budgets name their goods, and have a price of each and an income
 abbrev pub budgets_form : Form
 budgets_form = record {
+  marks = Goods;
   prices = true;
   quantities = false;
-  expenditure = false;
-  income = true;
-  choices = false;
+  named = required Income ∷ None ∷ [];
   fixed_goods = false;
   fixed_places = false;
   places = 0;
@@ -67,14 +75,42 @@ budgets_form = record {
 -- choices are quantities of the goods of some budgets, with the number of a budget and a count
 abbrev pub choices_form : ℕ → Form
 choices_form budgets = record {
+  marks = Goods;
   prices = false;
   quantities = true;
-  expenditure = false;
-  income = false;
-  choices = true;
+  named = required Budget ∷ required Times ∷ [];
   fixed_goods = true;
   fixed_places = false;
   places = 0;
   budgets = budgets;
   most = CHOICES;
+}
+
+-- a technology has a column of prices and one of quantities for each input, and names its inputs. It has an
+-- output, and may have the output's price
+abbrev pub technology_form : Form
+technology_form = record {
+  marks = Inputs;
+  prices = true;
+  quantities = true;
+  named = required Output ∷ optional OutputPrice ∷ [];
+  fixed_goods = false;
+  fixed_places = false;
+  places = 0;
+  budgets = 0;
+  most = RECORDS;
+}
+
+-- what is asked of a technology: new prices of its inputs and an output, at the scale of its quantities
+abbrev pub asked_form : ℕ → Form
+asked_form places = record {
+  marks = Inputs;
+  prices = true;
+  quantities = false;
+  named = required Output ∷ None ∷ [];
+  fixed_goods = true;
+  fixed_places = true;
+  places = places;
+  budgets = 0;
+  most = NEW_RECORDS;
 }

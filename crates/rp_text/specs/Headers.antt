@@ -1,13 +1,16 @@
 -- The first fault in the headers of a file: one that such files do not take, one that came before, a good
 -- whose partner is missing or that is not fixed, a column that is missing, and too many goods.
-use Rattle.std.specs.Prelude.{ℕ, Bool, false, not, ◌&&◌, ◌||◌, ◌==◌, nat_lt, if◌then◌else◌, List, [], ◌∷◌, ◌++◌, length, map, take, codes, Option, None, Some, is_some}
+use Rattle.std.specs.Prelude.{ℕ, Bool, false, not, ◌&&◌, ◌||◌, ◌==◌, nat_lt, if◌then◌else◌, List, [], ◌∷◌, ◌++◌, length, map, take, Option, None, Some, is_some}
+use Rattle.std.specs.List.{list_any}
 use Rattle.std.specs.Option.{option_map_or}
 use Rattle.rp_table.specs.declared.TheConstants.{GOODS}
 use Rattle.rp_num.specs.Below.{first_of, first_there, any_below}
 use Rattle.rp_text.specs.Texts.{trimmed, text_at, place_of, number_of}
 use Rattle.rp_text.specs.Records.{record_at}
-use Rattle.rp_text.specs.Columns.{role_of, role_at, takes, is_price, is_quantity, names_with, name_in, price_mark, quantity_mark}
+use Rattle.rp_text.specs.Columns.{role_of, role_at, takes, header_of, is_price, is_quantity, names_with, name_in, mark_of_prices, mark_of_quantities}
+use Rattle.rp_text.specs.declared.form.Column.{Column}
 use Rattle.rp_text.specs.declared.form.Form.{Form}
+use Rattle.rp_text.specs.declared.form.Marks.{Marks}
 use Rattle.rp_text.specs.declared.form.Role.{Role}
 use Rattle.rp_text.specs.declared.fault.TableFault.{TableFault}
 use Rattle.rp_text.specs.declared.fault.TableFault.TheVariants as fault
@@ -27,7 +30,7 @@ has headers header = is_some (place_of headers header)
 -- the fault of the c-th header
 unfoldable pub header_fault : Form → List (List ℕ) → ℕ → Option TableFault
 header_fault form headers c =
-    if not (option_map_or (takes form) (role_of (text_at headers c)) false) then Some (fault.BadHeader (number_of c))
+    if not (option_map_or (takes form) (role_of form.marks (text_at headers c)) false) then Some (fault.BadHeader (number_of c))
     else if has (take c headers) (text_at headers c) then Some (fault.TwiceNamed (number_of c))
     else None
 
@@ -36,44 +39,47 @@ unfoldable pub headers_stage : Form → List (List ℕ) → Option TableFault
 headers_stage form headers = first_of (length headers) (header_fault form headers)
 
 -- the header of the other column of a good
-abbrev pub partner_of : Role → List ℕ → List ℕ
-partner_of role header = (if is_price role then quantity_mark else price_mark) ++ name_in header
+abbrev pub partner_of : Marks → Role → List ℕ → List ℕ
+partner_of marks role header = (if is_price role then mark_of_quantities marks else mark_of_prices marks) ++ name_in header
 
 -- a column of a good that has no partner
-unfoldable pub pair_fault : List (List ℕ) → ℕ → Option TableFault
-pair_fault headers c =
-    if (is_price (role_at headers c) || is_quantity (role_at headers c)) && not (has headers (partner_of (role_at headers c) (text_at headers c)))
+unfoldable pub pair_fault : Marks → List (List ℕ) → ℕ → Option TableFault
+pair_fault marks headers c =
+    if (is_price (role_at marks headers c) || is_quantity (role_at marks headers c)) && not (has headers (partner_of marks (role_at marks headers c) (text_at headers c)))
     then Some (fault.Unpaired (number_of c))
     else None
 
 -- a column of a good that is not one of the fixed goods
-unfoldable pub other_goods_fault : List (List ℕ) → List (List ℕ) → ℕ → Option TableFault
-other_goods_fault goods headers c =
-    if (is_price (role_at headers c) || is_quantity (role_at headers c)) && not (has goods (name_in (text_at headers c)))
+unfoldable pub other_goods_fault : Marks → List (List ℕ) → List (List ℕ) → ℕ → Option TableFault
+other_goods_fault marks goods headers c =
+    if (is_price (role_at marks headers c) || is_quantity (role_at marks headers c)) && not (has goods (name_in (text_at headers c)))
     then Some (fault.OtherGoods (number_of c))
     else None
 
 -- the columns of goods that are there, in order
 unfoldable pub present_fault : Form → List (List ℕ) → List (List ℕ) → Option TableFault
 present_fault form goods headers =
-    if form.fixed_goods then first_of (length headers) (other_goods_fault goods headers)
-    else if form.prices && form.quantities then first_of (length headers) (pair_fault headers)
+    if form.fixed_goods then first_of (length headers) (other_goods_fault form.marks goods headers)
+    else if form.prices && form.quantities then first_of (length headers) (pair_fault form.marks headers)
     else None
 
 -- the names of the goods, in the order of their prices, or of their quantities where there are no prices
 abbrev pub names_of : Form → List (List ℕ) → List (List ℕ)
-names_of form headers = names_with (if form.prices then is_price else is_quantity) headers
+names_of form headers = names_with form.marks (if form.prices then is_price else is_quantity) headers
+
+-- whether a column is required and missing
+abbrev pub is_missing : List (List ℕ) → Option Column → Bool
+is_missing headers None = false
+is_missing headers (Some column) = column.required && not (has headers (header_of column.role))
 
 -- whether a column is missing that is no good's
 abbrev pub lacks_column : Form → List (List ℕ) → Bool
-lacks_column form headers =
-    (form.expenditure && not (has headers (codes "m"))) || (form.income && not (has headers (codes "w")))
-    || (form.choices && not (has headers (codes "budget"))) || (form.choices && not (has headers (codes "n")))
+lacks_column form headers = list_any (is_missing headers) form.named
 
 -- what the column of a good is headed by in such a file, before its name: its prices, or its quantities
 -- where there are no prices
 abbrev pub good_mark : Form → List ℕ
-good_mark form = if form.prices then price_mark else quantity_mark
+good_mark form = if form.prices then mark_of_prices form.marks else mark_of_quantities form.marks
 
 -- whether one of the fixed goods has no column
 abbrev pub lacks_good : Form → List (List ℕ) → List (List ℕ) → Bool

@@ -5,44 +5,49 @@ use Rattle.rp_num.specs.declared.decimal.Decimal.{Decimal}
 use Rattle.rp_table.specs.declared.TheConstants.{LARGEST, LARGEST_EXPENDITURE}
 use Rattle.rp_num.specs.Below.{first_of, greatest_below, listed}
 use Rattle.rp_text.specs.Texts.{number_of}
-use Rattle.rp_text.specs.Columns.{role_at, is_price, is_quantity, is_income}
+use Rattle.rp_text.specs.Columns.{role_at, has_price_scale, has_quantity_scale, has_income_scale}
 use Rattle.rp_text.specs.Fields.{nothing, figures_of}
 use Rattle.rp_text.specs.Headers.{headers_of}
 use Rattle.rp_text.specs.declared.form.Form.{Form}
+use Rattle.rp_text.specs.declared.form.Marks.{Marks}
 use Rattle.rp_text.specs.declared.form.Role.{Role}
-use Rattle.rp_text.specs.declared.form.Role.TheVariants.{Observation, Price, Quantity, Expenditure, Income, Budget, Times}
+use Rattle.rp_text.specs.declared.form.Role.TheVariants.{Observation, Price, Quantity, Expenditure, Income, Budget, Times, Output, OutputPrice}
 use Rattle.rp_text.specs.declared.fault.TableFault.{TableFault}
 use Rattle.rp_text.specs.declared.fault.TableFault.TheVariants as fault
 
 -- whether columns of the two roles have one scale of the file's own
 abbrev pub shares_scale : Role → Role → Bool
 shares_scale Observation other = false
-shares_scale Price other = is_price other
-shares_scale Quantity other = is_quantity other
+shares_scale Price other = has_price_scale other
+shares_scale Quantity other = has_quantity_scale other
 shares_scale Expenditure other = false
-shares_scale Income other = is_income other
+shares_scale Income other = has_income_scale other
 shares_scale Budget other = false
 shares_scale Times other = false
+shares_scale Output other = has_quantity_scale other
+shares_scale OutputPrice other = has_price_scale other
 
 -- the number at a record and a column of these
 abbrev pub figure_at : List (List Decimal) → ℕ → ℕ → Decimal
 figure_at figures t c = slice_index_or (slice_index_or figures t []) c nothing
 
 -- the greatest number of places in the columns of a role
-unfoldable pub greatest_places : List (List ℕ) → List (List Decimal) → Role → ℕ
-greatest_places headers figures role =
-    greatest_below (length figures) (λ t. greatest_below (length headers) (λ c. if shares_scale role (role_at headers c) then (figure_at figures t c).places else 0))
+unfoldable pub greatest_places : Marks → List (List ℕ) → List (List Decimal) → Role → ℕ
+greatest_places marks headers figures role =
+    greatest_below (length figures) (λ t. greatest_below (length headers) (λ c. if shares_scale role (role_at marks headers c) then (figure_at figures t c).places else 0))
 
 -- the places of the scale of a role: the greatest in the file, or for quantities the fixed one. An
 -- expenditure is a sum of prices times quantities
 unfoldable pub places_of : Form → List (List ℕ) → List (List Decimal) → Role → ℕ
 places_of form headers figures Observation = 0
-places_of form headers figures Price = greatest_places headers figures Price
-places_of form headers figures Quantity = if form.fixed_places then form.places else greatest_places headers figures Quantity
-places_of form headers figures Expenditure = greatest_places headers figures Price + form.places
-places_of form headers figures Income = greatest_places headers figures Income
+places_of form headers figures Price = greatest_places form.marks headers figures Price
+places_of form headers figures Quantity = if form.fixed_places then form.places else greatest_places form.marks headers figures Quantity
+places_of form headers figures Expenditure = greatest_places form.marks headers figures Price + form.places
+places_of form headers figures Income = greatest_places form.marks headers figures Income
 places_of form headers figures Budget = 0
 places_of form headers figures Times = 0
+places_of form headers figures Output = if form.fixed_places then form.places else greatest_places form.marks headers figures Quantity
+places_of form headers figures OutputPrice = greatest_places form.marks headers figures Price
 
 -- the largest scaled number of a role
 abbrev pub limit_of : Role → ℕ
@@ -53,6 +58,8 @@ limit_of Expenditure = LARGEST_EXPENDITURE
 limit_of Income = LARGEST_EXPENDITURE
 limit_of Budget = LARGEST
 limit_of Times = LARGEST
+limit_of Output = LARGEST
+limit_of OutputPrice = LARGEST
 
 -- a number at a scale with that many places: it has no more places, and is at most the limit
 abbrev pub size_of : Decimal → ℕ → ℕ → ℕ → ℕ → Result ℕ TableFault
@@ -64,7 +71,7 @@ size_of d places limit row column =
 -- the scaled number at a record and a column, or its fault
 unfoldable pub size_at : Form → List (List ℕ) → List (List Decimal) → ℕ → ℕ → Result ℕ TableFault
 size_at form headers figures t c =
-    size_of (figure_at figures t c) (places_of form headers figures (role_at headers c)) (limit_of (role_at headers c)) (number_of t) (number_of c)
+    size_of (figure_at figures t c) (places_of form headers figures (role_at form.marks headers c)) (limit_of (role_at form.marks headers c)) (number_of t) (number_of c)
 
 -- the scaled number at a record and a column
 abbrev pub scaled : Form → List (List ℕ) → List (List Decimal) → ℕ → ℕ → ℕ

@@ -41,8 +41,8 @@ fn fill_budgets(
     names: Vec<Name>,
     sizes: &[Seq<u64>],
 ) -> Result<Budgets, NoMemory>
-    requires { IsBudgetList (budget_list columns.now names.items sizes.now) }
-    ensures { IfOk result (λ budgets. budgets ≡ budget_list columns.now names.items sizes.now) }
+    requires { IsBudgetList (budget_list columns.now.headers names.items sizes.now) }
+    ensures { IfOk result (λ budgets. budgets ≡ budget_list columns.now.headers names.items sizes.now) }
 {
     let prices = numbers_under(alloc, columns, b"p_", names.as_slice(), sizes)?;
     let w = column_numbers(alloc, columns, b"w", sizes)?;

@@ -56,8 +56,8 @@ fn fill_bundles(
     sizes: &[Seq<u64>],
 ) -> Result<Bundles, NoMemory>
     requires counted { goods ≡ length names.now }
-    requires within { IsBundleList (bundle_list columns.now names.now sizes.now) }
-    ensures { IfOk result (λ bundles. bundles ≡ bundle_list columns.now names.now sizes.now) }
+    requires within { IsBundleList (bundle_list columns.now.headers names.now sizes.now) }
+    ensures { IfOk result (λ bundles. bundles ≡ bundle_list columns.now.headers names.now sizes.now) }
 {
     let quantities = numbers_under(alloc, columns, b"q_", names, sizes)?;
     Ok(Bundles::make(goods, quantities))

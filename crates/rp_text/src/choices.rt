@@ -61,8 +61,8 @@ fn fill_choices(
     goods: &[Name],
     sizes: &[Seq<u64>],
 ) -> Result<Choices, NoMemory>
-    requires { IsChoiceList (choice_list columns.now goods.now sizes.now) }
-    ensures { IfOk result (λ choices. choices ≡ choice_list columns.now goods.now sizes.now) }
+    requires { IsChoiceList (choice_list columns.now.headers goods.now sizes.now) }
+    ensures { IfOk result (λ choices. choices ≡ choice_list columns.now.headers goods.now sizes.now) }
 {
     let numbers = column_numbers(alloc, columns, b"budget", sizes)?;
     let counts = column_numbers(alloc, columns, b"n", sizes)?;

@@ -12,7 +12,7 @@ ghost use Rattle.rp_text.specs.Refusals.{RefusedAt};
 
 use crate::TableFault;
 use crate::columns::Columns;
-use crate::form::{Form, Role};
+use crate::form::Role;
 use crate::records::Records;
 use crate::texts::{number_of, trimmed};
 use rp_num::{Decimal, NumFault, Seq, read_decimal};
@@ -35,8 +35,9 @@ fn read_field(
             units: 0,
             places: 0,
         }),
-        Role::Price => priced(measured(text, row, column), row, column),
-        Role::Quantity | Role::Expenditure | Role::Income => measured(text, row, column),
+        Role::Price | Role::OutputPrice => priced(measured(text, row, column), row, column),
+        Role::Quantity | Role::Output => measured(text, row, column),
+        Role::Expenditure | Role::Income => measured(text, row, column),
         Role::Budget => budgeted(budgets, whole(text, row, column), row),
         Role::Times => whole(text, row, column),
     }
@@ -91,21 +92,20 @@ fn budgeted(
 /// The numbers of the t-th record after the headers, column by column.
 fn read_record(
     alloc: Global,
-    form: &Form,
     columns: &Columns<'_>,
     records: &Records,
     t: usize,
 ) -> Result<Seq<Decimal>, TableFault>
     requires { t + 1 < length records.now }
     ensures read { IfOk result
-        (λ row. row ≡ listed (length columns.now) (figure form.now columns.now records.now t)) }
-    ensures faultless { IfOk result (λ _. record_fault form.now columns.now records.now t ≡ None) }
-    ensures refused { RefusedAt result (record_fault form.now columns.now records.now t) }
+        (λ row. row ≡ listed (length columns.now.headers) (figure columns.now.form columns.now.headers records.now t)) }
+    ensures faultless { IfOk result (λ _. record_fault columns.now.form columns.now.headers records.now t ≡ None) }
+    ensures refused { RefusedAt result (record_fault columns.now.form columns.now.headers records.now t) }
 {
     if records.row_width(t) != columns.len() {
         return Err(TableFault::Ragged { row: number_of(t) });
     }
-    let figures = read_columns(alloc, form, columns, records, t)?;
+    let figures = read_columns(alloc, columns, records, t)?;
     if buys_nothing(columns, figures.as_slice()) {
         return Err(TableFault::ZeroBundle { row: number_of(t) });
     }
@@ -115,27 +115,26 @@ fn read_record(
 /// The numbers of the t-th record after the headers, whatever its length and whatever is bought.
 fn read_columns(
     alloc: Global,
-    form: &Form,
     columns: &Columns<'_>,
     records: &Records,
     t: usize,
 ) -> Result<Vec<Decimal>, TableFault>
     requires { t + 1 < length records.now }
     ensures read { IfOk result
-        (λ row. row.items ≡ listed (length columns.now)
-        (figure form.now columns.now records.now t)) }
+        (λ row. row.items ≡ listed (length columns.now.headers)
+        (figure columns.now.form columns.now.headers records.now t)) }
     ensures faultless { IfOk result
-        (λ _. first_of (length columns.now)
-        (λ c. result_err (field_at form.now columns.now records.now t c)) ≡ None) }
+        (λ _. first_of (length columns.now.headers)
+        (λ c. result_err (field_at columns.now.form columns.now.headers records.now t c)) ≡ None) }
     ensures refused { RefusedAt result
-        (first_of (length columns.now)
-        (λ c. result_err (field_at form.now columns.now records.now t c))) }
+        (first_of (length columns.now.headers)
+        (λ c. result_err (field_at columns.now.form columns.now.headers records.now t c))) }
 {
     let mut figures = Vec::new(alloc);
     for c in 0..columns.len() {
         let field = records.row_field(t, c);
         figures.push(read_field(
-            form.budgets,
+            columns.form().budgets,
             columns.role(c),
             field,
             number_of(t),
@@ -147,15 +146,15 @@ fn read_columns(
 
 /// Whether some column says how much is bought, and each says 0.
 fn buys_nothing(columns: &Columns<'_>, figures: &[Decimal]) -> bool
-    requires { length figures.now ≡ length columns.now }
-    ensures { result ≡ Fields.buys_nothing columns.now (λ c. slice_index_or figures.now c nothing) }
+    requires { length figures.now ≡ length columns.now.headers }
+    ensures { result ≡ Fields.buys_nothing columns.now.form.marks columns.now.headers (λ c. slice_index_or figures.now c nothing) }
 {
     says_how_much(columns) && !buys(columns, figures)
 }
 
 /// Whether some column says how much is bought.
 fn says_how_much(columns: &Columns<'_>) -> bool
-    ensures { result ≡ any_below (length columns.now) (λ c. measures (role_at columns.now c)) }
+    ensures { result ≡ any_below (length columns.now.headers) (λ c. measures (role_at columns.now.form.marks columns.now.headers c)) }
 {
     for c in 0..columns.len() {
         if columns.role(c).measures() {
@@ -167,9 +166,9 @@ fn says_how_much(columns: &Columns<'_>) -> bool
 
 /// Whether something is bought by a record of these numbers.
 fn buys(columns: &Columns<'_>, figures: &[Decimal]) -> bool
-    requires { length figures.now ≡ length columns.now }
-    ensures { result ≡ any_below (length columns.now)
-        (λ c. measures (role_at columns.now c)
+    requires { length figures.now ≡ length columns.now.headers }
+    ensures { result ≡ any_below (length columns.now.headers)
+        (λ c. measures (role_at columns.now.form.marks columns.now.headers c)
         && nat_lt 0 (slice_index_or figures.now c nothing).units) }
 {
     for c in 0..columns.len() {
@@ -183,18 +182,17 @@ fn buys(columns: &Columns<'_>, figures: &[Decimal]) -> bool
 /// The numbers of all records after the headers.
 pub fn read_figures(
     alloc: Global,
-    form: &Form,
     columns: &Columns<'_>,
     records: &Records,
 ) -> Result<Vec<Seq<Decimal>>, TableFault>
     requires { 0 < length records.now }
-    ensures read { IfOk result (λ rows. rows.items ≡ figures_of form.now columns.now records.now) }
-    ensures faultless { IfOk result (λ _. fields_stage form.now columns.now records.now ≡ None) }
-    ensures refused { RefusedAt result (fields_stage form.now columns.now records.now) }
+    ensures read { IfOk result (λ rows. rows.items ≡ figures_of columns.now.form columns.now.headers records.now) }
+    ensures faultless { IfOk result (λ _. fields_stage columns.now.form columns.now.headers records.now ≡ None) }
+    ensures refused { RefusedAt result (fields_stage columns.now.form columns.now.headers records.now) }
 {
     let mut rows = Vec::new(alloc);
     for t in 0..records.len() - 1 {
-        rows.push(read_record(alloc, form, columns, records, t)?)?;
+        rows.push(read_record(alloc, columns, records, t)?)?;
     }
     Ok(rows)
 }

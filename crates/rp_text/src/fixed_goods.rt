@@ -7,12 +7,12 @@ ghost use Rattle.rp_text.specs.Texts.{text_at};
 ghost use Rattle.rp_text.specs.Columns.{role_at, name_in, is_price, is_quantity};
 ghost use Rattle.rp_text.specs.Headers as Headers;
 ghost use Rattle.rp_text.specs.Headers.{has, names_of, other_goods_fault, present_fault, missing_fault};
-ghost use Rattle.rp_text.specs.Headers.{goods_stage};
+ghost use Rattle.rp_text.specs.Headers.{goods_stage, is_missing};
 ghost use Rattle.rp_text.specs.Refusals.{RefusedAt};
 
 use crate::TableFault;
 use crate::columns::Columns;
-use crate::form::{Form, Role};
+use crate::form::{Column, Form, Role};
 use crate::goods::{check_pairs, lacks};
 use crate::roles::name_in;
 use crate::texts::number_of;
@@ -22,18 +22,13 @@ use rp_table::{GOODS, Name};
 use std::alloc::Global;
 
 /// Looks at the columns of the goods: those that are there, those that are missing, and their number.
-pub fn check_goods(
-    alloc: Global,
-    form: &Form,
-    goods: &[Name],
-    columns: &Columns<'_>,
-) -> Result<(), TableFault>
-    ensures fine { OnOk result (goods_stage form.now goods.now columns.now ≡ None) }
-    ensures refused { RefusedAt result (goods_stage form.now goods.now columns.now) }
+pub fn check_goods(alloc: Global, goods: &[Name], columns: &Columns<'_>) -> Result<(), TableFault>
+    ensures fine { OnOk result (goods_stage columns.now.form goods.now columns.now.headers ≡ None) }
+    ensures refused { RefusedAt result (goods_stage columns.now.form goods.now columns.now.headers) }
 {
-    check_present(alloc, form, goods, columns)?;
-    check_missing(alloc, form, goods, columns)?;
-    if count_goods(form, columns) > GOODS as usize {
+    check_present(alloc, goods, columns)?;
+    check_missing(alloc, goods, columns)?;
+    if count_goods(columns) > GOODS as usize {
         return Err(TableFault::TooManyGoods);
     }
     Ok(())
@@ -41,22 +36,17 @@ pub fn check_goods(
 
 /// Looks at the columns of goods that are there.
 #[tactic(auto, unfolding(crate::specs::Headers::present_fault))]
-fn check_present(
-    alloc: Global,
-    form: &Form,
-    goods: &[Name],
-    columns: &Columns<'_>,
-) -> Result<(), TableFault>
-    ensures fine { OnOk result (present_fault form.now goods.now columns.now ≡ None) }
-    ensures refused { RefusedAt result (present_fault form.now goods.now columns.now) }
+fn check_present(alloc: Global, goods: &[Name], columns: &Columns<'_>) -> Result<(), TableFault>
+    ensures fine { OnOk result (present_fault columns.now.form goods.now columns.now.headers ≡ None) }
+    ensures refused { RefusedAt result (present_fault columns.now.form goods.now columns.now.headers) }
 {
-    if form.fixed_goods {
+    if columns.form().fixed_goods {
         return check_other_goods(alloc, goods, columns);
     }
-    if !form.prices {
+    if !columns.form().prices {
         return Ok(());
     }
-    if !form.quantities {
+    if !columns.form().quantities {
         return Ok(());
     }
     check_pairs(alloc, columns)
@@ -65,9 +55,9 @@ fn check_present(
 /// Looks for the first column of a good that is not one of the fixed goods.
 fn check_other_goods(alloc: Global, goods: &[Name], columns: &Columns<'_>) -> Result<(), TableFault>
     ensures fine { OnOk result
-        (first_of (length columns.now) (other_goods_fault goods.now columns.now) ≡ None) }
+        (first_of (length columns.now.headers) (other_goods_fault columns.now.form.marks goods.now columns.now.headers) ≡ None) }
     ensures refused { RefusedAt result
-        (first_of (length columns.now) (other_goods_fault goods.now columns.now)) }
+        (first_of (length columns.now.headers) (other_goods_fault columns.now.form.marks goods.now columns.now.headers)) }
 {
     let fixed = names_found(alloc, goods)?;
     for c in 0..columns.len() {
@@ -94,9 +84,9 @@ fn names_found<'a>(alloc: Global, names: &'a [Name]) -> Result<IndexSet<&'a [u8]
 
 /// Whether column `c` is that of a good that is not one of the fixed goods.
 fn is_other_good(fixed: &IndexSet<&[u8]>, columns: &Columns<'_>, c: usize) -> bool
-    requires { c < length columns.now }
-    ensures { result ≡ ((is_price (role_at columns.now c) || is_quantity (role_at columns.now c))
-        && not (contains_by (λ key. bytes_eq (name_in (text_at columns.now c)) key.now)
+    requires { c < length columns.now.headers }
+    ensures { result ≡ ((is_price (role_at columns.now.form.marks columns.now.headers c) || is_quantity (role_at columns.now.form.marks columns.now.headers c))
+        && not (contains_by (λ key. bytes_eq (name_in (text_at columns.now.headers c)) key.now)
         fixed.now)) }
 {
     let listed = fixed.contains(name_in(columns.header(c)));
@@ -107,68 +97,52 @@ fn is_other_good(fixed: &IndexSet<&[u8]>, columns: &Columns<'_>, c: usize) -> bo
 }
 
 /// Looks for a column that is missing.
-fn check_missing(
-    alloc: Global,
-    form: &Form,
-    goods: &[Name],
-    columns: &Columns<'_>,
-) -> Result<(), TableFault>
-    ensures fine { OnOk result (missing_fault form.now goods.now columns.now ≡ None) }
-    ensures refused { RefusedAt result (missing_fault form.now goods.now columns.now) }
+fn check_missing(alloc: Global, goods: &[Name], columns: &Columns<'_>) -> Result<(), TableFault>
+    ensures fine { OnOk result (missing_fault columns.now.form goods.now columns.now.headers ≡ None) }
+    ensures refused { RefusedAt result (missing_fault columns.now.form goods.now columns.now.headers) }
 {
-    if count_goods(form, columns) == 0 {
+    if count_goods(columns) == 0 {
         return Err(TableFault::Unpaired { column: 0 });
     }
-    if lacks_column(form, columns) {
+    if lacks_column(columns) {
         return Err(TableFault::Unpaired { column: 0 });
     }
-    if !form.fixed_goods {
+    if !columns.form().fixed_goods {
         return Ok(());
     }
-    if lacks_good(alloc, form, goods, columns)? {
+    if lacks_good(alloc, goods, columns)? {
         return Err(TableFault::OtherGoods { column: 0 });
     }
     Ok(())
 }
 
 /// Whether a column is missing that is no good's.
-fn lacks_column(form: &Form, columns: &Columns<'_>) -> bool
-    ensures { result ≡ Headers.lacks_column form.now columns.now }
+fn lacks_column(columns: &Columns<'_>) -> bool
+    ensures { result ≡ Headers.lacks_column columns.now.form columns.now.headers }
 {
-    if lacks_named(form.expenditure, columns, b"m") {
-        return true;
-    }
-    if lacks_named(form.income, columns, b"w") {
-        return true;
-    }
-    if lacks_named(form.choices, columns, b"budget") {
-        return true;
-    }
-    lacks_named(form.choices, columns, b"n")
+    columns
+        .form()
+        .named
+        .iter()
+        .any(|column| is_missing(columns, *column))
 }
 
-/// Whether a column that is wanted is missing.
-fn lacks_named(wanted: bool, columns: &Columns<'_>, header: &[u8]) -> bool
-    ensures { result ≡ (wanted && not (has columns.now header.now)) }
+/// Whether a column is required and missing.
+fn is_missing(columns: &Columns<'_>, column: Option<Column>) -> bool
+    ensures { result ≡ is_missing columns.now.headers column }
 {
-    if wanted {
-        columns.find(header).is_none()
-    } else {
-        false
+    match column {
+        Some(column) if column.required => columns.find(column.role.header()).is_none(),
+        _ => false,
     }
 }
 
 /// Whether one of the fixed goods has no column.
-fn lacks_good(
-    alloc: Global,
-    form: &Form,
-    goods: &[Name],
-    columns: &Columns<'_>,
-) -> Result<bool, NoMemory>
-    ensures { IfOk result (λ missing. missing ≡ Headers.lacks_good form.now goods.now columns.now) }
+fn lacks_good(alloc: Global, goods: &[Name], columns: &Columns<'_>) -> Result<bool, NoMemory>
+    ensures { IfOk result (λ missing. missing ≡ Headers.lacks_good columns.now.form goods.now columns.now.headers) }
 {
     for good in goods {
-        if lacks(alloc, columns, good_mark(form), good.as_bytes())? {
+        if lacks(alloc, columns, good_mark(columns.form()), good.as_bytes())? {
             return Ok(true);
         }
     }
@@ -179,16 +153,20 @@ fn lacks_good(
 fn good_mark(form: &Form) -> &'static [u8]
     ensures { result.now ≡ Headers.good_mark form.now }
 {
-    if form.prices { b"p_" } else { b"q_" }
+    if form.prices {
+        form.marks.prices()
+    } else {
+        form.marks.quantities()
+    }
 }
 
 /// How many goods have columns.
-fn count_goods(form: &Form, columns: &Columns<'_>) -> usize
-    ensures { result ≡ length (names_of form.now columns.now) }
+fn count_goods(columns: &Columns<'_>) -> usize
+    ensures { result ≡ length (names_of columns.now.form columns.now.headers) }
 {
     let mut count = 0;
     for c in 0..columns.len() {
-        if is_named(form, columns.role(c)) {
+        if is_named(columns.form(), columns.role(c)) {
             count += 1;
         }
     }

@@ -1,7 +1,11 @@
 ghost use Rattle.std.specs.Prelude.{◌≡◌};
-ghost use Rattle.rp_text.specs.Columns.{takes, measures, is_price, is_quantity};
+ghost use Rattle.std.specs.List.{list_any};
+ghost use Rattle.rp_text.specs.Columns.{takes, measures, is_price, is_quantity, header_of};
+ghost use Rattle.rp_text.specs.Columns.{is_headed, has_price_scale, has_quantity_scale};
+ghost use Rattle.rp_text.specs.Columns.{has_income_scale, mark_of_prices, mark_of_quantities};
+ghost use Rattle.rp_text.specs.Forms as Forms;
 ghost use Rattle.rp_text.specs.Forms.{table_form, prices_form, bundles_form, budgets_form};
-ghost use Rattle.rp_text.specs.Forms.{choices_form};
+ghost use Rattle.rp_text.specs.Forms.{choices_form, technology_form, asked_form};
 ghost use Rattle.rp_text.specs.Sizes.{shares_scale, limit_of};
 
 use rp_table::{BUDGETS, CHOICES, LARGEST, LARGEST_EXPENDITURE, NEW_RECORDS, RECORDS};
@@ -9,28 +13,53 @@ use rp_table::{BUDGETS, CHOICES, LARGEST, LARGEST_EXPENDITURE, NEW_RECORDS, RECO
 /// What the fields of a column say.
 #[derive(Clone, Copy, Debug, PartialEq, Eq)]
 pub enum Role {
+    /// Nothing, under `obs`.
     Observation,
+    /// The prices of a good.
     Price,
+    /// The quantities of a good.
     Quantity,
+    /// Expenditures, under `m`.
     Expenditure,
+    /// Incomes, under `w`.
     Income,
+    /// Numbers of budgets, under `budget`.
     Budget,
+    /// Counts, under `n`.
     Times,
+    /// Outputs of a technology, under `y`.
+    Output,
+    /// Prices of its output, under `p`.
+    OutputPrice,
 }
 
-/// What a kind of file has: its columns, its limits, and what it is read beside.
+/// What the columns of goods are headed by, before the name of a good.
+#[derive(Clone, Copy, Debug)]
+pub enum Marks {
+    /// `p_` for prices and `q_` for quantities.
+    Goods,
+    /// `w_` and `x_`, for the inputs of a technology.
+    Inputs,
+}
+
+/// A column under a header of its own, in files that have to have it or may have it.
+#[derive(Clone, Copy, Debug)]
+pub struct Column {
+    pub role: Role,
+    pub required: bool,
+}
+
+/// What a kind of file has: its columns besides an optional `obs`, its limits, and what it is read beside.
 #[derive(Clone, Copy, Debug)]
 pub struct Form {
+    /// What the columns of goods are headed by.
+    pub marks: Marks,
     /// Whether a good has a column of prices.
     pub prices: bool,
     /// Whether a good has a column of quantities.
     pub quantities: bool,
-    /// Whether there is a column `m`.
-    pub expenditure: bool,
-    /// Whether there is a column `w`.
-    pub income: bool,
-    /// Whether there are the columns `budget` and `n`.
-    pub choices: bool,
+    /// The columns that are no good's.
+    pub named: [Option<Column>; 2],
     /// Whether the goods are fixed beforehand, and not named by the file.
     pub fixed_goods: bool,
     /// Whether the scale of quantities is fixed beforehand, and not the file's.
@@ -43,17 +72,36 @@ pub struct Form {
     pub most: u32,
 }
 
+/// A column that such a file has to have.
+fn required(role: Role) -> Option<Column>
+    ensures { result ≡ Forms.required role }
+{
+    Some(Column {
+        role,
+        required: true,
+    })
+}
+
+/// A column that such a file may have.
+fn optional(role: Role) -> Option<Column>
+    ensures { result ≡ Forms.optional role }
+{
+    Some(Column {
+        role,
+        required: false,
+    })
+}
+
 impl Form {
     /// A table has prices and quantities of the goods that it names.
     pub fn table() -> Form
         ensures { result ≡ table_form }
     {
         Form {
+            marks: Marks::Goods,
             prices: true,
             quantities: true,
-            expenditure: false,
-            income: false,
-            choices: false,
+            named: [None, None],
             fixed_goods: false,
             fixed_places: false,
             places: 0,
@@ -68,11 +116,17 @@ impl Form {
         ensures { result ≡ prices_form with_m places }
     {
         Form {
+            marks: Marks::Goods,
             prices: true,
             quantities: false,
-            expenditure: with_m,
-            income: false,
-            choices: false,
+            named: [
+                if with_m {
+                    required(Role::Expenditure)
+                } else {
+                    None
+                },
+                None,
+            ],
             fixed_goods: true,
             fixed_places: true,
             places,
@@ -86,11 +140,10 @@ impl Form {
         ensures { result ≡ bundles_form places }
     {
         Form {
+            marks: Marks::Goods,
             prices: false,
             quantities: true,
-            expenditure: false,
-            income: false,
-            choices: false,
+            named: [None, None],
             fixed_goods: true,
             fixed_places: true,
             places,
@@ -104,11 +157,10 @@ impl Form {
         ensures { result ≡ budgets_form }
     {
         Form {
+            marks: Marks::Goods,
             prices: true,
             quantities: false,
-            expenditure: false,
-            income: true,
-            choices: false,
+            named: [required(Role::Income), None],
             fixed_goods: false,
             fixed_places: false,
             places: 0,
@@ -123,16 +175,50 @@ impl Form {
         ensures { result ≡ choices_form budgets }
     {
         Form {
+            marks: Marks::Goods,
             prices: false,
             quantities: true,
-            expenditure: false,
-            income: false,
-            choices: true,
+            named: [required(Role::Budget), required(Role::Times)],
             fixed_goods: true,
             fixed_places: false,
             places: 0,
             budgets,
             most: CHOICES,
+        }
+    }
+
+    /// A technology has prices and quantities of the inputs that it names, an output and possibly its price.
+    pub fn technology() -> Form
+        ensures { result ≡ technology_form }
+    {
+        Form {
+            marks: Marks::Inputs,
+            prices: true,
+            quantities: true,
+            named: [required(Role::Output), optional(Role::OutputPrice)],
+            fixed_goods: false,
+            fixed_places: false,
+            places: 0,
+            budgets: 0,
+            most: RECORDS,
+        }
+    }
+
+    /// What is asked of a technology is an output at new prices of its inputs. The output is scaled as the
+    /// technology's quantities with these places.
+    pub fn asked(places: u8) -> Form
+        ensures { result ≡ asked_form places }
+    {
+        Form {
+            marks: Marks::Inputs,
+            prices: true,
+            quantities: false,
+            named: [required(Role::Output), None],
+            fixed_goods: true,
+            fixed_places: true,
+            places,
+            budgets: 0,
+            most: NEW_RECORDS,
         }
     }
 
@@ -144,10 +230,46 @@ impl Form {
             Role::Observation => true,
             Role::Price => self.prices,
             Role::Quantity => self.quantities,
-            Role::Expenditure => self.expenditure,
-            Role::Income => self.income,
-            Role::Budget => self.choices,
-            Role::Times => self.choices,
+            other => self.has_headed(other.header()),
+        }
+    }
+
+    /// Whether this kind of file has a column that is no good's with that header.
+    fn has_headed(&self, header: &[u8]) -> bool
+        ensures { result ≡ list_any (is_headed header.now) self.now.named }
+    {
+        self.named.iter().any(|column| is_headed(header, *column))
+    }
+}
+
+/// Whether a column that such a file may have is the one with that header.
+fn is_headed(header: &[u8], column: Option<Column>) -> bool
+    ensures { result ≡ is_headed header.now column }
+{
+    match column {
+        Some(column) => column.role.header() == header,
+        None => false,
+    }
+}
+
+impl Marks {
+    /// The mark of prices.
+    pub fn prices(self) -> &'static [u8]
+        ensures { result.now ≡ mark_of_prices self }
+    {
+        match self {
+            Marks::Goods => b"p_",
+            Marks::Inputs => b"w_",
+        }
+    }
+
+    /// The mark of quantities.
+    pub fn quantities(self) -> &'static [u8]
+        ensures { result.now ≡ mark_of_quantities self }
+    {
+        match self {
+            Marks::Goods => b"q_",
+            Marks::Inputs => b"x_",
         }
     }
 }
@@ -173,14 +295,57 @@ impl Role {
         }
     }
 
+    /// The header of a column that is no good's.
+    pub fn header(self) -> &'static [u8]
+        ensures { result.now ≡ header_of self }
+    {
+        match self {
+            Role::Observation => b"obs",
+            Role::Price | Role::Quantity => b"",
+            Role::Expenditure => b"m",
+            Role::Income => b"w",
+            Role::Budget => b"budget",
+            Role::Times => b"n",
+            Role::Output => b"y",
+            Role::OutputPrice => b"p",
+        }
+    }
+
     /// Whether columns of the two roles have one scale of the file's own.
     pub fn shares_scale(self, other: Role) -> bool
         ensures { result ≡ shares_scale self other }
     {
-        match (self, other) {
-            (Role::Price, Role::Price) => true,
-            (Role::Quantity, Role::Quantity) => true,
-            (Role::Income, Role::Income) => true,
+        match self {
+            Role::Price | Role::OutputPrice => other.has_price_scale(),
+            Role::Quantity | Role::Output => other.has_quantity_scale(),
+            Role::Income => other.has_income_scale(),
+            _ => false,
+        }
+    }
+
+    fn has_price_scale(self) -> bool
+        ensures { result ≡ has_price_scale self }
+    {
+        match self {
+            Role::Price | Role::OutputPrice => true,
+            _ => false,
+        }
+    }
+
+    fn has_quantity_scale(self) -> bool
+        ensures { result ≡ has_quantity_scale self }
+    {
+        match self {
+            Role::Quantity | Role::Output => true,
+            _ => false,
+        }
+    }
+
+    fn has_income_scale(self) -> bool
+        ensures { result ≡ has_income_scale self }
+    {
+        match self {
+            Role::Income => true,
             _ => false,
         }
     }
@@ -201,7 +366,7 @@ impl Role {
     {
         match self {
             Role::Quantity | Role::Expenditure | Role::Income => true,
-            Role::Observation | Role::Price | Role::Budget | Role::Times => false,
+            _ => false,
         }
     }
 }

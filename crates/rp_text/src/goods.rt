@@ -17,8 +17,10 @@ use std::alloc::Global;
 
 /// Looks for the first column of a good that has no partner.
 pub fn check_pairs(alloc: Global, columns: &Columns<'_>) -> Result<(), TableFault>
-    ensures paired { OnOk result (first_of (length columns.now) (pair_fault columns.now) ≡ None) }
-    ensures refused { RefusedAt result (first_of (length columns.now) (pair_fault columns.now)) }
+    ensures paired { OnOk result (first_of (length columns.now.headers)
+        (pair_fault columns.now.form.marks columns.now.headers) ≡ None) }
+    ensures refused { RefusedAt result (first_of (length columns.now.headers)
+        (pair_fault columns.now.form.marks columns.now.headers)) }
 {
     for c in 0..columns.len() {
         if lacks_partner(alloc, columns, c)? {
@@ -32,15 +34,18 @@ pub fn check_pairs(alloc: Global, columns: &Columns<'_>) -> Result<(), TableFaul
 
 /// Whether column `c` is a good's and the other column of that good is missing.
 fn lacks_partner(alloc: Global, columns: &Columns<'_>, c: usize) -> Result<bool, NoMemory>
-    requires { c < length columns.now }
-    ensures { IfOk result (λ lacks. lacks
-        ≡ ((is_price (role_at columns.now c) || is_quantity (role_at columns.now c))
-        && not (has columns.now (partner_of (role_at columns.now c) (text_at columns.now c))))) }
+    requires { c < length columns.now.headers }
+    ensures { let marks = columns.now.form.marks in
+        let headers = columns.now.headers in
+        IfOk result (λ lacks. lacks
+        ≡ ((is_price (role_at marks headers c) || is_quantity (role_at marks headers c))
+        && not (has headers (partner_of marks (role_at marks headers c) (text_at headers c))))) }
 {
     let name = name_in(columns.header(c));
+    let marks = columns.form().marks;
     match columns.role(c) {
-        Role::Price => lacks(alloc, columns, b"q_", name),
-        Role::Quantity => lacks(alloc, columns, b"p_", name),
+        Role::Price => lacks(alloc, columns, marks.quantities(), name),
+        Role::Quantity => lacks(alloc, columns, marks.prices(), name),
         _ => Ok(false),
     }
 }
@@ -52,7 +57,7 @@ pub fn lacks(
     mark: &[u8],
     name: &[u8],
 ) -> Result<bool, NoMemory>
-    ensures { IfOk result (λ lacks. lacks ≡ not (has columns.now (mark.now ++ name.now))) }
+    ensures { IfOk result (λ lacks. lacks ≡ not (has columns.now.headers (mark.now ++ name.now))) }
 {
     Ok(find_good(alloc, columns, mark, name)?.is_none())
 }
@@ -64,7 +69,7 @@ fn find_good(
     mark: &[u8],
     name: &[u8],
 ) -> Result<Option<usize>, NoMemory>
-    ensures { IfOk result (λ found. found ≡ place_of columns.now (mark.now ++ name.now)) }
+    ensures { IfOk result (λ found. found ≡ place_of columns.now.headers (mark.now ++ name.now)) }
 {
     let mut header = Vec::from_slice(alloc, mark)?;
     header.extend_from_slice(name)?;
@@ -73,7 +78,7 @@ fn find_good(
 
 /// The names of the goods, in the order of their prices.
 pub fn read_names(alloc: Global, columns: &Columns<'_>) -> Result<Vec<Name>, NoMemory>
-    ensures { IfOk result (λ names. names.items ≡ names_with is_price columns.now) }
+    ensures { IfOk result (λ names. names.items ≡ names_with columns.now.form.marks is_price columns.now.headers) }
 {
     let mut names = Vec::new(alloc);
     for c in 0..columns.len() {
@@ -92,7 +97,7 @@ pub fn columns_of(
     names: &[Name],
 ) -> Result<Vec<usize>, NoMemory>
     ensures { IfOk result (λ found. found.items
-        ≡ listed (length names.now) (column_of mark.now columns.now names.now)) }
+        ≡ listed (length names.now) (column_of mark.now columns.now.headers names.now)) }
 {
     let mut found = Vec::new(alloc);
     for name in names {

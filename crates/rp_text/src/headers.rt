@@ -19,13 +19,14 @@ pub fn read_columns<'a>(
     records: &'a Records,
 ) -> Result<Columns<'a>, TableFault>
     requires { 0 < length records.now }
-    ensures read { IfOk result (λ columns. columns ≡ headers_of records.now) }
+    ensures read { IfOk result (λ columns. columns.headers ≡ headers_of records.now) }
+    ensures kind { IfOk result (λ columns. columns.form ≡ form.now) }
     ensures faultless { IfOk result
         (λ _. headers_stage form.now (headers_of records.now) ≡ None) }
     ensures refused { RefusedAt result
         (headers_stage form.now (headers_of records.now)) }
 {
-    let mut columns = Columns::new(alloc);
+    let mut columns = Columns::new(alloc, form);
     for c in 0..records.headers() {
         let header = trimmed(records.header(c));
         let Some(role) = role_taken(form, header) else {
@@ -45,10 +46,10 @@ pub fn read_columns<'a>(
 
 /// What a column with that header says, where this kind of file has it.
 fn role_taken(form: &Form, header: &[u8]) -> Option<Role>
-    ensures { MatchOption result (option_map_or (takes form.now) (role_of header.now) false ≡ false)
-        (λ role. (role_of header.now ≡ Some role) × (takes form.now role ≡ true)) }
+    ensures { MatchOption result (option_map_or (takes form.now) (role_of form.now.marks header.now) false ≡ false)
+        (λ role. (role_of form.now.marks header.now ≡ Some role) × (takes form.now role ≡ true)) }
 {
-    match role_of(header) {
+    match role_of(form.marks, header) {
         Some(role) if form.takes(role) => Some(role),
         _ => None,
     }

@@ -20,9 +20,9 @@ pub fn numbers_under(
     sizes: &[Seq<u64>],
 ) -> Result<Vec<u32>, NoMemory>
     requires { (t g : ℕ) → t < length sizes.now → g < length names.now
-        → slice_index (text_at sizes.now t) (column_of mark.now columns.now names.now g) ≤ LARGEST }
+        → slice_index (text_at sizes.now t) (column_of mark.now columns.now.headers names.now g) ≤ LARGEST }
     ensures { IfOk result (λ numbers. numbers.items
-        ≡ numbers_under mark.now columns.now names.now sizes.now) }
+        ≡ numbers_under mark.now columns.now.headers names.now sizes.now) }
 {
     let places = columns_of(alloc, columns, mark, names)?;
     let mut numbers = Vec::new(alloc);
@@ -55,7 +55,7 @@ pub fn column_numbers(
     sizes: &[Seq<u64>],
 ) -> Result<Vec<u64>, NoMemory>
     ensures { IfOk result (λ numbers. numbers.items
-        ≡ Denotation.column_numbers header.now columns.now sizes.now) }
+        ≡ Denotation.column_numbers header.now columns.now.headers sizes.now) }
 {
     let place = columns.find(header).unwrap_or(0);
     let mut numbers = Vec::new(alloc);

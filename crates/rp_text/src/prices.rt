@@ -70,8 +70,8 @@ fn fill_prices(
     with_m: bool,
 ) -> Result<Prices, NoMemory>
     requires counted { goods ≡ length names.now }
-    requires within { IsPriceList (price_list with_m columns.now names.now sizes.now) }
-    ensures { IfOk result (λ prices. prices ≡ price_list with_m columns.now names.now sizes.now) }
+    requires within { IsPriceList (price_list with_m columns.now.headers names.now sizes.now) }
+    ensures { IfOk result (λ prices. prices ≡ price_list with_m columns.now.headers names.now sizes.now) }
 {
     let prices = numbers_under(alloc, columns, b"p_", names, sizes)?;
     let m = expenditures(alloc, columns, sizes, with_m)?;
@@ -86,7 +86,7 @@ fn expenditures(
     with_m: bool,
 ) -> Result<Vec<u64>, NoMemory>
     ensures { IfOk result (λ m. m.items
-        ≡ (if with_m then Denotation.column_numbers (codes "m") columns.now sizes.now else [])) }
+        ≡ (if with_m then Denotation.column_numbers (codes "m") columns.now.headers sizes.now else [])) }
 {
     if with_m {
         column_numbers(alloc, columns, b"m", sizes)

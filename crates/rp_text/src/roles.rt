@@ -1,14 +1,22 @@
 ghost use Rattle.std.specs.Prelude.{◌≡◌, nat_le};
 ghost use Rattle.std.specs.List.{list_all};
-ghost use Rattle.rp_text.specs.Columns.{role_of, good_role, is_name, name_in};
+ghost use Rattle.rp_text.specs.Columns.{role_of, named_role, good_role, is_name, name_in};
 
-use crate::form::Role;
+use crate::form::{Marks, Role};
 use rp_table::NAME_BYTES;
 
-/// What a column with that header says, in the files that have one.
+/// What a column with that header says, in the files that have one and mark goods so.
 #[tactic(auto, unfolding(crate::specs::Columns::role_of))]
-pub fn role_of(header: &[u8]) -> Option<Role>
-    ensures { result ≡ role_of header.now }
+pub fn role_of(marks: Marks, header: &[u8]) -> Option<Role>
+    ensures { result ≡ role_of marks header.now }
+{
+    named_role(header).or(good_role(marks, header))
+}
+
+/// What a column with that header says that is no good's.
+#[tactic(auto, unfolding(crate::specs::Columns::named_role))]
+fn named_role(header: &[u8]) -> Option<Role>
+    ensures { result ≡ named_role header.now }
 {
     if header == b"obs".as_slice() {
         Some(Role::Observation)
@@ -20,28 +28,32 @@ pub fn role_of(header: &[u8]) -> Option<Role>
         Some(Role::Budget)
     } else if header == b"n".as_slice() {
         Some(Role::Times)
+    } else if header == b"y".as_slice() {
+        Some(Role::Output)
+    } else if header == b"p".as_slice() {
+        Some(Role::OutputPrice)
     } else {
-        good_role(header)
+        None
     }
 }
 
 /// What the column of a good says.
 #[tactic(auto, unfolding(crate::specs::Columns::good_role))]
-fn good_role(header: &[u8]) -> Option<Role>
-    ensures { result ≡ good_role header.now }
+fn good_role(marks: Marks, header: &[u8]) -> Option<Role>
+    ensures { result ≡ good_role marks header.now }
 {
     if !is_name(name_in(header)) {
         None
-    } else if header.starts_with(b"p_") {
+    } else if header.starts_with(marks.prices()) {
         Some(Role::Price)
-    } else if header.starts_with(b"q_") {
+    } else if header.starts_with(marks.quantities()) {
         Some(Role::Quantity)
     } else {
         None
     }
 }
 
-/// The name of a good, after `p_` or `q_`.
+/// The name of a good, after the mark.
 pub fn name_in(header: &[u8]) -> &[u8]
     ensures { result.now ≡ name_in header.now }
 {

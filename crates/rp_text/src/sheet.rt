@@ -36,7 +36,8 @@ pub fn read_sheet<'a>(
     goods: &[Name],
     records: &'a Records,
 ) -> Result<Sheet<'a>, TableFault>
-    ensures columns { IfOk result (λ sheet. sheet.columns ≡ headers_of records.now) }
+    ensures columns { IfOk result (λ sheet. sheet.columns.headers ≡ headers_of records.now) }
+    ensures kind { IfOk result (λ sheet. sheet.columns.form ≡ form.now) }
     ensures figures { IfOk result
         (λ sheet. sheet.figures.items ≡ sheet_figures form.now records.now) }
     ensures sizes { IfOk result (λ sheet. sheet.sizes.items ≡ sheet_sizes form.now records.now) }
@@ -47,11 +48,11 @@ pub fn read_sheet<'a>(
         return Err(TableFault::Empty);
     }
     let columns = read_columns(alloc, form, records)?;
-    check_goods(alloc, form, goods, &columns)?;
+    check_goods(alloc, goods, &columns)?;
     check_count(form, records)?;
-    let figures = read_figures(alloc, form, &columns, records)?;
-    let sizes = read_sizes(alloc, form, &columns, figures.as_slice())?;
-    check_choices(form, &columns, figures.as_slice())?;
+    let figures = read_figures(alloc, &columns, records)?;
+    let sizes = read_sizes(alloc, &columns, figures.as_slice())?;
+    check_choices(&columns, figures.as_slice())?;
     Ok(Sheet {
         columns,
         figures,
@@ -75,19 +76,12 @@ fn check_count(form: &Form, records: &Records) -> Result<(), TableFault>
 }
 
 /// Looks for the first budget on which nothing was chosen, in files of choices.
-fn check_choices(
-    form: &Form,
-    columns: &Columns<'_>,
-    figures: &[Seq<Decimal>],
-) -> Result<(), TableFault>
-    ensures fine { OnOk result (choices_stage form.now columns.now figures.now ≡ None) }
+fn check_choices(columns: &Columns<'_>, figures: &[Seq<Decimal>]) -> Result<(), TableFault>
+    ensures fine { OnOk result (choices_stage columns.now.form columns.now.headers figures.now ≡ None) }
     ensures refused { IfErr result
-        (λ fault. choices_stage form.now columns.now figures.now ≡ Some fault) }
+        (λ fault. choices_stage columns.now.form columns.now.headers figures.now ≡ Some fault) }
 {
-    if !form.choices {
-        return Ok(());
-    }
-    for j in 0..form.budgets {
+    for j in 0..columns.form().budgets {
         if !is_chosen(columns, figures, j) {
             return Err(TableFault::NoChoices {
                 budget: number_of(j as usize),
@@ -99,7 +93,7 @@ fn check_choices(
 
 /// Whether something was chosen on budget `j`, from 0.
 fn is_chosen(columns: &Columns<'_>, figures: &[Seq<Decimal>], j: u32) -> bool
-    ensures { result ≡ is_chosen columns.now figures.now j }
+    ensures { result ≡ is_chosen columns.now.headers figures.now j }
 {
     let budget = columns.find(b"budget").unwrap_or(0);
     let times = columns.find(b"n").unwrap_or(0);

@@ -12,23 +12,30 @@ ghost use Rattle.rp_text.specs.Refusals.{RefusedAt};
 
 use crate::TableFault;
 use crate::columns::Columns;
-use crate::form::{Form, Role};
+use crate::form::Role;
 use crate::texts::number_of;
 use rp_num::{Decimal, NoMemory, Seq};
 use std::alloc::Global;
 
 /// The places of the scale of a role.
 #[tactic(auto, unfolding(crate::specs::Sizes::places_of))]
-pub fn places_of(form: &Form, columns: &Columns<'_>, figures: &[Seq<Decimal>], role: Role) -> u32
-    requires { All (λ row. length row ≡ length columns.now) figures.now }
-    ensures { result ≡ Sizes.places_of form.now columns.now figures.now role }
+pub fn places_of(columns: &Columns<'_>, figures: &[Seq<Decimal>], role: Role) -> u32
+    requires { All (λ row. length row ≡ length columns.now.headers) figures.now }
+    ensures { result ≡ Sizes.places_of columns.now.form columns.now.headers figures.now role }
 {
     match role {
-        Role::Price => u32::from(greatest_places(columns, figures, Role::Price)),
-        Role::Quantity if form.fixed_places => u32::from(form.places),
-        Role::Quantity => u32::from(greatest_places(columns, figures, Role::Quantity)),
+        Role::Price | Role::OutputPrice => {
+            u32::from(greatest_places(columns, figures, Role::Price))
+        }
+        Role::Quantity | Role::Output if columns.form().fixed_places => u32::from(
+            columns.form().places,
+        ),
+        Role::Quantity | Role::Output => {
+            u32::from(greatest_places(columns, figures, Role::Quantity))
+        }
         Role::Expenditure => {
-            u32::from(greatest_places(columns, figures, Role::Price)) + u32::from(form.places)
+            u32::from(greatest_places(columns, figures, Role::Price))
+                + u32::from(columns.form().places)
         }
         Role::Income => u32::from(greatest_places(columns, figures, Role::Income)),
         Role::Observation | Role::Budget | Role::Times => 0,
@@ -38,25 +45,24 @@ pub fn places_of(form: &Form, columns: &Columns<'_>, figures: &[Seq<Decimal>], r
 /// The places of the scale of each column.
 fn column_places(
     alloc: Global,
-    form: &Form,
     columns: &Columns<'_>,
     figures: &[Seq<Decimal>],
 ) -> Result<Vec<u32>, NoMemory>
-    requires { All (λ row. length row ≡ length columns.now) figures.now }
-    ensures { IfOk result (λ places. places.items ≡ listed (length columns.now)
-        (λ c. Sizes.places_of form.now columns.now figures.now (role_at columns.now c))) }
+    requires { All (λ row. length row ≡ length columns.now.headers) figures.now }
+    ensures { IfOk result (λ places. places.items ≡ listed (length columns.now.headers)
+        (λ c. Sizes.places_of columns.now.form columns.now.headers figures.now (role_at columns.now.form.marks columns.now.headers c))) }
 {
     let mut places = Vec::new(alloc);
     for c in 0..columns.len() {
-        places.push(places_of(form, columns, figures, columns.role(c)))?;
+        places.push(places_of(columns, figures, columns.role(c)))?;
     }
     Ok(places)
 }
 
 /// The greatest number of places in the columns that share a scale with that role.
 fn greatest_places(columns: &Columns<'_>, figures: &[Seq<Decimal>], role: Role) -> u8
-    requires { All (λ row. length row ≡ length columns.now) figures.now }
-    ensures { result ≡ greatest_places columns.now figures.now role }
+    requires { All (λ row. length row ≡ length columns.now.headers) figures.now }
+    ensures { result ≡ greatest_places columns.now.form.marks columns.now.headers figures.now role }
 {
     let mut greatest = 0;
     for row in figures {
@@ -67,9 +73,9 @@ fn greatest_places(columns: &Columns<'_>, figures: &[Seq<Decimal>], role: Role) 
 
 /// The same in one record.
 fn greatest_in(columns: &Columns<'_>, figures: &[Decimal], role: Role) -> u8
-    requires { length figures.now ≡ length columns.now }
-    ensures { result ≡ greatest_below (length columns.now)
-        (λ c. if shares_scale role (role_at columns.now c) then
+    requires { length figures.now ≡ length columns.now.headers }
+    ensures { result ≡ greatest_below (length columns.now.headers)
+        (λ c. if shares_scale role (role_at columns.now.form.marks columns.now.headers c) then
         (slice_index_or figures.now c nothing).places else 0) }
 {
     let mut greatest = 0;
@@ -129,24 +135,23 @@ fn times_power(units: u64, power: u32, limit: u64) -> Option<u64>
 /// The scaled numbers of a record.
 fn read_sizes_in(
     alloc: Global,
-    form: &Form,
     columns: &Columns<'_>,
     figures: &[Seq<Decimal>],
     places: &[u32],
     t: usize,
 ) -> Result<Seq<u64>, TableFault>
-    requires scales { places.now ≡ listed (length columns.now)
-        (λ c. Sizes.places_of form.now columns.now figures.now (role_at columns.now c)) }
-    requires whole { All (λ row. length row ≡ length columns.now) figures.now }
+    requires scales { places.now ≡ listed (length columns.now.headers)
+        (λ c. Sizes.places_of columns.now.form columns.now.headers figures.now (role_at columns.now.form.marks columns.now.headers c)) }
+    requires whole { All (λ row. length row ≡ length columns.now.headers) figures.now }
     requires within { t < length figures.now }
     ensures read { IfOk result
-        (λ row. row ≡ listed (length columns.now) (scaled form.now columns.now figures.now t)) }
+        (λ row. row ≡ listed (length columns.now.headers) (scaled columns.now.form columns.now.headers figures.now t)) }
     ensures faultless { IfOk result
-        (λ _. first_of (length columns.now)
-        (λ c. result_err (size_at form.now columns.now figures.now t c)) ≡ None) }
+        (λ _. first_of (length columns.now.headers)
+        (λ c. result_err (size_at columns.now.form columns.now.headers figures.now t c)) ≡ None) }
     ensures refused { RefusedAt result
-        (first_of (length columns.now)
-        (λ c. result_err (size_at form.now columns.now figures.now t c))) }
+        (first_of (length columns.now.headers)
+        (λ c. result_err (size_at columns.now.form columns.now.headers figures.now t c))) }
 {
     let row = figures[t].as_slice();
     let mut sizes = Vec::new(alloc);
@@ -165,19 +170,18 @@ fn read_sizes_in(
 /// The scaled numbers of all records.
 pub fn read_sizes(
     alloc: Global,
-    form: &Form,
     columns: &Columns<'_>,
     figures: &[Seq<Decimal>],
 ) -> Result<Vec<Seq<u64>>, TableFault>
-    requires { All (λ row. length row ≡ length columns.now) figures.now }
-    ensures read { IfOk result (λ rows. rows.items ≡ sizes_of form.now columns.now figures.now) }
-    ensures faultless { IfOk result (λ _. sizes_stage form.now columns.now figures.now ≡ None) }
-    ensures refused { RefusedAt result (sizes_stage form.now columns.now figures.now) }
+    requires { All (λ row. length row ≡ length columns.now.headers) figures.now }
+    ensures read { IfOk result (λ rows. rows.items ≡ sizes_of columns.now.form columns.now.headers figures.now) }
+    ensures faultless { IfOk result (λ _. sizes_stage columns.now.form columns.now.headers figures.now ≡ None) }
+    ensures refused { RefusedAt result (sizes_stage columns.now.form columns.now.headers figures.now) }
 {
-    let places = column_places(alloc, form, columns, figures)?;
+    let places = column_places(alloc, columns, figures)?;
     let mut rows = Vec::new(alloc);
     for t in 0..figures.len() {
-        rows.push(read_sizes_in(alloc, form, columns, figures, places.as_slice(), t)?)?;
+        rows.push(read_sizes_in(alloc, columns, figures, places.as_slice(), t)?)?;
     }
     Ok(rows)
 }

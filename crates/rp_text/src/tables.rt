@@ -2,6 +2,7 @@ ghost use Rattle.std.specs.Prelude.{◌≡◌, [], Ok, None, OnOk, IfOk, All, le
 ghost use Rattle.rp_table.specs.Tables.{IsTable};
 ghost use Rattle.rp_text.specs.Columns.{names_with, is_price};
 ghost use Rattle.rp_text.specs.Forms.{table_form};
+ghost use Rattle.rp_text.specs.declared.form.Marks.TheVariants.{Goods};
 ghost use Rattle.rp_text.specs.Sizes.{sizes_of};
 ghost use Rattle.rp_text.specs.Denotation.{table_of, denoted_table, table_in};
 ghost use Rattle.rp_text.specs.Refusals.{RefusedAs};
@@ -52,16 +53,16 @@ fn fill_table(
     figures: &[Seq<Decimal>],
     sizes: &[Seq<u64>],
 ) -> Result<Table, NoMemory>
-    requires named { names.items ≡ names_with is_price columns.now }
-    requires whole { All (λ row. length row ≡ length columns.now) figures.now }
-    requires sized { sizes.now ≡ sizes_of table_form columns.now figures.now }
-    requires within { IsTable (table_of columns.now figures.now) }
-    ensures { IfOk result (λ table. table ≡ table_of columns.now figures.now) }
+    requires of_tables { columns.now.form ≡ table_form }
+    requires named { names.items ≡ names_with Goods is_price columns.now.headers }
+    requires whole { All (λ row. length row ≡ length columns.now.headers) figures.now }
+    requires sized { sizes.now ≡ sizes_of table_form columns.now.headers figures.now }
+    requires within { IsTable (table_of columns.now.headers figures.now) }
+    ensures { IfOk result (λ table. table ≡ table_of columns.now.headers figures.now) }
 {
-    let form = Form::table();
     let prices = numbers_under(alloc, columns, b"p_", names.as_slice(), sizes)?;
     let quantities = numbers_under(alloc, columns, b"q_", names.as_slice(), sizes)?;
-    let price_places = places_of(&form, columns, figures, Role::Price) as u8;
-    let quantity_places = places_of(&form, columns, figures, Role::Quantity) as u8;
+    let price_places = places_of(columns, figures, Role::Price) as u8;
+    let quantity_places = places_of(columns, figures, Role::Quantity) as u8;
     Ok(Table::make(names, prices, quantities, price_places, quantity_places))
 }

@@ -2,8 +2,10 @@ use Rattle.std.proofs.Common.{◌≡◌, ◌≢◌, Some, None, Ok, Err, refl, s
 use Rattle.rp_table.specs.BudgetLists.{IsBudgetList}
 use Rattle.rp_text.specs.Columns.{names_with, is_price}
 use Rattle.rp_text.specs.Denotation.{budget_list, denoted_budgets}
+use Rattle.rp_text.specs.declared.form.Form.{Form}
 use Rattle.rp_text.specs.declared.fault.TableFault.{TableFault}
 use Rattle.rp_text.specs.declared.fault.TableFault.TheVariants as fault
+use Rattle.rp_text.specs.declared.form.Marks.TheVariants.{Goods}
 use Rattle.rp_text.proofs.ColumnSizes.{value_read}
 use Rattle.rp_text.proofs.StageLemmas.{same_fault}
 use Rattle.rp_text.proofs.BudgetFacts.{budgets_within, refused_budgets, budgets_there}
@@ -17,12 +19,14 @@ returns-in_err-sheet-clause-refused c =
 
 pub fill_budgets-requires : goal.fill_budgets-requires
 fill_budgets-requires c =
-    let names = c.in_ok-names.ensures ∙ ap (names_with is_price) c.in_ok-sheet.ensures.columns in
+    let kind = c.in_ok-sheet.ensures.kind ∙ c.budgets.ensures in
+    let names = c.in_ok-names.ensures ∙ ap (λ (form : Form). names_with form.marks is_price c.in_ok-sheet.sheet.columns.headers) kind ∙ ap (names_with Goods is_price) c.in_ok-sheet.ensures.columns in
     let read = value_read budget_list c.args.records.now c.budgets.ensures c.in_ok-sheet.ensures.columns names (c.as_slice.ensures.value ∙ c.in_ok-sheet.ensures.sizes) in
     subst IsBudgetList (sym read) (budgets_within c.args.records.now (same_fault c.args.records.now None c.budgets.ensures refl c.in_ok-sheet.ensures.faultless))
 
 pub returns-clause-denoted : goal.returns-clause-denoted
 returns-clause-denoted c =
-    let names = c.in_ok-names.ensures ∙ ap (names_with is_price) c.in_ok-sheet.ensures.columns in
+    let kind = c.in_ok-sheet.ensures.kind ∙ c.budgets.ensures in
+    let names = c.in_ok-names.ensures ∙ ap (λ (form : Form). names_with form.marks is_price c.in_ok-sheet.sheet.columns.headers) kind ∙ ap (names_with Goods is_price) c.in_ok-sheet.ensures.columns in
     let read = value_read budget_list c.args.records.now c.budgets.ensures c.in_ok-sheet.ensures.columns names (c.as_slice.ensures.value ∙ c.in_ok-sheet.ensures.sizes) in
     budgets_there c.args.records.now (same_fault c.args.records.now None c.budgets.ensures refl c.in_ok-sheet.ensures.faultless) ∙ ap Ok (sym (c.in_ok-fill_budgets.ensures ∙ read))

@@ -9,6 +9,6 @@ pub numbers_under-requires : goal.numbers_under-requires
 numbers_under-requires c = λ t g row place.
     let names = c.as_slice.ensures.value in
     let inside = subst (λ (goods : List (List ℕ)). g < length goods) names place in
-    let price = λ (s k : ℕ). slice_index (text_at c.args.sizes.now s) (column_of price_mark c.args.columns.now c.args.names.items k) in
+    let price = λ (s k : ℕ). slice_index (text_at c.args.sizes.now s) (column_of price_mark c.args.columns.now.headers c.args.names.items k) in
     let limit = (each_row (λ p. (1 ≤ p) × (p ≤ 9999999)) (length c.args.sizes.now) (length c.args.names.items) price c.requires.price_limits t g row inside).1 in
-    subst (λ (goods : List (List ℕ)). slice_index (text_at c.args.sizes.now t) (column_of price_mark c.args.columns.now goods g) ≤ 9999999) (sym names) limit
+    subst (λ (goods : List (List ℕ)). slice_index (text_at c.args.sizes.now t) (column_of price_mark c.args.columns.now.headers goods g) ≤ 9999999) (sym names) limit

@@ -8,4 +8,4 @@ use Rattle.rp_text.proofs.bundles.fill_bundles.Goals as goal
 
 pub numbers_under-requires : goal.numbers_under-requires
 numbers_under-requires c =
-    each_row (λ q. q ≤ 9999999) (length c.args.sizes.now) (length c.args.names.now) (λ t g. slice_index (text_at c.args.sizes.now t) (column_of quantity_mark c.args.columns.now c.args.names.now g)) c.requires.within.quantity_limits
+    each_row (λ q. q ≤ 9999999) (length c.args.sizes.now) (length c.args.names.now) (λ t g. slice_index (text_at c.args.sizes.now t) (column_of quantity_mark c.args.columns.now.headers c.args.names.now g)) c.requires.within.quantity_limits

@@ -6,4 +6,4 @@ use Rattle.rp_text.proofs.fields.buys.Given as goal
 
 abbrev pub invariant-loop-c : goal.invariant-loop-c
 invariant-loop-c l =
-    any_below l.c (λ c. measures (role_at l.columns c) && nat_lt 0 (get_or l.figures c nothing).units) ≡ false
+    any_below l.c (λ c. measures (role_at l.columns.form.marks l.columns.headers c) && nat_lt 0 (get_or l.figures c nothing).units) ≡ false

@@ -6,6 +6,6 @@ use Rattle.rp_text.proofs.fields.read_columns.Given as goal
 
 abbrev pub invariant-loop-c : goal.invariant-loop-c
 invariant-loop-c l = record {
-  so_far : l.figures.items ≡ listed l.c (figure l.form l.columns l.records l.t);
-  faultless : first_of l.c (λ c. result_err (field_at l.form l.columns l.records l.t c)) ≡ None;
+  so_far : l.figures.items ≡ listed l.c (figure l.columns.form l.columns.headers l.records l.t);
+  faultless : first_of l.c (λ c. result_err (field_at l.columns.form l.columns.headers l.records l.t c)) ≡ None;
 }

@@ -10,8 +10,8 @@ pub returns-in_err-read_record-clause-refused : goal.returns-in_err-read_record-
 unfolding fields_stage
 returns-in_err-read_record-clause-refused c =
     let within : c.loop-t.t < rows_in c.args.records.now = omega (arith, c.len-t-end.ensures, c.loop-t-test.true) in
-    passed_on c.from_residual.result c.in_err-read_record.field-0.0 (λ (e : TableFault). e ≢ fault.NoMemory → fields_stage c.args.form.now c.args.columns.now c.args.records.now ≡ Some e) c.from_residual.ensures
-    (λ other. first_at (record_fault c.args.form.now c.args.columns.now c.args.records.now) c.loop-t.t (rows_in c.args.records.now) c.in_err-read_record.field-0.0 within c.loop-t.invariant.faultless (c.in_err-read_record.ensures.refused other))
+    passed_on c.from_residual.result c.in_err-read_record.field-0.0 (λ (e : TableFault). e ≢ fault.NoMemory → fields_stage c.args.columns.now.form c.args.columns.now.headers c.args.records.now ≡ Some e) c.from_residual.ensures
+    (λ other. first_at (record_fault c.args.columns.now.form c.args.columns.now.headers c.args.records.now) c.loop-t.t (rows_in c.args.records.now) c.in_err-read_record.field-0.0 within c.loop-t.invariant.faultless (c.in_err-read_record.ensures.refused other))
 
 pub returns-clause-faultless : goal.returns-clause-faultless
 unfolding fields_stage

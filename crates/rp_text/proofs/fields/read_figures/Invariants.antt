@@ -5,6 +5,6 @@ use Rattle.rp_text.proofs.fields.read_figures.Given as goal
 
 abbrev pub invariant-loop-t : goal.invariant-loop-t
 invariant-loop-t l = record {
-  so_far : l.rows.items ≡ listed l.t (λ t. listed (length l.columns) (figure l.form l.columns l.records t));
-  faultless : first_of l.t (record_fault l.form l.columns l.records) ≡ None;
+  so_far : l.rows.items ≡ listed l.t (λ t. listed (length l.columns.headers) (figure l.columns.form l.columns.headers l.records t));
+  faultless : first_of l.t (record_fault l.columns.form l.columns.headers l.records) ≡ None;
 }

@@ -4,4 +4,4 @@ use Rattle.rp_text.specs.Headers.{other_goods_fault}
 use Rattle.rp_text.proofs.fixed_goods.check_other_goods.Given as goal
 
 abbrev pub invariant-loop-c : goal.invariant-loop-c
-invariant-loop-c l = first_of l.c (other_goods_fault l.goods l.columns) ≡ None
+invariant-loop-c l = first_of l.c (other_goods_fault l.columns.form.marks l.goods l.columns.headers) ≡ None

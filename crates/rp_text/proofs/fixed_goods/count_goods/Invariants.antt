@@ -4,6 +4,6 @@ use Rattle.rp_text.proofs.fixed_goods.count_goods.Given as goal
 
 abbrev pub invariant-loop-c : goal.invariant-loop-c
 invariant-loop-c l = record {
-  counted : l.count ≡ length (names_of l.form (take l.c l.columns));
+  counted : l.count ≡ length (names_of l.columns.form (take l.c l.columns.headers));
   few : l.count ≤ l.c;
 }

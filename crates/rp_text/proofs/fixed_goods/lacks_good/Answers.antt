@@ -8,13 +8,13 @@ use Rattle.rp_text.proofs.fixed_goods.lacks_good.Goals as goal
 pub returns-then-branch : goal.returns-then-branch
 returns-then-branch c =
     let good = c.as_bytes.ensures.bytes ∙ c.good-item.is ∙ get_or_default c.args.goods.now c.loop-good.good-index c.good-item.result [] c.loop-good-test.true in
-    let header = ap (λ (mark : List ℕ). mark ++ c.as_bytes.result.now) c.good_mark.ensures ∙ ap (λ (name : List ℕ). good_mark c.args.form.now ++ name) good in
-    let here = ap (λ (text : List ℕ). not (has c.args.columns.now text)) (sym header) ∙ sym c.in_ok-lacks.ensures ∙ c.if-branch.true in
-    sym (one_holds (λ g. not (has c.args.columns.now (good_mark c.args.form.now ++ text_at c.args.goods.now g))) c.loop-good.good-index (length c.args.goods.now) c.loop-good-test.true here)
+    let header = ap (λ (mark : List ℕ). mark ++ c.as_bytes.result.now) (c.good_mark.ensures ∙ ap good_mark c.form.ensures) ∙ ap (λ (name : List ℕ). good_mark c.args.columns.now.form ++ name) good in
+    let here = ap (λ (text : List ℕ). not (has c.args.columns.now.headers text)) (sym header) ∙ sym c.in_ok-lacks.ensures ∙ c.if-branch.true in
+    sym (one_holds (λ g. not (has c.args.columns.now.headers (good_mark c.args.columns.now.form ++ text_at c.args.goods.now g))) c.loop-good.good-index (length c.args.goods.now) c.loop-good-test.true here)
 
 pub loop-good-preserved : goal.loop-good-preserved
 loop-good-preserved c =
     let good = c.as_bytes.ensures.bytes ∙ c.good-item.is ∙ get_or_default c.args.goods.now c.loop-good.good-index c.good-item.result [] c.loop-good-test.true in
-    let header = ap (λ (mark : List ℕ). mark ++ c.as_bytes.result.now) c.good_mark.ensures ∙ ap (λ (name : List ℕ). good_mark c.args.form.now ++ name) good in
-    let here = ap (λ (text : List ℕ). not (has c.args.columns.now text)) (sym header) ∙ sym c.in_ok-lacks.ensures ∙ c.if-branch.false in
-    none_holds (λ g. not (has c.args.columns.now (good_mark c.args.form.now ++ text_at c.args.goods.now g))) c.loop-good.good-index c.loop-good.invariant here
+    let header = ap (λ (mark : List ℕ). mark ++ c.as_bytes.result.now) (c.good_mark.ensures ∙ ap good_mark c.form.ensures) ∙ ap (λ (name : List ℕ). good_mark c.args.columns.now.form ++ name) good in
+    let here = ap (λ (text : List ℕ). not (has c.args.columns.now.headers text)) (sym header) ∙ sym c.in_ok-lacks.ensures ∙ c.if-branch.false in
+    none_holds (λ g. not (has c.args.columns.now.headers (good_mark c.args.columns.now.form ++ text_at c.args.goods.now g))) c.loop-good.good-index c.loop-good.invariant here

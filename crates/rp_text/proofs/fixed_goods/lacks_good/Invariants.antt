@@ -6,4 +6,4 @@ use Rattle.rp_text.proofs.fixed_goods.lacks_good.Given as goal
 
 abbrev pub invariant-loop-good : goal.invariant-loop-good
 invariant-loop-good l =
-    any_below l.good-index (λ g. not (has l.columns (good_mark l.form ++ text_at l.goods g))) ≡ false
+    any_below l.good-index (λ g. not (has l.columns.headers (good_mark l.columns.form ++ text_at l.goods g))) ≡ false

@@ -9,5 +9,5 @@ use Rattle.rp_text.proofs.goods.columns_of.Goals as goal
 pub loop-name-preserved : goal.loop-name-preserved
 loop-name-preserved c =
     let name = c.as_bytes.ensures.bytes ∙ c.name-item.is ∙ get_or_default c.args.names.now c.loop-name.name-index c.name-item.result [] c.loop-name-test.true in
-    let here = c.unwrap_or.ensures ∙ ap (λ place. unwrap_or place 0) (c.in_ok-find_good.ensures ∙ ap (λ name. place_of c.args.columns.now (c.args.mark.now ++ name)) name) in
-    c.in_ok-push.ensures.items ∙ listed-more (column_of c.args.mark.now c.args.columns.now c.args.names.now) c.loop-name.name-index c.unwrap_or.result c.loop-name.found.items c.loop-name.invariant here
+    let here = c.unwrap_or.ensures ∙ ap (λ place. unwrap_or place 0) (c.in_ok-find_good.ensures ∙ ap (λ name. place_of c.args.columns.now.headers (c.args.mark.now ++ name)) name) in
+    c.in_ok-push.ensures.items ∙ listed-more (column_of c.args.mark.now c.args.columns.now.headers c.args.names.now) c.loop-name.name-index c.unwrap_or.result c.loop-name.found.items c.loop-name.invariant here

@@ -6,6 +6,7 @@ use Rattle.rp_text.proofs.headers.read_columns.Given as goal
 
 abbrev pub invariant-loop-c : goal.invariant-loop-c
 invariant-loop-c l = record {
-  so_far : l.columns ≡ take l.c (headers_in (record_at l.records 0));
+  kind : l.columns.form ≡ l.form;
+  so_far : l.columns.headers ≡ take l.c (headers_in (record_at l.records 0));
   faultless : first_of l.c (header_fault l.form (headers_in (record_at l.records 0))) ≡ None;
 }

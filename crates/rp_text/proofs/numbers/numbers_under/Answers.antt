@@ -9,9 +9,9 @@ use Rattle.rp_text.proofs.numbers.numbers_under.Goals as goal
 pub numbers_at-requires : goal.numbers_at-requires
 numbers_at-requires c = λ g place.
     let places = c.as_slice-in-loop-row.ensures.value ∙ c.in_ok-places.ensures in
-    let inside : g < length c.args.names.now = omega (arith, ap length places, length-listed (column_of c.args.mark.now c.args.columns.now c.args.names.now) (length c.args.names.now)) in
+    let inside : g < length c.args.names.now = omega (arith, ap length places, length-listed (column_of c.args.mark.now c.args.columns.now.headers c.args.names.now) (length c.args.names.now)) in
     let row = c.as_slice.ensures ∙ c.row-item.is ∙ get_or_default c.args.sizes.now c.loop-row.row-index c.row-item.result [] c.loop-row-test.true in
-    let at_column : slice_index c.as_slice-in-loop-row.result.now g ≡ column_of c.args.mark.now c.args.columns.now c.args.names.now g = ap (λ xs. get_or xs g 0) places ∙ get-listed (column_of c.args.mark.now c.args.columns.now c.args.names.now) (length c.args.names.now) g 0 inside in
+    let at_column : slice_index c.as_slice-in-loop-row.result.now g ≡ column_of c.args.mark.now c.args.columns.now.headers c.args.names.now g = ap (λ xs. get_or xs g 0) places ∙ get-listed (column_of c.args.mark.now c.args.columns.now.headers c.args.names.now) (length c.args.names.now) g 0 inside in
     rw (at_column, row) (c.requires c.loop-row.row-index g c.loop-row-test.true inside)
 
 pub loop-row-preserved : goal.loop-row-preserved
@@ -20,4 +20,4 @@ loop-row-preserved c =
     let row = c.as_slice.ensures ∙ c.row-item.is ∙ get_or_default c.args.sizes.now c.loop-row.row-index c.row-item.result [] c.loop-row-test.true in
     let chosen = c.as_slice-in-loop-row-2.ensures.value ∙ c.in_ok-chosen.ensures in
     c.in_ok-extend_from_slice.ensures.items
-    ∙ rows-more (text_at c.args.sizes.now) (column_of c.args.mark.now c.args.columns.now c.args.names.now) (length c.args.names.now) c.loop-row.row-index c.loop-row.numbers.items c.as_slice-in-loop-row-2.result.now c.as_slice.result.now c.as_slice-in-loop-row.result.now c.loop-row.invariant row places chosen
+    ∙ rows-more (text_at c.args.sizes.now) (column_of c.args.mark.now c.args.columns.now.headers c.args.names.now) (length c.args.names.now) c.loop-row.row-index c.loop-row.numbers.items c.as_slice-in-loop-row-2.result.now c.as_slice.result.now c.as_slice-in-loop-row.result.now c.loop-row.invariant row places chosen

@@ -6,4 +6,4 @@ use Rattle.rp_text.proofs.numbers.numbers_under.Given as goal
 
 abbrev pub invariant-loop-row : goal.invariant-loop-row
 invariant-loop-row l =
-    l.numbers.items ≡ rows_below l.row-index (length l.fn.names) (λ t g. slice_index (text_at l.sizes t) (column_of l.fn.mark l.fn.columns l.fn.names g))
+    l.numbers.items ≡ rows_below l.row-index (length l.fn.names) (λ t g. slice_index (text_at l.sizes t) (column_of l.fn.mark l.fn.columns.headers l.fn.names g))

@@ -7,4 +7,4 @@ use Rattle.rp_text.proofs.sheet.check_choices.Given as goal
 
 abbrev pub invariant-loop-j : goal.invariant-loop-j
 invariant-loop-j l =
-    first_of l.j (λ j. if not (is_chosen l.columns l.figures j) then Some (fault.NoChoices (number_of j)) else None) ≡ None
+    first_of l.j (λ j. if not (is_chosen l.columns.headers l.figures j) then Some (fault.NoChoices (number_of j)) else None) ≡ None

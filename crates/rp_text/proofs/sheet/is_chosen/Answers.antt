@@ -21,14 +21,14 @@ returns-then-units_at-gt0 c =
     let times = c.unwrap_or-times.ensures ∙ ap (λ o. unwrap_or o 0) c.find-2.ensures in
     let first = c.units_at.ensures ∙ ap (λ xs. (get_or xs c.unwrap_or-budget.result nothing).units) (c.as_slice.ensures ∙ row) ∙ ap (λ k. (figure_at c.args.figures.now t k).units) budget in
     let second = c.units_at-then-units_at-from.ensures ∙ ap (λ xs. (get_or xs c.unwrap_or-times.result nothing).units) (c.as_slice-then-units_at-from.ensures ∙ row) ∙ ap (λ k. (figure_at c.args.figures.now t k).units) times in
-    let at_budget : (figure_at c.args.figures.now t (column_named (codes "budget") c.args.columns.now)).units ≡ c.args.j + 1 = sym first ∙ c.if-units_at-from.true ∙ ap (λ (n : ℕ). n + 1) c.from.ensures in
-    let some : 0 < (figure_at c.args.figures.now t (column_named (codes "n") c.args.columns.now)).units = subst (λ (n : ℕ). 0 < n) second c.if-units_at-gt0.true in
-    let here = (Decides-eqb (figure_at c.args.figures.now t (column_named (codes "budget") c.args.columns.now)).units (c.args.j + 1)).1 at_budget in
-    sym (one_holds (λ s. ((figure_at c.args.figures.now s (column_named (codes "budget") c.args.columns.now)).units == c.args.j + 1) && nat_lt 0 (figure_at c.args.figures.now s (column_named (codes "n") c.args.columns.now)).units)
-    t (length c.args.figures.now) c.loop-row-test.true (rw (here, over_zero (figure_at c.args.figures.now t (column_named (codes "n") c.args.columns.now)).units some) refl))
+    let at_budget : (figure_at c.args.figures.now t (column_named (codes "budget") c.args.columns.now.headers)).units ≡ c.args.j + 1 = sym first ∙ c.if-units_at-from.true ∙ ap (λ (n : ℕ). n + 1) c.from.ensures in
+    let some : 0 < (figure_at c.args.figures.now t (column_named (codes "n") c.args.columns.now.headers)).units = subst (λ (n : ℕ). 0 < n) second c.if-units_at-gt0.true in
+    let here = (Decides-eqb (figure_at c.args.figures.now t (column_named (codes "budget") c.args.columns.now.headers)).units (c.args.j + 1)).1 at_budget in
+    sym (one_holds (λ s. ((figure_at c.args.figures.now s (column_named (codes "budget") c.args.columns.now.headers)).units == c.args.j + 1) && nat_lt 0 (figure_at c.args.figures.now s (column_named (codes "n") c.args.columns.now.headers)).units)
+    t (length c.args.figures.now) c.loop-row-test.true (rw (here, over_zero (figure_at c.args.figures.now t (column_named (codes "n") c.args.columns.now.headers)).units some) refl))
 
 pub returns : goal.returns
 unfolding is_chosen
 returns c =
     let all : c.loop-row.row-index ≡ length c.args.figures.now = omega arith in
-    sym (subst (λ (n : ℕ). any_below n (λ s. ((figure_at c.args.figures.now s (column_named (codes "budget") c.args.columns.now)).units == c.args.j + 1) && nat_lt 0 (figure_at c.args.figures.now s (column_named (codes "n") c.args.columns.now)).units) ≡ false) all c.loop-row.invariant)
+    sym (subst (λ (n : ℕ). any_below n (λ s. ((figure_at c.args.figures.now s (column_named (codes "budget") c.args.columns.now.headers)).units == c.args.j + 1) && nat_lt 0 (figure_at c.args.figures.now s (column_named (codes "n") c.args.columns.now.headers)).units) ≡ false) all c.loop-row.invariant)

@@ -7,4 +7,4 @@ use Rattle.rp_text.proofs.sheet.is_chosen.Given as goal
 
 abbrev pub invariant-loop-row : goal.invariant-loop-row
 invariant-loop-row l =
-    any_below l.row-index (λ t. ((figure_at l.figures t (column_named (codes "budget") l.fn.columns)).units == l.j + 1) && nat_lt 0 (figure_at l.figures t (column_named (codes "n") l.fn.columns)).units) ≡ false
+    any_below l.row-index (λ t. ((figure_at l.figures t (column_named (codes "budget") l.fn.columns.headers)).units == l.j + 1) && nat_lt 0 (figure_at l.figures t (column_named (codes "n") l.fn.columns.headers)).units) ≡ false

@@ -7,4 +7,4 @@ use Rattle.rp_text.proofs.sizes.greatest_in.Given as goal
 
 abbrev pub invariant-loop-c : goal.invariant-loop-c
 invariant-loop-c l =
-    l.greatest ≡ greatest_below l.c (λ c. if shares_scale l.role (role_at l.columns c) then (get_or l.figures c nothing).places else 0)
+    l.greatest ≡ greatest_below l.c (λ c. if shares_scale l.role (role_at l.columns.form.marks l.columns.headers c) then (get_or l.figures c nothing).places else 0)

@@ -6,4 +6,4 @@ use Rattle.rp_text.proofs.sizes.greatest_places.Given as goal
 
 abbrev pub invariant-loop-row : goal.invariant-loop-row
 invariant-loop-row l =
-    l.greatest ≡ greatest_below l.row-index (λ t. greatest_below (length l.columns) (λ c. if shares_scale l.role (role_at l.columns c) then (figure_at l.figures t c).places else 0))
+    l.greatest ≡ greatest_below l.row-index (λ t. greatest_below (length l.columns.headers) (λ c. if shares_scale l.role (role_at l.columns.form.marks l.columns.headers c) then (figure_at l.figures t c).places else 0))

@@ -11,8 +11,8 @@ use Rattle.rp_text.proofs.sizes.read_sizes.Goals as goal
 pub returns-in_err-read_sizes_in-clause-refused : goal.returns-in_err-read_sizes_in-clause-refused
 unfolding sizes_stage
 returns-in_err-read_sizes_in-clause-refused c =
-    passed_on c.from_residual-in_err-read_sizes_in.result c.in_err-read_sizes_in.field-0.0 (λ (e : TableFault). e ≢ fault.NoMemory → sizes_stage c.args.form.now c.args.columns.now c.args.figures.now ≡ Some e) c.from_residual-in_err-read_sizes_in.ensures
-    (λ other. first_at (λ t. first_of (length c.args.columns.now) (λ k. result_err (size_at c.args.form.now c.args.columns.now c.args.figures.now t k))) c.loop-t.t (length c.args.figures.now) c.in_err-read_sizes_in.field-0.0 c.loop-t-test.true c.loop-t.invariant.faultless (c.in_err-read_sizes_in.ensures.refused other))
+    passed_on c.from_residual-in_err-read_sizes_in.result c.in_err-read_sizes_in.field-0.0 (λ (e : TableFault). e ≢ fault.NoMemory → sizes_stage c.args.columns.now.form c.args.columns.now.headers c.args.figures.now ≡ Some e) c.from_residual-in_err-read_sizes_in.ensures
+    (λ other. first_at (λ t. first_of (length c.args.columns.now.headers) (λ k. result_err (size_at c.args.columns.now.form c.args.columns.now.headers c.args.figures.now t k))) c.loop-t.t (length c.args.figures.now) c.in_err-read_sizes_in.field-0.0 c.loop-t-test.true c.loop-t.invariant.faultless (c.in_err-read_sizes_in.ensures.refused other))
 
 pub returns-clause-faultless : goal.returns-clause-faultless
 unfolding sizes_stage

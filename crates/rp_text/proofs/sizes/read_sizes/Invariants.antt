@@ -6,6 +6,6 @@ use Rattle.rp_text.proofs.sizes.read_sizes.Given as goal
 
 abbrev pub invariant-loop-t : goal.invariant-loop-t
 invariant-loop-t l = record {
-  so_far : l.rows.items ≡ listed l.t (λ t. listed (length l.columns) (scaled l.form l.columns l.figures t));
-  faultless : first_of l.t (λ t. first_of (length l.columns) (λ c. result_err (size_at l.form l.columns l.figures t c))) ≡ None;
+  so_far : l.rows.items ≡ listed l.t (λ t. listed (length l.columns.headers) (scaled l.columns.form l.columns.headers l.figures t));
+  faultless : first_of l.t (λ t. first_of (length l.columns.headers) (λ c. result_err (size_at l.columns.form l.columns.headers l.figures t c))) ≡ None;
 }

@@ -14,23 +14,23 @@ use Rattle.rp_text.proofs.sizes.read_sizes_in.Goals as goal
 
 pub bounds-places-c : goal.bounds-places-c
 bounds-places-c c =
-    let all = ap length c.requires.scales ∙ length-listed (λ k. places_of c.args.form.now c.args.columns.now c.args.figures.now (role_at c.args.columns.now k)) (length c.args.columns.now) in
+    let all = ap length c.requires.scales ∙ length-listed (λ k. places_of c.args.columns.now.form c.args.columns.now.headers c.args.figures.now (role_at c.args.columns.now.form.marks c.args.columns.now.headers k)) (length c.args.columns.now.headers) in
     omega (arith, all, c.len-c-end.ensures, c.loop-c-test.true)
 
 pub returns-in_err-size_of-clause-refused : goal.returns-in_err-size_of-clause-refused
 returns-in_err-size_of-clause-refused c =
-    let within : c.loop-c.c < length c.args.columns.now = omega (arith, c.len-c-end.ensures, c.loop-c-test.true) in
+    let within : c.loop-c.c < length c.args.columns.now.headers = omega (arith, c.len-c-end.ensures, c.loop-c-test.true) in
     let row = c.as_slice-row.ensures ∙ c.index-figures-t.is ∙ get_or_default c.args.figures.now c.args.t c.index-figures-t.result [] c.requires.within in
-    let read = size_there c.args.form.now c.args.columns.now c.args.figures.now c.args.places.now c.args.t c.loop-c.c c.role.result (get_or c.as_slice-row.result.now c.loop-c.c nothing) c.limit.result c.number_of.result c.number_of-in-loop-c.result c.size_of.result within c.requires.scales c.role.ensures (ap (λ row. get_or row c.loop-c.c nothing) row) c.limit.ensures c.number_of.ensures c.number_of-in-loop-c.ensures c.size_of.ensures ∙ c.in_err-size_of.was in
-    passed_on c.from_residual.result c.in_err-size_of.field-0.0 (λ (e : TableFault). e ≢ fault.NoMemory → first_of (length c.args.columns.now) (λ k. result_err (size_at c.args.form.now c.args.columns.now c.args.figures.now c.args.t k)) ≡ Some e) c.from_residual.ensures
-    (λ _. first_fault_at (size_at c.args.form.now c.args.columns.now c.args.figures.now c.args.t) c.loop-c.c (length c.args.columns.now) c.in_err-size_of.field-0.0 within c.loop-c.invariant.faultless read)
+    let read = size_there c.args.columns.now.form c.args.columns.now.headers c.args.figures.now c.args.places.now c.args.t c.loop-c.c c.role.result (get_or c.as_slice-row.result.now c.loop-c.c nothing) c.limit.result c.number_of.result c.number_of-in-loop-c.result c.size_of.result within c.requires.scales c.role.ensures (ap (λ row. get_or row c.loop-c.c nothing) row) c.limit.ensures c.number_of.ensures c.number_of-in-loop-c.ensures c.size_of.ensures ∙ c.in_err-size_of.was in
+    passed_on c.from_residual.result c.in_err-size_of.field-0.0 (λ (e : TableFault). e ≢ fault.NoMemory → first_of (length c.args.columns.now.headers) (λ k. result_err (size_at c.args.columns.now.form c.args.columns.now.headers c.args.figures.now c.args.t k)) ≡ Some e) c.from_residual.ensures
+    (λ _. first_fault_at (size_at c.args.columns.now.form c.args.columns.now.headers c.args.figures.now c.args.t) c.loop-c.c (length c.args.columns.now.headers) c.in_err-size_of.field-0.0 within c.loop-c.invariant.faultless read)
 
 pub loop-c-preserved : goal.loop-c-preserved
 loop-c-preserved c =
-    let within : c.loop-c.c < length c.args.columns.now = omega (arith, c.len-c-end.ensures, c.loop-c-test.true) in
+    let within : c.loop-c.c < length c.args.columns.now.headers = omega (arith, c.len-c-end.ensures, c.loop-c-test.true) in
     let row = c.as_slice-row.ensures ∙ c.index-figures-t.is ∙ get_or_default c.args.figures.now c.args.t c.index-figures-t.result [] c.requires.within in
-    let read = size_there c.args.form.now c.args.columns.now c.args.figures.now c.args.places.now c.args.t c.loop-c.c c.role.result (get_or c.as_slice-row.result.now c.loop-c.c nothing) c.limit.result c.number_of.result c.number_of-in-loop-c.result c.size_of.result within c.requires.scales c.role.ensures (ap (λ row. get_or row c.loop-c.c nothing) row) c.limit.ensures c.number_of.ensures c.number_of-in-loop-c.ensures c.size_of.ensures ∙ c.in_ok-size_of.was in
+    let read = size_there c.args.columns.now.form c.args.columns.now.headers c.args.figures.now c.args.places.now c.args.t c.loop-c.c c.role.result (get_or c.as_slice-row.result.now c.loop-c.c nothing) c.limit.result c.number_of.result c.number_of-in-loop-c.result c.size_of.result within c.requires.scales c.role.ensures (ap (λ row. get_or row c.loop-c.c nothing) row) c.limit.ensures c.number_of.ensures c.number_of-in-loop-c.ensures c.size_of.ensures ∙ c.in_ok-size_of.was in
     record {
-      so_far = c.in_ok-push.ensures.items ∙ listed-more (scaled c.args.form.now c.args.columns.now c.args.figures.now c.args.t) c.loop-c.c c.in_ok-size_of.field-0 c.loop-c.sizes.items c.loop-c.invariant.so_far (rw read refl);
-      faultless = no_fault_so_far (size_at c.args.form.now c.args.columns.now c.args.figures.now c.args.t) c.loop-c.c c.in_ok-size_of.field-0 c.loop-c.invariant.faultless read;
+      so_far = c.in_ok-push.ensures.items ∙ listed-more (scaled c.args.columns.now.form c.args.columns.now.headers c.args.figures.now c.args.t) c.loop-c.c c.in_ok-size_of.field-0 c.loop-c.sizes.items c.loop-c.invariant.so_far (rw read refl);
+      faultless = no_fault_so_far (size_at c.args.columns.now.form c.args.columns.now.headers c.args.figures.now c.args.t) c.loop-c.c c.in_ok-size_of.field-0 c.loop-c.invariant.faultless read;
     }

@@ -6,6 +6,6 @@ use Rattle.rp_text.proofs.sizes.read_sizes_in.Given as goal
 
 abbrev pub invariant-loop-c : goal.invariant-loop-c
 invariant-loop-c l = record {
-  so_far : l.sizes.items ≡ listed l.c (scaled l.fn.form l.columns l.fn.figures l.t);
-  faultless : first_of l.c (λ c. result_err (size_at l.fn.form l.columns l.fn.figures l.t c)) ≡ None;
+  so_far : l.sizes.items ≡ listed l.c (scaled l.columns.form l.columns.headers l.fn.figures l.t);
+  faultless : first_of l.c (λ c. result_err (size_at l.columns.form l.columns.headers l.fn.figures l.t c)) ≡ None;
 }
