@@ -6,4 +6,5 @@ pub mod InnerCheapest
 pub mod OuterProgram
 pub mod OuterSet
 pub mod ProfitAxiom
+pub mod Report
 pub mod Technology

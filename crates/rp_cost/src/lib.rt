@@ -11,6 +11,7 @@ mod listed;
 mod lower;
 mod program;
 mod question;
+mod report;
 mod tech;
 mod upper;
 
@@ -18,4 +19,5 @@ pub use asked::Asked;
 pub use axioms::{Axiom, cost_axiom, profit_axiom};
 pub use bounds::{CostBounds, Upper, cost_bounds};
 pub use check::check_cost;
+pub use report::report_cost;
 pub use tech::Tech;

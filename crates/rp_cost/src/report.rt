@@ -1,15 +1,15 @@
-ghost use Rattle.std.specs.Prelude.{◌≡◌, ◌++◌, ◌<◌, OnOk, codes, slice_get, slice_index};
-ghost use Rattle.rp_cost.specs.Report.{answers_text, asked_text, axiom_text, bounds_line, head_text};
-ghost use Rattle.rp_cost.specs.Report.{production_report, profit_text, upper_text};
+ghost use Rattle.std.specs.Prelude.{◌≡◌, ◌++◌, ◌<◌, IfOk, OnOk, Some};
+ghost use Rattle.rp_cost.specs.Report.{answer_text, answers_text, asked_text, axiom_text, both_text};
+ghost use Rattle.rp_cost.specs.Report.{found_text, head_text, production_report, profit_text};
 ghost use Rattle.rp_table.specs.Rows.{rows_count};
 
 use crate::asked::Asked;
 use crate::axioms::Axiom;
-use crate::bounds::{CostBounds, Upper};
+use crate::bounds::CostBounds;
 use crate::tech::Tech;
 use rp_num::NoMemory;
 use rp_print::{
-    LongNumber, Number, Ordinal, push_after, push_bound, push_line, push_list, push_pair_line,
+    Number, Ordinal, push_after, push_bound, push_bounds, push_line, push_list, push_pair_line,
 };
 use std::alloc::Global;
 
@@ -23,12 +23,12 @@ pub fn report_cost(
     profit: Option<Axiom>,
     bounds: &[CostBounds],
 ) -> Result<Vec<u8>, NoMemory>
-    ensures { OnOk result (λ text. text.items
+    ensures { IfOk result (λ text. text.items
         ≡ production_report tech.now asked.now cost profit bounds.now) }
 {
     let mut text = Vec::new(alloc);
     push_head(alloc, &mut text, tech)?;
-    push_axiom(alloc, &mut text, b"cost ", cost)?;
+    push_axiom(alloc, &mut text, b"cost", cost)?;
     push_profit(alloc, &mut text, profit)?;
     push_answers(alloc, &mut text, asked, bounds)?;
     Ok(text)
@@ -46,20 +46,15 @@ fn push_head(alloc: Global, out: &mut Vec<u8>, tech: &Tech) -> Result<(), NoMemo
     Ok(())
 }
 
-/// Appends the lines on an axiom, which the word names.
-fn push_axiom(
-    alloc: Global,
-    out: &mut Vec<u8>,
-    word: &[u8],
-    verdict: Axiom,
-) -> Result<(), NoMemory>
-    ensures { OnOk result (out.new.items ≡ out.old.items ++ axiom_text word.now verdict) }
+/// Appends the lines on the axiom of that name.
+fn push_axiom(alloc: Global, out: &mut Vec<u8>, name: &[u8], verdict: Axiom) -> Result<(), NoMemory>
+    ensures { OnOk result (out.new.items ≡ out.old.items ++ axiom_text name.now verdict) }
 {
-    out.extend_from_slice(word)?;
+    out.extend_from_slice(name)?;
     match verdict {
-        Axiom::Holds => push_line(out, b"holds"),
+        Axiom::Holds => push_line(out, b" holds"),
         Axiom::Pair { first, second } => {
-            push_line(out, b"violated")?;
+            push_line(out, b" violated")?;
             push_after::<Ordinal>(alloc, out, b"pair ", first)?;
             push_after::<Ordinal>(alloc, out, b" ", second)?;
             out.push(b'\n')?;
@@ -69,15 +64,11 @@ fn push_axiom(
 }
 
 /// Appends the lines on the profit axiom, where the output has a price.
-fn push_profit(
-    alloc: Global,
-    out: &mut Vec<u8>,
-    profit: Option<Axiom>,
-) -> Result<(), NoMemory>
+fn push_profit(alloc: Global, out: &mut Vec<u8>, profit: Option<Axiom>) -> Result<(), NoMemory>
     ensures { OnOk result (out.new.items ≡ out.old.items ++ profit_text profit) }
 {
     match profit {
-        Some(verdict) => push_axiom(alloc, out, b"profit ", verdict),
+        Some(verdict) => push_axiom(alloc, out, b"profit", verdict),
         None => Ok(()),
     }
 }
@@ -89,13 +80,31 @@ fn push_answers(
     asked: &Asked,
     bounds: &[CostBounds],
 ) -> Result<(), NoMemory>
-    ensures { OnOk result (out.new.items ≡ out.old.items ++ answers_text asked.now bounds.now) }
+    ensures { OnOk result (out.new.items ≡ out.old.items ++ answers_text
+        (rows_count asked.now.prices.prices asked.now.prices.goods) asked.now bounds.now) }
 {
     for i in 0..asked.count() {
-        push_asked(alloc, out, asked.row(i), asked.y(i))?;
-        push_bounds(alloc, out, bounds.get(i as usize))?;
+        push_answer(alloc, out, asked, bounds, i)?;
     }
     Ok(())
+}
+
+/// Appends the lines of record `i`: what is asked, and the bounds, or that there are none.
+fn push_answer(
+    alloc: Global,
+    out: &mut Vec<u8>,
+    asked: &Asked,
+    bounds: &[CostBounds],
+    i: u32,
+) -> Result<(), NoMemory>
+    requires { i < rows_count asked.now.prices.prices asked.now.prices.goods }
+    ensures { OnOk result (out.new.items ≡ out.old.items ++ answer_text asked.now bounds.now i) }
+{
+    push_asked(alloc, out, asked.row(i), asked.y(i))?;
+    match bounds.get(i as usize) {
+        Some(found) => push_found(alloc, out, found),
+        None => push_line(out, b" none"),
+    }
 }
 
 /// Appends the prices and the output that are asked.
@@ -107,37 +116,26 @@ fn push_asked(alloc: Global, out: &mut Vec<u8>, prices: &[u32], y: u32) -> Resul
     push_after::<Number>(alloc, out, b" output ", y)
 }
 
-/// Appends the bounds, or that there are none.
-fn push_bounds(
-    alloc: Global,
-    out: &mut Vec<u8>,
-    bounds: Option<&CostBounds>,
-) -> Result<(), NoMemory>
-    ensures { OnOk result (out.new.items ≡ out.old.items ++ bounds_text bounds) }
+/// Appends bounds that were found, and the pair of the one from below.
+fn push_found(alloc: Global, out: &mut Vec<u8>, bounds: &CostBounds) -> Result<(), NoMemory>
+    ensures { OnOk result (out.new.items ≡ out.old.items ++ found_text (Some bounds.now)) }
 {
-    match bounds {
-        Some(bounds) => {
-            out.extend_from_slice(b" lower ")?;
-            push_bound(alloc, out, &bounds.lower)?;
-            push_upper(alloc, out, bounds.upper)?;
-            push_pair_line(alloc, out, b"lower ", &bounds.lower)
-        }
-        None => push_line(out, b" none"),
-    }
+    push_both(alloc, out, bounds)?;
+    out.push(b'\n')?;
+    push_pair_line(alloc, out, b"lower ", &bounds.lower)
 }
 
-/// Appends the bound from above with its observation, or that there is none, and a line feed.
-fn push_upper(alloc: Global, out: &mut Vec<u8>, upper: Option<Upper>) -> Result<(), NoMemory>
-    ensures { OnOk result (out.new.items ≡ out.old.items ++ upper_text upper) }
+/// Appends both bounds.
+fn push_both(alloc: Global, out: &mut Vec<u8>, bounds: &CostBounds) -> Result<(), NoMemory>
+    ensures { OnOk result (out.new.items ≡ out.old.items ++ both_text bounds.now) }
 {
-    out.extend_from_slice(b" upper ")?;
-    match upper {
-        Some(upper) => {
-            push_after::<LongNumber>(alloc, out, b"", upper.cost)?;
-            push_after::<Ordinal>(alloc, out, b" at ", upper.at)?;
-            out.push(b'\n')?;
+    match bounds.upper {
+        Some(upper) => push_bounds(alloc, out, &bounds.lower, upper.cost, upper.at),
+        None => {
+            out.extend_from_slice(b" lower ")?;
+            push_bound(alloc, out, &bounds.lower)?;
+            out.extend_from_slice(b" upper none")?;
             Ok(())
         }
-        None => push_line(out, b"none"),
     }
 }
