@@ -1,0 +1,5 @@
+pub mod AtMost
+pub mod Enough
+pub mod Listings
+pub mod OuterLaws
+pub mod SameFractions

@@ -1,0 +1,29 @@
+-- What is answered on the two axioms of production (Varian 1984): that one holds, or the first pair that breaks it.
+use Rattle.std.specs.Prelude.{ℕ, slice_index}
+use Rattle.rp_evidence.specs.First.{IsFirstRelated, NoneRelated}
+use Rattle.rp_table.specs.Cost.{cost_of}
+use Rattle.rp_table.specs.Tables.{records_of}
+use Rattle.rp_cost.specs.CostAxiom.{BreaksCostAxiom, MeetsCostAxiom}
+use Rattle.rp_cost.specs.ProfitAxiom.{BreaksProfitAxiom, MeetsProfitAxiom}
+use Rattle.rp_cost.specs.Technology.{Technology}
+use Rattle.rp_cost.specs.declared.axioms.Axiom.{Axiom}
+use Rattle.rp_cost.specs.declared.axioms.Axiom.TheVariants.{Holds, Pair}
+use Rattle.rp_cost.specs.declared.axioms.Test.{Test}
+use Rattle.rp_cost.specs.declared.axioms.Test.TheVariants.{Cost, Profit}
+
+-- the axioms of a technology
+abbrev pub MeetsCost : Technology → Type 0
+MeetsCost tech = MeetsCostAxiom (records_of tech.table) (cost_of tech.table) (slice_index tech.y)
+
+abbrev pub MeetsProfit : Technology → Type 0
+MeetsProfit tech = MeetsProfitAxiom (records_of tech.table) (cost_of tech.table) (slice_index tech.y) (slice_index tech.p)
+
+-- t and s break the axiom that is looked at
+abbrev pub Breaks : Test → Technology → ℕ → ℕ → Type 0
+Breaks Cost tech = BreaksCostAxiom (cost_of tech.table) (slice_index tech.y)
+Breaks Profit tech = BreaksProfitAxiom (cost_of tech.table) (slice_index tech.y) (slice_index tech.p)
+
+-- of n observations none break an axiom, or these are the first two that do
+abbrev pub AreFirstBroken : ℕ → (ℕ → ℕ → Type 0) → Axiom → Type 0
+AreFirstBroken n breaks Holds = NoneRelated n breaks
+AreFirstBroken n breaks (Pair first second) = IsFirstRelated n breaks first second

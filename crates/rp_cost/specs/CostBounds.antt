@@ -1,0 +1,66 @@
+-- Bounds on what an output costs at new prices (Varian 1984): when evidence on them holds, what it proves, and what is given.
+use Rattle.std.specs.Prelude.{ℕ, ◌*◌, ◌<◌, ◌≤◌, List, Option, Some, None}
+use Rattle.rp_bound.specs.ProgramBound.{IsBoundOf}
+use Rattle.rp_evidence.specs.BoundEvidence.{BoundHolds}
+use Rattle.rp_evidence.specs.Demand.{spending}
+use Rattle.rp_evidence.specs.Input.{TableInput}
+use Rattle.rp_evidence.specs.declared.demand.Bound.{Bound}
+use Rattle.rp_evidence.specs.declared.demand.Bound.TheVariants.{Shown, Wide}
+use Rattle.rp_cost.specs.OuterProgram.{ListsNotAbove, outer_program}
+use Rattle.rp_cost.specs.OuterSet.{IsLowerCost, IsUpperCost, NoneMakes}
+use Rattle.rp_cost.specs.declared.bounds.CostBounds.{CostBounds}
+use Rattle.rp_cost.specs.declared.bounds.Upper.{Upper}
+
+module _ (input : TableInput) (y : ℕ → ℕ) (y0 : ℕ) (prices : ℕ → ℕ) where
+  -- ---- when evidence holds
+
+  -- the cost from above is that of an observation which has it, or there is none
+  abbrev pub UpperHolds : Option Upper → Type 0
+  UpperHolds None = NoneMakes input y y0
+  UpperHolds (Some upper) = IsUpperCost input y y0 prices upper.at upper.cost
+
+  -- a shown cost from below is what the price side costs in an equal pair of the program; a withheld one claims nothing
+  abbrev pub LowerHolds : Bound → Type 0
+  LowerHolds lower = (listed : List ℕ) × ListsNotAbove input y y0 listed
+      × BoundHolds (outer_program input prices listed) (spending input.goods prices) lower
+
+  pub record BoundsHold (bounds : CostBounds) : Type 0 where
+    pub upper : UpperHolds bounds.upper
+    pub lower : LowerHolds bounds.lower
+
+  -- ---- what it proves
+
+  abbrev pub ProvesLowerCost : Bound → Type 0
+  ProvesLowerCost (Shown value pair) = IsLowerCost input y y0 prices value.num value.den
+  ProvesLowerCost (Wide step) = Unit {0}
+
+  pub record ProvesCostBounds (bounds : CostBounds) : Type 0 where
+    pub upper : UpperHolds bounds.upper
+    pub lower : ProvesLowerCost bounds.lower
+
+  -- ---- what is given
+
+  -- the upper bound, and s is the first observation that has it
+  pub record IsFirstUpper (s cost : ℕ) : Type 0 where
+    pub upper : IsUpperCost input y y0 prices s cost
+    pub first : (r : ℕ) → r < s → y0 ≤ y r → cost < spending input.goods prices (input.quantity r)
+
+  abbrev pub IsUpperGiven : Option Upper → Type 0
+  IsUpperGiven None = NoneMakes input y y0
+  IsUpperGiven (Some upper) = IsFirstUpper upper.at upper.cost
+
+  -- the bound of the program on what its price side costs, by the run
+  pub record IsLowerGiven (lower : Bound) : Type 0 where
+    pub listed : List ℕ
+    pub lists : ListsNotAbove input y y0 listed
+    pub is_bound : IsBoundOf (outer_program input prices listed) (spending input.goods prices) lower
+
+  pub record AreBoundsGiven (bounds : CostBounds) : Type 0 where
+    pub upper : IsUpperGiven bounds.upper
+    pub lower : IsLowerGiven bounds.lower
+
+-- A shown bound from below is at most the one from above, where there is one.
+abbrev pub IsAtMost : Bound → Option Upper → Type 0
+IsAtMost lower None = Unit {0}
+IsAtMost (Shown value pair) (Some upper) = value.num ≤ upper.cost * value.den
+IsAtMost (Wide step) (Some upper) = Unit {0}

@@ -1,0 +1,10 @@
+pub mod AskedOutputs
+pub mod Axioms
+pub mod CostAxiom
+pub mod CostBounds
+pub mod InnerCheapest
+pub mod OuterProgram
+pub mod OuterSet
+pub mod ProfitAxiom
+pub mod Report
+pub mod Technology

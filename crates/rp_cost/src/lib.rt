@@ -1,0 +1,23 @@
+//! Production: whether observed inputs minimise cost or maximise profit, and what an output costs at new prices
+//! (Varian 1984, "The Nonparametric Approach to Production Analysis").
+#![tactic(auto)]
+
+mod asked;
+mod axioms;
+mod bounds;
+mod check;
+mod holds;
+mod listed;
+mod lower;
+mod program;
+mod question;
+mod report;
+mod tech;
+mod upper;
+
+pub use asked::Asked;
+pub use axioms::{Axiom, cost_axiom, profit_axiom};
+pub use bounds::{CostBounds, Upper, cost_bounds};
+pub use check::check_cost;
+pub use report::report_cost;
+pub use tech::Tech;
