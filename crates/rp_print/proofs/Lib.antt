@@ -1,2 +1,3 @@
 pub mod Euclid
+mod TextExamples
 pub mod Texts

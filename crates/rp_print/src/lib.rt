@@ -1,6 +1,6 @@
 //! How reports are written: numbers, lists, fractions, bounds, mixtures and lines, for every crate that prints one.
 //!
-//! Every function appends to a text; after `NoMemory` a part of what it appends may stand there.
+//! A function `push_..` appends to a text; after `NoMemory` a part of what it appends may stand there.
 #![tactic(auto)]
 
 mod bound;

@@ -6,7 +6,6 @@ use Rattle.rp_evidence.specs.declared.certificate.Item.TheVariants.{Random as Ra
 use Rattle.rp_evidence.specs.declared.random.RandomPart.TheVariants.{Mixture, Violated, Wide}
 use Rattle.rp_evidence.specs.declared.random.Share.{Share}
 use Rattle.rp_patch.specs.Patches.{PatchList}
-use Rattle.rp_print.specs.LowestTerms.{lowest_terms}
 use Rattle.rp_report.specs.RandomText.{random_report_text}
 
 -- two budgets that cross, with these units of the patches on the one and on the other
@@ -39,12 +38,3 @@ a_unit_and_a_step : random_report_text (crossed 1 3 2 2 4 (Some 4)) 3 (RandomIte
     ≡ codes "budgets 2 patches 4 types 3 total 4\napportioned per 4\nrandom withheld 7\n"
 unfolding digits
 a_unit_and_a_step = refl
-
-no_share : lowest_terms 0 12 ≡ record { num = 0; den = 1 }
-no_share = refl
-
-six_tenths : lowest_terms 6 10 ≡ record { num = 3; den = 5 }
-six_tenths = refl
-
-a_whole : lowest_terms 12 4 ≡ record { num = 3; den = 1 }
-a_whole = refl
