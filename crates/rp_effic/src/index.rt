@@ -4,7 +4,7 @@ ghost use Rattle.rp_evidence.specs.Efficiency.{IsEfficiencyIndex};
 ghost use Rattle.rp_table.specs.Cost.{cost_at};
 ghost use Rattle.rp_effic.specs.Verdict.{IsLowestLevel};
 
-use crate::monotone::first_true;
+use crate::ask::first_true;
 use crate::ratio::Ratio;
 use crate::ratios::ratios;
 use crate::thresholds::Thresholds;
@@ -25,7 +25,7 @@ pub fn efficiency_index(alloc: Global, costs: &Costs) -> Result<Level, NoMemory>
     let mut thresholds = Thresholds {
         costs,
         ratios: &ratios,
-        tests: 0,
+        asks: 0,
     };
     let place = first_true(alloc, &mut thresholds)?;
     Ok(in_lowest_terms(ratios[place as usize]))

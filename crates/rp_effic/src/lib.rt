@@ -2,15 +2,15 @@
 #![tactic(auto)]
 
 mod above;
+mod ask;
 mod index;
 mod laws;
-mod monotone;
 mod ratio;
 mod ratios;
 mod returning;
 mod thresholds;
 mod verdict;
 
+pub use ask::{Ask, first_true};
 pub use laws::given_evidence_depends_on_observed_costs;
-pub use monotone::{Monotone, first_true};
 pub use verdict::efficiency;

@@ -1,7 +1,7 @@
 ghost use Rattle.std.specs.Prelude.{◌<◌, ◌^◌, length};
 ghost use Rattle.rp_effic.specs.InnerRatios.{Rise};
 
-use crate::monotone::Monotone;
+use crate::ask::Ask;
 use crate::ratio::Ratio;
 use crate::returning::first_return;
 use rp_evidence::Level;
@@ -15,12 +15,12 @@ use std::alloc::Global;
 pub struct Thresholds<'a> {
     pub costs: &'a Costs,
     pub ratios: &'a [Ratio],
-    pub tests: u64,
+    pub asks: u64,
     ghost rising: { Rise ratios.now },
     ghost few: { length ratios.now < 2 ^ 32 },
 }
 
-impl Monotone for Thresholds<'_> {
+impl Ask for Thresholds<'_> {
     ghost use Rattle.std.specs.Prelude.{length};
     ghost use Rattle.rp_effic.specs.InnerCycles.{HasCycleFrom};
 
@@ -28,14 +28,14 @@ impl Monotone for Thresholds<'_> {
 
     ghost places = { λ a. length a.ratios.now };
 
-    ghost tests = { λ a. a.tests };
+    ghost asks = { λ a. a.asks };
 
     fn size(&self) -> u32 {
         self.ratios.len() as u32
     }
 
-    fn test(&mut self, alloc: Global, i: u32) -> Result<bool, NoMemory> {
-        self.tests += 1;
+    fn ask(&mut self, alloc: Global, i: u32) -> Result<bool, NoMemory> {
+        self.asks += 1;
         let ratio = self.ratios[i as usize];
         let level = Level {
             num: ratio.part,

@@ -1,4 +1,4 @@
-use rp_effic::{Monotone, first_true};
+use rp_effic::{Ask, first_true};
 use rp_num::NoMemory;
 use std::alloc::Global;
 use std::test::Fail;
@@ -8,24 +8,24 @@ use std::test::Fail;
 struct Places {
     first: u32,
     size: u32,
-    tests: u64,
+    asks: u64,
 }
 
-impl Monotone for Places {
+impl Ask for Places {
     ghost use Rattle.std.specs.Prelude.{◌≤◌};
 
     ghost holds = { λ a i. a.first ≤ i };
 
     ghost places = { λ a. a.size };
 
-    ghost tests = { λ a. a.tests };
+    ghost asks = { λ a. a.asks };
 
     fn size(&self) -> u32 {
         self.size
     }
 
-    fn test(&mut self, _alloc: Global, i: u32) -> Result<bool, NoMemory> {
-        self.tests += 1;
+    fn ask(&mut self, _alloc: Global, i: u32) -> Result<bool, NoMemory> {
+        self.asks += 1;
         Ok(i >= self.first)
     }
 }
@@ -49,14 +49,14 @@ fn the_first_true_place_and_its_tests(rt: HostRuntime) -> Result<(), Fail> {
         let mut places = Places {
             first,
             size,
-            tests: 0,
+            asks: 0,
         };
         assert_eq!(rt;
             first_true(rt.alloc(), &mut places)?,
             wanted,
             "of {size} from {first}"
         );
-        assert!(rt; places.tests <= most, "tests of {size} from {first}");
+        assert!(rt; places.asks <= most, "tests of {size} from {first}");
     }
     Ok(())
 }

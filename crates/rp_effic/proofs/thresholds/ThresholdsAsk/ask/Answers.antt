@@ -4,7 +4,7 @@ use Rattle.rp_table.specs.Cost.{cost_at}
 use Rattle.rp_effic.specs.InnerCycles.{HasCycle}
 use Rattle.rp_effic.specs.declared.ratio.Ratio.{Ratio}
 use Rattle.rp_effic.proofs.CycleTests.{found_cycle}
-use Rattle.rp_effic.proofs.thresholds.ThresholdsMonotone.test.Goals as goal
+use Rattle.rp_effic.proofs.thresholds.ThresholdsAsk.ask.Goals as goal
 
 pub returns-clause-value : goal.returns-clause-value
 returns-clause-value c =
