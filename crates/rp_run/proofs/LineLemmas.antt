@@ -1,11 +1,12 @@
 -- The files of a line by its set of files, the calls to read them through, and that its unit is in range.
 use Rattle.std.proofs.Common.{◌≡◌, ◌∙◌, ℕ, Bool, true, false, List, [], ◌∷◌, Option, None, length, refl, ap, slice_index_or}
 use Rattle.rp_words.specs.CommandLine.{Line, file_at, file_set, files_of, number}
-use Rattle.rp_words.specs.Forms.{file_names, files_in, goods, rows, seed}
+use Rattle.rp_words.specs.Forms.{goods, rows, seed}
+use Rattle.rp_words.specs.CommandLine.{file_names, files_in}
 use Rattle.rp_words.specs.Ranges.{IsSized, IsTrialSize, IsUnit}
 use Rattle.rp_words.specs.Shapes.{AreInRange, AreUnits}
 use Rattle.rp_words.specs.declared.commands.Command.TheVariants.{Trial}
-use Rattle.rp_words.specs.declared.form.FileSet.{FileSet}
+use Rattle.rp_words.specs.declared.commands.FileSet.{FileSet}
 use Rattle.rp_run.specs.Answers.{Files}
 use Rattle.rp_run.specs.Turns.{calls_of_each, calls_of_files}
 

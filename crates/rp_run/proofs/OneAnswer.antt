@@ -22,8 +22,8 @@ use Rattle.rp_run.specs.FaultTexts.{json_fault_text}
 use Rattle.rp_types.specs.Listed.{types_of}
 use Rattle.rp_types.specs.declared.types.Rational.{Rational}
 use Rattle.rp_words.specs.CommandLine.{Given, Line, file, file_set}
-use Rattle.rp_words.specs.declared.form.FileSet.{FileSet}
-use Rattle.rp_words.specs.declared.form.FileSet.TheVariants as files
+use Rattle.rp_words.specs.declared.commands.FileSet.{FileSet}
+use Rattle.rp_words.specs.declared.commands.FileSet.TheVariants as files
 use Rattle.rp_run.specs.declared.contents.Contents.{Contents}
 use Rattle.rp_run.specs.declared.contents.Contents.TheVariants as contents
 use Rattle.rp_run.specs.ChoiceContents.{PatchesOf, TypedPatchesOf, TypesOf}

@@ -4,8 +4,8 @@ use Rattle.std.specs.List.{fold}
 use Rattle.rp_outside.specs.Reads.{calls_through}
 use Rattle.rp_text.specs.declared.fault.TableFault.{TableFault}
 use Rattle.rp_words.specs.CommandLine.{Given, Line, file_set, files_of}
-use Rattle.rp_words.specs.declared.form.FileSet.{FileSet}
-use Rattle.rp_words.specs.declared.form.FileSet.TheVariants.{Nothing}
+use Rattle.rp_words.specs.declared.commands.FileSet.{FileSet}
+use Rattle.rp_words.specs.declared.commands.FileSet.TheVariants.{Nothing}
 use Rattle.rp_run.specs.declared.contents.Contents.{Contents}
 use Rattle.rp_run.specs.Answers.{Files}
 use Rattle.rp_run.specs.Causes.{HoldsValue}

@@ -1,11 +1,15 @@
 -- What the files of a line denote: the contents of its set of files, or the first refusal, which is a whole line for standard error
 -- (this program's own order and texts). Nothing is both.
-use Rattle.std.specs.Prelude.{ℕ, true, false, Option, Some, List, Ok}
+use Rattle.std.specs.Prelude.{◌≡◌, ℕ, true, false, Option, Some, List, Ok}
 use Rattle.rp_text.specs.Denotation.{bundles_beside, prices_beside}
+use Rattle.rp_table.specs.Tables.{goods_of}
+use Rattle.rp_evidence.specs.Kinds.{IsCertificateOf}
 use Rattle.rp_evidence.specs.declared.certificate.Kind.TheVariants.{Table as TableKind, Random as RandomKind}
 use Rattle.rp_words.specs.CommandLine.{Given, Line, file_set}
-use Rattle.rp_words.specs.declared.form.FileSet.{FileSet}
-use Rattle.rp_words.specs.declared.form.FileSet.TheVariants as files
+use Rattle.rp_answers.specs.Demands.{IsSpentOn}
+use Rattle.rp_answers.specs.Typed.{AreTyped, typed}
+use Rattle.rp_words.specs.declared.commands.FileSet.{FileSet}
+use Rattle.rp_words.specs.declared.commands.FileSet.TheVariants as files
 use Rattle.rp_run.specs.declared.contents.Contents.{Contents}
 use Rattle.rp_run.specs.declared.contents.Contents.TheVariants as contents
 use Rattle.rp_run.specs.ChoiceContents.{BudgetsIn, ChoicesIn, TypedPatchesOf}
@@ -42,3 +46,16 @@ ContentsIn files.ChoicesAndCertificate given told =
 -- to itself may differ from itself
 abbrev pub Denotes : Line → (ℕ → List ℕ) → Reading Contents
 Denotes line bytes = ContentsIn (file_set line) line.given (λ k. Some (bytes k))
+
+-- That contents are of a set of files: lists beside a table have its goods, and a certificate is of its kind. Only proofs need this
+-- word: what the files denote has it.
+abbrev pub AreOf : FileSet → Contents → Type 0
+AreOf files.Nothing contents.Nothing = Unit {0}
+AreOf files.Table (contents.Table table) = Unit {0}
+AreOf files.TableAndCertificate (contents.TableAndCertificate table certificate) = IsCertificateOf TableKind certificate
+AreOf files.TableAndPricesWithExpenditure (contents.TableAndPricesWithExpenditure table new) = IsSpentOn table new
+AreOf files.TableAndPrices (contents.TableAndPrices table new) = new.goods ≡ goods_of table
+AreOf files.TableAndBundles (contents.TableAndBundles table bundles) = bundles.goods ≡ goods_of table
+AreOf files.Choices (contents.Choices patches types) = AreTyped (typed patches types)
+AreOf files.ChoicesAndCertificate (contents.ChoicesAndCertificate patches types certificate) = IsCertificateOf RandomKind certificate
+AreOf _ _ = ⊥

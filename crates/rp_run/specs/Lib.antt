@@ -3,7 +3,6 @@ pub mod FaultLines
 pub mod Readings
 pub mod ChoiceContents
 pub mod Contents
-pub mod Matching
 pub mod Answers
 pub mod Turns
 pub mod Endings

@@ -3,7 +3,7 @@
 use Rattle.std.specs.Prelude.{◌≤◌, ℕ, ◌+◌, nat_lt, if◌then◌else◌, List, [], ◌∷◌, Option, None, Err, length, sum, take}
 use Rattle.rp_outside.specs.Reads.{calls_through}
 use Rattle.rp_words.specs.CommandLine.{Line, file_at, file_set, files_of}
-use Rattle.rp_words.specs.Forms.{Certificate, File, Numbers, files_in}
+use Rattle.rp_words.specs.CommandLine.{Certificate, File, Numbers, files_in}
 use Rattle.rp_run.specs.Answers.{Files}
 use Rattle.rp_run.specs.Contents.{ContentsIn}
 use Rattle.rp_run.specs.Readings.{most_bytes, most_certificate_bytes}

@@ -3,7 +3,7 @@ ghost use Rattle.rp_run.specs.Answers.{Answers, AnswersLine};
 ghost use Rattle.rp_run.specs.Endings.{Rose};
 ghost use Rattle.rp_run.specs.Turns.{AreReadInTurn, AsksForFirst};
 ghost use Rattle.rp_run.specs.Causes.{IsCause};
-ghost use Rattle.rp_run.specs.Matching.{AreOf};
+ghost use Rattle.rp_run.specs.Contents.{AreOf};
 ghost use Rattle.rp_words.specs.CommandLine.{file_set};
 ghost use Rattle.rp_words.specs.Named.{named_given, named_line};
 ghost use Rattle.rp_words.specs.Ranges.{IsSized};

@@ -18,7 +18,8 @@ use Rattle.clap.specs.declared.builder.value_parser.ValueParser.TheVariants.{Non
 use Rattle.clap.specs.declared.parser.matches.ValueSource.TheVariants.{DefaultValue}
 use Rattle.rp_words.specs.CommandLine.{Given}
 use Rattle.rp_words.specs.Commands.{json_rule, number_rule, per_rule, where_asked}
-use Rattle.rp_words.specs.Forms.{Form, Number, file_names, units}
+use Rattle.rp_words.specs.Forms.{Form, Number, units}
+use Rattle.rp_words.specs.CommandLine.{file_names}
 use Rattle.rp_words.specs.Shapes.{AreInRange, AreNamed, AreUnits, Fits, MayAsk, json_word, per_words, words_of}
 use Rattle.rp_words.specs.Words.{all_in, given_in, json_of, number_of}
 use Rattle.rp_words.proofs.KeptRows.{IsKept, all_found, are_kept, kept_from}

@@ -10,7 +10,8 @@ use Rattle.clap.specs.Walk.{Row, Rule, Text, answers_to, first_of, finished, not
 use Rattle.rp_words.specs.CommandLine.{Given, Line, command_named, commands, form_of}
 use Rattle.rp_words.specs.declared.commands.Command.{Command}
 use Rattle.rp_words.specs.Commands.{file_rule, number_rule, program, rules_of}
-use Rattle.rp_words.specs.Forms.{Form, Number, file_names}
+use Rattle.rp_words.specs.Forms.{Form, Number}
+use Rattle.rp_words.specs.CommandLine.{file_names}
 use Rattle.rp_words.specs.Words.{all_in, command_line, given_in, line_named, line_of, number_of}
 use Rattle.rp_words.proofs.KeptRows.{IsKept, all_found, are_kept, each_found, every, first_free, kept_from, second_free}
 use Rattle.rp_words.proofs.KeptWalk.{AreTaken, level_taken, none_wanted}

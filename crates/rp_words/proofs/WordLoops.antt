@@ -8,7 +8,8 @@ use Rattle.std.proofs.lemmas.List.Folds.{find-append}
 use Rattle.clap.specs.Walk.{Row, Rule, Text, first_of, one_of}
 use Rattle.clap.specs.Simple.{App, with_subcommand}
 use Rattle.rp_words.specs.Commands.{alone, command_of, program_of, with_rules}
-use Rattle.rp_words.specs.Forms.{Form, Number, file_names, units}
+use Rattle.rp_words.specs.Forms.{Form, Number, units}
+use Rattle.rp_words.specs.CommandLine.{file_names}
 use Rattle.std.proofs.lemmas.Bool.{leb-true}
 use Rattle.std.specs.Str.Parse.{digits_value, without_leading_plus}
 use Rattle.clap.proofs.WalkLemmas.{both}

@@ -7,8 +7,31 @@ use Rattle.rp_words.specs.Forms.{Form, goods, over, rows, seed, with_json, with_
 use Rattle.rp_words.specs.declared.commands.Command.{Command}
 use Rattle.rp_words.specs.declared.commands.Command.TheVariants.{Pairs, Analyse, Certify, Check, Demand, Welfare, Utility}
 use Rattle.rp_words.specs.declared.commands.Command.TheVariants.{Random, CheckRandom, Trial}
-use Rattle.rp_words.specs.declared.form.FileSet.{FileSet}
-use Rattle.rp_words.specs.declared.form.FileSet.TheVariants as files
+use Rattle.rp_words.specs.declared.commands.FileSet.{FileSet}
+use Rattle.rp_words.specs.declared.commands.FileSet.TheVariants as files
+
+-- a file of a command: one of numbers, by what the usage calls it, or a certificate
+pub data File : Type 0 where
+  Numbers : (name : Text) → File
+  Certificate : File
+
+abbrev pub file_name : File → Text
+file_name (Numbers name) = name
+file_name Certificate = codes "CERT"
+
+-- the files of each set, in the order of the words
+abbrev pub files_in : FileSet → List File
+files_in files.Nothing = []
+files_in files.Table = Numbers (codes "TABLE") ∷ []
+files_in files.TableAndCertificate = Numbers (codes "TABLE") ∷ Certificate ∷ []
+files_in files.TableAndPricesWithExpenditure = Numbers (codes "TABLE") ∷ Numbers (codes "NEW") ∷ []
+files_in files.TableAndPrices = Numbers (codes "TABLE") ∷ Numbers (codes "NEW") ∷ []
+files_in files.TableAndBundles = Numbers (codes "TABLE") ∷ Numbers (codes "BUNDLES") ∷ []
+files_in files.Choices = Numbers (codes "BUDGETS") ∷ Numbers (codes "CHOICES") ∷ []
+files_in files.ChoicesAndCertificate = Numbers (codes "BUDGETS") ∷ Numbers (codes "CHOICES") ∷ Certificate ∷ []
+
+abbrev pub file_names : FileSet → List Text
+file_names set = map file_name (files_in set)
 
 abbrev pub form_of : Command → Form
 form_of Pairs = over (codes "pairs") files.Table

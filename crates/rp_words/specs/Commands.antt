@@ -6,7 +6,8 @@ use Rattle.clap.specs.Walk.{Rule, Text}
 use Rattle.clap.specs.declared.builder.action.ArgAction.TheVariants.{SetTrue}
 use Rattle.clap.specs.declared.builder.value_parser.ValueParser.TheVariants.{NonEmptyString, Unsigned}
 use Rattle.rp_words.specs.CommandLine.{forms}
-use Rattle.rp_words.specs.Forms.{Form, Number, file_names, units}
+use Rattle.rp_words.specs.Forms.{Form, Number, units}
+use Rattle.rp_words.specs.CommandLine.{file_names}
 
 -- the name of a file, which has to be there and is not empty
 abbrev pub file_rule : Text → Rule

@@ -2,32 +2,7 @@
 -- options. What `clap` is told, the usage text, the words of a line and what its matches name follow from it.
 use Rattle.std.specs.Prelude.{ℕ, Bool, true, false, List, [], ◌∷◌, codes, map}
 use Rattle.clap.specs.Walk.{Text}
-use Rattle.rp_words.specs.declared.form.FileSet.{FileSet}
-use Rattle.rp_words.specs.declared.form.FileSet.TheVariants.{Nothing, Table, TableAndCertificate, TableAndPricesWithExpenditure}
-use Rattle.rp_words.specs.declared.form.FileSet.TheVariants.{TableAndPrices, TableAndBundles, Choices, ChoicesAndCertificate}
-
--- a file of a command: one of numbers, by what the usage calls it, or a certificate
-pub data File : Type 0 where
-  Numbers : (name : Text) → File
-  Certificate : File
-
-abbrev pub file_name : File → Text
-file_name (Numbers name) = name
-file_name Certificate = codes "CERT"
-
--- the files of each set, in the order of the words
-abbrev pub files_in : FileSet → List File
-files_in Nothing = []
-files_in Table = Numbers (codes "TABLE") ∷ []
-files_in TableAndCertificate = Numbers (codes "TABLE") ∷ Certificate ∷ []
-files_in TableAndPricesWithExpenditure = Numbers (codes "TABLE") ∷ Numbers (codes "NEW") ∷ []
-files_in TableAndPrices = Numbers (codes "TABLE") ∷ Numbers (codes "NEW") ∷ []
-files_in TableAndBundles = Numbers (codes "TABLE") ∷ Numbers (codes "BUNDLES") ∷ []
-files_in Choices = Numbers (codes "BUDGETS") ∷ Numbers (codes "CHOICES") ∷ []
-files_in ChoicesAndCertificate = Numbers (codes "BUDGETS") ∷ Numbers (codes "CHOICES") ∷ Certificate ∷ []
-
-abbrev pub file_names : FileSet → List Text
-file_names set = map file_name (files_in set)
+use Rattle.rp_words.specs.declared.commands.FileSet.{FileSet}
 
 -- a number from least to most
 pub record Number : Type 0 where

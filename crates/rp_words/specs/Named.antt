@@ -2,8 +2,8 @@
 use Rattle.std.specs.Prelude.{map}
 use Rattle.rp_words.specs.CommandLine.{Given, Line}
 use Rattle.rp_words.specs.Forms.{Form, Number}
-use Rattle.rp_words.specs.declared.form.Form.{Form as HeldForm}
-use Rattle.rp_words.specs.declared.form.Number.{Number as HeldNumber}
+use Rattle.rp_words.specs.declared.commands.Form.{Form as HeldForm}
+use Rattle.rp_words.specs.declared.commands.Number.{Number as HeldNumber}
 use Rattle.rp_words.specs.declared.given.Given.{Given as HeldGiven}
 use Rattle.rp_words.specs.declared.line.Line.{Line as HeldLine}
 

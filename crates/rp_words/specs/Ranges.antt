@@ -2,7 +2,8 @@
 -- have them.
 use Rattle.std.specs.Prelude.{◌≡◌, ◌≤◌, ℕ, Option, IfSome, length}
 use Rattle.rp_words.specs.CommandLine.{Line, file_set, files_of, form_of}
-use Rattle.rp_words.specs.Forms.{file_names, goods, rows, units}
+use Rattle.rp_words.specs.Forms.{goods, rows, units}
+use Rattle.rp_words.specs.CommandLine.{file_names}
 use Rattle.rp_words.specs.Shapes.{HasRanges, IsInRange}
 
 -- so many observations and goods make a table

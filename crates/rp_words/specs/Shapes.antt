@@ -4,7 +4,8 @@ use Rattle.std.specs.Prelude.{◌≡◌, ◌==◌, ◌≤◌, ℕ, Bool, true, f
 use Rattle.std.specs.Fmt.{decimal}
 use Rattle.clap.specs.Walk.{Text}
 use Rattle.rp_words.specs.CommandLine.{Given, Line, form_of}
-use Rattle.rp_words.specs.Forms.{Form, Number, file_names, units}
+use Rattle.rp_words.specs.Forms.{Form, Number, units}
+use Rattle.rp_words.specs.CommandLine.{file_names}
 
 -- a word that names a file: it is not empty and begins with no minus sign
 abbrev pub is_file_name : List ℕ → Bool

@@ -2,7 +2,8 @@
 use Rattle.std.specs.Prelude.{ℕ, List, [], ◌∷◌, ◌++◌, codes, map, if◌then◌else◌}
 use Rattle.clap.specs.Walk.{Text}
 use Rattle.rp_words.specs.CommandLine.{forms}
-use Rattle.rp_words.specs.Forms.{Form, file_names}
+use Rattle.rp_words.specs.Forms.{Form}
+use Rattle.rp_words.specs.CommandLine.{file_names}
 
 -- words, each after a blank
 abbrev pub spaced : List Text → List ℕ

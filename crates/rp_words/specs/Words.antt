@@ -11,7 +11,8 @@ use Rattle.clap.specs.ValueTests.{is_unsigned_in}
 use Rattle.clap.specs.Walk.{Row, Text, first_of, is_empty, one_of}
 use Rattle.rp_words.specs.CommandLine.{Given, Line, command_named, form_of}
 use Rattle.rp_words.specs.Commands.{program}
-use Rattle.rp_words.specs.Forms.{Form, Number, file_names, units}
+use Rattle.rp_words.specs.Forms.{Form, Number, units}
+use Rattle.rp_words.specs.CommandLine.{file_names}
 
 -- a number in its range, in decimal digits
 abbrev pub number_in : Number → Text → Option ℕ

@@ -7,7 +7,7 @@ ghost use Rattle.rp_words.specs.Named.{named_form, named_given, named_number};
 ghost use Rattle.rp_words.specs.Shapes.{HasRanges};
 ghost use Rattle.rp_words.specs.Words.{all_in, given_in, json_of, number_of};
 
-use crate::form::{Form, Number, UNITS};
+use crate::commands::{Form, Number, UNITS};
 use clap::ArgMatches;
 use rp_num::NoMemory;
 use std::alloc::Global;

@@ -2,12 +2,10 @@
 #![tactic(auto)]
 
 mod commands;
-mod form;
 mod given;
 mod line;
 mod parser;
 
-pub use commands::{Command, usage};
-pub use form::FileSet;
+pub use commands::{Command, FileSet, usage};
 pub use given::Given;
 pub use line::{Line, read_line};

@@ -6,8 +6,7 @@ ghost use Rattle.rp_words.specs.Commands.{alone, command_of, program, where_aske
 ghost use Rattle.rp_words.specs.Commands.{file_rule, json_rule, number_rule, per_rule};
 ghost use Rattle.rp_words.specs.Named.{named_form, named_number};
 
-use crate::commands::commands;
-use crate::form::{Form, Number, UNITS};
+use crate::commands::{Form, Number, UNITS, commands};
 use clap::builder::ValueParser;
 use clap::{Arg, ArgAction, Command};
 use std::alloc::{AllocError, Global};

@@ -3,7 +3,7 @@ use Rattle.rp_text.specs.Denotation.{budgets_in, choices_on}
 use Rattle.rp_words.specs.CommandLine.{Line, file_at, file_set, files_of}
 use Rattle.rp_words.specs.Named.{named_line}
 use Rattle.rp_words.specs.Ranges.{IsSized}
-use Rattle.rp_words.specs.declared.form.FileSet.TheVariants.{Choices}
+use Rattle.rp_words.specs.declared.commands.FileSet.TheVariants.{Choices}
 use Rattle.rp_outside.specs.Reads.{calls_through}
 use Rattle.rp_run.specs.Answers.{Files}
 use Rattle.rp_run.specs.Causes.{IsCause}

@@ -6,7 +6,7 @@ use Rattle.rp_outside.specs.Reads.{calls_through}
 use Rattle.rp_words.specs.CommandLine.{Line, file_at, file_set, files_of}
 use Rattle.rp_words.specs.Named.{named_line}
 use Rattle.rp_words.specs.Ranges.{IsSized}
-use Rattle.rp_words.specs.declared.form.FileSet.TheVariants.{ChoicesAndCertificate}
+use Rattle.rp_words.specs.declared.commands.FileSet.TheVariants.{ChoicesAndCertificate}
 use Rattle.rp_run.specs.Answers.{Files}
 use Rattle.rp_run.specs.Causes.{IsCause}
 use Rattle.rp_run.specs.ChoiceContents.{TypedPatchesOf}

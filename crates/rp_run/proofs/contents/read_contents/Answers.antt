@@ -1,9 +1,9 @@
 use Rattle.std.proofs.Common.{◌≡◌, ◌∙◌, Some, Ok, refl, sym, subst}
 use Rattle.rp_words.specs.CommandLine.{file_set}
 use Rattle.rp_words.specs.Named.{named_line}
-use Rattle.rp_words.specs.declared.form.FileSet.TheVariants.{Nothing}
+use Rattle.rp_words.specs.declared.commands.FileSet.TheVariants.{Nothing}
 use Rattle.rp_run.specs.Contents.{ContentsIn}
-use Rattle.rp_run.specs.Matching.{AreOf}
+use Rattle.rp_run.specs.Contents.{AreOf}
 use Rattle.rp_run.specs.declared.contents.Contents.TheVariants as contents
 use Rattle.rp_run.proofs.FileLemmas.{no_files}
 use Rattle.rp_run.proofs.LineLemmas.{none_named}

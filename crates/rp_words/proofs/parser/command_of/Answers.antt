@@ -3,9 +3,9 @@ use Rattle.std.specs.Borrow.{Bor}
 use Rattle.clap.specs.Simple.{App, app_of, new_app}
 use Rattle.clap.specs.Walk.{Rule, Text, rule_of}
 use Rattle.rp_words.specs.Commands.{file_rule, json_rule, number_rule, per_rule, where_asked, with_rules}
-use Rattle.rp_words.specs.Forms.{file_names}
+use Rattle.rp_words.specs.CommandLine.{file_names}
 use Rattle.rp_words.specs.Named.{named_form, named_number}
-use Rattle.rp_words.specs.declared.form.Number.{Number}
+use Rattle.rp_words.specs.declared.commands.Number.{Number}
 use Rattle.rp_words.proofs.WordLoops.{map_twice, rules_whole}
 use Rattle.rp_words.proofs.parser.command_of.Goals as goal
 

@@ -4,7 +4,7 @@ use Rattle.clap.specs.Simple.{app_of}
 use Rattle.clap.specs.Walk.{rule_of}
 use Rattle.rp_words.specs.Commands.{number_rule}
 use Rattle.rp_words.specs.Named.{named_number}
-use Rattle.rp_words.specs.declared.form.Number.{Number}
+use Rattle.rp_words.specs.declared.commands.Number.{Number}
 use Rattle.rp_words.proofs.WordLemmas.{rule_more}
 use Rattle.rp_words.proofs.parser.with_numbers.Goals as goal
 
