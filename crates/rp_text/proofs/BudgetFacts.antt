@@ -15,7 +15,7 @@ use Rattle.rp_text.specs.ChoiceCounts.{column_named}
 use Rattle.rp_text.specs.Denotation.{first_fault, column_of, column_numbers, budget_list, budgets_of, denoted_budgets}
 use Rattle.rp_text.specs.declared.form.Marks.TheVariants.{Goods}
 use Rattle.rp_text.specs.declared.form.Role.{Role}
-use Rattle.rp_text.specs.declared.form.Role.TheVariants.{Observation, Price, Quantity, Expenditure, Income, Budget, Times, Output, OutputPrice}
+use Rattle.rp_text.specs.declared.form.Role.TheVariants.{Observation, Price, Quantity, Expenditure, Income, Budget, Times, Output, OutputPrice, Menu, Choice}
 use Rattle.rp_text.specs.declared.fault.TableFault.{TableFault}
 use Rattle.rp_num.proofs.BelowLemmas.{length-listed}
 use Rattle.rp_text.proofs.RowLemmas.{length-rows, all_rows, all_listed}
@@ -38,6 +38,8 @@ measured_role (Some Budget) e m = cc m
 measured_role (Some Times) e m = cc m
 measured_role (Some Output) e m = cc m
 measured_role (Some OutputPrice) e m = cc m
+measured_role (Some Menu) e m = cc m
+measured_role (Some Choice) e m = cc m
 
 module _ (headers : List (List ℕ)) (records : List (List (List ℕ))) (fine : FineHeaders budgets_form headers) (fine_fields : fields_stage budgets_form headers records ≡ None) (fine_sizes : sizes_stage budgets_form headers (figures_of budgets_form headers records) ≡ None) where
   price_within : (t g : ℕ) → t < rows_in records → g < length (names_with Goods is_price headers)
@@ -66,7 +68,7 @@ module _ (headers : List (List ℕ)) (records : List (List (List ℕ))) (fine : 
   -- the budgets are within the limits
   pub budgets_are : 1 ≤ rows_in records → rows_in records ≤ 48 → IsBudgetList (budget_list headers (names_with Goods is_price headers) (sizes_in budgets_form headers records))
   budgets_are some few = record {
-    some_goods = fine.some;
+    some_goods = fine.some refl;
     few_goods = fine.few;
     some_budgets = rw (income_count, rows_count) some;
     few_budgets = rw (income_count, rows_count) few;

@@ -19,7 +19,7 @@ use Rattle.rp_text.specs.Fields.{nothing, measured, priced, whole, budgeted, fie
 use Rattle.rp_text.specs.Sizes.{figure_at, greatest_places, places_of, limit_of, size_of, size_at, scaled, sizes_of, sizes_stage, shares_scale}
 use Rattle.rp_text.specs.declared.form.Form.{Form}
 use Rattle.rp_text.specs.declared.form.Role.{Role}
-use Rattle.rp_text.specs.declared.form.Role.TheVariants.{Observation, Price, Quantity, Expenditure, Income, Budget, Times, Output, OutputPrice}
+use Rattle.rp_text.specs.declared.form.Role.TheVariants.{Observation, Price, Quantity, Expenditure, Income, Budget, Times, Output, OutputPrice, Menu, Choice}
 use Rattle.rp_text.specs.declared.fault.TableFault.{TableFault}
 use Rattle.rp_text.specs.declared.fault.TableFault.TheVariants as fault
 use Rattle.rp_text.proofs.FieldFaults.{role_is}
@@ -92,6 +92,8 @@ field_few budgets Income text row column = measured_few (decimal_of text) row co
 field_few budgets Budget text row column = budgeted_few budgets (whole (decimal_of text) row column) row (whole_few (decimal_of text) row column (decimal_few text))
 field_few budgets Times text row column = whole_few (decimal_of text) row column (decimal_few text)
 field_few budgets Output text row column = measured_few (decimal_of text) row column (decimal_few text)
+field_few budgets Menu text row column = omega arith
+field_few budgets Choice text row column = omega arith
 field_few budgets OutputPrice text row column = priced_few (measured (decimal_of text) row column) row column (measured_few (decimal_of text) row column (decimal_few text))
 
 unwrap_few : (r : Result Decimal TableFault) → Few r → (result_unwrap_or r nothing).places ≤ 6

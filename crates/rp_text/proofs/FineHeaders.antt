@@ -6,7 +6,7 @@ use Rattle.std.proofs.lemmas.Bool.Decides.{nat_tests}
 use Rattle.std.proofs.lemmas.List.{get_or-take, get_or_default, length-take}
 use Rattle.rp_text.specs.Texts.{text_at, place_of}
 use Rattle.rp_text.specs.Columns.{role_of, takes}
-use Rattle.rp_text.specs.Headers.{has, names_of, lacks_column, header_fault, headers_stage, present_fault, missing_fault, goods_count_fault, goods_stage}
+use Rattle.rp_text.specs.Headers.{has, has_goods, names_of, lacks_column, header_fault, headers_stage, present_fault, missing_fault, goods_count_fault, goods_stage}
 use Rattle.rp_text.specs.declared.form.Form.{Form}
 use Rattle.rp_text.specs.declared.fault.TableFault.{TableFault}
 use Rattle.rp_text.proofs.PlaceLemmas.{lt_false, absent, found_at, none_or, none_below, one_place}
@@ -16,7 +16,7 @@ pub record FineHeaders (form : Form) (headers : List (List ℕ)) : Type 0 where
   pub taken : (c : ℕ) → c < length headers → option_map_or (takes form) (role_of form.marks (text_at headers c)) false ≡ true
   pub distinct : (i j : ℕ) → i < j → j < length headers → text_at headers i ≡ text_at headers j → ⊥
   pub columns : lacks_column form headers ≡ false
-  pub some : 1 ≤ length (names_of form headers)
+  pub some : has_goods form ≡ true → 1 ≤ length (names_of form headers)
   pub few : length (names_of form headers) ≤ 16
 
 tests : (a b : Bool) (f g : TableFault) → (if not a then Some f else if b then Some g else None) ≡ None → (a ≡ true) × (b ≡ false)
@@ -43,6 +43,10 @@ missing_test true b f rest e = cc e
 missing_test false true f rest e = cc e
 missing_test false false f rest e = (refl, refl)
 
+not_both : (a b : Bool) → (a && b) ≡ false → a ≡ true → b ≡ false
+not_both true b e h = e
+not_both false b e h = cc h
+
 few_test : (a : Bool) (f : TableFault) → (if a then Some f else None) ≡ None → a ≡ false
 few_test true f e = cc e
 few_test false f e = refl
@@ -65,13 +69,13 @@ fine_headers form goods headers fine of_goods =
     let each : (c : ℕ) → c < length headers → (option_map_or (takes form) (role_of form.marks (text_at headers c)) false ≡ true) × (place_of (take c headers) (text_at headers c) ≡ None) =
     λ c within. fine_header form headers c (none_below (header_fault form headers) (length headers) c fine within) in
     let stages = fine_goods form goods headers of_goods in
-    let missing = missing_test (length (names_of form headers) == 0) (lacks_column form headers) _ _ stages.1 in
+    let missing = missing_test (has_goods form && (length (names_of form headers) == 0)) (lacks_column form headers) _ _ stages.1 in
     record {
       taken = λ c within. (each c within).0;
       distinct = λ i j earlier within same.
           absent (take j headers) (text_at headers j) i (each j within).1 (omega (arith, length-take j headers)) (get_or-take j headers i [] earlier ∙ same);
       columns = missing.1;
-      some = not_zero (length (names_of form headers)) missing.0;
+      some = λ goods. not_zero (length (names_of form headers)) (not_both (has_goods form) (length (names_of form headers) == 0) missing.0 goods);
       few = lt_false 16 (length (names_of form headers)) (few_test _ _ stages.2);
     }
 

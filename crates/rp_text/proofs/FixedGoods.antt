@@ -1,12 +1,12 @@
 -- The columns of goods in any kind of file, from what was tested.
-use Rattle.std.proofs.Common.{◌≡◌, ℕ, suc, ◌+◌, ◌<◌, ◌≤◌, ◌==◌, nat_lt, Bool, true, false, not, cond, ◌||◌, List, [], ◌∷◌, length, take, Some, None, is_some, refl, sym, ap, ◌∙◌, arith}
+use Rattle.std.proofs.Common.{◌≡◌, ℕ, suc, ◌+◌, ◌<◌, ◌≤◌, ◌==◌, nat_lt, Bool, true, false, not, cond, ◌&&◌, ◌||◌, List, [], ◌∷◌, length, take, Some, None, is_some, refl, sym, ap, ◌∙◌, arith}
 use Rattle.std.specs.List.{list_any, position_or_len}
 use Rattle.std.specs.Str.{bytes_eq}
 use Rattle.std.proofs.lemmas.Bool.Decides.{nat_tests}
 use Rattle.std.proofs.lemmas.Cmp.{nat_list_eq_equiv}
 use Rattle.std.proofs.lemmas.List.Folds.{list_any_more}
 use Rattle.rp_text.specs.Texts.{text_at, place_of}
-use Rattle.rp_text.specs.Headers.{names_of, lacks_column, lacks_good, present_fault, missing_fault, goods_count_fault, goods_stage}
+use Rattle.rp_text.specs.Headers.{has_goods, names_of, lacks_column, lacks_good, present_fault, missing_fault, goods_count_fault, goods_stage}
 use Rattle.rp_text.specs.declared.form.Form.{Form}
 use Rattle.rp_text.specs.declared.fault.TableFault.{TableFault}
 use Rattle.rp_text.specs.declared.fault.TableFault.TheVariants as fault
@@ -47,14 +47,14 @@ one_more_found names i name text before after within is earlier here =
     turned false true = refl
     turned false false = refl
 
-pub no_goods_at_all : (form : Form) (goods headers : List (List ℕ)) → length (names_of form headers) ≡ 0 → missing_fault form goods headers ≡ Some (fault.Unpaired 0)
+pub no_goods_at_all : (form : Form) (goods headers : List (List ℕ)) → (has_goods form && (length (names_of form headers) == 0)) ≡ true → missing_fault form goods headers ≡ Some (fault.Unpaired 0)
 unfolding missing_fault
 no_goods_at_all form goods headers none = rw none refl
 
 pub column_missing : (form : Form) (goods headers : List (List ℕ)) → lacks_column form headers ≡ true → missing_fault form goods headers ≡ Some (fault.Unpaired 0)
 unfolding missing_fault
 column_missing form goods headers lacks =
-    let test : ((length (names_of form headers) == 0) || lacks_column form headers) ≡ true = missing_test (length (names_of form headers) == 0) (lacks_column form headers) lacks in
+    let test : ((has_goods form && (length (names_of form headers) == 0)) || lacks_column form headers) ≡ true = missing_test (has_goods form && (length (names_of form headers) == 0)) (lacks_column form headers) lacks in
     rw test refl
   where
     missing_test : (a b : Bool) → b ≡ true → (a || b) ≡ true
@@ -65,25 +65,22 @@ neither : (a b : Bool) → a ≡ false → b ≡ false → (a || b) ≡ false
 neither true b e f = e
 neither false b e f = f
 
-not_none : (n : ℕ) → (n ≡ 0 → ⊥) → (n == 0) ≡ false
-not_none n other = grind (arith, nat_tests)
-
-pub own_goods : (form : Form) (goods headers : List (List ℕ)) → (length (names_of form headers) ≡ 0 → ⊥) → lacks_column form headers ≡ false → form.fixed_goods ≡ false → missing_fault form goods headers ≡ None
+pub own_goods : (form : Form) (goods headers : List (List ℕ)) → (has_goods form && (length (names_of form headers) == 0)) ≡ false → lacks_column form headers ≡ false → form.fixed_goods ≡ false → missing_fault form goods headers ≡ None
 unfolding missing_fault
 own_goods form goods headers some all own =
-    let test = neither (length (names_of form headers) == 0) (lacks_column form headers) (not_none (length (names_of form headers)) some) all in
+    let test = neither (has_goods form && (length (names_of form headers) == 0)) (lacks_column form headers) some all in
     rw (test, own) refl
 
-pub good_missing : (form : Form) (goods headers : List (List ℕ)) → (length (names_of form headers) ≡ 0 → ⊥) → lacks_column form headers ≡ false → form.fixed_goods ≡ true → lacks_good form goods headers ≡ true → missing_fault form goods headers ≡ Some (fault.OtherGoods 0)
+pub good_missing : (form : Form) (goods headers : List (List ℕ)) → (has_goods form && (length (names_of form headers) == 0)) ≡ false → lacks_column form headers ≡ false → form.fixed_goods ≡ true → lacks_good form goods headers ≡ true → missing_fault form goods headers ≡ Some (fault.OtherGoods 0)
 unfolding missing_fault
 good_missing form goods headers some all given lacks =
-    let test = neither (length (names_of form headers) == 0) (lacks_column form headers) (not_none (length (names_of form headers)) some) all in
+    let test = neither (has_goods form && (length (names_of form headers) == 0)) (lacks_column form headers) some all in
     rw (test, given, lacks) refl
 
-pub all_goods : (form : Form) (goods headers : List (List ℕ)) → (length (names_of form headers) ≡ 0 → ⊥) → lacks_column form headers ≡ false → form.fixed_goods ≡ true → lacks_good form goods headers ≡ false → missing_fault form goods headers ≡ None
+pub all_goods : (form : Form) (goods headers : List (List ℕ)) → (has_goods form && (length (names_of form headers) == 0)) ≡ false → lacks_column form headers ≡ false → form.fixed_goods ≡ true → lacks_good form goods headers ≡ false → missing_fault form goods headers ≡ None
 unfolding missing_fault
 all_goods form goods headers some all given none =
-    let test = neither (length (names_of form headers) == 0) (lacks_column form headers) (not_none (length (names_of form headers)) some) all in
+    let test = neither (has_goods form && (length (names_of form headers) == 0)) (lacks_column form headers) some all in
     rw (test, given, none) refl
 
 pub in_present : (form : Form) (goods headers : List (List ℕ)) (e : TableFault) → present_fault form goods headers ≡ Some e → goods_stage form goods headers ≡ Some e

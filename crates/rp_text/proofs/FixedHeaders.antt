@@ -8,7 +8,7 @@ use Rattle.rp_table.specs.Rows.{rows_count}
 use Rattle.rp_num.specs.Below.{any_below}
 use Rattle.rp_text.specs.Texts.{text_at, place_of}
 use Rattle.rp_text.specs.Columns.{role_of, named_role, good_role, takes, is_name, mark_of_prices, mark_of_quantities}
-use Rattle.rp_text.specs.Headers.{has, good_mark, lacks_column, lacks_good, names_of, missing_fault, goods_stage}
+use Rattle.rp_text.specs.Headers.{has, has_goods, good_mark, lacks_column, lacks_good, names_of, missing_fault, goods_stage}
 use Rattle.rp_text.specs.Fields.{figures_of, rows_in, fields_stage}
 use Rattle.rp_text.specs.Sizes.{limit_of, sizes_stage}
 use Rattle.rp_text.specs.Denotation.{column_of, numbers_under}
@@ -46,7 +46,7 @@ none_of f n k none within = by (f k) refl
 none_missing : (form : Form) (goods headers : List (List ℕ)) → goods_stage form goods headers ≡ None → (form.fixed_goods && lacks_good form goods headers) ≡ false
 unfolding missing_fault
 none_missing form goods headers sound =
-    missing_tests ((length (names_of form headers) == 0) || lacks_column form headers) (form.fixed_goods && lacks_good form goods headers) _ _ (fine_goods form goods headers sound).1
+    missing_tests ((has_goods form && (length (names_of form headers) == 0)) || lacks_column form headers) (form.fixed_goods && lacks_good form goods headers) _ _ (fine_goods form goods headers sound).1
 
 -- what the column of a good says
 abbrev pub good_kind : Form → Role

@@ -17,7 +17,7 @@ use Rattle.rp_text.specs.declared.form.Form.{Form}
 use Rattle.rp_text.specs.declared.form.Marks.{Marks}
 use Rattle.rp_text.specs.declared.form.Marks.TheVariants.{Goods, Inputs}
 use Rattle.rp_text.specs.declared.form.Role.{Role}
-use Rattle.rp_text.specs.declared.form.Role.TheVariants.{Observation, Price, Quantity, Expenditure, Income, Budget, Times, Output, OutputPrice}
+use Rattle.rp_text.specs.declared.form.Role.TheVariants.{Observation, Price, Quantity, Expenditure, Income, Budget, Times, Output, OutputPrice, Menu, Choice}
 use Rattle.rp_text.specs.declared.fault.TableFault.{TableFault}
 use Rattle.rp_text.proofs.RoleLemmas.{no_good}
 use Rattle.rp_text.proofs.NameLemmas.{price_header}
@@ -62,6 +62,8 @@ is_price_role (Some Budget) e = cc e
 is_price_role (Some Times) e = cc e
 is_price_role (Some Output) e = cc e
 is_price_role (Some OutputPrice) e = cc e
+is_price_role (Some Menu) e = cc e
+is_price_role (Some Choice) e = cc e
 
 pub measured_role : (o : Option Role) → option_map_or (takes table_form) o false ≡ true → measures (unwrap_or o Observation) ≡ true → o ≡ Some Quantity
 measured_role None e m = cc e
@@ -74,6 +76,8 @@ measured_role (Some Budget) e m = cc e
 measured_role (Some Times) e m = cc e
 measured_role (Some Output) e m = cc e
 measured_role (Some OutputPrice) e m = cc e
+measured_role (Some Menu) e m = cc e
+measured_role (Some Choice) e m = cc e
 
 pub limit_is : (o : Option Role) → option_map_or (takes table_form) o false ≡ true → limit_of (unwrap_or o Observation) ≡ 9999999
 limit_is None e = cc e
@@ -86,6 +90,8 @@ limit_is (Some Budget) e = refl
 limit_is (Some Times) e = refl
 limit_is (Some Output) e = refl
 limit_is (Some OutputPrice) e = refl
+limit_is (Some Menu) e = refl
+limit_is (Some Choice) e = refl
 
 quantity_good : (named p q : Bool) → option_map_or is_quantity (if not named then None else if p then Some Price else if q then Some Quantity else None) false ≡ true → (named ≡ true) × (q ≡ true)
 quantity_good true true q e = cc e
@@ -184,7 +190,7 @@ named_some form headers priced some = rw priced at some
 -- some column has quantities
 pub some_quantity : {form : Form} (headers : List (List ℕ)) → form.prices ≡ true → GoodHeaders form headers → (c : ℕ) × (c < length headers) × (role_of form.marks (text_at headers c) ≡ Some Quantity)
 some_quantity {form} headers priced_goods good =
-    let price = price_column form.marks headers 0 (named_some form headers priced_goods good.fine.some) in
+    let price = price_column form.marks headers 0 (named_some form headers priced_goods (good.fine.some (rw priced_goods refl))) in
     let priced : option_map_or is_price (role_of form.marks (text_at headers price.0)) false ≡ true = rw price.3 refl in
     let name = price_header _ (text_at headers price.0) priced in
     let is_good : (is_price (role_at form.marks headers price.0) || is_quantity (role_at form.marks headers price.0)) ≡ true = rw price.3 refl in

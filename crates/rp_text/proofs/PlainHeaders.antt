@@ -1,5 +1,5 @@
 -- The headers of the plain form have no fault, and they name the goods.
-use Rattle.std.proofs.Common.{◌≡◌, ℕ, zero, suc, ◌+◌, ◌*◌, ◌<◌, ◌≤◌, ◌⊎◌, inl, inr, true, false, ◌&&◌, nat_le, List, [], ◌∷◌, ◌++◌, length, get_or, take, drop, map, Option, Some, None, is_some, refl, sym, ap, ◌∙◌, subst, arith}
+use Rattle.std.proofs.Common.{◌≡◌, ℕ, zero, suc, ◌+◌, ◌*◌, ◌<◌, ◌≤◌, ◌⊎◌, inl, inr, true, false, ◌&&◌, ◌==◌, nat_le, List, [], ◌∷◌, ◌++◌, length, get_or, take, drop, map, Option, Some, None, is_some, refl, sym, ap, ◌∙◌, subst, arith}
 use Rattle.std.specs.List.{All, list_all}
 use Rattle.std.specs.Option.{option_map_or}
 use Rattle.std.proofs.lemmas.Bool.Decides.{nat_tests}
@@ -18,6 +18,9 @@ use Rattle.rp_text.proofs.GoodHeaders.{price_says, quantity_says}
 use Rattle.rp_text.proofs.FixedGoods.{own_goods, no_goods_fault}
 use Rattle.rp_text.proofs.PlaceLemmas.{present, found_at, not_listed, one_place}
 use Rattle.rp_text.proofs.PlainNumbers.{trimmed_is}
+
+not_zero : (n : ℕ) → 1 ≤ n → (n == 0) ≡ false
+not_zero n some = grind (arith, nat_tests)
 
 -- nothing below a bound
 pub none_of : {A : Type 0} (f : ℕ → Option A) (n : ℕ) → ((k : ℕ) → k < n → f k ≡ None) → first_of n f ≡ None
@@ -213,5 +216,5 @@ module _ (headers names : List (List ℕ)) (plain : IsPlainHeader headers names)
       let some = plain.some in
       let few = plain.few in
       no_goods_fault table_form [] headers no_present_fault
-      (own_goods table_form [] headers (λ none. omega (arith, count, none, some)) refl refl)
+      (own_goods table_form [] headers (not_zero (length (names_with Goods is_price headers)) (omega (arith, count, some))) refl refl)
       (omega (arith, count, few))

@@ -18,7 +18,7 @@ use Rattle.rp_text.specs.ChoiceCounts.{column_named}
 use Rattle.rp_text.specs.Denotation.{first_fault, column_numbers, numbers_under, price_list, prices_of, denoted_prices}
 use Rattle.rp_text.specs.declared.form.Marks.TheVariants.{Goods}
 use Rattle.rp_text.specs.declared.form.Role.{Role}
-use Rattle.rp_text.specs.declared.form.Role.TheVariants.{Observation, Price, Quantity, Expenditure, Income, Budget, Times, Output, OutputPrice}
+use Rattle.rp_text.specs.declared.form.Role.TheVariants.{Observation, Price, Quantity, Expenditure, Income, Budget, Times, Output, OutputPrice, Menu, Choice}
 use Rattle.rp_text.specs.declared.fault.TableFault.{TableFault}
 use Rattle.rp_num.proofs.BelowLemmas.{length-listed}
 use Rattle.rp_text.proofs.RowLemmas.{all_listed}
@@ -41,6 +41,8 @@ measured_role places (Some Budget) e m = cc m
 measured_role places (Some Times) e m = cc m
 measured_role places (Some Output) e m = cc m
 measured_role places (Some OutputPrice) e m = cc m
+measured_role places (Some Menu) e m = cc m
+measured_role places (Some Choice) e m = cc m
 
 module _ (places : ℕ) (headers : List (List ℕ)) (records : List (List (List ℕ))) (fine : FineHeaders (prices_form true places) headers)
     (fine_fields : fields_stage (prices_form true places) headers records ≡ None) (fine_sizes : sizes_stage (prices_form true places) headers (figures_of (prices_form true places) headers records) ≡ None) where

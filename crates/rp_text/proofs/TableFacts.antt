@@ -20,7 +20,7 @@ use Rattle.rp_text.proofs.FigureLemmas.{few_places}
 use Rattle.rp_text.proofs.ColumnSizes.{sizes_are, within_limit, price_at, bought_at}
 
 first_column : (headers : List (List ℕ)) → GoodHeaders table_form headers → 0 < length headers
-first_column headers good = let price = price_column Goods headers 0 good.fine.some in omega (arith, price.1)
+first_column headers good = let price = price_column Goods headers 0 (good.fine.some refl) in omega (arith, price.1)
 
 within_headers : (headers : List (List ℕ)) → 0 < length headers → (text : List ℕ) → unwrap_or (place_of headers text) 0 < length headers
 within_headers headers some text = by (place_of headers text) refl
@@ -62,13 +62,13 @@ module _ (headers : List (List ℕ)) (records : List (List (List ℕ))) (good : 
   unfolding table_of
   records_are =
       ap (λ (k : ℕ). k / length (names_with Goods is_price headers)) (length-rows (length (sizes_of table_form headers (figures_of table_form headers records))) (length (names_with Goods is_price headers)) _)
-      ∙ mul-div_cancel (length (sizes_of table_form headers (figures_of table_form headers records))) good.fine.some ∙ rows_count
+      ∙ mul-div_cancel (length (sizes_of table_form headers (figures_of table_form headers records))) (good.fine.some refl) ∙ rows_count
 
   -- the table is within the limits
   pub table_is : 1 ≤ rows_in records → rows_in records ≤ 256 → IsTable (table_of headers (figures_of table_form headers records))
   unfolding table_of places_of
   table_is some few = record {
-    some_goods = good.fine.some;
+    some_goods = (good.fine.some refl);
     few_goods = good.fine.few;
     distinct = distinct_names headers good.fine;
     some_records = rw records_are some;

@@ -12,7 +12,7 @@ use Rattle.rp_text.specs.declared.form.Form.{Form}
 use Rattle.rp_text.specs.declared.form.Marks.{Marks}
 use Rattle.rp_text.specs.declared.form.Marks.TheVariants.{Goods, Inputs}
 use Rattle.rp_text.specs.declared.form.Role.{Role}
-use Rattle.rp_text.specs.declared.form.Role.TheVariants.{Observation, Price, Quantity, Expenditure, Income, Budget, Times, Output, OutputPrice}
+use Rattle.rp_text.specs.declared.form.Role.TheVariants.{Observation, Price, Quantity, Expenditure, Income, Budget, Times, Output, OutputPrice, Menu, Choice}
 
 -- a good's name: 1 to NAME_BYTES bytes, none of them a control character
 abbrev pub is_name : List ℕ → Bool
@@ -57,6 +57,8 @@ named_role header =
     else if bytes_eq header (codes "n") then Some Times
     else if bytes_eq header (codes "y") then Some Output
     else if bytes_eq header (codes "p") then Some OutputPrice
+    else if bytes_eq header (codes "menu") then Some Menu
+    else if bytes_eq header (codes "choice") then Some Choice
     else None
 
 -- what a column with that header says, where goods have these marks
@@ -74,6 +76,8 @@ header_of Budget = codes "budget"
 header_of Times = codes "n"
 header_of Output = codes "y"
 header_of OutputPrice = codes "p"
+header_of Menu = codes "menu"
+header_of Choice = codes "choice"
 
 -- whether a column that a kind of file may have is the one with that header
 abbrev pub is_headed : List ℕ → Option Column → Bool
@@ -91,6 +95,8 @@ takes form Budget = list_any (is_headed (codes "budget")) form.named
 takes form Times = list_any (is_headed (codes "n")) form.named
 takes form Output = list_any (is_headed (codes "y")) form.named
 takes form OutputPrice = list_any (is_headed (codes "p")) form.named
+takes form Menu = list_any (is_headed (codes "menu")) form.named
+takes form Choice = list_any (is_headed (codes "choice")) form.named
 
 -- whether the fields say how much is bought
 abbrev pub measures : Role → Bool
@@ -103,6 +109,8 @@ measures Budget = false
 measures Times = false
 measures Output = false
 measures OutputPrice = false
+measures Menu = false
+measures Choice = false
 
 -- whether the column is that of the prices of a good, or of its quantities
 abbrev pub is_price : Role → Bool
@@ -115,6 +123,8 @@ is_price Budget = false
 is_price Times = false
 is_price Output = false
 is_price OutputPrice = false
+is_price Menu = false
+is_price Choice = false
 
 abbrev pub is_quantity : Role → Bool
 is_quantity Observation = false
@@ -126,6 +136,8 @@ is_quantity Budget = false
 is_quantity Times = false
 is_quantity Output = false
 is_quantity OutputPrice = false
+is_quantity Menu = false
+is_quantity Choice = false
 
 -- whether the numbers have the scale of prices, that of quantities, or that of incomes
 abbrev pub has_price_scale : Role → Bool
@@ -138,6 +150,8 @@ has_price_scale Budget = false
 has_price_scale Times = false
 has_price_scale Output = false
 has_price_scale OutputPrice = true
+has_price_scale Menu = false
+has_price_scale Choice = false
 
 abbrev pub has_quantity_scale : Role → Bool
 has_quantity_scale Observation = false
@@ -149,6 +163,8 @@ has_quantity_scale Budget = false
 has_quantity_scale Times = false
 has_quantity_scale Output = true
 has_quantity_scale OutputPrice = false
+has_quantity_scale Menu = false
+has_quantity_scale Choice = false
 
 abbrev pub has_income_scale : Role → Bool
 has_income_scale Observation = false
@@ -160,6 +176,8 @@ has_income_scale Budget = false
 has_income_scale Times = false
 has_income_scale Output = false
 has_income_scale OutputPrice = false
+has_income_scale Menu = false
+has_income_scale Choice = false
 
 -- what the fields of the column at a place say
 abbrev pub role_at : Marks → List (List ℕ) → ℕ → Role

@@ -14,7 +14,7 @@ use Rattle.rp_text.specs.Columns.{role_at, measures}
 use Rattle.rp_text.specs.declared.form.Form.{Form}
 use Rattle.rp_text.specs.declared.form.Marks.{Marks}
 use Rattle.rp_text.specs.declared.form.Role.{Role}
-use Rattle.rp_text.specs.declared.form.Role.TheVariants.{Observation, Price, Quantity, Expenditure, Income, Budget, Times, Output, OutputPrice}
+use Rattle.rp_text.specs.declared.form.Role.TheVariants.{Observation, Price, Quantity, Expenditure, Income, Budget, Times, Output, OutputPrice, Menu, Choice}
 use Rattle.rp_text.specs.declared.fault.TableFault.{TableFault}
 use Rattle.rp_text.specs.declared.fault.TableFault.TheVariants as fault
 
@@ -54,6 +54,8 @@ field_of budgets Budget text row column = budgeted budgets (whole (decimal_of te
 field_of budgets Times text row column = whole (decimal_of text) row column
 field_of budgets Output text row column = measured (decimal_of text) row column
 field_of budgets OutputPrice text row column = priced (measured (decimal_of text) row column) row column
+field_of budgets Menu text row column = Ok nothing
+field_of budgets Choice text row column = Ok nothing
 
 -- the t-th record after the headers, from 0
 abbrev pub row_at : List (List (List ℕ)) → ℕ → List (List ℕ)

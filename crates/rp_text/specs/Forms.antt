@@ -5,7 +5,7 @@ use Rattle.rp_text.specs.declared.form.Column.{Column}
 use Rattle.rp_text.specs.declared.form.Form.{Form}
 use Rattle.rp_text.specs.declared.form.Marks.TheVariants.{Goods, Inputs}
 use Rattle.rp_text.specs.declared.form.Role.{Role}
-use Rattle.rp_text.specs.declared.form.Role.TheVariants.{Expenditure, Income, Budget, Times, Output, OutputPrice}
+use Rattle.rp_text.specs.declared.form.Role.TheVariants.{Expenditure, Income, Budget, Times, Output, OutputPrice, Menu, Choice}
 
 -- a column that such a file has to have
 abbrev pub required : Role → Option Column
@@ -21,7 +21,7 @@ table_form = record {
   marks = Goods;
   prices = true;
   quantities = true;
-  named = None ∷ None ∷ [];
+  named = None ∷ None ∷ None ∷ [];
   fixed_goods = false;
   fixed_places = false;
   places = 0;
@@ -36,7 +36,7 @@ prices_form with_m places = record {
   marks = Goods;
   prices = true;
   quantities = false;
-  named = (if with_m then required Expenditure else None) ∷ None ∷ [];
+  named = (if with_m then required Expenditure else None) ∷ None ∷ None ∷ [];
   fixed_goods = true;
   fixed_places = true;
   places = places;
@@ -50,7 +50,7 @@ bundles_form places = record {
   marks = Goods;
   prices = false;
   quantities = true;
-  named = None ∷ None ∷ [];
+  named = None ∷ None ∷ None ∷ [];
   fixed_goods = true;
   fixed_places = true;
   places = places;
@@ -64,7 +64,7 @@ budgets_form = record {
   marks = Goods;
   prices = true;
   quantities = false;
-  named = required Income ∷ None ∷ [];
+  named = required Income ∷ None ∷ None ∷ [];
   fixed_goods = false;
   fixed_places = false;
   places = 0;
@@ -78,7 +78,7 @@ choices_form budgets = record {
   marks = Goods;
   prices = false;
   quantities = true;
-  named = required Budget ∷ required Times ∷ [];
+  named = required Budget ∷ required Times ∷ None ∷ [];
   fixed_goods = true;
   fixed_places = false;
   places = 0;
@@ -93,7 +93,7 @@ technology_form = record {
   marks = Inputs;
   prices = true;
   quantities = true;
-  named = required Output ∷ optional OutputPrice ∷ [];
+  named = required Output ∷ optional OutputPrice ∷ None ∷ [];
   fixed_goods = false;
   fixed_places = false;
   places = 0;
@@ -107,10 +107,24 @@ asked_form places = record {
   marks = Inputs;
   prices = true;
   quantities = false;
-  named = required Output ∷ None ∷ [];
+  named = required Output ∷ None ∷ None ∷ [];
   fixed_goods = true;
   fixed_places = true;
   places = places;
   budgets = 0;
   most = NEW_RECORDS;
+}
+
+-- choices from menus have no goods: a menu and what was chosen from it, both texts, and a count
+abbrev pub menus_form : Form
+menus_form = record {
+  marks = Goods;
+  prices = false;
+  quantities = false;
+  named = required Menu ∷ required Choice ∷ required Times ∷ [];
+  fixed_goods = false;
+  fixed_places = false;
+  places = 0;
+  budgets = 0;
+  most = CHOICES;
 }

@@ -85,10 +85,14 @@ good_mark form = if form.prices then mark_of_prices form.marks else mark_of_quan
 abbrev pub lacks_good : Form → List (List ℕ) → List (List ℕ) → Bool
 lacks_good form goods headers = any_below (length goods) (λ g. not (has headers (good_mark form ++ text_at goods g)))
 
+-- whether a kind of file has columns of goods
+abbrev pub has_goods : Form → Bool
+has_goods form = form.prices || form.quantities
+
 -- columns that are missing: every good or another needed one, and then one of the fixed goods
 unfoldable pub missing_fault : Form → List (List ℕ) → List (List ℕ) → Option TableFault
 missing_fault form goods headers =
-    if (length (names_of form headers) == 0) || lacks_column form headers then Some (fault.Unpaired 0)
+    if (has_goods form && (length (names_of form headers) == 0)) || lacks_column form headers then Some (fault.Unpaired 0)
     else if form.fixed_goods && lacks_good form goods headers then Some (fault.OtherGoods 0)
     else None
 

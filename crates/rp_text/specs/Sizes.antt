@@ -11,7 +11,7 @@ use Rattle.rp_text.specs.Headers.{headers_of}
 use Rattle.rp_text.specs.declared.form.Form.{Form}
 use Rattle.rp_text.specs.declared.form.Marks.{Marks}
 use Rattle.rp_text.specs.declared.form.Role.{Role}
-use Rattle.rp_text.specs.declared.form.Role.TheVariants.{Observation, Price, Quantity, Expenditure, Income, Budget, Times, Output, OutputPrice}
+use Rattle.rp_text.specs.declared.form.Role.TheVariants.{Observation, Price, Quantity, Expenditure, Income, Budget, Times, Output, OutputPrice, Menu, Choice}
 use Rattle.rp_text.specs.declared.fault.TableFault.{TableFault}
 use Rattle.rp_text.specs.declared.fault.TableFault.TheVariants as fault
 
@@ -26,6 +26,8 @@ shares_scale Budget other = false
 shares_scale Times other = false
 shares_scale Output other = has_quantity_scale other
 shares_scale OutputPrice other = has_price_scale other
+shares_scale Menu other = false
+shares_scale Choice other = false
 
 -- the number at a record and a column of these
 abbrev pub figure_at : List (List Decimal) → ℕ → ℕ → Decimal
@@ -48,6 +50,8 @@ places_of form headers figures Budget = 0
 places_of form headers figures Times = 0
 places_of form headers figures Output = if form.fixed_places then form.places else greatest_places form.marks headers figures Quantity
 places_of form headers figures OutputPrice = greatest_places form.marks headers figures Price
+places_of form headers figures Menu = 0
+places_of form headers figures Choice = 0
 
 -- the largest scaled number of a role
 abbrev pub limit_of : Role → ℕ
@@ -60,6 +64,8 @@ limit_of Budget = LARGEST
 limit_of Times = LARGEST
 limit_of Output = LARGEST
 limit_of OutputPrice = LARGEST
+limit_of Menu = LARGEST
+limit_of Choice = LARGEST
 
 -- a number at a scale with that many places: it has no more places, and is at most the limit
 abbrev pub size_of : Decimal → ℕ → ℕ → ℕ → ℕ → Result ℕ TableFault

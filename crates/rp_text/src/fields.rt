@@ -31,7 +31,7 @@ fn read_field(
 {
     let text = trimmed(field);
     match role {
-        Role::Observation => Ok(Decimal {
+        Role::Observation | Role::Menu | Role::Choice => Ok(Decimal {
             units: 0,
             places: 0,
         }),

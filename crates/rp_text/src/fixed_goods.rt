@@ -1,4 +1,4 @@
-ghost use Rattle.std.specs.Prelude.{◌≡◌, ◌<◌, ◌||◌, ◌&&◌, ℕ, List, None, not, if◌then◌else◌, OnOk};
+ghost use Rattle.std.specs.Prelude.{◌≡◌, ◌<◌, ◌||◌, ◌&&◌, ◌==◌, ℕ, List, None, not, if◌then◌else◌, OnOk};
 ghost use Rattle.std.specs.Prelude.{IfOk, length};
 ghost use Rattle.std.specs.Str.{bytes_eq};
 ghost use Rattle.indexmap.specs.IndexSet.{contains_by};
@@ -7,7 +7,7 @@ ghost use Rattle.rp_text.specs.Texts.{text_at};
 ghost use Rattle.rp_text.specs.Columns.{role_at, name_in, is_price, is_quantity};
 ghost use Rattle.rp_text.specs.Headers as Headers;
 ghost use Rattle.rp_text.specs.Headers.{has, names_of, other_goods_fault, present_fault, missing_fault};
-ghost use Rattle.rp_text.specs.Headers.{goods_stage, is_missing};
+ghost use Rattle.rp_text.specs.Headers.{goods_stage, has_goods, is_missing};
 ghost use Rattle.rp_text.specs.Refusals.{RefusedAt};
 
 use crate::TableFault;
@@ -101,7 +101,7 @@ fn check_missing(alloc: Global, goods: &[Name], columns: &Columns<'_>) -> Result
     ensures fine { OnOk result (missing_fault columns.now.form goods.now columns.now.headers ≡ None) }
     ensures refused { RefusedAt result (missing_fault columns.now.form goods.now columns.now.headers) }
 {
-    if count_goods(columns) == 0 {
+    if lacks_all_goods(columns) {
         return Err(TableFault::Unpaired { column: 0 });
     }
     if lacks_column(columns) {
@@ -114,6 +114,18 @@ fn check_missing(alloc: Global, goods: &[Name], columns: &Columns<'_>) -> Result
         return Err(TableFault::OtherGoods { column: 0 });
     }
     Ok(())
+}
+
+/// Whether there are to be goods, and there is none.
+fn lacks_all_goods(columns: &Columns<'_>) -> bool
+    ensures { result ≡ (has_goods columns.now.form
+        && (length (names_of columns.now.form columns.now.headers) == 0)) }
+{
+    if columns.form().has_goods() {
+        count_goods(columns) == 0
+    } else {
+        false
+    }
 }
 
 /// Whether a column is missing that is no good's.

@@ -5,7 +5,8 @@ ghost use Rattle.rp_text.specs.Columns.{is_headed, has_price_scale, has_quantity
 ghost use Rattle.rp_text.specs.Columns.{has_income_scale, mark_of_prices, mark_of_quantities};
 ghost use Rattle.rp_text.specs.Forms as Forms;
 ghost use Rattle.rp_text.specs.Forms.{table_form, prices_form, bundles_form, budgets_form};
-ghost use Rattle.rp_text.specs.Forms.{choices_form, technology_form, asked_form};
+ghost use Rattle.rp_text.specs.Forms.{choices_form, technology_form, asked_form, menus_form};
+ghost use Rattle.rp_text.specs.Headers.{has_goods};
 ghost use Rattle.rp_text.specs.Sizes.{shares_scale, limit_of};
 
 use rp_table::{BUDGETS, CHOICES, LARGEST, LARGEST_EXPENDITURE, NEW_RECORDS, RECORDS};
@@ -31,6 +32,10 @@ pub enum Role {
     Output,
     /// Prices of its output, under `p`.
     OutputPrice,
+    /// Menus, under `menu`: a text, with the blanks round it.
+    Menu,
+    /// What was chosen from a menu, under `choice`: a text, with the blanks round it.
+    Choice,
 }
 
 /// What the columns of goods are headed by, before the name of a good.
@@ -59,7 +64,7 @@ pub struct Form {
     /// Whether a good has a column of quantities.
     pub quantities: bool,
     /// The columns that are no good's.
-    pub named: [Option<Column>; 2],
+    pub named: [Option<Column>; 3],
     /// Whether the goods are fixed beforehand, and not named by the file.
     pub fixed_goods: bool,
     /// Whether the scale of quantities is fixed beforehand, and not the file's.
@@ -101,7 +106,7 @@ impl Form {
             marks: Marks::Goods,
             prices: true,
             quantities: true,
-            named: [None, None],
+            named: [None, None, None],
             fixed_goods: false,
             fixed_places: false,
             places: 0,
@@ -126,6 +131,7 @@ impl Form {
                     None
                 },
                 None,
+                None,
             ],
             fixed_goods: true,
             fixed_places: true,
@@ -143,7 +149,7 @@ impl Form {
             marks: Marks::Goods,
             prices: false,
             quantities: true,
-            named: [None, None],
+            named: [None, None, None],
             fixed_goods: true,
             fixed_places: true,
             places,
@@ -160,7 +166,7 @@ impl Form {
             marks: Marks::Goods,
             prices: true,
             quantities: false,
-            named: [required(Role::Income), None],
+            named: [required(Role::Income), None, None],
             fixed_goods: false,
             fixed_places: false,
             places: 0,
@@ -178,7 +184,7 @@ impl Form {
             marks: Marks::Goods,
             prices: false,
             quantities: true,
-            named: [required(Role::Budget), required(Role::Times)],
+            named: [required(Role::Budget), required(Role::Times), None],
             fixed_goods: true,
             fixed_places: false,
             places: 0,
@@ -195,7 +201,7 @@ impl Form {
             marks: Marks::Inputs,
             prices: true,
             quantities: true,
-            named: [required(Role::Output), optional(Role::OutputPrice)],
+            named: [required(Role::Output), optional(Role::OutputPrice), None],
             fixed_goods: false,
             fixed_places: false,
             places: 0,
@@ -213,13 +219,41 @@ impl Form {
             marks: Marks::Inputs,
             prices: true,
             quantities: false,
-            named: [required(Role::Output), None],
+            named: [required(Role::Output), None, None],
             fixed_goods: true,
             fixed_places: true,
             places,
             budgets: 0,
             most: NEW_RECORDS,
         }
+    }
+
+    /// Choices from menus have the texts of a menu and of what was chosen from it, and a count.
+    pub fn menus() -> Form
+        ensures { result ≡ menus_form }
+    {
+        Form {
+            marks: Marks::Goods,
+            prices: false,
+            quantities: false,
+            named: [
+                required(Role::Menu),
+                required(Role::Choice),
+                required(Role::Times),
+            ],
+            fixed_goods: false,
+            fixed_places: false,
+            places: 0,
+            budgets: 0,
+            most: CHOICES,
+        }
+    }
+
+    /// Whether this kind of file has columns of goods.
+    pub fn has_goods(&self) -> bool
+        ensures { result ≡ has_goods self.now }
+    {
+        self.prices || self.quantities
     }
 
     /// Whether this kind of file has such columns.
@@ -308,6 +342,8 @@ impl Role {
             Role::Times => b"n",
             Role::Output => b"y",
             Role::OutputPrice => b"p",
+            Role::Menu => b"menu",
+            Role::Choice => b"choice",
         }
     }
 

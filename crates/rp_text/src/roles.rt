@@ -32,6 +32,10 @@ fn named_role(header: &[u8]) -> Option<Role>
         Some(Role::Output)
     } else if header == b"p".as_slice() {
         Some(Role::OutputPrice)
+    } else if header == b"menu".as_slice() {
+        Some(Role::Menu)
+    } else if header == b"choice".as_slice() {
+        Some(Role::Choice)
     } else {
         None
     }

@@ -7,3 +7,5 @@ mod faults;
 mod limits;
 #[cfg(test)]
 mod readers;
+#[cfg(test)]
+mod sheets;
