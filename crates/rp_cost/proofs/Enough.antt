@@ -16,7 +16,7 @@ use Rattle.rp_cost.specs.OuterProgram.{ListsNotAbove, outer_program}
 use Rattle.rp_cost.specs.OuterSet.{IsInOuterSet}
 use Rattle.rp_cost.proofs.OuterLaws.{outer_is_feasible}
 
-sum_at_most : (k m : ℕ) (f : ℕ → ℕ) → ((i : ℕ) → i < k → f i ≤ m) → sum_below k f ≤ k * m
+pub sum_at_most : (k m : ℕ) (f : ℕ → ℕ) → ((i : ℕ) → i < k → f i ≤ m) → sum_below k f ≤ k * m
 sum_at_most zero m f h = omega arith
 sum_at_most (suc k) m f h =
     let before = sum_at_most k m f (λ i l. h i (omega arith)) in

@@ -1,5 +1,6 @@
 pub mod AtMost
 pub mod Enough
 pub mod Listings
+pub mod NothingBelow
 pub mod OuterLaws
 pub mod SameFractions

@@ -1,11 +1,13 @@
 -- Bounds on what an output costs at new prices (Varian 1984): when evidence on them holds, what it proves, and what is given.
-use Rattle.std.specs.Prelude.{ℕ, ◌*◌, ◌<◌, ◌≤◌, List, Option, Some, None}
+use Rattle.std.specs.Prelude.{◌≡◌, ℕ, ◌*◌, ◌<◌, ◌≤◌, List, [], Option, Some, None, length, slice_index}
 use Rattle.rp_bound.specs.ProgramBound.{IsBoundOf}
 use Rattle.rp_evidence.specs.BoundEvidence.{BoundHolds}
 use Rattle.rp_evidence.specs.Demand.{spending}
 use Rattle.rp_evidence.specs.Input.{TableInput}
 use Rattle.rp_evidence.specs.declared.demand.Bound.{Bound}
 use Rattle.rp_evidence.specs.declared.demand.Bound.TheVariants.{Shown, Wide}
+use Rattle.rp_farkas.specs.declared.entry.Pair.{Pair}
+use Rattle.rp_num.specs.Fraction.{Fraction}
 use Rattle.rp_cost.specs.OuterProgram.{ListsNotAbove, outer_program}
 use Rattle.rp_cost.specs.OuterSet.{IsLowerCost, IsUpperCost, NoneMakes}
 use Rattle.rp_cost.specs.declared.bounds.CostBounds.{CostBounds}
@@ -64,3 +66,16 @@ abbrev pub IsAtMost : Bound → Option Upper → Type 0
 IsAtMost lower None = Unit {0}
 IsAtMost (Shown value pair) (Some upper) = value.num ≤ upper.cost * value.den
 IsAtMost (Wide step) (Some upper) = Unit {0}
+
+-- Nothing is spent: every input is 0 over 1, with no column of the program.
+pub record IsNothing (inputs : ℕ) (value : Fraction) (pair : Pair) : Type 0 where
+  pub no_cost : value.num ≡ 0
+  pub over_one : value.den ≡ 1
+  pub den : pair.den ≡ 1
+  pub no_entry : pair.y ≡ []
+  pub each : length pair.x ≡ inputs
+  pub no_input : (i : ℕ) → i < inputs → slice_index pair.x i ≡ 0
+
+abbrev pub ShowsNothing : ℕ → Bound → Type 0
+ShowsNothing inputs (Shown value pair) = IsNothing inputs value pair
+ShowsNothing inputs (Wide step) = ⊥

@@ -29,3 +29,7 @@ pub record IsUpperCost (input : TableInput) (y : ℕ → ℕ) (y0 : ℕ) (prices
 -- There is no upper bound: no observation made y0 or more.
 abbrev pub NoneMakes : TableInput → (ℕ → ℕ) → ℕ → Type 0
 NoneMakes input y y0 = (s : ℕ) → s < input.n → y s < y0
+
+-- Every observation made more than y0.
+abbrev pub AllMakeMore : TableInput → (ℕ → ℕ) → ℕ → Type 0
+AllMakeMore input y y0 = (t : ℕ) → t < input.n → y0 < y t

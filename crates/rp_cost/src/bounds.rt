@@ -5,6 +5,8 @@ ghost use Rattle.rp_table.specs.Tables.{goods_of};
 ghost use Rattle.rp_table.specs.declared.TheConstants.{LARGEST};
 ghost use Rattle.rp_cost.specs.Axioms.{MeetsCost};
 ghost use Rattle.rp_cost.specs.CostBounds.{AreBoundsGiven, BoundsHold, IsAtMost, ProvesCostBounds};
+ghost use Rattle.rp_cost.specs.CostBounds.{ShowsNothing};
+ghost use Rattle.rp_cost.specs.OuterSet.{AllMakeMore};
 
 use crate::lower::lower_bound;
 use crate::question::Question;
@@ -47,6 +49,8 @@ pub fn cost_bounds(
         (slice_index tech.now.y) y (slice_index prices.now)) }
     ensures lower_at_most_upper { IfOk result
         (λ bounds. IsAtMost bounds.lower bounds.upper) }
+    ensures nothing_below { AllMakeMore (input_of_table tech.now.table) (slice_index tech.now.y) y
+        → IfOk result (λ bounds. ShowsNothing (goods_of tech.now.table) bounds.lower) }
 {
     let question = Question { tech, prices, y };
     let upper = first_cheapest(&question);
