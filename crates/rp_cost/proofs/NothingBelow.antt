@@ -18,7 +18,7 @@ use Rattle.rp_farkas.specs.declared.entry.Entry.{Entry}
 use Rattle.rp_farkas.specs.declared.entry.Pair.{Pair}
 use Rattle.rp_num.specs.Fraction.{Fraction, IsLowestTerms}
 use Rattle.rp_simplex.specs.Choice.{IsEntering}
-use Rattle.rp_simplex.specs.Combined.{delta}
+use Rattle.rp_simplex.specs.InnerCombined.{delta}
 use Rattle.rp_simplex.specs.ExactTableau.{ExactTableau, width_of}
 use Rattle.rp_simplex.specs.FirstTableau.{IsFirstTableau, first_entry}
 use Rattle.rp_simplex.specs.Outcome.{EndsOptimal}
