@@ -1,12 +1,12 @@
-ghost use Rattle.std.specs.Prelude.{◌≡◌, ◌<◌, ◌≤◌, ◌*◌, ◌/◌, ◌%◌, IfOk, All, length};
+ghost use Rattle.std.specs.Prelude.{◌≡◌, ◌<◌, ◌*◌, ◌/◌, ◌%◌, IfOk};
 ghost use Rattle.rp_evidence.specs.Garp.{ProvesGarp};
 ghost use Rattle.rp_evidence.specs.Input.{input_of_table};
 ghost use Rattle.rp_evidence.specs.Preference.{IsWeak};
 ghost use Rattle.rp_pref.specs.Closure.{IsClosureOf};
 ghost use Rattle.rp_table.specs.Cost.{IsCostsOf, cost_at};
+ghost use Rattle.rp_table.specs.NewPrices.{AreNewPrices};
 ghost use Rattle.rp_table.specs.Rows.{row_of, rows_count};
 ghost use Rattle.rp_table.specs.Tables.{goods_of, records_of};
-ghost use Rattle.rp_table.specs.declared.TheConstants.{LARGEST};
 ghost use Rattle.rp_answers.specs.GarpFirst.{AreAnswered};
 ghost use Rattle.rp_answers.specs.Welfares.{IsWelfareCertificate, IsWelfareItem, IsWelfareText};
 
@@ -96,8 +96,7 @@ fn welfare_item(
     requires of_table { IsCostsOf costs.now table.now }
     requires verdict { ProvesGarp costs.now.n (cost_at costs.now) garp.now }
     requires closes { IsClosureOf closure.now costs.now.n (IsWeak (cost_at costs.now) 1 1) }
-    requires goods { length prices.now ≡ goods_of table.now }
-    requires prices { All (λ p. (1 ≤ p) × (p ≤ LARGEST)) prices.now }
+    requires prices { AreNewPrices (goods_of table.now) prices.now }
     requires observed { t < records_of table.now }
     ensures { IfOk result (IsWelfareItem (input_of_table table.now) garp.now prices.now t) }
 {
