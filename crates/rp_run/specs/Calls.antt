@@ -2,7 +2,7 @@
 -- failure.
 use Rattle.std.specs.Prelude.{◌≡◌, ◌⊎◌, ℕ, List, Option, Some, None}
 use Rattle.rp_outside.specs.Faults.{HasRisen}
-use Rattle.rp_outside.specs.Told.{Stays, Grows, GrowsByPrefix}
+use Rattle.rp_outside.specs.Known.{Stays, Grows, GrowsByPrefix}
 use Rattle.rp_words.specs.CommandLine.{Line}
 use Rattle.rp_answers.specs.declared.status.Status.{Status}
 use Rattle.rp_answers.specs.declared.status.Status.TheVariants.{Done, Rejected, Usage, WriteFault, NoMemory}
