@@ -88,7 +88,7 @@ module _ (n : ℕ) (c : ℕ → ℕ → ℕ) (few : n ≤ RECORDS) where
   homothetic_fits (Falls start walk) proves given = (walk_fits n few AnyStep walk given.closed, (given.lowest_terms, given.fits))
   homothetic_fits (Withheld steps from to) proves given =
       let wide = given.first.too_wide in (
-        omega (arith, few, wide.level_within),
+        omega (arith, few, wide.round_within),
         omega (arith, few, wide.from_within),
         omega (arith, few, wide.to_within),
       )
