@@ -19,7 +19,7 @@ use Rattle.rp_table.specs.Sums.{sum_below}
 use Rattle.rp_table.specs.Names.{IsName}
 use Rattle.rp_table.specs.declared.TheConstants.{RECORDS, GOODS}
 use Rattle.rp_table.specs.Tables.{IsTable, records_of, quantity_of}
-use Rattle.rp_text.proofs.RowLemmas.{length-rows, row_number, all_rows, sum_at_least}
+use Rattle.rp_sheet.proofs.RowLemmas.{length-rows, row_number, all_rows, sum_at_least}
 use Rattle.rp_answers.specs.TrialTable.{drawn_price, drawn_quantity, some_bought, record_generator, good_name, trial_of}
 use Rattle.rp_draws.specs.Words.{after_words, generator_of, word_after}
 

@@ -2,7 +2,7 @@
 use Rattle.std.proofs.Common.{◌≡◌, ◌⊎◌, ◌≤◌, ◌+◌, ℕ, zero, suc, List, [], ◌∷◌, Some, None, Option, Result, Ok, Err, inl, inr, length, sum, take, subst, ap, sym, arith, refl}
 use Rattle.std.specs.List.{fold}
 use Rattle.rp_outside.specs.Reads.{calls_through}
-use Rattle.rp_text.specs.declared.fault.TableFault.{TableFault}
+use Rattle.rp_sheet.specs.declared.fault.TableFault.{TableFault}
 use Rattle.rp_words.specs.CommandLine.{Given, Line, file_set, files_of}
 use Rattle.rp_words.specs.declared.commands.FileSet.{FileSet}
 use Rattle.rp_words.specs.declared.commands.FileSet.TheVariants.{Nothing}

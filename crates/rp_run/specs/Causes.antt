@@ -1,7 +1,7 @@
 -- Why there is no answer, as the code says it: what each cause stands for, its status and its line.
 use Rattle.std.specs.Prelude.{◌≡◌, ◌≢◌, ◌<◌, ℕ, suc, List, Result, Ok, Err, MatchResult, length}
-use Rattle.rp_text.specs.declared.fault.TableFault.{TableFault}
-use Rattle.rp_text.specs.declared.fault.TableFault.TheVariants as fault
+use Rattle.rp_sheet.specs.declared.fault.TableFault.{TableFault}
+use Rattle.rp_sheet.specs.declared.fault.TableFault.TheVariants as fault
 use Rattle.rp_json.specs.declared.fault.JsonFault.{JsonFault}
 use Rattle.rp_json.specs.declared.fault.JsonFault.TheVariants as json_fault
 use Rattle.rp_run.specs.FaultTexts.{fault_text, json_fault_text}

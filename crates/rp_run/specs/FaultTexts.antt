@@ -2,8 +2,8 @@
 -- count from 1 (this program's own texts).
 use Rattle.std.specs.Prelude.{ℕ, List, [], ◌++◌, codes}
 use Rattle.std.specs.Fmt.{decimal}
-use Rattle.rp_text.specs.declared.fault.TableFault.{TableFault}
-use Rattle.rp_text.specs.declared.fault.TableFault.TheVariants as fault
+use Rattle.rp_sheet.specs.declared.fault.TableFault.{TableFault}
+use Rattle.rp_sheet.specs.declared.fault.TableFault.TheVariants as fault
 use Rattle.rp_json.specs.declared.fault.JsonFault.{JsonFault}
 use Rattle.rp_json.specs.declared.fault.JsonFault.TheVariants as json_fault
 

@@ -3,7 +3,7 @@
 use Rattle.std.specs.Prelude.{◌≡◌, ◌≢◌, ◌⊎◌, ◌≤◌, ◌<◌, ℕ, nat_lt, if◌then◌else◌, List, length, Option, Some, None, Result, Ok, Err, codes}
 use Rattle.rp_table.specs.Tables.{Observations}
 use Rattle.rp_text.specs.Denotation.{table_in}
-use Rattle.rp_text.specs.declared.fault.TableFault.{TableFault}
+use Rattle.rp_sheet.specs.declared.fault.TableFault.{TableFault}
 use Rattle.rp_evidence.specs.declared.certificate.Certificate.{Certificate}
 use Rattle.rp_evidence.specs.declared.certificate.Kind.{Kind}
 use Rattle.rp_json.specs.Denoted.{IsDenoted}

@@ -4,26 +4,27 @@ use Rattle.std.specs.Prelude.{codes, unwrap_or}
 use Rattle.std.specs.Option.{option_map_or}
 use Rattle.rp_table.specs.declared.TheConstants.{LARGEST_EXPENDITURE}
 use Rattle.rp_table.specs.BudgetLists.{IsBudgetList}
-use Rattle.rp_text.specs.Texts.{text_at}
-use Rattle.rp_text.specs.Columns.{role_of, takes, measures, is_price, names_with, price_mark}
-use Rattle.rp_text.specs.Forms.{budgets_form}
-use Rattle.rp_text.specs.Records.{record_at}
-use Rattle.rp_text.specs.Headers.{headers_in, has}
-use Rattle.rp_text.specs.Fields.{rows_in, fields_stage, figures_of}
-use Rattle.rp_text.specs.Sizes.{sizes_stage}
-use Rattle.rp_text.specs.ChoiceCounts.{column_named}
-use Rattle.rp_text.specs.Denotation.{first_fault, column_of, column_numbers, budget_list, budgets_of, denoted_budgets}
-use Rattle.rp_text.specs.declared.form.Marks.TheVariants.{Goods}
-use Rattle.rp_text.specs.declared.form.Role.{Role}
-use Rattle.rp_text.specs.declared.form.Role.TheVariants.{Observation, Price, Quantity, Expenditure, Income, Budget, Times, Output, OutputPrice, Menu, Choice}
-use Rattle.rp_text.specs.declared.fault.TableFault.{TableFault}
+use Rattle.rp_sheet.specs.Texts.{text_at}
+use Rattle.rp_sheet.specs.Columns.{role_of, takes, measures, is_price, names_with, price_mark}
+use Rattle.rp_sheet.specs.Forms.{budgets_form}
+use Rattle.rp_sheet.specs.Records.{record_at}
+use Rattle.rp_sheet.specs.Headers.{headers_in, has}
+use Rattle.rp_sheet.specs.Fields.{rows_in, fields_stage, figures_of}
+use Rattle.rp_sheet.specs.Sizes.{sizes_stage}
+use Rattle.rp_sheet.specs.ChoiceCounts.{column_named}
+use Rattle.rp_text.specs.Denotation.{budget_list, budgets_of, denoted_budgets}
+use Rattle.rp_sheet.specs.Sheets.{first_fault, column_of, column_numbers}
+use Rattle.rp_sheet.specs.declared.form.Marks.TheVariants.{Goods}
+use Rattle.rp_sheet.specs.declared.form.Role.{Role}
+use Rattle.rp_sheet.specs.declared.form.Role.TheVariants.{Observation, Price, Quantity, Expenditure, Income, Budget, Times, Output, OutputPrice, Menu, Choice}
+use Rattle.rp_sheet.specs.declared.fault.TableFault.{TableFault}
 use Rattle.rp_num.proofs.BelowLemmas.{length-listed}
-use Rattle.rp_text.proofs.RowLemmas.{length-rows, all_rows, all_listed}
-use Rattle.rp_text.proofs.FineHeaders.{FineHeaders, fine_headers, required_there}
-use Rattle.rp_text.proofs.GoodHeaders.{price_column}
-use Rattle.rp_text.proofs.ColumnSizes.{sizes_in, sizes_are, price_at}
-use Rattle.rp_text.proofs.AmountColumns.{income_header, income_says, amount_within}
-use Rattle.rp_text.proofs.StageLemmas.{value_denoted, fault_denoted}
+use Rattle.rp_sheet.proofs.RowLemmas.{length-rows, all_rows, all_listed}
+use Rattle.rp_sheet.proofs.FineHeaders.{FineHeaders, fine_headers, required_there}
+use Rattle.rp_sheet.proofs.GoodHeaders.{price_column}
+use Rattle.rp_sheet.proofs.ColumnSizes.{sizes_in, sizes_are, price_at}
+use Rattle.rp_sheet.proofs.AmountColumns.{income_header, income_says, amount_within}
+use Rattle.rp_sheet.proofs.StageLemmas.{value_denoted, fault_denoted}
 use Rattle.rp_text.proofs.TableMade.{counted, passed}
 
 -- only an income says how much is bought

@@ -1,18 +1,19 @@
 -- Records without a fault make bundles within the limits.
 use Rattle.std.proofs.Common.{◌≡◌, ℕ, ◌*◌, ◌≤◌, List, length, None, Some, Ok, Err, refl, sym, ap, ◌∙◌}
 use Rattle.rp_table.specs.BundleLists.{IsBundleList}
-use Rattle.rp_text.specs.Columns.{quantity_mark}
-use Rattle.rp_text.specs.Forms.{bundles_form}
-use Rattle.rp_text.specs.Records.{record_at}
-use Rattle.rp_text.specs.Headers.{headers_in, goods_stage}
-use Rattle.rp_text.specs.Fields.{figures_of, rows_in, fields_stage}
-use Rattle.rp_text.specs.Sizes.{sizes_stage}
-use Rattle.rp_text.specs.Denotation.{first_fault, bundle_list, bundles_of, denoted_bundles}
-use Rattle.rp_text.specs.declared.fault.TableFault.{TableFault}
-use Rattle.rp_text.proofs.FineHeaders.{FineHeaders, fine_headers}
-use Rattle.rp_text.proofs.ColumnSizes.{sizes_in, sizes_are}
-use Rattle.rp_text.proofs.FixedHeaders.{numbers_within, rows_of_goods, numbers_of_goods}
-use Rattle.rp_text.proofs.StageLemmas.{value_denoted, fault_denoted}
+use Rattle.rp_sheet.specs.Columns.{quantity_mark}
+use Rattle.rp_sheet.specs.Forms.{bundles_form}
+use Rattle.rp_sheet.specs.Records.{record_at}
+use Rattle.rp_sheet.specs.Headers.{headers_in, goods_stage}
+use Rattle.rp_sheet.specs.Fields.{figures_of, rows_in, fields_stage}
+use Rattle.rp_sheet.specs.Sizes.{sizes_stage}
+use Rattle.rp_text.specs.Denotation.{bundle_list, bundles_of, denoted_bundles}
+use Rattle.rp_sheet.specs.Sheets.{first_fault}
+use Rattle.rp_sheet.specs.declared.fault.TableFault.{TableFault}
+use Rattle.rp_sheet.proofs.FineHeaders.{FineHeaders, fine_headers}
+use Rattle.rp_sheet.proofs.ColumnSizes.{sizes_in, sizes_are}
+use Rattle.rp_sheet.proofs.FixedHeaders.{numbers_within, rows_of_goods, numbers_of_goods}
+use Rattle.rp_sheet.proofs.StageLemmas.{value_denoted, fault_denoted}
 use Rattle.rp_text.proofs.TableMade.{counted, passed}
 
 -- the bundles are within the limits

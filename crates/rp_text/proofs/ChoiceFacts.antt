@@ -4,26 +4,27 @@ use Rattle.std.specs.Prelude.{codes, unwrap_or}
 use Rattle.std.proofs.lemmas.List.{length-map}
 use Rattle.std.proofs.lemmas.List.Elements.{All-map}
 use Rattle.rp_table.specs.ChoiceLists.{IsChoiceList}
-use Rattle.rp_text.specs.Texts.{text_at}
-use Rattle.rp_text.specs.Columns.{role_of, named_role, role_at, quantity_mark}
-use Rattle.rp_text.specs.Forms.{choices_form}
-use Rattle.rp_text.specs.Records.{record_at}
-use Rattle.rp_text.specs.Headers.{headers_in, has, goods_stage}
-use Rattle.rp_text.specs.Fields.{rows_in, fields_stage, figures_of}
-use Rattle.rp_text.specs.Sizes.{limit_of, sizes_stage}
-use Rattle.rp_text.specs.ChoiceCounts.{column_named}
-use Rattle.rp_text.specs.Denotation.{first_fault, column_numbers, choice_list, choices_of, denoted_choices}
-use Rattle.rp_text.specs.declared.form.Marks.TheVariants.{Goods}
-use Rattle.rp_text.specs.declared.form.Role.{Role}
-use Rattle.rp_text.specs.declared.form.Role.TheVariants.{Budget, Times}
-use Rattle.rp_text.specs.declared.fault.TableFault.{TableFault}
+use Rattle.rp_sheet.specs.Texts.{text_at}
+use Rattle.rp_sheet.specs.Columns.{role_of, named_role, role_at, quantity_mark}
+use Rattle.rp_sheet.specs.Forms.{choices_form}
+use Rattle.rp_sheet.specs.Records.{record_at}
+use Rattle.rp_sheet.specs.Headers.{headers_in, has, goods_stage}
+use Rattle.rp_sheet.specs.Fields.{rows_in, fields_stage, figures_of}
+use Rattle.rp_sheet.specs.Sizes.{limit_of, sizes_stage}
+use Rattle.rp_sheet.specs.ChoiceCounts.{column_named}
+use Rattle.rp_text.specs.Denotation.{choice_list, choices_of, denoted_choices}
+use Rattle.rp_sheet.specs.Sheets.{first_fault, column_numbers}
+use Rattle.rp_sheet.specs.declared.form.Marks.TheVariants.{Goods}
+use Rattle.rp_sheet.specs.declared.form.Role.{Role}
+use Rattle.rp_sheet.specs.declared.form.Role.TheVariants.{Budget, Times}
+use Rattle.rp_sheet.specs.declared.fault.TableFault.{TableFault}
 use Rattle.rp_num.proofs.BelowLemmas.{length-listed}
-use Rattle.rp_text.proofs.RowLemmas.{all_listed}
-use Rattle.rp_text.proofs.FieldFaults.{role_is}
-use Rattle.rp_text.proofs.FineHeaders.{FineHeaders, fine_headers, required_there, column_there}
-use Rattle.rp_text.proofs.ColumnSizes.{sizes_in, sizes_are, within_limit, budget_at}
-use Rattle.rp_text.proofs.FixedHeaders.{numbers_within, numbers_of_goods}
-use Rattle.rp_text.proofs.StageLemmas.{value_denoted, fault_denoted}
+use Rattle.rp_sheet.proofs.RowLemmas.{all_listed}
+use Rattle.rp_sheet.proofs.FieldFaults.{role_is}
+use Rattle.rp_sheet.proofs.FineHeaders.{FineHeaders, fine_headers, required_there, column_there}
+use Rattle.rp_sheet.proofs.ColumnSizes.{sizes_in, sizes_are, within_limit, budget_at}
+use Rattle.rp_sheet.proofs.FixedHeaders.{numbers_within, numbers_of_goods}
+use Rattle.rp_sheet.proofs.StageLemmas.{value_denoted, fault_denoted}
 use Rattle.rp_text.proofs.TableMade.{counted, passed}
 
 pub budget_says : role_of Goods (codes "budget") ≡ Some Budget

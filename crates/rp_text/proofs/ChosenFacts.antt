@@ -5,29 +5,30 @@ use Rattle.std.specs.List.{All}
 use Rattle.std.proofs.lemmas.Bool.Decides.{nat_tests}
 use Rattle.std.proofs.lemmas.List.{length-map, get_or-map}
 use Rattle.std.proofs.lemmas.List.Elements.{All-map}
-use Rattle.rp_text.specs.Texts.{text_at, number_of}
-use Rattle.rp_text.specs.Columns.{role_of}
-use Rattle.rp_text.specs.Forms.{choices_form}
-use Rattle.rp_text.specs.Records.{record_at}
-use Rattle.rp_text.specs.Headers.{headers_in, headers_stage, goods_stage, has}
-use Rattle.rp_text.specs.Fields.{figures_of, rows_in, count_stage, fields_stage}
-use Rattle.rp_text.specs.Sizes.{figure_at, places_of, sizes_stage}
-use Rattle.rp_text.specs.ChoiceCounts.{column_named, is_chosen, choices_stage}
-use Rattle.rp_text.specs.Chosen.{IsChosenFrom}
-use Rattle.rp_text.specs.Denotation.{fault_under, first_fault, column_numbers, choice_list}
-use Rattle.rp_text.specs.declared.form.Form.{Form}
-use Rattle.rp_text.specs.declared.form.Marks.TheVariants.{Goods}
-use Rattle.rp_text.specs.declared.form.Role.{Role}
-use Rattle.rp_text.specs.declared.form.Role.TheVariants.{Budget, Times}
-use Rattle.rp_text.specs.declared.fault.TableFault.{TableFault}
-use Rattle.rp_text.specs.declared.fault.TableFault.TheVariants as fault
+use Rattle.rp_sheet.specs.Texts.{text_at, number_of}
+use Rattle.rp_sheet.specs.Columns.{role_of}
+use Rattle.rp_sheet.specs.Forms.{choices_form}
+use Rattle.rp_sheet.specs.Records.{record_at}
+use Rattle.rp_sheet.specs.Headers.{headers_in, headers_stage, goods_stage, has}
+use Rattle.rp_sheet.specs.Fields.{figures_of, rows_in, count_stage, fields_stage}
+use Rattle.rp_sheet.specs.Sizes.{figure_at, places_of, sizes_stage}
+use Rattle.rp_sheet.specs.ChoiceCounts.{column_named, is_chosen, choices_stage}
+use Rattle.rp_sheet.specs.Chosen.{IsChosenFrom}
+use Rattle.rp_text.specs.Denotation.{choice_list}
+use Rattle.rp_sheet.specs.Sheets.{fault_under, first_fault, column_numbers}
+use Rattle.rp_sheet.specs.declared.form.Form.{Form}
+use Rattle.rp_sheet.specs.declared.form.Marks.TheVariants.{Goods}
+use Rattle.rp_sheet.specs.declared.form.Role.{Role}
+use Rattle.rp_sheet.specs.declared.form.Role.TheVariants.{Budget, Times}
+use Rattle.rp_sheet.specs.declared.fault.TableFault.{TableFault}
+use Rattle.rp_sheet.specs.declared.fault.TableFault.TheVariants as fault
 use Rattle.rp_num.proofs.BelowLemmas.{length-listed, get-listed}
-use Rattle.rp_text.proofs.NameLemmas.{and_both}
-use Rattle.rp_text.proofs.PlaceLemmas.{none_below, none_or, one_below}
-use Rattle.rp_text.proofs.RowLemmas.{all_listed}
-use Rattle.rp_text.proofs.FigureLemmas.{rows_are}
-use Rattle.rp_text.proofs.FineHeaders.{FineHeaders, fine_headers, column_there}
-use Rattle.rp_text.proofs.ColumnSizes.{sizes_in, sizes_are, unscaled}
+use Rattle.rp_sheet.proofs.NameLemmas.{and_both}
+use Rattle.rp_sheet.proofs.PlaceLemmas.{none_below, none_or, one_below}
+use Rattle.rp_sheet.proofs.RowLemmas.{all_listed}
+use Rattle.rp_sheet.proofs.FigureLemmas.{rows_are}
+use Rattle.rp_sheet.proofs.FineHeaders.{FineHeaders, fine_headers, column_there}
+use Rattle.rp_sheet.proofs.ColumnSizes.{sizes_in, sizes_are, unscaled}
 use Rattle.rp_text.proofs.TableMade.{passed}
 use Rattle.rp_text.proofs.ChoiceFacts.{both_there, budget_within, budget_says, times_say}
 

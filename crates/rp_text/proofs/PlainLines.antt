@@ -11,8 +11,8 @@ use Rattle.csv.specs.Reading.{default_config, records_from, strip_bom}
 use Rattle.csv.specs.declared.parser.State.TheVariants as st
 use Rattle.rp_num.specs.Below.{listed}
 use Rattle.rp_text.specs.Plain.{lines_of, fields_in}
-use Rattle.rp_text.specs.Records.{records_of}
-use Rattle.rp_text.specs.Texts.{text_at}
+use Rattle.rp_sheet.specs.Records.{records_of}
+use Rattle.rp_sheet.specs.Texts.{text_at}
 
 -- no carriage return, no quote, and no first byte of a byte order mark
 abbrev pub Ordinary : ℕ → Type 0

@@ -7,21 +7,22 @@ use Rattle.std.proofs.Math.Nat.{mul_comm, div-lt_iff_lt-mul}
 use Rattle.rp_num.specs.declared.decimal.Decimal.{Decimal}
 use Rattle.rp_table.specs.Tables.{Observations, IsTable, goods_of, records_of, price_of, quantity_of}
 use Rattle.rp_num.specs.Below.{rows_below}
-use Rattle.rp_text.specs.Texts.{text_at}
-use Rattle.rp_text.specs.Columns.{price_mark, quantity_mark}
-use Rattle.rp_text.specs.Forms.{table_form}
-use Rattle.rp_text.specs.Records.{record_at}
-use Rattle.rp_text.specs.Headers.{headers_in}
-use Rattle.rp_text.specs.Fields.{figures_of, rows_in, row_at}
-use Rattle.rp_text.specs.Sizes.{sizes_of}
-use Rattle.rp_text.specs.ChoiceCounts.{choices_stage}
-use Rattle.rp_text.specs.Denotation.{fault_under, first_fault, numbers_under, column_of, table_of, denoted_table}
+use Rattle.rp_sheet.specs.Texts.{text_at}
+use Rattle.rp_sheet.specs.Columns.{price_mark, quantity_mark}
+use Rattle.rp_sheet.specs.Forms.{table_form}
+use Rattle.rp_sheet.specs.Records.{record_at}
+use Rattle.rp_sheet.specs.Headers.{headers_in}
+use Rattle.rp_sheet.specs.Fields.{figures_of, rows_in, row_at}
+use Rattle.rp_sheet.specs.Sizes.{sizes_of}
+use Rattle.rp_sheet.specs.ChoiceCounts.{choices_stage}
+use Rattle.rp_text.specs.Denotation.{table_of, denoted_table}
+use Rattle.rp_sheet.specs.Sheets.{fault_under, first_fault, numbers_under, column_of}
 use Rattle.rp_text.specs.Plain.{IsPlainHeader, IsPlainRecord}
-use Rattle.rp_text.specs.declared.form.Role.TheVariants.{Price, Quantity}
-use Rattle.rp_text.proofs.RowLemmas.{length-rows, row_number}
-use Rattle.rp_text.proofs.StageLemmas.{under_headers, fine_records, in_none}
+use Rattle.rp_sheet.specs.declared.form.Role.TheVariants.{Price, Quantity}
+use Rattle.rp_sheet.proofs.RowLemmas.{length-rows, row_number}
+use Rattle.rp_sheet.proofs.StageLemmas.{under_headers, fine_records, in_none}
 use Rattle.rp_text.proofs.TableFacts.{table_made}
-use Rattle.rp_text.proofs.ColumnSizes.{sizes_are}
+use Rattle.rp_sheet.proofs.ColumnSizes.{sizes_are}
 use Rattle.rp_text.proofs.TableMade.{table_there}
 use Rattle.rp_text.proofs.PlainHeaders.{headers_are, names_are, no_headers_fault, no_goods_stage_fault, price_place, quantity_place}
 use Rattle.rp_text.proofs.PlainRecords.{no_fields_fault, no_sizes_fault, no_places, price_listed, quantity_listed}

@@ -7,26 +7,27 @@ use Rattle.std.proofs.lemmas.List.Elements.{All-nil}
 use Rattle.rp_table.specs.declared.TheConstants.{LARGEST_EXPENDITURE}
 use Rattle.rp_table.specs.Rows.{rows_count}
 use Rattle.rp_table.specs.PriceLists.{IsPriceList}
-use Rattle.rp_text.specs.Texts.{text_at}
-use Rattle.rp_text.specs.Columns.{role_of, takes, measures, price_mark}
-use Rattle.rp_text.specs.Forms.{prices_form}
-use Rattle.rp_text.specs.Records.{record_at}
-use Rattle.rp_text.specs.Headers.{headers_in, has, goods_stage}
-use Rattle.rp_text.specs.Fields.{figures_of, rows_in, fields_stage}
-use Rattle.rp_text.specs.Sizes.{sizes_stage}
-use Rattle.rp_text.specs.ChoiceCounts.{column_named}
-use Rattle.rp_text.specs.Denotation.{first_fault, column_numbers, numbers_under, price_list, prices_of, denoted_prices}
-use Rattle.rp_text.specs.declared.form.Marks.TheVariants.{Goods}
-use Rattle.rp_text.specs.declared.form.Role.{Role}
-use Rattle.rp_text.specs.declared.form.Role.TheVariants.{Observation, Price, Quantity, Expenditure, Income, Budget, Times, Output, OutputPrice, Menu, Choice}
-use Rattle.rp_text.specs.declared.fault.TableFault.{TableFault}
+use Rattle.rp_sheet.specs.Texts.{text_at}
+use Rattle.rp_sheet.specs.Columns.{role_of, takes, measures, price_mark}
+use Rattle.rp_sheet.specs.Forms.{prices_form}
+use Rattle.rp_sheet.specs.Records.{record_at}
+use Rattle.rp_sheet.specs.Headers.{headers_in, has, goods_stage}
+use Rattle.rp_sheet.specs.Fields.{figures_of, rows_in, fields_stage}
+use Rattle.rp_sheet.specs.Sizes.{sizes_stage}
+use Rattle.rp_sheet.specs.ChoiceCounts.{column_named}
+use Rattle.rp_text.specs.Denotation.{price_list, prices_of, denoted_prices}
+use Rattle.rp_sheet.specs.Sheets.{first_fault, column_numbers, numbers_under}
+use Rattle.rp_sheet.specs.declared.form.Marks.TheVariants.{Goods}
+use Rattle.rp_sheet.specs.declared.form.Role.{Role}
+use Rattle.rp_sheet.specs.declared.form.Role.TheVariants.{Observation, Price, Quantity, Expenditure, Income, Budget, Times, Output, OutputPrice, Menu, Choice}
+use Rattle.rp_sheet.specs.declared.fault.TableFault.{TableFault}
 use Rattle.rp_num.proofs.BelowLemmas.{length-listed}
-use Rattle.rp_text.proofs.RowLemmas.{all_listed}
-use Rattle.rp_text.proofs.FineHeaders.{FineHeaders, fine_headers, required_there}
-use Rattle.rp_text.proofs.ColumnSizes.{sizes_in, sizes_are}
-use Rattle.rp_text.proofs.AmountColumns.{expenditure_header, expenditure_says, amount_within}
-use Rattle.rp_text.proofs.FixedHeaders.{prices_within, rows_of_goods, numbers_of_goods}
-use Rattle.rp_text.proofs.StageLemmas.{value_denoted, fault_denoted}
+use Rattle.rp_sheet.proofs.RowLemmas.{all_listed}
+use Rattle.rp_sheet.proofs.FineHeaders.{FineHeaders, fine_headers, required_there}
+use Rattle.rp_sheet.proofs.ColumnSizes.{sizes_in, sizes_are}
+use Rattle.rp_sheet.proofs.AmountColumns.{expenditure_header, expenditure_says, amount_within}
+use Rattle.rp_sheet.proofs.FixedHeaders.{prices_within, rows_of_goods, numbers_of_goods}
+use Rattle.rp_sheet.proofs.StageLemmas.{value_denoted, fault_denoted}
 use Rattle.rp_text.proofs.TableMade.{counted, passed}
 
 -- only an expenditure says how much is bought

@@ -5,19 +5,20 @@ use Rattle.std.proofs.lemmas.Nat.{mul-add-lt}
 use Rattle.std.proofs.Math.Nat.{mul_comm, mul-div_cancel}
 use Rattle.rp_num.specs.declared.decimal.Decimal.{Decimal}
 use Rattle.rp_table.specs.Tables.{IsTable, records_of, quantity_of}
-use Rattle.rp_text.specs.Texts.{text_at, place_of}
-use Rattle.rp_text.specs.Columns.{role_of, names_with, is_price, price_mark, quantity_mark}
-use Rattle.rp_text.specs.Forms.{table_form}
-use Rattle.rp_text.specs.Fields.{figures_of, rows_in, fields_stage}
-use Rattle.rp_text.specs.Sizes.{places_of, sizes_of, sizes_stage}
-use Rattle.rp_text.specs.Denotation.{column_of, numbers_under, table_of}
-use Rattle.rp_text.specs.declared.form.Role.TheVariants.{Price, Quantity}
-use Rattle.rp_text.specs.declared.form.Marks.TheVariants.{Goods}
-use Rattle.rp_text.proofs.PlaceLemmas.{found_at}
-use Rattle.rp_text.proofs.RowLemmas.{length-rows, row_number, all_rows, sum_at_least}
-use Rattle.rp_text.proofs.GoodHeaders.{GoodHeaders, price_column, quantity_good_of, some_quantity, measured_role, limit_is, distinct_names}
-use Rattle.rp_text.proofs.FigureLemmas.{few_places}
-use Rattle.rp_text.proofs.ColumnSizes.{sizes_are, within_limit, price_at, bought_at}
+use Rattle.rp_sheet.specs.Texts.{text_at, place_of}
+use Rattle.rp_sheet.specs.Columns.{role_of, names_with, is_price, price_mark, quantity_mark}
+use Rattle.rp_sheet.specs.Forms.{table_form}
+use Rattle.rp_sheet.specs.Fields.{figures_of, rows_in, fields_stage}
+use Rattle.rp_sheet.specs.Sizes.{places_of, sizes_of, sizes_stage}
+use Rattle.rp_text.specs.Denotation.{table_of}
+use Rattle.rp_sheet.specs.Sheets.{column_of, numbers_under}
+use Rattle.rp_sheet.specs.declared.form.Role.TheVariants.{Price, Quantity}
+use Rattle.rp_sheet.specs.declared.form.Marks.TheVariants.{Goods}
+use Rattle.rp_sheet.proofs.PlaceLemmas.{found_at}
+use Rattle.rp_sheet.proofs.RowLemmas.{length-rows, row_number, all_rows, sum_at_least}
+use Rattle.rp_sheet.proofs.GoodHeaders.{GoodHeaders, price_column, quantity_good_of, some_quantity, measured_role, limit_is, distinct_names}
+use Rattle.rp_sheet.proofs.FigureLemmas.{few_places}
+use Rattle.rp_sheet.proofs.ColumnSizes.{sizes_are, within_limit, price_at, bought_at}
 
 first_column : (headers : List (List ℕ)) → GoodHeaders table_form headers → 0 < length headers
 first_column headers good = let price = price_column Goods headers 0 (good.fine.some refl) in omega (arith, price.1)

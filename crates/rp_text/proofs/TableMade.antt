@@ -2,19 +2,20 @@
 use Rattle.std.proofs.Common.{◌≡◌, ℕ, ◌<◌, ◌≤◌, Bool, true, false, ◌==◌, nat_lt, if◌then◌else◌, List, [], ◌∷◌, length, Some, None, Ok, Err, refl}
 use Rattle.std.proofs.Common.{arith}
 use Rattle.rp_table.specs.Tables.{IsTable}
-use Rattle.rp_text.specs.Forms.{table_form}
-use Rattle.rp_text.specs.Records.{record_at}
-use Rattle.rp_text.specs.Headers.{headers_in, headers_stage, goods_stage}
-use Rattle.rp_text.specs.Fields.{rows_in, figures_of, count_stage, fields_stage}
-use Rattle.rp_text.specs.Sizes.{sizes_stage}
-use Rattle.rp_text.specs.Denotation.{fault_under, first_fault, table_of, table_under, denoted_table}
-use Rattle.rp_text.proofs.PlaceLemmas.{lt_false, none_or}
-use Rattle.rp_text.specs.declared.form.Form.{Form}
-use Rattle.rp_text.specs.declared.fault.TableFault.{TableFault}
-use Rattle.rp_text.specs.declared.fault.TableFault.TheVariants as fault
-use Rattle.rp_text.proofs.FineHeaders.{not_zero}
-use Rattle.rp_text.proofs.GoodHeaders.{good_headers}
-use Rattle.rp_text.proofs.StageLemmas.{value_denoted, fault_denoted}
+use Rattle.rp_sheet.specs.Forms.{table_form}
+use Rattle.rp_sheet.specs.Records.{record_at}
+use Rattle.rp_sheet.specs.Headers.{headers_in, headers_stage, goods_stage}
+use Rattle.rp_sheet.specs.Fields.{rows_in, figures_of, count_stage, fields_stage}
+use Rattle.rp_sheet.specs.Sizes.{sizes_stage}
+use Rattle.rp_text.specs.Denotation.{table_of, table_under, denoted_table}
+use Rattle.rp_sheet.specs.Sheets.{fault_under, first_fault}
+use Rattle.rp_sheet.proofs.PlaceLemmas.{lt_false, none_or}
+use Rattle.rp_sheet.specs.declared.form.Form.{Form}
+use Rattle.rp_sheet.specs.declared.fault.TableFault.{TableFault}
+use Rattle.rp_sheet.specs.declared.fault.TableFault.TheVariants as fault
+use Rattle.rp_sheet.proofs.FineHeaders.{not_zero}
+use Rattle.rp_sheet.proofs.GoodHeaders.{good_headers}
+use Rattle.rp_sheet.proofs.StageLemmas.{value_denoted, fault_denoted}
 use Rattle.rp_text.proofs.TableFacts.{table_is}
 
 count_tests : (a b : Bool) (f g : TableFault) → (if a then Some f else if b then Some g else None) ≡ None → (a ≡ false) × (b ≡ false)

@@ -3,15 +3,16 @@ use Rattle.std.proofs.Common.{◌≡◌, List, ℕ, [], ◌∷◌, ◌++◌, ref
 use Rattle.std.specs.Prelude.{⊤, codes}
 use Rattle.csv.specs.Machine.{next_record}
 use Rattle.csv.specs.Reading.{records_from, strip_bom}
-use Rattle.rp_text.specs.Texts.{after_blanks, before_blanks}
-use Rattle.rp_text.specs.Columns.{named_role, good_role, role_of}
-use Rattle.rp_text.specs.Records.{records_of}
-use Rattle.rp_text.specs.Headers.{header_fault, headers_stage, pair_fault, other_goods_fault, present_fault, missing_fault, goods_count_fault, goods_stage}
-use Rattle.rp_text.specs.Fields.{field_of, field_at, record_fault, count_stage, fields_stage}
-use Rattle.rp_text.specs.Sizes.{greatest_places, places_of, size_at, sizes_stage}
-use Rattle.rp_text.specs.ChoiceCounts.{is_chosen, choices_stage}
-use Rattle.rp_text.specs.Denotation.{fault_under, first_fault, table_of, table_under, denoted_table, table_in, prices_of, denoted_prices, bundles_of, denoted_bundles, budgets_of, denoted_budgets, choices_of, denoted_choices}
-use Rattle.rp_text.specs.declared.fault.TableFault.TheVariants as fault
+use Rattle.rp_sheet.specs.Texts.{after_blanks, before_blanks}
+use Rattle.rp_sheet.specs.Columns.{named_role, good_role, role_of}
+use Rattle.rp_sheet.specs.Records.{records_of}
+use Rattle.rp_sheet.specs.Headers.{header_fault, headers_stage, pair_fault, other_goods_fault, present_fault, missing_fault, goods_count_fault, goods_stage}
+use Rattle.rp_sheet.specs.Fields.{field_of, field_at, record_fault, count_stage, fields_stage}
+use Rattle.rp_sheet.specs.Sizes.{greatest_places, places_of, size_at, sizes_stage}
+use Rattle.rp_sheet.specs.ChoiceCounts.{is_chosen, choices_stage}
+use Rattle.rp_text.specs.Denotation.{table_of, table_under, denoted_table, table_in, prices_of, denoted_prices, bundles_of, denoted_bundles, budgets_of, denoted_budgets, choices_of, denoted_choices}
+use Rattle.rp_sheet.specs.Sheets.{fault_under, first_fault}
+use Rattle.rp_sheet.specs.declared.fault.TableFault.TheVariants as fault
 
 -- what computes a file's meaning
 unfoldable on_files : ⊤

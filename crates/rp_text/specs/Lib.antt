@@ -1,12 +1,2 @@
-pub mod Texts
-pub mod Columns
-pub mod Records
-pub mod Refusals
-pub mod Forms
-pub mod Headers
-pub mod Fields
-pub mod Sizes
-pub mod ChoiceCounts
-pub mod Chosen
 pub mod Denotation
 pub mod Plain

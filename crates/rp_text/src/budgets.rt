@@ -1,16 +1,12 @@
 ghost use Rattle.std.specs.Prelude.{◌≡◌, Ok, IfOk};
 ghost use Rattle.rp_table.specs.BudgetLists.{IsBudgetList};
 ghost use Rattle.rp_text.specs.Denotation.{budget_list, denoted_budgets, budgets_in};
-ghost use Rattle.rp_text.specs.Refusals.{RefusedAs};
+ghost use Rattle.rp_sheet.specs.Refusals.{RefusedAs};
 
-use crate::TableFault;
-use crate::columns::Columns;
-use crate::form::Form;
-use crate::goods::read_names;
-use crate::numbers::{column_numbers, numbers_under};
-use crate::records::Records;
-use crate::sheet::read_sheet;
 use rp_num::{NoMemory, Seq};
+use rp_sheet::{
+    Columns, Form, Records, TableFault, column_numbers, numbers_under, read_names, read_sheet,
+};
 use rp_table::{BUDGETS, Budgets, Name};
 use std::alloc::Global;
 
@@ -42,7 +38,8 @@ fn fill_budgets(
     sizes: &[Seq<u64>],
 ) -> Result<Budgets, NoMemory>
     requires { IsBudgetList (budget_list columns.now.headers names.items sizes.now) }
-    ensures { IfOk result (λ budgets. budgets ≡ budget_list columns.now.headers names.items sizes.now) }
+    ensures { IfOk result (λ budgets. budgets ≡ budget_list columns.now.headers names.items
+        sizes.now) }
 {
     let prices = numbers_under(alloc, columns, b"p_", names.as_slice(), sizes)?;
     let w = column_numbers(alloc, columns, b"w", sizes)?;

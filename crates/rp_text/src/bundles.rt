@@ -3,15 +3,10 @@ ghost use Rattle.rp_table.specs.Rows.{rows_count};
 ghost use Rattle.rp_table.specs.Tables.{goods_of};
 ghost use Rattle.rp_table.specs.BundleLists.{IsBundleList};
 ghost use Rattle.rp_text.specs.Denotation.{bundle_list, denoted_bundles, bundles_beside};
-ghost use Rattle.rp_text.specs.Refusals.{RefusedAs};
+ghost use Rattle.rp_sheet.specs.Refusals.{RefusedAs};
 
-use crate::TableFault;
-use crate::columns::Columns;
-use crate::form::Form;
-use crate::numbers::numbers_under;
-use crate::records::Records;
-use crate::sheet::read_sheet;
 use rp_num::{NoMemory, Seq};
+use rp_sheet::{Columns, Form, Records, TableFault, numbers_under, read_sheet};
 use rp_table::{Bundles, NEW_RECORDS, Name, Table};
 use std::alloc::Global;
 
@@ -57,7 +52,8 @@ fn fill_bundles(
 ) -> Result<Bundles, NoMemory>
     requires counted { goods ≡ length names.now }
     requires within { IsBundleList (bundle_list columns.now.headers names.now sizes.now) }
-    ensures { IfOk result (λ bundles. bundles ≡ bundle_list columns.now.headers names.now sizes.now) }
+    ensures { IfOk result (λ bundles. bundles ≡ bundle_list columns.now.headers names.now
+        sizes.now) }
 {
     let quantities = numbers_under(alloc, columns, b"q_", names, sizes)?;
     Ok(Bundles::make(goods, quantities))

@@ -1,16 +1,13 @@
 ghost use Rattle.std.specs.Prelude.{◌≡◌, ℕ, ◌-◌, ◌<◌, ◌≤◌, Ok, IfOk, All, map, length};
-ghost use Rattle.rp_text.specs.Chosen.{IsChosenFrom};
+ghost use Rattle.rp_sheet.specs.Chosen.{IsChosenFrom};
 ghost use Rattle.rp_table.specs.ChoiceLists.{IsChoiceList};
 ghost use Rattle.rp_text.specs.Denotation.{choice_list, denoted_choices, choices_on};
-ghost use Rattle.rp_text.specs.Refusals.{RefusedAs};
+ghost use Rattle.rp_sheet.specs.Refusals.{RefusedAs};
 
-use crate::TableFault;
-use crate::columns::Columns;
-use crate::form::Form;
-use crate::numbers::{column_numbers, narrowed, numbers_under};
-use crate::records::Records;
-use crate::sheet::read_sheet;
 use rp_num::{NoMemory, Seq};
+use rp_sheet::{
+    Columns, Form, Records, TableFault, column_numbers, narrowed, numbers_under, read_sheet,
+};
 use rp_table::{BUDGETS, Budgets, CHOICES, Choices, Name};
 use std::alloc::Global;
 
@@ -62,7 +59,8 @@ fn fill_choices(
     sizes: &[Seq<u64>],
 ) -> Result<Choices, NoMemory>
     requires { IsChoiceList (choice_list columns.now.headers goods.now sizes.now) }
-    ensures { IfOk result (λ choices. choices ≡ choice_list columns.now.headers goods.now sizes.now) }
+    ensures { IfOk result (λ choices. choices ≡ choice_list columns.now.headers goods.now
+        sizes.now) }
 {
     let numbers = column_numbers(alloc, columns, b"budget", sizes)?;
     let counts = column_numbers(alloc, columns, b"n", sizes)?;

@@ -4,15 +4,10 @@ ghost use Rattle.rp_table.specs.Tables.{goods_of};
 ghost use Rattle.rp_table.specs.PriceLists.{IsPriceList};
 ghost use Rattle.rp_text.specs.Denotation as Denotation;
 ghost use Rattle.rp_text.specs.Denotation.{price_list, denoted_prices, prices_beside};
-ghost use Rattle.rp_text.specs.Refusals.{RefusedAs};
+ghost use Rattle.rp_sheet.specs.Refusals.{RefusedAs};
 
-use crate::TableFault;
-use crate::columns::Columns;
-use crate::form::Form;
-use crate::numbers::{column_numbers, numbers_under};
-use crate::records::Records;
-use crate::sheet::read_sheet;
 use rp_num::{NoMemory, Seq};
+use rp_sheet::{Columns, Form, Records, TableFault, column_numbers, numbers_under, read_sheet};
 use rp_table::{NEW_RECORDS, Name, Prices, Table};
 use std::alloc::Global;
 
@@ -71,7 +66,8 @@ fn fill_prices(
 ) -> Result<Prices, NoMemory>
     requires counted { goods ≡ length names.now }
     requires within { IsPriceList (price_list with_m columns.now.headers names.now sizes.now) }
-    ensures { IfOk result (λ prices. prices ≡ price_list with_m columns.now.headers names.now sizes.now) }
+    ensures { IfOk result (λ prices. prices ≡ price_list with_m columns.now.headers names.now
+        sizes.now) }
 {
     let prices = numbers_under(alloc, columns, b"p_", names, sizes)?;
     let m = expenditures(alloc, columns, sizes, with_m)?;
@@ -86,7 +82,8 @@ fn expenditures(
     with_m: bool,
 ) -> Result<Vec<u64>, NoMemory>
     ensures { IfOk result (λ m. m.items
-        ≡ (if with_m then Denotation.column_numbers (codes "m") columns.now.headers sizes.now else [])) }
+        ≡ (if with_m then Denotation.column_numbers (codes "m") columns.now.headers sizes.now
+        else [])) }
 {
     if with_m {
         column_numbers(alloc, columns, b"m", sizes)

@@ -1,21 +1,16 @@
 ghost use Rattle.std.specs.Prelude.{◌≡◌, [], Ok, None, OnOk, IfOk, All, length};
 ghost use Rattle.rp_table.specs.Tables.{IsTable};
-ghost use Rattle.rp_text.specs.Columns.{names_with, is_price};
-ghost use Rattle.rp_text.specs.Forms.{table_form};
-ghost use Rattle.rp_text.specs.declared.form.Marks.TheVariants.{Goods};
-ghost use Rattle.rp_text.specs.Sizes.{sizes_of};
+ghost use Rattle.rp_sheet.specs.Columns.{names_with, is_price};
+ghost use Rattle.rp_sheet.specs.Forms.{table_form};
+ghost use Rattle.rp_sheet.specs.declared.form.Marks.TheVariants.{Goods};
+ghost use Rattle.rp_sheet.specs.Sizes.{sizes_of};
 ghost use Rattle.rp_text.specs.Denotation.{table_of, denoted_table, table_in};
-ghost use Rattle.rp_text.specs.Refusals.{RefusedAs};
+ghost use Rattle.rp_sheet.specs.Refusals.{RefusedAs};
 
-use crate::TableFault;
-use crate::columns::Columns;
-use crate::form::{Form, Role};
-use crate::goods::read_names;
-use crate::numbers::numbers_under;
-use crate::records::Records;
-use crate::sheet::read_sheet;
-use crate::sizes::places_of;
 use rp_num::{Decimal, NoMemory, Seq};
+use rp_sheet::{
+    Columns, Form, Records, Role, TableFault, numbers_under, places_of, read_names, read_sheet,
+};
 use rp_table::{Name, RECORDS, Table};
 use std::alloc::Global;
 

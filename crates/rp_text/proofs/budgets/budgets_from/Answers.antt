@@ -1,15 +1,15 @@
 use Rattle.std.proofs.Common.{◌≡◌, ◌≢◌, Some, None, Ok, Err, refl, sym, ap, ◌∙◌, subst}
 use Rattle.rp_table.specs.BudgetLists.{IsBudgetList}
-use Rattle.rp_text.specs.Columns.{names_with, is_price}
+use Rattle.rp_sheet.specs.Columns.{names_with, is_price}
 use Rattle.rp_text.specs.Denotation.{budget_list, denoted_budgets}
-use Rattle.rp_text.specs.declared.form.Form.{Form}
-use Rattle.rp_text.specs.declared.fault.TableFault.{TableFault}
-use Rattle.rp_text.specs.declared.fault.TableFault.TheVariants as fault
-use Rattle.rp_text.specs.declared.form.Marks.TheVariants.{Goods}
-use Rattle.rp_text.proofs.ColumnSizes.{value_read}
-use Rattle.rp_text.proofs.StageLemmas.{same_fault}
+use Rattle.rp_sheet.specs.declared.form.Form.{Form}
+use Rattle.rp_sheet.specs.declared.fault.TableFault.{TableFault}
+use Rattle.rp_sheet.specs.declared.fault.TableFault.TheVariants as fault
+use Rattle.rp_sheet.specs.declared.form.Marks.TheVariants.{Goods}
+use Rattle.rp_sheet.proofs.ColumnSizes.{value_read}
+use Rattle.rp_sheet.proofs.StageLemmas.{same_fault}
 use Rattle.rp_text.proofs.BudgetFacts.{budgets_within, refused_budgets, budgets_there}
-use Rattle.rp_text.proofs.PassedOn.{passed_on}
+use Rattle.rp_sheet.proofs.PassedOn.{passed_on}
 use Rattle.rp_text.proofs.budgets.budgets_from.Goals as goal
 
 pub returns-in_err-sheet-clause-refused : goal.returns-in_err-sheet-clause-refused

@@ -1,10 +1,10 @@
 use Rattle.std.proofs.Common.{◌≡◌, ℕ, List, [], take, ap, ◌∙◌}
-use Rattle.rp_text.specs.Forms.{budgets_form}
-use Rattle.rp_text.specs.Headers.{headers_in}
-use Rattle.rp_text.specs.Fields.{figures_of}
-use Rattle.rp_text.specs.Records.{records_of, record_at}
+use Rattle.rp_sheet.specs.Forms.{budgets_form}
+use Rattle.rp_sheet.specs.Headers.{headers_in}
+use Rattle.rp_sheet.specs.Fields.{figures_of}
+use Rattle.rp_sheet.specs.Records.{records_of, record_at}
 use Rattle.rp_text.specs.Denotation.{budgets_of, denoted_budgets}
-use Rattle.rp_text.proofs.StageLemmas.{first_records}
+use Rattle.rp_sheet.proofs.StageLemmas.{first_records}
 use Rattle.rp_text.proofs.budgets.read_budgets.Goals as goal
 
 first_read : (records : List (List (List ℕ))) → denoted_budgets (take 50 records) ≡ denoted_budgets records

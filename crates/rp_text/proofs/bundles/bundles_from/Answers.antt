@@ -1,13 +1,13 @@
 use Rattle.std.proofs.Common.{◌≡◌, ◌≢◌, Ok, Err, sym, ap, ◌∙◌, subst}
 use Rattle.rp_table.specs.BundleLists.{IsBundleList}
-use Rattle.rp_text.specs.Forms.{bundles_form}
+use Rattle.rp_sheet.specs.Forms.{bundles_form}
 use Rattle.rp_text.specs.Denotation.{bundle_list, denoted_bundles}
-use Rattle.rp_text.specs.declared.fault.TableFault.{TableFault}
-use Rattle.rp_text.specs.declared.fault.TableFault.TheVariants as fault
-use Rattle.rp_text.proofs.ColumnSizes.{value_read}
-use Rattle.rp_text.proofs.StageLemmas.{same_fault}
+use Rattle.rp_sheet.specs.declared.fault.TableFault.{TableFault}
+use Rattle.rp_sheet.specs.declared.fault.TableFault.TheVariants as fault
+use Rattle.rp_sheet.proofs.ColumnSizes.{value_read}
+use Rattle.rp_sheet.proofs.StageLemmas.{same_fault}
 use Rattle.rp_text.proofs.BundleFacts.{bundles_made, bundles_there, refused_bundles}
-use Rattle.rp_text.proofs.PassedOn.{passed_on}
+use Rattle.rp_sheet.proofs.PassedOn.{passed_on}
 use Rattle.rp_text.proofs.bundles.bundles_from.Goals as goal
 
 pub returns-in_err-sheet-clause-refused : goal.returns-in_err-sheet-clause-refused

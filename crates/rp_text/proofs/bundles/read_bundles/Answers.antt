@@ -1,10 +1,10 @@
 use Rattle.std.proofs.Common.{◌≡◌, ℕ, List, take, ap, ◌∙◌}
-use Rattle.rp_text.specs.Forms.{bundles_form}
-use Rattle.rp_text.specs.Headers.{headers_in}
-use Rattle.rp_text.specs.Fields.{figures_of}
-use Rattle.rp_text.specs.Records.{records_of, record_at}
+use Rattle.rp_sheet.specs.Forms.{bundles_form}
+use Rattle.rp_sheet.specs.Headers.{headers_in}
+use Rattle.rp_sheet.specs.Fields.{figures_of}
+use Rattle.rp_sheet.specs.Records.{records_of, record_at}
 use Rattle.rp_text.specs.Denotation.{bundles_of, denoted_bundles}
-use Rattle.rp_text.proofs.StageLemmas.{first_records}
+use Rattle.rp_sheet.proofs.StageLemmas.{first_records}
 use Rattle.rp_text.proofs.bundles.read_bundles.Goals as goal
 
 first_read : (places : ℕ) (goods : List (List ℕ)) (records : List (List (List ℕ))) → denoted_bundles places goods (take 18 records) ≡ denoted_bundles places goods records

@@ -1,16 +1,16 @@
 use Rattle.std.proofs.Common.{◌≡◌, ◌≢◌, ℕ, ◌<◌, length, Some, None, Ok, Err, sym, ap, ◌∙◌, subst}
 use Rattle.rp_table.specs.ChoiceLists.{ChoiceList, IsChoiceList}
 use Rattle.std.specs.List.{All}
-use Rattle.rp_text.specs.Chosen.{IsChosenFrom}
+use Rattle.rp_sheet.specs.Chosen.{IsChosenFrom}
 use Rattle.rp_text.proofs.ChosenFacts.{choices_on_budgets, choices_from_every}
-use Rattle.rp_text.specs.Forms.{choices_form}
+use Rattle.rp_sheet.specs.Forms.{choices_form}
 use Rattle.rp_text.specs.Denotation.{choice_list, denoted_choices}
-use Rattle.rp_text.specs.declared.fault.TableFault.{TableFault}
-use Rattle.rp_text.specs.declared.fault.TableFault.TheVariants as fault
-use Rattle.rp_text.proofs.ColumnSizes.{value_read}
-use Rattle.rp_text.proofs.StageLemmas.{same_fault}
+use Rattle.rp_sheet.specs.declared.fault.TableFault.{TableFault}
+use Rattle.rp_sheet.specs.declared.fault.TableFault.TheVariants as fault
+use Rattle.rp_sheet.proofs.ColumnSizes.{value_read}
+use Rattle.rp_sheet.proofs.StageLemmas.{same_fault}
 use Rattle.rp_text.proofs.ChoiceFacts.{choices_within, refused_choices, choices_there}
-use Rattle.rp_text.proofs.PassedOn.{passed_on}
+use Rattle.rp_sheet.proofs.PassedOn.{passed_on}
 use Rattle.rp_text.proofs.choices.choices_from.Goals as goal
 
 pub returns-in_err-sheet-clause-refused : goal.returns-in_err-sheet-clause-refused

@@ -1,10 +1,10 @@
 use Rattle.std.proofs.Common.{◌≡◌, ℕ, List, length, take, ap, ◌∙◌}
-use Rattle.rp_text.specs.Forms.{choices_form}
-use Rattle.rp_text.specs.Headers.{headers_in}
-use Rattle.rp_text.specs.Fields.{figures_of}
-use Rattle.rp_text.specs.Records.{records_of, record_at}
+use Rattle.rp_sheet.specs.Forms.{choices_form}
+use Rattle.rp_sheet.specs.Headers.{headers_in}
+use Rattle.rp_sheet.specs.Fields.{figures_of}
+use Rattle.rp_sheet.specs.Records.{records_of, record_at}
 use Rattle.rp_text.specs.Denotation.{choices_of, denoted_choices}
-use Rattle.rp_text.proofs.StageLemmas.{first_records}
+use Rattle.rp_sheet.proofs.StageLemmas.{first_records}
 use Rattle.rp_text.proofs.choices.read_choices.Goals as goal
 
 first_read : (budgets : ℕ) (goods : List (List ℕ)) (records : List (List (List ℕ))) → denoted_choices budgets goods (take 4098 records) ≡ denoted_choices budgets goods records

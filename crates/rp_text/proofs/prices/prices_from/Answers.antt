@@ -1,16 +1,16 @@
 use Rattle.std.proofs.Common.{◌≡◌, ◌≢◌, length, Ok, Err, sym, ap, ◌∙◌, subst}
 use Rattle.rp_table.specs.PriceLists.{PriceList, IsPriceList}
 use Rattle.rp_table.specs.Rows.{rows_count}
-use Rattle.rp_text.specs.Forms.{prices_form}
-use Rattle.rp_text.specs.Headers.{headers_in}
-use Rattle.rp_text.specs.Records.{record_at}
+use Rattle.rp_sheet.specs.Forms.{prices_form}
+use Rattle.rp_sheet.specs.Headers.{headers_in}
+use Rattle.rp_sheet.specs.Records.{record_at}
 use Rattle.rp_text.specs.Denotation.{price_list, denoted_prices}
-use Rattle.rp_text.specs.declared.fault.TableFault.{TableFault}
-use Rattle.rp_text.specs.declared.fault.TableFault.TheVariants as fault
-use Rattle.rp_text.proofs.ColumnSizes.{sizes_in, value_read}
-use Rattle.rp_text.proofs.StageLemmas.{same_fault}
+use Rattle.rp_sheet.specs.declared.fault.TableFault.{TableFault}
+use Rattle.rp_sheet.specs.declared.fault.TableFault.TheVariants as fault
+use Rattle.rp_sheet.proofs.ColumnSizes.{sizes_in, value_read}
+use Rattle.rp_sheet.proofs.StageLemmas.{same_fault}
 use Rattle.rp_text.proofs.PriceFacts.{prices_made, prices_there, refused_prices, spent_each}
-use Rattle.rp_text.proofs.PassedOn.{passed_on}
+use Rattle.rp_sheet.proofs.PassedOn.{passed_on}
 use Rattle.rp_text.proofs.prices.prices_from.Goals as goal
 
 pub returns-in_err-sheet-clause-refused : goal.returns-in_err-sheet-clause-refused

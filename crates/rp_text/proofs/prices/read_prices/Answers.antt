@@ -1,10 +1,10 @@
 use Rattle.std.proofs.Common.{◌≡◌, ℕ, Bool, List, take, ap, ◌∙◌}
-use Rattle.rp_text.specs.Forms.{prices_form}
-use Rattle.rp_text.specs.Headers.{headers_in}
-use Rattle.rp_text.specs.Fields.{figures_of}
-use Rattle.rp_text.specs.Records.{records_of, record_at}
+use Rattle.rp_sheet.specs.Forms.{prices_form}
+use Rattle.rp_sheet.specs.Headers.{headers_in}
+use Rattle.rp_sheet.specs.Fields.{figures_of}
+use Rattle.rp_sheet.specs.Records.{records_of, record_at}
 use Rattle.rp_text.specs.Denotation.{prices_of, denoted_prices}
-use Rattle.rp_text.proofs.StageLemmas.{first_records}
+use Rattle.rp_sheet.proofs.StageLemmas.{first_records}
 use Rattle.rp_text.proofs.prices.read_prices.Goals as goal
 
 first_read : (with_m : Bool) (places : ℕ) (goods : List (List ℕ)) (records : List (List (List ℕ))) → denoted_prices with_m places goods (take 18 records) ≡ denoted_prices with_m places goods records

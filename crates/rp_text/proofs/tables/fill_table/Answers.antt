@@ -1,11 +1,12 @@
 use Rattle.std.proofs.Common.{ℕ, ◌<◌, ◌≤◌, List, length, slice_index, sym, ap, ◌∙◌, subst, rules}
 use Rattle.rp_table.specs.Tables.{IsTable}
-use Rattle.rp_text.specs.Sizes.{places_of}
-use Rattle.rp_text.specs.Denotation.{table_of, numbers_under, column_of}
-use Rattle.rp_text.specs.Texts.{text_at}
-use Rattle.rp_text.specs.Columns.{names_with, is_price, price_mark, quantity_mark}
-use Rattle.rp_text.specs.declared.form.Role.TheVariants.{Price, Quantity}
-use Rattle.rp_text.specs.declared.form.Marks.TheVariants.{Goods}
+use Rattle.rp_sheet.specs.Sizes.{places_of}
+use Rattle.rp_text.specs.Denotation.{table_of}
+use Rattle.rp_sheet.specs.Sheets.{numbers_under, column_of}
+use Rattle.rp_sheet.specs.Texts.{text_at}
+use Rattle.rp_sheet.specs.Columns.{names_with, is_price, price_mark, quantity_mark}
+use Rattle.rp_sheet.specs.declared.form.Role.TheVariants.{Price, Quantity}
+use Rattle.rp_sheet.specs.declared.form.Marks.TheVariants.{Goods}
 use Rattle.rp_text.proofs.TableFacts.{number_limits, table_made}
 use Rattle.rp_text.proofs.tables.fill_table.Goals as goal
 

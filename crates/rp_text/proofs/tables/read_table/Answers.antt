@@ -1,9 +1,9 @@
 use Rattle.std.proofs.Common.{◌≡◌, ℕ, List, [], take, ap, ◌∙◌}
-use Rattle.rp_text.specs.Forms.{table_form}
-use Rattle.rp_text.specs.Headers.{headers_in}
-use Rattle.rp_text.specs.Records.{records_of, record_at}
+use Rattle.rp_sheet.specs.Forms.{table_form}
+use Rattle.rp_sheet.specs.Headers.{headers_in}
+use Rattle.rp_sheet.specs.Records.{records_of, record_at}
 use Rattle.rp_text.specs.Denotation.{table_under, denoted_table}
-use Rattle.rp_text.proofs.StageLemmas.{first_records}
+use Rattle.rp_sheet.proofs.StageLemmas.{first_records}
 use Rattle.rp_text.proofs.tables.read_table.Goals as goal
 
 first_read : (records : List (List (List ℕ))) → denoted_table (take 258 records) ≡ denoted_table records

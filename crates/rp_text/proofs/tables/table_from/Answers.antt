@@ -2,16 +2,16 @@ use Rattle.std.proofs.Common.{◌≡◌, ◌≢◌, ℕ, List, length, Some, Non
 use Rattle.std.specs.List.{All}
 use Rattle.rp_num.specs.declared.decimal.Decimal.{Decimal}
 use Rattle.rp_table.specs.Tables.{IsTable}
-use Rattle.rp_text.specs.Records.{record_at}
-use Rattle.rp_text.specs.Headers.{headers_in}
-use Rattle.rp_text.specs.Fields.{figures_of}
+use Rattle.rp_sheet.specs.Records.{record_at}
+use Rattle.rp_sheet.specs.Headers.{headers_in}
+use Rattle.rp_sheet.specs.Fields.{figures_of}
 use Rattle.rp_text.specs.Denotation.{table_of, denoted_table}
-use Rattle.rp_text.specs.declared.fault.TableFault.{TableFault}
-use Rattle.rp_text.specs.declared.fault.TableFault.TheVariants as fault
-use Rattle.rp_text.proofs.FigureLemmas.{whole_rows}
+use Rattle.rp_sheet.specs.declared.fault.TableFault.{TableFault}
+use Rattle.rp_sheet.specs.declared.fault.TableFault.TheVariants as fault
+use Rattle.rp_sheet.proofs.FigureLemmas.{whole_rows}
 use Rattle.rp_text.proofs.TableMade.{table_within, refused_table, table_there}
-use Rattle.rp_text.proofs.StageLemmas.{same_fault}
-use Rattle.rp_text.proofs.PassedOn.{passed_on}
+use Rattle.rp_sheet.proofs.StageLemmas.{same_fault}
+use Rattle.rp_sheet.proofs.PassedOn.{passed_on}
 use Rattle.rp_text.proofs.tables.table_from.Goals as goal
 
 pub returns-in_err-sheet-clause-refused : goal.returns-in_err-sheet-clause-refused

@@ -1,0 +1,11 @@
+pub mod Texts
+pub mod Columns
+pub mod Records
+pub mod Refusals
+pub mod Forms
+pub mod Headers
+pub mod Fields
+pub mod Sizes
+pub mod ChoiceCounts
+pub mod Chosen
+pub mod Sheets

@@ -1,6 +1,0 @@
-use Rattle.std.proofs.Common.{◌≡◌, take}
-use Rattle.rp_text.specs.Columns.{names_with, is_price}
-use Rattle.rp_text.proofs.goods.read_names.Given as goal
-
-abbrev pub invariant-loop-c : goal.invariant-loop-c
-invariant-loop-c l = l.names.items ≡ names_with l.columns.form.marks is_price (take l.c l.columns.headers)
