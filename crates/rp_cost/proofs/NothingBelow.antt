@@ -22,7 +22,7 @@ use Rattle.rp_simplex.specs.InnerCombined.{delta}
 use Rattle.rp_simplex.specs.ExactTableau.{ExactTableau, width_of}
 use Rattle.rp_simplex.specs.FirstTableau.{IsFirstTableau, first_entry}
 use Rattle.rp_simplex.specs.Outcome.{EndsOptimal}
-use Rattle.rp_simplex.specs.Run.{Reaches, begins, pivots}
+use Rattle.rp_simplex.specs.Run.{IsTableauAfter, begins, pivots}
 use Rattle.rp_simplex.specs.Width.{IsWithinWidth}
 use Rattle.rp_simplex.proofs.Linear.{delta-other}
 use Rattle.rp_simplex.proofs.Sound.{first-right, first-slack}
@@ -53,7 +53,7 @@ module _ (p : LinearProgram) (none : p.cols ≡ 0) where
       let h = entering.negative in
       absurd (omega (arith, ints, z, h))
 
-  at_first : {k : ℕ} {t : ExactTableau} → Reaches p k t → IsFirstTableau p t
+  at_first : {k : ℕ} {t : ExactTableau} → IsTableauAfter p k t → IsFirstTableau p t
   at_first (begins first) = first
   at_first (pivots before within entering leaving pivot) = absurd (not_entering _ _ (at_first before) entering)
 
@@ -75,7 +75,7 @@ module _ (p : LinearProgram) (none : p.cols ≡ 0) where
   no_entries (e ∷ es) l = let h = l.columns 0 e (omega arith) in absurd (omega (arith, h, none))
 
   no_prices : (pair : Pair) → EndsOptimal p pair → (i : ℕ) → i < p.rows → slice_index pair.x i ≡ 0
-  no_prices pair ends i l = same_pos (slice_index pair.x i) 0 (ends.x_shown i l ∙ objective_slack ends.last i (at_first ends.reached) l)
+  no_prices pair ends i l = same_pos (slice_index pair.x i) 0 (ends.x_at i l ∙ objective_slack ends.last i (at_first ends.reached) l)
 
 no_cost : (inputs : ℕ) (prices x : ℕ → ℕ) → ((i : ℕ) → i < inputs → x i ≡ 0) → spending inputs prices x ≡ 0
 no_cost inputs prices x all =
