@@ -4,3 +4,4 @@ pub mod Listings
 pub mod NothingBelow
 pub mod OuterLaws
 pub mod SameFractions
+mod Tried

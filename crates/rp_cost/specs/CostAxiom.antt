@@ -1,4 +1,5 @@
--- The weak axiom of cost minimisation (Varian 1984): what was used nowhere cost more than inputs that made as much or more.
+-- The weak axiom of cost minimisation (Varian 1984): what was used nowhere cost more than inputs that made as much or
+-- more.
 use Rattle.std.specs.Prelude.{ℕ, ◌<◌, ◌≤◌}
 
 -- of n observations, `cost t s` being what the inputs of s cost at the prices of t, and `y t` the output of t

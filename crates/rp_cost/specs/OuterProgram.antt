@@ -8,8 +8,8 @@ use Rattle.rp_farkas.specs.LinearProgram.{LinearProgram}
 abbrev pub ListsNotAbove : TableInput → (ℕ → ℕ) → ℕ → List ℕ → Type 0
 ListsNotAbove input y y0 listed = Enumerates input.n (λ t. y t ≤ y0) listed
 
--- The program whose prices are the inputs of the outer set, at the least cost: a column for each listed observation, its
--- prices worth what was spent there, and the new prices on the right side.
+-- The program whose prices are the inputs of the outer set, at the least cost: a column for each listed observation,
+-- its prices worth what was spent there, and the new prices on the right side.
 abbrev pub outer_program : TableInput → (ℕ → ℕ) → List ℕ → LinearProgram
 outer_program input prices listed = record {
   rows = input.goods;

@@ -1,11 +1,11 @@
--- What an output costs at new input prices, from above and from below (Varian 1984): the inner bound by what was seen to make
--- it, and the outer bound by the inputs that no observation rules out.
+-- What an output costs at new input prices, from above and from below (Varian 1984): the inner bound by what was seen
+-- to make it, and the outer bound by the inputs that no observation rules out.
 use Rattle.std.specs.Prelude.{◌≡◌, ℕ, ◌*◌, ◌<◌, ◌≤◌}
 use Rattle.rp_evidence.specs.Demand.{FractionBundle, spending}
 use Rattle.rp_evidence.specs.Input.{TableInput}
 
--- The outer set of the output y0, `y t` being the output of observation t: inputs in fractions that cost at least what was
--- spent at each observation that made y0 or less.
+-- The outer set of the output y0, `y t` being the output of observation t: inputs in fractions that cost at least what
+-- was spent at each observation that made y0 or less.
 pub record IsInOuterSet (input : TableInput) (y : ℕ → ℕ) (y0 : ℕ) (bundle : FractionBundle) : Type 0 where
   pub fraction : 0 < bundle.den
   pub dear : (t : ℕ) → t < input.n → y t ≤ y0
@@ -19,7 +19,8 @@ pub record IsLowerCost (input : TableInput) (y : ℕ → ℕ) (y0 : ℕ) (prices
   pub reached : (bundle : FractionBundle) × IsInOuterSet input y y0 bundle
       × (spending input.goods prices bundle.num * den ≡ num * bundle.den)
 
--- cost is the upper bound, and s is where it is found: the least that the inputs cost of an observation that made y0 or more.
+-- cost is the upper bound, and s is where it is found: the least that the inputs cost of an observation that made y0 or
+-- more.
 pub record IsUpperCost (input : TableInput) (y : ℕ → ℕ) (y0 : ℕ) (prices : ℕ → ℕ) (s cost : ℕ) : Type 0 where
   pub observed : s < input.n
   pub enough : y0 ≤ y s

@@ -1,8 +1,9 @@
--- The weak axiom of profit maximisation (Varian 1984): no observation's inputs and output would have made another more profit
--- at its own prices.
+-- The weak axiom of profit maximisation (Varian 1984): no observation's inputs and output would have made another more
+-- profit at its own prices.
 use Rattle.std.specs.Prelude.{ℕ, ◌*◌, ◌<◌, ℤ, pos, ◌-ℤ◌, ◌≤ℤ◌, ◌<ℤ◌}
 
--- the profit of the inputs and the output of s at the prices of t, which may be negative; `p t` is the output's price at t
+-- the profit of the inputs and the output of s at the prices of t, which may be negative; `p t` is the output's price
+-- at t
 abbrev pub profit : (ℕ → ℕ → ℕ) → (ℕ → ℕ) → (ℕ → ℕ) → ℕ → ℕ → ℤ
 profit cost y p t s = pos (p t * y s) -ℤ pos (cost t s)
 

@@ -1,5 +1,5 @@
--- Observed production (Varian 1984): input prices, the inputs that a firm used at them and what it made of them, in scaled
--- whole numbers; and the price of the output, where it is known.
+-- Observed production (Varian 1984): input prices, the inputs that a firm used at them and what it made of them, in
+-- scaled whole numbers; and the price of the output, where it is known.
 use Rattle.std.specs.Prelude.{◌≡◌, ℕ, ◌⊎◌, List, length, All}
 use Rattle.rp_table.specs.Limits.{IsPrice, IsQuantity}
 use Rattle.rp_table.specs.Tables.{Observations, IsTable, records_of}

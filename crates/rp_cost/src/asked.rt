@@ -7,8 +7,8 @@ ghost use Rattle.rp_cost.specs.AskedOutputs.{AreAskedOutputs};
 use rp_table::Prices;
 use std::marker::Model;
 
-/// Outputs whose cost is asked, each with the input prices that it is asked at, in scaled whole numbers. The prices have a
-/// scale of their own, the outputs that of the technology's.
+/// Outputs whose cost is asked, each with the input prices that it is asked at, in scaled whole numbers. The prices
+/// have a scale of their own, the outputs that of the technology's.
 #[derive(Debug, Drop)]
 pub struct Asked {
     prices: Prices,

@@ -10,7 +10,8 @@ ghost use Rattle.rp_cost.specs.declared.axioms.Test.TheVariants.{Cost, Profit};
 
 use crate::tech::Tech;
 
-/// Whether an axiom holds; where it does not, the first two observations, by the first and then by the second, that break it.
+/// Whether an axiom holds; where it does not, the first two observations, by the first and then by the second, that
+/// break it.
 #[derive(Clone, Copy, Debug, PartialEq, Eq)]
 pub enum Axiom {
     Holds,

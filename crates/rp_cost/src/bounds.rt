@@ -30,8 +30,9 @@ pub struct CostBounds {
     pub lower: Bound,
 }
 
-/// The bounds of the output `y` at the new prices. The one from below is the value of a program with a row for each input and a
-/// column for each observation that made `y` or less, in their order; it is withheld where its run passes its width.
+/// The bounds of the output `y` at the new prices. The one from below is the value of a program with a row for each
+/// input and a column for each observation that made `y` or less, in their order; it is withheld where its run passes
+/// its width.
 pub fn cost_bounds(
     alloc: Global,
     tech: &Tech,

@@ -11,7 +11,8 @@ pub(crate) const ROOM: usize = 256;
 
 const _: () = prove!(ROOM == RECORDS as usize);
 
-/// Writes the observations that made `y` or less into the front of the list, in increasing order, and gives their number.
+/// Writes the observations that made `y` or less into the front of the list, in increasing order, and gives their
+/// number.
 pub(crate) fn write_not_above(tech: &Tech, y: u32, list: &mut [u32]) -> usize
     requires { records_of tech.now.table ≤ length list.old }
     ensures few { result ≤ records_of tech.now.table }

@@ -8,8 +8,8 @@ ghost use Rattle.rp_cost.specs.OuterProgram.{outer_program};
 use crate::question::Question;
 use rp_farkas::Lp;
 
-/// The program of a bound from below, over what it is made from: a row for each input with its new price, and a column for each
-/// listed observation with its prices and what was spent there.
+/// The program of a bound from below, over what it is made from: a row for each input with its new price, and a column
+/// for each listed observation with its prices and what was spent there.
 #[derive(Clone, Copy)]
 pub(crate) struct OuterProgram<'a> {
     question: Question<'a>,

@@ -13,8 +13,8 @@ use rp_print::{
 };
 use std::alloc::Global;
 
-/// The report on a technology: the verdicts on its axioms, and the bounds of each asked record, in their order. The list of
-/// bounds is empty where the cost axiom fails; a record without bounds is told to have none.
+/// The report on a technology: the verdicts on its axioms, and the bounds of each asked record, in their order. The
+/// list of bounds is empty where the cost axiom fails; a record without bounds is told to have none.
 pub fn report_cost(
     alloc: Global,
     tech: &Tech,
@@ -34,7 +34,8 @@ pub fn report_cost(
     Ok(text)
 }
 
-/// Appends the line on the technology: how many observations and inputs it has, and the places of its prices and quantities.
+/// Appends the line on the technology: how many observations and inputs it has, and the places of its prices and
+/// quantities.
 fn push_head(alloc: Global, out: &mut Vec<u8>, tech: &Tech) -> Result<(), NoMemory>
     ensures { OnOk result (out.new.items ≡ out.old.items ++ head_text tech.now) }
 {

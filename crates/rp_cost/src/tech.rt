@@ -8,8 +8,8 @@ ghost use Rattle.rp_cost.specs.Technology.{IsTechnology};
 use rp_table::{Name, Table, cost_of_bundle};
 use std::marker::Model;
 
-/// What a firm was seen to do: input prices, the inputs that it used at them, its output, and maybe the output's price, in
-/// scaled whole numbers. Input prices and the output's price have one scale, inputs and output another.
+/// What a firm was seen to do: input prices, the inputs that it used at them, its output, and maybe the output's price,
+/// in scaled whole numbers. Input prices and the output's price have one scale, inputs and output another.
 #[derive(Debug, Drop)]
 pub struct Tech {
     table: Table,
