@@ -2,7 +2,7 @@ ghost use Rattle.std.specs.Prelude.{◌≡◌, ◌≤◌, [], Ok, IfOk, IsTrue, 
 ghost use Rattle.rp_table.specs.Rows.{rows_count};
 ghost use Rattle.rp_table.specs.Tables.{goods_of};
 ghost use Rattle.rp_table.specs.PriceLists.{IsPriceList};
-ghost use Rattle.rp_text.specs.Denotation as Denotation;
+ghost use Rattle.rp_sheet.specs.Sheets as Sheets;
 ghost use Rattle.rp_text.specs.Denotation.{price_list, denoted_prices, prices_beside};
 ghost use Rattle.rp_sheet.specs.Refusals.{RefusedAs};
 
@@ -82,7 +82,7 @@ fn expenditures(
     with_m: bool,
 ) -> Result<Vec<u64>, NoMemory>
     ensures { IfOk result (λ m. m.items
-        ≡ (if with_m then Denotation.column_numbers (codes "m") columns.now.headers sizes.now
+        ≡ (if with_m then Sheets.column_numbers (codes "m") columns.now.headers sizes.now
         else [])) }
 {
     if with_m {
