@@ -1,6 +1,6 @@
 use crate::readers::{Read, is_read};
-use rp_table::Name;
 use rp_sheet::{Form, Records, TableFault, read_names, read_sheet};
+use rp_table::Name;
 use std::alloc::Global;
 use std::test::Fail;
 
