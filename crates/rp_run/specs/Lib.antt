@@ -8,4 +8,3 @@ pub mod Turns
 pub mod Endings
 pub mod Gains
 pub mod Causes
-pub mod Calls
