@@ -33,15 +33,20 @@ fn greatest(alloc: Global) -> Result<String, Fail> {
     Ok(format!(in alloc; "{names}\n{records}")?)
 }
 
-/// What a command prints over that table and another file, or tells where it is not done.
-fn printed(alloc: Global, words: &[&str], new: &str) -> Result<String, Fail> {
-    let table = greatest(alloc)?;
-    let got = run_over(alloc, words, &[("t.csv", table.as_str()), ("n.csv", new)])?;
+/// What a command prints over a table and another file, or tells where it is not done.
+fn printed_over(alloc: Global, words: &[&str], table: &str, new: &str) -> Result<String, Fail> {
+    let got = run_over(alloc, words, &[("t.csv", table), ("n.csv", new)])?;
     if got.status == Status::Done {
         Ok(got.out)
     } else {
         Ok(got.err)
     }
+}
+
+/// What a command prints over the greatest table and another file.
+fn printed(alloc: Global, words: &[&str], new: &str) -> Result<String, Fail> {
+    let table = greatest(alloc)?;
+    printed_over(alloc, words, table.as_str(), new)
 }
 
 /// The verdict on the axiom after the head: no observation is preferred to another, so each reaches all.
