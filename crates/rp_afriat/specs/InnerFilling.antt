@@ -1,8 +1,10 @@
 -- How far the numbers of a table are filled in: words that only the loops and the inner functions of this crate need.
-use Rattle.std.specs.Prelude.{◌≡◌, ℕ, ◌*◌, ◌<◌, ◌≤◌, List, length, ℤ, pos, ◌≤ℤ◌, Option, None, Some, MatchOption, slice_index, slice_index_or}
+use Rattle.std.specs.Prelude.{◌≡◌, ℕ, ◌*◌, ◌<◌, ◌≤◌, List, length, ℤ, pos, ◌≤ℤ◌, Option, None, Some, MatchOption}
+use Rattle.std.specs.Prelude.{slice_index, slice_index_or}
 use Rattle.std.specs.Int.{int_min}
 use Rattle.rp_evidence.specs.Afriat.{allowed}
-use Rattle.rp_evidence.specs.StandardNumbers.{AreNumbersOf, AreStandardNumbers, FitsMultiplier, FitsUtility, IsMultiplier, PassWidthFirstAt}
+use Rattle.rp_evidence.specs.StandardNumbers.{AreNumbersOf, AreStandardNumbers, FitsMultiplier, FitsUtility}
+use Rattle.rp_evidence.specs.StandardNumbers.{IsMultiplier, PassWidthFirstAt}
 
 -- the utility of an observation; past the last it is 0
 abbrev pub utility_of : List ℤ → ℕ → ℤ
@@ -17,12 +19,14 @@ pub record AreForEach (n : ℕ) (counts : List ℕ) (u : List ℤ) (lambda : Lis
 -- the numbers of higher classes are within their widths
 abbrev pub FitAbove : ℕ → List ℕ → List ℤ → List ℕ → ℕ → Type 0
 FitAbove n counts u lambda class =
-    (s : ℕ) → s < n → class < slice_index counts s → FitsUtility (utility_of u s) × FitsMultiplier (slice_index lambda s)
+    (s : ℕ) → s < n → class < slice_index counts s
+      → FitsUtility (utility_of u s) × FitsMultiplier (slice_index lambda s)
 
 -- the numbers of higher classes are the standard ones
 abbrev pub AreFilledAbove : ℕ → (ℕ → ℕ → ℕ) → List ℕ → List ℤ → List ℕ → ℕ → Type 0
 AreFilledAbove n c counts u lambda class =
-    (t : ℕ) → t < n → class < slice_index counts t → AreNumbersOf n c (slice_index counts) (utility_of u) (slice_index lambda) t
+    (t : ℕ) → t < n → class < slice_index counts t
+      → AreNumbersOf n c (slice_index counts) (utility_of u) (slice_index lambda) t
 
 -- x is what some observation below n of a higher class allows t
 abbrev pub IsAllowed : ℕ → (ℕ → ℕ → ℕ) → List ℕ → List ℤ → List ℕ → ℕ → ℕ → ℤ → Type 0
@@ -56,10 +60,12 @@ pub record IsClassSet (n : ℕ) (counts : List ℕ) (class : ℕ) (x : ℤ) (bef
   pub kept : (t : ℕ) → t < n → ¬ (slice_index counts t ≡ class) → utility_of after t ≡ utility_of before t
 
 -- below m the multipliers of a class are set and fit, and all others are as they were
-pub record AreMultipliersSet (m n : ℕ) (c : ℕ → ℕ → ℕ) (counts : List ℕ) (class : ℕ) (u : List ℤ) (before after : List ℕ) : Type 0 where
+pub record AreMultipliersSet (m n : ℕ) (c : ℕ → ℕ → ℕ) (counts : List ℕ) (class : ℕ) (u : List ℤ)
+    (before after : List ℕ) : Type 0 where
   pub as_long : length after ≡ length before
   pub set : (s : ℕ) → s < m → slice_index counts s ≡ class
-      → IsMultiplier n c (slice_index counts) (utility_of u) s (slice_index after s) × FitsMultiplier (slice_index after s)
+      → IsMultiplier n c (slice_index counts) (utility_of u) s (slice_index after s)
+        × FitsMultiplier (slice_index after s)
   pub kept : (s : ℕ) → s < n → ¬ (slice_index counts s ≡ class) → slice_index after s ≡ slice_index before s
 
 -- at is of the class and its multiplier is too wide

@@ -13,8 +13,8 @@ use Rattle.rp_agreement.specs.ReadBack.{IsReadBack, random_certificate}
 use Rattle.rp_report.specs.RandomText.{random_report_text}
 use Rattle.rp_answers.specs.Typed.{TypedPatches}
 
--- the one item proves its verdict and is as it is given, the checker accepts it, and the text of the certificate is read
--- back as the same
+-- the one item proves its verdict and is as it is given, the checker accepts it, and the text of the certificate is
+-- read back as the same
 pub record IsRandomAnswer (choices : TypedPatches) (certificate : Certificate) : Type 0 where
   pub evidence : RandomPart
   pub item : certificate ≡ random_certificate choices.patches.total evidence

@@ -1,6 +1,6 @@
--- What `trial` prints: the verdicts on the trial table of a seed, without their evidence (this program's own text). They
--- are those on the generalized axiom of revealed preference (Varian 1982), on the efficiency index (Afriat 1973), of the
--- homothetic test (Varian 1983) and of the quasilinear test.
+-- What `trial` prints: the verdicts on the trial table of a seed, without their evidence (this program's own text).
+-- They are those on the generalized axiom of revealed preference (Varian 1982), on the efficiency index (Afriat
+-- 1973), of the homothetic test (Varian 1983) and of the quasilinear test.
 use Rattle.std.specs.Prelude.{◌≡◌, ℕ, List, ◌++◌, codes}
 use Rattle.std.specs.Fmt.{decimal}
 use Rattle.rp_evidence.specs.Input.{input_of_table}

@@ -1,6 +1,6 @@
--- What `welfare` prints: the report, or the JSON, of a certificate with the verdict on the generalized axiom of revealed
--- preference, and then for each record of new prices the bounds on the money metric of each observation (after Varian
--- 1982), in order.
+-- What `welfare` prints: the report, or the JSON, of a certificate with the verdict on the generalized axiom of
+-- revealed preference, and then for each record of new prices the bounds on the money metric of each observation
+-- (after Varian 1982), in order.
 use Rattle.std.specs.Prelude.{◌≡◌, ℕ, Bool, ◌*◌, ◌/◌, ◌%◌, List}
 use Rattle.rp_table.specs.PriceLists.{PriceList}
 use Rattle.rp_table.specs.Rows.{row_of, rows_count}

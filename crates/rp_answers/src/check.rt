@@ -1,8 +1,10 @@
 ghost use Rattle.std.specs.Prelude.{◌≡◌, ◌++◌, IfOk, OnOk};
 ghost use Rattle.rp_evidence.specs.Kinds.{IsCertificateOf};
-ghost use Rattle.rp_evidence.specs.declared.certificate.Kind.TheVariants.{Table as TableKind, Random as RandomKind};
+ghost use Rattle.rp_evidence.specs.declared.certificate.Kind.TheVariants.{Table as TableKind};
+ghost use Rattle.rp_evidence.specs.declared.certificate.Kind.TheVariants.{Random as RandomKind};
 ghost use Rattle.rp_table.specs.Cost.{IsCostsOf};
-ghost use Rattle.rp_answers.specs.Checked.{IsRandomCheck, IsTableCheck, accepted_line, check_line, check_status};
+ghost use Rattle.rp_answers.specs.Checked.{IsRandomCheck, IsTableCheck, accepted_line, check_line};
+ghost use Rattle.rp_answers.specs.Checked.{check_status};
 ghost use Rattle.rp_answers.specs.Checked.{reason_name, rejected_line};
 
 use crate::answer::Answer;

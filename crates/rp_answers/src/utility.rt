@@ -5,7 +5,8 @@ ghost use Rattle.rp_table.specs.Cost.{IsCostsOf, cost_at};
 ghost use Rattle.rp_table.specs.Rows.{rows_count};
 ghost use Rattle.rp_table.specs.Tables.{goods_of};
 ghost use Rattle.rp_table.specs.declared.TheConstants.{LARGEST};
-ghost use Rattle.rp_answers.specs.UtilityText.{AreUtilityLines, IsUtilityLine, IsUtilityText, at_line};
+ghost use Rattle.rp_answers.specs.UtilityText.{AreUtilityLines, IsUtilityLine, IsUtilityText};
+ghost use Rattle.rp_answers.specs.UtilityText.{at_line};
 ghost use Rattle.rp_answers.specs.UtilityText.{first_items};
 
 use rp_afriat::{afriat, utility_at};

@@ -1,5 +1,5 @@
--- The bound of a linear program: a measure of the prices at which its run ends (duality of linear programming as in Gale,
--- Kuhn and Tucker 1951), or where the run is withheld (this project's own).
+-- The bound of a linear program: a measure of the prices at which its run ends (duality of linear programming as in
+-- Gale, Kuhn and Tucker 1951), or where the run is withheld (this project's own).
 use Rattle.std.specs.Prelude.{◌≡◌, ◌↔◌, ℕ}
 use Rattle.rp_evidence.specs.BoundEvidence.{BoundHolds}
 use Rattle.rp_evidence.specs.declared.demand.Bound.{Bound}
@@ -17,9 +17,9 @@ abbrev pub outcome_of : Bound → Outcome
 outcome_of (Shown value pair) = Optimal pair
 outcome_of (Wide step) = PassedWidth step
 
--- The bound is made from the outcome of the run of the program, and the run has no other: it never ends unbounded, and the
--- bound is withheld just where the run passes its width, at that step. A shown pair is an equal pair, whose prices are the
--- best, and the value is their measure in lowest terms.
+-- The bound is made from the outcome of the run of the program, and the run has no other: it never ends unbounded,
+-- and the bound is withheld just where the run passes its width, at that step. A shown pair is an equal pair, whose
+-- prices are the best, and the value is their measure in lowest terms.
 pub record IsBoundOf (p : LinearProgram) (measure : (ℕ → ℕ) → ℕ) (bound : Bound) : Type 0 where
   pub run : IsOutcome p (outcome_of bound)
   pub only : (other : Outcome) → IsOutcome p other → IsSameOutcome p (outcome_of bound) other

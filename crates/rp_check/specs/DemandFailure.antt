@@ -1,5 +1,6 @@
 -- When evidence on demand at new prices fails (this program's own order of clauses; Varian 1982).
-use Rattle.std.specs.Prelude.{◌≡◌, ◌+◌, ◌*◌, ◌<◌, ◌≤◌, ℕ, Bool, IsTrue, List, [], ◌∷◌, length, slice_index, slice_index_or}
+use Rattle.std.specs.Prelude.{◌≡◌, ◌+◌, ◌*◌, ◌<◌, ◌≤◌, ℕ, Bool, IsTrue, List, [], ◌∷◌, length, slice_index}
+use Rattle.std.specs.Prelude.{slice_index_or}
 use Rattle.rp_patch.specs.Clauses.{Finding, Unless, InOrder, FirstBelow, FirstUnless}
 use Rattle.rp_clauses.specs.PricesFailure.{ExpenditureFails, PricesFail}
 use Rattle.rp_clauses.specs.WalkFailure.{ViolationFails}
@@ -13,7 +14,8 @@ use Rattle.rp_evidence.specs.declared.demand.DemandPart.{DemandPart}
 use Rattle.rp_evidence.specs.declared.demand.DemandPart.TheVariants.{Bounds, NoModel}
 use Rattle.rp_evidence.specs.declared.demand.GoodBounds.{GoodBounds}
 use Rattle.rp_evidence.specs.declared.demand.Point.{Point as InnerPoint}
-use Rattle.rp_evidence.specs.declared.failure.Reason.TheVariants.{Shape, Number, NoGarp, Set, Point, Bound as BoundReason}
+use Rattle.rp_evidence.specs.declared.failure.Reason.TheVariants.{Shape, Number, NoGarp, Set, Point}
+use Rattle.rp_evidence.specs.declared.failure.Reason.TheVariants.{Bound as BoundReason}
 use Rattle.rp_farkas.specs.LinearProgram.{LinearProgram}
 use Rattle.rp_farkas.specs.PairCheck.{IsShownPair}
 use Rattle.rp_num.specs.Fraction.{IsLowestTerms}

@@ -11,7 +11,11 @@ use Rattle.rp_clauses.specs.QuasilinearFailure.{QuasilinearFails}
 use Rattle.rp_check.specs.WelfareFailure.{WelfareFails}
 use Rattle.rp_evidence.specs.Input.{TableInput}
 use Rattle.rp_evidence.specs.declared.certificate.Item.{Item}
-use Rattle.rp_evidence.specs.declared.certificate.Item.TheVariants.{Garp as GarpItem, Afriat as AfriatItem, Efficiency as EfficiencyItem, Homothetic as HomotheticItem, Quasi as QuasiItem, Demand as DemandItem, Welfare as WelfareItem, Random as RandomItem}
+use Rattle.rp_evidence.specs.declared.certificate.Item.TheVariants.{Garp as GarpItem, Afriat as AfriatItem}
+use Rattle.rp_evidence.specs.declared.certificate.Item.TheVariants.{Efficiency as EfficiencyItem}
+use Rattle.rp_evidence.specs.declared.certificate.Item.TheVariants.{Homothetic as HomotheticItem, Quasi as QuasiItem}
+use Rattle.rp_evidence.specs.declared.certificate.Item.TheVariants.{Demand as DemandItem, Welfare as WelfareItem}
+use Rattle.rp_evidence.specs.declared.certificate.Item.TheVariants.{Random as RandomItem}
 use Rattle.rp_evidence.specs.declared.garp.Garp.TheVariants.{Ranks}
 
 -- The item shows by ranks that the axiom holds.

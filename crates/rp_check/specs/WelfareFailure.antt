@@ -10,7 +10,8 @@ use Rattle.rp_evidence.specs.declared.demand.Bound.{Bound}
 use Rattle.rp_evidence.specs.declared.demand.Bound.TheVariants.{Shown, Wide}
 use Rattle.rp_evidence.specs.declared.demand.WelfarePart.{WelfarePart}
 use Rattle.rp_evidence.specs.declared.demand.WelfarePart.TheVariants.{Bounds, NoModel}
-use Rattle.rp_evidence.specs.declared.failure.Reason.TheVariants.{Number, NoGarp, Set, Point, Least, Bound as BoundReason}
+use Rattle.rp_evidence.specs.declared.failure.Reason.TheVariants.{Number, NoGarp, Set, Point, Least}
+use Rattle.rp_evidence.specs.declared.failure.Reason.TheVariants.{Bound as BoundReason}
 use Rattle.rp_farkas.specs.LinearProgram.{LinearProgram}
 use Rattle.rp_farkas.specs.PairCheck.{IsShownPair}
 use Rattle.rp_num.specs.Fraction.{IsLowestTerms}

@@ -74,7 +74,8 @@ fn is_strict_start(new_prices: &NewPrices<'_>, m: u64, below: &[bool], v: u32) -
         (IsBelow (input_of new_prices.now) (budget_at new_prices.now m))
         below.now }
     requires observed { v < records_of new_prices.now.table.now }
-    ensures { IsTrue result ↔ IsStrictStart (input_of new_prices.now) (budget_at new_prices.now m) v }
+    ensures { IsTrue result
+        ↔ IsStrictStart (input_of new_prices.now) (budget_at new_prices.now m) v }
 {
     if new_prices.spending(v) < m {
         return true;

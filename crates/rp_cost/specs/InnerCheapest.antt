@@ -10,7 +10,8 @@ cheaper_of None later = later
 cheaper_of (Some best) later = if nat_le best.cost later.cost then best else later
 
 -- Of the first observations that made y0 or more, s is the first of least cost.
-pub record IsBestBelow (input : TableInput) (y : ℕ → ℕ) (y0 : ℕ) (prices : ℕ → ℕ) (end : ℕ) (best : Upper) : Type 0 where
+pub record IsBestBelow (input : TableInput) (y : ℕ → ℕ) (y0 : ℕ) (prices : ℕ → ℕ) (end : ℕ)
+    (best : Upper) : Type 0 where
   pub observed : best.at < end
   pub enough : y0 ≤ y best.at
   pub costs : spending input.goods prices (input.quantity best.at) ≡ best.cost

@@ -20,9 +20,11 @@ use std::alloc::Global;
 /// The bound from below. Enough of every input is in the outer set, so its program has feasible prices.
 pub(crate) fn lower_bound(alloc: Global, question: &Question<'_>) -> Result<Bound, NoMemory>
     ensures proves { IfOk result (ProvesLowerCost (input_of_table question.now.tech.now.table)
-        (slice_index question.now.tech.now.y) question.now.y (slice_index question.now.prices.now)) }
+        (slice_index question.now.tech.now.y) question.now.y
+        (slice_index question.now.prices.now)) }
     ensures given { IfOk result (IsLowerGiven (input_of_table question.now.tech.now.table)
-        (slice_index question.now.tech.now.y) question.now.y (slice_index question.now.prices.now)) }
+        (slice_index question.now.tech.now.y) question.now.y
+        (slice_index question.now.prices.now)) }
 {
     prove!(question.tech.count() as usize <= ROOM);
     let mut list = [0; ROOM];

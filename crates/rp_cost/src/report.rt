@@ -1,5 +1,6 @@
 ghost use Rattle.std.specs.Prelude.{◌≡◌, ◌++◌, ◌<◌, IfOk, OnOk, Some};
-ghost use Rattle.rp_cost.specs.Report.{answer_text, answers_text, asked_text, axiom_text, both_text};
+ghost use Rattle.rp_cost.specs.Report.{answer_text, answers_text, asked_text, axiom_text};
+ghost use Rattle.rp_cost.specs.Report.{both_text};
 ghost use Rattle.rp_cost.specs.Report.{found_text, head_text, production_report, profit_text};
 ghost use Rattle.rp_table.specs.Rows.{rows_count};
 

@@ -1,4 +1,5 @@
-ghost use Rattle.std.specs.Prelude.{◌≡◌, ◌<◌, ◌≤◌, ◌^◌, ℕ, All, Some, length, slice_get, slice_index};
+ghost use Rattle.std.specs.Prelude.{◌≡◌, ◌<◌, ◌≤◌, ◌^◌, ℕ, All, Some, length, slice_get};
+ghost use Rattle.std.specs.Prelude.{slice_index};
 ghost use Rattle.rp_table.specs.Cost.{cost_of};
 ghost use Rattle.rp_table.specs.Limits.{IsPrice, IsQuantity};
 ghost use Rattle.rp_table.specs.Tables.{goods_of, price_of, quantity_of, records_of};

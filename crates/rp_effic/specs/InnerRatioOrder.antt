@@ -34,7 +34,8 @@ module _ {K : Type 0} (part whole : K → ℕ) (positive : (x : K) → 0 < whole
   scaled : (m n k : ℕ) → 0 < k → nat_cmp (k * m) (k * n) ≡ nat_cmp m n
   scaled m n k pos = sym (nat_cmp_is (k * m) (k * n) (nat_cmp m n) (go (nat_cmp m n) (ranks m n)))
     where
-      go : (r : Ordering) → MatchOrdering r (m < n) (m ≡ n) (n < m) → MatchOrdering r (k * m < k * n) (k * m ≡ k * n) (k * n < k * m)
+      go : (r : Ordering) → MatchOrdering r (m < n) (m ≡ n) (n < m)
+        → MatchOrdering r (k * m < k * n) (k * m ≡ k * n) (k * n < k * m)
       go Less h = mul-lt-mul_of_pos_left h pos
       go Equal h = ap (λ z. k * z) h
       go Greater h = mul-lt-mul_of_pos_left h pos
@@ -44,10 +45,14 @@ module _ {K : Type 0} (part whole : K → ℕ) (positive : (x : K) → 0 < whole
   cross_total = record {
     antisymm = λ x y. nat_cmp_total.antisymm (part x * whole y) (part y * whole x);
     trans = λ x y z p q. sym (nat_cmp_is (part x * whole z) (part z * whole x) Less
-        (less_trans (part x) (whole x) (part y) (whole y) (part z) (whole z) (positive x) (positive z) (less_of x y p) (less_of y z q)));
+        (less_trans (part x) (whole x) (part y) (whole y) (part z) (whole z) (positive x) (positive z) (less_of x y p)
+          (less_of y z q)));
     congr = λ x y z e.
-        let left : whole y * (part x * whole z) ≡ whole x * (part y * whole z) = omega (arith, ap (λ k. whole z * k) (same_of x y e)) in
+        let left : whole y * (part x * whole z) ≡ whole x * (part y * whole z) =
+          omega (arith, ap (λ k. whole z * k) (same_of x y e)) in
         let right : whole y * (part z * whole x) ≡ whole x * (part z * whole y) = omega arith in
-        sym (scaled (part x * whole z) (part z * whole x) (whole y) (positive y)) ∙ ap (λ k. nat_cmp k (whole y * (part z * whole x))) left
-        ∙ ap (λ k. nat_cmp (whole x * (part y * whole z)) k) right ∙ scaled (part y * whole z) (part z * whole y) (whole x) (positive x);
+        sym (scaled (part x * whole z) (part z * whole x) (whole y) (positive y))
+          ∙ ap (λ k. nat_cmp k (whole y * (part z * whole x))) left
+        ∙ ap (λ k. nat_cmp (whole x * (part y * whole z)) k) right
+          ∙ scaled (part y * whole z) (part z * whole y) (whole x) (positive x);
   }

@@ -12,7 +12,8 @@ HasRatios n c ratios = (s t : ℕ) → s < n → t < n → c s t ≤ c s s → A
 -- Each number is greater than every one before it.
 abbrev pub Rise : List Ratio → Type 0
 Rise ratios = (i j : ℕ) (d : Ratio) → i < j → j < length ratios
-    → (slice_index_or ratios i d).part * (slice_index_or ratios j d).whole < (slice_index_or ratios j d).part * (slice_index_or ratios i d).whole
+    → (slice_index_or ratios i d).part * (slice_index_or ratios j d).whole
+      < (slice_index_or ratios j d).part * (slice_index_or ratios i d).whole
 
 -- The distinct ratios up to 1, in rising order.
 pub record AreRatios (n : ℕ) (c : ℕ → ℕ → ℕ) (ratios : List Ratio) : Type 0 where

@@ -30,4 +30,5 @@ pub record IsEfficiencyVerdict (n : ℕ) (c : ℕ → ℕ → ℕ) (evidence : E
   pub level : IsLowestLevel evidence.level
   pub below : AreCounts n (IsStrict c evidence.level.num evidence.level.den) evidence.below
   pub above : IsAbove n c evidence.level.num evidence.level.den evidence.above
-  pub at : IsVerdictOn n (IsWeak c evidence.level.num evidence.level.den) (IsStrict c evidence.level.num evidence.level.den) evidence.at
+  pub at : IsVerdictOn n (IsWeak c evidence.level.num evidence.level.den)
+      (IsStrict c evidence.level.num evidence.level.den) evidence.at

@@ -4,8 +4,8 @@ ghost use Rattle.rp_effic.specs.Monotone.{IsFirstTrue, IsMonotone};
 use rp_num::NoMemory;
 use std::alloc::Global;
 
-/// Questions at places in order: from the first place on where a condition holds, it holds at every later one. Each ask is
-/// counted.
+/// Questions at places in order: from the first place on where a condition holds, it holds at every later one. Each
+/// ask is counted.
 pub trait Ask {
     /// At which places the condition holds.
     ghost holds: { Self → ℕ → Type 0 };

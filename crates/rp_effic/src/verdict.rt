@@ -11,8 +11,9 @@ use rp_pref::{Closure, Steps, verdict_at};
 use rp_table::Costs;
 use std::alloc::Global;
 
-/// The critical cost efficiency index (Afriat 1973), the least level at which a closed walk of weak steps exists, with the counts
-/// over the strict steps at it, the shortest such walk, and the counts over the weak steps or a violation.
+/// The critical cost efficiency index (Afriat 1973), the least level at which a closed walk of weak steps exists,
+/// with the counts over the strict steps at it, the shortest such walk, and the counts over the weak steps or a
+/// violation.
 pub fn efficiency(alloc: Global, costs: &Costs) -> Result<Efficiency, NoMemory>
     ensures proves { IfOk result (ProvesEfficiency costs.now.n (cost_at costs.now)) }
     ensures given { IfOk result (IsEfficiencyVerdict costs.now.n (cost_at costs.now)) }

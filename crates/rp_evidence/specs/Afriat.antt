@@ -19,6 +19,7 @@ allowed_for c utility multiplier den cost s =
     (pos den *ℤ utility s) +ℤ (pos (multiplier s) *ℤ (pos (cost s) -ℤ pos (den * c s s)))
 
 -- The utility of a bundle over den, times den: the least that the numbers of an observation allow it.
-pub record IsUtility (n : ℕ) (c : ℕ → ℕ → ℕ) (utility : ℕ → ℤ) (multiplier : ℕ → ℕ) (den : ℕ) (cost : ℕ → ℕ) (value : ℤ) : Type 0 where
+pub record IsUtility (n : ℕ) (c : ℕ → ℕ → ℕ) (utility : ℕ → ℤ) (multiplier : ℕ → ℕ) (den : ℕ) (cost : ℕ → ℕ)
+    (value : ℤ) : Type 0 where
   pub reached : (s : ℕ) × (s < n) × (value ≡ allowed_for c utility multiplier den cost s)
   pub least : (s : ℕ) → s < n → value ≤ℤ allowed_for c utility multiplier den cost s

@@ -1,4 +1,5 @@
--- What a bound is by its evidence alone, over any program (duality of linear programming as in Gale, Kuhn and Tucker 1951).
+-- What a bound is by its evidence alone, over any program (duality of linear programming as in Gale, Kuhn and Tucker
+-- 1951).
 use Rattle.std.specs.Prelude.{ℕ, slice_index}
 use Rattle.rp_evidence.specs.declared.demand.Bound.{Bound}
 use Rattle.rp_evidence.specs.declared.demand.Bound.TheVariants.{Shown, Wide}

@@ -5,7 +5,8 @@ use Rattle.rp_evidence.specs.Walk.{Reaches}
 -- k is the number of those below n of which P holds: they are the entries of a list of length k that has none twice.
 abbrev pub IsNumberOf : ℕ → (ℕ → Type 0) → ℕ → Type 0
 IsNumberOf n P k =
-    (those : List ℕ) × AllPairs (λ x y. x ≢ y) those × ((t : ℕ) → Contains those t ↔ ((t < n) × P t)) × (length those ≡ k)
+    (those : List ℕ) × AllPairs (λ x y. x ≢ y) those × ((t : ℕ) → Contains those t ↔ ((t < n) × P t))
+      × (length those ≡ k)
 
 -- k is the count of s: how many observations are s or are reached from s.
 abbrev pub IsCount : ℕ → (ℕ → ℕ → Type 0) → ℕ → ℕ → Type 0

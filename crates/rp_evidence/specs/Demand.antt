@@ -1,5 +1,6 @@
--- Demand at new prices that a table supports (Varian 1982, on forecasting demand; with fractions of goods): the bundles on a
--- new budget with which the table still meets the generalized axiom, and how much of a good they can have.
+-- Demand at new prices that a table supports (Varian 1982, on forecasting demand; with fractions of goods): the
+-- bundles on a new budget with which the table still meets the generalized axiom, and how much of a good they can
+-- have.
 use Rattle.std.specs.Prelude.{◌≡◌, ℕ, ◌+◌, ◌*◌, ◌-◌, ◌<◌, ◌≤◌, ◌⊎◌, ◌==◌, List, slice_index, if◌then◌else◌, nat_lt}
 pub use Rattle.rp_table.specs.Spending.{spending}
 use Rattle.rp_evidence.specs.Count.{AreCounts}
@@ -24,7 +25,8 @@ abbrev pub enlarged : TableInput → NewBudget → FractionBundle → ℕ → �
 enlarged input budget bundle s t =
     if nat_lt s input.n
     then (if nat_lt t input.n then bundle.den * input.cost s t else spending input.goods (input.price s) bundle.num)
-    else (if nat_lt t input.n then bundle.den * spending input.goods budget.prices (input.quantity t) else bundle.den * budget.expenditure)
+    else (if nat_lt t input.n then bundle.den * spending input.goods budget.prices (input.quantity t)
+      else bundle.den * budget.expenditure)
 
 -- The bundle is on the budget: it costs just what is spent.
 pub record IsOnBudget (input : TableInput) (budget : NewBudget) (bundle : FractionBundle) : Type 0 where
@@ -104,7 +106,8 @@ all_on_first budget g = if g == 0 then budget.expenditure else 0
 pub record IsInnerDemand (input : TableInput) (budget : NewBudget) (bundle : FractionBundle) : Type 0 where
   pub over : bundle.den ≡ budget.prices 0
   pub parts :
-      ((s : ℕ) × (counts : List ℕ) × AreCounts input.n (IsWeak input.cost 1 1) counts × IsInnerStart input budget counts s
+      ((s : ℕ) × (counts : List ℕ) × AreCounts input.n (IsWeak input.cost 1 1) counts
+        × IsInnerStart input budget counts s
       × ((g : ℕ) → g < input.goods → bundle.num g ≡ with_rest_on_first input budget s g))
       ⊎ (((s : ℕ) → s < input.n → ¬ Buys input budget s)
       × ((g : ℕ) → g < input.goods → bundle.num g ≡ all_on_first budget g))
@@ -115,7 +118,8 @@ HasSupport input budget = (bundle : FractionBundle) × IsSupportingDemand input 
 
 -- There is an inner demand, and it is a supporting demand.
 abbrev pub HasInnerSupport : TableInput → NewBudget → Type 0
-HasInnerSupport input budget = (bundle : FractionBundle) × IsInnerDemand input budget bundle × IsSupportingDemand input budget bundle
+HasInnerSupport input budget = (bundle : FractionBundle) × IsInnerDemand input budget bundle
+  × IsSupportingDemand input budget bundle
 
 -- ---- how much of a good supporting demands have
 
@@ -126,14 +130,16 @@ HasLess bundle g num den = bundle.num g * den < num * bundle.den
 abbrev pub HasMore : FractionBundle → ℕ → ℕ → ℕ → Type 0
 HasMore bundle g num den = num * bundle.den < bundle.num g * den
 
--- num/den is the infimum of good g over all supporting demands: none has less, and of any greater fraction some has less.
+-- num/den is the infimum of good g over all supporting demands: none has less, and of any greater fraction some has
+-- less.
 pub record IsInfimum (input : TableInput) (budget : NewBudget) (g num den : ℕ) : Type 0 where
   pub fraction : 0 < den
   pub none_less : (bundle : FractionBundle) → IsSupportingDemand input budget bundle → ¬ HasLess bundle g num den
   pub approached : (num' den' : ℕ) → 0 < den' → num * den' < num' * den
       → (bundle : FractionBundle) × IsSupportingDemand input budget bundle × HasLess bundle g num' den'
 
--- num/den is the supremum of good g over all supporting demands: none has more, and of any smaller fraction some has more.
+-- num/den is the supremum of good g over all supporting demands: none has more, and of any smaller fraction some has
+-- more.
 pub record IsSupremum (input : TableInput) (budget : NewBudget) (g num den : ℕ) : Type 0 where
   pub fraction : 0 < den
   pub none_more : (bundle : FractionBundle) → IsSupportingDemand input budget bundle → ¬ HasMore bundle g num den

@@ -36,9 +36,10 @@ ProvesUpper input budget g (Wide step) = Unit {0}
 abbrev pub ProvesGood : TableInput → NewBudget → ℕ → GoodBounds → Type 0
 ProvesGood input budget g bounds = ProvesLower input budget g bounds.lower × ProvesUpper input budget g bounds.upper
 
--- The axiom holds, the lists are those of the observations below and strictly below, the point is a supporting demand, and
--- each shown bound is the infimum or the supremum over supporting demands.
-pub record ProvesDemandBounds (input : TableInput) (budget : NewBudget) (below strict : List ℕ) (inner : Point) (goods : List GoodBounds) : Type 0 where
+-- The axiom holds, the lists are those of the observations below and strictly below, the point is a supporting
+-- demand, and each shown bound is the infimum or the supremum over supporting demands.
+pub record ProvesDemandBounds (input : TableInput) (budget : NewBudget) (below strict : List ℕ) (inner : Point)
+    (goods : List GoodBounds) : Type 0 where
   pub sound : MeetsGarp input.n input.cost 1 1
   pub below_listed : ListsBelow input budget below
   pub strict_listed : ListsStrictlyBelow input budget strict

@@ -1,5 +1,5 @@
--- The two linear programs of a good: the least and the greatest that a bundle on the new budget can have of it where it costs
--- enough (this project's own form; duality of linear programming as in Gale, Kuhn and Tucker 1951).
+-- The two linear programs of a good: the least and the greatest that a bundle on the new budget can have of it where
+-- it costs enough (this project's own form; duality of linear programming as in Gale, Kuhn and Tucker 1951).
 use Rattle.std.specs.Prelude.{ℕ, ◌+◌, ◌==◌, ℤ, pos, neg_ℤ, List, length, slice_index, if◌then◌else◌, nat_lt}
 use Rattle.rp_farkas.specs.LinearProgram.{LinearProgram}
 use Rattle.rp_evidence.specs.Demand.{IsBelow, IsStrictlyBelow, NewBudget}
@@ -42,4 +42,5 @@ lower_program input budget below g = demand_program input budget below (λ i. if
 
 -- The program whose prices have the greatest of good g: its right side is what the other goods cost.
 abbrev pub upper_program : TableInput → NewBudget → List ℕ → ℕ → LinearProgram
-upper_program input budget below g = demand_program input budget below (λ i. if i == g then pos 0 else pos (budget.prices i))
+upper_program input budget below g =
+  demand_program input budget below (λ i. if i == g then pos 0 else pos (budget.prices i))

@@ -11,8 +11,8 @@ use Rattle.rp_evidence.specs.declared.efficiency.Efficiency.{Efficiency}
 abbrev pub FailsGarp : ℕ → (ℕ → ℕ → ℕ) → ℕ → ℕ → Type 0
 FailsGarp n c num den = (walk : List ℕ) × IsViolationAt n c num den walk
 
--- num/den is the index: it is above 0 and at most 1, at every level below it the axiom holds, and at every level above it, up to 1,
--- a violation exists. The index is attained where the axiom holds at it too.
+-- num/den is the index: it is above 0 and at most 1, at every level below it the axiom holds, and at every level
+-- above it, up to 1, a violation exists. The index is attained where the axiom holds at it too.
 pub record IsEfficiencyIndex (n : ℕ) (c : ℕ → ℕ → ℕ) (num den : ℕ) : Type 0 where
   pub level : IsLevel num den
   pub holds_below : (p q : ℕ) → IsLevel p q → p * den < num * q → MeetsGarp n c p q
@@ -24,7 +24,8 @@ pub record IsEfficiencyIndex (n : ℕ) (c : ℕ → ℕ → ℕ) (num den : ℕ)
 abbrev pub IsRatio : (ℕ → ℕ → ℕ) → ℕ → ℕ → ℕ → ℕ → Type 0
 IsRatio c num den s t = den * c s t ≡ num * c s s
 
--- On the steps of this closed walk, from s to t, the greatest of the ratios c(s,t)/c(s,s) is num/den: none is more, and one is equal.
+-- On the steps of this closed walk, from s to t, the greatest of the ratios c(s,t)/c(s,s) is num/den: none is more,
+-- and one is equal.
 pub record HasGreatestRatio (n : ℕ) (c : ℕ → ℕ → ℕ) (num den : ℕ) (walk : List ℕ) : Type 0 where
   pub none_more : IsClosedWalk n (IsWeak c num den) walk
   pub one_equal : HasStep (IsRatio c num den) walk
@@ -42,10 +43,12 @@ pub record BoundsFromAbove (n : ℕ) (c : ℕ → ℕ → ℕ) (num den : ℕ) (
   pub none_at_one : num ≡ den → walk ≡ []
   pub closed_below_one : num ≢ den → IsClosedWalk n (IsWeak c num den) walk
 
--- The level is the index. Ranks that order the strict steps at it show that the axiom holds at every smaller level, a closed walk of weak
--- steps at it that every greater level has a violation, and the last part whether the index is attained.
+-- The level is the index. Ranks that order the strict steps at it show that the axiom holds at every smaller level, a
+-- closed walk of weak steps at it that every greater level has a violation, and the last part whether the index is
+-- attained.
 pub record ProvesEfficiency (n : ℕ) (c : ℕ → ℕ → ℕ) (evidence : Efficiency) : Type 0 where
   pub index : IsEfficiencyIndex n c evidence.level.num evidence.level.den
   pub below : OrderStrictSteps n c evidence.level.num evidence.level.den evidence.below
   pub above : BoundsFromAbove n c evidence.level.num evidence.level.den evidence.above
-  pub at : ProvesOfPreference n (IsWeak c evidence.level.num evidence.level.den) (IsStrict c evidence.level.num evidence.level.den) evidence.at
+  pub at : ProvesOfPreference n (IsWeak c evidence.level.num evidence.level.den)
+      (IsStrict c evidence.level.num evidence.level.den) evidence.at

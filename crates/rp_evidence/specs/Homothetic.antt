@@ -41,7 +41,8 @@ EndsBelow c start walk = (start.num * next_costs c walk) * start.den < start.num
 -- lowest terms is within the width of fractions.
 abbrev pub StepsFitFrom : (ℕ → ℕ → ℕ) → ℕ → ℕ → ℕ → List ℕ → Type 0
 StepsFitFrom c num den t [] = Unit {0}
-StepsFitFrom c num den t (s ∷ rest) = (¬ (PassesWidth (num * c t s) (den * c t t))) × StepsFitFrom c (num * c t s) (den * c t t) s rest
+StepsFitFrom c num den t (s ∷ rest) = (¬ (PassesWidth (num * c t s) (den * c t t)))
+  × StepsFitFrom c (num * c t s) (den * c t t) s rest
 
 -- Each product from the start along the walk is within the width.
 abbrev pub ProductsFit : (ℕ → ℕ → ℕ) → Fraction → List ℕ → Type 0
@@ -51,8 +52,10 @@ ProductsFit c start (t ∷ rest) = StepsFitFrom c start.num start.den t rest
 -- The fraction x is the least product of the c(t,s)/c(t,t) over all walks that end at s, in lowest terms.
 pub record IsLeastProduct (n : ℕ) (c : ℕ → ℕ → ℕ) (s : ℕ) (x : Fraction) : Type 0 where
   pub lowest_terms : IsLowestTerms x.num x.den x
-  pub reached : (t : ℕ) × (walk : List ℕ) × IsWalk n AnyStep t s walk × (x.num * own_costs c walk ≡ next_costs c walk * x.den)
-  pub lowest : (t : ℕ) (walk : List ℕ) → IsWalk n AnyStep t s walk → x.num * own_costs c walk ≤ next_costs c walk * x.den
+  pub reached : (t : ℕ) × (walk : List ℕ) × IsWalk n AnyStep t s walk
+      × (x.num * own_costs c walk ≡ next_costs c walk * x.den)
+  pub lowest : (t : ℕ) (walk : List ℕ) → IsWalk n AnyStep t s walk
+      → x.num * own_costs c walk ≤ next_costs c walk * x.den
 
 -- The value of an observation; past the last it is 0.
 abbrev pub value_at : List Fraction → ℕ → Fraction
@@ -63,7 +66,8 @@ pub record BoundProducts (n : ℕ) (c : ℕ → ℕ → ℕ) (values : List Frac
   pub one_each : length values ≡ n
   pub positive : (s : ℕ) → s < n → (1 ≤ (value_at values s).num) × (1 ≤ (value_at values s).den)
   pub each : (t s : ℕ) → t < n → s < n
-      → (value_at values s).num * ((value_at values t).den * c t t) ≤ ((value_at values t).num * c t s) * (value_at values s).den
+      → (value_at values s).num * ((value_at values t).den * c t t)
+        ≤ ((value_at values t).num * c t s) * (value_at values s).den
 
 -- Values prove that the test holds: it does, and they are positive and bound the products. A cycle proves that it
 -- fails: it is closed and its product is below 1. What is withheld claims nothing.

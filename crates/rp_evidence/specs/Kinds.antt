@@ -1,8 +1,10 @@
--- What a certificate may hold: one on a table has items on tables, one on random choices has random items (this program's own).
+-- What a certificate may hold: one on a table has items on tables, one on random choices has random items (this
+-- program's own).
 use Rattle.std.specs.Prelude.{◌≡◌, ⊤, All}
 use Rattle.rp_evidence.specs.declared.certificate.Certificate.{Certificate}
 use Rattle.rp_evidence.specs.declared.certificate.Item.{Item}
-use Rattle.rp_evidence.specs.declared.certificate.Item.TheVariants.{Garp, Afriat, Efficiency, Homothetic, Quasi, Demand, Welfare, Random}
+use Rattle.rp_evidence.specs.declared.certificate.Item.TheVariants.{Garp, Afriat, Efficiency, Homothetic, Quasi}
+use Rattle.rp_evidence.specs.declared.certificate.Item.TheVariants.{Demand, Welfare, Random}
 use Rattle.rp_evidence.specs.declared.certificate.Kind.{Kind}
 use Rattle.rp_evidence.specs.declared.certificate.Kind.TheVariants.{Table, Random as RandomKind}
 

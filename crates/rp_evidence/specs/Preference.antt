@@ -6,11 +6,13 @@ use Rattle.std.specs.Prelude.{◌≡◌, ℕ, ◌*◌, ◌<◌, ◌≤◌}
 abbrev pub IsLevel : ℕ → ℕ → Type 0
 IsLevel num den = (0 < num) × (num ≤ den)
 
--- At the level num/den, s is weakly preferred to t: at the prices of s, t costs no more than that part of what was spent at s.
+-- At the level num/den, s is weakly preferred to t: at the prices of s, t costs no more than that part of what was
+-- spent at s.
 abbrev pub IsWeak : (ℕ → ℕ → ℕ) → ℕ → ℕ → ℕ → ℕ → Type 0
 IsWeak c num den s t = den * c s t ≤ num * c s s
 
--- At the level num/den, s is strictly preferred to t: at the prices of s, t costs less than that part of what was spent at s.
+-- At the level num/den, s is strictly preferred to t: at the prices of s, t costs less than that part of what was
+-- spent at s.
 abbrev pub IsStrict : (ℕ → ℕ → ℕ) → ℕ → ℕ → ℕ → ℕ → Type 0
 IsStrict c num den s t = den * c s t < num * c s s
 

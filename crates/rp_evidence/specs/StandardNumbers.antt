@@ -8,11 +8,13 @@ use Rattle.rp_evidence.specs.Preference.{IsWeak}
 
 -- x is the one utility of the observations of that class: 0 in the highest class; in every other class the least that
 -- an observation of a higher class allows one of the class.
-pub record IsClassUtility (n : ℕ) (c : ℕ → ℕ → ℕ) (count : ℕ → ℕ) (utility : ℕ → ℤ) (multiplier : ℕ → ℕ) (class : ℕ) (x : ℤ) : Type 0 where
+pub record IsClassUtility (n : ℕ) (c : ℕ → ℕ → ℕ) (count : ℕ → ℕ) (utility : ℕ → ℤ) (multiplier : ℕ → ℕ) (class : ℕ)
+    (x : ℤ) : Type 0 where
   pub highest : ((s : ℕ) → s < n → count s ≤ class) → x ≡ pos 0
   pub least : (s t : ℕ) → s < n → t < n → class < count s → count t ≡ class → x ≤ℤ allowed c utility multiplier s t
   pub reached : (h : ℕ) → h < n → class < count h
-      → (s : ℕ) × (t : ℕ) × (s < n) × (t < n) × (class < count s) × (count t ≡ class) × (x ≡ allowed c utility multiplier s t)
+      → (s : ℕ) × (t : ℕ) × (s < n) × (t < n) × (class < count s) × (count t ≡ class)
+        × (x ≡ allowed c utility multiplier s t)
 
 -- With the multiplier k, observation s allows each observation of a higher class its utility.
 abbrev pub AllowsHigher : ℕ → (ℕ → ℕ → ℕ) → (ℕ → ℕ) → (ℕ → ℤ) → ℕ → ℕ → Type 0
@@ -26,12 +28,14 @@ pub record IsMultiplier (n : ℕ) (c : ℕ → ℕ → ℕ) (count : ℕ → ℕ
   pub least : (j : ℕ) → 1 ≤ j → AllowsHigher n c count utility s j → k ≤ j
 
 -- The numbers of t are its class's utility and its multiplier.
-pub record AreNumbersOf (n : ℕ) (c : ℕ → ℕ → ℕ) (count : ℕ → ℕ) (utility : ℕ → ℤ) (multiplier : ℕ → ℕ) (t : ℕ) : Type 0 where
+pub record AreNumbersOf (n : ℕ) (c : ℕ → ℕ → ℕ) (count : ℕ → ℕ) (utility : ℕ → ℤ) (multiplier : ℕ → ℕ)
+    (t : ℕ) : Type 0 where
   pub utility_is : IsClassUtility n c count utility multiplier (count t) (utility t)
   pub multiplier_is : IsMultiplier n c count utility t (multiplier t)
 
 -- The standard numbers of n observations, without any width.
-pub record AreStandardNumbers (n : ℕ) (c : ℕ → ℕ → ℕ) (count : ℕ → ℕ) (utility : ℕ → ℤ) (multiplier : ℕ → ℕ) : Type 0 where
+pub record AreStandardNumbers (n : ℕ) (c : ℕ → ℕ → ℕ) (count : ℕ → ℕ) (utility : ℕ → ℤ)
+    (multiplier : ℕ → ℕ) : Type 0 where
   pub counts : (s : ℕ) → s < n → IsCount n (IsWeak c 1 1) s (count s)
   pub each : (t : ℕ) → t < n → AreNumbersOf n c count utility multiplier t
 

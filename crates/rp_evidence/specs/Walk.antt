@@ -10,8 +10,8 @@ abbrev pub LeadsTo : ℕ → (ℕ → ℕ → Type 0) → ℕ → ℕ → List �
 LeadsTo n step s t [] = (s < n) × (s ≡ t)
 LeadsTo n step s t (x ∷ rest) = (s < n) × step s x × LeadsTo n step x t rest
 
--- A walk from s to t: a list of observations that begins with s and ends with t, with a step from each entry to the next.
--- It has one step fewer than entries.
+-- A walk from s to t: a list of observations that begins with s and ends with t, with a step from each entry to the
+-- next. It has one step fewer than entries.
 abbrev pub IsWalk : ℕ → (ℕ → ℕ → Type 0) → ℕ → ℕ → List ℕ → Type 0
 IsWalk n step s t [] = ⊥
 IsWalk n step s t (x ∷ rest) = (x ≡ s) × LeadsTo n step x t rest

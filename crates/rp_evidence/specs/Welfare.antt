@@ -39,8 +39,8 @@ pub record IsUpperWelfare (input : TableInput) (prices : ℕ → ℕ) (t s cost 
 abbrev pub ListsReached : TableInput → ℕ → List ℕ → Type 0
 ListsReached input t reached = Enumerates input.n (EqualsOrReaches input t) reached
 
--- The program whose prices are the bundles of the region, at the least cost: a column for each listed observation, its prices
--- worth what was spent there, and the new prices on the right side.
+-- The program whose prices are the bundles of the region, at the least cost: a column for each listed observation,
+-- its prices worth what was spent there, and the new prices on the right side.
 abbrev pub welfare_program : TableInput → (ℕ → ℕ) → List ℕ → LinearProgram
 welfare_program input prices reached = record {
   rows = input.goods;
@@ -57,8 +57,10 @@ NoneWorthMore p k = (den : ℕ) (y : ℕ → ℕ) → IsFeasiblePoint p den y �
 -- ---- as good as an observation, in an Afriat model
 
 -- By the numbers of the model the bundle is as good as observation t or better: it has at least the utility of t.
-pub record IsAsGoodAs (input : TableInput) (utility : ℕ → ℤ) (multiplier : ℕ → ℕ) (bundle : FractionBundle) (t : ℕ) : Type 0 where
+pub record IsAsGoodAs (input : TableInput) (utility : ℕ → ℤ) (multiplier : ℕ → ℕ) (bundle : FractionBundle)
+    (t : ℕ) : Type 0 where
   pub fraction : 0 < bundle.den
   pub value : ℤ
-  pub value_is : IsUtility input.n input.cost utility multiplier bundle.den (λ s. spending input.goods (input.price s) bundle.num) value
+  pub value_is : IsUtility input.n input.cost utility multiplier bundle.den
+      (λ s. spending input.goods (input.price s) bundle.num) value
   pub at_least : (pos bundle.den *ℤ utility t) ≤ℤ value

@@ -11,17 +11,21 @@ use Rattle.rp_evidence.specs.declared.demand.WelfarePart.TheVariants.{Bounds, No
 
 -- The bundle costs at least a shown bound at the prices; a withheld one claims nothing.
 abbrev pub CostsAtLeast : TableInput → (ℕ → ℕ) → FractionBundle → Bound → Type 0
-CostsAtLeast input prices bundle (Shown value pair) = value.num * bundle.den ≤ spending input.goods prices bundle.num * value.den
+CostsAtLeast input prices bundle (Shown value pair) =
+  value.num * bundle.den ≤ spending input.goods prices bundle.num * value.den
 CostsAtLeast input prices bundle (Wide step) = Unit {0}
 
 -- The bundle of observation s, in whole numbers.
 abbrev pub bundle_at : TableInput → ℕ → FractionBundle
 bundle_at input s = record { den = 1; num = input.quantity s }
 
--- By the numbers of a model each bundle as good as t costs at least the lower bound; the bundle of the observation of the
--- upper bound is as good as t, that observation has at least the utility of t, and its bundle costs the upper bound.
-pub record BoundWelfare (input : TableInput) (utility : ℕ → ℤ) (multiplier : ℕ → ℕ) (prices : ℕ → ℕ) (t upper at : ℕ) (lower : Bound) : Type 0 where
-  pub none_cheaper : (bundle : FractionBundle) → IsAsGoodAs input utility multiplier bundle t → CostsAtLeast input prices bundle lower
+-- By the numbers of a model each bundle as good as t costs at least the lower bound; the bundle of the observation of
+-- the upper bound is as good as t, that observation has at least the utility of t, and its bundle costs the upper
+-- bound.
+pub record BoundWelfare (input : TableInput) (utility : ℕ → ℤ) (multiplier : ℕ → ℕ) (prices : ℕ → ℕ) (t upper at : ℕ)
+    (lower : Bound) : Type 0 where
+  pub none_cheaper : (bundle : FractionBundle) → IsAsGoodAs input utility multiplier bundle t
+      → CostsAtLeast input prices bundle lower
   pub as_good : IsAsGoodAs input utility multiplier (bundle_at input at) t
   pub at_least : utility t ≤ℤ utility at
   pub costs : spending input.goods prices (input.quantity at) ≡ upper

@@ -4,7 +4,8 @@ use Rattle.rp_evidence.specs.AfriatEvidence.{withheld_afriat}
 use Rattle.rp_evidence.specs.DemandEvidence.{withheld_demand, withheld_welfare}
 use Rattle.rp_evidence.specs.Homothetic.{withheld_homothetic}
 use Rattle.rp_evidence.specs.declared.certificate.Item.{Item}
-use Rattle.rp_evidence.specs.declared.certificate.Item.TheVariants.{Garp, Afriat, Efficiency, Homothetic, Quasi, Demand, Welfare, Random}
+use Rattle.rp_evidence.specs.declared.certificate.Item.TheVariants.{Garp, Afriat, Efficiency, Homothetic, Quasi}
+use Rattle.rp_evidence.specs.declared.certificate.Item.TheVariants.{Demand, Welfare, Random}
 use Rattle.rp_evidence.specs.declared.random.RandomPart.{RandomPart}
 use Rattle.rp_evidence.specs.declared.random.RandomPart.TheVariants.{Mixture, Violated, Wide}
 

@@ -1,5 +1,6 @@
 ghost use Rattle.std.specs.Prelude.{◌≡◌, ◌-◌, ◌^◌, min, sum_by};
-ghost use Rattle.rp_evidence.specs.DemandEvidence.{withheld_bound, withheld_demand, withheld_good, withheld_welfare};
+ghost use Rattle.rp_evidence.specs.DemandEvidence.{withheld_bound, withheld_demand, withheld_good};
+ghost use Rattle.rp_evidence.specs.DemandEvidence.{withheld_welfare};
 
 use rp_farkas::Pair;
 use rp_num::{Frac, Seq};
@@ -25,8 +26,8 @@ pub struct Point {
     pub num: Seq<u64>,
 }
 
-/// Demand at new prices: the observations below the new budget and those strictly below, from 0; one supporting demand; the
-/// bounds of each good. Or a violation of the table, which then supports none.
+/// Demand at new prices: the observations below the new budget and those strictly below, from 0; one supporting
+/// demand; the bounds of each good. Or a violation of the table, which then supports none.
 #[derive(Debug, Drop)]
 pub enum DemandPart {
     Bounds {

@@ -15,8 +15,8 @@ ghost use Rattle.rp_evidence.specs.Input.{TableInput, input_of_table};
 ghost use Rattle.rp_evidence.specs.SupportedBudget.{SupportedBudget};
 ghost use Rattle.rp_evidence.specs.Welfare.{EqualsOrReaches};
 
-/// An observation is strictly below exactly where it is, or is reached from, one whose bundle the budget buys with money
-/// left, or to which an observation below is strictly preferred.
+/// An observation is strictly below exactly where it is, or is reached from, one whose bundle the budget buys with
+/// money left, or to which an observation below is strictly preferred.
 pub fn strictly_below_from_strict_starts()
     ensures { (input : TableInput) (budget : NewBudget) (t : ℕ) → IsStrictlyBelow input budget t
         ↔ ((v : ℕ) × (v < input.n) × IsStrictStart input budget v × EqualsOrReaches input v t) }

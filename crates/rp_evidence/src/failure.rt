@@ -20,8 +20,8 @@ pub enum Reason {
     Irrational,
 }
 
-/// What an item of a certificate fails first: the reason, and the place, which is counted from 1; 0 stands for the whole item,
-/// and 2^32 - 1 for that place and every greater one.
+/// What an item of a certificate fails first: the reason, and the place, which is counted from 1; 0 stands for the
+/// whole item, and 2^32 - 1 for that place and every greater one.
 #[derive(Clone, Copy, Debug, PartialEq, Eq)]
 pub struct Failure {
     pub reason: Reason,

@@ -72,7 +72,8 @@ pub fn strict_is_weak()
     ensures { (num den s t : ℕ) (c : ℕ → ℕ → ℕ) → IsStrict c num den s t → IsWeak c num den s t }
 {}
 
-/// A walk of weak steps and a strict step, which is a weak one too, from its end back to its beginning make a violation.
+/// A walk of weak steps and a strict step, which is a weak one too, from its end back to its beginning make a
+/// violation.
 pub fn walk_and_strict_step_violate<P: Preference>()
     ensures { (n s t : ℕ) (walk : List ℕ)
         → IsWalk n P.weak s t walk → P.weak t s → P.strict t s

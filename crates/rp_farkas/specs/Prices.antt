@@ -1,4 +1,5 @@
--- Feasible price vectors of a linear program: the feasible points of its dual, over fractions (Gale, Kuhn and Tucker 1951).
+-- Feasible price vectors of a linear program: the feasible points of its dual, over fractions (Gale, Kuhn and Tucker
+-- 1951).
 use Rattle.std.specs.Prelude.{ℕ, ◌<◌, ℤ, pos, ◌*ℤ◌, ◌≤ℤ◌}
 use Rattle.rp_farkas.specs.Total.{total}
 use Rattle.rp_farkas.specs.LinearProgram.{LinearProgram}

@@ -18,7 +18,8 @@ module _ {X : Type 0} where
   held rows cols places = record { rows = cut rows cols (somes places.slots); cols = cols }
 
   -- One block has a value for each element, and is given back as a whole.
-  pub record IsHeld (rows cols : ℕ) (base : Base X) (places : Places X) (deed : Deed X Global) (alloc : Global) : Type 0 where
+  pub record IsHeld (rows cols : ℕ) (base : Base X) (places : Places X) (deed : Deed X Global)
+      (alloc : Global) : Type 0 where
     pub places_at : base.ptr ≡ places.at
     pub deed_at : deed.at ≡ base.ptr
     pub deed_len : deed.len ≡ rows * cols

@@ -82,8 +82,9 @@ pub(crate) fn allocate<T, A: Allocator>(
     }
 }
 
-/// Gives the block back. What its places hold is forgotten, and never dropped. The contract asks for the whole block and for the
-/// right that came with it. That they are given back no clause can say: an allocator promises nothing of a block that is freed.
+/// Gives the block back. What its places hold is forgotten, and never dropped. The contract asks for the whole block
+/// and for the right that came with it. That they are given back no clause can say: an allocator promises nothing of
+/// a block that is freed.
 pub(crate) fn deallocate<T, A: Allocator>(
     alloc: &A,
     base: Base<T>,

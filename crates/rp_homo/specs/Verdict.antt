@@ -33,7 +33,8 @@ pub record GivesValues (n : ℕ) (c : ℕ → ℕ → ℕ) (values : List Fracti
   pub one_each : length values ≡ n
   pub fit : (s : ℕ) → s < n → FitsWidth (value_at values s)
   pub least : (s : ℕ) → s < n → IsLeastProduct n c s (value_at values s)
-  pub steps_fit : (t s : ℕ) → t < n → s < n → ¬ (PassesWidth ((value_at values t).num * c t s) ((value_at values t).den * c t t))
+  pub steps_fit : (t s : ℕ) → t < n → s < n
+      → ¬ (PassesWidth ((value_at values t).num * c t s) ((value_at values t).den * c t t))
 
 -- The cycle is s, t, s from the start 1, where s and t are the first pair that falls.
 pub record IsPairCycle (n : ℕ) (c : ℕ → ℕ → ℕ) (start : Fraction) (walk : List ℕ) : Type 0 where

@@ -1,6 +1,7 @@
 -- What bytes denote as a certificate of a kind, or their first refusal (this program's own format). Bytes are read as
 -- `serde_json` reads them, so every spelling of a value denotes the same.
-use Rattle.std.specs.Prelude.{◌≡◌, ◌≢◌, ◌⊎◌, ◌<◌, ◌+◌, ◌-◌, ◌^◌, ℕ, List, All, length, map, min, slice_index_or, take, codes, Result, Ok, Err, IsUtf8, Some}
+use Rattle.std.specs.Prelude.{◌≡◌, ◌≢◌, ◌⊎◌, ◌<◌, ◌+◌, ◌-◌, ◌^◌, ℕ, List, All, length, map, min, slice_index_or, take}
+use Rattle.std.specs.Prelude.{codes, Result, Ok, Err, IsUtf8, Some}
 use Rattle.rp_evidence.specs.Kinds.{IsOfKind}
 use Rattle.rp_evidence.specs.declared.certificate.Certificate.{Certificate}
 use Rattle.rp_evidence.specs.declared.certificate.Item.{Item}
@@ -54,7 +55,8 @@ IsDenotedBy kind d (Ok c) =
     (certificate_value c ≡ d) × IsReadable kind c
     × ((other : Certificate) → IsReadable kind other → certificate_value other ≡ d → other ≡ c)
 IsDenotedBy kind d (Err NotJson) = ⊥
-IsDenotedBy kind d (Err BadVersion) = (version : ℕ) × (items : List Data) × (d ≡ top_value kind version items) × (version ≢ 1)
+IsDenotedBy kind d (Err BadVersion) = (version : ℕ) × (items : List Data)
+  × (d ≡ top_value kind version items) × (version ≢ 1)
 IsDenotedBy kind d (Err (BadShape item)) = ((item ≡ 0) × HasNoTop kind d) ⊎ HasBadItem kind d item
 IsDenotedBy kind d (Err NoMemory) = Unit {0}
 

@@ -1,5 +1,6 @@
 -- Words that only proofs need: how far a search through the types has come.
-use Rattle.std.specs.Prelude.{◌≡◌, ◌<◌, ◌≤◌, ◌+◌, ◌*◌, ◌^◌, ◌++◌, ℕ, zero, suc, List, [], ◌∷◌, length, slice_index, slice_index_or}
+use Rattle.std.specs.Prelude.{◌≡◌, ◌<◌, ◌≤◌, ◌+◌, ◌*◌, ◌^◌, ◌++◌, ℕ, zero, suc, List, [], ◌∷◌, length, slice_index}
+use Rattle.std.specs.Prelude.{slice_index_or}
 use Rattle.rp_patch.specs.Mixtures.{type_weight}
 use Rattle.rp_patch.specs.Parts.{Before, IsPart, taken_in}
 use Rattle.rp_patch.specs.Patches.{PatchList}

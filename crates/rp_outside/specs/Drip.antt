@@ -12,7 +12,8 @@ pub record DripDeskState : Type 0 where
 -- n bytes from the place `at` on stand at the front of `into`: the least of a piece, of what has room and of what there
 -- is
 abbrev pub ReadsPiece : ℕ → List ℕ → ℕ → List ℕ → ℕ → Type 0
-ReadsPiece piece bs at into n = (n ≡ min piece (min (length into) (length bs - at))) × (take n into ≡ take n (drop at bs))
+ReadsPiece piece bs at into n = (n ≡ min piece (min (length into) (length bs - at)))
+  × (take n into ≡ take n (drop at bs))
 
 -- the desk after a read, which was answered or not
 abbrev pub after_drip_read : DripDeskState → Bool → DripDeskState

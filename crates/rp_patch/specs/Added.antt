@@ -2,8 +2,8 @@
 use Rattle.std.specs.Prelude.{◌≡◌, ◌⊎◌, ◌<◌, ℕ, length}
 use Rattle.rp_patch.specs.Patches.{PatchList, patch_at, units_at}
 
--- Patches without units were added to p, which gives q: patch i of p is the patch of q at the place that it went to, no two go to
--- one place, and every patch of q is one of these or has no units.
+-- Patches without units were added to p, which gives q: patch i of p is the patch of q at the place that it went to,
+-- no two go to one place, and every patch of q is one of these or has no units.
 pub record AddsPatches (p q : PatchList) (place : ℕ → ℕ) : Type 0 where
   pub budgets : q.budgets ≡ p.budgets
   pub total : q.total ≡ p.total

@@ -4,8 +4,8 @@ use Rattle.rp_table.specs.BudgetLists.{BudgetList}
 use Rattle.rp_table.specs.ChoiceLists.{ChoiceList}
 use Rattle.rp_table.specs.Sums.{sum_below}
 
--- `price j g` is the price of good g on budget j, `income j` what there is to spend there; choice i was made on the budget
--- `budget i`, so many `times i`, and has the bundle `quantity i`.
+-- `price j g` is the price of good g on budget j, `income j` what there is to spend there; choice i was made on the
+-- budget `budget i`, so many `times i`, and has the bundle `quantity i`.
 pub record RandomInput : Type 0 where
   pub budgets : ℕ
   pub goods : ℕ

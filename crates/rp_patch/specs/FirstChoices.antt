@@ -1,5 +1,5 @@
--- Patches in terms of the choices that fall in them: the first that was made numbers a patch, and all together are its times
--- (after Kitamura and Stoye 2018).
+-- Patches in terms of the choices that fall in them: the first that was made numbers a patch, and all together are
+-- its times (after Kitamura and Stoye 2018).
 use Rattle.std.specs.Prelude.{◌≡◌, ◌⊎◌, ◌<◌, ◌≤◌, ◌==◌, ◌&&◌, ℕ, ℤ, List, length, if◌then◌else◌}
 use Rattle.std.specs.Cmp.Lexicographic.{pointwise}
 use Rattle.std.specs.Ordering.{int_eq}
@@ -27,8 +27,8 @@ FallsInPatch input p i c = FallsIn input (budget_at p i) (patch_at p i).signs c
 abbrev pub IsFirstInPatch : RandomInput → PatchList → ℕ → ℕ → Type 0
 IsFirstInPatch input p i c = IsFirstIn input (budget_at p i) (patch_at p i).signs c
 
--- The patches are those that some choice falls in that was made at least once, each one time: by budget, and on a budget by
--- the first such choice.
+-- The patches are those that some choice falls in that was made at least once, each one time: by budget, and on a
+-- budget by the first such choice.
 pub record AreNumberedByFirstChoice (input : RandomInput) (p : PatchList) : Type 0 where
   pub each : (i : ℕ) → i < length p.patches → (c : ℕ) × IsFirstInPatch input p i c
   pub all : (c : ℕ) → c < input.choices → input.budget c < input.budgets → 0 < input.times c
@@ -39,4 +39,5 @@ pub record AreNumberedByFirstChoice (input : RandomInput) (p : PatchList) : Type
 -- How many times choices were made that fall in patch i.
 abbrev pub times_in : RandomInput → PatchList → ℕ → ℕ
 times_in input p i = sum_below input.choices (λ c.
-    if (input.budget c == budget_at p i) && pointwise int_eq (signs_of input c) (patch_at p i).signs then input.times c else 0)
+    if (input.budget c == budget_at p i) && pointwise int_eq (signs_of input c) (patch_at p i).signs
+      then input.times c else 0)

@@ -1,5 +1,6 @@
 -- Words that only proofs need: how far the units of a total are given to the patches by largest remainders.
-use Rattle.std.specs.Prelude.{◌≡◌, ◌≢◌, ◌⊎◌, ◌<◌, ◌≤◌, ◌+◌, ◌*◌, ◌/◌, ◌%◌, ◌==◌, ℕ, true, false, List, Option, Some, None, MatchOption, length, slice_index_or, if◌then◌else◌}
+use Rattle.std.specs.Prelude.{◌≡◌, ◌≢◌, ◌⊎◌, ◌<◌, ◌≤◌, ◌+◌, ◌*◌, ◌/◌, ◌%◌, ◌==◌, ℕ, true, false, List, Option, Some}
+use Rattle.std.specs.Prelude.{None, MatchOption, length, slice_index_or, if◌then◌else◌}
 use Rattle.rp_table.specs.Sums.{sum_below}
 use Rattle.rp_patch.specs.Choices.{RandomInput, times_on}
 use Rattle.rp_patch.specs.Patches.{no_patch}
@@ -69,7 +70,8 @@ IsLeft portions j i = ((portion_at portions i).budget ≡ j) × ((portion_at por
 abbrev pub IsNextUp : List Portion → ℕ → ℕ → Option ℕ → Type 0
 IsNextUp portions j n found = MatchOption found
     ((i : ℕ) → i < n → ¬ IsLeft portions j i)
-    (λ best. (best < n) × IsLeft portions j best × ((i : ℕ) → i < n → IsLeft portions j i → i ≢ best → IsAhead portions best i))
+    (λ best. (best < n) × IsLeft portions j best
+      × ((i : ℕ) → i < n → IsLeft portions j i → i ≢ best → IsAhead portions best i))
 
 -- So many are raised of budget j, those with the largest rests, and those of other budgets are as they were.
 pub record IsRaisedBy (old new : List Portion) (j many : ℕ) : Type 0 where
@@ -78,8 +80,8 @@ pub record IsRaisedBy (old new : List Portion) (j many : ℕ) : Type 0 where
   pub many_raised : raised_on new j ≡ many
   pub others : (i : ℕ) → (portion_at old i).budget ≢ j → (portion_at new i).raised ≡ (portion_at old i).raised
 
--- Whole parts within the limits, of which those of each of the first budgets are less than the total by no more than one for
--- each portion, and none is raised.
+-- Whole parts within the limits, of which those of each of the first budgets are less than the total by no more than
+-- one for each portion, and none is raised.
 pub record AreWhole (portions : List Portion) (budgets total : ℕ) : Type 0 where
   pub few : length portions ≤ PATCHES
   pub small : (i : ℕ) → i < length portions → (portion_at portions i).whole ≤ UNITS

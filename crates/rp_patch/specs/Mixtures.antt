@@ -1,6 +1,7 @@
--- Mixtures of rational types, and the greatest share of choices that they explain (McFadden and Richter 1990; Kitamura and
--- Stoye 2018).
-use Rattle.std.specs.Prelude.{◌≡◌, ◌<◌, ◌≤◌, ◌*◌, ◌==◌, ℕ, Bool, pos, List, [], Contains, length, sum_by, slice_index, slice_index_or, if◌then◌else◌}
+-- Mixtures of rational types, and the greatest share of choices that they explain (McFadden and Richter 1990;
+-- Kitamura and Stoye 2018).
+use Rattle.std.specs.Prelude.{◌≡◌, ◌<◌, ◌≤◌, ◌*◌, ◌==◌, ℕ, Bool, pos, List, [], Contains, length, sum_by, slice_index}
+use Rattle.std.specs.Prelude.{slice_index_or, if◌then◌else◌}
 use Rattle.std.specs.List.{list_any}
 use Rattle.rp_evidence.specs.declared.random.Share.{Share}
 use Rattle.rp_farkas.specs.LinearProgram.{LinearProgram}
@@ -50,8 +51,8 @@ pub record IsGreatestShare (p : PatchList) (num den : ℕ) : Type 0 where
   pub no_greater : (d : ℕ) (parts : List Share) → IsPartialMixture p d parts
       → weight_of parts * den ≤ num * (d * p.total)
 
--- The program of random utility: a row for each patch with its units on the right side, and a column worth 1 for each listed
--- type with 1 at its patches.
+-- The program of random utility: a row for each patch with its units on the right side, and a column worth 1 for each
+-- listed type with 1 at its patches.
 abbrev pub random_program : PatchList → List (List ℕ) → LinearProgram
 random_program p types = record {
   rows = length p.patches;

@@ -1,4 +1,5 @@
--- A part of a type: a patch of each of the first budgets, with what each of these leads to (closures after Warshall 1962).
+-- A part of a type: a patch of each of the first budgets, with what each of these leads to (closures after Warshall
+-- 1962).
 use Rattle.std.specs.Prelude.{◌≡◌, ◌<◌, ◌≤◌, ◌↔◌, ◌⊎◌, ⊤, ℕ, List, [], ◌∷◌, length, slice_index, take}
 use Rattle.rp_evidence.specs.Garp.{HasNoViolation}
 use Rattle.rp_evidence.specs.Walk.{LeadsTo}

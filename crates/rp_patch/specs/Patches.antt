@@ -34,8 +34,8 @@ units_at p i = (patch_at p i).units
 abbrev pub units_on : PatchList → ℕ → ℕ
 units_on p j = sum_below (length p.patches) (λ i. if budget_at p i == j then units_at p i else 0)
 
--- Patches within the limits: each has a budget and a sign to every budget, they stand by budget, and none has more units
--- than a budget has; those of each budget together have just as many.
+-- Patches within the limits: each has a budget and a sign to every budget, they stand by budget, and none has more
+-- units than a budget has; those of each budget together have just as many.
 pub record IsPatchList (p : PatchList) : Type 0 where
   pub some_budgets : 1 ≤ p.budgets
   pub few_budgets : p.budgets ≤ BUDGETS

@@ -1,8 +1,12 @@
--- What evidence on random choices has to be to prove its verdict (McFadden and Richter 1990; the weights of the patches are
--- the dual side of the program of random utility).
+-- What evidence on random choices has to be to prove its verdict (McFadden and Richter 1990; the weights of the
+-- patches are the dual side of the program of random utility).
 use Rattle.std.specs.Prelude.{◌≡◌, ◌≤◌, ℕ, List, length}
 use Rattle.rp_evidence.specs.declared.certificate.Item.{Item}
-use Rattle.rp_evidence.specs.declared.certificate.Item.TheVariants.{Garp as GarpItem, Afriat as AfriatItem, Efficiency as EfficiencyItem, Homothetic as HomotheticItem, Quasi as QuasiItem, Demand as DemandItem, Welfare as WelfareItem, Random as RandomItem}
+use Rattle.rp_evidence.specs.declared.certificate.Item.TheVariants.{Garp as GarpItem, Afriat as AfriatItem}
+use Rattle.rp_evidence.specs.declared.certificate.Item.TheVariants.{Efficiency as EfficiencyItem}
+use Rattle.rp_evidence.specs.declared.certificate.Item.TheVariants.{Homothetic as HomotheticItem, Quasi as QuasiItem}
+use Rattle.rp_evidence.specs.declared.certificate.Item.TheVariants.{Demand as DemandItem, Welfare as WelfareItem}
+use Rattle.rp_evidence.specs.declared.certificate.Item.TheVariants.{Random as RandomItem}
 use Rattle.rp_evidence.specs.declared.random.RandomPart.{RandomPart}
 use Rattle.rp_evidence.specs.declared.random.RandomPart.TheVariants.{Mixture, Violated, Wide}
 use Rattle.rp_evidence.specs.declared.random.Share.{Share}
@@ -19,8 +23,8 @@ pub record ProvesNoMixture (p : PatchList) (den : ℕ) (parts : List Share) (wei
   pub one_each : length weights ≡ length p.patches
   pub weighs : (type : List ℕ) → IsRationalType p type → den ≤ type_weight weights type
 
--- Evidence proves its verdict on the units of these patches: the parts are a mixture; or there is none. What is withheld has
--- no verdict.
+-- Evidence proves its verdict on the units of these patches: the parts are a mixture; or there is none. What is
+-- withheld has no verdict.
 abbrev pub ProvesRandom : PatchList → ℕ → RandomPart → Type 0
 ProvesRandom p total (Mixture den parts) = (total ≡ p.total) × IsMixture p den parts
 ProvesRandom p total (Violated den parts weights) = (total ≡ p.total) × ProvesNoMixture p den parts weights

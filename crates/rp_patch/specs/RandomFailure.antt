@@ -1,12 +1,17 @@
--- When an item on random choices fails (this program's own order of clauses; types after McFadden and Richter 1990). The
--- clauses are about rational types as such, however they are found.
+-- When an item on random choices fails (this program's own order of clauses; types after McFadden and Richter 1990).
+-- The clauses are about rational types as such, however they are found.
 use Rattle.std.specs.Prelude.{◌≡◌, ◌⊎◌, ◌<◌, ◌≤◌, ◌+◌, ◌-◌, ◌*◌, ◌^◌, ℕ, List, [], ◌∷◌, All, length, slice_index_or}
 use Rattle.std.specs.Cmp.Lexicographic.{slice_cmp}
 use Rattle.std.specs.Ordering.{nat_cmp}
 use Rattle.std.specs.declared.cmp.Ordering.TheVariants.{Less}
 use Rattle.rp_evidence.specs.declared.certificate.Item.{Item}
-use Rattle.rp_evidence.specs.declared.certificate.Item.TheVariants.{Garp as GarpItem, Afriat as AfriatItem, Efficiency as EfficiencyItem, Homothetic as HomotheticItem, Quasi as QuasiItem, Demand as DemandItem, Welfare as WelfareItem, Random as RandomItem}
-use Rattle.rp_evidence.specs.declared.failure.Reason.TheVariants.{Shape, Number, Order, NotLess, Least, Dual, Units, Irrational}
+use Rattle.rp_evidence.specs.declared.certificate.Item.TheVariants.{Garp as GarpItem, Afriat as AfriatItem}
+use Rattle.rp_evidence.specs.declared.certificate.Item.TheVariants.{Efficiency as EfficiencyItem}
+use Rattle.rp_evidence.specs.declared.certificate.Item.TheVariants.{Homothetic as HomotheticItem, Quasi as QuasiItem}
+use Rattle.rp_evidence.specs.declared.certificate.Item.TheVariants.{Demand as DemandItem, Welfare as WelfareItem}
+use Rattle.rp_evidence.specs.declared.certificate.Item.TheVariants.{Random as RandomItem}
+use Rattle.rp_evidence.specs.declared.failure.Reason.TheVariants.{Shape, Number, Order, NotLess, Least, Dual, Units}
+use Rattle.rp_evidence.specs.declared.failure.Reason.TheVariants.{Irrational}
 use Rattle.rp_evidence.specs.declared.random.RandomPart.{RandomPart}
 use Rattle.rp_evidence.specs.declared.random.RandomPart.TheVariants.{Mixture, Violated, Wide}
 use Rattle.rp_evidence.specs.declared.random.Share.{Share}
@@ -56,8 +61,8 @@ MixtureFails p den parts = InOrder (
     ∷ FirstUnless (length p.patches) (λ i. weight_on parts i ≡ den * units_at p i) Units
     ∷ [])
 
--- A violation: a weight of each patch; no patch gets more than its units; every rational type weighs at least the denominator;
--- the parts have as much as the units weigh; and that is less than the total.
+-- A violation: a weight of each patch; no patch gets more than its units; every rational type weighs at least the
+-- denominator; the parts have as much as the units weigh; and that is less than the total.
 abbrev pub ViolationFails : PatchList → ℕ → List Share → List ℕ → Finding
 ViolationFails p den parts weights = InOrder (
     Unless (HasFitNumbers den parts weights) Number 0

@@ -1,5 +1,5 @@
--- The patch of a choice: its budget, and on which side of each budget the bundle lies when it is scaled to cost the whole
--- income of its own (after Kitamura and Stoye 2018, section 3).
+-- The patch of a choice: its budget, and on which side of each budget the bundle lies when it is scaled to cost the
+-- whole income of its own (after Kitamura and Stoye 2018, section 3).
 use Rattle.std.specs.Prelude.{ℕ, ◌*◌, ℤ, pos, negsuc, List, map}
 use Rattle.std.specs.List.{range_with_len}
 use Rattle.std.specs.Ordering.{nat_cmp}
@@ -22,7 +22,8 @@ sign_of Greater = pos 1
 -- cost the income of j, costs more than the income of k, -1 where it costs less, and 0 where it costs just that.
 abbrev pub sign_to : RandomInput → ℕ → ℕ → ℤ
 sign_to input i k =
-    sign_of (nat_cmp (input.income (input.budget i) * cost_on input k i) (input.income k * cost_on input (input.budget i) i))
+    sign_of (nat_cmp (input.income (input.budget i) * cost_on input k i)
+      (input.income k * cost_on input (input.budget i) i))
 
 -- The signs of choice i to all budgets, in order.
 abbrev pub signs_of : RandomInput → ℕ → List ℤ

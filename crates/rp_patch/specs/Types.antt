@@ -1,5 +1,6 @@
 -- Types of consumers: one choice from every budget (McFadden and Richter 1990; Kitamura and Stoye 2018).
-use Rattle.std.specs.Prelude.{◌≡◌, ◌≢◌, ◌<◌, ◌↔◌, ◌==◌, ◌*◌, ℕ, zero, suc, pos, ◌≤ℤ◌, ◌<ℤ◌, List, AllPairs, Contains, length, slice_index, if◌then◌else◌}
+use Rattle.std.specs.Prelude.{◌≡◌, ◌≢◌, ◌<◌, ◌↔◌, ◌==◌, ◌*◌, ℕ, zero, suc, pos, ◌≤ℤ◌, ◌<ℤ◌, List, AllPairs, Contains}
+use Rattle.std.specs.Prelude.{length, slice_index, if◌then◌else◌}
 use Rattle.std.specs.Cmp.Lexicographic.{slice_cmp}
 use Rattle.std.specs.List.Sorted.{IsStrictlySortedBy}
 use Rattle.std.specs.Ordering.{nat_cmp}

@@ -1,6 +1,7 @@
--- Which patches were chosen, how many times, and the units that stand for it (patches after Kitamura and Stoye 2018; the
--- apportionment by largest remainders is Hamilton's).
-use Rattle.std.specs.Prelude.{◌≡◌, ◌⊎◌, ◌<◌, ◌≤◌, ◌+◌, ◌*◌, ◌/◌, ◌%◌, ◌==◌, ◌&&◌, ℕ, zero, suc, Bool, ℤ, List, [], ◌∷◌, ◌++◌, map, length, slice_index_or, Option, Some, None, if◌then◌else◌, nat_lt}
+-- Which patches were chosen, how many times, and the units that stand for it (patches after Kitamura and Stoye 2018;
+-- the apportionment by largest remainders is Hamilton's).
+use Rattle.std.specs.Prelude.{◌≡◌, ◌⊎◌, ◌<◌, ◌≤◌, ◌+◌, ◌*◌, ◌/◌, ◌%◌, ◌==◌, ◌&&◌, ℕ, zero, suc, Bool, ℤ, List, []}
+use Rattle.std.specs.Prelude.{◌∷◌, ◌++◌, map, length, slice_index_or, Option, Some, None, if◌then◌else◌, nat_lt}
 use Prim.Native.Nat.{◌∣◌}
 use Rattle.std.specs.Cmp.Lexicographic.{pointwise}
 use Rattle.std.specs.Ordering.{int_eq}
@@ -19,8 +20,8 @@ counted (entry ∷ entries) signs times =
     if pointwise int_eq signs entry.0 then (entry.0, entry.1 + times) ∷ entries
     else entry ∷ counted entries signs times
 
--- The patches that the first choices fall in of those that count, each with the number of times: in the order of the first
--- choice that falls in it.
+-- The patches that the first choices fall in of those that count, each with the number of times: in the order of the
+-- first choice that falls in it.
 abbrev pub tally_by : (ℕ → List ℤ) → (ℕ → Bool) → (ℕ → ℕ) → ℕ → List (List ℤ × ℕ)
 tally_by signs counts times zero = []
 tally_by signs counts times (suc i) =

@@ -15,8 +15,9 @@ pub fn patches_without_units_change_nothing()
         → (num den : ℕ) → IsGreatestShare p num den ↔ IsGreatestShare q num den }
 {}
 
-/// The patches of choices are those in which a choice falls that was made at least once. They are numbered by budget, and on a
-/// budget by the first such choice; and what counts of a patch is how many times the choices were made that fall in it.
+/// The patches of choices are those in which a choice falls that was made at least once. They are numbered by budget,
+/// and on a budget by the first such choice; and what counts of a patch is how many times the choices were made that
+/// fall in it.
 pub fn patches_are_numbered_by_first_choice()
     ensures numbered { (input : RandomInput) (asked : Option ℕ) (p : PatchList)
         → ArePatchesOf input asked p → AreNumberedByFirstChoice input p }

@@ -1,4 +1,5 @@
-//! Random choices from budgets as patches with units (Kitamura and Stoye 2018), and what random utility means over them.
+//! Random choices from budgets as patches with units (Kitamura and Stoye 2018), and what random utility means over
+//! them.
 #![tactic(auto)]
 
 mod chosen;

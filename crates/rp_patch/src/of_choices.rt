@@ -15,8 +15,8 @@ use rp_num::{NoMemory, Seq};
 use rp_table::{Budgets, Choices};
 use std::alloc::Global;
 
-/// The patches that were chosen, by budget and then by the first choice that falls in them, and their units: exact where none
-/// are asked for, else that many on each budget, by largest remainders.
+/// The patches that were chosen, by budget and then by the first choice that falls in them, and their units: exact
+/// where none are asked for, else that many on each budget, by largest remainders.
 pub fn patches(
     alloc: Global,
     budgets: &Budgets,

@@ -1,5 +1,5 @@
-//! The search for rational types: a patch of one budget more is taken at each step, and a part with a violation is left, since a
-//! violation among some budgets stays one when budgets are added.
+//! The search for rational types: a patch of one budget more is taken at each step, and a part with a violation is
+//! left, since a violation among some budgets stays one when budgets are added.
 ghost use Rattle.std.specs.Prelude.{◌≡◌, ◌<◌, ◌≤◌, ◌+◌, ◌⊎◌, ◌↔◌, ◌++◌, ◌∷◌, [], ℕ, true, false};
 ghost use Rattle.std.specs.Prelude.{IfNone, IfSome, List, length, pos, slice_index, ◌≤ℤ◌, ◌<ℤ◌};
 ghost use Rattle.rp_patch.specs.Parts.{Begins, IsPart, IsRationalBelow, IsTaken, taken_in};
@@ -10,8 +10,8 @@ ghost use Rattle.rp_patch.specs.Types.{IsRationalType, IsWeakBy};
 use crate::Patches;
 use crate::sets::{meet, union, with};
 
-/// A patch of each of the first budgets. For each of these `reached` is a set of budgets, a bit for each: those that walks of
-/// weak steps lead to from it, itself among them.
+/// A patch of each of the first budgets. For each of these `reached` is a set of budgets, a bit for each: those that
+/// walks of weak steps lead to from it, itself among them.
 #[derive(Clone, Copy, Debug)]
 pub struct Part {
     pub taken: u32,

@@ -4,7 +4,8 @@ ghost use Rattle.std.specs.Prelude.{MatchOption, nat_lt};
 ghost use Rattle.rp_patch.specs.InnerApportioned.{AreRaisedBelow, AreWhole, IsLeft, IsNextUp};
 ghost use Rattle.rp_patch.specs.InnerApportioned.{IsRaisedBy, IsShared, RaisesFirst};
 ghost use Rattle.rp_patch.specs.InnerApportioned.{portion_at, portion_of as portion_of_chosen};
-ghost use Rattle.rp_patch.specs.InnerApportioned.{portions_on, raised_on, whole_on as whole_of_budget};
+ghost use Rattle.rp_patch.specs.InnerApportioned.{portions_on, raised_on};
+ghost use Rattle.rp_patch.specs.InnerApportioned.{whole_on as whole_of_budget};
 ghost use Rattle.rp_patch.specs.Choices.{AreChoicesFrom, input_of};
 ghost use Rattle.rp_patch.specs.Units.{all_chosen};
 
@@ -15,8 +16,8 @@ use rp_num::NoMemory;
 use rp_table::{Budgets, Choices};
 use std::alloc::Global;
 
-/// What a patch has of its budget's units: the whole part of its share, and one more where it is raised. The rest is what is
-/// left of the share, in parts of a unit of which there are as many as choices on the budget.
+/// What a patch has of its budget's units: the whole part of its share, and one more where it is raised. The rest is
+/// what is left of the share, in parts of a unit of which there are as many as choices on the budget.
 #[derive(Debug, Drop)]
 pub struct Portion {
     pub budget: u32,

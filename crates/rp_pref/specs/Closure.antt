@@ -1,5 +1,6 @@
 -- Which observations reach which (the transitive closure of revealed preference, Varian 1982).
-use Rattle.std.specs.Prelude.{◌≡◌, ◌<◌, ◌↔◌, ◌==◌, ◌||◌, ◌⊎◌, ℕ, Bool, false, List, [], IsTrue, length, map, slice_index, slice_index_or}
+use Rattle.std.specs.Prelude.{◌≡◌, ◌<◌, ◌↔◌, ◌==◌, ◌||◌, ◌⊎◌, ℕ, Bool, false, List, [], IsTrue, length, map}
+use Rattle.std.specs.Prelude.{slice_index, slice_index_or}
 use Rattle.std.specs.List.{range_with_len}
 use Rattle.rp_evidence.specs.Count.{IsNumberOf}
 use Rattle.rp_evidence.specs.Input.{TableInput}

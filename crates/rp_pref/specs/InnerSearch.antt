@@ -1,6 +1,7 @@
 -- For the proofs alone: what a search for shortest walks from one observation keeps, one number of steps after another.
 -- No public clause cites these words.
-use Rattle.std.specs.Prelude.{◌≡◌, ◌≢◌, ◌<◌, ◌≤◌, ◌+◌, ◌*◌, ◌==◌, ◌⊎◌, ℕ, Bool, true, false, List, IsTrue, length, slice_index, slice_index_or, count_by}
+use Rattle.std.specs.Prelude.{◌≡◌, ◌≢◌, ◌<◌, ◌≤◌, ◌+◌, ◌*◌, ◌==◌, ◌⊎◌, ℕ, Bool, true, false, List, IsTrue, length}
+use Rattle.std.specs.Prelude.{slice_index, slice_index_or, count_by}
 use Rattle.rp_evidence.specs.Walk.{IsWalk}
 
 -- There is a step from s to t in a table of truth values for n observations, by start and then by end.
@@ -13,7 +14,8 @@ pub record AreDepths (table : List Bool) (n s : ℕ) (depths before : List ℕ) 
   pub before_each : length before ≡ n
   pub first : (t : ℕ) → t < n → slice_index depths t ≡ 1 → IsStepIn table n s t
   pub later_below : (t : ℕ) → t < n → 1 < slice_index depths t → slice_index before t < n
-  pub later_depth : (t : ℕ) → t < n → 1 < slice_index depths t → slice_index depths (slice_index before t) + 1 ≡ slice_index depths t
+  pub later_depth : (t : ℕ) → t < n → 1 < slice_index depths t
+      → slice_index depths (slice_index before t) + 1 ≡ slice_index depths t
   pub later_step : (t : ℕ) → t < n → 1 < slice_index depths t → IsStepIn table n (slice_index before t) t
 
 -- What is noted before an observation of a depth above 1 is an observation of one depth less.
@@ -21,7 +23,8 @@ pub record LeadBack (n : ℕ) (depths before : List ℕ) : Type 0 where
   pub depth_each : length depths ≡ n
   pub before_each : length before ≡ n
   pub later_below : (t : ℕ) → t < n → 1 < slice_index depths t → slice_index before t < n
-  pub later_depth : (t : ℕ) → t < n → 1 < slice_index depths t → slice_index depths (slice_index before t) + 1 ≡ slice_index depths t
+  pub later_depth : (t : ℕ) → t < n → 1 < slice_index depths t
+      → slice_index depths (slice_index before t) + 1 ≡ slice_index depths t
 
 -- p is noted as the last before t, or t has the depth 1 and p is the start s.
 abbrev pub IsNoted : ℕ → List ℕ → List ℕ → ℕ → ℕ → Type 0
@@ -48,7 +51,8 @@ IsLookedFrom table n u end depths = (t : ℕ) → t < end → IsStepIn table n u
 
 -- Each of the first observations that has this depth was looked from.
 abbrev pub AreLookedFrom : List Bool → ℕ → ℕ → ℕ → List ℕ → Type 0
-AreLookedFrom table n depth end depths = (u : ℕ) → u < end → slice_index depths u ≡ depth → IsLookedFrom table n u n depths
+AreLookedFrom table n depth end depths = (u : ℕ) → u < end → slice_index depths u ≡ depth
+  → IsLookedFrom table n u n depths
 
 -- Every observation that a walk of at most this many steps, and at least one, reaches from s has a depth, and no such
 -- walk there is shorter.
@@ -88,4 +92,5 @@ pub record GoesTo (table : List Bool) (n s depth : ℕ) (depths before : List �
 -- The depth of each of the first observations: 1 where there is a step to it from s, else 0.
 abbrev pub AreFirst : List Bool → ℕ → ℕ → ℕ → List ℕ → Type 0
 AreFirst table n s end depths =
-    (t : ℕ) → t < end → ((slice_index depths t ≡ 1) × IsStepIn table n s t) ⊎ ((slice_index depths t ≡ 0) × ¬ IsStepIn table n s t)
+    (t : ℕ) → t < end → ((slice_index depths t ≡ 1) × IsStepIn table n s t)
+      ⊎ ((slice_index depths t ≡ 0) × ¬ IsStepIn table n s t)

@@ -1,4 +1,5 @@
-ghost use Rattle.std.specs.Prelude.{◌≡◌, ◌<◌, ◌≤◌, ◌+◌, ◌*◌, ◌↔◌, ℕ, IfOk, IfNone, IfSome, length, slice_index};
+ghost use Rattle.std.specs.Prelude.{◌≡◌, ◌<◌, ◌≤◌, ◌+◌, ◌*◌, ◌↔◌, ℕ, IfOk, IfNone, IfSome, length};
+ghost use Rattle.std.specs.Prelude.{slice_index};
 ghost use Rattle.rp_evidence.specs.Preference.{IsLevel};
 ghost use Rattle.rp_evidence.specs.Walk.{IsShortestWalk, IsWalk, Reaches};
 ghost use Rattle.rp_table.specs.Cost.{cost_at};

@@ -1,5 +1,6 @@
 ghost use Rattle.std.specs.Prelude.{◌≡◌, ◌++◌, OnOk, codes};
-ghost use Rattle.rp_print.specs.BoundText.{bound_text, bounds_text, entry_text, pair_line, pair_text};
+ghost use Rattle.rp_print.specs.BoundText.{bound_text, bounds_text, entry_text, pair_line};
+ghost use Rattle.rp_print.specs.BoundText.{pair_text};
 
 use crate::entry::{Fraction, LongNumber, Ordinal, Print};
 use crate::line::push_after;

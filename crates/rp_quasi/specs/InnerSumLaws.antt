@@ -14,7 +14,8 @@ pub costs_keep_order : (n : ℕ) (c : ℕ → ℕ → ℕ) → KeepsOrder (sums 
 costs_keep_order n c = sums_keep_order n (step_sum c)
 
 -- a step from an observation to itself adds nothing
-pub costs_stay : (n : ℕ) (c : ℕ → ℕ → ℕ) (x : ExactTotal) (t : ℕ) → t < n → SameTotal ((sums n (step_sum c)).after x t t) x
+pub costs_stay : (n : ℕ) (c : ℕ → ℕ → ℕ) (x : ExactTotal) (t : ℕ) → t < n
+    → SameTotal ((sums n (step_sum c)).after x t t) x
 costs_stay n c = sums_stay n (step_sum c) (λ t ht. nothing (c t t))
   where
     nothing : (m : ℕ) → pos m -ℤ pos m ≡ pos 0

@@ -1,5 +1,5 @@
-//! Random utility: a mixture of rational types, or weights of the patches that show there is none (McFadden and Richter 1990;
-//! Kitamura and Stoye 2018).
+//! Random utility: a mixture of rational types, or weights of the patches that show there is none (McFadden and
+//! Richter 1990; Kitamura and Stoye 2018).
 #![tactic(auto)]
 
 mod program;

@@ -6,7 +6,8 @@ use Rattle.rp_evidence.specs.declared.certificate.Item.{Item}
 use Rattle.rp_evidence.specs.declared.certificate.Item.TheVariants.{Garp as GarpItem, Afriat as AfriatItem}
 use Rattle.rp_evidence.specs.declared.certificate.Item.TheVariants.{Efficiency as EfficiencyItem}
 use Rattle.rp_evidence.specs.declared.certificate.Item.TheVariants.{Homothetic as HomotheticItem, Quasi as QuasiItem}
-use Rattle.rp_evidence.specs.declared.certificate.Item.TheVariants.{Demand as DemandItem, Welfare as WelfareItem, Random as RandomItem}
+use Rattle.rp_evidence.specs.declared.certificate.Item.TheVariants.{Demand as DemandItem, Welfare as WelfareItem}
+use Rattle.rp_evidence.specs.declared.certificate.Item.TheVariants.{Random as RandomItem}
 use Rattle.rp_report.specs.AfriatText.{afriat_text}
 use Rattle.rp_report.specs.DemandText.{demand_text}
 use Rattle.rp_report.specs.EfficiencyText.{efficiency_text}

@@ -1,7 +1,8 @@
 ghost use Rattle.std.specs.Prelude.{◌≡◌, ◌+◌, ◌++◌, OnOk, codes};
 ghost use Rattle.std.specs.Fmt.{decimal};
 ghost use Rattle.rp_print.specs.BoundText.{bound_text};
-ghost use Rattle.rp_report.specs.DemandText.{budget_line, demand_text, good_text, goods_text, inner_line};
+ghost use Rattle.rp_report.specs.DemandText.{budget_line, demand_text, good_text, goods_text};
+ghost use Rattle.rp_report.specs.DemandText.{inner_line};
 ghost use Rattle.rp_print.specs.ListText.{line_of};
 
 use rp_evidence::{DemandPart, GoodBounds, Point};

@@ -16,7 +16,8 @@ pub(crate) fn push_welfare(
     of: u32,
     evidence: &WelfarePart,
 ) -> Result<(), NoMemory>
-    ensures { OnOk result (out.new.items ≡ out.old.items ++ welfare_text prices.now of evidence.now) }
+    ensures { OnOk result
+        (out.new.items ≡ out.old.items ++ welfare_text prices.now of evidence.now) }
 {
     push_head(alloc, out, prices, of)?;
     match evidence {

@@ -66,7 +66,8 @@ IsReadingCause reading NoMemory = Unit {0}
 -- why a file gives no value: its count of faults rose, or some content of it is refused by that reading
 abbrev pub IsFileCause : {A : Type 0} → Files → (List ℕ → Type 0) → List ℕ → (List ℕ → Reading A) → Cause → Type 0
 IsFileCause files rose file reading (Read name) = (name.now ≡ file) × rose file
-IsFileCause files rose file reading (Refused line) = (bytes : List ℕ) × IsContent files file bytes × reading bytes (Err line.items)
+IsFileCause files rose file reading (Refused line) = (bytes : List ℕ) × IsContent files file bytes
+  × reading bytes (Err line.items)
 IsFileCause files rose file reading NoMemory = Unit {0}
 
 -- some content of a file has that value
@@ -78,8 +79,8 @@ abbrev pub IsLoaded : {A : Type 0} → Files → (List ℕ → Type 0) → List 
 IsLoaded files rose file reading result =
     MatchResult result (HoldsValue files file reading) (IsFileCause files rose file reading)
 
--- why a line has no input: the count of its k-th file (from 0) rose, and none was asked for after it; or some content of them
--- is refused. `asks line n` says that the desk was asked for no more than the first n files
+-- why a line has no input: the count of its k-th file (from 0) rose, and none was asked for after it; or some content
+-- of them is refused. `asks line n` says that the desk was asked for no more than the first n files
 abbrev pub IsCause : Files → (List ℕ → Type 0) → (Line → ℕ → Type 0) → Line → Cause → Type 0
 IsCause files rose asks line (Read file) =
     (k : ℕ) × (k < length (files_of line)) × (file.now ≡ file_at line k) × rose file.now × asks line (suc k)

@@ -1,5 +1,5 @@
--- What the files of budgets and of choices come to: patches with their units (Kitamura and Stoye 2018) and all rational types
--- (McFadden and Richter 1990), or the first refusal.
+-- What the files of budgets and of choices come to: patches with their units (Kitamura and Stoye 2018) and all
+-- rational types (McFadden and Richter 1990), or the first refusal.
 use Rattle.std.specs.Prelude.{◌≡◌, ◌≢◌, ◌≤◌, ℕ, Option, List, length, Ok, Err}
 use Rattle.rp_table.specs.BudgetLists.{BudgetList}
 use Rattle.rp_table.specs.ChoiceLists.{ChoiceList}
@@ -29,12 +29,15 @@ ChoicesIn budgets given told = FileIn given told 1 (λ name. Numbers name (choic
 -- the patches of choices, with their units
 abbrev pub PatchesOf : RandomInput → Option ℕ → Reading PatchList
 PatchesOf input per (Ok p) = ArePatchesOf input per p × IsPatchList p
-PatchesOf input per (Err line) = (fault : PatchFault) × (fault ≢ patch_fault.NoMemory) × SaysWhyNoPatches input per fault × (line ≡ patch_line fault)
+PatchesOf input per (Err line) = (fault : PatchFault) × (fault ≢ patch_fault.NoMemory)
+  × SaysWhyNoPatches input per fault × (line ≡ patch_line fault)
 
 -- all rational types of patches
 abbrev pub TypesOf : PatchList → Reading (List Rational)
-TypesOf p (Ok types) = AreRationalTypes p (types_of types) × (length types ≤ TYPES) × (combinations p p.budgets ≤ COMBINATIONS)
-TypesOf p (Err line) = (fault : TypesFault) × (fault ≢ types_fault.NoMemory) × SaysWhyNoTypes p fault × (line ≡ types_line fault)
+TypesOf p (Ok types) = AreRationalTypes p (types_of types) × (length types ≤ TYPES)
+  × (combinations p p.budgets ≤ COMBINATIONS)
+TypesOf p (Err line) = (fault : TypesFault) × (fault ≢ types_fault.NoMemory) × SaysWhyNoTypes p fault
+  × (line ≡ types_line fault)
 
 -- both, of the choices in a list; with a unit asked for, or none
 abbrev pub TypedPatchesOf : BudgetList → ChoiceList → Option ℕ → Reading (PatchList × List Rational)

@@ -7,7 +7,8 @@ use Rattle.rp_run.specs.Answers.{Files, RefusesWith}
 use Rattle.rp_words.specs.Usage.{usage_text}
 use Rattle.rp_run.specs.FaultLines.{read_line, write_line, memory_line}
 use Rattle.rp_answers.specs.declared.status.Status.{Status}
-use Rattle.rp_answers.specs.declared.status.Status.TheVariants.{Done, Rejected, Usage, ReadFault, Refused, WriteFault, NoMemory}
+use Rattle.rp_answers.specs.declared.status.Status.TheVariants.{Done, Rejected, Usage, ReadFault, Refused, WriteFault}
+use Rattle.rp_answers.specs.declared.status.Status.TheVariants.{NoMemory}
 
 -- the count of faults of a file has risen, from the counts before to those after
 abbrev pub Rose : (List ℕ → ℕ) → (List ℕ → ℕ) → List ℕ → Type 0

@@ -4,7 +4,8 @@ use Rattle.std.specs.Fmt.{decimal}
 use Rattle.rp_patch.specs.declared.fault.PatchFault.{PatchFault}
 use Rattle.rp_patch.specs.declared.fault.PatchFault.TheVariants.{TooManyPatches, NeedUnit, NoMemory as NoPatchMemory}
 use Rattle.rp_types.specs.declared.fault.TypesFault.{TypesFault}
-use Rattle.rp_types.specs.declared.fault.TypesFault.TheVariants.{TooManyCombinations, TooManyTypes, NoMemory as NoTypesMemory}
+use Rattle.rp_types.specs.declared.fault.TypesFault.TheVariants.{TooManyCombinations, TooManyTypes}
+use Rattle.rp_types.specs.declared.fault.TypesFault.TheVariants.{NoMemory as NoTypesMemory}
 
 -- what is wrong with a file
 abbrev pub file_line : List ℕ → List ℕ → List ℕ

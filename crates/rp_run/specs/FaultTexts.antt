@@ -1,5 +1,5 @@
--- The text of each fault of a table file: its name, and then the record, the column and the budget where it has them, which
--- count from 1 (this program's own texts).
+-- The text of each fault of a table file: its name, and then the record, the column and the budget where it has them,
+-- which count from 1 (this program's own texts).
 use Rattle.std.specs.Prelude.{ℕ, List, [], ◌++◌, codes}
 use Rattle.std.specs.Fmt.{decimal}
 use Rattle.rp_sheet.specs.declared.fault.TableFault.{TableFault}
@@ -59,7 +59,8 @@ places_text fault.NoMemory = []
 abbrev pub fault_text : TableFault → List ℕ
 fault_text f = fault_name f ++ places_text f
 
--- the text of each fault of a certificate's file: its name, and the item where it has one, which counts from 1; 0 is the whole
+-- the text of each fault of a certificate's file: its name, and the item where it has one, which counts from 1; 0 is
+-- the whole
 abbrev pub json_fault_text : JsonFault → List ℕ
 json_fault_text json_fault.NotJson = codes "NotJson"
 json_fault_text json_fault.BadVersion = codes "BadVersion"

@@ -1,6 +1,7 @@
--- What is read of files: values, and the lines of refusals, which are whole lines for standard error (this program's own order
--- and texts).
-use Rattle.std.specs.Prelude.{◌≡◌, ◌≢◌, ◌⊎◌, ◌≤◌, ◌<◌, ℕ, nat_lt, if◌then◌else◌, List, length, Option, Some, None, Result, Ok, Err, codes}
+-- What is read of files: values, and the lines of refusals, which are whole lines for standard error (this program's
+-- own order and texts).
+use Rattle.std.specs.Prelude.{◌≡◌, ◌≢◌, ◌⊎◌, ◌≤◌, ◌<◌, ℕ, nat_lt, if◌then◌else◌, List, length, Option, Some, None}
+use Rattle.std.specs.Prelude.{Result, Ok, Err, codes}
 use Rattle.rp_table.specs.Tables.{Observations}
 use Rattle.rp_text.specs.Denotation.{table_in}
 use Rattle.rp_sheet.specs.declared.fault.TableFault.{TableFault}
@@ -54,11 +55,13 @@ all_bytes bytes = Ok bytes
 
 -- the certificate of a kind that the bytes of its file denote, where they are not too many
 abbrev pub CertificateIn : List ℕ → Kind → List ℕ → Reading Certificate
-CertificateIn file kind bytes (Ok certificate) = (length bytes ≤ most_certificate_bytes) × IsDenoted kind bytes (Ok certificate)
+CertificateIn file kind bytes (Ok certificate) = (length bytes ≤ most_certificate_bytes)
+  × IsDenoted kind bytes (Ok certificate)
 CertificateIn file kind bytes (Err line) =
     ((most_certificate_bytes < length bytes) × (line ≡ file_line file (codes "TooLong")))
     ⊎ ((length bytes ≤ most_certificate_bytes)
-    × ((fault : JsonFault) × (fault ≢ json_fault.NoMemory) × IsDenoted kind bytes (Err fault) × (line ≡ file_line file (json_fault_text fault))))
+    × ((fault : JsonFault) × (fault ≢ json_fault.NoMemory) × IsDenoted kind bytes (Err fault)
+      × (line ≡ file_line file (json_fault_text fault))))
 
 -- what a file holds by a reading, where its bytes are told; nothing is read where they are not
 abbrev pub Told : {A : Type 0} → (List ℕ → Reading A) → Option (List ℕ) → Reading A

@@ -1,5 +1,5 @@
--- In which order a desk is asked for the files of a line, and how often: each file is read through at most once, in the order of
--- the words, and none after the first that is refused or fails (this program's own order).
+-- In which order a desk is asked for the files of a line, and how often: each file is read through at most once, in
+-- the order of the words, and none after the first that is refused or fails (this program's own order).
 use Rattle.std.specs.Prelude.{◌≤◌, ℕ, ◌+◌, nat_lt, if◌then◌else◌, List, [], ◌∷◌, Option, None, Err, length, sum, take}
 use Rattle.rp_outside.specs.Reads.{calls_through}
 use Rattle.rp_words.specs.CommandLine.{Line, file_at, file_set, files_of}
@@ -28,7 +28,8 @@ calls_of_each files _ _ = []
 abbrev pub calls_of_files : Files → Line → List ℕ
 calls_of_files files line = calls_of_each files (files_in (file_set line)) (files_of line)
 
--- from its count of calls before to that after, the desk was asked for no more than the first n files of a line, each once
+-- from its count of calls before to that after, the desk was asked for no more than the first n files of a line, each
+-- once
 abbrev pub AsksForFirst : Files → ℕ → ℕ → Line → ℕ → Type 0
 AsksForFirst files before after line n = after ≤ before + sum (take n (calls_of_files files line))
 

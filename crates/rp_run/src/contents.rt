@@ -3,7 +3,8 @@ ghost use Rattle.std.specs.Prelude.{◌≡◌, ◌≤◌, ℕ, List, IfOk, IfErr
 ghost use Rattle.rp_answers.specs.Demands.{IsSpentOn};
 ghost use Rattle.rp_answers.specs.Typed.{AreTyped, typed};
 ghost use Rattle.rp_evidence.specs.Kinds.{IsCertificateOf};
-ghost use Rattle.rp_evidence.specs.declared.certificate.Kind.TheVariants.{Table as TableKind, Random as RandomKind};
+ghost use Rattle.rp_evidence.specs.declared.certificate.Kind.TheVariants.{Table as TableKind};
+ghost use Rattle.rp_evidence.specs.declared.certificate.Kind.TheVariants.{Random as RandomKind};
 ghost use Rattle.rp_table.specs.Tables.{goods_of};
 ghost use Rattle.rp_words.specs.CommandLine.{file_set};
 ghost use Rattle.rp_words.specs.Named.{named_line};
@@ -121,7 +122,8 @@ impl Contents {
     /// The patches of choices, and the certificate on them.
     pub(crate) fn choices_and_certificate(&self) -> (&Patches, &Certificate)
         requires { AreOf files.ChoicesAndCertificate self.now }
-        ensures held { (types : List TypeOf) × (self.now ≡ contents.ChoicesAndCertificate result.0.now types result.1.now) }
+        ensures held { (types : List TypeOf)
+            × (self.now ≡ contents.ChoicesAndCertificate result.0.now types result.1.now) }
         ensures kind { IsCertificateOf RandomKind result.1.now }
     {
         match self {

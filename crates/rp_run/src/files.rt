@@ -1,4 +1,5 @@
-ghost use Rattle.std.specs.Prelude.{◌≡◌, ◌+◌, ◌++◌, ℕ, true, false, ◌^◌, ◌<◌, ◌≤◌, List, IfOk, IfErr, length, codes};
+ghost use Rattle.std.specs.Prelude.{◌≡◌, ◌+◌, ◌++◌, ℕ, true, false, ◌^◌, ◌<◌, ◌≤◌, List, IfOk};
+ghost use Rattle.std.specs.Prelude.{IfErr, length, codes};
 ghost use Rattle.rp_evidence.specs.Kinds.{IsCertificateOf};
 ghost use Rattle.rp_patch.specs.Choices.{AreChoicesFrom};
 ghost use Rattle.rp_table.specs.Tables.{goods_of};
@@ -10,7 +11,8 @@ ghost use Rattle.rp_run.specs.Endings.{Rose};
 ghost use Rattle.rp_run.specs.Turns.{calls_of_certificate, calls_of_numbers};
 ghost use Rattle.rp_run.specs.Readings.{CertificateIn, Numbers, all_bytes};
 ghost use Rattle.rp_answers.specs.Demands.{IsSpentOn};
-ghost use Rattle.rp_run.specs.Causes.{IsJsonRefusalOf, IsRefusal, IsRefusalOf, IsFileCause, IsLoaded};
+ghost use Rattle.rp_run.specs.Causes.{IsJsonRefusalOf, IsRefusal, IsRefusalOf, IsFileCause};
+ghost use Rattle.rp_run.specs.Causes.{IsLoaded};
 
 use crate::fault_text::{text_of_fault, text_of_json_fault};
 use rp_evidence::{Certificate, Kind};

@@ -15,7 +15,8 @@ use rp_table::{Budgets, Choices};
 use rp_types::{Rational, TypesFault, rational_types};
 use std::alloc::Global;
 
-/// The patches of choices from budgets, with so many units on each budget where that is asked for, and their rational types.
+/// The patches of choices from budgets, with so many units on each budget where that is asked for, and their rational
+/// types.
 pub(crate) fn patches_of<'a>(
     alloc: Global,
     budgets: &Budgets,

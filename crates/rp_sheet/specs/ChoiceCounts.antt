@@ -1,5 +1,6 @@
 -- How often a choice was made on each budget.
-use Rattle.std.specs.Prelude.{ℕ, ◌+◌, Bool, not, ◌&&◌, ◌==◌, nat_lt, if◌then◌else◌, List, length, codes, Option, None, Some, unwrap_or}
+use Rattle.std.specs.Prelude.{ℕ, ◌+◌, Bool, not, ◌&&◌, ◌==◌, nat_lt, if◌then◌else◌, List, length, codes, Option, None}
+use Rattle.std.specs.Prelude.{Some, unwrap_or}
 use Rattle.rp_num.specs.declared.decimal.Decimal.{Decimal}
 use Rattle.rp_num.specs.Below.{first_of, any_below}
 use Rattle.rp_sheet.specs.Texts.{place_of, number_of}
@@ -22,4 +23,5 @@ is_chosen headers figures j = any_below (length figures) (λ t.
 -- budgets in order on which nothing was chosen
 unfoldable pub choices_stage : Form → List (List ℕ) → List (List Decimal) → Option TableFault
 choices_stage form headers figures =
-    first_of form.budgets (λ j. if not (is_chosen headers figures j) then Some (fault.NoChoices (number_of j)) else None)
+    first_of form.budgets
+      (λ j. if not (is_chosen headers figures j) then Some (fault.NoChoices (number_of j)) else None)

@@ -1,6 +1,7 @@
 -- The first fault in the records of a file: their number, a record of another length than the headers, a
 -- field that is not a number of its column's kind, and a record by which nothing is bought.
-use Rattle.std.specs.Prelude.{ℕ, ◌+◌, ◌-◌, Bool, not, ◌&&◌, ◌==◌, nat_le, nat_lt, if◌then◌else◌, List, length, Option, None, Some, Result, Ok, Err}
+use Rattle.std.specs.Prelude.{ℕ, ◌+◌, ◌-◌, Bool, not, ◌&&◌, ◌==◌, nat_le, nat_lt, if◌then◌else◌, List, length, Option}
+use Rattle.std.specs.Prelude.{None, Some, Result, Ok, Err}
 use Rattle.std.specs.Option.{option_or}
 use Rattle.std.specs.Result.{result_err, result_unwrap_or}
 use Rattle.rp_num.specs.Decimal.{decimal_of}
@@ -14,7 +15,8 @@ use Rattle.rp_sheet.specs.Columns.{role_at, measures}
 use Rattle.rp_sheet.specs.declared.form.Form.{Form}
 use Rattle.rp_sheet.specs.declared.form.Marks.{Marks}
 use Rattle.rp_sheet.specs.declared.form.Role.{Role}
-use Rattle.rp_sheet.specs.declared.form.Role.TheVariants.{Observation, Price, Quantity, Expenditure, Income, Budget, Times, Output, OutputPrice, Menu, Choice}
+use Rattle.rp_sheet.specs.declared.form.Role.TheVariants.{Observation, Price, Quantity, Expenditure, Income, Budget}
+use Rattle.rp_sheet.specs.declared.form.Role.TheVariants.{Times, Output, OutputPrice, Menu, Choice}
 use Rattle.rp_sheet.specs.declared.fault.TableFault.{TableFault}
 use Rattle.rp_sheet.specs.declared.fault.TableFault.TheVariants as fault
 
@@ -68,7 +70,8 @@ rows_in records = length records - 1
 -- what the field at a record and a column says, or its fault
 unfoldable pub field_at : Form → List (List ℕ) → List (List (List ℕ)) → ℕ → ℕ → Result Decimal TableFault
 field_at form headers records t c =
-    field_of form.budgets (role_at form.marks headers c) (trimmed (text_at (row_at records t) c)) (number_of t) (number_of c)
+    field_of form.budgets (role_at form.marks headers c) (trimmed (text_at (row_at records t) c))
+      (number_of t) (number_of c)
 
 -- the number at a record and a column
 abbrev pub figure : Form → List (List ℕ) → List (List (List ℕ)) → ℕ → ℕ → Decimal
@@ -76,7 +79,8 @@ figure form headers records t c = result_unwrap_or (field_at form headers record
 
 -- the numbers of all records
 abbrev pub figures_of : Form → List (List ℕ) → List (List (List ℕ)) → List (List Decimal)
-figures_of form headers records = listed (rows_in records) (λ t. listed (length headers) (figure form headers records t))
+figures_of form headers records =
+  listed (rows_in records) (λ t. listed (length headers) (figure form headers records t))
 
 -- whether some column says how much is bought, and each says 0
 abbrev pub buys_nothing : Marks → List (List ℕ) → (ℕ → Decimal) → Bool
@@ -89,7 +93,8 @@ unfoldable pub record_fault : Form → List (List ℕ) → List (List (List ℕ)
 record_fault form headers records t =
     if not (length (row_at records t) == length headers) then Some (fault.Ragged (number_of t))
     else option_or (first_of (length headers) (λ c. result_err (field_at form headers records t c)))
-    (if buys_nothing form.marks headers (figure form headers records t) then Some (fault.ZeroBundle (number_of t)) else None)
+    (if buys_nothing form.marks headers (figure form headers records t)
+      then Some (fault.ZeroBundle (number_of t)) else None)
 
 -- no record, or more than the limit
 unfoldable pub count_stage : Form → List (List (List ℕ)) → Option TableFault

@@ -5,7 +5,8 @@ use Rattle.rp_sheet.specs.declared.form.Column.{Column}
 use Rattle.rp_sheet.specs.declared.form.Form.{Form}
 use Rattle.rp_sheet.specs.declared.form.Marks.TheVariants.{Goods, Inputs}
 use Rattle.rp_sheet.specs.declared.form.Role.{Role}
-use Rattle.rp_sheet.specs.declared.form.Role.TheVariants.{Expenditure, Income, Budget, Times, Output, OutputPrice, Menu, Choice}
+use Rattle.rp_sheet.specs.declared.form.Role.TheVariants.{Expenditure, Income, Budget, Times, Output, OutputPrice}
+use Rattle.rp_sheet.specs.declared.form.Role.TheVariants.{Menu, Choice}
 
 -- a column that such a file has to have
 abbrev pub required : Role → Option Column

@@ -1,13 +1,15 @@
 -- The first fault in the headers of a file: one that such files do not take, one that came before, a good
 -- whose partner is missing or that is not fixed, a column that is missing, and too many goods.
-use Rattle.std.specs.Prelude.{ℕ, Bool, false, not, ◌&&◌, ◌||◌, ◌==◌, nat_lt, if◌then◌else◌, List, [], ◌∷◌, ◌++◌, length, map, take, Option, None, Some, is_some}
+use Rattle.std.specs.Prelude.{ℕ, Bool, false, not, ◌&&◌, ◌||◌, ◌==◌, nat_lt, if◌then◌else◌, List, [], ◌∷◌, ◌++◌}
+use Rattle.std.specs.Prelude.{length, map, take, Option, None, Some, is_some}
 use Rattle.std.specs.List.{list_any}
 use Rattle.std.specs.Option.{option_map_or}
 use Rattle.rp_table.specs.declared.TheConstants.{GOODS}
 use Rattle.rp_num.specs.Below.{first_of, first_there, any_below}
 use Rattle.rp_sheet.specs.Texts.{trimmed, text_at, place_of, number_of}
 use Rattle.rp_sheet.specs.Records.{record_at}
-use Rattle.rp_sheet.specs.Columns.{role_of, role_at, takes, header_of, is_price, is_quantity, names_with, name_in, mark_of_prices, mark_of_quantities}
+use Rattle.rp_sheet.specs.Columns.{role_of, role_at, takes, header_of, is_price, is_quantity, names_with, name_in}
+use Rattle.rp_sheet.specs.Columns.{mark_of_prices, mark_of_quantities}
 use Rattle.rp_sheet.specs.declared.form.Column.{Column}
 use Rattle.rp_sheet.specs.declared.form.Form.{Form}
 use Rattle.rp_sheet.specs.declared.form.Marks.{Marks}
@@ -30,7 +32,8 @@ has headers header = is_some (place_of headers header)
 -- the fault of the c-th header
 unfoldable pub header_fault : Form → List (List ℕ) → ℕ → Option TableFault
 header_fault form headers c =
-    if not (option_map_or (takes form) (role_of form.marks (text_at headers c)) false) then Some (fault.BadHeader (number_of c))
+    if not (option_map_or (takes form) (role_of form.marks (text_at headers c)) false)
+      then Some (fault.BadHeader (number_of c))
     else if has (take c headers) (text_at headers c) then Some (fault.TwiceNamed (number_of c))
     else None
 
@@ -40,19 +43,22 @@ headers_stage form headers = first_of (length headers) (header_fault form header
 
 -- the header of the other column of a good
 abbrev pub partner_of : Marks → Role → List ℕ → List ℕ
-partner_of marks role header = (if is_price role then mark_of_quantities marks else mark_of_prices marks) ++ name_in header
+partner_of marks role header =
+  (if is_price role then mark_of_quantities marks else mark_of_prices marks) ++ name_in header
 
 -- a column of a good that has no partner
 unfoldable pub pair_fault : Marks → List (List ℕ) → ℕ → Option TableFault
 pair_fault marks headers c =
-    if (is_price (role_at marks headers c) || is_quantity (role_at marks headers c)) && not (has headers (partner_of marks (role_at marks headers c) (text_at headers c)))
+    if (is_price (role_at marks headers c) || is_quantity (role_at marks headers c))
+      && not (has headers (partner_of marks (role_at marks headers c) (text_at headers c)))
     then Some (fault.Unpaired (number_of c))
     else None
 
 -- a column of a good that is not one of the fixed goods
 unfoldable pub other_goods_fault : Marks → List (List ℕ) → List (List ℕ) → ℕ → Option TableFault
 other_goods_fault marks goods headers c =
-    if (is_price (role_at marks headers c) || is_quantity (role_at marks headers c)) && not (has goods (name_in (text_at headers c)))
+    if (is_price (role_at marks headers c) || is_quantity (role_at marks headers c))
+      && not (has goods (name_in (text_at headers c)))
     then Some (fault.OtherGoods (number_of c))
     else None
 
@@ -92,7 +98,8 @@ has_goods form = form.prices || form.quantities
 -- columns that are missing: every good or another needed one, and then one of the fixed goods
 unfoldable pub missing_fault : Form → List (List ℕ) → List (List ℕ) → Option TableFault
 missing_fault form goods headers =
-    if (has_goods form && (length (names_of form headers) == 0)) || lacks_column form headers then Some (fault.Unpaired 0)
+    if (has_goods form && (length (names_of form headers) == 0))
+      || lacks_column form headers then Some (fault.Unpaired 0)
     else if form.fixed_goods && lacks_good form goods headers then Some (fault.OtherGoods 0)
     else None
 
@@ -103,4 +110,5 @@ goods_count_fault form headers = if nat_lt GOODS (length (names_of form headers)
 -- the goods: their columns that are there, the columns that are missing, and how many goods there are
 unfoldable pub goods_stage : Form → List (List ℕ) → List (List ℕ) → Option TableFault
 goods_stage form goods headers =
-    first_there (present_fault form goods headers ∷ missing_fault form goods headers ∷ goods_count_fault form headers ∷ [])
+    first_there (present_fault form goods headers ∷ missing_fault form goods headers
+      ∷ goods_count_fault form headers ∷ [])

@@ -1,6 +1,7 @@
--- What a sheet of numbers says under its form: the first fault of the earliest stage that finds one, and the numbers in its columns
--- (this project's own order of stages).
-use Rattle.std.specs.Prelude.{Bool, ◌-◌, if◌then◌else◌, map, codes, ℕ, List, [], ◌∷◌, ◌++◌, length, Option, None, Some, Result, Ok, Err, unwrap_or, slice_index}
+-- What a sheet of numbers says under its form: the first fault of the earliest stage that finds one, and the numbers
+-- in its columns (this project's own order of stages).
+use Rattle.std.specs.Prelude.{Bool, ◌-◌, if◌then◌else◌, map, codes, ℕ, List, [], ◌∷◌, ◌++◌, length, Option, None}
+use Rattle.std.specs.Prelude.{Some, Result, Ok, Err, unwrap_or, slice_index}
 use Rattle.rp_num.specs.declared.decimal.Decimal.{Decimal}
 use Rattle.rp_table.specs.Tables.{Observations}
 use Rattle.rp_table.specs.PriceLists.{PriceList}
@@ -55,4 +56,5 @@ numbers_under mark headers names sizes =
 
 -- the numbers in the column with that header, by record
 abbrev pub column_numbers : List ℕ → List (List ℕ) → List (List ℕ) → List ℕ
-column_numbers header headers sizes = listed (length sizes) (λ t. slice_index (text_at sizes t) (column_named header headers))
+column_numbers header headers sizes =
+  listed (length sizes) (λ t. slice_index (text_at sizes t) (column_named header headers))

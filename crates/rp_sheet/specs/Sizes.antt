@@ -1,5 +1,6 @@
 -- The numbers of a file as whole numbers: each times a power of ten, which the columns of one role share.
-use Rattle.std.specs.Prelude.{ℕ, ◌+◌, ◌-◌, ◌*◌, ◌^◌, Bool, false, nat_lt, if◌then◌else◌, List, [], length, slice_index_or, Option, Result, Ok, Err}
+use Rattle.std.specs.Prelude.{ℕ, ◌+◌, ◌-◌, ◌*◌, ◌^◌, Bool, false, nat_lt, if◌then◌else◌, List, [], length}
+use Rattle.std.specs.Prelude.{slice_index_or, Option, Result, Ok, Err}
 use Rattle.std.specs.Result.{result_err, result_unwrap_or}
 use Rattle.rp_num.specs.declared.decimal.Decimal.{Decimal}
 use Rattle.rp_table.specs.declared.TheConstants.{LARGEST, LARGEST_EXPENDITURE}
@@ -11,7 +12,8 @@ use Rattle.rp_sheet.specs.Headers.{headers_of}
 use Rattle.rp_sheet.specs.declared.form.Form.{Form}
 use Rattle.rp_sheet.specs.declared.form.Marks.{Marks}
 use Rattle.rp_sheet.specs.declared.form.Role.{Role}
-use Rattle.rp_sheet.specs.declared.form.Role.TheVariants.{Observation, Price, Quantity, Expenditure, Income, Budget, Times, Output, OutputPrice, Menu, Choice}
+use Rattle.rp_sheet.specs.declared.form.Role.TheVariants.{Observation, Price, Quantity, Expenditure, Income, Budget}
+use Rattle.rp_sheet.specs.declared.form.Role.TheVariants.{Times, Output, OutputPrice, Menu, Choice}
 use Rattle.rp_sheet.specs.declared.fault.TableFault.{TableFault}
 use Rattle.rp_sheet.specs.declared.fault.TableFault.TheVariants as fault
 
@@ -36,19 +38,23 @@ figure_at figures t c = slice_index_or (slice_index_or figures t []) c nothing
 -- the greatest number of places in the columns of a role
 unfoldable pub greatest_places : Marks → List (List ℕ) → List (List Decimal) → Role → ℕ
 greatest_places marks headers figures role =
-    greatest_below (length figures) (λ t. greatest_below (length headers) (λ c. if shares_scale role (role_at marks headers c) then (figure_at figures t c).places else 0))
+    greatest_below (length figures)
+      (λ t. greatest_below (length headers)
+      (λ c. if shares_scale role (role_at marks headers c) then (figure_at figures t c).places else 0))
 
 -- the places of the scale of a role: the greatest in the file, or for quantities the fixed one. An
 -- expenditure is a sum of prices times quantities
 unfoldable pub places_of : Form → List (List ℕ) → List (List Decimal) → Role → ℕ
 places_of form headers figures Observation = 0
 places_of form headers figures Price = greatest_places form.marks headers figures Price
-places_of form headers figures Quantity = if form.fixed_places then form.places else greatest_places form.marks headers figures Quantity
+places_of form headers figures Quantity = if form.fixed_places then form.places
+  else greatest_places form.marks headers figures Quantity
 places_of form headers figures Expenditure = greatest_places form.marks headers figures Price + form.places
 places_of form headers figures Income = greatest_places form.marks headers figures Income
 places_of form headers figures Budget = 0
 places_of form headers figures Times = 0
-places_of form headers figures Output = if form.fixed_places then form.places else greatest_places form.marks headers figures Quantity
+places_of form headers figures Output = if form.fixed_places then form.places
+  else greatest_places form.marks headers figures Quantity
 places_of form headers figures OutputPrice = greatest_places form.marks headers figures Price
 places_of form headers figures Menu = 0
 places_of form headers figures Choice = 0
@@ -77,7 +83,8 @@ size_of d places limit row column =
 -- the scaled number at a record and a column, or its fault
 unfoldable pub size_at : Form → List (List ℕ) → List (List Decimal) → ℕ → ℕ → Result ℕ TableFault
 size_at form headers figures t c =
-    size_of (figure_at figures t c) (places_of form headers figures (role_at form.marks headers c)) (limit_of (role_at form.marks headers c)) (number_of t) (number_of c)
+    size_of (figure_at figures t c) (places_of form headers figures (role_at form.marks headers c))
+      (limit_of (role_at form.marks headers c)) (number_of t) (number_of c)
 
 -- the scaled number at a record and a column
 abbrev pub scaled : Form → List (List ℕ) → List (List Decimal) → ℕ → ℕ → ℕ

@@ -1,4 +1,5 @@
-ghost use Rattle.std.specs.Prelude.{◌≡◌, ◌<◌, ◌||◌, ◌&&◌, ◌==◌, ℕ, List, None, not, if◌then◌else◌, OnOk};
+ghost use Rattle.std.specs.Prelude.{◌≡◌, ◌<◌, ◌||◌, ◌&&◌, ◌==◌, ℕ, List, None, not, if◌then◌else◌};
+ghost use Rattle.std.specs.Prelude.{OnOk};
 ghost use Rattle.std.specs.Prelude.{IfOk, length};
 ghost use Rattle.std.specs.Str.{bytes_eq};
 ghost use Rattle.indexmap.specs.IndexSet.{contains_by};
@@ -6,7 +7,8 @@ ghost use Rattle.rp_num.specs.Below.{first_of};
 ghost use Rattle.rp_sheet.specs.Texts.{text_at};
 ghost use Rattle.rp_sheet.specs.Columns.{role_at, name_in, is_price, is_quantity};
 ghost use Rattle.rp_sheet.specs.Headers as Headers;
-ghost use Rattle.rp_sheet.specs.Headers.{has, names_of, other_goods_fault, present_fault, missing_fault};
+ghost use Rattle.rp_sheet.specs.Headers.{has, names_of, other_goods_fault, present_fault};
+ghost use Rattle.rp_sheet.specs.Headers.{missing_fault};
 ghost use Rattle.rp_sheet.specs.Headers.{goods_stage, has_goods, is_missing};
 ghost use Rattle.rp_sheet.specs.Refusals.{RefusedAt};
 

@@ -20,7 +20,8 @@ IsOptimal rows width t = (j : ℕ) → 1 ≤ j → j < width → pos 0 ≤ℤ t.
 pub record IsLeaving (rows width : ℕ) (t : ExactTableau) (c r : ℕ) : Type 0 where
   pub in_rows : r < rows
   pub positive : pos 0 <ℤ t.at r c
-  pub least : (i : ℕ) → i < rows → i ≢ r → pos 0 <ℤ t.at i c → IsLexLess width (λ j. t.at i c *ℤ t.at r j) (λ j. t.at r c *ℤ t.at i j)
+  pub least : (i : ℕ) → i < rows → i ≢ r → pos 0 <ℤ t.at i c
+      → IsLexLess width (λ j. t.at i c *ℤ t.at r j) (λ j. t.at r c *ℤ t.at i j)
 
 -- No row can leave: no row has a positive entry in column c.
 abbrev pub IsUnbounded : ℕ → ExactTableau → ℕ → Type 0

@@ -1,5 +1,5 @@
--- What is given as the bounds of goods: the price of each good that the runs of its two programs show (duality of linear
--- programming as in Gale, Kuhn and Tucker 1951).
+-- What is given as the bounds of goods: the price of each good that the runs of its two programs show (duality of
+-- linear programming as in Gale, Kuhn and Tucker 1951).
 use Rattle.std.specs.Prelude.{◌≡◌, ◌<◌, ℕ, List, length, slice_index, slice_index_or}
 use Rattle.rp_bound.specs.ProgramBound.{IsBoundOf}
 use Rattle.rp_evidence.specs.Demand.{FractionBundle, IsSupportingDemand, NewBudget, mixed}
@@ -11,15 +11,16 @@ use Rattle.rp_evidence.specs.declared.demand.GoodBounds.{GoodBounds}
 use Rattle.rp_farkas.specs.Best.{HasNoBound}
 
 -- One pair of bounds for each good, each of them that of its program on the price of the good.
-pub record AreBoundsOf (input : TableInput) (budget : NewBudget) (below : List ℕ) (goods : List GoodBounds) : Type 0 where
+pub record AreBoundsOf (input : TableInput) (budget : NewBudget) (below : List ℕ)
+    (goods : List GoodBounds) : Type 0 where
   pub one_each : length goods ≡ input.goods
   pub lower : (g : ℕ) (d : GoodBounds) → g < input.goods
       → IsBoundOf (lower_program input budget below g) (λ x. x g) (slice_index_or goods g d).lower
   pub upper : (g : ℕ) (d : GoodBounds) → g < input.goods
       → IsBoundOf (upper_program input budget below g) (λ x. x g) (slice_index_or goods g d).upper
 
--- Every mixture of the price side of a shown pair with this demand is a supporting demand, however little of the demand it
--- has.
+-- Every mixture of the price side of a shown pair with this demand is a supporting demand, however little of the
+-- demand it has.
 abbrev pub Mixes : TableInput → NewBudget → FractionBundle → Bound → Type 0
 Mixes input budget inner (Shown value pair) = (k : ℕ) → 0 < k
     → IsSupportingDemand input budget (mixed k (record { den = pair.den; num = slice_index pair.x }) inner)

@@ -1,5 +1,5 @@
--- Which observation the inner demand begins from, of the first k that were tried. No definition and no public clause rests
--- on these words.
+-- Which observation the inner demand begins from, of the first k that were tried. No definition and no public clause
+-- rests on these words.
 use Rattle.std.specs.Prelude.{◌≡◌, ◌<◌, ◌⊎◌, ℕ, List, Option, Some, None, slice_index}
 use Rattle.rp_evidence.specs.Demand.{Buys, IsInnerStart, NewBudget, all_on_first, spending, with_rest_on_first}
 use Rattle.rp_evidence.specs.Input.{TableInput}

@@ -8,6 +8,10 @@ use Rattle.rp_notation.specs.Values.{naturals_value, observation_value, observat
 -- the numbers of a model, a violation for which there is none, or where a number passed its width
 abbrev pub afriat_value : AfriatPart → Data
 afriat_value (Model numbers) = object (member (codes "item") (string (codes "afriat"))
-    (member (codes "lambda") (naturals_value numbers.lambda) (member (codes "utility") (sums_value numbers.u) no_members)))
-afriat_value (NoModel cycle) = object (member (codes "cycle") (observations_value cycle) (member (codes "item") (string (codes "afriat")) no_members))
-afriat_value (Wide at) = object (member (codes "item") (string (codes "afriat")) (member (codes "withheld") (observation_value at) no_members))
+    (member (codes "lambda") (naturals_value numbers.lambda)
+      (member (codes "utility") (sums_value numbers.u) no_members)))
+afriat_value (NoModel cycle) =
+  object (member (codes "cycle") (observations_value cycle)
+  (member (codes "item") (string (codes "afriat")) no_members))
+afriat_value (Wide at) =
+  object (member (codes "item") (string (codes "afriat")) (member (codes "withheld") (observation_value at) no_members))

@@ -27,7 +27,8 @@ abbrev pub FitsLevel : Level → Type 0
 FitsLevel level = IsReduced (record { num = level.num; den = level.den }) × FitsLong level.num × FitsLong level.den
 
 abbrev pub FitsEfficiency : Efficiency → Type 0
-FitsEfficiency evidence = FitObservations evidence.above × FitsGarp evidence.at × All FitsCount evidence.below × FitsLevel evidence.level
+FitsEfficiency evidence = FitObservations evidence.above × FitsGarp evidence.at × All FitsCount evidence.below
+  × FitsLevel evidence.level
 
 abbrev pub FitsHomothetic : Homothetic → Type 0
 FitsHomothetic (Values values) = All IsReduced values

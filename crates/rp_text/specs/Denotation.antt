@@ -1,5 +1,6 @@
 -- What a file of numbers denotes: its value, or the first fault of the earliest stage that finds one.
-use Rattle.std.specs.Prelude.{Bool, ◌-◌, if◌then◌else◌, map, codes, ℕ, List, [], ◌∷◌, ◌++◌, length, Option, None, Some, Result, Ok, Err, unwrap_or, slice_index}
+use Rattle.std.specs.Prelude.{Bool, ◌-◌, if◌then◌else◌, map, codes, ℕ, List, [], ◌∷◌, ◌++◌, length, Option, None}
+use Rattle.std.specs.Prelude.{Some, Result, Ok, Err, unwrap_or, slice_index}
 use Rattle.rp_num.specs.declared.decimal.Decimal.{Decimal}
 use Rattle.rp_table.specs.Tables.{Observations}
 use Rattle.rp_table.specs.PriceLists.{PriceList}
@@ -27,7 +28,8 @@ unfoldable pub table_of : List (List ℕ) → List (List Decimal) → Observatio
 table_of headers figures = record {
   names = names_with Goods is_price headers;
   prices = numbers_under price_mark headers (names_with Goods is_price headers) (sizes_of table_form headers figures);
-  quantities = numbers_under quantity_mark headers (names_with Goods is_price headers) (sizes_of table_form headers figures);
+  quantities = numbers_under quantity_mark headers (names_with Goods is_price headers)
+    (sizes_of table_form headers figures);
   price_places = places_of table_form headers figures Price;
   quantity_places = places_of table_form headers figures Quantity;
 }
@@ -54,13 +56,15 @@ price_list with_m headers goods sizes = record {
 
 -- new prices beside a table whose quantities have these places
 unfoldable pub prices_of : Bool → ℕ → List (List ℕ) → List (List ℕ) → List (List Decimal) → PriceList
-prices_of with_m places goods headers figures = price_list with_m headers goods (sizes_of (prices_form with_m places) headers figures)
+prices_of with_m places goods headers figures =
+  price_list with_m headers goods (sizes_of (prices_form with_m places) headers figures)
 
 -- what records denote as new prices of these goods, beside a table whose quantities have these places
 unfoldable pub denoted_prices : Bool → ℕ → List (List ℕ) → List (List (List ℕ)) → Result PriceList TableFault
 denoted_prices with_m places goods records =
     let headers = headers_of records in
-    unless_fault (first_fault (prices_form with_m places) goods records) (prices_of with_m places goods headers (figures_of (prices_form with_m places) headers records))
+    unless_fault (first_fault (prices_form with_m places) goods records)
+      (prices_of with_m places goods headers (figures_of (prices_form with_m places) headers records))
 
 -- what the bytes of a file denote as new prices of these goods
 abbrev pub prices_in : Bool → ℕ → List (List ℕ) → List ℕ → Result PriceList TableFault
@@ -85,7 +89,8 @@ bundles_of places goods headers figures = bundle_list headers goods (sizes_of (b
 unfoldable pub denoted_bundles : ℕ → List (List ℕ) → List (List (List ℕ)) → Result BundleList TableFault
 denoted_bundles places goods records =
     let headers = headers_of records in
-    unless_fault (first_fault (bundles_form places) goods records) (bundles_of places goods headers (figures_of (bundles_form places) headers records))
+    unless_fault (first_fault (bundles_form places) goods records)
+      (bundles_of places goods headers (figures_of (bundles_form places) headers records))
 
 -- what the bytes of a file denote as bundles of these goods
 abbrev pub bundles_in : ℕ → List (List ℕ) → List ℕ → Result BundleList TableFault
@@ -105,7 +110,8 @@ budget_list headers names sizes = record {
 
 -- budgets
 unfoldable pub budgets_of : List (List ℕ) → List (List Decimal) → BudgetList
-budgets_of headers figures = budget_list headers (names_with Goods is_price headers) (sizes_of budgets_form headers figures)
+budgets_of headers figures =
+  budget_list headers (names_with Goods is_price headers) (sizes_of budgets_form headers figures)
 
 -- what records denote as budgets
 unfoldable pub denoted_budgets : List (List (List ℕ)) → Result BudgetList TableFault
@@ -134,7 +140,8 @@ choices_of budgets goods headers figures = choice_list headers goods (sizes_of (
 unfoldable pub denoted_choices : ℕ → List (List ℕ) → List (List (List ℕ)) → Result ChoiceList TableFault
 denoted_choices budgets goods records =
     let headers = headers_of records in
-    unless_fault (first_fault (choices_form budgets) goods records) (choices_of budgets goods headers (figures_of (choices_form budgets) headers records))
+    unless_fault (first_fault (choices_form budgets) goods records)
+      (choices_of budgets goods headers (figures_of (choices_form budgets) headers records))
 
 -- what the bytes of a file denote as choices on so many budgets over these goods
 abbrev pub choices_in : ℕ → List (List ℕ) → List ℕ → Result ChoiceList TableFault

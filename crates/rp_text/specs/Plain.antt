@@ -2,7 +2,8 @@
 -- line ends with a line feed, and fields are separated by commas. The first line has p_NAME,q_NAME for
 -- each good, NAME being 1 to NAME_BYTES letters a to z. Each other line is an observation: a price and a quantity
 -- of each good, in 1 to 7 digits.
-use Rattle.std.specs.Prelude.{◌≡◌, ◌≢◌, ℕ, ◌+◌, ◌-◌, ◌*◌, ◌<◌, ◌≤◌, ◌==◌, List, [], ◌++◌, length, All, AllPairs, fold, codes}
+use Rattle.std.specs.Prelude.{◌≡◌, ◌≢◌, ℕ, ◌+◌, ◌-◌, ◌*◌, ◌<◌, ◌≤◌, ◌==◌, List, [], ◌++◌, length, All, AllPairs, fold}
+use Rattle.std.specs.Prelude.{codes}
 use Rattle.std.specs.List.{slice_split}
 use Rattle.rp_table.specs.Sums.{sum_below}
 use Rattle.rp_table.specs.Tables.{Observations, IsTable, goods_of, records_of, price_of, quantity_of}
@@ -57,7 +58,9 @@ pub record IsPlainTable (bytes : List ℕ) (table : Observations) : Type 0 where
   pub lines : length (lines_of bytes) ≡ records_of table + 2
   pub ended : text_at (lines_of bytes) (records_of table + 1) ≡ []
   pub header : IsPlainHeader (fields_in (text_at (lines_of bytes) 0)) table.names
-  pub records : (t : ℕ) → t < records_of table → IsPlainRecord (fields_in (text_at (lines_of bytes) (t + 1))) (goods_of table) (price_of table t) (quantity_of table t)
+  pub records : (t : ℕ) → t < records_of table
+      → IsPlainRecord (fields_in (text_at (lines_of bytes) (t + 1))) (goods_of table) (price_of table t)
+      (quantity_of table t)
   pub within : IsTable table
   pub price_scale : table.price_places ≡ 0
   pub quantity_scale : table.quantity_places ≡ 0

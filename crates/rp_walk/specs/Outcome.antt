@@ -10,12 +10,14 @@ use Rattle.rp_walk.specs.declared.outcome.Settled.TheVariants.{Values, Cycle, Wi
 
 -- The values are the least totals over the walks of any length, by the observation where they end, and
 -- every step from them fits. No pair breaks, and no triple is too wide.
-pub record SettlesInValues {V : Type 0} (w : TotalRule) (fits : ExactTotal → Type 0) (exact : V → ExactTotal) (values : List V) : Type 0 where
+pub record SettlesInValues {V : Type 0} (w : TotalRule) (fits : ExactTotal → Type 0) (exact : V → ExactTotal)
+    (values : List V) : Type 0 where
   pub no_pair : NoPairBreaks w
   pub none_too_wide : NoneTooWide w fits
   pub one_each : length values ≡ w.count
   pub least : (s : ℕ) (d : V) → s < w.count → IsLeast w s (exact (slice_index_or values s d))
-  pub steps_fit : (t s : ℕ) (d : V) → t < w.count → s < w.count → ¬ (¬ (fits (w.after (exact (slice_index_or values t d)) t s)))
+  pub steps_fit : (t s : ℕ) (d : V) → t < w.count → s < w.count
+      → ¬ (¬ (fits (w.after (exact (slice_index_or values t d)) t s)))
 
 -- The cycle is the walk s, t, s from the empty total for the first pair that breaks.
 pub record IsBreakingCycle (w : TotalRule) (start : ExactTotal) (walk : List ℕ) : Type 0 where
@@ -35,7 +37,8 @@ pub record IsRoundCycle (w : TotalRule) (fits : ExactTotal → Type 0) (start : 
   pub first_part : IsCutFromRounds w start walk
 
 -- A closed walk that ends below its start and goes through no observation twice, and when it comes.
-pub record SettlesInCycle (w : TotalRule) (fits : ExactTotal → Type 0) (start : ExactTotal) (walk : List ℕ) : Type 0 where
+pub record SettlesInCycle (w : TotalRule) (fits : ExactTotal → Type 0) (start : ExactTotal)
+    (walk : List ℕ) : Type 0 where
   pub falls : FallsBelowStart w start walk
   pub simple : IsSimpleCycle w.count walk
   pub comes : IsBreakingCycle w start walk ⊎ IsRoundCycle w fits start walk

@@ -1,4 +1,5 @@
--- The cheapest of the first observations that equal or reach one. No definition and no public clause rests on these words.
+-- The cheapest of the first observations that equal or reach one. No definition and no public clause rests on these
+-- words.
 use Rattle.std.specs.Prelude.{◌≡◌, ℕ, ◌<◌, ◌≤◌, ◌⊎◌}
 use Rattle.rp_evidence.specs.Demand.{spending}
 use Rattle.rp_evidence.specs.Input.{TableInput, input_of_table}
@@ -19,4 +20,5 @@ pub record IsCheapestBelow (input : TableInput) (prices : ℕ → ℕ) (t end s 
   pub leads : EqualsOrReaches input s t
   pub costs : spending input.goods prices (input.quantity s) ≡ cost
   pub least : (r : ℕ) → r < end → EqualsOrReaches input r t → cost ≤ spending input.goods prices (input.quantity r)
-  pub first : (r : ℕ) → r < end → r < s → EqualsOrReaches input r t → cost < spending input.goods prices (input.quantity r)
+  pub first : (r : ℕ) → r < end → r < s → EqualsOrReaches input r t
+      → cost < spending input.goods prices (input.quantity r)

@@ -1,5 +1,5 @@
--- What is given for the welfare bounds (after Varian 1982): the upper one where it is found first, and the lower one by the
--- run of its program.
+-- What is given for the welfare bounds (after Varian 1982): the upper one where it is found first, and the lower one
+-- by the run of its program.
 use Rattle.std.specs.Prelude.{◌≡◌, ℕ, ◌*◌, ◌<◌, ◌≤◌, List, slice_index}
 use Rattle.rp_bound.specs.ProgramBound.{IsBoundOf}
 use Rattle.rp_evidence.specs.Demand.{spending}
@@ -18,8 +18,8 @@ pub record IsFirstCheapest (input : TableInput) (prices : ℕ → ℕ) (t s cost
   pub upper : IsUpperWelfare input prices t s cost
   pub first : (r : ℕ) → r < s → EqualsOrReaches input r t → cost < spending input.goods prices (input.quantity r)
 
--- The lower bound of t: its program lists t and all that t reaches, and the bound is that of the program on what the price
--- side costs at the new prices.
+-- The lower bound of t: its program lists t and all that t reaches, and the bound is that of the program on what the
+-- price side costs at the new prices.
 pub record IsLowerBound (input : TableInput) (prices : ℕ → ℕ) (t : ℕ) (bound : Bound) : Type 0 where
   pub reached : List ℕ
   pub listed : ListsReached input t reached
@@ -33,7 +33,8 @@ pub record AreWelfareBounds (input : TableInput) (prices : ℕ → ℕ) (t upper
 
 -- Bounds; or, where the axiom fails, the violation that the verdict has.
 abbrev pub IsWelfareVerdict : TableInput → List ℕ → ℕ → Garp → WelfarePart → Type 0
-IsWelfareVerdict input prices t verdict (Bounds upper at lower) = AreWelfareBounds input (slice_index prices) t upper at lower
+IsWelfareVerdict input prices t verdict (Bounds upper at lower) =
+  AreWelfareBounds input (slice_index prices) t upper at lower
 IsWelfareVerdict input prices t verdict (NoModel walk) = verdict ≡ Cycle walk
 
 -- A shown lower bound is at most the upper one.
@@ -45,9 +46,10 @@ abbrev pub HasLowerAtMostUpper : WelfarePart → Type 0
 HasLowerAtMostUpper (Bounds upper at lower) = IsAtMost lower upper
 HasLowerAtMostUpper (NoModel walk) = Unit {0}
 
--- Where bounds are given the program of the lower one is bounded, not its run alone: no feasible point of it is worth more than
--- the upper bound.
+-- Where bounds are given the program of the lower one is bounded, not its run alone: no feasible point of it is worth
+-- more than the upper bound.
 abbrev pub HasBoundedProgram : TableInput → List ℕ → ℕ → WelfarePart → Type 0
 HasBoundedProgram input prices t (Bounds upper at lower) =
-    (reached : List ℕ) → ListsReached input t reached → NoneWorthMore (welfare_program input (slice_index prices) reached) upper
+    (reached : List ℕ) → ListsReached input t reached
+      → NoneWorthMore (welfare_program input (slice_index prices) reached) upper
 HasBoundedProgram input prices t (NoModel walk) = Unit {0}

@@ -19,8 +19,8 @@ use rp_pref::{Closure, Steps};
 use rp_table::{Costs, NewPrices, Table};
 use std::alloc::Global;
 
-/// The bounds of observation `t`, from 0, at the new prices, from a true verdict on the generalized axiom: the upper one
-/// where the axiom holds, with the lower one unless its run passes its width; else the violation of the verdict.
+/// The bounds of observation `t`, from 0, at the new prices, from a true verdict on the generalized axiom: the upper
+/// one where the axiom holds, with the lower one unless its run passes its width; else the violation of the verdict.
 pub fn welfare(
     alloc: Global,
     table: &Table,

@@ -1,11 +1,12 @@
--- The commands of the program, each with its form, and the lines that may be asked for: a command with what is given to it (this
--- program's own commands).
+-- The commands of the program, each with its form, and the lines that may be asked for: a command with what is given
+-- to it (this program's own commands).
 use Rattle.std.specs.Prelude.{ℕ, Bool, List, [], ◌∷◌, Option, codes, find, map, slice_index_or}
 use Rattle.std.specs.Str.{bytes_eq}
 use Rattle.clap.specs.Walk.{Text}
 use Rattle.rp_words.specs.Forms.{Form, goods, over, rows, seed, with_json, with_numbers, with_per}
 use Rattle.rp_words.specs.declared.commands.Command.{Command}
-use Rattle.rp_words.specs.declared.commands.Command.TheVariants.{Pairs, Analyse, Certify, Check, Demand, Welfare, Utility}
+use Rattle.rp_words.specs.declared.commands.Command.TheVariants.{Pairs, Analyse, Certify, Check, Demand, Welfare}
+use Rattle.rp_words.specs.declared.commands.Command.TheVariants.{Utility}
 use Rattle.rp_words.specs.declared.commands.Command.TheVariants.{Random, CheckRandom, Trial}
 use Rattle.rp_words.specs.declared.commands.FileSet.{FileSet}
 use Rattle.rp_words.specs.declared.commands.FileSet.TheVariants as files

@@ -1,5 +1,5 @@
--- The commands of the program, as the library `clap` is told of them, by their forms. By these `clap` says which words it takes, and
--- what its matches are.
+-- The commands of the program, as the library `clap` is told of them, by their forms. By these `clap` says which
+-- words it takes, and what its matches are.
 use Rattle.std.specs.Prelude.{Bool, true, false, List, [], ◌∷◌, ◌++◌, Some, codes, map, if◌then◌else◌}
 use Rattle.clap.specs.Simple.{App, Shape, new_rule, new_shape}
 use Rattle.clap.specs.Walk.{Rule, Text}
@@ -15,7 +15,8 @@ file_rule id = record (new_rule id) { parser = Some NonEmptyString; required = t
 
 -- a number in its range, which has to be there
 abbrev pub number_rule : Number → Rule
-number_rule number = record (new_rule number.name) { parser = Some (Unsigned number.least number.most); required = true }
+number_rule number = record (new_rule number.name)
+  { parser = Some (Unsigned number.least number.most); required = true }
 
 -- how many units there are on each budget, where that is asked for
 abbrev pub per_rule : Rule
@@ -32,7 +33,8 @@ where_asked asked rule = if asked then rule ∷ [] else []
 -- the arguments of a command, in the order of the words
 abbrev pub rules_of : Form → List Rule
 rules_of form =
-    map file_rule (file_names form.files) ++ (map number_rule form.numbers ++ (where_asked form.per per_rule ++ where_asked form.json json_rule))
+    map file_rule (file_names form.files)
+      ++ (map number_rule form.numbers ++ (where_asked form.per per_rule ++ where_asked form.json json_rule))
 
 -- a command with its arguments
 abbrev pub command_shape : Text → List Rule → Shape
@@ -52,7 +54,8 @@ with_rules a rules = record a { top = record a.top { rules = a.top.rules ++ rule
 -- the program: one of the commands has to be there, and no word asks for help
 abbrev pub program_of : List Form → App
 program_of commands = record {
-  top = record (new_shape (codes "rp")) { is_leaf = false; subcommand_required = true; disable_help_flag = true; disable_help_subcommand = true };
+  top = record (new_shape (codes "rp"))
+    { is_leaf = false; subcommand_required = true; disable_help_flag = true; disable_help_subcommand = true };
   subs = map command_of commands;
 }
 

@@ -1,5 +1,6 @@
--- What the form of a command says (this program's own words): its name, its files and its numbers in the order of the words, and its
--- options. What `clap` is told, the usage text, the words of a line and what its matches name follow from it.
+-- What the form of a command says (this program's own words): its name, its files and its numbers in the order of the
+-- words, and its options. What `clap` is told, the usage text, the words of a line and what its matches name follow
+-- from it.
 use Rattle.std.specs.Prelude.{ℕ, Bool, true, false, List, [], ◌∷◌, codes, map}
 use Rattle.clap.specs.Walk.{Text}
 use Rattle.rp_words.specs.declared.commands.FileSet.{FileSet}

@@ -1,5 +1,5 @@
--- That a line has the files of its command, and its numbers are in range. Only proofs need these words: the lines that words denote
--- have them.
+-- That a line has the files of its command, and its numbers are in range. Only proofs need these words: the lines
+-- that words denote have them.
 use Rattle.std.specs.Prelude.{◌≡◌, ◌≤◌, ℕ, Option, IfSome, length}
 use Rattle.rp_words.specs.CommandLine.{Line, file_set, files_of, form_of}
 use Rattle.rp_words.specs.Forms.{goods, rows, units}

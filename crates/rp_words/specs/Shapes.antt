@@ -1,6 +1,7 @@
--- The shapes in which each line can be written, by the form of its command: the command, its files and its numbers, in decimal digits,
--- and its options (this program's own words).
-use Rattle.std.specs.Prelude.{◌≡◌, ◌==◌, ◌≤◌, ℕ, Bool, true, false, not, List, [], ◌∷◌, ◌++◌, Option, Some, None, IfSome, codes, map, if◌then◌else◌}
+-- The shapes in which each line can be written, by the form of its command: the command, its files and its numbers,
+-- in decimal digits, and its options (this program's own words).
+use Rattle.std.specs.Prelude.{◌≡◌, ◌==◌, ◌≤◌, ℕ, Bool, true, false, not, List, [], ◌∷◌, ◌++◌, Option, Some, None}
+use Rattle.std.specs.Prelude.{IfSome, codes, map, if◌then◌else◌}
 use Rattle.std.specs.Fmt.{decimal}
 use Rattle.clap.specs.Walk.{Text}
 use Rattle.rp_words.specs.CommandLine.{Given, Line, form_of}

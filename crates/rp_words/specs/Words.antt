@@ -1,6 +1,7 @@
--- What a list of words asks for. The first word is the program's name. Which words are taken, and with which matches, is said by the
--- library `clap`, as a function of the commands and of the words.
-use Rattle.std.specs.Prelude.{ℕ, Bool, false, List, [], ◌∷◌, Option, Some, None, option_and_then, option_map, if◌then◌else◌, codes, map, string_bytes}
+-- What a list of words asks for. The first word is the program's name. Which words are taken, and with which matches,
+-- is said by the library `clap`, as a function of the commands and of the words.
+use Rattle.std.specs.Prelude.{ℕ, Bool, false, List, [], ◌∷◌, Option, Some, None, option_and_then, option_map}
+use Rattle.std.specs.Prelude.{if◌then◌else◌, codes, map, string_bytes}
 use Rattle.std.specs.Option.{option_map_or}
 use Rattle.std.specs.Str.{bytes_eq}
 use Rattle.std.specs.Str.Parse.{digits_value, without_leading_plus}
@@ -16,7 +17,8 @@ use Rattle.rp_words.specs.CommandLine.{file_names}
 
 -- a number in its range, in decimal digits
 abbrev pub number_in : Number → Text → Option ℕ
-number_in n text = if is_unsigned_in n.least n.most text then Some (digits_value 10 (without_leading_plus text)) else None
+number_in n text = if is_unsigned_in n.least n.most text
+  then Some (digits_value 10 (without_leading_plus text)) else None
 
 abbrev pub number_of : Number → List Row → Option ℕ
 number_of n matches = option_and_then (number_in n) (one_of n.name matches)
@@ -28,7 +30,8 @@ json_of matches = option_map_or (λ text. bytes_eq text (codes "true")) (first_o
 -- the values that the matches have of each of a list of arguments, where they have one of each
 abbrev pub all_in : {X V : Type 0} → (X → List Row → Option V) → List X → List Row → Option (List V)
 all_in read [] matches = Some []
-all_in read (x ∷ xs) matches = option_and_then (λ v. option_map (λ vs. v ∷ vs) (all_in read xs matches)) (read x matches)
+all_in read (x ∷ xs) matches =
+  option_and_then (λ v. option_map (λ vs. v ∷ vs) (all_in read xs matches)) (read x matches)
 
 -- what the matches give to a command of that form
 abbrev pub given_in : Form → List Row → Option Given
@@ -43,7 +46,8 @@ given_in form matches =
 -- the line of the command of that name, by its matches
 abbrev pub command_line : Text → List Row → Option Line
 command_line name matches =
-    option_and_then (λ command. option_map (λ given. record { command = command; given = given }) (given_in (form_of command) matches))
+    option_and_then (λ command. option_map (λ given. record { command = command; given = given })
+      (given_in (form_of command) matches))
     (command_named name)
 
 abbrev pub line_named : Option (Text × List Row) → Option Line

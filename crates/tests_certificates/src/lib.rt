@@ -1,4 +1,5 @@
-//! Tests of `run` on certificates: those that it writes and accepts, forged ones, texts that are none, and the greatest size.
+//! Tests of `run` on certificates: those that it writes and accepts, forged ones, texts that are none, and the
+//! greatest size.
 #![tactic(auto)]
 
 #[cfg(test)]

@@ -17,7 +17,8 @@ fn reports_of_choices_from_budgets(rt: HostRuntime) -> Result<(), Fail> {
             "budgets 2 patches 4 types 3 total 4\nrandom violated share 3/4\nweights 1 0 1 0 over 1\n\
             part 1 4 weight 1\npart 2 3 weight 2\n",
         ),
-        // the same, with columns in another order, numbers with places, bundles along the same rays, and one that nobody chose
+        // the same, with columns in another order, numbers with places, bundles along the same rays, and one that
+        // nobody chose
         (
             "w,p_b,obs,p_a\n0.4,2,one,1\n0.40,1,two,2\n",
             "q_a,n,obs,q_b,budget\n0.2,1,x,0.1,1\n0,2,x,0.5,1\n0.0,1,x,1.25,1\n1,2,x,2,2\n7,2,x,0,2\n9,0,x,1,1\n",

@@ -120,8 +120,8 @@ const CASES: [Case<'static>; 11] = [
     TRIAL,
 ];
 
-/// What a case does where the reads and the writes of these numbers fail. Files are given whole, so that each has two reads;
-/// output is taken byte by byte.
+/// What a case does where the reads and the writes of these numbers fail. Files are given whole, so that each has two
+/// reads; output is taken byte by byte.
 fn with_failures(
     alloc: Global,
     case: Case<'_>,

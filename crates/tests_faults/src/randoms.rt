@@ -63,7 +63,8 @@ fn with_failures(
     run_in_pieces(alloc, case.words, case.files, reads, writes, CALM)
 }
 
-/// Each read of each file fails in turn, one for each byte and one that finds the end: the file is named, and nothing is written.
+/// Each read of each file fails in turn, one for each byte and one that finds the end: the file is named, and nothing
+/// is written.
 fn reads_fail(rt: &impl Abort, alloc: Global, case: Case<'_>) -> Result<(), Fail> {
     let mut number = 1u64;
     for (name, text) in case.files {

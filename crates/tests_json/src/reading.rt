@@ -80,7 +80,8 @@ fn items_of_every_form_there_and_back(rt: HostRuntime) -> Result<(), Fail> {
     Ok(())
 }
 
-/// Items that are none: numbers out of their type, not plain or not in lowest terms; a name too many, missing or of the other kind.
+/// Items that are none: numbers out of their type, not plain or not in lowest terms; a name too many, missing or of
+/// the other kind.
 #[test]
 fn items_that_are_none(rt: HostRuntime) -> Result<(), Fail> {
     let alloc = rt.alloc();

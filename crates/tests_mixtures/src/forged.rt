@@ -14,8 +14,8 @@ use std::test::Fail;
 /// Two budgets, with the prices 1, 2 and 2, 1, and 4 to spend on each.
 pub const CROSSED: &str = "p_a,p_b,w\n1,2,4\n2,1,4\n";
 
-/// Choices from both: the first patch of each lies above the other budget, the second below. Three of the four choices in
-/// four are made by rational types.
+/// Choices from both: the first patch of each lies above the other budget, the second below. Three of the four
+/// choices in four are made by rational types.
 pub const VIOLATION: &str = "budget,q_a,q_b,n\n1,2,1,1\n1,0,2,3\n2,1,2,2\n2,2,0,2\n";
 
 /// The same patches, with units that a mixture makes.

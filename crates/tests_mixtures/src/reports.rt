@@ -87,7 +87,8 @@ fn reports_of_what_is_found(rt: HostRuntime) -> Result<(), Fail> {
             None,
             "budgets 1 patches 1 types 1 total 7\nrandom mixture over 1\npart 1 weight 7\n",
         ),
-        // of the patches below the other budgets a type takes at most one, so each of the others has a half of two types
+        // of the patches below the other budgets a type takes at most one, so each of the others has a half of two
+        // types
         (
             "p_a,p_b,p_c,w\n4,1,1,4\n1,4,1,4\n1,1,4,4\n",
             one_each,

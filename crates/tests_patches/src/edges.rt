@@ -20,7 +20,8 @@ fn patches_counted(alloc: Global, budgets: &str, choices: &str) -> Result<String
     }
 }
 
-/// Crossed budgets through one point, (1, 1): so many, each below 15, with the prices (j, n + 1 - j) and the income n + 1.
+/// Crossed budgets through one point, (1, 1): so many, each below 15, with the prices (j, n + 1 - j) and the income n
+/// + 1.
 fn pencil(alloc: Global, n: u32) -> Result<String, AllocError> {
     let mut text = String::new(alloc);
     text.push_str("p_a,p_b,w\n")?;
@@ -68,7 +69,8 @@ fn patches_at_their_limit(rt: HostRuntime) -> Result<(), Fail> {
     Ok(())
 }
 
-/// 2^20 ways to take a patch of each budget are tried. The next number that is a product of at most 48 patches is 2^5 * 3^8 * 5.
+/// 2^20 ways to take a patch of each budget are tried. The next number that is a product of at most 48 patches is 2^5
+/// * 3^8 * 5.
 #[test]
 fn combinations_at_their_limit(rt: HostRuntime) -> Result<(), Fail> {
     let alloc = rt.alloc();
@@ -92,8 +94,8 @@ fn combinations_at_their_limit(rt: HostRuntime) -> Result<(), Fail> {
     Ok(())
 }
 
-/// Five budgets of three goods, and choices with 4,091 rational types by another computation. With one choice more there are
-/// 4,097.
+/// Five budgets of three goods, and choices with 4,091 rational types by another computation. With one choice more
+/// there are 4,097.
 #[test]
 fn types_past_their_limit_by_one(rt: HostRuntime) -> Result<(), Fail> {
     let alloc = rt.alloc();

@@ -1,5 +1,5 @@
-//! Tests of patches, their units, the rational types and their mixtures: worked budgets and choices, limits, and the texts of
-//! the faults.
+//! Tests of patches, their units, the rational types and their mixtures: worked budgets and choices, limits, and the
+//! texts of the faults.
 #![tactic(auto)]
 
 #[cfg(test)]

@@ -115,8 +115,8 @@ fn choices_that_meet(alloc: Global, n: u32) -> Result<String, AllocError>
     Ok(text)
 }
 
-/// A pair with choices that meet has four rational types, five with a choice below on one side, and six with one on both. So
-/// there are 4^6, and past the limit 4 * 5 * 6^3 and 4^5 * 5.
+/// A pair with choices that meet has four rational types, five with a choice below on one side, and six with one on
+/// both. So there are 4^6, and past the limit 4 * 5 * 6^3 and 4^5 * 5.
 #[test]
 fn as_many_types_as_the_limit_and_more(rt: HostRuntime) -> Result<(), Fail> {
     let alloc = rt.alloc();

@@ -183,8 +183,8 @@ fn outcomes_of_worked_programs(rt: HostRuntime) -> Result<(), Fail> {
     Ok(())
 }
 
-/// A number of 2^63 - 1 is shown: the value, an entry of the objective row, a denominator, the value after a second pivot. With
-/// 2^63 there the run is withheld.
+/// A number of 2^63 - 1 is shown: the value, an entry of the objective row, a denominator, the value after a second
+/// pivot. With 2^63 there the run is withheld.
 #[test]
 fn outcomes_at_the_width(rt: HostRuntime) -> Result<(), Fail> {
     for (a, b, c, text) in [

@@ -1,4 +1,5 @@
-//! Tests of `run` on `random` and `checkrandom` that refuse or reject: forged certificates, faults in their order, and limits.
+//! Tests of `run` on `random` and `checkrandom` that refuse or reject: forged certificates, faults in their order,
+//! and limits.
 #![tactic(auto)]
 
 #[cfg(test)]

@@ -18,7 +18,8 @@ fn fan(alloc: Global, n: u32) -> Result<String, AllocError>
     Ok(text)
 }
 
-/// Choices of each good alone on each of so many budgets: once each, or so that each budget has another number of choices.
+/// Choices of each good alone on each of so many budgets: once each, or so that each budget has another number of
+/// choices.
 fn corners(alloc: Global, n: u32, once: bool) -> Result<String, AllocError>
     requires { n ≤ 48 }
 {
@@ -106,8 +107,8 @@ fn over_pairs(alloc: Global, words: &[&str], n: u32, certificate: &str) -> Resul
     run_over(alloc, words, files)
 }
 
-/// Of the 2^20 combinations on a fan those are rational that take the first good up to some budget and the second from there on.
-/// Half of the choices are the first good alone, and half the second.
+/// Of the 2^20 combinations on a fan those are rational that take the first good up to some budget and the second
+/// from there on. Half of the choices are the first good alone, and half the second.
 #[test]
 fn twenty_budgets(rt: HostRuntime) -> Result<(), Fail> {
     let alloc = rt.alloc();
@@ -158,8 +159,9 @@ fn fans_past_the_limits(rt: HostRuntime) -> Result<(), Fail> {
     Ok(())
 }
 
-/// Seven pairs have 3^7 rational types. Each takes a patch of the last pair that lies above the other budget, and those have
-/// three of the four units. The test takes seconds as it is built, and minutes with the checks of `rt try`.
+/// Seven pairs have 3^7 rational types. Each takes a patch of the last pair that lies above the other budget, and
+/// those have three of the four units. The test takes seconds as it is built, and minutes with the checks of `rt
+/// try`.
 #[test]
 fn seven_pairs(rt: HostRuntime) -> Result<(), Fail> {
     let alloc = rt.alloc();
@@ -207,8 +209,8 @@ fn choices_that_meet(alloc: Global, n: u32) -> Result<String, AllocError>
     Ok(text)
 }
 
-/// Each pair with choices that meet has four rational types, so six have 4^6; with one more choice, below the other budget,
-/// there are 4^5 * 5. Of one unit on each budget the first patch gets all.
+/// Each pair with choices that meet has four rational types, so six have 4^6; with one more choice, below the other
+/// budget, there are 4^5 * 5. Of one unit on each budget the first patch gets all.
 #[test]
 fn as_many_types_as_the_limit_and_more(rt: HostRuntime) -> Result<(), Fail> {
     let alloc = rt.alloc();

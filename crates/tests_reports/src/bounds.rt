@@ -20,7 +20,8 @@ fn is_done(alloc: Global, command: &str, table: &str, new: &str, text: &str) -> 
     Ok(got.status == Status::Done && got.out.as_str() == text && got.err.is_empty())
 }
 
-/// The report of demand on a table whose goods can be put in each other's place, where 3 is spent at the prices 1 and 1.
+/// The report of demand on a table whose goods can be put in each other's place, where 3 is spent at the prices 1 and
+/// 1.
 const DEMAND_OF_3: &str =
     "demand prices 1 1 expenditure 3\nbelow 1 2\nstrict none\ninner 2 1 over 1\n\
     good 1 lower 1 upper 2\nlower x 1 2 y 2:1 4:1 over 1\nupper x 2 1 y 1:1 4:1 over 1\n\

@@ -96,8 +96,8 @@ fn certificate_of_the_greatest_table(rt: HostRuntime) -> Result<(), Fail> {
     Ok(())
 }
 
-/// The bounds of one good of sixteen where 16 is spent at prices of 1: from none of it to all. In the least of the other
-/// goods' rows the first column enters, so that all is spent on that good.
+/// The bounds of one good of sixteen where 16 is spent at prices of 1: from none of it to all. In the least of the
+/// other goods' rows the first column enters, so that all is spent on that good.
 fn bounds_of(alloc: Global, good: u32) -> Result<String, Fail> {
     let last = repeated(alloc, " 0", if good < 16 { 15 } else { 14 })?;
     let rest = if good < 16 { "" } else { " 0" };
@@ -108,7 +108,8 @@ fn bounds_of(alloc: Global, good: u32) -> Result<String, Fail> {
     )?)
 }
 
-/// The report of demand where 16 is spent at prices of 1: each observation is below, and the first one's bundle is demanded.
+/// The report of demand where 16 is spent at prices of 1: each observation is below, and the first one's bundle is
+/// demanded.
 fn report_of_demand(alloc: Global) -> Result<String, Fail> {
     let mut below = String::new(alloc);
     for t in 1..257u32 {

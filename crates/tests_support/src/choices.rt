@@ -3,8 +3,8 @@
 /// Two budgets, with the prices 1, 2 and 2, 1, and 4 to spend on each.
 pub const CROSSED: &str = "p_a,p_b,w\n1,2,4\n2,1,4\n";
 
-/// Choices from both: the first patch of each lies above the other budget, the second below. No more than three quarters of
-/// the choices can be made by rational types.
+/// Choices from both: the first patch of each lies above the other budget, the second below. No more than three
+/// quarters of the choices can be made by rational types.
 pub const VIOLATION: &str = "budget,q_a,q_b,n\n1,2,1,1\n1,0,2,3\n2,1,2,2\n2,2,0,2\n";
 
 /// The same patches, with units that a mixture makes.
@@ -20,7 +20,8 @@ pub const ONE_BUDGET: &str = "p_a,w\n3,10\n";
 
 pub const ONE_CHOICE: &str = "budget,q_a,n\n1,2,7\n";
 
-/// Each budget has another good at the double price, so that a patch lies above the budgets of whose good more is bought.
+/// Each budget has another good at the double price, so that a patch lies above the budgets of whose good more is
+/// bought.
 pub const DEAR: &str = "p_a,p_b,p_c,w\n2,1,1,4\n1,2,1,4\n1,1,2,4\n";
 
 /// Three choices on each, once each.

@@ -1,4 +1,5 @@
-//! What the crates of tests share: `run` over files in memory, and inputs whose answers are known. It has no test of its own.
+//! What the crates of tests share: `run` over files in memory, and inputs whose answers are known. It has no test of
+//! its own.
 #![tactic(auto)]
 
 pub mod choices;

@@ -29,7 +29,8 @@ pub fn tells(got: &Ended, status: Status, line: &str) -> bool {
     is_ended(got, status, "", line)
 }
 
-/// The most bytes that one call of a desk or a sink gives or takes, at least 1, and the numbers of its calls that fail, from 1.
+/// The most bytes that one call of a desk or a sink gives or takes, at least 1, and the numbers of its calls that
+/// fail, from 1.
 #[derive(Clone, Copy)]
 pub struct Plan<'a> {
     pub piece: u32,

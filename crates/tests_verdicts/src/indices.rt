@@ -91,8 +91,8 @@ fn equal_ratios_of_different_pairs(rt: HostRuntime) -> Result<(), Fail> {
     Ok(())
 }
 
-/// Two observations of sixteen goods at the greatest prices and quantities, each one less for one good: each spent one more than
-/// the other's bundle costs.
+/// Two observations of sixteen goods at the greatest prices and quantities, each one less for one good: each spent
+/// one more than the other's bundle costs.
 fn greatest(alloc: Global) -> Result<String, Fail> {
     let mut file = String::new(alloc);
     for g in 0..16u32 {

@@ -10,8 +10,8 @@ pub(crate) const USAGE: &str =
     \x20      rp utility TABLE BUNDLES\n       rp random BUDGETS CHOICES [--per N] [--json]\n\
     \x20      rp checkrandom BUDGETS CHOICES CERT [--per N]\n       rp trial SEED ROWS GOODS\n";
 
-/// Runs the words over tables, of which two observations of `t.csv` and of `--x` contradict each other, and bundles, new prices and
-/// a certificate beside them.
+/// Runs the words over tables, of which two observations of `t.csv` and of `--x` contradict each other, and bundles,
+/// new prices and a certificate beside them.
 pub(crate) fn answer(alloc: Global, words: &[&str]) -> Result<Ended, Fail> {
     let files = [
         ("t.csv", CONTRADICTION),
