@@ -1,0 +1,4 @@
+pub mod Shares
+pub mod DrawnTable
+pub mod PowerCount
+pub mod PowerText

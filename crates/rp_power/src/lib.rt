@@ -1,0 +1,12 @@
+//! The power of the test of the generalized axiom of revealed preference: how many random behaviours on the budgets
+//! of a table fail it (Bronars 1987, "The Power of Nonparametric Tests of Preference Maximization", Econometrica).
+#![tactic(auto)]
+
+mod behaviour;
+mod count;
+mod report;
+mod shares;
+
+pub use behaviour::drawn;
+pub use count::power;
+pub use report::report_power;

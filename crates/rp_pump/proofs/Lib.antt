@@ -1,0 +1,7 @@
+mod Worked
+pub mod CheckedWalks
+pub mod Soundness
+pub mod Totals
+pub mod Values
+pub mod Rounds
+pub mod Outcomes

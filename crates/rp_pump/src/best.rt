@@ -1,0 +1,72 @@
+ghost use Rattle.std.specs.Prelude.{◌≡◌, ◌≤◌, IfOk};
+ghost use Rattle.rp_num.specs.Fraction.{IsLowestTerms};
+ghost use Rattle.rp_pump.specs.InnerBest.{IsBest};
+ghost use Rattle.rp_pump.specs.PumpEvidence.{IsWeakCycle};
+ghost use Rattle.rp_table.specs.Cost.{cost_at};
+
+use crate::sums::{spent_along, swapped_along};
+use rp_num::{NoMemory, Seq, gcd};
+use rp_table::{Costs, RECORDS};
+use std::alloc::Global;
+
+/// A closed walk of weak steps, and its ratio in lowest terms.
+#[derive(Drop)]
+pub(crate) struct Best {
+    pub(crate) num: u64,
+    pub(crate) den: u64,
+    pub(crate) cycle: Seq<u32>,
+}
+
+impl Best {
+    /// The step from the first observation to itself, which gains nothing.
+    pub(crate) fn resting(alloc: Global, costs: &Costs) -> Result<Best, NoMemory>
+        ensures { IfOk result (λ best. IsBest costs.now.n (cost_at costs.now)
+            best.num best.den best.cycle) }
+    {
+        prove!(costs.n() > 0);
+        let cycle = vec![in alloc; 0, 0]?;
+        Ok(Best {
+            num: 0,
+            den: 1,
+            cycle: Seq::from_vec(cycle),
+        })
+    }
+
+    /// A closed walk of weak steps with its ratio.
+    pub(crate) fn of(costs: &Costs, cycle: Seq<u32>) -> Best
+        requires { IsWeakCycle costs.now.n (cost_at costs.now) cycle }
+        ensures same { result.cycle ≡ cycle }
+        ensures best { IsBest costs.now.n (cost_at costs.now) result.num result.den result.cycle }
+    {
+        let ratio = ratio_of(costs, cycle.as_slice());
+        Best {
+            num: ratio.0,
+            den: ratio.1,
+            cycle,
+        }
+    }
+}
+
+/// The ratio of a closed walk of weak steps, in lowest terms.
+fn ratio_of(costs: &Costs, walk: &[u32]) -> (u64, u64)
+    requires { IsWeakCycle costs.now.n (cost_at costs.now) walk.now }
+    ensures { IsBest costs.now.n (cost_at costs.now) result.0 result.1 walk.now }
+{
+    let n = costs.n();
+    prove!(n <= RECORDS);
+    let spent = spent_along(costs, walk);
+    let gain = spent - swapped_along(costs, walk);
+    in_lowest_terms(gain, spent)
+}
+
+/// A ratio in lowest terms.
+fn in_lowest_terms(gain: u64, spent: u64) -> (u64, u64)
+    requires { 1 ≤ spent }
+    ensures lowest { IsLowestTerms gain spent (record { num = result.0; den = result.1 }) }
+    ensures small { result.1 ≤ spent }
+{
+    let part = u128::from(gain);
+    let whole = u128::from(spent);
+    let common = gcd(part, whole);
+    ((part / common) as u64, (whole / common) as u64)
+}

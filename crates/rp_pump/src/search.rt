@@ -1,0 +1,50 @@
+ghost use Rattle.std.specs.Prelude.{◌↔◌, ◌<◌, IfOk};
+ghost use Rattle.rp_evidence.specs.Efficiency.{FailsGarp};
+ghost use Rattle.rp_num.specs.Fraction.{IsCoprime};
+ghost use Rattle.rp_pump.specs.MoneyPump.{IsPumpIndex};
+ghost use Rattle.rp_pump.specs.PumpEvidence.{HasLeastPumpTotals, PumpHolds};
+ghost use Rattle.rp_table.specs.Cost.{cost_at};
+
+use crate::best::Best;
+use crate::part::PumpPart;
+use crate::total::PumpTotal;
+use rp_num::NoMemory;
+use rp_table::{Costs, RECORDS};
+use rp_walk::{Settled, settle};
+use std::alloc::Global;
+
+/// The greatest money pump ratio in lowest terms, with a walk that has it and the least totals at it. From the walk
+/// that rests each round takes on the ratio of a closed walk whose total at the ratio in hand is negative, until there
+/// is none (Dinkelbach 1967; Echenique, Lee and Shum 2011).
+pub fn pump(alloc: Global, costs: &Costs) -> Result<PumpPart, NoMemory>
+    ensures index { IfOk result (λ part.
+        IsPumpIndex costs.now.n (cost_at costs.now) part.num part.den) }
+    ensures lowest_terms { IfOk result (λ part. IsCoprime part.num part.den) }
+    ensures least { IfOk result (HasLeastPumpTotals costs.now.n (cost_at costs.now)) }
+    ensures accepted { IfOk result (PumpHolds costs.now.n (cost_at costs.now)) }
+    ensures garp { IfOk result (λ part.
+        (0 < part.num) ↔ FailsGarp costs.now.n (cost_at costs.now) 1 1) }
+{
+    let n = costs.n();
+    prove!(n <= RECORDS);
+    let mut best = Best::resting(alloc, costs)?;
+    'rounds: loop {
+        let total = PumpTotal {
+            costs,
+            num: best.num,
+            den: best.den,
+        };
+        match settle(alloc, &total)? {
+            Settled::Values(values) => {
+                return Ok(PumpPart {
+                    num: best.num,
+                    den: best.den,
+                    cycle: best.cycle,
+                    values,
+                });
+            }
+            Settled::Cycle { start: _, steps } => best = Best::of(costs, steps),
+            Settled::Wide { .. } => unreachable!(),
+        }
+    }
+}
