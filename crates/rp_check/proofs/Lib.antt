@@ -1,5 +1,4 @@
 pub mod DemandClauses
-pub mod LowestTerms
 pub mod MarkedSets
 pub mod ProgramLimits
 pub mod SetLists

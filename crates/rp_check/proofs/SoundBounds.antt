@@ -2,6 +2,7 @@
 use Rattle.std.proofs.Common.{◌≡◌, ◌*◌, ◌<◌, ◌≤◌, ℕ, List, Bool, IsTrue, Ok, ap, arith, slice_index, slice_index_or, sym}
 use Rattle.std.proofs.Math.Nat.{eq_of_mul-eq-mul_right, le_of_mul-le-mul_right, lt_of_mul-lt-mul_right, mul-le-mul_right, mul-lt-mul_of_pos_right}
 use Rattle.rp_num.specs.Fraction.{Fraction, IsLowestTerms}
+use Rattle.rp_evidence.specs.BoundEvidence.{BoundHolds}
 use Rattle.rp_evidence.specs.Demand.{FractionBundle, IsInfimum, IsSupportingDemand, IsSupremum, NewBudget, spending}
 use Rattle.rp_evidence.specs.DemandEvidence.{ProvesDemand, ProvesDemandBounds, ProvesGood, ProvesLower, ProvesLowerWelfare, ProvesUpper, ProvesWelfare, bundle_of, budget_of}
 use Rattle.rp_evidence.specs.DemandPrograms.{ListsBelow, lower_program, upper_program}
@@ -22,7 +23,7 @@ use Rattle.rp_evidence.proofs.DemandLaws.{supporting_exactly}
 use Rattle.rp_evidence.proofs.EqualOrReached.{starts_in}
 use Rattle.rp_evidence.proofs.WelfareLaws.{pair_is_least}
 use Rattle.rp_farkas.specs.Listing.{numerator_at}
-use Rattle.rp_check.specs.DemandFailure.{BoundHolds, DemandBoundsFail, DemandFails, GoodFails}
+use Rattle.rp_check.specs.DemandFailure.{DemandBoundsFail, DemandFails, GoodFails}
 use Rattle.rp_check.specs.WelfareFailure.{LowerHolds, WelfareFails}
 use Rattle.rp_clauses.proofs.SoundTests.{garp_proves}
 
@@ -87,13 +88,13 @@ module _ (input : TableInput) (garp_shown : Bool) (sound : IsTrue garp_shown →
   -- ---- demand
 
   module _ (budget : NewBudget) (below : List ℕ) (lists : ListsBelow input budget below) (meets : MeetsGarp input.n input.cost 1 1) (inner : FractionBundle) (kept : IsSupportingDemand input budget inner) (g : ℕ) (g_in : g < input.goods) (some : 0 < budget.prices g) where
-    proves_lower : (bound : Bound) → BoundHolds (lower_program input budget below g) g bound → ProvesLower input budget g bound
+    proves_lower : (bound : Bound) → BoundHolds (lower_program input budget below g) (λ x. x g) bound → ProvesLower input budget g bound
     proves_lower (Shown value pair) (equal, lowest) =
         infimum_reduced input (slice_index pair.x g) pair.den value lowest budget g
         (lower_is_infimum input budget below lists meets inner kept g pair.den (numerator_at pair.y) (slice_index pair.x) g_in equal.equal)
     proves_lower (Wide step) holds = tt
 
-    proves_upper : (bound : Bound) → BoundHolds (upper_program input budget below g) g bound → ProvesUpper input budget g bound
+    proves_upper : (bound : Bound) → BoundHolds (upper_program input budget below g) (λ x. x g) bound → ProvesUpper input budget g bound
     proves_upper (Shown value pair) (equal, lowest) =
         supremum_reduced input (slice_index pair.x g) pair.den value lowest budget g
         (upper_is_supremum input budget below lists meets inner kept g pair.den (numerator_at pair.y) (slice_index pair.x) g_in some equal.equal)

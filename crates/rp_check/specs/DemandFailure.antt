@@ -4,33 +4,23 @@ use Rattle.std.specs.Prelude.{slice_index_or}
 use Rattle.rp_patch.specs.Clauses.{Finding, Unless, InOrder, FirstBelow, FirstUnless}
 use Rattle.rp_clauses.specs.PricesFailure.{ExpenditureFails, PricesFail}
 use Rattle.rp_clauses.specs.WalkFailure.{ViolationFails}
+use Rattle.rp_evidence.specs.BoundEvidence.{BoundHolds}
 use Rattle.rp_evidence.specs.Demand.{FractionBundle, IsBelow, IsStrictlyBelow, NewBudget, spending}
 use Rattle.rp_evidence.specs.DemandEvidence.{budget_of, bundle_of}
 use Rattle.rp_evidence.specs.DemandPrograms.{ListsBelow, ListsStrictlyBelow, lower_program, upper_program}
 use Rattle.rp_evidence.specs.Input.{TableInput}
-use Rattle.rp_evidence.specs.declared.demand.Bound.{Bound}
-use Rattle.rp_evidence.specs.declared.demand.Bound.TheVariants.{Shown, Wide}
 use Rattle.rp_evidence.specs.declared.demand.DemandPart.{DemandPart}
 use Rattle.rp_evidence.specs.declared.demand.DemandPart.TheVariants.{Bounds, NoModel}
 use Rattle.rp_evidence.specs.declared.demand.GoodBounds.{GoodBounds}
 use Rattle.rp_evidence.specs.declared.demand.Point.{Point as InnerPoint}
 use Rattle.rp_evidence.specs.declared.failure.Reason.TheVariants.{Shape, Number, NoGarp, Set, Point}
 use Rattle.rp_evidence.specs.declared.failure.Reason.TheVariants.{Bound as BoundReason}
-use Rattle.rp_farkas.specs.LinearProgram.{LinearProgram}
-use Rattle.rp_farkas.specs.PairCheck.{IsShownPair}
-use Rattle.rp_num.specs.Fraction.{IsLowestTerms}
 
--- A shown bound is an equal pair of the program, and its value is the price of row g in lowest terms. What is withheld
--- is passed over.
-abbrev pub BoundHolds : LinearProgram → ℕ → Bound → Type 0
-BoundHolds p g (Shown value pair) = IsShownPair p pair × IsLowestTerms (slice_index pair.x g) pair.den value
-BoundHolds p g (Wide step) = Unit {0}
-
--- Good g, from 0: its lower bound, then its upper one.
+-- Good g, from 0: its lower bound, then its upper one, each of which is the price of row g.
 abbrev pub GoodFails : TableInput → NewBudget → List ℕ → ℕ → GoodBounds → Finding
 GoodFails input budget below g bounds = InOrder (
-    Unless (BoundHolds (lower_program input budget below g) g bounds.lower) BoundReason (2 * g + 1)
-    ∷ Unless (BoundHolds (upper_program input budget below g) g bounds.upper) BoundReason (2 * g + 2)
+    Unless (BoundHolds (lower_program input budget below g) (λ x. x g) bounds.lower) BoundReason (2 * g + 1)
+    ∷ Unless (BoundHolds (upper_program input budget below g) (λ x. x g) bounds.upper) BoundReason (2 * g + 2)
     ∷ [])
 
 -- The good of that number in a list of bounds.

@@ -3,31 +3,21 @@ use Rattle.std.specs.Prelude.{◌≡◌, ◌<◌, ◌≤◌, ℕ, Bool, IsTrue, 
 use Rattle.rp_patch.specs.Clauses.{Finding, Unless, InOrder, FirstUnless}
 use Rattle.rp_clauses.specs.PricesFailure.{PricesFail}
 use Rattle.rp_clauses.specs.WalkFailure.{ViolationFails}
+use Rattle.rp_evidence.specs.BoundEvidence.{BoundHolds}
 use Rattle.rp_evidence.specs.Demand.{spending}
 use Rattle.rp_evidence.specs.Input.{TableInput}
 use Rattle.rp_evidence.specs.Welfare.{EqualsOrReaches, ListsReached, welfare_program}
 use Rattle.rp_evidence.specs.declared.demand.Bound.{Bound}
-use Rattle.rp_evidence.specs.declared.demand.Bound.TheVariants.{Shown, Wide}
 use Rattle.rp_evidence.specs.declared.demand.WelfarePart.{WelfarePart}
 use Rattle.rp_evidence.specs.declared.demand.WelfarePart.TheVariants.{Bounds, NoModel}
 use Rattle.rp_evidence.specs.declared.failure.Reason.TheVariants.{Number, NoGarp, Set, Point, Least}
 use Rattle.rp_evidence.specs.declared.failure.Reason.TheVariants.{Bound as BoundReason}
-use Rattle.rp_farkas.specs.LinearProgram.{LinearProgram}
-use Rattle.rp_farkas.specs.PairCheck.{IsShownPair}
-use Rattle.rp_num.specs.Fraction.{IsLowestTerms}
 
--- A shown bound is an equal pair of the program, and its value is what the price side costs, in lowest terms. What is
--- withheld is passed over.
-abbrev pub CostHolds : LinearProgram → ℕ → (ℕ → ℕ) → Bound → Type 0
-CostHolds p goods prices (Shown value pair) =
-    IsShownPair p pair × IsLowestTerms (spending goods prices (slice_index pair.x)) pair.den value
-CostHolds p goods prices (Wide step) = Unit {0}
-
--- The lower bound of observation t, by the program over t and all that t reaches.
+-- The lower bound of observation t is what the price side costs, by the program over t and all that t reaches.
 abbrev pub LowerHolds : TableInput → (ℕ → ℕ) → ℕ → Bound → Type 0
 LowerHolds input prices t lower =
     (reached : List ℕ) × ListsReached input t reached
-    × CostHolds (welfare_program input prices reached) input.goods prices lower
+    × BoundHolds (welfare_program input prices reached) (spending input.goods prices) lower
 
 -- The upper bound is not above what the bundle of s costs, if s equals or reaches t.
 abbrev pub IsNotAboveAt : TableInput → (ℕ → ℕ) → ℕ → ℕ → ℕ → Type 0

@@ -1,17 +1,15 @@
-ghost use Rattle.std.specs.Prelude.{◌≡◌, ◌+◌, ◌<◌, ◌≤◌, ◌↔◌, ℕ, All, IsTrue, length, slice_index};
+ghost use Rattle.std.specs.Prelude.{◌≡◌, ◌+◌, ◌<◌, ◌≤◌, ℕ, All, length, slice_index};
 ghost use Rattle.rp_evidence.specs.DemandEvidence.{budget_of};
 ghost use Rattle.rp_evidence.specs.DemandPrograms.{demand_entry, demand_worth, lower_program};
 ghost use Rattle.rp_evidence.specs.DemandPrograms.{upper_program};
 ghost use Rattle.rp_evidence.specs.Input.{input_of_table};
 ghost use Rattle.rp_evidence.specs.Welfare.{welfare_program};
 ghost use Rattle.rp_farkas.specs.Limits.{IsWithinLimits};
-ghost use Rattle.rp_num.specs.Fraction.{FitsPart, IsLowestTerms};
 ghost use Rattle.rp_table.specs.Tables.{goods_of, records_of};
 ghost use Rattle.rp_table.specs.Limits.{IsExpenditure};
 ghost use Rattle.rp_table.specs.declared.TheConstants.{RECORDS};
 
 use rp_farkas::Lp;
-use rp_num::Frac;
 use rp_table::NewPrices;
 
 /// The program whose prices have the least of a good: a row for each good, a column for each observation below, and two
@@ -253,14 +251,4 @@ impl Lp for Least<'_> {
         let s = self.reached[j as usize];
         self.new_prices.cost(s, s) as i64
     }
-}
-
-/// Whether the fraction is `num/den` in lowest terms.
-pub fn is_fraction(value: Frac, num: u128, den: u64) -> bool
-    requires positive { 1 ≤ den }
-    requires fits { FitsPart num }
-    ensures { IsTrue result ↔ IsLowestTerms num den value }
-{
-    let stated = Frac::new(num, u128::from(den));
-    value.num() == stated.num() && value.den() == stated.den()
 }

@@ -1,21 +1,23 @@
 ghost use Rattle.std.specs.Prelude.{◌≡◌, ◌<◌, ◌≤◌, ◌↔◌, IsTrue, length};
 ghost use Rattle.rp_check.specs.InnerSets.{AreFewOf, AreSets, budget_at, input_of};
-ghost use Rattle.rp_check.specs.DemandFailure.{BoundHolds, CostsEnoughAt, DemandBoundsFail};
+ghost use Rattle.rp_check.specs.DemandFailure.{CostsEnoughAt, DemandBoundsFail};
 ghost use Rattle.rp_check.specs.DemandFailure.{DemandFails, GoodFails, GoodsFail, InnerFails};
+ghost use Rattle.rp_evidence.specs.BoundEvidence.{BoundHolds};
 ghost use Rattle.rp_evidence.specs.DemandEvidence.{bundle_of};
 ghost use Rattle.rp_evidence.specs.DemandPrograms.{lower_program, upper_program};
 ghost use Rattle.rp_evidence.specs.Input.{input_of_table};
 ghost use Rattle.rp_table.specs.Tables.{goods_of, records_of};
 ghost use Rattle.rp_table.specs.Limits.{IsExpenditure};
 
-use crate::bounds::{Lower, Upper, is_fraction};
+use crate::bounds::{Lower, Upper};
 use crate::sets::{Sets, check_lists};
+use rp_clauses::bound::bound_holds;
 use rp_clauses::input::Input;
 use rp_clauses::prices::{check_expenditure, check_prices};
 use rp_clauses::reach::ROOM;
 use rp_clauses::walk::check_violation;
 use rp_evidence::{Bound, DemandPart, Failure, GoodBounds, Level, Point, Reason};
-use rp_farkas::{Lp, check_pair};
+use rp_farkas::Measure;
 use rp_patch::fails;
 use rp_table::NewPrices;
 
@@ -184,9 +186,13 @@ fn lower_holds(new_prices: &NewPrices<'_>, m: u64, below: &[u32], g: u32, bound:
     requires good { g < goods_of new_prices.now.table.now }
     ensures { IsTrue result ↔ BoundHolds
         (lower_program (input_of new_prices.now) (budget_at new_prices.now m) below.now g)
-        g bound.now }
+        (λ x. x g) bound.now }
 {
-    price_is(&Lower::make(new_prices, m, below, g), g, bound)
+    bound_holds(
+        &Lower::make(new_prices, m, below, g),
+        Measure::Price(g),
+        bound,
+    )
 }
 
 /// Whether a shown upper bound of good `g` is that of its pair.
@@ -196,21 +202,11 @@ fn upper_holds(new_prices: &NewPrices<'_>, m: u64, below: &[u32], g: u32, bound:
     requires good { g < goods_of new_prices.now.table.now }
     ensures { IsTrue result ↔ BoundHolds
         (upper_program (input_of new_prices.now) (budget_at new_prices.now m) below.now g)
-        g bound.now }
+        (λ x. x g) bound.now }
 {
-    price_is(&Upper::make(new_prices, m, below, g), g, bound)
-}
-
-/// Whether a shown bound is the price of row `g` in an equal pair of the program.
-fn price_is<P: Lp>(p: &P, g: u32, bound: &Bound) -> bool
-    requires { g < (P.program p.now).rows }
-    ensures { IsTrue result ↔ BoundHolds (P.program p.now) g bound.now }
-{
-    match bound {
-        Bound::Shown { value, pair } => {
-            check_pair(p, pair)
-                && is_fraction(*value, u128::from(pair.x.as_slice()[g as usize]), pair.den)
-        }
-        Bound::Wide { .. } => true,
-    }
+    bound_holds(
+        &Upper::make(new_prices, m, below, g),
+        Measure::Price(g),
+        bound,
+    )
 }

@@ -3,22 +3,25 @@ ghost use Rattle.rp_check.specs.InnerSets.{AreFewOf, input_of};
 ghost use Rattle.rp_patch.specs.Clauses.{FirstUnless, InOrder, Unless};
 ghost use Rattle.rp_clauses.specs.InnerMarks.{AreMarked};
 ghost use Rattle.rp_clauses.specs.WalkFailure.{ViolationFails};
-ghost use Rattle.rp_check.specs.WelfareFailure.{CostHolds, IsNotAboveAt, LowerHolds};
+ghost use Rattle.rp_check.specs.WelfareFailure.{IsNotAboveAt, LowerHolds};
 ghost use Rattle.rp_check.specs.WelfareFailure.{WelfareBoundsFail, WelfareFails, WelfarePartFails};
+ghost use Rattle.rp_evidence.specs.BoundEvidence.{BoundHolds};
 ghost use Rattle.rp_evidence.specs.Input.{input_of_table};
 ghost use Rattle.rp_evidence.specs.Welfare.{EqualsOrReaches, welfare_program};
 ghost use Rattle.rp_evidence.specs.declared.failure.Reason.TheVariants.{Least as LeastReason};
 ghost use Rattle.rp_evidence.specs.declared.failure.Reason.TheVariants.{Number};
 ghost use Rattle.rp_table.specs.Cost.{cost_of};
+ghost use Rattle.rp_table.specs.Spending.{spending};
 ghost use Rattle.rp_table.specs.Tables.{goods_of, records_of};
 
-use crate::bounds::{Least, is_fraction};
+use crate::bounds::Least;
+use rp_clauses::bound::bound_holds;
 use rp_clauses::input::Input;
 use rp_clauses::prices::check_prices;
 use rp_clauses::reach::{ROOM, Way, mark_only, spread, write_marked};
 use rp_clauses::walk::check_violation;
 use rp_evidence::{Bound, Failure, Level, Reason, WelfarePart};
-use rp_farkas::check_pair;
+use rp_farkas::Measure;
 use rp_patch::fails;
 use rp_table::NewPrices;
 
@@ -168,19 +171,10 @@ fn lower_holds(new_prices: &NewPrices<'_>, t: u32, lower: &Bound) -> bool
 /// Whether a shown bound is what the price side costs in an equal pair of the program over these observations.
 fn cost_holds(new_prices: &NewPrices<'_>, list: &[u32], bound: &Bound) -> bool
     requires { AreFewOf (records_of new_prices.now.table.now) list.now }
-    ensures { IsTrue result ↔ CostHolds (welfare_program (input_of new_prices.now)
-        (slice_index new_prices.now.prices.now) list.now) (goods_of new_prices.now.table.now)
-        (slice_index new_prices.now.prices.now) bound.now }
+    ensures { IsTrue result ↔ BoundHolds (welfare_program (input_of new_prices.now)
+        (slice_index new_prices.now.prices.now) list.now)
+        (spending (goods_of new_prices.now.table.now) (slice_index new_prices.now.prices.now))
+        bound.now }
 {
-    match bound {
-        Bound::Shown { value, pair } => {
-            check_pair(&Least::make(new_prices, list), pair)
-                && is_fraction(
-                    *value,
-                    new_prices.numerator_cost(pair.x.as_slice()),
-                    pair.den,
-                )
-        }
-        Bound::Wide { .. } => true,
-    }
+    bound_holds(&Least::make(new_prices, list), Measure::Cost, bound)
 }

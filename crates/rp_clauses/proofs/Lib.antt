@@ -1,7 +1,9 @@
+pub mod BoundMeasures
 pub mod HomotheticSteps
 pub mod MarkLemmas
 pub mod MarkedLists
 pub mod OwnCosts
+pub mod SameFractions
 pub mod SoundTests
 pub mod WalkProducts
 pub mod WalkSums

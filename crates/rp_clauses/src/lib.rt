@@ -1,7 +1,9 @@
-//! Clauses of the checker on a table: closed walks, ranks, what steps lead to, new prices, and the tests of a table.
+//! Clauses of the checker on a table: closed walks, ranks, what steps lead to, new prices, bounds by a
+//! linear program, and the tests of a table.
 #![tactic(auto)]
 
 pub mod afriat;
+pub mod bound;
 pub mod efficiency;
 pub mod garp;
 pub mod homothetic;

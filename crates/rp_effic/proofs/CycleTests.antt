@@ -10,7 +10,7 @@ use Rattle.rp_pref.specs.Closure.{IsClosureOf, Reached, reaches_in}
 use Rattle.rp_table.specs.Cost.{CostTable, cost_at}
 use Rattle.rp_effic.specs.InnerCycles.{HasCycle, HasCycleFrom}
 use Rattle.rp_effic.specs.Monotone.{IsMonotone}
-use Rattle.rp_effic.specs.InnerRatioOrder.{level_den}
+use Rattle.rp_pref.proofs.LevelOrder.{level_den}
 use Rattle.rp_effic.specs.InnerRatios.{Rise}
 use Rattle.rp_effic.specs.declared.ratio.Ratio.{Ratio}
 
@@ -21,7 +21,7 @@ stays costs ratios rise i j l within there = λ d.
     let less = rise i j d l within in
     let at = there d in (
       at.0,
-      closed_rises costs.n a.part a.whole b.part b.whole (cost_at costs) at.0 (level_den a.part a.whole a.level) (omega (arith, less)) at.1,
+      closed_rises costs.n a.num a.den b.num b.den (cost_at costs) at.0 (level_den a.num a.den a.level) (omega (arith, less)) at.1,
     )
 
 module _ (reached : Reached) (n : ℕ) (c : ℕ → ℕ → ℕ) (num den : ℕ) (closed : IsClosureOf reached n (IsWeak c num den)) where

@@ -12,5 +12,5 @@ HasCycle n c num den = (walk : List ℕ) × IsClosedWalk n (IsWeak c num den) wa
 -- There is one at the ratio in this place, whatever stands for a place past the end.
 abbrev pub HasCycleFrom : CostTable → List Ratio → ℕ → Type 0
 HasCycleFrom costs ratios place =
-    (d : Ratio) → HasCycle costs.n (cost_at costs) (slice_index_or ratios place d).part
-      (slice_index_or ratios place d).whole
+    (d : Ratio) → HasCycle costs.n (cost_at costs) (slice_index_or ratios place d).num
+    (slice_index_or ratios place d).den

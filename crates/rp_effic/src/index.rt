@@ -33,15 +33,15 @@ pub fn efficiency_index(alloc: Global, costs: &Costs) -> Result<Level, NoMemory>
 
 /// The same level in lowest terms.
 fn in_lowest_terms(ratio: Ratio) -> Level
-    ensures lowest { IsLowestTerms ratio.part ratio.whole
+    ensures lowest { IsLowestTerms ratio.num ratio.den
         (record { num = result.num; den = result.den }) }
-    ensures small { result.den ≤ ratio.whole }
+    ensures small { result.den ≤ ratio.den }
 {
-    let part = u128::from(ratio.part);
-    let whole = u128::from(ratio.whole);
-    let common = gcd(part, whole);
+    let num = u128::from(ratio.num);
+    let den = u128::from(ratio.den);
+    let common = gcd(num, den);
     Level {
-        num: (part / common) as u64,
-        den: (whole / common) as u64,
+        num: (num / common) as u64,
+        den: (den / common) as u64,
     }
 }

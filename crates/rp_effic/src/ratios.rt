@@ -40,13 +40,13 @@ fn ratio(costs: &Costs, s: u32, t: u32) -> Option<Ratio>
     requires from { s < costs.now.n }
     requires to { t < costs.now.n }
     ensures some { IfSome result (λ r.
-        (r.part ≡ cost_at costs.now s t) × (r.whole ≡ cost_at costs.now s s)) }
+        (r.num ≡ cost_at costs.now s t) × (r.den ≡ cost_at costs.now s s)) }
     ensures none { IfNone result (cost_at costs.now s s < cost_at costs.now s t) }
 {
-    let part = costs.cost(s, t);
-    let whole = costs.cost(s, s);
-    if part <= whole {
-        Some(Ratio { part, whole })
+    let num = costs.cost(s, t);
+    let den = costs.cost(s, s);
+    if num <= den {
+        Some(Ratio { num, den })
     } else {
         None
     }

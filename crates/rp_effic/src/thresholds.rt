@@ -38,8 +38,8 @@ impl Ask for Thresholds<'_> {
         self.asks += 1;
         let ratio = self.ratios[i as usize];
         let level = Level {
-            num: ratio.part,
-            den: ratio.whole,
+            num: ratio.num,
+            den: ratio.den,
         };
         let closure = Closure::of(alloc, self.costs, level, Steps::Weak)?;
         Ok(first_return(self.costs, &closure).is_some())

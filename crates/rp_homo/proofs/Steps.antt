@@ -6,7 +6,7 @@ use Rattle.rp_num.specs.Fraction.{Fraction, IsLowestTerms, PassesWidth}
 use Rattle.rp_num.proofs.Lowest.{IsLowestTerms-exists, IsLowestTerms-itself, not_PassesWidth}
 use Rattle.rp_walk.specs.ExactTotal.{SameTotal}
 use Rattle.rp_walk.proofs.Numbers.{same_pos}
-use Rattle.rp_homo.specs.Products.{FitsFraction, as_total, at_least_one, times}
+use Rattle.rp_walk.specs.Products.{FitsFraction, as_total, at_least_one, times}
 
 pub at_least_one-is : (k : ℕ) → 1 ≤ k → at_least_one k ≡ k
 at_least_one-is k h = omega arith

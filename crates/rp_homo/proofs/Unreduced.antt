@@ -6,7 +6,7 @@ use Rattle.rp_num.specs.Fraction.{Fraction, FitsPart, IsLowestTerms}
 use Rattle.rp_num.proofs.Coprime.{IsGcd-exists}
 use Rattle.rp_num.proofs.Lowest.{FitsWidth-divided, IsLowestTerms-divided, IsLowestTerms-itself}
 use Rattle.rp_walk.specs.ExactTotal.{SameTotal}
-use Rattle.rp_homo.specs.Products.{FitsFraction, as_total, times}
+use Rattle.rp_walk.specs.Products.{FitsFraction, as_total, times}
 use Rattle.rp_homo.proofs.Steps.{at_least_one-is}
 
 -- a product with both parts within the width before it is reduced fits

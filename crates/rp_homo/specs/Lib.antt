@@ -1,3 +1,1 @@
-pub mod Products
 pub mod Verdict
-pub mod InnerProductLaws

@@ -8,7 +8,7 @@ use Rattle.rp_evidence.specs.Walk.{AnyStep, IsClosedWalk}
 use Rattle.rp_evidence.specs.Homothetic.{EndsBelow, IsLeastProduct, MeetsHomotheticTest, ProductsFit, value_at}
 use Rattle.rp_evidence.specs.declared.homothetic.Homothetic.{Homothetic}
 use Rattle.rp_evidence.specs.declared.homothetic.Homothetic.TheVariants.{Values, Cycle, Withheld}
-use Rattle.rp_homo.specs.Products.{FitsFraction, as_total, products}
+use Rattle.rp_walk.specs.Products.{FitsFraction, as_total, products}
 
 -- On the closed walk s, t, s the product is below 1.
 abbrev pub PairFalls : (ℕ → ℕ → ℕ) → ℕ → ℕ → Type 0

@@ -16,7 +16,7 @@ impl Total for Products<'_> {
     type Value = Frac;
 
     ghost use Rattle.rp_table.specs.Cost.{cost_at};
-    ghost use Rattle.rp_homo.specs.Products.{FitsFraction, as_total, products};
+    ghost use Rattle.rp_walk.specs.Products.{FitsFraction, as_total, products};
 
     ghost rule = { λ a. products a.costs.now.n (cost_at a.costs.now) };
 
@@ -62,8 +62,8 @@ impl Total for Products<'_> {
         across < own
     }
 
-    ghost use Rattle.rp_homo.specs.InnerProductLaws.{products_fit_alike};
-    ghost use Rattle.rp_homo.specs.InnerProductLaws.{products_keep_order, products_stay};
+    ghost use Rattle.rp_walk.proofs.ProductLaws.{products_fit_alike};
+    ghost use Rattle.rp_walk.proofs.ProductLaws.{products_keep_order, products_stay};
 
     ghost keeps_order = { λ a. products_keep_order a.costs.now.n (cost_at a.costs.now) };
 

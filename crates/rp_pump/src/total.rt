@@ -83,11 +83,16 @@ impl Total for PumpTotal<'_> {
         is_negative(self.added(s, t), self.added(t, s))
     }
 
-    ghost use Rattle.rp_pump.specs.InnerTotal.{pump_fit_alike, pump_keeps_order, pump_stays};
+    ghost use Rattle.std.proofs.Common.{ap, refl, if◌then◌else◌};
+    ghost use Rattle.std.proofs.lemmas.Bool.{eq-eqb};
+    ghost use Rattle.rp_pump.specs.InnerTotal.{other_added};
+    ghost use Rattle.rp_walk.proofs.SumLaws.{sums_fit_alike, sums_keep_order, sums_stay};
 
-    ghost keeps_order = { λ a. pump_keeps_order a.costs.now.n (cost_at a.costs.now) a.num a.den };
+    ghost keeps_order = { λ a. sums_keep_order a.costs.now.n (added (cost_at a.costs.now) a.num a.den) };
 
-    ghost stays = { λ a. pump_stays a.costs.now.n (cost_at a.costs.now) a.num a.den };
+    ghost stays = { λ a. sums_stay a.costs.now.n (added (cost_at a.costs.now) a.num a.den)
+        (λ t ht. ap (λ b. if b then pos 0 else other_added (cost_at a.costs.now) a.num a.den t t)
+        (eq-eqb t t refl)) };
 
-    ghost fits_alike = { pump_fit_alike };
+    ghost fits_alike = { sums_fit_alike };
 }

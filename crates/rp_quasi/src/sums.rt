@@ -63,11 +63,11 @@ impl Total for Sums<'_> {
         across < spent
     }
 
-    ghost use Rattle.rp_quasi.specs.InnerSumLaws.{costs_fit_alike, costs_keep_order, costs_stay};
+    ghost use Rattle.rp_walk.proofs.SumLaws.{step_sums_stay, sums_fit_alike, sums_keep_order};
 
-    ghost keeps_order = { λ a. costs_keep_order a.costs.now.n (cost_at a.costs.now) };
+    ghost keeps_order = { λ a. sums_keep_order a.costs.now.n (step_sum (cost_at a.costs.now)) };
 
-    ghost stays = { λ a. costs_stay a.costs.now.n (cost_at a.costs.now) };
+    ghost stays = { λ a. step_sums_stay a.costs.now.n (cost_at a.costs.now) };
 
-    ghost fits_alike = { costs_fit_alike };
+    ghost fits_alike = { sums_fit_alike };
 }

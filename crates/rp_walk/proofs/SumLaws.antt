@@ -2,7 +2,8 @@
 use borrow.Author.Differences.{up, down}
 use Rattle.std.proofs.Common.{◌+◌, ◌*◌, ap, subst, ◌≡◌, ℕ, ◌<◌, arith, sym}
 use Rattle.std.proofs.lemmas.Int.{ints}
-use Rattle.std.specs.Prelude.{ℤ, pos, ◌+ℤ◌, ◌*ℤ◌, ◌<ℤ◌}
+use Rattle.std.specs.Prelude.{ℤ, pos, ◌+ℤ◌, ◌-ℤ◌, ◌*ℤ◌, ◌<ℤ◌}
+use Rattle.rp_evidence.specs.Quasilinear.{step_sum}
 use Rattle.rp_walk.specs.ExactTotal.{ExactTotal, SameTotal}
 use Rattle.rp_walk.specs.Walk.{KeepsOrder}
 use Rattle.rp_walk.specs.LeastTotals.{FitsAlike}
@@ -43,6 +44,13 @@ nothing_added a b =
 pub sums_stay : (n : ℕ) (added : ℕ → ℕ → ℤ) → ((t : ℕ) → t < n → added t t ≡ pos 0) → (x : ExactTotal) (t : ℕ) → t < n → SameTotal ((sums n added).after x t t) x
 sums_stay n added none x t ht =
     subst (λ k. (x.num +ℤ (k *ℤ pos x.den)) *ℤ pos x.den ≡ x.num *ℤ pos x.den) (sym (none t ht)) (nothing_added x.num x.den)
+
+nothing_paid : (m : ℕ) → pos m -ℤ pos m ≡ pos 0
+nothing_paid m = omega (arith, ints)
+
+-- a step from an observation to itself costs what was spent there, so it adds nothing
+pub step_sums_stay : (n : ℕ) (c : ℕ → ℕ → ℕ) (x : ExactTotal) (t : ℕ) → t < n → SameTotal ((sums n (step_sum c)).after x t t) x
+step_sums_stay n c = sums_stay n (step_sum c) (λ t ht. nothing_paid (c t t))
 
 pub sums_fit_alike : FitsAlike FitsI128
 sums_fit_alike x y h (z, fits, same) = (z, fits, SameTotal-trans y x (whole_total z) (sym h) same)

@@ -41,12 +41,12 @@ pub record IsTried {V : Type 0} (w : TotalRule) (exact : V → ExactTotal) (x : 
   pub from_len : length new_from ≡ length old_from
   pub kept : (s : ℕ) → s < tried → ¬ (IsLess (w.after x t s) (totals_of exact w.empty old s))
       → (totals_of exact w.empty new s ≡ totals_of exact w.empty old s)
-        × (slice_index new_from s ≡ slice_index old_from s)
+      × (slice_index new_from s ≡ slice_index old_from s)
   pub taken : (s : ℕ) → s < tried → IsLess (w.after x t s) (totals_of exact w.empty old s)
       → SameTotal (totals_of exact w.empty new s) (w.after x t s) × (slice_index new_from s ≡ t)
   pub rest : (s : ℕ) → tried ≤ s
       → (totals_of exact w.empty new s ≡ totals_of exact w.empty old s)
-        × (slice_index new_from s ≡ slice_index old_from s)
+      × (slice_index new_from s ≡ slice_index old_from s)
 
 -- The steps from t with the total x to the observations below `tried` fit.
 abbrev pub StepsFit : TotalRule → (ExactTotal → Type 0) → ExactTotal → ℕ → ℕ → Type 0

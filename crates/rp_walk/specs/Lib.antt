@@ -8,3 +8,4 @@ pub mod InnerRounds
 pub mod InnerAdvance
 pub mod Outcome
 pub mod Sums
+pub mod Products

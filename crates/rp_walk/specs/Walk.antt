@@ -13,7 +13,7 @@ pub record TotalRule : Type 0 where
 -- A step keeps the order of exact totals.
 abbrev pub KeepsOrder : TotalRule → Type 0
 KeepsOrder w = (x y : ExactTotal) (t s : ℕ) → t < w.count → s < w.count → IsLess x y
-  ↔ IsLess (w.after x t s) (w.after y t s)
+    ↔ IsLess (w.after x t s) (w.after y t s)
 
 -- A walk is the observation at which it begins and the list of those that it goes on to, so it has as
 -- many steps as that list has entries.

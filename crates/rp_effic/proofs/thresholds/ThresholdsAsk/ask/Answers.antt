@@ -12,8 +12,8 @@ returns-clause-value c =
     let ratios = c.args.self.now.ratios.now in
     let here = c.index-self-i.result in
     let ratio = get_or ratios c.args.i here in
-    let decided = found_cycle c.in_ok-closure.closure costs.n (cost_at costs) ratio.part ratio.whole c.in_ok-closure.ensures c.first_return.result c.first_return.ensures in (
-      λ e. λ d. subst (λ (x : Ratio). HasCycle costs.n (cost_at costs) x.part x.whole) (get_or_default ratios c.args.i here d c.requires.place)
+    let decided = found_cycle c.in_ok-closure.closure costs.n (cost_at costs) ratio.num ratio.den c.in_ok-closure.ensures c.first_return.result c.first_return.ensures in (
+      λ e. λ d. subst (λ (x : Ratio). HasCycle costs.n (cost_at costs) x.num x.den) (get_or_default ratios c.args.i here d c.requires.place)
           (decided.0 (sym c.is_some.ensures ∙ e)),
       λ h. c.is_some.ensures ∙ decided.1 (h here),
     )

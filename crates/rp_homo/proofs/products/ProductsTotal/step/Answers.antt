@@ -3,7 +3,7 @@ use Rattle.std.specs.Prelude.{Result, IfOk}
 use Rattle.rp_num.specs.Fraction.{Fraction, IsLowestTerms}
 use Rattle.rp_num.specs.declared.Wide.{Wide}
 use Rattle.rp_walk.specs.ExactTotal.{SameTotal}
-use Rattle.rp_homo.specs.Products.{as_total, times}
+use Rattle.rp_walk.specs.Products.{as_total, times}
 use Rattle.rp_homo.proofs.Steps.{same_product, wide_product}
 use Rattle.rp_homo.proofs.products.ProductsTotal.step.Goals as goal
 
