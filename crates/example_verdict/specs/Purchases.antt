@@ -10,4 +10,5 @@ purchases = record {
   quantities = 1 ∷ 2 ∷ 2 ∷ 1 ∷ [];
   price_places = 0;
   quantity_places = 0;
+  levels = [];
 }

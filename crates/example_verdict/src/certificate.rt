@@ -1,4 +1,4 @@
-ghost use Rattle.std.specs.Prelude.{◌≡◌, IfOk};
+ghost use Rattle.std.specs.Prelude.{◌≡◌, [], IfOk};
 ghost use Rattle.rp_check.specs.declared.verdict.Verdict.TheVariants.{Accepted};
 ghost use Rattle.rp_table.specs.Cost.{IsCostsOf};
 ghost use Rattle.example_verdict.specs.Certified.{IsCertifiedBy, certificate_of};
@@ -20,9 +20,10 @@ pub struct Certified {
 }
 
 /// The verdicts on a table with their evidence, and what the checker says of them from the table and the evidence
-/// alone.
+/// alone. The observations have no levels of their own.
 pub fn certify(alloc: Global, table: &Table, costs: &Costs) -> Result<Certified, NoMemory>
-    requires { IsCostsOf costs.now table.now }
+    requires of_table { IsCostsOf costs.now table.now }
+    requires no_levels { table.now.levels ≡ [] }
     ensures proves { IfOk result (λ made. IsCertifiedBy table.now made.certificate) }
     ensures accepted { IfOk result (λ made. made.outcome ≡ Accepted) }
 {

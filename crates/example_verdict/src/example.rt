@@ -14,5 +14,5 @@ pub fn purchases(alloc: Global) -> Result<Table, NoMemory>
     let names = vec![in alloc; bread, wine]?;
     let prices = vec![in alloc; 1, 2, 2, 1]?;
     let quantities = vec![in alloc; 1, 2, 2, 1]?;
-    Ok(Table::make(names, prices, quantities, 0, 0))
+    Ok(Table::make(names, prices, quantities, 0, 0, None))
 }

@@ -2,7 +2,7 @@
 use Rattle.std.proofs.Common.{◌≡◌, ◌≢◌, ◌<◌, ◌≤◌, ◌*◌, ℕ, zero, suc, List, [], ◌∷◌, ◌⊎◌, inl, inr, refl, sym, subst, ◌∙◌, arith, AllPairs, Contains, slice_index, slice_index_or}
 use Rattle.rp_evidence.specs.Count.{IsCount}
 use Rattle.rp_evidence.specs.Garp.{IsViolationAt, MeetsGarp}
-use Rattle.rp_evidence.specs.Preference.{IsWeak, IsStrict}
+use Rattle.rp_evidence.specs.Preference.{IsWeak, IsStrict, StrictByLevels, WeakByLevels}
 use Rattle.rp_evidence.specs.Ranks.{OrderStrictSteps, RespectLevel}
 use Rattle.rp_evidence.specs.Walk.{IsClosedWalk, HasStep, LeadsTo, Reaches}
 use Rattle.rp_evidence.proofs.Levels.{ordering_ranks_exclude}
@@ -20,6 +20,26 @@ contradiction = costs ((5 ∷ 4 ∷ []) ∷ (4 ∷ 5 ∷ []) ∷ [])
 contradiction_violates : IsViolationAt 2 contradiction 1 1 (0 ∷ 1 ∷ 0 ∷ [])
 contradiction_violates =
     ((0, (refl, (omega arith, omega arith, (omega arith, omega arith, (omega arith, refl)))), omega arith), inl (omega arith))
+
+-- ---- the same two, the first held to 800 and then to 799 thousandths of the 5 that it spent: 4 are just that part,
+-- and then above it
+
+weak_at_800 : WeakByLevels (800 ∷ 1000 ∷ []) contradiction 0 1
+weak_at_800 = omega arith
+
+not_strict_at_800 : ¬ StrictByLevels (800 ∷ 1000 ∷ []) contradiction 0 1
+not_strict_at_800 h = absurd (omega arith)
+
+not_weak_at_799 : ¬ WeakByLevels (799 ∷ 1000 ∷ []) contradiction 0 1
+not_weak_at_799 h = absurd (omega arith)
+
+-- the level of the second is its own
+strict_of_the_second : StrictByLevels (799 ∷ 1000 ∷ []) contradiction 1 0
+strict_of_the_second = omega arith
+
+-- an observation that is held to less than all is not weakly preferred to itself
+not_to_itself_at_800 : ¬ WeakByLevels (800 ∷ 1000 ∷ []) contradiction 0 0
+not_to_itself_at_800 h = absurd (omega arith)
 
 -- ---- a closed walk of weak steps, none of them strict
 

@@ -6,7 +6,7 @@ use Rattle.rp_evidence.specs.Walk.{Reaches}
 abbrev pub IsNumberOf : ℕ → (ℕ → Type 0) → ℕ → Type 0
 IsNumberOf n P k =
     (those : List ℕ) × AllPairs (λ x y. x ≢ y) those × ((t : ℕ) → Contains those t ↔ ((t < n) × P t))
-      × (length those ≡ k)
+    × (length those ≡ k)
 
 -- k is the count of s: how many observations are s or are reached from s.
 abbrev pub IsCount : ℕ → (ℕ → ℕ → Type 0) → ℕ → ℕ → Type 0

@@ -26,7 +26,7 @@ enlarged input budget bundle s t =
     if nat_lt s input.n
     then (if nat_lt t input.n then bundle.den * input.cost s t else spending input.goods (input.price s) bundle.num)
     else (if nat_lt t input.n then bundle.den * spending input.goods budget.prices (input.quantity t)
-      else bundle.den * budget.expenditure)
+    else bundle.den * budget.expenditure)
 
 -- The bundle is on the budget: it costs just what is spent.
 pub record IsOnBudget (input : TableInput) (budget : NewBudget) (bundle : FractionBundle) : Type 0 where
@@ -107,7 +107,7 @@ pub record IsInnerDemand (input : TableInput) (budget : NewBudget) (bundle : Fra
   pub over : bundle.den ≡ budget.prices 0
   pub parts :
       ((s : ℕ) × (counts : List ℕ) × AreCounts input.n (IsWeak input.cost 1 1) counts
-        × IsInnerStart input budget counts s
+      × IsInnerStart input budget counts s
       × ((g : ℕ) → g < input.goods → bundle.num g ≡ with_rest_on_first input budget s g))
       ⊎ (((s : ℕ) → s < input.n → ¬ Buys input budget s)
       × ((g : ℕ) → g < input.goods → bundle.num g ≡ all_on_first budget g))
@@ -119,7 +119,7 @@ HasSupport input budget = (bundle : FractionBundle) × IsSupportingDemand input 
 -- There is an inner demand, and it is a supporting demand.
 abbrev pub HasInnerSupport : TableInput → NewBudget → Type 0
 HasInnerSupport input budget = (bundle : FractionBundle) × IsInnerDemand input budget bundle
-  × IsSupportingDemand input budget bundle
+    × IsSupportingDemand input budget bundle
 
 -- ---- how much of a good supporting demands have
 

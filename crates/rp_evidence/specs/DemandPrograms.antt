@@ -43,4 +43,4 @@ lower_program input budget below g = demand_program input budget below (λ i. if
 -- The program whose prices have the greatest of good g: its right side is what the other goods cost.
 abbrev pub upper_program : TableInput → NewBudget → List ℕ → ℕ → LinearProgram
 upper_program input budget below g =
-  demand_program input budget below (λ i. if i == g then pos 0 else pos (budget.prices i))
+    demand_program input budget below (λ i. if i == g then pos 0 else pos (budget.prices i))

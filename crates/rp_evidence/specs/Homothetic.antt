@@ -42,7 +42,7 @@ EndsBelow c start walk = (start.num * next_costs c walk) * start.den < start.num
 abbrev pub StepsFitFrom : (ℕ → ℕ → ℕ) → ℕ → ℕ → ℕ → List ℕ → Type 0
 StepsFitFrom c num den t [] = Unit {0}
 StepsFitFrom c num den t (s ∷ rest) = (¬ (PassesWidth (num * c t s) (den * c t t)))
-  × StepsFitFrom c (num * c t s) (den * c t t) s rest
+    × StepsFitFrom c (num * c t s) (den * c t t) s rest
 
 -- Each product from the start along the walk is within the width.
 abbrev pub ProductsFit : (ℕ → ℕ → ℕ) → Fraction → List ℕ → Type 0
@@ -67,7 +67,7 @@ pub record BoundProducts (n : ℕ) (c : ℕ → ℕ → ℕ) (values : List Frac
   pub positive : (s : ℕ) → s < n → (1 ≤ (value_at values s).num) × (1 ≤ (value_at values s).den)
   pub each : (t s : ℕ) → t < n → s < n
       → (value_at values s).num * ((value_at values t).den * c t t)
-        ≤ ((value_at values t).num * c t s) * (value_at values s).den
+      ≤ ((value_at values t).num * c t s) * (value_at values s).den
 
 -- Values prove that the test holds: it does, and they are positive and bound the products. A cycle proves that it
 -- fails: it is closed and its product is below 1. What is withheld claims nothing.

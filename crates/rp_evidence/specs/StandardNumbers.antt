@@ -14,7 +14,7 @@ pub record IsClassUtility (n : ℕ) (c : ℕ → ℕ → ℕ) (count : ℕ → �
   pub least : (s t : ℕ) → s < n → t < n → class < count s → count t ≡ class → x ≤ℤ allowed c utility multiplier s t
   pub reached : (h : ℕ) → h < n → class < count h
       → (s : ℕ) × (t : ℕ) × (s < n) × (t < n) × (class < count s) × (count t ≡ class)
-        × (x ≡ allowed c utility multiplier s t)
+      × (x ≡ allowed c utility multiplier s t)
 
 -- With the multiplier k, observation s allows each observation of a higher class its utility.
 abbrev pub AllowsHigher : ℕ → (ℕ → ℕ → ℕ) → (ℕ → ℕ) → (ℕ → ℤ) → ℕ → ℕ → Type 0

@@ -12,7 +12,7 @@ use Rattle.rp_evidence.specs.declared.demand.WelfarePart.TheVariants.{Bounds, No
 -- The bundle costs at least a shown bound at the prices; a withheld one claims nothing.
 abbrev pub CostsAtLeast : TableInput → (ℕ → ℕ) → FractionBundle → Bound → Type 0
 CostsAtLeast input prices bundle (Shown value pair) =
-  value.num * bundle.den ≤ spending input.goods prices bundle.num * value.den
+    value.num * bundle.den ≤ spending input.goods prices bundle.num * value.den
 CostsAtLeast input prices bundle (Wide step) = Unit {0}
 
 -- The bundle of observation s, in whole numbers.

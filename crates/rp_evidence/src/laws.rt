@@ -4,10 +4,11 @@ ghost use Rattle.rp_evidence.specs.AfriatEvidence.{ProvesAfriat};
 ghost use Rattle.rp_evidence.specs.Count.{AreCounts, IsCount};
 ghost use Rattle.rp_evidence.specs.Efficiency.{ProvesEfficiency};
 ghost use Rattle.rp_evidence.specs.Garp.{HasNoViolation, IsViolation, IsViolationAt, ProvesGarp};
-ghost use Rattle.rp_evidence.specs.Garp.{ViolatesByPlaces};
+ghost use Rattle.rp_evidence.specs.Garp.{ProvesOfPreference, ViolatesByPlaces};
 ghost use Rattle.rp_evidence.specs.Homothetic.{ProvesHomothetic};
 ghost use Rattle.rp_evidence.specs.Input.{AgreeInputs, TableInput};
-ghost use Rattle.rp_evidence.specs.Preference.{AgreeBelow, IsStrict, IsWeak};
+ghost use Rattle.rp_evidence.specs.Preference.{AgreeBelow, IsStrict, IsWeak, StrictByLevels};
+ghost use Rattle.rp_evidence.specs.Preference.{WeakByLevels};
 ghost use Rattle.rp_evidence.specs.Proves.{Proves};
 ghost use Rattle.rp_evidence.specs.Quasilinear.{ProvesQuasilinear};
 ghost use Rattle.rp_evidence.specs.Ranks.{OrderSteps, OrderStrictSteps, RespectPreference};
@@ -65,6 +66,15 @@ pub fn violations_turn<P: Preference>()
 /// At the level 1 each observation is weakly preferred to itself.
 pub fn weak_to_itself()
     ensures { (c : ℕ → ℕ → ℕ) (s : ℕ) → IsWeak c 1 1 s s }
+{}
+
+/// Where the observations have no levels of their own, the preference is that at the level 1.
+pub fn no_levels_are_level_one()
+    ensures weak { (c : ℕ → ℕ → ℕ) (s t : ℕ) → WeakByLevels [] c s t ↔ IsWeak c 1 1 s t }
+    ensures strict { (c : ℕ → ℕ → ℕ) (s t : ℕ) → StrictByLevels [] c s t ↔ IsStrict c 1 1 s t }
+    ensures garp { (n : ℕ) (c : ℕ → ℕ → ℕ) (verdict : Garp)
+        → ProvesOfPreference n (WeakByLevels [] c) (StrictByLevels [] c) verdict
+        ↔ ProvesGarp n c verdict }
 {}
 
 /// What is strictly preferred at a level is weakly preferred at it.

@@ -38,10 +38,11 @@ pub use garp::Garp;
 pub use homothetic::Homothetic;
 pub use laws::{
     counts_are_unique, counts_respect, evidence_depends_on_observations,
-    evidence_depends_on_observed_costs, ordering_ranks_exclude_violations_below,
-    ranks_exclude_violations, step_counts_order, strict_is_weak, violations_by_places,
-    violations_have_walk_and_strict_step, violations_last_above, violations_turn,
-    walk_and_strict_step_violate, weak_cycles_violate_above, weak_to_itself,
+    evidence_depends_on_observed_costs, no_levels_are_level_one,
+    ordering_ranks_exclude_violations_below, ranks_exclude_violations, step_counts_order,
+    strict_is_weak, violations_by_places, violations_have_walk_and_strict_step,
+    violations_last_above, violations_turn, walk_and_strict_step_violate,
+    weak_cycles_violate_above, weak_to_itself,
 };
 pub use level::Level;
 pub use quasilinear::Quasi;

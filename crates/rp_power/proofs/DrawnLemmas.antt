@@ -1,5 +1,5 @@
 -- Numbers that are not all 0, and that a drawn table is a table.
-use Rattle.std.proofs.Common.{◌≡◌, ◌≢◌, ℕ, zero, suc, ◌+◌, ◌*◌, ◌/◌, ◌%◌, ◌<◌, ◌≤◌, ◌==◌, ◌&&◌, Bool, true, false, List, ◌++◌, length, get_or, set, refl, sym, ap, ◌∙◌, subst, arith, lit≤, add-one, if◌then◌else◌}
+use Rattle.std.proofs.Common.{◌≡◌, ◌≢◌, ℕ, zero, suc, ◌+◌, ◌*◌, ◌/◌, ◌%◌, ◌<◌, ◌≤◌, ◌==◌, ◌&&◌, Bool, true, false, inl, List, [], ◌++◌, length, get_or, set, refl, sym, ap, ◌∙◌, subst, arith, lit≤, add-one, if◌then◌else◌}
 use Rattle.std.specs.List.{All}
 use Rattle.std.proofs.lemmas.Nat.{div-add-mod', div_below, mod_below}
 use Rattle.std.proofs.Math.Dec.{eqb-suc-zero}
@@ -164,11 +164,12 @@ drawn_is_table table words is =
           omega arith;
       few_price_places = is.few_price_places;
       few_quantity_places = is.few_quantity_places;
+      own_levels = inl refl;
     }
 
 -- the lists that were made are those of the table
 pub drawn_is : (table : Observations) (words : List ℕ) (names : List (List ℕ)) (prices quantities : List ℕ) (price_places quantity_places : ℕ) → names ≡ table.names → prices ≡ table.prices
     → quantities ≡ rows_below (records_of table) (goods_of table) (drawn_quantity table words) → price_places ≡ table.price_places → quantity_places ≡ table.quantity_places
-    → record { names = names; prices = prices; quantities = quantities; price_places = price_places; quantity_places = quantity_places } ≡ drawn_table table words
+    → record { names = names; prices = prices; quantities = quantities; price_places = price_places; quantity_places = quantity_places; levels = [] } ≡ drawn_table table words
 drawn_is table words names prices quantities price_places quantity_places named priced bought price_scale quantity_scale =
-    λ i. record { names = named i; prices = priced i; quantities = bought i; price_places = price_scale i; quantity_places = quantity_scale i }
+    λ i. record { names = named i; prices = priced i; quantities = bought i; price_places = price_scale i; quantity_places = quantity_scale i; levels = [] }

@@ -12,6 +12,7 @@ two_budgets = record {
   quantities = 1 ∷ 2 ∷ 2 ∷ 1 ∷ [];
   price_places = 0;
   quantity_places = 0;
+  levels = [];
 }
 
 -- all of each expenditure on the good that costs more there
@@ -41,6 +42,7 @@ nothing_bought : (drawn_table (record {
   quantities = 1 ∷ 0 ∷ [];
   price_places = 0;
   quantity_places = 0;
+  levels = [];
 }) (0 ∷ 5 ∷ [])).quantities ≡ 1 ∷ 0 ∷ []
 nothing_bought = refl
 
@@ -51,5 +53,6 @@ cut : (drawn_table (record {
   quantities = 0 ∷ 9999999 ∷ [];
   price_places = 0;
   quantity_places = 0;
+  levels = [];
 }) (1 ∷ 0 ∷ [])).quantities ≡ 9999999 ∷ 0 ∷ []
 cut = refl

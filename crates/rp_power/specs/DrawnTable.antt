@@ -1,7 +1,7 @@
 -- A random behaviour on the budgets of a table: at the prices of each observation, what was spent there is divided
 -- among the goods by shares that are drawn (after Bronars 1987; whole quantities and their limit are this project's
 -- own).
-use Rattle.std.specs.Prelude.{ℕ, ◌+◌, ◌*◌, ◌/◌, List, min, slice_index}
+use Rattle.std.specs.Prelude.{ℕ, ◌+◌, ◌*◌, ◌/◌, List, [], min, slice_index}
 use Rattle.rp_num.specs.Below.{rows_below}
 use Rattle.rp_table.specs.Cost.{cost_of}
 use Rattle.rp_table.specs.Sums.{sum_below}
@@ -27,7 +27,7 @@ bought_of table words t g =
 abbrev pub drawn_quantity : Observations → List ℕ → ℕ → ℕ → ℕ
 drawn_quantity table words t = not_all_zero (goods_of table) (bought_of table words t)
 
--- the table with the drawn quantities in place of those that were bought
+-- the table with the drawn quantities in place of those that were bought, without levels
 abbrev pub drawn_table : Observations → List ℕ → Observations
 drawn_table table words = record {
   names = table.names;
@@ -35,4 +35,5 @@ drawn_table table words = record {
   quantities = rows_below (records_of table) (goods_of table) (drawn_quantity table words);
   price_places = table.price_places;
   quantity_places = table.quantity_places;
+  levels = [];
 }

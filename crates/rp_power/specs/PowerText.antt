@@ -9,7 +9,7 @@ use Rattle.rp_table.specs.Tables.{Observations}
 abbrev pub power_line : ℕ → ℕ → ℕ → List ℕ
 power_line seed draws violations =
     line_of (codes "power " ++ decimal seed ++ codes " draws " ++ decimal draws ++ codes " violations "
-      ++ decimal violations)
+    ++ decimal violations)
 
 -- the line on the table, and that on the power
 abbrev pub power_report : Observations → ℕ → ℕ → ℕ → List ℕ

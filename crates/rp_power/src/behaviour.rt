@@ -1,4 +1,4 @@
-ghost use Rattle.std.specs.Prelude.{◌≡◌, ◌*◌, ◌<◌, ◌≤◌, ◌^◌, IfOk, length};
+ghost use Rattle.std.specs.Prelude.{◌≡◌, ◌*◌, ◌<◌, ◌≤◌, ◌^◌, [], IfOk, length};
 ghost use Rattle.rp_num.specs.Below.{listed, rows_below};
 ghost use Rattle.rp_power.specs.DrawnTable.{affordable, drawn_quantity, drawn_table};
 ghost use Rattle.rp_power.specs.PowerCount.{words_of};
@@ -14,6 +14,7 @@ use std::alloc::Global;
 /// The table of the behaviour that the words draw, one word for each observation and then good. Names, prices and
 /// places are those of the table.
 pub fn drawn(alloc: Global, table: &Table, costs: &Costs, words: &[u32]) -> Result<Table, NoMemory>
+    requires no_levels { table.now.levels ≡ [] }
     requires of_table { IsCostsOf costs.now table.now }
     requires words { length words.now ≡ words_of table.now }
     ensures { IfOk result (λ drawn. drawn ≡ drawn_table table.now words.now) }
@@ -28,6 +29,7 @@ pub fn drawn(alloc: Global, table: &Table, costs: &Costs, words: &[u32]) -> Resu
         quantities,
         table.price_places(),
         table.quantity_places(),
+        None,
     ))
 }
 

@@ -1,4 +1,4 @@
-ghost use Rattle.std.specs.Prelude.{◌≡◌, ◌↔◌, IfOk, IsTrue, OnOk};
+ghost use Rattle.std.specs.Prelude.{◌≡◌, ◌↔◌, [], IfOk, IsTrue, OnOk};
 ghost use Rattle.rp_draws.specs.Words.{after_words, word_after};
 ghost use Rattle.rp_num.specs.Below.{listed};
 ghost use Rattle.rp_power.specs.PowerCount.{FailsGarp, IsPowerCount};
@@ -22,6 +22,7 @@ pub fn power(
     seed: u64,
     draws: u32,
 ) -> Result<u32, NoMemory>
+    requires no_levels { table.now.levels ≡ [] }
     requires of_table { IsCostsOf costs.now table.now }
     ensures { IfOk result (IsPowerCount table.now seed draws) }
 {
@@ -50,6 +51,7 @@ fn draw_words(alloc: Global, generator: &mut Lcg64Xsh32, count: u32) -> Result<V
 
 /// Whether a table fails the axiom.
 fn fails(alloc: Global, table: &Table) -> Result<bool, NoMemory>
+    requires { table.now.levels ≡ [] }
     ensures { IfOk result (λ failed. IsTrue failed ↔ FailsGarp table.now) }
 {
     let costs = Costs::of(alloc, table)?;

@@ -1,5 +1,6 @@
 pub mod ClosureLemmas
 pub mod DepthLemmas
+pub mod LevelOrder
 pub mod Noted
 pub mod Rounds
 pub mod SearchLemmas

@@ -52,7 +52,7 @@ IsLookedFrom table n u end depths = (t : ℕ) → t < end → IsStepIn table n u
 -- Each of the first observations that has this depth was looked from.
 abbrev pub AreLookedFrom : List Bool → ℕ → ℕ → ℕ → List ℕ → Type 0
 AreLookedFrom table n depth end depths = (u : ℕ) → u < end → slice_index depths u ≡ depth
-  → IsLookedFrom table n u n depths
+    → IsLookedFrom table n u n depths
 
 -- Every observation that a walk of at most this many steps, and at least one, reaches from s has a depth, and no such
 -- walk there is shorter.
@@ -93,4 +93,4 @@ pub record GoesTo (table : List Bool) (n s depth : ℕ) (depths before : List �
 abbrev pub AreFirst : List Bool → ℕ → ℕ → ℕ → List ℕ → Type 0
 AreFirst table n s end depths =
     (t : ℕ) → t < end → ((slice_index depths t ≡ 1) × IsStepIn table n s t)
-      ⊎ ((slice_index depths t ≡ 0) × ¬ IsStepIn table n s t)
+    ⊎ ((slice_index depths t ≡ 0) × ¬ IsStepIn table n s t)

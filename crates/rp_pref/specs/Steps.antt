@@ -1,7 +1,7 @@
 -- The steps of which walks are made: all weak ones of a preference, or all strict ones (Varian 1982; levels after
--- Afriat).
+-- Afriat, those of single observations after Varian 1990).
 use Rattle.std.specs.Prelude.{ℕ}
-use Rattle.rp_evidence.specs.Preference.{IsWeak, IsStrict}
+use Rattle.rp_evidence.specs.Preference.{IsWeak, IsStrict, StrictByLevels, WeakByLevels}
 use Rattle.rp_evidence.specs.declared.level.Level.{Level}
 use Rattle.rp_table.specs.Cost.{CostTable, cost_at}
 use Rattle.rp_pref.specs.declared.steps.Steps.{Steps}
@@ -23,3 +23,12 @@ WeakAt costs level = IsWeak (cost_at costs) level.num level.den
 -- And the strict one.
 abbrev pub StrictAt : CostTable → Level → ℕ → ℕ → Type 0
 StrictAt costs level = IsStrict (cost_at costs) level.num level.den
+
+-- The weak preference that a table of costs reveals where each observation is held to its own level, or, where there
+-- are no levels, to all that it spent.
+abbrev pub OwnWeak : CostTable → ℕ → ℕ → Type 0
+OwnWeak costs = WeakByLevels costs.levels (cost_at costs)
+
+-- And the strict one.
+abbrev pub OwnStrict : CostTable → ℕ → ℕ → Type 0
+OwnStrict costs = StrictByLevels costs.levels (cost_at costs)

@@ -7,11 +7,11 @@ ghost use Rattle.rp_table.specs.Cost.{CostTable, cost_at};
 ghost use Rattle.rp_pref.specs.InnerBits.{has_bit};
 ghost use Rattle.rp_pref.specs.Closure.{AreCounted, IsClosureOf, Reached};
 ghost use Rattle.rp_pref.specs.Closure.{reaches_in};
-ghost use Rattle.rp_pref.specs.Steps.{IsStep, StepOf};
+ghost use Rattle.rp_pref.specs.Steps.{IsStep, OwnWeak, StepOf};
 ghost use Rattle.rp_pref.specs.declared.steps.Steps.{Steps};
 
 use crate::bits::{close, count_set, is_set, set, words_for};
-use crate::revealed::{AtLevel, Revealed, has_step};
+use crate::revealed::{AtLevel, OwnLevels, Revealed, has_step};
 use crate::steps::Steps;
 use rp_evidence::Level;
 use rp_grid::Grid;
@@ -47,6 +47,13 @@ impl Closure {
             level.num level.den)) }
     {
         Closure::over(alloc, &AtLevel { costs, level }, steps)
+    }
+
+    /// The closure of the weak steps, each observation held to its own level.
+    pub fn own(alloc: Global, costs: &Costs) -> Result<Closure, NoMemory>
+        ensures { IfOk result (λ closure. IsClosureOf closure costs.now.n (OwnWeak costs.now)) }
+    {
+        Closure::over(alloc, &OwnLevels { costs }, Steps::Weak)
     }
 
     /// The closure of the chosen steps of a preference.

@@ -10,7 +10,7 @@ mod verdict;
 mod walk;
 
 pub use closure::{Closure, closures_count};
-pub use revealed::{AtLevel, Revealed};
-pub use steps::{Steps, strict, weak};
-pub use verdict::{shortest_weak_walk, verdict_at, verdict_over};
-pub use walk::{shortest_walk, walk_between};
+pub use revealed::{AtLevel, OwnLevels, Revealed};
+pub use steps::{Steps, own_strict, own_weak, strict, weak};
+pub use verdict::{own_verdict, shortest_weak_walk, verdict_at, verdict_over};
+pub use walk::{own_walk, shortest_walk, walk_between};

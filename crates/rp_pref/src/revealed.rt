@@ -3,7 +3,7 @@ ghost use Rattle.rp_evidence.specs.Preference.{IsLevel};
 ghost use Rattle.rp_pref.specs.Steps.{StepOf};
 ghost use Rattle.rp_table.specs.declared.TheConstants.{RECORDS};
 
-use crate::steps::{Steps, strict, weak};
+use crate::steps::{Steps, own_strict, own_weak, strict, weak};
 use rp_evidence::Level;
 use rp_table::Costs;
 
@@ -63,6 +63,35 @@ impl Revealed for AtLevel<'_> {
 
     fn is_strict(&self, s: u32, t: u32) -> bool {
         strict(self.costs, self.level, s, t)
+    }
+}
+
+/// The preference that a table of costs reveals where each observation is held to its own level, or, where the table
+/// has no levels, to all that it spent.
+#[derive(Drop)]
+pub struct OwnLevels<'a> {
+    pub costs: &'a Costs,
+}
+
+impl Revealed for OwnLevels<'_> {
+    ghost use Rattle.rp_pref.specs.Steps.{OwnStrict, OwnWeak};
+
+    ghost count = { λ o. o.costs.now.n };
+
+    ghost weak = { λ o. OwnWeak o.costs.now };
+
+    ghost strict = { λ o. OwnStrict o.costs.now };
+
+    fn n(&self) -> u32 {
+        self.costs.n()
+    }
+
+    fn is_weak(&self, s: u32, t: u32) -> bool {
+        own_weak(self.costs, s, t)
+    }
+
+    fn is_strict(&self, s: u32, t: u32) -> bool {
+        own_strict(self.costs, s, t)
     }
 }
 

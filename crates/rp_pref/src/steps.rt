@@ -1,6 +1,7 @@
 ghost use Rattle.std.specs.Prelude.{◌≡◌, ◌<◌, ◌*◌, ◌↔◌, IsTrue};
 ghost use Rattle.rp_evidence.specs.Preference.{IsLevel, IsStrict, IsWeak};
 ghost use Rattle.rp_table.specs.Cost.{cost_at};
+ghost use Rattle.rp_pref.specs.Steps.{OwnStrict, OwnWeak};
 
 use rp_evidence::Level;
 use rp_table::Costs;
@@ -32,6 +33,26 @@ pub fn strict(costs: &Costs, level: Level, s: u32, t: u32) -> bool
     ensures { IsTrue result ↔ IsStrict (cost_at costs.now) level.num level.den s t }
 {
     part(level.den, costs.cost(s, t)) < part(level.num, costs.cost(s, s))
+}
+
+/// Whether observation `s` is weakly preferred to `t` by its own level: `t` costs no more at the prices of `s` than
+/// that part of what `s` costs (Varian 1990).
+pub fn own_weak(costs: &Costs, s: u32, t: u32) -> bool
+    requires from { s < costs.now.n }
+    requires to { t < costs.now.n }
+    ensures { IsTrue result ↔ OwnWeak costs.now s t }
+{
+    costs.scale() * costs.cost(s, t) <= costs.own(s)
+}
+
+/// Whether observation `s` is strictly preferred to `t` by its own level: `t` costs less at the prices of `s` than that
+/// part of what `s` costs.
+pub fn own_strict(costs: &Costs, s: u32, t: u32) -> bool
+    requires from { s < costs.now.n }
+    requires to { t < costs.now.n }
+    ensures { IsTrue result ↔ OwnStrict costs.now s t }
+{
+    costs.scale() * costs.cost(s, t) < costs.own(s)
 }
 
 /// A part of a level times a cost.

@@ -5,11 +5,11 @@ ghost use Rattle.rp_evidence.specs.Garp.{ProvesOfPreference};
 ghost use Rattle.rp_evidence.specs.Preference.{IsLevel};
 ghost use Rattle.rp_evidence.specs.Walk.{IsShortestWalk, Reaches};
 ghost use Rattle.rp_pref.specs.Closure.{IsClosureOf};
-ghost use Rattle.rp_pref.specs.Steps.{StrictAt, WeakAt};
+ghost use Rattle.rp_pref.specs.Steps.{OwnStrict, OwnWeak, StrictAt, WeakAt};
 ghost use Rattle.rp_pref.specs.Violation.{IsVerdictOn, Violate};
 
 use crate::closure::Closure;
-use crate::revealed::{AtLevel, Revealed};
+use crate::revealed::{AtLevel, OwnLevels, Revealed};
 use crate::steps::Steps;
 use crate::walk::shortest_walk;
 use rp_evidence::{Garp, Level};
@@ -32,6 +32,17 @@ pub fn verdict_at(
         (WeakAt costs.now level) (StrictAt costs.now level)) }
 {
     verdict_over(alloc, &AtLevel { costs, level }, closure)
+}
+
+/// The verdict where each observation is held to its own level.
+pub fn own_verdict(alloc: Global, costs: &Costs, closure: &Closure) -> Result<Garp, NoMemory>
+    requires { IsClosureOf closure.now costs.now.n (OwnWeak costs.now) }
+    ensures proves { IfOk result (ProvesOfPreference costs.now.n
+        (OwnWeak costs.now) (OwnStrict costs.now)) }
+    ensures given { IfOk result (IsVerdictOn costs.now.n
+        (OwnWeak costs.now) (OwnStrict costs.now)) }
+{
+    verdict_over(alloc, &OwnLevels { costs }, closure)
 }
 
 /// Where no two observations violate the axiom, the counts as ranks; else a shortest cycle of the first two that do,

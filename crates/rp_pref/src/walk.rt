@@ -4,9 +4,9 @@ ghost use Rattle.rp_evidence.specs.Preference.{IsLevel};
 ghost use Rattle.rp_evidence.specs.Walk.{IsShortestWalk, IsWalk, Reaches};
 ghost use Rattle.rp_table.specs.Cost.{cost_at};
 ghost use Rattle.rp_pref.specs.InnerSearch.{IsNoted, IsStepIn, LeadBack};
-ghost use Rattle.rp_pref.specs.Steps.{IsStep, StepOf};
+ghost use Rattle.rp_pref.specs.Steps.{IsStep, OwnWeak, StepOf};
 
-use crate::revealed::{AtLevel, Revealed, has_step};
+use crate::revealed::{AtLevel, OwnLevels, Revealed, has_step};
 use crate::search::{ShortestWalks, walks_from};
 use crate::steps::Steps;
 use rp_evidence::Level;
@@ -34,6 +34,18 @@ pub fn walk_between(
         ¬ Reaches costs.now.n (IsStep steps (cost_at costs.now) level.num level.den) s t)) }
 {
     shortest_walk(alloc, &AtLevel { costs, level }, steps, s, t)
+}
+
+/// A walk of one or more weak steps from `s` to `t`, each observation held to its own level, with as few steps as any.
+pub fn own_walk(alloc: Global, costs: &Costs, s: u32, t: u32) -> Result<Option<Seq<u32>>, NoMemory>
+    requires from { s < costs.now.n }
+    requires to { t < costs.now.n }
+    ensures shortest { IfOk result (λ found. IfSome found
+        (IsShortestWalk costs.now.n (OwnWeak costs.now) s t)) }
+    ensures none { IfOk result (λ found. IfNone found (
+        ¬ Reaches costs.now.n (OwnWeak costs.now) s t)) }
+{
+    shortest_walk(alloc, &OwnLevels { costs }, Steps::Weak, s, t)
 }
 
 /// The same over any preference.

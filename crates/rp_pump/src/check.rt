@@ -1,5 +1,5 @@
 ghost use Rattle.std.specs.Prelude.{◌≡◌, ◌↔◌, ◌+◌, ◌*◌, ◌<◌, ◌≤◌, ◌^◌, ◌+ℤ◌, ◌≤ℤ◌, ℕ};
-ghost use Rattle.std.specs.Prelude.{IsTrue, length};
+ghost use Rattle.std.specs.Prelude.{[], IsTrue, length};
 ghost use Rattle.rp_evidence.specs.Efficiency.{FailsGarp};
 ghost use Rattle.rp_pump.specs.InnerWalks.{AreObserved, ClosesByPlaces, StepsAreWeak};
 ghost use Rattle.rp_pump.specs.MoneyPump.{HasPumpRatio, IsPumpIndex};
@@ -22,6 +22,7 @@ const VALUE_WIDTH: i128 = 1 << 121;
 /// Whether `num/den` is the greatest money pump ratio by its evidence: the cycle has it, and the values, which bound
 /// each weak step, leave no closed walk a greater one.
 pub fn check_pump(costs: &Costs, part: &PumpPart) -> bool
+    requires no_levels { costs.now.levels ≡ [] }
     ensures exact { IsTrue result ↔ PumpHolds costs.now.n (cost_at costs.now) part.now }
     ensures index { IsTrue result
         → IsPumpIndex costs.now.n (cost_at costs.now) part.now.num part.now.den }

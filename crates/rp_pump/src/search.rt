@@ -1,4 +1,4 @@
-ghost use Rattle.std.specs.Prelude.{◌↔◌, ◌<◌, IfOk};
+ghost use Rattle.std.specs.Prelude.{◌≡◌, ◌↔◌, ◌<◌, [], IfOk};
 ghost use Rattle.rp_evidence.specs.Efficiency.{FailsGarp};
 ghost use Rattle.rp_num.specs.Fraction.{IsCoprime};
 ghost use Rattle.rp_pump.specs.MoneyPump.{IsPumpIndex};
@@ -17,6 +17,7 @@ use std::alloc::Global;
 /// that rests each round takes on the ratio of a closed walk whose total at the ratio in hand is negative, until there
 /// is none (Dinkelbach 1967; Echenique, Lee and Shum 2011).
 pub fn pump(alloc: Global, costs: &Costs) -> Result<PumpPart, NoMemory>
+    requires no_levels { costs.now.levels ≡ [] }
     ensures index { IfOk result (λ part.
         IsPumpIndex costs.now.n (cost_at costs.now) part.num part.den) }
     ensures lowest_terms { IfOk result (λ part. IsCoprime part.num part.den) }

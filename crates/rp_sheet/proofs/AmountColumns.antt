@@ -14,36 +14,37 @@ use Rattle.rp_sheet.specs.ChoiceCounts.{column_named}
 use Rattle.rp_sheet.specs.declared.form.Form.{Form}
 use Rattle.rp_sheet.specs.declared.form.Marks.{Marks}
 use Rattle.rp_sheet.specs.declared.form.Role.{Role}
-use Rattle.rp_sheet.specs.declared.form.Role.TheVariants.{Observation, Price, Quantity, Expenditure, Income, Budget, Times, Output, OutputPrice, Menu, Choice}
+use Rattle.rp_sheet.specs.declared.form.Role.TheVariants.{Observation, Price, Quantity, Expenditure, Income, Budget, Times, Output, OutputPrice, Menu, Choice, OwnLevel}
 use Rattle.rp_sheet.proofs.FieldFaults.{role_is}
 use Rattle.rp_sheet.proofs.FineHeaders.{FineHeaders, same_place, column_there}
 use Rattle.rp_sheet.proofs.ColumnSizes.{sizes_in, within_limit, bought_at}
 
-amount_tests : (a b c d e f g m k named p q : Bool) (o : Option Role)
+amount_tests : (a b c d e f g m k l named p q : Bool) (o : Option Role)
     → option_or (if a then Some Observation else if b then Some Expenditure else if c then Some Income else if d then Some Budget else if e then Some Times
-    else if f then Some Output else if g then Some OutputPrice else if m then Some Menu else if k then Some Choice else None)
+    else if f then Some Output else if g then Some OutputPrice else if m then Some Menu else if k then Some Choice else if l then Some OwnLevel else None)
     (if not named then None else if p then Some Price else if q then Some Quantity else None) ≡ o
     → (o ≡ Some Expenditure → b ≡ true) × (o ≡ Some Income → c ≡ true)
-amount_tests true b c d e f g m k named p q o h = (λ x. cc (h ∙ x), λ x. cc (h ∙ x))
-amount_tests false true c d e f g m k named p q o h = (λ x. refl, λ x. cc (h ∙ x))
-amount_tests false false true d e f g m k named p q o h = (λ x. cc (h ∙ x), λ x. refl)
-amount_tests false false false true e f g m k named p q o h = (λ x. cc (h ∙ x), λ x. cc (h ∙ x))
-amount_tests false false false false true f g m k named p q o h = (λ x. cc (h ∙ x), λ x. cc (h ∙ x))
-amount_tests false false false false false true g m k named p q o h = (λ x. cc (h ∙ x), λ x. cc (h ∙ x))
-amount_tests false false false false false false true m k named p q o h = (λ x. cc (h ∙ x), λ x. cc (h ∙ x))
-amount_tests false false false false false false false true k named p q o h = (λ x. cc (h ∙ x), λ x. cc (h ∙ x))
-amount_tests false false false false false false false false true named p q o h = (λ x. cc (h ∙ x), λ x. cc (h ∙ x))
-amount_tests false false false false false false false false false true true q o h = (λ x. cc (h ∙ x), λ x. cc (h ∙ x))
-amount_tests false false false false false false false false false true false true o h = (λ x. cc (h ∙ x), λ x. cc (h ∙ x))
-amount_tests false false false false false false false false false true false false o h = (λ x. cc (h ∙ x), λ x. cc (h ∙ x))
-amount_tests false false false false false false false false false false p q o h = (λ x. cc (h ∙ x), λ x. cc (h ∙ x))
+amount_tests true b c d e f g m k l named p q o h = (λ x. cc (h ∙ x), λ x. cc (h ∙ x))
+amount_tests false true c d e f g m k l named p q o h = (λ x. refl, λ x. cc (h ∙ x))
+amount_tests false false true d e f g m k l named p q o h = (λ x. cc (h ∙ x), λ x. refl)
+amount_tests false false false true e f g m k l named p q o h = (λ x. cc (h ∙ x), λ x. cc (h ∙ x))
+amount_tests false false false false true f g m k l named p q o h = (λ x. cc (h ∙ x), λ x. cc (h ∙ x))
+amount_tests false false false false false true g m k l named p q o h = (λ x. cc (h ∙ x), λ x. cc (h ∙ x))
+amount_tests false false false false false false true m k l named p q o h = (λ x. cc (h ∙ x), λ x. cc (h ∙ x))
+amount_tests false false false false false false false true k l named p q o h = (λ x. cc (h ∙ x), λ x. cc (h ∙ x))
+amount_tests false false false false false false false false true l named p q o h = (λ x. cc (h ∙ x), λ x. cc (h ∙ x))
+amount_tests false false false false false false false false false true named p q o h = (λ x. cc (h ∙ x), λ x. cc (h ∙ x))
+amount_tests false false false false false false false false false false true true q o h = (λ x. cc (h ∙ x), λ x. cc (h ∙ x))
+amount_tests false false false false false false false false false false true false true o h = (λ x. cc (h ∙ x), λ x. cc (h ∙ x))
+amount_tests false false false false false false false false false false true false false o h = (λ x. cc (h ∙ x), λ x. cc (h ∙ x))
+amount_tests false false false false false false false false false false false p q o h = (λ x. cc (h ∙ x), λ x. cc (h ∙ x))
 
 -- the header of an expenditure, and that of an income
 amount_headers : (marks : Marks) (header : List ℕ) → (role_of marks header ≡ Some Expenditure → bytes_eq header (codes "m") ≡ true) × (role_of marks header ≡ Some Income → bytes_eq header (codes "w") ≡ true)
 unfolding role_of named_role good_role
 amount_headers marks header =
     amount_tests (bytes_eq header (codes "obs")) (bytes_eq header (codes "m")) (bytes_eq header (codes "w")) (bytes_eq header (codes "budget")) (bytes_eq header (codes "n"))
-    (bytes_eq header (codes "y")) (bytes_eq header (codes "p")) (bytes_eq header (codes "menu")) (bytes_eq header (codes "choice"))
+    (bytes_eq header (codes "y")) (bytes_eq header (codes "p")) (bytes_eq header (codes "menu")) (bytes_eq header (codes "choice")) (bytes_eq header (codes "e"))
     (is_name (name_in header)) (starts_with nat_eq header (mark_of_prices marks)) (starts_with nat_eq header (mark_of_quantities marks)) (role_of marks header) refl
 
 -- expenditures have one header

@@ -10,12 +10,12 @@ use Rattle.rp_sheet.specs.Fields.{figure, figures_of, rows_in, fields_stage}
 use Rattle.rp_sheet.specs.Sizes.{figure_at, places_of, limit_of, sizes_of, sizes_stage}
 use Rattle.rp_sheet.specs.declared.form.Form.{Form}
 use Rattle.rp_sheet.specs.declared.form.Role.{Role}
-use Rattle.rp_sheet.specs.declared.form.Role.TheVariants.{Price, Budget}
+use Rattle.rp_sheet.specs.declared.form.Role.TheVariants.{Price, Budget, OwnLevel}
 use Rattle.rp_num.proofs.BelowLemmas.{length-listed, one_holds}
 use Rattle.rp_sheet.proofs.NameLemmas.{and_both}
 use Rattle.rp_sheet.proofs.PlaceLemmas.{one_below}
 use Rattle.rp_sheet.proofs.FieldFaults.{role_is}
-use Rattle.rp_sheet.proofs.FigureLemmas.{figure_there, rows_are, good_record, price_units, budget_units, good_size, some_size, size_listed}
+use Rattle.rp_sheet.proofs.FigureLemmas.{figure_there, rows_are, good_record, price_units, budget_units, level_units, good_size, some_size, size_listed}
 
 -- the scaled numbers of a file
 abbrev pub sizes_in : Form → List (List ℕ) → List (List (List ℕ)) → List (List ℕ)
@@ -79,6 +79,12 @@ module _ (form : Form) (headers : List (List ℕ)) (records : List (List (List �
   pub budget_at : (t c : ℕ) → t < rows_in records → c < length headers → role_of form.marks (text_at headers c) ≡ Some Budget → slice_index (text_at (sizes_in form headers records) t) c ≤ form.budgets
   unfolding places_of
   budget_at t c row column says = rw (unscaled t c Budget row column says refl) (budget_units form headers records t c row column fine_fields says)
+
+  -- an own level is from 1 to 1,000 thousandths
+  pub level_at : (t c : ℕ) → t < rows_in records → c < length headers → role_of form.marks (text_at headers c) ≡ Some OwnLevel
+      → (1 ≤ slice_index (text_at (sizes_in form headers records) t) c) × (slice_index (text_at (sizes_in form headers records) t) c ≤ 1000)
+  unfolding places_of
+  level_at t c row column says = rw (unscaled t c OwnLevel row column says refl) (level_units form headers records t c row column fine_fields says)
 
   -- where a column says how much is bought, some such number is not 0
   pub bought_at : (t c : ℕ) → t < rows_in records → c < length headers → measures (role_at form.marks headers c) ≡ true

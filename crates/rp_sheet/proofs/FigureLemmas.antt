@@ -15,11 +15,11 @@ use Rattle.rp_num.specs.declared.decimal.NumFault.TheVariants.{Bad, Decimals}
 use Rattle.rp_num.specs.Below.{first_of, listed}
 use Rattle.rp_sheet.specs.Texts.{text_at, trimmed, number_of}
 use Rattle.rp_sheet.specs.Columns.{role_of, role_at}
-use Rattle.rp_sheet.specs.Fields.{nothing, measured, priced, whole, budgeted, field_of, field_at, figure, figures_of, rows_in, row_at, buys_nothing, record_fault, fields_stage}
+use Rattle.rp_sheet.specs.Fields.{nothing, measured, priced, whole, from_one, field_of, field_at, figure, figures_of, rows_in, row_at, buys_nothing, record_fault, fields_stage}
 use Rattle.rp_sheet.specs.Sizes.{figure_at, greatest_places, places_of, limit_of, size_of, size_at, scaled, sizes_of, sizes_stage, shares_scale}
 use Rattle.rp_sheet.specs.declared.form.Form.{Form}
 use Rattle.rp_sheet.specs.declared.form.Role.{Role}
-use Rattle.rp_sheet.specs.declared.form.Role.TheVariants.{Observation, Price, Quantity, Expenditure, Income, Budget, Times, Output, OutputPrice, Menu, Choice}
+use Rattle.rp_sheet.specs.declared.form.Role.TheVariants.{Observation, Price, Quantity, Expenditure, Income, Budget, Times, Output, OutputPrice, Menu, Choice, OwnLevel}
 use Rattle.rp_sheet.specs.declared.fault.TableFault.{TableFault}
 use Rattle.rp_sheet.specs.declared.fault.TableFault.TheVariants as fault
 use Rattle.rp_sheet.proofs.FieldFaults.{role_is}
@@ -73,14 +73,14 @@ whole_few (Ok d) row column h = by (d.places == 0) (fault.BadNumber row column)
     by false e = tt
 whole_few (Err e) row column h = tt
 
-budgeted_few : (budgets : ℕ) (r : Result Decimal TableFault) (row : ℕ) → Few r → Few (budgeted budgets r row)
+from_one_few : (most : ℕ) (otherwise : TableFault) (r : Result Decimal TableFault) → Few r → Few (from_one most otherwise r)
 unfolding Few
-budgeted_few budgets (Ok d) row h = by (nat_le 1 d.units && nat_le d.units budgets) (fault.UnknownBudget row)
+from_one_few most otherwise (Ok d) h = by (nat_le 1 d.units && nat_le d.units most)
   where
-    by : (b : Bool) (e : TableFault) → Few (if b then Ok d else Err e)
-    by true e = h
-    by false e = tt
-budgeted_few budgets (Err e) row h = tt
+    by : (b : Bool) → Few (if b then Ok d else Err otherwise)
+    by true = h
+    by false = tt
+from_one_few most otherwise (Err e) h = tt
 
 field_few : (budgets : ℕ) (role : Role) (text : List ℕ) (row column : ℕ) → Few (field_of budgets role text row column)
 unfolding field_of Few
@@ -89,11 +89,12 @@ field_few budgets Price text row column = priced_few (measured (decimal_of text)
 field_few budgets Quantity text row column = measured_few (decimal_of text) row column (decimal_few text)
 field_few budgets Expenditure text row column = measured_few (decimal_of text) row column (decimal_few text)
 field_few budgets Income text row column = measured_few (decimal_of text) row column (decimal_few text)
-field_few budgets Budget text row column = budgeted_few budgets (whole (decimal_of text) row column) row (whole_few (decimal_of text) row column (decimal_few text))
+field_few budgets Budget text row column = from_one_few budgets (fault.UnknownBudget row) (whole (decimal_of text) row column) (whole_few (decimal_of text) row column (decimal_few text))
 field_few budgets Times text row column = whole_few (decimal_of text) row column (decimal_few text)
 field_few budgets Output text row column = measured_few (decimal_of text) row column (decimal_few text)
 field_few budgets Menu text row column = omega arith
 field_few budgets Choice text row column = omega arith
+field_few budgets OwnLevel text row column = from_one_few 1000 (fault.BadLevel row column) (whole (decimal_of text) row column) (whole_few (decimal_of text) row column (decimal_few text))
 field_few budgets OutputPrice text row column = priced_few (measured (decimal_of text) row column) row column (measured_few (decimal_of text) row column (decimal_few text))
 
 unwrap_few : (r : Result Decimal TableFault) → Few r → (result_unwrap_or r nothing).places ≤ 6
@@ -147,7 +148,7 @@ unfolding fields_stage record_fault
 good_record form headers records t row fine_fields =
     record_tests (length (row_at records t) == length headers) (buys_nothing form.marks headers (figure form headers records t)) (first_of (length headers) (λ c. result_err (field_at form headers records t c))) _ _ (none_below (record_fault form headers records) (rows_in records) t fine_fields row)
 
-some_units : (r : Result Decimal TableFault) (row column : ℕ) (d : Decimal) → priced r row column ≡ Ok d → 1 ≤ d.units
+pub some_units : (r : Result Decimal TableFault) (row column : ℕ) (d : Decimal) → priced r row column ≡ Ok d → 1 ≤ d.units
 some_units (Ok e) row column d is = by (e.units == 0) refl (fault.ZeroPrice row column) is
   where
     not_zero : (n : ℕ) → (n == 0) ≡ false → 1 ≤ n
@@ -170,29 +171,42 @@ price_units form headers records t c row column fine_fields says =
     let some = some_units (measured (decimal_of (trimmed (text_at (row_at records t) c))) (number_of t) (number_of c)) (number_of t) (number_of c) (figure form headers records t c) price in
     rw (figure_there form headers records t c row column) some
 
-known_units : (budgets : ℕ) (r : Result Decimal TableFault) (row : ℕ) (d : Decimal) → budgeted budgets r row ≡ Ok d → d.units ≤ budgets
-known_units budgets (Ok e) row d is = by (nat_le 1 e.units) (nat_le e.units budgets) refl (fault.UnknownBudget row) is
+from_one_units : (most : ℕ) (otherwise : TableFault) (r : Result Decimal TableFault) (d : Decimal) → from_one most otherwise r ≡ Ok d → (1 ≤ d.units) × (d.units ≤ most)
+from_one_units most otherwise (Ok e) d is = by (nat_le 1 e.units) (nat_le e.units most) refl refl is
   where
-    at_most : (n most : ℕ) → nat_le n most ≡ true → n ≤ most
-    at_most n most q = grind (arith, nat_tests)
+    at_most : (n m : ℕ) → nat_le n m ≡ true → n ≤ m
+    at_most n m q = grind (arith, nat_tests)
 
-    by : (a b : Bool) → nat_le e.units budgets ≡ b → (f : TableFault) → (if a && b then Ok e else Err f) ≡ Ok d → d.units ≤ budgets
-    by true true q f h =
+    by : (a b : Bool) → nat_le 1 e.units ≡ a → nat_le e.units most ≡ b → (if a && b then Ok e else Err otherwise) ≡ Ok d → (1 ≤ d.units) × (d.units ≤ most)
+    by true true p q h =
         let same : e ≡ d = cc h in
-        subst (λ (x : Decimal). x.units ≤ budgets) same (at_most e.units budgets q)
-    by true false q f h = cc h
-    by false b q f h = cc h
-known_units budgets (Err e) row d is = cc is
+        subst (λ (x : Decimal). (1 ≤ x.units) × (x.units ≤ most)) same (at_most 1 e.units p, at_most e.units most q)
+    by true false p q h = cc h
+    by false b p q h = cc h
+from_one_units most otherwise (Err e) d is = cc is
+
+-- a number in a column of a role whose numbers are counted from 1
+counted_units : (form : Form) (headers : List (List ℕ)) (records : List (List (List ℕ))) (t c : ℕ) (role : Role) (most : ℕ) (otherwise : TableFault) → t < rows_in records → c < length headers → fields_stage form headers records ≡ None → role_of form.marks (text_at headers c) ≡ Some role
+    → field_of form.budgets role (trimmed (text_at (row_at records t) c)) (number_of t) (number_of c) ≡ from_one most otherwise (whole (decimal_of (trimmed (text_at (row_at records t) c))) (number_of t) (number_of c))
+    → (1 ≤ (figure_at (figures_of form headers records) t c).units) × ((figure_at (figures_of form headers records) t c).units ≤ most)
+unfolding field_at
+counted_units form headers records t c role most otherwise row column fine_fields says counted =
+    let ok = fine (field_at form headers records t c) nothing (none_below (λ k. result_err (field_at form headers records t k)) (length headers) c (good_record form headers records t row fine_fields).0 column) in
+    let number = subst (λ (r : Role). field_of form.budgets r (trimmed (text_at (row_at records t) c)) (number_of t) (number_of c) ≡ Ok (figure form headers records t c)) (role_is _ headers c role says) ok in
+    let known = from_one_units most otherwise (whole (decimal_of (trimmed (text_at (row_at records t) c))) (number_of t) (number_of c)) (figure form headers records t c) (sym counted ∙ number) in
+    rw (figure_there form headers records t c row column) known
 
 -- the number of a budget is that of one there is
 pub budget_units : (form : Form) (headers : List (List ℕ)) (records : List (List (List ℕ))) (t c : ℕ) → t < rows_in records → c < length headers → fields_stage form headers records ≡ None → role_of form.marks (text_at headers c) ≡ Some Budget
     → (figure_at (figures_of form headers records) t c).units ≤ form.budgets
-unfolding field_at field_of
-budget_units form headers records t c row column fine_fields says =
-    let ok = fine (field_at form headers records t c) nothing (none_below (λ k. result_err (field_at form headers records t k)) (length headers) c (good_record form headers records t row fine_fields).0 column) in
-    let budget = subst (λ (role : Role). field_of form.budgets role (trimmed (text_at (row_at records t) c)) (number_of t) (number_of c) ≡ Ok (figure form headers records t c)) (role_is _ headers c Budget says) ok in
-    let known = known_units form.budgets (whole (decimal_of (trimmed (text_at (row_at records t) c))) (number_of t) (number_of c)) (number_of t) (figure form headers records t c) budget in
-    rw (figure_there form headers records t c row column) known
+unfolding field_of
+budget_units form headers records t c row column fine_fields says = (counted_units form headers records t c Budget form.budgets (fault.UnknownBudget (number_of t)) row column fine_fields says refl).1
+
+-- an own level is from 1 to 1,000 thousandths
+pub level_units : (form : Form) (headers : List (List ℕ)) (records : List (List (List ℕ))) (t c : ℕ) → t < rows_in records → c < length headers → fields_stage form headers records ≡ None → role_of form.marks (text_at headers c) ≡ Some OwnLevel
+    → (1 ≤ (figure_at (figures_of form headers records) t c).units) × ((figure_at (figures_of form headers records) t c).units ≤ 1000)
+unfolding field_of
+level_units form headers records t c row column fine_fields says = counted_units form headers records t c OwnLevel 1000 (fault.BadLevel (number_of t) (number_of c)) row column fine_fields says refl
 
 size_tests : (d : Decimal) (places limit row column v : ℕ) → size_of d places limit row column ≡ Ok v → (v ≡ d.units * 10 ^ (places - d.places)) × (v ≤ limit)
 size_tests d places limit row column v is = by (nat_lt places d.places) (nat_lt limit (d.units * 10 ^ (places - d.places))) refl (fault.TooFine row column) (fault.TooLarge row column) is

@@ -17,7 +17,7 @@ use Rattle.rp_sheet.specs.declared.form.Form.{Form}
 use Rattle.rp_sheet.specs.declared.form.Marks.{Marks}
 use Rattle.rp_sheet.specs.declared.form.Marks.TheVariants.{Goods, Inputs}
 use Rattle.rp_sheet.specs.declared.form.Role.{Role}
-use Rattle.rp_sheet.specs.declared.form.Role.TheVariants.{Observation, Price, Quantity, Expenditure, Income, Budget, Times, Output, OutputPrice, Menu, Choice}
+use Rattle.rp_sheet.specs.declared.form.Role.TheVariants.{Observation, Price, Quantity, Expenditure, Income, Budget, Times, Output, OutputPrice, Menu, Choice, OwnLevel}
 use Rattle.rp_sheet.specs.declared.fault.TableFault.{TableFault}
 use Rattle.rp_sheet.proofs.RoleLemmas.{no_good}
 use Rattle.rp_sheet.proofs.NameLemmas.{price_header}
@@ -64,6 +64,7 @@ is_price_role (Some Output) e = cc e
 is_price_role (Some OutputPrice) e = cc e
 is_price_role (Some Menu) e = cc e
 is_price_role (Some Choice) e = cc e
+is_price_role (Some OwnLevel) e = cc e
 
 pub measured_role : (o : Option Role) → option_map_or (takes table_form) o false ≡ true → measures (unwrap_or o Observation) ≡ true → o ≡ Some Quantity
 measured_role None e m = cc e
@@ -78,6 +79,7 @@ measured_role (Some Output) e m = cc e
 measured_role (Some OutputPrice) e m = cc e
 measured_role (Some Menu) e m = cc e
 measured_role (Some Choice) e m = cc e
+measured_role (Some OwnLevel) e m = cc m
 
 pub limit_is : (o : Option Role) → option_map_or (takes table_form) o false ≡ true → limit_of (unwrap_or o Observation) ≡ 9999999
 limit_is None e = cc e
@@ -92,6 +94,7 @@ limit_is (Some Output) e = refl
 limit_is (Some OutputPrice) e = refl
 limit_is (Some Menu) e = refl
 limit_is (Some Choice) e = refl
+limit_is (Some OwnLevel) e = refl
 
 quantity_good : (named p q : Bool) → option_map_or is_quantity (if not named then None else if p then Some Price else if q then Some Quantity else None) false ≡ true → (named ≡ true) × (q ≡ true)
 quantity_good true true q e = cc e

@@ -24,4 +24,4 @@ is_chosen headers figures j = any_below (length figures) (λ t.
 unfoldable pub choices_stage : Form → List (List ℕ) → List (List Decimal) → Option TableFault
 choices_stage form headers figures =
     first_of form.budgets
-      (λ j. if not (is_chosen headers figures j) then Some (fault.NoChoices (number_of j)) else None)
+    (λ j. if not (is_chosen headers figures j) then Some (fault.NoChoices (number_of j)) else None)

@@ -14,7 +14,7 @@ use Rattle.rp_sheet.specs.declared.form.Marks.{Marks}
 use Rattle.rp_sheet.specs.declared.form.Marks.TheVariants.{Goods, Inputs}
 use Rattle.rp_sheet.specs.declared.form.Role.{Role}
 use Rattle.rp_sheet.specs.declared.form.Role.TheVariants.{Observation, Price, Quantity, Expenditure, Income, Budget}
-use Rattle.rp_sheet.specs.declared.form.Role.TheVariants.{Times, Output, OutputPrice, Menu, Choice}
+use Rattle.rp_sheet.specs.declared.form.Role.TheVariants.{Times, Output, OutputPrice, Menu, Choice, OwnLevel}
 
 -- a good's name: 1 to NAME_BYTES bytes, none of them a control character
 abbrev pub is_name : List ℕ → Bool
@@ -61,6 +61,7 @@ named_role header =
     else if bytes_eq header (codes "p") then Some OutputPrice
     else if bytes_eq header (codes "menu") then Some Menu
     else if bytes_eq header (codes "choice") then Some Choice
+    else if bytes_eq header (codes "e") then Some OwnLevel
     else None
 
 -- what a column with that header says, where goods have these marks
@@ -80,6 +81,7 @@ header_of Output = codes "y"
 header_of OutputPrice = codes "p"
 header_of Menu = codes "menu"
 header_of Choice = codes "choice"
+header_of OwnLevel = codes "e"
 
 -- whether a column that a kind of file may have is the one with that header
 abbrev pub is_headed : List ℕ → Option Column → Bool
@@ -99,6 +101,7 @@ takes form Output = list_any (is_headed (codes "y")) form.named
 takes form OutputPrice = list_any (is_headed (codes "p")) form.named
 takes form Menu = list_any (is_headed (codes "menu")) form.named
 takes form Choice = list_any (is_headed (codes "choice")) form.named
+takes form OwnLevel = list_any (is_headed (codes "e")) form.named
 
 -- whether the fields say how much is bought
 abbrev pub measures : Role → Bool
@@ -113,6 +116,7 @@ measures Output = false
 measures OutputPrice = false
 measures Menu = false
 measures Choice = false
+measures OwnLevel = false
 
 -- whether the column is that of the prices of a good, or of its quantities
 abbrev pub is_price : Role → Bool
@@ -127,6 +131,7 @@ is_price Output = false
 is_price OutputPrice = false
 is_price Menu = false
 is_price Choice = false
+is_price OwnLevel = false
 
 abbrev pub is_quantity : Role → Bool
 is_quantity Observation = false
@@ -140,6 +145,7 @@ is_quantity Output = false
 is_quantity OutputPrice = false
 is_quantity Menu = false
 is_quantity Choice = false
+is_quantity OwnLevel = false
 
 -- whether the numbers have the scale of prices, that of quantities, or that of incomes
 abbrev pub has_price_scale : Role → Bool
@@ -154,6 +160,7 @@ has_price_scale Output = false
 has_price_scale OutputPrice = true
 has_price_scale Menu = false
 has_price_scale Choice = false
+has_price_scale OwnLevel = false
 
 abbrev pub has_quantity_scale : Role → Bool
 has_quantity_scale Observation = false
@@ -167,6 +174,7 @@ has_quantity_scale Output = true
 has_quantity_scale OutputPrice = false
 has_quantity_scale Menu = false
 has_quantity_scale Choice = false
+has_quantity_scale OwnLevel = false
 
 abbrev pub has_income_scale : Role → Bool
 has_income_scale Observation = false
@@ -180,6 +188,7 @@ has_income_scale Output = false
 has_income_scale OutputPrice = false
 has_income_scale Menu = false
 has_income_scale Choice = false
+has_income_scale OwnLevel = false
 
 -- what the fields of the column at a place say
 abbrev pub role_at : Marks → List (List ℕ) → ℕ → Role

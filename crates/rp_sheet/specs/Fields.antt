@@ -9,6 +9,7 @@ use Rattle.rp_num.specs.declared.decimal.Decimal.{Decimal}
 use Rattle.rp_num.specs.declared.decimal.NumFault.{NumFault}
 use Rattle.rp_num.specs.declared.decimal.NumFault.TheVariants.{Bad, Decimals}
 use Rattle.rp_num.specs.Below.{first_of, any_below, listed}
+use Rattle.rp_table.specs.declared.TheConstants.{LEVEL_SCALE}
 use Rattle.rp_sheet.specs.Texts.{trimmed, text_at, number_of}
 use Rattle.rp_sheet.specs.Records.{record_at}
 use Rattle.rp_sheet.specs.Columns.{role_at, measures}
@@ -16,7 +17,7 @@ use Rattle.rp_sheet.specs.declared.form.Form.{Form}
 use Rattle.rp_sheet.specs.declared.form.Marks.{Marks}
 use Rattle.rp_sheet.specs.declared.form.Role.{Role}
 use Rattle.rp_sheet.specs.declared.form.Role.TheVariants.{Observation, Price, Quantity, Expenditure, Income, Budget}
-use Rattle.rp_sheet.specs.declared.form.Role.TheVariants.{Times, Output, OutputPrice, Menu, Choice}
+use Rattle.rp_sheet.specs.declared.form.Role.TheVariants.{Times, Output, OutputPrice, Menu, Choice, OwnLevel}
 use Rattle.rp_sheet.specs.declared.fault.TableFault.{TableFault}
 use Rattle.rp_sheet.specs.declared.fault.TableFault.TheVariants as fault
 
@@ -36,10 +37,10 @@ abbrev pub whole : Result Decimal NumFault → ℕ → ℕ → Result Decimal Ta
 whole (Ok d) row column = if d.places == 0 then Ok d else Err (fault.BadNumber row column)
 whole (Err e) row column = Err (fault.BadNumber row column)
 
--- the number of one of the budgets
-abbrev pub budgeted : ℕ → Result Decimal TableFault → ℕ → Result Decimal TableFault
-budgeted budgets (Ok d) row = if nat_le 1 d.units && nat_le d.units budgets then Ok d else Err (fault.UnknownBudget row)
-budgeted budgets (Err e) row = Err e
+-- a number from 1 to the most, or else that fault
+abbrev pub from_one : ℕ → TableFault → Result Decimal TableFault → Result Decimal TableFault
+from_one most otherwise (Ok d) = if nat_le 1 d.units && nat_le d.units most then Ok d else Err otherwise
+from_one most otherwise (Err e) = Err e
 
 -- no number
 abbrev pub nothing : Decimal
@@ -52,12 +53,15 @@ field_of budgets Price text row column = priced (measured (decimal_of text) row 
 field_of budgets Quantity text row column = measured (decimal_of text) row column
 field_of budgets Expenditure text row column = measured (decimal_of text) row column
 field_of budgets Income text row column = measured (decimal_of text) row column
-field_of budgets Budget text row column = budgeted budgets (whole (decimal_of text) row column) row
+field_of budgets Budget text row column =
+    from_one budgets (fault.UnknownBudget row) (whole (decimal_of text) row column)
 field_of budgets Times text row column = whole (decimal_of text) row column
 field_of budgets Output text row column = measured (decimal_of text) row column
 field_of budgets OutputPrice text row column = priced (measured (decimal_of text) row column) row column
 field_of budgets Menu text row column = Ok nothing
 field_of budgets Choice text row column = Ok nothing
+field_of budgets OwnLevel text row column =
+    from_one LEVEL_SCALE (fault.BadLevel row column) (whole (decimal_of text) row column)
 
 -- the t-th record after the headers, from 0
 abbrev pub row_at : List (List (List ℕ)) → ℕ → List (List ℕ)
@@ -71,7 +75,7 @@ rows_in records = length records - 1
 unfoldable pub field_at : Form → List (List ℕ) → List (List (List ℕ)) → ℕ → ℕ → Result Decimal TableFault
 field_at form headers records t c =
     field_of form.budgets (role_at form.marks headers c) (trimmed (text_at (row_at records t) c))
-      (number_of t) (number_of c)
+    (number_of t) (number_of c)
 
 -- the number at a record and a column
 abbrev pub figure : Form → List (List ℕ) → List (List (List ℕ)) → ℕ → ℕ → Decimal
@@ -80,7 +84,7 @@ figure form headers records t c = result_unwrap_or (field_at form headers record
 -- the numbers of all records
 abbrev pub figures_of : Form → List (List ℕ) → List (List (List ℕ)) → List (List Decimal)
 figures_of form headers records =
-  listed (rows_in records) (λ t. listed (length headers) (figure form headers records t))
+    listed (rows_in records) (λ t. listed (length headers) (figure form headers records t))
 
 -- whether some column says how much is bought, and each says 0
 abbrev pub buys_nothing : Marks → List (List ℕ) → (ℕ → Decimal) → Bool
@@ -94,7 +98,7 @@ record_fault form headers records t =
     if not (length (row_at records t) == length headers) then Some (fault.Ragged (number_of t))
     else option_or (first_of (length headers) (λ c. result_err (field_at form headers records t c)))
     (if buys_nothing form.marks headers (figure form headers records t)
-      then Some (fault.ZeroBundle (number_of t)) else None)
+    then Some (fault.ZeroBundle (number_of t)) else None)
 
 -- no record, or more than the limit
 unfoldable pub count_stage : Form → List (List (List ℕ)) → Option TableFault

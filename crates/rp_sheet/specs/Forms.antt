@@ -6,7 +6,7 @@ use Rattle.rp_sheet.specs.declared.form.Form.{Form}
 use Rattle.rp_sheet.specs.declared.form.Marks.TheVariants.{Goods, Inputs}
 use Rattle.rp_sheet.specs.declared.form.Role.{Role}
 use Rattle.rp_sheet.specs.declared.form.Role.TheVariants.{Expenditure, Income, Budget, Times, Output, OutputPrice}
-use Rattle.rp_sheet.specs.declared.form.Role.TheVariants.{Menu, Choice}
+use Rattle.rp_sheet.specs.declared.form.Role.TheVariants.{Menu, Choice, OwnLevel}
 
 -- a column that such a file has to have
 abbrev pub required : Role → Option Column
@@ -16,13 +16,14 @@ required role = Some (record { role = role; required = true })
 abbrev pub optional : Role → Option Column
 optional role = Some (record { role = role; required = false })
 
--- a table has a column of prices and one of quantities for each good, and names its goods
+-- a table has a column of prices and one of quantities for each good, and names its goods. It may have
+-- own levels
 abbrev pub table_form : Form
 table_form = record {
   marks = Goods;
   prices = true;
   quantities = true;
-  named = None ∷ None ∷ None ∷ [];
+  named = optional OwnLevel ∷ None ∷ None ∷ [];
   fixed_goods = false;
   fixed_places = false;
   places = 0;

@@ -33,7 +33,7 @@ has headers header = is_some (place_of headers header)
 unfoldable pub header_fault : Form → List (List ℕ) → ℕ → Option TableFault
 header_fault form headers c =
     if not (option_map_or (takes form) (role_of form.marks (text_at headers c)) false)
-      then Some (fault.BadHeader (number_of c))
+    then Some (fault.BadHeader (number_of c))
     else if has (take c headers) (text_at headers c) then Some (fault.TwiceNamed (number_of c))
     else None
 
@@ -44,13 +44,13 @@ headers_stage form headers = first_of (length headers) (header_fault form header
 -- the header of the other column of a good
 abbrev pub partner_of : Marks → Role → List ℕ → List ℕ
 partner_of marks role header =
-  (if is_price role then mark_of_quantities marks else mark_of_prices marks) ++ name_in header
+    (if is_price role then mark_of_quantities marks else mark_of_prices marks) ++ name_in header
 
 -- a column of a good that has no partner
 unfoldable pub pair_fault : Marks → List (List ℕ) → ℕ → Option TableFault
 pair_fault marks headers c =
     if (is_price (role_at marks headers c) || is_quantity (role_at marks headers c))
-      && not (has headers (partner_of marks (role_at marks headers c) (text_at headers c)))
+    && not (has headers (partner_of marks (role_at marks headers c) (text_at headers c)))
     then Some (fault.Unpaired (number_of c))
     else None
 
@@ -58,7 +58,7 @@ pair_fault marks headers c =
 unfoldable pub other_goods_fault : Marks → List (List ℕ) → List (List ℕ) → ℕ → Option TableFault
 other_goods_fault marks goods headers c =
     if (is_price (role_at marks headers c) || is_quantity (role_at marks headers c))
-      && not (has goods (name_in (text_at headers c)))
+    && not (has goods (name_in (text_at headers c)))
     then Some (fault.OtherGoods (number_of c))
     else None
 
@@ -99,7 +99,7 @@ has_goods form = form.prices || form.quantities
 unfoldable pub missing_fault : Form → List (List ℕ) → List (List ℕ) → Option TableFault
 missing_fault form goods headers =
     if (has_goods form && (length (names_of form headers) == 0))
-      || lacks_column form headers then Some (fault.Unpaired 0)
+    || lacks_column form headers then Some (fault.Unpaired 0)
     else if form.fixed_goods && lacks_good form goods headers then Some (fault.OtherGoods 0)
     else None
 
@@ -111,4 +111,4 @@ goods_count_fault form headers = if nat_lt GOODS (length (names_of form headers)
 unfoldable pub goods_stage : Form → List (List ℕ) → List (List ℕ) → Option TableFault
 goods_stage form goods headers =
     first_there (present_fault form goods headers ∷ missing_fault form goods headers
-      ∷ goods_count_fault form headers ∷ [])
+    ∷ goods_count_fault form headers ∷ [])

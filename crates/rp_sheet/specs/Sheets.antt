@@ -57,4 +57,4 @@ numbers_under mark headers names sizes =
 -- the numbers in the column with that header, by record
 abbrev pub column_numbers : List ℕ → List (List ℕ) → List (List ℕ) → List ℕ
 column_numbers header headers sizes =
-  listed (length sizes) (λ t. slice_index (text_at sizes t) (column_named header headers))
+    listed (length sizes) (λ t. slice_index (text_at sizes t) (column_named header headers))

@@ -13,7 +13,7 @@ use Rattle.rp_sheet.specs.declared.form.Form.{Form}
 use Rattle.rp_sheet.specs.declared.form.Marks.{Marks}
 use Rattle.rp_sheet.specs.declared.form.Role.{Role}
 use Rattle.rp_sheet.specs.declared.form.Role.TheVariants.{Observation, Price, Quantity, Expenditure, Income, Budget}
-use Rattle.rp_sheet.specs.declared.form.Role.TheVariants.{Times, Output, OutputPrice, Menu, Choice}
+use Rattle.rp_sheet.specs.declared.form.Role.TheVariants.{Times, Output, OutputPrice, Menu, Choice, OwnLevel}
 use Rattle.rp_sheet.specs.declared.fault.TableFault.{TableFault}
 use Rattle.rp_sheet.specs.declared.fault.TableFault.TheVariants as fault
 
@@ -30,6 +30,7 @@ shares_scale Output other = has_quantity_scale other
 shares_scale OutputPrice other = has_price_scale other
 shares_scale Menu other = false
 shares_scale Choice other = false
+shares_scale OwnLevel other = false
 
 -- the number at a record and a column of these
 abbrev pub figure_at : List (List Decimal) → ℕ → ℕ → Decimal
@@ -39,8 +40,8 @@ figure_at figures t c = slice_index_or (slice_index_or figures t []) c nothing
 unfoldable pub greatest_places : Marks → List (List ℕ) → List (List Decimal) → Role → ℕ
 greatest_places marks headers figures role =
     greatest_below (length figures)
-      (λ t. greatest_below (length headers)
-      (λ c. if shares_scale role (role_at marks headers c) then (figure_at figures t c).places else 0))
+    (λ t. greatest_below (length headers)
+    (λ c. if shares_scale role (role_at marks headers c) then (figure_at figures t c).places else 0))
 
 -- the places of the scale of a role: the greatest in the file, or for quantities the fixed one. An
 -- expenditure is a sum of prices times quantities
@@ -48,16 +49,17 @@ unfoldable pub places_of : Form → List (List ℕ) → List (List Decimal) → 
 places_of form headers figures Observation = 0
 places_of form headers figures Price = greatest_places form.marks headers figures Price
 places_of form headers figures Quantity = if form.fixed_places then form.places
-  else greatest_places form.marks headers figures Quantity
+    else greatest_places form.marks headers figures Quantity
 places_of form headers figures Expenditure = greatest_places form.marks headers figures Price + form.places
 places_of form headers figures Income = greatest_places form.marks headers figures Income
 places_of form headers figures Budget = 0
 places_of form headers figures Times = 0
 places_of form headers figures Output = if form.fixed_places then form.places
-  else greatest_places form.marks headers figures Quantity
+    else greatest_places form.marks headers figures Quantity
 places_of form headers figures OutputPrice = greatest_places form.marks headers figures Price
 places_of form headers figures Menu = 0
 places_of form headers figures Choice = 0
+places_of form headers figures OwnLevel = 0
 
 -- the largest scaled number of a role
 abbrev pub limit_of : Role → ℕ
@@ -72,6 +74,7 @@ limit_of Output = LARGEST
 limit_of OutputPrice = LARGEST
 limit_of Menu = LARGEST
 limit_of Choice = LARGEST
+limit_of OwnLevel = LARGEST
 
 -- a number at a scale with that many places: it has no more places, and is at most the limit
 abbrev pub size_of : Decimal → ℕ → ℕ → ℕ → ℕ → Result ℕ TableFault
@@ -84,7 +87,7 @@ size_of d places limit row column =
 unfoldable pub size_at : Form → List (List ℕ) → List (List Decimal) → ℕ → ℕ → Result ℕ TableFault
 size_at form headers figures t c =
     size_of (figure_at figures t c) (places_of form headers figures (role_at form.marks headers c))
-      (limit_of (role_at form.marks headers c)) (number_of t) (number_of c)
+    (limit_of (role_at form.marks headers c)) (number_of t) (number_of c)
 
 -- the scaled number at a record and a column
 abbrev pub scaled : Form → List (List ℕ) → List (List Decimal) → ℕ → ℕ → ℕ

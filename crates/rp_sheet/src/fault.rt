@@ -60,6 +60,9 @@ pub enum TableFault {
     /// A budget on which nothing was chosen.
     #[error("NoChoices")]
     NoChoices { budget: u32 },
+    /// An own level that is 0 or above `LEVEL_SCALE`.
+    #[error("BadLevel")]
+    BadLevel { row: u32, column: u32 },
     /// Memory ran out.
     #[error("NoMemory")]
     NoMemory,

@@ -16,6 +16,7 @@ use crate::form::Role;
 use crate::records::Records;
 use crate::texts::{number_of, trimmed};
 use rp_num::{Decimal, NumFault, Seq, read_decimal};
+use rp_table::LEVEL_SCALE;
 use std::alloc::Global;
 
 /// What a field says in a column of that role.
@@ -38,7 +39,16 @@ fn read_field(
         Role::Price | Role::OutputPrice => priced(measured(text, row, column), row, column),
         Role::Quantity | Role::Output => measured(text, row, column),
         Role::Expenditure | Role::Income => measured(text, row, column),
-        Role::Budget => budgeted(budgets, whole(text, row, column), row),
+        Role::Budget => from_one(
+            budgets,
+            TableFault::UnknownBudget { row },
+            whole(text, row, column),
+        ),
+        Role::OwnLevel => from_one(
+            LEVEL_SCALE,
+            TableFault::BadLevel { row, column },
+            whole(text, row, column),
+        ),
         Role::Times => whole(text, row, column),
     }
 }
@@ -74,17 +84,17 @@ fn whole(text: &[u8], row: u32, column: u32) -> Result<Decimal, TableFault>
     }
 }
 
-/// The number of one of the budgets.
-fn budgeted(
-    budgets: u32,
+/// A number from 1 to the most, or else that fault.
+fn from_one(
+    most: u32,
+    otherwise: TableFault,
     number: Result<Decimal, TableFault>,
-    row: u32,
 ) -> Result<Decimal, TableFault>
-    ensures { result ≡ Fields.budgeted budgets number row }
+    ensures { result ≡ Fields.from_one most otherwise number }
 {
     match number {
-        Ok(budget) if budget.units < 1 => Err(TableFault::UnknownBudget { row }),
-        Ok(budget) if budget.units > u64::from(budgets) => Err(TableFault::UnknownBudget { row }),
+        Ok(counted) if counted.units < 1 => Err(otherwise),
+        Ok(counted) if counted.units > u64::from(most) => Err(otherwise),
         other => other,
     }
 }

@@ -36,6 +36,8 @@ pub enum Role {
     Menu,
     /// What was chosen from a menu, under `choice`: a text, with the blanks round it.
     Choice,
+    /// Own levels of observations in thousandths, under `e`.
+    OwnLevel,
 }
 
 /// What the columns of goods are headed by, before the name of a good.
@@ -98,7 +100,7 @@ fn optional(role: Role) -> Option<Column>
 }
 
 impl Form {
-    /// A table has prices and quantities of the goods that it names.
+    /// A table has prices and quantities of the goods that it names, and possibly own levels.
     pub fn table() -> Form
         ensures { result ≡ table_form }
     {
@@ -106,7 +108,7 @@ impl Form {
             marks: Marks::Goods,
             prices: true,
             quantities: true,
-            named: [None, None, None],
+            named: [optional(Role::OwnLevel), None, None],
             fixed_goods: false,
             fixed_places: false,
             places: 0,
@@ -344,6 +346,7 @@ impl Role {
             Role::OutputPrice => b"p",
             Role::Menu => b"menu",
             Role::Choice => b"choice",
+            Role::OwnLevel => b"e",
         }
     }
 

@@ -36,6 +36,8 @@ fn named_role(header: &[u8]) -> Option<Role>
         Some(Role::Menu)
     } else if header == b"choice".as_slice() {
         Some(Role::Choice)
+    } else if header == b"e".as_slice() {
+        Some(Role::OwnLevel)
     } else {
         None
     }

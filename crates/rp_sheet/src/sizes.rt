@@ -38,7 +38,8 @@ pub fn places_of(columns: &Columns<'_>, figures: &[Seq<Decimal>], role: Role) ->
                 + u32::from(columns.form().places)
         }
         Role::Income => u32::from(greatest_places(columns, figures, Role::Income)),
-        Role::Observation | Role::Budget | Role::Times | Role::Menu | Role::Choice => 0,
+        Role::Observation | Role::Budget | Role::Times => 0,
+        Role::Menu | Role::Choice | Role::OwnLevel => 0,
     }
 }
 

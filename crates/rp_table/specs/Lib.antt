@@ -3,6 +3,7 @@ pub mod Spending
 pub mod Limits
 pub mod NewPrices
 pub mod Names
+pub mod OwnLevels
 pub mod Tables
 pub mod Cost
 pub mod Rows

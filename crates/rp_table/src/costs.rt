@@ -1,17 +1,19 @@
-ghost use Rattle.std.specs.Prelude.{◌≡◌, ℕ, ◌<◌, ◌≤◌, ◌^◌, IfOk};
+ghost use Rattle.std.specs.Prelude.{◌≡◌, ℕ, ◌<◌, ◌≤◌, ◌^◌, ◌<ℤ◌, neg_ℤ, pos, IfOk};
 ghost use Rattle.rp_table.specs.Tables.{records_of};
 ghost use Rattle.rp_table.specs.Cost.{IsCostTable, IsCostsOf, cost_at, cost_of};
+ghost use Rattle.rp_table.specs.Cost.{gap_of, own_of, scale_of};
 
-use crate::{Table, cost_of_bundle};
+use crate::{LEVEL_SCALE, Table, cost_of_bundle};
 use rp_num::NoMemory;
 use std::alloc::Global;
 use std::marker::Model;
 
-/// What each bundle of a table costs at the prices of each observation.
+/// What each bundle of a table costs at the prices of each observation, with the levels of the table.
 #[derive(Debug, Drop)]
 pub struct Costs {
     n: u32,
     entries: Vec<u64>,
+    levels: Vec<u32>,
 }
 
 impl Model for Costs {
@@ -19,9 +21,17 @@ impl Model for Costs {
 
     ghost Value = { CostTable };
 
-    ghost view = { λ c. record { n = c.n; entries = c.entries.items } };
+    ghost view = { λ c. record {
+      n = c.n;
+      entries = c.entries.items;
+      levels = c.levels.items;
+    } };
 
-    ghost invariant = { λ c. IsCostTable (record { n = c.n; entries = c.entries.items }) };
+    ghost invariant = { λ c. IsCostTable (record {
+      n = c.n;
+      entries = c.entries.items;
+      levels = c.levels.items;
+    }) };
 }
 
 impl Costs {
@@ -30,12 +40,13 @@ impl Costs {
         ensures { IfOk result (λ costs. IsCostsOf costs table.now) }
     {
         let n = table.n();
+        let levels = Vec::from_slice(alloc, table.levels())?;
         let mut entries = Vec::new(alloc);
         for place in 0..n * n {
             let (s, t) = (place / n, place % n);
             entries.push(cost_at_prices(table, s, t))?;
         }
-        Ok(Costs { n, entries })
+        Ok(Costs { n, entries, levels })
     }
 
     /// How many observations there are.
@@ -55,6 +66,46 @@ impl Costs {
         ensures below { result < 2 ^ 51 }
     {
         self.entries[s as usize * self.n as usize + t as usize]
+    }
+
+    /// What costs are multiplied by to be held against `own`: 1, or 1,000 where the table has levels.
+    pub fn scale(&self) -> u64
+        ensures exact { result ≡ scale_of self.now }
+        ensures positive { 1 ≤ result }
+        ensures at_most { result ≤ LEVEL_SCALE }
+    {
+        if self.levels.is_empty() {
+            1
+        } else {
+            u64::from(LEVEL_SCALE)
+        }
+    }
+
+    /// What was spent at `s`, or its level in thousandths times that.
+    pub fn own(&self, s: u32) -> u64
+        requires { s < self.now.n }
+        ensures exact { result ≡ own_of self.now s }
+        ensures positive { 1 ≤ result }
+        ensures below { result < 2 ^ 61 }
+    {
+        let spent = self.cost(s, s);
+        if self.levels.is_empty() {
+            spent
+        } else {
+            u64::from(self.levels[s as usize]) * spent
+        }
+    }
+
+    /// What the bundle of `t` costs at the prices of `s`, times the scale, less `own` of `s`.
+    pub fn gap(&self, s: u32, t: u32) -> i64
+        requires prices { s < self.now.n }
+        requires bundle { t < self.now.n }
+        ensures exact { result ≡ gap_of self.now s t }
+        ensures above { neg_ℤ (pos (2 ^ 61)) <ℤ result }
+        ensures below { result <ℤ pos (2 ^ 61) }
+    {
+        let cost = self.scale() * self.cost(s, t);
+        cost as i64 - self.own(s) as i64
     }
 }
 

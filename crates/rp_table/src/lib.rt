@@ -34,6 +34,8 @@ pub const GOODS: u32 = 16;
 pub const PLACES: u8 = 6;
 /// The largest scaled price, and the largest scaled quantity.
 pub const LARGEST: u32 = 9_999_999;
+/// The whole in the unit of levels, thousandths: the largest level of an observation.
+pub const LEVEL_SCALE: u32 = 1_000;
 /// The largest scaled expenditure: 16 goods at the largest price and the largest quantity are below it.
 pub const LARGEST_EXPENDITURE: u64 = 1_600_000_000_000_000;
 /// The most records of new prices or of bundles.

@@ -1,7 +1,8 @@
 ghost use Rattle.std.specs.Prelude.{◌≡◌};
 
 use crate::{
-    BUDGETS, CHOICES, GOODS, LARGEST, LARGEST_EXPENDITURE, NAME_BYTES, NEW_RECORDS, PLACES, RECORDS,
+    BUDGETS, CHOICES, GOODS, LARGEST, LARGEST_EXPENDITURE, LEVEL_SCALE, NAME_BYTES, NEW_RECORDS,
+    PLACES, RECORDS,
 };
 
 /// The limits that a user meets, in numbers.
@@ -12,6 +13,7 @@ pub fn limits_in_numbers()
     ensures places { PLACES ≡ 6 }
     ensures largest { LARGEST ≡ 9999999 }
     ensures largest_expenditure { LARGEST_EXPENDITURE ≡ 1600000000000000 }
+    ensures level_scale { LEVEL_SCALE ≡ 1000 }
     ensures new_records { NEW_RECORDS ≡ 16 }
     ensures budgets { BUDGETS ≡ 48 }
     ensures choices { CHOICES ≡ 4096 }

@@ -1,12 +1,16 @@
-ghost use Rattle.std.specs.Prelude.{◌≡◌, ℕ, ◌<◌, ◌≤◌, All, Some, length, slice_get, slice_index};
+ghost use Rattle.std.specs.Prelude.{◌≡◌, ◌≢◌, ◌↔◌, ℕ, ◌<◌, ◌≤◌, [], All, IfSome, IsFalse, Some};
+ghost use Rattle.std.specs.Prelude.{length, slice_get, slice_index};
 ghost use Rattle.rp_table.specs.Limits.{IsPrice, IsQuantity};
-ghost use Rattle.rp_table.specs.Tables.{IsTable, goods_of, records_of, price_of, quantity_of};
+ghost use Rattle.rp_table.specs.OwnLevels.{IsOwnLevel};
+ghost use Rattle.rp_table.specs.Tables.{IsTable, goods_of, level_of, levels_given, price_of};
+ghost use Rattle.rp_table.specs.Tables.{quantity_of, records_of};
 
 use crate::rows::row_at;
-use crate::{LARGEST, Name};
+use crate::{LARGEST, LEVEL_SCALE, Name};
 use std::marker::Model;
 
-/// Observed prices and purchases, in scaled whole numbers, within the limits of this crate.
+/// Observed prices and purchases, in scaled whole numbers, within the limits of this crate. Each observation may have
+/// a level in thousandths: the part of its expenditure that it counts as (after Varian 1990).
 #[derive(Debug, Drop)]
 pub struct Table {
     names: Vec<Name>,
@@ -14,10 +18,11 @@ pub struct Table {
     quantities: Vec<u32>,
     price_places: u8,
     quantity_places: u8,
+    levels: Option<Vec<u32>>,
 }
 
 impl Model for Table {
-    ghost use Rattle.rp_table.specs.Tables.{Observations, IsTable};
+    ghost use Rattle.rp_table.specs.Tables.{Observations, IsTable, levels_given};
 
     ghost Value = { Observations };
 
@@ -27,6 +32,7 @@ impl Model for Table {
       quantities = t.quantities.items;
       price_places = t.price_places;
       quantity_places = t.quantity_places;
+      levels = levels_given t.levels;
     } };
 
     ghost invariant = { λ t. IsTable
@@ -36,31 +42,36 @@ impl Model for Table {
           quantities = t.quantities.items;
           price_places = t.price_places;
           quantity_places = t.quantity_places;
+          levels = levels_given t.levels;
         }) };
 }
 
 impl Table {
-    /// Prices and quantities stand by observation and then by good. No memory is taken.
+    /// Prices and quantities stand by observation and then by good, levels by observation. No memory is taken.
     pub fn make(
         names: Vec<Name>,
         prices: Vec<u32>,
         quantities: Vec<u32>,
         price_places: u8,
         quantity_places: u8,
+        levels: Option<Vec<u32>>,
     ) -> Table
-        requires { IsTable (record {
+        requires table { IsTable (record {
           names = names.items;
           prices = prices.items;
           quantities = quantities.items;
           price_places = price_places;
           quantity_places = quantity_places;
+          levels = levels_given levels;
         }) }
+        requires some_levels { IfSome levels (λ given. given.items ≢ []) }
         ensures { result ≡ record {
           names = names.items;
           prices = prices.items;
           quantities = quantities.items;
           price_places = price_places;
           quantity_places = quantity_places;
+          levels = levels_given levels;
         } }
     {
         Table {
@@ -69,6 +80,7 @@ impl Table {
             quantities,
             price_places,
             quantity_places,
+            levels,
         }
     }
 
@@ -158,5 +170,34 @@ impl Table {
         ensures { result ≡ self.now.quantity_places }
     {
         self.quantity_places
+    }
+    /// Whether the observations have levels of their own.
+    pub fn levelled(&self) -> bool
+        ensures { IsFalse result ↔ (self.now.levels ≡ []) }
+    {
+        !self.levels().is_empty()
+    }
+
+    /// The level of observation `t` in thousandths: all of them where no observation has one.
+    pub fn level(&self, t: u32) -> u32
+        requires { t < records_of self.now }
+        ensures exact { result ≡ level_of self.now t }
+        ensures within { IsOwnLevel result }
+    {
+        match self.levels().get(t as usize) {
+            Some(level) => *level,
+            None => LEVEL_SCALE,
+        }
+    }
+
+    /// The levels by observation, or none.
+    pub(crate) fn levels(&self) -> &[u32]
+        ensures same { result.now ≡ self.now.levels }
+        ensures valid { IsTable self.now }
+    {
+        match &self.levels {
+            Some(levels) => levels.as_slice(),
+            None => &[],
+        }
     }
 }

@@ -16,7 +16,7 @@ use Rattle.rp_text.specs.Denotation.{budget_list, budgets_of, denoted_budgets}
 use Rattle.rp_sheet.specs.Sheets.{first_fault, column_of, column_numbers}
 use Rattle.rp_sheet.specs.declared.form.Marks.TheVariants.{Goods}
 use Rattle.rp_sheet.specs.declared.form.Role.{Role}
-use Rattle.rp_sheet.specs.declared.form.Role.TheVariants.{Observation, Price, Quantity, Expenditure, Income, Budget, Times, Output, OutputPrice, Menu, Choice}
+use Rattle.rp_sheet.specs.declared.form.Role.TheVariants.{Observation, Price, Quantity, Expenditure, Income, Budget, Times, Output, OutputPrice, Menu, Choice, OwnLevel}
 use Rattle.rp_sheet.specs.declared.fault.TableFault.{TableFault}
 use Rattle.rp_num.proofs.BelowLemmas.{length-listed}
 use Rattle.rp_sheet.proofs.RowLemmas.{length-rows, all_rows, all_listed}
@@ -41,6 +41,7 @@ measured_role (Some Output) e m = cc m
 measured_role (Some OutputPrice) e m = cc m
 measured_role (Some Menu) e m = cc m
 measured_role (Some Choice) e m = cc m
+measured_role (Some OwnLevel) e m = cc m
 
 module _ (headers : List (List ℕ)) (records : List (List (List ℕ))) (fine : FineHeaders budgets_form headers) (fine_fields : fields_stage budgets_form headers records ≡ None) (fine_sizes : sizes_stage budgets_form headers (figures_of budgets_form headers records) ≡ None) where
   price_within : (t g : ℕ) → t < rows_in records → g < length (names_with Goods is_price headers)

@@ -104,4 +104,4 @@ plain_table bytes table plain =
     subst (λ (fields : List (List ℕ)). IsPlainHeader fields table.names) (sym (get-listed line n 0 [] (omega arith))) plain.header in
     let each : (t : ℕ) → t < records_of table → IsPlainRecord (row_at (listed n line) t) (goods_of table) (price_of table t) (quantity_of table t) =
     λ t row. subst (λ (fields : List (List ℕ)). IsPlainRecord fields (goods_of table) (price_of table t) (quantity_of table t)) (sym (get-listed line n (t + 1) [] (omega arith))) (plain.records t row) in
-    ap denoted_table read ∙ plain_denotes (listed n line) table (length-listed line n) header each plain.within plain.price_scale plain.quantity_scale
+    ap denoted_table read ∙ plain_denotes (listed n line) table (length-listed line n) header each plain.within plain.price_scale plain.quantity_scale plain.no_levels

@@ -1,5 +1,6 @@
 -- The headers of the plain form have no fault, and they name the goods.
 use Rattle.std.proofs.Common.{◌≡◌, ℕ, zero, suc, ◌+◌, ◌*◌, ◌<◌, ◌≤◌, ◌⊎◌, inl, inr, true, false, ◌&&◌, ◌==◌, nat_le, List, [], ◌∷◌, ◌++◌, length, get_or, take, drop, map, Option, Some, None, is_some, refl, sym, ap, ◌∙◌, subst, arith}
+use Rattle.std.specs.Prelude.{codes}
 use Rattle.std.specs.List.{All, list_all}
 use Rattle.std.specs.Option.{option_map_or}
 use Rattle.std.proofs.lemmas.Bool.Decides.{nat_tests}
@@ -12,12 +13,13 @@ use Rattle.rp_sheet.specs.Columns.{role_of, takes, is_name, is_price, name_in, n
 use Rattle.rp_sheet.specs.Forms.{table_form}
 use Rattle.rp_sheet.specs.Headers.{headers_in, has, header_fault, headers_stage, pair_fault, present_fault, goods_stage}
 use Rattle.rp_text.specs.Plain.{IsPlainName, IsPlainHeader}
-use Rattle.rp_sheet.specs.declared.form.Role.TheVariants.{Price, Quantity}
+use Rattle.rp_sheet.specs.declared.form.Role.TheVariants.{Price, Quantity, OwnLevel}
 use Rattle.rp_sheet.specs.declared.form.Marks.TheVariants.{Goods}
 use Rattle.rp_sheet.proofs.GoodHeaders.{price_says, quantity_says}
 use Rattle.rp_sheet.proofs.FixedGoods.{own_goods, no_goods_fault}
 use Rattle.rp_sheet.proofs.PlaceLemmas.{present, found_at, not_listed, one_place}
 use Rattle.rp_text.proofs.PlainNumbers.{trimmed_is}
+use Rattle.rp_text.proofs.TableFacts.{level_says}
 
 not_zero : (n : ℕ) → 1 ≤ n → (n == 0) ≡ false
 not_zero n some = grind (arith, nat_tests)
@@ -161,6 +163,12 @@ module _ (headers names : List (List ℕ)) (plain : IsPlainHeader headers names)
         | inl even ↦ inl (ap (λ (k : ℕ). role_of Goods (text_at headers k)) even ∙ price_role kind.0 kind.1)
         | inr odd ↦ inr (ap (λ (k : ℕ). role_of Goods (text_at headers k)) odd ∙ quantity_role kind.0 kind.1)
       ]
+
+  -- no header is that of own levels
+  pub no_levels : has headers (codes "e") ≡ false
+  no_levels = not_listed headers (codes "e") (λ c below is.
+      let e_is : role_of Goods (text_at headers c) ≡ Some OwnLevel = ap (role_of Goods) is ∙ level_says in
+      elim (role_taken c below) [ inl price ↦ cc (sym price ∙ e_is) | inr quantity ↦ cc (sym quantity ∙ e_is) ])
 
   no_header_fault : (c : ℕ) → c < length headers → header_fault table_form headers c ≡ None
   unfolding header_fault

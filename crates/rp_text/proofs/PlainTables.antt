@@ -24,7 +24,7 @@ use Rattle.rp_sheet.proofs.StageLemmas.{under_headers, fine_records, in_none}
 use Rattle.rp_text.proofs.TableFacts.{table_made}
 use Rattle.rp_sheet.proofs.ColumnSizes.{sizes_are}
 use Rattle.rp_text.proofs.TableMade.{table_there}
-use Rattle.rp_text.proofs.PlainHeaders.{headers_are, names_are, no_headers_fault, no_goods_stage_fault, price_place, quantity_place}
+use Rattle.rp_text.proofs.PlainHeaders.{headers_are, names_are, no_headers_fault, no_goods_stage_fault, no_levels, price_place, quantity_place}
 use Rattle.rp_text.proofs.PlainRecords.{no_fields_fault, no_sizes_fault, no_places, price_listed, quantity_listed}
 
 -- numbers are rows where they are so at each row and place
@@ -81,12 +81,12 @@ module _ (headers : List (List ℕ)) (records : List (List (List ℕ))) (table :
       ap (slice_index (text_at sizes t)) column
       ∙ quantity_listed headers table.names plain records (records_of table) (price_of table) (quantity_of table) all each (price_within table within) (quantity_within table within) t g inside good)
 
-  table_is : table.price_places ≡ 0 → table.quantity_places ≡ 0 → table ≡ table_of headers (figures_of table_form headers records)
-  table_is price_scale quantity_scale =
+  table_is : table.price_places ≡ 0 → table.quantity_places ≡ 0 → table.levels ≡ [] → table ≡ table_of headers (figures_of table_form headers records)
+  table_is price_scale quantity_scale levels =
       let named = sym (names_are headers table.names plain) in
       let scale = no_places headers table.names plain records (records_of table) (price_of table) (quantity_of table) all each (price_within table within) (quantity_within table within) in
-      table_made headers (figures_of table_form headers records) table.names table.names (sizes_of table_form headers (figures_of table_form headers records)) table.prices table.quantities table.price_places table.quantity_places
-      named named refl prices_are quantities_are (price_scale ∙ sym (scale Price (inl refl))) (quantity_scale ∙ sym (scale Quantity (inr refl)))
+      table_made headers (figures_of table_form headers records) table.names table.names (sizes_of table_form headers (figures_of table_form headers records)) table.prices table.quantities table.price_places table.quantity_places table.levels
+      named named refl prices_are quantities_are (price_scale ∙ sym (scale Price (inl refl))) (quantity_scale ∙ sym (scale Quantity (inr refl))) (rw (levels, no_levels headers table.names plain) refl)
 
   no_fault : fault_under table_form [] headers records ≡ None
   no_fault =
@@ -103,8 +103,8 @@ module _ (headers : List (List ℕ)) (records : List (List (List ℕ))) (table :
 -- records of the plain form denote the table that they list
 pub plain_denotes : (records : List (List (List ℕ))) (table : Observations) → length records ≡ records_of table + 1 → IsPlainHeader (record_at records 0) table.names
     → ((t : ℕ) → t < records_of table → IsPlainRecord (row_at records t) (goods_of table) (price_of table t) (quantity_of table t))
-    → IsTable table → table.price_places ≡ 0 → table.quantity_places ≡ 0 → denoted_table records ≡ Ok table
-plain_denotes records table long plain each within price_scale quantity_scale =
+    → IsTable table → table.price_places ≡ 0 → table.quantity_places ≡ 0 → table.levels ≡ [] → denoted_table records ≡ Ok table
+plain_denotes records table long plain each within price_scale quantity_scale levels =
     let header = record_at records 0 in
     let all : rows_in records ≡ records_of table = omega (arith, long) in
     let same : headers_in header ≡ header = headers_are header table.names plain in
@@ -112,4 +112,4 @@ plain_denotes records table long plain each within price_scale quantity_scale =
     under_headers table_form [] records (omega (arith, long)) ∙ ap (λ headers. fault_under table_form [] headers records) same ∙ no_fault header records table plain all each within in
     table_there records none
     ∙ ap (λ headers. Ok (table_of headers (figures_of table_form headers records))) same
-    ∙ ap Ok (sym (table_is header records table plain all each within price_scale quantity_scale))
+    ∙ ap Ok (sym (table_is header records table plain all each within price_scale quantity_scale levels))

@@ -19,7 +19,7 @@ use Rattle.rp_text.specs.Denotation.{price_list, prices_of, denoted_prices}
 use Rattle.rp_sheet.specs.Sheets.{first_fault, column_numbers, numbers_under}
 use Rattle.rp_sheet.specs.declared.form.Marks.TheVariants.{Goods}
 use Rattle.rp_sheet.specs.declared.form.Role.{Role}
-use Rattle.rp_sheet.specs.declared.form.Role.TheVariants.{Observation, Price, Quantity, Expenditure, Income, Budget, Times, Output, OutputPrice, Menu, Choice}
+use Rattle.rp_sheet.specs.declared.form.Role.TheVariants.{Observation, Price, Quantity, Expenditure, Income, Budget, Times, Output, OutputPrice, Menu, Choice, OwnLevel}
 use Rattle.rp_sheet.specs.declared.fault.TableFault.{TableFault}
 use Rattle.rp_num.proofs.BelowLemmas.{length-listed}
 use Rattle.rp_sheet.proofs.RowLemmas.{all_listed}
@@ -44,6 +44,7 @@ measured_role places (Some Output) e m = cc m
 measured_role places (Some OutputPrice) e m = cc m
 measured_role places (Some Menu) e m = cc m
 measured_role places (Some Choice) e m = cc m
+measured_role places (Some OwnLevel) e m = cc m
 
 module _ (places : ℕ) (headers : List (List ℕ)) (records : List (List (List ℕ))) (fine : FineHeaders (prices_form true places) headers)
     (fine_fields : fields_stage (prices_form true places) headers records ≡ None) (fine_sizes : sizes_stage (prices_form true places) headers (figures_of (prices_form true places) headers records) ≡ None) where

@@ -1,24 +1,37 @@
 -- Records without a fault make a table within the limits.
-use Rattle.std.proofs.Common.{◌≡◌, ℕ, ◌+◌, ◌*◌, ◌/◌, ◌<◌, ◌≤◌, List, ◌++◌, length, slice_index, Option, Some, None, refl, ap, ◌∙◌, arith}
-use Rattle.std.specs.Prelude.{unwrap_or}
-use Rattle.std.proofs.lemmas.Nat.{mul-add-lt}
+use Rattle.std.proofs.Common.{◌≡◌, ◌≢◌, ℕ, zero, suc, ◌+◌, ◌*◌, ◌/◌, ◌<◌, ◌≤◌, inl, inr, Bool, true, false, if◌then◌else◌, List, [], ◌++◌, length, slice_index, Option, Some, None, refl, sym, ap, ◌∙◌, subst, arith}
+use Rattle.std.specs.Prelude.{codes, unwrap_or, Vec, IfSome}
+use Rattle.std.specs.List.{All}
+use Rattle.std.specs.declared.alloc.Global.{Global}
+use Rattle.std.proofs.lemmas.List.Elements.{All-nil}
+use Rattle.std.proofs.lemmas.Nat.{mul-add-lt, mul-le}
 use Rattle.std.proofs.Math.Nat.{mul_comm, mul-div_cancel}
 use Rattle.rp_num.specs.declared.decimal.Decimal.{Decimal}
+use Rattle.rp_table.specs.OwnLevels.{IsOwnLevel, AreOwnLevels}
 use Rattle.rp_table.specs.Tables.{IsTable, records_of, quantity_of}
 use Rattle.rp_sheet.specs.Texts.{text_at, place_of}
-use Rattle.rp_sheet.specs.Columns.{role_of, names_with, is_price, price_mark, quantity_mark}
+use Rattle.rp_sheet.specs.Columns.{role_of, named_role, names_with, is_price, price_mark, quantity_mark}
 use Rattle.rp_sheet.specs.Forms.{table_form}
 use Rattle.rp_sheet.specs.Fields.{figures_of, rows_in, fields_stage}
 use Rattle.rp_sheet.specs.Sizes.{places_of, sizes_of, sizes_stage}
-use Rattle.rp_text.specs.Denotation.{table_of}
-use Rattle.rp_sheet.specs.Sheets.{column_of, numbers_under}
-use Rattle.rp_sheet.specs.declared.form.Role.TheVariants.{Price, Quantity}
+use Rattle.rp_sheet.specs.Headers.{has}
+use Rattle.rp_sheet.specs.ChoiceCounts.{column_named}
+use Rattle.rp_text.specs.Denotation.{own_levels, table_of}
+use Rattle.rp_sheet.specs.Sheets.{column_of, numbers_under, column_numbers}
+use Rattle.rp_sheet.specs.declared.form.Role.TheVariants.{Price, Quantity, OwnLevel}
 use Rattle.rp_sheet.specs.declared.form.Marks.TheVariants.{Goods}
+use Rattle.rp_num.proofs.BelowLemmas.{length-listed}
+use Rattle.rp_sheet.proofs.FineHeaders.{column_there}
 use Rattle.rp_sheet.proofs.PlaceLemmas.{found_at}
-use Rattle.rp_sheet.proofs.RowLemmas.{length-rows, row_number, all_rows, sum_at_least}
+use Rattle.rp_sheet.proofs.RowLemmas.{length-rows, row_number, all_rows, all_listed, sum_at_least}
 use Rattle.rp_sheet.proofs.GoodHeaders.{GoodHeaders, price_column, quantity_good_of, some_quantity, measured_role, limit_is, distinct_names}
 use Rattle.rp_sheet.proofs.FigureLemmas.{few_places}
-use Rattle.rp_sheet.proofs.ColumnSizes.{sizes_are, within_limit, price_at, bought_at}
+use Rattle.rp_sheet.proofs.ColumnSizes.{sizes_in, sizes_are, within_limit, price_at, level_at, bought_at}
+
+-- what the header of own levels says
+pub level_says : role_of Goods (codes "e") ≡ Some OwnLevel
+unfolding role_of named_role
+level_says = refl
 
 first_column : (headers : List (List ℕ)) → GoodHeaders table_form headers → 0 < length headers
 first_column headers good = let price = price_column Goods headers 0 (good.fine.some refl) in omega (arith, price.1)
@@ -65,6 +78,23 @@ module _ (headers : List (List ℕ)) (records : List (List (List ℕ))) (good : 
       ap (λ (k : ℕ). k / length (names_with Goods is_price headers)) (length-rows (length (sizes_of table_form headers (figures_of table_form headers records))) (length (names_with Goods is_price headers)) _)
       ∙ mul-div_cancel (length (sizes_of table_form headers (figures_of table_form headers records))) (good.fine.some refl) ∙ rows_count
 
+  -- each observation has an own level, where there is a column of them
+  levels_are : AreOwnLevels (rows_in records) (own_levels headers (sizes_in table_form headers records))
+  levels_are = by (has headers (codes "e")) refl
+    where
+      level_within : has headers (codes "e") ≡ true → (t : ℕ) → t < rows_in records → IsOwnLevel (slice_index (text_at (sizes_in table_form headers records) t) (column_named (codes "e") headers))
+      level_within there t row =
+          let column = column_there headers (codes "e") there in
+          let at_column : column_named (codes "e") headers ≡ column.0 = ap (λ o. unwrap_or o 0) column.2 in
+          rw at_column (level_at table_form headers records fine_fields fine_sizes t column.0 row column.1 (ap (role_of Goods) column.3 ∙ level_says))
+
+      by : (b : Bool) → has headers (codes "e") ≡ b → AreOwnLevels (rows_in records) (if b then column_numbers (codes "e") headers (sizes_in table_form headers records) else [])
+      by false none = inl refl
+      by true there = inr (
+        length-listed _ (length (sizes_in table_form headers records)) ∙ rows_count,
+        all_listed IsOwnLevel (length (sizes_in table_form headers records)) _ (λ t row. let inside : t < rows_in records = omega (arith, rows_count) in level_within there t inside),
+      )
+
   -- the table is within the limits
   pub table_is : 1 ≤ rows_in records → rows_in records ≤ 256 → IsTable (table_of headers (figures_of table_form headers records))
   unfolding table_of places_of
@@ -90,6 +120,7 @@ module _ (headers : List (List ℕ)) (records : List (List (List ℕ))) (good : 
         omega (arith, least, number, one);
     few_price_places = few_places table_form headers records Price;
     few_quantity_places = few_places table_form headers records Quantity;
+    own_levels = rw records_are levels_are;
   }
 
 -- the numbers of a table within the limits
@@ -108,14 +139,35 @@ number_limits headers figures within t g row place =
     let quantity = within.quantity_limits (t * goods + g) 0 (omega (arith, length-rows n goods quantities, below, turned)) in
     (rw (← row_number n goods prices t g row place) price, rw (← row_number n goods quantities t g row place) quantity)
 
+-- levels within the limits are within those of other numbers
+pub levels_small : (n : ℕ) (levels : List ℕ) → AreOwnLevels n levels → All (λ e. e ≤ 9999999) levels
+levels_small n levels (inl none) = subst (All (λ e. e ≤ 9999999)) (sym none) (All-nil (λ e. e ≤ 9999999))
+levels_small n levels (inr each) = λ k d within. let level = each.1 k d within in omega (arith, level.1)
+
+some_rows : (n goods records long : ℕ) → long ≡ n * goods → long ≡ records * goods → 1 ≤ records → 1 ≤ goods → 1 ≤ n
+some_rows zero goods records long none all some some_goods = let product = mul-le 1 1 records goods some some_goods in absurd (omega (arith, none, all, product))
+some_rows (suc n) goods records long these all some some_goods = omega arith
+
+-- a table within the limits has records
+pub some_sizes : (headers : List (List ℕ)) (figures : List (List Decimal)) → IsTable (table_of headers figures) → 1 ≤ length (sizes_of table_form headers figures)
+unfolding table_of
+some_sizes headers figures within =
+    some_rows (length (sizes_of table_form headers figures)) (length (names_with Goods is_price headers)) (records_of (table_of headers figures)) _ (length-rows (length (sizes_of table_form headers figures)) (length (names_with Goods is_price headers)) _) within.all_prices within.some_records within.some_goods
+
+-- levels that are given are some
+pub levels_some : (levels : Option (Vec ℕ Global)) (n : ℕ) → 1 ≤ n → IfSome levels (λ given. length given.items ≡ n) → IfSome levels (λ given. given.items ≢ [])
+levels_some None n some each = tt
+levels_some (Some given) n some each = λ empty. let none : length given.items ≡ 0 = ap length empty in omega (arith, each, none, some)
+
 -- a table from its parts
-pub table_made : (headers : List (List ℕ)) (figures : List (List Decimal)) (given named : List (List ℕ)) (sizes : List (List ℕ)) (prices quantities : List ℕ) (a b : ℕ)
+pub table_made : (headers : List (List ℕ)) (figures : List (List Decimal)) (given named : List (List ℕ)) (sizes : List (List ℕ)) (prices quantities : List ℕ) (a b : ℕ) (levels : List ℕ)
     → given ≡ names_with Goods is_price headers → named ≡ names_with Goods is_price headers → sizes ≡ sizes_of table_form headers figures
     → prices ≡ numbers_under price_mark headers given sizes → quantities ≡ numbers_under quantity_mark headers given sizes
-    → a ≡ places_of table_form headers figures Price → b ≡ places_of table_form headers figures Quantity
-    → record { names = named; prices = prices; quantities = quantities; price_places = a; quantity_places = b } ≡ table_of headers figures
+    → a ≡ places_of table_form headers figures Price → b ≡ places_of table_form headers figures Quantity → levels ≡ own_levels headers sizes
+    → record { names = named; prices = prices; quantities = quantities; price_places = a; quantity_places = b; levels = levels } ≡ table_of headers figures
 unfolding table_of
-table_made headers figures given named sizes prices quantities a b is_given is_named sized priced counted at_a at_b =
+table_made headers figures given named sizes prices quantities a b levels is_given is_named sized priced counted at_a at_b levelled =
     let p = priced ∙ ap (λ goods. numbers_under price_mark headers goods sizes) is_given ∙ ap (λ rows. numbers_under price_mark headers (names_with Goods is_price headers) rows) sized in
     let q = counted ∙ ap (λ goods. numbers_under quantity_mark headers goods sizes) is_given ∙ ap (λ rows. numbers_under quantity_mark headers (names_with Goods is_price headers) rows) sized in
-    rw (p, q, is_named, at_a, at_b) refl
+    let l = levelled ∙ ap (own_levels headers) sized in
+    rw (p, q, is_named, at_a, at_b, l) refl

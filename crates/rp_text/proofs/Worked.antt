@@ -56,13 +56,13 @@ no_good = refl
 
 -- a byte order mark, line ends of two bytes, blanks round a number, prices with two places
 scaled_table : table_in (0xEF ∷ 0xBB ∷ 0xBF ∷ codes "p_a,q_a,p_b,q_b\r\n1.25,2,2.5,1\r\n2.50, 1 ,1.25,2\r\n")
-    ≡ Ok (record { names = codes "a" ∷ codes "b" ∷ []; prices = 125 ∷ 250 ∷ 250 ∷ 125 ∷ []; quantities = 2 ∷ 1 ∷ 1 ∷ 2 ∷ []; price_places = 2; quantity_places = 0 })
+    ≡ Ok (record { names = codes "a" ∷ codes "b" ∷ []; prices = 125 ∷ 250 ∷ 250 ∷ 125 ∷ []; quantities = 2 ∷ 1 ∷ 1 ∷ 2 ∷ []; price_places = 2; quantity_places = 0; levels = [] })
 unfolding on_files
 scaled_table = refl
 
 -- columns in another order, and one that says nothing
 any_order : table_in (codes "q_a, obs ,p_b,p_a,q_b\n2,one,4,3,5\n")
-    ≡ Ok (record { names = codes "b" ∷ codes "a" ∷ []; prices = 4 ∷ 3 ∷ []; quantities = 5 ∷ 2 ∷ []; price_places = 0; quantity_places = 0 })
+    ≡ Ok (record { names = codes "b" ∷ codes "a" ∷ []; prices = 4 ∷ 3 ∷ []; quantities = 5 ∷ 2 ∷ []; price_places = 0; quantity_places = 0; levels = [] })
 unfolding on_files
 any_order = refl
 
@@ -92,11 +92,11 @@ many_places : table_in (line two_goods ++ codes "1.1234567,1,1,1") ≡ Err (faul
 unfolding on_files line two_goods
 many_places = refl
 
-last_zeros : table_in (line two_goods ++ codes "1.5000000,1,1,1") ≡ Ok (record { names = codes "a" ∷ codes "b" ∷ []; prices = 15 ∷ 10 ∷ []; quantities = 1 ∷ 1 ∷ []; price_places = 1; quantity_places = 0 })
+last_zeros : table_in (line two_goods ++ codes "1.5000000,1,1,1") ≡ Ok (record { names = codes "a" ∷ codes "b" ∷ []; prices = 15 ∷ 10 ∷ []; quantities = 1 ∷ 1 ∷ []; price_places = 1; quantity_places = 0; levels = [] })
 unfolding on_files line two_goods
 last_zeros = refl
 
-largest : table_in (line two_goods ++ codes "9999999,1,1,1") ≡ Ok (record { names = codes "a" ∷ codes "b" ∷ []; prices = 9999999 ∷ 1 ∷ []; quantities = 1 ∷ 1 ∷ []; price_places = 0; quantity_places = 0 })
+largest : table_in (line two_goods ++ codes "9999999,1,1,1") ≡ Ok (record { names = codes "a" ∷ codes "b" ∷ []; prices = 9999999 ∷ 1 ∷ []; quantities = 1 ∷ 1 ∷ []; price_places = 0; quantity_places = 0; levels = [] })
 unfolding on_files line two_goods
 largest = refl
 
@@ -108,6 +108,24 @@ too_large = refl
 stage_first : table_in (line two_goods ++ line (codes "10000000,1,1,1") ++ codes "1,1,1,+1") ≡ Err (fault.BadNumber 2 4)
 unfolding on_files line two_goods
 stage_first = refl
+
+-- own levels, in a column that may stand anywhere and whose numbers may have places of zeros
+levels_read : table_in (codes "e,p_a,q_a\n1,2,3\n1000.00,2,3\n")
+    ≡ Ok (record { names = codes "a" ∷ []; prices = 2 ∷ 2 ∷ []; quantities = 3 ∷ 3 ∷ []; price_places = 0; quantity_places = 0; levels = 1 ∷ 1000 ∷ [] })
+unfolding on_files
+levels_read = refl
+
+level_too_low : table_in (line (codes "p_a,q_a,e") ++ codes "2,3,0") ≡ Err (fault.BadLevel 1 3)
+unfolding on_files line
+level_too_low = refl
+
+level_too_high : table_in (line (codes "p_a,q_a,e") ++ codes "2,3,1001") ≡ Err (fault.BadLevel 1 3)
+unfolding on_files line
+level_too_high = refl
+
+level_with_places : table_in (line (codes "p_a,q_a,e") ++ codes "2,3,999.5") ≡ Err (fault.BadNumber 1 3)
+unfolding on_files line
+level_with_places = refl
 
 goods_a_b : List (List ℕ)
 goods_a_b = codes "a" ∷ codes "b" ∷ []
@@ -151,6 +169,11 @@ two_budgets : denoted_budgets (records_of (codes "p_a,p_b,w\n1,2,4.5\n2,1.25,4\n
     ≡ Ok (record { names = codes "a" ∷ codes "b" ∷ []; prices = 100 ∷ 200 ∷ 200 ∷ 125 ∷ []; w = 45 ∷ 40 ∷ [] })
 unfolding on_files
 two_budgets = refl
+
+-- own levels are those of a table
+levels_of_budgets : denoted_budgets (records_of (codes "p_a,w,e\n1,4,1000\n")) ≡ Err (fault.BadHeader 3)
+unfolding on_files
+levels_of_budgets = refl
 
 third_of_two_budgets : denoted_choices 2 goods_a_b (records_of (codes "budget,q_a,q_b,n\n3,1,1,1\n")) ≡ Err (fault.UnknownBudget 1)
 unfolding on_files goods_a_b

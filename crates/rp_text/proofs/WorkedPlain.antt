@@ -1,5 +1,5 @@
 -- The plain form, tried at a worked text.
-use Rattle.std.proofs.Common.{◌≡◌, ℕ, zero, suc, ◌+◌, ◌*◌, ◌<◌, ◌≤◌, List, [], ◌∷◌, ◌++◌, Ok, refl, arith}
+use Rattle.std.proofs.Common.{◌≡◌, ℕ, zero, suc, ◌+◌, ◌*◌, ◌<◌, ◌≤◌, inl, List, [], ◌∷◌, ◌++◌, Ok, refl, arith}
 use Rattle.std.specs.Prelude.{codes}
 use Rattle.std.proofs.lemmas.List.Elements.{All-nil, All-cons}
 use Rattle.rp_table.specs.Tables.{Observations, IsTable, price_of, quantity_of}
@@ -12,7 +12,7 @@ abbrev text : List ℕ
 text = codes "p_a,q_a\n7,12\n"
 
 abbrev table : Observations
-table = record { names = codes "a" ∷ []; prices = 7 ∷ []; quantities = 12 ∷ []; price_places = 0; quantity_places = 0 }
+table = record { names = codes "a" ∷ []; prices = 7 ∷ []; quantities = 12 ∷ []; price_places = 0; quantity_places = 0; levels = [] }
 
 name_a : IsPlainName (codes "a")
 name_a = record { some = omega arith; few = omega arith; letters = All-cons (λ byte. (97 ≤ byte) × (byte ≤ 122)) 97 [] (omega arith, omega arith) (All-nil (λ byte. (97 ≤ byte) × (byte ≤ 122))) }
@@ -74,6 +74,7 @@ within = record {
   bought = at_zero _ (omega arith);
   few_price_places = omega arith;
   few_quantity_places = omega arith;
+  own_levels = inl refl;
 }
 
 plain : IsPlainTable text table
@@ -85,6 +86,7 @@ plain = record {
   within = within;
   price_scale = refl;
   quantity_scale = refl;
+  no_levels = refl;
 }
 
 pub denoted : table_in text ≡ Ok table

@@ -14,7 +14,7 @@ use Rattle.rp_sheet.specs.ChoiceCounts.{column_named, choices_stage}
 use Rattle.rp_sheet.specs.Forms.{table_form, prices_form, bundles_form, budgets_form, choices_form}
 use Rattle.rp_sheet.specs.Records.{records_of}
 use Rattle.rp_sheet.specs.Columns.{names_with, is_price, price_mark, quantity_mark}
-use Rattle.rp_sheet.specs.Headers.{headers_in, headers_of, headers_stage, goods_stage}
+use Rattle.rp_sheet.specs.Headers.{headers_in, headers_of, has, headers_stage, goods_stage}
 use Rattle.rp_sheet.specs.Fields.{figures_of, count_stage, fields_stage}
 use Rattle.rp_sheet.specs.Sizes.{places_of, sizes_of, sizes_stage}
 use Rattle.rp_sheet.specs.declared.form.Form.{Form}
@@ -23,15 +23,20 @@ use Rattle.rp_sheet.specs.declared.form.Role.TheVariants.{Price, Quantity}
 use Rattle.rp_sheet.specs.declared.fault.TableFault.{TableFault}
 use Rattle.rp_sheet.specs.declared.fault.TableFault.TheVariants as fault
 
+-- the own levels of observations in thousandths, where there is a column of them
+abbrev pub own_levels : List (List ℕ) → List (List ℕ) → List ℕ
+own_levels headers sizes = if has headers (codes "e") then column_numbers (codes "e") headers sizes else []
+
 -- the table of these numbers
 unfoldable pub table_of : List (List ℕ) → List (List Decimal) → Observations
 table_of headers figures = record {
   names = names_with Goods is_price headers;
   prices = numbers_under price_mark headers (names_with Goods is_price headers) (sizes_of table_form headers figures);
   quantities = numbers_under quantity_mark headers (names_with Goods is_price headers)
-    (sizes_of table_form headers figures);
+      (sizes_of table_form headers figures);
   price_places = places_of table_form headers figures Price;
   quantity_places = places_of table_form headers figures Quantity;
+  levels = own_levels headers (sizes_of table_form headers figures);
 }
 
 -- the table in these records, if they have no fault
@@ -57,14 +62,14 @@ price_list with_m headers goods sizes = record {
 -- new prices beside a table whose quantities have these places
 unfoldable pub prices_of : Bool → ℕ → List (List ℕ) → List (List ℕ) → List (List Decimal) → PriceList
 prices_of with_m places goods headers figures =
-  price_list with_m headers goods (sizes_of (prices_form with_m places) headers figures)
+    price_list with_m headers goods (sizes_of (prices_form with_m places) headers figures)
 
 -- what records denote as new prices of these goods, beside a table whose quantities have these places
 unfoldable pub denoted_prices : Bool → ℕ → List (List ℕ) → List (List (List ℕ)) → Result PriceList TableFault
 denoted_prices with_m places goods records =
     let headers = headers_of records in
     unless_fault (first_fault (prices_form with_m places) goods records)
-      (prices_of with_m places goods headers (figures_of (prices_form with_m places) headers records))
+    (prices_of with_m places goods headers (figures_of (prices_form with_m places) headers records))
 
 -- what the bytes of a file denote as new prices of these goods
 abbrev pub prices_in : Bool → ℕ → List (List ℕ) → List ℕ → Result PriceList TableFault
@@ -90,7 +95,7 @@ unfoldable pub denoted_bundles : ℕ → List (List ℕ) → List (List (List �
 denoted_bundles places goods records =
     let headers = headers_of records in
     unless_fault (first_fault (bundles_form places) goods records)
-      (bundles_of places goods headers (figures_of (bundles_form places) headers records))
+    (bundles_of places goods headers (figures_of (bundles_form places) headers records))
 
 -- what the bytes of a file denote as bundles of these goods
 abbrev pub bundles_in : ℕ → List (List ℕ) → List ℕ → Result BundleList TableFault
@@ -111,7 +116,7 @@ budget_list headers names sizes = record {
 -- budgets
 unfoldable pub budgets_of : List (List ℕ) → List (List Decimal) → BudgetList
 budgets_of headers figures =
-  budget_list headers (names_with Goods is_price headers) (sizes_of budgets_form headers figures)
+    budget_list headers (names_with Goods is_price headers) (sizes_of budgets_form headers figures)
 
 -- what records denote as budgets
 unfoldable pub denoted_budgets : List (List (List ℕ)) → Result BudgetList TableFault
@@ -141,7 +146,7 @@ unfoldable pub denoted_choices : ℕ → List (List ℕ) → List (List (List �
 denoted_choices budgets goods records =
     let headers = headers_of records in
     unless_fault (first_fault (choices_form budgets) goods records)
-      (choices_of budgets goods headers (figures_of (choices_form budgets) headers records))
+    (choices_of budgets goods headers (figures_of (choices_form budgets) headers records))
 
 -- what the bytes of a file denote as choices on so many budgets over these goods
 abbrev pub choices_in : ℕ → List (List ℕ) → List ℕ → Result ChoiceList TableFault

@@ -64,3 +64,4 @@ pub record IsPlainTable (bytes : List ℕ) (table : Observations) : Type 0 where
   pub within : IsTable table
   pub price_scale : table.price_places ≡ 0
   pub quantity_scale : table.quantity_places ≡ 0
+  pub no_levels : table.levels ≡ []

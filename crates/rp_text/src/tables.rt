@@ -1,21 +1,25 @@
-ghost use Rattle.std.specs.Prelude.{◌≡◌, [], Ok, None, OnOk, IfOk, All, length};
-ghost use Rattle.rp_table.specs.Tables.{IsTable};
+ghost use Rattle.std.specs.Prelude.{◌≡◌, ◌≤◌, [], Ok, None, OnOk, IfOk, IfSome, All, length};
+ghost use Rattle.rp_table.specs.Tables.{IsTable, levels_given};
+ghost use Rattle.rp_table.specs.declared.TheConstants.{LARGEST};
 ghost use Rattle.rp_sheet.specs.Columns.{names_with, is_price};
 ghost use Rattle.rp_sheet.specs.Forms.{table_form};
 ghost use Rattle.rp_sheet.specs.declared.form.Marks.TheVariants.{Goods};
 ghost use Rattle.rp_sheet.specs.Sizes.{sizes_of};
+ghost use Rattle.rp_text.specs.Denotation as Denotation;
 ghost use Rattle.rp_text.specs.Denotation.{table_of, denoted_table, table_in};
 ghost use Rattle.rp_sheet.specs.Refusals.{RefusedAs};
 
 use rp_num::{Decimal, NoMemory, Seq};
 use rp_sheet::{
-    Columns, Form, Records, Role, TableFault, numbers_under, places_of, read_names, read_sheet,
+    Columns, Form, Records, Role, TableFault, column_numbers, narrowed, numbers_under, places_of,
+    read_names, read_sheet,
 };
 use rp_table::{Name, RECORDS, Table};
 use std::alloc::Global;
 
-/// Reads columns `p_NAME` of prices and `q_NAME` of quantities by good and possibly `obs`, which says nothing. Prices
-/// are scaled by 10^k, where k is the most places that one of them has, and quantities likewise by theirs.
+/// Reads columns `p_NAME` of prices and `q_NAME` of quantities by good, possibly `e` of own levels in thousandths, and
+/// possibly `obs`, which says nothing. Prices are scaled by 10^k, where k is the most places that one of them has, and
+/// quantities likewise by theirs.
 pub fn read_table(alloc: Global, bytes: &[u8]) -> Result<Table, TableFault>
     ensures denoted { IfOk result (λ table. table_in bytes.now ≡ Ok table) }
     ensures refused { RefusedAs result (table_in bytes.now) }
@@ -59,5 +63,32 @@ fn fill_table(
     let quantities = numbers_under(alloc, columns, b"q_", names.as_slice(), sizes)?;
     let price_places = places_of(columns, figures, Role::Price) as u8;
     let quantity_places = places_of(columns, figures, Role::Quantity) as u8;
-    Ok(Table::make(names, prices, quantities, price_places, quantity_places))
+    let levels = own_levels(alloc, columns, sizes)?;
+    Ok(Table::make(
+        names,
+        prices,
+        quantities,
+        price_places,
+        quantity_places,
+        levels,
+    ))
+}
+
+/// The own levels by observation, where there is a column of them.
+fn own_levels(
+    alloc: Global,
+    columns: &Columns<'_>,
+    sizes: &[Seq<u64>],
+) -> Result<Option<Vec<u32>>, NoMemory>
+    requires { All (λ n. n ≤ LARGEST) (Denotation.own_levels columns.now.headers sizes.now) }
+    ensures exact { IfOk result (λ levels. levels_given levels
+        ≡ Denotation.own_levels columns.now.headers sizes.now) }
+    ensures each { IfOk result
+        (λ levels. IfSome levels (λ given. length given.items ≡ length sizes.now)) }
+{
+    if columns.find(b"e").is_none() {
+        return Ok(None);
+    }
+    let numbers = column_numbers(alloc, columns, b"e", sizes)?;
+    Ok(Some(narrowed(alloc, numbers.as_slice())?))
 }

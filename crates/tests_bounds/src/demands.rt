@@ -158,6 +158,7 @@ fn demands_of_worked_tables(rt: HostRuntime) -> Result<(), Fail> {
         ),
     ] {
         let table = read_table(alloc, text.as_bytes())?;
+        assert!(rt; !table.levelled());
         let costs = Costs::of(alloc, &table)?;
         let verdict = garp(alloc, &costs)?;
         assert!(rt; are_prices(prices) && prices.len() == table.names().len());

@@ -68,6 +68,7 @@ fn given(
     t: u32,
 ) -> Result<String, Fail> {
     let table = read_table(alloc, text.as_bytes())?;
+    assert!(rt; !table.levelled());
     let costs = Costs::of(alloc, &table)?;
     let verdict = garp(alloc, &costs)?;
     assert!(rt;

@@ -26,7 +26,11 @@ fn accepted_on(
     cycle: &[u32],
     values: &[i128],
 ) -> Result<bool, Fail> {
-    let costs = Costs::of(alloc, &read_table(alloc, text)?)?;
+    let table = read_table(alloc, text)?;
+    if table.levelled() {
+        return Ok(false);
+    }
+    let costs = Costs::of(alloc, &table)?;
     let part = PumpPart {
         num,
         den,

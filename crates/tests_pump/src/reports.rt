@@ -28,6 +28,7 @@ fn worked_tables(rt: HostRuntime) -> Result<(), Fail> {
         ),
     ] {
         let table = read_table(rt.alloc(), text)?;
+        assert!(rt; !table.levelled());
         let costs = Costs::of(rt.alloc(), &table)?;
         let part = pump(rt.alloc(), &costs)?;
         assert!(rt; check_pump(&costs, &part));
@@ -61,7 +62,9 @@ fn rounds_of_worked_tables(rt: HostRuntime) -> Result<(), Fail> {
             &[0, 0, 0, 0],
         ),
     ] {
-        let costs = Costs::of(rt.alloc(), &read_table(rt.alloc(), text)?)?;
+        let table = read_table(rt.alloc(), text)?;
+        assert!(rt; !table.levelled());
+        let costs = Costs::of(rt.alloc(), &table)?;
         let part = pump(rt.alloc(), &costs)?;
         assert!(rt; check_pump(&costs, &part));
         assert_eq!(rt; part.num, num);

@@ -25,6 +25,7 @@ fn table_faults_are_told_by_their_names(rt: HostRuntime) -> Result<(), Fail> {
         (TableFault::TooFine { row, column }, "TooFine"),
         (TableFault::UnknownBudget { row }, "UnknownBudget"),
         (TableFault::NoChoices { budget: 1 }, "NoChoices"),
+        (TableFault::BadLevel { row, column }, "BadLevel"),
         (TableFault::NoMemory, "NoMemory"),
     ] {
         assert_eq!(rt; fault.to_string(rt.alloc())?.as_str(), name);

@@ -118,6 +118,11 @@ fn new_prices_have_the_goods_of_a_table(rt: HostRuntime) -> Result<(), Fail> {
             Err(TableFault::BadHeader { column: 3 }),
         ),
         (
+            "p_a,p_b,m,e\n1,2,35,1000\n",
+            true,
+            Err(TableFault::BadHeader { column: 4 }),
+        ),
+        (
             "p_a,p_b,m\n1,2,35\n",
             false,
             Err(TableFault::BadHeader { column: 3 }),
@@ -260,6 +265,10 @@ fn bundles_have_the_scale_of_a_table(rt: HostRuntime) -> Result<(), Fail> {
         ("", Err(TableFault::Empty)),
         ("p_a,q_b\n1,1\n", Err(TableFault::BadHeader { column: 1 })),
         (
+            "e,q_a,q_b\n1000,1,1\n",
+            Err(TableFault::BadHeader { column: 1 }),
+        ),
+        (
             "q_a,q_b\u{1}\n1,1\n",
             Err(TableFault::BadHeader { column: 2 }),
         ),
@@ -321,6 +330,7 @@ fn budgets_have_prices_and_an_income(rt: HostRuntime) -> Result<(), Fail> {
             Err(TableFault::BadHeader { column: 2 }),
         ),
         ("p_a,m\n1,5\n", Err(TableFault::BadHeader { column: 2 })),
+        ("p_a,e,w\n1,1,5\n", Err(TableFault::BadHeader { column: 2 })),
         (
             "p_a\u{1f},w\n1,5\n",
             Err(TableFault::BadHeader { column: 1 }),
@@ -377,6 +387,10 @@ fn choices_are_of_the_goods_of_budgets(rt: HostRuntime) -> Result<(), Fail> {
         (
             "budget,q_a,q_b,w\n1,1,1,1\n",
             Err(TableFault::BadHeader { column: 4 }),
+        ),
+        (
+            "budget,q_a,q_b,n,e\n1,1,1,1,1\n",
+            Err(TableFault::BadHeader { column: 5 }),
         ),
         (
             "n,q_a,q_b,n\n1,1,1,1\n",

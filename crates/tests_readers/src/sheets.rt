@@ -45,6 +45,7 @@ fn technologies_have_the_faults_of_tables(rt: HostRuntime) -> Result<(), Fail> {
     for (file, fault) in [
         ("", TableFault::Empty),
         ("y,p_a,q_a\n", TableFault::BadHeader { column: 2 }),
+        ("y,w_a,x_a,e\n", TableFault::BadHeader { column: 4 }),
         ("y,w_a,w_a\n", TableFault::TwiceNamed { column: 3 }),
         ("y,w_a,x_b\n", TableFault::Unpaired { column: 2 }),
         ("w_a,x_a,p\n", TableFault::Unpaired { column: 0 }),
@@ -84,6 +85,7 @@ fn asked_files_have_the_inputs_of_a_technology(rt: HostRuntime) -> Result<(), Fa
         ("w_a,w_b,y\n1,2.5,3\n", Ok([10u64, 25, 30].as_slice())),
         ("y,obs,w_b,w_a\n0,x,1,2\n", Ok(&[0, 0, 1, 2])),
         ("w_a,w_b,y,p\n", Err(TableFault::BadHeader { column: 4 })),
+        ("e,w_a,w_b,y\n", Err(TableFault::BadHeader { column: 1 })),
         ("y\n", Err(TableFault::Unpaired { column: 0 })),
         ("w_a,w_b\n", Err(TableFault::Unpaired { column: 0 })),
         ("w_a,w_c,y\n", Err(TableFault::OtherGoods { column: 2 })),
@@ -107,6 +109,10 @@ fn menus_have_texts_and_counts(rt: HostRuntime) -> Result<(), Fail> {
         (
             "menu,choice,n,p_a\n",
             Err(TableFault::BadHeader { column: 4 }),
+        ),
+        (
+            "menu,choice,e,n\n",
+            Err(TableFault::BadHeader { column: 3 }),
         ),
         ("menu,n\n", Err(TableFault::Unpaired { column: 0 })),
         (

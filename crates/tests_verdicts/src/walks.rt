@@ -38,10 +38,11 @@ impl Total for Ladder {
     type Value = i8;
 
     ghost use Rattle.rp_evidence.specs.Quasilinear.{step_sum};
-    ghost use Rattle.rp_quasi.specs.InnerSumLaws.{costs_keep_order, costs_stay};
     ghost use Rattle.tests_verdicts.specs.Ladder.{FitsOne, ladder_cost};
-    ghost use Rattle.tests_verdicts.specs.LadderLaws.{ones_fit_alike};
     ghost use Rattle.rp_walk.specs.Sums.{sums, whole_total};
+    ghost use Rattle.rp_walk.proofs.Rounds.{SameTotal-trans};
+    ghost use Rattle.rp_walk.proofs.SumLaws.{step_sums_stay, sums_keep_order};
+    ghost use Rattle.std.proofs.Common.{sym};
 
     ghost rule = { λ a. sums a.n (step_sum ladder_cost) };
 
@@ -74,11 +75,16 @@ impl Total for Ladder {
         self.cost(s, t) + self.cost(t, s) < self.cost(s, s) + self.cost(t, t)
     }
 
-    ghost keeps_order = { λ a. costs_keep_order a.n ladder_cost };
+    ghost keeps_order = { λ a. sums_keep_order a.n (step_sum ladder_cost) };
 
-    ghost stays = { λ a. costs_stay a.n ladder_cost };
+    ghost stays = { λ a. step_sums_stay a.n ladder_cost };
 
-    ghost fits_alike = { ones_fit_alike };
+    ghost fits_alike = { λ x y h f. (
+      f.0,
+      f.1,
+      f.2,
+      SameTotal-trans y x (whole_total f.0) (sym h) f.3,
+    ) };
 }
 
 #[test]

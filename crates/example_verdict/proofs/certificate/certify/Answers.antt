@@ -1,5 +1,10 @@
+use Rattle.std.proofs.Common.{◌∙◌}
 use Rattle.example_verdict.proofs.Accepted.{certificate_accepted}
 use Rattle.example_verdict.proofs.certificate.certify.Goals as goal
+
+pub afriat-requires : goal.afriat-requires
+afriat-requires c =
+    c.in_ok-garp.ensures.proves_without_levels (c.requires.of_table.levels ∙ c.requires.no_levels)
 
 pub returns-clause-proves : goal.returns-clause-proves
 returns-clause-proves c = record {
@@ -8,17 +13,19 @@ returns-clause-proves c = record {
   efficiency = c.in_ok-efficiency.efficiency;
   items = c.in_ok-certificate.ensures;
   proves = c.check-outcome.ensures.accepted_proves
-      (certificate_accepted c.args.table.now c.args.costs.now c.requires
+      (certificate_accepted c.args.table.now c.args.costs.now c.requires.of_table
       c.in_ok-garp.garp c.in_ok-afriat.afriat c.in_ok-efficiency.efficiency c.in_ok-certificate.certificate c.check-outcome.result
-      c.in_ok-garp.ensures.proves c.in_ok-afriat.ensures.proves c.in_ok-afriat.ensures.given
+      (c.in_ok-garp.ensures.proves_without_levels (c.requires.of_table.levels ∙ c.requires.no_levels))
+      c.in_ok-afriat.ensures.proves c.in_ok-afriat.ensures.given
       c.in_ok-efficiency.ensures.proves c.in_ok-efficiency.ensures.given
       c.in_ok-certificate.ensures c.check-outcome.ensures.first_failure);
 }
 
 pub returns-clause-accepted : goal.returns-clause-accepted
 returns-clause-accepted c =
-    certificate_accepted c.args.table.now c.args.costs.now c.requires
+    certificate_accepted c.args.table.now c.args.costs.now c.requires.of_table
     c.in_ok-garp.garp c.in_ok-afriat.afriat c.in_ok-efficiency.efficiency c.in_ok-certificate.certificate c.check-outcome.result
-    c.in_ok-garp.ensures.proves c.in_ok-afriat.ensures.proves c.in_ok-afriat.ensures.given
+    (c.in_ok-garp.ensures.proves_without_levels (c.requires.of_table.levels ∙ c.requires.no_levels))
+    c.in_ok-afriat.ensures.proves c.in_ok-afriat.ensures.given
     c.in_ok-efficiency.ensures.proves c.in_ok-efficiency.ensures.given
     c.in_ok-certificate.ensures c.check-outcome.ensures.first_failure

@@ -1,8 +1,7 @@
 use Rattle.std.proofs.Common.{ℕ, ◌<◌}
-use Rattle.rp_evidence.specs.Preference.{IsStrict, IsWeak}
-use Rattle.rp_table.specs.Cost.{cost_at}
+use Rattle.rp_pref.specs.Steps.{OwnStrict, OwnWeak}
 use Rattle.rp_garp.specs.Pairs.{Contradict}
 use Rattle.rp_garp.proofs.contradiction.first_contradicted.Given as goal
 
 abbrev pub invariant-loop-t : goal.invariant-loop-t
-invariant-loop-t l = (j : ℕ) → j < l.t → Contradict (IsWeak (cost_at l.costs) 1 1) (IsStrict (cost_at l.costs) 1 1) l.s j → ⊥
+invariant-loop-t l = (j : ℕ) → j < l.t → Contradict (OwnWeak l.costs) (OwnStrict l.costs) l.s j → ⊥

@@ -1,13 +1,14 @@
 use Rattle.std.proofs.Common.{ℕ, ◌<◌, ◌≤◌, List, length, slice_index, sym, ap, ◌∙◌, subst, rules}
-use Rattle.rp_table.specs.Tables.{IsTable}
+use Rattle.std.specs.List.{All}
+use Rattle.rp_table.specs.Tables.{IsTable, levels_given}
 use Rattle.rp_sheet.specs.Sizes.{places_of}
-use Rattle.rp_text.specs.Denotation.{table_of}
+use Rattle.rp_text.specs.Denotation.{own_levels, table_of}
 use Rattle.rp_sheet.specs.Sheets.{numbers_under, column_of}
 use Rattle.rp_sheet.specs.Texts.{text_at}
 use Rattle.rp_sheet.specs.Columns.{names_with, is_price, price_mark, quantity_mark}
 use Rattle.rp_sheet.specs.declared.form.Role.TheVariants.{Price, Quantity}
 use Rattle.rp_sheet.specs.declared.form.Marks.TheVariants.{Goods}
-use Rattle.rp_text.proofs.TableFacts.{number_limits, table_made}
+use Rattle.rp_text.proofs.TableFacts.{number_limits, table_made, levels_small, levels_some, some_sizes}
 use Rattle.rp_text.proofs.tables.fill_table.Goals as goal
 
 pub numbers_under-requires : goal.numbers_under-requires
@@ -42,14 +43,24 @@ overflow_cast-quantity_places c =
     let small : c.places_of-quantity_places.result ≤ 6 = rw is few in
     search rules
 
-pub make-requires : goal.make-requires
-make-requires c =
+pub own_levels-requires : goal.own_levels-requires
+unfolding table_of
+own_levels-requires c =
+    subst (λ (rows : List (List ℕ)). All (λ e. e ≤ 9999999) (own_levels c.args.columns.now.headers rows)) (sym c.requires.sized) (levels_small _ _ c.requires.within.own_levels)
+
+pub make-requires-clause-some_levels : goal.make-requires-clause-some_levels
+make-requires-clause-some_levels c =
+    let some : 1 ≤ length c.args.sizes.now = subst (λ (rows : List (List ℕ)). 1 ≤ length rows) (sym c.requires.sized) (some_sizes c.args.columns.now.headers c.args.figures.now c.requires.within) in
+    levels_some c.in_ok-levels.levels (length c.args.sizes.now) some c.in_ok-levels.ensures.each
+
+pub make-requires-clause-table : goal.make-requires-clause-table
+make-requires-clause-table c =
     let names = c.as_slice.ensures.value ∙ c.requires.named in
     let also = c.as_slice-2.ensures.value ∙ c.requires.named in
     let quantities = c.in_ok-quantities.ensures ∙ ap (λ goods. numbers_under quantity_mark c.args.columns.now.headers goods c.args.sizes.now) (also ∙ sym names) in
     let price_scale = c.places_of-price_places.ensures ∙ ap (λ form. places_of form c.args.columns.now.headers c.args.figures.now Price) c.requires.of_tables in
     let quantity_scale = c.places_of-quantity_places.ensures ∙ ap (λ form. places_of form c.args.columns.now.headers c.args.figures.now Quantity) c.requires.of_tables in
-    subst IsTable (sym (table_made c.args.columns.now.headers c.args.figures.now c.as_slice.result.now c.args.names.items c.args.sizes.now c.in_ok-prices.prices.items c.in_ok-quantities.quantities.items c.places_of-price_places.result c.places_of-quantity_places.result names c.requires.named c.requires.sized c.in_ok-prices.ensures quantities price_scale quantity_scale)) c.requires.within
+    subst IsTable (sym (table_made c.args.columns.now.headers c.args.figures.now c.as_slice.result.now c.args.names.items c.args.sizes.now c.in_ok-prices.prices.items c.in_ok-quantities.quantities.items c.places_of-price_places.result c.places_of-quantity_places.result (levels_given c.in_ok-levels.levels) names c.requires.named c.requires.sized c.in_ok-prices.ensures quantities price_scale quantity_scale c.in_ok-levels.ensures.exact)) c.requires.within
 
 pub returns : goal.returns
 returns c =
@@ -58,4 +69,4 @@ returns c =
     let quantities = c.in_ok-quantities.ensures ∙ ap (λ goods. numbers_under quantity_mark c.args.columns.now.headers goods c.args.sizes.now) (also ∙ sym names) in
     let price_scale = c.places_of-price_places.ensures ∙ ap (λ form. places_of form c.args.columns.now.headers c.args.figures.now Price) c.requires.of_tables in
     let quantity_scale = c.places_of-quantity_places.ensures ∙ ap (λ form. places_of form c.args.columns.now.headers c.args.figures.now Quantity) c.requires.of_tables in
-    c.make.ensures ∙ table_made c.args.columns.now.headers c.args.figures.now c.as_slice.result.now c.args.names.items c.args.sizes.now c.in_ok-prices.prices.items c.in_ok-quantities.quantities.items c.places_of-price_places.result c.places_of-quantity_places.result names c.requires.named c.requires.sized c.in_ok-prices.ensures quantities price_scale quantity_scale
+    c.make.ensures ∙ table_made c.args.columns.now.headers c.args.figures.now c.as_slice.result.now c.args.names.items c.args.sizes.now c.in_ok-prices.prices.items c.in_ok-quantities.quantities.items c.places_of-price_places.result c.places_of-quantity_places.result (levels_given c.in_ok-levels.levels) names c.requires.named c.requires.sized c.in_ok-prices.ensures quantities price_scale quantity_scale c.in_ok-levels.ensures.exact
