@@ -16,7 +16,7 @@ sum_more f h (suc n) b within each more = elim (cases_eq b n) [
 ]
 
 -- some term below n is more, or none is
-some_or_none : (f h : ℕ → ℕ) (n : ℕ) → ((k : ℕ) × (k < n) × (f k < h k)) ⊎ ((i : ℕ) → i < n → h i ≤ f i)
+pub some_or_none : (f h : ℕ → ℕ) (n : ℕ) → ((k : ℕ) × (k < n) × (f k < h k)) ⊎ ((i : ℕ) → i < n → h i ≤ f i)
 some_or_none f h zero = inr (λ i l. absurd (omega arith))
 some_or_none f h (suc n) = by (some_or_none f h n) (nat_lt (f n) (h n)) refl
   where

@@ -1,15 +1,16 @@
--- The units of patches are determined, with a unit and without.
-use Rattle.std.proofs.Common.{◌≡◌, ℕ, zero, suc, ◌+◌, ◌*◌, ◌/◌, ◌%◌, ◌<◌, ◌==◌, ◌⊎◌, inl, inr, Option, Some, None, length, refl, sym, ap, subst, ◌∙◌, arith, if◌then◌else◌}
+-- Units of groups are determined, with a unit and without, and so are patches.
+use Rattle.std.proofs.Common.{◌≡◌, ℕ, zero, suc, ◌+◌, ◌<◌, ◌==◌, ◌⊎◌, inl, inr, Option, Some, None, length, refl, sym, subst, ◌∙◌, arith, if◌then◌else◌}
 use Rattle.std.proofs.Math.Nat.{eq_of_mul-eq-mul_right, eq-zero_of_zero-dvd}
 use Rattle.std.proofs.lemmas.List.{ext_get_or}
 use Prim.Native.Nat.{◌∣◌}
 use Rattle.rp_table.specs.Sums.{sum_below}
-use Rattle.rp_table.proofs.SumsBelow.{sum_below-same}
-use Rattle.rp_patch.specs.Choices.{RandomInput, times_on}
-use Rattle.rp_patch.specs.Patches.{IsPatchList, PatchList, budget_at, no_patch, patch_at, units_at}
-use Rattle.rp_patch.specs.Units.{ArePatchesOf, HasApportionedUnits, HasExactUnits, all_chosen, chosen_at}
+use Rattle.rp_patch.specs.Apportionment.{GroupedCounts, HasApportionedShares, HasExactShares, HasShares, counts_in, rest_of, whole_of}
+use Rattle.rp_patch.specs.Choices.{RandomInput}
+use Rattle.rp_patch.specs.Patches.{IsPatchList, PatchList, no_patch, patch_at, units_at}
+use Rattle.rp_patch.specs.Units.{ArePatchesOf, all_chosen, chosen_at, chosen_counts}
 use Rattle.rp_patch.specs.declared.listed.Patch.{Patch}
 use Rattle.rp_patch.proofs.Apart.{counts_less, counts_same, other_more}
+use Rattle.rp_patch.proofs.ChosenLaws.{chosen_budget}
 
 -- Units of the first n places, which share the total of their budgets: each has the whole part or one more, the largest rests first.
 pub record IsShared (n : ℕ) (budget whole rest : ℕ → ℕ) (total : ℕ) (units : ℕ → ℕ) : Type 0 where
@@ -58,87 +59,47 @@ module _ (n : ℕ) (budget whole rest : ℕ → ℕ) (total : ℕ) where
       by (inr v) (inl w) = absurd (not_apart one other a b i within v w)
       by (inr v) (inr w) = v ∙ sym w
 
-module _ (input : RandomInput) where
-  -- what the choices say of patch i
-  abbrev times_of : ℕ → ℕ
-  times_of i = (chosen_at (all_chosen input) i).times
-
-  abbrev budget_of : ℕ → ℕ
-  budget_of i = (chosen_at (all_chosen input) i).budget
-
-  -- what patches with a unit share
-  shared : (unit : ℕ) (p : PatchList) → ArePatchesOf input (Some unit) p → IsPatchList p
-      → IsShared (length (all_chosen input)) budget_of (λ i. (times_of i * unit) / times_on input (budget_of i))
-      (λ i. (times_of i * unit) % times_on input (budget_of i)) unit (units_at p)
-  shared unit p are valid = record {
-    each = λ i l. subst (λ w. (units_at p i ≡ w) ⊎ (units_at p i ≡ w + 1)) (whole i (in_p i l)) (units.each i (in_p i l));
-    together = λ i l.
-        (λ k. sum_below (sym are.count k) (λ h. if budget_of h == budget_of i then units_at p h else 0))
-        ∙ sum_below-same _ _ (length p.patches)
-        (λ h m. λ k. if sym (are.budget h m) k == sym (are.budget i (in_p i l)) k then units_at p h else 0)
-        ∙ units.together (budget_at p i) (valid.on_budgets i (in_p i l))
-        ∙ units.total;
-    largest = λ h i l m same up down. by h i (in_p h l) (in_p i m)
-        (units.largest h i (in_p h l) (in_p i m) (are.budget h (in_p h l) ∙ same ∙ sym (are.budget i (in_p i m)))
-        (up ∙ ap (λ w. w + 1) (sym (whole h (in_p h l)))) (down ∙ sym (whole i (in_p i m))));
+module _ (g : GroupedCounts) (inside : (i : ℕ) → i < g.places → g.group i < g.groups) where
+  -- what places with a unit share
+  shared : (unit all : ℕ) (units : ℕ → ℕ) → HasApportionedShares g unit all units → IsShared g.places g.group (whole_of g all) (rest_of g all) all units
+  shared unit all units are = record {
+    each = are.each;
+    together = λ i within. are.together (g.group i) (inside i within);
+    largest = are.largest;
   }
-    where
-      units : HasApportionedUnits input unit p
-      units = are.units
-
-      in_p : (i : ℕ) → i < length (all_chosen input) → i < length p.patches
-      in_p i l = omega (arith, l, are.count)
-
-      whole : (i : ℕ) → i < length p.patches
-          → (times_of i * p.total) / times_on input (budget_at p i) ≡ (times_of i * unit) / times_on input (budget_of i)
-      whole i l = λ k. (times_of i * units.total k) / times_on input (are.budget i l k)
-
-      rest : (i : ℕ) → i < length p.patches
-          → (times_of i * p.total) % times_on input (budget_at p i) ≡ (times_of i * unit) % times_on input (budget_of i)
-      rest i l = λ k. (times_of i * units.total k) % times_on input (are.budget i l k)
-
-      by : (h i : ℕ) → h < length p.patches → i < length p.patches
-          → ((times_of i * p.total) % times_on input (budget_at p i) < (times_of h * p.total) % times_on input (budget_at p h))
-          ⊎ (((times_of h * p.total) % times_on input (budget_at p h) ≡ (times_of i * p.total) % times_on input (budget_at p i)) × (h < i))
-          → ((times_of i * unit) % times_on input (budget_of i) < (times_of h * unit) % times_on input (budget_of h))
-          ⊎ (((times_of h * unit) % times_on input (budget_of h) ≡ (times_of i * unit) % times_on input (budget_of i)) × (h < i))
-      by h i l m (inl less) = inl (omega (arith, less, rest h l, rest i m))
-      by h i l m (inr (same, first)) = inr (sym (rest h l) ∙ same ∙ rest i m, first)
 
   above_zero : (t m : ℕ) → t ∣ m → 0 < m → 0 < t
   above_zero zero m divides positive = absurd (omega (arith, eq-zero_of_zero-dvd divides, positive))
   above_zero (suc t) m divides positive = omega arith
 
-  same_total : (asked : Option ℕ) (p q : PatchList) → ArePatchesOf input asked p → ArePatchesOf input asked q → p.total ≡ q.total
-  same_total None p q a b =
-      let first : HasExactUnits input p = a.units in
-      let second : HasExactUnits input q = b.units in
-      omega (arith, first.total.1 q.total second.total.0, second.total.1 p.total first.total.0)
-  same_total (Some unit) p q a b =
-      let first : HasApportionedUnits input unit p = a.units in
-      let second : HasApportionedUnits input unit q = b.units in
+  same_all : (asked : Option ℕ) (all every : ℕ) (units others : ℕ → ℕ) → HasShares g asked all units → HasShares g asked every others → all ≡ every
+  same_all None all every units others a b =
+      let first : HasExactShares g all units = a in
+      let second : HasExactShares g every others = b in
+      omega (arith, first.total.1 every second.total.0, second.total.1 all first.total.0)
+  same_all (Some unit) all every units others a b =
+      let first : HasApportionedShares g unit all units = a in
+      let second : HasApportionedShares g unit every others = b in
       first.total ∙ sym second.total
 
-  -- without a unit
-  exact : (p : PatchList) → ArePatchesOf input None p → (i : ℕ) → i < length p.patches
-      → units_at p i * times_on input (budget_of i) ≡ times_of i * p.total
-  exact p are i l =
-      let units : HasExactUnits input p = are.units in
-      ap (λ j. units_at p i * times_on input j) (sym (are.budget i l)) ∙ units.each i l
+  same_under : (asked : Option ℕ) (all : ℕ) (units others : ℕ → ℕ) → HasShares g asked all units → HasShares g asked all others
+      → (i : ℕ) → i < g.places → units i ≡ others i
+  same_under None all units others a b i within =
+      let first : HasExactShares g all units = a in
+      let second : HasExactShares g all others = b in
+      let positive : 0 < counts_in g (g.group i) = above_zero (counts_in g (g.group i)) all (first.total.0.1 (g.group i) (inside i within)) first.total.0.0 in
+      eq_of_mul-eq-mul_right (counts_in g (g.group i)) positive (units i) (others i) (first.each i within ∙ sym (second.each i within))
+  same_under (Some unit) all units others a b i within =
+      same_shares g.places g.group (whole_of g all) (rest_of g all) all units others (shared unit all units a) (shared unit all others b) i within
 
-  same_units : (asked : Option ℕ) (p q : PatchList) → ArePatchesOf input asked p → IsPatchList p → ArePatchesOf input asked q → IsPatchList q
-      → (i : ℕ) → i < length p.patches → units_at p i ≡ units_at q i
-  same_units None p q a valid b valid_q i l =
-      let units : HasExactUnits input p = a.units in
-      let positive : 0 < times_on input (budget_of i) =
-      above_zero (times_on input (budget_of i)) p.total
-      (units.total.0.1 (budget_of i) (omega (arith, a.budget i l, valid.on_budgets i l, a.budgets))) units.total.0.0 in
-      eq_of_mul-eq-mul_right (times_on input (budget_of i)) positive (units_at p i) (units_at q i)
-      (exact p a i l ∙ ap (λ t. times_of i * t) (same_total None p q a b) ∙ sym (exact q b i (omega (arith, l, a.count, b.count))))
-  same_units (Some unit) p q a valid b valid_q i l =
-      same_shares (length (all_chosen input)) budget_of (λ i. (times_of i * unit) / times_on input (budget_of i))
-      (λ i. (times_of i * unit) % times_on input (budget_of i)) unit (units_at p) (units_at q)
-      (shared unit p a valid) (shared unit q b valid_q) i (omega (arith, l, a.count))
+  same_units : (asked : Option ℕ) (all every : ℕ) (units others : ℕ → ℕ) → HasShares g asked all units → HasShares g asked every others
+      → (i : ℕ) → i < g.places → units i ≡ others i
+  same_units asked all every units others a b i within =
+      same_under asked all units others a (subst (λ n. HasShares g asked n others) (sym (same_all asked all every units others a b)) b) i within
+
+module _ (input : RandomInput) where
+  inside_chosen : (i : ℕ) → i < length (all_chosen input) → (chosen_at (all_chosen input) i).budget < input.budgets
+  inside_chosen i within = chosen_budget input i within
 
   same_patch : (x y : Patch) → x.budget ≡ y.budget → x.signs ≡ y.signs → x.units ≡ y.units → x ≡ y
   same_patch x y budget signs units = λ k. record { budget = budget k; signs = signs k; units = units k }
@@ -149,13 +110,13 @@ module _ (input : RandomInput) where
       ext_get_or no_patch p.patches q.patches (a.count ∙ sym b.count) (λ i l.
       let m : i < length q.patches = omega (arith, l, a.count, b.count) in
       same_patch (patch_at p i) (patch_at q i) (a.budget i l ∙ sym (b.budget i m)) (a.signs i l ∙ sym (b.signs i m))
-      (same_units asked p q a valid b valid_q i l))
+      (same_units (chosen_counts input) inside_chosen asked p.total q.total (units_at p) (units_at q) a.units b.units i (omega (arith, l, a.count))))
 
   -- all of the list
   pub same_list : (asked : Option ℕ) (p q : PatchList) → ArePatchesOf input asked p → IsPatchList p → ArePatchesOf input asked q → IsPatchList q → p ≡ q
   same_list asked p q a valid b valid_q = λ k. record {
     budgets = (a.budgets ∙ sym b.budgets) k;
     patches = same_patches asked p q a valid b valid_q k;
-    total = same_total asked p q a b k;
+    total = same_all (chosen_counts input) inside_chosen asked p.total q.total (units_at p) (units_at q) a.units b.units k;
     asked = (a.asked_is ∙ sym b.asked_is) k;
   }

@@ -13,7 +13,7 @@ use Rattle.rp_patch.specs.Patches.{PatchList, budget_at, patch_at}
 use Rattle.rp_patch.specs.Signs.{signs_of}
 use Rattle.rp_patch.specs.Units.{ArePatchesOf, all_chosen, chosen_as, chosen_at, chosen_below, tally_on}
 use Rattle.rp_patch.specs.declared.chosen.Chosen.{Chosen}
-use Rattle.rp_patch.proofs.TallyEntries.{IsFirstOf, IsTally, signs_at, tallies, times_at}
+use Rattle.rp_patch.proofs.TallyEntries.{IsFirstOf, IsTally, signs_at, tallies}
 
 -- what counts on budget j
 counting : (a j t : ℕ) → ((a == j) && nat_lt 0 t) ≡ true → (a ≡ j) × (0 < t)

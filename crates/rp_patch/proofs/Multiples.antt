@@ -5,9 +5,8 @@ use Rattle.std.specs.Int.{IsGcd}
 use Rattle.std.proofs.Math.Nat.{div-add-mod', dvd-mul_left, dvd_trans, dvd_of_mul-dvd-mul_right, eq-zero_of_zero-dvd, mul-dvd-mul_right, mul-pos, one-dvd}
 use Rattle.std.proofs.lemmas.Nat.Gcd.{le_of_dvd, mod-eq-zero_of_dvd}
 use Rattle.rp_num.proofs.Coprime.{IsCoprime-divided, divides_other_factor}
-use Rattle.rp_patch.specs.Choices.{RandomInput, times_on}
+use Rattle.rp_patch.specs.Apportionment.{GroupedCounts, IsCommonMultiple, IsLeastCommonMultiple, counts_in}
 use Rattle.rp_patch.specs.InnerMultiples.{IsCommon}
-use Rattle.rp_patch.specs.Units.{IsLeastMultiple, IsMultiple}
 
 whole_part : (a g : ℕ) → g ∣ a → a / g * g ≡ a
 whole_part a g divides = let rest : a % g ≡ 0 = mod-eq-zero_of_dvd g divides in omega (arith, div-add-mod' a g, rest)
@@ -44,17 +43,17 @@ common a b g ha hb is =
     }
 
 -- the least common multiple of one more
-pub one_more : (input : RandomInput) (j m next : ℕ) → IsLeastMultiple input j m → ((k : ℕ) → IsMultiple input j k → m ∣ k)
-    → IsCommon m (times_on input j) next
-    → IsLeastMultiple input (j + 1) next × ((k : ℕ) → IsMultiple input (j + 1) k → next ∣ k)
-one_more input j m next is divides both = ((multiple, λ k of. le_of_dvd of.0 (all k of)), all)
+pub one_more : (g : GroupedCounts) (j m next : ℕ) → IsLeastCommonMultiple g j m → ((k : ℕ) → IsCommonMultiple g j k → m ∣ k)
+    → IsCommon m (counts_in g j) next
+    → IsLeastCommonMultiple g (j + 1) next × ((k : ℕ) → IsCommonMultiple g (j + 1) k → next ∣ k)
+one_more g j m next is divides both = ((multiple, λ k of. le_of_dvd of.0 (all k of)), all)
   where
-    all : (k : ℕ) → IsMultiple input (j + 1) k → next ∣ k
+    all : (k : ℕ) → IsCommonMultiple g (j + 1) k → next ∣ k
     all k of = both.least k of.0 (divides k (of.0, λ i below. of.1 i (omega arith))) (of.1 j (omega arith))
 
-    multiple : IsMultiple input (j + 1) next
-    multiple = (both.positive, below_more (λ i. times_on input i ∣ next) j (λ i below. dvd_trans (times_on input i) (is.0.1 i below) both.first) both.second)
+    multiple : IsCommonMultiple g (j + 1) next
+    multiple = (both.positive, below_more (λ i. counts_in g i ∣ next) j (λ i below. dvd_trans (counts_in g i) (is.0.1 i below) both.first) both.second)
 
 -- of no numbers it is 1
-pub none_yet : (input : RandomInput) → IsLeastMultiple input 0 1 × ((k : ℕ) → IsMultiple input 0 k → 1 ∣ k)
-none_yet input = (((omega arith, λ j below. absurd (omega (arith, below))), λ k of. omega (arith, of.0)), λ k of. one-dvd k)
+pub none_yet : (g : GroupedCounts) → IsLeastCommonMultiple g 0 1 × ((k : ℕ) → IsCommonMultiple g 0 k → 1 ∣ k)
+none_yet g = (((omega arith, λ j below. absurd (omega (arith, below))), λ k of. omega (arith, of.0)), λ k of. one-dvd k)

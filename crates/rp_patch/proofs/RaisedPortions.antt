@@ -3,7 +3,7 @@ use Rattle.std.proofs.Common.{◌≡◌, ◌≢◌, ℕ, zero, suc, ◌+◌, ◌
 use Rattle.std.proofs.lemmas.Bool.{cases_eq, eq-eqb, ne_eqb, false≢true}
 use Rattle.rp_table.specs.Sums.{sum_below}
 use Rattle.rp_table.proofs.SumsBelow.{sum_below-same}
-use Rattle.rp_patch.specs.InnerApportioned.{AreSamePortions, IsAhead, IsLeft, IsRaisedBy, RaisesFirst, portion_at, portions_on, raised_on}
+use Rattle.rp_patch.specs.InnerPortions.{AreSamePortions, IsAhead, IsLeft, IsRaisedBy, RaisesFirst, portion_at, portions_on, raised_on}
 use Rattle.rp_patch.specs.declared.portion.Portion.{Portion}
 
 -- one term is one more
@@ -20,7 +20,7 @@ sum_one_more f g (suc n) b within more same = elim (cases_eq n b) [
 -- one portion is raised: the others stay
 pub record RaisesOne (now new : List Portion) (best : ℕ) : Type 0 where
   pub count : length new ≡ length now
-  pub budget : (portion_at new best).budget ≡ (portion_at now best).budget
+  pub group : (portion_at new best).group ≡ (portion_at now best).group
   pub whole : (portion_at new best).whole ≡ (portion_at now best).whole
   pub rest : (portion_at new best).rest ≡ (portion_at now best).rest
   pub raised : (portion_at new best).raised ≡ true
@@ -36,7 +36,7 @@ module _ (now new : List Portion) (best : ℕ) (one : RaisesOne now new best) wh
   pub same_portions : AreSamePortions now new
   same_portions = record {
     count = one.count;
-    budget = same_by (λ portion. portion.budget) one.budget;
+    group = same_by (λ portion. portion.group) one.group;
     whole = same_by (λ portion. portion.whole) one.whole;
     rest = same_by (λ portion. portion.rest) one.rest;
   }
@@ -47,37 +47,37 @@ module _ (now new : List Portion) (best : ℕ) (one : RaisesOne now new best) wh
 
   pub more_raised : (j : ℕ) → best < length now → IsLeft now j best → raised_on new j ≡ raised_on now j + 1
   more_raised j within left =
-      let budget : (portion_at new best).budget ≡ j = one.budget ∙ left.0 in
-      let there : ◌≡◌ {A = ℕ} (if (portion_at new best).budget == j then (if (portion_at new best).raised then 1 else 0) else 0) 1 =
-      ap (λ b. if b then (if (portion_at new best).raised then 1 else 0) else 0) (eq-eqb _ j budget) ∙ ap (λ b. if b then 1 else 0) one.raised in
-      let before : ◌≡◌ {A = ℕ} (if (portion_at now best).budget == j then (if (portion_at now best).raised then 1 else 0) else 0) 0 =
+      let group : (portion_at new best).group ≡ j = one.group ∙ left.0 in
+      let there : ◌≡◌ {A = ℕ} (if (portion_at new best).group == j then (if (portion_at new best).raised then 1 else 0) else 0) 1 =
+      ap (λ b. if b then (if (portion_at new best).raised then 1 else 0) else 0) (eq-eqb _ j group) ∙ ap (λ b. if b then 1 else 0) one.raised in
+      let before : ◌≡◌ {A = ℕ} (if (portion_at now best).group == j then (if (portion_at now best).raised then 1 else 0) else 0) 0 =
       ap (λ b. if b then (if (portion_at now best).raised then 1 else 0) else 0) (eq-eqb _ j left.0) ∙ ap (λ b. if b then 1 else 0) left.1 in
-      ap (λ n. sum_below n (λ i. if (portion_at new i).budget == j then (if (portion_at new i).raised then 1 else 0) else 0)) one.count
-      ∙ sum_one_more (λ i. if (portion_at now i).budget == j then (if (portion_at now i).raised then 1 else 0) else 0)
-      (λ i. if (portion_at new i).budget == j then (if (portion_at new i).raised then 1 else 0) else 0) (length now) best within (omega (arith, there, before))
-      (λ i d. ap (λ (p : Portion). if p.budget == j then (if p.raised then 1 else 0) else 0) (one.others i d))
+      ap (λ n. sum_below n (λ i. if (portion_at new i).group == j then (if (portion_at new i).raised then 1 else 0) else 0)) one.count
+      ∙ sum_one_more (λ i. if (portion_at now i).group == j then (if (portion_at now i).raised then 1 else 0) else 0)
+      (λ i. if (portion_at new i).group == j then (if (portion_at new i).raised then 1 else 0) else 0) (length now) best within (omega (arith, there, before))
+      (λ i d. ap (λ (p : Portion). if p.group == j then (if p.raised then 1 else 0) else 0) (one.others i d))
 
   pub raises_first : (j : ℕ) → RaisesFirst now → best < length now → IsLeft now j best
       → ((i : ℕ) → i < length now → IsLeft now j i → i ≢ best → IsAhead now best i) → RaisesFirst new
   raises_first j first within left ahead = λ h i h_in i_in same up down. by h i h_in i_in same up down (cases_eq h best)
     where
-      by : (h i : ℕ) → h < length new → i < length new → (portion_at new h).budget ≡ (portion_at new i).budget
+      by : (h i : ℕ) → h < length new → i < length new → (portion_at new h).group ≡ (portion_at new i).group
           → (portion_at new h).raised ≡ true → (portion_at new i).raised ≡ false → (h ≡ best) ⊎ (¬ (h ≡ best)) → IsAhead new h i
       by h i h_in i_in same up down (inl e) =
           let apart : i ≢ best = λ is. false≢true (sym down ∙ ap (λ k. (portion_at new k).raised) is ∙ one.raised) in
-          let on : (portion_at now i).budget ≡ j = sym (same_portions.budget i) ∙ sym same ∙ ap (λ k. (portion_at new k).budget) e ∙ one.budget ∙ left.0 in
+          let on : (portion_at now i).group ≡ j = sym (same_portions.group i) ∙ sym same ∙ ap (λ k. (portion_at new k).group) e ∙ one.group ∙ left.0 in
           let not_up : (portion_at now i).raised ≡ false = sym (ap (λ (p : Portion). p.raised) (one.others i apart)) ∙ down in
           subst (λ k. IsAhead new k i) (sym e) (still_ahead best i (ahead i (omega (arith, i_in, one.count)) (on, not_up) apart))
       by h i h_in i_in same up down (inr d) =
           let apart : i ≢ best = λ is. false≢true (sym down ∙ ap (λ k. (portion_at new k).raised) is ∙ one.raised) in
           still_ahead h i (first h i (omega (arith, h_in, one.count)) (omega (arith, i_in, one.count))
-          (sym (same_portions.budget h) ∙ same ∙ same_portions.budget i)
+          (sym (same_portions.group h) ∙ same ∙ same_portions.group i)
           (sym (ap (λ (p : Portion). p.raised) (one.others h d)) ∙ up) (sym (ap (λ (p : Portion). p.raised) (one.others i apart)) ∙ down))
 
 pub then_same : (old now new : List Portion) → AreSamePortions old now → AreSamePortions now new → AreSamePortions old new
 then_same old now new first second = record {
   count = second.count ∙ first.count;
-  budget = λ i. second.budget i ∙ first.budget i;
+  group = λ i. second.group i ∙ first.group i;
   whole = λ i. second.whole i ∙ first.whole i;
   rest = λ i. second.rest i ∙ first.rest i;
 }
@@ -88,28 +88,28 @@ one_more_raised old now new j k best so_far one within left ahead = record {
   same = then_same old now new so_far.same (same_portions now new best one);
   first = raises_first now new best one j so_far.first within left ahead;
   many_raised = more_raised now new best one j within left ∙ ap (λ n. n + 1) so_far.many_raised;
-  others = λ i apart. ap (λ (p : Portion). p.raised) (one.others i (λ is. apart (sym (so_far.same.budget i) ∙ ap (λ b. (portion_at now b).budget) is ∙ left.0))) ∙ so_far.others i apart;
+  others = λ i apart. ap (λ (p : Portion). p.raised) (one.others i (λ is. apart (sym (so_far.same.group i) ∙ ap (λ b. (portion_at now b).group) is ∙ left.0))) ∙ so_far.others i apart;
 }
 
 -- where none is left, all are raised
 pub all_raised : (now : List Portion) (j : ℕ) → ((i : ℕ) → i < length now → ¬ IsLeft now j i) → raised_on now j ≡ portions_on now j
-all_raised now j none = sum_below-same _ _ (length now) (λ i within. by (portion_at now i) (none i within) (cases_eq (portion_at now i).budget j))
+all_raised now j none = sum_below-same _ _ (length now) (λ i within. by (portion_at now i) (none i within) (cases_eq (portion_at now i).group j))
   where
     up : (b : Bool) → (¬ (b ≡ false)) → ◌≡◌ {A = ℕ} (if b then 1 else 0) 1
     up true n = refl
     up false n = absurd (n refl)
 
-    by : (p : Portion) → (¬ ((p.budget ≡ j) × (p.raised ≡ false))) → (p.budget ≡ j) ⊎ (¬ (p.budget ≡ j))
-        → ◌≡◌ {A = ℕ} (if p.budget == j then (if p.raised then 1 else 0) else 0) (if p.budget == j then 1 else 0)
-    by p none (inl e) = let on = eq-eqb p.budget j e in
+    by : (p : Portion) → (¬ ((p.group ≡ j) × (p.raised ≡ false))) → (p.group ≡ j) ⊎ (¬ (p.group ≡ j))
+        → ◌≡◌ {A = ℕ} (if p.group == j then (if p.raised then 1 else 0) else 0) (if p.group == j then 1 else 0)
+    by p none (inl e) = let on = eq-eqb p.group j e in
         ap (λ b. if b then (if p.raised then 1 else 0) else 0) on ∙ up p.raised (λ f. none (e, f)) ∙ ap (λ b. if b then 1 else 0) (sym on)
-    by p none (inr d) = let off = ne_eqb p.budget j d in
+    by p none (inr d) = let off = ne_eqb p.group j d in
         ap (λ b. if b then (if p.raised then 1 else 0) else 0) off ∙ ap (λ b. if b then 1 else 0) (sym off)
 
 pub same_count : (old now : List Portion) (j : ℕ) → AreSamePortions old now → portions_on now j ≡ portions_on old j
 same_count old now j same =
-    ap (λ n. sum_below n (λ i. if (portion_at now i).budget == j then 1 else 0)) same.count
-    ∙ sum_below-same _ _ (length old) (λ i within. ap (λ k. if k == j then 1 else 0) (same.budget i))
+    ap (λ n. sum_below n (λ i. if (portion_at now i).group == j then 1 else 0)) same.count
+    ∙ sum_below-same _ _ (length old) (λ i within. ap (λ k. if k == j then 1 else 0) (same.group i))
 
 -- so one is left while too few are raised
 pub some_left : (old now : List Portion) (j k many : ℕ) → IsRaisedBy old now j k → k < many → many ≤ portions_on old j → ¬ ((i : ℕ) → i < length now → ¬ IsLeft now j i)
@@ -118,12 +118,12 @@ some_left old now j k many so_far less enough none =
 
 -- one portion of the list is written anew
 pub by_set : (now : List Portion) (best : ℕ) (p : Portion) → best < length now
-    → p.budget ≡ (portion_at now best).budget → p.whole ≡ (portion_at now best).whole → p.rest ≡ (portion_at now best).rest → p.raised ≡ true
+    → p.group ≡ (portion_at now best).group → p.whole ≡ (portion_at now best).whole → p.rest ≡ (portion_at now best).rest → p.raised ≡ true
     → RaisesOne now (set now best p) best
-by_set now best p within budget whole rest raised =
+by_set now best p within group whole rest raised =
     let there : portion_at (set now best p) best ≡ p = get_or-set_same now best p _ within in record {
       count = length-set now best p;
-      budget = ap (λ (q : Portion). q.budget) there ∙ budget;
+      group = ap (λ (q : Portion). q.group) there ∙ group;
       whole = ap (λ (q : Portion). q.whole) there ∙ whole;
       rest = ap (λ (q : Portion). q.rest) there ∙ rest;
       raised = ap (λ (q : Portion). q.raised) there ∙ raised;

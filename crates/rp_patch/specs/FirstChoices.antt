@@ -40,4 +40,4 @@ pub record AreNumberedByFirstChoice (input : RandomInput) (p : PatchList) : Type
 abbrev pub times_in : RandomInput → PatchList → ℕ → ℕ
 times_in input p i = sum_below input.choices (λ c.
     if (input.budget c == budget_at p i) && pointwise int_eq (signs_of input c) (patch_at p i).signs
-      then input.times c else 0)
+    then input.times c else 0)

@@ -20,7 +20,7 @@ AtMost most entries = All (λ entry. entry.1 ≤ most) entries
 abbrev pub tally_of : List (List ℤ) → ChoiceList → ℕ → ℕ → List (List ℤ × ℕ)
 tally_of signs choices j n =
     tally_by (λ i. slice_index_or signs i [])
-      (λ i. (slice_index choices.budget i == j) && nat_lt 0 (slice_index choices.times i))
+    (λ i. (slice_index choices.budget i == j) && nat_lt 0 (slice_index choices.times i))
     (slice_index choices.times) n
 
 -- What a fault says of the number of patches. Want of memory says nothing, and no other fault comes.

@@ -1,5 +1,6 @@
 pub mod Added
-pub mod InnerApportioned
+pub mod Apportionment
+pub mod InnerPortions
 pub mod Choices
 pub mod Clauses
 pub mod FirstChoices
@@ -13,5 +14,6 @@ pub mod RandomFailure
 pub mod Sets
 pub mod Signs
 pub mod InnerTallies
+pub mod InnerUnited
 pub mod Types
 pub mod Units

@@ -23,7 +23,7 @@ sign_of Greater = pos 1
 abbrev pub sign_to : RandomInput → ℕ → ℕ → ℤ
 sign_to input i k =
     sign_of (nat_cmp (input.income (input.budget i) * cost_on input k i)
-      (input.income k * cost_on input (input.budget i) i))
+    (input.income k * cost_on input (input.budget i) i))
 
 -- The signs of choice i to all budgets, in order.
 abbrev pub signs_of : RandomInput → ℕ → List ℤ

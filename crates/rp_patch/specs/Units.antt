@@ -1,16 +1,16 @@
--- Which patches were chosen, how many times, and the units that stand for it (patches after Kitamura and Stoye 2018;
--- the apportionment by largest remainders is Hamilton's).
-use Rattle.std.specs.Prelude.{◌≡◌, ◌⊎◌, ◌<◌, ◌≤◌, ◌+◌, ◌*◌, ◌/◌, ◌%◌, ◌==◌, ◌&&◌, ℕ, zero, suc, Bool, ℤ, List, []}
-use Rattle.std.specs.Prelude.{◌∷◌, ◌++◌, map, length, slice_index_or, Option, Some, None, if◌then◌else◌, nat_lt}
-use Prim.Native.Nat.{◌∣◌}
+-- Which patches were chosen, how many times, and the units that stand for it (patches after Kitamura and Stoye 2018).
+use Rattle.std.specs.Prelude.{◌≡◌, ◌<◌, ◌≤◌, ◌+◌, ◌==◌, ◌&&◌, ℕ, zero, suc, Bool, ℤ, List, [], ◌∷◌, ◌++◌, map, length}
+use Rattle.std.specs.Prelude.{slice_index_or, Option, None, if◌then◌else◌, nat_lt}
 use Rattle.std.specs.Cmp.Lexicographic.{pointwise}
 use Rattle.std.specs.Ordering.{int_eq}
-use Rattle.rp_patch.specs.declared.TheConstants.{PATCHES, UNITS}
+use Rattle.rp_patch.specs.declared.TheConstants.{PATCHES}
 use Rattle.rp_patch.specs.declared.fault.PatchFault.{PatchFault}
 use Rattle.rp_patch.specs.declared.fault.PatchFault.TheVariants.{TooManyPatches, NeedUnit, NoMemory}
 use Rattle.rp_patch.specs.declared.chosen.Chosen.{Chosen}
-use Rattle.rp_patch.specs.Choices.{RandomInput, times_on}
-use Rattle.rp_patch.specs.Patches.{PatchList, budget_at, patch_at, units_at, units_on}
+use Rattle.rp_patch.specs.Apportionment.{GroupedCounts, HasExactShares, HasShares, IsCommonMultiple}
+use Rattle.rp_patch.specs.Apportionment.{IsLeastCommonMultiple, PassesTotalAt}
+use Rattle.rp_patch.specs.Choices.{RandomInput}
+use Rattle.rp_patch.specs.Patches.{PatchList, budget_at, patch_at, units_at}
 use Rattle.rp_patch.specs.Signs.{signs_of}
 
 -- So many more choices with these signs: they join the first entry that has the signs, or are a new last entry.
@@ -48,47 +48,27 @@ all_chosen input = chosen_below input input.budgets
 abbrev pub chosen_at : List Chosen → ℕ → Chosen
 chosen_at chosen i = slice_index_or chosen i (record { budget = 0; signs = []; times = 0 })
 
--- m is a common multiple of the numbers of choices on the first budgets.
+-- What was chosen, as counts in groups: the places are the patches and the groups the budgets.
+abbrev pub chosen_counts : RandomInput → GroupedCounts
+chosen_counts input = record {
+  groups = input.budgets;
+  places = length (all_chosen input);
+  group = λ i. (chosen_at (all_chosen input) i).budget;
+  count = λ i. (chosen_at (all_chosen input) i).times;
+}
+
+-- Multiples of what was chosen on the first budgets, and units of patches: those of these counts.
 abbrev pub IsMultiple : RandomInput → ℕ → ℕ → Type 0
-IsMultiple input budgets m = (0 < m) × ((j : ℕ) → j < budgets → times_on input j ∣ m)
+IsMultiple input budgets m = IsCommonMultiple (chosen_counts input) budgets m
 
--- m is the least of them.
 abbrev pub IsLeastMultiple : RandomInput → ℕ → ℕ → Type 0
-IsLeastMultiple input budgets m = IsMultiple input budgets m × ((k : ℕ) → IsMultiple input budgets k → m ≤ k)
+IsLeastMultiple input budgets m = IsLeastCommonMultiple (chosen_counts input) budgets m
 
--- Without a unit: the total is the least common multiple of the numbers of choices, and each patch has its share of it.
-pub record HasExactUnits (input : RandomInput) (p : PatchList) : Type 0 where
-  pub total : IsLeastMultiple input input.budgets p.total
-  pub each : (i : ℕ) → i < length p.patches
-      → units_at p i * times_on input (budget_at p i) ≡ (chosen_at (all_chosen input) i).times * p.total
-
--- The whole part of the share of patch i in the total, and what is left of it.
-abbrev pub whole_of : RandomInput → PatchList → ℕ → ℕ
-whole_of input p i = ((chosen_at (all_chosen input) i).times * p.total) / times_on input (budget_at p i)
-
-abbrev pub rest_of : RandomInput → PatchList → ℕ → ℕ
-rest_of input p i = ((chosen_at (all_chosen input) i).times * p.total) % times_on input (budget_at p i)
-
--- Patch h has a greater rest than patch i, or the same and an earlier number.
-abbrev pub ComesBefore : RandomInput → PatchList → ℕ → ℕ → Type 0
-ComesBefore input p h i = (rest_of input p i < rest_of input p h) ⊎ ((rest_of input p h ≡ rest_of input p i) × (h < i))
-
--- The units of patch i are the whole part of its share, or one more.
-abbrev pub IsRaised : RandomInput → PatchList → ℕ → Type 0
-IsRaised input p i = units_at p i ≡ whole_of input p i + 1
-
--- With a unit: the total is the unit; each patch has the whole part of its share, or one more, such that the patches of
--- each budget have the total together; one more have those with the largest rests, of equal ones the earlier.
-pub record HasApportionedUnits (input : RandomInput) (unit : ℕ) (p : PatchList) : Type 0 where
-  pub total : p.total ≡ unit
-  pub each : (i : ℕ) → i < length p.patches → (units_at p i ≡ whole_of input p i) ⊎ IsRaised input p i
-  pub together : (j : ℕ) → j < p.budgets → units_on p j ≡ p.total
-  pub largest : (h i : ℕ) → h < length p.patches → i < length p.patches → budget_at p h ≡ budget_at p i
-      → IsRaised input p h → units_at p i ≡ whole_of input p i → ComesBefore input p h i
+abbrev pub HasExactUnits : RandomInput → PatchList → Type 0
+HasExactUnits input p = HasExactShares (chosen_counts input) p.total (units_at p)
 
 abbrev pub HasUnits : RandomInput → Option ℕ → PatchList → Type 0
-HasUnits input None p = HasExactUnits input p
-HasUnits input (Some unit) p = HasApportionedUnits input unit p
+HasUnits input asked p = HasShares (chosen_counts input) asked p.total (units_at p)
 
 -- These are the patches that were chosen, with the units that stand for the choices.
 pub record ArePatchesOf (input : RandomInput) (asked : Option ℕ) (p : PatchList) : Type 0 where
@@ -106,9 +86,7 @@ PassesPatchesAt input j =
 
 -- The least common multiple of the numbers of choices passes its limit first at budget j.
 abbrev pub PassesUnitsAt : RandomInput → ℕ → Type 0
-PassesUnitsAt input j =
-    (j < input.budgets) × ((m : ℕ) × IsLeastMultiple input j m × (m ≤ UNITS))
-    × ((m : ℕ) × IsLeastMultiple input (j + 1) m × (UNITS < m))
+PassesUnitsAt input j = PassesTotalAt (chosen_counts input) j
 
 -- What each fault says. Want of memory says nothing.
 abbrev pub SaysWhy : RandomInput → Option ℕ → PatchFault → Type 0

@@ -2,6 +2,7 @@
 //! them.
 #![tactic(auto)]
 
+pub mod apportionment;
 mod chosen;
 mod failure;
 mod fault;
@@ -16,8 +17,9 @@ mod signs;
 mod tally;
 mod totals;
 
+pub use apportionment::apportion;
 pub use failure::{capped, fails};
-pub use fault::PatchFault;
+pub use fault::{ApportionFault, PatchFault};
 pub use laws::{
     patches_are_determined, patches_are_numbered_by_first_choice,
     patches_without_units_change_nothing,
@@ -27,5 +29,7 @@ pub use listed::Patches;
 
 /// The most patches of all budgets together.
 pub const PATCHES: u32 = 48;
-/// The most units on a budget, and so the largest total.
+/// The most places that units are shared out among: at least as many as there are patches.
+pub const PLACES: u32 = 64;
+/// The most units of a budget, or of another group, and so the largest total.
 pub const UNITS: u32 = 1_000_000_000;

@@ -1,16 +1,17 @@
 //! The patches that choices fall in, with their units.
-ghost use Rattle.std.specs.Prelude.{◌≡◌, ◌<◌, ◌≤◌, ℕ, IfErr, IfOk, IfSome, length};
-ghost use Rattle.rp_patch.specs.InnerApportioned.{AreUnited, IsTotal, SaysWhyTotal};
-ghost use Rattle.rp_patch.specs.InnerApportioned.{portion_at, units_of};
+ghost use Rattle.std.specs.Prelude.{◌≡◌, ◌≤◌, IfErr, IfOk, IfSome, length, slice_index};
+ghost use Rattle.rp_patch.specs.Apportionment.{AreFilled, AreGrouped, HasShares};
 ghost use Rattle.rp_patch.specs.Choices.{AreChoicesFrom, input_of};
+ghost use Rattle.rp_patch.specs.InnerUnited.{AreUnited, SaysWhyNotShared, budgets_of as budgets_of_all};
+ghost use Rattle.rp_patch.specs.InnerUnited.{counts_of, times_of as times_of_all};
 ghost use Rattle.rp_patch.specs.Patches.{IsPatchList};
 ghost use Rattle.rp_patch.specs.Units.{ArePatchesOf, SaysWhy};
+ghost use Rattle.rp_patch.specs.declared.TheConstants.{UNITS};
 
+use crate::apportionment::{Units, apportion};
 use crate::chosen::{Chosen, all_chosen};
 use crate::listed::Patch;
-use crate::portion::{Portion, portions_of, raise_all};
-use crate::totals::common_total;
-use crate::{PatchFault, UNITS};
+use crate::{ApportionFault, PatchFault};
 use rp_num::{NoMemory, Seq};
 use rp_table::{Budgets, Choices};
 use std::alloc::Global;
@@ -29,50 +30,65 @@ pub fn patches(
     ensures valid { IfOk result IsPatchList }
     ensures refused { IfErr result (SaysWhy (input_of budgets.now choices.now) unit) }
 {
+    prove!(choices.count() > 0);
     let chosen = all_chosen(alloc, budgets, choices)?;
-    let total = total_of(budgets, choices, unit)?;
-    let mut portions = portions_of(alloc, budgets, choices, chosen.as_slice(), total)?;
-    raise_all(&mut portions, budgets.count(), total);
-    let united = united(alloc, chosen.as_slice(), portions.as_slice())?;
-    Ok(crate::listed::Patches::make(budgets.count(), united, total, unit))
+    let shared = shared_out(alloc, chosen.as_slice(), unit)?;
+    let united = united(alloc, chosen.as_slice(), shared.units.as_slice())?;
+    Ok(crate::listed::Patches::make(budgets.count(), united, shared.total, unit))
 }
 
-/// The units of each budget.
-fn total_of(budgets: &Budgets, choices: &Choices, unit: Option<u32>) -> Result<u64, PatchFault>
-    requires from { AreChoicesFrom budgets.now choices.now }
-    requires unit { IfSome unit (λ n. (1 ≤ n) × (n ≤ UNITS)) }
-    ensures exact { IfOk result (IsTotal (input_of budgets.now choices.now) unit) }
-    ensures within { IfOk result (λ total. (1 ≤ total) × (total ≤ UNITS)) }
-    ensures refused { IfErr result (SaysWhyTotal (input_of budgets.now choices.now) unit) }
+/// The budgets of what was chosen.
+fn budgets_of(alloc: Global, chosen: &[Chosen]) -> Result<Vec<u32>, NoMemory>
+    ensures { IfOk result (λ budgets. budgets.items ≡ budgets_of_all chosen.now) }
 {
-    match unit {
-        Some(unit) => Ok(u64::from(unit)),
-        None => match common_total(budgets, choices) {
-            Ok(total) => Ok(total),
-            Err(budget) => Err(PatchFault::NeedUnit { budget }),
-        },
+    let mut budgets = Vec::new(alloc);
+    for one in chosen {
+        budgets.push(one.budget)?;
+    }
+    Ok(budgets)
+}
+
+/// How many times each was chosen.
+fn times_of(alloc: Global, chosen: &[Chosen]) -> Result<Vec<u64>, NoMemory>
+    ensures { IfOk result (λ times. times.items ≡ times_of_all chosen.now) }
+{
+    let mut times = Vec::new(alloc);
+    for one in chosen {
+        times.push(one.times)?;
+    }
+    Ok(times)
+}
+
+/// The units of what was chosen.
+fn shared_out(alloc: Global, chosen: &[Chosen], unit: Option<u32>) -> Result<Units, PatchFault>
+    requires grouped { AreGrouped (budgets_of_all chosen.now) (times_of_all chosen.now) }
+    requires unit { IfSome unit (λ n. (1 ≤ n) × (n ≤ UNITS)) }
+    ensures exact { IfOk result (λ made. HasShares (counts_of chosen.now) unit made.total
+        (slice_index made.units)) }
+    ensures each { IfOk result (λ made. length made.units ≡ length chosen.now) }
+    ensures within { IfOk result (λ made. (1 ≤ made.total) × (made.total ≤ UNITS)) }
+    ensures filled { IfOk result (λ made. AreFilled (counts_of chosen.now) made.total
+        (slice_index made.units)) }
+    ensures refused { IfErr result (SaysWhyNotShared (counts_of chosen.now) unit) }
+{
+    let budgets = budgets_of(alloc, chosen)?;
+    let times = times_of(alloc, chosen)?;
+    match apportion(alloc, budgets.as_slice(), times.as_slice(), unit) {
+        Ok(units) => Ok(units),
+        Err(ApportionFault::NeedUnit { group }) => Err(PatchFault::NeedUnit { budget: group }),
+        Err(ApportionFault::NoMemory) => Err(PatchFault::NoMemory),
     }
 }
 
-/// The units of a portion.
-fn units(portion: &Portion) -> u64
-    requires { portion.now.whole ≤ UNITS }
-    ensures { result ≡ units_of portion.now }
-{
-    portion.whole + u64::from(portion.raised)
-}
-
-/// What was chosen, as patches with the units of their portions.
-fn united(alloc: Global, chosen: &[Chosen], portions: &[Portion]) -> Result<Vec<Patch>, NoMemory>
-    requires each { length portions.now ≡ length chosen.now }
-    requires small { (i : ℕ) → i < length portions.now
-        → (portion_at portions.now i).whole ≤ UNITS }
-    ensures { IfOk result (λ patches. AreUnited chosen.now portions.now (length chosen.now)
+/// What was chosen, as patches with their units.
+fn united(alloc: Global, chosen: &[Chosen], units: &[u64]) -> Result<Vec<Patch>, NoMemory>
+    requires { length units.now ≡ length chosen.now }
+    ensures { IfOk result (λ patches. AreUnited chosen.now units.now (length chosen.now)
         patches.items) }
 {
     let mut patches = Vec::new(alloc);
     for i in 0..chosen.len() {
-        patches.push(patch(alloc, &chosen[i], units(&portions[i]))?)?;
+        patches.push(patch(alloc, &chosen[i], units[i])?)?;
     }
     Ok(patches)
 }

@@ -1,65 +1,59 @@
-//! How the units of a total are shared out among the patches of each budget.
-ghost use Rattle.std.specs.Prelude.{◌≡◌, ◌<◌, ◌≤◌, ◌↔◌, ℕ, true, All, IfOk, IfSome, IsTrue, length};
+//! How the units of a total are shared out among the places of each group.
+ghost use Rattle.std.specs.Prelude.{◌≡◌, ◌<◌, ◌≤◌, ◌↔◌, ◌^◌, ℕ, true, All, IfOk, IfSome, IsTrue, length};
 ghost use Rattle.std.specs.Prelude.{MatchOption, nat_lt};
-ghost use Rattle.rp_patch.specs.InnerApportioned.{AreRaisedBelow, AreWhole, IsLeft, IsNextUp};
-ghost use Rattle.rp_patch.specs.InnerApportioned.{IsRaisedBy, IsShared, RaisesFirst};
-ghost use Rattle.rp_patch.specs.InnerApportioned.{portion_at, portion_of as portion_of_chosen};
-ghost use Rattle.rp_patch.specs.InnerApportioned.{portions_on, raised_on};
-ghost use Rattle.rp_patch.specs.InnerApportioned.{whole_on as whole_of_budget};
-ghost use Rattle.rp_patch.specs.Choices.{AreChoicesFrom, input_of};
-ghost use Rattle.rp_patch.specs.Units.{all_chosen};
+ghost use Rattle.rp_patch.specs.Apportionment.{AreGrouped, grouped};
+ghost use Rattle.rp_patch.specs.InnerPortions.{ArePortions, AreRaisedBelow, AreUnitsOf, AreWhole};
+ghost use Rattle.rp_patch.specs.InnerPortions.{IsLeft, IsNextUp, IsRaisedBy, RaisesFirst};
+ghost use Rattle.rp_patch.specs.InnerPortions.{portion_at, portion_of as portion_of_place, portions_on};
+ghost use Rattle.rp_patch.specs.InnerPortions.{raised_on, units_of, whole_on as whole_of_group};
 
-use crate::chosen::Chosen;
-use crate::totals::times_on;
-use crate::{PATCHES, UNITS};
+use crate::totals::sum_of;
+use crate::{PLACES, UNITS};
 use rp_num::NoMemory;
-use rp_table::{Budgets, Choices};
 use std::alloc::Global;
 
-/// What a patch has of its budget's units: the whole part of its share, and one more where it is raised. The rest is
-/// what is left of the share, in parts of a unit of which there are as many as choices on the budget.
+/// What a place has of its group's units: the whole part of its share, and one more where it is raised. The rest is
+/// what is left of the share, in parts of a unit of which there are as many as the counts of the group together.
 #[derive(Debug, Drop)]
 pub struct Portion {
-    pub budget: u32,
+    pub group: u32,
     pub whole: u64,
     pub rest: u64,
     pub raised: bool,
 }
 
-/// The portion of one patch of a budget with so many choices.
-fn portion_of(one: &Chosen, all: u64, total: u64) -> Portion
+/// The portion of a place of a group, with a count of all in the group.
+fn portion_of(group: u32, count: u64, all: u64, total: u64) -> Portion
     requires some { 0 < all }
-    requires within { one.now.times ≤ all }
+    requires within { count ≤ all }
     requires few { total ≤ UNITS }
-    ensures { result ≡ portion_of_chosen one.now all total }
+    ensures { result ≡ portion_of_place group count all total }
 {
-    let share = u128::from(one.times) * u128::from(total);
+    let share = u128::from(count) * u128::from(total);
     Portion {
-        budget: one.budget,
+        group,
         whole: (share / u128::from(all)) as u64,
         rest: (share % u128::from(all)) as u64,
         raised: false,
     }
 }
 
-/// The portions of all that were chosen, none raised yet.
+/// The portions of all places, none raised yet.
 pub fn portions_of(
     alloc: Global,
-    budgets: &Budgets,
-    choices: &Choices,
-    chosen: &[Chosen],
+    groups: &[u32],
+    counts: &[u64],
     total: u64,
 ) -> Result<Vec<Portion>, NoMemory>
-    requires from { AreChoicesFrom budgets.now choices.now }
-    requires all { chosen.now ≡ all_chosen (input_of budgets.now choices.now) }
+    requires grouped { AreGrouped groups.now counts.now }
     requires few { total ≤ UNITS }
-    ensures { IfOk result (λ portions. IsShared (input_of budgets.now choices.now) chosen.now total
-        (length chosen.now) portions.items) }
+    ensures { IfOk result (λ portions. ArePortions (grouped groups.now counts.now) total
+        (length groups.now) portions.items) }
 {
     let mut portions = Vec::new(alloc);
-    for one in chosen {
-        let all = times_on(budgets, choices, one.budget);
-        portions.push(portion_of(one, all, total))?;
+    for i in 0..groups.len() {
+        let all = sum_of(groups, counts, groups[i]);
+        portions.push(portion_of(groups[i], counts[i], all, total))?;
     }
     Ok(portions)
 }
@@ -77,15 +71,15 @@ fn is_better(portions: &[Portion], i: usize, best: Option<usize>) -> bool
     }
 }
 
-/// Whether portion `i` is of budget `j` and not raised.
+/// Whether portion `i` is of group `j` and not raised.
 fn is_left(portions: &[Portion], i: usize, j: u32) -> bool
     requires { i < length portions.now }
     ensures { IsTrue result ↔ IsLeft portions.now j i }
 {
-    portions[i].budget == j && !portions[i].raised
+    portions[i].group == j && !portions[i].raised
 }
 
-/// The portion of budget `j` with the largest rest of those that are not raised, the first of equal ones.
+/// The portion of group `j` with the largest rest of those that are not raised, the first of equal ones.
 fn next_up(portions: &[Portion], j: u32) -> Option<usize>
     ensures { IsNextUp portions.now j (length portions.now) result }
 {
@@ -98,7 +92,7 @@ fn next_up(portions: &[Portion], j: u32) -> Option<usize>
     best
 }
 
-/// Raises so many portions of budget `j`.
+/// Raises so many portions of group `j`.
 fn raise(portions: &mut Vec<Portion>, j: u32, many: u64)
     requires first { RaisesFirst portions.old.items }
     requires none_yet { raised_on portions.old.items j ≡ 0 }
@@ -112,28 +106,48 @@ fn raise(portions: &mut Vec<Portion>, j: u32, many: u64)
     }
 }
 
-/// The whole parts of budget `j` together.
+/// The whole parts of group `j` together.
 fn whole_on(portions: &[Portion], j: u32) -> u64
-    requires few { length portions.now ≤ PATCHES }
+    requires few { length portions.now ≤ PLACES }
     requires small { All (λ portion. portion.whole ≤ UNITS) portions.now }
-    ensures { result ≡ whole_of_budget portions.now j }
+    ensures { result ≡ whole_of_group portions.now j }
 {
     let mut whole = 0;
     for portion in portions {
-        if portion.budget == j {
+        if portion.group == j {
             whole += portion.whole;
         }
     }
     whole
 }
 
-/// Raises portions of each budget until all of the total is given.
-pub fn raise_all(portions: &mut Vec<Portion>, budgets: u32, total: u64)
-    requires { AreWhole portions.old.items budgets total }
-    ensures { AreRaisedBelow portions.old.items portions.new.items budgets total }
+/// Raises portions of each group until all of the total is given.
+pub fn raise_all(portions: &mut Vec<Portion>, groups: u32, total: u64)
+    requires { AreWhole portions.old.items groups total }
+    ensures { AreRaisedBelow portions.old.items portions.new.items groups total }
 {
-    for j in 0..budgets {
+    for j in 0..groups {
         let missing = total - whole_on(portions.as_slice(), j);
         raise(portions, j, missing);
     }
+}
+
+/// The units of a portion.
+fn units(portion: &Portion) -> u64
+    requires { portion.now.whole ≤ UNITS }
+    ensures { result ≡ units_of portion.now }
+{
+    portion.whole + u64::from(portion.raised)
+}
+
+/// The units of all portions.
+pub fn all_units(alloc: Global, portions: &[Portion]) -> Result<Vec<u64>, NoMemory>
+    requires { (i : ℕ) → i < length portions.now → (portion_at portions.now i).whole ≤ UNITS }
+    ensures { IfOk result (λ units. AreUnitsOf portions.now (length portions.now) units.items) }
+{
+    let mut all = Vec::new(alloc);
+    for portion in portions {
+        all.push(units(portion))?;
+    }
+    Ok(all)
 }

@@ -1,42 +1,48 @@
-//! How many choices were made on each budget, and what they have in common.
-ghost use Rattle.std.specs.Prelude.{◌≡◌, ◌<◌, ◌≤◌, ◌*◌, IfErr, IfOk, length};
-ghost use Rattle.rp_patch.specs.Choices.{AreChoicesFrom, input_of, times_on as times_of};
+//! The counts of each group together, and what these sums have in common.
+ghost use Rattle.std.specs.Prelude.{◌≡◌, ◌<◌, ◌≤◌, ◌^◌, IfErr, IfOk};
+ghost use Rattle.rp_patch.specs.Apportionment.{AreGrouped, IsLeastCommonMultiple, PassesTotalAt};
+ghost use Rattle.rp_patch.specs.Apportionment.{counts_in, grouped, groups_in};
 ghost use Rattle.rp_patch.specs.InnerMultiples.{IsCommon};
-ghost use Rattle.rp_patch.specs.Units.{IsLeastMultiple, PassesUnitsAt};
 
 use crate::UNITS;
 use rp_num::gcd;
-use rp_table::{Budgets, CHOICES, Choices, LARGEST};
 
-/// How many choices were made on budget `j`.
-pub fn times_on(budgets: &Budgets, choices: &Choices, j: u32) -> u64
-    requires from { AreChoicesFrom budgets.now choices.now }
-    requires budget { j < length budgets.now.w }
-    ensures exact { result ≡ times_of (input_of budgets.now choices.now) j }
-    ensures positive { 0 < result }
-    ensures few { result ≤ CHOICES * LARGEST }
+/// How many groups there are.
+pub fn count_groups(groups: &[u32], counts: &[u64]) -> u32
+    requires { AreGrouped groups.now counts.now }
+    ensures { result ≡ groups_in groups.now }
 {
-    let mut times = 0;
-    for i in 0..choices.count() {
-        if choices.budget(i) == j {
-            times += u64::from(choices.times(i));
-        }
-    }
-    times
+    groups[groups.len() - 1] + 1
 }
 
-/// The least common multiple of how many choices were made on each budget, or the first budget with which it is above
-/// `UNITS`.
-pub fn common_total(budgets: &Budgets, choices: &Choices) -> Result<u64, u32>
-    requires { AreChoicesFrom budgets.now choices.now }
+/// The counts of group `j` together.
+pub fn sum_of(groups: &[u32], counts: &[u64], j: u32) -> u64
+    requires grouped { AreGrouped groups.now counts.now }
+    requires group { j < groups_in groups.now }
+    ensures exact { result ≡ counts_in (grouped groups.now counts.now) j }
+    ensures positive { 0 < result }
+    ensures few { result < 2 ^ 36 }
+{
+    let mut sum = 0;
+    for i in 0..groups.len() {
+        if groups[i] == j {
+            sum += counts[i];
+        }
+    }
+    sum
+}
+
+/// The least common multiple of the sums of all groups, or the first group with which it is above `UNITS`.
+pub fn common_total(groups: &[u32], counts: &[u64]) -> Result<u64, u32>
+    requires { AreGrouped groups.now counts.now }
     ensures least { IfOk result
-        (IsLeastMultiple (input_of budgets.now choices.now) (length budgets.now.w)) }
+        (IsLeastCommonMultiple (grouped groups.now counts.now) (groups_in groups.now)) }
     ensures small { IfOk result (λ total. total ≤ UNITS) }
-    ensures large { IfErr result (PassesUnitsAt (input_of budgets.now choices.now)) }
+    ensures large { IfErr result (PassesTotalAt (grouped groups.now counts.now)) }
 {
     let mut total = 1;
-    for j in 0..budgets.count() {
-        let next = common_multiple(total, times_on(budgets, choices, j));
+    for j in 0..count_groups(groups, counts) {
+        let next = common_multiple(total, sum_of(groups, counts, j));
         if next > u128::from(UNITS) {
             return Err(j);
         }

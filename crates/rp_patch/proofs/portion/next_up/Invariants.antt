@@ -1,4 +1,4 @@
-use Rattle.rp_patch.specs.InnerApportioned.{IsNextUp}
+use Rattle.rp_patch.specs.InnerPortions.{IsNextUp}
 use Rattle.rp_patch.proofs.portion.next_up.Given as goal
 
 abbrev pub invariant-loop-i : goal.invariant-loop-i

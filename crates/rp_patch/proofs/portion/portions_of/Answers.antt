@@ -1,12 +1,11 @@
-use Rattle.std.proofs.Common.{rules}
-use Rattle.rp_patch.specs.Choices.{input_of}
-use Rattle.rp_patch.proofs.ChosenLaws.{read_budget, read_times}
+use Rattle.rp_patch.specs.Apportionment.{grouped}
+use Rattle.rp_patch.proofs.GroupFacts.{group_within}
+use Rattle.rp_patch.proofs.SharesMade.{count_within}
 use Rattle.rp_patch.proofs.portion.portions_of.Goals as goal
 
-pub times_on-all-requires-clause-budget : goal.times_on-all-requires-clause-budget
-times_on-all-requires-clause-budget c = read_budget (input_of c.args.budgets.now c.args.choices.now) c.args.chosen.now c.loop-one.one-index c.one-item.result c.requires.all (search rules) c.one-item.is
+pub sum_of-all-requires-clause-group : goal.sum_of-all-requires-clause-group
+sum_of-all-requires-clause-group c = group_within c.args.groups.now c.args.counts.now c.requires.grouped c.loop-i.i c.loop-i-test.true
 
 pub portion_of-requires-clause-within : goal.portion_of-requires-clause-within
 portion_of-requires-clause-within c =
-    rw c.times_on-all.ensures.exact
-    (read_times (input_of c.args.budgets.now c.args.choices.now) c.args.chosen.now c.loop-one.one-index c.one-item.result c.requires.all (search rules) c.one-item.is)
+    rw c.sum_of-all.ensures.exact (count_within (grouped c.args.groups.now c.args.counts.now) c.loop-i.i c.loop-i-test.true)

@@ -1,6 +1,6 @@
 use Rattle.std.proofs.Common.{◌+◌, false, ap, refl, subst, sym, length, List}
 use Rattle.std.proofs.lemmas.List.{get_or_read}
-use Rattle.rp_patch.specs.InnerApportioned.{IsNextUp, IsRaisedBy}
+use Rattle.rp_patch.specs.InnerPortions.{IsNextUp, IsRaisedBy}
 use Rattle.rp_patch.specs.declared.portion.Portion.{Portion}
 use Rattle.rp_patch.proofs.RaisedPortions.{by_set, one_more_raised, some_left}
 use Rattle.rp_patch.proofs.portion.raise.Goals as goal
@@ -14,8 +14,8 @@ loop-preserved c =
     elim c.match-next_up.branch [
       | in-Some w ↦
           let found = subst (λ o. IsNextUp now c.args.j (length now) o) w.in-Some.is next in
-          let there = get_or_read now w.in-Some.i w.index_mut.result.now found.0 w.index_mut.ensures.value (record { budget = 0; whole = 0; rest = 0; raised = false }) in
-          let one = by_set now w.in-Some.i _ found.0 (ap (λ (p : Portion). p.budget) there) (ap (λ (p : Portion). p.whole) there) (ap (λ (p : Portion). p.rest) there) refl in
+          let there = get_or_read now w.in-Some.i w.index_mut.result.now found.0 w.index_mut.ensures.value (record { group = 0; whole = 0; rest = 0; raised = false }) in
+          let one = by_set now w.in-Some.i _ found.0 (ap (λ (p : Portion). p.group) there) (ap (λ (p : Portion). p.whole) there) (ap (λ (p : Portion). p.rest) there) refl in
           subst (λ v. IsRaisedBy old v.items c.args.j (c.loop.counter + 1)) (sym w.portions-is)
           (one_more_raised old now _ c.args.j c.loop.counter w.in-Some.i c.loop.invariant one found.0 found.1 found.2)
       | in_default w ↦

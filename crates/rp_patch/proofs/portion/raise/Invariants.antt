@@ -1,4 +1,4 @@
-use Rattle.rp_patch.specs.InnerApportioned.{IsRaisedBy}
+use Rattle.rp_patch.specs.InnerPortions.{IsRaisedBy}
 use Rattle.rp_patch.proofs.portion.raise.Given as goal
 
 abbrev pub invariant-loop : goal.invariant-loop

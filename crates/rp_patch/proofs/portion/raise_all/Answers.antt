@@ -1,7 +1,7 @@
 use Rattle.std.proofs.Common.{◌≡◌, ◌-◌, arith, ap, ◌∙◌}
-use Rattle.rp_patch.specs.InnerApportioned.{whole_on}
+use Rattle.rp_patch.specs.InnerPortions.{whole_on}
 use Rattle.rp_patch.proofs.RaisedPortions.{same_count}
-use Rattle.rp_patch.proofs.RaisedBudgets.{none_raised_on, one_more_given, same_whole}
+use Rattle.rp_patch.proofs.RaisedGroups.{none_raised_on, one_more_given, same_whole}
 use Rattle.rp_patch.proofs.portion.raise_all.Goals as goal
 
 pub overflow_sub-missing : goal.overflow_sub-missing

@@ -1,4 +1,4 @@
-use Rattle.rp_patch.specs.InnerApportioned.{AreRaisedBelow}
+use Rattle.rp_patch.specs.InnerPortions.{AreRaisedBelow}
 use Rattle.rp_patch.proofs.portion.raise_all.Given as goal
 
 abbrev pub invariant-loop-j : goal.invariant-loop-j
