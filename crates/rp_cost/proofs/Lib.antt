@@ -1,7 +1,9 @@
+pub mod AskedFacts
 pub mod AtMost
 pub mod Enough
 pub mod Listings
 pub mod NothingBelow
 pub mod OuterLaws
-pub mod SameFractions
+pub mod OutputFacts
+pub mod TechFacts
 mod Tried

@@ -18,6 +18,7 @@ use Rattle.rp_farkas.specs.Prices.{IsFeasiblePrices, column_times, cost_of}
 use Rattle.rp_farkas.specs.declared.measure.Measure.TheVariants.{Cost}
 use Rattle.rp_farkas.proofs.Duality.{best_prices}
 use Rattle.rp_num.specs.Fraction.{IsLowestTerms}
+use Rattle.rp_clauses.proofs.BoundMeasures.{holds_alike}
 use Rattle.rp_cost.specs.CostBounds.{LowerHolds, ProvesLowerCost}
 use Rattle.rp_cost.specs.OuterProgram.{ListsNotAbove, outer_program}
 use Rattle.rp_cost.specs.OuterSet.{IsInOuterSet, IsLowerCost}
@@ -38,11 +39,8 @@ module _ (input : TableInput) (prices : ℕ → ℕ) (listed : List ℕ) where
 
   pub cost_holds : (bound : Bound) → BoundHolds (outer_program input prices listed) (measured (outer_program input prices listed) Cost) bound
       ↔ BoundHolds (outer_program input prices listed) (spending input.goods prices) bound
-  cost_holds (Shown value pair) = (
-    (λ h. (h.0, subst (λ (n : ℕ). IsLowestTerms n pair.den value) (measure_is (slice_index pair.x)) h.1)),
-    (λ h. (h.0, subst (λ (n : ℕ). IsLowestTerms n pair.den value) (sym (measure_is (slice_index pair.x))) h.1)),
-  )
-  cost_holds (Wide step) = ((λ h. h), (λ h. h))
+  cost_holds =
+      holds_alike (outer_program input prices listed) (measured (outer_program input prices listed) Cost) (spending input.goods prices) measure_is
 
 -- ---- feasible prices and the outer set
 

@@ -19,6 +19,7 @@ two = record {
     quantities = 2 ∷ 1 ∷ 2 ∷ 2 ∷ [];
     price_places = 0;
     quantity_places = 0;
+    levels = [];
   };
   y = 1 ∷ 2 ∷ [];
   p = 5 ∷ 4 ∷ [];
@@ -64,6 +65,7 @@ wasteful = record {
   quantities = 3 ∷ 3 ∷ 1 ∷ 1 ∷ [];
   price_places = 0;
   quantity_places = 0;
+  levels = [];
 }
 
 breaks_cost : BreaksCostAxiom (cost_of wasteful) (slice_index (1 ∷ 1 ∷ [])) 0 1

@@ -17,7 +17,7 @@ MeetsCost tech = MeetsCostAxiom (records_of tech.table) (cost_of tech.table) (sl
 
 abbrev pub MeetsProfit : Technology → Type 0
 MeetsProfit tech = MeetsProfitAxiom (records_of tech.table) (cost_of tech.table) (slice_index tech.y)
-  (slice_index tech.p)
+    (slice_index tech.p)
 
 -- t and s break the axiom that is looked at
 abbrev pub Breaks : Test → Technology → ℕ → ℕ → Type 0

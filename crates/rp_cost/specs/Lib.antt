@@ -2,6 +2,7 @@ pub mod AskedOutputs
 pub mod Axioms
 pub mod CostAxiom
 pub mod CostBounds
+pub mod Denotation
 pub mod InnerCheapest
 pub mod OuterProgram
 pub mod OuterSet

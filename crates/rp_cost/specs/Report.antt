@@ -14,7 +14,7 @@ use Rattle.rp_cost.specs.declared.bounds.CostBounds.{CostBounds}
 -- how many observations and inputs there are, and the places of prices and quantities
 abbrev pub head_text : Technology → List ℕ
 head_text tech = line_of
-  (codes "technology records " ++ decimal (records_of tech.table) ++ codes " inputs " ++ decimal (goods_of tech.table)
+    (codes "technology records " ++ decimal (records_of tech.table) ++ codes " inputs " ++ decimal (goods_of tech.table)
     ++ codes " places " ++ decimal tech.table.price_places ++ codes " " ++ decimal tech.table.quantity_places)
 
 -- an axiom, after its name: that it holds, or the pair that breaks it
@@ -22,7 +22,7 @@ abbrev pub axiom_text : List ℕ → Axiom → List ℕ
 axiom_text name Holds = line_of (name ++ codes " holds")
 axiom_text name (Pair first second) =
     line_of (name ++ codes " violated")
-      ++ line_of (codes "pair " ++ ordinal_text first ++ codes " " ++ ordinal_text second)
+    ++ line_of (codes "pair " ++ ordinal_text first ++ codes " " ++ ordinal_text second)
 
 -- the profit axiom, where it is told
 abbrev pub profit_text : Option Axiom → List ℕ
@@ -49,7 +49,7 @@ found_text (Some bounds) = line_of (both_text bounds) ++ pair_line (codes "lower
 abbrev pub answer_text : AskedOutputs → List CostBounds → ℕ → List ℕ
 answer_text asked bounds i =
     asked_text (row_of asked.prices.prices asked.prices.goods i) (slice_index asked.y i)
-      ++ found_text (slice_get bounds i)
+    ++ found_text (slice_get bounds i)
 
 -- the answers to the first k asked records
 abbrev pub answers_text : ℕ → AskedOutputs → List CostBounds → List ℕ

@@ -3,21 +3,25 @@
 #![tactic(auto)]
 
 mod asked;
+mod asked_file;
 mod axioms;
 mod bounds;
 mod check;
-mod holds;
 mod listed;
 mod lower;
 mod program;
 mod question;
 mod report;
 mod tech;
+mod tech_file;
 mod upper;
 
 pub use asked::Asked;
+pub use asked_file::read_asked;
 pub use axioms::{Axiom, cost_axiom, profit_axiom};
 pub use bounds::{CostBounds, Upper, cost_bounds};
 pub use check::check_cost;
 pub use report::report_cost;
+pub use rp_sheet::TableFault;
 pub use tech::Tech;
+pub use tech_file::read_tech;
