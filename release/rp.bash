@@ -3,7 +3,7 @@ _rp() {
   local word=${COMP_WORDS[COMP_CWORD]} before=${COMP_WORDS[COMP_CWORD - 1]} options=
   COMPREPLY=()
   if [ "$COMP_CWORD" -eq 1 ]; then
-    mapfile -t COMPREPLY < <(compgen -W "pairs analyse certify check demand welfare utility random checkrandom trial" -- "$word")
+    mapfile -t COMPREPLY < <(compgen -W "pairs analyse certify check demand welfare utility random checkrandom trial pump cost power" -- "$word")
     return
   fi
   case ${COMP_WORDS[1]} in

@@ -1,5 +1,5 @@
 -- Words of a generator one after another, and that a trial table is one.
-use Rattle.std.proofs.Common.{◌≡◌, ◌≢◌, ℕ, zero, suc, ◌+◌, ◌*◌, ◌/◌, ◌%◌, ◌<◌, ◌≤◌, ◌==◌, ◌&&◌, Bool, true, false, List, [], ◌∷◌, ◌++◌, length, get_or, set, drop, map, refl, sym, ap, ◌∙◌, arith, lit<, lit≤, add-one, if◌then◌else◌}
+use Rattle.std.proofs.Common.{◌≡◌, ◌≢◌, ℕ, zero, suc, ◌+◌, ◌*◌, ◌/◌, ◌%◌, ◌<◌, ◌≤◌, ◌==◌, ◌&&◌, Bool, true, false, List, [], ◌∷◌, ◌++◌, length, get_or, set, drop, map, inl, refl, sym, ap, ◌∙◌, arith, lit<, lit≤, add-one, if◌then◌else◌}
 use Rattle.std.proofs.lemmas.List.{length-set, get_or-set_same, get_or-set_other}
 use Rattle.std.proofs.lemmas.List.Elements.{All-nil, All-cons}
 use Rattle.std.proofs.lemmas.Nat.{div-mul-add}
@@ -128,6 +128,7 @@ trial_is_table seed rows goods some_rows few_rows some_goods few_goods =
           rw names (omega arith);
       few_price_places = lit≤ tt;
       few_quantity_places = lit≤ tt;
+      own_levels = inl refl;
     }
   where
     whole_rows : (n w : ℕ) → 1 ≤ w → n * w / w ≡ n
@@ -167,6 +168,6 @@ quantities_after goods here priced_after row priced drawn =
 -- the lists that were drawn are those of the table
 pub trial_is : (seed rows goods : ℕ) (names : List (List ℕ)) (prices quantities : List ℕ) → names ≡ listed goods good_name
     → prices ≡ rows_below rows goods (λ t. drawn_price (record_generator seed goods t)) → quantities ≡ rows_below rows goods (λ t. some_bought goods (drawn_quantity goods (record_generator seed goods t)))
-    → record { names = names; prices = prices; quantities = quantities; price_places = 0; quantity_places = 0 } ≡ trial_of seed rows goods
+    → record { names = names; prices = prices; quantities = quantities; price_places = 0; quantity_places = 0; levels = [] } ≡ trial_of seed rows goods
 trial_is seed rows goods names prices quantities named priced bought =
-    λ i. record { names = named i; prices = priced i; quantities = bought i; price_places = 0; quantity_places = 0 }
+    λ i. record { names = named i; prices = priced i; quantities = bought i; price_places = 0; quantity_places = 0; levels = [] }

@@ -1,9 +1,12 @@
 pub mod Accepted
 pub mod Analysis
 pub mod Checked
+pub mod CostText
 pub mod Demands
 pub mod GarpFirst
 pub mod PairsText
+pub mod PowerText
+pub mod PumpText
 pub mod Randoms
 pub mod ReportOrJson
 pub mod StatusNumbers

@@ -2,7 +2,7 @@
 use Rattle.std.specs.Prelude.{◌≡◌, ℕ, List, [], ◌∷◌, ◌++◌, Option, Some, None, codes}
 use Rattle.rp_table.specs.Tables.{Observations, records_of}
 use Rattle.rp_table.specs.Cost.{cost_of}
-use Rattle.rp_garp.specs.Pairs.{IsPairs}
+use Rattle.rp_garp.specs.Pairs.{IsOwnPairs}
 use Rattle.rp_print.specs.ListText.{line_of, ordinals_text}
 
 -- `pair S T`, with the observations counted from 1, or `pair none`
@@ -10,7 +10,8 @@ abbrev pub pairs_line : Option (ℕ × ℕ) → List ℕ
 pairs_line None = line_of (codes "pair none")
 pairs_line (Some p) = line_of (codes "pair " ++ ordinals_text (p.0 ∷ p.1 ∷ []))
 
--- the text names the first two observations of the table that contradict each other, or none where there are none
+-- the text names the first two observations of the table that contradict each other, or none where there are none; each
+-- is held to its level, where the table has levels
 abbrev pub IsPairsText : Observations → List ℕ → Type 0
 IsPairsText table text =
-    (found : Option (ℕ × ℕ)) × IsPairs (records_of table) (cost_of table) found × (text ≡ pairs_line found)
+    (found : Option (ℕ × ℕ)) × IsOwnPairs (records_of table) table.levels (cost_of table) found × (text ≡ pairs_line found)

@@ -1,6 +1,6 @@
 -- The trial table of a seed: prices and quantities by successive words of its generator. How words become prices and
 -- quantities is this project's own.
-use Rattle.std.specs.Prelude.{ℕ, ◌+◌, ◌*◌, ◌%◌, ◌==◌, ◌&&◌, List, ◌++◌, codes, if◌then◌else◌}
+use Rattle.std.specs.Prelude.{ℕ, ◌+◌, ◌*◌, ◌%◌, ◌==◌, ◌&&◌, List, [], ◌++◌, codes, if◌then◌else◌}
 use Rattle.std.specs.Fmt.{decimal}
 use Rattle.rp_draws.specs.Words.{after_words, generator_of, word_after}
 use Rattle.rand_pcg.specs.Lcg.{Lcg}
@@ -36,4 +36,5 @@ trial_of seed rows goods = record {
   quantities = rows_below rows goods (λ t. some_bought goods (drawn_quantity goods (record_generator seed goods t)));
   price_places = 0;
   quantity_places = 0;
+  levels = [];
 }

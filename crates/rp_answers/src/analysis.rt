@@ -1,4 +1,4 @@
-ghost use Rattle.std.specs.Prelude.{◌≡◌, IfOk};
+ghost use Rattle.std.specs.Prelude.{◌≡◌, [], IfOk};
 ghost use Rattle.rp_evidence.specs.Input.{input_of_table};
 ghost use Rattle.rp_table.specs.Cost.{IsCostsOf};
 ghost use Rattle.rp_answers.specs.Analysis.{IsAnalysis, IsAnalysisText, certificate_of};
@@ -21,7 +21,8 @@ pub fn analysis_text(
     costs: &Costs,
     json: bool,
 ) -> Result<Vec<u8>, NoMemory>
-    requires { IsCostsOf costs.now table.now }
+    requires of_table { IsCostsOf costs.now table.now }
+    requires no_levels { table.now.levels ≡ [] }
     ensures { IfOk result (λ text. IsAnalysisText json table.now text.items) }
 {
     let certificate = analyse(alloc, table, costs)?;
@@ -31,7 +32,8 @@ pub fn analysis_text(
 
 /// The certificate of the verdicts on a table.
 fn analyse(alloc: Global, table: &Table, costs: &Costs) -> Result<Certificate, NoMemory>
-    requires { IsCostsOf costs.now table.now }
+    requires of_table { IsCostsOf costs.now table.now }
+    requires no_levels { table.now.levels ≡ [] }
     ensures { IfOk result (IsAnalysis (input_of_table table.now)) }
 {
     prove!(table.n() >= 1);

@@ -1,4 +1,4 @@
-ghost use Rattle.std.specs.Prelude.{IfOk, slice_index};
+ghost use Rattle.std.specs.Prelude.{◌≡◌, [], IfOk, slice_index};
 ghost use Rattle.rp_evidence.specs.Garp.{ProvesGarp};
 ghost use Rattle.rp_evidence.specs.Input.{input_of_table};
 ghost use Rattle.rp_evidence.specs.Preference.{IsWeak};
@@ -30,6 +30,7 @@ pub fn demand_text(
     json: bool,
 ) -> Result<Vec<u8>, NoMemory>
     requires of_table { IsCostsOf costs.now table.now }
+    requires no_levels { table.now.levels ≡ [] }
     requires spent { IsSpentOn table.now new.now }
     ensures { IfOk result (λ text. IsDemandText json table.now new.now text.items) }
 {
@@ -46,6 +47,7 @@ fn demand_certificate(
     new: &Prices,
 ) -> Result<Certificate, NoMemory>
     requires of_table { IsCostsOf costs.now table.now }
+    requires no_levels { table.now.levels ≡ [] }
     requires spent { IsSpentOn table.now new.now }
     ensures { IfOk result (IsDemandCertificate (input_of_table table.now) new.now) }
 {
@@ -67,6 +69,7 @@ fn demand_items(
     new: &Prices,
 ) -> Result<Vec<Item>, NoMemory>
     requires of_table { IsCostsOf costs.now table.now }
+    requires no_levels { table.now.levels ≡ [] }
     requires verdict { ProvesGarp costs.now.n (cost_at costs.now) garp.now }
     requires closes { IsClosureOf closure.now costs.now.n (IsWeak (cost_at costs.now) 1 1) }
     requires spent { IsSpentOn table.now new.now }
@@ -93,6 +96,7 @@ fn demand_item(
     m: u64,
 ) -> Result<Item, NoMemory>
     requires of_table { IsCostsOf costs.now table.now }
+    requires no_levels { table.now.levels ≡ [] }
     requires verdict { ProvesGarp costs.now.n (cost_at costs.now) garp.now }
     requires closes { IsClosureOf closure.now costs.now.n (IsWeak (cost_at costs.now) 1 1) }
     requires prices { AreNewPrices (goods_of table.now) prices.now }

@@ -30,7 +30,7 @@ pub fn trial_table(alloc: Global, seed: u64, rows: u32, goods: u32) -> Result<Ta
         quantities.extend_from_slice(bought.as_slice())?;
     }
     let names = good_names(alloc, goods)?;
-    Ok(Table::make(names, prices, quantities, 0, 0))
+    Ok(Table::make(names, prices, quantities, 0, 0, None))
 }
 
 /// The prices of a record.

@@ -1,4 +1,4 @@
-ghost use Rattle.std.specs.Prelude.{◌≡◌, ◌++◌, IfOk, OnOk};
+ghost use Rattle.std.specs.Prelude.{◌≡◌, ◌++◌, [], IfOk, OnOk};
 ghost use Rattle.rp_print.specs.ListText.{line_of};
 ghost use Rattle.rp_words.specs.Ranges.{IsTrialSize};
 ghost use Rattle.rp_answers.specs.TrialTable.{trial_of};
@@ -38,8 +38,9 @@ pub fn trial_text(alloc: Global, seed: u64, rows: u32, goods: u32) -> Result<Vec
     Ok(text)
 }
 
-/// The verdicts on a table.
+/// The verdicts on a table without levels.
 fn verdicts_on(alloc: Global, table: &Table) -> Result<Verdicts, NoMemory>
+    requires { table.now.levels ≡ [] }
     ensures { IfOk result (λ v.
         AreVerdicts table.now v.garp v.efficiency v.homothetic v.quasilinear) }
 {

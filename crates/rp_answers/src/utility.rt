@@ -26,6 +26,7 @@ pub fn utility_text(
     bundles: &Bundles,
 ) -> Result<Vec<u8>, NoMemory>
     requires of_table { IsCostsOf costs.now table.now }
+    requires no_levels { table.now.levels ≡ [] }
     requires goods { bundles.now.goods ≡ goods_of table.now }
     ensures { IfOk result (λ text. IsUtilityText table.now bundles.now text.items) }
 {

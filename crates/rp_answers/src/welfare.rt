@@ -1,4 +1,4 @@
-ghost use Rattle.std.specs.Prelude.{◌≡◌, ◌<◌, ◌*◌, ◌/◌, ◌%◌, IfOk};
+ghost use Rattle.std.specs.Prelude.{◌≡◌, [], ◌<◌, ◌*◌, ◌/◌, ◌%◌, IfOk};
 ghost use Rattle.rp_evidence.specs.Garp.{ProvesGarp};
 ghost use Rattle.rp_evidence.specs.Input.{input_of_table};
 ghost use Rattle.rp_evidence.specs.Preference.{IsWeak};
@@ -28,6 +28,7 @@ pub fn welfare_text(
     json: bool,
 ) -> Result<Vec<u8>, NoMemory>
     requires of_table { IsCostsOf costs.now table.now }
+    requires no_levels { table.now.levels ≡ [] }
     requires goods { new.now.goods ≡ goods_of table.now }
     ensures { IfOk result (λ text. IsWelfareText json table.now new.now text.items) }
 {
@@ -44,6 +45,7 @@ fn welfare_certificate(
     new: &Prices,
 ) -> Result<Certificate, NoMemory>
     requires of_table { IsCostsOf costs.now table.now }
+    requires no_levels { table.now.levels ≡ [] }
     requires goods { new.now.goods ≡ goods_of table.now }
     ensures { IfOk result (IsWelfareCertificate (input_of_table table.now) new.now) }
 {
@@ -65,6 +67,7 @@ fn welfare_items(
     new: &Prices,
 ) -> Result<Vec<Item>, NoMemory>
     requires of_table { IsCostsOf costs.now table.now }
+    requires no_levels { table.now.levels ≡ [] }
     requires verdict { ProvesGarp costs.now.n (cost_at costs.now) garp.now }
     requires closes { IsClosureOf closure.now costs.now.n (IsWeak (cost_at costs.now) 1 1) }
     requires goods { new.now.goods ≡ goods_of table.now }
@@ -94,6 +97,7 @@ fn welfare_item(
     t: u32,
 ) -> Result<Item, NoMemory>
     requires of_table { IsCostsOf costs.now table.now }
+    requires no_levels { table.now.levels ≡ [] }
     requires verdict { ProvesGarp costs.now.n (cost_at costs.now) garp.now }
     requires closes { IsClosureOf closure.now costs.now.n (IsWeak (cost_at costs.now) 1 1) }
     requires prices { AreNewPrices (goods_of table.now) prices.now }

@@ -1,17 +1,20 @@
 -- What the content of a line's files gives the line.
-use Rattle.std.proofs.Common.{◌≡◌, ℕ, zero, suc, ◌+◌, ◌<◌, List, [], ◌∷◌, length, Option, Some, None, Result, Ok, Err, inl, inr, refl, sym, ap, ◌∙◌, subst, arith, lit<, codes, replicate, slice_index_or}
+use Rattle.std.proofs.Common.{◌≡◌, ◌⊎◌, ℕ, zero, suc, ◌+◌, ◌<◌, Bool, true, false, List, [], ◌∷◌, length, Option, Some, None, Result, Ok, Err, IfOk, IfErr, inl, inr, refl, sym, ap, ◌∙◌, subst, arith, lit<, codes, replicate, slice_index_or, if◌then◌else◌}
 use Rattle.std.proofs.lemmas.Bool.{lt-ltb}
 use Rattle.std.proofs.lemmas.List.{length-replicate}
 use Rattle.std.specs.Option.{ForSome}
+use Rattle.std.specs.Result.{IsErr, IsErrAnd}
 use Rattle.std.specs.Prelude.{unwrap_or}
 use Rattle.rp_evidence.specs.declared.certificate.Kind.{Kind}
+use Rattle.rp_table.specs.Tables.{Observations}
+use Rattle.rp_text.specs.Denotation.{table_in}
 use Rattle.rp_words.specs.CommandLine.{Line, files_of}
 use Rattle.rp_run.specs.Answers.{Files, IsContent, AreContents, HasContents}
-use Rattle.rp_run.specs.Contents.{Denotes}
+use Rattle.rp_run.specs.Contents.{Denotes, MayHaveLevels}
 use Rattle.rp_run.specs.declared.contents.Contents.{Contents}
-use Rattle.rp_run.specs.Readings.{AndThen, CertificateIn, Just, Numbers, Reading, all_bytes, most_bytes, most_certificate_bytes}
+use Rattle.rp_run.specs.Readings.{AndThen, CertificateIn, Just, Numbers, Reading, TakenTable, all_bytes, and_unless_levelled, most_bytes, most_certificate_bytes, refuses_levels, unless_levelled}
 use Rattle.rp_run.specs.FaultLines.{file_line}
-use Rattle.rp_run.specs.Causes.{IsRefusal, IsFileCause, IsReadingCause, HoldsValue, IsCause}
+use Rattle.rp_run.specs.Causes.{IsLoaded, IsRefusal, IsFileCause, IsReadingCause, HoldsValue, IsCause}
 use Rattle.rp_run.specs.declared.files.Cause.{Cause}
 use Rattle.rp_run.specs.declared.files.Cause.TheVariants.{Read, Refused, NoMemory}
 
@@ -36,6 +39,56 @@ too_long_certificate files rose file kind (Refused line) long refused =
     let some = some_long (files file) most_certificate_bytes long in
     (some.0, some.1, inl (some.2, refused))
 too_long_certificate files rose file kind NoMemory long refused = tt
+
+-- the table of a command, from what a table's file gives
+pub taken_value : (files : Files) (takes : Bool) (file : List ℕ) (table taken : Observations) → HoldsValue files file (Numbers file table_in) table → unless_levelled takes file table ≡ Ok taken
+    → HoldsValue files file (TakenTable takes file) taken
+taken_value files takes file table taken (bytes, content, read) is = (bytes, content, ap (and_unless_levelled takes file) read ∙ is)
+
+pub untaken_cause : (files : Files) (rose : List ℕ → Type 0) (takes : Bool) (file : List ℕ) (why : Cause) → IsFileCause files rose file (Numbers file table_in) why → IsFileCause files rose file (TakenTable takes file) why
+untaken_cause files rose takes file (Read name) why = why
+untaken_cause files rose takes file (Refused line) (bytes, content, refused) = (bytes, content, ap (and_unless_levelled takes file) refused)
+untaken_cause files rose takes file NoMemory why = tt
+
+pub levels_cause : (files : Files) (rose : List ℕ → Type 0) (takes : Bool) (file : List ℕ) (table : Observations) (why : Cause) → HoldsValue files file (Numbers file table_in) table
+    → IsReadingCause (Just (unless_levelled takes file table)) why → IsFileCause files rose file (TakenTable takes file) why
+levels_cause files rose takes file table (Read name) held why = absurd why
+levels_cause files rose takes file table (Refused line) (bytes, content, read) refused = (bytes, content, ap (and_unless_levelled takes file) read ∙ refused)
+levels_cause files rose takes file table NoMemory held why = tt
+
+-- a cause that is passed on is that of the file
+pub passed_loaded : {A : Type 0} (files : Files) (rose : List ℕ → Type 0) (file : List ℕ) (reading : List ℕ → Reading A) (r : Result A Cause) (e : Cause) → IsErr r × IsErrAnd r (λ x. x ≡ e)
+    → IsFileCause files rose file reading e → IsLoaded files rose file reading r
+passed_loaded files rose file reading (Ok x) e (wrong, is) p = cc
+passed_loaded files rose file reading (Err x) e h p = subst (IsFileCause files rose file reading) (sym h.1) p
+
+pub table_loaded : (files : Files) (rose : List ℕ → Type 0) (takes : Bool) (file : List ℕ) (table : Observations) (result : Result Observations Cause) → HoldsValue files file (Numbers file table_in) table
+    → IfOk result (λ taken. unless_levelled takes file table ≡ Ok taken) → IfErr result (IsReadingCause (Just (unless_levelled takes file table))) → IsLoaded files rose file (TakenTable takes file) result
+table_loaded files rose takes file table (Ok taken) held is none = taken_value files takes file table taken held is
+table_loaded files rose takes file table (Err why) held none refused = levels_cause files rose takes file table why held refused
+
+-- what is taken of a table, by its levels
+pub all_taken : (takes : Bool) (file : List ℕ) (table : Observations) → takes ≡ true → (unless_levelled takes file table ≡ Ok table) × MayHaveLevels takes table
+all_taken true file table is = (refl, tt)
+all_taken false file table untrue = cc
+
+pub none_taken : (takes : Bool) (file : List ℕ) (table : Observations) → table.levels ≡ [] → (unless_levelled takes file table ≡ Ok table) × MayHaveLevels takes table
+none_taken true file table none = (refl, tt)
+none_taken false file table none = (rw none refl, none)
+
+some_untaken : (file : List ℕ) (table : Observations) → (table.levels ≡ [] → ⊥) → unless_levelled false file table ≡ Err (file_line file (codes "OwnLevels"))
+some_untaken file table some = go table.levels refl
+  where
+    go : (levels : List ℕ) → table.levels ≡ levels → unless_levelled false file table ≡ Err (file_line file (codes "OwnLevels"))
+    go [] none = absurd (some none)
+    go (level ∷ levels) are = ap (λ these. if refuses_levels false these then Err (file_line file (codes "OwnLevels")) else Ok table) are
+
+pub levels_refused : (takes : Bool) (file : List ℕ) (table : Observations) (why : Cause) → takes ≡ false → (table.levels ≡ [] → ⊥) → IsRefusal (file_line file (codes "OwnLevels")) why
+    → IsReadingCause (Just (unless_levelled takes file table)) why
+levels_refused true file table why untrue some refused = cc
+levels_refused false file table (Read name) is some refused = absurd refused
+levels_refused false file table (Refused line) is some refused = some_untaken file table some ∙ ap Err (sym refused)
+levels_refused false file table NoMemory is some refused = tt
 
 -- the content of one file
 one_of : (files : Files) (file bytes : List ℕ) → IsContent files file bytes → (k : ℕ) → k < length (file ∷ []) → IsContent files (slice_index_or (file ∷ []) k []) bytes

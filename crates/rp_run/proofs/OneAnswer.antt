@@ -1,16 +1,16 @@
 -- The content of a line's files denotes one input or one refusal at most.
-use Rattle.std.proofs.Common.{◌≡◌, ◌⊎◌, ◌≤◌, ℕ, true, false, Option, Some, List, length, map, Result, Ok, Err, [], ◌∷◌, inl, inr, refl, sym, subst, ap, ◌∙◌, arith, codes}
+use Rattle.std.proofs.Common.{◌≡◌, ◌⊎◌, ◌≤◌, ℕ, Bool, true, false, Option, Some, List, length, map, Result, Ok, Err, [], ◌∷◌, inl, inr, refl, sym, subst, ap, ◌∙◌, arith, codes}
 use Rattle.std.proofs.lemmas.List.{length-map}
+use Rattle.rp_cost.specs.Denotation.{asked_beside, tech_in}
 use Rattle.rp_evidence.specs.declared.certificate.Certificate.{Certificate}
 use Rattle.rp_evidence.specs.declared.certificate.Kind.{Kind}
 use Rattle.rp_evidence.specs.declared.certificate.Kind.TheVariants.{Table as TableKind, Random as RandomKind}
-use Rattle.rp_json.specs.Denoted.{IsDenoted}
 use Rattle.rp_json.specs.declared.fault.JsonFault.{JsonFault}
 use Rattle.rp_json.specs.declared.fault.JsonFault.TheVariants as json_fault
 use Rattle.rp_json.proofs.ItemListLemmas.{denoted_once}
 use Rattle.rp_table.specs.BudgetLists.{BudgetList}
 use Rattle.rp_table.specs.ChoiceLists.{ChoiceList}
-use Rattle.rp_text.specs.Denotation.{budgets_in, bundles_beside, choices_on, prices_beside, table_in}
+use Rattle.rp_text.specs.Denotation.{budgets_in, bundles_beside, choices_on, prices_beside}
 use Rattle.rp_patch.specs.Choices.{RandomInput, input_of}
 use Rattle.rp_patch.specs.Patches.{IsPatchList, PatchList}
 use Rattle.rp_patch.specs.Types.{AreRationalTypes}
@@ -21,14 +21,14 @@ use Rattle.rp_run.specs.FaultLines.{file_line, patch_line, types_line}
 use Rattle.rp_run.specs.FaultTexts.{json_fault_text}
 use Rattle.rp_types.specs.Listed.{types_of}
 use Rattle.rp_types.specs.declared.types.Rational.{Rational}
-use Rattle.rp_words.specs.CommandLine.{Given, Line, file, file_set}
+use Rattle.rp_words.specs.CommandLine.{Given, Line, file, file_set, takes_levels}
 use Rattle.rp_words.specs.declared.commands.FileSet.{FileSet}
 use Rattle.rp_words.specs.declared.commands.FileSet.TheVariants as files
 use Rattle.rp_run.specs.declared.contents.Contents.{Contents}
 use Rattle.rp_run.specs.declared.contents.Contents.TheVariants as contents
 use Rattle.rp_run.specs.ChoiceContents.{PatchesOf, TypedPatchesOf, TypesOf}
 use Rattle.rp_run.specs.Contents.{ContentsIn, Denotes}
-use Rattle.rp_run.specs.Readings.{AndThen, CertificateIn, Just, Reading, numbers_in}
+use Rattle.rp_run.specs.Readings.{AndThen, CertificateIn, Just, Reading, numbers_in, taken_table}
 
 -- one value is read or one line, at most
 abbrev pub GivesOne : {A : Type 0} → Reading A → Type 0
@@ -138,28 +138,28 @@ module _
         then_one (PatchesOf (input_of budgets choices) per) (λ p. AndThen (TypesOf p) (λ types. Just (Ok (p, types))))
         (patches_one (input_of budgets choices) per) (λ p. over_one (TypesOf p) (λ types. (p, types)) (types_one p))
 
-    denoted_one : (set : FileSet) (given : Given) (bytes : ℕ → List ℕ) → GivesOne (ContentsIn set given (λ k. Some (bytes k)))
-    denoted_one files.Nothing given bytes = just_one (Ok contents.Nothing)
-    denoted_one files.Table given bytes = one_file (numbers_in (file given 0) table_in (bytes 0)) contents.Table
-    denoted_one files.TableAndCertificate given bytes =
-        let first = numbers_in (file given 0) table_in (bytes 0) in
+    denoted_one : (takes : Bool) (set : FileSet) (given : Given) (bytes : ℕ → List ℕ) → GivesOne (ContentsIn takes set given (λ k. Some (bytes k)))
+    denoted_one takes files.Nothing given bytes = just_one (Ok contents.Nothing)
+    denoted_one takes files.Table given bytes = one_file (taken_table takes (file given 0) (bytes 0)) contents.Table
+    denoted_one takes files.TableAndCertificate given bytes =
+        let first = taken_table takes (file given 0) (bytes 0) in
         let second = CertificateIn (file given 1) TableKind (bytes 1) in
         then_one (Just first) (λ t. AndThen second (λ c. Just (Ok (contents.TableAndCertificate t c)))) (just_one first)
         (λ t. over_one second (contents.TableAndCertificate t) (certificate_one (file given 1) TableKind (bytes 1)))
-    denoted_one files.TableAndPricesWithExpenditure given bytes =
-        two_files (numbers_in (file given 0) table_in (bytes 0)) (λ t. numbers_in (file given 1) (prices_beside true t) (bytes 1)) contents.TableAndPricesWithExpenditure
-    denoted_one files.TableAndPrices given bytes =
-        two_files (numbers_in (file given 0) table_in (bytes 0)) (λ t. numbers_in (file given 1) (prices_beside false t) (bytes 1)) contents.TableAndPrices
-    denoted_one files.TableAndBundles given bytes =
-        two_files (numbers_in (file given 0) table_in (bytes 0)) (λ t. numbers_in (file given 1) (bundles_beside t) (bytes 1)) contents.TableAndBundles
-    denoted_one files.Choices given bytes =
+    denoted_one takes files.TableAndPricesWithExpenditure given bytes =
+        two_files (taken_table takes (file given 0) (bytes 0)) (λ t. numbers_in (file given 1) (prices_beside true t) (bytes 1)) contents.TableAndPricesWithExpenditure
+    denoted_one takes files.TableAndPrices given bytes =
+        two_files (taken_table takes (file given 0) (bytes 0)) (λ t. numbers_in (file given 1) (prices_beside false t) (bytes 1)) contents.TableAndPrices
+    denoted_one takes files.TableAndBundles given bytes =
+        two_files (taken_table takes (file given 0) (bytes 0)) (λ t. numbers_in (file given 1) (bundles_beside t) (bytes 1)) contents.TableAndBundles
+    denoted_one takes files.Choices given bytes =
         let first = numbers_in (file given 0) budgets_in (bytes 0) in
         let second = λ (b : BudgetList). numbers_in (file given 1) (choices_on b) (bytes 1) in
         let made = λ (b : BudgetList) (c : ChoiceList). AndThen (TypedPatchesOf b c given.per) (λ made. Just (Ok (contents.Choices made.0 made.1))) in
         then_one (Just first) (λ b. AndThen (Just (second b)) (made b)) (just_one first)
         (λ b. then_one (Just (second b)) (made b) (just_one (second b))
         (λ c. over_one (TypedPatchesOf b c given.per) (λ made. contents.Choices made.0 made.1) (typed_one b c given.per)))
-    denoted_one files.ChoicesAndCertificate given bytes =
+    denoted_one takes files.ChoicesAndCertificate given bytes =
         let first = numbers_in (file given 0) budgets_in (bytes 0) in
         let second = λ (b : BudgetList). numbers_in (file given 1) (choices_on b) (bytes 1) in
         let third = CertificateIn (file given 2) RandomKind (bytes 2) in
@@ -169,6 +169,8 @@ module _
         (λ b. then_one (Just (second b)) (λ c. AndThen third (made b c)) (just_one (second b))
         (λ c. then_one third (made b c) (certificate_one (file given 2) RandomKind (bytes 2))
         (λ read. over_one (TypedPatchesOf b c given.per) (λ made. contents.ChoicesAndCertificate made.0 made.1 read) (typed_one b c given.per))))
+    denoted_one takes files.TechnologyAndAsked given bytes =
+        two_files (numbers_in (file given 0) tech_in (bytes 0)) (λ t. numbers_in (file given 1) (asked_beside t) (bytes 1)) contents.TechnologyAndAsked
 
     pub denotes_one : (line : Line) (bytes : ℕ → List ℕ) → GivesOne (Denotes line bytes)
-    denotes_one line bytes = denoted_one (file_set line) line.given bytes
+    denotes_one line bytes = denoted_one (takes_levels line) (file_set line) line.given bytes

@@ -1,19 +1,19 @@
 -- What is refused is refused for one reason: no two faults of a certificate's bytes, of choices or of patches.
-use Rattle.std.proofs.Common.{◌≡◌, ◌≢◌, ◌⊎◌, ◌<◌, ◌≤◌, ◌+◌, ◌-◌, ◌^◌, ℕ, zero, suc, Bool, true, false, Option, None, List, [], ◌∷◌, All, get_or, length, map, take, drop, min, Some, Result, Ok, Err, inl, inr, refl, sym, ap, subst, ◌∙◌, arith}
+use Rattle.std.proofs.Common.{◌≡◌, ◌≢◌, ◌⊎◌, ◌<◌, ◌≤◌, ◌+◌, ◌-◌, ◌^◌, ℕ, zero, suc, Bool, true, false, Option, List, [], ◌∷◌, All, get_or, length, map, take, drop, min, Some, Err, inl, inr, refl, sym, ap, subst, ◌∙◌, arith}
 use Rattle.std.proofs.lemmas.Bool.{ltb-false, ltb-true}
 use Rattle.std.specs.Prelude.{nat_lt}
 use Rattle.rp_evidence.specs.declared.certificate.Item.{Item}
 use Rattle.rp_evidence.specs.declared.certificate.Kind.{Kind}
 use Rattle.serde_json.specs.Data.{Data, Items, array, member, no_items, null, number, object, unsigned}
 use Rattle.rp_json.specs.CertificateValue.{item_value}
-use Rattle.rp_json.specs.Denoted.{FitsKind, HasBadItem, HasNoTop, IsDenoted, IsFirstNoItem, IsSpelledSo, Spells, top_value}
+use Rattle.rp_json.specs.Denoted.{FitsKind, HasBadItem, HasNoTop, IsDenoted, IsFirstNoItem, IsSpelledSo, Spells}
 use Rattle.rp_json.specs.declared.fault.JsonFault.{JsonFault}
 use Rattle.rp_json.specs.declared.fault.JsonFault.TheVariants.{BadShape, BadVersion, NoMemory, NotJson}
 use Rattle.rp_notation.proofs.ListLemmas.{same_items}
 use Rattle.rp_patch.specs.Choices.{RandomInput}
 use Rattle.rp_patch.specs.Patches.{PatchList}
-use Rattle.rp_patch.specs.Units.{IsLeastMultiple, IsMultiple, PassesPatchesAt, PassesUnitsAt, SaysWhy, all_chosen, chosen_below}
-use Rattle.rp_patch.specs.declared.TheConstants.{PATCHES, UNITS}
+use Rattle.rp_patch.specs.Units.{IsMultiple, PassesPatchesAt, PassesUnitsAt, SaysWhy, all_chosen}
+use Rattle.rp_patch.specs.declared.TheConstants.{PATCHES}
 use Rattle.rp_patch.specs.declared.fault.PatchFault.{PatchFault}
 use Rattle.rp_patch.specs.declared.fault.PatchFault.TheVariants as patch_fault
 use Rattle.rp_types.specs.Listed.{SaysWhy as SaysWhyNoTypes}

@@ -1,5 +1,5 @@
 -- No choices both have patches within the limits and are refused, and the patches that they have are the same but for their units.
-use Rattle.std.proofs.Common.{◌≡◌, ◌≢◌, ◌<◌, ◌≤◌, ◌==◌, ◌*◌, ◌+◌, ℕ, zero, suc, true, false, ◌-◌, ℤ, pos, ◌≤ℤ◌, ◌<ℤ◌, List, [], ◌∷◌, ◌++◌, Contains, Option, Some, None, length, map, slice_index, length-append, get_or, if◌then◌else◌, refl, sym, ap, subst, ◌∙◌, arith}
+use Rattle.std.proofs.Common.{◌≡◌, ◌≢◌, ◌≤◌, ◌==◌, ◌*◌, ◌+◌, ℕ, zero, suc, true, false, pos, ◌≤ℤ◌, ◌<ℤ◌, List, Option, None, length, map, slice_index, length-append, get_or, if◌then◌else◌, refl, sym, ap, subst, ◌∙◌, arith}
 use Rattle.std.proofs.lemmas.Bool.{ltb-false, ltb-true}
 use Rattle.std.proofs.lemmas.List.{get_or_past}
 use Rattle.std.specs.Prelude.{nat_lt}
@@ -7,9 +7,8 @@ use Rattle.rp_evidence.specs.Garp.{HasNoViolation}
 use Rattle.rp_table.specs.Sums.{sum_below}
 use Rattle.rp_patch.specs.Choices.{RandomInput}
 use Rattle.rp_patch.specs.Patches.{IsPatchList, PatchList, budget_at, no_patch, patch_at, sign_at}
-use Rattle.rp_patch.specs.Types.{AreRationalTypes, HasMoreTypesThan, IsRationalType, IsType, combinations, patches_on}
-use Rattle.rp_patch.specs.Units.{ArePatchesOf, HasExactUnits, HasUnits, IsMultiple, SaysWhy, all_chosen, chosen_as, chosen_at, chosen_below, tally_on}
-use Rattle.rp_patch.specs.declared.TheConstants.{PATCHES, UNITS}
+use Rattle.rp_patch.specs.Types.{AreRationalTypes, IsRationalType, IsType, combinations, patches_on}
+use Rattle.rp_patch.specs.Units.{ArePatchesOf, HasExactUnits, HasUnits, IsMultiple, SaysWhy, chosen_as, chosen_below, tally_on}
 use Rattle.rp_patch.specs.declared.fault.PatchFault.{PatchFault}
 use Rattle.rp_patch.specs.declared.fault.PatchFault.TheVariants as patch_fault
 use Rattle.rp_types.specs.Listed.{SaysWhy as SaysWhyNoTypes}

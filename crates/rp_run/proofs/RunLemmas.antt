@@ -26,7 +26,10 @@ use Rattle.rp_evidence.specs.declared.certificate.Certificate.{Certificate}
 use Rattle.rp_table.specs.Tables.{Observations}
 use Rattle.rp_run.specs.Answers.{Files, Answers, AnswersLine, IsAccepted, IsAcceptedOver, IsRefused, IsRejectedOver, MayBe, MustBe}
 use Rattle.rp_answers.specs.Checked.{IsRandomCheck, IsTableCheck, check_status as verdict_status}
-use Rattle.rp_run.specs.Endings.{IsEnd, IsFaultLine, Rose, NoneRose}
+use Rattle.rp_outside.specs.Faults.{HasRisen}
+use Rattle.rp_outside.specs.Known.{Grows, GrowsByPrefix}
+use Rattle.rp_run.specs.Calls.{IsWritten}
+use Rattle.rp_run.specs.Endings.{IsEnd, IsFaultLine, IsSilent, Rose, NoneRose}
 use Rattle.rp_run.specs.Causes.{status_of_cause, cause_line, IsCause}
 use Rattle.rp_answers.specs.declared.status.Status.{Status}
 use Rattle.rp_answers.specs.declared.status.Status.TheVariants as status
@@ -171,3 +174,26 @@ answer_ends _ given _ s text answers = rw answers.0 tt
 
 pub line_ends : (files : Files) (line : Line) (s : Status) (text : List ℕ) → AnswersLine files line s text → IsEnd s
 line_ends files line s text answers = answer_ends line.command line.given answers.0 s text answers.2
+
+-- a status that is an end is not silent
+end_not_silent : (s : Status) → IsEnd s → IsSilent s → ⊥
+end_not_silent status.Done ends silent = silent
+end_not_silent status.Rejected ends silent = silent
+end_not_silent _ ends silent = ends
+
+-- what was written of the answer to a line: all of it, by its status, or a front of it, by the fault
+pub answer_written : (files : Files) (asked : Option Line) (line : Line) (s result : Status) (text : List ℕ) (old new : Option (List ℕ)) (before after : ℕ) → asked ≡ Some line
+    → AnswersLine files line s text → (result ≡ s) ⊎ (result ≡ status.WriteFault) → (IsEnd result → Grows old new text)
+    → (result ≡ status.WriteFault → GrowsByPrefix old new text × HasRisen before after) → IsWritten files asked result old new before after
+answer_written files asked line s result text old new before after is answers (inl same) whole part = record {
+  answered = λ ends. (text, (line, is, subst (λ t. AnswersLine files line t text) (sym same) answers), whole ends);
+  cut_short = λ fault. (s, text, (line, is, answers), (part fault).0);
+  silent = λ silent. absurd (end_not_silent s (line_ends files line s text answers) (subst IsSilent same silent));
+  write_counted = λ fault. (part fault).1;
+}
+answer_written files asked line s result text old new before after is answers (inr cut) whole part = record {
+  answered = λ ends. absurd (subst IsEnd cut ends);
+  cut_short = λ fault. (s, text, (line, is, answers), (part fault).0);
+  silent = λ silent. absurd (subst IsSilent cut silent);
+  write_counted = λ fault. (part fault).1;
+}

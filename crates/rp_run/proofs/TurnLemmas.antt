@@ -1,26 +1,25 @@
 -- In which order a line's files are read, from what each of its loaders says.
-use Rattle.std.proofs.Common.{◌≡◌, ◌⊎◌, ◌≤◌, ◌+◌, ℕ, zero, suc, List, [], ◌∷◌, Some, None, Option, Result, Ok, Err, inl, inr, length, sum, take, subst, ap, sym, arith, refl}
+use Rattle.std.proofs.Common.{◌≡◌, ◌⊎◌, ◌≤◌, ◌+◌, ℕ, zero, suc, Bool, List, [], ◌∷◌, Some, None, Option, Result, Ok, Err, inl, inr, length, sum, take, subst, ap, sym, arith, refl}
 use Rattle.std.specs.List.{fold}
 use Rattle.rp_outside.specs.Reads.{calls_through}
-use Rattle.rp_sheet.specs.declared.fault.TableFault.{TableFault}
-use Rattle.rp_words.specs.CommandLine.{Given, Line, file_set, files_of}
+use Rattle.rp_words.specs.CommandLine.{Given, Line, file_set, files_of, takes_levels}
 use Rattle.rp_words.specs.declared.commands.FileSet.{FileSet}
 use Rattle.rp_words.specs.declared.commands.FileSet.TheVariants.{Nothing}
 use Rattle.rp_run.specs.declared.contents.Contents.{Contents}
 use Rattle.rp_run.specs.Answers.{Files}
 use Rattle.rp_run.specs.Causes.{HoldsValue}
 use Rattle.rp_run.specs.Contents.{ContentsIn}
-use Rattle.rp_run.specs.Readings.{AndThen, Numbers, Reading, Told}
+use Rattle.rp_run.specs.Readings.{AndThen, Just, Reading, Told}
 use Rattle.rp_run.specs.Turns.{AreReadInTurn, AreRefused, AsksForFirst, calls_of_files, first_told}
 
 -- where the first file is not told, nothing is refused
-none_told : (set : FileSet) (given : Given) (told : ℕ → Option (List ℕ)) (text : List ℕ) → told 0 ≡ None → ContentsIn set given told (Err text) → ⊥
-none_told Nothing given told text is refused = cc
-none_told _ given told text is (inl refused) = let no = rw is at refused in no
-none_told _ given told text is (inr (value, taken, more)) = let no = rw is at taken in no
+none_told : (takes : Bool) (set : FileSet) (given : Given) (told : ℕ → Option (List ℕ)) (text : List ℕ) → told 0 ≡ None → ContentsIn takes set given told (Err text) → ⊥
+none_told takes Nothing given told text is refused = cc
+none_told takes _ given told text is (inl refused) = let no = rw is at refused in no
+none_told takes _ given told text is (inr (value, taken, more)) = let no = rw is at taken in no
 
 none_refused : (files : Files) (line : Line) → AreRefused files line 0 → ⊥
-none_refused files line (text, refused) = none_told (file_set line) line.given (first_told files line 0) text refl refused
+none_refused files line (text, refused) = none_told (takes_levels line) (file_set line) line.given (first_told files line 0) text refl refused
 
 -- where nothing is asked for
 pub unread : (files : Files) (count : ℕ) (line : Line) → AreReadInTurn files count count line
@@ -61,19 +60,20 @@ told_before {A} files file reading next text refused = go (files file) refl refu
     go (Some bytes) is (inl refused) = inl (bytes, is, (text, refused))
     go (Some bytes) is (inr (value, taken, more)) = inr (value, (bytes, is, taken), more)
 
--- a file of numbers that is taken is not told and refused
-pub taken_apart : {A : Type 0} (files : Files) (file : List ℕ) (reading : List ℕ → Result A TableFault) (value : A) → HoldsValue files file (Numbers file reading) value → IsToldRefused files file (Numbers file reading) → ⊥
-taken_apart files file reading value (bytes, content, read) (told, is, (text, refused)) =
-    let also = subst (λ b. Numbers file reading b (Ok value)) (content told is) read in cc
+-- a file that is taken is not told and refused, where its bytes have one result
+pub taken_apart : {A : Type 0} (files : Files) (file : List ℕ) (read : List ℕ → Result A (List ℕ)) (value : A) → HoldsValue files file (λ bytes. Just (read bytes)) value
+    → IsToldRefused files file (λ bytes. Just (read bytes)) → ⊥
+taken_apart files file read value (bytes, content, is) (told, has, (text, refused)) =
+    let also = subst (λ b. Just (read b) (Ok value)) (content told has) is in cc
 
 -- and so is a second, by what the first has
-pub second_apart : {A B : Type 0} (files : Files) (f s : List ℕ) (reading : List ℕ → Result A TableFault) (after : A → List ℕ → Result B TableFault) (a : A) (b : B)
-    → HoldsValue files f (Numbers f reading) a → HoldsValue files s (Numbers s (after a)) b
-    → (x : A) × IsToldTaken files f (Numbers f reading) x × IsToldRefused files s (Numbers s (after x)) → ⊥
-second_apart files f s reading after a b (bytes, content, read) held (x, (told, is, taken), refused) =
-    let also = subst (λ b. Numbers f reading b (Ok a)) (content told is) read in
+pub second_apart : {A B : Type 0} (files : Files) (f s : List ℕ) (read : List ℕ → Result A (List ℕ)) (then_read : A → List ℕ → Result B (List ℕ)) (a : A) (b : B)
+    → HoldsValue files f (λ bytes. Just (read bytes)) a → HoldsValue files s (λ bytes. Just (then_read a bytes)) b
+    → (x : A) × IsToldTaken files f (λ bytes. Just (read bytes)) x × IsToldRefused files s (λ bytes. Just (then_read x bytes)) → ⊥
+second_apart files f s read then_read a b (bytes, content, is) held (x, (told, has, taken), refused) =
+    let also = subst (λ b. Just (read b) (Ok a)) (content told has) is in
     let same : x ≡ a = cc in
-    taken_apart files s (after a) b held (subst (λ y. IsToldRefused files s (Numbers s (after y))) same refused)
+    taken_apart files s (then_read a) b held (subst (λ y. IsToldRefused files s (λ bytes. Just (then_read y bytes))) same refused)
 
 -- what is summed from a number on is no less than it
 no_less : (xs : List ℕ) (n : ℕ) → n ≤ fold ◌+◌ n xs

@@ -16,12 +16,15 @@ use Rattle.rp_answers.specs.Demands.{IsDemandText}
 use Rattle.rp_answers.specs.Welfares.{IsWelfareText}
 use Rattle.rp_answers.specs.UtilityText.{IsUtilityText}
 use Rattle.rp_answers.specs.TrialText.{IsTrialText}
+use Rattle.rp_answers.specs.PumpText.{IsPumpText}
+use Rattle.rp_answers.specs.CostText.{IsCostText}
+use Rattle.rp_answers.specs.PowerText.{IsPowerText}
 use Rattle.rp_answers.specs.Typed.{typed}
 use Rattle.rp_words.specs.CommandLine.{Given, Line, files_of, file_at, number}
 use Rattle.rp_words.specs.declared.commands.Command.{Command}
 use Rattle.rp_words.specs.declared.commands.Command.TheVariants.{Pairs, Analyse, Certify, Check, Demand, Welfare}
 use Rattle.rp_words.specs.declared.commands.Command.TheVariants.{Utility}
-use Rattle.rp_words.specs.declared.commands.Command.TheVariants.{Random, CheckRandom, Trial}
+use Rattle.rp_words.specs.declared.commands.Command.TheVariants.{Random, CheckRandom, Trial, Pump, Cost, Power}
 use Rattle.rp_run.specs.declared.contents.Contents.{Contents}
 use Rattle.rp_run.specs.declared.contents.Contents.TheVariants as contents
 use Rattle.rp_run.specs.Contents.{Denotes}
@@ -54,13 +57,16 @@ IsText Welfare given (contents.TableAndPrices table new) text = IsWelfareText gi
 IsText Utility given (contents.TableAndBundles table bundles) text = IsUtilityText table bundles text
 IsText Random given (contents.Choices patches types) text = IsRandomText given.json (typed patches types) text
 IsText Trial given contents.Nothing text = IsTrialText (number given 0) (number given 1) (number given 2) text
+IsText Pump given (contents.Table table) text = IsPumpText table text
+IsText Cost given (contents.TechnologyAndAsked tech asked) text = IsCostText tech asked text
+IsText Power given (contents.Table table) text = IsPowerText table (number given 0) (number given 1) text
 IsText _ given _ text = ⊥
 
 -- the text and the status that answer a command
 abbrev pub Answers : Command → Given → Contents → Status → List ℕ → Type 0
 Answers Check given (contents.TableAndCertificate table certificate) s text = IsTableCheck table certificate s text
 Answers CheckRandom given (contents.ChoicesAndCertificate patches types certificate) s text =
-  IsRandomCheck patches certificate s text
+    IsRandomCheck patches certificate s text
 Answers command given held s text = (s ≡ status.Done) × IsText command given held text
 
 -- some bytes of a line's files denote these contents
@@ -70,7 +76,7 @@ HasContents files line held = (bytes : ℕ → List ℕ) × AreContents files li
 -- the text and the status answer a line, over some content of its files
 abbrev pub AnswersLine : Files → Line → Status → List ℕ → Type 0
 AnswersLine files line s text = (held : Contents) × HasContents files line held
-  × Answers line.command line.given held s text
+    × Answers line.command line.given held s text
 
 -- the text and the status answer what is asked
 abbrev pub AnswersAsked : Files → Option Line → Status → List ℕ → Type 0
@@ -83,29 +89,29 @@ RefusesWith files line text = (bytes : ℕ → List ℕ) × AreContents files li
 -- nothing refuses a line: whatever its files may hold denotes contents
 abbrev pub IsAccepted : Files → Line → Type 0
 IsAccepted files line = (bytes : ℕ → List ℕ) → AreContents files line bytes
-  → (held : Contents) × Denotes line bytes (Ok held)
+    → (held : Contents) × Denotes line bytes (Ok held)
 
 -- a line is refused, whatever its files may hold
 abbrev pub IsRefused : Files → Line → Type 0
 IsRefused files line = (bytes : ℕ → List ℕ) → AreContents files line bytes
-  → (text : List ℕ) × Denotes line bytes (Err text)
+    → (text : List ℕ) × Denotes line bytes (Err text)
 
 -- there is a certificate among the contents, and the checker rejects it
 abbrev pub IsRejectedOver : Contents → Type 0
 IsRejectedOver (contents.TableAndCertificate table certificate) =
     (item : ℕ) × (reason : Reason) × (place : ℕ)
-      × IsVerdictOn (input_of_table table) certificate.items (Rejected item reason place)
+    × IsVerdictOn (input_of_table table) certificate.items (Rejected item reason place)
 IsRejectedOver (contents.ChoicesAndCertificate patches types certificate) =
     (item : ℕ) × (reason : Reason) × (place : ℕ)
-      × IsRandomVerdictOn patches certificate.items (Rejected item reason place)
+    × IsRandomVerdictOn patches certificate.items (Rejected item reason place)
 IsRejectedOver _ = ⊥
 
 -- there is a certificate among the contents, and the checker accepts it
 abbrev pub IsAcceptedOver : Contents → Type 0
 IsAcceptedOver (contents.TableAndCertificate table certificate) =
-  IsVerdictOn (input_of_table table) certificate.items Accepted
+    IsVerdictOn (input_of_table table) certificate.items Accepted
 IsAcceptedOver (contents.ChoicesAndCertificate patches types certificate) =
-  IsRandomVerdictOn patches certificate.items Accepted
+    IsRandomVerdictOn patches certificate.items Accepted
 IsAcceptedOver _ = ⊥
 
 -- some content of a line's files denotes such contents
@@ -115,4 +121,4 @@ MayBe holds files line = (held : Contents) × HasContents files line held × hol
 -- whatever the files of a line may hold, it denotes no other than such contents
 abbrev pub MustBe : (Contents → Type 0) → Files → Line → Type 0
 MustBe holds files line = (bytes : ℕ → List ℕ) → AreContents files line bytes → (held : Contents)
-  → Denotes line bytes (Ok held) → holds held
+    → Denotes line bytes (Ok held) → holds held

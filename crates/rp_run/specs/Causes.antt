@@ -67,7 +67,7 @@ IsReadingCause reading NoMemory = Unit {0}
 abbrev pub IsFileCause : {A : Type 0} → Files → (List ℕ → Type 0) → List ℕ → (List ℕ → Reading A) → Cause → Type 0
 IsFileCause files rose file reading (Read name) = (name.now ≡ file) × rose file
 IsFileCause files rose file reading (Refused line) = (bytes : List ℕ) × IsContent files file bytes
-  × reading bytes (Err line.items)
+    × reading bytes (Err line.items)
 IsFileCause files rose file reading NoMemory = Unit {0}
 
 -- some content of a file has that value

@@ -30,14 +30,14 @@ ChoicesIn budgets given told = FileIn given told 1 (λ name. Numbers name (choic
 abbrev pub PatchesOf : RandomInput → Option ℕ → Reading PatchList
 PatchesOf input per (Ok p) = ArePatchesOf input per p × IsPatchList p
 PatchesOf input per (Err line) = (fault : PatchFault) × (fault ≢ patch_fault.NoMemory)
-  × SaysWhyNoPatches input per fault × (line ≡ patch_line fault)
+    × SaysWhyNoPatches input per fault × (line ≡ patch_line fault)
 
 -- all rational types of patches
 abbrev pub TypesOf : PatchList → Reading (List Rational)
 TypesOf p (Ok types) = AreRationalTypes p (types_of types) × (length types ≤ TYPES)
-  × (combinations p p.budgets ≤ COMBINATIONS)
+    × (combinations p p.budgets ≤ COMBINATIONS)
 TypesOf p (Err line) = (fault : TypesFault) × (fault ≢ types_fault.NoMemory) × SaysWhyNoTypes p fault
-  × (line ≡ types_line fault)
+    × (line ≡ types_line fault)
 
 -- both, of the choices in a list; with a unit asked for, or none
 abbrev pub TypedPatchesOf : BudgetList → ChoiceList → Option ℕ → Reading (PatchList × List Rational)

@@ -34,6 +34,7 @@ fault_name (fault.OtherGoods column) = codes "OtherGoods"
 fault_name (fault.TooFine row column) = codes "TooFine"
 fault_name (fault.UnknownBudget row) = codes "UnknownBudget"
 fault_name (fault.NoChoices budget) = codes "NoChoices"
+fault_name (fault.BadLevel row column) = codes "BadLevel"
 fault_name fault.NoMemory = codes "NoMemory"
 
 abbrev pub places_text : TableFault → List ℕ
@@ -52,6 +53,7 @@ places_text (fault.ZeroBundle row) = record_text row
 places_text (fault.TooLarge row column) = record_text row ++ column_text column
 places_text (fault.OtherGoods column) = column_text column
 places_text (fault.TooFine row column) = record_text row ++ column_text column
+places_text (fault.BadLevel row column) = record_text row ++ column_text column
 places_text (fault.UnknownBudget row) = record_text row
 places_text (fault.NoChoices budget) = budget_text budget
 places_text fault.NoMemory = []

@@ -8,3 +8,4 @@ pub mod Turns
 pub mod Endings
 pub mod Gains
 pub mod Causes
+pub mod Calls

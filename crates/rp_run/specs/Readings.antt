@@ -1,7 +1,7 @@
 -- What is read of files: values, and the lines of refusals, which are whole lines for standard error (this program's
 -- own order and texts).
-use Rattle.std.specs.Prelude.{◌≡◌, ◌≢◌, ◌⊎◌, ◌≤◌, ◌<◌, ℕ, nat_lt, if◌then◌else◌, List, length, Option, Some, None}
-use Rattle.std.specs.Prelude.{Result, Ok, Err, codes}
+use Rattle.std.specs.Prelude.{◌≡◌, ◌≢◌, ◌⊎◌, ◌≤◌, ◌<◌, ℕ, nat_lt, if◌then◌else◌, Bool, true, false, List, ◌∷◌, length}
+use Rattle.std.specs.Prelude.{Option, Some, None, Result, Ok, Err, codes}
 use Rattle.rp_table.specs.Tables.{Observations}
 use Rattle.rp_text.specs.Denotation.{table_in}
 use Rattle.rp_sheet.specs.declared.fault.TableFault.{TableFault}
@@ -56,12 +56,12 @@ all_bytes bytes = Ok bytes
 -- the certificate of a kind that the bytes of its file denote, where they are not too many
 abbrev pub CertificateIn : List ℕ → Kind → List ℕ → Reading Certificate
 CertificateIn file kind bytes (Ok certificate) = (length bytes ≤ most_certificate_bytes)
-  × IsDenoted kind bytes (Ok certificate)
+    × IsDenoted kind bytes (Ok certificate)
 CertificateIn file kind bytes (Err line) =
     ((most_certificate_bytes < length bytes) × (line ≡ file_line file (codes "TooLong")))
     ⊎ ((length bytes ≤ most_certificate_bytes)
     × ((fault : JsonFault) × (fault ≢ json_fault.NoMemory) × IsDenoted kind bytes (Err fault)
-      × (line ≡ file_line file (json_fault_text fault))))
+    × (line ≡ file_line file (json_fault_text fault))))
 
 -- what a file holds by a reading, where its bytes are told; nothing is read where they are not
 abbrev pub Told : {A : Type 0} → (List ℕ → Reading A) → Option (List ℕ) → Reading A
@@ -72,6 +72,27 @@ Told reading (Some bytes) result = reading bytes result
 abbrev pub FileIn : {A : Type 0} → Given → (ℕ → Option (List ℕ)) → ℕ → (List ℕ → List ℕ → Reading A) → Reading A
 FileIn given told k reading = Told (reading (file given k)) (told k)
 
+-- whether levels of a table's observations are refused: there are some, and the command takes none
+abbrev pub refuses_levels : Bool → List ℕ → Bool
+refuses_levels false (level ∷ levels) = true
+refuses_levels _ _ = false
+
+-- a table that was read, unless the command refuses its levels
+abbrev pub unless_levelled : Bool → List ℕ → Observations → Result Observations (List ℕ)
+unless_levelled takes file table =
+    if refuses_levels takes table.levels then Err (file_line file (codes "OwnLevels")) else Ok table
+
+abbrev pub and_unless_levelled : Bool → List ℕ → Result Observations (List ℕ) → Result Observations (List ℕ)
+and_unless_levelled takes file (Ok table) = unless_levelled takes file table
+and_unless_levelled takes file (Err line) = Err line
+
+-- the table that the bytes of its file denote for a command, which takes levels or not
+abbrev pub taken_table : Bool → List ℕ → List ℕ → Result Observations (List ℕ)
+taken_table takes file bytes = and_unless_levelled takes file (numbers_in file table_in bytes)
+
+abbrev pub TakenTable : Bool → List ℕ → List ℕ → Reading Observations
+TakenTable takes file bytes = Just (taken_table takes file bytes)
+
 -- a table in the first file
-abbrev pub TableIn : Given → (ℕ → Option (List ℕ)) → Reading Observations
-TableIn given told = FileIn given told 0 (λ name. Numbers name table_in)
+abbrev pub TableIn : Bool → Given → (ℕ → Option (List ℕ)) → Reading Observations
+TableIn takes given told = FileIn given told 0 (TakenTable takes)

@@ -2,7 +2,7 @@
 -- the order of the words, and none after the first that is refused or fails (this program's own order).
 use Rattle.std.specs.Prelude.{◌≤◌, ℕ, ◌+◌, nat_lt, if◌then◌else◌, List, [], ◌∷◌, Option, None, Err, length, sum, take}
 use Rattle.rp_outside.specs.Reads.{calls_through}
-use Rattle.rp_words.specs.CommandLine.{Line, file_at, file_set, files_of}
+use Rattle.rp_words.specs.CommandLine.{Line, file_at, file_set, files_of, takes_levels}
 use Rattle.rp_words.specs.CommandLine.{Certificate, File, Numbers, files_in}
 use Rattle.rp_run.specs.Answers.{Files}
 use Rattle.rp_run.specs.Contents.{ContentsIn}
@@ -39,7 +39,8 @@ first_told files line n k = if nat_lt k n then files (file_at line k) else None
 
 -- what the first n files of a line tell is refused, whatever the others hold
 abbrev pub AreRefused : Files → Line → ℕ → Type 0
-AreRefused files line n = (text : List ℕ) × ContentsIn (file_set line) line.given (first_told files line n) (Err text)
+AreRefused files line n = (text : List ℕ)
+    × ContentsIn (takes_levels line) (file_set line) line.given (first_told files line n) (Err text)
 
 -- each file is read through at most once, and none after one that is refused
 pub record AreReadInTurn (files : Files) (before after : ℕ) (line : Line) : Type 0 where

@@ -1,22 +1,29 @@
-ghost use Rattle.std.specs.Prelude.{◌≡◌, ◌≤◌, ℕ, List, IfOk, IfErr};
-ghost use Rattle.rp_run.specs.Answers.{Answers, AnswersLine};
+ghost use Rattle.std.specs.Prelude.{◌≡◌, false, [], IfOk, IfErr};
+ghost use Rattle.rp_outside.specs.Faults.{EachStays, NoneFalls};
+ghost use Rattle.rp_run.specs.Answers.{Answers, AnswersLine, IsText};
 ghost use Rattle.rp_run.specs.Endings.{Rose};
 ghost use Rattle.rp_run.specs.Turns.{AreReadInTurn, AsksForFirst};
 ghost use Rattle.rp_run.specs.Causes.{IsCause};
 ghost use Rattle.rp_run.specs.Contents.{AreOf};
-ghost use Rattle.rp_words.specs.CommandLine.{file_set};
+ghost use Rattle.rp_run.specs.declared.contents.Contents.TheVariants as contents;
+ghost use Rattle.rp_answers.specs.Analysis.{IsAnalysisText};
+ghost use Rattle.rp_answers.specs.PairsText.{IsPairsText};
+ghost use Rattle.rp_answers.specs.PumpText.{IsPumpText};
+ghost use Rattle.rp_words.specs.CommandLine.{Given, file_set, takes_levels};
+ghost use Rattle.rp_words.specs.declared.commands.Command.TheVariants as commands;
+ghost use Rattle.rp_words.specs.declared.commands.FileSet.TheVariants as files;
 ghost use Rattle.rp_words.specs.Named.{named_given, named_line};
 ghost use Rattle.rp_words.specs.Ranges.{IsSized};
 
 use crate::contents::{Contents, read_contents};
 use crate::files::Cause;
 use rp_answers::{
-    Answer, Status, analysis_text, check_answer, check_random_answer, demand_text, pairs_text,
-    random_text, trial_text, utility_text, welfare_text,
+    Answer, Status, analysis_text, check_answer, check_random_answer, cost_text, demand_text,
+    pairs_text, power_text, pump_text, random_text, trial_text, utility_text, welfare_text,
 };
 use rp_num::NoMemory;
 use rp_outside::Desk;
-use rp_table::Costs;
+use rp_table::{Costs, Table};
 use rp_words::{Command, Line};
 use std::alloc::Global;
 
@@ -35,8 +42,8 @@ pub(crate) fn answer_line<'a, D: Desk>(
         (named_line line.now)) }
     ensures in_turn { AreReadInTurn (D.bytes desk.old)
         (D.calls desk.old) (D.calls desk.new) (named_line line.now) }
-    ensures bytes_stay { (other : List ℕ) → D.bytes desk.new other ≡ D.bytes desk.old other }
-    ensures never_falls { (other : List ℕ) → D.faults desk.old other ≤ D.faults desk.new other }
+    ensures bytes_stay { EachStays (D.bytes desk.old) (D.bytes desk.new) }
+    ensures never_falls { NoneFalls (D.faults desk.old) (D.faults desk.new) }
 {
     let held = read_contents(alloc, desk, line)?;
     match answer_over(alloc, line, &held) {
@@ -48,61 +55,154 @@ pub(crate) fn answer_line<'a, D: Desk>(
 /// The answer to a line over what its files hold.
 fn answer_over(alloc: Global, line: &Line<'_>, held: &Contents) -> Result<Answer, NoMemory>
     requires sized { IsSized (named_line line.now) }
-    requires matching { AreOf (file_set (named_line line.now)) held.now }
+    requires matching { AreOf (takes_levels (named_line line.now))
+        (file_set (named_line line.now)) held.now }
     ensures { IfOk result (λ answer. Answers line.now.command (named_given line.now.given)
         held.now answer.status answer.text.items) }
 {
     match line.command {
-        Command::Pairs => {
-            let table = held.table();
-            let costs = Costs::of(alloc, table)?;
-            Ok(done(pairs_text(alloc, table, &costs)?))
-        }
-        Command::Analyse => {
-            let table = held.table();
-            let costs = Costs::of(alloc, table)?;
-            Ok(done(analysis_text(alloc, table, &costs, false)?))
-        }
-        Command::Certify => {
-            let table = held.table();
-            let costs = Costs::of(alloc, table)?;
-            Ok(done(analysis_text(alloc, table, &costs, true)?))
-        }
-        Command::Check => {
-            let (table, certificate) = held.table_and_certificate();
-            let costs = Costs::of(alloc, table)?;
-            check_answer(alloc, table, &costs, certificate)
-        }
-        Command::Demand => {
-            let (table, new) = held.table_and_prices_with_expenditure();
-            let costs = Costs::of(alloc, table)?;
-            Ok(done(demand_text(alloc, table, &costs, new, line.given.json)?))
-        }
-        Command::Welfare => {
-            let (table, new) = held.table_and_prices();
-            let costs = Costs::of(alloc, table)?;
-            Ok(done(welfare_text(alloc, table, &costs, new, line.given.json)?))
-        }
-        Command::Utility => {
-            let (table, bundles) = held.table_and_bundles();
-            let costs = Costs::of(alloc, table)?;
-            Ok(done(utility_text(alloc, table, &costs, bundles)?))
-        }
-        Command::Random => {
-            let (patches, types) = held.choices();
-            Ok(done(random_text(alloc, patches, types, line.given.json)?))
-        }
-        Command::CheckRandom => {
-            let (patches, certificate) = held.choices_and_certificate();
-            check_random_answer(alloc, patches, certificate)
-        }
-        Command::Trial => {
-            let seed = line.given.number(0);
-            let rows = line.given.number(1) as u32;
-            let goods = line.given.number(2) as u32;
-            Ok(done(trial_text(alloc, seed, rows, goods)?))
-        }
+        Command::Pairs => Ok(done(text_of_pairs(alloc, held.any_table())?)),
+        Command::Analyse => Ok(done(text_of_analysis(alloc, held.table(), false)?)),
+        Command::Certify => Ok(done(text_of_analysis(alloc, held.table(), true)?)),
+        Command::Check => check_of_table(alloc, held),
+        Command::Demand => Ok(done(text_of_demand(alloc, line, held)?)),
+        Command::Welfare => Ok(done(text_of_welfare(alloc, line, held)?)),
+        Command::Utility => Ok(done(text_of_utility(alloc, held)?)),
+        Command::Random => Ok(done(text_of_random(alloc, line, held)?)),
+        Command::CheckRandom => check_of_choices(alloc, held),
+        Command::Trial => Ok(done(text_of_trial(alloc, line)?)),
+        Command::Pump => Ok(done(text_of_pump(alloc, held.table())?)),
+        Command::Cost => Ok(done(text_of_cost(alloc, held)?)),
+        Command::Power => Ok(done(text_of_power(alloc, line, held.table())?)),
     }
+}
+
+/// The contradicting pairs of a table.
+fn text_of_pairs(alloc: Global, table: &Table) -> Result<Vec<u8>, NoMemory>
+    ensures { IfOk result (λ text. IsPairsText table.now text.items) }
+{
+    let costs = Costs::of(alloc, table)?;
+    pairs_text(alloc, table, &costs)
+}
+
+/// The verdicts on a table: their report, or their certificate as JSON.
+fn text_of_analysis(alloc: Global, table: &Table, json: bool) -> Result<Vec<u8>, NoMemory>
+    requires { table.now.levels ≡ [] }
+    ensures { IfOk result (λ text. IsAnalysisText json table.now text.items) }
+{
+    let costs = Costs::of(alloc, table)?;
+    analysis_text(alloc, table, &costs, json)
+}
+
+/// What the checker says of a certificate on a table.
+fn check_of_table(alloc: Global, held: &Contents) -> Result<Answer, NoMemory>
+    requires { AreOf false files.TableAndCertificate held.now }
+    ensures { (given : Given) → IfOk result (λ answer.
+        Answers commands.Check given held.now answer.status answer.text.items) }
+{
+    let (table, certificate) = held.table_and_certificate();
+    let costs = Costs::of(alloc, table)?;
+    check_answer(alloc, table, &costs, certificate)
+}
+
+/// Demand at new prices, by the verdict on the axiom.
+fn text_of_demand(alloc: Global, line: &Line<'_>, held: &Contents) -> Result<Vec<u8>, NoMemory>
+    requires { AreOf false files.TableAndPricesWithExpenditure held.now }
+    ensures { IfOk result (λ text.
+        IsText commands.Demand (named_given line.now.given) held.now text.items) }
+{
+    let (table, new) = held.table_and_prices_with_expenditure();
+    let costs = Costs::of(alloc, table)?;
+    demand_text(alloc, table, &costs, new, line.given.json)
+}
+
+/// Welfare at new prices, by the verdict on the axiom.
+fn text_of_welfare(alloc: Global, line: &Line<'_>, held: &Contents) -> Result<Vec<u8>, NoMemory>
+    requires { AreOf false files.TableAndPrices held.now }
+    ensures { IfOk result (λ text.
+        IsText commands.Welfare (named_given line.now.given) held.now text.items) }
+{
+    let (table, new) = held.table_and_prices();
+    let costs = Costs::of(alloc, table)?;
+    welfare_text(alloc, table, &costs, new, line.given.json)
+}
+
+/// The utility of bundles, by the verdict on the axiom.
+fn text_of_utility(alloc: Global, held: &Contents) -> Result<Vec<u8>, NoMemory>
+    requires { AreOf false files.TableAndBundles held.now }
+    ensures { (given : Given) → IfOk result (λ text.
+        IsText commands.Utility given held.now text.items) }
+{
+    let (table, bundles) = held.table_and_bundles();
+    let costs = Costs::of(alloc, table)?;
+    utility_text(alloc, table, &costs, bundles)
+}
+
+/// Whether a population makes the choices.
+fn text_of_random(alloc: Global, line: &Line<'_>, held: &Contents) -> Result<Vec<u8>, NoMemory>
+    requires { AreOf false files.Choices held.now }
+    ensures { IfOk result (λ text.
+        IsText commands.Random (named_given line.now.given) held.now text.items) }
+{
+    let (patches, types) = held.choices();
+    random_text(alloc, patches, types, line.given.json)
+}
+
+/// What the checker says of a certificate on choices.
+fn check_of_choices(alloc: Global, held: &Contents) -> Result<Answer, NoMemory>
+    requires { AreOf false files.ChoicesAndCertificate held.now }
+    ensures { (given : Given) → IfOk result (λ answer.
+        Answers commands.CheckRandom given held.now answer.status answer.text.items) }
+{
+    let (patches, certificate) = held.choices_and_certificate();
+    check_random_answer(alloc, patches, certificate)
+}
+
+/// The verdicts on a table of pseudorandom numbers.
+fn text_of_trial(alloc: Global, line: &Line<'_>) -> Result<Vec<u8>, NoMemory>
+    requires sized { IsSized (named_line line.now) }
+    requires asked { line.now.command ≡ commands.Trial }
+    ensures { IfOk result (λ text.
+        IsText commands.Trial (named_given line.now.given) contents.Nothing text.items) }
+{
+    let seed = line.given.number(0);
+    let rows = line.given.number(1) as u32;
+    let goods = line.given.number(2) as u32;
+    trial_text(alloc, seed, rows, goods)
+}
+
+/// The greatest money pump ratio of a table.
+fn text_of_pump(alloc: Global, table: &Table) -> Result<Vec<u8>, NoMemory>
+    requires { table.now.levels ≡ [] }
+    ensures { IfOk result (λ text. IsPumpText table.now text.items) }
+{
+    let costs = Costs::of(alloc, table)?;
+    pump_text(alloc, table, &costs)
+}
+
+/// The axioms of production on a technology, and what the outputs cost that are asked of it.
+fn text_of_cost(alloc: Global, held: &Contents) -> Result<Vec<u8>, NoMemory>
+    requires { AreOf false files.TechnologyAndAsked held.now }
+    ensures { (given : Given) → IfOk result (λ text.
+        IsText commands.Cost given held.now text.items) }
+{
+    let (tech, asked) = held.technology_and_asked();
+    cost_text(alloc, tech, asked)
+}
+
+/// How many random behaviours on a table's budgets fail the axiom.
+fn text_of_power(alloc: Global, line: &Line<'_>, table: &Table) -> Result<Vec<u8>, NoMemory>
+    requires sized { IsSized (named_line line.now) }
+    requires asked { line.now.command ≡ commands.Power }
+    requires no_levels { table.now.levels ≡ [] }
+    ensures { IfOk result (λ text.
+        IsText commands.Power (named_given line.now.given) (contents.Table table.now) text.items) }
+{
+    let seed = line.given.number(0);
+    let draws = line.given.number(1);
+    prove!(draws <= 1_000);
+    let costs = Costs::of(alloc, table)?;
+    power_text(alloc, table, &costs, seed, draws as u32)
 }
 
 /// A text with which a call is done.

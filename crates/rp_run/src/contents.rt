@@ -1,12 +1,13 @@
 //! What the files of a line hold.
-ghost use Rattle.std.specs.Prelude.{◌≡◌, ◌≤◌, ℕ, List, IfOk, IfErr};
+ghost use Rattle.std.specs.Prelude.{◌≡◌, true, false, List, [], IfOk, IfErr};
 ghost use Rattle.rp_answers.specs.Demands.{IsSpentOn};
 ghost use Rattle.rp_answers.specs.Typed.{AreTyped, typed};
 ghost use Rattle.rp_evidence.specs.Kinds.{IsCertificateOf};
 ghost use Rattle.rp_evidence.specs.declared.certificate.Kind.TheVariants.{Table as TableKind};
 ghost use Rattle.rp_evidence.specs.declared.certificate.Kind.TheVariants.{Random as RandomKind};
+ghost use Rattle.rp_outside.specs.Faults.{EachStays, NoneFalls};
 ghost use Rattle.rp_table.specs.Tables.{goods_of};
-ghost use Rattle.rp_words.specs.CommandLine.{file_set};
+ghost use Rattle.rp_words.specs.CommandLine.{file_set, takes_levels};
 ghost use Rattle.rp_words.specs.Named.{named_line};
 ghost use Rattle.rp_words.specs.Ranges.{IsSized};
 ghost use Rattle.rp_words.specs.declared.commands.FileSet.TheVariants as files;
@@ -19,10 +20,11 @@ ghost use Rattle.rp_run.specs.declared.contents.Contents.TheVariants as contents
 ghost use Rattle.rp_types.specs.declared.types.Rational.{Rational as TypeOf};
 
 use crate::files::{
-    Cause, load_budgets, load_bundles, load_certificate, load_choices, load_prices,
-    load_prices_with_expenditure, load_table,
+    Cause, load_asked, load_budgets, load_bundles, load_certificate, load_choices, load_prices,
+    load_prices_with_expenditure, load_table, load_technology,
 };
 use crate::patches::patches_of;
+use rp_cost::{Asked, Tech};
 use rp_evidence::{Certificate, Kind};
 use rp_num::Seq;
 use rp_outside::Desk;
@@ -45,13 +47,26 @@ pub enum Contents {
     Choices(Patches, Seq<Rational>),
     /// The same, with a certificate.
     ChoicesAndCertificate(Patches, Seq<Rational>, Certificate),
+    TechnologyAndAsked(Tech, Asked),
 }
 
 impl Contents {
-    /// The table.
-    pub(crate) fn table(&self) -> &Table
-        requires { AreOf files.Table self.now }
+    /// The table, with levels or without.
+    pub(crate) fn any_table(&self) -> &Table
+        requires { AreOf true files.Table self.now }
         ensures { self.now ≡ contents.Table result.now }
+    {
+        match self {
+            Contents::Table(table) => table,
+            _ => unreachable!(),
+        }
+    }
+
+    /// The table, which has no levels.
+    pub(crate) fn table(&self) -> &Table
+        requires { AreOf false files.Table self.now }
+        ensures held { self.now ≡ contents.Table result.now }
+        ensures no_levels { result.now.levels ≡ [] }
     {
         match self {
             Contents::Table(table) => table,
@@ -61,8 +76,9 @@ impl Contents {
 
     /// The table, and the certificate on it.
     pub(crate) fn table_and_certificate(&self) -> (&Table, &Certificate)
-        requires { AreOf files.TableAndCertificate self.now }
+        requires { AreOf false files.TableAndCertificate self.now }
         ensures held { self.now ≡ contents.TableAndCertificate result.0.now result.1.now }
+        ensures no_levels { result.0.now.levels ≡ [] }
         ensures kind { IsCertificateOf TableKind result.1.now }
     {
         match self {
@@ -73,8 +89,9 @@ impl Contents {
 
     /// The table, and the new prices with their expenditures.
     pub(crate) fn table_and_prices_with_expenditure(&self) -> (&Table, &Prices)
-        requires { AreOf files.TableAndPricesWithExpenditure self.now }
+        requires { AreOf false files.TableAndPricesWithExpenditure self.now }
         ensures held { self.now ≡ contents.TableAndPricesWithExpenditure result.0.now result.1.now }
+        ensures no_levels { result.0.now.levels ≡ [] }
         ensures spent { IsSpentOn result.0.now result.1.now }
     {
         match self {
@@ -85,8 +102,9 @@ impl Contents {
 
     /// The table, and the new prices.
     pub(crate) fn table_and_prices(&self) -> (&Table, &Prices)
-        requires { AreOf files.TableAndPrices self.now }
+        requires { AreOf false files.TableAndPrices self.now }
         ensures held { self.now ≡ contents.TableAndPrices result.0.now result.1.now }
+        ensures no_levels { result.0.now.levels ≡ [] }
         ensures goods { result.1.now.goods ≡ goods_of result.0.now }
     {
         match self {
@@ -97,8 +115,9 @@ impl Contents {
 
     /// The table, and the bundles.
     pub(crate) fn table_and_bundles(&self) -> (&Table, &Bundles)
-        requires { AreOf files.TableAndBundles self.now }
+        requires { AreOf false files.TableAndBundles self.now }
         ensures held { self.now ≡ contents.TableAndBundles result.0.now result.1.now }
+        ensures no_levels { result.0.now.levels ≡ [] }
         ensures goods { result.1.now.goods ≡ goods_of result.0.now }
     {
         match self {
@@ -109,7 +128,7 @@ impl Contents {
 
     /// The patches of choices, and their rational types.
     pub(crate) fn choices(&self) -> (&Patches, &Seq<Rational>)
-        requires { AreOf files.Choices self.now }
+        requires { AreOf false files.Choices self.now }
         ensures held { self.now ≡ contents.Choices result.0.now result.1.now }
         ensures all { AreTyped (typed result.0.now result.1.now) }
     {
@@ -121,13 +140,25 @@ impl Contents {
 
     /// The patches of choices, and the certificate on them.
     pub(crate) fn choices_and_certificate(&self) -> (&Patches, &Certificate)
-        requires { AreOf files.ChoicesAndCertificate self.now }
+        requires { AreOf false files.ChoicesAndCertificate self.now }
         ensures held { (types : List TypeOf)
             × (self.now ≡ contents.ChoicesAndCertificate result.0.now types result.1.now) }
         ensures kind { IsCertificateOf RandomKind result.1.now }
     {
         match self {
             Contents::ChoicesAndCertificate(patches, _, certificate) => (patches, certificate),
+            _ => unreachable!(),
+        }
+    }
+
+    /// The technology, and the outputs that are asked of it.
+    pub(crate) fn technology_and_asked(&self) -> (&Tech, &Asked)
+        requires { AreOf false files.TechnologyAndAsked self.now }
+        ensures held { self.now ≡ contents.TechnologyAndAsked result.0.now result.1.now }
+        ensures inputs { result.1.now.prices.goods ≡ goods_of result.0.now.table }
+    {
+        match self {
+            Contents::TechnologyAndAsked(tech, asked) => (tech, asked),
             _ => unreachable!(),
         }
     }
@@ -141,15 +172,16 @@ pub(crate) fn read_contents<'a, D: Desk>(
 ) -> Result<Contents, Cause<'a>>
     requires sized { IsSized (named_line line.now) }
     ensures read { IfOk result (HasContents (D.bytes desk.old) (named_line line.now)) }
-    ensures matching { IfOk result (AreOf (file_set (named_line line.now))) }
+    ensures matching { IfOk result
+        (AreOf (takes_levels (named_line line.now)) (file_set (named_line line.now))) }
     ensures caused { IfErr result
         (IsCause (D.bytes desk.old) (Rose (D.faults desk.old) (D.faults desk.new))
         (AsksForFirst (D.bytes desk.old) (D.calls desk.old) (D.calls desk.new))
         (named_line line.now)) }
     ensures in_turn { AreReadInTurn (D.bytes desk.old)
         (D.calls desk.old) (D.calls desk.new) (named_line line.now) }
-    ensures bytes_stay { (other : List ℕ) → D.bytes desk.new other ≡ D.bytes desk.old other }
-    ensures never_falls { (other : List ℕ) → D.faults desk.old other ≤ D.faults desk.new other }
+    ensures bytes_stay { EachStays (D.bytes desk.old) (D.bytes desk.new) }
+    ensures never_falls { NoneFalls (D.faults desk.old) (D.faults desk.new) }
 {
     match line.command.files() {
         FileSet::Nothing => Ok(Contents::Nothing),
@@ -162,6 +194,7 @@ pub(crate) fn read_contents<'a, D: Desk>(
         FileSet::TableAndBundles => load_table_bundles(alloc, desk, line),
         FileSet::Choices => load_patches(alloc, desk, line),
         FileSet::ChoicesAndCertificate => load_patches_certificate(alloc, desk, line),
+        FileSet::TechnologyAndAsked => load_technology_asked(alloc, desk, line),
     }
 }
 
@@ -174,17 +207,18 @@ fn load_table_alone<'a, D: Desk>(
     requires sized { IsSized (named_line line.now) }
     requires files { file_set (named_line line.now) ≡ files.Table }
     ensures read { IfOk result (HasContents (D.bytes desk.old) (named_line line.now)) }
-    ensures matching { IfOk result (AreOf (file_set (named_line line.now))) }
+    ensures matching { IfOk result
+        (AreOf (takes_levels (named_line line.now)) (file_set (named_line line.now))) }
     ensures caused { IfErr result
         (IsCause (D.bytes desk.old) (Rose (D.faults desk.old) (D.faults desk.new))
         (AsksForFirst (D.bytes desk.old) (D.calls desk.old) (D.calls desk.new))
         (named_line line.now)) }
     ensures in_turn { AreReadInTurn (D.bytes desk.old)
         (D.calls desk.old) (D.calls desk.new) (named_line line.now) }
-    ensures bytes_stay { (other : List ℕ) → D.bytes desk.new other ≡ D.bytes desk.old other }
-    ensures never_falls { (other : List ℕ) → D.faults desk.old other ≤ D.faults desk.new other }
+    ensures bytes_stay { EachStays (D.bytes desk.old) (D.bytes desk.new) }
+    ensures never_falls { NoneFalls (D.faults desk.old) (D.faults desk.new) }
 {
-    let table = load_table(alloc, desk, line.given.file(0))?;
+    let table = load_table(alloc, desk, line.given.file(0), line.command.takes_levels())?;
     Ok(Contents::Table(table))
 }
 
@@ -197,17 +231,18 @@ fn load_table_certificate<'a, D: Desk>(
     requires sized { IsSized (named_line line.now) }
     requires files { file_set (named_line line.now) ≡ files.TableAndCertificate }
     ensures read { IfOk result (HasContents (D.bytes desk.old) (named_line line.now)) }
-    ensures matching { IfOk result (AreOf (file_set (named_line line.now))) }
+    ensures matching { IfOk result
+        (AreOf (takes_levels (named_line line.now)) (file_set (named_line line.now))) }
     ensures caused { IfErr result
         (IsCause (D.bytes desk.old) (Rose (D.faults desk.old) (D.faults desk.new))
         (AsksForFirst (D.bytes desk.old) (D.calls desk.old) (D.calls desk.new))
         (named_line line.now)) }
     ensures in_turn { AreReadInTurn (D.bytes desk.old)
         (D.calls desk.old) (D.calls desk.new) (named_line line.now) }
-    ensures bytes_stay { (other : List ℕ) → D.bytes desk.new other ≡ D.bytes desk.old other }
-    ensures never_falls { (other : List ℕ) → D.faults desk.old other ≤ D.faults desk.new other }
+    ensures bytes_stay { EachStays (D.bytes desk.old) (D.bytes desk.new) }
+    ensures never_falls { NoneFalls (D.faults desk.old) (D.faults desk.new) }
 {
-    let table = load_table(alloc, desk, line.given.file(0))?;
+    let table = load_table(alloc, desk, line.given.file(0), line.command.takes_levels())?;
     let certificate = load_certificate(alloc, desk, line.given.file(1), Kind::Table)?;
     Ok(Contents::TableAndCertificate(table, certificate))
 }
@@ -221,17 +256,18 @@ fn load_table_prices_with_expenditure<'a, D: Desk>(
     requires sized { IsSized (named_line line.now) }
     requires files { file_set (named_line line.now) ≡ files.TableAndPricesWithExpenditure }
     ensures read { IfOk result (HasContents (D.bytes desk.old) (named_line line.now)) }
-    ensures matching { IfOk result (AreOf (file_set (named_line line.now))) }
+    ensures matching { IfOk result
+        (AreOf (takes_levels (named_line line.now)) (file_set (named_line line.now))) }
     ensures caused { IfErr result
         (IsCause (D.bytes desk.old) (Rose (D.faults desk.old) (D.faults desk.new))
         (AsksForFirst (D.bytes desk.old) (D.calls desk.old) (D.calls desk.new))
         (named_line line.now)) }
     ensures in_turn { AreReadInTurn (D.bytes desk.old)
         (D.calls desk.old) (D.calls desk.new) (named_line line.now) }
-    ensures bytes_stay { (other : List ℕ) → D.bytes desk.new other ≡ D.bytes desk.old other }
-    ensures never_falls { (other : List ℕ) → D.faults desk.old other ≤ D.faults desk.new other }
+    ensures bytes_stay { EachStays (D.bytes desk.old) (D.bytes desk.new) }
+    ensures never_falls { NoneFalls (D.faults desk.old) (D.faults desk.new) }
 {
-    let table = load_table(alloc, desk, line.given.file(0))?;
+    let table = load_table(alloc, desk, line.given.file(0), line.command.takes_levels())?;
     let new = load_prices_with_expenditure(alloc, desk, line.given.file(1), &table)?;
     Ok(Contents::TableAndPricesWithExpenditure(table, new))
 }
@@ -245,17 +281,18 @@ fn load_table_prices<'a, D: Desk>(
     requires sized { IsSized (named_line line.now) }
     requires files { file_set (named_line line.now) ≡ files.TableAndPrices }
     ensures read { IfOk result (HasContents (D.bytes desk.old) (named_line line.now)) }
-    ensures matching { IfOk result (AreOf (file_set (named_line line.now))) }
+    ensures matching { IfOk result
+        (AreOf (takes_levels (named_line line.now)) (file_set (named_line line.now))) }
     ensures caused { IfErr result
         (IsCause (D.bytes desk.old) (Rose (D.faults desk.old) (D.faults desk.new))
         (AsksForFirst (D.bytes desk.old) (D.calls desk.old) (D.calls desk.new))
         (named_line line.now)) }
     ensures in_turn { AreReadInTurn (D.bytes desk.old)
         (D.calls desk.old) (D.calls desk.new) (named_line line.now) }
-    ensures bytes_stay { (other : List ℕ) → D.bytes desk.new other ≡ D.bytes desk.old other }
-    ensures never_falls { (other : List ℕ) → D.faults desk.old other ≤ D.faults desk.new other }
+    ensures bytes_stay { EachStays (D.bytes desk.old) (D.bytes desk.new) }
+    ensures never_falls { NoneFalls (D.faults desk.old) (D.faults desk.new) }
 {
-    let table = load_table(alloc, desk, line.given.file(0))?;
+    let table = load_table(alloc, desk, line.given.file(0), line.command.takes_levels())?;
     let new = load_prices(alloc, desk, line.given.file(1), &table)?;
     Ok(Contents::TableAndPrices(table, new))
 }
@@ -269,17 +306,18 @@ fn load_table_bundles<'a, D: Desk>(
     requires sized { IsSized (named_line line.now) }
     requires files { file_set (named_line line.now) ≡ files.TableAndBundles }
     ensures read { IfOk result (HasContents (D.bytes desk.old) (named_line line.now)) }
-    ensures matching { IfOk result (AreOf (file_set (named_line line.now))) }
+    ensures matching { IfOk result
+        (AreOf (takes_levels (named_line line.now)) (file_set (named_line line.now))) }
     ensures caused { IfErr result
         (IsCause (D.bytes desk.old) (Rose (D.faults desk.old) (D.faults desk.new))
         (AsksForFirst (D.bytes desk.old) (D.calls desk.old) (D.calls desk.new))
         (named_line line.now)) }
     ensures in_turn { AreReadInTurn (D.bytes desk.old)
         (D.calls desk.old) (D.calls desk.new) (named_line line.now) }
-    ensures bytes_stay { (other : List ℕ) → D.bytes desk.new other ≡ D.bytes desk.old other }
-    ensures never_falls { (other : List ℕ) → D.faults desk.old other ≤ D.faults desk.new other }
+    ensures bytes_stay { EachStays (D.bytes desk.old) (D.bytes desk.new) }
+    ensures never_falls { NoneFalls (D.faults desk.old) (D.faults desk.new) }
 {
-    let table = load_table(alloc, desk, line.given.file(0))?;
+    let table = load_table(alloc, desk, line.given.file(0), line.command.takes_levels())?;
     let bundles = load_bundles(alloc, desk, line.given.file(1), &table)?;
     Ok(Contents::TableAndBundles(table, bundles))
 }
@@ -293,15 +331,16 @@ fn load_patches<'a, D: Desk>(
     requires sized { IsSized (named_line line.now) }
     requires files { file_set (named_line line.now) ≡ files.Choices }
     ensures read { IfOk result (HasContents (D.bytes desk.old) (named_line line.now)) }
-    ensures matching { IfOk result (AreOf (file_set (named_line line.now))) }
+    ensures matching { IfOk result
+        (AreOf (takes_levels (named_line line.now)) (file_set (named_line line.now))) }
     ensures caused { IfErr result
         (IsCause (D.bytes desk.old) (Rose (D.faults desk.old) (D.faults desk.new))
         (AsksForFirst (D.bytes desk.old) (D.calls desk.old) (D.calls desk.new))
         (named_line line.now)) }
     ensures in_turn { AreReadInTurn (D.bytes desk.old)
         (D.calls desk.old) (D.calls desk.new) (named_line line.now) }
-    ensures bytes_stay { (other : List ℕ) → D.bytes desk.new other ≡ D.bytes desk.old other }
-    ensures never_falls { (other : List ℕ) → D.faults desk.old other ≤ D.faults desk.new other }
+    ensures bytes_stay { EachStays (D.bytes desk.old) (D.bytes desk.new) }
+    ensures never_falls { NoneFalls (D.faults desk.old) (D.faults desk.new) }
 {
     let budgets = load_budgets(alloc, desk, line.given.file(0))?;
     let choices = load_choices(alloc, desk, line.given.file(1), &budgets)?;
@@ -318,19 +357,45 @@ fn load_patches_certificate<'a, D: Desk>(
     requires sized { IsSized (named_line line.now) }
     requires files { file_set (named_line line.now) ≡ files.ChoicesAndCertificate }
     ensures read { IfOk result (HasContents (D.bytes desk.old) (named_line line.now)) }
-    ensures matching { IfOk result (AreOf (file_set (named_line line.now))) }
+    ensures matching { IfOk result
+        (AreOf (takes_levels (named_line line.now)) (file_set (named_line line.now))) }
     ensures caused { IfErr result
         (IsCause (D.bytes desk.old) (Rose (D.faults desk.old) (D.faults desk.new))
         (AsksForFirst (D.bytes desk.old) (D.calls desk.old) (D.calls desk.new))
         (named_line line.now)) }
     ensures in_turn { AreReadInTurn (D.bytes desk.old)
         (D.calls desk.old) (D.calls desk.new) (named_line line.now) }
-    ensures bytes_stay { (other : List ℕ) → D.bytes desk.new other ≡ D.bytes desk.old other }
-    ensures never_falls { (other : List ℕ) → D.faults desk.old other ≤ D.faults desk.new other }
+    ensures bytes_stay { EachStays (D.bytes desk.old) (D.bytes desk.new) }
+    ensures never_falls { NoneFalls (D.faults desk.old) (D.faults desk.new) }
 {
     let budgets = load_budgets(alloc, desk, line.given.file(0))?;
     let choices = load_choices(alloc, desk, line.given.file(1), &budgets)?;
     let certificate = load_certificate(alloc, desk, line.given.file(2), Kind::Random)?;
     let (patches, types) = patches_of(alloc, &budgets, &choices, line.given.per)?;
     Ok(Contents::ChoicesAndCertificate(patches, types, certificate))
+}
+
+/// The technology in one file, and the outputs that are asked of it in another.
+fn load_technology_asked<'a, D: Desk>(
+    alloc: Global,
+    desk: &mut D,
+    line: &Line<'a>,
+) -> Result<Contents, Cause<'a>>
+    requires sized { IsSized (named_line line.now) }
+    requires files { file_set (named_line line.now) ≡ files.TechnologyAndAsked }
+    ensures read { IfOk result (HasContents (D.bytes desk.old) (named_line line.now)) }
+    ensures matching { IfOk result
+        (AreOf (takes_levels (named_line line.now)) (file_set (named_line line.now))) }
+    ensures caused { IfErr result
+        (IsCause (D.bytes desk.old) (Rose (D.faults desk.old) (D.faults desk.new))
+        (AsksForFirst (D.bytes desk.old) (D.calls desk.old) (D.calls desk.new))
+        (named_line line.now)) }
+    ensures in_turn { AreReadInTurn (D.bytes desk.old)
+        (D.calls desk.old) (D.calls desk.new) (named_line line.now) }
+    ensures bytes_stay { EachStays (D.bytes desk.old) (D.bytes desk.new) }
+    ensures never_falls { NoneFalls (D.faults desk.old) (D.faults desk.new) }
+{
+    let tech = load_technology(alloc, desk, line.given.file(0))?;
+    let asked = load_asked(alloc, desk, line.given.file(1), &tech)?;
+    Ok(Contents::TechnologyAndAsked(tech, asked))
 }

@@ -37,6 +37,7 @@ fn name_of(fault: TableFault) -> &'static [u8]
         TableFault::TooFine { .. } => b"TooFine",
         TableFault::UnknownBudget { .. } => b"UnknownBudget",
         TableFault::NoChoices { .. } => b"NoChoices",
+        TableFault::BadLevel { .. } => b"BadLevel",
         TableFault::NoMemory => b"NoMemory",
     }
 }
@@ -78,6 +79,7 @@ fn push_places(alloc: Global, out: &mut Vec<u8>, fault: TableFault) -> Result<()
         TableFault::ZeroPrice { row, column } => push_cell(alloc, out, row, column),
         TableFault::TooLarge { row, column } => push_cell(alloc, out, row, column),
         TableFault::TooFine { row, column } => push_cell(alloc, out, row, column),
+        TableFault::BadLevel { row, column } => push_cell(alloc, out, row, column),
         TableFault::NoChoices { budget } => push_budget(alloc, out, budget),
         TableFault::Empty => Ok(()),
         TableFault::TooManyGoods => Ok(()),

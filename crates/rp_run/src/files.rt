@@ -1,6 +1,8 @@
-ghost use Rattle.std.specs.Prelude.{◌≡◌, ◌+◌, ◌++◌, ℕ, true, false, ◌^◌, ◌<◌, ◌≤◌, List, IfOk};
-ghost use Rattle.std.specs.Prelude.{IfErr, length, codes};
+ghost use Rattle.std.specs.Prelude.{◌≡◌, ◌+◌, ◌++◌, true, false, ◌^◌, ◌<◌, ◌≤◌};
+ghost use Rattle.std.specs.Prelude.{IfOk, IfErr, Ok, length, codes};
+ghost use Rattle.rp_cost.specs.Denotation.{asked_beside, tech_in};
 ghost use Rattle.rp_evidence.specs.Kinds.{IsCertificateOf};
+ghost use Rattle.rp_outside.specs.Faults.{EachStays, NoneFalls};
 ghost use Rattle.rp_patch.specs.Choices.{AreChoicesFrom};
 ghost use Rattle.rp_table.specs.Tables.{goods_of};
 ghost use Rattle.rp_text.specs.Denotation.{budgets_in, bundles_beside, choices_on};
@@ -9,12 +11,15 @@ ghost use Rattle.rp_run.specs.FaultLines as text;
 ghost use Rattle.rp_run.specs.Answers.{IsContent};
 ghost use Rattle.rp_run.specs.Endings.{Rose};
 ghost use Rattle.rp_run.specs.Turns.{calls_of_certificate, calls_of_numbers};
-ghost use Rattle.rp_run.specs.Readings.{CertificateIn, Numbers, all_bytes};
+ghost use Rattle.rp_run.specs.Contents.{MayHaveLevels};
+ghost use Rattle.rp_run.specs.Readings.{CertificateIn, Just, Numbers, TakenTable, all_bytes};
+ghost use Rattle.rp_run.specs.Readings.{unless_levelled};
 ghost use Rattle.rp_answers.specs.Demands.{IsSpentOn};
 ghost use Rattle.rp_run.specs.Causes.{IsJsonRefusalOf, IsRefusal, IsRefusalOf, IsFileCause};
-ghost use Rattle.rp_run.specs.Causes.{IsLoaded};
+ghost use Rattle.rp_run.specs.Causes.{IsLoaded, IsReadingCause};
 
 use crate::fault_text::{text_of_fault, text_of_json_fault};
+use rp_cost::{Asked, Tech, read_asked, read_tech};
 use rp_evidence::{Certificate, Kind};
 use rp_json::{JsonFault, read};
 use rp_num::NoMemory;
@@ -39,8 +44,48 @@ pub(crate) enum Cause<'a> {
     NoMemory,
 }
 
-/// The table in a file.
+/// The table in a file, for a command that takes levels or not.
 pub(crate) fn load_table<'a, D: Desk>(
+    alloc: Global,
+    desk: &mut D,
+    file: &'a str,
+    takes_levels: bool,
+) -> Result<Table, Cause<'a>>
+    ensures loaded { IsLoaded (D.bytes desk.old) (Rose (D.faults desk.old) (D.faults desk.new))
+        file.now (TakenTable takes_levels file.now) result }
+    ensures levels { IfOk result (MayHaveLevels takes_levels) }
+    ensures read_through { D.calls desk.new ≤ D.calls desk.old
+        + calls_of_numbers (D.bytes desk.old) file.now }
+    ensures bytes_stay { EachStays (D.bytes desk.old) (D.bytes desk.new) }
+    ensures never_falls { NoneFalls (D.faults desk.old) (D.faults desk.new) }
+{
+    let table = load_any_table(alloc, desk, file)?;
+    unless_levelled(alloc, file, table, takes_levels)
+}
+
+/// The table that was read from a file, unless the command refuses its levels.
+fn unless_levelled<'a>(
+    alloc: Global,
+    file: &'a str,
+    table: Table,
+    takes_levels: bool,
+) -> Result<Table, Cause<'a>>
+    ensures taken { IfOk result (λ taken. unless_levelled takes_levels file.now table ≡ Ok taken) }
+    ensures levels { IfOk result (MayHaveLevels takes_levels) }
+    ensures refused { IfErr result
+        (IsReadingCause (Just (unless_levelled takes_levels file.now table))) }
+{
+    if takes_levels {
+        return Ok(table);
+    }
+    if table.levelled() {
+        return Err(refused(alloc, file, b"OwnLevels"));
+    }
+    Ok(table)
+}
+
+/// The table in a file, with levels or without.
+fn load_any_table<'a, D: Desk>(
     alloc: Global,
     desk: &mut D,
     file: &'a str,
@@ -49,8 +94,8 @@ pub(crate) fn load_table<'a, D: Desk>(
         file.now (Numbers file.now table_in) result }
     ensures read_through { D.calls desk.new ≤ D.calls desk.old
         + calls_of_numbers (D.bytes desk.old) file.now }
-    ensures bytes_stay { (other : List ℕ) → D.bytes desk.new other ≡ D.bytes desk.old other }
-    ensures never_falls { (other : List ℕ) → D.faults desk.old other ≤ D.faults desk.new other }
+    ensures bytes_stay { EachStays (D.bytes desk.old) (D.bytes desk.new) }
+    ensures never_falls { NoneFalls (D.faults desk.old) (D.faults desk.new) }
 {
     let bytes = load_numbers(alloc, desk, file)?;
     match read_table(alloc, bytes.as_slice()) {
@@ -71,8 +116,8 @@ pub(crate) fn load_bundles<'a, D: Desk>(
     ensures goods { IfOk result (λ bundles. bundles.goods ≡ goods_of table.now) }
     ensures read_through { D.calls desk.new ≤ D.calls desk.old
         + calls_of_numbers (D.bytes desk.old) file.now }
-    ensures bytes_stay { (other : List ℕ) → D.bytes desk.new other ≡ D.bytes desk.old other }
-    ensures never_falls { (other : List ℕ) → D.faults desk.old other ≤ D.faults desk.new other }
+    ensures bytes_stay { EachStays (D.bytes desk.old) (D.bytes desk.new) }
+    ensures never_falls { NoneFalls (D.faults desk.old) (D.faults desk.new) }
 {
     let bytes = load_numbers(alloc, desk, file)?;
     match read_bundles(alloc, bytes.as_slice(), table) {
@@ -93,8 +138,8 @@ pub(crate) fn load_prices_with_expenditure<'a, D: Desk>(
     ensures goods { IfOk result (λ new. IsSpentOn table.now new) }
     ensures read_through { D.calls desk.new ≤ D.calls desk.old
         + calls_of_numbers (D.bytes desk.old) file.now }
-    ensures bytes_stay { (other : List ℕ) → D.bytes desk.new other ≡ D.bytes desk.old other }
-    ensures never_falls { (other : List ℕ) → D.faults desk.old other ≤ D.faults desk.new other }
+    ensures bytes_stay { EachStays (D.bytes desk.old) (D.bytes desk.new) }
+    ensures never_falls { NoneFalls (D.faults desk.old) (D.faults desk.new) }
 {
     let bytes = load_numbers(alloc, desk, file)?;
     match read_prices(alloc, bytes.as_slice(), table, true) {
@@ -115,12 +160,54 @@ pub(crate) fn load_prices<'a, D: Desk>(
     ensures goods { IfOk result (λ new. new.goods ≡ goods_of table.now) }
     ensures read_through { D.calls desk.new ≤ D.calls desk.old
         + calls_of_numbers (D.bytes desk.old) file.now }
-    ensures bytes_stay { (other : List ℕ) → D.bytes desk.new other ≡ D.bytes desk.old other }
-    ensures never_falls { (other : List ℕ) → D.faults desk.old other ≤ D.faults desk.new other }
+    ensures bytes_stay { EachStays (D.bytes desk.old) (D.bytes desk.new) }
+    ensures never_falls { NoneFalls (D.faults desk.old) (D.faults desk.new) }
 {
     let bytes = load_numbers(alloc, desk, file)?;
     match read_prices(alloc, bytes.as_slice(), table, false) {
         Ok(new) => Ok(new),
+        Err(fault) => Err(refusal(alloc, file, fault)),
+    }
+}
+
+/// The technology in a file.
+pub(crate) fn load_technology<'a, D: Desk>(
+    alloc: Global,
+    desk: &mut D,
+    file: &'a str,
+) -> Result<Tech, Cause<'a>>
+    ensures loaded { IsLoaded (D.bytes desk.old) (Rose (D.faults desk.old) (D.faults desk.new))
+        file.now (Numbers file.now tech_in) result }
+    ensures read_through { D.calls desk.new ≤ D.calls desk.old
+        + calls_of_numbers (D.bytes desk.old) file.now }
+    ensures bytes_stay { EachStays (D.bytes desk.old) (D.bytes desk.new) }
+    ensures never_falls { NoneFalls (D.faults desk.old) (D.faults desk.new) }
+{
+    let bytes = load_numbers(alloc, desk, file)?;
+    match read_tech(alloc, bytes.as_slice()) {
+        Ok(tech) => Ok(tech),
+        Err(fault) => Err(refusal(alloc, file, fault)),
+    }
+}
+
+/// The outputs in a file that are asked of a technology.
+pub(crate) fn load_asked<'a, D: Desk>(
+    alloc: Global,
+    desk: &mut D,
+    file: &'a str,
+    tech: &Tech,
+) -> Result<Asked, Cause<'a>>
+    ensures loaded { IsLoaded (D.bytes desk.old) (Rose (D.faults desk.old) (D.faults desk.new))
+        file.now (Numbers file.now (asked_beside tech.now)) result }
+    ensures inputs { IfOk result (λ asked. asked.prices.goods ≡ goods_of tech.now.table) }
+    ensures read_through { D.calls desk.new ≤ D.calls desk.old
+        + calls_of_numbers (D.bytes desk.old) file.now }
+    ensures bytes_stay { EachStays (D.bytes desk.old) (D.bytes desk.new) }
+    ensures never_falls { NoneFalls (D.faults desk.old) (D.faults desk.new) }
+{
+    let bytes = load_numbers(alloc, desk, file)?;
+    match read_asked(alloc, bytes.as_slice(), tech) {
+        Ok(asked) => Ok(asked),
         Err(fault) => Err(refusal(alloc, file, fault)),
     }
 }
@@ -135,8 +222,8 @@ pub(crate) fn load_budgets<'a, D: Desk>(
         file.now (Numbers file.now budgets_in) result }
     ensures read_through { D.calls desk.new ≤ D.calls desk.old
         + calls_of_numbers (D.bytes desk.old) file.now }
-    ensures bytes_stay { (other : List ℕ) → D.bytes desk.new other ≡ D.bytes desk.old other }
-    ensures never_falls { (other : List ℕ) → D.faults desk.old other ≤ D.faults desk.new other }
+    ensures bytes_stay { EachStays (D.bytes desk.old) (D.bytes desk.new) }
+    ensures never_falls { NoneFalls (D.faults desk.old) (D.faults desk.new) }
 {
     let bytes = load_numbers(alloc, desk, file)?;
     match read_budgets(alloc, bytes.as_slice()) {
@@ -157,8 +244,8 @@ pub(crate) fn load_choices<'a, D: Desk>(
     ensures from { IfOk result (AreChoicesFrom budgets.now) }
     ensures read_through { D.calls desk.new ≤ D.calls desk.old
         + calls_of_numbers (D.bytes desk.old) file.now }
-    ensures bytes_stay { (other : List ℕ) → D.bytes desk.new other ≡ D.bytes desk.old other }
-    ensures never_falls { (other : List ℕ) → D.faults desk.old other ≤ D.faults desk.new other }
+    ensures bytes_stay { EachStays (D.bytes desk.old) (D.bytes desk.new) }
+    ensures never_falls { NoneFalls (D.faults desk.old) (D.faults desk.new) }
 {
     let bytes = load_numbers(alloc, desk, file)?;
     match read_choices(alloc, bytes.as_slice(), budgets) {
@@ -179,8 +266,8 @@ pub(crate) fn load_certificate<'a, D: Desk>(
     ensures kind { IfOk result (IsCertificateOf kind) }
     ensures read_through { D.calls desk.new ≤ D.calls desk.old
         + calls_of_certificate (D.bytes desk.old) file.now }
-    ensures bytes_stay { (other : List ℕ) → D.bytes desk.new other ≡ D.bytes desk.old other }
-    ensures never_falls { (other : List ℕ) → D.faults desk.old other ≤ D.faults desk.new other }
+    ensures bytes_stay { EachStays (D.bytes desk.old) (D.bytes desk.new) }
+    ensures never_falls { NoneFalls (D.faults desk.old) (D.faults desk.new) }
 {
     match load(alloc, desk, file, MOST_CERTIFICATE_BYTES) {
         Ok(bytes) => match read(alloc, bytes.as_slice(), kind) {
@@ -206,8 +293,8 @@ fn load_numbers<'a, D: Desk>(
         file.now (Numbers file.now all_bytes)) }
     ensures read_through { D.calls desk.new ≤ D.calls desk.old
         + calls_of_numbers (D.bytes desk.old) file.now }
-    ensures bytes_stay { (other : List ℕ) → D.bytes desk.new other ≡ D.bytes desk.old other }
-    ensures never_falls { (other : List ℕ) → D.faults desk.old other ≤ D.faults desk.new other }
+    ensures bytes_stay { EachStays (D.bytes desk.old) (D.bytes desk.new) }
+    ensures never_falls { NoneFalls (D.faults desk.old) (D.faults desk.new) }
 {
     match load(alloc, desk, file, MOST_BYTES) {
         Ok(bytes) => Ok(bytes),

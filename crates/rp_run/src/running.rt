@@ -1,17 +1,17 @@
-ghost use Rattle.std.specs.Prelude.{◌≡◌, ◌⊎◌, ◌≤◌, ℕ, List, [], ◌∷◌, Some, None, map, string_bytes};
+ghost use Rattle.std.specs.Prelude.{◌≡◌, ◌⊎◌, ◌≤◌, ℕ, List, [], ◌∷◌, Some, map, string_bytes};
 ghost use Rattle.clap.specs.Faults.{fault_of};
-ghost use Rattle.rp_outside.specs.Faults.{HasRisen};
+ghost use Rattle.rp_outside.specs.Faults.{EachStays, HasRisen, NoneFalls};
 ghost use Rattle.rp_outside.specs.Known.{Stays, Grows, GrowsByPrefix};
 ghost use Rattle.rp_words.specs.CommandLine.{Line as Asked};
 ghost use Rattle.rp_words.specs.Words.{line_in};
 ghost use Rattle.rp_words.specs.Commands.{program};
 ghost use Rattle.rp_words.specs.Shapes.{HasShape, shape_of};
-ghost use Rattle.rp_run.specs.Answers.{AnswersAsked, IsAccepted, IsRefused};
-ghost use Rattle.rp_run.specs.Answers.{IsAcceptedOver, IsRejectedOver, MayBe, MustBe};
+ghost use Rattle.rp_run.specs.Answers.{IsAccepted, IsRefused};
+ghost use Rattle.rp_run.specs.Calls.{AnswersUsage, AsksInTurn, GivesVerdict, IsWritten, TellsWhy};
 ghost use Rattle.rp_run.specs.FaultLines.{write_line};
-ghost use Rattle.rp_run.specs.Endings.{IsEnd, IsSilent, IsFaultLine, Rose, NoneRose};
+ghost use Rattle.rp_run.specs.Endings.{IsEnd, Rose, NoneRose};
 ghost use Rattle.rp_run.specs.Gains.{Gains};
-ghost use Rattle.rp_run.specs.Turns.{AreReadInTurn, AsksForFirst};
+ghost use Rattle.rp_run.specs.Turns.{AsksForFirst};
 ghost use Rattle.rp_run.specs.Causes.{status_of_cause, cause_line};
 
 use crate::answer::answer_line;
@@ -32,47 +32,29 @@ pub fn run<D: Desk, O: Sink, E: Sink>(
     err: &mut E,
 ) -> Status
     // The words.
-    ensures usage { result ≡ Status.Usage → line_in words.now.items ≡ None }
+    ensures words { AnswersUsage (line_in words.now.items) result }
     ensures refused_by_clap { result ≡ Status.Usage
         → ¬ (fault_of program (map string_bytes words.now.items) ≡ []) }
-    ensures no_line { line_in words.now.items ≡ None
-        → (result ≡ Status.Usage) ⊎ (result ≡ Status.NoMemory) }
     ensures shapes { (line : Asked) (name : List ℕ) → HasShape line
         → map string_bytes words.now.items ≡ name ∷ shape_of line
         → line_in words.now.items ≡ Some line }
 
     // The answer, and what the output gains.
-    ensures answered { IsEnd result → (text : List ℕ)
-        × AnswersAsked (D.bytes desk.old) (line_in words.now.items) result text
-        × Grows (O.written out.old) (O.written out.new) text }
-    ensures cut_short { result ≡ Status.WriteFault → (s : Status) × (text : List ℕ)
-        × AnswersAsked (D.bytes desk.old) (line_in words.now.items) s text
-        × GrowsByPrefix (O.written out.old) (O.written out.new) text }
-    ensures silent { IsSilent result → Stays (O.written out.old) (O.written out.new) }
-    ensures write_counted { result ≡ Status.WriteFault
-        → HasRisen (O.faults out.old) (O.faults out.new) }
+    ensures written { IsWritten (D.bytes desk.old) (line_in words.now.items) result
+        (O.written out.old) (O.written out.new) (O.faults out.old) (O.faults out.new) }
 
     // The checker's verdict on a certificate.
-    ensures rejected { result ≡ Status.Rejected → (line : Asked)
-        × (line_in words.now.items ≡ Some line) × MayBe IsRejectedOver (D.bytes desk.old) line }
-    ensures never_done { (line : Asked) → line_in words.now.items ≡ Some line
-        → MustBe IsRejectedOver (D.bytes desk.old) line → ¬ (result ≡ Status.Done) }
-    ensures never_rejected { (line : Asked) → line_in words.now.items ≡ Some line
-        → MustBe IsAcceptedOver (D.bytes desk.old) line → ¬ (result ≡ Status.Rejected) }
+    ensures verdict { GivesVerdict (D.bytes desk.old) (line_in words.now.items) result }
 
     // Why there is no answer.
-    ensures quiet { IsEnd result → Stays (E.written err.old) (E.written err.new) }
-    ensures told { ¬ IsEnd result → (line : List ℕ)
-        × IsFaultLine (D.bytes desk.old) (Rose (D.faults desk.old) (D.faults desk.new))
+    ensures why { TellsWhy (D.bytes desk.old) (Rose (D.faults desk.old) (D.faults desk.new))
         (AsksForFirst (D.bytes desk.old) (D.calls desk.old) (D.calls desk.new))
-        (line_in words.now.items) result line
-        × Gains (E.written err.old) (E.written err.new) (E.faults err.old) (E.faults err.new) line }
+        (line_in words.now.items) result
+        (E.written err.old) (E.written err.new) (E.faults err.old) (E.faults err.new) }
 
     // How often the desk is asked for the files of the words, and in which order.
-    ensures in_turn { (line : Asked) → line_in words.now.items ≡ Some line
-        → AreReadInTurn (D.bytes desk.old) (D.calls desk.old) (D.calls desk.new) line }
-    ensures none_asked { line_in words.now.items ≡ None
-        → D.calls desk.new ≡ D.calls desk.old }
+    ensures turns { AsksInTurn (D.bytes desk.old)
+        (D.calls desk.old) (D.calls desk.new) (line_in words.now.items) }
 
     // When there is one.
     ensures complete { (line : Asked) → line_in words.now.items ≡ Some line
@@ -86,8 +68,8 @@ pub fn run<D: Desk, O: Sink, E: Sink>(
         → (result ≡ Status.Refused) ⊎ (result ≡ Status.NoMemory) }
 
     // What is left as it was.
-    ensures bytes_stay { (file : List ℕ) → D.bytes desk.new file ≡ D.bytes desk.old file }
-    ensures faults_of_files { (file : List ℕ) → D.faults desk.old file ≤ D.faults desk.new file }
+    ensures bytes_stay { EachStays (D.bytes desk.old) (D.bytes desk.new) }
+    ensures faults_of_files { NoneFalls (D.faults desk.old) (D.faults desk.new) }
     ensures faults_of_out { O.faults out.old ≤ O.faults out.new }
     ensures faults_of_err { E.faults err.old ≤ E.faults err.new }
 {

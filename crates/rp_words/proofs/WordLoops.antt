@@ -1,10 +1,8 @@
 -- What a loop over arguments has read so far.
-use Rattle.std.proofs.Common.{◌≡◌, ◌<◌, ◌≤◌, ◌^◌, ◌+◌, ◌++◌, nat_lt, subst, if◌then◌else◌, ℕ, suc, Bool, true, false, cond, List, [], ◌∷◌, Option, Some, None, length, drop, map, take, get_or, refl, sym, ap, ◌∙◌}
-use Rattle.std.specs.Prelude.{IfSome, nat_le, option_and_then, option_map}
-use Rattle.std.specs.List.{find}
+use Rattle.std.proofs.Common.{◌≡◌, ◌<◌, ◌≤◌, ◌^◌, ◌+◌, ◌++◌, nat_lt, subst, if◌then◌else◌, ℕ, suc, Bool, true, false, List, [], ◌∷◌, Option, Some, None, length, drop, map, take, get_or, refl, sym, ap, ◌∙◌}
+use Rattle.std.specs.Prelude.{nat_le, option_and_then, option_map}
 use Rattle.std.proofs.lemmas.List.{append-nil, append_assoc, map-append, take-append-drop, take_more}
 use Rattle.std.proofs.Math.Seq.{drop-cons}
-use Rattle.std.proofs.lemmas.List.Folds.{find-append}
 use Rattle.clap.specs.Walk.{Row, Rule, Text, first_of, one_of}
 use Rattle.clap.specs.Simple.{App, with_subcommand}
 use Rattle.rp_words.specs.Commands.{alone, command_of, program_of, with_rules}

@@ -3,11 +3,12 @@
 use Rattle.std.specs.Prelude.{ℕ, Bool, List, [], ◌∷◌, Option, codes, find, map, slice_index_or}
 use Rattle.std.specs.Str.{bytes_eq}
 use Rattle.clap.specs.Walk.{Text}
-use Rattle.rp_words.specs.Forms.{Form, goods, over, rows, seed, with_json, with_numbers, with_per}
+use Rattle.rp_words.specs.Forms.{Form, draws, goods, over, rows, seed, with_json}
+use Rattle.rp_words.specs.Forms.{with_levels, with_numbers, with_per}
 use Rattle.rp_words.specs.declared.commands.Command.{Command}
 use Rattle.rp_words.specs.declared.commands.Command.TheVariants.{Pairs, Analyse, Certify, Check, Demand, Welfare}
 use Rattle.rp_words.specs.declared.commands.Command.TheVariants.{Utility}
-use Rattle.rp_words.specs.declared.commands.Command.TheVariants.{Random, CheckRandom, Trial}
+use Rattle.rp_words.specs.declared.commands.Command.TheVariants.{Random, CheckRandom, Trial, Pump, Cost, Power}
 use Rattle.rp_words.specs.declared.commands.FileSet.{FileSet}
 use Rattle.rp_words.specs.declared.commands.FileSet.TheVariants as files
 
@@ -30,12 +31,13 @@ files_in files.TableAndPrices = Numbers (codes "TABLE") ∷ Numbers (codes "NEW"
 files_in files.TableAndBundles = Numbers (codes "TABLE") ∷ Numbers (codes "BUNDLES") ∷ []
 files_in files.Choices = Numbers (codes "BUDGETS") ∷ Numbers (codes "CHOICES") ∷ []
 files_in files.ChoicesAndCertificate = Numbers (codes "BUDGETS") ∷ Numbers (codes "CHOICES") ∷ Certificate ∷ []
+files_in files.TechnologyAndAsked = Numbers (codes "TECH") ∷ Numbers (codes "NEW") ∷ []
 
 abbrev pub file_names : FileSet → List Text
 file_names set = map file_name (files_in set)
 
 abbrev pub form_of : Command → Form
-form_of Pairs = over (codes "pairs") files.Table
+form_of Pairs = with_levels (over (codes "pairs") files.Table)
 form_of Analyse = over (codes "analyse") files.Table
 form_of Certify = over (codes "certify") files.Table
 form_of Check = over (codes "check") files.TableAndCertificate
@@ -45,10 +47,15 @@ form_of Utility = over (codes "utility") files.TableAndBundles
 form_of Random = with_per (with_json (over (codes "random") files.Choices))
 form_of CheckRandom = with_per (over (codes "checkrandom") files.ChoicesAndCertificate)
 form_of Trial = with_numbers (seed ∷ rows ∷ goods ∷ []) (over (codes "trial") files.Nothing)
+form_of Pump = over (codes "pump") files.Table
+form_of Cost = over (codes "cost") files.TechnologyAndAsked
+form_of Power = with_numbers (seed ∷ draws ∷ []) (over (codes "power") files.Table)
 
 -- in the order of the usage text
 abbrev pub commands : List Command
-commands = Pairs ∷ Analyse ∷ Certify ∷ Check ∷ Demand ∷ Welfare ∷ Utility ∷ Random ∷ CheckRandom ∷ Trial ∷ []
+commands =
+    Pairs ∷ Analyse ∷ Certify ∷ Check ∷ Demand ∷ Welfare ∷ Utility ∷ Random ∷ CheckRandom ∷ Trial
+    ∷ Pump ∷ Cost ∷ Power ∷ []
 
 abbrev pub forms : List Form
 forms = map form_of commands
@@ -78,6 +85,10 @@ pub record Line : Type 0 where
 -- which files a line is given
 abbrev pub file_set : Line → FileSet
 file_set line = (form_of line.command).files
+
+-- whether it takes a table whose observations have levels of their own
+abbrev pub takes_levels : Line → Bool
+takes_levels line = (form_of line.command).levels
 
 -- the files of a line, in the order of the words
 abbrev pub files_of : Line → List (List ℕ)

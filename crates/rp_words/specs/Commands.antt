@@ -16,7 +16,7 @@ file_rule id = record (new_rule id) { parser = Some NonEmptyString; required = t
 -- a number in its range, which has to be there
 abbrev pub number_rule : Number → Rule
 number_rule number = record (new_rule number.name)
-  { parser = Some (Unsigned number.least number.most); required = true }
+    { parser = Some (Unsigned number.least number.most); required = true }
 
 -- how many units there are on each budget, where that is asked for
 abbrev pub per_rule : Rule
@@ -34,7 +34,7 @@ where_asked asked rule = if asked then rule ∷ [] else []
 abbrev pub rules_of : Form → List Rule
 rules_of form =
     map file_rule (file_names form.files)
-      ++ (map number_rule form.numbers ++ (where_asked form.per per_rule ++ where_asked form.json json_rule))
+    ++ (map number_rule form.numbers ++ (where_asked form.per per_rule ++ where_asked form.json json_rule))
 
 -- a command with its arguments
 abbrev pub command_shape : Text → List Rule → Shape
@@ -55,7 +55,7 @@ with_rules a rules = record a { top = record a.top { rules = a.top.rules ++ rule
 abbrev pub program_of : List Form → App
 program_of commands = record {
   top = record (new_shape (codes "rp"))
-    { is_leaf = false; subcommand_required = true; disable_help_flag = true; disable_help_subcommand = true };
+      { is_leaf = false; subcommand_required = true; disable_help_flag = true; disable_help_subcommand = true };
   subs = map command_of commands;
 }
 

@@ -1,7 +1,7 @@
 -- What the form of a command says (this program's own words): its name, its files and its numbers in the order of the
--- words, and its options. What `clap` is told, the usage text, the words of a line and what its matches name follow
--- from it.
-use Rattle.std.specs.Prelude.{ℕ, Bool, true, false, List, [], ◌∷◌, codes, map}
+-- words, its options, and which tables it takes. What `clap` is told, the usage text, the words of a line and what its
+-- matches name follow from it.
+use Rattle.std.specs.Prelude.{ℕ, Bool, true, false, List, [], codes}
 use Rattle.clap.specs.Walk.{Text}
 use Rattle.rp_words.specs.declared.commands.FileSet.{FileSet}
 
@@ -19,6 +19,8 @@ pub record Form : Type 0 where
   pub per : Bool
   -- whether it takes `--json`, which asks for a certificate
   pub json : Bool
+  -- whether it takes a table whose observations have levels of their own
+  pub levels : Bool
 
 -- the state that a generator starts from, and how many observations and goods a trial table has
 abbrev pub seed : Number
@@ -30,13 +32,17 @@ rows = record { name = codes "ROWS"; least = 1; most = 256 }
 abbrev pub goods : Number
 goods = record { name = codes "GOODS"; least = 1; most = 16 }
 
+-- how many random behaviours are drawn
+abbrev pub draws : Number
+draws = record { name = codes "N"; least = 1; most = 1000 }
+
 -- how many units there are on each budget
 abbrev pub units : Number
 units = record { name = codes "per"; least = 1; most = 1000000000 }
 
--- a form with files alone; with numbers after them; with options
+-- a form with files alone; with numbers after them; with options; with levels that a table may have
 abbrev pub over : Text → FileSet → Form
-over name files = record { name = name; files = files; numbers = []; per = false; json = false }
+over name files = record { name = name; files = files; numbers = []; per = false; json = false; levels = false }
 
 abbrev pub with_numbers : List Number → Form → Form
 with_numbers numbers form = record form { numbers = numbers }
@@ -46,3 +52,6 @@ with_per form = record form { per = true }
 
 abbrev pub with_json : Form → Form
 with_json form = record form { json = true }
+
+abbrev pub with_levels : Form → Form
+with_levels form = record form { levels = true }

@@ -18,7 +18,7 @@ use Rattle.rp_words.specs.CommandLine.{file_names}
 -- a number in its range, in decimal digits
 abbrev pub number_in : Number → Text → Option ℕ
 number_in n text = if is_unsigned_in n.least n.most text
-  then Some (digits_value 10 (without_leading_plus text)) else None
+    then Some (digits_value 10 (without_leading_plus text)) else None
 
 abbrev pub number_of : Number → List Row → Option ℕ
 number_of n matches = option_and_then (number_in n) (one_of n.name matches)
@@ -31,7 +31,7 @@ json_of matches = option_map_or (λ text. bytes_eq text (codes "true")) (first_o
 abbrev pub all_in : {X V : Type 0} → (X → List Row → Option V) → List X → List Row → Option (List V)
 all_in read [] matches = Some []
 all_in read (x ∷ xs) matches =
-  option_and_then (λ v. option_map (λ vs. v ∷ vs) (all_in read xs matches)) (read x matches)
+    option_and_then (λ v. option_map (λ vs. v ∷ vs) (all_in read xs matches)) (read x matches)
 
 -- what the matches give to a command of that form
 abbrev pub given_in : Form → List Row → Option Given
@@ -47,7 +47,7 @@ given_in form matches =
 abbrev pub command_line : Text → List Row → Option Line
 command_line name matches =
     option_and_then (λ command. option_map (λ given. record { command = command; given = given })
-      (given_in (form_of command) matches))
+    (given_in (form_of command) matches))
     (command_named name)
 
 abbrev pub line_named : Option (Text × List Row) → Option Line

@@ -28,6 +28,12 @@ pub enum Command {
     CheckRandom,
     /// The verdicts on the trial table of a seed.
     Trial,
+    /// The greatest money pump ratio of a table.
+    Pump,
+    /// The axioms of production on a technology, and the bounds on what outputs cost.
+    Cost,
+    /// How many random behaviours on a table's budgets fail the axiom.
+    Power,
 }
 
 /// Which files a command is given, in the order of the words.
@@ -45,6 +51,8 @@ pub enum FileSet {
     Choices,
     /// The same, and a certificate on them.
     ChoicesAndCertificate,
+    /// A technology, and outputs at new input prices whose cost is asked.
+    TechnologyAndAsked,
 }
 
 impl FileSet {
@@ -61,6 +69,7 @@ impl FileSet {
             FileSet::TableAndBundles => &["TABLE", "BUNDLES"],
             FileSet::Choices => &["BUDGETS", "CHOICES"],
             FileSet::ChoicesAndCertificate => &["BUDGETS", "CHOICES", "CERT"],
+            FileSet::TechnologyAndAsked => &["TECH", "NEW"],
         }
     }
 }
@@ -73,7 +82,8 @@ pub(crate) struct Number {
     pub(crate) most: u64,
 }
 
-/// The form of a command: its name, its files and its numbers in the order of the words, and its options.
+/// The form of a command: its name, its files and its numbers in the order of the words, its options, and which tables
+/// it takes.
 #[derive(Clone, Copy)]
 pub(crate) struct Form {
     pub(crate) name: &'static str,
@@ -83,6 +93,8 @@ pub(crate) struct Form {
     pub(crate) per: bool,
     /// Whether it takes `--json`.
     pub(crate) json: bool,
+    /// Whether it takes a table whose observations have levels of their own.
+    pub(crate) levels: bool,
 }
 
 /// How many units there are on each budget.
@@ -110,8 +122,15 @@ pub(crate) const GOODS: Number = Number {
     most: 16,
 };
 
+/// How many random behaviours are drawn.
+pub(crate) const DRAWS: Number = Number {
+    name: "N",
+    least: 1,
+    most: 1_000,
+};
+
 /// The commands, in the order of the usage text.
-pub(crate) fn commands() -> [Command; 10]
+pub(crate) fn commands() -> [Command; 13]
     ensures { result ≡ commands }
 {
     [
@@ -125,6 +144,9 @@ pub(crate) fn commands() -> [Command; 10]
         Command::Random,
         Command::CheckRandom,
         Command::Trial,
+        Command::Pump,
+        Command::Cost,
+        Command::Power,
     ]
 }
 
@@ -136,12 +158,22 @@ impl Command {
         self.form().files
     }
 
+    /// Whether the command takes a table whose observations have levels of their own.
+    pub fn takes_levels(self) -> bool
+        ensures { result ≡ (form_of self).levels }
+    {
+        self.form().levels
+    }
+
     /// The form of the command.
     pub(crate) fn form(self) -> Form
         ensures { named_form result ≡ form_of self }
     {
         match self {
-            Command::Pairs => over("pairs", FileSet::Table),
+            Command::Pairs => Form {
+                levels: true,
+                ..over("pairs", FileSet::Table)
+            },
             Command::Analyse => over("analyse", FileSet::Table),
             Command::Certify => over("certify", FileSet::Table),
             Command::Check => over("check", FileSet::TableAndCertificate),
@@ -167,11 +199,17 @@ impl Command {
                 numbers: &[SEED, ROWS, GOODS],
                 ..over("trial", FileSet::Nothing)
             },
+            Command::Pump => over("pump", FileSet::Table),
+            Command::Cost => over("cost", FileSet::TechnologyAndAsked),
+            Command::Power => Form {
+                numbers: &[SEED, DRAWS],
+                ..over("power", FileSet::Table)
+            },
         }
     }
 }
 
-/// A form with files alone.
+/// A form with files alone, among them no table with levels.
 fn over(name: &'static str, files: FileSet) -> Form
     ensures { named_form result ≡ over name.now files }
 {
@@ -181,6 +219,7 @@ fn over(name: &'static str, files: FileSet) -> Form
         numbers: &[],
         per: false,
         json: false,
+        levels: false,
     }
 }
 
@@ -200,5 +239,5 @@ pub(crate) fn command_named(name: &str) -> Option<Command>
 pub fn usage() -> &'static [u8]
     ensures { result.now ≡ usage_text }
 {
-    b"usage: rp pairs TABLE\n       rp analyse TABLE\n       rp certify TABLE\n       rp check TABLE CERT\n       rp demand TABLE NEW [--json]\n       rp welfare TABLE NEW [--json]\n       rp utility TABLE BUNDLES\n       rp random BUDGETS CHOICES [--per N] [--json]\n       rp checkrandom BUDGETS CHOICES CERT [--per N]\n       rp trial SEED ROWS GOODS\n"
+    b"usage: rp pairs TABLE\n       rp analyse TABLE\n       rp certify TABLE\n       rp check TABLE CERT\n       rp demand TABLE NEW [--json]\n       rp welfare TABLE NEW [--json]\n       rp utility TABLE BUNDLES\n       rp random BUDGETS CHOICES [--per N] [--json]\n       rp checkrandom BUDGETS CHOICES CERT [--per N]\n       rp trial SEED ROWS GOODS\n       rp pump TABLE\n       rp cost TECH NEW\n       rp power TABLE SEED N\n"
 }

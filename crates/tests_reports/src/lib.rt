@@ -1,4 +1,5 @@
-//! Tests of what `run` prints on worked tables and at the limits: `analyse`, `demand` and `welfare`.
+//! Tests of what `run` prints on worked tables and at the limits: `analyse`, `demand`, `welfare`, `pump`,
+//! `cost` and `power`.
 #![tactic(auto)]
 
 #[cfg(test)]
@@ -6,4 +7,10 @@ mod analyses;
 #[cfg(test)]
 mod bounds;
 #[cfg(test)]
+mod costs;
+#[cfg(test)]
 mod greatest;
+#[cfg(test)]
+mod powers;
+#[cfg(test)]
+mod pumps;

@@ -73,6 +73,9 @@ fn numbers_out_of_range_are_refused(rt: HostRuntime) -> Result<(), Fail> {
         &["rp", "trial", "7", "1.0", "1"],
         &["rp", "trial", "7", "1", "one"],
         &["rp", "trial", "0x7", "1", "1"],
+        &["rp", "power", "t.csv", "7", "0"],
+        &["rp", "power", "t.csv", "7", "1001"],
+        &["rp", "power", "t.csv", "18446744073709551616", "1"],
     ] {
         let got = answer(rt.alloc(), words)?;
         assert_eq!(rt; got.status, Status::Usage, "status of {words:?}");
@@ -82,6 +85,11 @@ fn numbers_out_of_range_are_refused(rt: HostRuntime) -> Result<(), Fail> {
         &["rp", "trial"] as &[&str],
         &["rp", "trial", "7", "1"],
         &["rp", "trial", "7", "1", "1", "1"],
+        &["rp", "pump"],
+        &["rp", "pump", "t.csv", "t.csv"],
+        &["rp", "cost", "t.csv"],
+        &["rp", "power", "t.csv", "7"],
+        &["rp", "power", "t.csv", "7", "1", "1"],
     ] {
         assert_eq!(rt;
             answer(rt.alloc(), few)?.status,

@@ -1,4 +1,4 @@
-use Rattle.std.proofs.Common.{subst, sym}
+use Rattle.std.proofs.Common.{◌∙◌, subst, sym}
 use Rattle.rp_afriat.specs.Verdict.{IsAfriatVerdict}
 use Rattle.rp_effic.specs.Verdict.{IsEfficiencyVerdict}
 use Rattle.rp_evidence.specs.Input.{input_of_table}
@@ -30,7 +30,8 @@ use Rattle.rp_answers.proofs.analysis.analyse.Goals as goal
 
 pub returns : goal.returns
 returns c =
-    let is = c.requires in
+    let is = c.requires.of_table in
+    let none = is.levels ∙ c.requires.no_levels in
     let n = c.args.costs.now.n in
     let here = cost_at c.args.costs.now in
     let there = cost_of c.args.table.now in
@@ -41,8 +42,8 @@ returns c =
     let efficiency = c.in_ok-efficiency.efficiency in
     let homothetic = c.in_ok-homothetic.homothetic in
     let quasilinear = c.in_ok-quasilinear.quasilinear in
-    let garp_proves : Proves input (GarpItem garp) = rw (← is.size) (garp_same n here there garp same c.in_ok-garp.ensures.proves) in
-    let garp_given : IsGarpVerdict input.n input.cost garp = rw (← is.size) (garp_verdict_same n here there same garp c.in_ok-garp.ensures.given) in
+    let garp_proves : Proves input (GarpItem garp) = rw (← is.size) (garp_same n here there garp same (c.in_ok-garp.ensures.proves_without_levels none)) in
+    let garp_given : IsGarpVerdict input.n input.cost garp = rw (← is.size) (garp_verdict_same n here there same garp (c.in_ok-garp.ensures.given_without_levels none)) in
     let afriat_proves : Proves input (AfriatItem afriat) = rw (← is.size) (afriat_same n here there afriat same c.in_ok-afriat.ensures.proves) in
     let afriat_given : IsAfriatVerdict input.n input.cost afriat = rw (← is.size) (afriat_verdict_same n here there afriat same c.in_ok-afriat.ensures.given) in
     let efficiency_proves : Proves input (EfficiencyItem efficiency) = rw (← is.size) (efficiency_same n here there efficiency same c.in_ok-efficiency.ensures.proves) in

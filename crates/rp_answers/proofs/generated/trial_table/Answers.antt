@@ -29,8 +29,8 @@ loop-preserved c =
           row_more k goods quantity c.loop.quantities.items c.in_ok-bought.bought.items c.extend_from_slice-in-loop.new.self.items i.bought (rw i.moved at drawn) (c.in_ok-extend_from_slice-2.ensures.items ∙ ap (λ (l : List ℕ). c.loop.quantities.items ++ l) c.as_slice-in-loop.ensures.value);
     }
 
-pub make-requires : goal.make-requires
-make-requires c =
+pub make-requires-clause-table : goal.make-requires-clause-table
+make-requires-clause-table c =
     let all : c.loop.counter ≡ c.args.rows = omega arith in
     let is = trial_is c.args.seed c.args.rows c.args.goods c.in_ok-names.names.items c.loop.prices.items c.loop.quantities.items c.in_ok-names.ensures (rw all at c.loop.invariant.priced) (rw all at c.loop.invariant.bought) in
     let q = c.requires in

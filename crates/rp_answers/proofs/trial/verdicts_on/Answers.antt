@@ -1,3 +1,4 @@
+use Rattle.std.proofs.Common.{◌∙◌}
 use Rattle.rp_evidence.specs.Preference.{AgreeBelow}
 use Rattle.rp_evidence.proofs.SameCosts.{garp_same}
 use Rattle.rp_evidence.proofs.SameIndex.{efficiency_same}
@@ -14,13 +15,14 @@ pub returns : goal.returns
 returns c =
     let costs = c.in_ok-costs.costs in
     let is = c.in_ok-costs.ensures in
+    let none = is.levels ∙ c.requires in
     let n = costs.n in
     let here = cost_at costs in
     let there = cost_of c.args.table.now in
     let same : AgreeBelow n here there = λ s t s_in t_in. is.each s t (rw is.size at s_in) (rw is.size at t_in) in
     record {
-      garp_proves = rw (← is.size) (garp_same n here there c.in_ok-garp.garp same c.in_ok-garp.ensures.proves);
-      garp_given = rw (← is.size) (garp_verdict_same n here there same c.in_ok-garp.garp c.in_ok-garp.ensures.given);
+      garp_proves = rw (← is.size) (garp_same n here there c.in_ok-garp.garp same (c.in_ok-garp.ensures.proves_without_levels none));
+      garp_given = rw (← is.size) (garp_verdict_same n here there same c.in_ok-garp.garp (c.in_ok-garp.ensures.given_without_levels none));
       efficiency_proves = rw (← is.size) (efficiency_same n here there c.in_ok-efficiency.efficiency same c.in_ok-efficiency.ensures.proves);
       efficiency_given = rw (← is.size) (efficiency_verdict_same n here there c.in_ok-efficiency.efficiency same c.in_ok-efficiency.ensures.given);
       homothetic_proves = rw (← is.size) (homothetic_same n here there c.in_ok-homothetic.homothetic same c.in_ok-homothetic.ensures.proves);

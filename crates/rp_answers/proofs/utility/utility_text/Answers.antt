@@ -16,6 +16,7 @@ use Rattle.rp_answers.proofs.utility.utility_text.Goals as goal
 pub returns : goal.returns
 returns c =
     let is = c.requires.of_table in
+    let none = is.levels ∙ c.requires.no_levels in
     let n = c.args.costs.now.n in
     let here = cost_at c.args.costs.now in
     let there = cost_of c.args.table.now in
@@ -23,7 +24,7 @@ returns c =
     let input = input_of_table c.args.table.now in
     let garp = c.in_ok-garp.garp in
     let afriat = c.in_ok-afriat.afriat in
-    let garp_proves : Proves input (GarpItem garp) = rw (← is.size) (garp_same n here there garp same c.in_ok-garp.ensures.proves) in
+    let garp_proves : Proves input (GarpItem garp) = rw (← is.size) (garp_same n here there garp same (c.in_ok-garp.ensures.proves_without_levels none)) in
     let afriat_proves : Proves input (AfriatItem afriat) = rw (← is.size) (afriat_same n here there afriat same c.in_ok-afriat.ensures.proves) in
     let afriat_given : IsAfriatVerdict input.n input.cost afriat = rw (← is.size) (afriat_verdict_same n here there afriat same c.in_ok-afriat.ensures.given) in
     record {
@@ -31,7 +32,7 @@ returns c =
       afriat = afriat;
       lines = c.in_ok-lines.lines.items;
       garp_proves = garp_proves;
-      garp_given = rw (← is.size) (garp_verdict_same n here there same garp c.in_ok-garp.ensures.given);
+      garp_given = rw (← is.size) (garp_verdict_same n here there same garp (c.in_ok-garp.ensures.given_without_levels none));
       afriat_proves = afriat_proves;
       afriat_given = afriat_given;
       accepted = first_accepted input garp garp_proves afriat afriat_proves afriat_given;

@@ -1,4 +1,4 @@
-use Rattle.std.proofs.Common.{subst, sym}
+use Rattle.std.proofs.Common.{◌∙◌, subst, sym}
 use Rattle.rp_evidence.specs.Input.{input_of_table}
 use Rattle.rp_evidence.specs.Proves.{Proves}
 use Rattle.rp_evidence.specs.declared.certificate.Item.TheVariants.{Garp as GarpItem}
@@ -15,11 +15,12 @@ pub returns : goal.returns
 returns c =
     let costs = c.args.costs.now in
     let table = c.args.table.now in
+    let none = c.requires.of_table.levels ∙ c.requires.no_levels in
     let garp = c.in_ok-garp.garp in
     let input = input_of_table table in
     let others = c.in_ok-others.others.items in
-    let proves : Proves input (GarpItem garp) = garp_there costs table c.requires.of_table garp c.in_ok-garp.ensures.proves in
-    let given : IsGarpVerdict input.n input.cost garp = garp_given_there costs table c.requires.of_table garp c.in_ok-garp.ensures.given in
+    let proves : Proves input (GarpItem garp) = garp_there costs table c.requires.of_table garp (c.in_ok-garp.ensures.proves_without_levels none) in
+    let given : IsGarpVerdict input.n input.cost garp = garp_given_there costs table c.requires.of_table garp (c.in_ok-garp.ensures.given_without_levels none) in
     record {
       garp = garp;
       others = others;

@@ -1,6 +1,6 @@
-use Rattle.std.proofs.Common.{◌≡◌, ℕ, List, [], ◌∷◌, Option, Some, None, Result, Ok, Err, refl, sym, subst, ap, length}
+use Rattle.std.proofs.Common.{◌≡◌, ℕ, List, [], ◌∷◌, Some, None, Result, Ok, Err, refl, sym, subst, ap, length}
 use Rattle.rp_text.specs.Denotation.{budgets_in, choices_on}
-use Rattle.rp_words.specs.CommandLine.{Line, file_at, file_set, files_of}
+use Rattle.rp_words.specs.CommandLine.{Line, file_at, file_set, files_of, takes_levels}
 use Rattle.rp_words.specs.Named.{named_line}
 use Rattle.rp_words.specs.Ranges.{IsSized}
 use Rattle.rp_words.specs.declared.commands.FileSet.TheVariants.{Choices}
@@ -10,7 +10,7 @@ use Rattle.rp_run.specs.Causes.{IsCause}
 use Rattle.rp_run.specs.ChoiceContents.{TypedPatchesOf}
 use Rattle.rp_run.specs.Contents.{ContentsIn, Denotes}
 use Rattle.rp_run.specs.Endings.{Rose}
-use Rattle.rp_run.specs.Readings.{AndThen, Just, Numbers, Told, most_bytes}
+use Rattle.rp_run.specs.Readings.{AndThen, Just, Numbers, Told, most_bytes, numbers_in}
 use Rattle.rp_run.specs.Turns.{AreRefused, AsksForFirst, calls_of_files, first_told}
 use Rattle.rp_run.specs.declared.contents.Contents.{Contents}
 use Rattle.rp_run.specs.declared.contents.Contents.TheVariants as contents
@@ -35,11 +35,11 @@ module _ (line : Line) (holds : file_set line ≡ Choices) (sized : IsSized line
   each files = calls_are line Choices holds sized files (first line ∷ second line ∷ []) named
 
   denoted : (bytes : ℕ → List ℕ) (r : Result Contents (List ℕ)) → AndThen (Numbers (first line) budgets_in (bytes 0)) (λ a. AndThen (Numbers (second line) (choices_on a) (bytes 1)) (λ b. AndThen (TypedPatchesOf a b line.given.per) (λ made. Just (Ok (contents.Choices made.0 made.1))))) r → Denotes line bytes r
-  denoted bytes r read = subst (λ set. ContentsIn set line.given (λ k. Some (bytes k)) r) (sym holds) read
+  denoted bytes r read = subst (λ set. ContentsIn (takes_levels line) set line.given (λ k. Some (bytes k)) r) (sym holds) read
 
   refused : (files : Files) → AreRefused files line 1 → IsToldRefused files (first line) (Numbers (first line) budgets_in)
   refused files (text, is) =
-      told_refused files (first line) (Numbers (first line) budgets_in) (λ a. AndThen (Told (Numbers (second line) (choices_on a)) None) (λ b. AndThen (TypedPatchesOf a b line.given.per) (λ made. Just (Ok (contents.Choices made.0 made.1))))) text (λ a more. untold (Numbers (second line) (choices_on a)) (λ b. AndThen (TypedPatchesOf a b line.given.per) (λ made. Just (Ok (contents.Choices made.0 made.1)))) text more) (subst (λ set. ContentsIn set line.given (first_told files line 1) (Err text)) holds is)
+      told_refused files (first line) (Numbers (first line) budgets_in) (λ a. AndThen (Told (Numbers (second line) (choices_on a)) None) (λ b. AndThen (TypedPatchesOf a b line.given.per) (λ made. Just (Ok (contents.Choices made.0 made.1))))) text (λ a more. untold (Numbers (second line) (choices_on a)) (λ b. AndThen (TypedPatchesOf a b line.given.per) (λ made. Just (Ok (contents.Choices made.0 made.1)))) text more) (subst (λ set. ContentsIn (takes_levels line) set line.given (first_told files line 1) (Err text)) holds is)
 
 pub returns-in_err-budgets-clause-caused : goal.returns-in_err-budgets-clause-caused
 returns-in_err-budgets-clause-caused g c =
@@ -118,7 +118,7 @@ returns-in_err-choices-clause-in_turn g c =
     let once = rw c.file.ensures at c.in_ok-budgets.ensures.read_through in
     let also = calls_later files later (second line) most_bytes _ _ (c.in_ok-budgets.ensures.bytes_stay (second line)) (rw c.file-2.ensures at c.in_err-choices.ensures.read_through) in
     second_turn files line _ _ _ (each line c.requires.files c.requires.sized files) _ _ _ 0 (ap length (named line c.requires.files c.requires.sized)) once also
-    (λ is. taken_apart files (first line) budgets_in a loaded (refused line c.requires.files c.requires.sized files is))
+    (λ is. taken_apart files (first line) (numbers_in (first line) budgets_in) a loaded (refused line c.requires.files c.requires.sized files is))
 
 pub returns-in_err-patches-clause-in_turn : goal.returns-in_err-patches-clause-in_turn
 returns-in_err-patches-clause-in_turn g c =
@@ -130,7 +130,7 @@ returns-in_err-patches-clause-in_turn g c =
     let once = rw c.file.ensures at c.in_ok-budgets.ensures.read_through in
     let also = calls_later files later (second line) most_bytes _ _ (c.in_ok-budgets.ensures.bytes_stay (second line)) (rw c.file-2.ensures at c.in_ok-choices.ensures.read_through) in
     second_turn files line _ _ _ (each line c.requires.files c.requires.sized files) _ _ _ 0 (ap length (named line c.requires.files c.requires.sized)) once also
-    (λ is. taken_apart files (first line) budgets_in a loaded (refused line c.requires.files c.requires.sized files is))
+    (λ is. taken_apart files (first line) (numbers_in (first line) budgets_in) a loaded (refused line c.requires.files c.requires.sized files is))
 
 pub returns-clause-in_turn : goal.returns-clause-in_turn
 returns-clause-in_turn g c =
@@ -142,4 +142,4 @@ returns-clause-in_turn g c =
     let once = rw c.file.ensures at c.in_ok-budgets.ensures.read_through in
     let also = calls_later files later (second line) most_bytes _ _ (c.in_ok-budgets.ensures.bytes_stay (second line)) (rw c.file-2.ensures at c.in_ok-choices.ensures.read_through) in
     second_turn files line _ _ _ (each line c.requires.files c.requires.sized files) _ _ _ 0 (ap length (named line c.requires.files c.requires.sized)) once also
-    (λ is. taken_apart files (first line) budgets_in a loaded (refused line c.requires.files c.requires.sized files is))
+    (λ is. taken_apart files (first line) (numbers_in (first line) budgets_in) a loaded (refused line c.requires.files c.requires.sized files is))

@@ -1,9 +1,9 @@
-use Rattle.std.proofs.Common.{◌≡◌, ◌≤◌, ◌⊎◌, ◌∙◌, ℕ, List, [], ◌∷◌, Option, Some, None, Result, Ok, Err, inl, inr, refl, sym, subst, ap, length, arith}
+use Rattle.std.proofs.Common.{◌≡◌, ◌≤◌, ◌⊎◌, ◌∙◌, ℕ, List, [], ◌∷◌, Some, None, Result, Ok, Err, inl, inr, refl, sym, subst, ap, length, arith}
 use Rattle.rp_evidence.specs.declared.certificate.Kind.TheVariants.{Random as RandomKind}
 use Rattle.rp_table.specs.BudgetLists.{BudgetList}
 use Rattle.rp_text.specs.Denotation.{budgets_in, choices_on}
 use Rattle.rp_outside.specs.Reads.{calls_through}
-use Rattle.rp_words.specs.CommandLine.{Line, file_at, file_set, files_of}
+use Rattle.rp_words.specs.CommandLine.{Line, file_at, file_set, files_of, takes_levels}
 use Rattle.rp_words.specs.Named.{named_line}
 use Rattle.rp_words.specs.Ranges.{IsSized}
 use Rattle.rp_words.specs.declared.commands.FileSet.TheVariants.{ChoicesAndCertificate}
@@ -12,7 +12,7 @@ use Rattle.rp_run.specs.Causes.{IsCause}
 use Rattle.rp_run.specs.ChoiceContents.{TypedPatchesOf}
 use Rattle.rp_run.specs.Contents.{ContentsIn, Denotes}
 use Rattle.rp_run.specs.Endings.{Rose}
-use Rattle.rp_run.specs.Readings.{AndThen, CertificateIn, Just, Numbers, Told, most_bytes, most_certificate_bytes}
+use Rattle.rp_run.specs.Readings.{AndThen, CertificateIn, Just, Numbers, Told, most_bytes, most_certificate_bytes, numbers_in}
 use Rattle.rp_run.specs.Turns.{AreRefused, AsksForFirst, calls_of_files, first_told}
 use Rattle.rp_run.specs.declared.contents.Contents.{Contents}
 use Rattle.rp_run.specs.declared.contents.Contents.TheVariants as contents
@@ -40,7 +40,7 @@ module _ (line : Line) (holds : file_set line ≡ ChoicesAndCertificate) (sized 
   each files = calls_are line ChoicesAndCertificate holds sized files (first line ∷ second line ∷ third line ∷ []) named
 
   denoted : (bytes : ℕ → List ℕ) (r : Result Contents (List ℕ)) → AndThen (Numbers (first line) budgets_in (bytes 0)) (λ a. AndThen (Numbers (second line) (choices_on a) (bytes 1)) (λ b. AndThen (CertificateIn (third line) RandomKind (bytes 2)) (λ read. AndThen (TypedPatchesOf a b line.given.per) (λ made. Just (Ok (contents.ChoicesAndCertificate made.0 made.1 read)))))) r → Denotes line bytes r
-  denoted bytes r read = subst (λ set. ContentsIn set line.given (λ k. Some (bytes k)) r) (sym holds) read
+  denoted bytes r read = subst (λ set. ContentsIn (takes_levels line) set line.given (λ k. Some (bytes k)) r) (sym holds) read
 
   nothing_after : (a : BudgetList) (text : List ℕ) → AndThen (Told (Numbers (second line) (choices_on a)) None) (λ b. AndThen (Told (CertificateIn (third line) RandomKind) None) (λ read. AndThen (TypedPatchesOf a b line.given.per) (λ made. Just (Ok (contents.ChoicesAndCertificate made.0 made.1 read))))) (Err text) → ⊥
   nothing_after a text more = untold (Numbers (second line) (choices_on a)) (λ b. AndThen (Told (CertificateIn (third line) RandomKind) None) (λ read. AndThen (TypedPatchesOf a b line.given.per) (λ made. Just (Ok (contents.ChoicesAndCertificate made.0 made.1 read))))) text more
@@ -48,13 +48,13 @@ module _ (line : Line) (holds : file_set line ≡ ChoicesAndCertificate) (sized 
   refused : (files : Files) → AreRefused files line 1 → IsToldRefused files (first line) (Numbers (first line) budgets_in)
   refused files (text, is) =
       told_refused files (first line) (Numbers (first line) budgets_in) (λ a. AndThen (Told (Numbers (second line) (choices_on a)) None) (λ b. AndThen (Told (CertificateIn (third line) RandomKind) None) (λ read. AndThen (TypedPatchesOf a b line.given.per) (λ made. Just (Ok (contents.ChoicesAndCertificate made.0 made.1 read)))))) text (λ a more. nothing_after a text more)
-      (subst (λ set. ContentsIn set line.given (first_told files line 1) (Err text)) holds is)
+      (subst (λ set. ContentsIn (takes_levels line) set line.given (first_told files line 1) (Err text)) holds is)
 
   then_refused : (files : Files) → AreRefused files line 2
       → IsToldRefused files (first line) (Numbers (first line) budgets_in) ⊎ ((a : BudgetList) × IsToldTaken files (first line) (Numbers (first line) budgets_in) a × IsToldRefused files (second line) (Numbers (second line) (choices_on a)))
   then_refused files (text, is) =
       elim (told_before files (first line) (Numbers (first line) budgets_in) (λ a. AndThen (Told (Numbers (second line) (choices_on a)) (files (second line))) (λ b. AndThen (Told (CertificateIn (third line) RandomKind) None) (λ read. AndThen (TypedPatchesOf a b line.given.per) (λ made. Just (Ok (contents.ChoicesAndCertificate made.0 made.1 read)))))) text
-      (subst (λ set. ContentsIn set line.given (first_told files line 2) (Err text)) holds is)) [
+      (subst (λ set. ContentsIn (takes_levels line) set line.given (first_told files line 2) (Err text)) holds is)) [
         | inl one ↦ inl one
         | inr (a, taken, more) ↦ inr (a, taken, told_refused files (second line) (Numbers (second line) (choices_on a)) (λ b. AndThen (Told (CertificateIn (third line) RandomKind) None) (λ read. AndThen (TypedPatchesOf a b line.given.per) (λ made. Just (Ok (contents.ChoicesAndCertificate made.0 made.1 read))))) text (λ b last. untold (CertificateIn (third line) RandomKind) (λ read. AndThen (TypedPatchesOf a b line.given.per) (λ made. Just (Ok (contents.ChoicesAndCertificate made.0 made.1 read)))) text last) more)
       ]
@@ -172,7 +172,7 @@ returns-in_err-choices-clause-in_turn g c =
     let s = second line in
     let later = g.D.Desk.bytes c.load_budgets.new.desk in
     let also = calls_later files later s most_bytes _ _ (c.in_ok-budgets.ensures.bytes_stay s) (rw c.file-2.ensures at c.in_err-choices.ensures.read_through) in
-    second_turn files line _ _ _ (each line c.requires.files c.requires.sized files) _ _ _ 1 (ap length (named line c.requires.files c.requires.sized)) once also (λ is. taken_apart files (first line) budgets_in a loaded (refused line c.requires.files c.requires.sized files is))
+    second_turn files line _ _ _ (each line c.requires.files c.requires.sized files) _ _ _ 1 (ap length (named line c.requires.files c.requires.sized)) once also (λ is. taken_apart files (first line) (numbers_in (first line) budgets_in) a loaded (refused line c.requires.files c.requires.sized files is))
 
 pub returns-in_err-certificate-clause-in_turn : goal.returns-in_err-certificate-clause-in_turn
 returns-in_err-certificate-clause-in_turn g c =
@@ -189,10 +189,10 @@ returns-in_err-certificate-clause-in_turn g c =
     let last = g.D.Desk.bytes c.load_choices.new.desk in
     let stays = c.in_ok-choices.ensures.bytes_stay t ∙ c.in_ok-budgets.ensures.bytes_stay t in
     let too = calls_later files last t most_certificate_bytes _ _ stays (rw c.file-3.ensures at c.in_err-certificate.ensures.read_through) in
-    third_turn files line _ _ _ _ (each line c.requires.files c.requires.sized files) _ _ _ _ (ap length (named line c.requires.files c.requires.sized)) once also too (λ is. taken_apart files (first line) budgets_in a loaded (refused line c.requires.files c.requires.sized files is))
+    third_turn files line _ _ _ _ (each line c.requires.files c.requires.sized files) _ _ _ _ (ap length (named line c.requires.files c.requires.sized)) once also too (λ is. taken_apart files (first line) (numbers_in (first line) budgets_in) a loaded (refused line c.requires.files c.requires.sized files is))
     (λ is. elim (then_refused line c.requires.files c.requires.sized files is) [
-      | inl one ↦ taken_apart files (first line) budgets_in a loaded one
-      | inr both ↦ second_apart files (first line) s budgets_in choices_on a c.in_ok-choices.choices loaded moved both
+      | inl one ↦ taken_apart files (first line) (numbers_in (first line) budgets_in) a loaded one
+      | inr both ↦ second_apart files (first line) s (numbers_in (first line) budgets_in) (λ a. numbers_in s (choices_on a)) a c.in_ok-choices.choices loaded moved both
     ])
 
 pub returns-in_err-patches-clause-in_turn : goal.returns-in_err-patches-clause-in_turn
@@ -210,10 +210,10 @@ returns-in_err-patches-clause-in_turn g c =
     let last = g.D.Desk.bytes c.load_choices.new.desk in
     let stays = c.in_ok-choices.ensures.bytes_stay t ∙ c.in_ok-budgets.ensures.bytes_stay t in
     let too = calls_later files last t most_certificate_bytes _ _ stays (rw c.file-3.ensures at c.in_ok-certificate.ensures.read_through) in
-    third_turn files line _ _ _ _ (each line c.requires.files c.requires.sized files) _ _ _ _ (ap length (named line c.requires.files c.requires.sized)) once also too (λ is. taken_apart files (first line) budgets_in a loaded (refused line c.requires.files c.requires.sized files is))
+    third_turn files line _ _ _ _ (each line c.requires.files c.requires.sized files) _ _ _ _ (ap length (named line c.requires.files c.requires.sized)) once also too (λ is. taken_apart files (first line) (numbers_in (first line) budgets_in) a loaded (refused line c.requires.files c.requires.sized files is))
     (λ is. elim (then_refused line c.requires.files c.requires.sized files is) [
-      | inl one ↦ taken_apart files (first line) budgets_in a loaded one
-      | inr both ↦ second_apart files (first line) s budgets_in choices_on a c.in_ok-choices.choices loaded moved both
+      | inl one ↦ taken_apart files (first line) (numbers_in (first line) budgets_in) a loaded one
+      | inr both ↦ second_apart files (first line) s (numbers_in (first line) budgets_in) (λ a. numbers_in s (choices_on a)) a c.in_ok-choices.choices loaded moved both
     ])
 
 pub returns-clause-in_turn : goal.returns-clause-in_turn
@@ -231,8 +231,8 @@ returns-clause-in_turn g c =
     let last = g.D.Desk.bytes c.load_choices.new.desk in
     let stays = c.in_ok-choices.ensures.bytes_stay t ∙ c.in_ok-budgets.ensures.bytes_stay t in
     let too = calls_later files last t most_certificate_bytes _ _ stays (rw c.file-3.ensures at c.in_ok-certificate.ensures.read_through) in
-    third_turn files line _ _ _ _ (each line c.requires.files c.requires.sized files) _ _ _ _ (ap length (named line c.requires.files c.requires.sized)) once also too (λ is. taken_apart files (first line) budgets_in a loaded (refused line c.requires.files c.requires.sized files is))
+    third_turn files line _ _ _ _ (each line c.requires.files c.requires.sized files) _ _ _ _ (ap length (named line c.requires.files c.requires.sized)) once also too (λ is. taken_apart files (first line) (numbers_in (first line) budgets_in) a loaded (refused line c.requires.files c.requires.sized files is))
     (λ is. elim (then_refused line c.requires.files c.requires.sized files is) [
-      | inl one ↦ taken_apart files (first line) budgets_in a loaded one
-      | inr both ↦ second_apart files (first line) s budgets_in choices_on a c.in_ok-choices.choices loaded moved both
+      | inl one ↦ taken_apart files (first line) (numbers_in (first line) budgets_in) a loaded one
+      | inr both ↦ second_apart files (first line) s (numbers_in (first line) budgets_in) (λ a. numbers_in s (choices_on a)) a c.in_ok-choices.choices loaded moved both
     ])

@@ -1,7 +1,6 @@
 use Rattle.std.proofs.Common.{◌≡◌, ℕ, List, [], ◌∷◌, Some, Result, Ok, refl, sym, subst, ap, length}
-use Rattle.rp_text.specs.Denotation.{table_in}
 use Rattle.rp_outside.specs.Reads.{calls_through}
-use Rattle.rp_words.specs.CommandLine.{Line, file_at, file_set, files_of}
+use Rattle.rp_words.specs.CommandLine.{Line, file_at, file_set, files_of, takes_levels}
 use Rattle.rp_words.specs.Named.{named_line}
 use Rattle.rp_words.specs.Ranges.{IsSized}
 use Rattle.rp_words.specs.declared.commands.FileSet.TheVariants.{Table}
@@ -9,7 +8,7 @@ use Rattle.rp_run.specs.Answers.{Files}
 use Rattle.rp_run.specs.Causes.{IsCause}
 use Rattle.rp_run.specs.Contents.{ContentsIn, Denotes}
 use Rattle.rp_run.specs.Endings.{Rose}
-use Rattle.rp_run.specs.Readings.{AndThen, Just, Numbers, most_bytes}
+use Rattle.rp_run.specs.Readings.{AndThen, Just, TakenTable, most_bytes}
 use Rattle.rp_run.specs.Turns.{AsksForFirst, calls_of_files}
 use Rattle.rp_run.specs.declared.contents.Contents.{Contents}
 use Rattle.rp_run.specs.declared.contents.Contents.TheVariants as contents
@@ -29,8 +28,8 @@ module _ (line : Line) (holds : file_set line ≡ Table) (sized : IsSized line) 
   each : (files : Files) → calls_of_files files line ≡ calls_through most_bytes (files (first line)) ∷ []
   each files = calls_are line Table holds sized files (first line ∷ []) named
 
-  denoted : (bytes : ℕ → List ℕ) (r : Result Contents (List ℕ)) → AndThen (Numbers (first line) table_in (bytes 0)) (λ t. Just (Ok (contents.Table t))) r → Denotes line bytes r
-  denoted bytes r read = subst (λ set. ContentsIn set line.given (λ k. Some (bytes k)) r) (sym holds) read
+  denoted : (bytes : ℕ → List ℕ) (r : Result Contents (List ℕ)) → AndThen (TakenTable (takes_levels line) (first line) (bytes 0)) (λ t. Just (Ok (contents.Table t))) r → Denotes line bytes r
+  denoted bytes r read = subst (λ set. ContentsIn (takes_levels line) set line.given (λ k. Some (bytes k)) r) (sym holds) read
 
 pub returns-in_err-table-clause-caused : goal.returns-in_err-table-clause-caused
 returns-in_err-table-clause-caused g c =
@@ -38,17 +37,17 @@ returns-in_err-table-clause-caused g c =
     let files = g.D.Desk.bytes c.args.desk.now in
     let rose = Rose (g.D.Desk.faults c.args.desk.now) (g.D.Desk.faults c.load_table.new.desk) in
     let asks = AsksForFirst files (g.D.Desk.calls c.args.desk.now) (g.D.Desk.calls c.load_table.new.desk) in
-    let loaded = rw c.file.ensures at c.in_err-table.ensures.loaded in
+    let loaded = rw (c.file.ensures, c.takes_levels.ensures) at c.in_err-table.ensures.loaded in
     let once = rw c.file.ensures at c.in_err-table.ensures.read_through in
     passed_on c.from_residual.result c.in_err-table.field-0.0 (IsCause files rose asks line) c.from_residual.ensures
-    (one_cause files rose asks line (first line) (Numbers (first line) table_in) contents.Table c.in_err-table.field-0.0 (named line c.requires.files c.requires.sized) (denoted line c.requires.files c.requires.sized) (asks_one files line _ _ (each line c.requires.files c.requires.sized files) _ _ once) loaded)
+    (one_cause files rose asks line (first line) (TakenTable (takes_levels line) (first line)) contents.Table c.in_err-table.field-0.0 (named line c.requires.files c.requires.sized) (denoted line c.requires.files c.requires.sized) (asks_one files line _ _ (each line c.requires.files c.requires.sized files) _ _ once) loaded)
 
 pub returns-clause-read : goal.returns-clause-read
 returns-clause-read g c =
     let line = named_line c.args.line.now in
     let files = g.D.Desk.bytes c.args.desk.now in
-    let loaded = rw c.file.ensures at c.in_ok-table.ensures.loaded in
-    one_input files line (first line) (Numbers (first line) table_in) contents.Table c.in_ok-table.table (named line c.requires.files c.requires.sized) (denoted line c.requires.files c.requires.sized) loaded
+    let loaded = rw (c.file.ensures, c.takes_levels.ensures) at c.in_ok-table.ensures.loaded in
+    one_input files line (first line) (TakenTable (takes_levels line) (first line)) contents.Table c.in_ok-table.table (named line c.requires.files c.requires.sized) (denoted line c.requires.files c.requires.sized) loaded
 
 pub returns-in_err-table-clause-in_turn : goal.returns-in_err-table-clause-in_turn
 returns-in_err-table-clause-in_turn g c =

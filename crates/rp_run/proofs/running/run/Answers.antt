@@ -1,10 +1,10 @@
-use Rattle.std.proofs.Common.{◌≡◌, ◌∙◌, Some, None, map, string_bytes, sym, subst, inl, inr}
+use Rattle.std.proofs.Common.{◌≡◌, ◌∙◌, Some, None, map, string_bytes, refl, sym, subst, inl, inr}
 use Rattle.rp_words.specs.Words.{line_in}
 use Rattle.rp_words.specs.Named.{named_line}
 use Rattle.rp_run.specs.Turns.{AreReadInTurn, AsksForFirst}
 use Rattle.rp_run.proofs.TurnLemmas.{unread}
 use Rattle.rp_words.proofs.MatchesNameALine.{refused_where_no_line}
-use Rattle.rp_run.proofs.RunLemmas.{cause_of_accepted, cause_of_calm, done_line_apart, line_rejected, not_both, rejected_line_apart}
+use Rattle.rp_run.proofs.RunLemmas.{answer_written, cause_of_accepted, cause_of_calm, done_line_apart, line_rejected, not_both, rejected_line_apart}
 use Rattle.rp_words.proofs.ShapeLemmas.{shape_given}
 use Rattle.rp_run.proofs.running.run.Goals as goal
 
@@ -28,45 +28,6 @@ returns-in-Ok-answer_line-clause-refused g c = λ line is refused calm.
     let asked : line_in c.args.words.now.items ≡ Some (named_line c.in-Some.line) = rw (c.in-Some.is, c.as_slice.ensures.value) at (sym c.in-Ok.ensures.exact) in
     elim (not_both (g.D.Desk.bytes c.args.desk.now) (line_in c.args.words.now.items) (named_line c.in-Some.line) line answer.answer.status answer.answer.text.items asked is answer.ensures.answered refused) [ ]
 
-pub returns-in-Ok-answer_line-clause-rejected : goal.returns-in-Ok-answer_line-clause-rejected
-returns-in-Ok-answer_line-clause-rejected g c = λ rejected.
-    let answer = c.in-Ok-answer_line in
-    let asked : line_in c.args.words.now.items ≡ Some (named_line c.in-Some.line) = rw (c.in-Some.is, c.as_slice.ensures.value) at (sym c.in-Ok.ensures.exact) in
-    elim c.finish.ensures.either [
-      | inl same ↦ line_rejected (g.D.Desk.bytes c.args.desk.now) (line_in c.args.words.now.items) (named_line c.in-Some.line) answer.answer.status answer.answer.text.items asked answer.ensures.answered (sym same ∙ rejected)
-      | inr fault ↦ (let wrong = sym fault ∙ rejected in absurd cc)
-    ]
-
-pub returns-in-Ok-answer_line-clause-never_done : goal.returns-in-Ok-answer_line-clause-never_done
-returns-in-Ok-answer_line-clause-never_done g c = λ line is must done.
-    let answer = c.in-Ok-answer_line in
-    let asked : line_in c.args.words.now.items ≡ Some (named_line c.in-Some.line) = rw (c.in-Some.is, c.as_slice.ensures.value) at (sym c.in-Ok.ensures.exact) in
-    elim c.finish.ensures.either [
-      | inl same ↦ done_line_apart (g.D.Desk.bytes c.args.desk.now) (line_in c.args.words.now.items) (named_line c.in-Some.line) line answer.answer.status answer.answer.text.items asked is answer.ensures.answered must (sym same ∙ done)
-      | inr fault ↦ (let wrong = sym fault ∙ done in cc)
-    ]
-
-pub returns-in-Ok-answer_line-clause-never_rejected : goal.returns-in-Ok-answer_line-clause-never_rejected
-returns-in-Ok-answer_line-clause-never_rejected g c = λ line is must rejected.
-    let answer = c.in-Ok-answer_line in
-    let asked : line_in c.args.words.now.items ≡ Some (named_line c.in-Some.line) = rw (c.in-Some.is, c.as_slice.ensures.value) at (sym c.in-Ok.ensures.exact) in
-    elim c.finish.ensures.either [
-      | inl same ↦ rejected_line_apart (g.D.Desk.bytes c.args.desk.now) (line_in c.args.words.now.items) (named_line c.in-Some.line) line answer.answer.status answer.answer.text.items asked is answer.ensures.answered must (sym same ∙ rejected)
-      | inr fault ↦ (let wrong = sym fault ∙ rejected in cc)
-    ]
-
-pub returns-in_default-clause-in_turn : goal.returns-in_default-clause-in_turn
-returns-in_default-clause-in_turn g c = λ line is. unread (g.D.Desk.bytes c.args.desk.now) (g.D.Desk.calls c.args.desk.now) line
-
-pub returns-in_default-asked-clause-in_turn : goal.returns-in_default-asked-clause-in_turn
-returns-in_default-asked-clause-in_turn g c = λ line is. unread (g.D.Desk.bytes c.args.desk.now) (g.D.Desk.calls c.args.desk.now) line
-
-pub returns-in-Ok-answer_line-clause-in_turn : goal.returns-in-Ok-answer_line-clause-in_turn
-returns-in-Ok-answer_line-clause-in_turn g c = λ line is.
-    let asked : line_in c.args.words.now.items ≡ Some (named_line c.in-Some.line) = rw (c.in-Some.is, c.as_slice.ensures.value) at (sym c.in-Ok.ensures.exact) in
-    let same : named_line c.in-Some.line ≡ line = cc in
-    subst (λ l. AreReadInTurn (g.D.Desk.bytes c.args.desk.now) (g.D.Desk.calls c.args.desk.now) (g.D.Desk.calls c.answer_line.new.desk) l) same c.in-Ok-answer_line.ensures.in_turn
-
 pub returns-clause-shapes : goal.returns-clause-shapes
 returns-clause-shapes g c = λ line name has is. shape_given (map string_bytes c.args.words.now.items) line name has is
 
@@ -86,8 +47,54 @@ returns-clause-refused g c = λ line is _ calm.
     let asks = AsksForFirst (g.D.Desk.bytes c.args.desk.now) (g.D.Desk.calls c.args.desk.now) (g.D.Desk.calls c.answer_line.new.desk) in
     rw c.refuse-in-Err.ensures.status (cause_of_calm (g.D.Desk.bytes c.args.desk.now) before after asks (line_in c.args.words.now.items) (named_line c.in-Some.line) line c.in-Err.cause asked is calm c.in-Err.ensures.caused)
 
-pub returns-clause-in_turn : goal.returns-clause-in_turn
-returns-clause-in_turn g c = λ line is.
+pub returns-in-Ok-answer_line-clause-written : goal.returns-in-Ok-answer_line-clause-written
+returns-in-Ok-answer_line-clause-written g c =
+    let answer = c.in-Ok-answer_line in
     let asked : line_in c.args.words.now.items ≡ Some (named_line c.in-Some.line) = rw (c.in-Some.is, c.as_slice.ensures.value) at (sym c.in-Ok.ensures.exact) in
-    let same : named_line c.in-Some.line ≡ line = cc in
-    subst (λ l. AreReadInTurn (g.D.Desk.bytes c.args.desk.now) (g.D.Desk.calls c.args.desk.now) (g.D.Desk.calls c.answer_line.new.desk) l) same c.in-Err.ensures.in_turn
+    answer_written (g.D.Desk.bytes c.args.desk.now) (line_in c.args.words.now.items) (named_line c.in-Some.line) answer.answer.status c.finish.result answer.answer.text.items
+    (g.O.Sink.written c.args.out.now) (g.O.Sink.written c.finish.new.out) (g.O.Sink.faults c.args.out.now) (g.O.Sink.faults c.finish.new.out)
+    asked answer.ensures.answered c.finish.ensures.either (λ ends. (c.finish.ensures.whole ends).0) c.finish.ensures.part
+
+pub returns-in-Ok-answer_line-clause-verdict : goal.returns-in-Ok-answer_line-clause-verdict
+returns-in-Ok-answer_line-clause-verdict g c =
+    let answer = c.in-Ok-answer_line in
+    let files = g.D.Desk.bytes c.args.desk.now in
+    let asked : line_in c.args.words.now.items ≡ Some (named_line c.in-Some.line) = rw (c.in-Some.is, c.as_slice.ensures.value) at (sym c.in-Ok.ensures.exact) in
+    record {
+      rejected = λ rejected. elim c.finish.ensures.either [
+        | inl same ↦ line_rejected files (line_in c.args.words.now.items) (named_line c.in-Some.line) answer.answer.status answer.answer.text.items asked answer.ensures.answered (sym same ∙ rejected)
+        | inr fault ↦ (let wrong = sym fault ∙ rejected in absurd cc)
+      ];
+      never_done = λ line is must done. elim c.finish.ensures.either [
+        | inl same ↦ done_line_apart files (line_in c.args.words.now.items) (named_line c.in-Some.line) line answer.answer.status answer.answer.text.items asked is answer.ensures.answered must (sym same ∙ done)
+        | inr fault ↦ (let wrong = sym fault ∙ done in cc)
+      ];
+      never_rejected = λ line is must rejected. elim c.finish.ensures.either [
+        | inl same ↦ rejected_line_apart files (line_in c.args.words.now.items) (named_line c.in-Some.line) line answer.answer.status answer.answer.text.items asked is answer.ensures.answered must (sym same ∙ rejected)
+        | inr fault ↦ (let wrong = sym fault ∙ rejected in cc)
+      ];
+    }
+
+pub returns-in_default-clause-turns : goal.returns-in_default-clause-turns
+returns-in_default-clause-turns g c = record { in_turn = λ line is. unread (g.D.Desk.bytes c.args.desk.now) (g.D.Desk.calls c.args.desk.now) line; none_asked = λ none. refl }
+
+pub returns-in_default-asked-clause-turns : goal.returns-in_default-asked-clause-turns
+returns-in_default-asked-clause-turns g c = record { in_turn = λ line is. unread (g.D.Desk.bytes c.args.desk.now) (g.D.Desk.calls c.args.desk.now) line; none_asked = λ none. refl }
+
+pub returns-in-Ok-answer_line-clause-turns : goal.returns-in-Ok-answer_line-clause-turns
+returns-in-Ok-answer_line-clause-turns g c =
+    let asked : line_in c.args.words.now.items ≡ Some (named_line c.in-Some.line) = rw (c.in-Some.is, c.as_slice.ensures.value) at (sym c.in-Ok.ensures.exact) in
+    record {
+      in_turn = λ line is. (let same : named_line c.in-Some.line ≡ line = cc in
+          subst (λ l. AreReadInTurn (g.D.Desk.bytes c.args.desk.now) (g.D.Desk.calls c.args.desk.now) (g.D.Desk.calls c.answer_line.new.desk) l) same c.in-Ok-answer_line.ensures.in_turn);
+      none_asked = λ none. cc;
+    }
+
+pub returns-clause-turns : goal.returns-clause-turns
+returns-clause-turns g c =
+    let asked : line_in c.args.words.now.items ≡ Some (named_line c.in-Some.line) = rw (c.in-Some.is, c.as_slice.ensures.value) at (sym c.in-Ok.ensures.exact) in
+    record {
+      in_turn = λ line is. (let same : named_line c.in-Some.line ≡ line = cc in
+          subst (λ l. AreReadInTurn (g.D.Desk.bytes c.args.desk.now) (g.D.Desk.calls c.args.desk.now) (g.D.Desk.calls c.answer_line.new.desk) l) same c.in-Err.ensures.in_turn);
+      none_asked = λ none. cc;
+    }

@@ -1,0 +1,24 @@
+-- What `pump` prints: the report of the greatest money pump ratio (Echenique, Lee and Shum 2011), with its evidence.
+use Rattle.std.specs.Prelude.{◌≡◌, ◌↔◌, ◌<◌, ℕ, List}
+use Rattle.rp_evidence.specs.Efficiency.{FailsGarp}
+use Rattle.rp_num.specs.Fraction.{IsCoprime}
+use Rattle.rp_pump.specs.MoneyPump.{IsPumpIndex}
+use Rattle.rp_pump.specs.PumpEvidence.{HasLeastPumpTotals, PumpHolds}
+use Rattle.rp_pump.specs.Report.{pump_report}
+use Rattle.rp_pump.specs.declared.part.PumpPart.{PumpPart}
+use Rattle.rp_table.specs.Cost.{cost_of}
+use Rattle.rp_table.specs.Tables.{Observations, records_of}
+
+-- for the costs of n observations: the greatest ratio in lowest terms, with a walk that has it and the least totals at
+-- it as values, which the check accepts; it is above 0 just where the generalized axiom fails
+pub record IsPumpAnswer (n : ℕ) (c : ℕ → ℕ → ℕ) (part : PumpPart) : Type 0 where
+  pub index : IsPumpIndex n c part.num part.den
+  pub lowest_terms : IsCoprime part.num part.den
+  pub least : HasLeastPumpTotals n c part
+  pub accepted : PumpHolds n c part
+  pub garp : (0 < part.num) ↔ FailsGarp n c 1 1
+
+-- the text is the report of that
+abbrev pub IsPumpText : Observations → List ℕ → Type 0
+IsPumpText table text =
+    (part : PumpPart) × IsPumpAnswer (records_of table) (cost_of table) part × (text ≡ pump_report table part)

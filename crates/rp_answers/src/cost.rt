@@ -1,0 +1,52 @@
+ghost use Rattle.std.specs.Prelude.{◌≡◌, ◌↔◌, ◌≤◌, IfOk, slice_index};
+ghost use Rattle.rp_cost.specs.Axioms.{MeetsCost};
+ghost use Rattle.rp_cost.specs.declared.axioms.Axiom.TheVariants.{Holds};
+ghost use Rattle.rp_table.specs.Tables.{goods_of};
+ghost use Rattle.rp_answers.specs.CostText.{AreBoundsOfEach, AreBoundsUnder, IsCostText};
+
+use rp_cost::{Asked, Axiom, CostBounds, Tech, cost_axiom, cost_bounds, profit_axiom, report_cost};
+use rp_num::NoMemory;
+use std::alloc::Global;
+
+/// The report of the axioms of production on a technology, and of what each asked output costs at its prices.
+pub fn cost_text(alloc: Global, tech: &Tech, asked: &Asked) -> Result<Vec<u8>, NoMemory>
+    requires { asked.now.prices.goods ≡ goods_of tech.now.table }
+    ensures { IfOk result (λ text. IsCostText tech.now asked.now text.items) }
+{
+    let cost = cost_axiom(tech);
+    let profit = profit_axiom(tech);
+    let bounds = bounds_under(alloc, tech, asked, cost)?;
+    let text = report_cost(alloc, tech, asked, cost, profit, bounds.as_slice())?;
+    Ok(text)
+}
+
+/// The bounds of each asked record where the cost axiom holds, and none where it fails.
+fn bounds_under(
+    alloc: Global,
+    tech: &Tech,
+    asked: &Asked,
+    cost: Axiom,
+) -> Result<Vec<CostBounds>, NoMemory>
+    requires inputs { asked.now.prices.goods ≡ goods_of tech.now.table }
+    requires verdict { (cost ≡ Holds) ↔ MeetsCost tech.now }
+    ensures { IfOk result (λ bounds. AreBoundsUnder tech.now asked.now cost bounds.items) }
+{
+    match cost {
+        Axiom::Holds => bounds_of_each(alloc, tech, asked),
+        Axiom::Pair { .. } => Ok(Vec::new(alloc)),
+    }
+}
+
+/// The bounds of each asked record.
+fn bounds_of_each(alloc: Global, tech: &Tech, asked: &Asked) -> Result<Vec<CostBounds>, NoMemory>
+    requires inputs { asked.now.prices.goods ≡ goods_of tech.now.table }
+    requires minimises { MeetsCost tech.now }
+    ensures { IfOk result (λ bounds. AreBoundsOfEach tech.now asked.now bounds.items) }
+{
+    let mut all = Vec::new(alloc);
+    for i in 0..asked.count() {
+        let bounds = cost_bounds(alloc, tech, asked.row(i), asked.y(i))?;
+        all.push(bounds)?;
+    }
+    Ok(all)
+}

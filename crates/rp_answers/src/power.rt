@@ -1,0 +1,25 @@
+ghost use Rattle.std.specs.Prelude.{◌≡◌, [], IfOk};
+ghost use Rattle.rp_table.specs.Cost.{IsCostsOf};
+ghost use Rattle.rp_answers.specs.PowerText.{IsPowerText};
+
+use rp_num::NoMemory;
+use rp_power::{power, report_power};
+use rp_table::{Costs, Table};
+use std::alloc::Global;
+
+/// The report of how many of so many random behaviours on a table's budgets fail the axiom, without evidence.
+pub fn power_text(
+    alloc: Global,
+    table: &Table,
+    costs: &Costs,
+    seed: u64,
+    draws: u32,
+) -> Result<Vec<u8>, NoMemory>
+    requires of_table { IsCostsOf costs.now table.now }
+    requires no_levels { table.now.levels ≡ [] }
+    ensures { IfOk result (λ text. IsPowerText table.now seed draws text.items) }
+{
+    let violations = power(alloc, table, costs, seed, draws)?;
+    let text = report_power(alloc, table, seed, draws, violations)?;
+    Ok(text)
+}
