@@ -20,13 +20,13 @@ pub record AreForEach (n : ℕ) (counts : List ℕ) (u : List ℤ) (lambda : Lis
 abbrev pub FitAbove : ℕ → List ℕ → List ℤ → List ℕ → ℕ → Type 0
 FitAbove n counts u lambda class =
     (s : ℕ) → s < n → class < slice_index counts s
-      → FitsUtility (utility_of u s) × FitsMultiplier (slice_index lambda s)
+    → FitsUtility (utility_of u s) × FitsMultiplier (slice_index lambda s)
 
 -- the numbers of higher classes are the standard ones
 abbrev pub AreFilledAbove : ℕ → (ℕ → ℕ → ℕ) → List ℕ → List ℤ → List ℕ → ℕ → Type 0
 AreFilledAbove n c counts u lambda class =
     (t : ℕ) → t < n → class < slice_index counts t
-      → AreNumbersOf n c (slice_index counts) (utility_of u) (slice_index lambda) t
+    → AreNumbersOf n c (slice_index counts) (utility_of u) (slice_index lambda) t
 
 -- x is what some observation below n of a higher class allows t
 abbrev pub IsAllowed : ℕ → (ℕ → ℕ → ℕ) → List ℕ → List ℤ → List ℕ → ℕ → ℕ → ℤ → Type 0
@@ -65,7 +65,7 @@ pub record AreMultipliersSet (m n : ℕ) (c : ℕ → ℕ → ℕ) (counts : Lis
   pub as_long : length after ≡ length before
   pub set : (s : ℕ) → s < m → slice_index counts s ≡ class
       → IsMultiplier n c (slice_index counts) (utility_of u) s (slice_index after s)
-        × FitsMultiplier (slice_index after s)
+      × FitsMultiplier (slice_index after s)
   pub kept : (s : ℕ) → s < n → ¬ (slice_index counts s ≡ class) → slice_index after s ≡ slice_index before s
 
 -- at is of the class and its multiplier is too wide

@@ -1,8 +1,8 @@
 -- What proves its verdict and is as it is given passes: demand and welfare.
-use Rattle.std.proofs.Common.{◌<◌, ℕ, List, Bool, IsTrue, Ok, arith, refl, sym, slice_index, slice_index_or}
+use Rattle.std.proofs.Common.{◌<◌, ℕ, List, Bool, IsTrue, Ok, arith, refl, sym, slice_index}
 use Rattle.rp_table.specs.Limits.{IsExpenditure}
 use Rattle.rp_table.specs.NewPrices.{AreNewPrices}
-use Rattle.rp_check.specs.DemandFailure.{BoundHolds, DemandBoundsFail, DemandFails}
+use Rattle.rp_check.specs.DemandFailure.{DemandBoundsFail, DemandFails}
 use Rattle.rp_check.specs.ItemFailure.{shows_garp}
 use Rattle.rp_clauses.specs.PricesFailure.{PricesFail}
 use Rattle.rp_check.specs.WelfareFailure.{LowerHolds, WelfareFails}
@@ -22,8 +22,6 @@ use Rattle.rp_evidence.specs.declared.demand.WelfarePart.TheVariants.{Bounds as 
 use Rattle.rp_evidence.specs.declared.garp.Garp.{Garp}
 use Rattle.rp_evidence.specs.declared.garp.Garp.TheVariants.{Ranks, Cycle}
 use Rattle.rp_evidence.proofs.DemandLaws.{enough_where_kept, more_where_kept}
-use Rattle.rp_farkas.specs.LinearProgram.{LinearProgram}
-use Rattle.rp_bound.specs.ProgramBound.{IsBoundOf}
 use Rattle.rp_support.specs.Bounds.{AreBoundsOf}
 use Rattle.rp_support.specs.Verdict.{IsDemandGiven}
 use Rattle.rp_welfare.specs.Verdict.{IsLowerBound, IsWelfareVerdict}
@@ -31,10 +29,6 @@ use Rattle.rp_agreement.proofs.Closed.{violation_passes}
 
 prices_pass : (goods : ℕ) (prices : List ℕ) → AreNewPrices goods prices → PricesFail goods prices (Ok tt)
 prices_pass goods prices new = (new.one_each, ((λ g g_in. new.fit g 0 (omega (arith, new.one_each))), tt))
-
-bound_holds : (p : LinearProgram) (g : ℕ) (bound : Bound) → IsBoundOf p (λ x. x g) bound → BoundHolds p g bound
-bound_holds p g (Shown value pair) is = is.value
-bound_holds p g (Wide step) is = tt
 
 module _ (input : TableInput) (shown : Bool) where
   demand_bounds_pass : (budget : NewBudget) (below strict : List ℕ) (inner : Point) (goods : List GoodBounds) → IsTrue shown
@@ -59,8 +53,8 @@ module _ (input : TableInput) (shown : Bool) where
                 proves.one_each,
                 (
                   (λ g g_in d. (
-                    bound_holds _ g (slice_index_or goods g d).lower (bounds.lower g d g_in),
-                    (bound_holds _ g (slice_index_or goods g d).upper (bounds.upper g d g_in), tt),
+                    (bounds.lower g d g_in).value,
+                    ((bounds.upper g d g_in).value, tt),
                   )),
                   tt,
                 ),

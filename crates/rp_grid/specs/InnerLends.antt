@@ -17,5 +17,5 @@ module _ {X : Type 0} where
 -- The places end with the run as it was left, cut to its length.
 abbrev pub lends_run : (R : RattleType) → MutBor (Places R.Denot) → ℕ → ℕ → MutBor (List R.Denot) → Fml
 lends_run R c from len r =
-  Lends (the_row R) (Array R 0) c r
-  (λ ws. with_slots c.now (spliced c.now.slots from len (refill len (somes (take len (drop from c.now.slots))) ws)))
+    Lends (the_row R) (Array R 0) c r
+    (λ ws. with_slots c.now (spliced c.now.slots from len (refill len (somes (take len (drop from c.now.slots))) ws)))

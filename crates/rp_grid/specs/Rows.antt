@@ -10,7 +10,7 @@ pub record Rows (X : Type 0) : Type 0 where
 module _ {X : Type 0} where
   abbrev pub rows_code : Coded X → Coded (Rows X)
   rows_code c = code_by (List (List X) × ℕ) (coded× (coded_list (coded_list c)) coded_ℕ) (λ g. (g.rows, g.cols))
-    (λ p. record { rows = p.0; cols = p.1 }) (λ _. refl)
+      (λ p. record { rows = p.0; cols = p.1 }) (λ _. refl)
 
   -- Row r.
   abbrev pub row_of : Rows X → ℕ → List X

@@ -56,7 +56,7 @@ IsDenotedBy kind d (Ok c) =
     × ((other : Certificate) → IsReadable kind other → certificate_value other ≡ d → other ≡ c)
 IsDenotedBy kind d (Err NotJson) = ⊥
 IsDenotedBy kind d (Err BadVersion) = (version : ℕ) × (items : List Data)
-  × (d ≡ top_value kind version items) × (version ≢ 1)
+    × (d ≡ top_value kind version items) × (version ≢ 1)
 IsDenotedBy kind d (Err (BadShape item)) = ((item ≡ 0) × HasNoTop kind d) ⊎ HasBadItem kind d item
 IsDenotedBy kind d (Err NoMemory) = Unit {0}
 

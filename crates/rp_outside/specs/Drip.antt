@@ -13,7 +13,7 @@ pub record DripDeskState : Type 0 where
 -- is
 abbrev pub ReadsPiece : ℕ → List ℕ → ℕ → List ℕ → ℕ → Type 0
 ReadsPiece piece bs at into n = (n ≡ min piece (min (length into) (length bs - at)))
-  × (take n into ≡ take n (drop at bs))
+    × (take n into ≡ take n (drop at bs))
 
 -- the desk after a read, which was answered or not
 abbrev pub after_drip_read : DripDeskState → Bool → DripDeskState

@@ -15,7 +15,7 @@ pub record SinkState : Type 0 where
 -- the next write, of this piece, fails: its number (from 1) is listed, or there is no room for any of it
 abbrev pub WriteFails : SinkState → List ℕ → Type 0
 WriteFails sink piece = Contains sink.fails (next_count sink.calls)
-  ⊎ ((0 < length piece) × (sink.limit ≤ length sink.written))
+    ⊎ ((0 < length piece) × (sink.limit ≤ length sink.written))
 
 -- the sink after a write of this piece, of which it took the n first bytes or none
 abbrev pub after_write : {E : Type 0} → SinkState → List ℕ → Result ℕ E → SinkState

@@ -18,7 +18,7 @@ parts_text text_of parts = flat_map (part_text text_of) parts
 -- a mixture, after the name of what it is a mixture of
 abbrev pub mixture_text : List ℕ → (ℕ → List ℕ) → ℕ → List Share → List ℕ
 mixture_text name text_of den parts =
-  line_of (name ++ codes " mixture over " ++ decimal den) ++ parts_text text_of parts
+    line_of (name ++ codes " mixture over " ++ decimal den) ++ parts_text text_of parts
 
 -- no mixture: the greatest share, the weights that show it, and a partial mixture that has it
 abbrev pub violation_text : List ℕ → (ℕ → List ℕ) → Fraction → ℕ → List ℕ → List Share → List ℕ

@@ -15,16 +15,16 @@ entry_value entry = array (item (observation_value entry.at) (item (natural_valu
 -- a bound with the pair of its program, or the step at which the run of the program passes its width
 abbrev pub bound_value : Bound → Data
 bound_value (Shown value pair) =
-  object (member (codes "den") (natural_value pair.den) (member (codes "value") (fraction_value value)
+    object (member (codes "den") (natural_value pair.den) (member (codes "value") (fraction_value value)
     (member (codes "x") (naturals_value pair.x) (member (codes "y") (list_value entry_value pair.y) no_members))))
 bound_value (Wide step) = object (member (codes "withheld") (natural_value step) no_members)
 
 -- both bounds of a good
 abbrev pub good_value : GoodBounds → Data
 good_value bounds = object
-  (member (codes "lower") (bound_value bounds.lower) (member (codes "upper") (bound_value bounds.upper) no_members))
+    (member (codes "lower") (bound_value bounds.lower) (member (codes "upper") (bound_value bounds.upper) no_members))
 
 -- a point over its denominator
 abbrev pub point_value : Point → Data
 point_value point = object
-  (member (codes "den") (natural_value point.den) (member (codes "num") (naturals_value point.num) no_members))
+    (member (codes "den") (natural_value point.den) (member (codes "num") (naturals_value point.num) no_members))

@@ -14,7 +14,7 @@ demand_value prices m (Bounds below strict inner goods) = object (member (codes 
     (member (codes "expenditure") (natural_value m) (member (codes "goods") (list_value good_value goods)
     (member (codes "inner") (point_value inner) (member (codes "item") (string (codes "demand"))
     (member (codes "prices") (naturals_value prices)
-      (member (codes "strict") (observations_value strict) no_members)))))))
+    (member (codes "strict") (observations_value strict) no_members)))))))
 demand_value prices m (NoModel cycle) = object (member (codes "cycle") (observations_value cycle)
     (member (codes "expenditure") (natural_value m) (member (codes "item") (string (codes "demand"))
     (member (codes "prices") (naturals_value prices) no_members))))

@@ -31,7 +31,7 @@ FitsPoint point = FitsLong point.den × All FitsLong point.num
 abbrev pub FitsDemand : List ℕ → ℕ → DemandPart → Type 0
 FitsDemand prices m (Bounds below strict inner goods) =
     FitObservations below × FitsLong m × All FitsGood goods × FitsPoint inner × All FitsCount prices
-      × FitObservations strict
+    × FitObservations strict
 FitsDemand prices m (NoDemand cycle) = FitObservations cycle × FitsLong m × All FitsCount prices
 
 abbrev pub FitsWelfare : List ℕ → ℕ → WelfarePart → Type 0
@@ -45,5 +45,5 @@ FitsShare share = FitObservations share.patches × FitsLong share.weight
 abbrev pub FitsRandom : ℕ → RandomPart → Type 0
 FitsRandom total (Mixture den parts) = FitsLong den × All FitsShare parts × FitsLong total
 FitsRandom total (Violated den parts weights) = FitsLong den × All FitsShare parts × FitsLong total
-  × All FitsLong weights
+    × All FitsLong weights
 FitsRandom total (WideRandom step) = FitsLong total × FitsLong step

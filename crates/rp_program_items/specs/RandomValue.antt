@@ -14,12 +14,12 @@ share_value share = array (item (observations_value share.patches) (item (natura
 -- width
 abbrev pub random_value : ℕ → RandomPart → Data
 random_value total (Mixture den parts) =
-  object (member (codes "den") (natural_value den) (member (codes "item") (string (codes "random"))
+    object (member (codes "den") (natural_value den) (member (codes "item") (string (codes "random"))
     (member (codes "parts") (list_value share_value parts) (member (codes "total") (natural_value total) no_members))))
 random_value total (Violated den parts weights) =
-  object (member (codes "den") (natural_value den) (member (codes "item") (string (codes "random"))
+    object (member (codes "den") (natural_value den) (member (codes "item") (string (codes "random"))
     (member (codes "parts") (list_value share_value parts) (member (codes "total") (natural_value total)
     (member (codes "weights") (naturals_value weights) no_members)))))
 random_value total (Wide step) =
-  object (member (codes "item") (string (codes "random")) (member (codes "total") (natural_value total)
+    object (member (codes "item") (string (codes "random")) (member (codes "total") (natural_value total)
     (member (codes "withheld") (natural_value step) no_members)))

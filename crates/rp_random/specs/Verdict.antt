@@ -16,7 +16,7 @@ use Rattle.rp_simplex.specs.declared.outcome.Outcome.TheVariants.{Optimal, Unbou
 -- The types of positive weight, in order: those of the listed entries of a point.
 abbrev pub shares_of : List (List ℕ) → List Entry → List Share
 shares_of types entries =
-  map (λ entry. record { patches = slice_index_or types entry.at []; weight = entry.value }) entries
+    map (λ entry. record { patches = slice_index_or types entry.at []; weight = entry.value }) entries
 
 -- From an equal pair: a mixture where its types have the whole total, else a violation, with its price side as weights.
 abbrev pub IsPairVerdict : PatchList → List (List ℕ) → Pair → RandomPart → Type 0

@@ -9,9 +9,9 @@ use Rattle.rp_notation.specs.Values.{naturals_value, observation_value, observat
 abbrev pub afriat_value : AfriatPart → Data
 afriat_value (Model numbers) = object (member (codes "item") (string (codes "afriat"))
     (member (codes "lambda") (naturals_value numbers.lambda)
-      (member (codes "utility") (sums_value numbers.u) no_members)))
+    (member (codes "utility") (sums_value numbers.u) no_members)))
 afriat_value (NoModel cycle) =
-  object (member (codes "cycle") (observations_value cycle)
-  (member (codes "item") (string (codes "afriat")) no_members))
+    object (member (codes "cycle") (observations_value cycle)
+    (member (codes "item") (string (codes "afriat")) no_members))
 afriat_value (Wide at) =
-  object (member (codes "item") (string (codes "afriat")) (member (codes "withheld") (observation_value at) no_members))
+    object (member (codes "item") (string (codes "afriat")) (member (codes "withheld") (observation_value at) no_members))

@@ -14,7 +14,7 @@ level_value level = fraction_value (record { num = level.num; den = level.den })
 -- the members below the evidence at the index
 abbrev pub below_members : Efficiency → Members
 below_members evidence =
-  member (codes "below") (counts_value evidence.below) (member (codes "item") (string (codes "efficiency"))
+    member (codes "below") (counts_value evidence.below) (member (codes "item") (string (codes "efficiency"))
     (member (codes "level") (level_value evidence.level) no_members))
 
 -- the members from the evidence at the index on
@@ -25,4 +25,4 @@ at_members (Cycle cycle) others = member (codes "at_cycle") (observations_value 
 -- the index, and what shows it below, above and at it
 abbrev pub efficiency_value : Efficiency → Data
 efficiency_value evidence =
-  object (member (codes "above") (observations_value evidence.above) (at_members evidence.at (below_members evidence)))
+    object (member (codes "above") (observations_value evidence.above) (at_members evidence.at (below_members evidence)))

@@ -28,7 +28,7 @@ FitsLevel level = IsReduced (record { num = level.num; den = level.den }) × Fit
 
 abbrev pub FitsEfficiency : Efficiency → Type 0
 FitsEfficiency evidence = FitObservations evidence.above × FitsGarp evidence.at × All FitsCount evidence.below
-  × FitsLevel evidence.level
+    × FitsLevel evidence.level
 
 abbrev pub FitsHomothetic : Homothetic → Type 0
 FitsHomothetic (Values values) = All IsReduced values

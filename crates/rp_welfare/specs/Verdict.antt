@@ -34,7 +34,7 @@ pub record AreWelfareBounds (input : TableInput) (prices : ℕ → ℕ) (t upper
 -- Bounds; or, where the axiom fails, the violation that the verdict has.
 abbrev pub IsWelfareVerdict : TableInput → List ℕ → ℕ → Garp → WelfarePart → Type 0
 IsWelfareVerdict input prices t verdict (Bounds upper at lower) =
-  AreWelfareBounds input (slice_index prices) t upper at lower
+    AreWelfareBounds input (slice_index prices) t upper at lower
 IsWelfareVerdict input prices t verdict (NoModel walk) = verdict ≡ Cycle walk
 
 -- A shown lower bound is at most the upper one.
@@ -51,5 +51,5 @@ HasLowerAtMostUpper (NoModel walk) = Unit {0}
 abbrev pub HasBoundedProgram : TableInput → List ℕ → ℕ → WelfarePart → Type 0
 HasBoundedProgram input prices t (Bounds upper at lower) =
     (reached : List ℕ) → ListsReached input t reached
-      → NoneWorthMore (welfare_program input (slice_index prices) reached) upper
+    → NoneWorthMore (welfare_program input (slice_index prices) reached) upper
 HasBoundedProgram input prices t (NoModel walk) = Unit {0}
