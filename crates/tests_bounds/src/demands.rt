@@ -6,6 +6,7 @@ use rp_support::demand;
 use rp_table::{Costs, LARGEST};
 use rp_text::read_table;
 use std::alloc::Global;
+use std::process::Abort;
 use std::test::Fail;
 
 const APART: &str = "p_a,q_a,p_b,q_b\n1,2,2,1\n2,1,1,2\n";
@@ -90,6 +91,25 @@ fn told(alloc: Global, part: &DemandPart) -> Result<String, Fail> {
     Ok(text)
 }
 
+/// What is given where `m` is spent at the prices.
+fn given(
+    rt: &impl Abort,
+    alloc: Global,
+    text: &str,
+    prices: &[u32],
+    m: u64,
+) -> Result<String, Fail> {
+    let table = read_table(alloc, text.as_bytes())?;
+    assert!(rt; !table.levelled());
+    let costs = Costs::of(alloc, &table)?;
+    let verdict = garp(alloc, &costs)?;
+    assert!(rt; are_prices(prices));
+    assert!(rt; prices.len() == table.goods() as usize);
+    assert!(rt; 1 <= m && m <= 1_600_000_000_000_000);
+    let part = demand(alloc, &table, &costs, &verdict, prices, m)?;
+    told(alloc, &part)
+}
+
 /// The lists count observations from 0.
 #[test]
 fn demands_of_worked_tables(rt: HostRuntime) -> Result<(), Fail> {
@@ -157,15 +177,8 @@ fn demands_of_worked_tables(rt: HostRuntime) -> Result<(), Fail> {
             "below, strict, inner 3 over 2, from 3/2 to 3/2",
         ),
     ] {
-        let table = read_table(alloc, text.as_bytes())?;
-        assert!(rt; !table.levelled());
-        let costs = Costs::of(alloc, &table)?;
-        let verdict = garp(alloc, &costs)?;
-        assert!(rt; are_prices(prices) && prices.len() == table.names().len());
-        assert!(rt; 1 <= m && m <= 1_600_000_000_000_000);
-        let part = demand(alloc, &table, &costs, &verdict, prices, m)?;
         assert_eq!(rt;
-            told(alloc, &part)?.as_str(),
+            given(&rt, alloc, text, prices, m)?.as_str(),
             expected,
             "{text} at {prices:?} with {m}"
         );
