@@ -5,8 +5,8 @@ use Rattle.std.proofs.lemmas.Int.{by_lt_z, clamps, ints}
 use Rattle.std.specs.Prelude.{ℤ, pos, ◌≤ℤ◌, ◌<ℤ◌}
 use Rattle.std.specs.Int.{int_min}
 use Rattle.std.specs.Option.{unwrap_or}
-use Rattle.rp_evidence.specs.Afriat.{allowed}
-use Rattle.rp_evidence.specs.StandardNumbers.{IsClassUtility}
+use Rattle.rp_evidence.specs.Afriat.{allowed_by}
+use Rattle.rp_evidence.specs.StandardNumbers.{IsClassUtilityBy}
 use Rattle.rp_afriat.specs.InnerFilling.{IsAllowed, IsAllowedInClass, IsLeastOf, lesser_of, utility_of}
 
 pub at_most_left : (x y : ℤ) → int_min x y ≤ℤ x
@@ -45,13 +45,13 @@ pub least_same : (P R : ℤ → Type 0) (a : Option ℤ) → ((x : ℤ) → R x 
 least_same P R None there back p = λ x r. p x (there x r)
 least_same P R (Some x) there back p = (back x p.0, λ y r. p.1 y (there y r))
 
-module _ (c : ℕ → ℕ → ℕ) (counts : List ℕ) (u : List ℤ) (lambda : List ℕ) (class : ℕ) where
-  module _ (t s : ℕ) (least : Option ℤ) (so_far : IsLeastOf (IsAllowed s c counts u lambda class t) least) where
-    pub allowed_one_more : (x : ℤ) → class < slice_index counts s → x ≡ allowed c (utility_of u) (slice_index lambda) s t → IsLeastOf (IsAllowed (s + 1) c counts u lambda class t) (lesser_of least (Some x))
+module _ (cost : ℕ → ℕ → ℕ) (own : ℕ → ℕ) (counts : List ℕ) (u : List ℤ) (lambda : List ℕ) (class : ℕ) where
+  module _ (t s : ℕ) (least : Option ℤ) (so_far : IsLeastOf (IsAllowed s cost own counts u lambda class t) least) where
+    pub allowed_one_more : (x : ℤ) → class < slice_index counts s → x ≡ allowed_by cost own (utility_of u) (slice_index lambda) s t → IsLeastOf (IsAllowed (s + 1) cost own counts u lambda class t) (lesser_of least (Some x))
     allowed_one_more x l e =
-        least_of_both (IsAllowed s c counts u lambda class t) (λ y. y ≡ x) (IsAllowed (s + 1) c counts u lambda class t)
+        least_of_both (IsAllowed s cost own counts u lambda class t) (λ y. y ≡ x) (IsAllowed (s + 1) cost own counts u lambda class t)
         (λ y r. elim (cases_eq r.0 s) [
-          | inl k ↦ inr (r.3 ∙ (subst (λ z. allowed c (utility_of u) (slice_index lambda) z t ≡ x) (sym k) (sym e)))
+          | inl k ↦ inr (r.3 ∙ (subst (λ z. allowed_by cost own (utility_of u) (slice_index lambda) z t ≡ x) (sym k) (sym e)))
           | inr d ↦ inl (r.0, omega (arith, r.1), r.2, r.3)
         ])
         (λ y p. (p.0, omega (arith, p.1), p.2, p.3))
@@ -61,30 +61,30 @@ module _ (c : ℕ → ℕ → ℕ) (counts : List ℕ) (u : List ℤ) (lambda : 
         same : (y x : ℤ) → y ≡ x → x ≤ℤ y
         same y x q = omega (arith, ints)
 
-    pub allowed_no_more : slice_index counts s ≤ class → IsLeastOf (IsAllowed (s + 1) c counts u lambda class t) least
+    pub allowed_no_more : slice_index counts s ≤ class → IsLeastOf (IsAllowed (s + 1) cost own counts u lambda class t) least
     allowed_no_more l =
-        least_same (IsAllowed s c counts u lambda class t) (IsAllowed (s + 1) c counts u lambda class t) least
+        least_same (IsAllowed s cost own counts u lambda class t) (IsAllowed (s + 1) cost own counts u lambda class t) least
         (λ y r. elim (cases_eq r.0 s) [
           | inl k ↦ absurd (omega (arith, r.2, subst (λ z. slice_index counts z ≤ class) (sym k) l))
           | inr d ↦ (r.0, omega (arith, r.1), r.2, r.3)
         ])
         (λ y p. (p.0, omega (arith, p.1), p.2, p.3)) so_far
 
-  module _ (n t : ℕ) (least : Option ℤ) (so_far : IsLeastOf (IsAllowedInClass t n c counts u lambda class) least) where
-    pub class_one_more : (found : Option ℤ) → slice_index counts t ≡ class → IsLeastOf (IsAllowed n c counts u lambda class t) found → IsLeastOf (IsAllowedInClass (t + 1) n c counts u lambda class) (lesser_of least found)
+  module _ (n t : ℕ) (least : Option ℤ) (so_far : IsLeastOf (IsAllowedInClass t n cost own counts u lambda class) least) where
+    pub class_one_more : (found : Option ℤ) → slice_index counts t ≡ class → IsLeastOf (IsAllowed n cost own counts u lambda class t) found → IsLeastOf (IsAllowedInClass (t + 1) n cost own counts u lambda class) (lesser_of least found)
     class_one_more found e is =
-        least_of_both (IsAllowedInClass t n c counts u lambda class) (IsAllowed n c counts u lambda class t) (IsAllowedInClass (t + 1) n c counts u lambda class)
+        least_of_both (IsAllowedInClass t n cost own counts u lambda class) (IsAllowed n cost own counts u lambda class t) (IsAllowedInClass (t + 1) n cost own counts u lambda class)
         (λ y r. elim (cases_eq r.0 t) [
-          | inl k ↦ inr (subst (λ z. IsAllowed n c counts u lambda class z y) k r.3)
+          | inl k ↦ inr (subst (λ z. IsAllowed n cost own counts u lambda class z y) k r.3)
           | inr d ↦ inl (r.0, omega (arith, r.1), r.2, r.3)
         ])
         (λ y p. (p.0, omega (arith, p.1), p.2, p.3))
         (λ y q. (t, omega arith, e, q))
         least found so_far is
 
-    pub class_no_more : ¬ (slice_index counts t ≡ class) → IsLeastOf (IsAllowedInClass (t + 1) n c counts u lambda class) least
+    pub class_no_more : ¬ (slice_index counts t ≡ class) → IsLeastOf (IsAllowedInClass (t + 1) n cost own counts u lambda class) least
     class_no_more d =
-        least_same (IsAllowedInClass t n c counts u lambda class) (IsAllowedInClass (t + 1) n c counts u lambda class) least
+        least_same (IsAllowedInClass t n cost own counts u lambda class) (IsAllowedInClass (t + 1) n cost own counts u lambda class) least
         (λ y r. elim (cases_eq r.0 t) [
           | inl k ↦ absurd (d (subst (λ z. slice_index counts z ≡ class) k r.2))
           | inr d ↦ (r.0, omega (arith, r.1), r.2, r.3)
@@ -92,7 +92,7 @@ module _ (c : ℕ → ℕ → ℕ) (counts : List ℕ) (u : List ℤ) (lambda : 
         (λ y p. (p.0, omega (arith, p.1), p.2, p.3)) so_far
 
   -- the least over the class, or 0 where there is none, is the utility of a class that is not empty
-  pub least_is_utility : (n o : ℕ) (least : Option ℤ) → o < n → slice_index counts o ≡ class → IsLeastOf (IsAllowedInClass n n c counts u lambda class) least → IsClassUtility n c (slice_index counts) (utility_of u) (slice_index lambda) class (unwrap_or least (pos 0))
+  pub least_is_utility : (n o : ℕ) (least : Option ℤ) → o < n → slice_index counts o ≡ class → IsLeastOf (IsAllowedInClass n n cost own counts u lambda class) least → IsClassUtilityBy n cost own (slice_index counts) (utility_of u) (slice_index lambda) class (unwrap_or least (pos 0))
   least_is_utility n o None a e is = record {
     highest = λ h. refl;
     least = λ s t b d l k. absurd (is _ (t, d, k, (s, b, l, refl)));

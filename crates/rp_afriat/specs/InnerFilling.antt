@@ -2,9 +2,14 @@
 use Rattle.std.specs.Prelude.{◌≡◌, ℕ, ◌*◌, ◌<◌, ◌≤◌, List, length, ℤ, pos, ◌≤ℤ◌, Option, None, Some, MatchOption}
 use Rattle.std.specs.Prelude.{slice_index, slice_index_or}
 use Rattle.std.specs.Int.{int_min}
-use Rattle.rp_evidence.specs.Afriat.{allowed}
-use Rattle.rp_evidence.specs.StandardNumbers.{AreNumbersOf, AreStandardNumbers, FitsMultiplier, FitsUtility}
-use Rattle.rp_evidence.specs.StandardNumbers.{IsMultiplier, PassWidthFirstAt}
+use Rattle.rp_evidence.specs.Afriat.{allowed_by}
+use Rattle.rp_evidence.specs.StandardNumbers.{AreNumbersBy, AreStandardBy, FitsMultiplier, FitsUtility}
+use Rattle.rp_evidence.specs.StandardNumbers.{IsMultiplierBy, PassWidthFirstAt}
+use Rattle.rp_table.specs.Cost.{CostTable, cost_at, scale_of}
+
+-- what bundle t costs at prices s, in the scale of the levels
+abbrev pub scaled_at : CostTable → ℕ → ℕ → ℕ
+scaled_at costs s t = scale_of costs * cost_at costs s t
 
 -- the utility of an observation; past the last it is 0
 abbrev pub utility_of : List ℤ → ℕ → ℤ
@@ -23,20 +28,21 @@ FitAbove n counts u lambda class =
     → FitsUtility (utility_of u s) × FitsMultiplier (slice_index lambda s)
 
 -- the numbers of higher classes are the standard ones
-abbrev pub AreFilledAbove : ℕ → (ℕ → ℕ → ℕ) → List ℕ → List ℤ → List ℕ → ℕ → Type 0
-AreFilledAbove n c counts u lambda class =
+abbrev pub AreFilledAbove : ℕ → (ℕ → ℕ → ℕ) → (ℕ → ℕ) → List ℕ → List ℤ → List ℕ → ℕ → Type 0
+AreFilledAbove n cost own counts u lambda class =
     (t : ℕ) → t < n → class < slice_index counts t
-    → AreNumbersOf n c (slice_index counts) (utility_of u) (slice_index lambda) t
+    → AreNumbersBy n cost own (slice_index counts) (utility_of u) (slice_index lambda) t
 
 -- x is what some observation below n of a higher class allows t
-abbrev pub IsAllowed : ℕ → (ℕ → ℕ → ℕ) → List ℕ → List ℤ → List ℕ → ℕ → ℕ → ℤ → Type 0
-IsAllowed n c counts u lambda class t x =
-    (s : ℕ) × (s < n) × (class < slice_index counts s) × (x ≡ allowed c (utility_of u) (slice_index lambda) s t)
+abbrev pub IsAllowed : ℕ → (ℕ → ℕ → ℕ) → (ℕ → ℕ) → List ℕ → List ℤ → List ℕ → ℕ → ℕ → ℤ → Type 0
+IsAllowed n cost own counts u lambda class t x =
+    (s : ℕ) × (s < n) × (class < slice_index counts s)
+    × (x ≡ allowed_by cost own (utility_of u) (slice_index lambda) s t)
 
 -- x is what some observation of a higher class allows one below m of this class
-abbrev pub IsAllowedInClass : ℕ → ℕ → (ℕ → ℕ → ℕ) → List ℕ → List ℤ → List ℕ → ℕ → ℤ → Type 0
-IsAllowedInClass m n c counts u lambda class x =
-    (t : ℕ) × (t < m) × (slice_index counts t ≡ class) × IsAllowed n c counts u lambda class t x
+abbrev pub IsAllowedInClass : ℕ → ℕ → (ℕ → ℕ → ℕ) → (ℕ → ℕ) → List ℕ → List ℤ → List ℕ → ℕ → ℤ → Type 0
+IsAllowedInClass m n cost own counts u lambda class x =
+    (t : ℕ) × (t < m) × (slice_index counts t ≡ class) × IsAllowed n cost own counts u lambda class t x
 
 -- the least of the numbers that meet P, or nothing where none does
 abbrev pub IsLeastOf : (ℤ → Type 0) → Option ℤ → Type 0
@@ -60,22 +66,22 @@ pub record IsClassSet (n : ℕ) (counts : List ℕ) (class : ℕ) (x : ℤ) (bef
   pub kept : (t : ℕ) → t < n → ¬ (slice_index counts t ≡ class) → utility_of after t ≡ utility_of before t
 
 -- below m the multipliers of a class are set and fit, and all others are as they were
-pub record AreMultipliersSet (m n : ℕ) (c : ℕ → ℕ → ℕ) (counts : List ℕ) (class : ℕ) (u : List ℤ)
+pub record AreMultipliersSet (m n : ℕ) (cost : ℕ → ℕ → ℕ) (own : ℕ → ℕ) (counts : List ℕ) (class : ℕ) (u : List ℤ)
     (before after : List ℕ) : Type 0 where
   pub as_long : length after ≡ length before
   pub set : (s : ℕ) → s < m → slice_index counts s ≡ class
-      → IsMultiplier n c (slice_index counts) (utility_of u) s (slice_index after s)
+      → IsMultiplierBy n cost own (slice_index counts) (utility_of u) s (slice_index after s)
       × FitsMultiplier (slice_index after s)
   pub kept : (s : ℕ) → s < n → ¬ (slice_index counts s ≡ class) → slice_index after s ≡ slice_index before s
 
 -- at is of the class and its multiplier is too wide
-abbrev pub IsTooSteep : ℕ → (ℕ → ℕ → ℕ) → List ℕ → ℕ → List ℤ → ℕ → Type 0
-IsTooSteep n c counts class u at =
+abbrev pub IsTooSteep : ℕ → (ℕ → ℕ → ℕ) → (ℕ → ℕ) → List ℕ → ℕ → List ℤ → ℕ → Type 0
+IsTooSteep n cost own counts class u at =
     (at < n) × (slice_index counts at ≡ class)
-    × ((k : ℕ) × IsMultiplier n c (slice_index counts) (utility_of u) at k × (¬ FitsMultiplier k))
+    × ((k : ℕ) × IsMultiplierBy n cost own (slice_index counts) (utility_of u) at k × (¬ FitsMultiplier k))
 
 -- the standard numbers, which go on past the widths, pass them first at t
-abbrev pub StandardNumbersPassAt : ℕ → (ℕ → ℕ → ℕ) → List ℕ → ℕ → Type 0
-StandardNumbersPassAt n c counts t =
-    (utility : ℕ → ℤ) (multiplier : ℕ → ℕ) → AreStandardNumbers n c (slice_index counts) utility multiplier
+abbrev pub StandardNumbersPassAt : ℕ → (ℕ → ℕ → Type 0) → (ℕ → ℕ → ℕ) → (ℕ → ℕ) → List ℕ → ℕ → Type 0
+StandardNumbersPassAt n weak cost own counts t =
+    (utility : ℕ → ℤ) (multiplier : ℕ → ℕ) → AreStandardBy n weak cost own (slice_index counts) utility multiplier
     → PassWidthFirstAt n (slice_index counts) utility multiplier t

@@ -1,8 +1,9 @@
 -- What is given for Afriat's theorem: evidence for the axiom, or against it, or the place where a width is passed.
-use Rattle.std.specs.Prelude.{ℕ, ℤ}
+use Rattle.std.specs.Prelude.{ℕ, List, ℤ}
 use Rattle.rp_evidence.specs.AfriatEvidence.{AreOneEach, multiplier_in, utility_in}
-use Rattle.rp_evidence.specs.Garp.{IsViolationAt, MeetsGarp}
-use Rattle.rp_evidence.specs.StandardNumbers.{AllFit, AreStandardNumbers, PassWidthFirstAt}
+use Rattle.rp_evidence.specs.Garp.{HasNoViolation, IsViolation, IsViolationAt, MeetsGarp}
+use Rattle.rp_evidence.specs.Preference.{StrictByLevels, WeakByLevels}
+use Rattle.rp_evidence.specs.StandardNumbers.{AllFit, AreOwnStandardNumbers, AreStandardNumbers, PassWidthFirstAt}
 use Rattle.rp_evidence.specs.declared.afriat.AfriatPart.{AfriatPart}
 use Rattle.rp_evidence.specs.declared.afriat.AfriatPart.TheVariants.{Model, NoModel, Wide}
 
@@ -17,3 +18,15 @@ IsAfriatVerdict n c (Wide at) =
     MeetsGarp n c 1 1
     × ((count : ℕ → ℕ) × (utility : ℕ → ℤ) × (multiplier : ℕ → ℕ)
     × AreStandardNumbers n c count utility multiplier × PassWidthFirstAt n count utility multiplier at)
+
+-- The same where the observations have these levels, or none.
+abbrev pub IsOwnAfriatVerdict : ℕ → List ℕ → (ℕ → ℕ → ℕ) → AfriatPart → Type 0
+IsOwnAfriatVerdict n levels c (Model numbers) =
+    HasNoViolation n (WeakByLevels levels c) (StrictByLevels levels c)
+    × AreOneEach n numbers × AllFit n (utility_in numbers) (multiplier_in numbers)
+    × ((count : ℕ → ℕ) × AreOwnStandardNumbers n levels c count (utility_in numbers) (multiplier_in numbers))
+IsOwnAfriatVerdict n levels c (NoModel walk) = IsViolation n (WeakByLevels levels c) (StrictByLevels levels c) walk
+IsOwnAfriatVerdict n levels c (Wide at) =
+    HasNoViolation n (WeakByLevels levels c) (StrictByLevels levels c)
+    × ((count : ℕ → ℕ) × (utility : ℕ → ℤ) × (multiplier : ℕ → ℕ)
+    × AreOwnStandardNumbers n levels c count utility multiplier × PassWidthFirstAt n count utility multiplier at)

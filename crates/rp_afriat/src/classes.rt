@@ -1,10 +1,11 @@
 ghost use Rattle.std.specs.Prelude.{◌≡◌, ◌<◌, ◌≤◌, ℕ, IfNone, IfSome, length, slice_index};
-ghost use Rattle.rp_evidence.specs.StandardNumbers.{IsClassUtility};
-ghost use Rattle.rp_table.specs.Cost.{cost_at};
+ghost use Rattle.rp_evidence.specs.StandardNumbers.{IsClassUtilityBy};
+ghost use Rattle.rp_table.specs.Cost.{own_of};
 ghost use Rattle.rp_afriat.specs.InnerFilling.{AreForEach, FitAbove, IsAllowed, IsAllowedInClass};
-ghost use Rattle.rp_afriat.specs.InnerFilling.{IsClassSet, IsLeastOf, lesser_of, utility_of};
+ghost use Rattle.rp_afriat.specs.InnerFilling.{IsClassSet, IsLeastOf, lesser_of, scaled_at};
+ghost use Rattle.rp_afriat.specs.InnerFilling.{utility_of};
 
-use crate::bounds::bound;
+use crate::bounds::{bound, scaled};
 use rp_table::Costs;
 
 /// The first of n observations that is of a class.
@@ -45,14 +46,14 @@ fn lowest_at(
     requires each { AreForEach costs.now.n counts.now u.now lambda.now }
     requires fit { FitAbove costs.now.n counts.now u.now lambda.now class }
     requires observed { t < costs.now.n }
-    ensures { IsLeastOf (IsAllowed costs.now.n (cost_at costs.now) counts.now u.now lambda.now class
-        t) result }
+    ensures { IsLeastOf (IsAllowed costs.now.n (scaled_at costs.now) (own_of costs.now)
+        counts.now u.now lambda.now class t) result }
 {
     let mut least = None;
     for s in 0..costs.n() {
         let i = s as usize;
         if counts[i] > class {
-            let allowed = bound(u[i], lambda[i], costs.cost(s, t), costs.cost(s, s));
+            let allowed = bound(u[i], lambda[i], scaled(costs, s, t), costs.own(s));
             least = lesser(least, Some(allowed));
         }
     }
@@ -64,8 +65,8 @@ pub fn class_utility(costs: &Costs, counts: &[u32], class: u32, u: &[i128], lamb
     requires each { AreForEach costs.now.n counts.now u.now lambda.now }
     requires fit { FitAbove costs.now.n counts.now u.now lambda.now class }
     ensures { (t : ℕ) → t < costs.now.n → slice_index counts.now t ≡ class
-        → IsClassUtility costs.now.n (cost_at costs.now) (slice_index counts.now)
-        (utility_of u.now) (slice_index lambda.now) class result }
+        → IsClassUtilityBy costs.now.n (scaled_at costs.now) (own_of costs.now)
+        (slice_index counts.now) (utility_of u.now) (slice_index lambda.now) class result }
 {
     let mut least = None;
     for t in 0..costs.n() {

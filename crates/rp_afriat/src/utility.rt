@@ -1,8 +1,8 @@
-ghost use Rattle.std.specs.Prelude.{◌≡◌, ◌<◌, ◌≤◌, ℕ, All, length};
-ghost use Rattle.rp_evidence.specs.Afriat.{IsUtility, allowed_for};
+ghost use Rattle.std.specs.Prelude.{◌≡◌, ◌<◌, ◌≤◌, ◌*◌, [], ℕ, All, length};
+ghost use Rattle.rp_evidence.specs.Afriat.{IsOwnUtility, IsUtility, allowed_for_by};
 ghost use Rattle.rp_evidence.specs.AfriatEvidence.{AreOneEach, multiplier_in, utility_in};
 ghost use Rattle.rp_evidence.specs.StandardNumbers.{AllFit};
-ghost use Rattle.rp_table.specs.Cost.{IsCostsOf, cost_at};
+ghost use Rattle.rp_table.specs.Cost.{IsCostsOf, cost_at, own_of, scale_of};
 ghost use Rattle.rp_table.specs.Limits.{IsQuantity};
 ghost use Rattle.rp_table.specs.Tables.{goods_of};
 ghost use Rattle.rp_afriat.specs.Bundle.{bundle_cost};
@@ -19,8 +19,11 @@ pub fn utility_at(table: &Table, costs: &Costs, numbers: &Numbers, bundle: &[u32
     requires fit { AllFit costs.now.n (utility_in numbers.now) (multiplier_in numbers.now) }
     requires goods { length bundle.now ≡ goods_of table.now }
     requires limits { All IsQuantity bundle.now }
-    ensures { IsUtility costs.now.n (cost_at costs.now) (utility_in numbers.now)
-        (multiplier_in numbers.now)
+    ensures own { IsOwnUtility costs.now.n costs.now.levels (cost_at costs.now)
+        (utility_in numbers.now) (multiplier_in numbers.now)
+        1 (bundle_cost table.now bundle.now) result }
+    ensures without_levels { costs.now.levels ≡ [] → IsUtility costs.now.n (cost_at costs.now)
+        (utility_in numbers.now) (multiplier_in numbers.now)
         1 (bundle_cost table.now bundle.now) result }
 {
     let n = costs.n();
@@ -39,13 +42,13 @@ fn bound_at(table: &Table, costs: &Costs, numbers: &Numbers, bundle: &[u32], s: 
     requires goods { length bundle.now ≡ goods_of table.now }
     requires limits { All IsQuantity bundle.now }
     requires observed { s < costs.now.n }
-    ensures { result ≡ allowed_for (cost_at costs.now) (utility_in numbers.now)
+    ensures { result ≡ allowed_for_by (own_of costs.now) (utility_in numbers.now)
         (multiplier_in numbers.now)
-        1 (bundle_cost table.now bundle.now) s }
+        1 (λ i. scale_of costs.now * bundle_cost table.now bundle.now i) s }
 {
     let u = numbers.u.as_slice()[s as usize];
     let lambda = numbers.lambda.as_slice()[s as usize];
     prove!(table.goods() > 0);
-    let cost = cost_of_bundle(table.prices(s), bundle);
-    bound(u, lambda, cost, costs.cost(s, s))
+    let cost = costs.scale() * cost_of_bundle(table.prices(s), bundle);
+    bound(u, lambda, cost, costs.own(s))
 }

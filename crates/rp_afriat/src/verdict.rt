@@ -1,29 +1,37 @@
-ghost use Rattle.std.specs.Prelude.{◌≡◌, ◌<◌, ◌≤◌, ◌-◌, ◌↔◌, ℕ, IsTrue, IfNone, IfOk, IfSome};
+ghost use Rattle.std.specs.Prelude.{◌≡◌, ◌<◌, ◌≤◌, ◌-◌, ◌↔◌, [], ℕ, IsTrue, IfNone, IfOk, IfSome};
 ghost use Rattle.std.specs.Prelude.{length};
-ghost use Rattle.rp_evidence.specs.AfriatEvidence.{ProvesAfriat};
+ghost use Rattle.rp_evidence.specs.AfriatEvidence.{ProvesAfriat, ProvesOwnAfriat};
 ghost use Rattle.rp_evidence.specs.Count.{AreCounts};
-ghost use Rattle.rp_evidence.specs.Garp.{MeetsGarp, ProvesGarp};
-ghost use Rattle.rp_evidence.specs.Preference.{IsWeak};
+ghost use Rattle.rp_evidence.specs.Garp.{HasNoViolation, ProvesOfPreference};
 ghost use Rattle.rp_evidence.specs.StandardNumbers.{FitsUtility};
-ghost use Rattle.rp_table.specs.Cost.{cost_at};
+ghost use Rattle.rp_pref.specs.Steps.{OwnStrict, OwnWeak};
+ghost use Rattle.rp_table.specs.Cost.{cost_at, own_of};
 ghost use Rattle.rp_afriat.specs.InnerFilling.{AreFilledAbove, AreForEach, FitAbove};
-ghost use Rattle.rp_afriat.specs.InnerFilling.{StandardNumbersPassAt};
-ghost use Rattle.rp_afriat.specs.Verdict.{IsAfriatVerdict};
+ghost use Rattle.rp_afriat.specs.InnerFilling.{StandardNumbersPassAt, scaled_at};
+ghost use Rattle.rp_afriat.specs.Verdict.{IsAfriatVerdict, IsOwnAfriatVerdict};
 
 use crate::classes::{class_utility, first_of, set_utility};
 use crate::multipliers::set_multipliers;
-use rp_evidence::{AfriatPart, Garp, Level, Numbers, UTILITY_WIDTH};
+use rp_evidence::{AfriatPart, Garp, Numbers, UTILITY_WIDTH};
 use rp_num::{NoMemory, Seq};
-use rp_pref::{Closure, Steps};
+use rp_pref::Closure;
 use rp_table::Costs;
 use std::alloc::Global;
 
-/// Evidence by Afriat's theorem, from a true verdict on the generalized axiom: whole numbers of an Afriat model where
-/// it holds, class by class of the counts, unless one passes its width; else the violation.
+/// Evidence by Afriat's theorem, each observation held to its own level, or to all that it spent, from a true verdict
+/// on the generalized axiom: whole numbers of an Afriat model where it holds, class by class of the counts, unless one
+/// passes its width; else the violation. With levels the utilities are in a scale 1,000 times that without.
 pub fn afriat(alloc: Global, costs: &Costs, verdict: &Garp) -> Result<AfriatPart, NoMemory>
-    requires { ProvesGarp costs.now.n (cost_at costs.now) verdict.now }
-    ensures proves { IfOk result (λ part. ProvesAfriat costs.now.n (cost_at costs.now) part) }
-    ensures given { IfOk result (λ part. IsAfriatVerdict costs.now.n (cost_at costs.now) part) }
+    requires { ProvesOfPreference costs.now.n (OwnWeak costs.now) (OwnStrict costs.now)
+        verdict.now }
+    ensures proves { IfOk result
+        (ProvesOwnAfriat costs.now.n costs.now.levels (cost_at costs.now)) }
+    ensures given { IfOk result
+        (IsOwnAfriatVerdict costs.now.n costs.now.levels (cost_at costs.now)) }
+    ensures proves_without_levels { IfOk result (λ part. costs.now.levels ≡ []
+        → ProvesAfriat costs.now.n (cost_at costs.now) part) }
+    ensures given_without_levels { IfOk result (λ part. costs.now.levels ≡ []
+        → IsAfriatVerdict costs.now.n (cost_at costs.now) part) }
 {
     match verdict {
         Garp::Ranks(_) => standard(alloc, costs),
@@ -36,15 +44,17 @@ pub fn afriat(alloc: Global, costs: &Costs, verdict: &Garp) -> Result<AfriatPart
 
 /// The standard numbers, or the place where they first pass their width.
 fn standard(alloc: Global, costs: &Costs) -> Result<AfriatPart, NoMemory>
-    requires { MeetsGarp costs.now.n (cost_at costs.now) 1 1 }
-    ensures proves { IfOk result (λ part. ProvesAfriat costs.now.n (cost_at costs.now) part) }
-    ensures given { IfOk result (λ part. IsAfriatVerdict costs.now.n (cost_at costs.now) part) }
+    requires { HasNoViolation costs.now.n (OwnWeak costs.now) (OwnStrict costs.now) }
+    ensures proves { IfOk result
+        (ProvesOwnAfriat costs.now.n costs.now.levels (cost_at costs.now)) }
+    ensures given { IfOk result
+        (IsOwnAfriatVerdict costs.now.n costs.now.levels (cost_at costs.now)) }
 {
     let n = costs.n() as usize;
     let counts = counts(alloc, costs)?;
     let mut u = vec![in alloc; 0i128; n]?;
     let mut lambda = vec![in alloc; 0u64; n]?;
-    match fill(costs, &counts, &mut u, &mut lambda) {
+    match fill(costs, counts.as_slice(), &mut u, &mut lambda) {
         Some(at) => Ok(AfriatPart::Wide { at }),
         None => Ok(AfriatPart::Model(Numbers {
             u: Seq::from_vec(u),
@@ -54,28 +64,26 @@ fn standard(alloc: Global, costs: &Costs) -> Result<AfriatPart, NoMemory>
 }
 
 /// The counts of the observations.
-fn counts(alloc: Global, costs: &Costs) -> Result<Vec<u32>, NoMemory>
-    ensures { IfOk result (λ counts. AreCounts costs.now.n (IsWeak (cost_at costs.now) 1 1)
-        counts.items) }
+fn counts(alloc: Global, costs: &Costs) -> Result<Seq<u32>, NoMemory>
+    ensures { IfOk result (AreCounts costs.now.n (OwnWeak costs.now)) }
 {
-    let closure = Closure::of(alloc, costs, Level { num: 1, den: 1 }, Steps::Weak)?;
-    let mut counts = Vec::new(alloc);
-    for s in 0..costs.n() {
-        counts.push(closure.count(s))?;
-    }
+    let closure = Closure::own(alloc, costs)?;
+    let counts = closure.counts(alloc)?;
     Ok(counts)
 }
 
 /// Fills in the numbers from the highest class down, as far as they keep their widths; says where one does not.
 fn fill(costs: &Costs, counts: &[u32], u: &mut [i128], lambda: &mut [u64]) -> Option<u32>
-    requires counted { AreCounts costs.now.n (IsWeak (cost_at costs.now) 1 1) counts.now }
+    requires counted { AreCounts costs.now.n (OwnWeak costs.now) counts.now }
     requires each { AreForEach costs.now.n counts.now u.old lambda.old }
     ensures each { AreForEach costs.now.n counts.now u.new lambda.new }
     ensures filled { IfNone result
-        (AreFilledAbove costs.now.n (cost_at costs.now) counts.now u.new lambda.new 0) }
+        (AreFilledAbove costs.now.n (scaled_at costs.now) (own_of costs.now) counts.now
+        u.new lambda.new 0) }
     ensures fit { IfNone result (FitAbove costs.now.n counts.now u.new lambda.new 0) }
     ensures stops { IfSome result
-        (StandardNumbersPassAt costs.now.n (cost_at costs.now) counts.now) }
+        (StandardNumbersPassAt costs.now.n (OwnWeak costs.now) (scaled_at costs.now)
+        (own_of costs.now) counts.now) }
 {
     let n = costs.n();
     for done in 0..n {
@@ -94,17 +102,19 @@ fn fill_class(
     u: &mut [i128],
     lambda: &mut [u64],
 ) -> Option<u32>
-    requires counted { AreCounts costs.now.n (IsWeak (cost_at costs.now) 1 1) counts.now }
+    requires counted { AreCounts costs.now.n (OwnWeak costs.now) counts.now }
     requires each { AreForEach costs.now.n counts.now u.old lambda.old }
-    requires filled { AreFilledAbove costs.now.n (cost_at costs.now) counts.now u.old lambda.old
-        class }
+    requires filled { AreFilledAbove costs.now.n (scaled_at costs.now) (own_of costs.now)
+        counts.now u.old lambda.old class }
     requires fit { FitAbove costs.now.n counts.now u.old lambda.old class }
     ensures each { AreForEach costs.now.n counts.now u.new lambda.new }
     ensures filled { IfNone result
-        (AreFilledAbove costs.now.n (cost_at costs.now) counts.now u.new lambda.new (class - 1)) }
+        (AreFilledAbove costs.now.n (scaled_at costs.now) (own_of costs.now) counts.now
+        u.new lambda.new (class - 1)) }
     ensures fit { IfNone result (FitAbove costs.now.n counts.now u.new lambda.new (class - 1)) }
     ensures stops { IfSome result
-        (StandardNumbersPassAt costs.now.n (cost_at costs.now) counts.now) }
+        (StandardNumbersPassAt costs.now.n (OwnWeak costs.now) (scaled_at costs.now)
+        (own_of costs.now) counts.now) }
 {
     match first_of(costs.n(), counts, class) {
         None => None,

@@ -1,73 +1,88 @@
 -- Afriat's theorem for whole costs: where the axiom holds the standard numbers exist, once, and are a model.
-use Rattle.std.proofs.Common.{◌≡◌, ◌≢◌, ℕ, ◌<◌, ◌≤◌, ◌⊎◌, inl, inr, [], ◌∷◌, ◌++◌, refl, sym, subst, ◌∙◌, arith}
+use Rattle.std.proofs.Common.{◌≡◌, ◌≢◌, ℕ, ◌<◌, ◌≤◌, ◌⊎◌, ◌↔◌, inl, inr, [], ◌∷◌, ◌++◌, refl, sym, subst, ◌∙◌, arith}
 use Rattle.std.proofs.lemmas.Bool.{cases_lt}
 use Rattle.std.specs.Prelude.{ℤ}
-use Rattle.rp_evidence.specs.Afriat.{IsAfriatModel}
+use Rattle.rp_evidence.specs.Afriat.{IsModelBy}
 use Rattle.rp_evidence.specs.Count.{IsCount}
-use Rattle.rp_evidence.specs.Garp.{MeetsGarp}
-use Rattle.rp_evidence.specs.Preference.{IsStrict, IsWeak}
-use Rattle.rp_evidence.specs.StandardNumbers.{AllFit, AreNumbersOf, AreStandardNumbers, FitsMultiplier, FitsUtility, IsClassUtility, IsMultiplier, PassWidthFirstAt}
+use Rattle.rp_evidence.specs.Garp.{HasNoViolation}
+use Rattle.rp_evidence.specs.StandardNumbers.{AllFit, AreNumbersBy, AreStandardBy, FitsMultiplier, FitsUtility, IsClassUtilityBy, IsMultiplierBy, PassWidthFirstAt}
 use Rattle.rp_evidence.specs.Walk.{Reaches}
 use Rattle.rp_evidence.proofs.AfriatClasses.{class_utility_is_one, standard_above_agree, standard_is_model}
 use Rattle.rp_evidence.proofs.AfriatStages.{standard_above_exists}
 use Rattle.rp_evidence.proofs.Counts.{count_falls, count_is_one, count_never_rises}
-use Rattle.rp_evidence.proofs.Levels.{strict_to_weak}
 use Rattle.rp_evidence.proofs.Reachability.{count_of, count_of-counts, count_of-within}
 use Rattle.rp_evidence.proofs.Violations.{reach_and_strict}
 
-weak_or_not : (c : ℕ → ℕ → ℕ) (s t : ℕ) → IsWeak c 1 1 s t ⊎ ¬ IsWeak c 1 1 s t
-weak_or_not c s t = elim (cases_lt (c s s) (c s t)) [ inl l ↦ inr (λ h. omega arith) | inr l ↦ inl (omega arith) ]
+-- ---- by the weak and the strict steps of a preference that compares costs with what observations are held to
 
-module _ (n : ℕ) (c : ℕ → ℕ → ℕ) (count : ℕ → ℕ) (are : (s : ℕ) → s < n → IsCount n (IsWeak c 1 1) s (count s)) where
-  -- a higher class is not weakly preferred to
-  pub costs_more : (s t : ℕ) → s < n → t < n → count s < count t → c s s < c s t
-  costs_more s t a b l = elim (cases_lt (c s s) (c s t)) [
-    | inl g ↦ g
-    | inr g ↦ absurd (omega (arith, count_never_rises n (IsWeak c 1 1) s t a b (omega arith) (count s) (count t) (are s a) (are t b)))
+abbrev pub ComparesWeakly : (ℕ → ℕ → Type 0) → (ℕ → ℕ → ℕ) → (ℕ → ℕ) → Type 0
+ComparesWeakly weak cost own = (s t : ℕ) → weak s t ↔ (cost s t ≤ own s)
+
+abbrev pub ComparesStrictly : (ℕ → ℕ → Type 0) → (ℕ → ℕ → ℕ) → (ℕ → ℕ) → Type 0
+ComparesStrictly strict cost own = (s t : ℕ) → strict s t ↔ (cost s t < own s)
+
+module _ (n : ℕ) (weak : ℕ → ℕ → Type 0) (cost : ℕ → ℕ → ℕ) (own : ℕ → ℕ) (weak_is : ComparesWeakly weak cost own) where
+  weak_or_not : (s t : ℕ) → weak s t ⊎ ¬ weak s t
+  weak_or_not s t = elim (cases_lt (own s) (cost s t)) [
+    | inl l ↦ inr (λ h. let k = (weak_is s t).0 h in omega arith)
+    | inr l ↦ inl ((weak_is s t).1 l)
   ]
 
-  module _ (holds : MeetsGarp n c 1 1) where
-    no_way_back : (s t : ℕ) → s < n → t < n → IsStrict c 1 1 s t → ¬ ((s ≡ t) ⊎ Reaches n (IsWeak c 1 1) t s)
-    no_way_back s t a b h (inl e) = holds ((t ∷ []) ++ t ∷ []) (reach_and_strict n (IsWeak c 1 1) (IsStrict c 1 1) t s (t ∷ []) (refl, (b, sym e)) (strict_to_weak c 1 1 s t h) h)
-    no_way_back s t a b h (inr r) = holds (r.0 ++ t ∷ []) (reach_and_strict n (IsWeak c 1 1) (IsStrict c 1 1) t s r.0 r.1 (strict_to_weak c 1 1 s t h) h)
+  module _ (count : ℕ → ℕ) (are : (s : ℕ) → s < n → IsCount n weak s (count s)) where
+    -- a higher class is not weakly preferred to
+    pub costs_more : (s t : ℕ) → s < n → t < n → count s < count t → own s < cost s t
+    costs_more s t a b l = elim (cases_lt (own s) (cost s t)) [
+      | inl g ↦ g
+      | inr g ↦ absurd (omega (arith, count_never_rises n weak s t a b ((weak_is s t).1 g) (count s) (count t) (are s a) (are t b)))
+    ]
 
-    pub counts_fall : (s t : ℕ) → s < n → t < n → IsStrict c 1 1 s t → count t < count s
-    counts_fall s t a b h =
-        count_falls n (IsWeak c 1 1) s t a b (strict_to_weak c 1 1 s t h) (count s) (count t) (no_way_back s t a b h) (are s a) (are t b)
+    module _ (strict : ℕ → ℕ → Type 0) (strict_is : ComparesStrictly strict cost own) (holds : HasNoViolation n weak strict) where
+      strict_is_weak : (s t : ℕ) → strict s t → weak s t
+      strict_is_weak s t h = (weak_is s t).1 (let k = (strict_is s t).0 h in omega arith)
+
+      no_way_back : (s t : ℕ) → s < n → t < n → strict s t → ¬ ((s ≡ t) ⊎ Reaches n weak t s)
+      no_way_back s t a b h (inl e) = holds ((t ∷ []) ++ t ∷ []) (reach_and_strict n weak strict t s (t ∷ []) (refl, (b, sym e)) (strict_is_weak s t h) h)
+      no_way_back s t a b h (inr r) = holds (r.0 ++ t ∷ []) (reach_and_strict n weak strict t s r.0 r.1 (strict_is_weak s t h) h)
+
+      pub counts_fall : (s t : ℕ) → s < n → t < n → cost s t < own s → count t < count s
+      counts_fall s t a b l =
+          let h = (strict_is s t).1 l in
+          count_falls n weak s t a b (strict_is_weak s t h) (count s) (count t) (no_way_back s t a b h) (are s a) (are t b)
 
 pub count_is_some : (n : ℕ) (step : ℕ → ℕ → Type 0) (s k : ℕ) → s < n → IsCount n step s k → 1 ≤ k
 count_is_some n step s k a p = let h = (p.2 s).1 (a, inl refl) in omega (arith, p.3, h.1)
 
-module _ (n : ℕ) (c : ℕ → ℕ → ℕ) where
-  pub count_is_within : (s k : ℕ) → s < n → IsCount n (IsWeak c 1 1) s k → k ≤ n
+module _ (n : ℕ) (weak : ℕ → ℕ → Type 0) (cost : ℕ → ℕ → ℕ) (own : ℕ → ℕ) (weak_is : ComparesWeakly weak cost own) where
+  pub count_is_within : (s k : ℕ) → s < n → IsCount n weak s k → k ≤ n
   count_is_within s k a p =
-      let e = count_is_one n (IsWeak c 1 1) s k (count_of n (IsWeak c 1 1) (weak_or_not c) s) p (count_of-counts n (IsWeak c 1 1) (weak_or_not c) s a) in
-      omega (arith, e, count_of-within n (IsWeak c 1 1) (weak_or_not c) s)
+      let e = count_is_one n weak s k (count_of n weak (weak_or_not n weak cost own weak_is) s) p (count_of-counts n weak (weak_or_not n weak cost own weak_is) s a) in
+      omega (arith, e, count_of-within n weak (weak_or_not n weak cost own weak_is) s)
 
-  pub standard_model : (count : ℕ → ℕ) (u : ℕ → ℤ) (m : ℕ → ℕ) → AreStandardNumbers n c count u m → MeetsGarp n c 1 1 → IsAfriatModel n c u m
-  standard_model count u m are holds = standard_is_model n c count u m (counts_fall n c count are.counts holds) are.each
+  pub standard_model : (strict : ℕ → ℕ → Type 0) → ComparesStrictly strict cost own → (count : ℕ → ℕ) (u : ℕ → ℤ) (m : ℕ → ℕ) → AreStandardBy n weak cost own count u m → HasNoViolation n weak strict → IsModelBy n cost own u m
+  standard_model strict strict_is count u m are holds =
+      standard_is_model n cost own count u m (counts_fall n weak cost own weak_is count are.counts strict strict_is holds) are.each
 
   -- for the counts that are at hand
-  pub standard_exists_for : (count : ℕ → ℕ) → ((s : ℕ) → s < n → IsCount n (IsWeak c 1 1) s (count s)) → (u : ℕ → ℤ) × (m : ℕ → ℕ) × AreStandardNumbers n c count u m
+  pub standard_exists_for : (count : ℕ → ℕ) → ((s : ℕ) → s < n → IsCount n weak s (count s)) → (u : ℕ → ℤ) × (m : ℕ → ℕ) × AreStandardBy n weak cost own count u m
   standard_exists_for count counts =
-      let r = standard_above_exists n c count (costs_more n c count counts) n n 0 (λ s a. count_is_within s (count s) a (counts s a)) (omega arith) in
-      (r.0, r.1, record { counts = counts; each = λ t a. r.2 t a (count_is_some n (IsWeak c 1 1) t (count t) a (counts t a)) })
+      let r = standard_above_exists n cost own count (costs_more n weak cost own weak_is count counts) n n 0 (λ s a. count_is_within s (count s) a (counts s a)) (omega arith) in
+      (r.0, r.1, record { counts = counts; each = λ t a. r.2 t a (count_is_some n weak t (count t) a (counts t a)) })
 
-  pub standard_exists : (count : ℕ → ℕ) × (u : ℕ → ℤ) × (m : ℕ → ℕ) × AreStandardNumbers n c count u m
+  pub standard_exists : (count : ℕ → ℕ) × (u : ℕ → ℤ) × (m : ℕ → ℕ) × AreStandardBy n weak cost own count u m
   standard_exists =
-      let count = count_of n (IsWeak c 1 1) (weak_or_not c) in
-      let r = standard_exists_for count (count_of-counts n (IsWeak c 1 1) (weak_or_not c)) in
+      let count = count_of n weak (weak_or_not n weak cost own weak_is) in
+      let r = standard_exists_for count (count_of-counts n weak (weak_or_not n weak cost own weak_is)) in
       (count, r.0, r.1, r.2)
 
-  pub model_exists : MeetsGarp n c 1 1 → (u : ℕ → ℤ) × (m : ℕ → ℕ) × IsAfriatModel n c u m
-  model_exists holds = let r = standard_exists in (r.1, r.2, standard_model r.0 r.1 r.2 r.3 holds)
+  pub model_exists : (strict : ℕ → ℕ → Type 0) → ComparesStrictly strict cost own → HasNoViolation n weak strict → (u : ℕ → ℤ) × (m : ℕ → ℕ) × IsModelBy n cost own u m
+  model_exists strict strict_is holds = let r = standard_exists in (r.1, r.2, standard_model strict strict_is r.0 r.1 r.2 r.3 holds)
 
   -- the same numbers by counts that are the same
   module _ (count other : ℕ → ℕ) (u : ℕ → ℤ) (m : ℕ → ℕ) (same : (s : ℕ) → s < n → count s ≡ other s) where
-    other_counts : (t : ℕ) → t < n → AreNumbersOf n c count u m t → AreNumbersOf n c other u m t
-    other_counts t a is = record { utility_is = subst (λ k. IsClassUtility n c other u m k (u t)) (same t a) utility; multiplier_is = multiplier }
+    other_counts : (t : ℕ) → t < n → AreNumbersBy n cost own count u m t → AreNumbersBy n cost own other u m t
+    other_counts t a is = record { utility_is = subst (λ k. IsClassUtilityBy n cost own other u m k (u t)) (same t a) utility; multiplier_is = multiplier }
       where
-        utility : IsClassUtility n c other u m (count t) (u t)
+        utility : IsClassUtilityBy n cost own other u m (count t) (u t)
         utility = record {
           highest = λ h. is.utility_is.highest (λ s i. omega (arith, same s i, h s i));
           least = λ s r i j l e. is.utility_is.least s r i j (omega (arith, same s i, l)) (same r j ∙ e);
@@ -76,20 +91,20 @@ module _ (n : ℕ) (c : ℕ → ℕ → ℕ) where
               (x.0, x.1, x.2, x.3, omega (arith, x.4, same x.0 x.2), sym (same x.1 x.3) ∙ x.5, x.6);
         }
 
-        multiplier : IsMultiplier n c other u t (m t)
+        multiplier : IsMultiplierBy n cost own other u t (m t)
         multiplier = record {
           at_least_one = is.multiplier_is.at_least_one;
           enough = λ s i l. is.multiplier_is.enough s i (omega (arith, same s i, same t a, l));
           least = λ j i h. is.multiplier_is.least j i (λ s b l. h s b (omega (arith, same s b, same t a, l)));
         }
 
-  pub standard_is_one : (count other : ℕ → ℕ) (u v : ℕ → ℤ) (m k : ℕ → ℕ) → AreStandardNumbers n c count u m → AreStandardNumbers n c other v k → (s : ℕ) → s < n → (u s ≡ v s) × (m s ≡ k s)
+  pub standard_is_one : (count other : ℕ → ℕ) (u v : ℕ → ℤ) (m k : ℕ → ℕ) → AreStandardBy n weak cost own count u m → AreStandardBy n weak cost own other v k → (s : ℕ) → s < n → (u s ≡ v s) × (m s ≡ k s)
   standard_is_one count other u v m k a b s in_s =
-      let same : (t : ℕ) → t < n → count t ≡ other t = λ t i. count_is_one n (IsWeak c 1 1) t (count t) (other t) (a.counts t i) (b.counts t i) in
-      standard_above_agree n c other n 0 u v m k (λ t i. count_is_within t (other t) i (b.counts t i))
+      let same : (t : ℕ) → t < n → count t ≡ other t = λ t i. count_is_one n weak t (count t) (other t) (a.counts t i) (b.counts t i) in
+      standard_above_agree n cost own other n 0 u v m k (λ t i. count_is_within t (other t) i (b.counts t i))
       (λ t i l. other_counts count other u m same t i (a.each t i))
       (λ t i l. b.each t i)
-      s in_s (count_is_some n (IsWeak c 1 1) s (other s) in_s (b.counts s in_s))
+      s in_s (count_is_some n weak s (other s) in_s (b.counts s in_s))
 
 -- ---- the place where the widths are passed
 
@@ -99,10 +114,10 @@ fitting_pass_nowhere n t count u m fit first = elim first.passes [
   | inr h ↦ h.1 (fit t first.observed).1
 ]
 
-module _ (n : ℕ) (c : ℕ → ℕ → ℕ) (count : ℕ → ℕ) (u : ℕ → ℤ) (m : ℕ → ℕ) (are : AreStandardNumbers n c count u m) where
+module _ (n : ℕ) (weak : ℕ → ℕ → Type 0) (cost : ℕ → ℕ → ℕ) (own count : ℕ → ℕ) (u : ℕ → ℤ) (m : ℕ → ℕ) (are : AreStandardBy n weak cost own count u m) where
   class_has_one : (s t : ℕ) → s < n → t < n → count s ≡ count t → u s ≡ u t
   class_has_one s t a b e =
-      class_utility_is_one n c count (count t) u m (u s) (u t) (subst (λ k. IsClassUtility n c count u m k (u s)) e (are.each s a).utility_is) (are.each t b).utility_is
+      class_utility_is_one n cost own count (count t) u m (u s) (u t) (subst (λ k. IsClassUtilityBy n cost own count u m k (u s)) e (are.each s a).utility_is) (are.each t b).utility_is
 
   not_above : (s t : ℕ) → PassWidthFirstAt n count u m s → PassWidthFirstAt n count u m t → ¬ (count t < count s)
   not_above s t a b l = let f = b.higher_fit s a.observed l in elim a.passes [ inl h ↦ h.0 f.0 | inr h ↦ h.1 f.1 ]

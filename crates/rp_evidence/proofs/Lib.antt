@@ -21,6 +21,7 @@ pub mod IndexThreshold
 mod IndexTries
 pub mod Levels
 pub mod Loops
+pub mod OwnAfriat
 pub mod OwnLevels
 pub mod Places
 pub mod StrictStarts

@@ -1,7 +1,8 @@
 -- What evidence for Afriat's theorem has to be to prove its verdict.
-use Rattle.std.specs.Prelude.{◌≡◌, ℕ, ℤ, pos, length, slice_index, slice_index_or}
-use Rattle.rp_evidence.specs.Afriat.{IsAfriatModel}
-use Rattle.rp_evidence.specs.Garp.{IsViolationAt}
+use Rattle.std.specs.Prelude.{◌≡◌, ℕ, List, ℤ, pos, length, slice_index, slice_index_or}
+use Rattle.rp_evidence.specs.Afriat.{IsAfriatModel, IsOwnModel}
+use Rattle.rp_evidence.specs.Garp.{IsViolation, IsViolationAt}
+use Rattle.rp_evidence.specs.Preference.{StrictByLevels, WeakByLevels}
 use Rattle.rp_evidence.specs.declared.afriat.AfriatPart.{AfriatPart}
 use Rattle.rp_evidence.specs.declared.afriat.AfriatPart.TheVariants.{Model, NoModel, Wide}
 use Rattle.rp_evidence.specs.declared.afriat.Numbers.{Numbers}
@@ -23,6 +24,13 @@ abbrev pub ProvesAfriat : ℕ → (ℕ → ℕ → ℕ) → AfriatPart → Type 
 ProvesAfriat n c (Model numbers) = AreOneEach n numbers × IsAfriatModel n c (utility_in numbers) (multiplier_in numbers)
 ProvesAfriat n c (NoModel walk) = IsViolationAt n c 1 1 walk
 ProvesAfriat n c (Wide at) = Unit {0}
+
+-- The same where the observations have these levels, or none.
+abbrev pub ProvesOwnAfriat : ℕ → List ℕ → (ℕ → ℕ → ℕ) → AfriatPart → Type 0
+ProvesOwnAfriat n levels c (Model numbers) =
+    AreOneEach n numbers × IsOwnModel n levels c (utility_in numbers) (multiplier_in numbers)
+ProvesOwnAfriat n levels c (NoModel walk) = IsViolation n (WeakByLevels levels c) (StrictByLevels levels c) walk
+ProvesOwnAfriat n levels c (Wide at) = Unit {0}
 
 -- How many of its values a part leaves out.
 abbrev pub withheld_afriat : AfriatPart → ℕ

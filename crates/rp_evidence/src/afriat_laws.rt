@@ -1,54 +1,85 @@
-ghost use Rattle.std.specs.Prelude.{◌≡◌, ◌<◌, ℕ, ℤ, List};
-ghost use Rattle.rp_evidence.specs.Afriat.{IsAfriatModel, IsUtility};
-ghost use Rattle.rp_evidence.specs.Garp.{IsViolationAt, MeetsGarp};
-ghost use Rattle.rp_evidence.specs.StandardNumbers.{AllFit, AreStandardNumbers, PassWidthFirstAt};
+ghost use Rattle.std.specs.Prelude.{◌≡◌, ◌↔◌, ◌<◌, ◌≤◌, ◌*◌, [], ℕ, ℤ, List, pos, ◌*ℤ◌, ◌≤ℤ◌};
+ghost use Rattle.rp_table.specs.OwnLevels.{level_scale, own_by_level};
+ghost use Rattle.rp_evidence.specs.Afriat.{IsAfriatModel, IsOwnModel, IsOwnUtility, IsUtility};
+ghost use Rattle.rp_evidence.specs.AfriatEvidence.{ProvesAfriat, ProvesOwnAfriat};
+ghost use Rattle.rp_evidence.specs.Garp.{HasNoViolation, IsViolation};
+ghost use Rattle.rp_evidence.specs.Preference.{StrictByLevels, WeakByLevels};
+ghost use Rattle.rp_evidence.specs.StandardNumbers.{AllFit, AreOwnStandardNumbers};
+ghost use Rattle.rp_evidence.specs.StandardNumbers.{AreStandardNumbers, PassWidthFirstAt};
+ghost use Rattle.rp_evidence.specs.declared.afriat.AfriatPart.{AfriatPart};
 
 /// Where an Afriat model exists, no violation does.
 pub fn models_exclude_violations()
-    ensures { (n : ℕ) (c : ℕ → ℕ → ℕ) (utility : ℕ → ℤ) (multiplier : ℕ → ℕ) (walk : List ℕ)
-        → IsAfriatModel n c utility multiplier → ¬ IsViolationAt n c 1 1 walk }
+    ensures { (n : ℕ) (levels : List ℕ) (c : ℕ → ℕ → ℕ)
+        (utility : ℕ → ℤ) (multiplier : ℕ → ℕ) (walk : List ℕ)
+        → IsOwnModel n levels c utility multiplier
+        → ¬ IsViolation n (WeakByLevels levels c) (StrictByLevels levels c) walk }
 {}
 
 /// Where no violation exists, an Afriat model does (Afriat 1967; Varian 1982).
 pub fn models_exist()
-    ensures { (n : ℕ) (c : ℕ → ℕ → ℕ) → MeetsGarp n c 1 1
-        → (utility : ℕ → ℤ) × (multiplier : ℕ → ℕ) × IsAfriatModel n c utility multiplier }
+    ensures { (n : ℕ) (levels : List ℕ) (c : ℕ → ℕ → ℕ)
+        → HasNoViolation n (WeakByLevels levels c) (StrictByLevels levels c)
+        → (utility : ℕ → ℤ) × (multiplier : ℕ → ℕ)
+        × IsOwnModel n levels c utility multiplier }
 {}
 
-/// Under every Afriat model the utility at the bundle of an observation is its number.
+/// Under every Afriat model the utility at the bundle of an observation is at least its number, and is its number where
+/// the observation is held to all that it spent.
 pub fn observed_utilities()
-    ensures { (n t : ℕ) (c : ℕ → ℕ → ℕ) (utility : ℕ → ℤ) (multiplier : ℕ → ℕ)
-        → IsAfriatModel n c utility multiplier → t < n
-        → IsUtility n c utility multiplier 1 (λ s. c s t) (utility t) }
+    ensures at_least { (n t : ℕ) (levels : List ℕ) (c : ℕ → ℕ → ℕ)
+        (utility : ℕ → ℤ) (multiplier : ℕ → ℕ) (value : ℤ)
+        → IsOwnModel n levels c utility multiplier → t < n
+        → IsOwnUtility n levels c utility multiplier 1 (λ s. c s t) value
+        → utility t ≤ℤ value }
+    ensures exact { (n t : ℕ) (levels : List ℕ) (c : ℕ → ℕ → ℕ)
+        (utility : ℕ → ℤ) (multiplier : ℕ → ℕ)
+        → IsOwnModel n levels c utility multiplier → t < n
+        → own_by_level levels c t ≡ level_scale levels * c t t
+        → IsOwnUtility n levels c utility multiplier 1 (λ s. c s t) (utility t) }
+{}
+
+/// A bundle that costs no more at the prices of an observation than what that is held to has at most its number as
+/// utility, under any numbers.
+pub fn affordable_utilities()
+    ensures { (n den t : ℕ) (levels : List ℕ) (c : ℕ → ℕ → ℕ)
+        (utility : ℕ → ℤ) (multiplier cost : ℕ → ℕ) (value : ℤ)
+        → t < n → level_scale levels * cost t ≤ den * own_by_level levels c t
+        → IsOwnUtility n levels c utility multiplier den cost value
+        → value ≤ℤ (pos den *ℤ utility t) }
 {}
 
 /// A bundle has one utility.
 pub fn utilities_are_unique()
-    ensures { (n den : ℕ) (c : ℕ → ℕ → ℕ) (utility : ℕ → ℤ) (multiplier cost : ℕ → ℕ) (x y : ℤ)
-        → IsUtility n c utility multiplier den cost x
-        → IsUtility n c utility multiplier den cost y → x ≡ y }
+    ensures { (n den : ℕ) (levels : List ℕ) (c : ℕ → ℕ → ℕ)
+        (utility : ℕ → ℤ) (multiplier cost : ℕ → ℕ) (x y : ℤ)
+        → IsOwnUtility n levels c utility multiplier den cost x
+        → IsOwnUtility n levels c utility multiplier den cost y → x ≡ y }
 {}
 
 /// The standard numbers exist, without any width.
 pub fn standard_numbers_exist()
-    ensures { (n : ℕ) (c : ℕ → ℕ → ℕ) → (count : ℕ → ℕ) × (utility : ℕ → ℤ) × (multiplier : ℕ → ℕ)
-        × AreStandardNumbers n c count utility multiplier }
+    ensures { (n : ℕ) (levels : List ℕ) (c : ℕ → ℕ → ℕ)
+        → (count : ℕ → ℕ) × (utility : ℕ → ℤ) × (multiplier : ℕ → ℕ)
+        × AreOwnStandardNumbers n levels c count utility multiplier }
 {}
 
 /// There is one choice of standard numbers.
 pub fn standard_numbers_are_unique()
-    ensures { (n s : ℕ) (c : ℕ → ℕ → ℕ) (count count' : ℕ → ℕ)
+    ensures { (n s : ℕ) (levels : List ℕ) (c : ℕ → ℕ → ℕ) (count count' : ℕ → ℕ)
         (utility utility' : ℕ → ℤ) (multiplier multiplier' : ℕ → ℕ)
-        → AreStandardNumbers n c count utility multiplier
-        → AreStandardNumbers n c count' utility' multiplier' → s < n
+        → AreOwnStandardNumbers n levels c count utility multiplier
+        → AreOwnStandardNumbers n levels c count' utility' multiplier' → s < n
         → (utility s ≡ utility' s) × (multiplier s ≡ multiplier' s) }
 {}
 
 /// Where no violation exists, the standard numbers are an Afriat model.
 pub fn standard_numbers_are_a_model()
-    ensures { (n : ℕ) (c : ℕ → ℕ → ℕ) (count : ℕ → ℕ) (utility : ℕ → ℤ) (multiplier : ℕ → ℕ)
-        → AreStandardNumbers n c count utility multiplier → MeetsGarp n c 1 1
-        → IsAfriatModel n c utility multiplier }
+    ensures { (n : ℕ) (levels : List ℕ) (c : ℕ → ℕ → ℕ) (count : ℕ → ℕ)
+        (utility : ℕ → ℤ) (multiplier : ℕ → ℕ)
+        → AreOwnStandardNumbers n levels c count utility multiplier
+        → HasNoViolation n (WeakByLevels levels c) (StrictByLevels levels c)
+        → IsOwnModel n levels c utility multiplier }
 {}
 
 /// Numbers that all fit pass their width nowhere.
@@ -59,8 +90,26 @@ pub fn fitting_numbers_pass_nowhere()
 
 /// The standard numbers pass their width first at one place only.
 pub fn width_is_passed_first_once()
-    ensures { (n s t : ℕ) (c : ℕ → ℕ → ℕ) (count : ℕ → ℕ) (utility : ℕ → ℤ) (multiplier : ℕ → ℕ)
-        → AreStandardNumbers n c count utility multiplier
+    ensures { (n s t : ℕ) (levels : List ℕ) (c : ℕ → ℕ → ℕ) (count : ℕ → ℕ)
+        (utility : ℕ → ℤ) (multiplier : ℕ → ℕ)
+        → AreOwnStandardNumbers n levels c count utility multiplier
         → PassWidthFirstAt n count utility multiplier s
         → PassWidthFirstAt n count utility multiplier t → s ≡ t }
+{}
+
+/// Where the observations have no levels of their own, models, standard numbers, utilities and evidence are those at
+/// the level 1.
+pub fn afriat_without_levels()
+    ensures models { (n : ℕ) (c : ℕ → ℕ → ℕ) (utility : ℕ → ℤ) (multiplier : ℕ → ℕ)
+        → IsOwnModel n [] c utility multiplier ↔ IsAfriatModel n c utility multiplier }
+    ensures standard { (n : ℕ) (c : ℕ → ℕ → ℕ) (count : ℕ → ℕ)
+        (utility : ℕ → ℤ) (multiplier : ℕ → ℕ)
+        → AreOwnStandardNumbers n [] c count utility multiplier
+        ↔ AreStandardNumbers n c count utility multiplier }
+    ensures utilities { (n den : ℕ) (c : ℕ → ℕ → ℕ)
+        (utility : ℕ → ℤ) (multiplier cost : ℕ → ℕ) (value : ℤ)
+        → IsOwnUtility n [] c utility multiplier den cost value
+        ↔ IsUtility n c utility multiplier den cost value }
+    ensures evidence { (n : ℕ) (c : ℕ → ℕ → ℕ) (part : AfriatPart)
+        → ProvesOwnAfriat n [] c part ↔ ProvesAfriat n c part }
 {}

@@ -2,8 +2,8 @@ use mir.Syntax.{w128}
 use Rattle.std.proofs.Common.{rules, ◌≡◌, ◌<◌, ◌+◌, slice_index, sym, subst, ◌∙◌, arith}
 use Rattle.std.proofs.lemmas.Int.{to_z-of_z}
 use Rattle.std.specs.Prelude.{FitsSigned}
-use Rattle.rp_table.specs.Cost.{cost_at}
-use Rattle.rp_afriat.specs.InnerFilling.{IsAllowed, IsLeastOf, utility_of}
+use Rattle.rp_table.specs.Cost.{own_of}
+use Rattle.rp_afriat.specs.InnerFilling.{IsAllowed, IsLeastOf, scaled_at, utility_of}
 use Rattle.rp_afriat.proofs.Leasts.{allowed_no_more, allowed_one_more}
 use Rattle.rp_afriat.proofs.Widths.{bound_same, utility_is_signed}
 use Rattle.rp_afriat.proofs.classes.lowest_at.Goals as goal
@@ -18,12 +18,12 @@ loop-s-preserved c =
           let own : l.s < a.costs.now.n = omega (arith, c.loop-s-test.true, c.n-s-end.ensures.count) in
           let fits : FitsSigned w128 w.bound-allowed.result = search rules in
           let utility_fits = utility_is_signed (utility_of a.u.now l.s) (c.requires.fit l.s own w.if-counts-i.true).0 in
-          subst (λ o. IsLeastOf (IsAllowed (l.s + 1) (cost_at a.costs.now) a.counts.now a.u.now a.lambda.now a.class a.t) o) (sym (w.least-is ∙ w.lesser-least.ensures))
-          (allowed_one_more (cost_at a.costs.now) a.counts.now a.u.now a.lambda.now a.class a.t l.s l.least l.invariant _ w.if-counts-i.true
+          subst (λ o. IsLeastOf (IsAllowed (l.s + 1) (scaled_at a.costs.now) (own_of a.costs.now) a.counts.now a.u.now a.lambda.now a.class a.t) o) (sym (w.least-is ∙ w.lesser-least.ensures))
+          (allowed_one_more (scaled_at a.costs.now) (own_of a.costs.now) a.counts.now a.u.now a.lambda.now a.class a.t l.s l.least l.invariant _ w.if-counts-i.true
           (to_z-of_z w128 w.bound-allowed.result fits ∙ (w.bound-allowed.ensures
-          ∙ bound_same _ (utility_of a.u.now l.s) (slice_index a.lambda.now l.s) _ _ _ _ (to_z-of_z w128 (utility_of a.u.now l.s) utility_fits) w.cost.ensures.exact w.cost-then-counts-i.ensures.exact)))
-      | else-counts-i w ↦ subst (λ o. IsLeastOf (IsAllowed (l.s + 1) (cost_at a.costs.now) a.counts.now a.u.now a.lambda.now a.class a.t) o) (sym w.least-is)
-          (allowed_no_more (cost_at a.costs.now) a.counts.now a.u.now a.lambda.now a.class a.t l.s l.least l.invariant w.if-counts-i.false)
+          ∙ bound_same _ (utility_of a.u.now l.s) (slice_index a.lambda.now l.s) _ _ _ _ (to_z-of_z w128 (utility_of a.u.now l.s) utility_fits) w.scaled.ensures.exact w.own.ensures.exact)))
+      | else-counts-i w ↦ subst (λ o. IsLeastOf (IsAllowed (l.s + 1) (scaled_at a.costs.now) (own_of a.costs.now) a.counts.now a.u.now a.lambda.now a.class a.t) o) (sym w.least-is)
+          (allowed_no_more (scaled_at a.costs.now) (own_of a.costs.now) a.counts.now a.u.now a.lambda.now a.class a.t l.s l.least l.invariant w.if-counts-i.false)
     ]
 
 pub returns : goal.returns
@@ -31,4 +31,4 @@ returns c =
     let a = c.args in
     let l = c.loop-s in
     let end : l.s ≡ a.costs.now.n = omega (arith, c.loop-s-test.false, l.auto.s-end, c.n-s-end.ensures.count) in
-    subst (λ m. IsLeastOf (IsAllowed m (cost_at a.costs.now) a.counts.now a.u.now a.lambda.now a.class a.t) l.least) end l.invariant
+    subst (λ m. IsLeastOf (IsAllowed m (scaled_at a.costs.now) (own_of a.costs.now) a.counts.now a.u.now a.lambda.now a.class a.t) l.least) end l.invariant

@@ -1,4 +1,7 @@
-use Rattle.rp_table.specs.Cost.{cost_at}
+use Rattle.rp_table.specs.Cost.{cost_at, own_of}
+use Rattle.rp_evidence.proofs.OwnAfriat.{weak_by_own}
+use Rattle.rp_pref.specs.Steps.{OwnWeak}
+use Rattle.rp_afriat.specs.InnerFilling.{scaled_at}
 use Rattle.rp_afriat.proofs.Fillings.{none_above}
 use Rattle.rp_afriat.proofs.verdict.fill.Goals as goal
 
@@ -7,6 +10,6 @@ loop-done-init c =
     let a = c.args in
     record {
       each = c.requires.each;
-      filled = λ t b l. absurd (none_above a.costs.now.n (cost_at a.costs.now) a.counts.now c.requires.counted t b l);
-      fit = λ t b l. absurd (none_above a.costs.now.n (cost_at a.costs.now) a.counts.now c.requires.counted t b l);
+      filled = λ t b l. absurd (none_above a.costs.now.n (OwnWeak a.costs.now) (scaled_at a.costs.now) (own_of a.costs.now) (weak_by_own a.costs.now.n a.costs.now.levels (cost_at a.costs.now)) a.counts.now c.requires.counted t b l);
+      fit = λ t b l. absurd (none_above a.costs.now.n (OwnWeak a.costs.now) (scaled_at a.costs.now) (own_of a.costs.now) (weak_by_own a.costs.now.n a.costs.now.levels (cost_at a.costs.now)) a.counts.now c.requires.counted t b l);
     }

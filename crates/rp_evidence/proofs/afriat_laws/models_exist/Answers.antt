@@ -1,5 +1,5 @@
-use Rattle.rp_evidence.proofs.AfriatTheorem.{model_exists}
+use Rattle.rp_evidence.proofs.OwnAfriat.{own_model_exists}
 use Rattle.rp_evidence.proofs.afriat_laws.models_exist.Goals as goal
 
 pub returns : goal.returns
-returns c = model_exists
+returns c = own_model_exists
