@@ -19,9 +19,9 @@ use rp_num::{Decimal, NumFault, Seq, read_decimal};
 use rp_table::LEVEL_SCALE;
 use std::alloc::Global;
 
-/// What a field says in a column of that role.
+/// What a field says in a column of that role: a number, or 0 where the fields are texts. Budgets are those that there are.
 #[tactic(auto, unfolding(crate::specs::Fields::field_of))]
-fn read_field(
+pub fn read_field(
     budgets: u32,
     role: Role,
     field: &[u8],

@@ -17,9 +17,13 @@ mod texts;
 
 pub use columns::Columns;
 pub use fault::TableFault;
+pub use fields::read_field;
+pub use fixed_goods::check_goods;
 pub use form::{Column, Form, Marks, Role};
 pub use goods::read_names;
+pub use headers::read_columns;
 pub use numbers::{column_numbers, narrowed, numbers_under};
 pub use records::Records;
-pub use sheet::{Sheet, read_sheet};
-pub use sizes::places_of;
+pub use sheet::{Sheet, check_count, read_sheet};
+pub use sizes::{places_of, read_sizes};
+pub use texts::number_of;

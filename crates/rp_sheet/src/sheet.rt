@@ -61,7 +61,7 @@ pub fn read_sheet<'a>(
 }
 
 /// Whether there are records after the headers, and no more than the limit.
-fn check_count(form: &Form, records: &Records) -> Result<(), TableFault>
+pub fn check_count(form: &Form, records: &Records) -> Result<(), TableFault>
     requires { 0 < length records.now }
     ensures fine { OnOk result (count_stage form.now records.now ≡ None) }
     ensures refused { IfErr result (λ fault. count_stage form.now records.now ≡ Some fault) }
