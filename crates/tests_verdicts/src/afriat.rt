@@ -10,7 +10,6 @@ use std::test::Fail;
 fn utilities_of_bundles_beside_the_observed_ones(rt: HostRuntime) -> Result<(), Fail> {
     let alloc = rt.alloc();
     let table = read_table(alloc, b"p_a,q_a,p_b,q_b\n1,4,1,4\n1,2,1,2\n")?;
-    assert!(rt; !table.levelled());
     let costs = Costs::of(alloc, &table)?;
     let verdict = garp(alloc, &costs)?;
     match afriat(alloc, &costs, &verdict)? {

@@ -10,8 +10,6 @@ mod halving;
 #[cfg(test)]
 mod indices;
 #[cfg(test)]
-mod own_levels;
-#[cfg(test)]
 mod preference;
 #[cfg(test)]
 mod walks;

@@ -1,27 +1,8 @@
+use crate::tables::{AT_799, AT_800, AT_ALL, MORE_AND_LESS, WITHOUT, costs_of};
 use rp_evidence::Garp;
 use rp_garp::{garp, pairs};
 use rp_pref::{Closure, own_strict, own_walk, own_weak};
-use rp_table::Costs;
-use rp_text::read_table;
-use std::alloc::Global;
 use std::test::Fail;
-
-/// Two observations that contradict each other, with these levels.
-const AT_800: &str = "p_a,q_a,p_b,q_b,e\n1,1,2,2,800\n2,2,1,1,1000\n";
-
-const AT_799: &str = "p_a,q_a,p_b,q_b,e\n1,1,2,2,799\n2,2,1,1,1000\n";
-
-const AT_ALL: &str = "p_a,q_a,p_b,q_b,e\n1,1,2,2,1000\n2,2,1,1,1000\n";
-
-const WITHOUT: &str = "p_a,q_a,p_b,q_b\n1,1,2,2\n2,2,1,1\n";
-
-/// Two observations, the second of which bought less of everything.
-const MORE_AND_LESS: &str = "p_a,q_a,p_b,q_b,e\n1,4,1,4,1000\n1,2,1,2,1000\n";
-
-fn costs_of(alloc: Global, text: &str) -> Result<Costs, Fail> {
-    let table = read_table(alloc, text.as_bytes())?;
-    Ok(Costs::of(alloc, &table)?)
-}
 
 /// The first observation costs 5 at its own prices and the second 4 at them: 800 thousandths of 5 are just 4.
 #[test]
