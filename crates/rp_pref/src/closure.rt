@@ -1,11 +1,13 @@
 ghost use Rattle.std.specs.Prelude.{◌≡◌, ◌≢◌, ◌<◌, ◌≤◌, ◌*◌, ◌⊎◌, ◌↔◌, ℕ, false, IsTrue, IfOk};
 ghost use Rattle.std.specs.Prelude.{length};
 ghost use Rattle.rp_evidence.specs.Count.{IsCount, IsNumberOf};
+ghost use Rattle.rp_evidence.specs.Input.{TableInput};
 ghost use Rattle.rp_evidence.specs.Preference.{IsLevel};
 ghost use Rattle.rp_evidence.specs.Walk.{Reaches};
+ghost use Rattle.rp_evidence.specs.Welfare.{EqualsOrReaches};
 ghost use Rattle.rp_table.specs.Cost.{CostTable, cost_at};
 ghost use Rattle.rp_pref.specs.InnerBits.{has_bit};
-ghost use Rattle.rp_pref.specs.Closure.{AreCounted, IsClosureOf, Reached};
+ghost use Rattle.rp_pref.specs.Closure.{AreCounted, IsClosureOf, IsWeakClosureOf, Reached};
 ghost use Rattle.rp_pref.specs.Closure.{reaches_in};
 ghost use Rattle.rp_pref.specs.Steps.{IsStep, OwnWeak, StepOf};
 ghost use Rattle.rp_pref.specs.declared.steps.Steps.{Steps};
@@ -79,6 +81,17 @@ impl Closure {
         ensures { result ≡ reaches_in self.now s t }
     {
         is_set(&self.bits, s, t)
+    }
+
+    /// Whether `s` is `t`, or some walk with at least one step leads from it to `t`.
+    pub fn equals_or_reaches(&self, s: u32, t: u32) -> bool
+        requires from { s < self.now.n }
+        requires to { t < self.now.n }
+        ensures exact { IsTrue result ↔ ((s ≡ t) ⊎ IsTrue (reaches_in self.now s t)) }
+        ensures by_weak_steps { (input : TableInput) → IsWeakClosureOf self.now input
+            → IsTrue result ↔ EqualsOrReaches input s t }
+    {
+        s == t || self.reaches(s, t)
     }
 
     /// How many observations there are.

@@ -10,12 +10,12 @@ use Rattle.rp_evidence.proofs.Enumerations.{enumerates_observed, enumerates_same
 use Rattle.rp_evidence.proofs.EqualOrReached.{equal_or_reached, equals, reaches}
 use Rattle.rp_evidence.proofs.StrictStarts.{below_exactly, strictly_exactly}
 use Rattle.rp_pref.specs.Closure.{IsClosureOf, Reached, reaches_in}
-use Rattle.rp_support.specs.InnerMarks.{AreMarks, IsReachedFrom}
+use Rattle.rp_support.specs.InnerMarks.{MarksEach, IsReachedFrom}
 
 module _ (input : TableInput) (budget : NewBudget) where
   -- ---- what the closure tells
 
-  module _ (reached : Reached) (closed : IsClosureOf reached input.n (IsWeak input.cost 1 1)) (P : ℕ → Type 0) (starts : List Bool) (marks : AreMarks input.n P starts) where
+  module _ (reached : Reached) (closed : IsClosureOf reached input.n (IsWeak input.cost 1 1)) (P : ℕ → Type 0) (starts : List Bool) (marks : MarksEach input.n P starts) where
     reached_exactly : (t : ℕ) → t < input.n → IsReachedFrom reached starts t ↔ ((s : ℕ) × (s < input.n) × P s × EqualsOrReaches input s t)
     reached_exactly t t_in = (
       (λ h. let s_in : h.0 < input.n = omega (arith, h.1, closed.size) in (h.0, s_in, (marks.each h.0 s_in).0 h.2, there h.0 s_in h.3)),
@@ -34,12 +34,12 @@ module _ (input : TableInput) (budget : NewBudget) where
     enumerates_reached Q same list lists =
         enumerates_same input.n (IsReachedFrom reached starts) Q (λ t t_in. ((λ h. (same t).0 ((reached_exactly t t_in).0 h)), (λ q. (reached_exactly t t_in).1 ((same t).1 q)))) list lists
 
-  pub lists_below : (reached : Reached) → IsClosureOf reached input.n (IsWeak input.cost 1 1) → (starts : List Bool) → AreMarks input.n (Buys input budget) starts
+  pub lists_below : (reached : Reached) → IsClosureOf reached input.n (IsWeak input.cost 1 1) → (starts : List Bool) → MarksEach input.n (Buys input budget) starts
       → (those : List ℕ) → Enumerates input.n (IsReachedFrom reached starts) those → ListsBelow input budget those
   lists_below reached closed starts marks those lists =
       enumerates_reached reached closed (Buys input budget) starts marks (IsBelow input budget) (below_exactly input budget) those lists
 
-  pub lists_strictly_below : (reached : Reached) → IsClosureOf reached input.n (IsWeak input.cost 1 1) → (starts : List Bool) → AreMarks input.n (IsStrictStart input budget) starts
+  pub lists_strictly_below : (reached : Reached) → IsClosureOf reached input.n (IsWeak input.cost 1 1) → (starts : List Bool) → MarksEach input.n (IsStrictStart input budget) starts
       → (those : List ℕ) → Enumerates input.n (IsReachedFrom reached starts) those → ListsStrictlyBelow input budget those
   lists_strictly_below reached closed starts marks those lists =
       enumerates_reached reached closed (IsStrictStart input budget) starts marks (IsStrictlyBelow input budget) (strictly_exactly input budget) those lists

@@ -3,8 +3,8 @@
 use Rattle.std.specs.Prelude.{◌≡◌, ◌<◌, ◌↔◌, ◌⊎◌, ℕ, Bool, false, List, IsTrue, length, slice_index_or}
 use Rattle.rp_pref.specs.Closure.{Reached, reaches_in}
 
--- One truth value for each of n observations: whether P holds of it.
-pub record AreMarks (n : ℕ) (P : ℕ → Type 0) (marks : List Bool) : Type 0 where
+-- One truth value for each of n observations, and no more: whether P holds of it.
+pub record MarksEach (n : ℕ) (P : ℕ → Type 0) (marks : List Bool) : Type 0 where
   pub one_each : length marks ≡ n
   pub each : (s : ℕ) → s < n → IsTrue (slice_index_or marks s false) ↔ P s
 

@@ -6,7 +6,7 @@ ghost use Rattle.rp_pref.specs.Closure.{IsWeakClosureOf};
 ghost use Rattle.rp_table.specs.Cost.{cost_of};
 ghost use Rattle.rp_table.specs.Tables.{records_of};
 ghost use Rattle.rp_support.specs.InnerBudget.{input_of, new_budget};
-ghost use Rattle.rp_support.specs.InnerMarks.{AreMarks, IsReachedFrom};
+ghost use Rattle.rp_support.specs.InnerMarks.{MarksEach, IsReachedFrom};
 ghost use Rattle.rp_evidence.specs.Enumeration.{Enumerates};
 
 use rp_num::NoMemory;
@@ -42,7 +42,7 @@ pub fn strictly_below(
 
 /// Of each observation, whether the budget buys its bundle.
 fn bought(alloc: Global, budget: &NewBudget) -> Result<Vec<bool>, NoMemory>
-    ensures { IfOk result (λ marks. AreMarks (records_of budget.now.at.table.now)
+    ensures { IfOk result (λ marks. MarksEach (records_of budget.now.at.table.now)
         (Buys (input_of budget.now) (new_budget budget.now)) marks.items) }
 {
     let mut marks = Vec::new(alloc);
@@ -55,7 +55,7 @@ fn bought(alloc: Global, budget: &NewBudget) -> Result<Vec<bool>, NoMemory>
 /// Of each observation, whether a walk from it on is strict.
 fn strict_starts(alloc: Global, budget: &NewBudget, below: &[u32]) -> Result<Vec<bool>, NoMemory>
     requires { ListsBelow (input_of budget.now) (new_budget budget.now) below.now }
-    ensures { IfOk result (λ marks. AreMarks (records_of budget.now.at.table.now)
+    ensures { IfOk result (λ marks. MarksEach (records_of budget.now.at.table.now)
         (IsStrictStart (input_of budget.now) (new_budget budget.now)) marks.items) }
 {
     let mut marks = Vec::new(alloc);
@@ -119,7 +119,7 @@ fn is_reached(closure: &Closure, n: u32, starts: &[bool], t: u32) -> bool
     ensures { IsTrue result ↔ IsReachedFrom closure.now starts.now t }
 {
     for s in 0..n {
-        if starts[s as usize] && (s == t || closure.reaches(s, t)) {
+        if starts[s as usize] && closure.equals_or_reaches(s, t) {
             return true;
         }
     }

@@ -1,6 +1,6 @@
-ghost use Rattle.std.specs.Prelude.{◌≤◌, ◌<◌, ◌↔◌, All, IfOk, IsTrue, length};
-ghost use Rattle.rp_evidence.specs.Input.{TableInput, input_of_table};
-ghost use Rattle.rp_evidence.specs.Welfare.{EqualsOrReaches, ListsReached};
+ghost use Rattle.std.specs.Prelude.{◌≤◌, ◌<◌, All, IfOk, length};
+ghost use Rattle.rp_evidence.specs.Input.{input_of_table};
+ghost use Rattle.rp_evidence.specs.Welfare.{ListsReached};
 ghost use Rattle.rp_table.specs.Tables.{records_of};
 ghost use Rattle.rp_table.specs.declared.TheConstants.{RECORDS};
 ghost use Rattle.rp_pref.specs.Closure.{IsWeakClosureOf};
@@ -9,16 +9,6 @@ use rp_num::NoMemory;
 use rp_pref::Closure;
 use rp_table::Table;
 use std::alloc::Global;
-
-/// Whether `s` is `t` or reaches it.
-pub(crate) fn equals_or_reaches(closure: &Closure, s: u32, t: u32) -> bool
-    requires from { s < closure.now.n }
-    requires to { t < closure.now.n }
-    ensures { (input : TableInput) → IsWeakClosureOf closure.now input
-        → IsTrue result ↔ EqualsOrReaches input s t }
-{
-    s == t || closure.reaches(s, t)
-}
 
 /// The observation `t` and all that it reaches, in increasing order.
 pub(crate) fn reached_from(
@@ -36,7 +26,7 @@ pub(crate) fn reached_from(
 {
     let mut reached = Vec::new(alloc);
     for s in 0..table.n() {
-        if equals_or_reaches(closure, t, s) {
+        if closure.equals_or_reaches(t, s) {
             reached.push(s)?;
         }
     }

@@ -5,7 +5,6 @@ ghost use Rattle.rp_pref.specs.Closure.{IsWeakClosureOf};
 ghost use Rattle.rp_welfare.specs.InnerCheapest.{IsBefore, cost_at_prices};
 ghost use Rattle.rp_welfare.specs.Verdict.{IsFirstCheapest};
 
-use crate::reached::equals_or_reaches;
 use rp_pref::Closure;
 use rp_table::NewPrices;
 
@@ -25,7 +24,7 @@ pub(crate) fn first_cheapest(new: &NewPrices, closure: &Closure, t: u32) -> Chea
 {
     let mut best = priced(new, t);
     for s in 0..new.table.n() {
-        if equals_or_reaches(closure, s, t) {
+        if closure.equals_or_reaches(s, t) {
             let other = priced(new, s);
             if is_before(other, best) {
                 best = other;

@@ -166,7 +166,16 @@ fn places_of_prices_and_of_quantities(rt: HostRuntime) -> Result<(), Fail> {
     )
 }
 
-/// After two pivots an entry of the objective row is about 10^21.
+/// The run by hand: a row for each input, with the right side 1, and a column for each observation, with its input
+/// prices and what its inputs cost as objective; the numbers of tableau 0 are at most 20,000,002. The first column
+/// enters, and the first row leaves (1/9,999,999 is less than 1/1). Tableau 1, over 9,999,999, has the rows
+/// (1; 1, 0, 0; 9,999,999, 1, 1),
+/// (9,999,998; -1, 9,999,999, 0; 0, 99,999,900,000,008, 9,999,998),
+/// (9,999,998; -1, 0, 9,999,999; 0, 9,999,998, 99,999,720,000,026) and the objectives
+/// (20,000,002; 20,000,002, 0, 0; 0, -99,999,900,000,005, -99,999,720,000,023). The second column enters, and the
+/// second row leaves. Tableau 2, over 99,999,900,000,008, has at the third row and column
+/// (99,999,720,000,026 * 99,999,900,000,008 - 9,999,998^2) / 9,999,999 = 999,996,300,002,759,999,796, which passes
+/// 2^63 - 1 = 9,223,372,036,854,775,807.
 #[test]
 fn a_lower_bound_past_the_width(rt: HostRuntime) -> Result<(), Fail> {
     check_report(

@@ -5,28 +5,22 @@ use rp_text::read_table;
 use std::alloc::Global;
 use std::test::Fail;
 
-/// Whether the evidence is accepted on costs 10, 5; 45, 50.
-fn accepted(
-    alloc: Global,
-    num: u64,
-    den: u64,
-    cycle: &[u32],
-    values: &[i128],
-) -> Result<bool, Fail> {
-    let text = b"p_a,q_a,p_b,q_b\n1,1,3,3\n21,2,8,1\n";
-    accepted_on(alloc, text, num, den, cycle, values)
-}
+/// Costs 10, 5; 45, 50, of which the greatest ratio is 1/6.
+const NINE_TENTHS: &str = "p_a,q_a,p_b,q_b\n1,1,3,3\n21,2,8,1\n";
+
+/// Costs 8, 4; 8, 4: no weak step leads from the second observation to the first.
+const MORE_AND_LESS: &str = "p_a,q_a,p_b,q_b\n1,4,1,4\n1,2,1,2\n";
+
+/// The greatest absolute value that a value may have.
+const WIDTH: i128 = 1 << 121;
+
+/// Evidence for a ratio: its numerator and denominator, a cycle and values.
+type Forged = (u64, u64, &'static [u32], &'static [i128]);
 
 /// Whether the evidence is accepted on the costs of a table.
-fn accepted_on(
-    alloc: Global,
-    text: &[u8],
-    num: u64,
-    den: u64,
-    cycle: &[u32],
-    values: &[i128],
-) -> Result<bool, Fail> {
-    let table = read_table(alloc, text)?;
+fn accepted(alloc: Global, file: &str, forged: Forged) -> Result<bool, Fail> {
+    let (num, den, cycle, values) = forged;
+    let table = read_table(alloc, file.as_bytes())?;
     if table.levelled() {
         return Ok(false);
     }
@@ -40,39 +34,92 @@ fn accepted_on(
     Ok(check_pump(&costs, &part))
 }
 
+/// The ratio in lowest terms or not, up to denominators of 3 * 2^58, and values up to their width.
 #[test]
 fn evidence_that_holds(rt: HostRuntime) -> Result<(), Fail> {
-    assert!(rt; accepted(rt.alloc(), 1, 6, &[0, 1, 0], &[0, -20])?);
-    assert!(rt; accepted(rt.alloc(), 2, 12, &[1, 0, 1], &[0, -40])?);
-    assert!(rt; accepted(rt.alloc(), 1, 6, &[0, 1, 0], &[100, 80])?);
+    for (file, forged) in [
+        (
+            NINE_TENTHS,
+            (
+                1u64,
+                6u64,
+                &[0u32, 1, 0] as &[u32],
+                &[0i128, -20] as &[i128],
+            ),
+        ),
+        (NINE_TENTHS, (2, 12, &[1, 0, 1], &[0, -40])),
+        (
+            NINE_TENTHS,
+            (1 << 57, 3 << 58, &[0, 1, 0], &[0, -(20 << 57)]),
+        ),
+        (NINE_TENTHS, (1, 6, &[0, 1, 0], &[100, 80])),
+        (NINE_TENTHS, (1, 6, &[0, 1, 0], &[WIDTH, WIDTH - 20])),
+        (NINE_TENTHS, (1, 6, &[0, 1, 0], &[20 - WIDTH, -WIDTH])),
+        (MORE_AND_LESS, (0, 1, &[0, 0], &[0, -4])),
+        (MORE_AND_LESS, (0, 1, &[1, 1], &[0, -4])),
+    ] {
+        let accepted = accepted(rt.alloc(), file, forged)?;
+        assert!(rt; accepted);
+    }
     Ok(())
 }
 
-/// Each clause of the check broken once.
+/// Each of these fails in one clause alone.
 #[test]
 fn evidence_that_fails(rt: HostRuntime) -> Result<(), Fail> {
-    let width = 1 << 121;
-    assert!(rt; !accepted(rt.alloc(), 1, 7, &[0, 1, 0], &[0, -20])?);
-    assert!(rt; !accepted(rt.alloc(), 0, 0, &[0, 1, 0], &[0, 0])?);
-    assert!(rt; !accepted(rt.alloc(), (1 << 60) + 1, 1, &[0, 1, 0], &[0, 0])?);
-    assert!(rt; !accepted(rt.alloc(), 1, (1 << 60) + 1, &[0, 1, 0], &[0, 0])?);
-    assert!(rt; !accepted(rt.alloc(), 1, 6, &[0, 1, 0, 1, 0], &[0, -20])?);
-    assert!(rt; !accepted(rt.alloc(), 1, 6, &[0, 1], &[0, -20])?);
-    assert!(rt; !accepted(rt.alloc(), 1, 6, &[0], &[0, -20])?);
-    assert!(rt; !accepted(rt.alloc(), 1, 6, &[0, 2, 0], &[0, -20])?);
-    assert!(rt; !accepted(rt.alloc(), 1, 6, &[0, 1, 0], &[0])?);
-    assert!(rt; !accepted(rt.alloc(), 1, 6, &[0, 1, 0], &[0, 0])?);
-    assert!(rt; !accepted(rt.alloc(), 1, 6, &[0, 1, 0], &[width + 1, width - 19])?);
-    assert!(rt; !accepted(rt.alloc(), 0, 1, &[0, 0], &[0, 0])?);
-    assert!(rt; !accepted(rt.alloc(), 1, 5, &[0, 1, 0], &[0, 0])?);
+    for (file, forged) in [
+        // a denominator of 0, and one past its width
+        (
+            NINE_TENTHS,
+            (0u64, 0u64, &[0u32, 1, 0] as &[u32], &[0i128, 0] as &[i128]),
+        ),
+        (
+            NINE_TENTHS,
+            (1 << 58, 6 << 58, &[0, 1, 0], &[0, -(20 << 58)]),
+        ),
+        // no walk, no step, a walk that is not closed, one past the last observation, one too long
+        (NINE_TENTHS, (1, 6, &[], &[0, -20])),
+        (NINE_TENTHS, (1, 6, &[0], &[0, -20])),
+        (NINE_TENTHS, (1, 2, &[0, 1], &[0, 0])),
+        (NINE_TENTHS, (1, 6, &[0, 2, 0], &[0, -20])),
+        (NINE_TENTHS, (1, 6, &[0, 1, 0, 1, 0], &[0, -20])),
+        // a step that is not weak
+        (MORE_AND_LESS, (0, 1, &[0, 1, 0], &[0, -4])),
+        // the ratio of costs 5, 4; 4, 5, with values that would do for it, and that of an observation alone
+        (NINE_TENTHS, (1, 5, &[0, 1, 0], &[0, -15])),
+        (NINE_TENTHS, (1, 6, &[0, 0], &[0, -20])),
+        // a value too few, and one too many
+        (NINE_TENTHS, (1, 6, &[0, 1, 0], &[20])),
+        (NINE_TENTHS, (1, 6, &[0, 1, 0], &[0, -20, 0])),
+        // values past their width
+        (NINE_TENTHS, (1, 6, &[0, 1, 0], &[WIDTH + 1, WIDTH - 19])),
+        (NINE_TENTHS, (1, 6, &[0, 1, 0], &[19 - WIDTH, -WIDTH - 1])),
+        // values that do not bound the step to the second observation, and to the first
+        (NINE_TENTHS, (1, 6, &[0, 1, 0], &[0, -19])),
+        (NINE_TENTHS, (1, 6, &[0, 1, 0], &[0, -21])),
+    ] {
+        let accepted = accepted(rt.alloc(), file, forged)?;
+        assert!(rt; !accepted);
+    }
     Ok(())
 }
 
-/// On costs 8, 4; 8, 4 no weak step leads from the second observation to the first.
+/// A lower ratio has no values that bound every step, and one above 1, the only with a numerator past its width, is
+/// none of a walk.
 #[test]
-fn step_that_is_not_weak(rt: HostRuntime) -> Result<(), Fail> {
-    let text = b"p_a,q_a,p_b,q_b\n1,4,1,4\n1,2,1,2\n";
-    assert!(rt; accepted_on(rt.alloc(), text, 0, 1, &[0, 0], &[0, -4])?);
-    assert!(rt; !accepted_on(rt.alloc(), text, 0, 1, &[0, 1, 0], &[0, -4])?);
+fn ratios_of_no_evidence(rt: HostRuntime) -> Result<(), Fail> {
+    for forged in [
+        (
+            1u64,
+            7u64,
+            &[0u32, 1, 0] as &[u32],
+            &[0i128, -20] as &[i128],
+        ),
+        (0, 1, &[0, 0], &[0, 0]),
+        ((1 << 60) + 1, 1, &[0, 1, 0], &[0, 0]),
+    ] {
+        let accepted = accepted(rt.alloc(), NINE_TENTHS, forged)?;
+        assert!(rt; !accepted);
+    }
     Ok(())
 }

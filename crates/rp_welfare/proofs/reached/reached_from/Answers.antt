@@ -12,7 +12,7 @@ loop-s-preserved c =
     let a = c.args in
     let l = c.loop-s in
     let input : TableInput = input_of_table a.table.now in
-    let joins = c.equals_or_reaches.ensures input c.requires.closes in
+    let joins = c.equals_or_reaches.ensures.by_weak_steps input c.requires.closes in
     elim c.if-equals_or_reaches.branch [
       | then-equals_or_reaches+in_ok-push w ↦
           rw w.reached-is (enumerates_pushed (EqualsOrReaches input a.t) l.s l.reached.items l.invariant (joins.0 w.if-equals_or_reaches.true) w.push.new.self.items w.in_ok-push.ensures.items)

@@ -19,7 +19,7 @@ loop-s-preserved c =
     let l = c.loop-s in
     let input : TableInput = input_of_table a.new.now.table.now in
     let below : l.s < input.n = omega (arith, c.loop-s-test.true, c.n-s-end.ensures.count) in
-    let joins = c.equals_or_reaches.ensures input c.requires.closes in
+    let joins = c.equals_or_reaches.ensures.by_weak_steps input c.requires.closes in
     let so_far : IsCheapestBelow input (slice_index a.new.now.prices.now) a.t l.s l.best.at l.best.cost = l.invariant in
     elim c.if-equals_or_reaches.branch [
       | then-equals_or_reaches+then-is_before w ↦

@@ -1,0 +1,98 @@
+use rp_power::drawn;
+use rp_table::{Costs, Table};
+use rp_text::read_table;
+use std::alloc::Global;
+use std::process::Abort;
+use std::test::Fail;
+
+/// Costs 5 and 5 of what was bought, at the prices 1, 2 and 2, 1.
+const CONTRADICTION: &str = "p_a,q_a,p_b,q_b\n1,1,2,2\n2,2,1,1\n";
+
+/// Whether two tables have the same names, prices, quantities and places.
+fn are_same(one: &Table, other: &Table) -> bool {
+    if one.n() != other.n() || one.goods() != other.goods() {
+        return false;
+    }
+    for g in 0..one.goods() {
+        if one.name(g).as_bytes() != other.name(g).as_bytes() {
+            return false;
+        }
+    }
+    for t in 0..one.n() {
+        if one.prices(t) != other.prices(t) || one.bundle(t) != other.bundle(t) {
+            return false;
+        }
+    }
+    one.price_places() == other.price_places() && one.quantity_places() == other.quantity_places()
+}
+
+/// The table of the behaviour that the words draw on the table of a file.
+fn table_drawn<R: Abort>(rt: &R, alloc: Global, file: &str, words: &[u32]) -> Result<Table, Fail> {
+    let table = read_table(alloc, file.as_bytes())?;
+    assert!(rt; !table.levelled());
+    let costs = Costs::of(alloc, &table)?;
+    assert!(rt; words.len() == table.n() as usize * table.goods() as usize);
+    Ok(drawn(alloc, &table, &costs, words)?)
+}
+
+#[test]
+fn tables_of_words(rt: HostRuntime) -> Result<(), Fail> {
+    for (file, words, want) in [
+        // all of the 5 for one good each, in one order and in the other
+        (
+            CONTRADICTION,
+            [0u32, 1, 1, 0].as_slice(),
+            "p_a,q_a,p_b,q_b\n1,0,2,2\n2,2,1,0\n",
+        ),
+        (
+            CONTRADICTION,
+            &[101, 0, 100, 7],
+            "p_a,q_a,p_b,q_b\n1,5,2,0\n2,0,1,5\n",
+        ),
+        // shares 99 and 1 of 100, and 1 and 2 of 3
+        (
+            CONTRADICTION,
+            &[4_294_967_199, 1, 1, 4_294_967_202],
+            "p_a,q_a,p_b,q_b\n1,4,2,0\n2,0,1,3\n",
+        ),
+        // all shares 0: all for the first good
+        (
+            CONTRADICTION,
+            &[0, 0, 200, 4_294_967_200],
+            "p_a,q_a,p_b,q_b\n1,5,2,0\n2,2,1,0\n",
+        ),
+        // no share buys a whole unit: one of the first good
+        (
+            "p_a,q_a,p_b,q_b\n3,0,3,1\n",
+            &[1, 1],
+            "p_a,q_a,p_b,q_b\n3,1,3,0\n",
+        ),
+        // 9,999,999 to spend on the first good at the price 1, one more, and the most
+        (
+            "p_a,q_a,p_b,q_b\n1,9999999,1,0\n",
+            &[1, 0],
+            "p_a,q_a,p_b,q_b\n1,9999999,1,0\n",
+        ),
+        (
+            "p_a,q_a,p_b,q_b\n1,9999999,1,1\n",
+            &[1, 0],
+            "p_a,q_a,p_b,q_b\n1,9999999,1,0\n",
+        ),
+        (
+            "p_a,q_a,p_b,q_b\n1,9999999,9999999,9999999\n",
+            &[99, 0],
+            "p_a,q_a,p_b,q_b\n1,9999999,9999999,0\n",
+        ),
+        // 1.5 * 2.5 + 0.25 * 3 = 4.5, of which a half each at the scales of prices and of quantities
+        (
+            "p_long name,q_long name,q_b,p_b\n1.50,2.5,3,0.25\n",
+            &[50, 150],
+            "p_long name,q_long name,q_b,p_b\n1.50,1.5,9.0,0.25\n",
+        ),
+    ] {
+        let got = table_drawn(&rt, rt.alloc(), file, words)?;
+        let want = read_table(rt.alloc(), want.as_bytes())?;
+        assert!(rt; are_same(&got, &want), "{file} {words:?}");
+    }
+    Ok(())
+}

@@ -1,0 +1,101 @@
+ghost use Rattle.std.specs.Prelude.{◌≡◌, []};
+ghost use Rattle.rp_table.specs.Cost.{IsCostsOf};
+
+use rp_draws::{draw, generator};
+use rp_evidence::Garp;
+use rp_garp::garp;
+use rp_power::{drawn, power};
+use rp_table::{Costs, Table};
+use rp_text::read_table;
+use std::alloc::Global;
+use std::process::Abort;
+use std::test::Fail;
+
+/// Two budgets that cross.
+const CROSSED: &str = "p_a,q_a,p_b,q_b\n1,1,2,2\n2,2,1,1\n";
+
+/// Budgets that never cross: the second is the first with twice as much to spend.
+const PARALLEL: &str = "p_a,q_a,p_b,q_b\n1,2,1,2\n1,4,1,4\n";
+
+/// One observation of one good.
+const ALONE: &str = "p_a,q_a\n3,2\n";
+
+/// How many of so many behaviours on the budgets of a file fail the axiom.
+fn counted<R: Abort>(
+    rt: &R,
+    alloc: Global,
+    file: &str,
+    seed: u64,
+    draws: u32,
+) -> Result<u32, Fail> {
+    let table = read_table(alloc, file.as_bytes())?;
+    assert!(rt; !table.levelled());
+    let costs = Costs::of(alloc, &table)?;
+    Ok(power(alloc, &table, &costs, seed, draws)?)
+}
+
+/// The counts by another program, over the generator as its authors publish it.
+#[test]
+fn counts_of_behaviours(rt: HostRuntime) -> Result<(), Fail> {
+    for (file, seed, draws, want) in [
+        (CROSSED, 0u64, 1u32, 1u32),
+        (CROSSED, 7, 1, 0),
+        (CROSSED, 7, 100, 4),
+        (CROSSED, 7, 1000, 69),
+        (CROSSED, 8, 100, 11),
+        (CROSSED, 8, 1000, 77),
+        (CROSSED, 18_446_744_073_709_551_615, 1000, 60),
+        (PARALLEL, 0, 1000, 0),
+        (PARALLEL, 7, 1000, 0),
+        (ALONE, 7, 10, 0),
+    ] {
+        let count = counted(&rt, rt.alloc(), file, seed, draws)?;
+        assert_eq!(rt; count, want, "{file} {seed} {draws}");
+    }
+    Ok(())
+}
+
+/// How many behaviours fail by the verdict on the table of each: the words of each are those after the words of the
+/// one before it.
+fn counted_one_by_one<R: Abort>(
+    rt: &R,
+    alloc: Global,
+    table: &Table,
+    costs: &Costs,
+    seed: u64,
+    draws: u32,
+) -> Result<u32, Fail>
+    requires no_levels { table.now.levels ≡ [] }
+    requires of_table { IsCostsOf costs.now table.now }
+{
+    let mut generator = generator(seed);
+    let mut failed = 0u32;
+    for _ in 0..draws {
+        let mut words = Vec::new(alloc);
+        for _ in 0..table.n() * table.goods() {
+            words.push(draw(&mut generator))?;
+        }
+        assert!(rt; words.len() == table.n() as usize * table.goods() as usize);
+        let behaviour = drawn(alloc, table, costs, words.as_slice())?;
+        let behaviour_costs = Costs::of(alloc, &behaviour)?;
+        if let Garp::Cycle(_) = garp(alloc, &behaviour_costs)? {
+            failed = failed.saturating_add(1);
+        }
+    }
+    Ok(failed)
+}
+
+#[test]
+fn counts_by_verdicts(rt: HostRuntime) -> Result<(), Fail> {
+    let alloc = rt.alloc();
+    let table = read_table(alloc, CROSSED.as_bytes())?;
+    assert!(rt; !table.levelled());
+    let costs = Costs::of(alloc, &table)?;
+    for (seed, want) in [(7u64, 1u32), (8, 2), (42, 0)] {
+        let count = power(alloc, &table, &costs, seed, 10)?;
+        assert_eq!(rt; count, want, "{seed}");
+        let count = counted_one_by_one(&rt, alloc, &table, &costs, seed, 10)?;
+        assert_eq!(rt; count, want, "{seed}, one by one");
+    }
+    Ok(())
+}
