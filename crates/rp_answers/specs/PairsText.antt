@@ -14,4 +14,5 @@ pairs_line (Some p) = line_of (codes "pair " ++ ordinals_text (p.0 ∷ p.1 ∷ [
 -- is held to its level, where the table has levels
 abbrev pub IsPairsText : Observations → List ℕ → Type 0
 IsPairsText table text =
-    (found : Option (ℕ × ℕ)) × IsOwnPairs (records_of table) table.levels (cost_of table) found × (text ≡ pairs_line found)
+    (found : Option (ℕ × ℕ)) × IsOwnPairs (records_of table) table.levels (cost_of table) found
+    × (text ≡ pairs_line found)

@@ -1,5 +1,5 @@
--- What a file denotes as a technology, and as outputs that are asked of one, each at new input prices: its value, or the
--- first fault of the earliest stage that finds one (formats of this project's own).
+-- What a file denotes as a technology, and as outputs that are asked of one, each at new input prices: its value, or
+-- the first fault of the earliest stage that finds one (formats of this project's own).
 use Rattle.std.specs.Prelude.{ℕ, List, [], codes, if◌then◌else◌, length, Result}
 use Rattle.rp_num.specs.declared.decimal.Decimal.{Decimal}
 use Rattle.rp_table.specs.Tables.{Observations}

@@ -19,7 +19,8 @@ use rp_num::{Decimal, NumFault, Seq, read_decimal};
 use rp_table::LEVEL_SCALE;
 use std::alloc::Global;
 
-/// What a field says in a column of that role: a number, or 0 where the fields are texts. Budgets are those that there are.
+/// What a field says in a column of that role: a number, or 0 where the fields are texts. `budgets` is how many there
+/// are.
 #[tactic(auto, unfolding(crate::specs::Fields::field_of))]
 pub fn read_field(
     budgets: u32,

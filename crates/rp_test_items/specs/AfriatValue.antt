@@ -14,4 +14,5 @@ afriat_value (NoModel cycle) =
     object (member (codes "cycle") (observations_value cycle)
     (member (codes "item") (string (codes "afriat")) no_members))
 afriat_value (Wide at) =
-    object (member (codes "item") (string (codes "afriat")) (member (codes "withheld") (observation_value at) no_members))
+    object (member (codes "item") (string (codes "afriat"))
+    (member (codes "withheld") (observation_value at) no_members))

@@ -25,4 +25,5 @@ at_members (Cycle cycle) others = member (codes "at_cycle") (observations_value 
 -- the index, and what shows it below, above and at it
 abbrev pub efficiency_value : Efficiency → Data
 efficiency_value evidence =
-    object (member (codes "above") (observations_value evidence.above) (at_members evidence.at (below_members evidence)))
+    object (member (codes "above") (observations_value evidence.above)
+    (at_members evidence.at (below_members evidence)))

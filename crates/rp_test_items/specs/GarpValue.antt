@@ -10,4 +10,5 @@ abbrev pub garp_value : Garp → Data
 garp_value (Ranks ranks) =
     object (member (codes "item") (string (codes "garp")) (member (codes "ranks") (counts_value ranks) no_members))
 garp_value (Cycle cycle) =
-    object (member (codes "cycle") (observations_value cycle) (member (codes "item") (string (codes "garp")) no_members))
+    object (member (codes "cycle") (observations_value cycle)
+    (member (codes "item") (string (codes "garp")) no_members))

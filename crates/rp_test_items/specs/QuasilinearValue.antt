@@ -8,7 +8,8 @@ use Rattle.rp_notation.specs.Values.{observations_value, sums_value}
 -- values, or a cycle with a negative sum
 abbrev pub quasilinear_value : Quasi → Data
 quasilinear_value (Values values) =
-    object (member (codes "item") (string (codes "quasilinear")) (member (codes "values") (sums_value values) no_members))
+    object (member (codes "item") (string (codes "quasilinear"))
+    (member (codes "values") (sums_value values) no_members))
 quasilinear_value (Cycle cycle) =
     object (member (codes "cycle") (observations_value cycle)
     (member (codes "item") (string (codes "quasilinear")) no_members))

@@ -21,8 +21,12 @@ named_form form = record {
 }
 
 abbrev pub named_given : HeldGiven → Given
-named_given given = record
-    { files = map (λ file. file.now) given.files.items; numbers = given.numbers.items; per = given.per; json = given.json }
+named_given given = record {
+  files = map (λ file. file.now) given.files.items;
+  numbers = given.numbers.items;
+  per = given.per;
+  json = given.json;
+}
 
 abbrev pub named_line : HeldLine → Line
 named_line line = record { command = line.command; given = named_given line.given }

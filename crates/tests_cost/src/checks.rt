@@ -118,7 +118,8 @@ fn bounds_from_above(rt: HostRuntime) -> Result<(), Fail> {
     Ok(())
 }
 
-/// The last three have the cost of their price sides as values: a price side that is not feasible, objectives that differ,
+/// The last three have the cost of their price sides as values: a price side that is not feasible, objectives that
+/// differ,
 /// and a column side that is not feasible.
 #[test]
 fn bounds_from_below(rt: HostRuntime) -> Result<(), Fail> {

@@ -1,5 +1,5 @@
-//! Tests of `run` over files in memory: `pairs`, `utility`, `cost`, levels of observations, refused files and limits, and
-//! an outside that fails.
+//! Tests of `run` over files in memory: `pairs`, `utility`, `cost`, levels of observations, refused files and limits,
+//! and an outside that fails.
 #![tactic(auto)]
 
 #[cfg(test)]
