@@ -119,8 +119,7 @@ fn bounds_from_above(rt: HostRuntime) -> Result<(), Fail> {
 }
 
 /// The last three have the cost of their price sides as values: a price side that is not feasible, objectives that
-/// differ,
-/// and a column side that is not feasible.
+/// differ, and a column side that is not feasible.
 #[test]
 fn bounds_from_below(rt: HostRuntime) -> Result<(), Fail> {
     for (y, upper, lower, want) in [
