@@ -1,2 +1,13 @@
 pub mod MenuLetters
 pub mod MenuPlaces
+pub mod OfferedMenus
+pub mod CountedCells
+pub mod GroupedCells
+pub mod Tallies
+pub mod ChosenLetters
+pub mod EntryFaults
+pub mod MenuStages
+pub mod CountedRecords
+pub mod SoundEntries
+pub mod DenotedMenus
+pub mod NamedFaults

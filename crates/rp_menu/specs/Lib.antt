@@ -1,1 +1,5 @@
 pub mod MenuLists
+pub mod MenuTexts
+pub mod Cells
+pub mod Denotation
+pub mod InnerCells

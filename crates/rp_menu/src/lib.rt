@@ -2,11 +2,21 @@
 //! (stochastic choice after Block and Marschak 1960).
 #![tactic(auto)]
 
+mod cells;
+mod entries;
+mod entry;
+mod fault;
+mod laws;
 mod limits;
+mod menu_texts;
 mod menus;
+mod read;
 
+pub use fault::MenuFault;
+pub use laws::files_never_denote_want_of_memory;
 pub use limits::limits_in_numbers;
 pub use menus::Menus;
+pub use read::read_menus;
 
 /// The letters that a menu may have, from a on.
 pub const LETTERS: u32 = 6;
