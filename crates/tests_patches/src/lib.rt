@@ -1,7 +1,9 @@
-//! Tests of patches, their units, the rational types and their mixtures: worked budgets and choices, limits, and the
-//! texts of the faults.
+//! Tests of patches, units of groups, the rational types and their mixtures: worked budgets and choices, limits, and
+//! the texts of the faults.
 #![tactic(auto)]
 
+#[cfg(test)]
+mod apportioned;
 #[cfg(test)]
 mod edges;
 #[cfg(test)]
