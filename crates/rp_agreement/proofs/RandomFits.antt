@@ -3,6 +3,7 @@ use Rattle.std.proofs.Common.{◌≡◌, ◌<◌, ◌^◌, ℕ, zero, suc, ℤ, 
 use Rattle.std.proofs.lemmas.List.{get_or_default}
 use Rattle.std.proofs.lemmas.List.Elements.{Contains-get_or}
 use Rattle.std.specs.Int.RustNames.{unsigned_abs}
+use Rattle.rp_blend.specs.Verdict.{IsOutcomeVerdict, shares_of}
 use Rattle.rp_evidence.specs.declared.random.RandomPart.{RandomPart}
 use Rattle.rp_evidence.specs.declared.random.RandomPart.TheVariants.{Mixture, Violated, Wide}
 use Rattle.rp_evidence.specs.declared.random.Share.{Share}
@@ -13,11 +14,11 @@ use Rattle.rp_farkas.specs.declared.entry.Pair.{Pair}
 use Rattle.rp_notation.specs.Reading.{FitObservations, FitsLong}
 use Rattle.rp_program_items.specs.Limits.{FitsRandom, FitsShare}
 use Rattle.rp_notation.proofs.ListLemmas.{all_rest}
-use Rattle.rp_patch.specs.Mixtures.{random_program}
+use Rattle.rp_patch.specs.Mixtures.{random_program, types_on}
 use Rattle.rp_patch.specs.Patches.{IsPatchList, PatchList}
 use Rattle.rp_patch.specs.RandomEvidence.{ProvesRandom}
 use Rattle.rp_patch.specs.Types.{IsRationalType, IsType}
-use Rattle.rp_random.specs.Verdict.{IsOutcomeVerdict, IsRandomVerdict, shares_of}
+use Rattle.rp_random.specs.Verdict.{IsRandomVerdict}
 use Rattle.rp_simplex.specs.Outcome.{EndsOptimal, IsOutcome}
 use Rattle.rp_simplex.specs.declared.outcome.Outcome.{Outcome}
 use Rattle.rp_simplex.specs.declared.outcome.Outcome.TheVariants.{Optimal, Unbounded, Wide as PassedWidth}
@@ -61,15 +62,15 @@ module _ (p : PatchList) (types : List (List ℕ)) (valid : IsPatchList p) where
   pub random_fits : (part : RandomPart) → ProvesRandom p p.total part → IsRandomVerdict p types part → FitsRandom p.total part
   random_fits part proves given = go given.outcome part given.run given.made proves
     where
-      go : (outcome : Outcome) (part : RandomPart) → IsOutcome (random_program p types) outcome → IsOutcomeVerdict p types outcome part → ProvesRandom p p.total part → FitsRandom p.total part
+      go : (outcome : Outcome) (part : RandomPart) → IsOutcome (random_program p types) outcome → IsOutcomeVerdict (types_on p) types outcome part → ProvesRandom p p.total part → FitsRandom p.total part
       go (Optimal pair) (Mixture den parts) ends (den_is, are, whole) (total, mixture) = (
         subst FitsLong (sym den_is) (den_fits (random_program p types) pair ends),
-        shares_fit pair parts ends are mixture.rational,
+        shares_fit pair parts ends are mixture.kinds,
         total_fits,
       )
       go (Optimal pair) (Violated den parts weights) ends (den_is, are, weights_are, less) (total, none) = (
         subst FitsLong (sym den_is) (den_fits (random_program p types) pair ends),
-        shares_fit pair parts ends are none.partial.rational,
+        shares_fit pair parts ends are none.partial.kinds,
         total_fits,
         subst (All FitsLong) (sym weights_are) (prices_fit (random_program p types) pair ends),
       )

@@ -1,49 +1,23 @@
 -- An item on random choices that is found nothing wrong with proves its verdict (McFadden and Richter 1990): the weights of the
 -- patches bound every partial mixture.
-use Rattle.std.proofs.Common.{◌<◌, ℕ, List, [], All, Contains, Ok, length, slice_index_or, subst, sym, ◌∙◌}
-use Rattle.std.proofs.lemmas.List.{get_or_default}
+use Rattle.std.proofs.Common.{◌<◌, ℕ, List, All, Ok, length, slice_index_or}
 use Rattle.rp_evidence.specs.Kinds.{IsOfKind}
 use Rattle.rp_evidence.specs.declared.certificate.Item.{Item}
 use Rattle.rp_evidence.specs.declared.certificate.Item.TheVariants.{Garp as GarpItem, Afriat as AfriatItem, Efficiency as EfficiencyItem, Homothetic as HomotheticItem, Quasi as QuasiItem, Demand as DemandItem, Welfare as WelfareItem, Random as RandomItem}
 use Rattle.rp_evidence.specs.declared.certificate.Kind.TheVariants.{Random as RandomKind}
 use Rattle.rp_evidence.specs.declared.random.RandomPart.{RandomPart}
 use Rattle.rp_evidence.specs.declared.random.RandomPart.TheVariants.{Mixture, Violated, Wide}
-use Rattle.rp_evidence.specs.declared.random.Share.{Share}
+use Rattle.rp_patch.specs.Mixtures.{types_on}
 use Rattle.rp_patch.specs.Patches.{IsPatchList, PatchList}
 use Rattle.rp_patch.specs.RandomEvidence.{ProvesOnPatches, ProvesRandom}
-use Rattle.rp_patch.specs.RandomFailure.{ItemFailsOnPatches, PartsFail, RandomFails}
-use Rattle.rp_patch.specs.Types.{IsRationalType}
-use Rattle.rp_patch.proofs.MixtureWeights.{is_greatest, none_makes}
+use Rattle.rp_patch.specs.RandomFailure.{ItemFailsOnPatches, RandomFails}
+use Rattle.rp_patch.proofs.KindSound.{mixture_sound, violation_sound}
+use Rattle.rp_patch.proofs.TypeKinds.{are_whole}
 
 module _ (p : PatchList) (is : IsPatchList p) where
-  all_rational : (parts : List Share) → PartsFail p parts (Ok tt) → (share : Share) → Contains parts share → IsRationalType p share.patches
-  all_rational parts found share given =
-      let none : Share = record { patches = []; weight = 0 } in
-      subst (λ (q : Share). IsRationalType p q.patches) (sym (get_or_default parts given.0 share none given.1) ∙ given.2) (found given.0 given.1).1.1.0
-
   pub random_sound : (total : ℕ) (evidence : RandomPart) → RandomFails p total evidence (Ok tt) → ProvesRandom p total evidence
-  random_sound total (Mixture den parts) (same, ((numbers, (types, (exact, end))), done)) = (
-    same,
-    record {
-      fraction = numbers.fraction;
-      rational = all_rational parts types;
-      exact = exact;
-    },
-  )
-  random_sound total (Violated den parts weights) (same, ((numbers, (types, (one_each, (within, (heavy, (equal, (less, end))))))), done)) = (
-    same,
-    record {
-      none = none_makes p is den weights heavy parts equal less;
-      partial = record {
-        fraction = numbers.fraction;
-        rational = all_rational parts types;
-        within = within;
-      };
-      greatest = is_greatest p is den weights heavy parts equal;
-      one_each = one_each;
-      weighs = heavy;
-    },
-  )
+  random_sound total (Mixture den parts) (same, (found, done)) = (same, mixture_sound (types_on p) den parts found)
+  random_sound total (Violated den parts weights) (same, (found, done)) = (same, violation_sound (types_on p) (are_whole p is) den parts weights found)
   random_sound total (Wide step) found = tt
 
   pub random_item_sound : (item : Item) → IsOfKind RandomKind item → ItemFailsOnPatches p item (Ok tt) → ProvesOnPatches p item

@@ -3,7 +3,7 @@ use Rattle.std.proofs.Common.{◌≡◌, ◌≢◌, ◌<◌, ◌≤◌, ◌⊎�
 use Rattle.std.proofs.Math.Nat.{mul-le-mul_right, pow-succ', pow-zero}
 use Rattle.std.proofs.lemmas.List.{get_or-append_right}
 use Rattle.rp_table.specs.Sums.{sum_below}
-use Rattle.rp_patch.specs.Mixtures.{type_weight}
+use Rattle.rp_patch.specs.Kinds.{cells_weight}
 use Rattle.rp_patch.specs.Parts.{Before, Begins, IsPart, taken_in}
 use Rattle.rp_patch.specs.Patches.{PatchList}
 use Rattle.rp_patch.specs.Types.{IsRationalType}
@@ -67,7 +67,7 @@ sum_same f g zero same = refl
 sum_same f g (suc n) same = omega (arith, sum_same f g n (λ j l. same j (omega (arith, l))), same n (omega arith))
 
 -- a type weighs no less than the patches that it begins with
-heavier : (weights type front : List ℕ) → Begins type front → type_weight weights front ≤ type_weight weights type
+heavier : (weights type front : List ℕ) → Begins type front → cells_weight weights front ≤ cells_weight weights type
 heavier weights type front begins =
     let n = length front in
     let g : ℕ → ℕ = λ j. slice_index weights (slice_index type j) in
@@ -127,7 +127,7 @@ module _ (p : PatchList) (weights : List ℕ) (least : ℕ) where
     type_longer type rational = omega (arith, size parts depth i s, s.deep, rational.0.one_each)
 
     -- no patch is left for the first budget
-    pub all_weigh : depth ≡ 0 → i ≡ length p.patches → (type : List ℕ) → IsRationalType p type → least ≤ type_weight weights type
+    pub all_weigh : depth ≡ 0 → i ≡ length p.patches → (type : List ℕ) → IsRationalType p type → least ≤ cells_weight weights type
     all_weigh first last type rational =
         let long = type_longer type rational in
         let count = size parts depth i s in
@@ -135,7 +135,7 @@ module _ (p : PatchList) (weights : List ℕ) (least : ℕ) where
         (inr (begins_none type front (omega (arith, count, first)))))
 
     -- every rational type that begins with the patch weighs enough, or there is none
-    pub passed : i < length p.patches → ((type : List ℕ) → IsRationalType p type → Begins type (front ++ i ∷ []) → least ≤ type_weight weights type)
+    pub passed : i < length p.patches → ((type : List ℕ) → IsRationalType p type → Begins type (front ++ i ∷ []) → least ≤ cells_weight weights type)
         → IsSearching p weights least parts depth (i + 1)
     passed below enough = record {
       room = s.room;
@@ -149,22 +149,22 @@ module _ (p : PatchList) (weights : List ℕ) (least : ℕ) where
       ];
     }
 
-    pub passed_falls : i < length p.patches → ((type : List ℕ) → IsRationalType p type → Begins type (front ++ i ∷ []) → least ≤ type_weight weights type)
+    pub passed_falls : i < length p.patches → ((type : List ℕ) → IsRationalType p type → Begins type (front ++ i ∷ []) → least ≤ cells_weight weights type)
         → left parts depth (i + 1) < left parts depth i
     passed_falls below enough =
         left_falls parts parts depth i depth (i + 1) (passed below enough)
         (place_next (length p.patches + 2) p.budgets front i (omega arith) (omega (arith, size parts depth i s, s.deep)))
 
     -- the patches weigh enough by themselves
-    pub weigh_enough : (longer : Part) → taken_in longer ≡ front ++ i ∷ [] → least ≤ type_weight weights (taken_in longer)
-        → (type : List ℕ) → IsRationalType p type → Begins type (front ++ i ∷ []) → least ≤ type_weight weights type
+    pub weigh_enough : (longer : Part) → taken_in longer ≡ front ++ i ∷ [] → least ≤ cells_weight weights (taken_in longer)
+        → (type : List ℕ) → IsRationalType p type → Begins type (front ++ i ∷ []) → least ≤ cells_weight weights type
     weigh_enough longer takes enough type rational begins =
-        let least_by : least ≤ type_weight weights (front ++ i ∷ []) = subst (λ xs. least ≤ type_weight weights xs) takes enough in
+        let least_by : least ≤ cells_weight weights (front ++ i ∷ []) = subst (λ xs. least ≤ cells_weight weights xs) takes enough in
         omega (arith, least_by, heavier weights type (front ++ i ∷ []) begins)
 
     -- a type that weighs too little
-    pub too_light : (longer : Part) → IsPart p longer → longer.taken ≡ p.budgets → type_weight weights (taken_in longer) < least
-        → ¬ ((type : List ℕ) → IsRationalType p type → least ≤ type_weight weights type)
+    pub too_light : (longer : Part) → IsPart p longer → longer.taken ≡ p.budgets → cells_weight weights (taken_in longer) < least
+        → ¬ ((type : List ℕ) → IsRationalType p type → least ≤ cells_weight weights type)
     too_light longer is whole light all = omega (arith, light, all (taken_in longer) (whole_part p longer is whole is.0.count))
 
     module _ (longer : Part) (is : IsPart p longer) (more : longer.taken ≡ depth + 1) (takes : taken_in longer ≡ front ++ i ∷ []) where

@@ -1,7 +1,7 @@
 -- Words that only proofs need: how far a search through the types has come.
 use Rattle.std.specs.Prelude.{◌≡◌, ◌<◌, ◌≤◌, ◌+◌, ◌*◌, ◌^◌, ◌++◌, ℕ, zero, suc, List, [], ◌∷◌, length, slice_index}
 use Rattle.std.specs.Prelude.{slice_index_or}
-use Rattle.rp_patch.specs.Mixtures.{type_weight}
+use Rattle.rp_patch.specs.Kinds.{cells_weight}
 use Rattle.rp_patch.specs.Parts.{Before, IsPart, taken_in}
 use Rattle.rp_patch.specs.Patches.{PatchList}
 use Rattle.rp_patch.specs.Types.{IsRationalType}
@@ -33,4 +33,4 @@ pub record IsSearching (p : PatchList) (weights : List ℕ) (least : ℕ) (parts
       → taken_in (part_at parts (k + 1))
       ≡ taken_in (part_at parts k) ++ slice_index (taken_in (part_at parts (k + 1))) k ∷ []
   pub weighed : (type : List ℕ) → IsRationalType p type → Before type (front_of parts depth i)
-      → least ≤ type_weight weights type
+      → least ≤ cells_weight weights type

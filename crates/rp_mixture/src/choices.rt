@@ -1,7 +1,8 @@
 ghost use Rattle.rp_patch.specs.RandomFailure.{RandomFails};
 
-use crate::mixture::{check_mixture, check_no_mixture};
+use crate::choosers::TypesOn;
 use rp_evidence::{Failure, RandomPart, Reason};
+use rp_kinds::check_evidence;
 use rp_patch::{Patches, fails};
 
 /// Checks evidence on random choices (McFadden and Richter 1990) for the units of these patches.
@@ -11,13 +12,5 @@ pub fn check_choices(patches: &Patches, total: u64, evidence: &RandomPart) -> Re
     if total != patches.total() {
         return fails(Reason::Units, 0);
     }
-    match evidence {
-        RandomPart::Mixture { den, parts } => check_mixture(patches, *den, parts.as_slice()),
-        RandomPart::Violated {
-            den,
-            parts,
-            weights,
-        } => check_no_mixture(patches, *den, parts.as_slice(), weights.as_slice()),
-        RandomPart::Wide { .. } => Ok(()),
-    }
+    check_evidence(&TypesOn { patches }, evidence)
 }

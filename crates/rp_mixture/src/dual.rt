@@ -1,7 +1,7 @@
 //! The search for a rational type that weighs less than it should, depth first over the budgets. A part with a
 //! violation is left, and so is one whose patches weigh enough by themselves.
 ghost use Rattle.std.specs.Prelude.{◌≡◌, ◌<◌, ◌≤◌, ◌↔◌, ℕ, List, IsTrue, length, slice_index};
-ghost use Rattle.rp_patch.specs.Mixtures.{type_weight};
+ghost use Rattle.rp_patch.specs.Kinds.{cells_weight};
 ghost use Rattle.rp_patch.specs.Types.{IsRationalType};
 
 use rp_patch::Patches;
@@ -12,7 +12,7 @@ fn weight_of_type(weights: &[u64], numbers: &[u32]) -> u128
     requires few { length numbers.now ≤ 48 }
     requires weighed { (j : ℕ) → j < length numbers.now
         → slice_index numbers.now j < length weights.now }
-    ensures { result ≡ type_weight weights.now numbers.now }
+    ensures { result ≡ cells_weight weights.now numbers.now }
 {
     let mut weight = 0;
     for i in numbers {
@@ -27,7 +27,7 @@ fn all_weigh_by(patches: &Patches, least: u64, weights: &[u64], parts: &mut [Par
     requires one_each { length weights.now ≡ length patches.now.patches }
     requires room { length parts.old ≡ 48 }
     ensures { IsTrue result ↔ ((type : List ℕ) → IsRationalType patches.now type
-        → least ≤ type_weight weights.now type) }
+        → least ≤ cells_weight weights.now type) }
 {
     prove!(patches.budgets() <= 48);
     let mut depth = 0;
@@ -63,7 +63,7 @@ fn all_weigh_by(patches: &Patches, least: u64, weights: &[u64], parts: &mut [Par
 pub fn all_weigh(patches: &Patches, least: u64, weights: &[u64]) -> bool
     requires { length weights.now ≡ length patches.now.patches }
     ensures { IsTrue result ↔ ((type : List ℕ) → IsRationalType patches.now type
-        → least ≤ type_weight weights.now type) }
+        → least ≤ cells_weight weights.now type) }
 {
     let mut parts = [Part::new(patches); 48];
     all_weigh_by(patches, least, weights, &mut parts)

@@ -3,8 +3,8 @@
 #![tactic(auto)]
 
 mod choices;
+mod choosers;
 mod dual;
-mod mixture;
 mod types;
 
 pub use choices::check_choices;

@@ -1,16 +1,24 @@
 -- Patches without units that are added to others change nothing.
-use Rattle.std.proofs.Common.{◌≡◌, ◌≢◌, ◌<◌, ◌≤◌, ◌⊎◌, ◌↔◌, ◌+◌, ◌*◌, ◌==◌, ◌||◌, inl, inr, ℕ, ℤ, zero, suc, pos, ◌≤ℤ◌, ◌<ℤ◌, Bool, true, false, List, [], ◌∷◌, Contains, length, map, slice_index, slice_index_or, refl, sym, ap, subst, ◌∙◌, arith, if◌then◌else◌}
+use Rattle.std.proofs.Common.{◌≡◌, ◌≢◌, ◌<◌, ◌≤◌, ◌⊎◌, ◌↔◌, ◌+◌, ◌*◌, ◌==◌, ◌||◌, inl, inr, ℕ, ℤ, zero, suc, pos, ◌≤ℤ◌, ◌<ℤ◌, Bool, true, false, List, [], ◌∷◌, Contains, None, length, map, slice_index, slice_index_or, sum_by, refl, sym, ap, subst, ◌∙◌, arith, if◌then◌else◌}
 use Rattle.std.proofs.lemmas.Bool.{cases_eq, eq-eqb, ne_eqb}
 use Rattle.std.proofs.lemmas.List.{get_or-map, length-map}
 use Rattle.rp_evidence.specs.Garp.{IsViolation}
 use Rattle.rp_evidence.specs.declared.random.Share.{Share}
 use Rattle.rp_evidence.proofs.Violations.{violates_by_weaker}
 use Rattle.rp_patch.specs.Added.{AddsPatches}
-use Rattle.rp_patch.specs.Mixtures.{HasMixture, IsGreatestShare, IsMixture, IsPartialMixture, uses, weight_of, weight_on}
+use Rattle.rp_patch.specs.Kinds.{uses, weight_of}
+use Rattle.rp_patch.specs.Mixtures.{HasMixture, IsGreatestShare, IsMixture, IsPartialMixture, types_on}
 use Rattle.rp_patch.specs.Patches.{PatchList, budget_at, sign_at, units_at}
 use Rattle.rp_patch.specs.Types.{IsRationalType, IsStrictBy, IsWeakBy}
 use Rattle.rp_patch.specs.declared.listed.Patch.{Patch}
-use Rattle.rp_patch.proofs.MixtureWeights.{of_cons, on_cons, uses_some}
+use Rattle.rp_patch.proofs.KindWeights.{of_cons, on_cons as on_cons_of, uses_some}
+
+-- how much there is of the types that take patch i, on whichever patches
+abbrev weight_on : List Share → ℕ → ℕ
+weight_on parts i = sum_by (λ part. if uses part.patches i then part.weight else 0) parts
+
+on_cons : (part : Share) (parts : List Share) (i : ℕ) → weight_on (part ∷ parts) i ≡ (if uses part.patches i then part.weight else 0) + weight_on parts i
+on_cons part parts i = on_cons_of (types_on (record { budgets = 0; patches = []; total = 0; asked = None })) part parts i
 
 module _ (p q : PatchList) (place : ℕ → ℕ) (adds : AddsPatches p q place) where
   abbrev n : ℕ
@@ -264,23 +272,23 @@ module _ (p q : PatchList) (place : ℕ → ℕ) (adds : AddsPatches p q place) 
   partial_there : (d : ℕ) (parts : List Share) → IsPartialMixture p d parts → IsPartialMixture q d (moved parts)
   partial_there d parts h = record {
     fraction = h.fraction;
-    rational = moved_there parts h.rational;
+    kinds = moved_there parts h.kinds;
     within = λ k l. elim (image n k) [
       | inl i ↦ subst (λ k. weight_on (moved parts) k ≤ d * units_at q k) i.2
-          (let same = moved_on parts i.0 h.rational i.1 in let units = ap (λ u. d * u) (units_same i.0 i.1) in omega (arith, same, units, h.within i.0 i.1))
-      | inr none ↦ omega (arith, moved_outside parts k h.rational none)
+          (let same = moved_on parts i.0 h.kinds i.1 in let units = ap (λ u. d * u) (units_same i.0 i.1) in omega (arith, same, units, h.within i.0 i.1))
+      | inr none ↦ omega (arith, moved_outside parts k h.kinds none)
     ];
   }
 
   mixture_there : (d : ℕ) (parts : List Share) → IsMixture p d parts → IsMixture q d (moved parts)
   mixture_there d parts h = record {
     fraction = h.fraction;
-    rational = moved_there parts h.rational;
+    kinds = moved_there parts h.kinds;
     exact = λ k l. elim (image n k) [
-      | inl i ↦ subst (λ k. weight_on (moved parts) k ≡ d * units_at q k) i.2 (moved_on parts i.0 h.rational i.1 ∙ h.exact i.0 i.1 ∙ sym (ap (λ u. d * u) (units_same i.0 i.1)))
+      | inl i ↦ subst (λ k. weight_on (moved parts) k ≡ d * units_at q k) i.2 (moved_on parts i.0 h.kinds i.1 ∙ h.exact i.0 i.1 ∙ sym (ap (λ u. d * u) (units_same i.0 i.1)))
       | inr none ↦ elim (adds.others k l) [
         | inl i ↦ absurd (none i.0 i.1 i.2)
-        | inr e ↦ (let units = ap (λ u. d * u) e in omega (arith, moved_outside parts k h.rational none, units))
+        | inr e ↦ (let units = ap (λ u. d * u) e in omega (arith, moved_outside parts k h.kinds none, units))
       ]
     ];
   }
@@ -289,24 +297,24 @@ module _ (p q : PatchList) (place : ℕ → ℕ) (adds : AddsPatches p q place) 
   partial_back d parts h = (
     record {
       fraction = h.fraction;
-      rational = b.types;
+      kinds = b.types;
       within = λ i l. let units = ap (λ u. d * u) (units_same i l) in omega (arith, b.on i l, h.within (place i) (adds.goes_to i l), units);
     },
     b.of,
   )
     where
       b : Brings parts
-      b = brings parts h.rational (λ k l e. let units = ap (λ u. d * u) e in omega (arith, h.within k l, units))
+      b = brings parts h.kinds (λ k l e. let units = ap (λ u. d * u) e in omega (arith, h.within k l, units))
 
   mixture_back : (d : ℕ) (parts : List Share) → IsMixture q d parts → IsMixture p d (brought parts)
   mixture_back d parts h = record {
     fraction = h.fraction;
-    rational = b.types;
+    kinds = b.types;
     exact = λ i l. b.on i l ∙ h.exact (place i) (adds.goes_to i l) ∙ ap (λ u. d * u) (units_same i l);
   }
     where
       b : Brings parts
-      b = brings parts h.rational (λ k l e. let units = ap (λ u. d * u) e in omega (arith, h.exact k l, units))
+      b = brings parts h.kinds (λ k l e. let units = ap (λ u. d * u) e in omega (arith, h.exact k l, units))
 
   pub same_mixtures : HasMixture p ↔ HasMixture q
   same_mixtures = (λ h. (h.0, moved h.1, mixture_there h.0 h.1 h.2), λ h. (h.0, brought h.1, mixture_back h.0 h.1 h.2))

@@ -18,7 +18,9 @@ pub mod SearchLaws
 pub mod SetLaws
 pub mod Shares
 pub mod SharesMade
-pub mod MixtureWeights
+pub mod KindSound
+pub mod KindWeights
+pub mod TypeKinds
 pub mod Sums
 pub mod TallyMaps
 pub mod TallyEntries

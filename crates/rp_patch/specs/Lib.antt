@@ -5,6 +5,8 @@ pub mod Choices
 pub mod Clauses
 pub mod FirstChoices
 pub mod InnerJoined
+pub mod Kinds
+pub mod KindFailure
 pub mod Mixtures
 pub mod InnerMultiples
 pub mod Parts

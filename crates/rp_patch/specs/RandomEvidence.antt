@@ -1,6 +1,6 @@
 -- What evidence on random choices has to be to prove its verdict (McFadden and Richter 1990; the weights of the
 -- patches are the dual side of the program of random utility).
-use Rattle.std.specs.Prelude.{◌≡◌, ◌≤◌, ℕ, List, length}
+use Rattle.std.specs.Prelude.{◌≡◌, ℕ, List}
 use Rattle.rp_evidence.specs.declared.certificate.Item.{Item}
 use Rattle.rp_evidence.specs.declared.certificate.Item.TheVariants.{Garp as GarpItem, Afriat as AfriatItem}
 use Rattle.rp_evidence.specs.declared.certificate.Item.TheVariants.{Efficiency as EfficiencyItem}
@@ -10,18 +10,14 @@ use Rattle.rp_evidence.specs.declared.certificate.Item.TheVariants.{Random as Ra
 use Rattle.rp_evidence.specs.declared.random.RandomPart.{RandomPart}
 use Rattle.rp_evidence.specs.declared.random.RandomPart.TheVariants.{Mixture, Violated, Wide}
 use Rattle.rp_evidence.specs.declared.random.Share.{Share}
-use Rattle.rp_patch.specs.Mixtures.{HasMixture, IsGreatestMixture, IsMixture, IsPartialMixture, type_weight}
+use Rattle.rp_patch.specs.Kinds.{ProvesNoMixtureOf}
+use Rattle.rp_patch.specs.Mixtures.{IsMixture, types_on}
 use Rattle.rp_patch.specs.Patches.{PatchList}
-use Rattle.rp_patch.specs.Types.{IsRationalType}
 
 -- The evidence of a violation: no mixture makes the choices; the parts are a partial mixture, and none has a greater
 -- share; and every rational type has patches that together weigh at least the denominator.
-pub record ProvesNoMixture (p : PatchList) (den : ℕ) (parts : List Share) (weights : List ℕ) : Type 0 where
-  pub none : ¬ HasMixture p
-  pub partial : IsPartialMixture p den parts
-  pub greatest : IsGreatestMixture p den parts
-  pub one_each : length weights ≡ length p.patches
-  pub weighs : (type : List ℕ) → IsRationalType p type → den ≤ type_weight weights type
+abbrev pub ProvesNoMixture : PatchList → ℕ → List Share → List ℕ → Type 0
+ProvesNoMixture p = ProvesNoMixtureOf (types_on p)
 
 -- Evidence proves its verdict on the units of these patches: the parts are a mixture; or there is none. What is
 -- withheld has no verdict.

@@ -1,11 +1,9 @@
 -- Types of consumers: one choice from every budget (McFadden and Richter 1990; Kitamura and Stoye 2018).
-use Rattle.std.specs.Prelude.{◌≡◌, ◌≢◌, ◌<◌, ◌↔◌, ◌==◌, ◌*◌, ℕ, zero, suc, pos, ◌≤ℤ◌, ◌<ℤ◌, List, AllPairs, Contains}
+use Rattle.std.specs.Prelude.{◌≡◌, ◌≢◌, ◌<◌, ◌==◌, ◌*◌, ℕ, zero, suc, pos, ◌≤ℤ◌, ◌<ℤ◌, List, AllPairs, Contains}
 use Rattle.std.specs.Prelude.{length, slice_index, if◌then◌else◌}
-use Rattle.std.specs.Cmp.Lexicographic.{slice_cmp}
-use Rattle.std.specs.List.Sorted.{IsStrictlySortedBy}
-use Rattle.std.specs.Ordering.{nat_cmp}
 use Rattle.rp_evidence.specs.Garp.{HasNoViolation}
 use Rattle.rp_table.specs.Sums.{sum_below}
+use Rattle.rp_patch.specs.Kinds.{AreAllOf}
 use Rattle.rp_patch.specs.Patches.{PatchList, budget_at, sign_at}
 
 -- A type has for each budget one of its patches: the j-th number is that of the patch of budget j.
@@ -28,9 +26,8 @@ abbrev pub IsRationalType : PatchList → List ℕ → Type 0
 IsRationalType p type = IsType p type × HasNoViolation p.budgets (IsWeakBy p type) (IsStrictBy p type)
 
 -- These are all rational types, each once, in lexicographic order.
-pub record AreRationalTypes (p : PatchList) (types : List (List ℕ)) : Type 0 where
-  pub rising : IsStrictlySortedBy (slice_cmp nat_cmp) types
-  pub just_these : (type : List ℕ) → Contains types type ↔ IsRationalType p type
+abbrev pub AreRationalTypes : PatchList → List (List ℕ) → Type 0
+AreRationalTypes p = AreAllOf (IsRationalType p)
 
 -- There are more than k rational types: so many, no two of them the same.
 abbrev pub HasMoreTypesThan : PatchList → ℕ → Type 0

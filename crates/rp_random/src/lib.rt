@@ -2,8 +2,7 @@
 //! Richter 1990; Kitamura and Stoye 2018).
 #![tactic(auto)]
 
-mod program;
-mod shares;
+mod listed;
 mod verdict;
 
 pub use verdict::random;

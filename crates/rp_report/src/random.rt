@@ -1,6 +1,7 @@
 ghost use Rattle.std.specs.Prelude.{◌≡◌, ◌≤◌, ◌*◌, ◌^◌, ◌++◌, All, Ok, OnOk, length};
 ghost use Rattle.rp_patch.specs.Mixtures.{units_weight};
-ghost use Rattle.rp_patch.specs.RandomFailure.{IsWithinWidth, RandomPartFails};
+ghost use Rattle.rp_patch.specs.KindFailure.{IsWithinWidth};
+ghost use Rattle.rp_patch.specs.RandomFailure.{RandomPartFails};
 ghost use Rattle.rp_patch.specs.declared.TheConstants.{UNITS};
 ghost use Rattle.rp_report.specs.RandomText.{random_text, share_of};
 

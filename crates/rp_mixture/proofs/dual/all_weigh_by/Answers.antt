@@ -1,5 +1,5 @@
 use Rattle.std.proofs.Common.{◌<◌, ◌≤◌, ◌+◌, ◌-◌, List, ℕ, ap, arith, rules, slice_index, subst, sym, ◌∙◌}
-use Rattle.rp_patch.specs.Mixtures.{type_weight}
+use Rattle.rp_patch.specs.Kinds.{cells_weight}
 use Rattle.rp_mixture.proofs.TypeSearch.{all_weigh, back, back_falls, deeper, deeper_falls, passed, passed_falls, too_light, weigh_enough}
 use Rattle.rp_mixture.proofs.dual.all_weigh_by.Goals as goal
 
@@ -11,11 +11,11 @@ returns-then-depth-eq0 c =
 
 pub returns-then-longer-budgets : goal.returns-then-longer-budgets
 returns-then-longer-budgets c =
-    let light : type_weight c.args.weights.now c.patches-in-Some.result.now < c.args.least = omega (arith, c.weight_of_type.ensures, c.from.ensures, c.if-weight_of_type-from.false) in
+    let light : cells_weight c.args.weights.now c.patches-in-Some.result.now < c.args.least = omega (arith, c.weight_of_type.ensures, c.from.ensures, c.if-weight_of_type-from.false) in
     let no = too_light c.args.patches.now c.args.weights.now c.args.least c.types.parts c.types.depth c.types.i c.types.invariant
     c.in-Some.longer c.in-Some.ensures.part
     (c.if-longer-budgets.true ∙ c.budgets-else-weight_of_type-from.ensures.count)
-    (subst (λ xs. type_weight c.args.weights.now xs < c.args.least) c.patches-in-Some.ensures light) in
+    (subst (λ xs. cells_weight c.args.weights.now xs < c.args.least) c.patches-in-Some.ensures light) in
     (λ h. search rules, λ h. absurd (no h))
 
 pub types-preserved : goal.types-preserved
@@ -34,21 +34,21 @@ pub types-preserved-then-weight_of_type-from : goal.types-preserved-then-weight_
 types-preserved-then-weight_of_type-from c =
     let p = c.args.patches.now in
     let s = c.types.invariant in
-    let enough : c.args.least ≤ type_weight c.args.weights.now c.patches-in-Some.result.now = omega (arith, c.weight_of_type.ensures, c.from.ensures, c.if-weight_of_type-from.true) in
+    let enough : c.args.least ≤ cells_weight c.args.weights.now c.patches-in-Some.result.now = omega (arith, c.weight_of_type.ensures, c.from.ensures, c.if-weight_of_type-from.true) in
     passed p c.args.weights.now c.args.least c.types.parts c.types.depth c.types.i s
     (omega (arith, c.if-i-count.false, c.count.ensures.count, s.within))
     (weigh_enough p c.args.weights.now c.args.least c.types.parts c.types.depth c.types.i s c.in-Some.longer c.in-Some.ensures.longer
-    (subst (λ xs. c.args.least ≤ type_weight c.args.weights.now xs) c.patches-in-Some.ensures enough))
+    (subst (λ xs. c.args.least ≤ cells_weight c.args.weights.now xs) c.patches-in-Some.ensures enough))
 
 pub types-smaller-then-weight_of_type-from : goal.types-smaller-then-weight_of_type-from
 types-smaller-then-weight_of_type-from c =
     let p = c.args.patches.now in
     let s = c.types.invariant in
-    let enough : c.args.least ≤ type_weight c.args.weights.now c.patches-in-Some.result.now = omega (arith, c.weight_of_type.ensures, c.from.ensures, c.if-weight_of_type-from.true) in
+    let enough : c.args.least ≤ cells_weight c.args.weights.now c.patches-in-Some.result.now = omega (arith, c.weight_of_type.ensures, c.from.ensures, c.if-weight_of_type-from.true) in
     passed_falls p c.args.weights.now c.args.least c.types.parts c.types.depth c.types.i s
     (omega (arith, c.if-i-count.false, c.count.ensures.count, s.within))
     (weigh_enough p c.args.weights.now c.args.least c.types.parts c.types.depth c.types.i s c.in-Some.longer c.in-Some.ensures.longer
-    (subst (λ xs. c.args.least ≤ type_weight c.args.weights.now xs) c.patches-in-Some.ensures enough))
+    (subst (λ xs. c.args.least ≤ cells_weight c.args.weights.now xs) c.patches-in-Some.ensures enough))
 
 pub types-preserved-else-longer-budgets : goal.types-preserved-else-longer-budgets
 types-preserved-else-longer-budgets c =

@@ -1,6 +1,6 @@
 use Rattle.std.proofs.Common.{◌<◌, length, arith, refl, ◌∙◌, sym, subst}
 use Rattle.std.proofs.lemmas.List.Elements.{All-get_or}
-use Rattle.rp_patch.specs.RandomFailure.{IsWithinWidth}
+use Rattle.rp_patch.specs.KindFailure.{IsWithinWidth}
 use Rattle.rp_report.proofs.UnitsWeight.{product_fits, sum_more}
 use Rattle.rp_report.proofs.random.weight_of_units.Goals as goal
 

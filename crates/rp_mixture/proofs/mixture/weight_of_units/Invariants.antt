@@ -1,9 +1,0 @@
-use Rattle.std.proofs.Common.{◌≡◌, ◌≤◌, ◌*◌, ◌^◌, slice_index}
-use Rattle.rp_table.specs.Sums.{sum_below}
-use Rattle.rp_patch.specs.Patches.{units_at}
-use Rattle.rp_mixture.proofs.mixture.weight_of_units.Given as goal
-
-abbrev pub invariant-loop-i : goal.invariant-loop-i
-invariant-loop-i l =
-    (l.weight ≡ sum_below l.i (λ i. slice_index l.weights i * units_at l.patches i))
-    × (l.weight ≤ l.i * (2 ^ 64 * 1000000000))

@@ -1,6 +1,0 @@
-use Rattle.std.proofs.Common.{◌<◌, ℕ, get_or}
-use Rattle.rp_patch.specs.RandomFailure.{IsWithinWidth}
-use Rattle.rp_mixture.proofs.mixture.weights_fit.Given as goal
-
-abbrev pub invariant-loop-weight : goal.invariant-loop-weight
-invariant-loop-weight l = (k d : ℕ) → k < l.weight-index → IsWithinWidth (get_or l.weights k d)

@@ -1,0 +1,69 @@
+//! Rational types as kinds of persons, each of whom uses a patch of every budget.
+ghost use Rattle.std.specs.Prelude.{◌≡◌, ◌≤◌, length};
+ghost use Rattle.rp_farkas.specs.Limits.{IsWithinLimits};
+ghost use Rattle.rp_patch.specs.Mixtures.{random_program};
+ghost use Rattle.rp_types.specs.Listed.{types_of};
+ghost use Rattle.rp_types.specs.declared.TheConstants.{TYPES};
+
+use rp_blend::Listed;
+use rp_patch::Patches;
+use rp_types::Rational;
+
+/// Rational types on patches, in a list.
+#[derive(Drop)]
+pub struct ListedTypes<'a> {
+    patches: &'a Patches,
+    types: &'a [Rational],
+    ghost within: { IsWithinLimits (random_program patches.now (types_of types.now)) },
+}
+
+impl<'a> ListedTypes<'a> {
+    /// These types on these patches; no memory is taken.
+    pub fn make(patches: &'a Patches, types: &'a [Rational]) -> ListedTypes<'a>
+        requires { length types.now ≤ TYPES }
+        ensures patches { result.patches.now ≡ patches.now }
+        ensures types { result.types.now ≡ types.now }
+    {
+        prove!(patches.budgets() <= 48);
+        ListedTypes { patches, types }
+    }
+}
+
+impl Listed for ListedTypes<'_> {
+    ghost use Rattle.rp_patch.specs.Mixtures.{types_on};
+    ghost use Rattle.rp_types.specs.Listed.{types_of};
+
+    ghost kinds = { λ t. types_on t.patches.now };
+
+    ghost listed = { λ t. types_of t.types.now };
+
+    ghost within_limits = { λ t. t.within };
+
+    fn cells(&self) -> u32 {
+        self.patches.count()
+    }
+
+    fn units(&self, cell: u32) -> u64 {
+        prove!(self.patches.budgets() <= 48);
+        self.patches.units(cell)
+    }
+
+    fn total(&self) -> u64 {
+        self.patches.total()
+    }
+
+    fn count(&self) -> u32 {
+        self.types.len() as u32
+    }
+
+    fn kind(&self, place: u32) -> &[u32] {
+        self.types[place as usize].patches.as_slice()
+    }
+
+    fn uses(&self, place: u32, cell: u32) -> bool {
+        self.types[place as usize]
+            .patches
+            .as_slice()
+            .contains(&cell)
+    }
+}
