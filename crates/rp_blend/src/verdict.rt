@@ -13,9 +13,9 @@ use rp_num::{NoMemory, Seq};
 use rp_simplex::{Outcome, maximize};
 use std::alloc::Global;
 
-/// Whether some mixture of the kinds has the units, by the run of the program of mixtures over a list of all of them: a
-/// mixture; a partial one of the greatest share with weights of the cells; or the step at which the run passes its width.
-/// In each of these no clause of a checker finds anything wrong.
+/// Whether some mixture of the kinds has the units, by the run of the program of mixtures over a list of all of them:
+/// a mixture; a partial one of the greatest share with weights of the cells; or the step at which the run passes its
+/// width. In each of these no clause of a checker finds anything wrong.
 pub fn mixture<L: Listed>(alloc: Global, listed: &L) -> Result<RandomPart, NoMemory>
     requires whole { AreWhole (L.kinds listed.now) }
     requires formed { (kind : List ℕ) → (L.kinds listed.now).IsKind kind

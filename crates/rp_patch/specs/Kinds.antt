@@ -1,7 +1,8 @@
 -- Kinds of persons, each of whom uses one cell of every group, and mixtures of them (random preferences as mixtures of
 -- kinds: Block and Marschak 1960; McFadden and Richter 1990). A rational type uses a patch of every budget, a strict
 -- order a letter of every menu.
-use Rattle.std.specs.Prelude.{◌≡◌, ◌<◌, ◌≤◌, ◌*◌, ◌↔◌, ◌==◌, ℕ, Bool, pos, List, [], Contains, length, sum_by, slice_index}
+use Rattle.std.specs.Prelude.{◌≡◌, ◌<◌, ◌≤◌, ◌*◌, ◌↔◌, ◌==◌, ℕ, Bool, pos, List, [], Contains, length}
+use Rattle.std.specs.Prelude.{sum_by, slice_index}
 use Rattle.std.specs.Prelude.{slice_index_or, if◌then◌else◌}
 use Rattle.std.specs.Cmp.Lexicographic.{slice_cmp}
 use Rattle.std.specs.List.{list_any}
