@@ -1,4 +1,4 @@
-ghost use Rattle.std.specs.Prelude.{◌≡◌, All};
+ghost use Rattle.std.specs.Prelude.{◌≡◌, [], All};
 ghost use Rattle.rp_check.specs.CheckVerdict.{IsVerdictOn};
 ghost use Rattle.rp_check.specs.declared.verdict.Verdict.TheVariants.{Accepted};
 ghost use Rattle.rp_evidence.specs.Input.{input_of_table};
@@ -15,9 +15,10 @@ use rp_patch::capped;
 use rp_table::{Costs, Table};
 
 /// The verdict on a certificate on a table: its first item that fails, by the first of its clauses that fails. What is
-/// withheld claims nothing and is passed over.
+/// withheld claims nothing and is passed over. The observations have no levels of their own.
 pub fn check(table: &Table, costs: &Costs, certificate: &Certificate) -> Verdict
     requires costs { IsCostsOf costs.now table.now }
+    requires no_levels { table.now.levels ≡ [] }
     requires kind { IsCertificateOf TableKind certificate.now }
     ensures first_failure { IsVerdictOn (input_of_table table.now) certificate.now.items result }
     ensures accepted_proves { result ≡ Accepted

@@ -1,4 +1,4 @@
-ghost use Rattle.std.specs.Prelude.{IfOk};
+ghost use Rattle.std.specs.Prelude.{◌≡◌, [], IfOk};
 ghost use Rattle.rp_evidence.specs.DemandEvidence.{ProvesDemand, budget_of};
 ghost use Rattle.rp_evidence.specs.Garp.{MeetsGarp, ProvesGarp};
 ghost use Rattle.rp_evidence.specs.Input.{input_of_table};
@@ -21,7 +21,7 @@ use rp_table::{Costs, NewBudget, NewPrices, Table};
 use std::alloc::Global;
 
 /// What the table supports at new prices when `m` is spent (Varian 1982), or the violation of the verdict. Prices are
-/// scaled as those of the table, and `m` by both scales.
+/// scaled as those of the table, and `m` by both scales. The observations have no levels of their own.
 pub fn demand(
     alloc: Global,
     table: &Table,
@@ -31,6 +31,7 @@ pub fn demand(
     m: u64,
 ) -> Result<DemandPart, NoMemory>
     requires costs { IsCostsOf costs.now table.now }
+    requires no_levels { table.now.levels ≡ [] }
     requires verdict { ProvesGarp costs.now.n (cost_at costs.now) verdict.now }
     requires prices { AreNewPrices (goods_of table.now) prices.now }
     requires spent { IsExpenditure m }
@@ -56,6 +57,7 @@ pub fn demand_by_closure(
     m: u64,
 ) -> Result<DemandPart, NoMemory>
     requires costs { IsCostsOf costs.now table.now }
+    requires no_levels { table.now.levels ≡ [] }
     requires verdict { ProvesGarp costs.now.n (cost_at costs.now) verdict.now }
     requires closes { IsClosureOf closure.now costs.now.n (IsWeak (cost_at costs.now) 1 1) }
     requires prices { AreNewPrices (goods_of table.now) prices.now }

@@ -1,4 +1,4 @@
-ghost use Rattle.std.specs.Prelude.{◌<◌, IfOk};
+ghost use Rattle.std.specs.Prelude.{◌≡◌, ◌<◌, [], IfOk};
 ghost use Rattle.rp_evidence.specs.DemandEvidence.{ProvesWelfare};
 ghost use Rattle.rp_evidence.specs.Garp.{ProvesGarp};
 ghost use Rattle.rp_evidence.specs.Input.{input_of_table};
@@ -21,6 +21,7 @@ use std::alloc::Global;
 
 /// The bounds of observation `t`, from 0, at the new prices, from a true verdict on the generalized axiom: the upper
 /// one where the axiom holds, with the lower one unless its run passes its width; else the violation of the verdict.
+/// The observations have no levels of their own.
 pub fn welfare(
     alloc: Global,
     table: &Table,
@@ -30,6 +31,7 @@ pub fn welfare(
     t: u32,
 ) -> Result<WelfarePart, NoMemory>
     requires costs { IsCostsOf costs.now table.now }
+    requires no_levels { table.now.levels ≡ [] }
     requires verdict { ProvesGarp costs.now.n (cost_at costs.now) verdict.now }
     requires prices { AreNewPrices (goods_of table.now) prices.now }
     requires observed { t < costs.now.n }
@@ -58,6 +60,7 @@ pub fn welfare_by_closure(
     t: u32,
 ) -> Result<WelfarePart, NoMemory>
     requires costs { IsCostsOf costs.now table.now }
+    requires no_levels { table.now.levels ≡ [] }
     requires verdict { ProvesGarp costs.now.n (cost_at costs.now) verdict.now }
     requires closes { IsClosureOf closure.now costs.now.n (IsWeak (cost_at costs.now) 1 1) }
     requires prices { AreNewPrices (goods_of table.now) prices.now }
