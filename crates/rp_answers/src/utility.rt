@@ -62,6 +62,7 @@ fn utility_lines(
     bundles: &Bundles,
 ) -> Result<Vec<u8>, NoMemory>
     requires of_table { IsCostsOf costs.now table.now }
+    requires no_levels { table.now.levels ≡ [] }
     requires goods { bundles.now.goods ≡ goods_of table.now }
     requires given { IsAfriatVerdict costs.now.n (cost_at costs.now) evidence.now }
     ensures { IfOk result (λ text. AreUtilityLines table.now evidence.now bundles.now
@@ -85,6 +86,7 @@ fn utility_line(
     bundle: &[u32],
 ) -> Result<Vec<u8>, NoMemory>
     requires of_table { IsCostsOf costs.now table.now }
+    requires no_levels { table.now.levels ≡ [] }
     requires given { IsAfriatVerdict costs.now.n (cost_at costs.now) evidence.now }
     requires goods { length bundle.now ≡ goods_of table.now }
     requires limits { All (λ q. q ≤ LARGEST) bundle.now }

@@ -104,6 +104,9 @@ pub fn answer(alloc: Global, text: &str, items: Vec<Item>) -> Result<String, Fai
     requires { All (IsOfKind TableKind) items.items }
 {
     let table = read_table(alloc, text.as_bytes())?;
+    if table.levelled() {
+        return Ok(String::from_str(alloc, "own levels")?);
+    }
     let costs = Costs::of(alloc, &table)?;
     let certificate = Certificate {
         kind: Kind::Table,

@@ -2,10 +2,6 @@ use Rattle.std.proofs.Common.{◌∙◌}
 use Rattle.example_verdict.proofs.Accepted.{certificate_accepted}
 use Rattle.example_verdict.proofs.certificate.certify.Goals as goal
 
-pub afriat-requires : goal.afriat-requires
-afriat-requires c =
-    c.in_ok-garp.ensures.proves_without_levels (c.requires.of_table.levels ∙ c.requires.no_levels)
-
 pub returns-clause-proves : goal.returns-clause-proves
 returns-clause-proves c = record {
   garp = c.in_ok-garp.garp;
@@ -16,7 +12,8 @@ returns-clause-proves c = record {
       (certificate_accepted c.args.table.now c.args.costs.now c.requires.of_table
       c.in_ok-garp.garp c.in_ok-afriat.afriat c.in_ok-efficiency.efficiency c.in_ok-certificate.certificate c.check-outcome.result
       (c.in_ok-garp.ensures.proves_without_levels (c.requires.of_table.levels ∙ c.requires.no_levels))
-      c.in_ok-afriat.ensures.proves c.in_ok-afriat.ensures.given
+      (c.in_ok-afriat.ensures.proves_without_levels (c.requires.of_table.levels ∙ c.requires.no_levels))
+      (c.in_ok-afriat.ensures.given_without_levels (c.requires.of_table.levels ∙ c.requires.no_levels))
       c.in_ok-efficiency.ensures.proves c.in_ok-efficiency.ensures.given
       c.in_ok-certificate.ensures c.check-outcome.ensures.first_failure);
 }
@@ -26,6 +23,7 @@ returns-clause-accepted c =
     certificate_accepted c.args.table.now c.args.costs.now c.requires.of_table
     c.in_ok-garp.garp c.in_ok-afriat.afriat c.in_ok-efficiency.efficiency c.in_ok-certificate.certificate c.check-outcome.result
     (c.in_ok-garp.ensures.proves_without_levels (c.requires.of_table.levels ∙ c.requires.no_levels))
-    c.in_ok-afriat.ensures.proves c.in_ok-afriat.ensures.given
+    (c.in_ok-afriat.ensures.proves_without_levels (c.requires.of_table.levels ∙ c.requires.no_levels))
+    (c.in_ok-afriat.ensures.given_without_levels (c.requires.of_table.levels ∙ c.requires.no_levels))
     c.in_ok-efficiency.ensures.proves c.in_ok-efficiency.ensures.given
     c.in_ok-certificate.ensures c.check-outcome.ensures.first_failure

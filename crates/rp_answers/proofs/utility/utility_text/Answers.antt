@@ -13,6 +13,10 @@ use Rattle.rp_report.specs.ReportText.{report_text}
 use Rattle.rp_table.specs.Cost.{cost_at, cost_of}
 use Rattle.rp_answers.proofs.utility.utility_text.Goals as goal
 
+pub utility_lines-requires-clause-given : goal.utility_lines-requires-clause-given
+utility_lines-requires-clause-given c =
+    c.in_ok-afriat.ensures.given_without_levels (c.requires.of_table.levels ∙ c.requires.no_levels)
+
 pub returns : goal.returns
 returns c =
     let is = c.requires.of_table in
@@ -25,8 +29,8 @@ returns c =
     let garp = c.in_ok-garp.garp in
     let afriat = c.in_ok-afriat.afriat in
     let garp_proves : Proves input (GarpItem garp) = rw (← is.size) (garp_same n here there garp same (c.in_ok-garp.ensures.proves_without_levels none)) in
-    let afriat_proves : Proves input (AfriatItem afriat) = rw (← is.size) (afriat_same n here there afriat same c.in_ok-afriat.ensures.proves) in
-    let afriat_given : IsAfriatVerdict input.n input.cost afriat = rw (← is.size) (afriat_verdict_same n here there afriat same c.in_ok-afriat.ensures.given) in
+    let afriat_proves : Proves input (AfriatItem afriat) = rw (← is.size) (afriat_same n here there afriat same (c.in_ok-afriat.ensures.proves_without_levels none)) in
+    let afriat_given : IsAfriatVerdict input.n input.cost afriat = rw (← is.size) (afriat_verdict_same n here there afriat same (c.in_ok-afriat.ensures.given_without_levels none)) in
     record {
       garp = garp;
       afriat = afriat;
