@@ -1,0 +1,2 @@
+pub mod MenuLetters
+pub mod MenuPlaces
