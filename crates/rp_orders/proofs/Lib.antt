@@ -1,0 +1,5 @@
+pub mod CheckLemmas
+pub mod LoopLemmas
+pub mod OrderCells
+pub mod OrderLists
+pub mod OrderWeights

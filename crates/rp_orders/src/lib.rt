@@ -1,0 +1,15 @@
+//! Mixtures of strict orders over menus (Block and Marschak 1960): one that makes the choices, or weights of the cells
+//! that show there is none, and a check of either that walks all orders and takes no memory.
+#![tactic(auto)]
+
+mod check;
+mod choosers;
+mod listed;
+mod lists;
+mod orders;
+mod picks;
+mod verdict;
+
+pub use check::check_menu;
+pub use rp_evidence::RandomPart as MenuPart;
+pub use verdict::menus;
