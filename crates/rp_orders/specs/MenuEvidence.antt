@@ -15,7 +15,8 @@ use Rattle.rp_patch.specs.declared.apportionment.Units.{Units}
 
 -- The evidence of a violation: no mixture makes the choices; the parts are a partial mixture, and none has a greater
 -- share; and every order that picks a cell from every menu picks cells that together weigh at least the denominator.
-pub record ProvesNoOrderMixture (list : MenuList) (units : Units) (den : ℕ) (parts : List Share) (weights : List ℕ) : Type 0 where
+pub record ProvesNoOrderMixture (list : MenuList) (units : Units) (den : ℕ) (parts : List Share)
+    (weights : List ℕ) : Type 0 where
   pub none : ¬ HasOrderMixture list units
   pub partial : IsPartialOrderMixture list units den parts
   pub greatest : IsGreatestOrderMixture list units den parts
@@ -28,8 +29,8 @@ ProvesMenus list units (Mixture den parts) = IsOrderMixture list units den parts
 ProvesMenus list units (Violated den parts weights) = ProvesNoOrderMixture list units den parts weights
 ProvesMenus list units (Wide step) = Unit {0}
 
--- The verdict is made from the outcome of the run of the program of mixtures over all orders that pick a cell from every
--- menu, in lexicographic order.
+-- The verdict is made from the outcome of the run of the program of mixtures over all orders that pick a cell from
+-- every menu, in lexicographic order.
 abbrev pub IsMenuVerdict : MenuList → Units → RandomPart → Type 0
 IsMenuVerdict list units part =
     (orders : List (List ℕ)) × AreAllOf (PicksCells list) orders × IsRunVerdict (orders_over list units) orders part

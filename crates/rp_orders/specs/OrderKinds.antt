@@ -1,5 +1,5 @@
--- Strict orders that pick a cell from every menu, as kinds of persons who use one cell of every menu (Block and Marschak
--- 1960; McFadden and Richter 1990).
+-- Strict orders that pick a cell from every menu, as kinds of persons who use one cell of every menu (Block and
+-- Marschak 1960; McFadden and Richter 1990).
 use Rattle.std.specs.Prelude.{◌<◌, ◌==◌, ◌&&◌, ℕ, zero, suc, Bool, nat_lt, List, length, slice_index}
 use Rattle.std.specs.Prelude.{if◌then◌else◌}
 use Rattle.rp_menu.specs.MenuLists.{MenuList}

@@ -8,8 +8,8 @@ use rp_kinds::check_evidence;
 use rp_menu::Menus;
 use rp_patch::apportionment::Units;
 
-/// Checks evidence on choices from menus, from the menus and the units alone: whether it breaks none of the clauses. All
-/// orders are walked in arrays, and no memory is taken.
+/// Checks evidence on choices from menus, from the menus and the units alone: whether it breaks none of the clauses.
+/// All orders are walked in arrays, and no memory is taken.
 pub fn check_menu(seen: &Menus, units: &Units, part: &RandomPart) -> bool
     requires { AreUnitsOf seen.now units.now }
     ensures exact { IsTrue result ↔ PassesMenus seen.now units.now part.now }

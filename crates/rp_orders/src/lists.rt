@@ -14,8 +14,8 @@ pub fn lists(letters: u32) -> u32
     letters.pow(letters - 1)
 }
 
-/// List number `n` of them, at the front of room for the most letters: all letters but the last are those of the number,
-/// and the last is the first letter that is not among these.
+/// List number `n` of them, at the front of room for the most letters: all letters but the last are those of the
+/// number, and the last is the first letter that is not among these.
 pub fn list_at(letters: u32, n: u32) -> [u32; 6]
     requires some { 1 ≤ letters }
     requires few { letters ≤ LETTERS }

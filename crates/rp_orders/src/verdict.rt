@@ -12,8 +12,8 @@ use rp_patch::apportionment::Units;
 use std::alloc::Global;
 
 /// Whether some mixture of strict orders makes the choices, by the run of the program of mixtures over all orders that
-/// pick a cell from every menu: a mixture; a partial one of the greatest share with weights of the cells; or the step at
-/// which the run passes its width. `check_menu` accepts it.
+/// pick a cell from every menu: a mixture; a partial one of the greatest share with weights of the cells; or the step
+/// at which the run passes its width. `check_menu` accepts it.
 pub fn menus(alloc: Global, seen: &Menus, units: &Units) -> Result<RandomPart, NoMemory>
     requires { AreUnitsOf seen.now units.now }
     ensures proves { IfOk result (ProvesMenus seen.now units.now) }
