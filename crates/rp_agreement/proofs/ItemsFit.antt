@@ -1,5 +1,5 @@
 -- Certificates of items as they are given can be read back.
-use Rattle.std.proofs.Common.{◌≡◌, ◌<◌, ◌+◌, ◌*◌, ℕ, List, [], ◌∷◌, length, All, arith, inl, refl, slice_index_or}
+use Rattle.std.proofs.Common.{◌≡◌, ◌<◌, ◌+◌, ◌*◌, ℕ, List, [], ◌∷◌, length, All, arith, refl, slice_index_or}
 use Rattle.std.proofs.lemmas.Nat.{mul-add-lt}
 use Rattle.rp_agreement.specs.Given.{ProvesAsGiven}
 use Rattle.rp_evidence.specs.Input.{TableInput, input_of_table}
@@ -47,7 +47,7 @@ module _ (input : TableInput) (limited : IsLimited input) (verdict : Garp) where
   pub certificate_readable : (rest : List Item) → ProvesAsGiven input verdict (GarpItem verdict) → All (ProvesAsGiven input verdict) rest → IsReadable Table (certificate_from verdict rest)
   certificate_readable rest first all = record {
     of_kind = refl;
-    levels = inl (refl, refl);
+    version = refl;
     items = all_more (FitsKind Table) (GarpItem verdict) rest (item_fits (GarpItem verdict) first) (λ k d within. item_fits _ (all k d within));
   }
 
@@ -77,6 +77,6 @@ pub random_readable : (p : PatchList) (types : List (List ℕ)) (part : RandomPa
     → IsReadable RandomKind (random_certificate p.total part)
 random_readable p types part valid proves given = record {
   of_kind = refl;
-  levels = inl (refl, refl);
+  version = refl;
   items = all_more (FitsKind RandomKind) (RandomItem p.total part) [] (tt, random_fits p types valid part proves given) (all_none (FitsKind RandomKind));
 }

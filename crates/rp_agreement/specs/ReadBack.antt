@@ -14,11 +14,11 @@ use Rattle.rp_json.specs.declared.fault.JsonFault.TheVariants.{NoMemory}
 
 -- The certificate of a table that begins with this verdict on the axiom and goes on with these items.
 abbrev pub certificate_from : Garp → List Item → Certificate
-certificate_from verdict rest = record { kind = Table; version = 1; levels = []; items = GarpItem verdict ∷ rest }
+certificate_from verdict rest = record { kind = Table; version = 1; items = GarpItem verdict ∷ rest }
 
 -- The certificate of random choices with this one item.
 abbrev pub random_certificate : ℕ → RandomPart → Certificate
-random_certificate total part = record { kind = Random; version = 1; levels = []; items = RandomItem total part ∷ [] }
+random_certificate total part = record { kind = Random; version = 1; items = RandomItem total part ∷ [] }
 
 -- The text of the certificate denotes it, and nothing else but for want of memory.
 pub record IsReadBack (kind : Kind) (c : Certificate) : Type 0 where

@@ -1,5 +1,5 @@
 -- The JSON of the certificates of the program is read back as they are.
-use Rattle.std.proofs.Common.{ℕ, List, slice_index_or, arith, inl, refl}
+use Rattle.std.proofs.Common.{ℕ, List, slice_index_or, arith, refl}
 use Rattle.rp_evidence.specs.Input.{input_of_table}
 use Rattle.rp_evidence.specs.Proves.{Proves}
 use Rattle.rp_evidence.specs.declared.certificate.Item.{Item}
@@ -23,7 +23,7 @@ module _ (table : Observations) (valid : IsTable table) (garp : Garp) (proves : 
   garp_first_read_back count P others answered fit =
       text_read_back Table (garp_first garp others) (record {
         of_kind = refl;
-        levels = inl (refl, refl);
+        version = refl;
         items = all_more (FitsKind Table) (GarpItem garp) others (tt, garp_fits (records_of table) (cost_of table) valid.few_records garp proves given)
             (λ k d k_in. fit k (slice_index_or others k d) (answered.each k d (omega (arith, k_in, answered.one_each))));
       })

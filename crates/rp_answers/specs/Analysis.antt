@@ -28,7 +28,6 @@ abbrev pub certificate_of : Garp → AfriatPart → Efficiency → Homothetic �
 certificate_of garp afriat efficiency homothetic quasilinear = record {
   kind = Table;
   version = 1;
-  levels = [];
   items = GarpItem garp ∷ AfriatItem afriat ∷ EfficiencyItem efficiency ∷ HomotheticItem homothetic
       ∷ QuasiItem quasilinear ∷ [];
 }

@@ -25,12 +25,7 @@ use Rattle.rp_answers.specs.Accepted.{IsAcceptedOn}
 
 -- the certificate of a table with these two items
 abbrev pub first_items : Garp → AfriatPart → Certificate
-first_items garp afriat = record {
-  kind = Table;
-  version = 1;
-  levels = [];
-  items = GarpItem garp ∷ AfriatItem afriat ∷ [];
-}
+first_items garp afriat = record { kind = Table; version = 1; items = GarpItem garp ∷ AfriatItem afriat ∷ [] }
 
 -- the line of bundle k, with these words
 abbrev pub at_line : ℕ → List ℕ → List ℕ

@@ -15,11 +15,7 @@ use rp_table::Table;
 use std::alloc::Global;
 
 /// The certificate with a verdict on the generalized axiom and then these items.
-pub(crate) fn garp_first(
-    alloc: Global,
-    garp: Garp,
-    others: Vec<Item>,
-) -> Result<Certificate, NoMemory>
+pub(crate) fn garp_first(garp: Garp, others: Vec<Item>) -> Result<Certificate, NoMemory>
     ensures { IfOk result (λ made. made ≡ garp_first garp others.items) }
 {
     let mut items = others;
@@ -27,7 +23,6 @@ pub(crate) fn garp_first(
     Ok(Certificate {
         kind: Kind::Table,
         version: 1,
-        levels: Seq::from_vec(Vec::new(alloc)),
         items: Seq::from_vec(items),
     })
 }

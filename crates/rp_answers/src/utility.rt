@@ -49,7 +49,6 @@ fn certificate(alloc: Global, garp: Garp, afriat: AfriatPart) -> Result<Certific
     Ok(Certificate {
         kind: Kind::Table,
         version: 1,
-        levels: Seq::from_vec(Vec::new(alloc)),
         items: Seq::from_vec(items),
     })
 }
