@@ -5,7 +5,6 @@ mod certificate;
 mod fault;
 mod items;
 mod laws;
-mod levels;
 mod reading;
 
 pub use certificate::write;
