@@ -56,3 +56,21 @@ fn an_asked_file_that_is_missing_is_named(rt: HostRuntime) -> Result<(), Fail> {
     assert!(rt; tells(&got, Status::ReadFault, line), "{}", got.err);
     Ok(())
 }
+
+/// Line feeds alone are no record; with a byte past the limit a file is not looked at.
+#[test]
+fn files_of_the_most_bytes_and_of_one_more(rt: HostRuntime) -> Result<(), Fail> {
+    let alloc = rt.alloc();
+    for (size, of_technology, of_asked) in [
+        (4_194_304, "rp: t.csv: Empty\n", "rp: n.csv: Empty\n"),
+        (4_194_305, "rp: t.csv: TooLong\n", "rp: n.csv: TooLong\n"),
+    ] {
+        let feeds = String::from_utf8(vec![in alloc; b'\n'; size]?)?;
+        let feeds = feeds.as_str();
+        for (tech, line) in [(feeds, of_technology), (FIRM, of_asked)] {
+            let got = cost(alloc, tech, Some(feeds))?;
+            assert!(rt; tells(&got, Status::Refused, line), "{line} {}", got.err);
+        }
+    }
+    Ok(())
+}
