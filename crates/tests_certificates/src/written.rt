@@ -1,4 +1,3 @@
-use crate::checking::{CHECK, check};
 use rp_evidence::Kind;
 use rp_json::{JsonFault, read, write};
 use rp_run::Status;
@@ -6,7 +5,7 @@ use std::alloc::Global;
 use std::process::Abort;
 use std::test::Fail;
 use tests_support::tables::{APART, CONTRADICTION, EQUAL, MORE_AND_LESS, certificate_of};
-use tests_support::{run_over, run_with_failures};
+use tests_support::{CHECK, check, run_over, run_with_failures};
 
 /// Whether the text is read as a certificate on a table, and written again as it stood.
 fn is_read_unchanged(alloc: Global, text: &str) -> Result<bool, JsonFault> {

@@ -1,22 +1,13 @@
-ghost use Rattle.std.specs.Prelude.{All, IfOk};
+ghost use Rattle.std.specs.Prelude.{IfOk};
 ghost use Rattle.rp_evidence.specs.Kinds.{IsOfKind};
 ghost use Rattle.rp_evidence.specs.declared.certificate.Kind.TheVariants.{Table as TableKind};
 
-use rp_check::{Verdict, check};
-use rp_evidence::{
-    AfriatPart, Certificate, Efficiency, Garp, Homothetic, Item, Kind, Level, Numbers, Quasi,
-};
+use rp_evidence::{AfriatPart, Efficiency, Garp, Homothetic, Item, Level, Numbers, Quasi};
 use rp_num::{Frac, Seq};
-use rp_table::Costs;
-use rp_text::read_table;
 use std::alloc::Global;
 use std::process::Abort;
 use std::test::Fail;
-
-/// The list of these numbers. Observations are numbered from 0, as in code.
-pub fn list(alloc: Global, numbers: &[u32]) -> Result<Seq<u32>, Fail> {
-    Ok(Seq::from_vec(numbers.to_vec(alloc)?))
-}
+use tests_checker_support::list;
 
 pub fn fraction(rt: &impl Abort, num: u128, den: u128) -> Frac {
     assert!(rt; den >= 1, "not a fraction");
@@ -25,20 +16,6 @@ pub fn fraction(rt: &impl Abort, num: u128, den: u128) -> Frac {
         "past the width of fractions"
     );
     Frac::new(num, den)
-}
-
-/// Ranks, or a cycle.
-pub fn at(alloc: Global, ranks: bool, numbers: &[u32]) -> Result<Garp, Fail> {
-    if ranks {
-        return Ok(Garp::Ranks(list(alloc, numbers)?));
-    }
-    Ok(Garp::Cycle(list(alloc, numbers)?))
-}
-
-pub fn garp(alloc: Global, ranks: bool, numbers: &[u32]) -> Result<Item, Fail>
-    ensures { IfOk result (IsOfKind TableKind) }
-{
-    Ok(Item::Garp(at(alloc, ranks, numbers)?))
 }
 
 pub fn model(alloc: Global, u: &[i128], lambda: &[u64]) -> Result<Item, Fail>
@@ -97,47 +74,4 @@ pub fn negative(alloc: Global, walk: &[u32]) -> Result<Item, Fail>
     ensures { IfOk result (IsOfKind TableKind) }
 {
     Ok(Item::Quasi(Quasi::Cycle(list(alloc, walk)?)))
-}
-
-/// What the checker answers on these items, in words; items and places are from 1.
-pub fn answer(alloc: Global, text: &str, items: Vec<Item>) -> Result<String, Fail>
-    requires { All (IsOfKind TableKind) items.items }
-{
-    let table = read_table(alloc, text.as_bytes())?;
-    if table.levelled() {
-        return Ok(String::from_str(alloc, "own levels")?);
-    }
-    let costs = Costs::of(alloc, &table)?;
-    let certificate = Certificate {
-        kind: Kind::Table,
-        version: 1,
-        items: Seq::from_vec(items),
-    };
-    match check(&table, &costs, &certificate) {
-        Verdict::Accepted => Ok(String::from_str(alloc, "accepted")?),
-        Verdict::Rejected {
-            item,
-            reason,
-            place,
-        } => Ok(format!(in alloc; "item {} {:?} {}", item, reason, place)?),
-    }
-}
-
-/// What it answers on one item.
-pub fn answer_alone(alloc: Global, text: &str, item: Item) -> Result<String, Fail>
-    requires { IsOfKind TableKind item }
-{
-    let mut items = Vec::new(alloc);
-    items.push(item)?;
-    answer(alloc, text, items)
-}
-
-/// What it answers on an item after ranks.
-pub fn answer_after(alloc: Global, text: &str, ranks: &[u32], item: Item) -> Result<String, Fail>
-    requires { IsOfKind TableKind item }
-{
-    let mut items = Vec::new(alloc);
-    items.push(garp(alloc, true, ranks)?)?;
-    items.push(item)?;
-    answer(alloc, text, items)
 }

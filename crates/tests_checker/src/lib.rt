@@ -1,10 +1,6 @@
-//! Tests of the checker of tables: forged evidence, each with the clause that it fails first.
+//! Tests of the checker on the tests of a table: forged evidence, each with the clause that it fails first.
 #![tactic(auto)]
 
-#[cfg(test)]
-mod bound;
-#[cfg(test)]
-mod bounds;
 #[cfg(test)]
 mod forged;
 #[cfg(test)]

@@ -1,7 +1,38 @@
-use crate::given::{told_patches, told_types};
+use rp_num::Seq;
+use rp_types::{Rational, rational_types};
+use std::alloc::{AllocError, Global};
 use std::test::Fail;
+use tests_patches_support::{Given, made_of, told_patches};
 
 const CROSSED: &str = "p_a,p_b,w\n1,2,4\n2,1,4\n";
+
+/// The types, each with its patches from 1.
+fn push_types(alloc: Global, text: &mut String, types: &Seq<Rational>) -> Result<(), AllocError> {
+    for (k, one) in types.as_slice().iter().enumerate() {
+        if k > 0 {
+            text.push_str(",")?;
+        }
+        for patch in one.patches.as_slice() {
+            let patch = u64::from(*patch) + 1;
+            text.push_str(format!(in alloc; " {patch}")?.as_str())?;
+        }
+    }
+    Ok(())
+}
+
+/// The rational types of the files without a unit, or why there is no list of them.
+fn told_types(alloc: Global, budgets: &str, choices: &str) -> Result<String, AllocError> {
+    let mut text = String::new(alloc);
+    match made_of(alloc, budgets, choices, None) {
+        Given::Unread(fault) => text.push_str(fault.to_string(alloc)?.as_str())?,
+        Given::Refused(fault) => text.push_str(fault.to_string(alloc)?.as_str())?,
+        Given::Made(made) => match rational_types(alloc, &made) {
+            Ok(types) => push_types(alloc, &mut text, &types)?,
+            Err(fault) => text.push_str(fault.to_string(alloc)?.as_str())?,
+        },
+    }
+    Ok(text)
+}
 
 /// Which patches choices fall in, in their order, and the units of each where none are asked for.
 #[test]

@@ -1,8 +1,10 @@
-use crate::bound::{demand, goods, no_demand, no_welfare, shown, true_goods, welfare};
-use crate::forged::{answer_after, answer_alone};
+use crate::bound::{
+    answer_after, demand, goods, no_demand, no_welfare, shown, true_goods, welfare,
+};
 use rp_evidence::Bound;
 use rp_num::Seq;
 use std::test::Fail;
+use tests_checker_support::answer_alone;
 
 /// Costs 4, 5; 5, 4.
 const CONSISTENT: &str = "p_a,q_a,p_b,q_b\n1,2,2,1\n2,1,1,2\n";

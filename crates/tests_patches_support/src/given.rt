@@ -2,23 +2,21 @@
 ghost use Rattle.std.specs.Prelude.{◌≤◌, IfSome};
 ghost use Rattle.rp_patch.specs.Choices.{AreChoicesFrom};
 
-use rp_num::Seq;
 use rp_patch::of_choices::patches;
 use rp_patch::{PatchFault, Patches, UNITS};
 use rp_text::{TableFault, read_budgets, read_choices};
-use rp_types::{Rational, rational_types};
 use std::alloc::{AllocError, Global};
 
 /// What the files of budgets and choices come to.
 #[derive(Drop)]
-pub(crate) enum Given {
+pub enum Given {
     Unread(TableFault),
     Refused(PatchFault),
     Made(Patches),
 }
 
 /// The patches of choices in a file, from budgets in a file.
-pub(crate) fn made_of(alloc: Global, budgets: &str, choices: &str, unit: Option<u32>) -> Given
+pub fn made_of(alloc: Global, budgets: &str, choices: &str, unit: Option<u32>) -> Given
     requires { IfSome unit (λ n. (1 ≤ n) × (n ≤ UNITS)) }
 {
     let budgets = match read_budgets(alloc, budgets.as_bytes()) {
@@ -62,7 +60,7 @@ fn push_patches(alloc: Global, text: &mut String, made: &Patches) -> Result<(), 
 }
 
 /// What the files come to, in a line: the patches, or the fault with its budget from 1.
-pub(crate) fn told_patches(
+pub fn told_patches(
     alloc: Global,
     budgets: &str,
     choices: &str,
@@ -83,51 +81,4 @@ pub(crate) fn told_patches(
         Given::Made(made) => push_patches(alloc, &mut text, &made)?,
     }
     Ok(text)
-}
-
-/// The types, each with its patches from 1.
-fn push_types(alloc: Global, text: &mut String, types: &Seq<Rational>) -> Result<(), AllocError> {
-    for (k, one) in types.as_slice().iter().enumerate() {
-        if k > 0 {
-            text.push_str(",")?;
-        }
-        for patch in one.patches.as_slice() {
-            let patch = u64::from(*patch) + 1;
-            text.push_str(format!(in alloc; " {patch}")?.as_str())?;
-        }
-    }
-    Ok(())
-}
-
-/// The rational types of the files without a unit, or why there is no list of them.
-pub(crate) fn told_types(
-    alloc: Global,
-    budgets: &str,
-    choices: &str,
-) -> Result<String, AllocError> {
-    let mut text = String::new(alloc);
-    match made_of(alloc, budgets, choices, None) {
-        Given::Unread(fault) => text.push_str(fault.to_string(alloc)?.as_str())?,
-        Given::Refused(fault) => text.push_str(fault.to_string(alloc)?.as_str())?,
-        Given::Made(made) => match rational_types(alloc, &made) {
-            Ok(types) => push_types(alloc, &mut text, &types)?,
-            Err(fault) => text.push_str(fault.to_string(alloc)?.as_str())?,
-        },
-    }
-    Ok(text)
-}
-
-/// How many patches and rational types there are, or why there are none.
-pub(crate) fn counted(alloc: Global, budgets: &str, choices: &str) -> Result<String, AllocError> {
-    match made_of(alloc, budgets, choices, None) {
-        Given::Unread(fault) => fault.to_string(alloc),
-        Given::Refused(fault) => fault.to_string(alloc),
-        Given::Made(made) => match rational_types(alloc, &made) {
-            Ok(types) => {
-                let (patches, types) = (made.count(), types.as_slice().len());
-                format!(in alloc; "{patches} patches, {types} types")
-            }
-            Err(fault) => fault.to_string(alloc),
-        },
-    }
 }

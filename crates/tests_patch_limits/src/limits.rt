@@ -1,8 +1,9 @@
 ghost use Rattle.std.specs.Prelude.{◌≤◌};
 
-use crate::given::{counted, told_patches};
+use crate::counts::counted;
 use std::alloc::{AllocError, Global};
 use std::test::Fail;
+use tests_patches_support::told_patches;
 
 /// So many budgets with prices (j, n + 1 - j) and income 1.
 fn fan(alloc: Global, n: u32) -> Result<String, AllocError>

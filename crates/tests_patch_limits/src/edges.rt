@@ -1,8 +1,9 @@
 //! Both sides of each limit, as near to it as budgets and choices come.
-use crate::given::{Given, counted, made_of, told_patches};
+use crate::counts::counted;
 use rp_patch::PatchFault;
 use std::alloc::{AllocError, Global};
 use std::test::Fail;
+use tests_patches_support::{Given, made_of, told_patches};
 
 /// How many patches there are, or the fault with its budget from 1.
 fn patches_counted(alloc: Global, budgets: &str, choices: &str) -> Result<String, AllocError> {

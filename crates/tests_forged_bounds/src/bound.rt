@@ -2,12 +2,12 @@ ghost use Rattle.std.specs.Prelude.{IfOk};
 ghost use Rattle.rp_evidence.specs.Kinds.{IsOfKind};
 ghost use Rattle.rp_evidence.specs.declared.certificate.Kind.TheVariants.{Table as TableKind};
 
-use crate::forged::list;
 use rp_evidence::{Bound, DemandPart, GoodBounds, Item, Point, WelfarePart};
 use rp_farkas::{Entry, Pair};
 use rp_num::{Frac, Seq};
 use std::alloc::Global;
 use std::test::Fail;
+use tests_checker_support::{answer, garp, list};
 
 /// A bound with its pair over `den`: y is 1 at the columns, from 0, and 0 at every other.
 pub fn shown(
@@ -113,4 +113,14 @@ pub fn no_welfare(alloc: Global, of: u32, walk: &[u32]) -> Result<Item, Fail>
     let prices = list(alloc, &[1, 2])?;
     let part = WelfarePart::NoModel(list(alloc, walk)?);
     Ok(Item::Welfare { prices, of, part })
+}
+
+/// What the checker answers on an item after ranks.
+pub fn answer_after(alloc: Global, text: &str, ranks: &[u32], item: Item) -> Result<String, Fail>
+    requires { IsOfKind TableKind item }
+{
+    let mut items = Vec::new(alloc);
+    items.push(garp(alloc, true, ranks)?)?;
+    items.push(item)?;
+    answer(alloc, text, items)
 }

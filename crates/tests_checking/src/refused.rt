@@ -1,10 +1,9 @@
-use crate::checking::{CHECK, check};
 use rp_run::Status;
 use std::alloc::Global;
 use std::process::Abort;
 use std::test::Fail;
-use tests_support::run_over;
 use tests_support::tables::{CERTIFICATE, CONTRADICTION, certificate_of};
+use tests_support::{CHECK, check, run_over};
 
 /// The text is refused as a certificate with that fault, and nothing is printed.
 fn refuses(rt: &impl Abort, alloc: Global, text: &str, fault: &str) -> Result<(), Fail> {

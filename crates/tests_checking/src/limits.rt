@@ -1,9 +1,8 @@
-use crate::checking::check;
 use rp_run::Status;
 use std::alloc::Global;
 use std::test::Fail;
-use tests_support::Ended;
 use tests_support::tables::{CERTIFICATE, CONTRADICTION};
+use tests_support::{Ended, check};
 
 /// The certificate after so many spaces, and what a check says of it.
 fn check_after_spaces(alloc: Global, spaces: usize) -> Result<Ended, Fail> {

@@ -1,8 +1,8 @@
-use crate::checking::check;
 use rp_run::Status;
 use std::alloc::Global;
 use std::process::Abort;
 use std::test::Fail;
+use tests_support::check;
 use tests_support::tables::{
     APART, CERTIFICATE, CONTRADICTION, EQUAL, MORE_AND_LESS, certificate_of,
 };
