@@ -1,5 +1,4 @@
-//! Tests of what `run` prints on worked tables and at the limits: `analyse`, `demand`, `welfare`, `pump`,
-//! `cost` and `power`.
+//! Tests of what `run` prints on worked tables and at the limits: `analyse`, `demand` and `welfare`.
 #![tactic(auto)]
 
 #[cfg(test)]
@@ -7,10 +6,4 @@ mod analyses;
 #[cfg(test)]
 mod bounds;
 #[cfg(test)]
-mod costs;
-#[cfg(test)]
 mod greatest;
-#[cfg(test)]
-mod powers;
-#[cfg(test)]
-mod pumps;
