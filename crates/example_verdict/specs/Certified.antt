@@ -17,6 +17,7 @@ abbrev pub certificate_of : Garp → AfriatPart → Efficiency → Certificate
 certificate_of garp afriat efficiency = record {
   kind = Table;
   version = 1;
+  levels = [];
   items = GarpItem garp ∷ AfriatItem afriat ∷ EfficiencyItem efficiency ∷ [];
 }
 

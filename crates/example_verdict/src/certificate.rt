@@ -54,6 +54,7 @@ fn certificate(
     Ok(Certificate {
         kind: Kind::Table,
         version: 1,
+        levels: Seq::from_vec(Vec::new(alloc)),
         items: Seq::from_vec(items),
     })
 }

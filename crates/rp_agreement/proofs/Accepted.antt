@@ -2,18 +2,18 @@
 use Rattle.std.proofs.Common.{◌≡◌, ◌≢◌, ◌<◌, ◌*◌, ◌⊎◌, ℕ, ℤ, List, length, Ok, ap, arith, inl, inr}
 use Rattle.std.proofs.lemmas.Int.{ints}
 use Rattle.std.proofs.lemmas.Bool.{cases_eq}
-use Rattle.rp_afriat.specs.Verdict.{IsAfriatVerdict}
+use Rattle.rp_afriat.specs.Verdict.{IsOwnAfriatVerdict}
 use Rattle.rp_clauses.specs.AfriatFailure.{AfriatFails}
 use Rattle.rp_clauses.specs.EfficiencyFailure.{AboveFails, EfficiencyFails}
 use Rattle.rp_clauses.specs.GarpFailure.{GarpFails}
 use Rattle.rp_clauses.specs.HomotheticFailure.{HomotheticFails}
 use Rattle.rp_clauses.specs.QuasilinearFailure.{QuasilinearFails}
 use Rattle.rp_effic.specs.Verdict.{IsEfficiencyVerdict}
-use Rattle.rp_evidence.specs.AfriatEvidence.{ProvesAfriat}
+use Rattle.rp_evidence.specs.AfriatEvidence.{ProvesOwnAfriat}
 use Rattle.rp_evidence.specs.Efficiency.{BoundsFromAbove, ProvesEfficiency}
 use Rattle.rp_evidence.specs.Garp.{ProvesOfPreference}
 use Rattle.rp_evidence.specs.Homothetic.{ProvesHomothetic, next_costs, own_costs}
-use Rattle.rp_evidence.specs.Preference.{IsStrict, IsWeak}
+use Rattle.rp_evidence.specs.Preference.{IsStrict, IsWeak, StrictByLevels, WeakByLevels}
 use Rattle.rp_evidence.specs.Quasilinear.{ProvesQuasilinear}
 use Rattle.rp_evidence.specs.Walk.{AnyStep}
 use Rattle.rp_evidence.specs.declared.afriat.AfriatPart.{AfriatPart}
@@ -32,30 +32,30 @@ use Rattle.rp_clauses.specs.QuasilinearFailure.{FitsValue}
 use Rattle.rp_agreement.proofs.Closed.{closed_passes, violation_passes, weak_passes}
 use Rattle.rp_agreement.proofs.Narrow.{narrow_after}
 
+pub garp_passes : (n : ℕ) (weak strict : ℕ → ℕ → Type 0) (verdict : Garp) → ProvesOfPreference n weak strict verdict → GarpFails n weak strict verdict (Ok tt)
+garp_passes n weak strict (Ranks ranks) (respect, sound) = (
+  respect.one_each,
+  ((λ s s_in t t_in. (respect.weak_never_rises s t s_in t_in, respect.strict_falls s t s_in t_in)), tt),
+)
+garp_passes n weak strict (Cycle walk) violation = violation_passes n weak strict walk violation
+
+pub afriat_passes : (n : ℕ) (levels : List ℕ) (c : ℕ → ℕ → ℕ) (part : AfriatPart) → ProvesOwnAfriat n levels c part → IsOwnAfriatVerdict n levels c part → AfriatFails n levels c part (Ok tt)
+afriat_passes n levels c (Model numbers) (one_each, model) (meets, _, fit, standard) = (
+  one_each,
+  (
+    (λ s s_in. (model.at_least_one s s_in, (fit s s_in).1, (fit s s_in).0)),
+    ((λ s s_in t t_in. model.none_above s t s_in t_in), tt),
+  ),
+)
+afriat_passes n levels c (NoModel walk) violation given = violation_passes n (WeakByLevels levels c) (StrictByLevels levels c) walk violation
+afriat_passes n levels c (Wide at) proves given = tt
+
 module _ (n : ℕ) (c : ℕ → ℕ → ℕ) where
-  pub garp_passes : (num den : ℕ) (verdict : Garp) → ProvesOfPreference n (IsWeak c num den) (IsStrict c num den) verdict → GarpFails n c num den verdict (Ok tt)
-  garp_passes num den (Ranks ranks) (respect, sound) = (
-    respect.one_each,
-    ((λ s s_in t t_in. (respect.weak_never_rises s t s_in t_in, respect.strict_falls s t s_in t_in)), tt),
-  )
-  garp_passes num den (Cycle walk) violation = violation_passes n c num den walk violation
-
-  pub afriat_passes : (part : AfriatPart) → ProvesAfriat n c part → IsAfriatVerdict n c part → AfriatFails n c part (Ok tt)
-  afriat_passes (Model numbers) (one_each, model) (meets, _, fit, standard) = (
-    one_each,
-    (
-      (λ s s_in. (model.at_least_one s s_in, (fit s s_in).1, (fit s s_in).0)),
-      ((λ s s_in t t_in. model.none_above s t s_in t_in), tt),
-    ),
-  )
-  afriat_passes (NoModel walk) violation given = violation_passes n c 1 1 walk violation
-  afriat_passes (Wide at) proves given = tt
-
   above_passes : (num den : ℕ) (walk : List ℕ) → BoundsFromAbove n c num den walk → (num ≡ den) ⊎ (num ≢ den) → AboveFails n c num den walk (Ok tt)
   above_passes num den walk bounds (inl one) = inl (one, ap length (bounds.none_at_one one))
   above_passes num den walk bounds (inr other) =
       let closed = bounds.closed_below_one other in
-      inr (other, (closed_passes n (IsWeak c num den) walk closed, (weak_passes n c num den walk closed, tt)))
+      inr (other, (closed_passes n (IsWeak c num den) walk closed, (weak_passes n (IsWeak c num den) walk closed, tt)))
 
   pub efficiency_passes : (evidence : Efficiency) → ProvesEfficiency n c evidence → IsEfficiencyVerdict n c evidence → EfficiencyFails n c evidence (Ok tt)
   efficiency_passes evidence proves given =
@@ -67,7 +67,7 @@ module _ (n : ℕ) (c : ℕ → ℕ → ℕ) where
             (proves.below.one_each, ((λ s s_in t t_in. proves.below.step_falls s t s_in t_in), tt)),
             (
               above_passes num den evidence.above proves.above (cases_eq num den),
-              (garp_passes num den evidence.at proves.at, tt),
+              (garp_passes n (IsWeak c num den) (IsStrict c num den) evidence.at proves.at, tt),
             ),
           ),
           tt,

@@ -10,6 +10,7 @@ use Rattle.rp_evidence.specs.Demand.{NewBudget}
 use Rattle.rp_evidence.specs.DemandEvidence.{ProvesDemand, ProvesDemandBounds, ProvesWelfare, budget_of, bundle_of}
 use Rattle.rp_evidence.specs.Garp.{MeetsGarp, ProvesGarp}
 use Rattle.rp_evidence.specs.Input.{TableInput}
+use Rattle.rp_evidence.specs.Preference.{IsStrict, IsWeak}
 use Rattle.rp_evidence.specs.declared.certificate.Item.TheVariants.{Garp as GarpItem}
 use Rattle.rp_evidence.specs.declared.demand.Bound.{Bound}
 use Rattle.rp_evidence.specs.declared.demand.Bound.TheVariants.{Shown, Wide}
@@ -76,7 +77,7 @@ module _ (input : TableInput) (shown : Bool) where
   demand_passes (Cycle cycle) prices m (Bounds below strict inner goods) is_shown new spent proves given = absurd given
   demand_passes (Cycle cycle) prices m (NoModel walk) is_shown new spent proves given = (
     prices_pass input.goods prices new,
-    (spent, (violation_passes input.n input.cost 1 1 walk proves, tt)),
+    (spent, (violation_passes input.n (IsWeak input.cost 1 1) (IsStrict input.cost 1 1) walk proves, tt)),
   )
 
   lower_holds : (prices : ℕ → ℕ) (t : ℕ) (lower : Bound) → IsLowerBound input prices t lower → LowerHolds input prices t lower
@@ -110,5 +111,5 @@ module _ (input : TableInput) (shown : Bool) where
       )
   welfare_passes verdict prices t (NoWelfare walk) is_shown new t_in garp proves given = (
     prices_pass input.goods prices new,
-    ((t_in, (violation_passes input.n input.cost 1 1 walk proves, tt)), tt),
+    ((t_in, (violation_passes input.n (IsWeak input.cost 1 1) (IsStrict input.cost 1 1) walk proves, tt)), tt),
   )

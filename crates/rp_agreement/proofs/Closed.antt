@@ -1,8 +1,7 @@
 -- Closed walks and violations by their steps pass by the places of their entries.
 use Rattle.std.proofs.Common.{◌≡◌, ◌<◌, ◌-◌, ℕ, suc, List, [], ◌∷◌, length, Ok, arith, subst, sym, slice_index, add-one}
 use Rattle.rp_clauses.specs.WalkFailure.{AtStep, ClosedWalkFails, ViolationFails, WeakStepsFail}
-use Rattle.rp_evidence.specs.Garp.{IsViolationAt}
-use Rattle.rp_evidence.specs.Preference.{IsStrict, IsWeak}
+use Rattle.rp_evidence.specs.Garp.{IsViolation}
 use Rattle.rp_evidence.specs.Walk.{IsClosedWalk, LeadsTo}
 use Rattle.rp_evidence.proofs.Places.{below_at, ends_at, places_of_violation, step_at}
 
@@ -24,13 +23,13 @@ module _ (n : ℕ) (step : ℕ → ℕ → Type 0) where
   steps_pass [] (s, leads, some) k within = absurd leads
   steps_pass (x ∷ w) (s, (is, leads), some) k within = rw add-one (step_at n step x s w leads k (omega arith))
 
-module _ (n : ℕ) (c : ℕ → ℕ → ℕ) (num den : ℕ) where
-  pub weak_passes : (walk : List ℕ) → IsClosedWalk n (IsWeak c num den) walk → WeakStepsFail c num den walk (Ok tt)
-  weak_passes walk closed k within = steps_pass n (IsWeak c num den) walk closed k within
+module _ (n : ℕ) (weak : ℕ → ℕ → Type 0) where
+  pub weak_passes : (walk : List ℕ) → IsClosedWalk n weak walk → WeakStepsFail weak walk (Ok tt)
+  weak_passes walk closed k within = steps_pass n weak walk closed k within
 
-  pub violation_passes : (walk : List ℕ) → IsViolationAt n c num den walk → ViolationFails n c num den walk (Ok tt)
-  violation_passes walk violation =
-      let strict = (places_of_violation n (IsWeak c num den) (IsStrict c num den) walk violation).one_strict in (
-        closed_passes n (IsWeak c num den) walk violation.0,
-        (weak_passes walk violation.0, ((strict.0, omega (arith, strict.1), strict.2), tt)),
+  pub violation_passes : (strict : ℕ → ℕ → Type 0) (walk : List ℕ) → IsViolation n weak strict walk → ViolationFails n weak strict walk (Ok tt)
+  violation_passes strict walk violation =
+      let one = (places_of_violation n weak strict walk violation).one_strict in (
+        closed_passes n weak walk violation.0,
+        (weak_passes walk violation.0, ((one.0, omega (arith, one.1), one.2), tt)),
       )

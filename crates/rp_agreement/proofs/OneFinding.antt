@@ -2,6 +2,7 @@
 use Rattle.std.proofs.Common.{ℕ, ◌≡◌, Bool, List, [], Ok, Err, inl, inr, refl, slice_index, take, slice_index_or}
 use Rattle.rp_clauses.specs.AfriatFailure.{AfriatFails}
 use Rattle.rp_check.specs.CheckVerdict.{IsVerdictOn}
+use Rattle.rp_check.specs.LevelsFailure.{LevelsFail}
 use Rattle.rp_check.specs.DemandFailure.{DemandBoundsFail, DemandFails, GoodFails, GoodsFail, InnerFails, SetsFail}
 use Rattle.rp_clauses.specs.EfficiencyFailure.{AboveFails, EfficiencyFails, LevelFails}
 use Rattle.rp_clauses.specs.GarpFailure.{GarpFails, OrderingFails}
@@ -16,6 +17,7 @@ use Rattle.rp_check.specs.declared.verdict.Verdict.TheVariants.{Accepted, Reject
 use Rattle.rp_evidence.specs.Demand.{NewBudget}
 use Rattle.rp_evidence.specs.DemandEvidence.{budget_of}
 use Rattle.rp_evidence.specs.Input.{TableInput}
+use Rattle.rp_evidence.specs.Preference.{IsStrict, IsWeak, StrictByLevels, WeakByLevels}
 use Rattle.rp_evidence.specs.declared.afriat.AfriatPart.{AfriatPart}
 use Rattle.rp_evidence.specs.declared.afriat.AfriatPart.TheVariants.{Model, NoModel, Wide}
 use Rattle.rp_evidence.specs.declared.certificate.Item.{Item}
@@ -53,34 +55,37 @@ module _ (e : Failure) where
   closed_excludes n walk (some, (observed, (closed, done))) (inr (h, inr (i, inl (not, is)))) = not closed
   closed_excludes n walk (some, (observed, (closed, done))) (inr (h, inr (i, inr none))) = none.1
 
+  -- ---- by a preference
+
+  module _ (n : ℕ) (weak strict : ℕ → ℕ → Type 0) where
+    violation_excludes : (walk : List ℕ) → ViolationFails n weak strict walk (Ok tt) → ViolationFails n weak strict walk (Err e) → ⊥
+    violation_excludes walk (closed, (weak_steps, (strict_step, done))) (inl found) = closed_excludes n walk closed found
+    violation_excludes walk (closed, (weak_steps, (strict_step, done))) (inr (h, inl (k, within, (not, is), before))) = not (weak_steps k within)
+    violation_excludes walk (closed, (weak_steps, (strict_step, done))) (inr (h, inr (i, inl (not, is)))) = not strict_step
+    violation_excludes walk (closed, (weak_steps, (strict_step, done))) (inr (h, inr (i, inr none))) = none.1
+
+    garp_excludes : (verdict : Garp) → GarpFails n weak strict verdict (Ok tt) → GarpFails n weak strict verdict (Err e) → ⊥
+    garp_excludes (Ranks ranks) (one_each, (respect, done)) (inl (not, is)) = not one_each
+    garp_excludes (Ranks ranks) (one_each, (respect, done)) (inr (h, inl (k, within, (not, is), before))) = not (respect k within)
+    garp_excludes (Ranks ranks) (one_each, (respect, done)) (inr (h, inr none)) = none.1
+    garp_excludes (GarpCycle walk) holds found = violation_excludes walk holds found
+
+    ordering_excludes : (ranks : List ℕ) → OrderingFails n strict ranks (Ok tt) → OrderingFails n strict ranks (Err e) → ⊥
+    ordering_excludes ranks (one_each, (orders, done)) (inl (not, is)) = not one_each
+    ordering_excludes ranks (one_each, (orders, done)) (inr (h, inl (k, within, (not, is), before))) = not (orders k within)
+    ordering_excludes ranks (one_each, (orders, done)) (inr (h, inr none)) = none.1
+
+  -- ---- the tests of a table
+
+  afriat_excludes : (n : ℕ) (levels : List ℕ) (c : ℕ → ℕ → ℕ) (part : AfriatPart) → AfriatFails n levels c part (Ok tt) → AfriatFails n levels c part (Err e) → ⊥
+  afriat_excludes n levels c (Model numbers) (one_each, (fit, (allow, done))) (inl (not, is)) = not one_each
+  afriat_excludes n levels c (Model numbers) (one_each, (fit, (allow, done))) (inr (h, inl (k, within, (not, is), before))) = not (fit k within)
+  afriat_excludes n levels c (Model numbers) (one_each, (fit, (allow, done))) (inr (h, inr (i, inl (k, within, (not, is), before)))) = not (allow k within)
+  afriat_excludes n levels c (Model numbers) (one_each, (fit, (allow, done))) (inr (h, inr (i, inr none))) = none.1
+  afriat_excludes n levels c (NoModel walk) holds found = violation_excludes n (WeakByLevels levels c) (StrictByLevels levels c) walk holds found
+  afriat_excludes n levels c (Wide at) holds found = found
+
   module _ (n : ℕ) (c : ℕ → ℕ → ℕ) where
-    violation_excludes : (num den : ℕ) (walk : List ℕ) → ViolationFails n c num den walk (Ok tt) → ViolationFails n c num den walk (Err e) → ⊥
-    violation_excludes num den walk (closed, (weak, (strict, done))) (inl found) = closed_excludes n walk closed found
-    violation_excludes num den walk (closed, (weak, (strict, done))) (inr (h, inl (k, within, (not, is), before))) = not (weak k within)
-    violation_excludes num den walk (closed, (weak, (strict, done))) (inr (h, inr (i, inl (not, is)))) = not strict
-    violation_excludes num den walk (closed, (weak, (strict, done))) (inr (h, inr (i, inr none))) = none.1
-
-    -- ---- the tests of a table
-
-    garp_excludes : (num den : ℕ) (verdict : Garp) → GarpFails n c num den verdict (Ok tt) → GarpFails n c num den verdict (Err e) → ⊥
-    garp_excludes num den (Ranks ranks) (one_each, (respect, done)) (inl (not, is)) = not one_each
-    garp_excludes num den (Ranks ranks) (one_each, (respect, done)) (inr (h, inl (k, within, (not, is), before))) = not (respect k within)
-    garp_excludes num den (Ranks ranks) (one_each, (respect, done)) (inr (h, inr none)) = none.1
-    garp_excludes num den (GarpCycle walk) holds found = violation_excludes num den walk holds found
-
-    afriat_excludes : (part : AfriatPart) → AfriatFails n c part (Ok tt) → AfriatFails n c part (Err e) → ⊥
-    afriat_excludes (Model numbers) (one_each, (fit, (allow, done))) (inl (not, is)) = not one_each
-    afriat_excludes (Model numbers) (one_each, (fit, (allow, done))) (inr (h, inl (k, within, (not, is), before))) = not (fit k within)
-    afriat_excludes (Model numbers) (one_each, (fit, (allow, done))) (inr (h, inr (i, inl (k, within, (not, is), before)))) = not (allow k within)
-    afriat_excludes (Model numbers) (one_each, (fit, (allow, done))) (inr (h, inr (i, inr none))) = none.1
-    afriat_excludes (NoModel walk) holds found = violation_excludes 1 1 walk holds found
-    afriat_excludes (Wide at) holds found = found
-
-    ordering_excludes : (num den : ℕ) (ranks : List ℕ) → OrderingFails n c num den ranks (Ok tt) → OrderingFails n c num den ranks (Err e) → ⊥
-    ordering_excludes num den ranks (one_each, (orders, done)) (inl (not, is)) = not one_each
-    ordering_excludes num den ranks (one_each, (orders, done)) (inr (h, inl (k, within, (not, is), before))) = not (orders k within)
-    ordering_excludes num den ranks (one_each, (orders, done)) (inr (h, inr none)) = none.1
-
     above_excludes : (num den : ℕ) (walk : List ℕ) → AboveFails n c num den walk (Ok tt) → AboveFails n c num den walk (Err e) → ⊥
     above_excludes num den walk (inl (one, empty)) (inl (same, (not, is))) = not empty
     above_excludes num den walk (inl (one, empty)) (inr (other, found)) = other one
@@ -90,9 +95,9 @@ module _ (e : Failure) where
     above_excludes num den walk (inr (other, (closed, (weak, done)))) (inr (same, inr (h, inr none))) = none.1
 
     parts_exclude : (num den : ℕ) (below above : List ℕ) (at : Garp) → LevelFails n c num den below above at (Ok tt) → LevelFails n c num den below above at (Err e) → ⊥
-    parts_exclude num den below above at (orders, (bounds, (is_at, done))) (inl found) = ordering_excludes num den below orders found
+    parts_exclude num den below above at (orders, (bounds, (is_at, done))) (inl found) = ordering_excludes n (IsWeak c num den) (IsStrict c num den) below orders found
     parts_exclude num den below above at (orders, (bounds, (is_at, done))) (inr (h, inl found)) = above_excludes num den above bounds found
-    parts_exclude num den below above at (orders, (bounds, (is_at, done))) (inr (h, inr (i, inl found))) = garp_excludes num den at is_at found
+    parts_exclude num den below above at (orders, (bounds, (is_at, done))) (inr (h, inr (i, inl found))) = garp_excludes n (IsWeak c num den) (IsStrict c num den) at is_at found
     parts_exclude num den below above at (orders, (bounds, (is_at, done))) (inr (h, inr (i, inr none))) = none.1
 
     efficiency_excludes : (evidence : Efficiency) → EfficiencyFails n c evidence (Ok tt) → EfficiencyFails n c evidence (Err e) → ⊥
@@ -178,7 +183,7 @@ module _ (e : Failure) where
     demand_excludes shown prices m part (priced, (spent, (holds, done))) (inr (h, inl (not, is))) = not spent
     demand_excludes shown prices m (DemandBounds below strict inner goods) (priced, (spent, (holds, done))) (inr (h, inr (i, inl found))) =
         demand_bounds_exclude (budget_of prices m) shown below strict inner goods holds found
-    demand_excludes shown prices m (NoDemand walk) (priced, (spent, (holds, done))) (inr (h, inr (i, inl found))) = violation_excludes input.n input.cost 1 1 walk holds found
+    demand_excludes shown prices m (NoDemand walk) (priced, (spent, (holds, done))) (inr (h, inr (i, inl found))) = violation_excludes input.n (IsWeak input.cost 1 1) (IsStrict input.cost 1 1) walk holds found
     demand_excludes shown prices m part (priced, (spent, (holds, done))) (inr (h, inr (i, inr none))) = none.1
 
     welfare_bounds_exclude : (shown : Bool) (prices : ℕ → ℕ) (t upper at : ℕ) (lower : Bound) → WelfareBoundsFail input shown prices t upper at lower (Ok tt)
@@ -195,7 +200,7 @@ module _ (e : Failure) where
     welfare_part_excludes shown prices t (WelfareBounds upper at lower) (observed, (bounds, done)) (inr (h, inl found)) = welfare_bounds_exclude shown prices t upper at lower bounds found
     welfare_part_excludes shown prices t (WelfareBounds upper at lower) (observed, (bounds, done)) (inr (h, inr none)) = none.1
     welfare_part_excludes shown prices t (NoWelfare walk) (observed, (violation, done)) (inl (not, is)) = not observed
-    welfare_part_excludes shown prices t (NoWelfare walk) (observed, (violation, done)) (inr (h, inl found)) = violation_excludes input.n input.cost 1 1 walk violation found
+    welfare_part_excludes shown prices t (NoWelfare walk) (observed, (violation, done)) (inr (h, inl found)) = violation_excludes input.n (IsWeak input.cost 1 1) (IsStrict input.cost 1 1) walk violation found
     welfare_part_excludes shown prices t (NoWelfare walk) (observed, (violation, done)) (inr (h, inr none)) = none.1
 
     welfare_excludes : (shown : Bool) (prices : List ℕ) (t : ℕ) (part : WelfarePart) → WelfareFails input shown prices t part (Ok tt) → WelfareFails input shown prices t part (Err e) → ⊥
@@ -206,17 +211,31 @@ module _ (e : Failure) where
     -- ---- an item
 
     item_excludes : (shown : Bool) (item : Item) → ItemFails input shown item (Ok tt) → ItemFails input shown item (Err e) → ⊥
-    item_excludes shown (GarpItem verdict) = garp_excludes input.n input.cost 1 1 verdict
-    item_excludes shown (AfriatItem part) = afriat_excludes input.n input.cost part
-    item_excludes shown (EfficiencyItem evidence) = efficiency_excludes input.n input.cost evidence
-    item_excludes shown (HomotheticItem verdict) = homothetic_excludes input.n input.cost verdict
-    item_excludes shown (QuasiItem verdict) = quasilinear_excludes input.n input.cost verdict
-    item_excludes shown (DemandItem prices m part) = demand_excludes shown prices m part
-    item_excludes shown (WelfareItem prices of part) = welfare_excludes shown prices of part
-    item_excludes shown (RandomItem total part) = λ holds found. found
+    item_excludes shown (GarpItem verdict) holds found = garp_excludes input.n (WeakByLevels input.levels input.cost) (StrictByLevels input.levels input.cost) verdict holds found
+    item_excludes shown (AfriatItem part) holds found = afriat_excludes input.n input.levels input.cost part holds found
+    item_excludes shown (EfficiencyItem evidence) holds found = efficiency_excludes input.n input.cost evidence holds found
+    item_excludes shown (HomotheticItem verdict) holds found = homothetic_excludes input.n input.cost verdict holds found
+    item_excludes shown (QuasiItem verdict) holds found = quasilinear_excludes input.n input.cost verdict holds found
+    item_excludes shown (DemandItem prices m part) (levels, (holds, done)) (inl (not, is)) = not levels
+    item_excludes shown (DemandItem prices m part) (levels, (holds, done)) (inr (h, inl found)) = demand_excludes shown prices m part holds found
+    item_excludes shown (DemandItem prices m part) (levels, (holds, done)) (inr (h, inr none)) = none.1
+    item_excludes shown (WelfareItem prices of part) (levels, (holds, done)) (inl (not, is)) = not levels
+    item_excludes shown (WelfareItem prices of part) (levels, (holds, done)) (inr (h, inl found)) = welfare_excludes shown prices of part holds found
+    item_excludes shown (WelfareItem prices of part) (levels, (holds, done)) (inr (h, inr none)) = none.1
+    item_excludes shown (RandomItem total part) holds found = found
+
+  -- ---- the levels
+
+  levels_exclude : (levels claimed : List ℕ) → LevelsFail levels claimed (Ok tt) → LevelsFail levels claimed (Err e) → ⊥
+  levels_exclude levels claimed (one_each, (alike, done)) (inl (not, is)) = not one_each
+  levels_exclude levels claimed (one_each, (alike, done)) (inr (h, inl (k, within, (not, is), before))) = not (alike k within)
+  levels_exclude levels claimed (one_each, (alike, done)) (inr (h, inr none)) = none.1
 
 -- what is accepted is not rejected
-pub only_accepted : (input : TableInput) (items : List Item) (verdict : Verdict) → IsVerdictOn input items Accepted → IsVerdictOn input items verdict → verdict ≡ Accepted
-only_accepted input items Accepted holds is = refl
-only_accepted input items (Rejected item reason place) holds (k, within, number, found, before) =
+pub only_accepted : (input : TableInput) (levels : List ℕ) (items : List Item) (verdict : Verdict) → IsVerdictOn input levels items Accepted → IsVerdictOn input levels items verdict → verdict ≡ Accepted
+only_accepted input levels items verdict (inl none) is = absurd none
+only_accepted input levels items Accepted (inr holds) is = refl
+only_accepted input levels items (Rejected item reason place) (inr (alike, holds)) (inl (whole, found)) =
+    absurd (levels_exclude (record { reason = reason; place = place }) input.levels levels alike found)
+only_accepted input levels items (Rejected item reason place) (inr (alike, holds)) (inr (same, (k, within, number, found, before))) =
     absurd (item_excludes (record { reason = reason; place = place }) input (one_shows_garp (take k items)) (slice_index_or items k any_item) (holds k within any_item) (found any_item))

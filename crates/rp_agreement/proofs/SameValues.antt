@@ -21,8 +21,8 @@ use Rattle.rp_num.specs.Spelled.{FitsSum, IsReduced}
 use Rattle.serde_json.specs.Data.{Data, Items, Members, array, item, member, no_items, no_members, null, number, object, string, unsigned}
 use Rattle.rp_test_items.specs.AfriatValue.{afriat_value}
 use Rattle.rp_program_items.specs.BoundValue.{bound_value, entry_value, good_value, point_value}
-use Rattle.rp_json.specs.CertificateValue.{certificate_text, certificate_value, item_value}
-use Rattle.rp_json.specs.Denoted.{FitsKind, IsDenoted, IsDenotedBy, IsReadable, top_value}
+use Rattle.rp_json.specs.CertificateValue.{certificate_text, certificate_value, item_value, top_value}
+use Rattle.rp_json.specs.Denoted.{FitsKind, IsDenoted, IsDenotedBy, IsReadable}
 use Rattle.rp_test_items.specs.EfficiencyValue.{efficiency_value}
 use Rattle.rp_test_items.specs.GarpValue.{garp_value}
 use Rattle.rp_test_items.specs.HomotheticValue.{homothetic_value}
@@ -324,11 +324,12 @@ module _ (kind : Kind) (c : Certificate) (readable : IsReadable kind c) where
   value_denotes : IsDenotedBy kind (certificate_value c) (Ok c)
   value_denotes =
       let values : List Data = map item_value c.items in
-      let is : certificate_value c ≡ top_value kind 1 values = λ i. top_value (readable.of_kind i) (readable.version i) values in
+      let is : certificate_value c ≡ top_value kind c.version c.levels values = λ i. top_value (readable.of_kind i) c.version c.levels values in
       let one : (ys : List Item) → All (FitsKind kind) ys → map item_value ys ≡ values → ys ≡ c.items =
       λ ys fit e. same_entries item_value (FitsKind kind) (item_apart kind) ys c.items fit readable.items e in
-      let found = certificate_found kind (certificate_value c) 1 values c.items is refl (all_items kind values c.items (refl, readable.items, one)) in
-      let same : ◌≡◌ {A = Certificate} (record { kind = kind; version = 1; items = c.items }) c = λ i. record { kind = sym readable.of_kind i; version = sym readable.version i; items = c.items } in
+      let found = certificate_found kind (certificate_value c) c.version c.levels values c.items is readable.levels (all_items kind values c.items (refl, readable.items, one)) in
+      let same : ◌≡◌ {A = Certificate} (record { kind = kind; version = c.version; levels = c.levels; items = c.items }) c =
+      λ i. record { kind = sym readable.of_kind i; version = c.version; levels = c.levels; items = c.items } in
       subst (λ (x : Certificate). IsDenotedBy kind (certificate_value c) (Ok x)) same found
 
   pub text_denotes : IsDenoted kind (certificate_text c) (Ok c)

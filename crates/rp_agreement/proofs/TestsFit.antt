@@ -4,14 +4,14 @@ use Rattle.std.proofs.lemmas.Bool.{cases_eq}
 use Rattle.std.proofs.lemmas.Int.{ints}
 use Rattle.std.proofs.lemmas.List.{get_or_default}
 use Rattle.rp_num.specs.Spelled.{FitsSum, IsReduced}
-use Rattle.rp_afriat.specs.Verdict.{IsAfriatVerdict}
+use Rattle.rp_afriat.specs.Verdict.{IsOwnAfriatVerdict}
 use Rattle.rp_effic.specs.Verdict.{IsEfficiencyVerdict}
 use Rattle.rp_pref.specs.Violation.{IsVerdictOn}
-use Rattle.rp_evidence.specs.AfriatEvidence.{ProvesAfriat}
+use Rattle.rp_evidence.specs.AfriatEvidence.{ProvesOwnAfriat}
 use Rattle.rp_evidence.specs.Efficiency.{BoundsFromAbove, ProvesEfficiency}
-use Rattle.rp_evidence.specs.Garp.{ProvesGarp, ProvesOfPreference}
+use Rattle.rp_evidence.specs.Garp.{ProvesOfPreference}
 use Rattle.rp_evidence.specs.Homothetic.{ProvesHomothetic}
-use Rattle.rp_evidence.specs.Preference.{IsStrict, IsWeak}
+use Rattle.rp_evidence.specs.Preference.{IsStrict, IsWeak, WeakByLevels}
 use Rattle.rp_evidence.specs.Quasilinear.{ProvesQuasilinear}
 use Rattle.rp_evidence.specs.StandardNumbers.{FitsUtility}
 use Rattle.rp_evidence.specs.Walk.{AnyStep}
@@ -24,7 +24,6 @@ use Rattle.rp_evidence.specs.declared.homothetic.Homothetic.{Homothetic}
 use Rattle.rp_evidence.specs.declared.homothetic.Homothetic.TheVariants.{Values as Products, Cycle as Falls, Withheld}
 use Rattle.rp_evidence.specs.declared.quasilinear.Quasi.{Quasi}
 use Rattle.rp_evidence.specs.declared.quasilinear.Quasi.TheVariants.{Values as Sums, Cycle as Negative}
-use Rattle.rp_garp.specs.Verdict.{IsGarpVerdict}
 use Rattle.rp_homo.specs.Verdict.{IsHomotheticVerdict}
 use Rattle.rp_notation.specs.Reading.{FitObservations}
 use Rattle.rp_test_items.specs.Limits.{FitsAfriat, FitsEfficiency, FitsGarp, FitsHomothetic, FitsQuasilinear}
@@ -40,13 +39,13 @@ sum_fits : (x : ℤ) → IsLimitedSum x → FitsSum x
 sum_fits (pos k) limited = omega (arith, ints, limited.at_most_zero)
 sum_fits (negsuc k) limited = omega (arith, ints, limited.above)
 
-module _ (n : ℕ) (c : ℕ → ℕ → ℕ) (few : n ≤ RECORDS) where
-  pub garp_fits : (verdict : Garp) → ProvesGarp n c verdict → IsGarpVerdict n c verdict → FitsGarp verdict
-  garp_fits (Ranks ranks) proves given = counts_fit n few (IsWeak c 1 1) ranks given
-  garp_fits (Cycle walk) proves given = walk_fits n few (IsWeak c 1 1) walk proves.0
+module _ (n : ℕ) (few : n ≤ RECORDS) where
+  pub garp_fits : (weak strict : ℕ → ℕ → Type 0) (verdict : Garp) → ProvesOfPreference n weak strict verdict → IsVerdictOn n weak strict verdict → FitsGarp verdict
+  garp_fits weak strict (Ranks ranks) proves given = counts_fit n few weak ranks given
+  garp_fits weak strict (Cycle walk) proves given = walk_fits n few weak walk proves.0
 
-  pub afriat_fits : (part : AfriatPart) → ProvesAfriat n c part → IsAfriatVerdict n c part → FitsAfriat part
-  afriat_fits (Model numbers) proves (meets, one_each, fit, standard) = (
+  pub afriat_fits : (levels : List ℕ) (c : ℕ → ℕ → ℕ) (part : AfriatPart) → ProvesOwnAfriat n levels c part → IsOwnAfriatVerdict n levels c part → FitsAfriat part
+  afriat_fits levels c (Model numbers) proves (meets, one_each, fit, standard) = (
     (λ k d within.
         let h = (fit k (omega (arith, within, one_each.multipliers))).1 in
         omega (arith, h, get_or_default numbers.lambda k d 0 within)),
@@ -54,13 +53,10 @@ module _ (n : ℕ) (c : ℕ → ℕ → ℕ) (few : n ≤ RECORDS) where
         let h = (fit k (omega (arith, within, one_each.utilities))).0 in
         subst FitsSum (get_or_default numbers.u k (pos 0) d within) (utility_fits _ h)),
   )
-  afriat_fits (NoModel walk) proves given = walk_fits n few (IsWeak c 1 1) walk proves.0
-  afriat_fits (Wide at) proves (meets, (count, utility, multiplier, standard, first)) = omega (arith, few, first.observed)
+  afriat_fits levels c (NoModel walk) proves given = walk_fits n few (WeakByLevels levels c) walk proves.0
+  afriat_fits levels c (Wide at) proves (meets, (count, utility, multiplier, standard, first)) = omega (arith, few, first.observed)
 
-  at_fits : (num den : ℕ) (at : Garp) → ProvesOfPreference n (IsWeak c num den) (IsStrict c num den) at → IsVerdictOn n (IsWeak c num den) (IsStrict c num den) at → FitsGarp at
-  at_fits num den (Ranks ranks) proves given = counts_fit n few (IsWeak c num den) ranks given
-  at_fits num den (Cycle walk) proves given = walk_fits n few (IsWeak c num den) walk proves.0
-
+module _ (n : ℕ) (c : ℕ → ℕ → ℕ) (few : n ≤ RECORDS) where
   above_fits : (num den : ℕ) (walk : List ℕ) → BoundsFromAbove n c num den walk → (num ≡ den) ⊎ (num ≢ den) → FitObservations walk
   above_fits num den walk bounds (inl one) = subst FitObservations (sym (bounds.none_at_one one)) (λ k d within. absurd (omega (arith, within)))
   above_fits num den walk bounds (inr other) = walk_fits n few (IsWeak c num den) walk (bounds.closed_below_one other)
@@ -72,7 +68,7 @@ module _ (n : ℕ) (c : ℕ → ℕ → ℕ) (few : n ≤ RECORDS) where
       let small = given.level.small in
       let at_most = proves.index.level.1 in (
         above_fits num den evidence.above proves.above (cases_eq num den),
-        at_fits num den evidence.at proves.at given.at,
+        garp_fits n few (IsWeak c num den) (IsStrict c num den) evidence.at proves.at given.at,
         counts_fit n few (IsStrict c num den) evidence.below given.below,
         (
           (given.level.lowest, record { num_fits = omega (arith, small, at_most); den_fits = omega (arith, small) }),

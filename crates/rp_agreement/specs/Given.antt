@@ -1,7 +1,7 @@
 -- What the searches give for a table, item by item (sources at each kind of evidence), and what it is that nothing is
 -- found wrong with it.
-use Rattle.std.specs.Prelude.{◌<◌, Ok}
-use Rattle.rp_afriat.specs.Verdict.{IsAfriatVerdict}
+use Rattle.std.specs.Prelude.{◌≡◌, ◌<◌, Ok, []}
+use Rattle.rp_afriat.specs.Verdict.{IsOwnAfriatVerdict}
 use Rattle.rp_patch.specs.Clauses.{Finding}
 use Rattle.rp_effic.specs.Verdict.{IsEfficiencyVerdict}
 use Rattle.rp_evidence.specs.DemandEvidence.{budget_of}
@@ -14,7 +14,7 @@ use Rattle.rp_evidence.specs.declared.certificate.Item.TheVariants.{Homothetic a
 use Rattle.rp_evidence.specs.declared.certificate.Item.TheVariants.{Demand as DemandItem, Welfare as WelfareItem}
 use Rattle.rp_evidence.specs.declared.certificate.Item.TheVariants.{Random as RandomItem}
 use Rattle.rp_evidence.specs.declared.garp.Garp.{Garp}
-use Rattle.rp_garp.specs.Verdict.{IsGarpVerdict}
+use Rattle.rp_garp.specs.Verdict.{IsOwnGarpVerdict}
 use Rattle.rp_homo.specs.Verdict.{IsHomotheticVerdict}
 use Rattle.rp_quasi.specs.Verdict.{IsQuasilinearVerdict}
 use Rattle.rp_support.specs.Verdict.{IsDemandGiven}
@@ -26,18 +26,21 @@ use Rattle.rp_welfare.specs.Verdict.{IsWelfareVerdict}
 abbrev pub Passes : Finding → Type 0
 Passes finding = finding (Ok tt)
 
--- The item is as the search for its kind gives it. Demand and welfare are given from this verdict on the axiom, at new
--- prices that are within their limits.
+-- The item is as the search for its kind gives it: for the axiom and Afriat's numbers by the levels of the
+-- observations' own, where they have them. Demand and welfare are given from this verdict on the axiom, where there are
+-- no levels, at new prices that are within their limits.
 abbrev pub IsGivenFrom : TableInput → Garp → Item → Type 0
-IsGivenFrom input verdict (GarpItem own) = IsGarpVerdict input.n input.cost own
-IsGivenFrom input verdict (AfriatItem part) = IsAfriatVerdict input.n input.cost part
+IsGivenFrom input verdict (GarpItem own) = IsOwnGarpVerdict input.n input.levels input.cost own
+IsGivenFrom input verdict (AfriatItem part) = IsOwnAfriatVerdict input.n input.levels input.cost part
 IsGivenFrom input verdict (EfficiencyItem evidence) = IsEfficiencyVerdict input.n input.cost evidence
 IsGivenFrom input verdict (HomotheticItem own) = IsHomotheticVerdict input.n input.cost own
 IsGivenFrom input verdict (QuasiItem own) = IsQuasilinearVerdict input.n input.cost own
 IsGivenFrom input verdict (DemandItem prices m part) =
-    AreNewPrices input.goods prices × IsExpenditure m × IsDemandGiven input (budget_of prices m) verdict part
+    (input.levels ≡ []) × AreNewPrices input.goods prices × IsExpenditure m
+    × IsDemandGiven input (budget_of prices m) verdict part
 IsGivenFrom input verdict (WelfareItem prices t part) =
-    AreNewPrices input.goods prices × (t < input.n) × IsWelfareVerdict input prices t verdict part
+    (input.levels ≡ []) × AreNewPrices input.goods prices × (t < input.n)
+    × IsWelfareVerdict input prices t verdict part
 IsGivenFrom input verdict (RandomItem total part) = ⊥
 
 -- The item proves its verdict, and it is as it is given.

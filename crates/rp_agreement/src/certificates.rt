@@ -6,7 +6,7 @@ ghost use Rattle.rp_check.specs.CheckVerdict.{IsVerdictOn};
 ghost use Rattle.rp_check.specs.RandomVerdict.{IsRandomVerdictOn};
 ghost use Rattle.rp_check.specs.declared.verdict.Verdict.{Verdict};
 ghost use Rattle.rp_check.specs.declared.verdict.Verdict.TheVariants.{Accepted};
-ghost use Rattle.rp_evidence.specs.Garp.{ProvesGarp};
+ghost use Rattle.rp_evidence.specs.Garp.{ProvesOwnGarp};
 ghost use Rattle.rp_evidence.specs.Input.{TableInput};
 ghost use Rattle.rp_evidence.specs.declared.certificate.Certificate.{Certificate};
 ghost use Rattle.rp_evidence.specs.declared.certificate.Item.{Item};
@@ -28,18 +28,19 @@ pub fn readable_texts_are_read_back()
     ensures { (kind : Kind) (c : Certificate) → IsReadable kind c → IsReadBack kind c }
 {}
 
-/// A certificate of a table that begins with a verdict on the axiom and goes on with items as they are given from it is
-/// accepted, and can be read back: its text denotes it.
+/// A certificate of a table, with its levels where it has any, that begins with a verdict on the axiom and goes on with
+/// items as they are given from it is accepted, and can be read back: its text denotes it.
 pub fn certificates_agree()
     ensures accepted { (input : TableInput) (verdict : Garp) (rest : List Item)
-        → ProvesGarp input.n input.cost verdict → All (ProvesAsGiven input verdict) rest
-        → IsVerdictOn input (GarpItem verdict ∷ rest) Accepted }
+        → ProvesOwnGarp input.n input.levels input.cost verdict
+        → All (ProvesAsGiven input verdict) rest
+        → IsVerdictOn input input.levels (GarpItem verdict ∷ rest) Accepted }
     ensures readable { (input : TableInput) (verdict : Garp) (rest : List Item) → IsLimited input
         → ProvesAsGiven input verdict (GarpItem verdict) → All (ProvesAsGiven input verdict) rest
-        → IsReadable Table (certificate_from verdict rest) }
+        → IsReadable Table (certificate_from input.levels verdict rest) }
     ensures read_back { (input : TableInput) (verdict : Garp) (rest : List Item) → IsLimited input
         → ProvesAsGiven input verdict (GarpItem verdict) → All (ProvesAsGiven input verdict) rest
-        → IsReadBack Table (certificate_from verdict rest) }
+        → IsReadBack Table (certificate_from input.levels verdict rest) }
 {}
 
 /// So is and can the certificate of random choices.
@@ -58,8 +59,9 @@ pub fn random_certificates_agree()
 
 /// What is accepted is not rejected: the checker's verdict on it is no other.
 pub fn accepted_is_not_rejected()
-    ensures { (input : TableInput) (items : List Item) (verdict : Verdict)
-        → IsVerdictOn input items Accepted → IsVerdictOn input items verdict → verdict ≡ Accepted }
+    ensures { (input : TableInput) (levels : List ℕ) (items : List Item) (verdict : Verdict)
+        → IsVerdictOn input levels items Accepted → IsVerdictOn input levels items verdict
+        → verdict ≡ Accepted }
 {}
 
 /// What is accepted on random choices is not rejected: the checker's verdict on it is no other.

@@ -1,5 +1,5 @@
 ghost use Rattle.std.specs.Prelude.{◌<◌, ◌≤◌, List, length, ℕ};
-ghost use Rattle.rp_afriat.specs.Verdict.{IsAfriatVerdict};
+ghost use Rattle.rp_afriat.specs.Verdict.{IsOwnAfriatVerdict};
 ghost use Rattle.rp_agreement.specs.Given.{Passes};
 ghost use Rattle.rp_agreement.specs.Limited.{IsLimited};
 ghost use Rattle.rp_clauses.specs.AfriatFailure.{AfriatFails};
@@ -11,13 +11,14 @@ ghost use Rattle.rp_check.specs.ItemFailure.{shows_garp};
 ghost use Rattle.rp_clauses.specs.QuasilinearFailure.{QuasilinearFails};
 ghost use Rattle.rp_check.specs.WelfareFailure.{WelfareFails};
 ghost use Rattle.rp_effic.specs.Verdict.{IsEfficiencyVerdict};
-ghost use Rattle.rp_evidence.specs.AfriatEvidence.{ProvesAfriat};
+ghost use Rattle.rp_evidence.specs.AfriatEvidence.{ProvesOwnAfriat};
 ghost use Rattle.rp_evidence.specs.DemandEvidence.{ProvesDemand, ProvesWelfare, budget_of};
 ghost use Rattle.rp_evidence.specs.Efficiency.{ProvesEfficiency};
-ghost use Rattle.rp_evidence.specs.Garp.{ProvesGarp};
+ghost use Rattle.rp_evidence.specs.Garp.{ProvesGarp, ProvesOwnGarp};
 ghost use Rattle.rp_evidence.specs.Homothetic.{ProvesHomothetic};
 ghost use Rattle.rp_evidence.specs.Input.{TableInput, input_of_table};
 ghost use Rattle.rp_evidence.specs.Input.{TableInput};
+ghost use Rattle.rp_evidence.specs.Preference.{StrictByLevels, WeakByLevels};
 ghost use Rattle.rp_evidence.specs.Quasilinear.{ProvesQuasilinear};
 ghost use Rattle.rp_evidence.specs.declared.afriat.AfriatPart.{AfriatPart};
 ghost use Rattle.rp_evidence.specs.declared.certificate.Item.TheVariants.{Garp as GarpItem};
@@ -28,7 +29,7 @@ ghost use Rattle.rp_evidence.specs.declared.garp.Garp.{Garp};
 ghost use Rattle.rp_evidence.specs.declared.homothetic.Homothetic.{Homothetic};
 ghost use Rattle.rp_evidence.specs.declared.quasilinear.Quasi.{Quasi};
 ghost use Rattle.rp_evidence.specs.declared.random.RandomPart.{RandomPart};
-ghost use Rattle.rp_garp.specs.Verdict.{IsGarpVerdict};
+ghost use Rattle.rp_garp.specs.Verdict.{IsOwnGarpVerdict};
 ghost use Rattle.rp_homo.specs.Verdict.{IsHomotheticVerdict};
 ghost use Rattle.rp_test_items.specs.Limits.{FitsAfriat, FitsEfficiency, FitsGarp};
 ghost use Rattle.rp_program_items.specs.Limits.{FitsDemand};
@@ -53,21 +54,25 @@ pub fn tables_are_limited()
     ensures { (table : Observations) → IsTable table → IsLimited (input_of_table table) }
 {}
 
-/// Nothing is found wrong with evidence that proves a verdict on the generalized axiom; as it is given it is within
-/// the limits in which evidence is read back.
+/// Nothing is found wrong with evidence that proves a verdict on the generalized axiom, by levels of the observations'
+/// own where they have them; as it is given it is within the limits in which evidence is read back.
 pub fn garp_agrees()
-    ensures accepted { (n : ℕ) (c : ℕ → ℕ → ℕ) (verdict : Garp)
-        → ProvesGarp n c verdict → Passes (GarpFails n c 1 1 verdict) }
-    ensures readable { (n : ℕ) (c : ℕ → ℕ → ℕ) (verdict : Garp) → n ≤ RECORDS
-        → ProvesGarp n c verdict → IsGarpVerdict n c verdict → FitsGarp verdict }
+    ensures accepted { (n : ℕ) (levels : List ℕ) (c : ℕ → ℕ → ℕ) (verdict : Garp)
+        → ProvesOwnGarp n levels c verdict
+        → Passes (GarpFails n (WeakByLevels levels c) (StrictByLevels levels c) verdict) }
+    ensures readable { (n : ℕ) (levels : List ℕ) (c : ℕ → ℕ → ℕ) (verdict : Garp)
+        → n ≤ RECORDS → ProvesOwnGarp n levels c verdict → IsOwnGarpVerdict n levels c verdict
+        → FitsGarp verdict }
 {}
 
 /// So it is with what is given by Afriat's theorem.
 pub fn afriat_agrees()
-    ensures accepted { (n : ℕ) (c : ℕ → ℕ → ℕ) (part : AfriatPart)
-        → ProvesAfriat n c part → IsAfriatVerdict n c part → Passes (AfriatFails n c part) }
-    ensures readable { (n : ℕ) (c : ℕ → ℕ → ℕ) (part : AfriatPart) → n ≤ RECORDS
-        → ProvesAfriat n c part → IsAfriatVerdict n c part → FitsAfriat part }
+    ensures accepted { (n : ℕ) (levels : List ℕ) (c : ℕ → ℕ → ℕ) (part : AfriatPart)
+        → ProvesOwnAfriat n levels c part → IsOwnAfriatVerdict n levels c part
+        → Passes (AfriatFails n levels c part) }
+    ensures readable { (n : ℕ) (levels : List ℕ) (c : ℕ → ℕ → ℕ) (part : AfriatPart)
+        → n ≤ RECORDS → ProvesOwnAfriat n levels c part → IsOwnAfriatVerdict n levels c part
+        → FitsAfriat part }
 {}
 
 /// So it is with what is given for the efficiency index, its level in lowest terms.

@@ -1,5 +1,5 @@
 -- Items on demand and on welfare, from what the calls that give them say.
-use Rattle.std.proofs.Common.{◌≡◌, ◌<◌, ◌≤◌, ℕ, List, length, refl, sym, subst}
+use Rattle.std.proofs.Common.{◌≡◌, ◌<◌, ◌≤◌, ℕ, List, [], length, refl, sym, subst}
 use Rattle.std.specs.List.{All}
 use Rattle.rp_evidence.specs.DemandEvidence.{ProvesDemand, ProvesWelfare, budget_of}
 use Rattle.rp_evidence.specs.Garp.{ProvesGarp}
@@ -18,7 +18,7 @@ use Rattle.rp_table.specs.NewPrices.{AreNewPrices}
 use Rattle.rp_agreement.specs.Limited.{IsLimited}
 use Rattle.rp_agreement.proofs.BoundsFit.{demand_fits, welfare_fits}
 
-module _ (input : TableInput) (limited : IsLimited input) (garp : Garp) (prices kept : List ℕ) (same : kept ≡ prices) (one_each : length prices ≡ input.goods) (limits : All (λ p. (1 ≤ p) × (p ≤ LARGEST)) prices) where
+module _ (input : TableInput) (none : input.levels ≡ []) (limited : IsLimited input) (garp : Garp) (prices kept : List ℕ) (same : kept ≡ prices) (one_each : length prices ≡ input.goods) (limits : All (λ p. (1 ≤ p) × (p ≤ LARGEST)) prices) where
   new : AreNewPrices input.goods prices
   new = record { one_each = one_each; fit = limits }
 
@@ -30,7 +30,7 @@ module _ (input : TableInput) (limited : IsLimited input) (garp : Garp) (prices 
         on_budget = refl;
         proves = proves;
         given = given;
-        passes = λ by_ranks before. demand_passes input by_ranks garp prices m evidence before new (least, most) proves given;
+        passes = λ by_ranks before. (none, (demand_passes input by_ranks garp prices m evidence before new (least, most) proves given, tt));
         readable = (tt, demand_fits input limited prices new m (least, most) garp evidence proves given);
       })
 
@@ -42,6 +42,6 @@ module _ (input : TableInput) (limited : IsLimited input) (garp : Garp) (prices 
         of_observation = refl;
         proves = proves;
         given = given;
-        passes = λ by_ranks before. welfare_passes input by_ranks garp prices t evidence before new t_in verdict proves given;
+        passes = λ by_ranks before. (none, (welfare_passes input by_ranks garp prices t evidence before new t_in verdict proves given, tt));
         readable = (tt, welfare_fits input limited prices new t t_in garp evidence proves given);
       })

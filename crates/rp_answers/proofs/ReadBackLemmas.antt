@@ -1,7 +1,7 @@
 -- The JSON of the certificates of the program is read back as they are.
-use Rattle.std.proofs.Common.{ℕ, List, slice_index_or, arith, refl}
-use Rattle.rp_evidence.specs.Input.{input_of_table}
-use Rattle.rp_evidence.specs.Proves.{Proves}
+use Rattle.std.proofs.Common.{ℕ, List, slice_index_or, arith, inl, refl}
+use Rattle.rp_evidence.specs.Garp.{ProvesGarp}
+use Rattle.rp_evidence.specs.Preference.{IsStrict, IsWeak}
 use Rattle.rp_evidence.specs.declared.certificate.Item.{Item}
 use Rattle.rp_evidence.specs.declared.certificate.Item.TheVariants.{Garp as GarpItem}
 use Rattle.rp_evidence.specs.declared.certificate.Kind.TheVariants.{Table}
@@ -16,14 +16,14 @@ use Rattle.rp_agreement.proofs.SameValues.{text_read_back}
 use Rattle.rp_agreement.proofs.TestsFit.{garp_fits}
 use Rattle.rp_answers.specs.GarpFirst.{AreAnswered, garp_first}
 
-module _ (table : Observations) (valid : IsTable table) (garp : Garp) (proves : Proves (input_of_table table) (GarpItem garp)) (given : IsGarpVerdict (records_of table) (cost_of table) garp) where
+module _ (table : Observations) (valid : IsTable table) (garp : Garp) (proves : ProvesGarp (records_of table) (cost_of table) garp) (given : IsGarpVerdict (records_of table) (cost_of table) garp) where
   -- the verdict on the axiom, and then items that can be read back
   pub garp_first_read_back : (count : ℕ) (P : ℕ → Item → Type 0) (others : List Item) → AreAnswered count P others → ((k : ℕ) (item : Item) → P k item → FitsKind Table item)
       → IsReadBack Table (garp_first garp others)
   garp_first_read_back count P others answered fit =
       text_read_back Table (garp_first garp others) (record {
         of_kind = refl;
-        version = refl;
-        items = all_more (FitsKind Table) (GarpItem garp) others (tt, garp_fits (records_of table) (cost_of table) valid.few_records garp proves given)
+        levels = inl (refl, refl);
+        items = all_more (FitsKind Table) (GarpItem garp) others (tt, garp_fits (records_of table) valid.few_records (IsWeak (cost_of table) 1 1) (IsStrict (cost_of table) 1 1) garp proves given)
             (λ k d k_in. fit k (slice_index_or others k d) (answered.each k d (omega (arith, k_in, answered.one_each))));
       })

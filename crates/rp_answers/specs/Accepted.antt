@@ -9,9 +9,9 @@ use Rattle.rp_evidence.specs.declared.certificate.Item.{Item}
 use Rattle.rp_evidence.specs.declared.certificate.Item.TheVariants.{Garp as GarpItem}
 use Rattle.rp_evidence.specs.declared.garp.Garp.{Garp}
 
--- the checker accepts the certificate: it finds nothing wrong with any of its items
+-- the checker accepts the certificate: its levels are those of the table, and nothing is wrong with any of its items
 abbrev pub IsAcceptedOn : TableInput → Certificate → Type 0
-IsAcceptedOn input certificate = IsVerdictOn input certificate.items Accepted
+IsAcceptedOn input certificate = IsVerdictOn input certificate.levels certificate.items Accepted
 
 -- it finds nothing wrong with an item that comes after this verdict on the axiom
 abbrev pub PassesAfter : TableInput → Garp → Item → Type 0

@@ -8,44 +8,48 @@ use Rattle.rp_evidence.specs.declared.certificate.Certificate.{Certificate}
 use Rattle.rp_evidence.specs.declared.afriat.AfriatPart.{AfriatPart}
 use Rattle.rp_evidence.specs.declared.efficiency.Efficiency.{Efficiency}
 use Rattle.rp_evidence.specs.declared.garp.Garp.{Garp}
+use Rattle.rp_evidence.specs.declared.certificate.Item.{Item}
 use Rattle.rp_evidence.specs.declared.certificate.Item.TheVariants.{Garp as GarpItem, Afriat as AfriatItem}
 use Rattle.rp_evidence.specs.declared.certificate.Item.TheVariants.{Efficiency as EfficiencyItem}
 use Rattle.rp_evidence.specs.declared.certificate.Item.TheVariants.{Homothetic as HomotheticItem, Quasi as QuasiItem}
 use Rattle.rp_evidence.specs.declared.homothetic.Homothetic.{Homothetic}
 use Rattle.rp_evidence.specs.declared.quasilinear.Quasi.{Quasi}
 use Rattle.rp_evidence.specs.declared.certificate.Kind.TheVariants.{Table}
-use Rattle.rp_afriat.specs.Verdict.{IsAfriatVerdict}
+use Rattle.rp_afriat.specs.Verdict.{IsOwnAfriatVerdict}
 use Rattle.rp_effic.specs.Verdict.{IsEfficiencyVerdict}
-use Rattle.rp_garp.specs.Verdict.{IsGarpVerdict}
+use Rattle.rp_garp.specs.Verdict.{IsOwnGarpVerdict}
 use Rattle.rp_homo.specs.Verdict.{IsHomotheticVerdict}
 use Rattle.rp_quasi.specs.Verdict.{IsQuasilinearVerdict}
-use Rattle.rp_agreement.specs.ReadBack.{IsReadBack}
+use Rattle.rp_agreement.specs.ReadBack.{IsReadBack, table_certificate}
 use Rattle.rp_answers.specs.Accepted.{IsAcceptedOn}
 use Rattle.rp_answers.specs.ReportOrJson.{report_or_json}
 
--- the certificate of a table with these five items
-abbrev pub certificate_of : Garp → AfriatPart → Efficiency → Homothetic → Quasi → Certificate
-certificate_of garp afriat efficiency homothetic quasilinear = record {
-  kind = Table;
-  version = 1;
-  items = GarpItem garp ∷ AfriatItem afriat ∷ EfficiencyItem efficiency ∷ HomotheticItem homothetic
-      ∷ QuasiItem quasilinear ∷ [];
-}
+-- these five items, in order
+abbrev pub five_items : Garp → AfriatPart → Efficiency → Homothetic → Quasi → List Item
+five_items garp afriat efficiency homothetic quasilinear =
+    GarpItem garp ∷ AfriatItem afriat ∷ EfficiencyItem efficiency ∷ HomotheticItem homothetic
+    ∷ QuasiItem quasilinear ∷ []
+
+-- the certificate of a table with these levels, or none, and these five items
+abbrev pub certificate_of : List ℕ → Garp → AfriatPart → Efficiency → Homothetic → Quasi → Certificate
+certificate_of levels garp afriat efficiency homothetic quasilinear =
+    table_certificate levels (five_items garp afriat efficiency homothetic quasilinear)
 
 -- the certificate of what a table says: the verdicts on the generalized axiom of revealed preference (Varian 1982), by
 -- Afriat's theorem (Afriat 1967), on the efficiency index (Afriat 1973), of the homothetic test (Varian 1983) and of
--- the quasilinear test, as they are given; the checker accepts it, and its JSON is read back as it
+-- the quasilinear test, as they are given, the first two by the levels of the observations' own, where they have them;
+-- the checker accepts it, and its JSON is read back as it
 pub record IsAnalysis (input : TableInput) (certificate : Certificate) : Type 0 where
   pub garp : Garp
   pub afriat : AfriatPart
   pub efficiency : Efficiency
   pub homothetic : Homothetic
   pub quasilinear : Quasi
-  pub items : certificate ≡ certificate_of garp afriat efficiency homothetic quasilinear
+  pub items : certificate ≡ certificate_of input.levels garp afriat efficiency homothetic quasilinear
   pub garp_proves : Proves input (GarpItem garp)
-  pub garp_given : IsGarpVerdict input.n input.cost garp
+  pub garp_given : IsOwnGarpVerdict input.n input.levels input.cost garp
   pub afriat_proves : Proves input (AfriatItem afriat)
-  pub afriat_given : IsAfriatVerdict input.n input.cost afriat
+  pub afriat_given : IsOwnAfriatVerdict input.n input.levels input.cost afriat
   pub efficiency_proves : Proves input (EfficiencyItem efficiency)
   pub efficiency_given : IsEfficiencyVerdict input.n input.cost efficiency
   pub homothetic_proves : Proves input (HomotheticItem homothetic)

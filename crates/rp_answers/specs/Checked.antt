@@ -38,6 +38,7 @@ reason_name reason.Least = codes "Least"
 reason_name reason.Dual = codes "Dual"
 reason_name reason.Units = codes "Units"
 reason_name reason.Irrational = codes "Irrational"
+reason_name reason.Levels = codes "Levels"
 
 -- how many values the items leave out, cut off at 2^32 - 1
 abbrev pub withheld_of : List Item → ℕ
@@ -68,7 +69,7 @@ check_status (Rejected item reason place) = status.Rejected
 -- its items proves its verdict
 pub record IsTableCheck (table : Observations) (certificate : Certificate) (s : Status) (text : List ℕ) : Type 0 where
   pub verdict : Verdict
-  pub found : IsVerdictOn (input_of_table table) certificate.items verdict
+  pub found : IsVerdictOn (input_of_table table) certificate.levels certificate.items verdict
   pub proves : verdict ≡ Accepted → All (Proves (input_of_table table)) certificate.items
   pub ends : s ≡ check_status verdict
   pub tells : text ≡ check_line certificate.items verdict

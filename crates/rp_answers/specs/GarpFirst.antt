@@ -1,6 +1,6 @@
 -- A certificate on a table that begins with the verdict on the generalized axiom of revealed preference (Varian 1982),
 -- and has one item for each of several questions under that verdict, in order.
-use Rattle.std.specs.Prelude.{◌≡◌, ℕ, ◌<◌, List, ◌∷◌, length, slice_index_or}
+use Rattle.std.specs.Prelude.{◌≡◌, ℕ, ◌<◌, List, [], ◌∷◌, length, slice_index_or}
 use Rattle.rp_evidence.specs.Input.{TableInput}
 use Rattle.rp_evidence.specs.Proves.{Proves}
 use Rattle.rp_evidence.specs.declared.certificate.Certificate.{Certificate}
@@ -12,9 +12,9 @@ use Rattle.rp_garp.specs.Verdict.{IsGarpVerdict}
 use Rattle.rp_agreement.specs.ReadBack.{IsReadBack}
 use Rattle.rp_answers.specs.Accepted.{IsAcceptedOn}
 
--- the certificate of a table with a verdict on the axiom and then these items
+-- the certificate of a table without levels, with a verdict on the axiom and then these items
 abbrev pub garp_first : Garp → List Item → Certificate
-garp_first garp others = record { kind = Table; version = 1; items = GarpItem garp ∷ others }
+garp_first garp others = record { kind = Table; version = 1; levels = []; items = GarpItem garp ∷ others }
 
 -- one item for each of so many questions: the k-th answers the k-th, from 0
 pub record AreAnswered (count : ℕ) (IsAnswer : ℕ → Item → Type 0) (items : List Item) : Type 0 where

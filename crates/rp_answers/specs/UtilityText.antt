@@ -6,26 +6,26 @@ use Rattle.rp_table.specs.BundleLists.{BundleList}
 use Rattle.rp_table.specs.Cost.{cost_of}
 use Rattle.rp_table.specs.Rows.{row_of, rows_count}
 use Rattle.rp_table.specs.Tables.{Observations, records_of}
-use Rattle.rp_evidence.specs.Afriat.{IsUtility}
+use Rattle.rp_evidence.specs.Afriat.{IsOwnUtility}
 use Rattle.rp_evidence.specs.AfriatEvidence.{multiplier_in, utility_in}
 use Rattle.rp_evidence.specs.Input.{input_of_table}
 use Rattle.rp_evidence.specs.Proves.{Proves}
 use Rattle.rp_evidence.specs.declared.afriat.AfriatPart.{AfriatPart}
 use Rattle.rp_evidence.specs.declared.afriat.AfriatPart.TheVariants.{Model, NoModel, Wide}
 use Rattle.rp_evidence.specs.declared.certificate.Certificate.{Certificate}
-use Rattle.rp_evidence.specs.declared.certificate.Kind.TheVariants.{Table}
 use Rattle.rp_evidence.specs.declared.certificate.Item.TheVariants.{Garp as GarpItem, Afriat as AfriatItem}
 use Rattle.rp_evidence.specs.declared.garp.Garp.{Garp}
 use Rattle.rp_afriat.specs.Bundle.{bundle_cost}
-use Rattle.rp_afriat.specs.Verdict.{IsAfriatVerdict}
-use Rattle.rp_garp.specs.Verdict.{IsGarpVerdict}
+use Rattle.rp_afriat.specs.Verdict.{IsOwnAfriatVerdict}
+use Rattle.rp_garp.specs.Verdict.{IsOwnGarpVerdict}
+use Rattle.rp_agreement.specs.ReadBack.{table_certificate}
 use Rattle.rp_print.specs.ListText.{line_of, ordinal_text}
 use Rattle.rp_report.specs.ReportText.{report_text}
 use Rattle.rp_answers.specs.Accepted.{IsAcceptedOn}
 
--- the certificate of a table with these two items
-abbrev pub first_items : Garp → AfriatPart → Certificate
-first_items garp afriat = record { kind = Table; version = 1; items = GarpItem garp ∷ AfriatItem afriat ∷ [] }
+-- the certificate of a table with these levels, or none, and these two items
+abbrev pub first_items : List ℕ → Garp → AfriatPart → Certificate
+first_items levels garp afriat = table_certificate levels (GarpItem garp ∷ AfriatItem afriat ∷ [])
 
 -- the line of bundle k, with these words
 abbrev pub at_line : ℕ → List ℕ → List ℕ
@@ -36,7 +36,7 @@ at_line k words = line_of (codes "at " ++ ordinal_text k ++ words)
 abbrev pub IsUtilityLine : Observations → AfriatPart → ℕ → List ℕ → List ℕ → Type 0
 IsUtilityLine table (Model numbers) k bundle line =
     (value : ℤ)
-    × IsUtility (records_of table) (cost_of table) (utility_in numbers) (multiplier_in numbers) 1
+    × IsOwnUtility (records_of table) table.levels (cost_of table) (utility_in numbers) (multiplier_in numbers) 1
     (bundle_cost table bundle) value
     × (line ≡ at_line k (codes " value " ++ signed_decimal value))
 IsUtilityLine table (NoModel walk) k bundle line = line ≡ at_line k (codes " none")
@@ -56,9 +56,9 @@ pub record IsUtilityText (table : Observations) (bundles : BundleList) (text : L
   pub afriat : AfriatPart
   pub lines : List ℕ
   pub garp_proves : Proves (input_of_table table) (GarpItem garp)
-  pub garp_given : IsGarpVerdict (records_of table) (cost_of table) garp
+  pub garp_given : IsOwnGarpVerdict (records_of table) table.levels (cost_of table) garp
   pub afriat_proves : Proves (input_of_table table) (AfriatItem afriat)
-  pub afriat_given : IsAfriatVerdict (records_of table) (cost_of table) afriat
-  pub accepted : IsAcceptedOn (input_of_table table) (first_items garp afriat)
+  pub afriat_given : IsOwnAfriatVerdict (records_of table) table.levels (cost_of table) afriat
+  pub accepted : IsAcceptedOn (input_of_table table) (first_items table.levels garp afriat)
   pub all_lines : AreUtilityLines table afriat bundles (rows_count bundles.quantities bundles.goods) lines
-  pub text_is : text ≡ report_text table (first_items garp afriat).items ++ lines
+  pub text_is : text ≡ report_text table (first_items table.levels garp afriat).items ++ lines

@@ -1,15 +1,15 @@
-ghost use Rattle.std.specs.Prelude.{◌≡◌, [], IfOk};
+ghost use Rattle.std.specs.Prelude.{◌≡◌, IfOk};
 ghost use Rattle.rp_evidence.specs.Input.{input_of_table};
 ghost use Rattle.rp_table.specs.Cost.{IsCostsOf};
-ghost use Rattle.rp_answers.specs.Analysis.{IsAnalysis, IsAnalysisText, certificate_of};
+ghost use Rattle.rp_answers.specs.Analysis.{IsAnalysis, IsAnalysisText, five_items};
 
-use crate::shared::report_or_json;
+use crate::shared::{report_or_json, table_certificate};
 use rp_afriat::afriat;
 use rp_effic::efficiency;
-use rp_evidence::{AfriatPart, Certificate, Efficiency, Garp, Homothetic, Item, Kind, Quasi};
+use rp_evidence::{AfriatPart, Certificate, Efficiency, Garp, Homothetic, Item, Quasi};
 use rp_garp::garp;
 use rp_homo::homothetic;
-use rp_num::{NoMemory, Seq};
+use rp_num::NoMemory;
 use rp_quasi::quasilinear;
 use rp_table::{Costs, Table};
 use std::alloc::Global;
@@ -22,7 +22,6 @@ pub fn analysis_text(
     json: bool,
 ) -> Result<Vec<u8>, NoMemory>
     requires of_table { IsCostsOf costs.now table.now }
-    requires no_levels { table.now.levels ≡ [] }
     ensures { IfOk result (λ text. IsAnalysisText json table.now text.items) }
 {
     let certificate = analyse(alloc, table, costs)?;
@@ -33,7 +32,6 @@ pub fn analysis_text(
 /// The certificate of the verdicts on a table.
 fn analyse(alloc: Global, table: &Table, costs: &Costs) -> Result<Certificate, NoMemory>
     requires of_table { IsCostsOf costs.now table.now }
-    requires no_levels { table.now.levels ≡ [] }
     ensures { IfOk result (IsAnalysis (input_of_table table.now)) }
 {
     prove!(table.n() >= 1);
@@ -42,21 +40,22 @@ fn analyse(alloc: Global, table: &Table, costs: &Costs) -> Result<Certificate, N
     let efficiency = efficiency(alloc, costs)?;
     let homothetic = homothetic(alloc, costs)?;
     let quasilinear = quasilinear(alloc, costs)?;
-    let certificate = certificate(alloc, garp, afriat, efficiency, homothetic, quasilinear)?;
+    let items = five_items(alloc, garp, afriat, efficiency, homothetic, quasilinear)?;
+    let certificate = table_certificate(alloc, table, items)?;
     Ok(certificate)
 }
 
-/// The certificate with these five items.
-fn certificate(
+/// These five items, in order.
+fn five_items(
     alloc: Global,
     garp: Garp,
     afriat: AfriatPart,
     efficiency: Efficiency,
     homothetic: Homothetic,
     quasilinear: Quasi,
-) -> Result<Certificate, NoMemory>
-    ensures { IfOk result (λ made. made
-        ≡ certificate_of garp afriat efficiency homothetic quasilinear) }
+) -> Result<Vec<Item>, NoMemory>
+    ensures { IfOk result (λ made. made.items
+        ≡ five_items garp afriat efficiency homothetic quasilinear) }
 {
     let mut items = Vec::new(alloc);
     items.push(Item::Garp(garp))?;
@@ -64,9 +63,5 @@ fn certificate(
     items.push(Item::Efficiency(efficiency))?;
     items.push(Item::Homothetic(homothetic))?;
     items.push(Item::Quasi(quasilinear))?;
-    Ok(Certificate {
-        kind: Kind::Table,
-        version: 1,
-        items: Seq::from_vec(items),
-    })
+    Ok(items)
 }

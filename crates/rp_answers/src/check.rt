@@ -1,4 +1,4 @@
-ghost use Rattle.std.specs.Prelude.{◌≡◌, ◌++◌, [], IfOk, OnOk};
+ghost use Rattle.std.specs.Prelude.{◌≡◌, ◌++◌, IfOk, OnOk};
 ghost use Rattle.rp_evidence.specs.Kinds.{IsCertificateOf};
 ghost use Rattle.rp_evidence.specs.declared.certificate.Kind.TheVariants.{Table as TableKind};
 ghost use Rattle.rp_evidence.specs.declared.certificate.Kind.TheVariants.{Random as RandomKind};
@@ -25,7 +25,6 @@ pub fn check_answer(
     certificate: &Certificate,
 ) -> Result<Answer, NoMemory>
     requires costs { IsCostsOf costs.now table.now }
-    requires no_levels { table.now.levels ≡ [] }
     requires kind { IsCertificateOf TableKind certificate.now }
     ensures { IfOk result (λ answer.
         IsTableCheck table.now certificate.now answer.status answer.text.items) }
@@ -140,5 +139,6 @@ fn name_of(reason: Reason) -> &'static [u8]
         Reason::Dual => b"Dual",
         Reason::Units => b"Units",
         Reason::Irrational => b"Irrational",
+        Reason::Levels => b"Levels",
     }
 }

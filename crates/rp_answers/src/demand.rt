@@ -55,7 +55,7 @@ fn demand_certificate(
     let garp = garp(alloc, costs)?;
     let closure = Closure::of(alloc, costs, Level { num: 1, den: 1 }, Steps::Weak)?;
     let others = demand_items(alloc, table, costs, &garp, &closure, new)?;
-    let made = garp_first(garp, others)?;
+    let made = garp_first(alloc, garp, others)?;
     Ok(made)
 }
 

@@ -58,6 +58,7 @@ fn certificate(alloc: Global, total: u64, evidence: RandomPart) -> Result<Certif
     Ok(Certificate {
         kind: Kind::Random,
         version: 1,
+        levels: Seq::from_vec(Vec::new(alloc)),
         items: Seq::from_vec(items),
     })
 }

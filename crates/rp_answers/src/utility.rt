@@ -1,6 +1,6 @@
 ghost use Rattle.std.specs.Prelude.{◌≡◌, ◌++◌, ◌∷◌, ◌≤◌, [], IfOk, All, codes, length};
 ghost use Rattle.std.specs.Fmt.{signed_decimal};
-ghost use Rattle.rp_afriat.specs.Verdict.{IsAfriatVerdict};
+ghost use Rattle.rp_afriat.specs.Verdict.{IsOwnAfriatVerdict};
 ghost use Rattle.rp_table.specs.Cost.{IsCostsOf, cost_at};
 ghost use Rattle.rp_table.specs.Rows.{rows_count};
 ghost use Rattle.rp_table.specs.Tables.{goods_of};
@@ -9,10 +9,11 @@ ghost use Rattle.rp_answers.specs.UtilityText.{AreUtilityLines, IsUtilityLine, I
 ghost use Rattle.rp_answers.specs.UtilityText.{at_line};
 ghost use Rattle.rp_answers.specs.UtilityText.{first_items};
 
+use crate::shared::table_certificate;
 use rp_afriat::{afriat, utility_at};
-use rp_evidence::{AfriatPart, Certificate, Garp, Item, Kind};
+use rp_evidence::{AfriatPart, Certificate, Garp, Item};
 use rp_garp::garp;
-use rp_num::{NoMemory, Seq};
+use rp_num::NoMemory;
 use rp_print::{Ordinal, Signed, push_after, push_line};
 use rp_report::report;
 use rp_table::{Bundles, Costs, Table};
@@ -26,31 +27,32 @@ pub fn utility_text(
     bundles: &Bundles,
 ) -> Result<Vec<u8>, NoMemory>
     requires of_table { IsCostsOf costs.now table.now }
-    requires no_levels { table.now.levels ≡ [] }
     requires goods { bundles.now.goods ≡ goods_of table.now }
     ensures { IfOk result (λ text. IsUtilityText table.now bundles.now text.items) }
 {
     let garp = garp(alloc, costs)?;
     let afriat = afriat(alloc, costs, &garp)?;
     let lines = utility_lines(alloc, table, costs, &afriat, bundles)?;
-    let certificate = certificate(alloc, garp, afriat)?;
+    let certificate = certificate(alloc, table, garp, afriat)?;
     let mut text = report(alloc, &certificate, table)?;
     text.extend_from_slice(lines.as_slice())?;
     Ok(text)
 }
 
-/// The certificate with these two items.
-fn certificate(alloc: Global, garp: Garp, afriat: AfriatPart) -> Result<Certificate, NoMemory>
-    ensures { IfOk result (λ made. made ≡ first_items garp afriat) }
+/// The certificate of a table with these two items.
+fn certificate(
+    alloc: Global,
+    table: &Table,
+    garp: Garp,
+    afriat: AfriatPart,
+) -> Result<Certificate, NoMemory>
+    ensures { IfOk result (λ made. made ≡ first_items table.now.levels garp afriat) }
 {
     let mut items = Vec::new(alloc);
     items.push(Item::Garp(garp))?;
     items.push(Item::Afriat(afriat))?;
-    Ok(Certificate {
-        kind: Kind::Table,
-        version: 1,
-        items: Seq::from_vec(items),
-    })
+    let made = table_certificate(alloc, table, items)?;
+    Ok(made)
 }
 
 /// A line for each bundle.
@@ -62,9 +64,9 @@ fn utility_lines(
     bundles: &Bundles,
 ) -> Result<Vec<u8>, NoMemory>
     requires of_table { IsCostsOf costs.now table.now }
-    requires no_levels { table.now.levels ≡ [] }
     requires goods { bundles.now.goods ≡ goods_of table.now }
-    requires given { IsAfriatVerdict costs.now.n (cost_at costs.now) evidence.now }
+    requires given { IsOwnAfriatVerdict costs.now.n costs.now.levels (cost_at costs.now)
+        evidence.now }
     ensures { IfOk result (λ text. AreUtilityLines table.now evidence.now bundles.now
         (rows_count bundles.now.quantities bundles.now.goods) text.items) }
 {
@@ -86,8 +88,8 @@ fn utility_line(
     bundle: &[u32],
 ) -> Result<Vec<u8>, NoMemory>
     requires of_table { IsCostsOf costs.now table.now }
-    requires no_levels { table.now.levels ≡ [] }
-    requires given { IsAfriatVerdict costs.now.n (cost_at costs.now) evidence.now }
+    requires given { IsOwnAfriatVerdict costs.now.n costs.now.levels (cost_at costs.now)
+        evidence.now }
     requires goods { length bundle.now ≡ goods_of table.now }
     requires limits { All (λ q. q ≤ LARGEST) bundle.now }
     ensures { IfOk result (λ line. IsUtilityLine table.now evidence.now k bundle.now line.items) }

@@ -3,6 +3,7 @@ use Rattle.std.proofs.Common.{◌≡◌, ◌<◌, ◌+◌, ◌*◌, ℕ, Bool, L
 use Rattle.rp_evidence.specs.Demand.{NewBudget, spending}
 use Rattle.rp_evidence.specs.DemandEvidence.{budget_of, bundle_of}
 use Rattle.rp_evidence.specs.Input.{TableInput}
+use Rattle.rp_evidence.specs.Preference.{IsStrict, IsWeak}
 use Rattle.rp_evidence.specs.declared.demand.DemandPart.{DemandPart}
 use Rattle.rp_evidence.specs.declared.demand.DemandPart.TheVariants.{Bounds, NoModel}
 use Rattle.rp_evidence.specs.declared.demand.GoodBounds.{GoodBounds}
@@ -35,6 +36,6 @@ module _ (input : TableInput) (garp_shown : Bool) (budget : NewBudget) (evidence
       (subst (λ (ys : List ℕ). DemandBoundsFail input garp_shown budget below' ys inner goods r) b
       (subst (λ (zs : List GoodBounds). DemandBoundsFail input garp_shown budget below' strict' inner zs r) d h)))
 
-  pub from_violation : (walk walk' : List ℕ) → evidence ≡ NoModel walk → walk' ≡ walk → ViolationFails input.n input.cost 1 1 walk' r → DemandPartFails input garp_shown budget evidence r
+  pub from_violation : (walk walk' : List ℕ) → evidence ≡ NoModel walk → walk' ≡ walk → ViolationFails input.n (IsWeak input.cost 1 1) (IsStrict input.cost 1 1) walk' r → DemandPartFails input garp_shown budget evidence r
   from_violation walk walk' is a h =
-      subst (λ (p : DemandPart). DemandPartFails input garp_shown budget p r) (sym is) (subst (λ (w : List ℕ). ViolationFails input.n input.cost 1 1 w r) a h)
+      subst (λ (p : DemandPart). DemandPartFails input garp_shown budget p r) (sym is) (subst (λ (w : List ℕ). ViolationFails input.n (IsWeak input.cost 1 1) (IsStrict input.cost 1 1) w r) a h)

@@ -29,7 +29,7 @@ at_least_0 false n m = omega (arith, ints)
 
 module _ (table : Observations) (costs : CostTable) (prices : List ℕ) (m : ℕ) (below : List ℕ) (valid : IsTable table) (valid_costs : IsCostTable costs) (of : IsCostsOf costs table)
     (each_good : length prices ≡ goods_of table) (within : All (λ p. (1 ≤ p) × (p ≤ 9999999)) prices) (spends : m ≤ 1600000000000000)
-    (observed : All (λ t. t < records_of table) below) (few : length below ≤ 256) where
+    (observed : All (λ t. t < records_of table) below) (few : length below ≤ 512) where
   price_small : (t g : ℕ) → t < records_of table → g < goods_of table → price_of table t g ≤ largest_entry
   price_small t g t_in g_in =
       let h = (valid.price_limits (t * goods_of table + g) 0 (omega (arith, mul-add-lt t (goods_of table) g (records_of table) t_in g_in, valid.all_prices))).1 in
@@ -87,7 +87,7 @@ module _ (table : Observations) (costs : CostTable) (prices : List ℕ) (m : ℕ
 
 module _ (table : Observations) (costs : CostTable) (prices : List ℕ) (reached : List ℕ) (valid : IsTable table) (valid_costs : IsCostTable costs) (of : IsCostsOf costs table)
     (each_good : length prices ≡ goods_of table) (within : All (λ p. (1 ≤ p) × (p ≤ 9999999)) prices)
-    (observed : All (λ t. t < records_of table) reached) (few : length reached ≤ 256) where
+    (observed : All (λ t. t < records_of table) reached) (few : length reached ≤ 512) where
   pub welfare_within : IsWithinLimits (welfare_program (input_of_table table) (slice_index prices) reached)
   welfare_within = record {
     rows_at_most = omega (arith, valid.few_goods);

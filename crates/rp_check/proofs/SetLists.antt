@@ -13,7 +13,7 @@ use Rattle.rp_clauses.specs.InnerMarks.{IsMarked}
 use Rattle.rp_check.specs.declared.sets.Sets.{Sets}
 use Rattle.rp_evidence.proofs.Enumerations.{enumerates_few, enumerates_observed, enumerates_same}
 
-pub few_of : (n : ℕ) (P : ℕ → Type 0) (list : List ℕ) → n ≤ 256 → Enumerates n P list → AreFewOf n list
+pub few_of : (n : ℕ) (P : ℕ → Type 0) (list : List ℕ) → n ≤ 512 → Enumerates n P list → AreFewOf n list
 few_of n P list small lists = record {
   observed = enumerates_observed n P list lists;
   few = (let h = enumerates_few n P list lists in omega (arith, h));
@@ -41,5 +41,5 @@ module _ (input : TableInput) (budget : NewBudget) (sets : Sets) (are : AreSets 
       → SetsFail input budget below strict r
   strict_fails r lists not e = rw e (inr (lists_below lists, inl ((λ l. not (back_strictly l)), refl)))
 
-pub few_below : (input : TableInput) (budget : NewBudget) (below : List ℕ) → input.n ≤ 256 → ListsBelow input budget below → AreFewOf input.n below
+pub few_below : (input : TableInput) (budget : NewBudget) (below : List ℕ) → input.n ≤ 512 → ListsBelow input budget below → AreFewOf input.n below
 few_below input budget below small l = few_of input.n (IsBelow input budget) below small l

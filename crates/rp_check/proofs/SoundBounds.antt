@@ -8,6 +8,7 @@ use Rattle.rp_evidence.specs.DemandEvidence.{ProvesDemand, ProvesDemandBounds, P
 use Rattle.rp_evidence.specs.DemandPrograms.{ListsBelow, lower_program, upper_program}
 use Rattle.rp_evidence.specs.Garp.{MeetsGarp}
 use Rattle.rp_evidence.specs.Input.{TableInput}
+use Rattle.rp_evidence.specs.Preference.{IsStrict, IsWeak}
 use Rattle.rp_evidence.specs.Welfare.{IsLowerWelfare}
 use Rattle.rp_evidence.specs.declared.demand.Bound.{Bound}
 use Rattle.rp_evidence.specs.declared.demand.Bound.TheVariants.{Shown, Wide}
@@ -122,7 +123,7 @@ module _ (input : TableInput) (garp_shown : Bool) (sound : IsTrue garp_shown →
   pub demand_proves : (prices : List ℕ) (m : ℕ) (evidence : DemandPart) → DemandFails input garp_shown prices m evidence (Ok tt) → ProvesDemand input prices m evidence
   demand_proves prices m (Bounds below strict inner goods) ((one_each, (fit, priced)), (spent, (bounds, done))) =
       (one_each, demand_bounds_prove (budget_of prices m) below strict inner goods (λ g g_in. (fit g g_in).0) bounds)
-  demand_proves prices m (NoModel walk) (priced, (spent, (violation, done))) = garp_proves input.n input.cost 1 1 (Cycle walk) violation
+  demand_proves prices m (NoModel walk) (priced, (spent, (violation, done))) = garp_proves input.n (IsWeak input.cost 1 1) (IsStrict input.cost 1 1) (Cycle walk) violation
 
   -- ---- welfare
 
@@ -147,4 +148,4 @@ module _ (input : TableInput) (garp_shown : Bool) (sound : IsTrue garp_shown →
       lower_is = lower_proves (slice_index prices) t lower low;
     },
   )
-  welfare_proves prices t (NoWelfare walk) (priced, ((t_in, (violation, one)), done)) = garp_proves input.n input.cost 1 1 (Cycle walk) violation
+  welfare_proves prices t (NoWelfare walk) (priced, ((t_in, (violation, one)), done)) = garp_proves input.n (IsWeak input.cost 1 1) (IsStrict input.cost 1 1) (Cycle walk) violation

@@ -2,7 +2,10 @@
 use Rattle.std.proofs.Common.{◌≡◌, ◌+◌, ◌<◌, ◌≤◌, ◌||◌, ◌⊎◌, ◌∙◌, ℕ, zero, suc, [], ◌∷◌, ◌++◌, List, Bool, true, false, IsTrue, Result, Ok, All, length, take, ap, arith, below_more, inl, inr, refl, slice_index_or, sym, subst}
 use Rattle.std.proofs.Math.Seq.{take-suc}
 use Rattle.std.proofs.lemmas.List.{get_or_read, take_more}
-use Rattle.rp_evidence.specs.Garp.{MeetsGarp}
+use Rattle.rp_evidence.specs.Garp.{HasNoViolation, MeetsGarp}
+use Rattle.rp_evidence.specs.Preference.{IsStrict, IsWeak, StrictByLevels, WeakByLevels}
+use Rattle.rp_evidence.proofs.OwnLevels.{strict_without_levels, weak_without_levels}
+use Rattle.rp_evidence.proofs.SameCosts.{no_violation_same}
 use Rattle.rp_evidence.specs.Input.{TableInput}
 use Rattle.rp_evidence.specs.Kinds.{IsOfKind}
 use Rattle.rp_evidence.specs.Proves.{Proves}
@@ -35,19 +38,29 @@ shows_at_end [] item = or_false (shows_garp item)
     or_false false = refl
 shows_at_end (x ∷ items) item = ap (λ b. shows_garp x || b) (shows_at_end items item) ∙ or_assoc (shows_garp x) (one_shows_garp items) (shows_garp item)
 
+-- no violation by the levels of the observations' own, or by what was spent where they have none
+abbrev pub MeetsByLevels : TableInput → Type 0
+MeetsByLevels input = HasNoViolation input.n (WeakByLevels input.levels input.cost) (StrictByLevels input.levels input.cost)
+
+meets_without : (input : TableInput) → input.levels ≡ [] → MeetsByLevels input → MeetsGarp input.n input.cost 1 1
+meets_without input none meets =
+    no_violation_same input.n (WeakByLevels [] input.cost) (StrictByLevels [] input.cost) (IsWeak input.cost 1 1) (IsStrict input.cost 1 1)
+    (λ s t a b. weak_without_levels input.cost s t) (λ s t a b. strict_without_levels input.cost s t)
+    (subst (λ levels. HasNoViolation input.n (WeakByLevels levels input.cost) (StrictByLevels levels input.cost)) none meets)
+
 module _ (input : TableInput) (positive : (s : ℕ) → s < input.n → 0 < input.cost s s) where
-  pub item_proves : (garp_shown : Bool) → (IsTrue garp_shown → MeetsGarp input.n input.cost 1 1) → (item : Item) → IsOfKind TableKind item → ItemFails input garp_shown item (Ok tt) → Proves input item
-  item_proves garp_shown sound (GarpItem evidence) kind found = garp_proves input.n input.cost 1 1 evidence found
-  item_proves garp_shown sound (AfriatItem evidence) kind found = afriat_proves input.n input.cost evidence found
+  pub item_proves : (garp_shown : Bool) → (IsTrue garp_shown → MeetsByLevels input) → (item : Item) → IsOfKind TableKind item → ItemFails input garp_shown item (Ok tt) → Proves input item
+  item_proves garp_shown sound (GarpItem evidence) kind found = garp_proves input.n (WeakByLevels input.levels input.cost) (StrictByLevels input.levels input.cost) evidence found
+  item_proves garp_shown sound (AfriatItem evidence) kind found = afriat_proves input.n input.levels input.cost evidence found
   item_proves garp_shown sound (EfficiencyItem evidence) kind found = efficiency_proves input.n input.cost positive evidence found
   item_proves garp_shown sound (HomotheticItem evidence) kind found = homothetic_proves input.n input.cost evidence found
   item_proves garp_shown sound (QuasiItem evidence) kind found = quasilinear_proves input.n input.cost evidence found
-  item_proves garp_shown sound (DemandItem prices m evidence) kind found = demand_proves input garp_shown sound prices m evidence found
-  item_proves garp_shown sound (WelfareItem prices of evidence) kind found = welfare_proves input garp_shown sound prices of evidence found
+  item_proves garp_shown sound (DemandItem prices m evidence) kind found = demand_proves input garp_shown (λ shown. meets_without input found.0 (sound shown)) prices m evidence found.1.0
+  item_proves garp_shown sound (WelfareItem prices of evidence) kind found = welfare_proves input garp_shown (λ shown. meets_without input found.0 (sound shown)) prices of evidence found.1.0
   item_proves garp_shown sound (RandomItem total evidence) kind found = absurd kind
 
   -- an item that shows the axiom by ranks, and proves it
-  shown_by : (item : Item) → IsTrue (shows_garp item) → Proves input item → MeetsGarp input.n input.cost 1 1
+  shown_by : (item : Item) → IsTrue (shows_garp item) → Proves input item → MeetsByLevels input
   shown_by (GarpItem (Ranks ranks)) is proves = proves.1
   shown_by (GarpItem (Cycle walk)) is proves = absurd (cc)
   shown_by (AfriatItem evidence) is proves = absurd (cc)
@@ -61,7 +74,7 @@ module _ (input : TableInput) (positive : (s : ℕ) → s < input.n → 0 < inpu
   -- all of the first m items prove their verdicts, and the axiom holds where one of them shows it
   module _ (items : List Item) (kinds : All (IsOfKind TableKind) items) where
     pub all_prove : (m : ℕ) → m ≤ length items → ((k : ℕ) → k < m → ItemFailsAt input items k (Ok tt))
-        → ((k : ℕ) (d : Item) → k < m → Proves input (slice_index_or items k d)) × (IsTrue (one_shows_garp (take m items)) → MeetsGarp input.n input.cost 1 1)
+        → ((k : ℕ) (d : Item) → k < m → Proves input (slice_index_or items k d)) × (IsTrue (one_shows_garp (take m items)) → MeetsByLevels input)
     all_prove zero within found = ((λ k d below. absurd (omega arith)), (λ is. absurd (cc)))
     all_prove (suc m) within found =
         let before = all_prove m (omega arith) (λ k below. found k (omega arith)) in
@@ -74,7 +87,7 @@ module _ (input : TableInput) (positive : (s : ℕ) → s < input.n → 0 < inpu
         one_more : (m : ℕ) → m < length items → one_shows_garp (take (suc m) items) ≡ (one_shows_garp (take m items) || shows_garp (slice_index_or items m any_item))
         one_more m l = ap one_shows_garp (take-suc items m any_item l) ∙ shows_at_end (take m items) (slice_index_or items m any_item)
 
-        meets : (IsTrue (one_shows_garp (take m items)) → MeetsGarp input.n input.cost 1 1) → Proves input (slice_index_or items m any_item) → (one_shows_garp (take m items) ≡ true) ⊎ (shows_garp (slice_index_or items m any_item) ≡ true) → MeetsGarp input.n input.cost 1 1
+        meets : (IsTrue (one_shows_garp (take m items)) → MeetsByLevels input) → Proves input (slice_index_or items m any_item) → (one_shows_garp (take m items) ≡ true) ⊎ (shows_garp (slice_index_or items m any_item) ≡ true) → MeetsByLevels input
         meets sound proves (inl is) = sound is
         meets sound proves (inr is) = shown_by (slice_index_or items m any_item) is proves
 

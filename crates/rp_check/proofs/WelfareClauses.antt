@@ -4,6 +4,7 @@ use Rattle.std.specs.Int.RustNames.{unsigned_abs}
 use Rattle.rp_evidence.specs.BoundEvidence.{BoundHolds}
 use Rattle.rp_evidence.specs.Demand.{spending}
 use Rattle.rp_evidence.specs.Input.{TableInput}
+use Rattle.rp_evidence.specs.Preference.{IsStrict, IsWeak}
 use Rattle.rp_evidence.specs.Welfare.{EqualsOrReaches, ListsReached, welfare_program}
 use Rattle.rp_evidence.specs.declared.demand.Bound.{Bound}
 use Rattle.rp_evidence.specs.declared.demand.WelfarePart.{WelfarePart}
@@ -61,7 +62,7 @@ module _ (input : TableInput) (garp_shown : Bool) (prices : List ℕ) (t : ℕ) 
       from_part (Bounds upper at lower) is
       (then_last (Unless ((t < input.n) × (at < input.n)) Number 0) (WelfareBoundsFail input garp_shown (slice_index prices) t upper at lower) r (t_in, at_in) h)
 
-  pub from_violation : (walk walk' : List ℕ) → evidence ≡ NoModel walk → walk' ≡ walk → InOrder (Unless (t < input.n) Number 0 ∷ ViolationFails input.n input.cost 1 1 walk' ∷ []) r
+  pub from_violation : (walk walk' : List ℕ) → evidence ≡ NoModel walk → walk' ≡ walk → InOrder (Unless (t < input.n) Number 0 ∷ ViolationFails input.n (IsWeak input.cost 1 1) (IsStrict input.cost 1 1) walk' ∷ []) r
       → WelfareFails input garp_shown prices t evidence r
   from_violation walk walk' is same h =
-      from_part (NoModel walk) is (subst (λ (w : List ℕ). InOrder (Unless (t < input.n) Number 0 ∷ ViolationFails input.n input.cost 1 1 w ∷ []) r) same h)
+      from_part (NoModel walk) is (subst (λ (w : List ℕ). InOrder (Unless (t < input.n) Number 0 ∷ ViolationFails input.n (IsWeak input.cost 1 1) (IsStrict input.cost 1 1) w ∷ []) r) same h)

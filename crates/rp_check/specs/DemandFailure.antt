@@ -9,6 +9,7 @@ use Rattle.rp_evidence.specs.Demand.{FractionBundle, IsBelow, IsStrictlyBelow, N
 use Rattle.rp_evidence.specs.DemandEvidence.{budget_of, bundle_of}
 use Rattle.rp_evidence.specs.DemandPrograms.{ListsBelow, ListsStrictlyBelow, lower_program, upper_program}
 use Rattle.rp_evidence.specs.Input.{TableInput}
+use Rattle.rp_evidence.specs.Preference.{IsStrict, IsWeak}
 use Rattle.rp_evidence.specs.declared.demand.DemandPart.{DemandPart}
 use Rattle.rp_evidence.specs.declared.demand.DemandPart.TheVariants.{Bounds, NoModel}
 use Rattle.rp_evidence.specs.declared.demand.GoodBounds.{GoodBounds}
@@ -69,7 +70,8 @@ DemandBoundsFail input garp_shown budget below strict inner goods = InOrder (
 abbrev pub DemandPartFails : TableInput → Bool → NewBudget → DemandPart → Finding
 DemandPartFails input garp_shown budget (Bounds below strict inner goods) =
     DemandBoundsFail input garp_shown budget below strict inner goods
-DemandPartFails input garp_shown budget (NoModel walk) = ViolationFails input.n input.cost 1 1 walk
+DemandPartFails input garp_shown budget (NoModel walk) =
+    ViolationFails input.n (IsWeak input.cost 1 1) (IsStrict input.cost 1 1) walk
 
 -- An item on demand: the new prices, what is spent at them, and then its part.
 abbrev pub DemandFails : TableInput → Bool → List ℕ → ℕ → DemandPart → Finding

@@ -9,7 +9,9 @@ use Rattle.rp_clauses.specs.GarpFailure.{GarpFails}
 use Rattle.rp_clauses.specs.HomotheticFailure.{HomotheticFails}
 use Rattle.rp_clauses.specs.QuasilinearFailure.{QuasilinearFails}
 use Rattle.rp_check.specs.WelfareFailure.{WelfareFails}
+use Rattle.rp_check.specs.LevelsFailure.{SomeLevelsFail}
 use Rattle.rp_evidence.specs.Input.{TableInput}
+use Rattle.rp_evidence.specs.Preference.{StrictByLevels, WeakByLevels}
 use Rattle.rp_evidence.specs.declared.certificate.Item.{Item}
 use Rattle.rp_evidence.specs.declared.certificate.Item.TheVariants.{Garp as GarpItem, Afriat as AfriatItem}
 use Rattle.rp_evidence.specs.declared.certificate.Item.TheVariants.{Efficiency as EfficiencyItem}
@@ -29,13 +31,16 @@ one_shows_garp [] = false
 one_shows_garp (item ∷ rest) = shows_garp item || one_shows_garp rest
 
 -- What is found wrong with an item; `garp_shown` says whether an item before it shows by ranks that the axiom holds.
--- A certificate on a table has no random item.
+-- Demand and welfare are about tables without levels. A certificate on a table has no random item.
 abbrev pub ItemFails : TableInput → Bool → Item → Finding
-ItemFails input garp_shown (GarpItem evidence) = GarpFails input.n input.cost 1 1 evidence
-ItemFails input garp_shown (AfriatItem evidence) = AfriatFails input.n input.cost evidence
+ItemFails input garp_shown (GarpItem evidence) =
+    GarpFails input.n (WeakByLevels input.levels input.cost) (StrictByLevels input.levels input.cost) evidence
+ItemFails input garp_shown (AfriatItem evidence) = AfriatFails input.n input.levels input.cost evidence
 ItemFails input garp_shown (EfficiencyItem evidence) = EfficiencyFails input.n input.cost evidence
 ItemFails input garp_shown (HomotheticItem evidence) = HomotheticFails input.n input.cost evidence
 ItemFails input garp_shown (QuasiItem evidence) = QuasilinearFails input.n input.cost evidence
-ItemFails input garp_shown (DemandItem prices m evidence) = DemandFails input garp_shown prices m evidence
-ItemFails input garp_shown (WelfareItem prices of evidence) = WelfareFails input garp_shown prices of evidence
+ItemFails input garp_shown (DemandItem prices m evidence) =
+    InOrder (SomeLevelsFail input.levels ∷ DemandFails input garp_shown prices m evidence ∷ [])
+ItemFails input garp_shown (WelfareItem prices of evidence) =
+    InOrder (SomeLevelsFail input.levels ∷ WelfareFails input garp_shown prices of evidence ∷ [])
 ItemFails input garp_shown (RandomItem total evidence) = InOrder []

@@ -2,5 +2,6 @@ pub mod CheckVerdict
 pub mod DemandFailure
 pub mod InnerSets
 pub mod ItemFailure
+pub mod LevelsFailure
 pub mod RandomVerdict
 pub mod WelfareFailure

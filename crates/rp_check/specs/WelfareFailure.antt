@@ -6,6 +6,7 @@ use Rattle.rp_clauses.specs.WalkFailure.{ViolationFails}
 use Rattle.rp_evidence.specs.BoundEvidence.{BoundHolds}
 use Rattle.rp_evidence.specs.Demand.{spending}
 use Rattle.rp_evidence.specs.Input.{TableInput}
+use Rattle.rp_evidence.specs.Preference.{IsStrict, IsWeak}
 use Rattle.rp_evidence.specs.Welfare.{EqualsOrReaches, ListsReached, welfare_program}
 use Rattle.rp_evidence.specs.declared.demand.Bound.{Bound}
 use Rattle.rp_evidence.specs.declared.demand.WelfarePart.{WelfarePart}
@@ -41,7 +42,7 @@ WelfarePartFails input garp_shown prices t (Bounds upper at lower) = InOrder (
     ∷ WelfareBoundsFail input garp_shown prices t upper at lower
     ∷ [])
 WelfarePartFails input garp_shown prices t (NoModel walk) = InOrder (
-    Unless (t < input.n) Number 0 ∷ ViolationFails input.n input.cost 1 1 walk ∷ [])
+    Unless (t < input.n) Number 0 ∷ ViolationFails input.n (IsWeak input.cost 1 1) (IsStrict input.cost 1 1) walk ∷ [])
 
 -- An item on welfare: the new prices, and then its part.
 abbrev pub WelfareFails : TableInput → Bool → List ℕ → ℕ → WelfarePart → Finding

@@ -15,8 +15,9 @@ use rp_clauses::bound::bound_holds;
 use rp_clauses::input::Input;
 use rp_clauses::prices::{check_expenditure, check_prices};
 use rp_clauses::reach::ROOM;
+use rp_clauses::standard::WHOLE;
 use rp_clauses::walk::check_violation;
-use rp_evidence::{Bound, DemandPart, Failure, GoodBounds, Level, Point, Reason};
+use rp_evidence::{Bound, DemandPart, Failure, GoodBounds, Point, Reason};
 use rp_farkas::Measure;
 use rp_patch::fails;
 use rp_table::NewPrices;
@@ -55,11 +56,7 @@ pub fn check_demand(
             inner,
             goods.as_slice(),
         ),
-        DemandPart::NoModel(walk) => check_violation(
-            input,
-            Level { num: 1, den: 1 },
-            walk.as_slice(),
-        ),
+        DemandPart::NoModel(walk) => check_violation(input, WHOLE, walk.as_slice()),
     }
 }
 

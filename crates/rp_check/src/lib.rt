@@ -5,6 +5,7 @@ mod bounds;
 mod certificate;
 mod demand;
 mod item;
+mod levels;
 mod random;
 mod sets;
 mod verdict;

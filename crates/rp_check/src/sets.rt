@@ -9,7 +9,8 @@ ghost use Rattle.rp_table.specs.Tables.{records_of};
 
 use rp_clauses::input::Input;
 use rp_clauses::reach::{ROOM, Way, is_marked_list, spread};
-use rp_evidence::{Failure, Level, Reason};
+use rp_clauses::standard::WHOLE;
+use rp_evidence::{Failure, Reason};
 use rp_patch::fails;
 use rp_table::NewPrices;
 
@@ -95,7 +96,7 @@ fn some_strict(input: &Input<'_>, marks: &[bool], v: u32) -> bool
         × IsMarked marks.now u × IsStrict (cost_of input.now.table.now) 1 1 u v) }
 {
     for u in 0..input.n() {
-        if marks[u as usize] && input.is_strict(Level { num: 1, den: 1 }, u, v) {
+        if marks[u as usize] && input.is_strict(WHOLE, u, v) {
             return true;
         }
     }

@@ -7,6 +7,7 @@ ghost use Rattle.rp_check.specs.WelfareFailure.{IsNotAboveAt, LowerHolds};
 ghost use Rattle.rp_check.specs.WelfareFailure.{WelfareBoundsFail, WelfareFails, WelfarePartFails};
 ghost use Rattle.rp_evidence.specs.BoundEvidence.{BoundHolds};
 ghost use Rattle.rp_evidence.specs.Input.{input_of_table};
+ghost use Rattle.rp_evidence.specs.Preference.{IsStrict, IsWeak};
 ghost use Rattle.rp_evidence.specs.Welfare.{EqualsOrReaches, welfare_program};
 ghost use Rattle.rp_evidence.specs.declared.failure.Reason.TheVariants.{Least as LeastReason};
 ghost use Rattle.rp_evidence.specs.declared.failure.Reason.TheVariants.{Number};
@@ -19,8 +20,9 @@ use rp_clauses::bound::bound_holds;
 use rp_clauses::input::Input;
 use rp_clauses::prices::check_prices;
 use rp_clauses::reach::{ROOM, Way, mark_only, spread, write_marked};
+use rp_clauses::standard::WHOLE;
 use rp_clauses::walk::check_violation;
-use rp_evidence::{Bound, Failure, Level, Reason, WelfarePart};
+use rp_evidence::{Bound, Failure, Reason, WelfarePart};
 use rp_farkas::Measure;
 use rp_patch::fails;
 use rp_table::NewPrices;
@@ -58,13 +60,15 @@ pub fn check_welfare(
 fn check_no_model(input: &Input<'_>, t: u32, walk: &[u32]) -> Result<(), Failure>
     ensures { InOrder (
         Unless (t < records_of input.now.table.now) Number 0
-        ∷ ViolationFails (records_of input.now.table.now) (cost_of input.now.table.now) 1 1 walk.now
+        ∷ ViolationFails (records_of input.now.table.now)
+        (IsWeak (cost_of input.now.table.now) 1 1)
+        (IsStrict (cost_of input.now.table.now) 1 1) walk.now
         ∷ []) result }
 {
     if t >= input.n() {
         return fails(Reason::Number, 0);
     }
-    check_violation(input, Level { num: 1, den: 1 }, walk)
+    check_violation(input, WHOLE, walk)
 }
 
 /// Checks the upper bound and where it stands, and then the lower bound.

@@ -1,13 +1,13 @@
 -- What is found nothing wrong with proves its verdict.
 use Rattle.std.proofs.Common.{◌≡◌, ◌*◌, ◌-◌, ◌<◌, ◌≤◌, ℕ, [], ◌∷◌, List, length, Ok, arith, inl, inr, refl}
 use Rattle.std.proofs.Math.Nat.{lt_of_mul-lt-mul_right, mul-le-mul_left}
-use Rattle.rp_evidence.specs.AfriatEvidence.{ProvesAfriat}
+use Rattle.rp_evidence.specs.AfriatEvidence.{ProvesOwnAfriat}
 use Rattle.rp_evidence.specs.Efficiency.{BoundsFromAbove, FailsGarp, IsEfficiencyIndex, ProvesEfficiency}
 use Rattle.rp_evidence.specs.Garp.{ProvesOfPreference, ViolatesByPlaces}
 use Rattle.rp_evidence.specs.Homothetic.{BoundProducts, EndsBelow, ProvesHomothetic, next_costs, own_costs}
-use Rattle.rp_evidence.specs.Preference.{IsLevel, IsStrict, IsWeak}
+use Rattle.rp_evidence.specs.Preference.{IsLevel, IsStrict, IsWeak, StrictByLevels, WeakByLevels}
 use Rattle.rp_evidence.specs.Quasilinear.{BoundSteps, ProvesQuasilinear}
-use Rattle.rp_evidence.specs.Ranks.{OrderStrictSteps, RespectLevel}
+use Rattle.rp_evidence.specs.Ranks.{OrderStrictSteps, RespectPreference}
 use Rattle.rp_evidence.specs.Walk.{AnyStep, IsClosedWalk}
 use Rattle.rp_evidence.specs.declared.afriat.AfriatPart.{AfriatPart}
 use Rattle.rp_evidence.specs.declared.afriat.AfriatPart.TheVariants.{Model, NoModel, Wide}
@@ -44,30 +44,29 @@ module _ (n : ℕ) (step : ℕ → ℕ → Type 0) (walk : List ℕ) (closed : C
   pub is_closed_walk : IsClosedWalk n step walk
   is_closed_walk = (violates_by_places n step AnyStep walk (by_places AnyStep (0, omega (arith, closed.0), tt))).0
 
+pub garp_proves : (n : ℕ) (weak strict : ℕ → ℕ → Type 0) (evidence : Garp) → GarpFails n weak strict evidence (Ok tt) → ProvesOfPreference n weak strict evidence
+garp_proves n weak strict (Ranks ranks) (one_each, (respect, done)) =
+    let r : RespectPreference n weak strict ranks = record {
+      one_each = one_each;
+      weak_never_rises = λ s t s_in t_in. (respect s s_in t t_in).0;
+      strict_falls = λ s t s_in t_in. (respect s s_in t t_in).1;
+    } in
+    (r, no_violation_under_ranks n weak strict ranks r)
+garp_proves n weak strict (Cycle walk) (closed, (weak_steps, (strict_step, done))) =
+    violates_by_places n weak strict walk (by_places n weak walk closed weak_steps strict strict_step)
+
+pub afriat_proves : (n : ℕ) (levels : List ℕ) (c : ℕ → ℕ → ℕ) (evidence : AfriatPart) → AfriatFails n levels c evidence (Ok tt) → ProvesOwnAfriat n levels c evidence
+afriat_proves n levels c (Model numbers) (one_each, (fit, (allow, done))) = (
+  one_each,
+  record {
+    at_least_one = λ s s_in. (fit s s_in).0;
+    none_above = λ s t s_in t_in. allow s s_in t t_in;
+  },
+)
+afriat_proves n levels c (NoModel walk) found = garp_proves n (WeakByLevels levels c) (StrictByLevels levels c) (Cycle walk) found
+afriat_proves n levels c (Wide at) found = tt
+
 module _ (n : ℕ) (c : ℕ → ℕ → ℕ) where
-  pub garp_proves : (num den : ℕ) (evidence : Garp) → GarpFails n c num den evidence (Ok tt) → ProvesOfPreference n (IsWeak c num den) (IsStrict c num den) evidence
-  garp_proves num den (Ranks ranks) (one_each, (respect, done)) =
-      let r : RespectLevel n c num den ranks = record {
-        one_each = one_each;
-        weak_never_rises = λ s t s_in t_in. (respect s s_in t t_in).0;
-        strict_falls = λ s t s_in t_in. (respect s s_in t t_in).1;
-      } in
-      (r, no_violation_under_ranks n (IsWeak c num den) (IsStrict c num den) ranks r)
-  garp_proves num den (Cycle walk) (closed, (weak, (strict, done))) =
-      violates_by_places n (IsWeak c num den) (IsStrict c num den) walk
-      (by_places n (IsWeak c num den) walk closed weak (IsStrict c num den) strict)
-
-  pub afriat_proves : (evidence : AfriatPart) → AfriatFails n c evidence (Ok tt) → ProvesAfriat n c evidence
-  afriat_proves (Model numbers) (one_each, (fit, (allow, done))) = (
-    one_each,
-    record {
-      at_least_one = λ s s_in. (fit s s_in).0;
-      none_above = λ s t s_in t_in. allow s s_in t t_in;
-    },
-  )
-  afriat_proves (NoModel walk) found = garp_proves 1 1 (Cycle walk) found
-  afriat_proves (Wide at) found = tt
-
   pub quasilinear_proves : (evidence : Quasi) → QuasilinearFails n c evidence (Ok tt) → ProvesQuasilinear n c evidence
   quasilinear_proves (Values values) (one_each, (fit, (bound, done))) =
       let b : BoundSteps n c values = record { one_each = one_each; each = λ t s t_in s_in. bound t t_in s s_in } in
@@ -98,7 +97,7 @@ module _ (n : ℕ) (c : ℕ → ℕ → ℕ) where
   homothetic_proves (Withheld steps from to) found = tt
 
   module _ (positive : (s : ℕ) → s < n → 0 < c s s) (num den : ℕ) (level : IsLevel num den) where
-    ordered : (ranks : List ℕ) → OrderingFails n c num den ranks (Ok tt) → OrderStrictSteps n c num den ranks
+    ordered : (ranks : List ℕ) → OrderingFails n (IsStrict c num den) ranks (Ok tt) → OrderStrictSteps n c num den ranks
     ordered ranks (one_each, (orders, done)) = record {
       one_each = one_each;
       step_falls = λ s t s_in t_in. orders s s_in t t_in;
@@ -126,7 +125,7 @@ module _ (n : ℕ) (c : ℕ → ℕ → ℕ) where
     above_fails walk (inr (other, (closed, (weak, done)))) p q high more =
         (walk, weak_cycle_violates n num den p q c walk positive more (is_closed_walk n (IsWeak c num den) walk closed weak))
 
-    is_index : (below above : List ℕ) → OrderingFails n c num den below (Ok tt) → AboveFails n c num den above (Ok tt) → IsEfficiencyIndex n c num den
+    is_index : (below above : List ℕ) → OrderingFails n (IsStrict c num den) below (Ok tt) → AboveFails n c num den above (Ok tt) → IsEfficiencyIndex n c num den
     is_index below above orders bounds = record {
       level = level;
       holds_below = λ p q lower less walk. ordering_ranks_exclude n num den p q c below walk positive less (ordered below orders);
@@ -138,5 +137,5 @@ module _ (n : ℕ) (c : ℕ → ℕ → ℕ) where
     index = is_index positive evidence.level.num evidence.level.den level evidence.below evidence.above orders bounds;
     below = ordered positive evidence.level.num evidence.level.den level evidence.below orders;
     above = bounded positive evidence.level.num evidence.level.den level evidence.above bounds;
-    at = garp_proves evidence.level.num evidence.level.den evidence.at at;
+    at = garp_proves n (IsWeak c evidence.level.num evidence.level.den) (IsStrict c evidence.level.num evidence.level.den) evidence.at at;
   }

@@ -5,4 +5,5 @@ pub mod HomotheticFailure
 pub mod InnerMarks
 pub mod PricesFailure
 pub mod QuasilinearFailure
+pub mod Standards
 pub mod WalkFailure

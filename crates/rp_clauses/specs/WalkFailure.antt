@@ -2,7 +2,6 @@
 -- violations: Varian 1982).
 use Rattle.std.specs.Prelude.{◌≡◌, ◌+◌, ◌-◌, ◌<◌, ℕ, List, [], ◌∷◌, length, slice_index}
 use Rattle.rp_patch.specs.Clauses.{Finding, Unless, InOrder, FirstUnless}
-use Rattle.rp_evidence.specs.Preference.{IsStrict, IsWeak}
 use Rattle.rp_evidence.specs.declared.failure.Reason.TheVariants.{Shape, Number, NotClosed, NotWeak, NoStrict}
 
 -- The k-th step of a walk, from 0, stands in a relation.
@@ -21,16 +20,15 @@ ClosedWalkFails n walk = InOrder (
     ∷ Unless (slice_index walk 0 ≡ slice_index walk (length walk - 1)) NotClosed 0
     ∷ [])
 
--- Each step is weak at the level num/den.
-abbrev pub WeakStepsFail : (ℕ → ℕ → ℕ) → ℕ → ℕ → List ℕ → Finding
-WeakStepsFail c num den walk = FirstUnless (length walk - 1) (AtStep (IsWeak c num den) walk) NotWeak
+-- Each step is weak.
+abbrev pub WeakStepsFail : (ℕ → ℕ → Type 0) → List ℕ → Finding
+WeakStepsFail weak walk = FirstUnless (length walk - 1) (AtStep weak walk) NotWeak
 
--- Some step is strict at the level num/den.
-abbrev pub StrictStepFails : (ℕ → ℕ → ℕ) → ℕ → ℕ → List ℕ → Finding
-StrictStepFails c num den walk =
-    Unless ((k : ℕ) × (k < length walk - 1) × AtStep (IsStrict c num den) walk k) NoStrict 0
+-- Some step is strict.
+abbrev pub StrictStepFails : (ℕ → ℕ → Type 0) → List ℕ → Finding
+StrictStepFails strict walk = Unless ((k : ℕ) × (k < length walk - 1) × AtStep strict walk k) NoStrict 0
 
--- A violation at the level num/den.
-abbrev pub ViolationFails : ℕ → (ℕ → ℕ → ℕ) → ℕ → ℕ → List ℕ → Finding
-ViolationFails n c num den walk = InOrder (
-    ClosedWalkFails n walk ∷ WeakStepsFail c num den walk ∷ StrictStepFails c num den walk ∷ [])
+-- A violation by a preference.
+abbrev pub ViolationFails : ℕ → (ℕ → ℕ → Type 0) → (ℕ → ℕ → Type 0) → List ℕ → Finding
+ViolationFails n weak strict walk = InOrder (
+    ClosedWalkFails n walk ∷ WeakStepsFail weak walk ∷ StrictStepFails strict walk ∷ [])

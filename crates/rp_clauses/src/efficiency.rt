@@ -5,6 +5,7 @@ ghost use Rattle.rp_table.specs.Tables.{records_of};
 
 use crate::garp::{check_garp, check_ordering_ranks};
 use crate::input::Input;
+use crate::standard::Standard;
 use crate::walk::{check_closed_walk, check_weak_steps};
 use rp_evidence::{Efficiency, Failure, Garp, Level, Reason};
 use rp_patch::fails;
@@ -26,7 +27,7 @@ fn check_above(input: &Input<'_>, level: Level, walk: &[u32]) -> Result<(), Fail
         return Ok(());
     }
     check_closed_walk(input, walk)?;
-    check_weak_steps(input, level, walk)
+    check_weak_steps(input, Standard::At(level), walk)
 }
 
 /// Checks the ranks below the level, the walk above it and the evidence at it, in this order.
@@ -42,9 +43,9 @@ fn check_level(
     ensures { LevelFails (records_of input.now.table.now) (cost_of input.now.table.now)
         level.num level.den below.now above_walk.now at.now result }
 {
-    check_ordering_ranks(input, level, below)?;
+    check_ordering_ranks(input, Standard::At(level), below)?;
     check_above(input, level, above_walk)?;
-    check_garp(input, level, at)
+    check_garp(input, Standard::At(level), at)
 }
 
 /// Checks evidence for the critical cost efficiency index (Afriat 1973). The level need not be in lowest terms.

@@ -1,12 +1,13 @@
 ghost use Rattle.std.specs.Prelude.{◌≡◌, ◌<◌, ◌≤◌, ◌*◌, ◌^◌, ◌↔◌, ℕ, IsTrue};
 ghost use Rattle.std.specs.Int.RustNames.{unsigned_abs};
-ghost use Rattle.rp_evidence.specs.Preference.{IsLevel, IsStrict, IsWeak};
+ghost use Rattle.rp_clauses.specs.AfriatFailure.{own_gap};
+ghost use Rattle.rp_clauses.specs.Standards.{IsNarrow, StrictUnder, WeakUnder};
 ghost use Rattle.rp_evidence.specs.Quasilinear.{step_sum};
 ghost use Rattle.rp_table.specs.Cost.{IsCostsOf, cost_of};
 ghost use Rattle.rp_table.specs.Tables.{records_of};
 ghost use Rattle.rp_table.specs.declared.TheConstants.{RECORDS};
 
-use rp_evidence::Level;
+use crate::standard::Standard;
 use rp_table::{Costs, Table};
 
 /// What items are checked against: a table with its costs.
@@ -58,30 +59,47 @@ impl<'a> Input<'a> {
         i128::from(self.cost(t, s)) - i128::from(self.cost(t, t))
     }
 
-    /// Whether `s` is weakly preferred to `t` at the level.
-    pub fn is_weak(&self, level: Level, s: u32, t: u32) -> bool
-        requires num { level.num < 2 ^ 51 }
-        requires den { level.den < 2 ^ 51 }
+    /// What the bundle of `t` costs at the prices of `s` above what `s` is held to, in the scale of the levels.
+    pub fn gap(&self, s: u32, t: u32) -> i64
         requires from { s < records_of self.now.table.now }
         requires to { t < records_of self.now.table.now }
-        ensures { IsTrue result ↔ IsWeak (cost_of self.now.table.now) level.num level.den s t }
+        ensures exact { result
+            ≡ own_gap self.now.table.now.levels (cost_of self.now.table.now) s t }
+        ensures small { unsigned_abs result ≤ 2 ^ 61 }
     {
-        self.scaled_cost(level.den, s, t) <= self.scaled_cost(level.num, s, s)
+        self.costs.gap(s, t)
     }
 
-    /// Whether `s` is strictly preferred to `t` at the level.
-    pub fn is_strict(&self, level: Level, s: u32, t: u32) -> bool
-        requires num { level.num < 2 ^ 51 }
-        requires den { level.den < 2 ^ 51 }
+    /// Whether `s` is weakly preferred to `t`.
+    pub fn is_weak(&self, standard: Standard, s: u32, t: u32) -> bool
+        requires narrow { IsNarrow standard }
         requires from { s < records_of self.now.table.now }
         requires to { t < records_of self.now.table.now }
-        ensures { IsTrue result ↔ IsStrict (cost_of self.now.table.now) level.num level.den s t }
+        ensures { IsTrue result
+            ↔ WeakUnder standard self.now.table.now.levels (cost_of self.now.table.now) s t }
     {
-        self.scaled_cost(level.den, s, t) < self.scaled_cost(level.num, s, s)
+        match standard {
+            Standard::At(level) => self.scaled(level.den, s, t) <= self.scaled(level.num, s, s),
+            Standard::Own => self.gap(s, t) <= 0,
+        }
+    }
+
+    /// Whether `s` is strictly preferred to `t`.
+    pub fn is_strict(&self, standard: Standard, s: u32, t: u32) -> bool
+        requires narrow { IsNarrow standard }
+        requires from { s < records_of self.now.table.now }
+        requires to { t < records_of self.now.table.now }
+        ensures { IsTrue result
+            ↔ StrictUnder standard self.now.table.now.levels (cost_of self.now.table.now) s t }
+    {
+        match standard {
+            Standard::At(level) => self.scaled(level.den, s, t) < self.scaled(level.num, s, s),
+            Standard::Own => self.gap(s, t) < 0,
+        }
     }
 
     /// A cost times a part of a level.
-    fn scaled_cost(&self, by: u64, s: u32, t: u32) -> u128
+    fn scaled(&self, by: u64, s: u32, t: u32) -> u128
         requires by { by < 2 ^ 51 }
         requires prices { s < records_of self.now.table.now }
         requires bundle { t < records_of self.now.table.now }

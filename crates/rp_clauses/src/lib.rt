@@ -11,4 +11,5 @@ pub mod input;
 pub mod prices;
 pub mod quasilinear;
 pub mod reach;
+pub mod standard;
 pub mod walk;

@@ -5,11 +5,11 @@ ghost use Rattle.rp_table.specs.Cost.{cost_of};
 ghost use Rattle.rp_table.specs.Tables.{records_of};
 
 use crate::input::Input;
-use rp_evidence::Level;
+use crate::standard::WHOLE;
 use rp_table::RECORDS;
 
 /// Room for something of each observation that a table may have.
-pub const ROOM: usize = 256;
+pub const ROOM: usize = 512;
 
 const _: () = prove!(ROOM == RECORDS as usize);
 
@@ -71,10 +71,9 @@ fn leads(input: &Input<'_>, way: Way, u: u32, v: u32) -> bool
     requires to { v < records_of input.now.table.now }
     ensures { IsTrue result ↔ step_of way (cost_of input.now.table.now) u v }
 {
-    let whole = Level { num: 1, den: 1 };
     match way {
-        Way::Onward => input.is_weak(whole, u, v),
-        Way::Back => input.is_weak(whole, v, u),
+        Way::Onward => input.is_weak(WHOLE, u, v),
+        Way::Back => input.is_weak(WHOLE, v, u),
     }
 }
 

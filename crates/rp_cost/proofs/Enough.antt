@@ -56,7 +56,7 @@ module _ (table : Observations) (valid : IsTable table) where
     some_prices =
         (1, (λ g. 9999999), outer_is_feasible (input_of_table table) y y0 prices listed lists (record { den = 1; num = λ g. 9999999 }) (enough_of_all y y0))
 
-  module _ (prices : List ℕ) (new : AreNewPrices (goods_of table) prices) (listed : List ℕ) (observed : All (λ t. t < records_of table) listed) (few : length listed ≤ 256) where
+  module _ (prices : List ℕ) (new : AreNewPrices (goods_of table) prices) (listed : List ℕ) (observed : All (λ t. t < records_of table) listed) (few : length listed ≤ 512) where
     pub outer_within : IsWithinLimits (outer_program (input_of_table table) (slice_index prices) listed)
     outer_within = record {
       rows_at_most = omega (arith, valid.few_goods);

@@ -7,7 +7,7 @@ use crate::tech::Tech;
 use rp_table::RECORDS;
 
 /// Room for each observation that a technology may have.
-pub(crate) const ROOM: usize = 256;
+pub(crate) const ROOM: usize = 512;
 
 const _: () = prove!(ROOM == RECORDS as usize);
 

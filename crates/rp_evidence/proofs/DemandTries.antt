@@ -17,6 +17,7 @@ consistent = record {
   price = rows ((1 ∷ 2 ∷ []) ∷ (2 ∷ 1 ∷ []) ∷ []);
   quantity = rows ((2 ∷ 1 ∷ []) ∷ (1 ∷ 2 ∷ []) ∷ []);
   cost = λ s t. sum_below 2 (λ g. rows ((1 ∷ 2 ∷ []) ∷ (2 ∷ 1 ∷ []) ∷ []) s g * rows ((2 ∷ 1 ∷ []) ∷ (1 ∷ 2 ∷ []) ∷ []) t g);
+  levels = [];
   sums = λ s t s_in t_in. refl;
 }
 

@@ -30,8 +30,8 @@ AreSums n goods price quantity cost = (s t : ℕ) → s < n → t < n → cost s
 abbrev pub SameNumbers : ℕ → ℕ → (ℕ → ℕ → ℕ) → (ℕ → ℕ → ℕ) → Type 0
 SameNumbers n goods f g = (s k : ℕ) → s < n → k < goods → f s k ≡ g s k
 
-abbrev pub input_with : (n goods : ℕ) (price quantity cost : ℕ → ℕ → ℕ) → AreSums n goods price quantity cost → TableInput
-input_with n goods price quantity cost sums = record { n = n; goods = goods; price = price; quantity = quantity; cost = cost; sums = sums }
+abbrev pub input_with : (n goods : ℕ) (levels : List ℕ) (price quantity cost : ℕ → ℕ → ℕ) → AreSums n goods price quantity cost → TableInput
+input_with n goods levels price quantity cost sums = record { n = n; goods = goods; price = price; quantity = quantity; cost = cost; levels = levels; sums = sums }
 
 walk_starts : (n : ℕ) (step : ℕ → ℕ → Type 0) (s t : ℕ) (w : List ℕ) → IsWalk n step s t w → s < n
 walk_starts n step s t [] l = absurd l
@@ -41,12 +41,12 @@ walk_ends : (n : ℕ) (step : ℕ → ℕ → Type 0) (s t : ℕ) (w : List ℕ)
 walk_ends n step s t [] l = absurd l
 walk_ends n step s t (x ∷ w) l = ends_below n step x t w l.1
 
-module _ (n goods : ℕ) (p p' q q' c c' : ℕ → ℕ → ℕ) (sums : AreSums n goods p q c) (sums' : AreSums n goods p' q' c') (pe : SameNumbers n goods p p') (qe : SameNumbers n goods q q') where
+module _ (n goods : ℕ) (levels levels' : List ℕ) (p p' q q' c c' : ℕ → ℕ → ℕ) (sums : AreSums n goods p q c) (sums' : AreSums n goods p' q' c') (pe : SameNumbers n goods p p') (qe : SameNumbers n goods q q') where
   abbrev here : TableInput
-  here = input_with n goods p q c sums
+  here = input_with n goods levels p q c sums
 
   abbrev there : TableInput
-  there = input_with n goods p' q' c' sums'
+  there = input_with n goods levels' p' q' c' sums'
 
   costs_same : AgreeBelow n c c'
   costs_same s t a b =
@@ -123,7 +123,7 @@ module _ (n goods : ℕ) (p p' q q' c c' : ℕ → ℕ → ℕ) (sums : AreSums 
 
 -- ---- what needs both ways
 
-module _ (n goods : ℕ) (p p' q q' c c' : ℕ → ℕ → ℕ) (sums : AreSums n goods p q c) (sums' : AreSums n goods p' q' c') (pe : SameNumbers n goods p p') (qe : SameNumbers n goods q q') where
+module _ (n goods : ℕ) (levels levels' : List ℕ) (p p' q q' c c' : ℕ → ℕ → ℕ) (sums : AreSums n goods p q c) (sums' : AreSums n goods p' q' c') (pe : SameNumbers n goods p p') (qe : SameNumbers n goods q q') where
   pe' : SameNumbers n goods p' p
   pe' s g a b = sym (pe s g a b)
 
@@ -131,35 +131,35 @@ module _ (n goods : ℕ) (p p' q q' c c' : ℕ → ℕ → ℕ) (sums : AreSums 
   qe' s g a b = sym (qe s g a b)
 
   abbrev one : TableInput
-  one = input_with n goods p q c sums
+  one = input_with n goods levels p q c sums
 
   abbrev two : TableInput
-  two = input_with n goods p' q' c' sums'
+  two = input_with n goods levels' p' q' c' sums'
 
   pub infimum_there : (b : NewBudget) (g num den : ℕ) → IsInfimum one b g num den → IsInfimum two b g num den
   infimum_there b g num den is = record {
     fraction = is.fraction;
-    none_less = λ x kept. is.none_less x (supporting_there n goods p' p q' q c' c sums' sums pe' qe' b x kept);
+    none_less = λ x kept. is.none_less x (supporting_there n goods levels' levels p' p q' q c' c sums' sums pe' qe' b x kept);
     approached = λ num' den' some above.
         let r = is.approached num' den' some above in
-        (r.0, supporting_there n goods p p' q q' c c' sums sums' pe qe b r.0 r.1, r.2);
+        (r.0, supporting_there n goods levels levels' p p' q q' c c' sums sums' pe qe b r.0 r.1, r.2);
   }
 
   pub supremum_there : (b : NewBudget) (g num den : ℕ) → IsSupremum one b g num den → IsSupremum two b g num den
   supremum_there b g num den is = record {
     fraction = is.fraction;
-    none_more = λ x kept. is.none_more x (supporting_there n goods p' p q' q c' c sums' sums pe' qe' b x kept);
+    none_more = λ x kept. is.none_more x (supporting_there n goods levels' levels p' p q' q c' c sums' sums pe' qe' b x kept);
     approached = λ num' den' some under.
         let r = is.approached num' den' some under in
-        (r.0, supporting_there n goods p p' q q' c c' sums sums' pe qe b r.0 r.1, r.2);
+        (r.0, supporting_there n goods levels levels' p p' q q' c c' sums sums' pe qe b r.0 r.1, r.2);
   }
 
   pub lists_there : (b : NewBudget) (below : List ℕ) → ListsBelow one b below → ListsBelow two b below
   lists_there b below lists = record {
     rising = lists.rising;
     just_these = λ t. (
-      (λ has. let r = (lists.just_these t).0 has in (r.0, below_there n goods p p' q q' c c' sums sums' pe qe b t r.1)),
-      (λ r. (lists.just_these t).1 (r.0, below_there n goods p' p q' q c' c sums' sums pe' qe' b t r.1)),
+      (λ has. let r = (lists.just_these t).0 has in (r.0, below_there n goods levels levels' p p' q q' c c' sums sums' pe qe b t r.1)),
+      (λ r. (lists.just_these t).1 (r.0, below_there n goods levels' levels p' p q' q c' c sums' sums pe' qe' b t r.1)),
     );
   }
 
@@ -167,8 +167,8 @@ module _ (n goods : ℕ) (p p' q q' c c' : ℕ → ℕ → ℕ) (sums : AreSums 
   strict_lists_there b strict lists = record {
     rising = lists.rising;
     just_these = λ t. (
-      (λ has. let r = (lists.just_these t).0 has in (r.0, strictly_there n goods p p' q q' c c' sums sums' pe qe b t r.1)),
-      (λ r. (lists.just_these t).1 (r.0, strictly_there n goods p' p q' q c' c sums' sums pe' qe' b t r.1)),
+      (λ has. let r = (lists.just_these t).0 has in (r.0, strictly_there n goods levels levels' p p' q q' c c' sums sums' pe qe b t r.1)),
+      (λ r. (lists.just_these t).1 (r.0, strictly_there n goods levels' levels p' p q' q c' c sums' sums pe' qe' b t r.1)),
     );
   }
 
@@ -184,18 +184,18 @@ module _ (n goods : ℕ) (p p' q q' c c' : ℕ → ℕ → ℕ) (sums : AreSums 
   demand_there prices m (Bounds below strict inner bounds) (fits, is) = (
     fits,
     record {
-      sound = meets_same n c c' 1 1 (costs_same n goods p p' q q' c c' sums sums' pe qe) is.sound;
+      sound = meets_same n c c' 1 1 (costs_same n goods levels levels' p p' q q' c c' sums sums' pe qe) is.sound;
       below_listed = lists_there (budget_of prices m) below is.below_listed;
       strict_listed = strict_lists_there (budget_of prices m) strict is.strict_listed;
       inner_goods = is.inner_goods;
-      inner_supports = supporting_there n goods p p' q q' c c' sums sums' pe qe (budget_of prices m) (bundle_of inner) is.inner_supports;
+      inner_supports = supporting_there n goods levels levels' p p' q q' c c' sums sums' pe qe (budget_of prices m) (bundle_of inner) is.inner_supports;
       one_each = is.one_each;
       each = λ g d l.
           let both = is.each g d l in
           (lower_there (budget_of prices m) g (slice_index_or bounds g d).lower both.0, upper_there (budget_of prices m) g (slice_index_or bounds g d).upper both.1);
     },
   )
-  demand_there prices m (NoModel walk) v = violation_same n c c' 1 1 (costs_same n goods p p' q q' c c' sums sums' pe qe) walk v
+  demand_there prices m (NoModel walk) v = violation_same n c c' 1 1 (costs_same n goods levels levels' p p' q q' c c' sums sums' pe qe) walk v
 
   -- ---- welfare
 
@@ -204,10 +204,10 @@ module _ (n goods : ℕ) (p p' q q' c c' : ℕ → ℕ → ℕ) (sums : AreSums 
     where
       dear : (s : ℕ) → EqualsOrReaches one t s → x.den * c s s ≤ spending goods (p s) x.num
       dear s reach =
-          let there = reaches_there n goods p p' q q' c c' sums sums' pe qe t s reach in
+          let there = reaches_there n goods levels levels' p p' q q' c c' sums sums' pe qe t s reach in
           let s_in = walk_ends n (IsWeak c 1 1) t s reach.0 reach.1 in
-          let e = costs_same n goods p p' q q' c c' sums sums' pe qe s s s_in s_in in
-          let f = spend_at n goods p p' q q' c c' sums sums' pe qe s x.num s_in in
+          let e = costs_same n goods levels levels' p p' q q' c c' sums sums' pe qe s s s_in s_in in
+          let f = spend_at n goods levels levels' p p' q q' c c' sums sums' pe qe s x.num s_in in
           subst (λ v. x.den * c s s ≤ v) (sym f) (subst (λ v. x.den * v ≤ spending goods (p' s) x.num) (sym e) (r.dear s there))
 
   region_there : (t : ℕ) (x : FractionBundle) → IsInRegion one t x → IsInRegion two t x
@@ -215,10 +215,10 @@ module _ (n goods : ℕ) (p p' q q' c c' : ℕ → ℕ → ℕ) (sums : AreSums 
     where
       dear : (s : ℕ) → EqualsOrReaches two t s → x.den * c' s s ≤ spending goods (p' s) x.num
       dear s reach =
-          let there = reaches_there n goods p' p q' q c' c sums' sums pe' qe' t s reach in
+          let there = reaches_there n goods levels' levels p' p q' q c' c sums' sums pe' qe' t s reach in
           let s_in = walk_ends n (IsWeak c' 1 1) t s reach.0 reach.1 in
-          let e = costs_same n goods p p' q q' c c' sums sums' pe qe s s s_in s_in in
-          let f = spend_at n goods p p' q q' c c' sums sums' pe qe s x.num s_in in
+          let e = costs_same n goods levels levels' p p' q q' c c' sums sums' pe qe s s s_in s_in in
+          let f = spend_at n goods levels levels' p p' q q' c c' sums sums' pe qe s x.num s_in in
           subst (λ v. x.den * c' s s ≤ v) f (subst (λ v. x.den * v ≤ spending goods (p s) x.num) e (r.dear s there))
 
   lower_welfare_there : (prices : ℕ → ℕ) (t : ℕ) (bound : Bound) → ProvesLowerWelfare one prices t bound → ProvesLowerWelfare two prices t bound
@@ -232,25 +232,25 @@ module _ (n goods : ℕ) (p p' q q' c c' : ℕ → ℕ → ℕ) (sums : AreSums 
   upper_welfare_there : (prices : ℕ → ℕ) (t s cost : ℕ) → IsUpperWelfare one prices t s cost → IsUpperWelfare two prices t s cost
   upper_welfare_there prices t s cost is = record {
     observed = is.observed;
-    leads = reaches_there n goods p p' q q' c c' sums sums' pe qe s t is.leads;
-    costs = sym (spend_on n goods p p' q q' c c' sums sums' pe qe prices s is.observed) ∙ is.costs;
+    leads = reaches_there n goods levels levels' p p' q q' c c' sums sums' pe qe s t is.leads;
+    costs = sym (spend_on n goods levels levels' p p' q q' c c' sums sums' pe qe prices s is.observed) ∙ is.costs;
     least = λ r reach.
-        let back = reaches_there n goods p' p q' q c' c sums' sums pe' qe' r t reach in
+        let back = reaches_there n goods levels' levels p' p q' q c' c sums' sums pe' qe' r t reach in
         let r_in = walk_starts n (IsWeak c' 1 1) r t reach.0 reach.1 in
-        subst (λ v. cost ≤ v) (spend_on n goods p p' q q' c c' sums sums' pe qe prices r r_in) (is.least r back);
+        subst (λ v. cost ≤ v) (spend_on n goods levels levels' p p' q q' c c' sums sums' pe qe prices r r_in) (is.least r back);
   }
 
   pub welfare_there : (prices : List ℕ) (t : ℕ) (part : WelfarePart) → ProvesWelfare one prices t part → ProvesWelfare two prices t part
   welfare_there prices t (WelfareBounds upper at lower) (fits, is) = (
     fits,
     record {
-      sound = meets_same n c c' 1 1 (costs_same n goods p p' q q' c c' sums sums' pe qe) is.sound;
+      sound = meets_same n c c' 1 1 (costs_same n goods levels levels' p p' q q' c c' sums sums' pe qe) is.sound;
       observed = is.observed;
       upper_is = upper_welfare_there (slice_index prices) t at upper is.upper_is;
       lower_is = lower_welfare_there (slice_index prices) t lower is.lower_is;
     },
   )
-  welfare_there prices t (NoWelfare walk) v = violation_same n c c' 1 1 (costs_same n goods p p' q q' c c' sums sums' pe qe) walk v
+  welfare_there prices t (NoWelfare walk) v = violation_same n c c' 1 1 (costs_same n goods levels levels' p p' q q' c c' sums sums' pe qe) walk v
 
 -- ---- for inputs that agree
 
@@ -261,19 +261,19 @@ module _ (input other : TableInput) (agree : AgreeInputs input other) where
       sized other.n other.goods agree.n agree.goods other.sums
     where
       sized : (n goods : ℕ) → input.n ≡ n → input.goods ≡ goods → (sums' : AreSums n goods other.price other.quantity other.cost)
-          → ProvesDemand (input_with n goods other.price other.quantity other.cost sums') prices m part
+          → ProvesDemand (input_with n goods other.levels other.price other.quantity other.cost sums') prices m part
       sized n goods en eg =
-          subst (λ n. (sums' : AreSums n goods other.price other.quantity other.cost) → ProvesDemand (input_with n goods other.price other.quantity other.cost sums') prices m part) en
-          (subst (λ goods. (sums' : AreSums input.n goods other.price other.quantity other.cost) → ProvesDemand (input_with input.n goods other.price other.quantity other.cost sums') prices m part) eg
-          (λ sums'. demand_there input.n input.goods input.price other.price input.quantity other.quantity input.cost other.cost input.sums sums' agree.prices agree.quantities prices m part proves))
+          subst (λ n. (sums' : AreSums n goods other.price other.quantity other.cost) → ProvesDemand (input_with n goods other.levels other.price other.quantity other.cost sums') prices m part) en
+          (subst (λ goods. (sums' : AreSums input.n goods other.price other.quantity other.cost) → ProvesDemand (input_with input.n goods other.levels other.price other.quantity other.cost sums') prices m part) eg
+          (λ sums'. demand_there input.n input.goods input.levels other.levels input.price other.price input.quantity other.quantity input.cost other.cost input.sums sums' agree.prices agree.quantities prices m part proves))
 
   pub welfare_same : (prices : List ℕ) (t : ℕ) (part : WelfarePart) → ProvesWelfare input prices t part → ProvesWelfare other prices t part
   welfare_same prices t part proves =
       sized other.n other.goods agree.n agree.goods other.sums
     where
       sized : (n goods : ℕ) → input.n ≡ n → input.goods ≡ goods → (sums' : AreSums n goods other.price other.quantity other.cost)
-          → ProvesWelfare (input_with n goods other.price other.quantity other.cost sums') prices t part
+          → ProvesWelfare (input_with n goods other.levels other.price other.quantity other.cost sums') prices t part
       sized n goods en eg =
-          subst (λ n. (sums' : AreSums n goods other.price other.quantity other.cost) → ProvesWelfare (input_with n goods other.price other.quantity other.cost sums') prices t part) en
-          (subst (λ goods. (sums' : AreSums input.n goods other.price other.quantity other.cost) → ProvesWelfare (input_with input.n goods other.price other.quantity other.cost sums') prices t part) eg
-          (λ sums'. welfare_there input.n input.goods input.price other.price input.quantity other.quantity input.cost other.cost input.sums sums' agree.prices agree.quantities prices t part proves))
+          subst (λ n. (sums' : AreSums n goods other.price other.quantity other.cost) → ProvesWelfare (input_with n goods other.levels other.price other.quantity other.cost sums') prices t part) en
+          (subst (λ goods. (sums' : AreSums input.n goods other.price other.quantity other.cost) → ProvesWelfare (input_with input.n goods other.levels other.price other.quantity other.cost sums') prices t part) eg
+          (λ sums'. welfare_there input.n input.goods input.levels other.levels input.price other.price input.quantity other.quantity input.cost other.cost input.sums sums' agree.prices agree.quantities prices t part proves))

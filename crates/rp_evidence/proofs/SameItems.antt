@@ -2,18 +2,18 @@
 use Rattle.std.proofs.Common.{◌≡◌, ◌<◌, ◌*◌, ℕ, sym, ap, subst, ◌∙◌}
 use Rattle.rp_table.specs.Sums.{sum_below}
 use Rattle.rp_table.proofs.SumsBelow.{sum_below-same}
-use Rattle.rp_evidence.specs.AfriatEvidence.{ProvesAfriat}
+use Rattle.rp_evidence.specs.AfriatEvidence.{ProvesOwnAfriat}
 use Rattle.rp_evidence.specs.Efficiency.{ProvesEfficiency}
 use Rattle.rp_evidence.specs.Homothetic.{ProvesHomothetic}
 use Rattle.rp_evidence.specs.Input.{AgreeInputs, TableInput}
 use Rattle.rp_evidence.specs.Preference.{AgreeBelow}
-use Rattle.rp_evidence.specs.Garp.{ProvesGarp}
+use Rattle.rp_evidence.specs.Garp.{ProvesOwnGarp}
 use Rattle.rp_evidence.specs.Proves.{Proves}
 use Rattle.rp_evidence.specs.Quasilinear.{ProvesQuasilinear}
 use Rattle.rp_evidence.specs.declared.certificate.Item.{Item}
 use Rattle.rp_evidence.specs.declared.certificate.Item.TheVariants.{Garp as GarpItem, Afriat as AfriatItem, Efficiency as EfficiencyItem, Homothetic as HomotheticItem, Quasi as QuasiItem, Demand as DemandItem, Welfare as WelfareItem, Random as RandomItem}
-use Rattle.rp_evidence.proofs.SameAfriat.{afriat_same}
-use Rattle.rp_evidence.proofs.SameCosts.{garp_same}
+use Rattle.rp_evidence.proofs.OwnLevels.{own_garp_same}
+use Rattle.rp_evidence.proofs.SameAfriat.{own_afriat_same}
 use Rattle.rp_evidence.proofs.SameDemand.{demand_same, welfare_same}
 use Rattle.rp_evidence.proofs.SameIndex.{efficiency_same}
 use Rattle.rp_evidence.proofs.SameProducts.{homothetic_same}
@@ -31,8 +31,12 @@ module _ (input other : TableInput) (agree : AgreeInputs input other) where
       bought g g_in = let p = agree.prices s g s_in g_in in let q = agree.quantities t g t_in g_in in λ i. p i * q i
 
   pub item_same : (item : Item) → Proves input item → Proves other item
-  item_same (GarpItem verdict) p = subst (λ m. ProvesGarp m other.cost verdict) agree.n (garp_same input.n input.cost other.cost verdict costs_agree p)
-  item_same (AfriatItem part) p = subst (λ m. ProvesAfriat m other.cost part) agree.n (afriat_same input.n input.cost other.cost part costs_agree p)
+  item_same (GarpItem verdict) p =
+      subst (λ m. ProvesOwnGarp m other.levels other.cost verdict) agree.n
+      (subst (λ levels. ProvesOwnGarp input.n levels other.cost verdict) agree.levels (own_garp_same input.n input.levels input.cost other.cost costs_agree verdict p))
+  item_same (AfriatItem part) p =
+      subst (λ m. ProvesOwnAfriat m other.levels other.cost part) agree.n
+      (subst (λ levels. ProvesOwnAfriat input.n levels other.cost part) agree.levels (own_afriat_same input.n input.levels input.cost other.cost part costs_agree p))
   item_same (EfficiencyItem evidence) p = subst (λ m. ProvesEfficiency m other.cost evidence) agree.n (efficiency_same input.n input.cost other.cost evidence costs_agree p)
   item_same (HomotheticItem verdict) p = subst (λ m. ProvesHomothetic m other.cost verdict) agree.n (homothetic_same input.n input.cost other.cost verdict costs_agree p)
   item_same (QuasiItem verdict) p = subst (λ m. ProvesQuasilinear m other.cost verdict) agree.n (quasilinear_same input.n input.cost other.cost verdict costs_agree p)

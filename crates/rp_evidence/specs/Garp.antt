@@ -1,6 +1,6 @@
 -- The generalized axiom of revealed preference (Varian 1982), at a level (after Afriat).
 use Rattle.std.specs.Prelude.{◌≡◌, ◌<◌, ◌+◌, ◌-◌, ℕ, List, length, slice_index}
-use Rattle.rp_evidence.specs.Preference.{IsWeak, IsStrict}
+use Rattle.rp_evidence.specs.Preference.{IsWeak, IsStrict, StrictByLevels, WeakByLevels}
 use Rattle.rp_evidence.specs.Ranks.{RespectPreference}
 use Rattle.rp_evidence.specs.Walk.{IsClosedWalk, HasStep}
 use Rattle.rp_evidence.specs.declared.garp.Garp.{Garp}
@@ -35,6 +35,10 @@ pub record ViolatesByPlaces (n : ℕ) (weak strict : ℕ → ℕ → Type 0) (wa
 abbrev pub ProvesOfPreference : ℕ → (ℕ → ℕ → Type 0) → (ℕ → ℕ → Type 0) → Garp → Type 0
 ProvesOfPreference n weak strict (Ranks ranks) = RespectPreference n weak strict ranks × HasNoViolation n weak strict
 ProvesOfPreference n weak strict (Cycle walk) = IsViolation n weak strict walk
+
+-- The axiom where the observations have these levels, or none.
+abbrev pub ProvesOwnGarp : ℕ → List ℕ → (ℕ → ℕ → ℕ) → Garp → Type 0
+ProvesOwnGarp n levels c verdict = ProvesOfPreference n (WeakByLevels levels c) (StrictByLevels levels c) verdict
 
 -- The generalized axiom is about the preference at the level 1 (Varian 1982).
 abbrev pub ProvesGarp : ℕ → (ℕ → ℕ → ℕ) → Garp → Type 0

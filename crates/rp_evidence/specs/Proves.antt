@@ -1,8 +1,8 @@
 -- What evidence has to be to prove its verdict on what a table says (sources at each kind of evidence).
-use Rattle.rp_evidence.specs.AfriatEvidence.{ProvesAfriat}
+use Rattle.rp_evidence.specs.AfriatEvidence.{ProvesOwnAfriat}
 use Rattle.rp_evidence.specs.DemandEvidence.{ProvesDemand, ProvesWelfare}
 use Rattle.rp_evidence.specs.Efficiency.{ProvesEfficiency}
-use Rattle.rp_evidence.specs.Garp.{ProvesGarp}
+use Rattle.rp_evidence.specs.Garp.{ProvesOwnGarp}
 use Rattle.rp_evidence.specs.Homothetic.{ProvesHomothetic}
 use Rattle.rp_evidence.specs.Input.{TableInput}
 use Rattle.rp_evidence.specs.Quasilinear.{ProvesQuasilinear}
@@ -13,10 +13,11 @@ use Rattle.rp_evidence.specs.declared.certificate.Item.TheVariants.{Homothetic a
 use Rattle.rp_evidence.specs.declared.certificate.Item.TheVariants.{Demand as DemandItem, Welfare as WelfareItem}
 use Rattle.rp_evidence.specs.declared.certificate.Item.TheVariants.{Random as RandomItem}
 
--- An item proves its verdict. On a table a random item proves nothing.
+-- An item proves its verdict: the axiom and Afriat's numbers by the levels of the observations' own, where they have
+-- them; every other one by what was spent. On a table a random item proves nothing.
 abbrev pub Proves : TableInput → Item → Type 0
-Proves input (GarpItem verdict) = ProvesGarp input.n input.cost verdict
-Proves input (AfriatItem part) = ProvesAfriat input.n input.cost part
+Proves input (GarpItem verdict) = ProvesOwnGarp input.n input.levels input.cost verdict
+Proves input (AfriatItem part) = ProvesOwnAfriat input.n input.levels input.cost part
 Proves input (EfficiencyItem evidence) = ProvesEfficiency input.n input.cost evidence
 Proves input (HomotheticItem verdict) = ProvesHomothetic input.n input.cost verdict
 Proves input (QuasiItem verdict) = ProvesQuasilinear input.n input.cost verdict

@@ -41,11 +41,13 @@ pub enum Kind {
     Random,
 }
 
-/// Verdicts with their evidence, in the order in which they are printed.
+/// Verdicts with their evidence, in the order in which they are printed. Where the observations of the table have
+/// levels, these stand here in thousandths, by observation, and the version is 2; else it is 1 and there are none.
 #[derive(Debug, Drop)]
 pub struct Certificate {
     pub kind: Kind,
     pub version: u32,
+    pub levels: Seq<u32>,
     pub items: Seq<Item>,
 }
 

@@ -18,6 +18,7 @@ pub enum Reason {
     Dual,
     Units,
     Irrational,
+    Levels,
 }
 
 /// What an item of a certificate fails first: the reason, and the place, which is counted from 1; 0 stands for the

@@ -1,10 +1,10 @@
 ghost use Rattle.std.specs.Prelude.{◌≡◌, ◌↔◌, ◌<◌, ◌≤◌, ◌*◌, ◌++◌, ◌∷◌, [], ℕ, List, length};
 ghost use Rattle.std.specs.Prelude.{Contains, slice_index};
-ghost use Rattle.rp_evidence.specs.AfriatEvidence.{ProvesAfriat};
+ghost use Rattle.rp_evidence.specs.AfriatEvidence.{ProvesAfriat, ProvesOwnAfriat};
 ghost use Rattle.rp_evidence.specs.Count.{AreCounts, IsCount};
 ghost use Rattle.rp_evidence.specs.Efficiency.{ProvesEfficiency};
 ghost use Rattle.rp_evidence.specs.Garp.{HasNoViolation, IsViolation, IsViolationAt, ProvesGarp};
-ghost use Rattle.rp_evidence.specs.Garp.{ProvesOfPreference, ViolatesByPlaces};
+ghost use Rattle.rp_evidence.specs.Garp.{ProvesOfPreference, ProvesOwnGarp, ViolatesByPlaces};
 ghost use Rattle.rp_evidence.specs.Homothetic.{ProvesHomothetic};
 ghost use Rattle.rp_evidence.specs.Input.{AgreeInputs, TableInput};
 ghost use Rattle.rp_evidence.specs.Preference.{AgreeBelow, IsStrict, IsWeak, StrictByLevels};
@@ -122,6 +122,10 @@ pub fn evidence_depends_on_observed_costs()
         → AgreeBelow n c d → ProvesGarp n c verdict → ProvesGarp n d verdict }
     ensures afriat { (n : ℕ) (c d : ℕ → ℕ → ℕ) (part : AfriatPart)
         → AgreeBelow n c d → ProvesAfriat n c part → ProvesAfriat n d part }
+    ensures garp_by_levels { (n : ℕ) (levels : List ℕ) (c d : ℕ → ℕ → ℕ) (verdict : Garp)
+        → AgreeBelow n c d → ProvesOwnGarp n levels c verdict → ProvesOwnGarp n levels d verdict }
+    ensures afriat_by_levels { (n : ℕ) (levels : List ℕ) (c d : ℕ → ℕ → ℕ) (part : AfriatPart)
+        → AgreeBelow n c d → ProvesOwnAfriat n levels c part → ProvesOwnAfriat n levels d part }
     ensures efficiency { (n : ℕ) (c d : ℕ → ℕ → ℕ) (evidence : Efficiency)
         → AgreeBelow n c d → ProvesEfficiency n c evidence → ProvesEfficiency n d evidence }
     ensures homothetic { (n : ℕ) (c d : ℕ → ℕ → ℕ) (verdict : Homothetic)

@@ -9,7 +9,7 @@ use Rattle.rp_evidence.proofs.SameCosts.{strict_same, weak_same}
 use Rattle.rp_pref.proofs.SameVerdicts.{first_or_none_same, verdict_on_same}
 use Rattle.rp_pref.specs.Violation.{IsVerdictOn}
 use Rattle.rp_garp.specs.Pairs.{Contradict, IsOwnPairs, IsPairs}
-use Rattle.rp_garp.specs.Verdict.{IsGarpVerdict}
+use Rattle.rp_garp.specs.Verdict.{IsGarpVerdict, IsOwnGarpVerdict}
 
 module _ (n : ℕ) (weak strict weak' strict' : ℕ → ℕ → Type 0) (weak_is : (s t : ℕ) → s < n → t < n → weak s t ↔ weak' s t) (strict_is : (s t : ℕ) → s < n → t < n → strict s t ↔ strict' s t) where
   contradict_same : (s t : ℕ) → s < n → t < n → Contradict weak strict s t ↔ Contradict weak' strict' s t
@@ -24,6 +24,11 @@ module _ (n : ℕ) (c d : ℕ → ℕ → ℕ) (same : AgreeBelow n c d) where
   pub garp_verdict_same : (verdict : Garp) → IsGarpVerdict n c verdict → IsGarpVerdict n d verdict
   garp_verdict_same =
       verdict_on_same n (IsWeak c 1 1) (IsStrict c 1 1) (IsWeak d 1 1) (IsStrict d 1 1) (weak_same n c d 1 1 same) (strict_same n c d 1 1 same)
+
+  pub own_garp_verdict_same : (levels : List ℕ) (verdict : Garp) → IsOwnGarpVerdict n levels c verdict → IsOwnGarpVerdict n levels d verdict
+  own_garp_verdict_same levels =
+      verdict_on_same n (WeakByLevels levels c) (StrictByLevels levels c) (WeakByLevels levels d) (StrictByLevels levels d)
+      (weak_by_levels_same n levels c d same) (strict_by_levels_same n levels c d same)
 
   pub pairs_same : (found : Option (ℕ × ℕ)) → IsPairs n c found → IsPairs n d found
   pairs_same =

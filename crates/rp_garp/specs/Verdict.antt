@@ -1,6 +1,6 @@
 -- The evidence that is given for the generalized axiom of revealed preference (Varian 1982).
-use Rattle.std.specs.Prelude.{ℕ}
-use Rattle.rp_evidence.specs.Preference.{IsStrict, IsWeak}
+use Rattle.std.specs.Prelude.{ℕ, List}
+use Rattle.rp_evidence.specs.Preference.{IsStrict, IsWeak, StrictByLevels, WeakByLevels}
 use Rattle.rp_evidence.specs.declared.garp.Garp.{Garp}
 use Rattle.rp_pref.specs.Violation.{IsVerdictOn}
 
@@ -8,3 +8,7 @@ use Rattle.rp_pref.specs.Violation.{IsVerdictOn}
 -- violate the axiom.
 abbrev pub IsGarpVerdict : ℕ → (ℕ → ℕ → ℕ) → Garp → Type 0
 IsGarpVerdict n c verdict = IsVerdictOn n (IsWeak c 1 1) (IsStrict c 1 1) verdict
+
+-- The same where the observations have these levels, or none.
+abbrev pub IsOwnGarpVerdict : ℕ → List ℕ → (ℕ → ℕ → ℕ) → Garp → Type 0
+IsOwnGarpVerdict n levels c verdict = IsVerdictOn n (WeakByLevels levels c) (StrictByLevels levels c) verdict

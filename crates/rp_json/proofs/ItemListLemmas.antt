@@ -1,18 +1,19 @@
 -- Items that are read one after another.
-use Rattle.std.proofs.Common.{◌≡◌, ◌≢◌, ◌⊎◌, inl, inr, ℕ, zero, suc, ◌^◌, ◌<◌, List, [], ◌∷◌, All, get_or, length, map, take, Some, Result, Ok, Err, refl, sym, ap, subst, ◌∙◌, arith}
+use Rattle.std.proofs.Common.{◌≡◌, ◌≢◌, ◌⊎◌, inl, inr, ℕ, zero, suc, ◌<◌, List, [], ◌∷◌, All, get_or, length, map, take, Some, Result, Ok, Err, refl, sym, ap, subst, ◌∙◌, arith}
 use Rattle.rp_evidence.specs.declared.certificate.Certificate.{Certificate}
 use Rattle.rp_evidence.specs.declared.certificate.Item.TheVariants.{Random as RandomItem}
 use Rattle.rp_evidence.specs.declared.random.RandomPart.TheVariants.{Wide}
 use Rattle.rp_evidence.specs.declared.certificate.Item.{Item}
 use Rattle.rp_evidence.specs.declared.certificate.Kind.{Kind}
-use Rattle.serde_json.specs.Data.{Data, Items, array, member, no_items, null, number, object, unsigned}
-use Rattle.rp_json.specs.CertificateValue.{certificate_text, certificate_value, item_value}
-use Rattle.rp_json.specs.Denoted.{FitsKind, IsDenoted, IsDenotedBy, IsFirstNoItem, IsReadable, IsSpelledSo, Spells, top_value}
+use Rattle.serde_json.specs.Data.{Data, null}
+use Rattle.rp_json.specs.CertificateValue.{certificate_text, certificate_value, item_value, top_value}
+use Rattle.rp_json.specs.Denoted.{FitLevels, FitsKind, IsDenoted, IsDenotedBy, IsFirstNoItem, IsReadable, IsSpelledSo, Spells}
 use Rattle.rp_json.specs.InnerItems.{AreItems}
 use Rattle.rp_json.specs.Limits.{FitsItem}
 use Rattle.rp_json.specs.declared.fault.JsonFault.{JsonFault}
 use Rattle.rp_json.specs.declared.fault.JsonFault.TheVariants.{BadShape, BadVersion, NoMemory, NotJson}
-use Rattle.rp_notation.proofs.ListLemmas.{AreSoFar, same_items}
+use Rattle.rp_notation.proofs.ListLemmas.{AreSoFar}
+use Rattle.rp_json.proofs.TopLemmas.{no_other_version, same_top}
 use Rattle.rp_json.proofs.ReadsBack.{certificate_text_read, certificate_text_utf8}
 
 module _ {V : Type 0} (seen : V → Data) where
@@ -44,27 +45,20 @@ all_items kind values items so = record { same_values = so.0; fit = so.1; only =
 
 -- ---- certificates
 
-abbrev items_in : Data → Items
-items_in (object (member name (array items) ms)) = items
-items_in _ = no_items
-
--- the values of the items of a certificate with this value
-values_of : (kind kind' : Kind) (version version' : ℕ) (values values' : List Data) → top_value kind version values ≡ top_value kind' version' values' → values ≡ values'
-values_of kind kind' version version' values values' e = same_items values values' (ap items_in e)
-
 -- items of these values make the certificate of the value, and no other does
-pub certificate_found : (kind : Kind) (d : Data) (version : ℕ) (values : List Data) (items : List Item) → d ≡ top_value kind version values → version ≡ 1
-    → AreItems kind values items → IsDenotedBy kind d (Ok (record { kind = kind; version = 1; items = items }))
-certificate_found kind d version values items is one are = (whole, record { of_kind = refl; version = refl; items = are.fit }, only)
+pub certificate_found : (kind : Kind) (d : Data) (version : ℕ) (levels : List ℕ) (values : List Data) (items : List Item) → d ≡ top_value kind version levels values
+    → FitLevels kind version levels → AreItems kind values items → IsDenotedBy kind d (Ok (record { kind = kind; version = version; levels = levels; items = items }))
+certificate_found kind d version levels values items is fit are = (whole, record { of_kind = refl; levels = fit; items = are.fit }, only)
   where
-    whole : certificate_value (record { kind = kind; version = 1; items = items }) ≡ d
-    whole = ap (top_value kind 1) are.same_values ∙ ap (λ v. top_value kind v values) (sym one) ∙ sym is
+    whole : certificate_value (record { kind = kind; version = version; levels = levels; items = items }) ≡ d
+    whole = ap (top_value kind version levels) are.same_values ∙ sym is
 
-    only : (other : Certificate) → IsReadable kind other → certificate_value other ≡ d → other ≡ record { kind = kind; version = 1; items = items }
+    only : (other : Certificate) → IsReadable kind other → certificate_value other ≡ d → other ≡ record { kind = kind; version = version; levels = levels; items = items }
     only other readable e =
-        let same : map item_value other.items ≡ values = values_of other.kind kind other.version version (map item_value other.items) values (e ∙ is) in
-        let items_same : other.items ≡ items = are.only other.items readable.items same in
-        λ i. record { kind = readable.of_kind i; version = readable.version i; items = items_same i }
+        let same = same_top other.kind kind other.version version other.levels levels (map item_value other.items) values
+        (subst (λ k. FitLevels k other.version other.levels) (sym readable.of_kind) readable.levels) fit (e ∙ is) in
+        let items_same : other.items ≡ items = are.only other.items readable.items same.2 in
+        λ i. record { kind = readable.of_kind i; version = same.0 i; levels = same.1 i; items = items_same i }
 
 -- ---- what is written is read
 
@@ -79,13 +73,12 @@ fit_items kind items h k d l = (h k d l).1
 
 pub text_spells : (kind : Kind) (c : Certificate) → IsReadable kind c → Spells (certificate_text c) (certificate_value c)
 text_spells kind c h =
-    let small : c.version < 2 ^ 32 = omega (arith, h.version) in
     let fit = fit_items kind c.items h.items in
-    (certificate_text_utf8 c small fit, certificate_text_read c small fit)
+    (certificate_text_utf8 kind c h.levels fit, certificate_text_read kind c h.levels fit)
 
-abbrev version_in : Data → ℕ
-version_in (object (member a d (member b e (member name (number (unsigned version)) ms)))) = version
-version_in _ = 0
+-- the value of a certificate has its kind's shape
+own_value : (kind : Kind) (c : Certificate) (d : Data) → IsReadable kind c → d ≡ certificate_value c → d ≡ top_value kind c.version c.levels (map item_value c.items)
+own_value kind c d h same = same ∙ ap (λ k. top_value k c.version c.levels (map item_value c.items)) h.of_kind
 
 -- every value of an item is that of one
 item_there : (kind : Kind) (items : List Item) (values : List Data) (k : ℕ) → All (FitsKind kind) items → map item_value items ≡ values → IsFirstNoItem kind values k → ⊥
@@ -112,19 +105,19 @@ one_denoted kind bytes c (Err NotJson) h spells denoted = absurd (denoted (certi
 one_denoted kind bytes c (Err BadVersion) h spells denoted = absurd (wrong denoted)
   where
     wrong : IsSpelledSo kind bytes (Err BadVersion) → ⊥
-    wrong (d, its, (version, items, is, other)) =
+    wrong (d, its, other) =
         let same = one_value bytes d (certificate_value c) its spells in
-        other (ap version_in (sym is ∙ same) ∙ h.version)
+        no_other_version kind c.version c.levels (map item_value c.items) d h.levels (own_value kind c d h same) other
 one_denoted kind bytes c (Err (BadShape item)) h spells denoted = absurd (wrong denoted)
   where
     wrong : IsSpelledSo kind bytes (Err (BadShape item)) → ⊥
-    wrong (d, its, inl (zero_item, none)) =
+    wrong (d, its, inl (zero_item, no_shape, no_other)) =
         let same = one_value bytes d (certificate_value c) its spells in
-        none c.version (map item_value c.items) (same ∙ ap (λ k. top_value k c.version (map item_value c.items)) h.of_kind)
-    wrong (d, its, inr (values, is, (k, bad, counted))) =
+        no_shape c.version c.levels (map item_value c.items) h.levels (own_value kind c d h same)
+    wrong (d, its, inr (version, levels, values, fit, is, (k, bad, counted))) =
         let same = one_value bytes d (certificate_value c) its spells in
-        let values_same : map item_value c.items ≡ values = values_of c.kind kind c.version 1 (map item_value c.items) values (sym same ∙ is) in
-        item_there kind c.items values k h.items values_same bad
+        let tops = same_top kind kind c.version version c.levels levels (map item_value c.items) values h.levels fit (sym (own_value kind c d h same) ∙ is) in
+        item_there kind c.items values k h.items tops.2 bad
 one_denoted kind bytes c (Err NoMemory) h spells denoted = inr refl
 
 -- so does the text of a certificate

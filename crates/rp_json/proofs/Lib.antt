@@ -4,3 +4,4 @@ pub mod ItemReads
 pub mod LineFeed
 pub mod NoFloats
 pub mod ReadsBack
+pub mod TopLemmas

@@ -1,5 +1,5 @@
 -- The value of a certificate has no float.
-use Rattle.std.proofs.Common.{◌≡◌, ℕ, List, [], ◌∷◌, false, refl}
+use Rattle.std.proofs.Common.{◌≡◌, ◌==◌, ℕ, List, [], ◌∷◌, Bool, true, false, if◌then◌else◌, codes, refl}
 use Rattle.rp_evidence.specs.declared.afriat.AfriatPart.{AfriatPart}
 use Rattle.rp_evidence.specs.declared.afriat.AfriatPart.TheVariants.{Model, NoModel, Wide}
 use Rattle.rp_evidence.specs.declared.certificate.Certificate.{Certificate}
@@ -22,7 +22,7 @@ use Rattle.rp_evidence.specs.declared.homothetic.Homothetic.{Homothetic}
 use Rattle.rp_evidence.specs.declared.homothetic.Homothetic.TheVariants.{Values, Cycle as Falls, Withheld}
 use Rattle.rp_evidence.specs.declared.quasilinear.Quasi.{Quasi}
 use Rattle.rp_evidence.specs.declared.quasilinear.Quasi.TheVariants.{Values as Sums, Cycle as Negative}
-use Rattle.serde_json.specs.Data.{Data, Members}
+use Rattle.serde_json.specs.Data.{Data, Members, member, no_members}
 use Rattle.serde_json.specs.Written.{has_float, members_have_float}
 use Rattle.rp_test_items.specs.AfriatValue.{afriat_value}
 use Rattle.rp_program_items.specs.BoundValue.{bound_value, entry_value, good_value}
@@ -33,7 +33,7 @@ use Rattle.rp_test_items.specs.GarpValue.{garp_value}
 use Rattle.rp_test_items.specs.HomotheticValue.{homothetic_value}
 use Rattle.rp_test_items.specs.QuasilinearValue.{quasilinear_value}
 use Rattle.rp_program_items.specs.RandomValue.{random_value, share_value}
-use Rattle.rp_notation.specs.Values.{count_value, fraction_value, list_value, natural_value, observation_value, signed_value}
+use Rattle.rp_notation.specs.Values.{count_value, counts_value, fraction_value, list_value, natural_value, observation_value, signed_value}
 
 -- nor has a list of values without one
 no_list : {X : Type 0} (value_of : X → Data) → ((x : X) → has_float (value_of x) ≡ false) → (xs : List X) → has_float (list_value value_of xs) ≡ false
@@ -108,5 +108,12 @@ item_has_none (DemandItem prices m part) = demand_has_none prices m part
 item_has_none (WelfareItem prices of part) = welfare_has_none prices of part
 item_has_none (RandomItem total part) = random_has_none total part
 
+levels_have_none : (two : Bool) (levels : List ℕ) (others : Members) → members_have_float others ≡ false
+    → members_have_float (if two then member (codes "levels") (counts_value levels) others else others) ≡ false
+levels_have_none true levels others none = rw (no_counts levels) none
+levels_have_none false levels others none = none
+
 pub certificate_has_none : (c : Certificate) → has_float (certificate_value c) ≡ false
-certificate_has_none c = rw (no_list item_value item_has_none c.items) refl
+certificate_has_none c =
+    rw (no_list item_value item_has_none c.items)
+    (levels_have_none (c.version == 2) c.levels (member (codes "version") (count_value c.version) no_members) refl)

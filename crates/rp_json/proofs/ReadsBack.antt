@@ -1,5 +1,5 @@
 -- The text of a certificate within the limits is UTF-8, and it is read as the certificate's value.
-use Rattle.std.proofs.Common.{◌≡◌, ℕ, suc, ◌+◌, ◌<◌, ◌^◌, ℤ, pos, negsuc, Bool, true, false, List, [], ◌∷◌, All, Some, if◌then◌else◌, ◌==◌, IsUtf8, refl, arith, codes}
+use Rattle.std.proofs.Common.{◌≡◌, inl, inr, map, subst, sym, ℕ, suc, ◌+◌, ◌<◌, ◌^◌, ℤ, pos, negsuc, Bool, true, false, List, [], ◌∷◌, All, Some, if◌then◌else◌, ◌==◌, IsUtf8, refl, arith, codes}
 use Rattle.std.specs.Fmt.{decimal, signed_decimal}
 use Rattle.std.proofs.lemmas.Fmt.{IsAscii-decimal_wide}
 use Rattle.std.proofs.lemmas.Str.{IsUtf8-append, IsUtf8-from_ascii}
@@ -36,7 +36,9 @@ use Rattle.serde_json.specs.Data.{object, member}
 use Rattle.serde_json.specs.Read.{read}
 use Rattle.rp_test_items.specs.AfriatValue.{afriat_value}
 use Rattle.rp_program_items.specs.BoundValue.{bound_value, entry_value, good_value, point_value}
-use Rattle.rp_json.specs.CertificateValue.{certificate_text, certificate_value, item_value, kind_name}
+use Rattle.rp_json.specs.CertificateValue.{certificate_text, certificate_value, item_value, kind_name, top_value}
+use Rattle.rp_json.specs.Denoted.{FitLevels}
+use Rattle.rp_table.specs.OwnLevels.{IsOwnLevel}
 use Rattle.rp_program_items.specs.DemandValue.{demand_value, welfare_value}
 use Rattle.rp_test_items.specs.EfficiencyValue.{at_members, below_members, efficiency_value}
 use Rattle.rp_test_items.specs.GarpValue.{garp_value}
@@ -203,12 +205,25 @@ kind_utf8 : (k : Kind) → IsUtf8 (kind_name k)
 kind_utf8 Table = IsUtf8-are_ascii (codes "table") refl
 kind_utf8 Random = IsUtf8-are_ascii (codes "random") refl
 
-certificate_reads : (c : Certificate) → c.version < 2 ^ 32 → All FitsItem c.items → ReadsBack 8 (certificate_value c)
-certificate_reads c version h =
-    object_reads 7 _ (list_reads 6 item_value FitsItem item_reads c.items h, (text_reads 7 (kind_name c.kind) (kind_utf8 c.kind), (count_reads 7 c.version version, tt))) refl refl
+abbrev TopReads : Kind → ℕ → List ℕ → List Item → Type 0
+TopReads kind version levels items = ReadsBack 8 (top_value kind version levels (map item_value items))
 
-pub certificate_text_utf8 : (c : Certificate) → c.version < 2 ^ 32 → All FitsItem c.items → IsUtf8 (certificate_text c)
-certificate_text_utf8 c version h = line_utf8 8 (certificate_value c) (certificate_reads c version h)
+levels_read : (levels : List ℕ) → All IsOwnLevel levels → ReadsBack 7 (counts_value levels)
+levels_read levels h = list_reads 6 count_value IsOwnLevel (λ n own. count_reads 6 n (omega (arith, own.1))) levels h
 
-pub certificate_text_read : (c : Certificate) → c.version < 2 ^ 32 → All FitsItem c.items → read (certificate_text c) ≡ Some (certificate_value c)
-certificate_text_read c version h = line_reads 8 (certificate_value c) (omega arith) (certificate_reads c version h)
+top_reads : (kind kind' : Kind) (version : ℕ) (levels : List ℕ) (items : List Item) → FitLevels kind' version levels → All FitsItem items → TopReads kind version levels items
+top_reads kind kind' version levels items (inl (v, none)) h =
+    let first = list_reads 6 item_value FitsItem item_reads items h in
+    let name = text_reads 7 (kind_name kind) (kind_utf8 kind) in
+    subst (λ n. TopReads kind n levels items) (sym v) (object_reads 7 _ (first, (name, (count_reads 7 1 (omega arith), tt))) refl refl)
+top_reads kind kind' version levels items (inr (v, table, some)) h =
+    let first = list_reads 6 item_value FitsItem item_reads items h in
+    let name = text_reads 7 (kind_name kind) (kind_utf8 kind) in
+    subst (λ n. TopReads kind n levels items) (sym v)
+    (object_reads 7 _ (first, (name, (levels_read levels some.1, (count_reads 7 2 (omega arith), tt)))) refl refl)
+
+pub certificate_text_utf8 : (kind : Kind) (c : Certificate) → FitLevels kind c.version c.levels → All FitsItem c.items → IsUtf8 (certificate_text c)
+certificate_text_utf8 kind c levels h = line_utf8 8 (certificate_value c) (top_reads c.kind kind c.version c.levels c.items levels h)
+
+pub certificate_text_read : (kind : Kind) (c : Certificate) → FitLevels kind c.version c.levels → All FitsItem c.items → read (certificate_text c) ≡ Some (certificate_value c)
+certificate_text_read kind c levels h = line_reads 8 (certificate_value c) (omega arith) (top_reads c.kind kind c.version c.levels c.items levels h)

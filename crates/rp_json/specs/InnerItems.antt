@@ -1,12 +1,13 @@
--- Words that only proofs need: the items of a list of values, and the three values of a certificate.
-use Rattle.std.specs.Prelude.{◌≡◌, ◌+◌, ◌-◌, ◌^◌, ℕ, List, [], ◌∷◌, All, map, min, Result, Ok, Err, Vec}
+-- Words that only proofs need: the items of a list of values, and the levels of a certificate.
+use Rattle.std.specs.Prelude.{◌≡◌, ◌≢◌, ◌+◌, ◌-◌, ◌^◌, ℕ, List, [], ◌∷◌, All, map, min, Option, Some, None}
+use Rattle.std.specs.Prelude.{Result, Ok, Err, Vec}
 use Rattle.std.specs.declared.alloc.Global.{Global}
 use Rattle.rp_evidence.specs.declared.certificate.Item.{Item}
 use Rattle.rp_evidence.specs.declared.certificate.Kind.{Kind}
-use Rattle.serde_json.specs.Data.{Data, array, number, string, unsigned}
-use Rattle.serde_json.specs.View.{items_of}
-use Rattle.rp_json.specs.CertificateValue.{item_value, kind_name}
-use Rattle.rp_json.specs.Denoted.{FitsKind, IsFirstNoItem}
+use Rattle.rp_notation.specs.Values.{counts_value}
+use Rattle.serde_json.specs.Data.{Data}
+use Rattle.rp_json.specs.CertificateValue.{item_value, top_value}
+use Rattle.rp_json.specs.Denoted.{AreSomeLevels, FitLevels, FitsKind, IsFirstNoItem, IsTop}
 use Rattle.rp_json.specs.declared.fault.JsonFault.{JsonFault}
 use Rattle.rp_json.specs.declared.fault.JsonFault.TheVariants.{BadShape, BadVersion, NoMemory, NotJson}
 
@@ -28,6 +29,17 @@ abbrev pub AreItemsBy : Kind → List Data → Result (Vec Item Global) JsonFaul
 AreItemsBy kind values (Ok items) = AreItems kind values items.items
 AreItemsBy kind values (Err fault) = IsItemFault kind values fault
 
--- The values of a certificate's members, in the order of their names.
-abbrev pub tops : Kind → ℕ → List Data → List Data
-tops kind version items = array (items_of items) ∷ string (kind_name kind) ∷ number (unsigned version) ∷ []
+-- The levels of a certificate of this kind and version that has this value, whatever its items; or that none has it.
+abbrev pub AreLevelsBy : Kind → ℕ → Data → Option (List ℕ) → Type 0
+AreLevelsBy kind version d (Some levels) =
+    FitLevels kind version levels
+    × ((items : List Data) → IsTop kind version items d → d ≡ top_value kind version levels items)
+AreLevelsBy kind version d None =
+    (levels : List ℕ) (items : List Data) → FitLevels kind version levels → d ≢ top_value kind version levels items
+
+-- The levels that are the third of four values, or that there are none.
+abbrev pub AreThirdBy : List Data → Option (List ℕ) → Type 0
+AreThirdBy values (Some levels) = AreSomeLevels levels
+    × ((a : Data) × (b : Data) × (c : Data) × (values ≡ a ∷ b ∷ counts_value levels ∷ c ∷ []))
+AreThirdBy values None = (levels : List ℕ) (a b c : Data) → AreSomeLevels levels
+    → values ≢ a ∷ b ∷ counts_value levels ∷ c ∷ []

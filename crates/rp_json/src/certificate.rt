@@ -5,6 +5,8 @@ ghost use Rattle.rp_json.specs.CertificateValue.{kind_name};
 ghost use Rattle.rp_notation.specs.Values.{list_value};
 
 use rp_evidence::{Certificate, Item, Kind};
+use rp_notation::lists::list_value;
+use rp_notation::numbers::Count;
 use rp_num::NoMemory;
 use rp_program_items::demand::demand_value;
 use rp_program_items::random::random_value;
@@ -34,6 +36,10 @@ fn certificate_value(alloc: Global, certificate: &Certificate) -> Result<Value, 
 {
     let items = items_value(alloc, certificate.items.as_slice())?;
     let kind = kind_name(certificate.kind);
+    if certificate.version == 2 {
+        let levels = list_value::<Count>(alloc, certificate.levels.as_slice())?;
+        return Ok(json!(in alloc; {"items": items, "kind": kind, "levels": levels, "version": 2})?);
+    }
     Ok(json!(in alloc; {"items": items, "kind": kind, "version": certificate.version})?)
 }
 

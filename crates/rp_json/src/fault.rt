@@ -11,7 +11,7 @@ pub enum JsonFault {
     /// The bytes are no JSON.
     #[error("NotJson")]
     NotJson,
-    /// The certificate has another version than 1.
+    /// The certificate has another version than 1 and 2.
     #[error("BadVersion")]
     BadVersion,
     /// An item, from 1, that is none of its kind; 0 where the whole is no certificate of the kind.

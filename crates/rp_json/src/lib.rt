@@ -5,6 +5,7 @@ mod certificate;
 mod fault;
 mod items;
 mod laws;
+mod levels;
 mod reading;
 
 pub use certificate::write;

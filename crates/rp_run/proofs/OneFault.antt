@@ -4,12 +4,12 @@ use Rattle.std.proofs.lemmas.Bool.{ltb-false, ltb-true}
 use Rattle.std.specs.Prelude.{nat_lt}
 use Rattle.rp_evidence.specs.declared.certificate.Item.{Item}
 use Rattle.rp_evidence.specs.declared.certificate.Kind.{Kind}
-use Rattle.serde_json.specs.Data.{Data, Items, array, member, no_items, null, number, object, unsigned}
+use Rattle.serde_json.specs.Data.{Data, null}
 use Rattle.rp_json.specs.CertificateValue.{item_value}
-use Rattle.rp_json.specs.Denoted.{FitsKind, HasBadItem, HasNoTop, IsDenoted, IsFirstNoItem, IsSpelledSo, Spells}
+use Rattle.rp_json.specs.Denoted.{FitsKind, HasBadItem, HasNoShape, HasOtherVersion, IsDenoted, IsFirstNoItem, IsSpelledSo, Spells}
 use Rattle.rp_json.specs.declared.fault.JsonFault.{JsonFault}
 use Rattle.rp_json.specs.declared.fault.JsonFault.TheVariants.{BadShape, BadVersion, NoMemory, NotJson}
-use Rattle.rp_notation.proofs.ListLemmas.{same_items}
+use Rattle.rp_json.proofs.TopLemmas.{no_other_version, same_top}
 use Rattle.rp_patch.specs.Choices.{RandomInput}
 use Rattle.rp_patch.specs.Patches.{PatchList}
 use Rattle.rp_patch.specs.Units.{IsMultiple, PassesPatchesAt, PassesUnitsAt, SaysWhy, all_chosen}
@@ -32,14 +32,6 @@ neither_less j k not_less not_more = go (nat_lt j k) refl (nat_lt k j) refl
 
 -- ---- a certificate's bytes
 
-abbrev items_in : Data → Items
-items_in (object (member name (array items) ms)) = items
-items_in _ = no_items
-
-abbrev version_in : Data → ℕ
-version_in (object (member a d (member b e (member name (number (unsigned version)) ms)))) = version
-version_in _ = 0
-
 one_value : (bytes : List ℕ) (d e : Data) → Spells bytes d → Spells bytes e → d ≡ e
 one_value bytes d e one two = some_same d e (sym one.1 ∙ two.1)
   where
@@ -60,23 +52,27 @@ bad_once : (kind : Kind) (values : List Data) (k n : ℕ) → IsFirstNoItem kind
 bad_once kind values k n first other less = item_before kind other.before.0 values k n other.before.1 other.before.2 less first.within first.none
 
 bad_item_once : (kind : Kind) (d : Data) (item other : ℕ) → HasBadItem kind d item → HasBadItem kind d other → item ≡ other
-bad_item_once kind d item other (values, is, (k, bad, counted)) (also_values, also_is, (n, also_bad, also_counted)) =
-    let same : also_values ≡ values = same_items also_values values (ap items_in (sym also_is ∙ is)) in
-    let moved = subst (λ vs. IsFirstNoItem kind vs n) same also_bad in
+bad_item_once kind d item other (version, levels, values, fit, is, (k, bad, counted)) (also_version, also_levels, also_values, also_fit, also_is, (n, also_bad, also_counted)) =
+    let tops = same_top kind kind also_version version also_levels levels also_values values also_fit fit (sym also_is ∙ is) in
+    let moved = subst (λ vs. IsFirstNoItem kind vs n) tops.2 also_bad in
     let one : k ≡ n = neither_less k n (bad_once kind values k n bad moved) (bad_once kind values n k moved bad) in
     counted ∙ ap (λ m. min (m + 1) (2 ^ 32 - 1)) one ∙ sym also_counted
 
-shape_once : (kind : Kind) (d : Data) (item other : ℕ) → (((item ≡ 0) × HasNoTop kind d) ⊎ HasBadItem kind d item) → (((other ≡ 0) × HasNoTop kind d) ⊎ HasBadItem kind d other) → item ≡ other
-shape_once kind d item other (inl (is, none)) (inl (also, too)) = is ∙ sym also
-shape_once kind d item other (inl (is, none)) (inr (values, top, bad)) = absurd (none 1 values top)
-shape_once kind d item other (inr (values, top, bad)) (inl (is, none)) = absurd (none 1 values top)
+-- no certificate as a whole, or one with this item
+abbrev IsBadShape : Kind → Data → ℕ → Type 0
+IsBadShape kind d item = ((item ≡ 0) × HasNoShape kind d × ¬ HasOtherVersion kind d) ⊎ HasBadItem kind d item
+
+shape_once : (kind : Kind) (d : Data) (item other : ℕ) → IsBadShape kind d item → IsBadShape kind d other → item ≡ other
+shape_once kind d item other (inl (is, no_shape, no_other)) (inl (also, too, still)) = is ∙ sym also
+shape_once kind d item other (inl (is, no_shape, no_other)) (inr (version, levels, values, fit, top, bad)) = absurd (no_shape version levels values fit top)
+shape_once kind d item other (inr (version, levels, values, fit, top, bad)) (inl (is, no_shape, no_other)) = absurd (no_shape version levels values fit top)
 shape_once kind d item other (inr bad) (inr also) = bad_item_once kind d item other bad also
 
 version_apart : (kind : Kind) (bytes : List ℕ) (item : ℕ) → IsSpelledSo kind bytes (Err BadVersion) → IsSpelledSo kind bytes (Err (BadShape item)) → ⊥
-version_apart kind bytes item (d, its, (version, items, is, other)) (e, also, inl (zero_item, none)) =
-    none version items (one_value bytes e d also its ∙ is)
-version_apart kind bytes item (d, its, (version, items, is, other)) (e, also, inr (values, top, bad)) =
-    other (ap version_in (sym is ∙ one_value bytes d e its also ∙ top))
+version_apart kind bytes item (d, its, is) (e, also, inl (zero_item, no_shape, no_other)) =
+    no_other (subst (HasOtherVersion kind) (one_value bytes d e its also) is)
+version_apart kind bytes item (d, its, is) (e, also, inr (version, levels, values, fit, top, bad)) =
+    no_other_version kind version levels values d fit (one_value bytes d e its also ∙ top) is
 
 pub json_fault_once : (kind : Kind) (bytes : List ℕ) (f g : JsonFault) → f ≢ NoMemory → g ≢ NoMemory → IsDenoted kind bytes (Err f) → IsDenoted kind bytes (Err g) → f ≡ g
 json_fault_once kind bytes NoMemory g real also is too = absurd (real refl)
@@ -93,7 +89,7 @@ json_fault_once kind bytes (BadShape item) NotJson real also is too = absurd (to
 json_fault_once kind bytes (BadShape item) BadVersion real also is too = absurd (version_apart kind bytes item too is)
 json_fault_once kind bytes (BadShape item) (BadShape other) real also (d, its, is) (e, theirs, too) =
     let same : e ≡ d = one_value bytes e d theirs its in
-    ap BadShape (shape_once kind d item other is (subst (λ x. ((other ≡ 0) × HasNoTop kind x) ⊎ HasBadItem kind x other) same too))
+    ap BadShape (shape_once kind d item other is (subst (λ x. IsBadShape kind x other) same too))
 
 -- ---- choices
 

@@ -89,7 +89,7 @@ cause_of_calm files before after asks asked line other NoMemory is also calm non
 check_rejected : (table : Observations) (certificate : Certificate) (text : List ℕ) → IsTableCheck table certificate status.Rejected text → IsRejectedOver (contents.TableAndCertificate table certificate)
 check_rejected table certificate text answers = go answers.verdict answers.found answers.ends
   where
-    go : (verdict : Verdict) → IsVerdictOn (input_of_table table) certificate.items verdict → status.Rejected ≡ verdict_status verdict → IsRejectedOver (contents.TableAndCertificate table certificate)
+    go : (verdict : Verdict) → IsVerdictOn (input_of_table table) certificate.levels certificate.items verdict → status.Rejected ≡ verdict_status verdict → IsRejectedOver (contents.TableAndCertificate table certificate)
     go Accepted found ends = absurd cc
     go (Rejected item reason place) found ends = (item, reason, place, found)
 
@@ -112,7 +112,7 @@ answer_rejected _ given _ text answers = absurd (done_apart_rejected answers.0)
 -- what is accepted is not rejected
 pub accepted_apart : (held : Contents) → IsAcceptedOver held → IsRejectedOver held → ⊥
 accepted_apart (contents.TableAndCertificate table certificate) accepted (item, reason, place, found) =
-    let wrong = only_accepted (input_of_table table) certificate.items (Rejected item reason place) accepted found in cc
+    let wrong = only_accepted (input_of_table table) certificate.levels certificate.items (Rejected item reason place) accepted found in cc
 accepted_apart (contents.ChoicesAndCertificate patches types certificate) accepted (item, reason, place, found) =
     let wrong = only_accepted_on_patches patches certificate.items (Rejected item reason place) accepted found in cc
 accepted_apart _ accepted rejected = accepted
@@ -121,7 +121,7 @@ accepted_apart _ accepted rejected = accepted
 check_done : (table : Observations) (certificate : Certificate) (text : List ℕ) → IsTableCheck table certificate status.Done text → IsAcceptedOver (contents.TableAndCertificate table certificate)
 check_done table certificate text answers = go answers.verdict answers.found answers.ends
   where
-    go : (verdict : Verdict) → IsVerdictOn (input_of_table table) certificate.items verdict → status.Done ≡ verdict_status verdict → IsAcceptedOver (contents.TableAndCertificate table certificate)
+    go : (verdict : Verdict) → IsVerdictOn (input_of_table table) certificate.levels certificate.items verdict → status.Done ≡ verdict_status verdict → IsAcceptedOver (contents.TableAndCertificate table certificate)
     go Accepted found ends = found
     go (Rejected item reason place) found ends = absurd cc
 

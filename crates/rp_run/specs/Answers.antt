@@ -100,7 +100,7 @@ IsRefused files line = (bytes : ℕ → List ℕ) → AreContents files line byt
 abbrev pub IsRejectedOver : Contents → Type 0
 IsRejectedOver (contents.TableAndCertificate table certificate) =
     (item : ℕ) × (reason : Reason) × (place : ℕ)
-    × IsVerdictOn (input_of_table table) certificate.items (Rejected item reason place)
+    × IsVerdictOn (input_of_table table) certificate.levels certificate.items (Rejected item reason place)
 IsRejectedOver (contents.ChoicesAndCertificate patches types certificate) =
     (item : ℕ) × (reason : Reason) × (place : ℕ)
     × IsRandomVerdictOn patches certificate.items (Rejected item reason place)
@@ -109,7 +109,7 @@ IsRejectedOver _ = ⊥
 -- there is a certificate among the contents, and the checker accepts it
 abbrev pub IsAcceptedOver : Contents → Type 0
 IsAcceptedOver (contents.TableAndCertificate table certificate) =
-    IsVerdictOn (input_of_table table) certificate.items Accepted
+    IsVerdictOn (input_of_table table) certificate.levels certificate.items Accepted
 IsAcceptedOver (contents.ChoicesAndCertificate patches types certificate) =
     IsRandomVerdictOn patches certificate.items Accepted
 IsAcceptedOver _ = ⊥

@@ -62,8 +62,8 @@ fn answer_over(alloc: Global, line: &Line<'_>, held: &Contents) -> Result<Answer
 {
     match line.command {
         Command::Pairs => Ok(done(text_of_pairs(alloc, held.any_table())?)),
-        Command::Analyse => Ok(done(text_of_analysis(alloc, held.table(), false)?)),
-        Command::Certify => Ok(done(text_of_analysis(alloc, held.table(), true)?)),
+        Command::Analyse => Ok(done(text_of_analysis(alloc, held.any_table(), false)?)),
+        Command::Certify => Ok(done(text_of_analysis(alloc, held.any_table(), true)?)),
         Command::Check => check_of_table(alloc, held),
         Command::Demand => Ok(done(text_of_demand(alloc, line, held)?)),
         Command::Welfare => Ok(done(text_of_welfare(alloc, line, held)?)),
@@ -87,7 +87,6 @@ fn text_of_pairs(alloc: Global, table: &Table) -> Result<Vec<u8>, NoMemory>
 
 /// The verdicts on a table: their report, or their certificate as JSON.
 fn text_of_analysis(alloc: Global, table: &Table, json: bool) -> Result<Vec<u8>, NoMemory>
-    requires { table.now.levels ≡ [] }
     ensures { IfOk result (λ text. IsAnalysisText json table.now text.items) }
 {
     let costs = Costs::of(alloc, table)?;
@@ -96,7 +95,7 @@ fn text_of_analysis(alloc: Global, table: &Table, json: bool) -> Result<Vec<u8>,
 
 /// What the checker says of a certificate on a table.
 fn check_of_table(alloc: Global, held: &Contents) -> Result<Answer, NoMemory>
-    requires { AreOf false files.TableAndCertificate held.now }
+    requires { AreOf true files.TableAndCertificate held.now }
     ensures { (given : Given) → IfOk result (λ answer.
         Answers commands.Check given held.now answer.status answer.text.items) }
 {
@@ -129,7 +128,7 @@ fn text_of_welfare(alloc: Global, line: &Line<'_>, held: &Contents) -> Result<Ve
 
 /// The utility of bundles, by the verdict on the axiom.
 fn text_of_utility(alloc: Global, held: &Contents) -> Result<Vec<u8>, NoMemory>
-    requires { AreOf false files.TableAndBundles held.now }
+    requires { AreOf true files.TableAndBundles held.now }
     ensures { (given : Given) → IfOk result (λ text.
         IsText commands.Utility given held.now text.items) }
 {

@@ -74,11 +74,10 @@ impl Contents {
         }
     }
 
-    /// The table, and the certificate on it.
+    /// The table, with levels or without, and the certificate on it.
     pub(crate) fn table_and_certificate(&self) -> (&Table, &Certificate)
-        requires { AreOf false files.TableAndCertificate self.now }
+        requires { AreOf true files.TableAndCertificate self.now }
         ensures held { self.now ≡ contents.TableAndCertificate result.0.now result.1.now }
-        ensures no_levels { result.0.now.levels ≡ [] }
         ensures kind { IsCertificateOf TableKind result.1.now }
     {
         match self {
@@ -113,11 +112,10 @@ impl Contents {
         }
     }
 
-    /// The table, and the bundles.
+    /// The table, with levels or without, and the bundles.
     pub(crate) fn table_and_bundles(&self) -> (&Table, &Bundles)
-        requires { AreOf false files.TableAndBundles self.now }
+        requires { AreOf true files.TableAndBundles self.now }
         ensures held { self.now ≡ contents.TableAndBundles result.0.now result.1.now }
-        ensures no_levels { result.0.now.levels ≡ [] }
         ensures goods { result.1.now.goods ≡ goods_of result.0.now }
     {
         match self {

@@ -42,9 +42,10 @@ impl Costs {
         let n = table.n();
         let levels = Vec::from_slice(alloc, table.levels())?;
         let mut entries = Vec::new(alloc);
-        for place in 0..n * n {
-            let (s, t) = (place / n, place % n);
-            entries.push(cost_at_prices(table, s, t))?;
+        for s in 0..n {
+            for t in 0..n {
+                entries.push(cost_at_prices(table, s, t))?;
+            }
         }
         Ok(Costs { n, entries, levels })
     }

@@ -27,7 +27,7 @@ pub use table::Table;
 /// The most bytes of the name of a good.
 pub const NAME_BYTES: u32 = 64;
 /// The most observations that a table has.
-pub const RECORDS: u32 = 256;
+pub const RECORDS: u32 = 512;
 /// The most goods that a table has.
 pub const GOODS: u32 = 16;
 /// The most decimal places of a price or a quantity.

@@ -8,7 +8,7 @@ use crate::{
 /// The limits that a user meets, in numbers.
 pub fn limits_in_numbers()
     ensures name_bytes { NAME_BYTES ≡ 64 }
-    ensures records { RECORDS ≡ 256 }
+    ensures records { RECORDS ≡ 512 }
     ensures goods { GOODS ≡ 16 }
     ensures places { PLACES ≡ 6 }
     ensures largest { LARGEST ≡ 9999999 }

@@ -191,7 +191,7 @@ impl Table {
     }
 
     /// The levels by observation, or none.
-    pub(crate) fn levels(&self) -> &[u32]
+    pub fn levels(&self) -> &[u32]
         ensures same { result.now ≡ self.now.levels }
         ensures valid { IsTable self.now }
     {

@@ -96,7 +96,7 @@ module _ (headers : List (List ℕ)) (records : List (List (List ℕ))) (good : 
       )
 
   -- the table is within the limits
-  pub table_is : 1 ≤ rows_in records → rows_in records ≤ 256 → IsTable (table_of headers (figures_of table_form headers records))
+  pub table_is : 1 ≤ rows_in records → rows_in records ≤ 512 → IsTable (table_of headers (figures_of table_form headers records))
   unfolding table_of places_of
   table_is some few = record {
     some_goods = (good.fine.some refl);

@@ -38,12 +38,12 @@ file_names set = map file_name (files_in set)
 
 abbrev pub form_of : Command → Form
 form_of Pairs = with_levels (over (codes "pairs") files.Table)
-form_of Analyse = over (codes "analyse") files.Table
-form_of Certify = over (codes "certify") files.Table
-form_of Check = over (codes "check") files.TableAndCertificate
+form_of Analyse = with_levels (over (codes "analyse") files.Table)
+form_of Certify = with_levels (over (codes "certify") files.Table)
+form_of Check = with_levels (over (codes "check") files.TableAndCertificate)
 form_of Demand = with_json (over (codes "demand") files.TableAndPricesWithExpenditure)
 form_of Welfare = with_json (over (codes "welfare") files.TableAndPrices)
-form_of Utility = over (codes "utility") files.TableAndBundles
+form_of Utility = with_levels (over (codes "utility") files.TableAndBundles)
 form_of Random = with_per (with_json (over (codes "random") files.Choices))
 form_of CheckRandom = with_per (over (codes "checkrandom") files.ChoicesAndCertificate)
 form_of Trial = with_numbers (seed ∷ rows ∷ goods ∷ []) (over (codes "trial") files.Nothing)

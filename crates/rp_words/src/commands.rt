@@ -174,9 +174,18 @@ impl Command {
                 levels: true,
                 ..over("pairs", FileSet::Table)
             },
-            Command::Analyse => over("analyse", FileSet::Table),
-            Command::Certify => over("certify", FileSet::Table),
-            Command::Check => over("check", FileSet::TableAndCertificate),
+            Command::Analyse => Form {
+                levels: true,
+                ..over("analyse", FileSet::Table)
+            },
+            Command::Certify => Form {
+                levels: true,
+                ..over("certify", FileSet::Table)
+            },
+            Command::Check => Form {
+                levels: true,
+                ..over("check", FileSet::TableAndCertificate)
+            },
             Command::Demand => Form {
                 json: true,
                 ..over("demand", FileSet::TableAndPricesWithExpenditure)
@@ -185,7 +194,10 @@ impl Command {
                 json: true,
                 ..over("welfare", FileSet::TableAndPrices)
             },
-            Command::Utility => over("utility", FileSet::TableAndBundles),
+            Command::Utility => Form {
+                levels: true,
+                ..over("utility", FileSet::TableAndBundles)
+            },
             Command::Random => Form {
                 per: true,
                 json: true,

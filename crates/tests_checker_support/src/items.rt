@@ -41,6 +41,7 @@ pub fn answer(alloc: Global, text: &str, items: Vec<Item>) -> Result<String, Fai
     let certificate = Certificate {
         kind: Kind::Table,
         version: 1,
+        levels: Seq::from_vec(Vec::new(alloc)),
         items: Seq::from_vec(items),
     };
     match check(&table, &costs, &certificate) {

@@ -57,6 +57,14 @@ fn texts_that_are_no_certificate(rt: HostRuntime) -> Result<(), Fail> {
         ),
         (
             "{\"items\":[],\"kind\":\"table\",\"version\":2}",
+            "BadShape item 0",
+        ),
+        (
+            "{\"items\":[],\"kind\":\"table\",\"levels\":[1001],\"version\":2}",
+            "BadShape item 0",
+        ),
+        (
+            "{\"items\":[],\"kind\":\"table\",\"levels\":7,\"version\":3}",
             "BadVersion",
         ),
         (

@@ -24,16 +24,116 @@ fn pairs_takes_a_table_with_levels(rt: HostRuntime) -> Result<(), Fail> {
     Ok(())
 }
 
+/// Just below four fifths the first step is none.
+const BELOW: &str = "p_a,q_a,p_b,q_b,e\n1,1,2,2,799\n2,2,1,1,1000\n";
+
+/// The certificate of that table.
+const CERTIFICATE: &str =
+    "{\"items\":[{\"item\":\"garp\",\"ranks\":[1,2]},{\"item\":\"afriat\",\"lambda\":[\"200\",\"1\"],\"utility\":[\"-1000\",\"0\"]},{\"above\":[1,2,1],\"at_ranks\":[2,2],\"below\":[1,1],\"item\":\"efficiency\",\"level\":\"4/5\"},{\"cycle\":[1,2,1],\"item\":\"homothetic\",\"start\":\"1\"},{\"cycle\":[1,2,1],\"item\":\"quasilinear\"}],\"kind\":\"table\",\"levels\":[799,1000],\"version\":2}\n";
+
+#[test]
+fn verdicts_and_utilities_by_levels(rt: HostRuntime) -> Result<(), Fail> {
+    for (words, out) in [
+        (
+            &["rp", "analyse", "t.csv"] as &[&str],
+            "observations 2 goods 2 places 0 0\nlevels 799 1000\ngarp holds\nranks 1 2\nafriat model\nutility -1000 0\nlambda 200 1\nefficiency 4/5 attained yes\nbelow 1 1\nabove 1 2 1\nat ranks 2 2\nhomothetic violated\nstart 1\ncycle 1 2 1\nquasilinear violated\ncycle 1 2 1\n",
+        ),
+        (&["rp", "certify", "t.csv"], CERTIFICATE),
+        (
+            &["rp", "utility", "t.csv", "b.csv"],
+            "observations 2 goods 2 places 0 0\nlevels 799 1000\ngarp holds\nranks 1 2\nafriat model\nutility -1000 0\nlambda 200 1\nat 1 value -1000\nat 2 value 0\n",
+        ),
+    ] {
+        let files = &[("t.csv", BELOW), ("b.csv", "q_a,q_b\n1,2\n2,1\n")];
+        let got = run_over(rt.alloc(), words, files)?;
+        assert!(rt; gives(&got, Status::Done, out), "{words:?} {}", got.out);
+    }
+    Ok(())
+}
+
+/// The certificate of the table with other levels, or none, is another table's.
+#[test]
+fn levels_of_a_certificate_are_those_of_the_table(rt: HostRuntime) -> Result<(), Fail> {
+    for (table, certificate, status, out) in [
+        (
+            BELOW,
+            CERTIFICATE,
+            Status::Done,
+            "accepted items 5 withheld 0\n",
+        ),
+        (
+            "p_a,q_a,p_b,q_b\n1,1,2,2\n2,2,1,1\n",
+            CERTIFICATE,
+            Status::Rejected,
+            "rejected item 0 Levels place 0\n",
+        ),
+        (
+            "p_a,q_a,p_b,q_b,e\n1,1,2,2,799\n2,2,1,1,999\n",
+            CERTIFICATE,
+            Status::Rejected,
+            "rejected item 0 Levels place 2\n",
+        ),
+        (
+            BELOW,
+            "{\"items\":[],\"kind\":\"table\",\"version\":1}",
+            Status::Rejected,
+            "rejected item 0 Levels place 0\n",
+        ),
+    ] {
+        let files = &[("t.csv", table), ("c.json", certificate)];
+        let got = run_over(rt.alloc(), &["rp", "check", "t.csv", "c.json"], files)?;
+        assert!(rt; gives(&got, status, out), "{table} {}", got.out);
+    }
+    Ok(())
+}
+
+/// At 800 and 800 both steps of the cycle are equalities; a model in the scale without levels is none with them.
+#[test]
+fn forged_evidence_with_levels(rt: HostRuntime) -> Result<(), Fail> {
+    for (table, certificate, out) in [
+        (
+            BELOW,
+            "{\"items\":[{\"cycle\":[1,2,1],\"item\":\"garp\"}],\"kind\":\"table\",\"levels\":[799,1000],\"version\":2}",
+            "rejected item 1 NotWeak place 1\n",
+        ),
+        (
+            "p_a,q_a,p_b,q_b,e\n1,1,2,2,800\n2,2,1,1,800\n",
+            "{\"items\":[{\"cycle\":[1,2,1],\"item\":\"afriat\"}],\"kind\":\"table\",\"levels\":[800,800],\"version\":2}",
+            "rejected item 1 NoStrict place 0\n",
+        ),
+        (
+            BELOW,
+            "{\"items\":[{\"item\":\"afriat\",\"lambda\":[\"1\",\"1\"],\"utility\":[\"-1\",\"0\"]}],\"kind\":\"table\",\"levels\":[799,1000],\"version\":2}",
+            "rejected item 1 Order place 2\n",
+        ),
+        (
+            BELOW,
+            "{\"items\":[{\"cycle\":[1,2,1],\"expenditure\":\"3\",\"item\":\"demand\",\"prices\":[\"1\",\"1\"]}],\"kind\":\"table\",\"levels\":[799,1000],\"version\":2}",
+            "rejected item 1 Levels place 0\n",
+        ),
+        (
+            BELOW,
+            "{\"items\":[{\"cycle\":[1,2,1],\"item\":\"welfare\",\"observation\":1,\"prices\":[\"1\",\"1\"]}],\"kind\":\"table\",\"levels\":[799,1000],\"version\":2}",
+            "rejected item 1 Levels place 0\n",
+        ),
+    ] {
+        let files = &[("t.csv", table), ("c.json", certificate)];
+        let got = run_over(rt.alloc(), &["rp", "check", "t.csv", "c.json"], files)?;
+        assert!(rt;
+            gives(&got, Status::Rejected, out),
+            "{certificate} {}",
+            got.out
+        );
+    }
+    Ok(())
+}
+
 /// Before a second file is asked for: there is none.
 #[test]
 fn other_commands_refuse_levels(rt: HostRuntime) -> Result<(), Fail> {
     for words in [
-        &["rp", "analyse", "t.csv"] as &[&str],
-        &["rp", "certify", "t.csv"],
-        &["rp", "check", "t.csv", "c.json"],
-        &["rp", "demand", "t.csv", "n.csv"],
+        &["rp", "demand", "t.csv", "n.csv"] as &[&str],
         &["rp", "welfare", "t.csv", "n.csv", "--json"],
-        &["rp", "utility", "t.csv", "b.csv"],
         &["rp", "pump", "t.csv"],
         &["rp", "power", "t.csv", "7", "1000"],
     ] {

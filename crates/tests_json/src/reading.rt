@@ -7,6 +7,10 @@ use std::test::Fail;
 const CONTRADICTION: &str =
     "{\"items\":[{\"cycle\":[1,2,1],\"item\":\"garp\"},{\"cycle\":[1,2,1],\"item\":\"afriat\"},{\"above\":[1,2,1],\"at_ranks\":[2,2],\"below\":[1,1],\"item\":\"efficiency\",\"level\":\"4/5\"},{\"cycle\":[1,2,1],\"item\":\"homothetic\",\"start\":\"1\"},{\"cycle\":[1,2,1],\"item\":\"quasilinear\"}],\"kind\":\"table\",\"version\":1}\n";
 
+/// The certificate of the same purchases where the first counts for 799 thousandths of what was spent.
+const LEVELS: &str =
+    "{\"items\":[{\"item\":\"garp\",\"ranks\":[1,2]},{\"item\":\"afriat\",\"lambda\":[\"200\",\"1\"],\"utility\":[\"-1000\",\"0\"]},{\"above\":[1,2,1],\"at_ranks\":[2,2],\"below\":[1,1],\"item\":\"efficiency\",\"level\":\"4/5\"},{\"cycle\":[1,2,1],\"item\":\"homothetic\",\"start\":\"1\"},{\"cycle\":[1,2,1],\"item\":\"quasilinear\"}],\"kind\":\"table\",\"levels\":[799,1000],\"version\":2}\n";
+
 /// A violation of random choices from two budgets.
 const RANDOM: &str =
     "{\"items\":[{\"den\":\"1\",\"item\":\"random\",\"parts\":[[[1,4],\"1\"],[[2,3],\"2\"]],\"total\":\"4\",\"weights\":[\"1\",\"0\",\"1\",\"0\"]}],\"kind\":\"random\",\"version\":1}\n";
@@ -31,11 +35,12 @@ fn of_table(alloc: Global, item: &str) -> Result<String, Fail> {
     Ok(format!(in alloc; "{{\"items\":[{item}],\"kind\":\"table\",\"version\":1}}\n")?)
 }
 
-/// Both whole certificates are written as they were read, and so is one that is spelled in another way.
+/// Whole certificates are written as they were read, and so is one that is spelled in another way.
 #[test]
 fn whole_certificates_there_and_back(rt: HostRuntime) -> Result<(), Fail> {
     let alloc = rt.alloc();
     assert!(rt; is_written_as(alloc, CONTRADICTION.as_bytes(), Kind::Table, CONTRADICTION)?);
+    assert!(rt; is_written_as(alloc, LEVELS.as_bytes(), Kind::Table, LEVELS)?);
     assert!(rt; is_written_as(alloc, RANDOM.as_bytes(), Kind::Random, RANDOM)?);
     let plain = "{\"items\":[],\"kind\":\"table\",\"version\":1}\n";
     for spelled in [
@@ -165,20 +170,26 @@ fn bounds_that_are_none(rt: HostRuntime) -> Result<(), Fail> {
     Ok(())
 }
 
-/// The top: its three members, then the version, and only then the items.
+/// The top: its kind, its version and its items, whatever else stands there; then which version it is.
 #[test]
 fn tops_and_versions(rt: HostRuntime) -> Result<(), Fail> {
     let alloc = rt.alloc();
     let whole = Some(JsonFault::BadShape { item: 0 });
+    let version = Some(JsonFault::BadVersion);
     for (text, fault) in [
+        ("{\"items\":[7],\"kind\":\"table\",\"version\":0}", version),
+        ("{\"items\":[],\"kind\":\"table\",\"version\":3}", version),
         (
-            "{\"items\":[],\"kind\":\"table\",\"version\":2}",
-            Some(JsonFault::BadVersion),
+            "{\"items\":[],\"kind\":\"table\",\"levels\":[1],\"version\":3}",
+            version,
         ),
         (
-            "{\"items\":[7],\"kind\":\"table\",\"version\":0}",
-            Some(JsonFault::BadVersion),
+            "{\"items\":[],\"kind\":\"table\",\"levels\":7,\"more\":1,\"version\":3}",
+            version,
         ),
+        ("{\"items\":[],\"kind\":\"random\",\"version\":3}", whole),
+        ("{\"items\":[],\"version\":3}", whole),
+        ("{\"kind\":\"table\",\"version\":3}", whole),
         ("{\"items\":[],\"kind\":\"table\",\"version\":1.0}", whole),
         ("{\"items\":[],\"kind\":\"table\",\"version\":-1}", whole),
         (
@@ -186,17 +197,104 @@ fn tops_and_versions(rt: HostRuntime) -> Result<(), Fail> {
             whole,
         ),
         ("{\"items\":[],\"kind\":\"random\",\"version\":1}", whole),
-        ("{\"items\":[],\"kind\":\"random\",\"version\":2}", whole),
         ("{\"items\":{},\"kind\":\"table\",\"version\":1}", whole),
         ("{\"items\":[],\"kind\":\"table\"}", whole),
         (
-            "{\"items\":[],\"kind\":\"table\",\"more\":1,\"version\":2}",
+            "{\"items\":[],\"kind\":\"table\",\"more\":1,\"version\":1}",
+            whole,
+        ),
+        (
+            "{\"items\":[],\"kind\":\"table\",\"levels\":[],\"version\":1}",
+            whole,
+        ),
+        (
+            "{\"items\":[],\"kind\":\"table\",\"levels\":[1],\"version\":1}",
             whole,
         ),
         ("[]", whole),
         ("1", whole),
     ] {
-        assert!(rt; fault_of(alloc, text.as_bytes(), Kind::Table) == fault);
+        assert!(rt;
+            fault_of(alloc, text.as_bytes(), Kind::Table) == fault,
+            "{text}"
+        );
+    }
+    Ok(())
+}
+
+/// Version 2: on a table alone, with one or more levels of 1 to 1,000; and only then its items.
+#[test]
+fn tops_with_levels(rt: HostRuntime) -> Result<(), Fail> {
+    let alloc = rt.alloc();
+    let whole = Some(JsonFault::BadShape { item: 0 });
+    for (text, fault) in [
+        ("{\"items\":[],\"kind\":\"table\",\"version\":2}", whole),
+        (
+            "{\"items\":[7],\"kind\":\"table\",\"levels\":[],\"version\":2}",
+            whole,
+        ),
+        (
+            "{\"items\":[],\"kind\":\"table\",\"levels\":[0],\"version\":2}",
+            whole,
+        ),
+        (
+            "{\"items\":[],\"kind\":\"table\",\"levels\":[1,1001],\"version\":2}",
+            whole,
+        ),
+        (
+            "{\"items\":[],\"kind\":\"table\",\"levels\":[\"1\"],\"version\":2}",
+            whole,
+        ),
+        (
+            "{\"items\":[],\"kind\":\"table\",\"levels\":[1.0],\"version\":2}",
+            whole,
+        ),
+        (
+            "{\"items\":[],\"kind\":\"table\",\"levels\":\"1\",\"version\":2}",
+            whole,
+        ),
+        (
+            "{\"items\":[],\"kind\":\"table\",\"levels\":1,\"version\":2}",
+            whole,
+        ),
+        (
+            "{\"items\":[],\"kind\":\"table\",\"levels\":[1],\"more\":1,\"version\":2}",
+            whole,
+        ),
+        (
+            "{\"items\":[],\"kind\":\"table\",\"more\":[1],\"version\":2}",
+            whole,
+        ),
+        (
+            "{\"items\":[],\"kind\":\"random\",\"levels\":[1],\"version\":2}",
+            whole,
+        ),
+        (
+            "{\"items\":[],\"kind\":\"table\",\"levels\":[1,1000],\"version\":2}",
+            None,
+        ),
+        (
+            "{\"items\":[7],\"kind\":\"table\",\"levels\":[1],\"version\":2}",
+            Some(JsonFault::BadShape { item: 1 }),
+        ),
+    ] {
+        assert!(rt;
+            fault_of(alloc, text.as_bytes(), Kind::Table) == fault,
+            "{text}"
+        );
+    }
+    for (text, fault) in [
+        (
+            "{\"items\":[],\"kind\":\"random\",\"levels\":[1],\"version\":2}",
+            whole,
+        ),
+        ("{\"items\":[],\"kind\":\"random\",\"version\":2}", whole),
+        ("{\"items\":[],\"kind\":\"random\",\"version\":1}", None),
+    ] {
+        assert!(rt;
+            fault_of(alloc, text.as_bytes(), Kind::Random) == fault,
+            "{text}"
+        );
     }
     Ok(())
 }

@@ -12,10 +12,11 @@ fn list<T: Copy>(alloc: Global, entries: &[T]) -> Result<Seq<T>, NoMemory> {
 }
 
 /// A certificate of this kind with these items.
-fn certificate(kind: Kind, items: Vec<Item>) -> Certificate {
+fn certificate(alloc: Global, kind: Kind, items: Vec<Item>) -> Certificate {
     Certificate {
         kind,
         version: 1,
+        levels: Seq::from_vec(Vec::new(alloc)),
         items: Seq::from_vec(items),
     }
 }
@@ -24,7 +25,7 @@ fn certificate(kind: Kind, items: Vec<Item>) -> Certificate {
 fn text_of(alloc: Global, item: Item) -> Result<Vec<u8>, NoMemory> {
     let mut items = Vec::new(alloc);
     items.push(item)?;
-    write(alloc, &certificate(Kind::Table, items))
+    write(alloc, &certificate(alloc, Kind::Table, items))
 }
 
 /// Whether this text was written.
@@ -51,7 +52,7 @@ fn contradiction_of_two_purchases(rt: HostRuntime) -> Result<(), Fail> {
         steps: list(alloc, &cycle)?,
     }))?;
     items.push(Item::Quasi(Quasi::Cycle(list(alloc, &cycle)?)))?;
-    let text = write(alloc, &certificate(Kind::Table, items))?;
+    let text = write(alloc, &certificate(alloc, Kind::Table, items))?;
     assert!(rt;
         is(
             &text,
@@ -65,7 +66,7 @@ fn contradiction_of_two_purchases(rt: HostRuntime) -> Result<(), Fail> {
 #[test]
 fn certificate_without_items(rt: HostRuntime) -> Result<(), Fail> {
     let alloc = rt.alloc();
-    let text = write(alloc, &certificate(Kind::Random, Vec::new(alloc)))?;
+    let text = write(alloc, &certificate(alloc, Kind::Random, Vec::new(alloc)))?;
     assert!(rt; is(&text, b"{\"items\":[],\"kind\":\"random\",\"version\":1}\n"));
     Ok(())
 }

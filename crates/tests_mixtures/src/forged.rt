@@ -1,4 +1,4 @@
-ghost use Rattle.std.specs.Prelude.{◌≡◌, ◌≤◌, All, IfOk, IfSome};
+ghost use Rattle.std.specs.Prelude.{◌≡◌, ◌≤◌, [], All, IfOk, IfSome};
 ghost use Rattle.rp_evidence.specs.Kinds.{IsOfKind};
 ghost use Rattle.rp_evidence.specs.declared.certificate.Kind.TheVariants.{Random as RandomKind};
 
@@ -89,12 +89,13 @@ pub fn withheld(total: u64, step: u64) -> Item
 }
 
 /// A certificate of these items.
-pub fn certificate(items: Vec<Item>) -> Certificate
-    ensures { result ≡ record { kind = RandomKind; version = 1; items = items.items } }
+pub fn certificate(alloc: Global, items: Vec<Item>) -> Certificate
+    ensures { result ≡ record { kind = RandomKind; version = 1; levels = []; items = items.items } }
 {
     Certificate {
         kind: Kind::Random,
         version: 1,
+        levels: Seq::from_vec(Vec::new(alloc)),
         items: Seq::from_vec(items),
     }
 }
@@ -103,7 +104,7 @@ pub fn certificate(items: Vec<Item>) -> Certificate
 pub fn answer(alloc: Global, patches: &Patches, items: Vec<Item>) -> Result<String, Fail>
     requires { All (IsOfKind RandomKind) items.items }
 {
-    match check_random(patches, &certificate(items)) {
+    match check_random(patches, &certificate(alloc, items)) {
         Verdict::Accepted => Ok(String::from_str(alloc, "accepted")?),
         Verdict::Rejected {
             item,

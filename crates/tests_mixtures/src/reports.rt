@@ -18,7 +18,7 @@ use std::test::Fail;
 fn reported(alloc: Global, patches: &Patches, types: u32, items: Vec<Item>) -> Result<String, Fail>
     requires { All (IsOfKind RandomKind) items.items }
 {
-    let certificate = certificate(items);
+    let certificate = certificate(alloc, items);
     match check_random(patches, &certificate) {
         Verdict::Accepted => {
             let text = report_random(alloc, &certificate, patches, types)?;

@@ -131,6 +131,14 @@ fn texts_of_certificates(rt: HostRuntime) -> Result<(), Fail> {
         (ON_A_TABLE, "rp: v.json: BadShape item 0\n"),
         (
             r#"{"items":[],"kind":"random","version":2}"#,
+            "rp: v.json: BadShape item 0\n",
+        ),
+        (
+            r#"{"items":[],"kind":"random","levels":[1],"version":2}"#,
+            "rp: v.json: BadShape item 0\n",
+        ),
+        (
+            r#"{"items":[],"kind":"random","version":3}"#,
             "rp: v.json: BadVersion\n",
         ),
         (

@@ -1,4 +1,3 @@
-use Rattle.std.proofs.Common.{◌∙◌}
 use Rattle.example_verdict.proofs.Accepted.{certificate_accepted}
 use Rattle.example_verdict.proofs.certificate.certify.Goals as goal
 
@@ -11,9 +10,7 @@ returns-clause-proves c = record {
   proves = c.check-outcome.ensures.accepted_proves
       (certificate_accepted c.args.table.now c.args.costs.now c.requires.of_table
       c.in_ok-garp.garp c.in_ok-afriat.afriat c.in_ok-efficiency.efficiency c.in_ok-certificate.certificate c.check-outcome.result
-      (c.in_ok-garp.ensures.proves_without_levels (c.requires.of_table.levels ∙ c.requires.no_levels))
-      (c.in_ok-afriat.ensures.proves_without_levels (c.requires.of_table.levels ∙ c.requires.no_levels))
-      (c.in_ok-afriat.ensures.given_without_levels (c.requires.of_table.levels ∙ c.requires.no_levels))
+      c.requires.no_levels c.in_ok-garp.ensures.proves c.in_ok-afriat.ensures.proves c.in_ok-afriat.ensures.given
       c.in_ok-efficiency.ensures.proves c.in_ok-efficiency.ensures.given
       c.in_ok-certificate.ensures c.check-outcome.ensures.first_failure);
 }
@@ -22,8 +19,6 @@ pub returns-clause-accepted : goal.returns-clause-accepted
 returns-clause-accepted c =
     certificate_accepted c.args.table.now c.args.costs.now c.requires.of_table
     c.in_ok-garp.garp c.in_ok-afriat.afriat c.in_ok-efficiency.efficiency c.in_ok-certificate.certificate c.check-outcome.result
-    (c.in_ok-garp.ensures.proves_without_levels (c.requires.of_table.levels ∙ c.requires.no_levels))
-    (c.in_ok-afriat.ensures.proves_without_levels (c.requires.of_table.levels ∙ c.requires.no_levels))
-    (c.in_ok-afriat.ensures.given_without_levels (c.requires.of_table.levels ∙ c.requires.no_levels))
+    c.requires.no_levels c.in_ok-garp.ensures.proves c.in_ok-afriat.ensures.proves c.in_ok-afriat.ensures.given
     c.in_ok-efficiency.ensures.proves c.in_ok-efficiency.ensures.given
     c.in_ok-certificate.ensures c.check-outcome.ensures.first_failure

@@ -13,4 +13,4 @@ returns-clause-readable c = λ input verdict rest limited. certificate_readable 
 
 pub returns-clause-read_back : goal.returns-clause-read_back
 returns-clause-read_back c = λ input verdict rest limited first all.
-    text_read_back Table (certificate_from verdict rest) (certificate_readable input limited verdict rest first all)
+    text_read_back Table (certificate_from input.levels verdict rest) (certificate_readable input limited verdict rest first all)

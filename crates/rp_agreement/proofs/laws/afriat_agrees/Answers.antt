@@ -6,4 +6,4 @@ pub returns-clause-accepted : goal.returns-clause-accepted
 returns-clause-accepted c = afriat_passes
 
 pub returns-clause-readable : goal.returns-clause-readable
-returns-clause-readable c = λ n cost verdict few. afriat_fits n cost few verdict
+returns-clause-readable c = λ n levels c part few. afriat_fits n few levels c part

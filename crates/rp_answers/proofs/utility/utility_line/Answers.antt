@@ -11,5 +11,5 @@ use Rattle.rp_answers.proofs.utility.utility_line.Goals as goal
 pub returns-in_ok-line-in-Model : goal.returns-in_ok-line-in-Model
 returns-in_ok-line-in-Model c =
     let numbers = c.in-Model.numbers in
-    let value = utility_there c.args.costs.now c.args.table.now c.requires.of_table (utility_in numbers) (multiplier_in numbers) (bundle_cost c.args.table.now c.args.bundle.now) c.utility_at-value.result (c.utility_at-value.ensures.without_levels (c.requires.of_table.levels ∙ c.requires.no_levels)) in
+    let value = utility_there c.args.costs.now c.args.table.now c.requires.of_table (utility_in numbers) (multiplier_in numbers) (bundle_cost c.args.table.now c.args.bundle.now) c.utility_at-value.result c.utility_at-value.ensures.own in
     rw c.in-Model.is (c.utility_at-value.result, value, c.in_ok-line-in-Model.ensures ∙ ap (λ v. at_line c.args.k (codes " value " ++ signed_decimal v)) (to_z-of_z w128 c.utility_at-value.result (record { sfits = c.utility_at-value.type_inv })))

@@ -7,7 +7,7 @@ use Rattle.rp_garp.specs.Verdict.{IsGarpVerdict}
 use Rattle.rp_agreement.specs.ReadBack.{IsReadBack}
 use Rattle.rp_answers.specs.Accepted.{IsAcceptedOn}
 use Rattle.rp_answers.proofs.AcceptedLemmas.{garp_first_accepted}
-use Rattle.rp_answers.proofs.GarpFirstLemmas.{garp_there, garp_given_there}
+use Rattle.rp_answers.proofs.GarpFirstLemmas.{garp_at_one_there, garp_given_at_one_there, garp_there}
 use Rattle.rp_answers.proofs.ReadBackLemmas.{garp_first_read_back}
 use Rattle.rp_answers.proofs.welfare.welfare_certificate.Goals as goal
 
@@ -19,8 +19,9 @@ returns c =
     let garp = c.in_ok-garp.garp in
     let input = input_of_table table in
     let others = c.in_ok-others.others.items in
-    let proves : Proves input (GarpItem garp) = garp_there costs table c.requires.of_table garp (c.in_ok-garp.ensures.proves_without_levels none) in
-    let given : IsGarpVerdict input.n input.cost garp = garp_given_there costs table c.requires.of_table garp (c.in_ok-garp.ensures.given_without_levels none) in
+    let proves : Proves input (GarpItem garp) = garp_there costs table c.requires.of_table garp c.in_ok-garp.ensures.proves in
+    let at_one = garp_at_one_there costs table c.requires.of_table garp (c.in_ok-garp.ensures.proves_without_levels none) in
+    let given : IsGarpVerdict input.n input.cost garp = garp_given_at_one_there costs table c.requires.of_table garp (c.in_ok-garp.ensures.given_without_levels none) in
     record {
       garp = garp;
       others = others;
@@ -28,6 +29,6 @@ returns c =
       garp_proves = proves;
       garp_given = given;
       answered = c.in_ok-others.ensures;
-      accepted = subst (IsAcceptedOn input) (sym c.in_ok-made.ensures) (garp_first_accepted input garp proves _ _ others c.in_ok-others.ensures (λ k item is. is.passes));
-      read_back = subst (IsReadBack Table) (sym c.in_ok-made.ensures) (garp_first_read_back table c.n.ensures.valid garp proves given _ _ others c.in_ok-others.ensures (λ k item is. is.readable));
+      accepted = subst (IsAcceptedOn input) (sym c.in_ok-made.ensures) (garp_first_accepted input c.requires.no_levels garp proves _ _ others c.in_ok-others.ensures (λ k item is. is.passes));
+      read_back = subst (IsReadBack Table) (sym c.in_ok-made.ensures) (garp_first_read_back table c.n.ensures.valid garp at_one given _ _ others c.in_ok-others.ensures (λ k item is. is.readable));
     }

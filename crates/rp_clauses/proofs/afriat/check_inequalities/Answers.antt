@@ -10,5 +10,8 @@ pub returns-then-not-allows : goal.returns-then-not-allows
 returns-then-not-allows c =
     let allows = rw (c.as_slice-utility.ensures, c.as_slice-multiplier.ensures) at c.allows.ensures in
     first_not (records_of c.args.input.now.table.now) c.loop-s.s
-    (AllowsAt (records_of c.args.input.now.table.now) (cost_of c.args.input.now.table.now) c.args.numbers.now) Order
+    (AllowsAt (records_of c.args.input.now.table.now) c.args.input.now.table.now.levels (cost_of c.args.input.now.table.now) c.args.numbers.now) Order
     c.fails.result (omega arith) c.loop-s.invariant (λ holds. absurd (cc (allows.1 holds))) c.fails.ensures
+
+pub returns : goal.returns
+returns c = λ k k_in. c.loop-s.invariant k (omega arith)

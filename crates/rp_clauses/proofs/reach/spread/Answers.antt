@@ -8,7 +8,7 @@ use Rattle.rp_clauses.proofs.reach.spread.Goals as goal
 pub loop-u-init : goal.loop-u-init
 loop-u-init c =
     let table = c.args.input.now.table.now in
-    spread_none (records_of table) (step_of c.args.way (cost_of table)) c.args.marks.now 256 c.requires (omega (arith, c.n-n.ensures.count, c.n-n.ensures.few))
+    spread_none (records_of table) (step_of c.args.way (cost_of table)) c.args.marks.now 512 c.requires (omega (arith, c.n-n.ensures.count, c.n-n.ensures.few))
 
 pub loop-u-smaller : goal.loop-u-smaller
 loop-u-smaller c =

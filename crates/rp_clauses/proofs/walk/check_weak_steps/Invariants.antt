@@ -1,8 +1,8 @@
 use Rattle.std.proofs.Common.{ℕ, ◌<◌}
 use Rattle.rp_clauses.specs.WalkFailure.{AtStep}
-use Rattle.rp_evidence.specs.Preference.{IsWeak}
+use Rattle.rp_clauses.specs.Standards.{WeakUnder}
 use Rattle.rp_table.specs.Cost.{cost_of}
 use Rattle.rp_clauses.proofs.walk.check_weak_steps.Given as goal
 
 abbrev pub invariant-loop-k : goal.invariant-loop-k
-invariant-loop-k l = (k : ℕ) → k < l.k → AtStep (IsWeak (cost_of l.input.table.now) l.level.num l.level.den) l.walk k
+invariant-loop-k l = (k : ℕ) → k < l.k → AtStep (WeakUnder l.standard l.input.table.now.levels (cost_of l.input.table.now)) l.walk k

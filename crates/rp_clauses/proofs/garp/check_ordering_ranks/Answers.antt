@@ -1,0 +1,20 @@
+use Rattle.std.proofs.Common.{◌≡◌, arith, length}
+use Rattle.rp_clauses.specs.GarpFailure.{OrdersAt}
+use Rattle.rp_clauses.specs.Standards.{StrictUnder}
+use Rattle.rp_evidence.specs.declared.failure.Reason.TheVariants.{Order, Shape}
+use Rattle.rp_patch.specs.Clauses.{FirstUnless, Unless}
+use Rattle.rp_patch.proofs.ClauseLemmas.{first_not, then_last}
+use Rattle.rp_table.specs.Cost.{cost_of}
+use Rattle.rp_table.specs.Tables.{records_of}
+use Rattle.rp_clauses.proofs.garp.check_ordering_ranks.Goals as goal
+
+pub returns-then-not-orders : goal.returns-then-not-orders
+returns-then-not-orders c =
+    let n = records_of c.args.input.now.table.now in
+    let strict = StrictUnder c.args.standard c.args.input.now.table.now.levels (cost_of c.args.input.now.table.now) in
+    let r = c.fails-then-not-orders.result in
+    then_last (Unless (length c.args.ranks.now ≡ n) Shape 0) (FirstUnless n (OrdersAt n strict c.args.ranks.now) Order) r (omega arith)
+    (first_not n c.loop-s.s (OrdersAt n strict c.args.ranks.now) Order r (omega arith) c.loop-s.invariant (λ holds. absurd (cc (c.orders.ensures.1 holds))) c.fails-then-not-orders.ensures)
+
+pub returns : goal.returns
+returns c = (omega arith, ((λ k k_in. c.loop-s.invariant k (omega arith)), tt))
