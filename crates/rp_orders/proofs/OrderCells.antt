@@ -23,7 +23,7 @@ both true false h = absurd cc
 both false b h = absurd cc
 
 -- one term alone among the first
-sum_alone : (f : ℕ → ℕ) (n h : ℕ) → h < n → ((i : ℕ) → i < n → i ≢ h → f i ≡ 0) → sum_below n f ≡ f h
+pub sum_alone : (f : ℕ → ℕ) (n h : ℕ) → h < n → ((i : ℕ) → i < n → i ≢ h → f i ≡ 0) → sum_below n f ≡ f h
 sum_alone f zero h l others = absurd (omega (arith, l))
 sum_alone f (suc n) h l others = elim (cases_eq n h) [
   | inl e ↦
@@ -36,7 +36,7 @@ sum_alone f (suc n) h l others = elim (cases_eq n h) [
       omega (arith, rest, last)
 ]
 
-term_within : (f : ℕ → ℕ) (n h : ℕ) → h < n → f h ≤ sum_below n f
+pub term_within : (f : ℕ → ℕ) (n h : ℕ) → h < n → f h ≤ sum_below n f
 term_within f zero h l = absurd (omega (arith, l))
 term_within f (suc n) h l = elim (cases_eq h n) [
   | inl e ↦ (let same = ap f e in omega (arith, same))

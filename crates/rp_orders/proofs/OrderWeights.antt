@@ -34,7 +34,7 @@ picked_has menu (x ∷ order) j l has = by (picked_has menu order) (has_letter m
     by rest false here zero m has = absurd (cc (here, has))
     by rest false here (suc i) m has = rest i (omega (arith, m)) has
 
-picking_cons : (menu x : ℕ) (part : Share) (parts : List Share) → weight_picking menu x (part ∷ parts) ≡ (if picked menu part.patches == x then part.weight else 0) + weight_picking menu x parts
+pub picking_cons : (menu x : ℕ) (part : Share) (parts : List Share) → weight_picking menu x (part ∷ parts) ≡ (if picked menu part.patches == x then part.weight else 0) + weight_picking menu x parts
 picking_cons menu x part parts = sum_by-cons (λ (q : Share). if picked menu q.patches == x then q.weight else 0) part parts
 
 -- a part has no more than those that pick the same letter together
@@ -58,7 +58,7 @@ pub kept : List Share → List Share
 kept [] = []
 kept (part ∷ parts) = keep part.weight part (kept parts)
 
-kept_of : (parts : List Share) → weight_of (kept parts) ≡ weight_of parts
+pub kept_of : (parts : List Share) → weight_of (kept parts) ≡ weight_of parts
 unfolding kept keep
 kept_of [] = refl
 kept_of (part ∷ parts) = by (kept_of parts) part.weight refl ∙ sym (of_cons part parts)

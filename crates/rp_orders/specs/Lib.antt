@@ -5,3 +5,4 @@ pub mod MenuEvidence
 pub mod MenuSums
 pub mod InnerLists
 pub mod InnerOrders
+pub mod InnerSums

@@ -6,6 +6,7 @@ use Rattle.rp_evidence.specs.declared.random.RandomPart.{RandomPart}
 use Rattle.rp_evidence.specs.declared.random.RandomPart.TheVariants.{Mixture, Violated, Wide}
 use Rattle.rp_evidence.specs.declared.random.Share.{Share}
 use Rattle.rp_menu.specs.MenuLists.{MenuList}
+use Rattle.rp_orders.specs.MenuSums.{AreComplete, HasNoNegativeSum}
 use Rattle.rp_orders.specs.OrderKinds.{PicksCells, cells_picked, orders_over}
 use Rattle.rp_orders.specs.OrderMixtures.{HasOrderMixture, IsGreatestOrderMixture, IsOrderMixture}
 use Rattle.rp_orders.specs.OrderMixtures.{IsPartialOrderMixture}
@@ -28,6 +29,12 @@ abbrev pub ProvesMenus : MenuList → Units → RandomPart → Type 0
 ProvesMenus list units (Mixture den parts) = IsOrderMixture list units den parts
 ProvesMenus list units (Violated den parts weights) = ProvesNoOrderMixture list units den parts weights
 ProvesMenus list units (Wide step) = Unit {0}
+
+-- Where the data are complete, a mixture shows that no sum is negative (Block and Marschak 1960).
+abbrev pub ShowsSums : MenuList → Units → RandomPart → Type 0
+ShowsSums list units (Mixture den parts) = AreComplete list → HasNoNegativeSum list units
+ShowsSums list units (Violated den parts weights) = Unit {0}
+ShowsSums list units (Wide step) = Unit {0}
 
 -- The verdict is made from the outcome of the run of the program of mixtures over all orders that pick a cell from
 -- every menu, in lexicographic order.

@@ -1,6 +1,6 @@
 -- The sums of units over the menus that hold a menu (after Block and Marschak 1960), where the data are complete.
-use Rattle.std.specs.Prelude.{◌≡◌, ◌<◌, ◌≤◌, ◌-◌, ◌%◌, ◌^◌, ◌==◌, ℕ, Bool, ℤ, pos, neg_ℤ, bit_and, length}
-use Rattle.std.specs.Prelude.{if◌then◌else◌}
+use Rattle.std.specs.Prelude.{◌≡◌, ◌<◌, ◌≤◌, ◌-◌, ◌%◌, ◌^◌, ◌==◌, ◌≤ℤ◌, ℕ, Bool, true, ℤ, pos, neg_ℤ, bit_and}
+use Rattle.std.specs.Prelude.{length, if◌then◌else◌}
 use Rattle.rp_farkas.specs.Total.{total}
 use Rattle.rp_menu.specs.MenuLists.{MenuList, has_letter}
 use Rattle.rp_orders.specs.OrderMixtures.{menu_at, units_of}
@@ -41,3 +41,8 @@ sum_at list units x a = total (2 ^ list.letters)
     (λ b. if holds b a
     then signed ((size_of list.letters b - size_of list.letters a) % 2 == 0) (units_on list units b x)
     else pos 0)
+
+-- No sum is negative, of any letter at any menu.
+abbrev pub HasNoNegativeSum : MenuList → Units → Type 0
+HasNoNegativeSum list units =
+    (x menu : ℕ) → menu < 2 ^ list.letters → has_letter menu x ≡ true → pos 0 ≤ℤ sum_at list units x menu

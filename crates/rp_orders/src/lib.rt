@@ -8,8 +8,10 @@ mod listed;
 mod lists;
 mod orders;
 mod picks;
+mod sums;
 mod verdict;
 
 pub use check::check_menu;
 pub use rp_evidence::RandomPart as MenuPart;
+pub use sums::{is_complete, menu_sum};
 pub use verdict::menus;

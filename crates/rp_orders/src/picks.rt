@@ -10,7 +10,7 @@ ghost use Rattle.rp_patch.specs.Kinds.{cells_weight, uses};
 use rp_menu::{LETTERS, Menus};
 
 /// Whether the menu with that number has a letter.
-fn has_letter(menu: u32, letter: u32) -> bool
+pub fn has_letter(menu: u32, letter: u32) -> bool
     requires { menu < 2 ^ LETTERS }
     ensures { result ≡ has menu letter }
 {

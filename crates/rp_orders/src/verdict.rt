@@ -1,5 +1,5 @@
 ghost use Rattle.std.specs.Prelude.{IfOk};
-ghost use Rattle.rp_orders.specs.MenuEvidence.{IsMenuVerdict, PassesMenus, ProvesMenus};
+ghost use Rattle.rp_orders.specs.MenuEvidence.{IsMenuVerdict, PassesMenus, ProvesMenus, ShowsSums};
 ghost use Rattle.rp_orders.specs.OrderMixtures.{AreUnitsOf};
 
 use crate::listed::ListedOrders;
@@ -19,6 +19,7 @@ pub fn menus(alloc: Global, seen: &Menus, units: &Units) -> Result<RandomPart, N
     ensures proves { IfOk result (ProvesMenus seen.now units.now) }
     ensures run { IfOk result (IsMenuVerdict seen.now units.now) }
     ensures passes { IfOk result (PassesMenus seen.now units.now) }
+    ensures sums { IfOk result (ShowsSums seen.now units.now) }
 {
     prove!(seen.letters() <= 6);
     let orders = all_orders(alloc, seen)?;

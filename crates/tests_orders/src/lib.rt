@@ -8,3 +8,5 @@ mod forgeries;
 mod found;
 #[cfg(test)]
 mod given;
+#[cfg(test)]
+mod sums;

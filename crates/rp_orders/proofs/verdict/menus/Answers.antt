@@ -3,8 +3,9 @@ use Rattle.std.proofs.lemmas.Result.{IfOk-weaker}
 use Rattle.rp_blend.specs.Verdict.{IsRunVerdict, Proves}
 use Rattle.rp_menu.specs.MenuLists.{MenuList}
 use Rattle.rp_orders.specs.InnerOrders.{orders_of}
-use Rattle.rp_orders.specs.MenuEvidence.{IsMenuVerdict, ProvesMenus}
+use Rattle.rp_orders.specs.MenuEvidence.{IsMenuVerdict, ProvesMenus, ShowsSums}
 use Rattle.rp_orders.specs.OrderKinds.{orders_over}
+use Rattle.rp_orders.proofs.MixtureSums.{shows_sums}
 use Rattle.rp_orders.proofs.OrderCells.{are_whole}
 use Rattle.rp_orders.proofs.OrderWeights.{proves_menus}
 use Rattle.rp_patch.specs.Kinds.{AreWhole}
@@ -40,3 +41,14 @@ returns-clause-run c =
     (subst (λ (m : MenuList). IfOk r (IsRunVerdict (orders_over m c.make.result.units.now) (orders_of c.make.result.orders.now))) c.make.ensures.seen c.mixture.ensures.run)) in
     IfOk-weaker r (IsRunVerdict (orders_over list units) orders) (IsMenuVerdict list units)
     (λ part h. (orders, c.in_ok-orders.ensures.all, h)) run
+
+pub returns-clause-sums : goal.returns-clause-sums
+returns-clause-sums c =
+    let list = c.args.seen.now in
+    let units = c.args.units.now in
+    let r = c.mixture.result in
+    let proves = subst (λ (u : Units). IfOk r (Proves (orders_over list u))) c.make.ensures.units
+    (subst (λ (m : MenuList). IfOk r (Proves (orders_over m c.make.result.units.now))) c.make.ensures.seen c.mixture.ensures.proves) in
+    let is = c.letters.ensures.valid in
+    IfOk-weaker r (Proves (orders_over list units)) (ShowsSums list units)
+    (λ part h. shows_sums list is units c.requires part (proves_menus list is units c.requires part h)) proves
