@@ -28,11 +28,11 @@ at_its_place table n s t cost in_row same = rw (div-mul-add s n t in_row, mod-mu
 -- one entry more, which is that of its place
 one_more : (f : ℕ → ℕ) (xs ys : List ℕ) (y n : ℕ) → ys ≡ xs ++ y ∷ [] → length xs ≡ n → ((k : ℕ) → k < n → slice_index xs k ≡ f k) → y ≡ f n → (k : ℕ) → k < n + 1 → slice_index ys k ≡ f k
 one_more f xs ys y n pushed long each last k below = elim (cases_lt k n) [
-    | inl before ↦ ap (λ zs. slice_index zs k) pushed ∙ (get_or-append xs (y ∷ []) 0 k (omega (arith, long, before)) ∙ each k before)
-    | inr not_before ↦
-        let at_end : k ≡ n = omega (arith, below, not_before) in
-        ap (λ zs. slice_index zs k) pushed ∙ (ap (slice_index (xs ++ y ∷ [])) (at_end ∙ sym long) ∙ (get_or-append_seam xs y [] 0 ∙ (last ∙ ap f (sym at_end))))
-  ]
+  | inl before ↦ ap (λ zs. slice_index zs k) pushed ∙ (get_or-append xs (y ∷ []) 0 k (omega (arith, long, before)) ∙ each k before)
+  | inr not_before ↦
+      let at_end : k ≡ n = omega (arith, below, not_before) in
+      ap (λ zs. slice_index zs k) pushed ∙ (ap (slice_index (xs ++ y ∷ [])) (at_end ∙ sym long) ∙ (get_or-append_seam xs y [] 0 ∙ (last ∙ ap f (sym at_end))))
+]
 
 pub loop-t-preserved : goal.loop-t-preserved
 loop-t-preserved c =
