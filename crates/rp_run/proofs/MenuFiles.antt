@@ -3,8 +3,10 @@ use Rattle.std.proofs.Common.{ℕ, List, Option, Ok, inl, inr, refl}
 use Rattle.rp_menu.specs.MenuLists.{MenuList}
 use Rattle.rp_patch.specs.declared.apportionment.Units.{Units}
 use Rattle.rp_run.specs.Answers.{Files}
-use Rattle.rp_run.specs.Causes.{HoldsValue, IsFileCause, IsReadingCause}
-use Rattle.rp_run.specs.MenuContents.{MenusIn, MenusOf, UnitsOf}
+use Rattle.rp_patch.specs.Apportionment.{SaysWhyNoUnits, grouped}
+use Rattle.rp_patch.specs.declared.fault.ApportionFault.TheVariants.{NeedUnit}
+use Rattle.rp_run.specs.Causes.{HoldsValue, IsFileCause, IsReadingCause, IsRefusal}
+use Rattle.rp_run.specs.MenuContents.{MenusIn, MenusOf, UnitsOf, need_unit_line}
 use Rattle.rp_run.specs.declared.files.Cause.{Cause}
 use Rattle.rp_run.specs.declared.files.Cause.TheVariants.{Read, Refused, NoMemory}
 
@@ -21,3 +23,10 @@ module _ (files : Files) (rose : List ℕ → Type 0) (file : List ℕ) (per : O
 
 pub with_units : (files : Files) (file : List ℕ) (per : Option ℕ) (list : MenuList) (units : Units) → HoldsValue files file (MenusOf file) list → UnitsOf list per (Ok units) → HoldsValue files file (MenusIn per file) (list, units)
 with_units files file per list units (bytes, content, read) made = (bytes, content, (list, read, (units, made, refl)))
+
+-- a line that tells the want of a number of units is why there are none
+pub unit_needed_cause : (list : MenuList) (per : Option ℕ) (menu : ℕ) (why : Cause) → SaysWhyNoUnits (grouped list.groups list.counts) per (NeedUnit menu)
+    → IsRefusal (need_unit_line menu) why → IsReadingCause (UnitsOf list per) why
+unit_needed_cause list per menu (Read name) says refused = absurd refused
+unit_needed_cause list per menu (Refused line) says refused = (menu, says, refused)
+unit_needed_cause list per menu NoMemory says refused = tt
