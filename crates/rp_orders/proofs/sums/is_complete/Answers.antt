@@ -16,8 +16,7 @@ returns-then-place_of-count c =
     let letters = c.letters-letters.ensures.exact in
     let within : menu < 2 ^ list.letters = subst (λ k. menu < 2 ^ k) letters (omega (arith, c.loop-menu-test.true, c.pow-menu-end.ensures)) in
     let size : c.size_of.result ≡ size_of list.letters menu = c.size_of.ensures.exact ∙ ap (λ k. size_of k menu) letters in
-    let least : length list.menus ≤ c.place_of.result = omega (arith, c.if-place_of-count.true, c.count.ensures.exact) in
-    (
+    let least : length list.menus ≤ c.place_of.result = omega (arith, c.if-place_of-count.true, c.count.ensures.exact) in (
       λ is. absurd cc,
       λ complete. absurd (not_seen list menu c.place_of.result c.place_of.ensures.exact least (complete menu within (omega (arith, size, c.if-size_of-ge2.true)))),
     )
