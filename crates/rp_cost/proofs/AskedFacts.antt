@@ -17,7 +17,7 @@ use Rattle.rp_sheet.proofs.ColumnSizes.{sizes_are, sizes_in}
 use Rattle.rp_sheet.proofs.FineHeaders.{FineHeaders, fine_headers, required_there}
 use Rattle.rp_sheet.proofs.FixedHeaders.{numbers_of_goods, prices_within, rows_of_goods}
 use Rattle.rp_sheet.proofs.StageLemmas.{fault_denoted, value_denoted}
-use Rattle.rp_text.proofs.TableMade.{counted, passed}
+use Rattle.rp_sheet.proofs.StagesPassed.{counted, passed}
 use Rattle.rp_cost.specs.AskedOutputs.{AreAskedOutputs}
 use Rattle.rp_cost.specs.Denotation.{asked_list, asked_of, denoted_asked}
 use Rattle.rp_cost.proofs.OutputFacts.{outputs_within}

@@ -23,31 +23,20 @@ use Rattle.rp_sheet.specs.declared.form.Role.{Role}
 use Rattle.rp_sheet.specs.declared.form.Role.TheVariants.{Observation, Price, Quantity, Expenditure, Income, Budget, Times, Output, OutputPrice, Menu, Choice, OwnLevel}
 use Rattle.rp_sheet.proofs.ColumnSizes.{bought_at, price_at, sizes_are, sizes_in, within_limit}
 use Rattle.rp_sheet.proofs.FigureLemmas.{few_places}
+use Rattle.rp_sheet.proofs.MeasuredRoles.{measured_role}
 use Rattle.rp_sheet.proofs.FineHeaders.{required_there}
 use Rattle.rp_sheet.proofs.GoodHeaders.{GoodHeaders, distinct_names, good_headers, price_column, quantity_good_of, some_quantity}
 use Rattle.rp_sheet.proofs.PlaceLemmas.{found_at}
 use Rattle.rp_sheet.proofs.RowLemmas.{all_rows, each_row, length-rows, row_number, sum_at_least}
 use Rattle.rp_sheet.proofs.StageLemmas.{fault_denoted, value_denoted}
-use Rattle.rp_text.proofs.TableMade.{counted, passed}
+use Rattle.rp_sheet.proofs.StagesPassed.{counted, passed}
 use Rattle.rp_cost.specs.Denotation.{denoted_tech, inputs_of, output_prices, tech_of}
 use Rattle.rp_cost.specs.Technology.{IsTechnology, Technology}
 use Rattle.rp_cost.proofs.OutputFacts.{output_prices_within, outputs_within}
 
 -- only inputs say how much is used
-measured_role : (o : Option Role) → option_map_or (takes technology_form) o false ≡ true → measures (unwrap_or o Observation) ≡ true → o ≡ Some Quantity
-measured_role None e m = cc e
-measured_role (Some Observation) e m = cc m
-measured_role (Some Price) e m = cc m
-measured_role (Some Quantity) e m = refl
-measured_role (Some Expenditure) e m = cc e
-measured_role (Some Income) e m = cc e
-measured_role (Some Budget) e m = cc m
-measured_role (Some Times) e m = cc m
-measured_role (Some Output) e m = cc m
-measured_role (Some OutputPrice) e m = cc m
-measured_role (Some Menu) e m = cc m
-measured_role (Some Choice) e m = cc m
-measured_role (Some OwnLevel) e m = cc m
+measured_input : (o : Option Role) → option_map_or (takes technology_form) o false ≡ true → measures (unwrap_or o Observation) ≡ true → o ≡ Some Quantity
+measured_input = measured_role (takes technology_form) Quantity (λ e. refl) (λ e. cc e) (λ e. cc e)
 
 -- all columns have one limit
 limit_is : (o : Option Role) → option_map_or (takes technology_form) o false ≡ true → limit_of (unwrap_or o Observation) ≡ 9999999
@@ -96,7 +85,7 @@ module _ (headers : List (List ℕ)) (records : List (List (List ℕ))) (good : 
   some_used t row =
       let quantity = some_quantity headers refl good in
       let column = bought_at technology_form headers records fine_fields fine_sizes t quantity.0 row quantity.1 (rw quantity.2 refl) in
-      let role = measured_role (role_of Inputs (text_at headers column.0)) (good.fine.taken column.0 column.1) column.2 in
+      let role = measured_input (role_of Inputs (text_at headers column.0)) (good.fine.taken column.0 column.1) column.2 in
       let of_input = quantity_good_of headers good column.0 column.1 role in
       let at_column : column_of (mark_of_quantities Inputs) headers (names_with Inputs is_price headers) of_input.0 ≡ column.0 = ap (λ o. unwrap_or o 0) of_input.2 in
       (of_input.0, of_input.1, rw at_column column.3)

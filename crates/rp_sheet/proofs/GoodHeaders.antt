@@ -22,6 +22,7 @@ use Rattle.rp_sheet.specs.declared.fault.TableFault.{TableFault}
 use Rattle.rp_sheet.proofs.RoleLemmas.{no_good}
 use Rattle.rp_sheet.proofs.NameLemmas.{price_header}
 use Rattle.rp_sheet.proofs.PlaceLemmas.{found_at, present, none_below}
+use Rattle.rp_sheet.proofs.MeasuredRoles.{measured_role}
 use Rattle.rp_sheet.proofs.FineHeaders.{FineHeaders, fine_goods, fine_headers, same_place, all_distinct, there_from}
 
 -- headers without a fault, of which each good's has a partner
@@ -66,20 +67,8 @@ is_price_role (Some Menu) e = cc e
 is_price_role (Some Choice) e = cc e
 is_price_role (Some OwnLevel) e = cc e
 
-pub measured_role : (o : Option Role) → option_map_or (takes table_form) o false ≡ true → measures (unwrap_or o Observation) ≡ true → o ≡ Some Quantity
-measured_role None e m = cc e
-measured_role (Some Observation) e m = cc m
-measured_role (Some Price) e m = cc m
-measured_role (Some Quantity) e m = refl
-measured_role (Some Expenditure) e m = cc e
-measured_role (Some Income) e m = cc e
-measured_role (Some Budget) e m = cc e
-measured_role (Some Times) e m = cc e
-measured_role (Some Output) e m = cc e
-measured_role (Some OutputPrice) e m = cc e
-measured_role (Some Menu) e m = cc e
-measured_role (Some Choice) e m = cc e
-measured_role (Some OwnLevel) e m = cc m
+pub measured_quantity : (o : Option Role) → option_map_or (takes table_form) o false ≡ true → measures (unwrap_or o Observation) ≡ true → o ≡ Some Quantity
+measured_quantity = measured_role (takes table_form) Quantity (λ e. refl) (λ e. cc e) (λ e. cc e)
 
 pub limit_is : (o : Option Role) → option_map_or (takes table_form) o false ≡ true → limit_of (unwrap_or o Observation) ≡ 9999999
 limit_is None e = cc e

@@ -20,3 +20,5 @@ pub mod FixedHeaders
 pub mod AmountColumns
 pub mod FixedGoods
 pub mod SheetStages
+pub mod StagesPassed
+pub mod MeasuredRoles

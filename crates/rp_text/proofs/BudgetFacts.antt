@@ -16,32 +16,21 @@ use Rattle.rp_text.specs.Denotation.{budget_list, budgets_of, denoted_budgets}
 use Rattle.rp_sheet.specs.Sheets.{first_fault, column_of, column_numbers}
 use Rattle.rp_sheet.specs.declared.form.Marks.TheVariants.{Goods}
 use Rattle.rp_sheet.specs.declared.form.Role.{Role}
-use Rattle.rp_sheet.specs.declared.form.Role.TheVariants.{Observation, Price, Quantity, Expenditure, Income, Budget, Times, Output, OutputPrice, Menu, Choice, OwnLevel}
+use Rattle.rp_sheet.specs.declared.form.Role.TheVariants.{Observation, Income}
 use Rattle.rp_sheet.specs.declared.fault.TableFault.{TableFault}
 use Rattle.rp_num.proofs.BelowLemmas.{length-listed}
 use Rattle.rp_sheet.proofs.RowLemmas.{length-rows, all_rows, all_listed}
+use Rattle.rp_sheet.proofs.MeasuredRoles.{measured_role}
 use Rattle.rp_sheet.proofs.FineHeaders.{FineHeaders, fine_headers, required_there}
 use Rattle.rp_sheet.proofs.GoodHeaders.{price_column}
 use Rattle.rp_sheet.proofs.ColumnSizes.{sizes_in, sizes_are, price_at}
 use Rattle.rp_sheet.proofs.AmountColumns.{income_header, income_says, amount_within}
 use Rattle.rp_sheet.proofs.StageLemmas.{value_denoted, fault_denoted}
-use Rattle.rp_text.proofs.TableMade.{counted, passed}
+use Rattle.rp_sheet.proofs.StagesPassed.{counted, passed}
 
 -- only an income says how much is bought
-measured_role : (o : Option Role) → option_map_or (takes budgets_form) o false ≡ true → measures (unwrap_or o Observation) ≡ true → o ≡ Some Income
-measured_role None e m = cc e
-measured_role (Some Observation) e m = cc m
-measured_role (Some Price) e m = cc m
-measured_role (Some Quantity) e m = cc e
-measured_role (Some Expenditure) e m = cc e
-measured_role (Some Income) e m = refl
-measured_role (Some Budget) e m = cc m
-measured_role (Some Times) e m = cc m
-measured_role (Some Output) e m = cc m
-measured_role (Some OutputPrice) e m = cc m
-measured_role (Some Menu) e m = cc m
-measured_role (Some Choice) e m = cc m
-measured_role (Some OwnLevel) e m = cc m
+measured_income : (o : Option Role) → option_map_or (takes budgets_form) o false ≡ true → measures (unwrap_or o Observation) ≡ true → o ≡ Some Income
+measured_income = measured_role (takes budgets_form) Income (λ e. cc e) (λ e. cc e) (λ e. refl)
 
 module _ (headers : List (List ℕ)) (records : List (List (List ℕ))) (fine : FineHeaders budgets_form headers) (fine_fields : fields_stage budgets_form headers records ≡ None) (fine_sizes : sizes_stage budgets_form headers (figures_of budgets_form headers records) ≡ None) where
   price_within : (t g : ℕ) → t < rows_in records → g < length (names_with Goods is_price headers)
@@ -59,7 +48,7 @@ module _ (headers : List (List ℕ)) (records : List (List (List ℕ))) (fine : 
       amount_within budgets_form headers records fine fine_fields fine_sizes (codes "w") Income
       (required_there (has headers (codes "w")) _ fine.columns).0
       (income_says Goods) refl
-      (λ c column measured. income_header _ (text_at headers c) (measured_role (role_of Goods (text_at headers c)) (fine.taken c column) measured))
+      (λ c column measured. income_header _ (text_at headers c) (measured_income (role_of Goods (text_at headers c)) (fine.taken c column) measured))
 
   rows_count : length (sizes_in budgets_form headers records) ≡ rows_in records
   rows_count = sizes_are budgets_form headers records

@@ -14,7 +14,7 @@ use Rattle.rp_sheet.proofs.FineHeaders.{FineHeaders, fine_headers}
 use Rattle.rp_sheet.proofs.ColumnSizes.{sizes_in, sizes_are}
 use Rattle.rp_sheet.proofs.FixedHeaders.{numbers_within, rows_of_goods, numbers_of_goods}
 use Rattle.rp_sheet.proofs.StageLemmas.{value_denoted, fault_denoted}
-use Rattle.rp_text.proofs.TableMade.{counted, passed}
+use Rattle.rp_sheet.proofs.StagesPassed.{counted, passed}
 
 -- the bundles are within the limits
 pub bundles_are : (places : ℕ) (goods headers : List (List ℕ)) (records : List (List (List ℕ))) → FineHeaders (bundles_form places) headers → goods_stage (bundles_form places) goods headers ≡ None

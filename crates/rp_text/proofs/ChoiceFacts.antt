@@ -25,7 +25,7 @@ use Rattle.rp_sheet.proofs.FineHeaders.{FineHeaders, fine_headers, required_ther
 use Rattle.rp_sheet.proofs.ColumnSizes.{sizes_in, sizes_are, within_limit, budget_at}
 use Rattle.rp_sheet.proofs.FixedHeaders.{numbers_within, numbers_of_goods}
 use Rattle.rp_sheet.proofs.StageLemmas.{value_denoted, fault_denoted}
-use Rattle.rp_text.proofs.TableMade.{counted, passed}
+use Rattle.rp_sheet.proofs.StagesPassed.{counted, passed}
 
 pub budget_says : role_of Goods (codes "budget") ≡ Some Budget
 unfolding role_of named_role

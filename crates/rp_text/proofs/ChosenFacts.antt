@@ -29,7 +29,7 @@ use Rattle.rp_sheet.proofs.RowLemmas.{all_listed}
 use Rattle.rp_sheet.proofs.FigureLemmas.{rows_are}
 use Rattle.rp_sheet.proofs.FineHeaders.{FineHeaders, fine_headers, column_there}
 use Rattle.rp_sheet.proofs.ColumnSizes.{sizes_in, sizes_are, unscaled}
-use Rattle.rp_text.proofs.TableMade.{passed}
+use Rattle.rp_sheet.proofs.StagesPassed.{passed}
 use Rattle.rp_text.proofs.ChoiceFacts.{both_there, budget_within, budget_says, times_say}
 
 -- the last stage of a file without a fault

@@ -19,32 +19,21 @@ use Rattle.rp_text.specs.Denotation.{price_list, prices_of, denoted_prices}
 use Rattle.rp_sheet.specs.Sheets.{first_fault, column_numbers, numbers_under}
 use Rattle.rp_sheet.specs.declared.form.Marks.TheVariants.{Goods}
 use Rattle.rp_sheet.specs.declared.form.Role.{Role}
-use Rattle.rp_sheet.specs.declared.form.Role.TheVariants.{Observation, Price, Quantity, Expenditure, Income, Budget, Times, Output, OutputPrice, Menu, Choice, OwnLevel}
+use Rattle.rp_sheet.specs.declared.form.Role.TheVariants.{Observation, Expenditure}
 use Rattle.rp_sheet.specs.declared.fault.TableFault.{TableFault}
 use Rattle.rp_num.proofs.BelowLemmas.{length-listed}
 use Rattle.rp_sheet.proofs.RowLemmas.{all_listed}
+use Rattle.rp_sheet.proofs.MeasuredRoles.{measured_role}
 use Rattle.rp_sheet.proofs.FineHeaders.{FineHeaders, fine_headers, required_there}
 use Rattle.rp_sheet.proofs.ColumnSizes.{sizes_in, sizes_are}
 use Rattle.rp_sheet.proofs.AmountColumns.{expenditure_header, expenditure_says, amount_within}
 use Rattle.rp_sheet.proofs.FixedHeaders.{prices_within, rows_of_goods, numbers_of_goods}
 use Rattle.rp_sheet.proofs.StageLemmas.{value_denoted, fault_denoted}
-use Rattle.rp_text.proofs.TableMade.{counted, passed}
+use Rattle.rp_sheet.proofs.StagesPassed.{counted, passed}
 
 -- only an expenditure says how much is bought
-measured_role : (places : ℕ) (o : Option Role) → option_map_or (takes (prices_form true places)) o false ≡ true → measures (unwrap_or o Observation) ≡ true → o ≡ Some Expenditure
-measured_role places None e m = cc e
-measured_role places (Some Observation) e m = cc m
-measured_role places (Some Price) e m = cc m
-measured_role places (Some Quantity) e m = cc e
-measured_role places (Some Expenditure) e m = refl
-measured_role places (Some Income) e m = cc e
-measured_role places (Some Budget) e m = cc m
-measured_role places (Some Times) e m = cc m
-measured_role places (Some Output) e m = cc m
-measured_role places (Some OutputPrice) e m = cc m
-measured_role places (Some Menu) e m = cc m
-measured_role places (Some Choice) e m = cc m
-measured_role places (Some OwnLevel) e m = cc m
+measured_expenditure : (places : ℕ) → (o : Option Role) → option_map_or (takes (prices_form true places)) o false ≡ true → measures (unwrap_or o Observation) ≡ true → o ≡ Some Expenditure
+measured_expenditure places = measured_role (takes (prices_form true places)) Expenditure (λ e. cc e) (λ e. refl) (λ e. cc e)
 
 module _ (places : ℕ) (headers : List (List ℕ)) (records : List (List (List ℕ))) (fine : FineHeaders (prices_form true places) headers)
     (fine_fields : fields_stage (prices_form true places) headers records ≡ None) (fine_sizes : sizes_stage (prices_form true places) headers (figures_of (prices_form true places) headers records) ≡ None) where
@@ -55,7 +44,7 @@ module _ (places : ℕ) (headers : List (List ℕ)) (records : List (List (List 
       amount_within (prices_form true places) headers records fine fine_fields fine_sizes (codes "m") Expenditure
       (required_there (has headers (codes "m")) _ fine.columns).0
       (expenditure_says Goods) refl
-      (λ c column measured. expenditure_header _ (text_at headers c) (measured_role places (role_of Goods (text_at headers c)) (fine.taken c column) measured))
+      (λ c column measured. expenditure_header _ (text_at headers c) (measured_expenditure places (role_of Goods (text_at headers c)) (fine.taken c column) measured))
 
   expenditures_within : All (λ m. (1 ≤ m) × (m ≤ LARGEST_EXPENDITURE)) (column_numbers (codes "m") headers (sizes_in (prices_form true places) headers records))
   expenditures_within =

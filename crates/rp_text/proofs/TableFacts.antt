@@ -24,7 +24,7 @@ use Rattle.rp_num.proofs.BelowLemmas.{length-listed}
 use Rattle.rp_sheet.proofs.FineHeaders.{column_there}
 use Rattle.rp_sheet.proofs.PlaceLemmas.{found_at}
 use Rattle.rp_sheet.proofs.RowLemmas.{length-rows, row_number, all_rows, all_listed, sum_at_least}
-use Rattle.rp_sheet.proofs.GoodHeaders.{GoodHeaders, price_column, quantity_good_of, some_quantity, measured_role, limit_is, distinct_names}
+use Rattle.rp_sheet.proofs.GoodHeaders.{GoodHeaders, price_column, quantity_good_of, some_quantity, measured_quantity, limit_is, distinct_names}
 use Rattle.rp_sheet.proofs.FigureLemmas.{few_places}
 use Rattle.rp_sheet.proofs.ColumnSizes.{sizes_in, sizes_are, within_limit, price_at, level_at, bought_at}
 
@@ -64,7 +64,7 @@ module _ (headers : List (List ℕ)) (records : List (List (List ℕ))) (good : 
   some_bought t row =
       let quantity = some_quantity headers refl good in
       let column = bought_at table_form headers records fine_fields fine_sizes t quantity.0 row quantity.1 (rw quantity.2 refl) in
-      let role = measured_role (role_of Goods (text_at headers column.0)) (good.fine.taken column.0 column.1) column.2 in
+      let role = measured_quantity (role_of Goods (text_at headers column.0)) (good.fine.taken column.0 column.1) column.2 in
       let of_good = quantity_good_of headers good column.0 column.1 role in
       let at_column : column_of quantity_mark headers (names_with Goods is_price headers) of_good.0 ≡ column.0 = ap (λ o. unwrap_or o 0) of_good.2 in
       (of_good.0, of_good.1, rw at_column column.3)
