@@ -116,7 +116,7 @@ class Floats(unittest.TestCase):
             ([[1], [1]], [[1], [0]], "ZeroBundle", 2),
             ([[1], [10**7]], [[1], [1]], "TooLarge", 2),
             ([], [], "Empty", None),
-            ([[1]] * 257, [[1]] * 257, "TooManyRecords", None),
+            ([[1]] * 513, [[1]] * 513, "TooManyRecords", None),
             ([[1] * 17], [[1] * 17], "TooManyGoods", None),
         ]:
             with self.assertRaises(Refused) as caught:

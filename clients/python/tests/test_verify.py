@@ -393,7 +393,7 @@ class Differences(unittest.TestCase):
 
 
 class Large(unittest.TestCase):
-    """A table of the largest size is slow and takes no more than that."""
+    """A table of half as many observations as there may be is slow and takes no more than that."""
 
     def test_trial_table(self):
         import random
