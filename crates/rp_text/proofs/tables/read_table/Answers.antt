@@ -6,7 +6,7 @@ use Rattle.rp_text.specs.Denotation.{table_under, denoted_table}
 use Rattle.rp_sheet.proofs.StageLemmas.{first_records}
 use Rattle.rp_text.proofs.tables.read_table.Goals as goal
 
-first_read : (records : List (List (List ℕ))) → denoted_table (take 258 records) ≡ denoted_table records
+first_read : (records : List (List (List ℕ))) → denoted_table (take 514 records) ≡ denoted_table records
 unfolding denoted_table
 first_read records = first_records table_form [] (λ rows. table_under (headers_in (record_at rows 0)) rows) records
 
