@@ -4,6 +4,7 @@ pub mod Checked
 pub mod CostText
 pub mod Demands
 pub mod GarpFirst
+pub mod MenusText
 pub mod PairsText
 pub mod PowerText
 pub mod PumpText

@@ -3,6 +3,9 @@ pub mod OrderMixtures
 pub mod OrderKinds
 pub mod MenuEvidence
 pub mod MenuSums
+pub mod LeastSums
+pub mod Report
 pub mod InnerLists
 pub mod InnerOrders
 pub mod InnerSums
+pub mod InnerLeast

@@ -4,14 +4,17 @@
 
 mod check;
 mod choosers;
+mod least;
 mod listed;
 mod lists;
 mod orders;
 mod picks;
+mod report;
 mod sums;
 mod verdict;
 
 pub use check::check_menu;
+pub use report::report_menus;
 pub use rp_evidence::RandomPart as MenuPart;
 pub use sums::{is_complete, menu_sum};
 pub use verdict::menus;

@@ -1,6 +1,8 @@
 pub mod FileLemmas
 pub mod GainsLemmas
 pub mod LineLemmas
+pub mod MenuFiles
+pub mod MenusOnce
 pub mod OneAnswer
 pub mod OneFault
 pub mod PassedOn

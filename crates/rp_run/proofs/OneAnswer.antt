@@ -27,6 +27,8 @@ use Rattle.rp_words.specs.declared.commands.FileSet.TheVariants as files
 use Rattle.rp_run.specs.declared.contents.Contents.{Contents}
 use Rattle.rp_run.specs.declared.contents.Contents.TheVariants as contents
 use Rattle.rp_run.specs.ChoiceContents.{PatchesOf, TypedPatchesOf, TypesOf}
+use Rattle.rp_run.specs.MenuContents.{MenusIn, MenusOf, UnitsOf, menus_of}
+use Rattle.rp_run.proofs.MenusOnce.{units_one}
 use Rattle.rp_run.specs.Contents.{ContentsIn, Denotes}
 use Rattle.rp_run.specs.Readings.{AndThen, CertificateIn, Just, Reading, numbers_in, taken_table}
 
@@ -96,6 +98,12 @@ certificate_one file kind bytes (Err line) (Err other) (inl (many, so)) (inr (fe
 certificate_one file kind bytes (Err line) (Err other) (inr (few, why)) (inl (many, so)) = absurd (omega (arith, many, few))
 certificate_one file kind bytes (Err line) (Err other) (inr (few, (f, real, why, so))) (inr (also, (g, neither, too, is))) =
     ap Err (so ∙ ap (λ (x : JsonFault). file_line file (json_fault_text x)) (json_fault_once kind bytes f g real neither why too) ∙ sym is)
+
+-- a file of menus, with their units
+menus_one : (per : Option ℕ) (file bytes : List ℕ) → GivesOne (MenusIn per file bytes)
+menus_one per file bytes =
+    then_one (MenusOf file bytes) (λ list. AndThen (UnitsOf list per) (λ units. Just (Ok (list, units))))
+    (just_one (menus_of file bytes)) (λ list. over_one (UnitsOf list per) (λ units. (list, units)) (units_one list per))
 
 -- types are those of their patches
 abbrev as_type : List ℕ → Rational
@@ -169,6 +177,8 @@ module _
         (λ b. then_one (Just (second b)) (λ c. AndThen third (made b c)) (just_one (second b))
         (λ c. then_one third (made b c) (certificate_one (file given 2) RandomKind (bytes 2))
         (λ read. over_one (TypedPatchesOf b c given.per) (λ made. contents.ChoicesAndCertificate made.0 made.1 read) (typed_one b c given.per))))
+    denoted_one takes files.Menus given bytes =
+        over_one (MenusIn given.per (file given 0) (bytes 0)) (λ made. contents.Menus made.0 made.1) (menus_one given.per (file given 0) (bytes 0))
     denoted_one takes files.TechnologyAndAsked given bytes =
         two_files (numbers_in (file given 0) tech_in (bytes 0)) (λ t. numbers_in (file given 1) (asked_beside t) (bytes 1)) contents.TechnologyAndAsked
 

@@ -16,6 +16,7 @@ use Rattle.rp_answers.specs.Demands.{IsDemandText}
 use Rattle.rp_answers.specs.Welfares.{IsWelfareText}
 use Rattle.rp_answers.specs.UtilityText.{IsUtilityText}
 use Rattle.rp_answers.specs.TrialText.{IsTrialText}
+use Rattle.rp_answers.specs.MenusText.{IsMenusText}
 use Rattle.rp_answers.specs.PumpText.{IsPumpText}
 use Rattle.rp_answers.specs.CostText.{IsCostText}
 use Rattle.rp_answers.specs.PowerText.{IsPowerText}
@@ -24,7 +25,7 @@ use Rattle.rp_words.specs.CommandLine.{Given, Line, files_of, file_at, number}
 use Rattle.rp_words.specs.declared.commands.Command.{Command}
 use Rattle.rp_words.specs.declared.commands.Command.TheVariants.{Pairs, Analyse, Certify, Check, Demand, Welfare}
 use Rattle.rp_words.specs.declared.commands.Command.TheVariants.{Utility}
-use Rattle.rp_words.specs.declared.commands.Command.TheVariants.{Random, CheckRandom, Trial, Pump, Cost, Power}
+use Rattle.rp_words.specs.declared.commands.Command.TheVariants.{Random, CheckRandom, Trial, Menus, Pump, Cost, Power}
 use Rattle.rp_run.specs.declared.contents.Contents.{Contents}
 use Rattle.rp_run.specs.declared.contents.Contents.TheVariants as contents
 use Rattle.rp_run.specs.Contents.{Denotes}
@@ -57,6 +58,7 @@ IsText Welfare given (contents.TableAndPrices table new) text = IsWelfareText gi
 IsText Utility given (contents.TableAndBundles table bundles) text = IsUtilityText table bundles text
 IsText Random given (contents.Choices patches types) text = IsRandomText given.json (typed patches types) text
 IsText Trial given contents.Nothing text = IsTrialText (number given 0) (number given 1) (number given 2) text
+IsText Menus given (contents.Menus list units) text = IsMenusText given.per list units text
 IsText Pump given (contents.Table table) text = IsPumpText table text
 IsText Cost given (contents.TechnologyAndAsked tech asked) text = IsCostText tech asked text
 IsText Power given (contents.Table table) text = IsPowerText table (number given 0) (number given 1) text

@@ -5,9 +5,12 @@ use Rattle.rp_sheet.specs.declared.fault.TableFault.TheVariants as fault
 use Rattle.rp_json.specs.declared.fault.JsonFault.{JsonFault}
 use Rattle.rp_json.specs.declared.fault.JsonFault.TheVariants as json_fault
 use Rattle.rp_run.specs.FaultTexts.{fault_text, json_fault_text}
+use Rattle.rp_run.specs.MenuContents.{menu_fault_text}
 use Rattle.rp_words.specs.CommandLine.{Line, file_at, files_of}
 use Rattle.rp_run.specs.Readings.{Reading}
 use Rattle.rp_run.specs.Answers.{Files, IsContent, RefusesWith}
+use Rattle.rp_menu.specs.declared.fault.MenuFault.{MenuFault}
+use Rattle.rp_menu.specs.declared.fault.MenuFault.TheVariants as menu_fault
 use Rattle.rp_patch.specs.declared.fault.PatchFault.{PatchFault}
 use Rattle.rp_patch.specs.declared.fault.PatchFault.TheVariants as patch_fault
 use Rattle.rp_types.specs.declared.fault.TypesFault.{TypesFault}
@@ -45,6 +48,12 @@ abbrev pub IsJsonRefusalOf : List ℕ → JsonFault → Cause → Type 0
 IsJsonRefusalOf file f (Read name) = ⊥
 IsJsonRefusalOf file f (Refused text) = (f ≢ json_fault.NoMemory) × (text.items ≡ file_line file (json_fault_text f))
 IsJsonRefusalOf file f NoMemory = Unit {0}
+
+-- a fault of a file of menus as a cause: its line, or want of memory
+abbrev pub IsMenuRefusalOf : List ℕ → MenuFault → Cause → Type 0
+IsMenuRefusalOf file f (Read name) = ⊥
+IsMenuRefusalOf file f (Refused text) = (f ≢ menu_fault.NoMemory) × (text.items ≡ file_line file (menu_fault_text f))
+IsMenuRefusalOf file f NoMemory = Unit {0}
 
 -- a fault of patches, or of rational types, as a cause: its line, or want of memory
 abbrev pub IsPatchRefusal : PatchFault → Cause → Type 0

@@ -5,6 +5,7 @@ use Rattle.rp_text.specs.Denotation.{bundles_beside, prices_beside}
 use Rattle.rp_table.specs.Tables.{Observations, goods_of}
 use Rattle.rp_cost.specs.Denotation.{asked_beside, tech_in}
 use Rattle.rp_evidence.specs.Kinds.{IsCertificateOf}
+use Rattle.rp_orders.specs.OrderMixtures.{AreUnitsOf}
 use Rattle.rp_evidence.specs.declared.certificate.Kind.TheVariants.{Table as TableKind, Random as RandomKind}
 use Rattle.rp_words.specs.CommandLine.{Given, Line, file_set, takes_levels}
 use Rattle.rp_answers.specs.Demands.{IsSpentOn}
@@ -14,6 +15,7 @@ use Rattle.rp_words.specs.declared.commands.FileSet.TheVariants as files
 use Rattle.rp_run.specs.declared.contents.Contents.{Contents}
 use Rattle.rp_run.specs.declared.contents.Contents.TheVariants as contents
 use Rattle.rp_run.specs.ChoiceContents.{BudgetsIn, ChoicesIn, TypedPatchesOf}
+use Rattle.rp_run.specs.MenuContents.{MenusIn}
 use Rattle.rp_run.specs.Readings.{AndThen, CertificateIn, FileIn, Just, Numbers, Reading, TableIn}
 
 -- the contents of a set of files, or the first refusal, from the bytes of the k-th file for each k from 0, as far as
@@ -47,6 +49,8 @@ ContentsIn takes files.ChoicesAndCertificate given told =
     AndThen (FileIn given told 2 (λ name. CertificateIn name RandomKind)) (λ certificate.
     AndThen (TypedPatchesOf b c given.per)
     (λ made. Just (Ok (contents.ChoicesAndCertificate made.0 made.1 certificate))))))
+ContentsIn takes files.Menus given told =
+    AndThen (FileIn given told 0 (MenusIn given.per)) (λ made. Just (Ok (contents.Menus made.0 made.1)))
 ContentsIn takes files.TechnologyAndAsked given told =
     AndThen (FileIn given told 0 (λ name. Numbers name tech_in)) (λ tech.
     AndThen (FileIn given told 1 (λ name. Numbers name (asked_beside tech)))
@@ -63,8 +67,8 @@ MayHaveLevels true table = Unit {0}
 MayHaveLevels false table = table.levels ≡ []
 
 -- That contents are of a set of files, for a command that takes levels or not: lists beside a table have its goods, a
--- certificate is of its kind, and asked outputs have a price of each input. Only proofs need this word: what the files
--- denote has it.
+-- certificate is of its kind, the units are those of the menus, and asked outputs have a price of each input. Only
+-- proofs need this word: what the files denote has it.
 abbrev pub AreOf : Bool → FileSet → Contents → Type 0
 AreOf takes files.Nothing contents.Nothing = Unit {0}
 AreOf takes files.Table (contents.Table table) = MayHaveLevels takes table
@@ -79,6 +83,7 @@ AreOf takes files.TableAndBundles (contents.TableAndBundles table bundles) =
 AreOf takes files.Choices (contents.Choices patches types) = AreTyped (typed patches types)
 AreOf takes files.ChoicesAndCertificate (contents.ChoicesAndCertificate patches types certificate) =
     IsCertificateOf RandomKind certificate
+AreOf takes files.Menus (contents.Menus list units) = AreUnitsOf list units
 AreOf takes files.TechnologyAndAsked (contents.TechnologyAndAsked tech asked) =
     asked.prices.goods ≡ goods_of tech.table
 AreOf takes _ _ = ⊥

@@ -19,7 +19,8 @@ use crate::contents::{Contents, read_contents};
 use crate::files::Cause;
 use rp_answers::{
     Answer, Status, analysis_text, check_answer, check_random_answer, cost_text, demand_text,
-    pairs_text, power_text, pump_text, random_text, trial_text, utility_text, welfare_text,
+    menus_text, pairs_text, power_text, pump_text, random_text, trial_text, utility_text,
+    welfare_text,
 };
 use rp_num::NoMemory;
 use rp_outside::Desk;
@@ -71,6 +72,7 @@ fn answer_over(alloc: Global, line: &Line<'_>, held: &Contents) -> Result<Answer
         Command::Random => Ok(done(text_of_random(alloc, line, held)?)),
         Command::CheckRandom => check_of_choices(alloc, held),
         Command::Trial => Ok(done(text_of_trial(alloc, line)?)),
+        Command::Menus => Ok(done(text_of_menus(alloc, line, held)?)),
         Command::Pump => Ok(done(text_of_pump(alloc, held.table())?)),
         Command::Cost => Ok(done(text_of_cost(alloc, held)?)),
         Command::Power => Ok(done(text_of_power(alloc, line, held.table())?)),
@@ -168,6 +170,16 @@ fn text_of_trial(alloc: Global, line: &Line<'_>) -> Result<Vec<u8>, NoMemory>
     let rows = line.given.number(1) as u32;
     let goods = line.given.number(2) as u32;
     trial_text(alloc, seed, rows, goods)
+}
+
+/// Whether mixtures of strict orders make the choices from menus.
+fn text_of_menus(alloc: Global, line: &Line<'_>, held: &Contents) -> Result<Vec<u8>, NoMemory>
+    requires { AreOf false files.Menus held.now }
+    ensures { IfOk result (λ text.
+        IsText commands.Menus (named_given line.now.given) held.now text.items) }
+{
+    let (seen, units) = held.menus();
+    menus_text(alloc, seen, units, line.given.per)
 }
 
 /// The greatest money pump ratio of a table.

@@ -5,6 +5,7 @@ ghost use Rattle.rp_answers.specs.Typed.{AreTyped, typed};
 ghost use Rattle.rp_evidence.specs.Kinds.{IsCertificateOf};
 ghost use Rattle.rp_evidence.specs.declared.certificate.Kind.TheVariants.{Table as TableKind};
 ghost use Rattle.rp_evidence.specs.declared.certificate.Kind.TheVariants.{Random as RandomKind};
+ghost use Rattle.rp_orders.specs.OrderMixtures.{AreUnitsOf};
 ghost use Rattle.rp_outside.specs.Faults.{EachStays, NoneFalls};
 ghost use Rattle.rp_table.specs.Tables.{goods_of};
 ghost use Rattle.rp_words.specs.CommandLine.{file_set, takes_levels};
@@ -23,12 +24,15 @@ use crate::files::{
     Cause, load_asked, load_budgets, load_bundles, load_certificate, load_choices, load_prices,
     load_prices_with_expenditure, load_table, load_technology,
 };
+use crate::menus::load_menus_with_units;
 use crate::patches::patches_of;
 use rp_cost::{Asked, Tech};
 use rp_evidence::{Certificate, Kind};
+use rp_menu::Menus;
 use rp_num::Seq;
 use rp_outside::Desk;
 use rp_patch::Patches;
+use rp_patch::apportionment::Units;
 use rp_table::{Bundles, Prices, Table};
 use rp_types::Rational;
 use rp_words::{FileSet, Line};
@@ -47,6 +51,8 @@ pub enum Contents {
     Choices(Patches, Seq<Rational>),
     /// The same, with a certificate.
     ChoicesAndCertificate(Patches, Seq<Rational>, Certificate),
+    /// Choices from menus, with the units of their cells.
+    Menus(Menus, Units),
     TechnologyAndAsked(Tech, Asked),
 }
 
@@ -149,6 +155,18 @@ impl Contents {
         }
     }
 
+    /// The menus, and the units of their cells.
+    pub(crate) fn menus(&self) -> (&Menus, &Units)
+        requires { AreOf false files.Menus self.now }
+        ensures held { self.now ≡ contents.Menus result.0.now result.1.now }
+        ensures are { AreUnitsOf result.0.now result.1.now }
+    {
+        match self {
+            Contents::Menus(seen, units) => (seen, units),
+            _ => unreachable!(),
+        }
+    }
+
     /// The technology, and the outputs that are asked of it.
     pub(crate) fn technology_and_asked(&self) -> (&Tech, &Asked)
         requires { AreOf false files.TechnologyAndAsked self.now }
@@ -192,6 +210,7 @@ pub(crate) fn read_contents<'a, D: Desk>(
         FileSet::TableAndBundles => load_table_bundles(alloc, desk, line),
         FileSet::Choices => load_patches(alloc, desk, line),
         FileSet::ChoicesAndCertificate => load_patches_certificate(alloc, desk, line),
+        FileSet::Menus => load_menus_with_units(alloc, desk, line),
         FileSet::TechnologyAndAsked => load_technology_asked(alloc, desk, line),
     }
 }

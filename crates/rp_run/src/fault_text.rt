@@ -89,7 +89,7 @@ fn push_places(alloc: Global, out: &mut Vec<u8>, fault: TableFault) -> Result<()
     }
 }
 
-fn push_record(alloc: Global, out: &mut Vec<u8>, row: u32) -> Result<(), NoMemory>
+pub(crate) fn push_record(alloc: Global, out: &mut Vec<u8>, row: u32) -> Result<(), NoMemory>
     ensures { OnOk result (out.new.items ≡ out.old.items ++ text.record_text row) }
 {
     out.extend_from_slice(b" record ")?;
@@ -97,7 +97,7 @@ fn push_record(alloc: Global, out: &mut Vec<u8>, row: u32) -> Result<(), NoMemor
     Ok(())
 }
 
-fn push_column(alloc: Global, out: &mut Vec<u8>, column: u32) -> Result<(), NoMemory>
+pub(crate) fn push_column(alloc: Global, out: &mut Vec<u8>, column: u32) -> Result<(), NoMemory>
     ensures { OnOk result (out.new.items ≡ out.old.items ++ text.column_text column) }
 {
     out.extend_from_slice(b" column ")?;
@@ -114,7 +114,12 @@ fn push_budget(alloc: Global, out: &mut Vec<u8>, budget: u32) -> Result<(), NoMe
 }
 
 /// Appends a record and a column.
-fn push_cell(alloc: Global, out: &mut Vec<u8>, row: u32, column: u32) -> Result<(), NoMemory>
+pub(crate) fn push_cell(
+    alloc: Global,
+    out: &mut Vec<u8>,
+    row: u32,
+    column: u32,
+) -> Result<(), NoMemory>
     ensures { OnOk result
         (out.new.items ≡ out.old.items ++ (text.record_text row ++ text.column_text column)) }
 {

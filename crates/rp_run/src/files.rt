@@ -281,7 +281,7 @@ pub(crate) fn load_certificate<'a, D: Desk>(
 }
 
 /// All bytes of a file of numbers.
-fn load_numbers<'a, D: Desk>(
+pub(crate) fn load_numbers<'a, D: Desk>(
     alloc: Global,
     desk: &mut D,
     file: &'a str,
@@ -331,7 +331,7 @@ fn json_refusal<'a>(alloc: Global, file: &'a str, fault: JsonFault) -> Cause<'a>
 }
 
 /// The cause of a refusal with the text of a fault.
-fn refused<'a>(alloc: Global, file: &'a str, fault: &[u8]) -> Cause<'a>
+pub(crate) fn refused<'a>(alloc: Global, file: &'a str, fault: &[u8]) -> Cause<'a>
     ensures { IsRefusal (text.file_line file.now fault.now) result }
 {
     match file_line(alloc, file, fault) {

@@ -6,6 +6,7 @@ mod contents;
 mod fault_text;
 mod files;
 mod laws;
+mod menus;
 mod patches;
 mod running;
 mod sure;

@@ -1,3 +1,4 @@
+mod CommandLemmas
 mod FormsTaken
 mod KeptRows
 mod KeptWalk

@@ -8,7 +8,7 @@ use Rattle.rp_words.specs.Forms.{with_levels, with_numbers, with_per}
 use Rattle.rp_words.specs.declared.commands.Command.{Command}
 use Rattle.rp_words.specs.declared.commands.Command.TheVariants.{Pairs, Analyse, Certify, Check, Demand, Welfare}
 use Rattle.rp_words.specs.declared.commands.Command.TheVariants.{Utility}
-use Rattle.rp_words.specs.declared.commands.Command.TheVariants.{Random, CheckRandom, Trial, Pump, Cost, Power}
+use Rattle.rp_words.specs.declared.commands.Command.TheVariants.{Random, CheckRandom, Trial, Menus, Pump, Cost, Power}
 use Rattle.rp_words.specs.declared.commands.FileSet.{FileSet}
 use Rattle.rp_words.specs.declared.commands.FileSet.TheVariants as files
 
@@ -31,6 +31,7 @@ files_in files.TableAndPrices = Numbers (codes "TABLE") ∷ Numbers (codes "NEW"
 files_in files.TableAndBundles = Numbers (codes "TABLE") ∷ Numbers (codes "BUNDLES") ∷ []
 files_in files.Choices = Numbers (codes "BUDGETS") ∷ Numbers (codes "CHOICES") ∷ []
 files_in files.ChoicesAndCertificate = Numbers (codes "BUDGETS") ∷ Numbers (codes "CHOICES") ∷ Certificate ∷ []
+files_in files.Menus = Numbers (codes "FILE") ∷ []
 files_in files.TechnologyAndAsked = Numbers (codes "TECH") ∷ Numbers (codes "NEW") ∷ []
 
 abbrev pub file_names : FileSet → List Text
@@ -47,6 +48,7 @@ form_of Utility = with_levels (over (codes "utility") files.TableAndBundles)
 form_of Random = with_per (with_json (over (codes "random") files.Choices))
 form_of CheckRandom = with_per (over (codes "checkrandom") files.ChoicesAndCertificate)
 form_of Trial = with_numbers (seed ∷ rows ∷ goods ∷ []) (over (codes "trial") files.Nothing)
+form_of Menus = with_per (over (codes "menus") files.Menus)
 form_of Pump = over (codes "pump") files.Table
 form_of Cost = over (codes "cost") files.TechnologyAndAsked
 form_of Power = with_numbers (seed ∷ draws ∷ []) (over (codes "power") files.Table)
@@ -55,7 +57,7 @@ form_of Power = with_numbers (seed ∷ draws ∷ []) (over (codes "power") files
 abbrev pub commands : List Command
 commands =
     Pairs ∷ Analyse ∷ Certify ∷ Check ∷ Demand ∷ Welfare ∷ Utility ∷ Random ∷ CheckRandom ∷ Trial
-    ∷ Pump ∷ Cost ∷ Power ∷ []
+    ∷ Menus ∷ Pump ∷ Cost ∷ Power ∷ []
 
 abbrev pub forms : List Form
 forms = map form_of commands

@@ -15,7 +15,7 @@ pub record Form : Type 0 where
   pub name : Text
   pub files : FileSet
   pub numbers : List Number
-  -- whether it takes `--per N`, which asks for so many units on each budget
+  -- whether it takes `--per N`, which asks for so many units on each budget or menu
   pub per : Bool
   -- whether it takes `--json`, which asks for a certificate
   pub json : Bool
@@ -36,7 +36,7 @@ goods = record { name = codes "GOODS"; least = 1; most = 16 }
 abbrev pub draws : Number
 draws = record { name = codes "N"; least = 1; most = 1000 }
 
--- how many units there are on each budget
+-- how many units there are on each budget or menu
 abbrev pub units : Number
 units = record { name = codes "per"; least = 1; most = 1000000000 }
 

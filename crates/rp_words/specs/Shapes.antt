@@ -17,7 +17,7 @@ is_file_name (byte ∷ _) = not (byte == 45)
 abbrev pub json_word : Bool → List (List ℕ)
 json_word json = if json then codes "--json" ∷ [] else []
 
--- the words that ask for so many units on each budget
+-- the words that ask for so many units on each budget or menu
 abbrev pub per_words : Option ℕ → List (List ℕ)
 per_words None = []
 per_words (Some n) = codes "--per" ∷ decimal n ∷ []

@@ -28,6 +28,8 @@ pub enum Command {
     CheckRandom,
     /// The verdicts on the trial table of a seed.
     Trial,
+    /// Whether mixtures of strict orders make the choices from menus.
+    Menus,
     /// The greatest money pump ratio of a table.
     Pump,
     /// The axioms of production on a technology, and the bounds on what outputs cost.
@@ -51,6 +53,8 @@ pub enum FileSet {
     Choices,
     /// The same, and a certificate on them.
     ChoicesAndCertificate,
+    /// Menus, and choices from them.
+    Menus,
     /// A technology, and outputs at new input prices whose cost is asked.
     TechnologyAndAsked,
 }
@@ -69,6 +73,7 @@ impl FileSet {
             FileSet::TableAndBundles => &["TABLE", "BUNDLES"],
             FileSet::Choices => &["BUDGETS", "CHOICES"],
             FileSet::ChoicesAndCertificate => &["BUDGETS", "CHOICES", "CERT"],
+            FileSet::Menus => &["FILE"],
             FileSet::TechnologyAndAsked => &["TECH", "NEW"],
         }
     }
@@ -97,7 +102,7 @@ pub(crate) struct Form {
     pub(crate) levels: bool,
 }
 
-/// How many units there are on each budget.
+/// How many units there are on each budget or menu.
 pub(crate) const UNITS: Number = Number {
     name: "per",
     least: 1,
@@ -130,7 +135,7 @@ pub(crate) const DRAWS: Number = Number {
 };
 
 /// The commands, in the order of the usage text.
-pub(crate) fn commands() -> [Command; 13]
+pub(crate) fn commands() -> [Command; 14]
     ensures { result ≡ commands }
 {
     [
@@ -144,6 +149,7 @@ pub(crate) fn commands() -> [Command; 13]
         Command::Random,
         Command::CheckRandom,
         Command::Trial,
+        Command::Menus,
         Command::Pump,
         Command::Cost,
         Command::Power,
@@ -211,6 +217,10 @@ impl Command {
                 numbers: &[SEED, ROWS, GOODS],
                 ..over("trial", FileSet::Nothing)
             },
+            Command::Menus => Form {
+                per: true,
+                ..over("menus", FileSet::Menus)
+            },
             Command::Pump => over("pump", FileSet::Table),
             Command::Cost => over("cost", FileSet::TechnologyAndAsked),
             Command::Power => Form {
@@ -251,5 +261,5 @@ pub(crate) fn command_named(name: &str) -> Option<Command>
 pub fn usage() -> &'static [u8]
     ensures { result.now ≡ usage_text }
 {
-    b"usage: rp pairs TABLE\n       rp analyse TABLE\n       rp certify TABLE\n       rp check TABLE CERT\n       rp demand TABLE NEW [--json]\n       rp welfare TABLE NEW [--json]\n       rp utility TABLE BUNDLES\n       rp random BUDGETS CHOICES [--per N] [--json]\n       rp checkrandom BUDGETS CHOICES CERT [--per N]\n       rp trial SEED ROWS GOODS\n       rp pump TABLE\n       rp cost TECH NEW\n       rp power TABLE SEED N\n"
+    b"usage: rp pairs TABLE\n       rp analyse TABLE\n       rp certify TABLE\n       rp check TABLE CERT\n       rp demand TABLE NEW [--json]\n       rp welfare TABLE NEW [--json]\n       rp utility TABLE BUNDLES\n       rp random BUDGETS CHOICES [--per N] [--json]\n       rp checkrandom BUDGETS CHOICES CERT [--per N]\n       rp trial SEED ROWS GOODS\n       rp menus FILE [--per N]\n       rp pump TABLE\n       rp cost TECH NEW\n       rp power TABLE SEED N\n"
 }

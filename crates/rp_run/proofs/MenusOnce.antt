@@ -1,0 +1,87 @@
+-- Menus have units of their cells at most once, or are refused for one reason.
+use Rattle.std.proofs.Common.{◌≡◌, ◌<◌, ◌≤◌, ◌+◌, ◌==◌, ◌⊎◌, inl, inr, ℕ, zero, suc, Bool, true, false, List, Option, None, Some, Result, Ok, Err, length, slice_index, if◌then◌else◌, refl, sym, ap, subst, ◌∙◌, arith}
+use Rattle.std.proofs.Math.Nat.{eq_of_mul-eq-mul_right, eq-zero_of_zero-dvd}
+use Rattle.std.proofs.lemmas.Bool.{ltb-false, ltb-true}
+use Rattle.std.proofs.lemmas.List.{ext_get_or}
+use Rattle.std.specs.Prelude.{nat_lt}
+use Prim.Native.Nat.{◌∣◌}
+use Rattle.rp_menu.specs.MenuLists.{MenuList}
+use Rattle.rp_patch.specs.Apportionment.{AreGrouped, GroupedCounts, HasApportionedShares, HasExactShares, HasShares, IsCommonMultiple, PassesTotalAt, counts_in, grouped, rest_of, whole_of}
+use Rattle.rp_patch.specs.declared.apportionment.Units.{Units}
+use Rattle.rp_patch.proofs.Determined.{IsShared, same_shares}
+use Rattle.rp_patch.proofs.GroupFacts.{group_within}
+use Rattle.rp_run.specs.MenuContents.{UnitsOf, need_unit_line}
+
+module _ (g : GroupedCounts) (inside : (i : ℕ) → i < g.places → g.group i < g.groups) where
+  shared : (unit all : ℕ) (units : ℕ → ℕ) → HasApportionedShares g unit all units → IsShared g.places g.group (whole_of g all) (rest_of g all) all units
+  shared unit all units are = record {
+    each = are.each;
+    together = λ i within. are.together (g.group i) (inside i within);
+    largest = are.largest;
+  }
+
+  above_zero : (t m : ℕ) → t ∣ m → 0 < m → 0 < t
+  above_zero zero m divides positive = absurd (omega (arith, eq-zero_of_zero-dvd divides, positive))
+  above_zero (suc t) m divides positive = omega arith
+
+  -- one total
+  pub same_total : (asked : Option ℕ) (all every : ℕ) (units others : ℕ → ℕ) → HasShares g asked all units → HasShares g asked every others → all ≡ every
+  same_total None all every units others a b =
+      let first : HasExactShares g all units = a in
+      let second : HasExactShares g every others = b in
+      omega (arith, first.total.1 every second.total.0, second.total.1 all first.total.0)
+  same_total (Some unit) all every units others a b =
+      let first : HasApportionedShares g unit all units = a in
+      let second : HasApportionedShares g unit every others = b in
+      first.total ∙ sym second.total
+
+  -- and one number of units of each cell under it
+  pub same_under : (asked : Option ℕ) (all : ℕ) (units others : ℕ → ℕ) → HasShares g asked all units → HasShares g asked all others
+      → (i : ℕ) → i < g.places → units i ≡ others i
+  same_under None all units others a b i within =
+      let first : HasExactShares g all units = a in
+      let second : HasExactShares g all others = b in
+      let positive : 0 < counts_in g (g.group i) = above_zero (counts_in g (g.group i)) all (first.total.0.1 (g.group i) (inside i within)) first.total.0.0 in
+      eq_of_mul-eq-mul_right (counts_in g (g.group i)) positive (units i) (others i) (first.each i within ∙ sym (second.each i within))
+  same_under (Some unit) all units others a b i within =
+      same_shares g.places g.group (whole_of g all) (rest_of g all) all units others (shared unit all units a) (shared unit all others b) i within
+
+-- menus whose total passes the limit have no units without a number that is asked for
+passes_once : (g : GroupedCounts) (j k : ℕ) → PassesTotalAt g j → PassesTotalAt g k → j < k → ⊥
+passes_once g j k (below, fits, (m, (multiple, least), many)) (also_below, (n, (also_multiple, also_least), few), also_many) less =
+    let first : IsCommonMultiple g (j + 1) n = (also_multiple.0, λ i l. also_multiple.1 i (omega (arith, less, l))) in
+    omega (arith, least n first, many, few)
+
+passes_apart : (g : GroupedCounts) (asked : Option ℕ) (all : ℕ) (units : ℕ → ℕ) (j : ℕ) → HasShares g asked all units → all ≤ 1000000000 → asked ≡ None → PassesTotalAt g j → ⊥
+passes_apart g None all units j shares few none (below, fits, (m, (multiple, least), many)) =
+    let exact : HasExactShares g all units = shares in
+    let first : IsCommonMultiple g (j + 1) all = (exact.total.0.0, λ i l. exact.total.0.1 i (omega (arith, below, l))) in
+    omega (arith, least all first, many, few)
+passes_apart g (Some unit) all units j shares few none passes = cc
+
+neither_less : (j k : ℕ) → (j < k → ⊥) → (k < j → ⊥) → j ≡ k
+neither_less j k not_less not_more = go (nat_lt j k) refl (nat_lt k j) refl
+  where
+    go : (t : Bool) → nat_lt j k ≡ t → (u : Bool) → nat_lt k j ≡ u → j ≡ k
+    go true is u also = absurd (not_less (ltb-true j k is))
+    go false is true also = absurd (not_more (ltb-true k j also))
+    go false is false also = omega (arith, ltb-false j k is, ltb-false k j also)
+
+same_record : (a b : Units) → a.total ≡ b.total → a.units ≡ b.units → a ≡ b
+same_record a b total units = λ k. record { total = total k; units = units k }
+
+module _ (list : MenuList) (per : Option ℕ) where
+  abbrev g : GroupedCounts
+  g = grouped list.groups list.counts
+
+  pub units_one : (one other : Result Units (List ℕ)) → UnitsOf list per one → UnitsOf list per other → one ≡ other
+  units_one (Ok a) (Ok b) (are, valid, shares) (also, fit, too) =
+      let inside = λ (i : ℕ) (within : i < length list.groups). group_within list.groups list.counts are i within in
+      let total = same_total g inside per a.total b.total (slice_index a.units) (slice_index b.units) shares too in
+      let under = subst (λ n. HasShares g per n (slice_index b.units)) (sym total) too in
+      let units = ext_get_or 0 a.units b.units (valid.one_each ∙ sym fit.one_each) (λ i l. same_under g inside per a.total (slice_index a.units) (slice_index b.units) shares under i (omega (arith, l, valid.one_each))) in
+      ap Ok (same_record a b total units)
+  units_one (Ok a) (Err line) (are, valid, shares) (menu, (none, passes), is) = absurd (passes_apart g per a.total (slice_index a.units) menu shares valid.few none passes)
+  units_one (Err line) (Ok b) (menu, (none, passes), is) (are, valid, shares) = absurd (passes_apart g per b.total (slice_index b.units) menu shares valid.few none passes)
+  units_one (Err line) (Err text) (j, (none, passes), is) (k, (also_none, too), also) =
+      ap Err (is ∙ ap need_unit_line (neither_less j k (passes_once g j k passes too) (passes_once g k j too passes)) ∙ sym also)
