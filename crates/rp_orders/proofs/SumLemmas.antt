@@ -1,11 +1,11 @@
 -- The units of a letter on a menu, by the menu's place, and turns of the loops over letters and menus.
-use Rattle.std.proofs.Common.{◌≡◌, ◌<◌, ◌≤◌, ◌+◌, ◌*◌, ◌^◌, ◌==◌, inl, inr, ℕ, Bool, true, false, length, slice_index, ℤ, pos, ◌+ℤ◌, refl, sym, ap, subst, ◌∙◌, arith, if◌then◌else◌}
+use Rattle.std.proofs.Common.{◌≡◌, ◌<◌, ◌≤◌, ◌+◌, ◌*◌, ◌^◌, ◌==◌, inl, inr, ℕ, Bool, true, false, length, slice_index, ℤ, pos, negsuc, ◌+ℤ◌, refl, sym, ap, subst, ◌∙◌, arith, if◌then◌else◌}
 use Rattle.std.specs.Int.{w128}
-use lib.Signed.{mag}
-use mir.Val.{to_z, of_z}
+use mir.Val.{SFits, to_z, of_z}
 use Rattle.std.specs.Int.RustNames.{unsigned_abs}
 use Rattle.std.proofs.lemmas.Bool.{cases_lt, eq-eqb, eqb-true}
 use Rattle.std.proofs.lemmas.Int.{ints, to_z-of_z}
+use Rattle.std.proofs.Math.Nat.{pow-le-pow_right}
 use Rattle.rp_farkas.specs.Total.{total}
 use Rattle.rp_farkas.proofs.Totals.{total-suc}
 use Rattle.rp_table.specs.Sums.{sum_below}
@@ -13,7 +13,7 @@ use Rattle.rp_menu.specs.MenuLists.{IsMenuList, MenuList}
 use Rattle.rp_orders.specs.MenuSums.{IsSeen}
 use Rattle.rp_orders.specs.OrderKinds.{cell_of, first_with}
 use Rattle.rp_orders.specs.OrderMixtures.{AreUnitsOf, menu_at, units_of}
-use Rattle.rp_orders.proofs.OrderCells.{group_below, no_units, on_cell, sum_alone}
+use Rattle.rp_orders.proofs.OrderCells.{group_below, no_units, on_cell, sum_alone, units_of_cell}
 use Rattle.rp_orders.proofs.OrderLists.{first_passes, some_with}
 use Rattle.rp_patch.specs.declared.apportionment.Units.{Units}
 use Rattle.rp_patch.proofs.KindWeights.{sum_none}
@@ -70,6 +70,20 @@ module _ (list : MenuList) (is : IsMenuList list) (units : Units) (are : AreUnit
       off i true e l g = let least = some_with count i (λ i. menu_at list i == menu) l e in absurd (omega (arith, least, l, g, first))
       off i false e l g = refl
 
+  -- by the letter's cell
+  pub units_at_cell : (i x c : ℕ) → c ≡ cell_of list i x → c < length list.groups → slice_index units.units c ≡ units_of list units i x
+  units_at_cell i x c is_cell l =
+      let on = on_cell list is i x (subst (λ d. d < length list.groups) is_cell l) in
+      let group : slice_index list.groups c ≡ i = ap (slice_index list.groups) is_cell ∙ on.0 in
+      let letter : slice_index list.chosen c ≡ x = ap (slice_index list.chosen) is_cell ∙ on.1 in
+      sym (units_of_cell list is units are c l) ∙ (λ z. units_of list units (group z) (letter z))
+
+-- a menu of some of the letters, of which there are at most six
+pub menu_fits : (letters menu : ℕ) → letters ≤ 6 → menu < 2 ^ letters → menu < 64
+menu_fits letters menu few small =
+    let most : 2 ^ letters ≤ 2 ^ 6 = pow-le-pow_right {n = 2} (omega arith) {i = letters} {j = 6} few in
+    omega (arith, small, most)
+
 -- a menu from which something was chosen, by its place
 module _ (list : MenuList) (menu place : ℕ) (first : place ≡ first_with (length list.menus) (λ i. menu_at list i == menu)) where
   pub is_seen : place < length list.menus → IsSeen list menu
@@ -86,7 +100,7 @@ module _ (list : MenuList) (menu place : ℕ) (first : place ≡ first_with (len
 abs_sum : (s t : ℤ) → unsigned_abs (s +ℤ t) ≤ unsigned_abs s + unsigned_abs t
 abs_sum s t = omega (arith, ints)
 
-pub sum_more : (f : ℕ → ℤ) (i : ℕ) (s z : ℤ) → (s ≡ total i f) × (unsigned_abs s ≤ i * 1000000000) → z ≡ f i → unsigned_abs z ≤ 1000000000
+sum_more : (f : ℕ → ℤ) (i : ℕ) (s z : ℤ) → (s ≡ total i f) × (unsigned_abs s ≤ i * 1000000000) → z ≡ f i → unsigned_abs z ≤ 1000000000
     → (s +ℤ z ≡ total (i + 1) f) × (unsigned_abs (s +ℤ z) ≤ (i + 1) * 1000000000)
 sum_more f i s z so_far is small = (
   ap (λ x. x +ℤ z) so_far.0 ∙ ap (λ x. total i f +ℤ x) is ∙ sym (total-suc i f),
@@ -96,3 +110,19 @@ sum_more f i s z so_far is small = (
 pub no_sum : (f : ℕ → ℤ) → (pos 0 ≡ total 0 f) × (unsigned_abs (pos 0) ≤ 0 * 1000000000)
 unfolding total
 no_sum f = (refl, omega arith)
+
+fits_128 : (z : ℤ) → unsigned_abs z ≤ 64000000000 → SFits w128 z
+fits_128 (pos m) small = record { sfits = omega (arith, ints) }
+fits_128 (negsuc m) small = record { sfits = omega (arith, ints) }
+
+-- the same, read back from the bits of a sum
+pub sum_kept : (f : ℕ → ℤ) (i bits : ℕ) (z : ℤ) → i < 64 → (to_z w128 bits ≡ total i f) × (unsigned_abs (to_z w128 bits) ≤ i * 1000000000)
+    → z ≡ f i → unsigned_abs z ≤ 1000000000
+    → (to_z w128 (of_z w128 (to_z w128 bits +ℤ to_z w128 (of_z w128 z))) ≡ total (i + 1) f)
+    × (unsigned_abs (to_z w128 (of_z w128 (to_z w128 bits +ℤ to_z w128 (of_z w128 z)))) ≤ (i + 1) * 1000000000)
+sum_kept f i bits z few so_far is small =
+    let more = sum_more f i (to_z w128 bits) z so_far is small in
+    let inner : to_z w128 (of_z w128 z) ≡ z = to_z-of_z w128 z (fits_128 z (omega (arith, small))) in
+    let outer : to_z w128 (of_z w128 (to_z w128 bits +ℤ z)) ≡ to_z w128 bits +ℤ z = to_z-of_z w128 (to_z w128 bits +ℤ z) (fits_128 (to_z w128 bits +ℤ z) (omega (arith, more.1, few))) in
+    let same : to_z w128 (of_z w128 (to_z w128 bits +ℤ to_z w128 (of_z w128 z))) ≡ to_z w128 bits +ℤ z = ap (λ y. to_z w128 (of_z w128 (to_z w128 bits +ℤ y))) inner ∙ outer in
+    subst (λ s. (s ≡ total (i + 1) f) × (unsigned_abs s ≤ (i + 1) * 1000000000)) (sym same) more

@@ -32,7 +32,8 @@ fn size_of(letters: u32, menu: u32) -> u32
 
 /// The place of a menu, or as many as there are where nothing was chosen from it.
 fn place_of(seen: &Menus, menu: u32) -> u32
-    ensures { result ≡ first_with (length seen.now.menus) (λ i. menu_at seen.now i == menu) }
+    ensures exact { result ≡ first_with (length seen.now.menus) (λ i. menu_at seen.now i == menu) }
+    ensures within { result ≤ length seen.now.menus }
 {
     for i in 0..seen.count() {
         if seen.menu(i) == menu {

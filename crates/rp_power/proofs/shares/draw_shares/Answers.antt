@@ -1,7 +1,7 @@
 use Rattle.std.proofs.Common.{◌≡◌, ◌+◌, ◌*◌, ◌%◌, ℕ, List, slice_index, arith}
 use Rattle.rp_table.specs.Tables.{Observations, goods_of}
 use Rattle.rp_power.proofs.DrawnLemmas.{count_of, left, shares_small}
-use Rattle.rp_power.proofs.shares.shares_at.Goals as goal
+use Rattle.rp_power.proofs.shares.draw_shares.Goals as goal
 
 -- the words of an observation modulo 100
 abbrev rest_of : Observations → List ℕ → ℕ → ℕ → ℕ

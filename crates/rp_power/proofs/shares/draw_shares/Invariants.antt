@@ -2,7 +2,7 @@ use Rattle.std.proofs.Common.{◌≡◌, ◌+◌, ◌*◌, ◌%◌, ◌<◌, sli
 use Rattle.std.specs.List.{All}
 use Rattle.rp_num.specs.Below.{listed}
 use Rattle.rp_table.specs.Tables.{goods_of}
-use Rattle.rp_power.proofs.shares.shares_at.Given as goal
+use Rattle.rp_power.proofs.shares.draw_shares.Given as goal
 
 abbrev pub invariant-loop-g : goal.invariant-loop-g
 invariant-loop-g l = record {
