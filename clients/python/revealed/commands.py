@@ -1,7 +1,7 @@
 """A function for each command of the program.
 
-`menus`, `pump`, `cost` and `power` are not offered: the program has no such commands. A command of it gets a function
-here, and its answer a class in `answers`.
+`menus`, `pump`, `cost` and `power` are not offered: what they answer has no JSON form, which the others are read from. A
+table with levels is taken as a file alone, by `check` and `verify`.
 """
 
 import json

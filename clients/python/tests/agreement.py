@@ -54,6 +54,11 @@ def table(choice):
     return names, goods, records
 
 
+def level(choice):
+    """The level of an observation in thousandths: the whole, or one of those at which costs as small as these are often equal."""
+    return choice.choice([1000, 1000, 999, 800, 750, 667, 500, choice.randint(1, 1000)])
+
+
 def asked(choice, number):
     """Returns the words of a command and its files."""
     kind = KINDS[number % len(KINDS)]
@@ -70,6 +75,8 @@ def asked(choice, number):
         per = ["--per", str(choice.choice([1, 2, 3, 5, 7, 10]))] if choice.random() < 0.3 else []
         return ["random", "b.csv", "c.csv", "--json", *per], {"b.csv": csv(budgets), "c.csv": csv(choices)}, per
     names, goods, records = table(choice)
+    if kind == "certify" and choice.random() < 0.3:
+        names, records = [*names, "e"], [[*record, level(choice)] for record in records]
     files = {"t.csv": csv([names, *records])}
     if kind == "certify":
         return ["certify", "t.csv"], files, []
@@ -206,7 +213,11 @@ def altered(choice, certificate, another):
 def alter(choice, value, another):
     """Alters the value of a certificate in one way; now and then nothing comes of it."""
     items, way = value["items"], choice.random()
-    if way < 0.35:
+    if "levels" in value and way < 0.15:
+        place = choice.randrange(len(value["levels"]))
+        lower = max(value["levels"][place] - 1, 1)
+        value["levels"] = choice.choice([other_list(choice, value["levels"]), [*value["levels"][:place], lower, *value["levels"][place + 1 :]]])
+    elif way < 0.35:
         truly_other(choice, choice.choice(items))
     elif way < 0.65:
         item = choice.choice(items)
@@ -231,7 +242,7 @@ def alter(choice, value, another):
         item = choice.choice(items)
         item[choice.choice(["extra", "cycle", "ranks", "values"])] = item.pop(choice.choice(list(item)))
     else:
-        value[choice.choice(["version", "kind", "items", "note"])] = choice.choice([1, 2, "1", "table", "random", [], 1.0])
+        value[choice.choice(["version", "kind", "items", "levels", "note"])] = choice.choice([1, 2, "1", "table", "random", [], 1.0, [1], [1000, 1001]])
 
 
 # ---- the two checkers
@@ -319,9 +330,9 @@ def literals(path):
 
 
 def forged(program, top):
-    """Compares the two on the certificates of the repository's tests, each on four tables."""
+    """Compares the two on the certificates of the repository's tests, each on some tables, one of which has levels."""
     tables = ["1,1,2,2\n2,2,1,1\n", "1,2,2,1\n2,1,1,2\n", "1,4,1,4\n1,2,1,2\n", "1,2,1,2\n1,3,1,1\n"]
-    tables = [f"p_a,q_a,p_b,q_b\n{it}".encode() for it in tables]
+    tables = [f"p_a,q_a,p_b,q_b\n{it}".encode() for it in tables] + [b"p_a,q_a,p_b,q_b,e\n1,1,2,2,799\n2,2,1,1,1000\n"]
     texts = []
     for path in sorted(glob.glob(f"{glob.escape(top)}/crates/*/src/**/*.rt", recursive=True)):
         texts += literals(path)

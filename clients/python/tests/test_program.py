@@ -1,5 +1,6 @@
 """Each command through the program that RP_EXEC names."""
 
+import json
 import os
 import pathlib
 import shutil
@@ -115,7 +116,7 @@ class Floats(unittest.TestCase):
             ([[1], [1]], [[1], [0]], "ZeroBundle", 2),
             ([[1], [10**7]], [[1], [1]], "TooLarge", 2),
             ([], [], "Empty", None),
-            ([[1]] * 257, [[1]] * 257, "TooManyRecords", None),
+            ([[1]] * 513, [[1]] * 513, "TooManyRecords", None),
             ([[1] * 17], [[1] * 17], "TooManyGoods", None),
         ]:
             with self.assertRaises(Refused) as caught:
@@ -249,13 +250,33 @@ class Checks(unittest.TestCase):
             self.assertTrue(revealed.check(path, verdict))
 
     def test_no_certificate(self):
-        for text, fault in [(b"{", "NotJson"), ('{"items":[],"kind":"table","version":2}', "BadVersion"), ({"items": [1], "kind": "table", "version": 1}, "BadShape")]:
+        for text, fault, item in [
+            (b"{", "NotJson", None),
+            ('{"items":[],"kind":"table","version":3}', "BadVersion", None),
+            ('{"items":[],"kind":"table","version":2}', "BadShape", 0),
+            ({"items": [1], "kind": "table", "version": 1}, "BadShape", 1),
+        ]:
             with self.assertRaises(Refused) as caught:
                 revealed.check((P, Q), text)
-            self.assertEqual((caught.exception.fault, caught.exception.file), (fault, "certificate"))
+            self.assertEqual((caught.exception.fault, caught.exception.file, caught.exception.item), (fault, "certificate", item))
             with self.assertRaises(revealed.NoCertificate):
                 revealed.verify((P, Q), text)
         self.assertEqual(revealed.check((P, Q), {"items": [], "kind": "table", "version": 1}).items, 0)
+
+
+    def test_a_table_with_levels(self):
+        with tempfile.TemporaryDirectory() as folder:
+            path = pathlib.Path(folder) / "table.csv"
+            path.write_bytes(b"p_a,q_a,p_b,q_b,e\n1,1,2,2,799\n2,2,1,1,1000\n")
+            ran = subprocess.run([os.environ["RP_EXEC"], "certify", "table.csv"], cwd=folder, capture_output=True, stdin=subprocess.DEVNULL)
+            found = revealed.verify(path, ran.stdout)
+            self.assertEqual((bool(found), found.remarks, len(found.items)), (True, [], 5))
+            self.assertTrue(revealed.check(path, ran.stdout))
+            for levels, place in ([799, 999], 2), ([799], 0), ([800, 999, 1000], 0):
+                other = {**json.loads(ran.stdout), "levels": levels}
+                told = revealed.check(path, other)
+                self.assertEqual((told.item, told.reason, told.place), (0, "Levels", place))
+                self.assertEqual(revealed.verify(path, other).rejected.number, 0)
 
 
 class Panels(unittest.TestCase):

@@ -47,8 +47,14 @@ WELFARE = {
 VIOLATED = {"item": "random", "den": "1", "total": "4", "parts": [[[1, 4], "1"], [[2, 3], "2"]], "weights": ["1", "0", "1", "0"]}
 
 
-def certificate(*items, kind="table"):
-    return revealed.commands.certificate_bytes({"items": list(items), "kind": kind, "version": 1})
+def certificate(*items, kind="table", version=1, **more):
+    return revealed.commands.certificate_bytes({"items": list(items), "kind": kind, "version": version, **more})
+
+
+def levelled(*levels_and_items):
+    """Returns a certificate of version 2: its levels, which are numbers, and its items."""
+    levels = [it for it in levels_and_items if isinstance(it, int)]
+    return certificate(*levels_and_items[len(levels) :], version=2, levels=levels)
 
 
 def changed(item, *path, to):
@@ -196,6 +202,71 @@ class Evidence(unittest.TestCase):
         self.assertEqual((found.accepted, found.withheld, [item.proves for item in found.items]), (True, 2, [None, None]))
 
 
+class Levels(unittest.TestCase):
+    """Tables with a level for each observation, in thousandths, and certificates of version 2.
+
+    In the table CONTRADICTION each spends 5 where the other costs 4. At 799 and 1000 thousandths, 3995 and 5000 count as
+    spent, and the other costs 4000: the second is strictly preferred to the first, and the first to nothing. At 800 the
+    first is weakly preferred to the second.
+    """
+
+    OWN = b"p_a,q_a,p_b,q_b,e\n1,1,2,2,799\n2,2,1,1,1000\n"
+    EQUAL = OWN.replace(b"799", b"800")
+    MODEL = {"item": "afriat", "utility": ["-1000", "0"], "lambda": ["200", "1"]}
+
+    def proves(self, table, *levels_and_items):
+        found = verify_table(table, levelled(*levels_and_items))
+        self.assertTrue(found.accepted, found)
+        self.assertEqual(found.remarks, [])
+
+    def fails(self, table, told, number, text):
+        found = verify_table(table, text)
+        self.assertEqual((found.accepted, found.rejected.number), (False, number), found)
+        self.assertIn(told, found.rejected.why)
+
+    def test_the_axiom(self):
+        ranks = {"item": "garp", "ranks": [1, 2]}
+        self.proves(self.OWN, 799, 1000, ranks, self.MODEL)
+        self.fails(self.OWN, "strictly", 1, levelled(799, 1000, RANKS))
+        self.fails(self.OWN, "not weak", 1, levelled(799, 1000, {"item": "garp", "cycle": [1, 2, 1]}))
+        self.fails(self.EQUAL, "axiom fails", 1, levelled(800, 1000, ranks))
+        for kind in ("garp", "afriat"):
+            self.proves(self.EQUAL, 800, 1000, {"item": kind, "cycle": [1, 2, 1]})
+
+    def test_a_model(self):
+        # the gaps are 4000 - 3995 and 4000 - 5000: U2 <= U1 + 5 λ1 and U1 <= U2 - 1000 λ2
+        self.fails(self.OWN, "of 2 is above what 1", 1, levelled(799, 1000, changed(self.MODEL, "lambda", 0, to="199")))
+        self.fails(self.OWN, "of 1 is above what 2", 1, levelled(799, 1000, changed(self.MODEL, "utility", 0, to="-999")))
+        # one that fits costs as they stand, where nothing is multiplied by 1000: U1 <= U2 - λ2
+        self.fails(self.OWN, "of 1 is above what 2", 1, levelled(799, 1000, {"item": "afriat", "utility": ["-1", "0"], "lambda": ["1", "1"]}))
+        # at the whole of what was spent the gaps are 1000 times as large: U2 <= U1 - 2000 λ1
+        own = b"p_a,q_a,e\n1,4,1000\n1,2,1000\n"
+        self.proves(own, 1000, 1000, {"item": "afriat", "utility": ["0", "-2000"], "lambda": ["1", "1"]})
+        self.fails(own, "allows", 1, levelled(1000, 1000, {"item": "afriat", "utility": ["0", "-2"], "lambda": ["1", "1"]}))
+
+    def test_costs_alone(self):
+        # the other items say of a table what they say of it without its levels
+        self.proves(self.OWN, 799, 1000, {"item": "efficiency", "level": "4/5", "above": [1, 2, 1], "below": [1, 1], "at_ranks": [2, 2]})
+        self.proves(self.OWN, 799, 1000, {"item": "homothetic", "cycle": [1, 2, 1], "start": "1"}, {"item": "quasilinear", "cycle": [1, 2, 1]})
+
+    def test_other_levels(self):
+        self.fails(CONTRADICTION, "2 levels, the table none", 0, levelled(799, 1000))
+        self.fails(self.OWN, "no levels, the table 2", 0, certificate())
+        self.fails(self.OWN, "1 levels, the table 2", 0, levelled(799))
+        self.fails(self.OWN, "of 1 is 799", 0, levelled(800, 999))
+        self.fails(self.OWN, "of 2 is 1000", 0, levelled(799, 999, self.MODEL))
+        self.proves(self.OWN, 799, 1000)
+
+    def test_what_is_defined_without_levels(self):
+        ranks = {"item": "garp", "ranks": [1, 2]}
+        for item in (DEMAND, {"item": "demand", "prices": ["1", "1"], "expenditure": "1", "cycle": [2, 1, 2]}, WELFARE):
+            self.fails(self.OWN, "without levels", 2, levelled(799, 1000, ranks, item))
+
+    def test_choices_have_none(self):
+        with self.assertRaises(NoCertificate):
+            verify_choices(BUDGETS, CHOICES, certificate(VIOLATED, kind="random", version=2, levels=[1, 1]))
+
+
 class Texts(unittest.TestCase):
     def test_no_certificates(self):
         good = certificate(RANKS)
@@ -212,6 +283,11 @@ class Texts(unittest.TestCase):
             (good.replace(b"[1, 1]", b"[" * 200 + b"]" * 200), 0),
             (good.replace(b'"table"', b'"random"'), 0),
             (good.replace(b'"version": 1', b'"version": 2'), 0),
+            (good.replace(b'"version": 1', b'"version": 3'), 0),
+            (good.replace(b'"version": 1', b'"version": 1.0'), 0),
+            (good.replace(b'"version": 1', b'"version": 1, "levels": [1, 1]'), 0),
+            (levelled(1, RANKS)[:-1] + b', "note": 1}', 0),
+            *((certificate(RANKS, version=2, levels=levels), 0) for levels in (None, 1, [], [0], [1001], ["1"], [1.0], [True])),
             (good.replace(b"[1, 1]", b"[1, 1.0]"), 1),
             (good.replace(b"[1, 1]", b"[1, -1]"), 1),
             (good.replace(b"[1, 1]", b'["1", 1]'), 1),
@@ -239,11 +315,17 @@ class Texts(unittest.TestCase):
             b"p_a,q_a\n1,10000000\n",
             b"p_a,q_a,p_a,q_b\n1,1,1,1\n",
             b"p_a,q_a,x\n1,1,1\n",
+            b"p_a,q_a,e\n1,1,0\n",
+            b"p_a,q_a,e\n1,1,1001\n",
+            b"p_a,q_a,e\n1,1,999.5\n",
+            b"p_a,q_a\n" + b"1,1\n" * 513,
         ]:
             with self.assertRaises(NoTable):
                 tables.read_table(text)
         table = tables.read_table(b'\xef\xbb\xbfobs,p_a,q_a\r\n\r\n"x, y", 1.50 ,"2.0"')
-        self.assertEqual((table.prices, table.quantities), ([[15]], [[2]]))
+        self.assertEqual((table.prices, table.quantities, table.levels), ([[15]], [[2]], []))
+        self.assertEqual(tables.read_table(b"e,p_a,q_a\n7.0,1,1\n1000,1,1\n").levels, [7, 1000])
+        self.assertEqual(len(tables.read_table(b"p_a,q_a\n" + b"1,1\n" * 512).prices), 512)
 
 
 class Differences(unittest.TestCase):
@@ -311,7 +393,7 @@ class Differences(unittest.TestCase):
 
 
 class Large(unittest.TestCase):
-    """A table of the largest size is slow and takes no more than that."""
+    """A table of half as many observations as there may be is slow and takes no more than that."""
 
     def test_trial_table(self):
         import random

@@ -1,12 +1,11 @@
 -- The checker accepts the certificate of the three verdicts: none of its items fails.
-use Rattle.std.proofs.Common.{◌≡◌, ℕ, zero, suc, List, [], Ok, arith, inr, subst, sym}
+use Rattle.std.proofs.Common.{◌≡◌, ℕ, zero, suc, List, arith, inr, subst, sym}
 use Rattle.rp_afriat.proofs.SameVerdicts.{own_verdict_same as afriat_verdict_same}
 use Rattle.rp_afriat.specs.Verdict.{IsOwnAfriatVerdict}
 use Rattle.rp_agreement.proofs.Accepted.{afriat_passes, efficiency_passes, garp_passes}
 use Rattle.rp_agreement.proofs.AcceptedItems.{levels_pass}
 use Rattle.rp_agreement.proofs.OneFinding.{only_accepted}
 use Rattle.rp_check.specs.CheckVerdict.{IsItemsVerdictOn, IsVerdictOn}
-use Rattle.rp_check.specs.LevelsFailure.{LevelsFail}
 use Rattle.rp_check.specs.declared.verdict.Verdict.{Verdict}
 use Rattle.rp_check.specs.declared.verdict.Verdict.TheVariants.{Accepted}
 use Rattle.rp_effic.proofs.SameVerdicts.{verdict_same as efficiency_verdict_same}
@@ -32,7 +31,7 @@ module _ (input : TableInput) (garp : Garp) (afriat : AfriatPart) (efficiency : 
   items_pass : ProvesOwnGarp input.n input.levels input.cost garp
       → ProvesOwnAfriat input.n input.levels input.cost afriat → IsOwnAfriatVerdict input.n input.levels input.cost afriat
       → ProvesEfficiency input.n input.cost efficiency → IsEfficiencyVerdict input.n input.cost efficiency
-      → IsItemsVerdictOn input (certificate_of garp afriat efficiency).items Accepted
+      → IsItemsVerdictOn input (certificate_of input.levels garp afriat efficiency).items Accepted
   items_pass gp ap ag ep eg zero k_in other = garp_passes input.n (WeakByLevels input.levels input.cost) (StrictByLevels input.levels input.cost) garp gp
   items_pass gp ap ag ep eg (suc zero) k_in other = afriat_passes input.n input.levels input.cost afriat ap ag
   items_pass gp ap ag ep eg (suc (suc zero)) k_in other = efficiency_passes input.n input.cost efficiency ep eg
@@ -46,14 +45,14 @@ module _ (table : Observations) (costs : CostTable) (is : IsCostsOf costs table)
   on_table : (P : ℕ → List ℕ → Type 0) → P costs.n costs.levels → P (records_of table) table.levels
   on_table P here = subst (λ (n : ℕ). P n table.levels) is.size (subst (λ (levels : List ℕ). P costs.n levels) is.levels here)
 
-  -- from the costs that were computed: what the checker says of the certificate of a table without levels
+  -- from the costs that were computed: what the checker says of the certificate
   pub certificate_accepted : (garp : Garp) (afriat : AfriatPart) (efficiency : Efficiency) (certificate : Certificate) (outcome : Verdict)
-      → table.levels ≡ [] → ProvesOwnGarp costs.n costs.levels (cost_at costs) garp
+      → ProvesOwnGarp costs.n costs.levels (cost_at costs) garp
       → ProvesOwnAfriat costs.n costs.levels (cost_at costs) afriat → IsOwnAfriatVerdict costs.n costs.levels (cost_at costs) afriat
       → ProvesEfficiency costs.n (cost_at costs) efficiency → IsEfficiencyVerdict costs.n (cost_at costs) efficiency
-      → certificate ≡ certificate_of garp afriat efficiency
+      → certificate ≡ certificate_of table.levels garp afriat efficiency
       → IsVerdictOn (input_of_table table) certificate.levels certificate.items outcome → outcome ≡ Accepted
-  certificate_accepted garp afriat efficiency certificate outcome none gp ap ag ep eg made found =
+  certificate_accepted garp afriat efficiency certificate outcome gp ap ag ep eg made found =
       let n = costs.n in
       let levels = costs.levels in
       let here = cost_at costs in
@@ -64,8 +63,7 @@ module _ (table : Observations) (costs : CostTable) (is : IsCostsOf costs table)
       let afriat_given : IsOwnAfriatVerdict input.n input.levels input.cost afriat = on_table (λ n levels. IsOwnAfriatVerdict n levels there afriat) (afriat_verdict_same n levels here there agree afriat ag) in
       let efficiency_proves : ProvesEfficiency input.n input.cost efficiency = rw (← is.size) (efficiency_same n here there efficiency agree ep) in
       let efficiency_given : IsEfficiencyVerdict input.n input.cost efficiency = rw (← is.size) (efficiency_verdict_same n here there efficiency agree eg) in
-      let alike : LevelsFail table.levels [] (Ok tt) = subst (λ (own : List ℕ). LevelsFail own [] (Ok tt)) (sym none) (levels_pass []) in
       only_accepted input certificate.levels certificate.items outcome
       (subst (λ made. IsVerdictOn input made.levels made.items Accepted) (sym made)
-      (inr (alike, items_pass input garp afriat efficiency garp_proves afriat_proves afriat_given efficiency_proves efficiency_given)))
+      (inr (levels_pass table.levels, items_pass input garp afriat efficiency garp_proves afriat_proves afriat_given efficiency_proves efficiency_given)))
       found

@@ -1,4 +1,5 @@
-ghost use Rattle.std.specs.Prelude.{◌≡◌, [], IfOk};
+ghost use Rattle.std.specs.Prelude.{◌≡◌, IfOk};
+ghost use Rattle.rp_agreement.specs.ReadBack.{version_of};
 ghost use Rattle.rp_check.specs.declared.verdict.Verdict.TheVariants.{Accepted};
 ghost use Rattle.rp_table.specs.Cost.{IsCostsOf};
 ghost use Rattle.example_verdict.specs.Certified.{IsCertifiedBy, certificate_of};
@@ -20,17 +21,16 @@ pub struct Certified {
 }
 
 /// The verdicts on a table with their evidence, and what the checker says of them from the table and the evidence
-/// alone. The observations have no levels of their own.
+/// alone.
 pub fn certify(alloc: Global, table: &Table, costs: &Costs) -> Result<Certified, NoMemory>
     requires of_table { IsCostsOf costs.now table.now }
-    requires no_levels { table.now.levels ≡ [] }
     ensures proves { IfOk result (λ made. IsCertifiedBy table.now made.certificate) }
     ensures accepted { IfOk result (λ made. made.outcome ≡ Accepted) }
 {
     let garp = garp(alloc, costs)?;
     let afriat = afriat(alloc, costs, &garp)?;
     let efficiency = efficiency(alloc, costs)?;
-    let certificate = certificate(alloc, garp, afriat, efficiency)?;
+    let certificate = certificate(alloc, table, garp, afriat, efficiency)?;
     let outcome = check(table, costs, &certificate);
     Ok(Certified {
         certificate,
@@ -38,23 +38,32 @@ pub fn certify(alloc: Global, table: &Table, costs: &Costs) -> Result<Certified,
     })
 }
 
-/// The certificate with these three verdicts.
+/// The certificate of a table with these three verdicts.
 fn certificate(
     alloc: Global,
+    table: &Table,
     garp: Garp,
     afriat: AfriatPart,
     efficiency: Efficiency,
 ) -> Result<Certificate, NoMemory>
-    ensures { IfOk result (λ made. made ≡ certificate_of garp afriat efficiency) }
+    ensures { IfOk result (λ made. made ≡ certificate_of table.now.levels garp afriat efficiency) }
 {
     let mut items = Vec::new(alloc);
     items.push(Item::Garp(garp))?;
     items.push(Item::Afriat(afriat))?;
     items.push(Item::Efficiency(efficiency))?;
+    let levels = Vec::from_slice(alloc, table.levels())?;
     Ok(Certificate {
         kind: Kind::Table,
-        version: 1,
-        levels: Seq::from_vec(Vec::new(alloc)),
+        version: version_of(table.levels()),
+        levels: Seq::from_vec(levels),
         items: Seq::from_vec(items),
     })
+}
+
+/// The version of a certificate with these levels.
+fn version_of(levels: &[u32]) -> u32
+    ensures { result ≡ version_of levels.now }
+{
+    if levels.is_empty() { 1 } else { 2 }
 }

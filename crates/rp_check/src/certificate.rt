@@ -10,6 +10,7 @@ ghost use Rattle.rp_table.specs.Cost.{IsCostsOf};
 use crate::Verdict;
 use crate::item::{check_item, shows_garp};
 use crate::levels::check_levels;
+use rp_clauses::closure::Closure;
 use rp_clauses::input::Input;
 use rp_evidence::{Certificate, Item};
 use rp_patch::capped;
@@ -44,9 +45,10 @@ fn check_items(table: &Table, costs: &Costs, items: &[Item]) -> Verdict
         → All (Proves (input_of_table table.now)) items.now }
 {
     let input = Input::new(table, costs);
+    let closure = Closure::of(&input);
     let mut garp_shown = false;
     for (k, item) in items.iter().enumerate() {
-        if let Err(found) = check_item(&input, garp_shown, item) {
+        if let Err(found) = check_item(&input, &closure, garp_shown, item) {
             return Verdict::Rejected {
                 item: capped(k + 1),
                 reason: found.reason,

@@ -1,17 +1,20 @@
-ghost use Rattle.std.specs.Prelude.{◌≡◌, ◌<◌, ◌≤◌, ◌↔◌, IsTrue, length};
+ghost use Rattle.std.specs.Prelude.{◌≡◌, ◌<◌, ◌≤◌, ◌↔◌, ◌∷◌, [], IsTrue, length};
 ghost use Rattle.rp_check.specs.InnerSets.{AreFewOf, AreSets, budget_at, input_of};
-ghost use Rattle.rp_check.specs.DemandFailure.{CostsEnoughAt, DemandBoundsFail};
+ghost use Rattle.rp_check.specs.DemandFailure.{CostsEnoughAt, SetsFail};
 ghost use Rattle.rp_check.specs.DemandFailure.{DemandFails, GoodFails, GoodsFail, InnerFails};
+ghost use Rattle.rp_clauses.specs.InnerBits.{IsClosureOf};
 ghost use Rattle.rp_evidence.specs.BoundEvidence.{BoundHolds};
 ghost use Rattle.rp_evidence.specs.DemandEvidence.{bundle_of};
 ghost use Rattle.rp_evidence.specs.DemandPrograms.{lower_program, upper_program};
 ghost use Rattle.rp_evidence.specs.Input.{input_of_table};
+ghost use Rattle.rp_patch.specs.Clauses.{InOrder};
 ghost use Rattle.rp_table.specs.Tables.{goods_of, records_of};
 ghost use Rattle.rp_table.specs.Limits.{IsExpenditure};
 
 use crate::bounds::{Lower, Upper};
 use crate::sets::{Sets, check_lists};
 use rp_clauses::bound::bound_holds;
+use rp_clauses::closure::Closure;
 use rp_clauses::input::Input;
 use rp_clauses::prices::{check_expenditure, check_prices};
 use rp_clauses::reach::ROOM;
@@ -26,11 +29,13 @@ use rp_table::NewPrices;
 /// ranks that the axiom holds.
 pub fn check_demand(
     input: &Input<'_>,
+    closure: &Closure,
     garp_shown: bool,
     prices: &[u32],
     m: u64,
     evidence: &DemandPart,
 ) -> Result<(), Failure>
+    requires closure { IsClosureOf closure.now (input_of_table input.now.table.now) }
     ensures { DemandFails (input_of_table input.now.table.now) garp_shown prices.now m
         evidence.now result }
 {
@@ -47,15 +52,20 @@ pub fn check_demand(
             strict,
             inner,
             goods,
-        } => check_bounds(
-            &new_prices,
-            garp_shown,
-            m,
-            below.as_slice(),
-            strict.as_slice(),
-            inner,
-            goods.as_slice(),
-        ),
+        } => {
+            if !garp_shown {
+                return fails(Reason::NoGarp, 0);
+            }
+            check_bounds(
+                &new_prices,
+                &Sets::of(&new_prices, closure, m),
+                m,
+                below.as_slice(),
+                strict.as_slice(),
+                inner,
+                goods.as_slice(),
+            )
+        }
         DemandPart::NoModel(walk) => check_violation(input, WHOLE, walk.as_slice()),
     }
 }
@@ -63,24 +73,24 @@ pub fn check_demand(
 /// Checks the sets of observations, the inner point and the bounds of each good.
 fn check_bounds(
     new_prices: &NewPrices<'_>,
-    garp_shown: bool,
+    sets: &Sets,
     m: u64,
     below: &[u32],
     strict: &[u32],
     inner: &Point,
     goods: &[GoodBounds],
 ) -> Result<(), Failure>
-    requires { IsExpenditure m }
-    ensures { DemandBoundsFail (input_of new_prices.now) garp_shown
-        (budget_at new_prices.now m) below.now strict.now inner.now goods.now result }
+    requires spends { IsExpenditure m }
+    requires sets { AreSets (input_of new_prices.now) (budget_at new_prices.now m) sets.now }
+    ensures { InOrder (SetsFail (input_of new_prices.now) (budget_at new_prices.now m)
+        below.now strict.now
+        ∷ InnerFails (input_of new_prices.now) (budget_at new_prices.now m) inner.now
+        ∷ GoodsFail (input_of new_prices.now) (budget_at new_prices.now m) below.now goods.now
+        ∷ []) result }
 {
-    if !garp_shown {
-        return fails(Reason::NoGarp, 0);
-    }
     prove!(new_prices.n() as usize <= ROOM);
-    let sets = Sets::of(new_prices, m);
-    check_lists(new_prices, m, &sets, below, strict)?;
-    check_inner(new_prices, m, &sets, inner)?;
+    check_lists(new_prices, m, sets, below, strict)?;
+    check_inner(new_prices, m, sets, inner)?;
     check_goods(new_prices, m, below, goods)
 }
 

@@ -3,6 +3,7 @@ ghost use Rattle.rp_check.specs.DemandFailure.{DemandFails};
 ghost use Rattle.rp_check.specs.ItemFailure.{ItemFails, shows_garp};
 ghost use Rattle.rp_check.specs.LevelsFailure.{SomeLevelsFail};
 ghost use Rattle.rp_check.specs.WelfareFailure.{WelfareFails};
+ghost use Rattle.rp_clauses.specs.InnerBits.{IsClosureOf};
 ghost use Rattle.rp_evidence.specs.Input.{input_of_table};
 ghost use Rattle.rp_evidence.specs.Kinds.{IsOfKind};
 ghost use Rattle.rp_evidence.specs.declared.certificate.Kind.TheVariants.{Table};
@@ -12,6 +13,7 @@ use crate::demand::check_demand;
 use crate::levels::check_no_levels;
 use crate::welfare::check_welfare;
 use rp_clauses::afriat::check_afriat;
+use rp_clauses::closure::Closure;
 use rp_clauses::efficiency::check_efficiency;
 use rp_clauses::garp::check_garp;
 use rp_clauses::homothetic::check_homothetic;
@@ -28,8 +30,14 @@ pub fn shows_garp(item: &Item) -> bool
 }
 
 /// Checks an item; `garp_shown` says whether an item before it shows by ranks that the axiom holds.
-pub fn check_item(input: &Input<'_>, garp_shown: bool, item: &Item) -> Result<(), Failure>
-    requires { IsOfKind Table item.now }
+pub fn check_item(
+    input: &Input<'_>,
+    closure: &Closure,
+    garp_shown: bool,
+    item: &Item,
+) -> Result<(), Failure>
+    requires closure { IsClosureOf closure.now (input_of_table input.now.table.now) }
+    requires kind { IsOfKind Table item.now }
     ensures { ItemFails (input_of_table input.now.table.now) garp_shown item.now result }
 {
     match item {
@@ -39,10 +47,10 @@ pub fn check_item(input: &Input<'_>, garp_shown: bool, item: &Item) -> Result<()
         Item::Homothetic(evidence) => check_homothetic(input, evidence),
         Item::Quasi(evidence) => check_quasilinear(input, evidence),
         Item::Demand { prices, m, part } => {
-            check_demand_item(input, garp_shown, prices.as_slice(), *m, part)
+            check_demand_item(input, closure, garp_shown, prices.as_slice(), *m, part)
         }
         Item::Welfare { prices, of, part } => {
-            check_welfare_item(input, garp_shown, prices.as_slice(), *of, part)
+            check_welfare_item(input, closure, garp_shown, prices.as_slice(), *of, part)
         }
         Item::Random { .. } => Ok(()),
     }
@@ -51,31 +59,35 @@ pub fn check_item(input: &Input<'_>, garp_shown: bool, item: &Item) -> Result<()
 /// Checks an item on demand, which is about tables without levels.
 fn check_demand_item(
     input: &Input<'_>,
+    closure: &Closure,
     garp_shown: bool,
     prices: &[u32],
     m: u64,
     part: &DemandPart,
 ) -> Result<(), Failure>
+    requires closure { IsClosureOf closure.now (input_of_table input.now.table.now) }
     ensures { InOrder (SomeLevelsFail input.now.table.now.levels
         ∷ DemandFails (input_of_table input.now.table.now) garp_shown prices.now m part.now
         ∷ []) result }
 {
     check_no_levels(input.table)?;
-    check_demand(input, garp_shown, prices, m, part)
+    check_demand(input, closure, garp_shown, prices, m, part)
 }
 
 /// Checks an item on welfare, which is about tables without levels.
 fn check_welfare_item(
     input: &Input<'_>,
+    closure: &Closure,
     garp_shown: bool,
     prices: &[u32],
     of: u32,
     part: &WelfarePart,
 ) -> Result<(), Failure>
+    requires closure { IsClosureOf closure.now (input_of_table input.now.table.now) }
     ensures { InOrder (SomeLevelsFail input.now.table.now.levels
         ∷ WelfareFails (input_of_table input.now.table.now) garp_shown prices.now of part.now
         ∷ []) result }
 {
     check_no_levels(input.table)?;
-    check_welfare(input, garp_shown, prices, of, part)
+    check_welfare(input, closure, garp_shown, prices, of, part)
 }

@@ -1,14 +1,16 @@
 ghost use Rattle.std.specs.Prelude.{◌≡◌, ◌<◌, ◌≤◌, ◌↔◌, ℕ, IsTrue, length};
 ghost use Rattle.rp_check.specs.InnerSets.{AreSets, budget_at, input_of};
 ghost use Rattle.rp_check.specs.DemandFailure.{SetsFail};
+ghost use Rattle.rp_clauses.specs.InnerBits.{IsClosureOf};
 ghost use Rattle.rp_clauses.specs.InnerMarks.{AreMarked, IsMarked};
 ghost use Rattle.rp_evidence.specs.Demand.{Buys, IsBelow, IsStrictStart};
 ghost use Rattle.rp_evidence.specs.Preference.{IsStrict};
 ghost use Rattle.rp_table.specs.Cost.{cost_of};
 ghost use Rattle.rp_table.specs.Tables.{records_of};
 
+use rp_clauses::closure::Closure;
 use rp_clauses::input::Input;
-use rp_clauses::reach::{ROOM, Way, is_marked_list, spread};
+use rp_clauses::reach::{ROOM, is_marked_list, spread};
 use rp_clauses::standard::WHOLE;
 use rp_evidence::{Failure, Reason};
 use rp_patch::fails;
@@ -23,7 +25,8 @@ pub struct Sets {
 
 impl Sets {
     /// The sets of the budget at these prices and the expenditure `m`.
-    pub fn of(new_prices: &NewPrices<'_>, m: u64) -> Sets
+    pub fn of(new_prices: &NewPrices<'_>, closure: &Closure, m: u64) -> Sets
+        requires { IsClosureOf closure.now (input_of new_prices.now) }
         ensures { AreSets (input_of new_prices.now) (budget_at new_prices.now m) result }
     {
         prove!(new_prices.n() as usize <= ROOM);
@@ -33,10 +36,10 @@ impl Sets {
         };
         let mut below = [false; ROOM];
         mark_bought(new_prices, m, &mut below);
-        spread(&input, Way::Onward, &mut below);
+        spread(&input, closure, &mut below);
         let mut strict = [false; ROOM];
         mark_strict_starts(new_prices, m, &below, &mut strict);
-        spread(&input, Way::Onward, &mut strict);
+        spread(&input, closure, &mut strict);
         Sets { below, strict }
     }
 }

@@ -1,6 +1,7 @@
 ghost use Rattle.std.specs.Prelude.{◌≡◌, ◌≤◌, ◌<◌, ◌↔◌, ◌∷◌, [], IsTrue, length, slice_index};
 ghost use Rattle.rp_check.specs.InnerSets.{AreFewOf, input_of};
 ghost use Rattle.rp_patch.specs.Clauses.{FirstUnless, InOrder, Unless};
+ghost use Rattle.rp_clauses.specs.InnerBits.{IsClosureOf};
 ghost use Rattle.rp_clauses.specs.InnerMarks.{AreMarked};
 ghost use Rattle.rp_clauses.specs.WalkFailure.{ViolationFails};
 ghost use Rattle.rp_check.specs.WelfareFailure.{IsNotAboveAt, LowerHolds};
@@ -17,9 +18,10 @@ ghost use Rattle.rp_table.specs.Tables.{goods_of, records_of};
 
 use crate::bounds::Least;
 use rp_clauses::bound::bound_holds;
+use rp_clauses::closure::Closure;
 use rp_clauses::input::Input;
 use rp_clauses::prices::check_prices;
-use rp_clauses::reach::{ROOM, Way, mark_only, spread, write_marked};
+use rp_clauses::reach::{ROOM, write_marked};
 use rp_clauses::standard::WHOLE;
 use rp_clauses::walk::check_violation;
 use rp_evidence::{Bound, Failure, Reason, WelfarePart};
@@ -31,11 +33,13 @@ use rp_table::NewPrices;
 /// before it shows by ranks that the axiom holds.
 pub fn check_welfare(
     input: &Input<'_>,
+    closure: &Closure,
     garp_shown: bool,
     prices: &[u32],
     t: u32,
     evidence: &WelfarePart,
 ) -> Result<(), Failure>
+    requires closure { IsClosureOf closure.now (input_of_table input.now.table.now) }
     ensures { WelfareFails (input_of_table input.now.table.now) garp_shown prices.now t
         evidence.now result }
 {
@@ -50,7 +54,7 @@ pub fn check_welfare(
             if t >= input.n() || *at >= input.n() {
                 return fails(Reason::Number, 0);
             }
-            check_bounds(&new_prices, garp_shown, t, *upper, *at, lower)
+            check_bounds(&new_prices, closure, garp_shown, t, *upper, *at, lower)
         }
         WelfarePart::NoModel(walk) => check_no_model(input, t, walk.as_slice()),
     }
@@ -74,12 +78,14 @@ fn check_no_model(input: &Input<'_>, t: u32, walk: &[u32]) -> Result<(), Failure
 /// Checks the upper bound and where it stands, and then the lower bound.
 fn check_bounds(
     new_prices: &NewPrices<'_>,
+    closure: &Closure,
     garp_shown: bool,
     t: u32,
     upper: u64,
     at: u32,
     lower: &Bound,
 ) -> Result<(), Failure>
+    requires closure { IsClosureOf closure.now (input_of new_prices.now) }
     requires observed { t < records_of new_prices.now.table.now }
     requires at { at < records_of new_prices.now.table.now }
     ensures { WelfareBoundsFail (input_of new_prices.now) garp_shown
@@ -89,11 +95,7 @@ fn check_bounds(
         return fails(Reason::NoGarp, 0);
     }
     prove!(new_prices.n() as usize <= ROOM);
-    let input = Input {
-        table: new_prices.table,
-        costs: new_prices.costs,
-    };
-    let marks = reaching(&input, t);
+    let marks = reaching(new_prices, closure, t);
     if !marks[at as usize] {
         return fails(Reason::Set, 1);
     }
@@ -101,7 +103,7 @@ fn check_bounds(
         return fails(Reason::Point, 0);
     }
     check_none_cheaper(new_prices, t, &marks, upper)?;
-    if !lower_holds(new_prices, t, lower) {
+    if !lower_holds(new_prices, closure, t, lower) {
         return fails(Reason::Bound, 1);
     }
     Ok(())
@@ -130,43 +132,44 @@ fn check_none_cheaper(
 }
 
 /// Marks `t` and the observations that reach it.
-fn reaching(input: &Input<'_>, t: u32) -> [bool; ROOM]
-    requires { t < records_of input.now.table.now }
-    ensures { AreMarked (records_of input.now.table.now)
-        (λ s. EqualsOrReaches (input_of_table input.now.table.now) s t) result }
+fn reaching(new_prices: &NewPrices<'_>, closure: &Closure, t: u32) -> [bool; ROOM]
+    requires closure { IsClosureOf closure.now (input_of new_prices.now) }
+    requires observed { t < records_of new_prices.now.table.now }
+    ensures { AreMarked (records_of new_prices.now.table.now)
+        (λ s. EqualsOrReaches (input_of new_prices.now) s t) result }
 {
-    prove!(input.n() as usize <= ROOM);
+    prove!(new_prices.n() as usize <= ROOM);
     let mut marks = [false; ROOM];
-    mark_only(input.n(), t, &mut marks);
-    spread(input, Way::Back, &mut marks);
+    for s in 0..new_prices.n() {
+        marks[s as usize] = closure.equals_or_reaches(s, t);
+    }
     marks
 }
 
 /// Marks `t` and the observations that it reaches.
-fn reached(input: &Input<'_>, t: u32) -> [bool; ROOM]
-    requires { t < records_of input.now.table.now }
-    ensures { AreMarked (records_of input.now.table.now)
-        (EqualsOrReaches (input_of_table input.now.table.now) t) result }
+fn reached(new_prices: &NewPrices<'_>, closure: &Closure, t: u32) -> [bool; ROOM]
+    requires closure { IsClosureOf closure.now (input_of new_prices.now) }
+    requires observed { t < records_of new_prices.now.table.now }
+    ensures { AreMarked (records_of new_prices.now.table.now)
+        (EqualsOrReaches (input_of new_prices.now) t) result }
 {
-    prove!(input.n() as usize <= ROOM);
+    prove!(new_prices.n() as usize <= ROOM);
     let mut marks = [false; ROOM];
-    mark_only(input.n(), t, &mut marks);
-    spread(input, Way::Onward, &mut marks);
+    for s in 0..new_prices.n() {
+        marks[s as usize] = closure.equals_or_reaches(t, s);
+    }
     marks
 }
 
 /// Whether a shown lower bound of `t` is that of its pair.
-fn lower_holds(new_prices: &NewPrices<'_>, t: u32, lower: &Bound) -> bool
-    requires { t < records_of new_prices.now.table.now }
+fn lower_holds(new_prices: &NewPrices<'_>, closure: &Closure, t: u32, lower: &Bound) -> bool
+    requires closure { IsClosureOf closure.now (input_of new_prices.now) }
+    requires observed { t < records_of new_prices.now.table.now }
     ensures { IsTrue result
         ↔ LowerHolds (input_of new_prices.now) (slice_index new_prices.now.prices.now) t lower.now }
 {
     prove!(new_prices.n() as usize <= ROOM);
-    let input = Input {
-        table: new_prices.table,
-        costs: new_prices.costs,
-    };
-    let marks = reached(&input, t);
+    let marks = reached(new_prices, closure, t);
     let mut list = [0; ROOM];
     let count = write_marked(new_prices.n(), &marks, &mut list);
     cost_holds(new_prices, &list[..count], lower)

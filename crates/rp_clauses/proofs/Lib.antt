@@ -1,9 +1,12 @@
+pub mod BitLemmas
 pub mod BoundMeasures
 pub mod HomotheticSteps
 pub mod MarkLemmas
 pub mod MarkedLists
 pub mod OwnCosts
+pub mod Rounds
 pub mod SameFractions
 pub mod SoundTests
+pub mod Throughs
 pub mod WalkProducts
 pub mod WalkSums

@@ -1,13 +1,14 @@
--- Marks on observations, one step after another, and what steps lead to.
-use Rattle.std.proofs.Common.{rules, ◌≡◌, ◌<◌, ◌≤◌, ◌+◌, ◌⊎◌, ◌↔◌, inl, inr, ℕ, Bool, true, false, IsTrue, List, [], ◌∷◌, ◌++◌, length, slice_index_or, refl, sym, subst, ◌∙◌, ap, arith, cond, replicate, set, sum_by}
+-- Marks on observations, and what steps lead to from those that are marked.
+use Rattle.std.proofs.Common.{rules, ◌≡◌, ◌<◌, ◌≤◌, ◌+◌, ◌⊎◌, ◌↔◌, ◌||◌, inl, inr, ℕ, Bool, true, false, IsTrue, List, [], ◌∷◌, length, slice_index_or, refl, sym, subst, ◌∙◌, arith, replicate, set}
 use Rattle.std.proofs.lemmas.Bool.{cases_eq, false≢true}
-use Rattle.std.proofs.lemmas.List.{length-replicate, get_or-replicate, get_or-set_other, get_or-set_same}
-use Rattle.std.proofs.lemmas.List.Sums.{sum_by-set}
-use Rattle.rp_evidence.specs.Walk.{LeadsTo}
-use Rattle.rp_evidence.proofs.Walks.{leads_more, starts_below}
+use Rattle.std.proofs.lemmas.List.{get_or-set_other, get_or-set_same}
+use Rattle.rp_evidence.specs.Walk.{LeadsTo, Reaches}
+use Rattle.rp_evidence.proofs.Walks.{reaches_by, rest_of_reach}
+use Rattle.rp_clauses.specs.InnerBits.{bit_in, has_bit}
 use Rattle.rp_clauses.specs.InnerMarks.{AreMarked, IsLedTo, IsMarked}
+use Rattle.rp_clauses.proofs.Rounds.{no_bit}
 
--- ---- where the steps from one observation lead is marked, up to v
+-- ---- what is told of one observation after another is marked, up to v
 
 pub record IsTakenTo (step : ℕ → Type 0) (old new : List Bool) (v : ℕ) : Type 0 where
   pub same_length : length new ≡ length old
@@ -48,66 +49,69 @@ module _ (step : ℕ → Type 0) (old : List Bool) where
         marks : IsMarked (set new v true) v
         marks = get_or-set_same new v true false (omega (arith, room, so_far.same_length))
 
--- ---- marks spread by steps
+-- ---- what the marked observations reach
 
--- Each marked observation was marked or is led to; where one is taken, all that its steps lead to are marked.
-pub record Spreads (n : ℕ) (step : ℕ → ℕ → Type 0) (old marks taken : List Bool) : Type 0 where
-  pub room : n ≤ length marks
-  pub space : n ≤ length taken
-  pub started : (t : ℕ) → t < n → IsMarked old t → IsMarked marks t
-  pub led : (t : ℕ) → t < n → IsMarked marks t → IsLedTo n step old t
-  pub closed : (s t : ℕ) → s < n → t < n → IsMarked taken s → step s t → IsMarked marks t
+-- The row has what the marked ones of the first s observations reach.
+abbrev pub IsLedFrom : List (List ℕ) → List Bool → List ℕ → ℕ → Type 0
+IsLedFrom rows marks row end =
+    (t : ℕ) → IsTrue (bit_in row t) ↔ ((s : ℕ) × (s < end) × IsMarked marks s × IsTrue (has_bit rows s t))
 
--- how many observations are not taken yet
-pub left : List Bool → ℕ
-left taken = sum_by (λ b. cond b 0 1) taken
+of_or : (a b : Bool) → IsTrue (a || b) → IsTrue a ⊎ IsTrue b
+of_or true b h = inl refl
+of_or false b h = inr h
 
-module _ (n : ℕ) (step : ℕ → ℕ → Type 0) (old : List Bool) where
-  pub spread_none : (size : ℕ) → n ≤ length old → n ≤ size → Spreads n step old old (replicate size false)
-  spread_none size room space = record {
-    room = room;
-    space = omega (arith, space, length-replicate size false);
-    started = λ t l h. h;
-    led = λ t l h. (t, l, h, [], (l, refl));
-    closed = λ s t a b h k. absurd (false≢true (sym (get_or-replicate size s false false (omega (arith, a, space))) ∙ h));
-  }
+or_left : (a b : Bool) → IsTrue a → IsTrue (a || b)
+or_left true b h = refl
+or_left false b h = absurd (false≢true h)
 
-  module _ (marks taken : List Bool) (so_far : Spreads n step old marks taken) where
-    pub spread_more : (u : ℕ) → u < n → IsMarked marks u → (more more_taken : List Bool) → more_taken ≡ set taken u true → n ≤ length more
-        → ((t : ℕ) → t < n → IsMarked more t ↔ (IsMarked marks t ⊎ step u t)) → Spreads n step old more more_taken
-    spread_more u u_in here more more_taken e room each = rw e (record {
-      room = room;
-      space = omega (arith, so_far.space, set_length);
-      started = λ t l h. (each t l).1 (inl (so_far.started t l h));
-      led = λ t l h. elim ((each t l).0 h) [
-        | inl k ↦ so_far.led t l k
-        | inr k ↦ (let w = so_far.led u u_in here in (w.0, w.1, w.2, w.3 ++ t ∷ [], leads_more n step w.0 u t w.3 w.4 l k))
-      ];
-      closed = λ s t a b h k. elim (cases_eq s u) [
-        | inl q ↦ (each t b).1 (inr (subst (λ z. step z t) q k))
-        | inr d ↦ (each t b).1 (inl (so_far.closed s t a b (sym (get_or-set_other taken u s true false d) ∙ h) k))
-      ];
-    })
+or_right : (a b : Bool) → IsTrue b → IsTrue (a || b)
+or_right true b h = refl
+or_right false b h = h
+
+module _ (rows : List (List ℕ)) (marks : List Bool) where
+  pub led_none : (size : ℕ) → IsLedFrom rows marks (replicate size 0) 0
+  led_none size t = ((λ h. absurd (false≢true (sym (no_bit size t) ∙ h))), (λ h. absurd (omega (arith, h.1))))
+
+  module _ (row : List ℕ) (s : ℕ) (so_far : IsLedFrom rows marks row s) where
+    pub led_past : slice_index_or marks s false ≡ false → IsLedFrom rows marks row (s + 1)
+    led_past none t = (
+      (λ h. let k = (so_far t).0 h in (k.0, omega (arith, k.1), k.2, k.3)),
+      (λ h. (so_far t).1 (h.0, below h.0 h.1 h.2, h.2, h.3)),
+    )
       where
-        set_length : length (set taken u true) ≡ length taken
-        set_length = search rules
+        below : (a : ℕ) → a < s + 1 → IsMarked marks a → a < s
+        below a l m = elim (cases_eq a s) [
+          | inl e ↦ absurd (false≢true (sym none ∙ subst (λ z. IsMarked marks z) e m))
+          | inr d ↦ omega arith
+        ]
 
-    pub spread_all : ((t : ℕ) → t < n → IsMarked marks t → IsMarked taken t) → AreMarked n (IsLedTo n step old) marks
-    spread_all none t l = (so_far.led t l, λ h. along h.0 h.3 h.1 (so_far.started h.0 h.1 h.2) h.4)
-      where
-        along : (s : ℕ) (w : List ℕ) → s < n → IsMarked marks s → LeadsTo n step s t w → IsMarked marks t
-        along s [] a h k = subst (λ z. IsMarked marks z) k.1 h
-        along s (x ∷ w) a h k =
-            let x_in = starts_below n step x t w k.2 in
-            along x w x_in (so_far.closed s x a x_in (none s a h) k.1) k.2
+    pub led_at : IsMarked marks s → (new : List ℕ) → ((t : ℕ) → bit_in new t ≡ (bit_in row t || has_bit rows s t)) → IsLedFrom rows marks new (s + 1)
+    led_at here new is t = (
+      (λ h. elim (of_or (bit_in row t) (has_bit rows s t) (sym (is t) ∙ h)) [
+        | inl k ↦ (let q = (so_far t).0 k in (q.0, omega (arith, q.1), q.2, q.3))
+        | inr k ↦ (s, omega arith, here, k)
+      ]),
+      (λ h. is t ∙ elim (cases_eq h.0 s) [
+        | inl e ↦ or_right (bit_in row t) (has_bit rows s t) (subst (λ z. IsTrue (has_bit rows z t)) e h.3)
+        | inr d ↦ or_left (bit_in row t) (has_bit rows s t) ((so_far t).1 (h.0, omega (arith, h.1, d), h.2, h.3))
+      ]),
+    )
 
-    pub spread_falls : (u : ℕ) → u < n → ¬ IsMarked taken u → (more_taken : List Bool) → more_taken ≡ set taken u true → left more_taken < left taken
-    unfolding left
-    spread_falls u u_in fresh more_taken e = rw e (go (slice_index_or taken u false) refl)
-      where
-        go : (b : Bool) → slice_index_or taken u false ≡ b → sum_by (λ b. cond b 0 1) (set taken u true) < sum_by (λ b. cond b 0 1) taken
-        go true k = absurd (fresh k)
-        go false k =
-            let h = sum_by-set (λ (b : Bool). cond b 0 1) taken u true false (omega (arith, u_in, so_far.space)) in
-            let q : ◌≡◌ {A = ℕ} (cond (slice_index_or taken u false) 0 1) 1 = ap (λ (b : Bool). cond b 0 1) k in
-            omega (arith, h, q)
+-- ---- marks spread by what is reached
+
+module _ (n : ℕ) (step : ℕ → ℕ → Type 0) (old marks : List Bool) (row : List ℕ) (rows : List (List ℕ))
+    (told : (s t : ℕ) → s < n → t < n → IsTrue (has_bit rows s t) ↔ Reaches n step s t)
+    (reached : (t : ℕ) → IsTrue (bit_in row t) ↔ ((s : ℕ) × (s < n) × IsMarked old s × IsTrue (has_bit rows s t)))
+    (marked : (t : ℕ) → t < n → IsMarked marks t ↔ (IsMarked old t ⊎ IsTrue (bit_in row t))) where
+  pub spread_all : AreMarked n (IsLedTo n step old) marks
+  spread_all t t_in = (
+    (λ h. elim ((marked t t_in).0 h) [
+      | inl k ↦ (t, t_in, k, [], (t_in, refl))
+      | inr k ↦ (let r = (reached t).0 k in let w = rest_of_reach n step r.0 t ((told r.0 t r.1 t_in).0 r.3) in (r.0, r.1, r.2, w.0 ∷ w.1, w.2))
+    ]),
+    (λ h. (marked t t_in).1 (along h.0 h.1 h.2 h.3 h.4)),
+  )
+    where
+      along : (s : ℕ) → s < n → IsMarked old s → (w : List ℕ) → LeadsTo n step s t w → IsMarked old t ⊎ IsTrue (bit_in row t)
+      along s s_in h [] l = inl (subst (λ z. IsMarked old z) l.1 h)
+      along s s_in h (x ∷ w) l = inr ((reached t).1 (s, s_in, h, (told s t s_in t_in).1 (reaches_by n step s t x w l)))

@@ -1,9 +1,6 @@
 -- Words that only the crate's own functions and their proofs need, and no definition rests on: marks on observations,
 -- and what steps lead to.
 use Rattle.std.specs.Prelude.{◌<◌, ◌↔◌, ℕ, Bool, false, IsTrue, List, slice_index_or}
-use Rattle.rp_clauses.specs.declared.reach.Way.{Way}
-use Rattle.rp_clauses.specs.declared.reach.Way.TheVariants.{Onward, Back}
-use Rattle.rp_evidence.specs.Preference.{IsWeak}
 use Rattle.rp_evidence.specs.Walk.{LeadsTo}
 
 -- Observation t is marked.
@@ -13,11 +10,6 @@ IsMarked marks t = IsTrue (slice_index_or marks t false)
 -- Just those of the first n observations are marked of which P holds.
 abbrev pub AreMarked : ℕ → (ℕ → Type 0) → List Bool → Type 0
 AreMarked n P marks = (t : ℕ) → t < n → IsMarked marks t ↔ P t
-
--- The weak steps of a table of costs, as they go or turned round.
-abbrev pub step_of : Way → (ℕ → ℕ → ℕ) → ℕ → ℕ → Type 0
-step_of Onward c s t = IsWeak c 1 1 s t
-step_of Back c s t = IsWeak c 1 1 t s
 
 -- Steps, or none, lead from a marked observation to t.
 abbrev pub IsLedTo : ℕ → (ℕ → ℕ → Type 0) → List Bool → ℕ → Type 0

@@ -2,6 +2,7 @@ pub mod AfriatFailure
 pub mod EfficiencyFailure
 pub mod GarpFailure
 pub mod HomotheticFailure
+pub mod InnerBits
 pub mod InnerMarks
 pub mod PricesFailure
 pub mod QuasilinearFailure

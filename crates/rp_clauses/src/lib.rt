@@ -3,7 +3,9 @@
 #![tactic(auto)]
 
 pub mod afriat;
+pub mod bits;
 pub mod bound;
+pub mod closure;
 pub mod efficiency;
 pub mod garp;
 pub mod homothetic;

@@ -3,8 +3,10 @@
 
 mod contradiction;
 mod laws;
+mod meeting;
 mod verdict;
 
 pub use contradiction::pairs;
 pub use laws::given_evidence_depends_on_observed_costs;
+pub use meeting::{meets_garp, meets_garp_over};
 pub use verdict::garp;

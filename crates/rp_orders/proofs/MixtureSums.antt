@@ -1,11 +1,10 @@
 -- Where the data are complete and a mixture of strict orders makes the choices, every sum is at least 0: each order adds
 -- its weight where the letters that it does not place before the letter are those of the menu, and else nothing.
 use Rattle.std.proofs.Common.{◌≡◌, ◌≢◌, ◌<◌, ◌≤◌, ◌+◌, ◌*◌, ◌^◌, ◌-◌, ◌%◌, ◌==◌, inl, inr, ℕ, zero, suc, Bool, true, false, List, [], ◌∷◌, Contains, length, slice_index, ℤ, pos, negsuc, neg_ℤ, ◌+ℤ◌, ◌*ℤ◌, ◌≤ℤ◌, bit_and, refl, sym, ap, subst, ◌∙◌, arith, if◌then◌else◌}
-use Rattle.std.proofs.lemmas.Bool.{cases_eq, cases_lt, eq-eqb, eqb-true, ne_eqb}
+use Rattle.std.proofs.lemmas.Bool.{cases_eq, eq-eqb, eqb-true, ne_eqb}
 use Rattle.std.proofs.lemmas.Int.{ints}
 use Rattle.std.proofs.Math.IntN.{pos-*ℤ-pos}
 use Rattle.rp_evidence.specs.declared.random.Share.{Share}
-use Rattle.rp_farkas.specs.Total.{total}
 use Rattle.rp_farkas.proofs.Integers.{plus_times, times_strict}
 use Rattle.rp_farkas.proofs.Totals.{total-same, total-scale}
 use Rattle.rp_table.specs.Sums.{sum_below}
@@ -17,7 +16,7 @@ use Rattle.rp_orders.specs.MenuEvidence.{ProvesMenus, ShowsSums}
 use Rattle.rp_orders.specs.MenuSums.{AreComplete, holds, signed, size_of, sum_at, units_on}
 use Rattle.rp_orders.specs.OrderKinds.{orders_over}
 use Rattle.rp_orders.specs.OrderMixtures.{AreUnitsOf, IsOrderMixture, menu_at, units_of, weight_picking}
-use Rattle.rp_orders.specs.Orders.{IsStrictOrder, picked}
+use Rattle.rp_orders.specs.Orders.{picked}
 use Rattle.rp_orders.proofs.AlternatingSums.{added, holds_all, parts_sum}
 use Rattle.rp_orders.proofs.OrderCells.{are_whole, term_within}
 use Rattle.rp_orders.proofs.OrderLists.{stands_somewhere}

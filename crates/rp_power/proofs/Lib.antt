@@ -1,5 +1,5 @@
 mod Tried
 pub mod CountMore
 pub mod DrawnLemmas
-pub mod FailsLemmas
+pub mod SpentLemmas
 pub mod WordBlocks

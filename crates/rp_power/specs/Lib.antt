@@ -1,4 +1,5 @@
 pub mod Shares
 pub mod DrawnTable
+pub mod Spent
 pub mod PowerCount
 pub mod PowerText

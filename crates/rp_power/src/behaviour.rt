@@ -1,4 +1,4 @@
-ghost use Rattle.std.specs.Prelude.{◌≡◌, ◌*◌, ◌<◌, ◌≤◌, ◌^◌, [], IfOk, length};
+ghost use Rattle.std.specs.Prelude.{◌≡◌, ◌*◌, ◌<◌, ◌≤◌, ◌^◌, [], IfOk, OnOk, length};
 ghost use Rattle.rp_num.specs.Below.{listed, rows_below};
 ghost use Rattle.rp_power.specs.DrawnTable.{affordable, drawn_quantity, drawn_table};
 ghost use Rattle.rp_power.specs.PowerCount.{words_of};
@@ -6,7 +6,7 @@ ghost use Rattle.rp_table.specs.Cost.{IsCostsOf};
 ghost use Rattle.rp_table.specs.Tables.{goods_of, records_of};
 ghost use Rattle.rp_table.specs.declared.TheConstants.{GOODS, LARGEST};
 
-use crate::shares::{leave_not_all_zero, shares_at, total};
+use crate::shares::{draw_shares, leave_not_all_zero, total};
 use rp_num::NoMemory;
 use rp_table::{Costs, LARGEST, Name, Table};
 use std::alloc::Global;
@@ -21,7 +21,17 @@ pub fn drawn(alloc: Global, table: &Table, costs: &Costs, words: &[u32]) -> Resu
 {
     let names = copy_names(alloc, table)?;
     let prices = copy_prices(alloc, table)?;
-    let quantities = draw_quantities(alloc, table, costs, words)?;
+    let mut shares = Vec::new(alloc);
+    let mut bundle = Vec::new(alloc);
+    let mut quantities = Vec::new(alloc);
+    draw_quantities(
+        table,
+        costs,
+        words,
+        &mut shares,
+        &mut bundle,
+        &mut quantities,
+    )?;
     prove!(table.n() > 0);
     Ok(Table::make(
         names,
@@ -55,52 +65,56 @@ fn copy_prices(alloc: Global, table: &Table) -> Result<Vec<u32>, NoMemory>
     Ok(prices)
 }
 
-/// The drawn quantities, by observation and then good.
-fn draw_quantities(
-    alloc: Global,
+/// Fills `quantities` with the drawn ones, by observation and then good. The shares and the bundle of one observation
+/// at a time stand in `shares` and `bundle`.
+pub(crate) fn draw_quantities(
     table: &Table,
     costs: &Costs,
     words: &[u32],
-) -> Result<Vec<u32>, NoMemory>
+    shares: &mut Vec<u32>,
+    bundle: &mut Vec<u32>,
+    quantities: &mut Vec<u32>,
+) -> Result<(), NoMemory>
     requires of_table { IsCostsOf costs.now table.now }
     requires words { length words.now ≡ words_of table.now }
-    ensures { IfOk result (λ quantities. quantities.items
+    ensures { OnOk result (quantities.new.items
         ≡ rows_below (records_of table.now) (goods_of table.now)
         (drawn_quantity table.now words.now)) }
 {
-    let mut quantities = Vec::new(alloc);
+    quantities.clear();
     for t in 0..table.n() {
-        let bundle = draw_bundle(alloc, table, costs, words, t)?;
+        draw_bundle(table, costs, words, t, shares, bundle)?;
         quantities.extend_from_slice(bundle.as_slice())?;
     }
-    Ok(quantities)
+    Ok(())
 }
 
-/// The drawn quantity of each good at observation `t`, not all 0.
+/// Fills `bundle` with the drawn quantity of each good at observation `t`, not all 0, and `shares` with their shares.
 fn draw_bundle(
-    alloc: Global,
     table: &Table,
     costs: &Costs,
     words: &[u32],
     t: u32,
-) -> Result<Vec<u32>, NoMemory>
+    shares: &mut Vec<u32>,
+    bundle: &mut Vec<u32>,
+) -> Result<(), NoMemory>
     requires of_table { IsCostsOf costs.now table.now }
     requires words { length words.now ≡ words_of table.now }
     requires observed { t < records_of table.now }
-    ensures { IfOk result (λ bundle. bundle.items
+    ensures { OnOk result (bundle.new.items
         ≡ listed (goods_of table.now) (drawn_quantity table.now words.now t)) }
 {
     let goods = table.goods();
-    let shares = shares_at(alloc, table, words, t)?;
+    draw_shares(table, words, t, shares)?;
     let total = total(shares.as_slice());
-    let mut bundle = Vec::new(alloc);
+    bundle.clear();
     for g in 0..goods {
         let share = shares[g as usize];
         let price = table.price(t, g);
         bundle.push(affordable(costs.cost(t, t), share, total, price))?;
     }
-    leave_not_all_zero(&mut bundle);
-    Ok(bundle)
+    leave_not_all_zero(bundle);
+    Ok(())
 }
 
 /// The quantity of a good that a share of an expenditure buys at the good's price; the expenditure is scaled by both

@@ -1,20 +1,25 @@
-ghost use Rattle.std.specs.Prelude.{◌≡◌, ◌↔◌, [], IfOk, IsTrue, OnOk};
+ghost use Rattle.std.specs.Prelude.{◌≡◌, ◌↔◌, ◌*◌, [], IfOk, IsTrue, OnOk, length};
 ghost use Rattle.rp_draws.specs.Words.{after_words, word_after};
+ghost use Rattle.rp_evidence.specs.Preference.{IsStrict, IsWeak};
+ghost use Rattle.rp_garp.specs.Meeting.{HasSomeViolation};
 ghost use Rattle.rp_num.specs.Below.{listed};
-ghost use Rattle.rp_power.specs.PowerCount.{FailsGarp, IsPowerCount};
+ghost use Rattle.rp_power.specs.PowerCount.{IsPowerCount};
+ghost use Rattle.rp_power.specs.Spent.{cost_in};
 ghost use Rattle.rp_table.specs.Cost.{IsCostsOf};
+ghost use Rattle.rp_table.specs.Tables.{records_of};
 
-use crate::behaviour::drawn;
+use crate::behaviour::draw_quantities;
+use crate::spending::{Spending, fill_costs};
 use rand_pcg::Lcg64Xsh32;
 use rp_draws::{draw, generator};
-use rp_evidence::Garp;
-use rp_garp::garp;
+use rp_garp::meets_garp_over;
 use rp_num::NoMemory;
 use rp_table::{Costs, Table};
 use std::alloc::Global;
 
 /// How many of so many random behaviours on the budgets of a table fail the generalized axiom of revealed preference,
-/// each drawn by the next words of the seed's generator. One behaviour at a time is in memory.
+/// each drawn by the next words of the seed's generator. One behaviour at a time is in memory, each where the one before
+/// it was.
 pub fn power(
     alloc: Global,
     table: &Table,
@@ -27,36 +32,50 @@ pub fn power(
     ensures { IfOk result (IsPowerCount table.now seed draws) }
 {
     let mut generator = generator(seed);
+    let mut words = Vec::new(alloc);
+    let mut shares = Vec::new(alloc);
+    let mut bundle = Vec::new(alloc);
+    let mut quantities = Vec::new(alloc);
+    let mut spent = Vec::new(alloc);
     let mut violations = 0;
     for _ in 0..draws {
-        let words = draw_words(alloc, &mut generator, table.n() * table.goods())?;
-        let behaviour = drawn(alloc, table, costs, words.as_slice())?;
-        let failed = fails(alloc, &behaviour)?;
+        draw_words(&mut generator, table.n() * table.goods(), &mut words)?;
+        let drawn = words.as_slice();
+        draw_quantities(
+            table,
+            costs,
+            drawn,
+            &mut shares,
+            &mut bundle,
+            &mut quantities,
+        )?;
+        fill_costs(table, quantities.as_slice(), &mut spent)?;
+        let failed = fails(alloc, table, spent.as_slice())?;
         violations += u32::from(failed);
     }
     Ok(violations)
 }
 
-/// The next so many words of a generator.
-fn draw_words(alloc: Global, generator: &mut Lcg64Xsh32, count: u32) -> Result<Vec<u32>, NoMemory>
-    ensures drawn { IfOk result (λ words. words.items ≡ listed count (word_after generator.old)) }
+/// Fills `words` with the next so many words of a generator.
+fn draw_words(generator: &mut Lcg64Xsh32, count: u32, words: &mut Vec<u32>) -> Result<(), NoMemory>
+    ensures drawn { OnOk result (words.new.items ≡ listed count (word_after generator.old)) }
     ensures moved { OnOk result (generator.new ≡ after_words generator.old count) }
 {
-    let mut words = Vec::new(alloc);
+    words.clear();
     for _ in 0..count {
         words.push(draw(generator))?;
     }
-    Ok(words)
+    Ok(())
 }
 
-/// Whether a table fails the axiom.
-fn fails(alloc: Global, table: &Table) -> Result<bool, NoMemory>
-    requires { table.now.levels ≡ [] }
-    ensures { IfOk result (λ failed. IsTrue failed ↔ FailsGarp table.now) }
+/// Whether costs, by prices and then bundles, fail the axiom.
+fn fails(alloc: Global, table: &Table, costs: &[u64]) -> Result<bool, NoMemory>
+    requires { length costs.now ≡ records_of table.now * records_of table.now }
+    ensures { IfOk result (λ failed. IsTrue failed ↔ HasSomeViolation (records_of table.now)
+        (IsWeak (cost_in (records_of table.now) costs.now) 1 1)
+        (IsStrict (cost_in (records_of table.now) costs.now) 1 1)) }
 {
-    let costs = Costs::of(alloc, table)?;
-    match garp(alloc, &costs)? {
-        Garp::Ranks(_) => Ok(false),
-        Garp::Cycle(_) => Ok(true),
-    }
+    let n = table.n();
+    let holds = meets_garp_over(alloc, &Spending { n, costs })?;
+    Ok(!holds)
 }

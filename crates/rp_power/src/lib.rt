@@ -6,6 +6,7 @@ mod behaviour;
 mod count;
 mod report;
 mod shares;
+mod spending;
 
 pub use behaviour::drawn;
 pub use count::power;

@@ -1,4 +1,4 @@
-ghost use Rattle.std.specs.Prelude.{◌≡◌, ◌+◌, ◌*◌, ◌<◌, ◌≤◌, All, IfOk, length, slice_index};
+ghost use Rattle.std.specs.Prelude.{◌≡◌, ◌+◌, ◌*◌, ◌<◌, ◌≤◌, All, OnOk, length, slice_index};
 ghost use Rattle.rp_num.specs.Below.{listed};
 ghost use Rattle.rp_power.specs.DrawnTable.{share_of};
 ghost use Rattle.rp_power.specs.PowerCount.{words_of};
@@ -9,29 +9,29 @@ ghost use Rattle.rp_table.specs.declared.TheConstants.{GOODS, LARGEST};
 
 use rp_num::NoMemory;
 use rp_table::Table;
-use std::alloc::Global;
 
-/// The share of each good at observation `t` by the words, one for each observation and then good: 0 to 99, not all 0.
-pub(crate) fn shares_at(
-    alloc: Global,
+/// Fills `shares` with the share of each good at observation `t` by the words, one for each observation and then good:
+/// 0 to 99, not all 0.
+pub(crate) fn draw_shares(
     table: &Table,
     words: &[u32],
     t: u32,
-) -> Result<Vec<u32>, NoMemory>
+    shares: &mut Vec<u32>,
+) -> Result<(), NoMemory>
     requires words { length words.now ≡ words_of table.now }
     requires observed { t < records_of table.now }
-    ensures drawn { IfOk result (λ shares. shares.items
+    ensures drawn { OnOk result (shares.new.items
         ≡ listed (goods_of table.now) (share_of table.now words.now t)) }
-    ensures within { IfOk result (λ shares. All (λ share. share < 100) shares.items) }
+    ensures within { OnOk result (All (λ share. share < 100) shares.new.items) }
 {
     let goods = table.goods();
-    let mut shares = Vec::new(alloc);
+    shares.clear();
     for g in 0..goods {
         let word = words[t as usize * goods as usize + g as usize];
         shares.push(word % 100)?;
     }
-    leave_not_all_zero(&mut shares);
-    Ok(shares)
+    leave_not_all_zero(shares);
+    Ok(())
 }
 
 /// Makes the first number 1 where all of them are 0.

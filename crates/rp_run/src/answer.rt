@@ -1,4 +1,4 @@
-ghost use Rattle.std.specs.Prelude.{◌≡◌, false, [], IfOk, IfErr};
+ghost use Rattle.std.specs.Prelude.{◌≡◌, true, false, [], IfOk, IfErr};
 ghost use Rattle.rp_outside.specs.Faults.{EachStays, NoneFalls};
 ghost use Rattle.rp_run.specs.Answers.{Answers, AnswersLine, IsText};
 ghost use Rattle.rp_run.specs.Endings.{Rose};

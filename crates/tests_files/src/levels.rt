@@ -27,7 +27,10 @@ fn pairs_takes_a_table_with_levels(rt: HostRuntime) -> Result<(), Fail> {
 /// Just below four fifths the first step is none.
 const BELOW: &str = "p_a,q_a,p_b,q_b,e\n1,1,2,2,799\n2,2,1,1,1000\n";
 
-/// The certificate of that table.
+/// Costs 8, 4; 8, 4, of which all counts.
+const MORE_AND_LESS: &str = "p_a,q_a,p_b,q_b,e\n1,4,1,4,1000\n1,2,1,2,1000\n";
+
+/// The certificate of the table just below.
 const CERTIFICATE: &str =
     "{\"items\":[{\"item\":\"garp\",\"ranks\":[1,2]},{\"item\":\"afriat\",\"lambda\":[\"200\",\"1\"],\"utility\":[\"-1000\",\"0\"]},{\"above\":[1,2,1],\"at_ranks\":[2,2],\"below\":[1,1],\"item\":\"efficiency\",\"level\":\"4/5\"},{\"cycle\":[1,2,1],\"item\":\"homothetic\",\"start\":\"1\"},{\"cycle\":[1,2,1],\"item\":\"quasilinear\"}],\"kind\":\"table\",\"levels\":[799,1000],\"version\":2}\n";
 
@@ -45,6 +48,34 @@ fn verdicts_and_utilities_by_levels(rt: HostRuntime) -> Result<(), Fail> {
         ),
     ] {
         let files = &[("t.csv", BELOW), ("b.csv", "q_a,q_b\n1,2\n2,1\n")];
+        let got = run_over(rt.alloc(), words, files)?;
+        assert!(rt; gives(&got, Status::Done, out), "{words:?} {}", got.out);
+    }
+    Ok(())
+}
+
+/// An equality at the first level makes the cycle a violation again, so there are no numbers and no utilities. Levels
+/// that take nothing away leave the verdicts as they are, and utilities 1,000 times as great.
+#[test]
+fn levels_that_change_no_verdict(rt: HostRuntime) -> Result<(), Fail> {
+    for (words, table, out) in [
+        (
+            &["rp", "utility", "t.csv", "b.csv"] as &[&str],
+            LEVELLED,
+            "observations 2 goods 2 places 0 0\nlevels 800 1000\ngarp violated\ncycle 1 2 1\nafriat none\ncycle 1 2 1\nat 1 none\n",
+        ),
+        (
+            &["rp", "analyse", "t.csv"],
+            LEVELLED,
+            "observations 2 goods 2 places 0 0\nlevels 800 1000\ngarp violated\ncycle 1 2 1\nafriat none\ncycle 1 2 1\nefficiency 4/5 attained yes\nbelow 1 1\nabove 1 2 1\nat ranks 2 2\nhomothetic violated\nstart 1\ncycle 1 2 1\nquasilinear violated\ncycle 1 2 1\n",
+        ),
+        (
+            &["rp", "utility", "t.csv", "b.csv"],
+            MORE_AND_LESS,
+            "observations 2 goods 2 places 0 0\nlevels 1000 1000\ngarp holds\nranks 2 1\nafriat model\nutility 0 -4000\nlambda 1 1\nat 1 value -5000\n",
+        ),
+    ] {
+        let files = &[("t.csv", table), ("b.csv", "q_a,q_b\n1,2\n")];
         let got = run_over(rt.alloc(), words, files)?;
         assert!(rt; gives(&got, Status::Done, out), "{words:?} {}", got.out);
     }
@@ -79,6 +110,36 @@ fn levels_of_a_certificate_are_those_of_the_table(rt: HostRuntime) -> Result<(),
             Status::Rejected,
             "rejected item 0 Levels place 0\n",
         ),
+        (
+            BELOW,
+            "{\"items\":[],\"kind\":\"table\",\"levels\":[799,1000],\"version\":2}",
+            Status::Done,
+            "accepted items 0 withheld 0\n",
+        ),
+        (
+            BELOW,
+            "{\"items\":[],\"kind\":\"table\",\"levels\":[800,999],\"version\":2}",
+            Status::Rejected,
+            "rejected item 0 Levels place 1\n",
+        ),
+        (
+            BELOW,
+            "{\"items\":[],\"kind\":\"table\",\"levels\":[799],\"version\":2}",
+            Status::Rejected,
+            "rejected item 0 Levels place 0\n",
+        ),
+        (
+            BELOW,
+            "{\"items\":[],\"kind\":\"table\",\"levels\":[800,1000,1000],\"version\":2}",
+            Status::Rejected,
+            "rejected item 0 Levels place 0\n",
+        ),
+        (
+            "p_a,q_a,p_b,q_b,e\n1,1,2,2,1000\n2,2,1,1,1000\n",
+            "{\"items\":[{\"cycle\":[1,2,1],\"item\":\"garp\"}],\"kind\":\"table\",\"version\":1}",
+            Status::Rejected,
+            "rejected item 0 Levels place 0\n",
+        ),
     ] {
         let files = &[("t.csv", table), ("c.json", certificate)];
         let got = run_over(rt.alloc(), &["rp", "check", "t.csv", "c.json"], files)?;
@@ -87,7 +148,8 @@ fn levels_of_a_certificate_are_those_of_the_table(rt: HostRuntime) -> Result<(),
     Ok(())
 }
 
-/// At 800 and 800 both steps of the cycle are equalities; a model in the scale without levels is none with them.
+/// At 800 and 800 both steps of the cycle are equalities; a model in the scale without levels is none with them. Demand
+/// and welfare are not defined there, whatever else is wrong with them.
 #[test]
 fn forged_evidence_with_levels(rt: HostRuntime) -> Result<(), Fail> {
     for (table, certificate, out) in [
@@ -105,6 +167,26 @@ fn forged_evidence_with_levels(rt: HostRuntime) -> Result<(), Fail> {
             BELOW,
             "{\"items\":[{\"item\":\"afriat\",\"lambda\":[\"1\",\"1\"],\"utility\":[\"-1\",\"0\"]}],\"kind\":\"table\",\"levels\":[799,1000],\"version\":2}",
             "rejected item 1 Order place 2\n",
+        ),
+        (
+            BELOW,
+            "{\"items\":[{\"item\":\"garp\",\"ranks\":[1,1]}],\"kind\":\"table\",\"levels\":[799,1000],\"version\":2}",
+            "rejected item 1 Order place 2\n",
+        ),
+        (
+            BELOW,
+            "{\"items\":[{\"item\":\"afriat\",\"lambda\":[\"199\",\"1\"],\"utility\":[\"-1000\",\"0\"]}],\"kind\":\"table\",\"levels\":[799,1000],\"version\":2}",
+            "rejected item 1 Order place 1\n",
+        ),
+        (
+            MORE_AND_LESS,
+            "{\"items\":[{\"item\":\"afriat\",\"lambda\":[\"1\",\"1\"],\"utility\":[\"0\",\"-4\"]}],\"kind\":\"table\",\"levels\":[1000,1000],\"version\":2}",
+            "rejected item 1 Order place 1\n",
+        ),
+        (
+            BELOW,
+            "{\"items\":[{\"item\":\"garp\",\"ranks\":[1,2]},{\"cycle\":[],\"expenditure\":\"0\",\"item\":\"demand\",\"prices\":[]}],\"kind\":\"table\",\"levels\":[799,1000],\"version\":2}",
+            "rejected item 2 Levels place 0\n",
         ),
         (
             BELOW,

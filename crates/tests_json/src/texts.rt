@@ -71,6 +71,53 @@ fn certificate_without_items(rt: HostRuntime) -> Result<(), Fail> {
     Ok(())
 }
 
+/// The levels stand in the text of version 2 and in no other, also where that text is not read back.
+#[test]
+fn levels_in_version_2_alone(rt: HostRuntime) -> Result<(), Fail> {
+    let alloc = rt.alloc();
+    for (kind, version, levels, wanted) in [
+        (
+            Kind::Table,
+            2u32,
+            [799u32, 1000].as_slice(),
+            b"{\"items\":[],\"kind\":\"table\",\"levels\":[799,1000],\"version\":2}\n".as_slice(),
+        ),
+        (
+            Kind::Table,
+            2,
+            &[],
+            b"{\"items\":[],\"kind\":\"table\",\"levels\":[],\"version\":2}\n",
+        ),
+        (
+            Kind::Random,
+            2,
+            &[0, 4294967295],
+            b"{\"items\":[],\"kind\":\"random\",\"levels\":[0,4294967295],\"version\":2}\n",
+        ),
+        (
+            Kind::Table,
+            1,
+            &[799, 1000],
+            b"{\"items\":[],\"kind\":\"table\",\"version\":1}\n",
+        ),
+        (
+            Kind::Table,
+            4294967295,
+            &[799, 1000],
+            b"{\"items\":[],\"kind\":\"table\",\"version\":4294967295}\n",
+        ),
+    ] {
+        let certificate = Certificate {
+            kind,
+            version,
+            levels: list(alloc, levels)?,
+            items: Seq::from_vec(Vec::new(alloc)),
+        };
+        assert!(rt; is(&write(alloc, &certificate)?, wanted));
+    }
+    Ok(())
+}
+
 /// Evidence where the tests hold: ranks, the numbers of a model, values; and an index that is not attained.
 #[test]
 fn items_where_tests_hold(rt: HostRuntime) -> Result<(), Fail> {

@@ -56,7 +56,7 @@ fn two_cycles(alloc: Global, n: u32) -> Result<String, Fail> {
 fn closures_of_many_sizes(rt: HostRuntime) -> Result<(), Fail> {
     let alloc = rt.alloc();
     let level = Level { num: 1, den: 1 };
-    for n in [1u32, 63, 64, 65, 128, 256] {
+    for n in [1u32, 63, 64, 65, 128, 512] {
         let half = n / 2;
         for kind in 0..3u32 {
             let text = match kind {

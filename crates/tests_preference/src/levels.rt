@@ -113,16 +113,16 @@ fn the_walk_along_a_chain_of_the_most_observations(rt: HostRuntime) -> Result<()
     let alloc = rt.alloc();
     let mut text = String::from_str(alloc, "p_a,q_a,p_b,q_b\n")?;
     let mut expected = Vec::new(alloc);
-    for t in 0..256u32 {
-        let left = 256 - t;
+    for t in 0..512u32 {
+        let left = 512 - t;
         let height = left * (left + 1) / 2;
         text.push_str(format!(in alloc; "{left},{t},1,{height}\n")?.as_str())?;
         expected.push(t)?;
     }
     let costs = costs_of(alloc, text.as_str())?;
-    assert!(rt; costs.n() == 256);
+    assert!(rt; costs.n() == 512);
     let level = Level { num: 1, den: 1 };
-    match walk_between(alloc, &costs, level, Steps::Weak, 0, 255)? {
+    match walk_between(alloc, &costs, level, Steps::Weak, 0, 511)? {
         Some(walk) => assert_eq!(rt; walk.as_slice(), expected.as_slice()),
         None => assert!(rt; false, "there is a walk"),
     }

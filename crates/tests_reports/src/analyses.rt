@@ -100,11 +100,11 @@ fn analyse_at_the_width_and_with_decimals(rt: HostRuntime) -> Result<(), Fail> {
     Ok(())
 }
 
-/// A fraction over 256, halved above and below as long as both are even.
+/// A fraction over 512, halved above and below as long as both are even.
 fn lowest(part: u32) -> (u32, u32) {
     let mut above = part;
-    let mut below = 256;
-    for _ in 0..8 {
+    let mut below = 512;
+    for _ in 0..9 {
         if above % 2 == 0 && below % 2 == 0 {
             above = above / 2;
             below = below / 2;
@@ -116,18 +116,18 @@ fn lowest(part: u32) -> (u32, u32) {
 /// A chain of one good: at each observation less is bought than before.
 fn chain(alloc: Global) -> Result<String, Fail> {
     let mut file = String::from_str(alloc, "p_a,q_a\n")?;
-    for k in 0..256u32 {
-        let left = 256 - k;
+    for k in 0..512u32 {
+        let left = 512 - k;
         file.push_str(format!(in alloc; "1,{left}\n")?.as_str())?;
     }
     Ok(file)
 }
 
-/// The numbers from 256 down to 1.
+/// The numbers from 512 down to 1.
 fn amounts_left(alloc: Global) -> Result<String, Fail> {
     let mut text = String::new(alloc);
-    for k in 0..256u32 {
-        let left = 256 - k;
+    for k in 0..512u32 {
+        let left = 512 - k;
         text.push_str(format!(in alloc; " {left}")?.as_str())?;
     }
     Ok(text)
@@ -137,16 +137,16 @@ fn amounts_left(alloc: Global) -> Result<String, Fail> {
 fn report_of_chain(alloc: Global) -> Result<String, Fail> {
     let mut text = String::from_str(
         alloc,
-        "observations 256 goods 1 places 0 0\ngarp holds\nranks",
+        "observations 512 goods 1 places 0 0\ngarp holds\nranks",
     )?;
     let left = amounts_left(alloc)?;
     text.push_str(left.as_str())?;
     text.push_str("\nafriat model\nutility 0")?;
-    for k in 1..256u32 {
+    for k in 1..512u32 {
         text.push_str(format!(in alloc; " -{k}")?.as_str())?;
     }
     text.push_str("\nlambda 1")?;
-    for _ in 1..256u32 {
+    for _ in 1..512u32 {
         text.push_str(" 1")?;
     }
     text.push_str("\nefficiency 1 attained yes\nbelow")?;
@@ -154,12 +154,12 @@ fn report_of_chain(alloc: Global) -> Result<String, Fail> {
     text.push_str("\nat ranks")?;
     text.push_str(left.as_str())?;
     text.push_str("\nhomothetic holds\nvalues 1")?;
-    for k in 1..256u32 {
-        let (above, below) = lowest(256 - k);
+    for k in 1..512u32 {
+        let (above, below) = lowest(512 - k);
         text.push_str(format!(in alloc; " {above}/{below}")?.as_str())?;
     }
     text.push_str("\nquasilinear holds\nvalues 0")?;
-    for k in 1..256u32 {
+    for k in 1..512u32 {
         text.push_str(format!(in alloc; " -{k}")?.as_str())?;
     }
     text.push_str("\n")?;
@@ -213,30 +213,30 @@ fn analyse_of_rounds_with_decimals(rt: HostRuntime) -> Result<(), Fail> {
     Ok(())
 }
 
-/// Bundles on a curve in the plane where three quantities sum to 65,280. At each price the own bundle and the
-/// next one are equally cheap and all others dearer; at the last price the first bundle is cheaper by 255. So each
-/// other closed walk of weak steps has no strict one, and each that leaves a bundle out has a positive sum.
+/// Bundles on a curve in the plane where three quantities sum to 261,632. At each price the own bundle and the next
+/// one are equally cheap and all others dearer, by 512 or more; at the last price the first bundle is cheaper, by 511.
+/// So each other closed walk of weak steps has no strict one, and each that leaves a bundle out has a positive sum.
 fn ring(alloc: Global) -> Result<String, Fail> {
     let mut file = String::from_str(alloc, "p_a,q_a,p_b,q_b,p_c,q_c\n")?;
-    for t in 0..256u32 {
-        let (first, second) = if t < 255 {
-            (131_072 - 256 * (2 * t + 1), 131_328)
+    for t in 0..512u32 {
+        let (first, second) = if t < 511 {
+            (262_144 - 256 * (2 * t + 1), 262_400)
         } else {
-            (131_583, 131_070)
+            (263_167, 262_142)
         };
         let square = t * t;
-        let rest = 65_280 - t - square;
+        let rest = 261_632 - t - square;
         file.push_str(format!(in alloc;
-            "{first},{t},{second},{square},131072,{rest}\n"
+            "{first},{t},{second},{square},262144,{rest}\n"
         )?.as_str())?;
     }
     Ok(file)
 }
 
-/// The numbers from 1 to 256.
+/// The numbers from 1 to 512.
 fn all_numbers(alloc: Global) -> Result<String, Fail> {
     let mut text = String::new(alloc);
-    for number in 1..257u32 {
+    for number in 1..513u32 {
         text.push_str(format!(in alloc; " {number}")?.as_str())?;
     }
     Ok(text)
@@ -245,7 +245,7 @@ fn all_numbers(alloc: Global) -> Result<String, Fail> {
 /// The count of each observation but the last, over the strict steps: itself alone.
 fn all_but_the_last(alloc: Global) -> Result<String, Fail> {
     let mut text = String::new(alloc);
-    for _ in 1..256u32 {
+    for _ in 1..512u32 {
         text.push_str(" 1")?;
     }
     Ok(text)
@@ -258,10 +258,10 @@ fn analyse_finds_the_one_violation_that_runs_through_all(rt: HostRuntime) -> Res
     let below = all_but_the_last(rt.alloc())?;
     let got = report(&rt, rt.alloc(), file.as_str())?;
     let head = format!(in rt.alloc();
-        "observations 256 goods 3 places 0 0\ngarp violated\ncycle{all} 1\nafriat none\ncycle{all} 1\nefficiency 1 attained no\nbelow{below} 2\nat cycle{all} 1\nhomothetic violated\nstart "
+        "observations 512 goods 3 places 0 0\ngarp violated\ncycle{all} 1\nafriat none\ncycle{all} 1\nefficiency 1 attained no\nbelow{below} 2\nat cycle{all} 1\nhomothetic violated\nstart "
     )?;
     assert!(rt; got.as_str().starts_with(head.as_str()));
-    let tail = format!(in rt.alloc(); "\nquasilinear violated\ncycle 256{all}\n")?;
+    let tail = format!(in rt.alloc(); "\nquasilinear violated\ncycle 512{all}\n")?;
     assert!(rt; got.as_str().ends_with(tail.as_str()));
     Ok(())
 }

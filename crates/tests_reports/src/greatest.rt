@@ -29,7 +29,7 @@ fn header(alloc: Global, columns: &[&str], further: &str) -> Result<String, Fail
 fn greatest(alloc: Global) -> Result<String, Fail> {
     let names = header(alloc, &["p_g", "q_g"], "")?;
     let record = repeated(alloc, ",1,1", 15)?;
-    let records = repeated(alloc, format!(in alloc; "1,1{record}\n")?.as_str(), 256)?;
+    let records = repeated(alloc, format!(in alloc; "1,1{record}\n")?.as_str(), 512)?;
     Ok(format!(in alloc; "{names}\n{records}")?)
 }
 
@@ -51,8 +51,8 @@ fn printed(alloc: Global, words: &[&str], new: &str) -> Result<String, Fail> {
 
 /// The verdict on the axiom after the head: no observation is preferred to another, so each reaches all.
 fn verdict(alloc: Global) -> Result<String, Fail> {
-    let ranks = repeated(alloc, " 256", 256)?;
-    Ok(format!(in alloc; "observations 256 goods 16 places 0 0\ngarp holds\nranks{ranks}\n")?)
+    let ranks = repeated(alloc, " 512", 512)?;
+    Ok(format!(in alloc; "observations 512 goods 16 places 0 0\ngarp holds\nranks{ranks}\n")?)
 }
 
 #[test]
@@ -64,9 +64,9 @@ fn pairs_of_the_greatest_table(rt: HostRuntime) -> Result<(), Fail> {
 
 /// The verdicts after that on the axiom.
 fn further_verdicts(alloc: Global) -> Result<String, Fail> {
-    let zeros = repeated(alloc, " 0", 256)?;
-    let ones = repeated(alloc, " 1", 256)?;
-    let ranks = repeated(alloc, " 256", 256)?;
+    let zeros = repeated(alloc, " 0", 512)?;
+    let ones = repeated(alloc, " 1", 512)?;
+    let ranks = repeated(alloc, " 512", 512)?;
     let model = format!(in alloc; "afriat model\nutility{zeros}\nlambda{ones}\n")?;
     let index = format!(in alloc; "efficiency 1 attained yes\nbelow{ones}\nat ranks{ranks}\n")?;
     Ok(format!(in alloc;
@@ -112,7 +112,7 @@ fn bounds_of(alloc: Global, good: u32) -> Result<String, Fail> {
 /// demanded.
 fn report_of_demand(alloc: Global) -> Result<String, Fail> {
     let mut below = String::new(alloc);
-    for t in 1..257u32 {
+    for t in 1..513u32 {
         below.push_str(format!(in alloc; " {t}")?.as_str())?;
     }
     let ones = repeated(alloc, " 1", 16)?;
@@ -153,7 +153,7 @@ fn report_of_welfare(alloc: Global) -> Result<String, Fail> {
     let ones = repeated(alloc, " 1", 16)?;
     let zeros = repeated(alloc, " 0", 15)?;
     let mut text = verdict(alloc)?;
-    for t in 1..257u32 {
+    for t in 1..513u32 {
         text.push_str(format!(in alloc;
             "welfare prices{ones} observation {t} lower 16 upper 16 at 1\nlower x{zeros} 16 y 1:1 over 1\n"
         )?.as_str())?;

@@ -88,7 +88,7 @@ fn refused_records_are_told_with_their_place(rt: HostRuntime) -> Result<(), Fail
 fn as_many_observations_as_the_limit_and_one_more(rt: HostRuntime) -> Result<(), Fail> {
     let alloc = rt.alloc();
     let mut file = String::from_str(alloc, "p_a,q_a\n")?;
-    for _ in 0..256 {
+    for _ in 0..512 {
         file.push_str("1,1\n")?;
     }
     let most = answer(alloc, &["rp", "pairs", "t.csv"], file.as_str(), &[])?;

@@ -55,12 +55,12 @@ fn as_many_records_as_the_limit_and_one_more(rt: HostRuntime) -> Result<(), Fail
     let alloc = rt.alloc();
     let tech = read_tech(
         alloc,
-        repeated(alloc, "y,w_a,x_a\n", "1,1,1\n", 256)?.as_bytes(),
+        repeated(alloc, "y,w_a,x_a\n", "1,1,1\n", 512)?.as_bytes(),
     )?;
-    assert_eq!(rt; tech.count(), 256);
+    assert_eq!(rt; tech.count(), 512);
     let got = technology(
         alloc,
-        repeated(alloc, "y,w_a,x_a\n", "1,1,1\n", 257)?.as_str(),
+        repeated(alloc, "y,w_a,x_a\n", "1,1,1\n", 513)?.as_str(),
     )?;
     assert!(rt; is_read(&got, Err(TableFault::TooManyRecords)));
     let file = repeated(alloc, "w_a,y\n", "1,1\n", 16)?;

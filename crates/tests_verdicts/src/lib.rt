@@ -1,4 +1,5 @@
-//! Tests of verdicts on costs, and of what they stand on: Afriat numbers, walks with totals, halving, the index.
+//! Tests of verdicts on costs, with and without evidence, and of what they stand on: Afriat numbers, walks with totals,
+//! halving, the index.
 #![tactic(auto)]
 
 #[cfg(test)]
@@ -7,5 +8,7 @@ mod afriat;
 mod halving;
 #[cfg(test)]
 mod indices;
+#[cfg(test)]
+mod meeting;
 #[cfg(test)]
 mod walks;

@@ -65,10 +65,13 @@ class Findings:
 
 
 def verify_table(table, data):
-    """Looks at each item of a certificate on a table; both are bytes."""
+    """Looks at each item of a certificate on a table; both are bytes. Item 0 fails where the levels are not the table's."""
     table = tables.read_table(table)
+    levels, items = certificate.read(data, "table")
     found, axiom_is_shown = [], False
-    for number, (item, remarks) in enumerate(certificate.read(data, "table"), 1):
+    if levels != table.levels:
+        found.append(Finding(0, "levels", False, other_levels(table.levels, levels), [], 0))
+    for number, (item, remarks) in enumerate(items, 1):
         why, more, withheld = look_at(table, item, axiom_is_shown)
         found.append(finding(number, item, why, remarks + more, withheld))
         if item["item"] == "garp" and "ranks" in item and why is None:
@@ -80,10 +83,18 @@ def verify_choices(budgets, choices, data, per=None):
     """Looks at each item of a certificate on random choices; all files are bytes."""
     patches = random_choices.Patches(tables.read_choices(budgets, choices, per))
     found = []
-    for number, (item, remarks) in enumerate(certificate.read(data, "random"), 1):
+    for number, (item, remarks) in enumerate(certificate.read(data, "random")[1], 1):
         why = random_choices.look(patches, item)
         found.append(finding(number, item, why, remarks + random_choices.remarks(item), int("withheld" in item)))
     return Findings(found)
+
+
+def other_levels(own, levels):
+    """Returns how the levels of a certificate are not those of the table."""
+    if len(own) != len(levels):
+        return f"the certificate has {len(levels) or 'no'} levels, the table {len(own) or 'none'}"
+    place = next(place for place, (first, second) in enumerate(zip(own, levels), 1) if first != second)
+    return f"the level of {place} is {own[place - 1]} in the table"
 
 
 def finding(number, item, why, remarks, withheld):
@@ -107,6 +118,8 @@ def look_at(table, item, axiom_is_shown):
         return why, [] if why else homothetic.remarks(table, item), 0
     if kind == "quasilinear":
         return quasilinear.look(table, item), quasilinear.remarks(item), 0
+    if table.levels:
+        return f"{kind} is defined on a table without levels", [], 0
     if kind == "demand":
         bounds = [bound for good in item.get("goods", ()) for bound in good.values()]
         withheld = sum("withheld" in bound for bound in bounds)

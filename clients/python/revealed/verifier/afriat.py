@@ -1,5 +1,6 @@
 """Afriat's numbers: whole U and λ ≥ 1 with U_t ≤ U_s + λ_s (c(s,t) − c(s,s)) for all s and t (Afriat 1967; Varian 1982).
 
+Where the table has levels, c(s,t) is taken 1000 times and c(s,s) so many times as the level of s has thousandths.
 There are such numbers exactly where the axiom holds, so evidence that there are none is a violation of it.
 """
 
@@ -20,7 +21,7 @@ def look(table, item):
         if multiplier[s] < 1:
             return f"the lambda of {s + 1} is below 1"
         for t in table.observations:
-            if u[t] > u[s] + multiplier[s] * (table.cost(s, t) - table.cost(s, s)):
+            if u[t] > u[s] + multiplier[s] * table.gap(s, t):
                 return f"the utility of {t + 1} is above what {s + 1} allows it"
     return None
 

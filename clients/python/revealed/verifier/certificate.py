@@ -9,6 +9,8 @@ import re
 from fractions import Fraction
 from math import gcd, isinf
 
+from .tables import LARGEST_LEVEL
+
 
 class NoCertificate(ValueError):
     """The text is no certificate of this kind; `item` is the number of the first item that is none, 0 for the whole."""
@@ -172,16 +174,13 @@ def _digits(value):
 
 
 def read(data, kind):
-    """Returns the items of a certificate of a kind, each with the remarks on its numbers."""
+    """Returns the levels of a certificate of a kind (none in version 1), and its items, each with the remarks on its numbers."""
     top = _value(data)
-    if not isinstance(top, dict) or set(top) != {"items", "kind", "version"}:
-        raise NoCertificate("a certificate has the members items, kind and version")
-    if top["kind"] != kind:
-        raise NoCertificate(f"the kind is not {kind!r}")
-    if type(top["version"]) is not int or not 0 <= top["version"] < 2**64 or not isinstance(top["items"], list):
+    if not isinstance(top, dict) or top.get("kind") != kind:
+        raise NoCertificate(f"no object, or its kind is not {kind!r}")
+    if not _is_whole(top.get("version"), 0, 2**64 - 1) or not isinstance(top.get("items"), list):
         raise NoCertificate("the version is no whole number, or the items are no list")
-    if top["version"] != 1:
-        raise NoCertificate("the version is not 1")
+    levels = _levels(top, kind)
     items = []
     for number, value in enumerate(top["items"], 1):
         reader = _Reader()
@@ -189,7 +188,28 @@ def read(data, kind):
             items.append((reader.item(kind)(value), reader.remarks))
         except _Wrong:
             raise NoCertificate(f"item {number} is none of its kind", number) from None
-    return items
+    return levels, items
+
+
+def _levels(top, kind):
+    """Returns the levels of a certificate; refuses a version that is not known, and members that are not those of the version."""
+    if top["version"] not in (1, 2):
+        raise NoCertificate("the version is neither 1 nor 2")
+    members = {"items", "kind", "version"} | ({"levels"} if top["version"] == 2 else set())
+    if set(top) != members:
+        raise NoCertificate(f"a certificate of version {top['version']} has the members {', '.join(sorted(members))}")
+    if top["version"] == 1:
+        return []
+    levels = top["levels"]
+    if not isinstance(levels, list) or not levels or not all(_is_whole(level, 1, LARGEST_LEVEL) for level in levels):
+        raise NoCertificate(f"the levels are no list of whole numbers from 1 to {LARGEST_LEVEL}, or there is none")
+    if kind == "random":
+        raise NoCertificate("choices from budgets have no levels")
+    return levels
+
+
+def _is_whole(value, least, greatest):
+    return type(value) is int and least <= value <= greatest
 
 
 class _NoWhole(float):

@@ -2,6 +2,7 @@
 
 Evidence that it holds are ranks that respect the preference: along a closed walk no weak step rises, so none can fall,
 and none can be strict. Evidence that it fails is a violation. The axiom itself is decided here too, from the relation.
+Where the table has levels, the steps are those of each observation's own level.
 """
 
 from . import walks

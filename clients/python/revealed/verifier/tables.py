@@ -10,6 +10,7 @@ from fractions import Fraction
 
 MOST_PLACES = 6
 LARGEST = 9_999_999
+LARGEST_LEVEL = 1000
 LARGEST_INCOME = 1_600_000_000_000_000
 
 
@@ -18,12 +19,13 @@ class NoTable(ValueError):
 
 
 class Table:
-    """Observations of prices and quantities, as whole numbers."""
+    """Observations of prices and quantities, as whole numbers; and the level of each in thousandths, where the table has levels."""
 
-    def __init__(self, goods, prices, quantities):
+    def __init__(self, goods, prices, quantities, levels=()):
         self.goods = goods
         self.prices = prices
         self.quantities = quantities
+        self.levels = list(levels)
         self.observations = range(len(prices))
         self.known = {}  # what was worked out of the table before
 
@@ -36,6 +38,19 @@ class Table:
         if (s, t) not in self.known:
             self.known[s, t] = self.spending(self.prices[s], self.quantities[t])
         return self.known[s, t]
+
+    @property
+    def scale(self):
+        """What costs are multiplied by, so that what counts as spent is whole: 1, or 1000 where the table has levels."""
+        return LARGEST_LEVEL if self.levels else 1
+
+    def own(self, s):
+        """What counts as spent at an observation, times the scale: the whole, or so many thousandths of it as its level says."""
+        return (self.levels[s] if self.levels else 1) * self.cost(s, s)
+
+    def gap(self, s, t):
+        """How much more than what counts as spent at s the bundle of t costs there, times the scale."""
+        return self.scale * self.cost(s, t) - self.own(s)
 
 
 class Choices:
@@ -50,9 +65,9 @@ class Choices:
 def read_table(data):
     """Returns the table that these bytes are."""
     header, records = _records(data)
-    goods = _goods(header, "p_", others={"obs"}, with_quantities=True)
-    if not 1 <= len(records) <= 256:
-        raise NoTable("a table has 1 to 256 observations")
+    goods = _goods(header, "p_", others={"obs", "e"}, with_quantities=True)
+    if not 1 <= len(records) <= 512:
+        raise NoTable("a table has 1 to 512 observations")
     prices = _scaled(_numbers(header, records, ["p_" + good for good in goods]), LARGEST)
     quantities = _scaled(_numbers(header, records, ["q_" + good for good in goods]), LARGEST)
     for number, (row, bundle) in enumerate(zip(prices, quantities), 1):
@@ -60,7 +75,10 @@ def read_table(data):
             raise NoTable(f"record {number} has a price of 0")
         if not any(bundle):
             raise NoTable(f"in record {number} nothing was bought")
-    return Table(goods, prices, quantities)
+    levels = [level for (level,) in _numbers(header, records, ["e"])] if "e" in header else []
+    if not all(level.denominator == 1 and 1 <= level <= LARGEST_LEVEL for level in levels):
+        raise NoTable(f"a level is no whole number from 1 to {LARGEST_LEVEL}")
+    return Table(goods, prices, quantities, map(int, levels))
 
 
 def read_choices(budgets, choices, per=None):

@@ -1,23 +1,25 @@
 """Steps between observations, walks, and violations (docs/DEFINITIONS.md; Varian 1982).
 
 A relation is a list of sets: the set at s has every t to which there is a step from s. All numbers are from 0 here.
+A level e is one for all observations; without one (None), each has its own where the table has levels, and else 1.
 """
 
 
-def weakly_preferred(table, level=1):
+def weakly_preferred(table, level=None):
     """The bundle of s is weakly preferred to that of t at a level e: c(s,t) is at most e times c(s,s)."""
-    return _relation(table, "weak", level, lambda other, own: other <= level * own)
+    return _relation(table, "weak", level, lambda gap: gap <= 0)
 
 
-def strictly_preferred(table, level=1):
+def strictly_preferred(table, level=None):
     """The same with `below` for `at most`."""
-    return _relation(table, "strict", level, lambda other, own: other < level * own)
+    return _relation(table, "strict", level, lambda gap: gap < 0)
 
 
 def _relation(table, name, level, holds):
     if (name, level) not in table.known:
         everyone = table.observations
-        table.known[name, level] = [{t for t in everyone if holds(table.cost(s, t), table.cost(s, s))} for s in everyone]
+        gap = table.gap if level is None else lambda s, t: table.cost(s, t) - level * table.cost(s, s)
+        table.known[name, level] = [{t for t in everyone if holds(gap(s, t))} for s in everyone]
     return table.known[name, level]
 
 
@@ -38,7 +40,7 @@ def has_violation(weak, strict):
     return any(s in back[t] for s in range(len(weak)) for t in strict[s])
 
 
-def meets_axiom(table, level=1):
+def meets_axiom(table, level=None):
     """Whether no list of observations is a violation at this level."""
     return not has_violation(weakly_preferred(table, level), strictly_preferred(table, level))
 
@@ -62,7 +64,7 @@ def steps_of(walk):
     return [(s - 1, t - 1) for s, t in zip(walk, walk[1:])]
 
 
-def no_violation(table, walk, level=1):
+def no_violation(table, walk, level=None):
     """Returns why this list is no violation at a level, and None where it is one."""
     why = no_closed_walk(len(table.observations), walk)
     if why:
@@ -76,7 +78,7 @@ def no_violation(table, walk, level=1):
     return None
 
 
-def no_ranks(table, ranks, level=1):
+def no_ranks(table, ranks, level=None):
     """Returns why these ranks do not respect the preference at a level: no weak step rises, each strict one falls."""
     return ranks_that_rise(table, ranks, weakly_preferred(table, level)) or ranks_that_do_not_fall(
         table, ranks, strictly_preferred(table, level)

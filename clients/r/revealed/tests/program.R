@@ -166,7 +166,7 @@ stopifnot(is.na(held$rational), grepl("step 7", held$reason), any(grepl("withhel
 # ---- faults of shape
 for (fault in list(
   list(matrix(1, 2, 1), matrix(c(1, 0), 2), "ZeroBundle"), list(matrix(c(1, 1e7), 2), matrix(1, 2, 1), "TooLarge"),
-  list(matrix(1, 257, 1), matrix(1, 257, 1), "TooManyRecords"), list(matrix(1, 1, 17), matrix(1, 1, 17), "TooManyGoods"),
+  list(matrix(1, 513, 1), matrix(1, 513, 1), "TooManyRecords"), list(matrix(1, 1, 17), matrix(1, 1, 17), "TooManyGoods"),
   list(matrix(0, 0, 1), matrix(0, 0, 1), "NoRecords")
 )) stopifnot(caught(rp_test(fault[[1]], fault[[2]]), "rp_refused")$fault == fault[[3]])
 caught(rp_test(P, P[1, , drop = FALSE]), "rp_bad_data")

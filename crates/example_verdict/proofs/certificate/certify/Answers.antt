@@ -10,7 +10,7 @@ returns-clause-proves c = record {
   proves = c.check-outcome.ensures.accepted_proves
       (certificate_accepted c.args.table.now c.args.costs.now c.requires.of_table
       c.in_ok-garp.garp c.in_ok-afriat.afriat c.in_ok-efficiency.efficiency c.in_ok-certificate.certificate c.check-outcome.result
-      c.requires.no_levels c.in_ok-garp.ensures.proves c.in_ok-afriat.ensures.proves c.in_ok-afriat.ensures.given
+      c.in_ok-garp.ensures.proves c.in_ok-afriat.ensures.proves c.in_ok-afriat.ensures.given
       c.in_ok-efficiency.ensures.proves c.in_ok-efficiency.ensures.given
       c.in_ok-certificate.ensures c.check-outcome.ensures.first_failure);
 }
@@ -19,6 +19,6 @@ pub returns-clause-accepted : goal.returns-clause-accepted
 returns-clause-accepted c =
     certificate_accepted c.args.table.now c.args.costs.now c.requires.of_table
     c.in_ok-garp.garp c.in_ok-afriat.afriat c.in_ok-efficiency.efficiency c.in_ok-certificate.certificate c.check-outcome.result
-    c.requires.no_levels c.in_ok-garp.ensures.proves c.in_ok-afriat.ensures.proves c.in_ok-afriat.ensures.given
+    c.in_ok-garp.ensures.proves c.in_ok-afriat.ensures.proves c.in_ok-afriat.ensures.given
     c.in_ok-efficiency.ensures.proves c.in_ok-efficiency.ensures.given
     c.in_ok-certificate.ensures c.check-outcome.ensures.first_failure

@@ -1,6 +1,5 @@
 use Rattle.std.proofs.Common.{◌∙◌}
 use Rattle.rp_evidence.specs.Preference.{AgreeBelow}
-use Rattle.rp_evidence.proofs.SameCosts.{garp_same}
 use Rattle.rp_evidence.proofs.SameIndex.{efficiency_same}
 use Rattle.rp_evidence.proofs.SameProducts.{homothetic_same}
 use Rattle.rp_evidence.proofs.SameSums.{quasilinear_same}
@@ -9,6 +8,7 @@ use Rattle.rp_garp.proofs.SameVerdicts.{garp_verdict_same}
 use Rattle.rp_homo.proofs.SameVerdicts.{verdict_same as homothetic_verdict_same}
 use Rattle.rp_quasi.proofs.SameVerdicts.{verdict_same as quasilinear_verdict_same}
 use Rattle.rp_table.specs.Cost.{cost_at, cost_of}
+use Rattle.rp_answers.proofs.GarpFirstLemmas.{garp_there}
 use Rattle.rp_answers.proofs.trial.verdicts_on.Goals as goal
 
 pub returns : goal.returns
@@ -21,7 +21,7 @@ returns c =
     let there = cost_of c.args.table.now in
     let same : AgreeBelow n here there = λ s t s_in t_in. is.each s t (rw is.size at s_in) (rw is.size at t_in) in
     record {
-      garp_proves = rw (← is.size) (garp_same n here there c.in_ok-garp.garp same (c.in_ok-garp.ensures.proves_without_levels none));
+      garp_proves = garp_there costs c.args.table.now is c.in_ok-garp.garp c.in_ok-garp.ensures.proves;
       garp_given = rw (← is.size) (garp_verdict_same n here there same c.in_ok-garp.garp (c.in_ok-garp.ensures.given_without_levels none));
       efficiency_proves = rw (← is.size) (efficiency_same n here there c.in_ok-efficiency.efficiency same c.in_ok-efficiency.ensures.proves);
       efficiency_given = rw (← is.size) (efficiency_verdict_same n here there c.in_ok-efficiency.efficiency same c.in_ok-efficiency.ensures.given);

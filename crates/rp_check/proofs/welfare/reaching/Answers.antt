@@ -1,10 +1,16 @@
-use Rattle.std.proofs.Common.{ℕ, ◌≡◌, subst}
-use Rattle.rp_evidence.specs.Input.{input_of_table}
-use Rattle.rp_clauses.specs.InnerMarks.{AreMarked}
-use Rattle.rp_check.proofs.MarkedSets.{marks_reaching}
+use Rattle.std.proofs.Common.{◌<◌, arith}
+use Rattle.rp_check.specs.InnerSets.{input_of}
+use Rattle.rp_evidence.specs.Welfare.{EqualsOrReaches}
+use Rattle.rp_check.proofs.MarkedSets.{marked_more}
 use Rattle.rp_check.proofs.welfare.reaching.Goals as goal
 
+pub loop-s-preserved : goal.loop-s-preserved
+loop-s-preserved c =
+    let input = input_of c.args.new_prices.now in
+    let s = c.loop-s.s in
+    let s_in : s < input.n = omega (arith, c.n-s-end.ensures.count, c.loop-s-test.true, c.loop-s.auto.s-end) in
+    marked_more 512 (λ s. EqualsOrReaches input s c.args.t) c.loop-s.marks s c.loop-s.invariant (omega (arith, s_in, c.n-s-end.ensures.count, c.n-s-end.ensures.few))
+    c.equals_or_reaches.result (c.equals_or_reaches.ensures input c.requires.closure s_in c.requires.observed)
+
 pub returns : goal.returns
-returns c =
-    marks_reaching (input_of_table c.args.input.now.table.now) c.args.t c.mark_only.new.marks c.spread.new.marks
-    (subst (λ (n : ℕ). AreMarked n (λ s. s ≡ c.args.t) c.mark_only.new.marks) c.n-2.ensures.count c.mark_only.ensures) c.spread.ensures
+returns c = λ s l. c.loop-s.invariant.each s (omega (arith, l, c.n-s-end.ensures.count, c.loop-s-test.false))

@@ -1,4 +1,4 @@
-use Rattle.std.proofs.Common.{◌≡◌, ◌<◌, ◌≤◌, List, ℕ, arith, length, slice_index, subst, sym, ◌∙◌}
+use Rattle.std.proofs.Common.{◌≡◌, ◌<◌, ◌≤◌, List, ℕ, arith, length, slice_index, subst, sym}
 use Rattle.rp_orders.proofs.OrderCells.{few_units, no_units}
 use Rattle.rp_orders.proofs.SumLemmas.{units_at_cell}
 use Rattle.rp_orders.specs.OrderMixtures.{units_of}

@@ -1,4 +1,4 @@
-use Rattle.std.proofs.Common.{◌≡◌, ◌==◌, ap, arith, if◌then◌else◌, length, sym, ◌∙◌}
+use Rattle.std.proofs.Common.{◌≡◌, ◌==◌, ap, if◌then◌else◌, length, sym, ◌∙◌}
 use Rattle.std.proofs.lemmas.Bool.{ne_eqb}
 use Rattle.rp_table.specs.Sums.{sum_below}
 use Rattle.rp_orders.specs.MenuSums.{size_of}

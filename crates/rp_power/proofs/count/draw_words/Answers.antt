@@ -3,7 +3,7 @@ use Rattle.rp_power.proofs.WordBlocks.{words_more}
 use Rattle.rp_power.proofs.count.draw_words.Goals as goal
 
 pub loop-init : goal.loop-init
-loop-init c = record { drawn = c.new-words.ensures.items; moved = none_yet c.args.generator.now }
+loop-init c = record { drawn = c.clear.ensures.items; moved = none_yet c.args.generator.now }
 
 pub loop-preserved : goal.loop-preserved
 loop-preserved c =

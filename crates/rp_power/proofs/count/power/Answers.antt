@@ -1,9 +1,10 @@
 use Rattle.std.proofs.Common.{◌≡◌, ◌↔◌, ◌*◌, IsTrue, length, subst, ap, ◌∙◌, arith}
 use Rattle.rp_draws.specs.Words.{word_after}
 use Rattle.rp_power.specs.DrawnTable.{drawn_table}
-use Rattle.rp_power.specs.PowerCount.{FailsGarp, behaviour, words_of}
+use Rattle.rp_power.specs.PowerCount.{FailsGarp, behaviour, behaviour_words, words_of}
 use Rattle.rp_power.proofs.CountMore.{none_of_none, number_told, one_at_most}
 use Rattle.rp_power.proofs.DrawnLemmas.{count_of}
+use Rattle.rp_power.proofs.SpentLemmas.{both, costs_count, quantities_count, quantities_within, some_drawn}
 use Rattle.rp_power.proofs.WordBlocks.{block_words, first_block, next_block}
 use Rattle.rp_power.proofs.count.power.Goals as goal
 
@@ -14,10 +15,23 @@ loop-init c = record {
   few = omega arith;
 }
 
-pub drawn-requires-clause-words : goal.drawn-requires-clause-words
-drawn-requires-clause-words c =
+pub draw_quantities-requires-clause-words : goal.draw_quantities-requires-clause-words
+draw_quantities-requires-clause-words c =
     let size : c.n.result * c.goods.result ≡ words_of c.args.table.now = λ i. c.n.ensures.count i * c.goods.ensures.count i in
-    ap length c.as_slice.ensures.value ∙ count_of (word_after c.loop.generator) (c.n.result * c.goods.result) c.in_ok-words.words.items c.in_ok-words.ensures.drawn ∙ size
+    ap length c.as_slice-drawn.ensures.value ∙ count_of (word_after c.loop.generator) (c.n.result * c.goods.result) c.draw_words.new.words.items c.in_ok-draw_words.ensures.drawn ∙ size
+
+pub fill_costs-requires-clause-all : goal.fill_costs-requires-clause-all
+fill_costs-requires-clause-all c =
+    quantities_count c.args.table.now c.as_slice-drawn.result.now c.as_slice.result.now (c.as_slice.ensures.value ∙ c.in_ok-draw_quantities.ensures)
+
+pub fill_costs-requires-clause-limits : goal.fill_costs-requires-clause-limits
+fill_costs-requires-clause-limits c =
+    quantities_within c.args.table.now c.as_slice-drawn.result.now c.as_slice.result.now (c.as_slice.ensures.value ∙ c.in_ok-draw_quantities.ensures) c.n.ensures.valid
+
+pub fails-requires : goal.fails-requires
+fails-requires c =
+    costs_count c.args.table.now c.as_slice-drawn.result.now c.as_slice.result.now c.as_slice-in-loop.result.now
+    (c.as_slice.ensures.value ∙ c.in_ok-draw_quantities.ensures) (c.as_slice-in-loop.ensures.value ∙ c.in_ok-fill_costs.ensures)
 
 pub loop-preserved : goal.loop-preserved
 loop-preserved c =
@@ -26,11 +40,12 @@ loop-preserved c =
     let k = c.loop.counter in
     let i = c.loop.invariant in
     let size : c.n.result * c.goods.result ≡ words_of table = λ i. c.n.ensures.count i * c.goods.ensures.count i in
-    let words = block_words seed (words_of table) k c.loop.generator c.in_ok-words.words.items i.moved (rw size at c.in_ok-words.ensures.drawn) in
-    let drawn : c.in_ok-behaviour.behaviour ≡ behaviour table seed k = c.in_ok-behaviour.ensures ∙ ap (drawn_table table) (c.as_slice.ensures.value ∙ words) in
-    let told = subst (λ t. IsTrue c.in_ok-failed.failed ↔ FailsGarp t) drawn c.in_ok-failed.ensures in
+    let words = block_words seed (words_of table) k c.loop.generator c.draw_words.new.words.items i.moved (rw size at c.in_ok-draw_words.ensures.drawn) in
+    let drawn : c.as_slice-drawn.result.now ≡ behaviour_words table seed k = c.as_slice-drawn.ensures.value ∙ words in
+    let some = some_drawn table c.as_slice-drawn.result.now c.as_slice.result.now c.as_slice-in-loop.result.now (c.as_slice.ensures.value ∙ c.in_ok-draw_quantities.ensures) (c.as_slice-in-loop.ensures.value ∙ c.in_ok-fill_costs.ensures) in
+    let told = subst (λ w. IsTrue c.in_ok-failed.failed ↔ FailsGarp (drawn_table table w)) drawn (both c.in_ok-failed.ensures some) in
     record {
-      moved = next_block seed (words_of table) k c.loop.generator c.draw_words.new.generator i.moved (rw size at c.in_ok-words.ensures.moved);
+      moved = next_block seed (words_of table) k c.loop.generator c.draw_words.new.generator i.moved (rw size at c.in_ok-draw_words.ensures.moved);
       counted = number_told (λ b. FailsGarp (behaviour table seed b)) k c.loop.violations c.from-violations.result c.in_ok-failed.failed told c.from-violations.ensures i.counted;
       few = omega (arith, i.few, one_at_most c.in_ok-failed.failed c.from-violations.result c.from-violations.ensures);
     }

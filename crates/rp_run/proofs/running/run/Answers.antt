@@ -1,10 +1,12 @@
 use Rattle.std.proofs.Common.{◌≡◌, ◌∙◌, Some, None, map, string_bytes, refl, sym, subst, inl, inr}
 use Rattle.rp_words.specs.Words.{line_in}
 use Rattle.rp_words.specs.Named.{named_line}
+use Rattle.rp_run.specs.Endings.{IsEnd, IsFaultLine, Rose}
+use Rattle.rp_run.specs.FaultLines.{write_line}
 use Rattle.rp_run.specs.Turns.{AreReadInTurn, AsksForFirst}
 use Rattle.rp_run.proofs.TurnLemmas.{unread}
 use Rattle.rp_words.proofs.MatchesNameALine.{refused_where_no_line}
-use Rattle.rp_run.proofs.RunLemmas.{answer_written, cause_of_accepted, cause_of_calm, done_line_apart, line_rejected, not_both, rejected_line_apart}
+use Rattle.rp_run.proofs.RunLemmas.{answer_written, cause_of_accepted, cause_of_calm, done_line_apart, line_ends, line_rejected, not_both, rejected_line_apart}
 use Rattle.rp_words.proofs.ShapeLemmas.{shape_given}
 use Rattle.rp_run.proofs.running.run.Goals as goal
 
@@ -74,6 +76,31 @@ returns-in-Ok-answer_line-clause-verdict g c =
         | inr fault ↦ (let wrong = sym fault ∙ rejected in cc)
       ];
     }
+
+pub returns-in-Ok-answer_line-clause-why : goal.returns-in-Ok-answer_line-clause-why
+returns-in-Ok-answer_line-clause-why g c =
+    let answer = c.in-Ok-answer_line in
+    let files = g.D.Desk.bytes c.args.desk.now in
+    let ends : IsEnd answer.answer.status = line_ends files (named_line c.in-Some.line) answer.answer.status answer.answer.text.items answer.ensures.answered in
+    let rose = Rose (g.D.Desk.faults c.args.desk.now) (g.D.Desk.faults c.answer_line.new.desk) in
+    let asks = AsksForFirst files (g.D.Desk.calls c.args.desk.now) (g.D.Desk.calls c.answer_line.new.desk) in
+    record {
+      quiet = λ ended. (c.finish.ensures.whole ended).1;
+      told = λ no_end. elim c.finish.ensures.either [
+        | inl same ↦ absurd (no_end (subst IsEnd (sym same) ends))
+        | inr fault ↦ (write_line, subst (λ s. IsFaultLine files rose asks (line_in c.args.words.now.items) s write_line) (sym fault) refl, c.finish.ensures.told fault)
+      ];
+    }
+
+pub returns-in-Ok-answer_line-clause-complete : goal.returns-in-Ok-answer_line-clause-complete
+returns-in-Ok-answer_line-clause-complete g c = λ line is accepted calm not_risen.
+    let answer = c.in-Ok-answer_line in
+    let files = g.D.Desk.bytes c.args.desk.now in
+    let ends : IsEnd answer.answer.status = line_ends files (named_line c.in-Some.line) answer.answer.status answer.answer.text.items answer.ensures.answered in
+    elim c.finish.ensures.either [
+      | inl same ↦ inl (subst IsEnd (sym same) ends)
+      | inr fault ↦ absurd (not_risen (c.finish.ensures.part fault).1)
+    ]
 
 pub returns-in_default-clause-turns : goal.returns-in_default-clause-turns
 returns-in_default-clause-turns g c = record { in_turn = λ line is. unread (g.D.Desk.bytes c.args.desk.now) (g.D.Desk.calls c.args.desk.now) line; none_asked = λ none. refl }

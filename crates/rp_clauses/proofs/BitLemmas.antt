@@ -1,0 +1,106 @@
+-- Bits of rows of words: one is set, and two rows are united.
+use Rattle.std.proofs.Common.{◌≡◌, ℕ, zero, suc, ◌+◌, ◌*◌, ◌/◌, ◌%◌, ◌^◌, ◌<◌, ◌≤◌, ◌||◌, max, Bool, true, false, eqb, List, length, set, get_or, bit_or, inl, inr, refl, sym, ap, ◌∙◌, arith, length-set, mod-lt, get_or-set_same, get_or-set_other, shl_exact}
+use Rattle.std.specs.Int.{bit_at}
+use Rattle.std.proofs.lemmas.Bool.{cases_eq, cases_lt, eq-eqb, ne_eqb}
+use Rattle.std.proofs.lemmas.List.{get_or_past}
+use Rattle.std.proofs.lemmas.Nat.Bits.{bit_at_or, bit_at-pow_same, bit_at-pow_other}
+use Rattle.rp_clauses.specs.InnerBits.{bit_in}
+
+pub or_false : (a : Bool) → (a || false) ≡ a
+or_false true = refl
+or_false false = refl
+
+pub or_true : (a : Bool) → (a || true) ≡ true
+or_true true = refl
+or_true false = refl
+
+max_one : (a b : ℕ) → a < 2 → b < 2 → eqb (max a b) 1 ≡ (eqb a 1 || eqb b 1)
+max_one zero zero _ _ = refl
+max_one zero (suc zero) _ _ = refl
+max_one (suc zero) zero _ _ = refl
+max_one (suc zero) (suc zero) _ _ = refl
+max_one (suc (suc a)) b h _ = absurd (omega arith)
+max_one zero (suc (suc b)) _ h = absurd (omega arith)
+max_one (suc zero) (suc (suc b)) _ h = absurd (omega arith)
+
+bit_below : (w i : ℕ) → bit_at w i < 2
+bit_below w i = mod-lt (w / 2 ^ i) (omega arith)
+
+-- A bit of the union of two words.
+pub bit_of_or : (x y i : ℕ) → eqb (bit_at (bit_or x y) i) 1 ≡ (eqb (bit_at x i) 1 || eqb (bit_at y i) 1)
+bit_of_or x y i = ap (λ b. eqb b 1) (bit_at_or x y i) ∙ max_one (bit_at x i) (bit_at y i) (bit_below x i) (bit_below y i)
+
+-- The word with this bit alone.
+alone : (j : ℕ) → j < 64 → 1 * 2 ^ j % 18446744073709551616 ≡ 2 ^ j
+alone j l = let same : 1 * 2 ^ j ≡ 2 ^ j = omega arith in shl_exact {a = 1} 1 j 64 (omega arith) (omega arith) ∙ same
+
+module _ (words : List ℕ) (t w : ℕ) (within : t / 64 < length words) (is : w ≡ get_or words (t / 64) 0) where
+  abbrev one : ℕ
+  one = 1 * 2 ^ (t % 64) % 18446744073709551616
+
+  abbrev new : ℕ
+  new = bit_or w one
+
+  one_is : one ≡ 2 ^ (t % 64)
+  one_is = alone (t % 64) (mod-lt t (omega arith))
+
+  in_word : (b : ℕ) → b / 64 ≡ t / 64 → bit_in (set words (t / 64) new) b ≡ (bit_in words b || eqb (bit_at one (b % 64)) 1)
+  in_word b same =
+      let i = b % 64 in
+      ap (λ v. eqb (bit_at v i) 1) (ap (λ k. get_or (set words (t / 64) new) k 0) same ∙ get_or-set_same words (t / 64) new 0 within)
+      ∙ bit_of_or w one i ∙ ap (λ v. eqb (bit_at v i) 1 || eqb (bit_at one i) 1) (is ∙ ap (λ k. get_or words k 0) (sym same))
+
+  pub bit_set : (b : ℕ) → bit_in (set words (t / 64) new) b ≡ (bit_in words b || eqb b t)
+  bit_set b = elim (cases_eq (b / 64) (t / 64)) [
+    | inl same ↦ in_word b same ∙ ap (λ x. bit_in words b || x) (elim (cases_eq (b % 64) (t % 64)) [
+      | inl e ↦
+          let it : b ≡ t = omega (arith, same, e) in
+          ap (λ v. eqb v 1) ((λ i. bit_at (one_is i) (e i)) ∙ bit_at-pow_same (t % 64)) ∙ sym (eq-eqb b t it)
+      | inr e ↦
+          let apart : b ≡ t → ⊥ = λ it. e (ap (λ x. x % 64) it) in
+          ap (λ v. eqb v 1) (ap (λ v. bit_at v (b % 64)) one_is ∙ bit_at-pow_other (t % 64) (b % 64) e) ∙ sym (ne_eqb b t apart)
+    ])
+    | inr other ↦
+        let apart : b ≡ t → ⊥ = λ it. other (ap (λ x. x / 64) it) in
+        ap (λ v. eqb (bit_at v (b % 64)) 1) (get_or-set_other words (t / 64) (b / 64) new 0 other)
+        ∙ sym (ap (λ x. bit_in words b || x) (ne_eqb b t apart) ∙ or_false (bit_in words b))
+  ]
+
+-- ---- one row takes in another
+
+-- The row has taken in the first w words.
+pub record IsTakenIn (old now from : List ℕ) (w : ℕ) : Type 0 where
+  pub long : length now ≡ length old
+  pub done : (v : ℕ) → v < w → get_or now v 0 ≡ bit_or (get_or old v 0) (get_or from v 0)
+  pub left : (v : ℕ) → w ≤ v → get_or now v 0 ≡ get_or old v 0
+
+pub none_taken : (old from : List ℕ) → IsTakenIn old old from 0
+none_taken old from = record { long = refl; done = λ v l. absurd (omega arith); left = λ v l. refl }
+
+pub word_taken : (old now from : List ℕ) (w : ℕ) → IsTakenIn old now from w → w < length old → (more : List ℕ) → more ≡ set now w (bit_or (get_or now w 0) (get_or from w 0))
+    → IsTakenIn old more from (w + 1)
+word_taken old now from w so_far within more e = rw e (record {
+  long = set_long ∙ so_far.long;
+  done = λ v l. elim (cases_eq v w) [
+    | inl k ↦ rw k (get_or-set_same now w (bit_or (get_or now w 0) (get_or from w 0)) 0 (omega (arith, within, so_far.long))
+        ∙ ap (λ x. bit_or x (get_or from w 0)) (so_far.left w (omega arith)))
+    | inr d ↦ get_or-set_other now w v (bit_or (get_or now w 0) (get_or from w 0)) 0 d ∙ so_far.done v (omega arith)
+  ];
+  left = λ v l. get_or-set_other now w v (bit_or (get_or now w 0) (get_or from w 0)) 0 (λ k. absurd (omega (arith, k))) ∙ so_far.left v (omega arith);
+})
+  where
+    set_long : length (set now w (bit_or (get_or now w 0) (get_or from w 0))) ≡ length now
+    set_long = length-set now w (bit_or (get_or now w 0) (get_or from w 0))
+
+pub row_taken : (old now from : List ℕ) (w : ℕ) → IsTakenIn old now from w → length old ≤ w → length from ≤ w → (t : ℕ) → bit_in now t ≡ (bit_in old t || bit_in from t)
+row_taken old now from w taken long_old long_from t =
+    ap (λ v. eqb (bit_at v (t % 64)) 1) (word (t / 64)) ∙ bit_of_or (get_or old (t / 64) 0) (get_or from (t / 64) 0) (t % 64)
+  where
+    word : (v : ℕ) → get_or now v 0 ≡ bit_or (get_or old v 0) (get_or from v 0)
+    word v = elim (cases_lt v w) [
+      | inl l ↦ taken.done v l
+      | inr l ↦
+          let past_old : length old ≤ v = omega (arith, long_old, l) in
+          let past_from : length from ≤ v = omega (arith, long_from, l) in
+          taken.left v l ∙ get_or_past old v 0 past_old ∙ sym (λ i. bit_or (get_or_past old v 0 past_old i) (get_or_past from v 0 past_from i))
+    ]

@@ -1,0 +1,109 @@
+//! Which observations of a table reach which by walks of weak steps, found once for all items.
+ghost use Rattle.std.specs.Prelude.{◌≡◌, ◌<◌, ◌≤◌, ◌&&◌, ◌||◌, ◌↔◌, ℕ, IsTrue, length};
+ghost use Rattle.rp_clauses.specs.InnerBits.{IsClosureOf, ReachesThrough, bit_in, has_bit};
+ghost use Rattle.rp_clauses.specs.InnerMarks.{IsMarked};
+ghost use Rattle.rp_evidence.specs.Input.{TableInput, input_of_table};
+ghost use Rattle.rp_evidence.specs.Preference.{IsWeak};
+ghost use Rattle.rp_evidence.specs.Welfare.{EqualsOrReaches};
+ghost use Rattle.rp_table.specs.Cost.{cost_of};
+ghost use Rattle.rp_table.specs.Tables.{records_of};
+
+use crate::bits::{WORDS, is_set, set, take_in};
+use crate::input::Input;
+use crate::reach::ROOM;
+use crate::standard::WHOLE;
+
+/// A row of bits for each observation: those that it reaches. It stands in an array and takes no memory.
+#[derive(Drop)]
+pub struct Closure {
+    rows: [[u64; WORDS]; ROOM],
+}
+
+impl Closure {
+    /// The closure of the weak steps of a table.
+    pub fn of(input: &Input<'_>) -> Closure
+        ensures { IsClosureOf result (input_of_table input.now.table.now) }
+    {
+        let mut rows = [[0; WORDS]; ROOM];
+        note_steps(input, &mut rows);
+        close(input.n(), &mut rows);
+        Closure { rows }
+    }
+
+    /// Whether `s` is `t`, or some walk with at least one step leads from it to `t`.
+    pub fn equals_or_reaches(&self, s: u32, t: u32) -> bool
+        requires from { s < 512 }
+        requires to { t < 512 }
+        ensures { (input : TableInput) → IsClosureOf self.now input → s < input.n → t < input.n
+            → IsTrue result ↔ EqualsOrReaches input s t }
+    {
+        s == t || is_set(&self.rows[s as usize], t)
+    }
+
+    /// The row of what the marked ones of the first `n` observations reach.
+    pub fn reached_from(&self, n: u32, marks: &[bool]) -> [u64; WORDS]
+        requires few { n ≤ 512 }
+        requires marks { n ≤ length marks.now }
+        ensures { (t : ℕ) → IsTrue (bit_in result t)
+            ↔ ((s : ℕ) × (s < n) × IsMarked marks.now s × IsTrue (has_bit self.now.rows s t)) }
+    {
+        let mut row = [0; WORDS];
+        for s in 0..n {
+            if marks[s as usize] {
+                take_in(&mut row, &self.rows[s as usize]);
+            }
+        }
+        row
+    }
+}
+
+/// Notes the weak steps from each observation in its row.
+fn note_steps(input: &Input<'_>, rows: &mut [[u64; WORDS]; ROOM])
+    ensures { (s t : ℕ) → s < records_of input.now.table.now → t < records_of input.now.table.now
+        → IsTrue (has_bit rows.new s t) ↔ IsWeak (cost_of input.now.table.now) 1 1 s t }
+{
+    for s in 0..input.n() {
+        rows[s as usize] = steps_from(input, s);
+    }
+}
+
+/// The row of the weak steps from `s`.
+fn steps_from(input: &Input<'_>, s: u32) -> [u64; WORDS]
+    requires { s < records_of input.now.table.now }
+    ensures { (t : ℕ) → t < records_of input.now.table.now
+        → IsTrue (bit_in result t) ↔ IsWeak (cost_of input.now.table.now) 1 1 s t }
+{
+    let mut row = [0; WORDS];
+    for t in 0..input.n() {
+        if input.is_weak(WHOLE, s, t) {
+            set(&mut row, t);
+        }
+    }
+    row
+}
+
+/// From the steps to what they reach: after round `k` a row has what a walk through observations below `k` leads to.
+fn close(n: u32, rows: &mut [[u64; WORDS]; ROOM])
+    requires { n ≤ 512 }
+    ensures { (s t : ℕ) → s < n → IsTrue (has_bit rows.new s t)
+        ↔ ReachesThrough n (λ a b. IsTrue (has_bit rows.old a b)) s t }
+{
+    for k in 0..n {
+        go_through(n, rows, k);
+    }
+}
+
+/// Each row with bit `k` takes in row `k`.
+fn go_through(n: u32, rows: &mut [[u64; WORDS]; ROOM], k: u32)
+    requires few { n ≤ 512 }
+    requires within { k < n }
+    ensures { (s t : ℕ) → s < n → has_bit rows.new s t
+        ≡ (has_bit rows.old s t || (has_bit rows.old s k && has_bit rows.old k t)) }
+{
+    let from = rows[k as usize];
+    for s in 0..n {
+        if is_set(&rows[s as usize], k) {
+            take_in(&mut rows[s as usize], &from);
+        }
+    }
+}
