@@ -1,12 +1,12 @@
 -- Menus have units of their cells at most once, or are refused for one reason.
-use Rattle.std.proofs.Common.{◌≡◌, ◌<◌, ◌≤◌, ◌+◌, ◌==◌, ◌⊎◌, inl, inr, ℕ, zero, suc, Bool, true, false, List, Option, None, Some, Result, Ok, Err, length, slice_index, if◌then◌else◌, refl, sym, ap, subst, ◌∙◌, arith}
+use Rattle.std.proofs.Common.{◌≡◌, ◌<◌, ◌≤◌, ◌+◌, ℕ, zero, suc, Bool, true, false, List, Option, None, Some, Result, Ok, Err, length, slice_index, refl, sym, ap, subst, ◌∙◌, arith}
 use Rattle.std.proofs.Math.Nat.{eq_of_mul-eq-mul_right, eq-zero_of_zero-dvd}
 use Rattle.std.proofs.lemmas.Bool.{ltb-false, ltb-true}
 use Rattle.std.proofs.lemmas.List.{ext_get_or}
 use Rattle.std.specs.Prelude.{nat_lt}
 use Prim.Native.Nat.{◌∣◌}
 use Rattle.rp_menu.specs.MenuLists.{MenuList}
-use Rattle.rp_patch.specs.Apportionment.{AreGrouped, GroupedCounts, HasApportionedShares, HasExactShares, HasShares, IsCommonMultiple, PassesTotalAt, counts_in, grouped, rest_of, whole_of}
+use Rattle.rp_patch.specs.Apportionment.{GroupedCounts, HasApportionedShares, HasExactShares, HasShares, IsCommonMultiple, PassesTotalAt, counts_in, grouped, rest_of, whole_of}
 use Rattle.rp_patch.specs.declared.apportionment.Units.{Units}
 use Rattle.rp_patch.proofs.Determined.{IsShared, same_shares}
 use Rattle.rp_patch.proofs.GroupFacts.{group_within}
