@@ -5,3 +5,5 @@
 mod refused;
 #[cfg(test)]
 mod reports;
+#[cfg(test)]
+mod six_letters;
