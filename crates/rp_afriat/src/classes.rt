@@ -1,7 +1,7 @@
-ghost use Rattle.std.specs.Prelude.{◌≡◌, ◌<◌, ◌≤◌, ℕ, IfNone, IfSome, length, slice_index};
+ghost use Rattle.std.specs.Prelude.{◌≡◌, ◌<◌, ℕ, IfNone, IfSome, length, slice_index};
 ghost use Rattle.rp_evidence.specs.StandardNumbers.{IsClassUtilityBy};
 ghost use Rattle.rp_table.specs.Cost.{own_of};
-ghost use Rattle.rp_afriat.specs.InnerFilling.{AreForEach, FitAbove, IsAllowed, IsAllowedInClass};
+ghost use Rattle.rp_afriat.specs.InnerFilling.{AreForEach, FitAbove, IsAllowed};
 ghost use Rattle.rp_afriat.specs.InnerFilling.{IsClassSet, IsLeastOf, lesser_of, scaled_at};
 ghost use Rattle.rp_afriat.specs.InnerFilling.{utility_of};
 

@@ -1,4 +1,4 @@
-ghost use Rattle.std.specs.Prelude.{◌≡◌, ◌<◌, ◌≤◌, ◌+◌, ℕ, IfNone, IfSome, MatchOption, length};
+ghost use Rattle.std.specs.Prelude.{◌≡◌, ◌<◌, ◌≤◌, ℕ, IfNone, IfSome, length};
 ghost use Rattle.std.specs.Prelude.{slice_index};
 ghost use Rattle.rp_evidence.specs.Count.{AreCounts};
 ghost use Rattle.rp_evidence.specs.StandardNumbers.{FitsUtility, IsMultiplierBy};

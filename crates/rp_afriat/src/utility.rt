@@ -1,4 +1,4 @@
-ghost use Rattle.std.specs.Prelude.{◌≡◌, ◌<◌, ◌≤◌, ◌*◌, [], ℕ, All, length};
+ghost use Rattle.std.specs.Prelude.{◌≡◌, ◌<◌, ◌*◌, [], All, length};
 ghost use Rattle.rp_evidence.specs.Afriat.{IsOwnUtility, IsUtility, allowed_for_by};
 ghost use Rattle.rp_evidence.specs.AfriatEvidence.{AreOneEach, multiplier_in, utility_in};
 ghost use Rattle.rp_evidence.specs.StandardNumbers.{AllFit};

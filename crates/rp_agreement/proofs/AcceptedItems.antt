@@ -1,5 +1,5 @@
 -- A certificate that begins with a verdict on the axiom, and goes on with items as they are given from it, is accepted.
-use Rattle.std.proofs.Common.{ℕ, ◌≡◌, ◌<◌, length, ◌||◌, zero, suc, [], ◌∷◌, List, inr, subst, Bool, true, false, IsTrue, All, Ok, arith, refl, slice_index_or, take}
+use Rattle.std.proofs.Common.{ℕ, ◌≡◌, ◌||◌, zero, suc, [], ◌∷◌, List, inr, subst, Bool, true, false, IsTrue, All, Ok, arith, refl, slice_index_or, take}
 use Rattle.rp_agreement.specs.Given.{ProvesAsGiven}
 use Rattle.rp_check.specs.CheckVerdict.{IsItemsVerdictOn, IsVerdictOn}
 use Rattle.rp_check.specs.ItemFailure.{ItemFails, one_shows_garp, shows_garp}
@@ -53,8 +53,3 @@ module _ (input : TableInput) (verdict : Garp) (garp : ProvesOwnGarp input.n inp
 
   pub certificate_accepted : (rest : List Item) → All (ProvesAsGiven input verdict) rest → IsVerdictOn input input.levels (GarpItem verdict ∷ rest) Accepted
   certificate_accepted rest all = inr (levels_pass input.levels, items_accepted rest all)
-
-  -- the same where the items after the first one answer so many questions
-  pub answers_accepted : (count : ℕ) (others : List Item) → length others ≡ count → ((k : ℕ) (d : Item) → k < count → ProvesAsGiven input verdict (slice_index_or others k d))
-      → IsVerdictOn input input.levels (GarpItem verdict ∷ others) Accepted
-  answers_accepted count others one_each each = certificate_accepted others (λ k d k_in. each k d (omega (arith, one_each, k_in)))

@@ -1,5 +1,5 @@
 -- Certificates of items as they are given can be read back.
-use Rattle.std.proofs.Common.{◌≡◌, ◌≢◌, ◌<◌, ◌+◌, ◌*◌, ℕ, List, [], ◌∷◌, length, All, ap, arith, inl, inr, refl, slice_index_or}
+use Rattle.std.proofs.Common.{◌≢◌, ◌+◌, ◌*◌, ℕ, List, [], ◌∷◌, length, All, ap, arith, inl, inr, refl}
 use Rattle.std.proofs.lemmas.Nat.{mul-add-lt}
 use Rattle.rp_agreement.specs.Given.{ProvesAsGiven}
 use Rattle.rp_evidence.specs.Input.{TableInput, input_of_table}
@@ -62,11 +62,6 @@ module _ (input : TableInput) (limited : IsLimited input) (verdict : Garp) where
     levels = levels_fit input.n input.levels limited.own_levels;
     items = all_more (FitsKind Table) (GarpItem verdict) rest (item_fits (GarpItem verdict) first) (λ k d within. item_fits _ (all k d within));
   }
-
-  -- the same where the items after the first one answer so many questions
-  pub answers_readable : (count : ℕ) (others : List Item) → ProvesAsGiven input verdict (GarpItem verdict) → length others ≡ count
-      → ((k : ℕ) (d : Item) → k < count → ProvesAsGiven input verdict (slice_index_or others k d)) → IsReadable Table (certificate_from input.levels verdict others)
-  answers_readable count others first one_each each = certificate_readable others first (λ k d within. each k d (omega (arith, one_each, within)))
 
   -- the same of the tests of a table
   pub analysis_readable : (afriat : AfriatPart) (efficiency : Efficiency) (homothetic : Homothetic) (quasilinear : Quasi) → ProvesAsGiven input verdict (GarpItem verdict)

@@ -9,7 +9,6 @@ pub mod OneRandomFinding
 pub mod ItemsFit
 pub mod Lists
 pub mod Narrow
-pub mod NewRows
 pub mod RandomFits
 pub mod SameValues
 pub mod TestsFit

@@ -1,17 +1,13 @@
 -- Words of a generator one after another, and that a trial table is one.
-use Rattle.std.proofs.Common.{◌≡◌, ◌≢◌, ℕ, zero, suc, ◌+◌, ◌*◌, ◌/◌, ◌%◌, ◌<◌, ◌≤◌, ◌==◌, ◌&&◌, Bool, true, false, List, [], ◌∷◌, ◌++◌, length, get_or, set, drop, map, inl, refl, sym, ap, ◌∙◌, arith, lit<, lit≤, add-one, if◌then◌else◌}
-use Rattle.std.proofs.lemmas.List.{length-set, get_or-set_same, get_or-set_other}
+use Rattle.std.proofs.Common.{◌≡◌, ◌≢◌, ℕ, ◌+◌, ◌*◌, ◌/◌, ◌%◌, ◌<◌, ◌≤◌, List, [], ◌∷◌, ◌++◌, drop, map, inl, refl, sym, ap, ◌∙◌, arith, lit<, lit≤, add-one}
 use Rattle.std.proofs.lemmas.List.Elements.{All-nil, All-cons}
 use Rattle.std.proofs.lemmas.Nat.{div-mul-add}
 use Rattle.rp_table.proofs.SumsBelow.{sum_below-same}
 use Rattle.std.specs.List.{All, AllPairs}
 use Rattle.std.specs.Int.Digits.{digits_of}
-use Rattle.std.proofs.Math.Dec.{eqb-suc-zero}
-use Rattle.std.proofs.lemmas.List.{ext_get_or}
 use Rattle.std.specs.Fmt.{decimal}
 use Rattle.std.proofs.lemmas.Fmt.{decimal_injective, decimal-digits_of, length-decimal-le}
 use Rattle.rand_pcg.specs.Lcg.{Lcg}
-use Rattle.rand_pcg.specs.Pcg.{pcg32}
 use Rattle.rp_num.specs.Below.{listed, rows_below}
 use Rattle.rp_draws.proofs.WordLemmas.{word_later, words_later}
 use Rattle.rp_num.proofs.BelowLemmas.{length-listed, get-listed}
@@ -19,8 +15,10 @@ use Rattle.rp_table.specs.Sums.{sum_below}
 use Rattle.rp_table.specs.Names.{IsName}
 use Rattle.rp_table.specs.declared.TheConstants.{RECORDS, GOODS}
 use Rattle.rp_table.specs.Tables.{IsTable, records_of, quantity_of}
-use Rattle.rp_sheet.proofs.RowLemmas.{length-rows, row_number, all_rows, sum_at_least}
-use Rattle.rp_answers.specs.TrialTable.{drawn_price, drawn_quantity, some_bought, record_generator, good_name, trial_of}
+use Rattle.rp_sheet.proofs.RowLemmas.{length-rows, row_number, all_rows}
+use Rattle.rp_power.specs.Shares.{not_all_zero}
+use Rattle.rp_power.proofs.DrawnLemmas.{not_all_zero_sum, not_all_zero_within}
+use Rattle.rp_answers.specs.TrialTable.{drawn_price, drawn_quantity, record_generator, good_name, trial_of}
 use Rattle.rp_draws.specs.Words.{after_words, generator_of, word_after}
 
 -- one more price
@@ -43,31 +41,6 @@ total_more g here k word quantity total sum so is drawn measured added =
     let at : word_after here 0 ≡ word_after g k = ap (λ (h : Lcg). word_after h 0) is ∙ word_later g k 0 ∙ (let e : k + 0 ≡ k = omega arith in ap (word_after g) e) in
     rw (added, so, measured, drawn, at, add-one) refl
 
--- where something was bought, the quantities are as they were drawn
-pub bought_as_drawn : (goods : ℕ) (quantity : ℕ → ℕ) (row : List ℕ) → row ≡ listed goods quantity → sum_below goods quantity ≢ 0 → row ≡ listed goods (some_bought goods quantity)
-bought_as_drawn goods quantity row so some =
-    so ∙ ap (listed goods) (λ i g. as_drawn g i)
-  where
-    not_zero : (n : ℕ) → n ≢ 0 → (n == 0) ≡ false
-    not_zero zero some = absurd (some refl)
-    not_zero (suc n) some = eqb-suc-zero n
-
-    as_drawn : (g : ℕ) → quantity g ≡ some_bought goods quantity g
-    as_drawn g = rw (not_zero (sum_below goods quantity) some) refl
-
--- where nothing was, there is 1 of the first good
-pub bought_first : (goods : ℕ) (quantity : ℕ → ℕ) (row : List ℕ) → row ≡ listed goods quantity → sum_below goods quantity ≡ 0 → 1 ≤ goods → set row 0 1 ≡ listed goods (some_bought goods quantity)
-bought_first goods quantity row so none some =
-    let count : length row ≡ goods = ap length so ∙ length-listed quantity goods in
-    ext_get_or 0 (set row 0 1) (listed goods (some_bought goods quantity)) (length-set row 0 1 ∙ count ∙ sym (length-listed (some_bought goods quantity) goods))
-    (λ g inside.
-    let within : g < goods = omega (arith, length-set row 0 1) in
-    each g within ∙ sym (get-listed (some_bought goods quantity) goods g 0 within))
-  where
-    each : (g : ℕ) → g < goods → get_or (set row 0 1) g 0 ≡ some_bought goods quantity g
-    each zero within = get_or-set_same row 0 1 0 (omega (arith, ap length so, length-listed quantity goods)) ∙ sym (rw none refl)
-    each (suc g) within = get_or-set_other row 0 (suc g) 1 0 (omega arith) ∙ ap (λ l. get_or l (suc g) 0) so ∙ get-listed quantity goods (suc g) 0 within ∙ sym (rw (none, eqb-suc-zero g) refl)
-
 -- the name of one of few goods is a name
 pub good_name_is : (g : ℕ) → g < 16 → IsName (good_name g)
 good_name_is g few =
@@ -89,26 +62,12 @@ names_distinct goods few i j d before within same =
     let is : i + 1 ≡ j + 1 = decimal_injective (i + 1) (j + 1) (omega arith) (omega arith) (ap (drop 1) names) in
     omega arith
 
--- something is bought
-bought_one : (goods : ℕ) (quantity : ℕ → ℕ) → 1 ≤ goods → 1 ≤ sum_below goods (some_bought goods quantity)
-bought_one goods quantity some = at (sum_below goods quantity) refl
-  where
-    first : sum_below goods quantity ≡ 0 → some_bought goods quantity 0 ≡ 1
-    first none = rw none refl
-
-    drawn : (n : ℕ) → sum_below goods quantity ≡ suc n → (g : ℕ) → quantity g ≡ some_bought goods quantity g
-    drawn n is g = rw (is, eqb-suc-zero n) refl
-
-    at : (n : ℕ) → sum_below goods quantity ≡ n → 1 ≤ sum_below goods (some_bought goods quantity)
-    at zero none = omega (arith, sum_at_least (some_bought goods quantity) goods 0 some, first none)
-    at (suc n) is = let same = sum_below-same quantity (some_bought goods quantity) goods (λ g below. drawn n is g) in omega arith
-
 -- a trial table is a table
 pub trial_is_table : (seed rows goods : ℕ) → 1 ≤ rows → rows ≤ RECORDS → 1 ≤ goods → goods ≤ GOODS → IsTable (trial_of seed rows goods)
 trial_is_table seed rows goods some_rows few_rows some_goods few_goods =
     let names = length-listed good_name goods in
     let price : ℕ → ℕ → ℕ = λ t. drawn_price (record_generator seed goods t) in
-    let quantity : ℕ → ℕ → ℕ = λ t. some_bought goods (drawn_quantity goods (record_generator seed goods t)) in
+    let quantity : ℕ → ℕ → ℕ = λ t. not_all_zero goods (drawn_quantity goods (record_generator seed goods t)) in
     let count : records_of (trial_of seed rows goods) ≡ rows = rw (length-rows rows goods price, names) (whole_rows rows goods some_goods) in
     record {
       some_goods = omega arith;
@@ -119,12 +78,12 @@ trial_is_table seed rows goods some_rows few_rows some_goods few_goods =
       all_prices = rw (count, names) (length-rows rows goods price);
       all_quantities = rw (count, names) (length-rows rows goods quantity);
       price_limits = all_rows (λ p. (1 ≤ p) × (p ≤ 9999999)) rows goods price (λ t g row good. (omega arith, omega (arith, mod_small (word_after (record_generator seed goods t) g) 99 (lit≤ tt))));
-      quantity_limits = all_rows (λ q. q ≤ 9999999) rows goods quantity (λ t g row good. quantity_small goods (λ h. word_after (record_generator seed goods t) (goods + h)) g);
+      quantity_limits = all_rows (λ q. q ≤ 9999999) rows goods quantity (λ t g row good. not_all_zero_within 9999999 goods (drawn_quantity goods (record_generator seed goods t)) g (lit≤ tt) (omega (arith, mod_small (word_after (record_generator seed goods t) (goods + g)) 100 (lit≤ tt))));
       bought = λ t row.
           let here : t < rows = omega arith in
           let each : (g : ℕ) → g < goods → quantity t g ≡ quantity_of (trial_of seed rows goods) t g = λ g good. rw names (sym (row_number rows goods quantity t g here good)) in
           let same = sum_below-same (quantity t) (quantity_of (trial_of seed rows goods) t) goods each in
-          let one = bought_one goods (drawn_quantity goods (record_generator seed goods t)) some_goods in
+          let one = not_all_zero_sum goods (drawn_quantity goods (record_generator seed goods t)) some_goods in
           rw names (omega arith);
       few_price_places = lit≤ tt;
       few_quantity_places = lit≤ tt;
@@ -136,13 +95,6 @@ trial_is_table seed rows goods some_rows few_rows some_goods few_goods =
 
     mod_small : (n m : ℕ) → 1 ≤ m → n % m < m
     mod_small n m some = omega arith
-
-    quantity_small : (goods : ℕ) (word : ℕ → ℕ) (g : ℕ) → some_bought goods (λ h. word h % 100) g ≤ 9999999
-    quantity_small goods word g = at ((sum_below goods (λ h. word h % 100) == 0) && (g == 0))
-      where
-        at : (b : Bool) → (if b then 1 else word g % 100) ≤ 9999999
-        at true = lit≤ tt
-        at false = omega (arith, mod_small (word g) 100 (lit≤ tt))
 
 -- one more record
 pub record_more : (seed goods k : ℕ) (here priced_after after : Lcg) → here ≡ record_generator seed goods k → priced_after ≡ after_words here goods → after ≡ after_words priced_after goods → after ≡ record_generator seed goods (k + 1)
@@ -160,14 +112,14 @@ pub row_more : (k goods : ℕ) (f : ℕ → ℕ → ℕ) (rows row more : List �
 row_more k goods f rows row more so here pushed = rw (pushed, so, here, add-one) refl
 
 -- quantities of a record, by the words after those of its prices
-pub quantities_after : (goods : ℕ) (here priced_after : Lcg) (row : List ℕ) → priced_after ≡ after_words here goods → row ≡ listed goods (some_bought goods (λ g. word_after priced_after g % 100)) → row ≡ listed goods (some_bought goods (drawn_quantity goods here))
+pub quantities_after : (goods : ℕ) (here priced_after : Lcg) (row : List ℕ) → priced_after ≡ after_words here goods → row ≡ listed goods (not_all_zero goods (λ g. word_after priced_after g % 100)) → row ≡ listed goods (not_all_zero goods (drawn_quantity goods here))
 quantities_after goods here priced_after row priced drawn =
-    drawn ∙ ap (λ (h : Lcg). listed goods (some_bought goods (λ g. word_after h g % 100))) priced
-    ∙ ap (λ (q : ℕ → ℕ). listed goods (some_bought goods q)) (λ i g. word_later here goods g i % 100)
+    drawn ∙ ap (λ (h : Lcg). listed goods (not_all_zero goods (λ g. word_after h g % 100))) priced
+    ∙ ap (λ (q : ℕ → ℕ). listed goods (not_all_zero goods q)) (λ i g. word_later here goods g i % 100)
 
 -- the lists that were drawn are those of the table
 pub trial_is : (seed rows goods : ℕ) (names : List (List ℕ)) (prices quantities : List ℕ) → names ≡ listed goods good_name
-    → prices ≡ rows_below rows goods (λ t. drawn_price (record_generator seed goods t)) → quantities ≡ rows_below rows goods (λ t. some_bought goods (drawn_quantity goods (record_generator seed goods t)))
+    → prices ≡ rows_below rows goods (λ t. drawn_price (record_generator seed goods t)) → quantities ≡ rows_below rows goods (λ t. not_all_zero goods (drawn_quantity goods (record_generator seed goods t)))
     → record { names = names; prices = prices; quantities = quantities; price_places = 0; quantity_places = 0; levels = [] } ≡ trial_of seed rows goods
 trial_is seed rows goods names prices quantities named priced bought =
     λ i. record { names = named i; prices = priced i; quantities = bought i; price_places = 0; quantity_places = 0; levels = [] }

@@ -1,11 +1,11 @@
 -- The trial table of a seed: prices and quantities by successive words of its generator. How words become prices and
 -- quantities is this project's own.
-use Rattle.std.specs.Prelude.{ℕ, ◌+◌, ◌*◌, ◌%◌, ◌==◌, ◌&&◌, List, [], ◌++◌, codes, if◌then◌else◌}
+use Rattle.std.specs.Prelude.{ℕ, ◌+◌, ◌*◌, ◌%◌, List, [], ◌++◌, codes}
 use Rattle.std.specs.Fmt.{decimal}
 use Rattle.rp_draws.specs.Words.{after_words, generator_of, word_after}
 use Rattle.rand_pcg.specs.Lcg.{Lcg}
 use Rattle.rp_num.specs.Below.{listed, rows_below}
-use Rattle.rp_table.specs.Sums.{sum_below}
+use Rattle.rp_power.specs.Shares.{not_all_zero}
 use Rattle.rp_table.specs.Tables.{Observations}
 
 -- the price of good g of a record whose words come from there on: 1 to 99
@@ -16,10 +16,6 @@ drawn_price generator g = 1 + word_after generator g % 99
 abbrev pub drawn_quantity : ℕ → Lcg → ℕ → ℕ
 drawn_quantity goods generator g = word_after generator (goods + g) % 100
 
--- the quantities of a record where something is bought: 1 of the first good where all of them are 0
-abbrev pub some_bought : ℕ → (ℕ → ℕ) → ℕ → ℕ
-some_bought goods quantity g = if (sum_below goods quantity == 0) && (g == 0) then 1 else quantity g
-
 -- the generator from which record t is drawn: each record before it took a word for each price and for each quantity
 abbrev pub record_generator : ℕ → ℕ → ℕ → Lcg
 record_generator seed goods t = after_words (generator_of seed) (t * (goods + goods))
@@ -28,12 +24,12 @@ record_generator seed goods t = after_words (generator_of seed) (t * (goods + go
 abbrev pub good_name : ℕ → List ℕ
 good_name g = codes "g" ++ decimal (g + 1)
 
--- the table of a seed with so many records and goods
+-- the table of a seed with so many records and goods: where no quantity of a record is above 0, it buys 1 of the first
 abbrev pub trial_of : ℕ → ℕ → ℕ → Observations
 trial_of seed rows goods = record {
   names = listed goods good_name;
   prices = rows_below rows goods (λ t. drawn_price (record_generator seed goods t));
-  quantities = rows_below rows goods (λ t. some_bought goods (drawn_quantity goods (record_generator seed goods t)));
+  quantities = rows_below rows goods (λ t. not_all_zero goods (drawn_quantity goods (record_generator seed goods t)));
   price_places = 0;
   quantity_places = 0;
   levels = [];

@@ -100,8 +100,8 @@ fn push_accepted(
     Ok(())
 }
 
-/// Appends the line on the item that is rejected, which is counted from 1 and is 0 where the levels are not the table's,
-/// with the reason and the place.
+/// Appends the line on the item that is rejected, which is counted from 1 and is 0 where the levels are not the
+/// table's, with the reason and the place.
 fn push_rejected(
     alloc: Global,
     out: &mut Vec<u8>,

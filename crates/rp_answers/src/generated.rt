@@ -1,9 +1,10 @@
-ghost use Rattle.std.specs.Prelude.{◌≡◌, ◌+◌, ◌*◌, ◌%◌, ◌≤◌, IfOk, OnOk};
+ghost use Rattle.std.specs.Prelude.{◌≡◌, ◌+◌, ◌%◌, ◌≤◌, IfOk, OnOk};
 ghost use Rattle.rp_num.specs.Below.{listed};
 ghost use Rattle.rp_table.specs.declared.TheConstants.{RECORDS, GOODS};
 ghost use Rattle.rp_answers.specs.TrialTable.{trial_of, good_name};
 ghost use Rattle.rp_draws.specs.Words.{after_words, word_after};
-ghost use Rattle.rp_answers.specs.TrialTable.{drawn_price, some_bought};
+ghost use Rattle.rp_answers.specs.TrialTable.{drawn_price};
+ghost use Rattle.rp_power.specs.Shares.{not_all_zero};
 
 use rand_pcg::Lcg64Xsh32;
 use rp_draws::{draw, generator};
@@ -54,7 +55,7 @@ fn draw_quantities(
     requires some_goods { 1 ≤ goods }
     requires few_goods { goods ≤ GOODS }
     ensures drawn { IfOk result (λ row. row.items
-        ≡ listed goods (some_bought goods (λ g. word_after generator.old g % 100))) }
+        ≡ listed goods (not_all_zero goods (λ g. word_after generator.old g % 100))) }
     ensures moved { OnOk result (generator.new ≡ after_words generator.old goods) }
 {
     let mut row = Vec::new(alloc);

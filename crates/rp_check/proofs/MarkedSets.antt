@@ -1,7 +1,7 @@
 -- The observations below a new budget and strictly below it, by what marks are led to.
-use Rattle.std.proofs.Common.{◌≡◌, ◌<◌, ◌+◌, ◌↔◌, inl, inr, ℕ, Bool, false, IsTrue, List, length, length-set, replicate, set, sym, subst, ◌∙◌, arith}
+use Rattle.std.proofs.Common.{◌≡◌, ◌<◌, ◌+◌, ◌↔◌, inl, inr, ℕ, Bool, false, IsTrue, List, length, length-set, set, sym, subst, ◌∙◌, arith}
 use Rattle.std.proofs.lemmas.Bool.{cases_eq}
-use Rattle.std.proofs.lemmas.List.{get_or-set_other, get_or-set_same, length-replicate}
+use Rattle.std.proofs.lemmas.List.{get_or-set_other, get_or-set_same}
 use Rattle.rp_evidence.specs.Demand.{Buys, IsBelow, IsStrictStart, IsStrictlyBelow, NewBudget}
 use Rattle.rp_evidence.specs.Input.{TableInput}
 use Rattle.rp_evidence.specs.Preference.{IsWeak}
@@ -38,9 +38,6 @@ pub record AreMarkedTo (size : ℕ) (P : ℕ → Type 0) (marks : List Bool) (en
   pub each : AreMarked end P marks
 
 module _ (size : ℕ) (P : ℕ → Type 0) where
-  pub none_marked : AreMarkedTo size P (replicate size false) 0
-  none_marked = record { long = length-replicate size false; each = λ t l. absurd (omega arith) }
-
   pub marked_more : (marks : List Bool) (s : ℕ) → AreMarkedTo size P marks s → s < size → (b : Bool) → IsTrue b ↔ P s → AreMarkedTo size P (set marks s b) (s + 1)
   marked_more marks s so_far within b told = record {
     long = length-set marks s b ∙ so_far.long;

@@ -1,4 +1,3 @@
-ghost use Rattle.std.specs.Prelude.{◌≡◌, []};
 ghost use Rattle.rp_check.specs.LevelsFailure.{LevelsFail, SomeLevelsFail};
 
 use rp_evidence::{Failure, Reason};

@@ -1,11 +1,11 @@
-ghost use Rattle.std.specs.Prelude.{◌≡◌, ◌≤◌, ◌<◌, ◌↔◌, ◌∷◌, [], IsTrue, length, slice_index};
+ghost use Rattle.std.specs.Prelude.{◌≤◌, ◌<◌, ◌↔◌, ◌∷◌, [], IsTrue, length, slice_index};
 ghost use Rattle.rp_check.specs.InnerSets.{AreFewOf, input_of};
 ghost use Rattle.rp_patch.specs.Clauses.{FirstUnless, InOrder, Unless};
 ghost use Rattle.rp_clauses.specs.InnerBits.{IsClosureOf};
 ghost use Rattle.rp_clauses.specs.InnerMarks.{AreMarked};
 ghost use Rattle.rp_clauses.specs.WalkFailure.{ViolationFails};
 ghost use Rattle.rp_check.specs.WelfareFailure.{IsNotAboveAt, LowerHolds};
-ghost use Rattle.rp_check.specs.WelfareFailure.{WelfareBoundsFail, WelfareFails, WelfarePartFails};
+ghost use Rattle.rp_check.specs.WelfareFailure.{WelfareBoundsFail, WelfareFails};
 ghost use Rattle.rp_evidence.specs.BoundEvidence.{BoundHolds};
 ghost use Rattle.rp_evidence.specs.Input.{input_of_table};
 ghost use Rattle.rp_evidence.specs.Preference.{IsStrict, IsWeak};

@@ -1,5 +1,5 @@
 -- Bits of rows of words: one is set, and two rows are united.
-use Rattle.std.proofs.Common.{◌≡◌, ℕ, zero, suc, ◌+◌, ◌*◌, ◌/◌, ◌%◌, ◌^◌, ◌<◌, ◌≤◌, ◌||◌, max, Bool, true, false, eqb, List, length, set, get_or, bit_or, inl, inr, refl, sym, ap, ◌∙◌, arith, length-set, mod-lt, get_or-set_same, get_or-set_other, shl_exact}
+use Rattle.std.proofs.Common.{◌≡◌, ℕ, zero, suc, ◌*◌, ◌/◌, ◌%◌, ◌^◌, ◌<◌, ◌≤◌, ◌||◌, max, Bool, true, false, eqb, List, length, set, get_or, bit_or, inl, inr, refl, sym, ap, ◌∙◌, arith, mod-lt, get_or-set_same, get_or-set_other, shl_exact}
 use Rattle.std.specs.Int.{bit_at}
 use Rattle.std.proofs.lemmas.Bool.{cases_eq, cases_lt, eq-eqb, ne_eqb}
 use Rattle.std.proofs.lemmas.List.{get_or_past}
@@ -76,21 +76,6 @@ pub record IsTakenIn (old now from : List ℕ) (w : ℕ) : Type 0 where
 
 pub none_taken : (old from : List ℕ) → IsTakenIn old old from 0
 none_taken old from = record { long = refl; done = λ v l. absurd (omega arith); left = λ v l. refl }
-
-pub word_taken : (old now from : List ℕ) (w : ℕ) → IsTakenIn old now from w → w < length old → (more : List ℕ) → more ≡ set now w (bit_or (get_or now w 0) (get_or from w 0))
-    → IsTakenIn old more from (w + 1)
-word_taken old now from w so_far within more e = rw e (record {
-  long = set_long ∙ so_far.long;
-  done = λ v l. elim (cases_eq v w) [
-    | inl k ↦ rw k (get_or-set_same now w (bit_or (get_or now w 0) (get_or from w 0)) 0 (omega (arith, within, so_far.long))
-        ∙ ap (λ x. bit_or x (get_or from w 0)) (so_far.left w (omega arith)))
-    | inr d ↦ get_or-set_other now w v (bit_or (get_or now w 0) (get_or from w 0)) 0 d ∙ so_far.done v (omega arith)
-  ];
-  left = λ v l. get_or-set_other now w v (bit_or (get_or now w 0) (get_or from w 0)) 0 (λ k. absurd (omega (arith, k))) ∙ so_far.left v (omega arith);
-})
-  where
-    set_long : length (set now w (bit_or (get_or now w 0) (get_or from w 0))) ≡ length now
-    set_long = length-set now w (bit_or (get_or now w 0) (get_or from w 0))
 
 pub row_taken : (old now from : List ℕ) (w : ℕ) → IsTakenIn old now from w → length old ≤ w → length from ≤ w → (t : ℕ) → bit_in now t ≡ (bit_in old t || bit_in from t)
 row_taken old now from w taken long_old long_from t =

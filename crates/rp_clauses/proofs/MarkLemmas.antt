@@ -1,12 +1,11 @@
 -- Marks on observations, and what steps lead to from those that are marked.
-use Rattle.std.proofs.Common.{rules, ◌≡◌, ◌<◌, ◌≤◌, ◌+◌, ◌⊎◌, ◌↔◌, ◌||◌, inl, inr, ℕ, Bool, true, false, IsTrue, List, [], ◌∷◌, length, slice_index_or, refl, sym, subst, ◌∙◌, arith, replicate, set}
+use Rattle.std.proofs.Common.{rules, ◌≡◌, ◌<◌, ◌≤◌, ◌+◌, ◌⊎◌, ◌↔◌, ◌||◌, inl, inr, ℕ, Bool, true, false, IsTrue, List, [], ◌∷◌, length, slice_index_or, refl, sym, subst, ◌∙◌, arith, set}
 use Rattle.std.proofs.lemmas.Bool.{cases_eq, false≢true}
 use Rattle.std.proofs.lemmas.List.{get_or-set_other, get_or-set_same}
 use Rattle.rp_evidence.specs.Walk.{LeadsTo, Reaches}
 use Rattle.rp_evidence.proofs.Walks.{reaches_by, rest_of_reach}
 use Rattle.rp_clauses.specs.InnerBits.{bit_in, has_bit}
 use Rattle.rp_clauses.specs.InnerMarks.{AreMarked, IsLedTo, IsMarked}
-use Rattle.rp_clauses.proofs.Rounds.{no_bit}
 
 -- ---- what is told of one observation after another is marked, up to v
 
@@ -16,9 +15,6 @@ pub record IsTakenTo (step : ℕ → Type 0) (old new : List Bool) (v : ℕ) : T
   pub after : (t : ℕ) → v ≤ t → slice_index_or new t false ≡ slice_index_or old t false
 
 module _ (step : ℕ → Type 0) (old : List Bool) where
-  pub taken_none : IsTakenTo step old old 0
-  taken_none = record { same_length = refl; before = λ t l. absurd (omega arith); after = λ t l. refl }
-
   module _ (new : List Bool) (v : ℕ) (so_far : IsTakenTo step old new v) where
     pub taken_past : ¬ step v → IsTakenTo step old new (v + 1)
     taken_past none = record {
@@ -69,9 +65,6 @@ or_right true b h = refl
 or_right false b h = h
 
 module _ (rows : List (List ℕ)) (marks : List Bool) where
-  pub led_none : (size : ℕ) → IsLedFrom rows marks (replicate size 0) 0
-  led_none size t = ((λ h. absurd (false≢true (sym (no_bit size t) ∙ h))), (λ h. absurd (omega (arith, h.1))))
-
   module _ (row : List ℕ) (s : ℕ) (so_far : IsLedFrom rows marks row s) where
     pub led_past : slice_index_or marks s false ≡ false → IsLedFrom rows marks row (s + 1)
     led_past none t = (

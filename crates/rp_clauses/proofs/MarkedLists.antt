@@ -15,15 +15,6 @@ pub record ListsUpTo (marks : List Bool) (list : List ℕ) (at t : ℕ) : Type 0
   pub found : (u : ℕ) → u < t → IsMarked marks u → (k : ℕ) × (k < at) × (slice_index list k ≡ u)
 
 module _ (marks : List Bool) (list : List ℕ) where
-  pub up_to_none : ListsUpTo marks list 0 0
-  up_to_none = record {
-    within = omega arith;
-    before = λ k l. absurd (omega arith);
-    marked = λ k l. absurd (omega arith);
-    rising = λ k l. absurd (omega arith);
-    found = λ u l. absurd (omega arith);
-  }
-
   module _ (at t : ℕ) (so_far : ListsUpTo marks list at t) where
     pub up_to_past : ¬ IsMarked marks t → ListsUpTo marks list at (t + 1)
     up_to_past none = record {

@@ -1,12 +1,10 @@
 -- Steps are noted in rows of bits, and the rows take in others, round by round, until they have what is reached.
-use Rattle.std.proofs.Common.{rules, ◌≡◌, ℕ, suc, ◌+◌, ◌/◌, ◌%◌, ◌<◌, ◌≤◌, ◌⊎◌, ◌↔◌, ◌||◌, ◌&&◌, Bool, true, false, IsTrue, eqb, List, [], length, replicate, set, inl, inr, refl, sym, ap, ◌∙◌, subst, arith, length-set, get_or-set_same, get_or-set_other}
-use Rattle.std.specs.Int.{bit_at}
-use Rattle.std.proofs.lemmas.Bool.{cases_eq, cases_lt, eq-eqb, false≢true, ne_eqb}
-use Rattle.std.proofs.lemmas.List.{get_or-replicate, get_or_past, length-replicate}
+use Rattle.std.proofs.Common.{◌≡◌, ℕ, suc, ◌+◌, ◌<◌, ◌≤◌, ◌⊎◌, ◌↔◌, ◌||◌, ◌&&◌, Bool, true, false, IsTrue, List, [], length, set, inl, inr, refl, sym, ap, ◌∙◌, subst, arith, length-set, get_or-set_same, get_or-set_other}
+use Rattle.std.proofs.lemmas.Bool.{cases_eq, false≢true}
 use Rattle.rp_evidence.specs.Walk.{Reaches}
 use Rattle.rp_evidence.proofs.SameCosts.{reach_same}
 use Rattle.rp_clauses.specs.InnerBits.{ReachesThrough, bit_in, has_bit}
-use Rattle.rp_clauses.proofs.BitLemmas.{or_false, or_true}
+use Rattle.rp_clauses.proofs.BitLemmas.{or_false}
 use Rattle.rp_clauses.proofs.Throughs.{reaches_from_through, through_from_reaches}
 
 -- ---- steps are noted
@@ -20,40 +18,6 @@ pub record HasNoted (step : ℕ → Type 0) (row : List ℕ) (end : ℕ) : Type 
 pub record HasNotedRows (size n : ℕ) (step : ℕ → ℕ → Type 0) (rows : List (List ℕ)) (end : ℕ) : Type 0 where
   pub long : length rows ≡ size
   pub noted : (s t : ℕ) → s < end → t < n → IsTrue (has_bit rows s t) ↔ step s t
-
-module _ (step : ℕ → Type 0) (row : List ℕ) (t : ℕ) (so_far : HasNoted step row t) where
-  pub noted_past : ¬ step t → HasNoted step row (t + 1)
-  noted_past none = record {
-    before = λ b l. elim (cases_eq b t) [
-      | inl e ↦ subst (λ z. IsTrue (bit_in row z) ↔ step z) (sym e)
-          ((λ h. absurd (false≢true (sym (so_far.after t (omega arith)) ∙ h))), (λ h. absurd (none h)))
-      | inr d ↦ so_far.before b (omega arith)
-    ];
-    after = λ b l. so_far.after b (omega arith);
-  }
-
-  pub noted_at : step t → (new : List ℕ) → ((b : ℕ) → bit_in new b ≡ (bit_in row b || eqb b t)) → HasNoted step new (t + 1)
-  noted_at here new is = record {
-    before = λ b l. elim (cases_eq b t) [
-      | inl e ↦ subst (λ z. IsTrue (bit_in new z) ↔ step z) (sym e)
-          ((λ h. here), (λ h. is t ∙ ap (λ x. bit_in row t || x) (eq-eqb t t refl) ∙ or_true (bit_in row t)))
-      | inr d ↦ subst (λ x. IsTrue x ↔ step b) (sym (is b ∙ ap (λ x. bit_in row b || x) (ne_eqb b t d) ∙ or_false (bit_in row b))) (so_far.before b (omega arith))
-    ];
-    after = λ b l. is b ∙ ap (λ x. bit_in row b || x) (ne_eqb b t (λ e. absurd (omega (arith, e)))) ∙ or_false (bit_in row b) ∙ so_far.after b (omega arith);
-  }
-
--- A row of zeros has no bit.
-pub no_bit : (size t : ℕ) → bit_in (replicate size 0) t ≡ false
-no_bit size t = ap (λ w. eqb (bit_at w (t % 64)) 1) (elim (cases_lt (t / 64) size) [
-  | inl l ↦ get_or-replicate size (t / 64) 0 0 l
-  | inr l ↦ get_or_past (replicate size 0) (t / 64) 0 (omega (arith, length-replicate {A = ℕ} size 0, l))
-]) ∙ zero_bit (t % 64)
-  where
-    zero_bit : (i : ℕ) → eqb (bit_at 0 i) 1 ≡ false
-    zero_bit i = search rules
-
-pub noted_none : (step : ℕ → Type 0) (size : ℕ) → HasNoted step (replicate size 0) 0
-noted_none step size = record { before = λ t l. absurd (omega arith); after = λ t l. no_bit size t }
 
 pub noted_row : (size n : ℕ) (step : ℕ → ℕ → Type 0) (rows : List (List ℕ)) (s : ℕ) → HasNotedRows size n step rows s → s < size
     → (row : List ℕ) → ((t : ℕ) → t < n → IsTrue (bit_in row t) ↔ step s t) → HasNotedRows size n step (set rows s row) (s + 1)
@@ -74,9 +38,6 @@ pub record HasGone (old now : List (List ℕ)) (k end : ℕ) : Type 0 where
   pub left : (a t : ℕ) → end ≤ a → has_bit now a t ≡ has_bit old a t
 
 module _ (old : List (List ℕ)) (k : ℕ) where
-  pub gone_none : HasGone old old k 0
-  gone_none = record { long = refl; gone = λ a t l. absurd (omega arith); left = λ a t l. refl }
-
   module _ (now : List (List ℕ)) (s : ℕ) (so_far : HasGone old now k s) where
     pub row_skipped : has_bit now s k ≡ false → HasGone old now k (s + 1)
     row_skipped none = record {

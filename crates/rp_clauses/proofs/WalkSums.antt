@@ -1,7 +1,6 @@
 -- The sum over a walk, step by step.
 use Rattle.std.proofs.Common.{◌≡◌, ℕ, zero, suc, ◌+◌, ◌<◌, ◌≤◌, List, [], ◌∷◌, length, take, slice_index, ◌*◌, ◌^◌, ◌∙◌, ap, arith, add-one, refl, subst, sym}
 use Rattle.std.proofs.lemmas.Int.{ints, to_z-of_z}
-use Rattle.std.proofs.lemmas.List.{take_all}
 use Rattle.std.specs.Int.{w128}
 use Rattle.std.specs.Int.RustNames.{unsigned_abs}
 use Rattle.std.specs.Prelude.{◌+ℤ◌, ℤ, pos}
@@ -44,6 +43,3 @@ sum_kept c walk k s a r within so_far is small fits_r e fits_a =
   where
     abs_sum : (x y : ℤ) → unsigned_abs (x +ℤ y) ≤ unsigned_abs x + unsigned_abs y
     abs_sum x y = omega (arith, ints)
-
-pub whole_sum : (c : ℕ → ℕ → ℕ) (walk : List ℕ) (k : ℕ) (s : ℤ) → length walk ≤ k + 1 → s ≡ walk_sum c (take (k + 1) walk) → s ≡ walk_sum c walk
-whole_sum c walk k s all is = subst (λ w. s ≡ walk_sum c w) (take_all (k + 1) walk all) is

@@ -3,7 +3,7 @@ ghost use Rattle.std.specs.Prelude.{◌+ℤ◌, ◌*ℤ◌, ◌^◌, pos};
 ghost use Rattle.std.specs.Int.RustNames.{unsigned_abs};
 ghost use Rattle.rp_clauses.specs.AfriatFailure.{AfriatFails, InequalitiesFail, NumbersFail};
 ghost use Rattle.rp_clauses.specs.AfriatFailure.{AllowsAt, ModelFails, NumbersFitAt, own_allowed};
-ghost use Rattle.rp_evidence.specs.AfriatEvidence.{AreOneEach, multiplier_in, utility_in};
+ghost use Rattle.rp_evidence.specs.AfriatEvidence.{AreOneEach};
 ghost use Rattle.rp_evidence.specs.StandardNumbers.{FitsMultiplier, FitsUtility};
 ghost use Rattle.rp_table.specs.Cost.{cost_of};
 ghost use Rattle.rp_table.specs.Tables.{records_of};

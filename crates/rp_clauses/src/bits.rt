@@ -1,6 +1,7 @@
 //! Rows of bits: one bit for each observation that a table may have.
 ghost use Rattle.std.specs.Prelude.{◌≡◌, ◌<◌, ◌||◌, ◌==◌, ℕ};
 ghost use Rattle.rp_clauses.specs.InnerBits.{bit_in};
+ghost use Rattle.rp_table.specs.declared.TheConstants.{RECORDS};
 
 use crate::reach::ROOM;
 
@@ -11,7 +12,7 @@ const _: () = prove!(WORDS * 64 == ROOM);
 
 /// Whether bit `t` of the row is set.
 pub fn is_set(row: &[u64; WORDS], t: u32) -> bool
-    requires { t < 512 }
+    requires { t < RECORDS }
     ensures { result ≡ bit_in row.now t }
 {
     (row[(t / 64) as usize] >> (t % 64)) & 1 == 1
@@ -19,7 +20,7 @@ pub fn is_set(row: &[u64; WORDS], t: u32) -> bool
 
 /// Sets bit `t` of the row.
 pub fn set(row: &mut [u64; WORDS], t: u32)
-    requires { t < 512 }
+    requires { t < RECORDS }
     ensures { (b : ℕ) → bit_in row.new b ≡ (bit_in row.old b || (b == t)) }
 {
     let word = row[(t / 64) as usize];

@@ -7,6 +7,7 @@ ghost use Rattle.rp_evidence.specs.Preference.{IsWeak};
 ghost use Rattle.rp_evidence.specs.Welfare.{EqualsOrReaches};
 ghost use Rattle.rp_table.specs.Cost.{cost_of};
 ghost use Rattle.rp_table.specs.Tables.{records_of};
+ghost use Rattle.rp_table.specs.declared.TheConstants.{RECORDS};
 
 use crate::bits::{WORDS, is_set, set, take_in};
 use crate::input::Input;
@@ -32,8 +33,8 @@ impl Closure {
 
     /// Whether `s` is `t`, or some walk with at least one step leads from it to `t`.
     pub fn equals_or_reaches(&self, s: u32, t: u32) -> bool
-        requires from { s < 512 }
-        requires to { t < 512 }
+        requires from { s < RECORDS }
+        requires to { t < RECORDS }
         ensures { (input : TableInput) → IsClosureOf self.now input → s < input.n → t < input.n
             → IsTrue result ↔ EqualsOrReaches input s t }
     {
@@ -42,7 +43,7 @@ impl Closure {
 
     /// The row of what the marked ones of the first `n` observations reach.
     pub fn reached_from(&self, n: u32, marks: &[bool]) -> [u64; WORDS]
-        requires few { n ≤ 512 }
+        requires few { n ≤ RECORDS }
         requires marks { n ≤ length marks.now }
         ensures { (t : ℕ) → IsTrue (bit_in result t)
             ↔ ((s : ℕ) × (s < n) × IsMarked marks.now s × IsTrue (has_bit self.now.rows s t)) }
@@ -84,7 +85,7 @@ fn steps_from(input: &Input<'_>, s: u32) -> [u64; WORDS]
 
 /// From the steps to what they reach: after round `k` a row has what a walk through observations below `k` leads to.
 fn close(n: u32, rows: &mut [[u64; WORDS]; ROOM])
-    requires { n ≤ 512 }
+    requires { n ≤ RECORDS }
     ensures { (s t : ℕ) → s < n → IsTrue (has_bit rows.new s t)
         ↔ ReachesThrough n (λ a b. IsTrue (has_bit rows.old a b)) s t }
 {
@@ -95,7 +96,7 @@ fn close(n: u32, rows: &mut [[u64; WORDS]; ROOM])
 
 /// Each row with bit `k` takes in row `k`.
 fn go_through(n: u32, rows: &mut [[u64; WORDS]; ROOM], k: u32)
-    requires few { n ≤ 512 }
+    requires few { n ≤ RECORDS }
     requires within { k < n }
     ensures { (s t : ℕ) → s < n → has_bit rows.new s t
         ≡ (has_bit rows.old s t || (has_bit rows.old s k && has_bit rows.old k t)) }

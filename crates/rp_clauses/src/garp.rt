@@ -1,4 +1,4 @@
-ghost use Rattle.std.specs.Prelude.{◌≡◌, ◌<◌, ◌≤◌, ◌↔◌, ℕ, IsTrue, length, slice_index};
+ghost use Rattle.std.specs.Prelude.{◌≡◌, ◌<◌, ◌↔◌, IsTrue, length};
 ghost use Rattle.rp_clauses.specs.GarpFailure.{GarpFails, OrderingFails, OrdersAt, RanksFail};
 ghost use Rattle.rp_clauses.specs.GarpFailure.{RespectsAt};
 ghost use Rattle.rp_clauses.specs.Standards.{IsNarrow, StrictUnder, WeakUnder};

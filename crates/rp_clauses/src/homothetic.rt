@@ -1,12 +1,11 @@
-ghost use Rattle.std.specs.Prelude.{◌≡◌, ◌≢◌, ◌+◌, ◌*◌, ◌-◌, ◌<◌, ◌≤◌, ℕ, IfOk, IsErr, IsTrue};
+ghost use Rattle.std.specs.Prelude.{◌≡◌, ◌+◌, ◌*◌, ◌-◌, ◌<◌, ◌≤◌, ℕ, IfOk, IsErr, IsTrue};
 ghost use Rattle.std.specs.Prelude.{◌↔◌, length};
-ghost use Rattle.std.specs.Prelude.{slice_index, take};
+ghost use Rattle.std.specs.Prelude.{slice_index};
 ghost use Rattle.rp_clauses.specs.HomotheticFailure.{AllStepsFail, CycleFails, HomotheticFails};
 ghost use Rattle.rp_clauses.specs.HomotheticFailure.{PositiveFails, ProductsFail, StepFails};
 ghost use Rattle.rp_clauses.specs.HomotheticFailure.{StepsFail};
 ghost use Rattle.rp_clauses.specs.HomotheticFailure.{ValuesFail};
-ghost use Rattle.rp_evidence.specs.Homothetic.{EndsBelow, next_costs, own_costs, value_at};
-ghost use Rattle.rp_num.specs.Fraction.{Fraction, IsLowestTerms, PassesWidth};
+ghost use Rattle.rp_num.specs.Fraction.{IsLowestTerms, PassesWidth};
 ghost use Rattle.rp_table.specs.Cost.{cost_of};
 ghost use Rattle.rp_table.specs.Tables.{records_of};
 

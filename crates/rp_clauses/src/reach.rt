@@ -1,4 +1,4 @@
-ghost use Rattle.std.specs.Prelude.{◌≡◌, ◌<◌, ◌≤◌, ◌↔◌, ◌⊎◌, ℕ, IsTrue, length, take};
+ghost use Rattle.std.specs.Prelude.{◌<◌, ◌≤◌, ◌↔◌, ◌⊎◌, ℕ, IsTrue, length, take};
 ghost use Rattle.rp_evidence.specs.Enumeration.{Enumerates};
 ghost use Rattle.rp_evidence.specs.Input.{input_of_table};
 ghost use Rattle.rp_evidence.specs.Preference.{IsWeak};
@@ -6,6 +6,7 @@ ghost use Rattle.rp_clauses.specs.InnerBits.{IsClosureOf, bit_in};
 ghost use Rattle.rp_clauses.specs.InnerMarks.{AreMarked, IsLedTo, IsMarked};
 ghost use Rattle.rp_table.specs.Cost.{cost_of};
 ghost use Rattle.rp_table.specs.Tables.{records_of};
+ghost use Rattle.rp_table.specs.declared.TheConstants.{RECORDS};
 
 use crate::bits::{WORDS, is_set};
 use crate::closure::Closure;
@@ -32,7 +33,7 @@ pub fn spread(input: &Input<'_>, closure: &Closure, marks: &mut [bool])
 
 /// Marks each of the first `n` observations that has its bit.
 fn mark_bits(n: u32, row: &[u64; WORDS], marks: &mut [bool])
-    requires few { n ≤ 512 }
+    requires few { n ≤ RECORDS }
     requires room { n ≤ length marks.old }
     ensures { (t : ℕ) → t < n → IsMarked marks.new t
         ↔ (IsMarked marks.old t ⊎ IsTrue (bit_in row.now t)) }

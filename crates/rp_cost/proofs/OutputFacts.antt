@@ -2,7 +2,6 @@
 use Rattle.std.proofs.Common.{◌≡◌, ℕ, ◌<◌, ◌≤◌, true, List, length, slice_index, Some, None, Ok, refl, ap, ◌∙◌, subst, arith}
 use Rattle.std.specs.Prelude.{codes, unwrap_or}
 use Rattle.std.specs.List.{All}
-use Rattle.rp_num.specs.Below.{first_of}
 use Rattle.rp_num.specs.Decimal.{decimal_of}
 use Rattle.rp_sheet.specs.ChoiceCounts.{column_named}
 use Rattle.rp_sheet.specs.Columns.{role_of, named_role, role_at}
@@ -11,7 +10,6 @@ use Rattle.rp_sheet.specs.Headers.{has}
 use Rattle.rp_sheet.specs.Sheets.{column_numbers}
 use Rattle.rp_sheet.specs.Sizes.{figure_at, limit_of, sizes_stage}
 use Rattle.rp_sheet.specs.Texts.{number_of, text_at, trimmed}
-use Rattle.rp_sheet.specs.declared.fault.TableFault.{TableFault}
 use Rattle.rp_sheet.specs.declared.form.Form.{Form}
 use Rattle.rp_sheet.specs.declared.form.Marks.{Marks}
 use Rattle.rp_sheet.specs.declared.form.Role.{Role}

@@ -3,32 +3,23 @@
 use Rattle.std.specs.Prelude.{ℕ, List, [], codes, if◌then◌else◌, length, Result}
 use Rattle.rp_num.specs.declared.decimal.Decimal.{Decimal}
 use Rattle.rp_table.specs.Tables.{Observations}
-use Rattle.rp_sheet.specs.Columns.{is_price, mark_of_prices, mark_of_quantities, names_with}
+use Rattle.rp_sheet.specs.Columns.{mark_of_prices}
 use Rattle.rp_sheet.specs.Fields.{figures_of}
 use Rattle.rp_sheet.specs.Forms.{asked_form, technology_form}
 use Rattle.rp_sheet.specs.Headers.{has, headers_of}
 use Rattle.rp_sheet.specs.Records.{records_of}
 use Rattle.rp_sheet.specs.Sheets.{column_numbers, first_fault, numbers_under, unless_fault}
-use Rattle.rp_sheet.specs.Sizes.{places_of, sizes_of}
+use Rattle.rp_sheet.specs.Sizes.{sizes_of}
 use Rattle.rp_sheet.specs.declared.fault.TableFault.{TableFault}
 use Rattle.rp_sheet.specs.declared.form.Marks.TheVariants.{Inputs}
-use Rattle.rp_sheet.specs.declared.form.Role.TheVariants.{Price, Quantity}
+use Rattle.rp_text.specs.Denotation.{priced_table}
 use Rattle.rp_cost.specs.AskedOutputs.{AskedOutputs}
 use Rattle.rp_cost.specs.Technology.{Technology}
 
 -- the table of input prices and inputs. All prices have one scale, that of the output among them, and inputs and
 -- output have one
 unfoldable pub inputs_of : List (List ℕ) → List (List Decimal) → Observations
-inputs_of headers figures = record {
-  names = names_with Inputs is_price headers;
-  prices = numbers_under (mark_of_prices Inputs) headers (names_with Inputs is_price headers)
-      (sizes_of technology_form headers figures);
-  quantities = numbers_under (mark_of_quantities Inputs) headers (names_with Inputs is_price headers)
-      (sizes_of technology_form headers figures);
-  price_places = places_of technology_form headers figures Price;
-  quantity_places = places_of technology_form headers figures Quantity;
-  levels = [];
-}
+inputs_of headers figures = priced_table technology_form headers figures []
 
 -- the prices of the output, in the column p, where there is one
 abbrev pub output_prices : List (List ℕ) → List (List ℕ) → List ℕ

@@ -1,9 +1,8 @@
-ghost use Rattle.std.specs.Prelude.{◌≡◌, ◌≤◌, ◌<◌, ◌+◌, ◌*◌, ◌↔◌, ℕ, IsTrue, IfSome, IsNone};
+ghost use Rattle.std.specs.Prelude.{◌≡◌, ◌<◌, ◌*◌, ◌↔◌, IsTrue, IfSome, IsNone};
 ghost use Rattle.std.specs.Prelude.{length, slice_index};
 ghost use Rattle.rp_evidence.specs.First.{IsFirstOf};
 ghost use Rattle.rp_table.specs.Cost.{cost_of};
 ghost use Rattle.rp_table.specs.Tables.{records_of};
-ghost use Rattle.rp_table.specs.declared.TheConstants.{LARGEST};
 ghost use Rattle.rp_cost.specs.Axioms.{AreFirstBroken, Breaks, MeetsCost, MeetsProfit};
 ghost use Rattle.rp_cost.specs.ProfitAxiom.{profit};
 ghost use Rattle.rp_cost.specs.declared.axioms.Axiom.TheVariants.{Holds};

@@ -1,5 +1,4 @@
 ghost use Rattle.std.specs.Prelude.{◌≡◌, Ok, IfOk, All, codes, length};
-ghost use Rattle.rp_table.specs.Tables.{IsTable};
 ghost use Rattle.rp_sheet.specs.Columns.{is_price, names_with};
 ghost use Rattle.rp_sheet.specs.Forms.{technology_form};
 ghost use Rattle.rp_sheet.specs.Refusals.{RefusedAs};
@@ -8,16 +7,16 @@ ghost use Rattle.rp_sheet.specs.Sizes.{sizes_of};
 ghost use Rattle.rp_sheet.specs.declared.form.Marks.TheVariants.{Inputs};
 ghost use Rattle.rp_table.specs.Limits.{IsPrice, IsQuantity};
 ghost use Rattle.rp_cost.specs.Denotation as Denotation;
-ghost use Rattle.rp_cost.specs.Denotation.{denoted_tech, inputs_of, tech_in, tech_of};
+ghost use Rattle.rp_cost.specs.Denotation.{denoted_tech, tech_in, tech_of};
 ghost use Rattle.rp_cost.specs.Technology.{IsTechnology};
 
 use crate::tech::Tech;
 use rp_num::{Decimal, NoMemory, Seq};
 use rp_sheet::{
-    Columns, Form, Records, Role, TableFault, column_numbers, narrowed, numbers_under, places_of,
-    read_names, read_sheet,
+    Columns, Form, Records, TableFault, column_numbers, narrowed, read_names, read_sheet,
 };
-use rp_table::{Name, RECORDS, Table};
+use rp_table::{Name, RECORDS};
+use rp_text::priced_table;
 use std::alloc::Global;
 
 /// Reads columns `w_NAME` of prices and `x_NAME` of quantities by input, `y` of outputs, possibly `p` of the output's
@@ -62,39 +61,10 @@ fn fill_tech(
     requires within { IsTechnology (tech_of columns.now.headers figures.now) }
     ensures { IfOk result (λ tech. tech ≡ tech_of columns.now.headers figures.now) }
 {
-    let table = fill_inputs(alloc, columns, names, figures, sizes)?;
+    let table = priced_table(alloc, columns, names, figures, sizes, None)?;
     let outputs = outputs(alloc, columns, sizes)?;
     let output_prices = output_prices(alloc, columns, sizes)?;
     Ok(Tech::make(table, outputs, output_prices))
-}
-
-/// The table of input prices and inputs.
-fn fill_inputs(
-    alloc: Global,
-    columns: &Columns<'_>,
-    names: Vec<Name>,
-    figures: &[Seq<Decimal>],
-    sizes: &[Seq<u64>],
-) -> Result<Table, NoMemory>
-    requires of_technologies { columns.now.form ≡ technology_form }
-    requires named { names.items ≡ names_with Inputs is_price columns.now.headers }
-    requires whole { All (λ row. length row ≡ length columns.now.headers) figures.now }
-    requires sized { sizes.now ≡ sizes_of technology_form columns.now.headers figures.now }
-    requires within { IsTable (inputs_of columns.now.headers figures.now) }
-    ensures { IfOk result (λ table. table ≡ inputs_of columns.now.headers figures.now) }
-{
-    let prices = numbers_under(alloc, columns, b"w_", names.as_slice(), sizes)?;
-    let quantities = numbers_under(alloc, columns, b"x_", names.as_slice(), sizes)?;
-    let price_places = places_of(columns, figures, Role::Price) as u8;
-    let quantity_places = places_of(columns, figures, Role::Quantity) as u8;
-    Ok(Table::make(
-        names,
-        prices,
-        quantities,
-        price_places,
-        quantity_places,
-        None,
-    ))
 }
 
 /// The scaled outputs, by record.

@@ -1,7 +1,6 @@
-ghost use Rattle.std.specs.Prelude.{◌≡◌, ◌<◌, ◌≤◌, Option, slice_index, Some};
+ghost use Rattle.std.specs.Prelude.{◌≡◌, ◌<◌, Option, slice_index, Some};
 ghost use Rattle.rp_evidence.specs.Input.{input_of_table};
 ghost use Rattle.rp_table.specs.Spending.{spending};
-ghost use Rattle.rp_table.specs.Tables.{goods_of, quantity_of, records_of};
 ghost use Rattle.rp_cost.specs.CostBounds.{IsUpperGiven};
 ghost use Rattle.rp_cost.specs.InnerCheapest.{cheaper_of};
 

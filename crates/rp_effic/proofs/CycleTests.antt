@@ -1,5 +1,5 @@
 -- At which ratios a closed walk of weak steps exists: from some place on at all, and a closure says it of each.
-use Rattle.std.proofs.Common.{◌↔◌, ◌<◌, ℕ, Option, Some, None, IsTrue, List, length, get_or, refl, sym, ◌∙◌, arith}
+use Rattle.std.proofs.Common.{◌↔◌, ◌<◌, ℕ, Option, Some, None, IsTrue, List, length, get_or, refl, arith}
 use Rattle.std.specs.Option.{is_some}
 use Rattle.std.proofs.lemmas.Bool.{false≢true}
 use Rattle.rp_evidence.specs.First.{IsFirstOf}

@@ -1,5 +1,5 @@
 -- The walk that returns at a level.
-use Rattle.std.proofs.Common.{◌≡◌, ◌≢◌, ◌<◌, ℕ, List, IsTrue, arith}
+use Rattle.std.proofs.Common.{◌≢◌, ◌<◌, ℕ, List, IsTrue, arith}
 use Rattle.rp_evidence.specs.Efficiency.{BoundsFromAbove}
 use Rattle.rp_evidence.specs.Preference.{IsWeak}
 use Rattle.rp_evidence.specs.Walk.{IsShortestWalk}

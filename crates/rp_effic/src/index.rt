@@ -1,4 +1,4 @@
-ghost use Rattle.std.specs.Prelude.{◌<◌, ◌≤◌, ◌^◌, IfOk};
+ghost use Rattle.std.specs.Prelude.{◌<◌, ◌≤◌, IfOk};
 ghost use Rattle.rp_num.specs.Fraction.{IsLowestTerms};
 ghost use Rattle.rp_evidence.specs.Efficiency.{IsEfficiencyIndex};
 ghost use Rattle.rp_table.specs.Cost.{cost_at};

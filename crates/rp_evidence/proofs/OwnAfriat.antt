@@ -15,16 +15,7 @@ use Rattle.rp_evidence.proofs.OwnLevels.{strict_without_levels, weak_without_lev
 use Rattle.rp_evidence.proofs.SameAfriat.{standard_by_same}
 use Rattle.rp_evidence.proofs.SameCosts.{preference_violation_same}
 
--- ---- the comparisons of the level 1
-
-module _ (c : ℕ → ℕ → ℕ) where
-  pub weak_at_one : ComparesWeakly (IsWeak c 1 1) c (spent c)
-  weak_at_one s t = (λ h. omega (arith, h), λ h. omega (arith, h))
-
-  pub strict_at_one : ComparesStrictly (IsStrict c 1 1) c (spent c)
-  strict_at_one s t = (λ h. omega (arith, h), λ h. omega (arith, h))
-
--- ---- those of levels of the observations' own, and what follows
+-- ---- the comparisons of levels of the observations' own, and what follows
 
 module _ (n : ℕ) (levels : List ℕ) (c : ℕ → ℕ → ℕ) where
   pub weak_by_own : ComparesWeakly (WeakByLevels levels c) (in_scale (level_scale levels) c) (own_by_level levels c)

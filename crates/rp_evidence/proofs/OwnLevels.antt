@@ -1,5 +1,5 @@
 -- Observations that are held to levels of their own, or to none.
-use Rattle.std.proofs.Common.{◌≡◌, ◌<◌, ◌≤◌, ◌*◌, ◌↔◌, ℕ, List, [], ◌∷◌, arith, ap, slice_index, sym, subst}
+use Rattle.std.proofs.Common.{◌≡◌, ◌<◌, ◌≤◌, ◌*◌, ◌↔◌, ℕ, List, [], ◌∷◌, arith, ap, slice_index, subst}
 use Rattle.rp_table.specs.OwnLevels.{level_scale, own_by_level}
 use Rattle.rp_evidence.specs.Garp.{ProvesGarp, ProvesOfPreference}
 use Rattle.rp_evidence.specs.Preference.{AgreeBelow, IsStrict, IsWeak, StrictByLevels, WeakByLevels}

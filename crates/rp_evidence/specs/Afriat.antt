@@ -37,9 +37,6 @@ abbrev pub allowed_for_by : (ℕ → ℕ) → (ℕ → ℤ) → (ℕ → ℕ) �
 allowed_for_by own utility multiplier den cost s =
     (pos den *ℤ utility s) +ℤ (pos (multiplier s) *ℤ (pos (cost s) -ℤ pos (den * own s)))
 
-abbrev pub allowed_for : (ℕ → ℕ → ℕ) → (ℕ → ℤ) → (ℕ → ℕ) → ℕ → (ℕ → ℕ) → ℕ → ℤ
-allowed_for c = allowed_for_by (spent c)
-
 -- The utility of a bundle over den, times den: the least that the numbers of an observation allow it.
 pub record IsUtilityBy (n : ℕ) (own : ℕ → ℕ) (utility : ℕ → ℤ) (multiplier : ℕ → ℕ) (den : ℕ) (cost : ℕ → ℕ)
     (value : ℤ) : Type 0 where

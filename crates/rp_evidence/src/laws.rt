@@ -70,8 +70,10 @@ pub fn weak_to_itself()
 
 /// Where the observations have no levels of their own, the preference is that at the level 1.
 pub fn no_levels_are_level_one()
-    ensures weak { (c : ℕ → ℕ → ℕ) (s t : ℕ) → WeakByLevels [] c s t ↔ IsWeak c 1 1 s t }
-    ensures strict { (c : ℕ → ℕ → ℕ) (s t : ℕ) → StrictByLevels [] c s t ↔ IsStrict c 1 1 s t }
+    ensures weak { (c : ℕ → ℕ → ℕ) (s t : ℕ)
+        → WeakByLevels [] c s t ↔ IsWeak c 1 1 s t }
+    ensures strict { (c : ℕ → ℕ → ℕ) (s t : ℕ)
+        → StrictByLevels [] c s t ↔ IsStrict c 1 1 s t }
     ensures garp { (n : ℕ) (c : ℕ → ℕ → ℕ) (verdict : Garp)
         → ProvesOfPreference n (WeakByLevels [] c) (StrictByLevels [] c) verdict
         ↔ ProvesGarp n c verdict }
@@ -79,7 +81,8 @@ pub fn no_levels_are_level_one()
 
 /// What is strictly preferred at a level is weakly preferred at it.
 pub fn strict_is_weak()
-    ensures { (num den s t : ℕ) (c : ℕ → ℕ → ℕ) → IsStrict c num den s t → IsWeak c num den s t }
+    ensures { (num den s t : ℕ) (c : ℕ → ℕ → ℕ)
+        → IsStrict c num den s t → IsWeak c num den s t }
 {}
 
 /// A walk of weak steps and a strict step, which is a weak one too, from its end back to its beginning make a

@@ -36,9 +36,6 @@ times_assoc a b c =
 pub turn : (a b c : ℤ) → (a *ℤ b) *ℤ c ≡ (a *ℤ c) *ℤ b
 turn a b c = times_assoc a b c ∙ ap (λ z. a *ℤ z) (times_comm b c) ∙ sym (times_assoc a c b)
 
-pub le_trans : (a b c : ℤ) → a ≤ℤ b → b ≤ℤ c → a ≤ℤ c
-le_trans a b c h k = omega (arith, ints)
-
 -- a lesser and a greater number, times the same natural
 pub times_mono : (x y : ℤ) (k : ℕ) → x ≤ℤ y → (x *ℤ pos k) ≤ℤ (y *ℤ pos k)
 times_mono x y k h =

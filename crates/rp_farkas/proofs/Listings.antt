@@ -87,12 +87,6 @@ listing_from cols low (e ∷ es) h =
 pub drop-here : {X : Type 0} (xs : List X) (i : ℕ) (d : X) → i < length xs → drop i xs ≡ get_or xs i d ∷ drop (i + 1) xs
 drop-here xs i d l = rw add-one (drop-cons xs i d l)
 
-pub ListedFrom-step : (low cols : ℕ) (es : List Entry) (i : ℕ) (d : Entry) → i < length es → ListedFrom low cols (drop i es) → ListedFrom ((get_or es i d).at + 1) cols (drop (i + 1) es)
-ListedFrom-step low cols es i d l h = (subst (ListedFrom low cols) (drop-here es i d l) h).4
-
-pub ListedFrom-back : (low cols : ℕ) (es : List Entry) (i : ℕ) (d : Entry) → i < length es → low ≤ (get_or es i d).at → (get_or es i d).at < cols → 0 < (get_or es i d).value → (get_or es i d).value < 2 ^ 63 → ListedFrom ((get_or es i d).at + 1) cols (drop (i + 1) es) → ListedFrom low cols (drop i es)
-ListedFrom-back low cols es i d l h1 h2 h3 h4 rest = subst (ListedFrom low cols) (sym (drop-here es i d l)) (h1, h2, h3, h4, rest)
-
 pub ListedFrom-here : (low cols : ℕ) (es : List Entry) (i : ℕ) (d : Entry) → i < length es → ListedFrom low cols (drop i es) → (low ≤ (get_or es i d).at) × ((get_or es i d).at < cols) × (0 < (get_or es i d).value) × ((get_or es i d).value < 2 ^ 63)
 ListedFrom-here low cols es i d l h = let m = subst (ListedFrom low cols) (drop-here es i d l) h in (m.0, m.1, m.2, m.3)
 

@@ -1,4 +1,4 @@
-ghost use Rattle.std.specs.Prelude.{◌≡◌, ◌↔◌, IsTrue, All};
+ghost use Rattle.std.specs.Prelude.{◌↔◌, IsTrue, All};
 ghost use Rattle.rp_farkas.specs.Limits.{FitsEvidence};
 ghost use Rattle.rp_farkas.specs.Listing.{IsListing};
 

@@ -8,7 +8,7 @@ use Rattle.rp_evidence.proofs.OwnLevels.{garp_without_levels, strict_by_levels_s
 use Rattle.rp_evidence.proofs.SameCosts.{strict_same, weak_same}
 use Rattle.rp_pref.proofs.SameVerdicts.{first_or_none_same, verdict_on_same}
 use Rattle.rp_pref.specs.Violation.{IsVerdictOn}
-use Rattle.rp_garp.specs.Pairs.{Contradict, IsOwnPairs, IsPairs}
+use Rattle.rp_garp.specs.Pairs.{Contradict, IsOwnPairs}
 use Rattle.rp_garp.specs.Verdict.{IsGarpVerdict, IsOwnGarpVerdict}
 
 module _ (n : ℕ) (weak strict weak' strict' : ℕ → ℕ → Type 0) (weak_is : (s t : ℕ) → s < n → t < n → weak s t ↔ weak' s t) (strict_is : (s t : ℕ) → s < n → t < n → strict s t ↔ strict' s t) where
@@ -30,11 +30,6 @@ module _ (n : ℕ) (c d : ℕ → ℕ → ℕ) (same : AgreeBelow n c d) where
       verdict_on_same n (WeakByLevels levels c) (StrictByLevels levels c) (WeakByLevels levels d) (StrictByLevels levels d)
       (weak_by_levels_same n levels c d same) (strict_by_levels_same n levels c d same)
 
-  pub pairs_same : (found : Option (ℕ × ℕ)) → IsPairs n c found → IsPairs n d found
-  pairs_same =
-      first_or_none_same n (Contradict (IsWeak c 1 1) (IsStrict c 1 1)) (Contradict (IsWeak d 1 1) (IsStrict d 1 1))
-      (contradict_same n (IsWeak c 1 1) (IsStrict c 1 1) (IsWeak d 1 1) (IsStrict d 1 1) (weak_same n c d 1 1 same) (strict_same n c d 1 1 same))
-
   pub own_pairs_same : (levels : List ℕ) (found : Option (ℕ × ℕ)) → IsOwnPairs n levels c found → IsOwnPairs n levels d found
   own_pairs_same levels =
       first_or_none_same n (Contradict (WeakByLevels levels c) (StrictByLevels levels c)) (Contradict (WeakByLevels levels d) (StrictByLevels levels d))
@@ -53,10 +48,3 @@ module _ (n : ℕ) (levels : List ℕ) (c : ℕ → ℕ → ℕ) (none : levels 
       verdict_on_same n (WeakByLevels [] c) (StrictByLevels [] c) (IsWeak c 1 1) (IsStrict c 1 1)
       (λ s t a b. weak_without_levels c s t) (λ s t a b. strict_without_levels c s t)
       verdict (subst (λ l. IsVerdictOn n (WeakByLevels l c) (StrictByLevels l c) verdict) none given)
-
-  pub pairs_at_one : (found : Option (ℕ × ℕ)) → IsOwnPairs n levels c found → IsPairs n c found
-  pairs_at_one found is =
-      first_or_none_same n (Contradict (WeakByLevels [] c) (StrictByLevels [] c)) (Contradict (IsWeak c 1 1) (IsStrict c 1 1))
-      (contradict_same n (WeakByLevels [] c) (StrictByLevels [] c) (IsWeak c 1 1) (IsStrict c 1 1)
-      (λ s t a b. weak_without_levels c s t) (λ s t a b. strict_without_levels c s t))
-      found (subst (λ l. IsOwnPairs n l c found) none is)

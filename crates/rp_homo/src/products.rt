@@ -1,4 +1,4 @@
-ghost use Rattle.std.specs.Prelude.{◌≡◌, ◌<◌, ◌≤◌, ◌*◌, ◌^◌, IfSome};
+ghost use Rattle.std.specs.Prelude.{◌≡◌, ◌<◌, ◌*◌, ◌^◌, IfSome};
 ghost use Rattle.rp_num.specs.Fraction.{FitsPart};
 
 use rp_num::{FRACTION_WIDTH, Frac, Wide, cmp_products};

@@ -70,20 +70,6 @@ abbrev value_in : Members → Data
 value_in no_members = null
 value_in (member name d ms) = d
 
--- four members, of which the third is no list of levels
-pub not_with_levels : (ms : Members) (ds : List Data) → AreNamed four_names ms ds → AreThirdBy ds None → (levels : List ℕ) (items : List Data)
-    → FitLevels Table 2 levels → object ms ≢ top_value Table 2 levels items
-not_with_levels ms ds is none levels items (inl (v, l)) e = omega (arith, v)
-not_with_levels ms [] is none levels items (inr (v, table, some)) e = absurd (omega (arith, is.0))
-not_with_levels ms (a ∷ []) is none levels items (inr (v, table, some)) e = absurd (omega (arith, is.0))
-not_with_levels ms (a ∷ b ∷ []) is none levels items (inr (v, table, some)) e = absurd (omega (arith, is.0))
-not_with_levels ms (a ∷ b ∷ c ∷ []) is none levels items (inr (v, table, some)) e = absurd (omega (arith, is.0))
-not_with_levels ms (a ∷ b ∷ c ∷ d ∷ x ∷ ds) is none levels items (inr (v, table, some)) e = absurd (omega (arith, is.0))
-not_with_levels ms (a ∷ b ∷ c ∷ d ∷ []) is none levels items (inr (v, table, some)) e =
-    let members = is.1 ∙ same_object _ _ e in
-    let third : c ≡ counts_value levels = ap (λ m. value_in (others_in (others_in m))) members in
-    none levels a b d some (λ i. a ∷ b ∷ third i ∷ d ∷ [])
-
 -- other members
 pub no_four_members : (ms : Members) → ((ds : List Data) → ¬ AreNamed four_names ms ds) → (levels : List ℕ) (items : List Data)
     → FitLevels Table 2 levels → object ms ≢ top_value Table 2 levels items
@@ -204,18 +190,6 @@ no_levels kind d version values top known none = (shape, other)
 pub levels_of_object : {E : Type 0} (kind : Kind) (version : ℕ) (d : Data) (ms : Members) (r : Result (Option (List ℕ)) E) → Some ms ≡ as_object d
     → IfOk r (λ o. AreLevelsBy kind version (object ms) o) → IfOk r (λ o. AreLevelsBy kind version d o)
 levels_of_object kind version d ms r at read = subst (λ x. IfOk r (λ o. AreLevelsBy kind version x o)) (sym (is_object d ms at)) read
-
-pub levels_of_no_object : (kind : Kind) (version : ℕ) (d : Data) → None ≡ as_object d → AreLevelsBy kind version d None
-levels_of_no_object kind version d at levels items fit e =
-    none_some _ (at ∙ ap as_object e)
-  where
-    none_some : (ms : Members) → None ≡ Some ms → ⊥
-    none_some ms p = absurd cc
-
--- a version or a kind that has no levels
-pub other_levels : (kind : Kind) (version : ℕ) (d : Data) → (version ≡ 1 → ⊥) → (version ≡ 2 → kind ≡ Table → ⊥) → AreLevelsBy kind version d None
-other_levels kind version d not1 not2 levels items (inl (v, l)) e = not1 v
-other_levels kind version d not1 not2 levels items (inr (v, table, some)) e = not2 v table
 
 -- ---- the third of four values
 

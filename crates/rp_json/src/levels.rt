@@ -1,4 +1,4 @@
-ghost use Rattle.std.specs.Prelude.{◌≡◌, ◌≢◌, IfOk};
+ghost use Rattle.std.specs.Prelude.{IfOk};
 ghost use Rattle.serde_json.specs.View.{view};
 ghost use Rattle.rp_table.specs.OwnLevels.{IsOwnLevel};
 ghost use Rattle.rp_json.specs.Denoted.{AreSomeLevels};

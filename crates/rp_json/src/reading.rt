@@ -1,4 +1,4 @@
-ghost use Rattle.std.specs.Prelude.{◌≡◌, ◌≢◌, ℕ, List, [], IfOk, MatchOption, MatchResult, Some, map};
+ghost use Rattle.std.specs.Prelude.{◌≡◌, ◌≢◌, ℕ, List, [], IfOk, MatchOption, Some, map};
 ghost use Rattle.rp_evidence.specs.declared.certificate.Kind.{Kind};
 ghost use Rattle.serde_json.specs.Data.{Data, array, number, object, string, unsigned};
 ghost use Rattle.serde_json.specs.Find.{get};

@@ -33,9 +33,6 @@ abbrev others_in : Members → Members
 others_in no_members = no_members
 others_in (member key d ms) = ms
 
-pub none_seen : (names : List (List ℕ)) (all : Members) → AreSeen names all all []
-none_seen names all = record { few = omega arith; split = refl }
-
 last_put : (names : List (List ℕ)) (ds : List Data) (name : List ℕ) (d : Data) (ms : Members) → length names ≡ length ds
     → put_before (names ++ name ∷ []) (ds ++ d ∷ []) ms ≡ put_before names ds (member name d ms)
 last_put [] [] name d ms e = refl
@@ -168,10 +165,6 @@ abbrev first_in : List Data → Data
 first_in [] = null
 first_in (d ∷ ds) = d
 
-abbrev rest_in : List Data → List Data
-rest_in [] = []
-rest_in (d ∷ ds) = ds
-
 -- one name each: the values are the same where the members are
 pub same_named : (names : List (List ℕ)) (ds es : List Data) → length ds ≡ length names → length es ≡ length names → named names ds ≡ named names es → ds ≡ es
 same_named [] [] [] a b e = refl
@@ -198,12 +191,6 @@ if_object listed fit names d ms ds (Ok (Some x)) one at is read =
 if_object listed fit names d ms ds (Ok None) one at is read = λ y h e.
     let whole : object (named names ds) ≡ d = ap object is.1 ∙ sym (is_object d ms at) in
     read y h (same_named names (listed y) ds (one y) is.0 (same_object _ _ (e ∙ sym whole)))
-
--- members of these names have no values, so no entry has them
-pub no_object : {X : Type 0} (listed : X → List Data) (fit : X → Type 0) (names : List (List ℕ)) (d : Data) (ms : Members)
-    → ((x : X) → length (listed x) ≡ length names) → Some ms ≡ as_object d → ((ds : List Data) → ¬ AreNamed names ms ds)
-    → (x : X) → fit x → object (named names (listed x)) ≢ d
-no_object listed fit names d ms one at none x h e = none (listed x) (one x, same_object _ _ (e ∙ is_object d ms at))
 
 -- what is read of the values is what is read of their array
 pub if_items : {X E : Type 0} (listed : X → List Data) (fit : X → Type 0) (d : Data) (ds : List Data) (r : Result (Option X) E)

@@ -1,4 +1,4 @@
-ghost use Rattle.std.specs.Prelude.{◌≡◌, List, [], ◌∷◌, IfOk, ⊤};
+ghost use Rattle.std.specs.Prelude.{List, [], ◌∷◌, IfOk, ⊤};
 ghost use Rattle.serde_json.specs.Data.{Data};
 ghost use Rattle.rp_notation.specs.InnerMembers.{views};
 ghost use Rattle.rp_notation.specs.Reading.{AreRead};

@@ -2,7 +2,7 @@ ghost use Rattle.std.specs.Prelude.{◌≡◌, IfOk};
 ghost use Rattle.rp_num.specs.Fraction.{Fraction};
 ghost use Rattle.rp_num.specs.Spelled.{FitsSum, IsReduced};
 ghost use Rattle.serde_json.specs.View.{view};
-ghost use Rattle.rp_notation.specs.Reading.{FitsCount, FitsLong, FitsObservation, IsRead};
+ghost use Rattle.rp_notation.specs.Reading.{FitsCount, FitsLong, FitsObservation};
 ghost use Rattle.rp_notation.specs.Values.{count_value, fraction_value, natural_value};
 ghost use Rattle.rp_notation.specs.Values.{observation_value, signed_value};
 

@@ -7,7 +7,6 @@ use Rattle.std.specs.Prelude.{FitsSigned}
 use Rattle.std.proofs.lemmas.Str.Parse.{numerals_by_value, tells_digits, parse_signed_digits, parse_signed_minus}
 use Rattle.std.proofs.lemmas.Result.{Ok-from_Ok_iff}
 use lib.IntN.{neg_ℤ}
-use lib.Signed.{mag}
 use Rattle.std.proofs.lemmas.Fmt.{parse-decimal_wide, decimal_is_IsNumeral_wide}
 use Rattle.rp_num.specs.Spelled.{FitsSum, FitsWhole, IsSpelled}
 

@@ -1,4 +1,4 @@
-ghost use Rattle.std.specs.Prelude.{◌≡◌, ℕ, ◌*◌, ◌/◌, ◌^◌, ◌<◌, ◌≤◌, ◌↔◌, IfOk, OnErr, IsErr};
+ghost use Rattle.std.specs.Prelude.{◌≡◌, ◌*◌, ◌/◌, ◌<◌, ◌≤◌, ◌↔◌, IfOk, OnErr, IsErr};
 ghost use Rattle.rp_num.specs.Fraction.{FitsPart, Fraction, IsLowestTerms, FitsWidth, PassesWidth};
 ghost use Rattle.rp_num.specs.Fraction.{fraction_cmp};
 

@@ -1,6 +1,6 @@
 //! Laws over fractions that the crates above cite. Each function is empty: its contract is the law.
 ghost use Rattle.std.specs.Prelude.{◌≡◌, ℕ, ◌≤◌, ◌↔◌};
-ghost use Rattle.rp_num.specs.Fraction.{Fraction, IsCoprime, IsLowestTerms, FitsWidth, PassesWidth};
+ghost use Rattle.rp_num.specs.Fraction.{Fraction, IsLowestTerms, FitsWidth, PassesWidth};
 ghost use Rattle.rp_num.specs.Fraction.{SameNumber};
 
 /// Each fraction with a positive denominator has lowest terms, and only one.

@@ -1,12 +1,12 @@
 -- Turns of the loops over digits, letters and lists.
-use Rattle.std.proofs.Common.{◌≡◌, ◌≢◌, ◌<◌, ◌≤◌, ◌+◌, ◌-◌, ◌*◌, ◌/◌, ◌%◌, ◌^◌, ◌==◌, ◌&&◌, ◌++◌, add-one, inl, inr, ℕ, zero, suc, Bool, true, false, not, nat_lt, List, [], ◌∷◌, Contains, length, length-append, drop, take, set, slice_index, refl, sym, ap, subst, ◌∙◌, arith, lit≤}
+use Rattle.std.proofs.Common.{◌≡◌, ◌≢◌, ◌<◌, ◌≤◌, ◌+◌, ◌-◌, ◌*◌, ◌^◌, ◌==◌, ◌&&◌, ◌++◌, add-one, inl, inr, ℕ, zero, suc, Bool, true, false, not, nat_lt, List, [], ◌∷◌, Contains, length, length-append, drop, take, set, slice_index, refl, sym, ap, subst, ◌∙◌, arith, lit≤}
 use Rattle.std.specs.Cmp.Lexicographic.{slice_cmp}
 use Rattle.std.specs.List.{AllByRecursion}
 use Rattle.std.specs.List.Sorted.{IsStrictlySortedBy}
 use Rattle.std.specs.Ordering.{nat_cmp}
 use Rattle.std.specs.declared.cmp.Ordering.TheVariants.{Less}
 use Rattle.std.proofs.lemmas.Bool.{cases_eq, cases_lt, eq-eqb, ltb-true, ne_eqb}
-use Rattle.std.proofs.lemmas.List.{append_assoc, map_push}
+use Rattle.std.proofs.lemmas.List.{map_push}
 use Rattle.std.proofs.lemmas.List.Elements.{Contains-append_left, Contains-push, Contains-push_cases}
 use Rattle.rp_num.proofs.BelowLemmas.{get-listed, length-listed}
 use Rattle.rp_table.specs.Sums.{sum_below}
@@ -42,17 +42,6 @@ small_power n some few = elim (cases_eq n 6) [
 ]
 
 -- ---- digits that are written from the last on
-
-drop_set : (xs : List ℕ) (m v : ℕ) → m < length xs → drop m (set xs m v) ≡ v ∷ drop (suc m) xs
-drop_set [] m v l = absurd (omega (arith, l))
-drop_set (x ∷ xs) zero v l = refl
-drop_set (x ∷ xs) (suc m) v l = drop_set xs m v (omega (arith, l))
-
-pub digit_written : (base m rest : ℕ) (places : List ℕ) → m < length places
-    → digits base m (rest / base) ++ drop m (set places m (rest % base)) ≡ digits base (suc m) rest ++ drop (suc m) places
-digit_written base m rest places l =
-    ap (λ xs. digits base m (rest / base) ++ xs) (drop_set places m (rest % base) l)
-    ∙ sym (append_assoc (digits base m (rest / base)) (rest % base ∷ []) (drop (suc m) places))
 
 -- ---- the list of orders
 

@@ -55,11 +55,3 @@ abbrev pub IsGreatestOrderMixture : MenuList → Units → ℕ → List Share �
 IsGreatestOrderMixture list units den parts =
     (d : ℕ) (other : List Share) → IsPartialOrderMixture list units d other
     → weight_of other * den ≤ weight_of parts * d
-
--- num/den is the greatest share: the greatest sum of a partial mixture, as a part of the total.
-pub record IsGreatestOrderShare (list : MenuList) (units : Units) (num den : ℕ) : Type 0 where
-  pub fraction : 0 < den
-  pub reached : (d : ℕ) × (parts : List Share) × IsPartialOrderMixture list units d parts
-      × (weight_of parts * den ≡ num * (d * units.total))
-  pub no_greater : (d : ℕ) (parts : List Share) → IsPartialOrderMixture list units d parts
-      → weight_of parts * den ≤ num * (d * units.total)

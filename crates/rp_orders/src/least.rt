@@ -1,5 +1,5 @@
 //! The least of the sums over menus (after Block and Marschak 1960).
-ghost use Rattle.std.specs.Prelude.{◌≡◌, ◌≤◌, ◌<◌, ◌^◌, ◌+◌};
+ghost use Rattle.std.specs.Prelude.{◌≡◌, ◌<◌, ◌^◌, ◌+◌};
 ghost use Rattle.rp_orders.specs.InnerLeast.{IsLeastBefore};
 ghost use Rattle.rp_orders.specs.LeastSums.{IsLeastSum};
 ghost use Rattle.rp_orders.specs.MenuSums.{AreComplete, sum_at};

@@ -1,5 +1,5 @@
 //! What an order picks from menus, and the cells that it picks.
-ghost use Rattle.std.specs.Prelude.{◌≡◌, ◌<◌, ◌≤◌, ◌^◌, ◌↔◌, IsTrue, length, slice_index};
+ghost use Rattle.std.specs.Prelude.{◌≡◌, ◌<◌, ◌≤◌, ◌^◌, ◌↔◌, IsTrue, length};
 ghost use Rattle.rp_menu.specs.MenuLists.{has_letter as has};
 ghost use Rattle.rp_menu.specs.declared.TheConstants.{LETTERS};
 ghost use Rattle.rp_orders.specs.OrderKinds.{PicksCells, cell_of as cell_of_letter, cells_picked};

@@ -1,9 +1,7 @@
 //! The report on choices from menus.
 ghost use Rattle.std.specs.Prelude.{◌≡◌, ◌≤◌, ◌<◌, ◌*◌, ◌^◌, ◌++◌, All, IfOk, List, OnOk, ℕ, length};
 ghost use Rattle.rp_menu.specs.declared.TheConstants.{LETTERS};
-ghost use Rattle.rp_orders.specs.LeastSums.{IsLeastSum};
 ghost use Rattle.rp_orders.specs.MenuEvidence.{PassesMenus};
-ghost use Rattle.rp_orders.specs.MenuSums.{AreComplete};
 ghost use Rattle.rp_orders.specs.OrderKinds.{orders_over};
 ghost use Rattle.rp_orders.specs.OrderMixtures.{AreUnitsOf};
 ghost use Rattle.rp_orders.specs.Report.{IsMenusReport, IsSumsText, counts_text, evidence_text};

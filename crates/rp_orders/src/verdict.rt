@@ -4,9 +4,9 @@ ghost use Rattle.rp_orders.specs.OrderMixtures.{AreUnitsOf};
 
 use crate::listed::ListedOrders;
 use crate::orders::all_orders;
-use rp_blend::mixture;
 use rp_evidence::RandomPart;
 use rp_menu::Menus;
+use rp_mixture_program::mixture;
 use rp_num::NoMemory;
 use rp_patch::apportionment::Units;
 use std::alloc::Global;

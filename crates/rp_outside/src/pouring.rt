@@ -1,4 +1,4 @@
-ghost use Rattle.std.specs.Prelude.{◌≡◌, ◌+◌, ◌<◌, ◌≤◌, OnErr, OnOk, length};
+ghost use Rattle.std.specs.Prelude.{◌+◌, ◌<◌, ◌≤◌, OnErr, OnOk, length};
 ghost use Rattle.rp_outside.specs.Faults.{HasRisen};
 ghost use Rattle.rp_outside.specs.Known.{FallsShort, Grows, GrowsByPrefix};
 

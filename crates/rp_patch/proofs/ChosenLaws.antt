@@ -3,13 +3,12 @@ use Rattle.std.proofs.Common.{◌≡◌, ℕ, zero, suc, ◌+◌, ◌-◌, ◌<�
 use Rattle.std.specs.Cmp.Lexicographic.{pointwise}
 use Rattle.std.specs.Ordering.{int_eq}
 use Rattle.std.proofs.lemmas.Bool.{cases_eq, eq-eqb, ne_eqb}
-use Rattle.std.proofs.lemmas.List.{get_or_append_left, get_or-append_right, get_or_read}
+use Rattle.std.proofs.lemmas.List.{get_or_append_left, get_or-append_right}
 use Rattle.std.proofs.lemmas.List.Elements.{All-append, All-cons, All-map, All-nil}
 use Rattle.std.proofs.lemmas.List.FromFn.{length-map-range_with_len}
 use Rattle.std.proofs.lemmas.List.Sums.{sum_by-append, sum_by-cons}
 use Rattle.rp_table.specs.Sums.{sum_below}
 use Rattle.rp_table.proofs.SumsBelow.{sum_below-same}
-use Rattle.rp_patch.proofs.Sums.{sum_at_least}
 use Rattle.rp_patch.specs.Choices.{RandomInput, times_on}
 use Rattle.rp_patch.specs.Signs.{signs_of}
 use Rattle.rp_patch.specs.Units.{all_chosen, chosen_as, chosen_at, chosen_below, counted, tally_by, tally_on}
@@ -191,24 +190,3 @@ chosen_signs input i within = (below input input.budgets i no_one within).1
 
 pub chosen_rising : (input : RandomInput) (h i : ℕ) → h ≤ i → i < length (all_chosen input) → (chosen_at (all_chosen input) h).budget ≤ (chosen_at (all_chosen input) i).budget
 chosen_rising input h i le within = rising input input.budgets h i le within
-
--- what fell in one of them is a part of all choices on its budget
-pub chosen_times : (input : RandomInput) (i : ℕ) → i < length (all_chosen input)
-    → (chosen_at (all_chosen input) i).times ≤ times_on input (chosen_at (all_chosen input) i).budget
-chosen_times input i within =
-    let xs = all_chosen input in
-    let j = (chosen_at xs i).budget in
-    let least = sum_at_least (λ k. times_if j (chosen_at xs k)) (length xs) i within in
-    let here : times_if j (chosen_at xs i) ≡ (chosen_at xs i).times = ap (λ b. if b then (chosen_at xs i).times else 0) (eq-eqb j j refl) in
-    omega (arith, least, here, chosen_total input j (chosen_budget input i within))
-
--- the same of one that was read
-pub read_budget : (input : RandomInput) (xs : List Chosen) (i : ℕ) (one : Chosen) → xs ≡ all_chosen input → i < length xs → one ≡ get_or xs i one → one.budget < input.budgets
-read_budget input xs i one all within is =
-    let here = get_or_read xs i one within is no_one in
-    rw here (subst (λ (ys : List Chosen). i < length ys → (chosen_at ys i).budget < input.budgets) (sym all) (chosen_budget input i) within)
-
-pub read_times : (input : RandomInput) (xs : List Chosen) (i : ℕ) (one : Chosen) → xs ≡ all_chosen input → i < length xs → one ≡ get_or xs i one → one.times ≤ times_on input one.budget
-read_times input xs i one all within is =
-    let here = get_or_read xs i one within is no_one in
-    rw here (subst (λ (ys : List Chosen). i < length ys → (chosen_at ys i).times ≤ times_on input (chosen_at ys i).budget) (sym all) (chosen_times input i) within)

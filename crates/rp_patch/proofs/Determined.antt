@@ -72,7 +72,8 @@ module _ (g : GroupedCounts) (inside : (i : ℕ) → i < g.places → g.group i 
   above_zero zero m divides positive = absurd (omega (arith, eq-zero_of_zero-dvd divides, positive))
   above_zero (suc t) m divides positive = omega arith
 
-  same_all : (asked : Option ℕ) (all every : ℕ) (units others : ℕ → ℕ) → HasShares g asked all units → HasShares g asked every others → all ≡ every
+  -- one total
+  pub same_all : (asked : Option ℕ) (all every : ℕ) (units others : ℕ → ℕ) → HasShares g asked all units → HasShares g asked every others → all ≡ every
   same_all None all every units others a b =
       let first : HasExactShares g all units = a in
       let second : HasExactShares g every others = b in
@@ -92,7 +93,8 @@ module _ (g : GroupedCounts) (inside : (i : ℕ) → i < g.places → g.group i 
   same_under (Some unit) all units others a b i within =
       same_shares g.places g.group (whole_of g all) (rest_of g all) all units others (shared unit all units a) (shared unit all others b) i within
 
-  same_units : (asked : Option ℕ) (all every : ℕ) (units others : ℕ → ℕ) → HasShares g asked all units → HasShares g asked every others
+  -- one number of units of each place
+  pub same_units : (asked : Option ℕ) (all every : ℕ) (units others : ℕ → ℕ) → HasShares g asked all units → HasShares g asked every others
       → (i : ℕ) → i < g.places → units i ≡ others i
   same_units asked all every units others a b i within =
       same_under asked all units others a (subst (λ n. HasShares g asked n others) (sym (same_all asked all every units others a b)) b) i within

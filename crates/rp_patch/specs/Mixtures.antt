@@ -3,7 +3,7 @@
 use Rattle.std.specs.Prelude.{◌≡◌, ◌<◌, ◌≤◌, ◌*◌, ℕ, List, length}
 use Rattle.rp_evidence.specs.declared.random.Share.{Share}
 use Rattle.rp_farkas.specs.LinearProgram.{LinearProgram}
-use Rattle.rp_patch.specs.Kinds.{HasMixtureOf, IsGreatestMixtureOf, IsMixtureOf, IsPartialMixtureOf, Kinds}
+use Rattle.rp_patch.specs.Kinds.{HasMixtureOf, IsMixtureOf, IsPartialMixtureOf, Kinds}
 use Rattle.rp_patch.specs.Kinds.{all_units_weight, program_of, weight_of}
 use Rattle.rp_patch.specs.Patches.{PatchList, budget_at, units_at}
 use Rattle.rp_patch.specs.Types.{IsRationalType, IsType}
@@ -33,10 +33,6 @@ IsMixture p = IsMixtureOf (types_on p)
 -- Some mixture of rational types makes the choices.
 abbrev pub HasMixture : PatchList → Type 0
 HasMixture p = HasMixtureOf (types_on p)
-
--- No partial mixture has more of the total.
-abbrev pub IsGreatestMixture : PatchList → ℕ → List Share → Type 0
-IsGreatestMixture p = IsGreatestMixtureOf (types_on p)
 
 -- num/den is the greatest rational share: the greatest sum of a partial mixture, as a part of the total.
 pub record IsGreatestShare (p : PatchList) (num den : ℕ) : Type 0 where

@@ -11,21 +11,9 @@ use Rattle.rp_evidence.specs.declared.failure.Reason.TheVariants.{Units}
 use Rattle.rp_evidence.specs.declared.random.RandomPart.{RandomPart}
 use Rattle.rp_evidence.specs.declared.random.Share.{Share}
 use Rattle.rp_patch.specs.Clauses.{Finding, InOrder, Unless}
-use Rattle.rp_patch.specs.KindFailure.{EvidenceFailsOf, MixtureFailsOf, PartFailsOf, PartsFailOf, ViolationFailsOf}
+use Rattle.rp_patch.specs.KindFailure.{EvidenceFailsOf, ViolationFailsOf}
 use Rattle.rp_patch.specs.Mixtures.{types_on}
 use Rattle.rp_patch.specs.Patches.{PatchList}
-
--- Part n: a patch of each budget, some weight, a rational type, and in order.
-abbrev pub PartFails : PatchList → List Share → ℕ → Finding
-PartFails p = PartFailsOf (types_on p)
-
--- The parts, each in turn.
-abbrev pub PartsFail : PatchList → List Share → Finding
-PartsFail p = PartsFailOf (types_on p)
-
--- A mixture: each patch gets just its units.
-abbrev pub MixtureFails : PatchList → ℕ → List Share → Finding
-MixtureFails p = MixtureFailsOf (types_on p)
 
 -- A violation: a weight of each patch; no patch gets more than its units; every rational type weighs at least the
 -- denominator; the parts have as much as the units weigh; and that is less than the total.

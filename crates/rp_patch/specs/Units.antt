@@ -8,7 +8,7 @@ use Rattle.rp_patch.specs.declared.fault.PatchFault.{PatchFault}
 use Rattle.rp_patch.specs.declared.fault.PatchFault.TheVariants.{TooManyPatches, NeedUnit, NoMemory}
 use Rattle.rp_patch.specs.declared.chosen.Chosen.{Chosen}
 use Rattle.rp_patch.specs.Apportionment.{GroupedCounts, HasExactShares, HasShares, IsCommonMultiple}
-use Rattle.rp_patch.specs.Apportionment.{IsLeastCommonMultiple, PassesTotalAt}
+use Rattle.rp_patch.specs.Apportionment.{PassesTotalAt}
 use Rattle.rp_patch.specs.Choices.{RandomInput}
 use Rattle.rp_patch.specs.Patches.{PatchList, budget_at, patch_at, units_at}
 use Rattle.rp_patch.specs.Signs.{signs_of}
@@ -60,9 +60,6 @@ chosen_counts input = record {
 -- Multiples of what was chosen on the first budgets, and units of patches: those of these counts.
 abbrev pub IsMultiple : RandomInput → ℕ → ℕ → Type 0
 IsMultiple input budgets m = IsCommonMultiple (chosen_counts input) budgets m
-
-abbrev pub IsLeastMultiple : RandomInput → ℕ → ℕ → Type 0
-IsLeastMultiple input budgets m = IsLeastCommonMultiple (chosen_counts input) budgets m
 
 abbrev pub HasExactUnits : RandomInput → PatchList → Type 0
 HasExactUnits input p = HasExactShares (chosen_counts input) p.total (units_at p)

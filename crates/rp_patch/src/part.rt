@@ -127,7 +127,8 @@ impl Part {
     fn from_next(&self, patches: &Patches) -> u64
         requires part { IsTaken patches.now self.now }
         requires next { self.now.taken < patches.now.budgets }
-        ensures { (t : ℕ) → Has result t ↔ ((t ≡ self.now.taken) ⊎ ((j : ℕ) × (j < self.now.taken)
+        ensures { (t : ℕ) → Has result t ↔ ((t ≡ self.now.taken)
+            ⊎ ((j : ℕ) × (j < self.now.taken)
             × IsWeakBy patches.now (taken_in self.now) self.now.taken j
             × Has (slice_index self.now.reached j) t)) }
     {

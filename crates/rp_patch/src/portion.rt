@@ -1,5 +1,5 @@
 //! How the units of a total are shared out among the places of each group.
-ghost use Rattle.std.specs.Prelude.{◌≡◌, ◌<◌, ◌≤◌, ◌↔◌, ◌^◌, ℕ, true, All, IfOk, IfSome, IsTrue, length};
+ghost use Rattle.std.specs.Prelude.{◌≡◌, ◌<◌, ◌≤◌, ◌↔◌, ℕ, true, All, IfOk, IfSome, IsTrue, length};
 ghost use Rattle.std.specs.Prelude.{MatchOption, nat_lt};
 ghost use Rattle.rp_patch.specs.Apportionment.{AreGrouped, grouped};
 ghost use Rattle.rp_patch.specs.InnerPortions.{ArePortions, AreRaisedBelow, AreUnitsOf, AreWhole};

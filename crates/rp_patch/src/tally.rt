@@ -1,5 +1,5 @@
 //! How many choices fall in each patch of a budget.
-ghost use Rattle.std.specs.Prelude.{◌≡◌, ◌<◌, ◌≤◌, ◌+◌, ◌*◌, ◌==◌, ◌&&◌, [], IfOk, OnOk, length};
+ghost use Rattle.std.specs.Prelude.{◌≡◌, ◌<◌, ◌+◌, ◌*◌, ◌==◌, ◌&&◌, [], IfOk, OnOk, length};
 ghost use Rattle.std.specs.Prelude.{map, nat_lt, slice_index, slice_index_or};
 ghost use Rattle.std.specs.List.{range_with_len};
 ghost use Rattle.rp_patch.specs.Choices.{AreChoicesFrom, input_of};

@@ -18,8 +18,8 @@ use rp_table::{Costs, Table};
 use std::alloc::Global;
 
 /// How many of so many random behaviours on the budgets of a table fail the generalized axiom of revealed preference,
-/// each drawn by the next words of the seed's generator. One behaviour at a time is in memory, each where the one before
-/// it was.
+/// each drawn by the next words of the seed's generator. One behaviour at a time is in memory, each where the one
+/// before it was.
 pub fn power(
     alloc: Global,
     table: &Table,

@@ -4,7 +4,7 @@ ghost use Rattle.rp_num.specs.Below.{listed, rows_below};
 ghost use Rattle.rp_power.specs.PowerCount.{words_of};
 ghost use Rattle.rp_power.specs.Spent.{cost_among, cost_in};
 ghost use Rattle.rp_table.specs.Limits.{IsQuantity};
-ghost use Rattle.rp_table.specs.Tables.{goods_of, records_of};
+ghost use Rattle.rp_table.specs.Tables.{records_of};
 ghost use Rattle.rp_table.specs.declared.TheConstants.{RECORDS};
 
 use rp_num::NoMemory;

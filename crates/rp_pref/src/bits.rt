@@ -2,10 +2,7 @@
 ghost use Rattle.std.specs.Prelude.{◌≡◌, ◌≢◌, ◌<◌, ◌≤◌, ◌+◌, ◌*◌, ◌↔◌, ◌&&◌, ◌||◌, ◌==◌, ℕ, IsTrue};
 ghost use Rattle.std.specs.Prelude.{count_by, length};
 ghost use Rattle.std.specs.List.{range_with_len};
-ghost use Rattle.rp_evidence.specs.Preference.{IsLevel};
-ghost use Rattle.rp_table.specs.Cost.{cost_at};
 ghost use Rattle.rp_pref.specs.InnerBits.{bit_in, has_bit};
-ghost use Rattle.rp_pref.specs.Steps.{IsStep};
 ghost use Rattle.rp_pref.specs.InnerThrough.{ReachesThrough};
 
 use rp_grid::Grid;

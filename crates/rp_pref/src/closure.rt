@@ -3,7 +3,6 @@ ghost use Rattle.std.specs.Prelude.{length};
 ghost use Rattle.rp_evidence.specs.Count.{IsCount, IsNumberOf};
 ghost use Rattle.rp_evidence.specs.Input.{TableInput};
 ghost use Rattle.rp_evidence.specs.Preference.{IsLevel};
-ghost use Rattle.rp_evidence.specs.Walk.{Reaches};
 ghost use Rattle.rp_evidence.specs.Welfare.{EqualsOrReaches};
 ghost use Rattle.rp_table.specs.Cost.{CostTable, cost_at};
 ghost use Rattle.rp_pref.specs.InnerBits.{has_bit};

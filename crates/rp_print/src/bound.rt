@@ -1,4 +1,4 @@
-ghost use Rattle.std.specs.Prelude.{◌≡◌, ◌++◌, OnOk, codes};
+ghost use Rattle.std.specs.Prelude.{◌≡◌, ◌++◌, OnOk};
 ghost use Rattle.rp_print.specs.BoundText.{bound_text, bounds_text, entry_text, pair_line};
 ghost use Rattle.rp_print.specs.BoundText.{pair_text};
 

@@ -1,5 +1,4 @@
 ghost use Rattle.std.specs.Prelude.{◌≡◌, ◌++◌, OnOk, codes};
-ghost use Rattle.std.specs.Fmt.{decimal};
 ghost use Rattle.rp_num.specs.Fraction.{fraction_text};
 ghost use Rattle.rp_print.specs.ListText.{line_of};
 ghost use Rattle.rp_print.specs.MixtureText.{apportioned_text, mixture_text, part_text, parts_text};

@@ -4,7 +4,7 @@ ghost use Rattle.serde_json.specs.View.{view};
 ghost use Rattle.rp_program_items.specs.BoundValue.{bound_value, entry_value, good_value};
 ghost use Rattle.rp_program_items.specs.BoundValue.{point_value};
 ghost use Rattle.rp_program_items.specs.Limits.{FitsBound, FitsEntry, FitsGood, FitsPoint};
-ghost use Rattle.rp_notation.specs.Values.{list_value, naturals_value};
+ghost use Rattle.rp_notation.specs.Values.{list_value};
 
 use rp_evidence::{Bound, GoodBounds, Point};
 use rp_farkas::{Entry, Pair};

@@ -4,7 +4,6 @@ ghost use Rattle.serde_json.specs.View.{view, members_view};
 ghost use Rattle.rp_program_items.specs.DemandValue.{demand_value};
 ghost use Rattle.rp_program_items.specs.Limits.{FitsDemand};
 ghost use Rattle.rp_notation.specs.Reading.{IsRead};
-ghost use Rattle.rp_notation.specs.Values.{naturals_value};
 
 use crate::bounds::{Bundle, Good, point_value};
 use crate::tags::DemandTag;

@@ -4,7 +4,6 @@ ghost use Rattle.serde_json.specs.View.{view, members_view};
 ghost use Rattle.rp_program_items.specs.DemandValue.{welfare_value};
 ghost use Rattle.rp_program_items.specs.Limits.{FitsWelfare};
 ghost use Rattle.rp_notation.specs.Reading.{IsRead};
-ghost use Rattle.rp_notation.specs.Values.{naturals_value};
 
 use crate::bounds::{AnyBound, bound_value};
 use crate::tags::WelfareTag;

@@ -1,6 +1,5 @@
 -- Closed walks by their places, and the two sums over a walk, step by step.
 use Rattle.std.proofs.Common.{◌+◌, ◌*◌, ◌-◌, ◌^◌, ap, subst, ◌≡◌, ℕ, zero, suc, ◌<◌, ◌≤◌, ◌↔◌, arith, add-one, refl, sym, List, [], ◌∷◌, length, take, slice_index}
-use Rattle.std.proofs.lemmas.List.{take_all}
 use Rattle.std.specs.Prelude.{pos, ◌+ℤ◌}
 use Rattle.rp_evidence.specs.Preference.{IsWeak}
 use Rattle.rp_evidence.specs.Walk.{IsClosedWalk, LeadsTo}

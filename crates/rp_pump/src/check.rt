@@ -1,10 +1,10 @@
-ghost use Rattle.std.specs.Prelude.{◌≡◌, ◌↔◌, ◌+◌, ◌*◌, ◌<◌, ◌≤◌, ◌^◌, ◌+ℤ◌, ◌≤ℤ◌, ℕ};
+ghost use Rattle.std.specs.Prelude.{◌≡◌, ◌↔◌, ◌+◌, ◌*◌, ◌<◌, ◌≤◌, ◌+ℤ◌, ◌≤ℤ◌, ℕ};
 ghost use Rattle.std.specs.Prelude.{[], IsTrue, length};
 ghost use Rattle.rp_evidence.specs.Efficiency.{FailsGarp};
 ghost use Rattle.rp_pump.specs.InnerWalks.{AreObserved, ClosesByPlaces, StepsAreWeak};
 ghost use Rattle.rp_pump.specs.MoneyPump.{HasPumpRatio, IsPumpIndex};
 ghost use Rattle.rp_pump.specs.PumpEvidence.{AreValues, BoundsFrom, BoundsStep, FitsValue};
-ghost use Rattle.rp_pump.specs.PumpEvidence.{IsWeakCycle, PumpHolds, value_at};
+ghost use Rattle.rp_pump.specs.PumpEvidence.{IsWeakCycle, PumpHolds};
 ghost use Rattle.rp_pump.specs.PumpTotals.{excess};
 ghost use Rattle.rp_table.specs.Cost.{cost_at};
 

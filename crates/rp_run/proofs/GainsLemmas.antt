@@ -9,10 +9,6 @@ use Rattle.std.proofs.lemmas.List.Concat.{flat_map-cons}
 use Rattle.rp_outside.specs.Known.{Grows, GrowsByPrefix}
 use Rattle.rp_outside.specs.Faults.{HasRisen}
 
--- nothing is gained
-pub grows_none : (old : Option (List ℕ)) → Grows old old []
-grows_none old w is = rw append-nil is
-
 -- one text after another
 pub grows_then : (old mid new : Option (List ℕ)) (x y : List ℕ) → Grows old mid x → Grows mid new y → Grows old new (x ++ y)
 grows_then old mid new x y first second w is = second (w ++ x) (first w is) ∙ ap Some (append_assoc w x y)
@@ -42,8 +38,3 @@ flat_map-more f xs i d within =
 pub rises_later : (before mid after : ℕ) → before ≤ mid → HasRisen mid after → HasRisen before after
 rises_later before mid after le (inl up) = inl (omega arith)
 rises_later before mid after le (inr last) = inr last
-
--- a count that has risen stays so
-pub rises_earlier : (before mid after : ℕ) → HasRisen before mid → mid ≤ after → HasRisen before after
-rises_earlier before mid after (inl up) le = inl (omega arith)
-rises_earlier before mid after (inr last) le = inr (omega arith)

@@ -1,11 +1,8 @@
 -- The files of a line by its set of files, the calls to read them through, and that its unit is in range.
-use Rattle.std.proofs.Common.{◌≡◌, ◌∙◌, ℕ, Bool, true, false, List, [], ◌∷◌, Option, length, refl, ap, slice_index_or}
-use Rattle.rp_words.specs.CommandLine.{Line, file_at, file_set, files_of, number}
-use Rattle.rp_words.specs.Forms.{draws, goods, rows, seed}
+use Rattle.std.proofs.Common.{◌≡◌, ◌∙◌, ℕ, List, [], ◌∷◌, length, refl, ap, slice_index_or}
+use Rattle.rp_words.specs.CommandLine.{Line, file_at, file_set, files_of}
 use Rattle.rp_words.specs.CommandLine.{file_names, files_in}
-use Rattle.rp_words.specs.Ranges.{IsDrawCount, IsSized, IsTrialSize, IsUnit}
-use Rattle.rp_words.specs.Shapes.{AreInRange, AreUnits}
-use Rattle.rp_words.specs.declared.commands.Command.TheVariants.{Power, Trial}
+use Rattle.rp_words.specs.Ranges.{IsSized}
 use Rattle.rp_words.specs.declared.commands.FileSet.{FileSet}
 use Rattle.rp_run.specs.Answers.{Files}
 use Rattle.rp_run.specs.Turns.{calls_of_each, calls_of_files}
@@ -54,32 +51,3 @@ module _ (line : Line) (set : FileSet) (holds : file_set line ≡ set) (sized : 
   calls_are files names named =
       ap (λ (s : FileSet). calls_of_each files (files_in s) (files_of line)) holds
       ∙ ap (calls_of_each files (files_in set)) named
-
--- the unit that a line asks for is in range
-unit_ranged : (has : Bool) (per : Option ℕ) → AreUnits has per → IsUnit per
-unit_ranged true per units = units
-unit_ranged false per units = rw units tt
-
-pub line_unit : (line : Line) → IsSized line → IsUnit line.given.per
-line_unit line sized = unit_ranged _ line.given.per sized.ranges.1
-
--- the numbers of a trial make a table
-trial_numbers : (numbers : List ℕ) → AreInRange (seed ∷ rows ∷ goods ∷ []) numbers → IsTrialSize (slice_index_or numbers 1 0) (slice_index_or numbers 2 0)
-trial_numbers [] ranges = absurd ranges
-trial_numbers (a ∷ []) ranges = absurd ranges.1
-trial_numbers (a ∷ b ∷ []) ranges = absurd ranges.1.1
-trial_numbers (a ∷ b ∷ c ∷ []) ranges = record { some_rows = ranges.1.0.0; few_rows = ranges.1.0.1; some_goods = ranges.1.1.0.0; few_goods = ranges.1.1.0.1 }
-trial_numbers (a ∷ b ∷ c ∷ d ∷ more) ranges = absurd ranges.1.1.1
-
--- the number of behaviours that are drawn is in range
-power_numbers : (numbers : List ℕ) → AreInRange (seed ∷ draws ∷ []) numbers → IsDrawCount (slice_index_or numbers 1 0)
-power_numbers [] ranges = absurd ranges
-power_numbers (a ∷ []) ranges = absurd ranges.1
-power_numbers (a ∷ b ∷ []) ranges = ranges.1.0
-power_numbers (a ∷ b ∷ c ∷ more) ranges = absurd ranges.1.1
-
-pub power_sized : (line : Line) → line.command ≡ Power → IsSized line → IsDrawCount (number line.given 1)
-power_sized line is sized = power_numbers line.given.numbers (rw is at sized.ranges).0
-
-pub trial_sized : (line : Line) → line.command ≡ Trial → IsSized line → IsTrialSize (number line.given 1) (number line.given 2)
-trial_sized line is sized = trial_numbers line.given.numbers (rw is at sized.ranges).0

@@ -1,50 +1,14 @@
 -- Menus have units of their cells at most once, or are refused for one reason.
-use Rattle.std.proofs.Common.{◌≡◌, ◌<◌, ◌≤◌, ◌+◌, ℕ, zero, suc, Bool, true, false, List, Option, None, Some, Result, Ok, Err, length, slice_index, refl, sym, ap, subst, ◌∙◌, arith}
-use Rattle.std.proofs.Math.Nat.{eq_of_mul-eq-mul_right, eq-zero_of_zero-dvd}
+use Rattle.std.proofs.Common.{◌≡◌, ◌<◌, ◌≤◌, ◌+◌, ℕ, Bool, true, false, List, Option, None, Some, Result, Ok, Err, length, slice_index, refl, sym, ap, ◌∙◌, arith}
 use Rattle.std.proofs.lemmas.Bool.{ltb-false, ltb-true}
 use Rattle.std.proofs.lemmas.List.{ext_get_or}
 use Rattle.std.specs.Prelude.{nat_lt}
-use Prim.Native.Nat.{◌∣◌}
 use Rattle.rp_menu.specs.MenuLists.{MenuList}
-use Rattle.rp_patch.specs.Apportionment.{GroupedCounts, HasApportionedShares, HasExactShares, HasShares, IsCommonMultiple, PassesTotalAt, counts_in, grouped, rest_of, whole_of}
+use Rattle.rp_patch.specs.Apportionment.{GroupedCounts, HasExactShares, HasShares, IsCommonMultiple, PassesTotalAt, grouped}
 use Rattle.rp_patch.specs.declared.apportionment.Units.{Units}
-use Rattle.rp_patch.proofs.Determined.{IsShared, same_shares}
+use Rattle.rp_patch.proofs.Determined.{same_all, same_units}
 use Rattle.rp_patch.proofs.GroupFacts.{group_within}
 use Rattle.rp_run.specs.MenuContents.{UnitsOf, need_unit_line}
-
-module _ (g : GroupedCounts) (inside : (i : ℕ) → i < g.places → g.group i < g.groups) where
-  shared : (unit all : ℕ) (units : ℕ → ℕ) → HasApportionedShares g unit all units → IsShared g.places g.group (whole_of g all) (rest_of g all) all units
-  shared unit all units are = record {
-    each = are.each;
-    together = λ i within. are.together (g.group i) (inside i within);
-    largest = are.largest;
-  }
-
-  above_zero : (t m : ℕ) → t ∣ m → 0 < m → 0 < t
-  above_zero zero m divides positive = absurd (omega (arith, eq-zero_of_zero-dvd divides, positive))
-  above_zero (suc t) m divides positive = omega arith
-
-  -- one total
-  pub same_total : (asked : Option ℕ) (all every : ℕ) (units others : ℕ → ℕ) → HasShares g asked all units → HasShares g asked every others → all ≡ every
-  same_total None all every units others a b =
-      let first : HasExactShares g all units = a in
-      let second : HasExactShares g every others = b in
-      omega (arith, first.total.1 every second.total.0, second.total.1 all first.total.0)
-  same_total (Some unit) all every units others a b =
-      let first : HasApportionedShares g unit all units = a in
-      let second : HasApportionedShares g unit every others = b in
-      first.total ∙ sym second.total
-
-  -- and one number of units of each cell under it
-  pub same_under : (asked : Option ℕ) (all : ℕ) (units others : ℕ → ℕ) → HasShares g asked all units → HasShares g asked all others
-      → (i : ℕ) → i < g.places → units i ≡ others i
-  same_under None all units others a b i within =
-      let first : HasExactShares g all units = a in
-      let second : HasExactShares g all others = b in
-      let positive : 0 < counts_in g (g.group i) = above_zero (counts_in g (g.group i)) all (first.total.0.1 (g.group i) (inside i within)) first.total.0.0 in
-      eq_of_mul-eq-mul_right (counts_in g (g.group i)) positive (units i) (others i) (first.each i within ∙ sym (second.each i within))
-  same_under (Some unit) all units others a b i within =
-      same_shares g.places g.group (whole_of g all) (rest_of g all) all units others (shared unit all units a) (shared unit all others b) i within
 
 -- menus whose total passes the limit have no units without a number that is asked for
 passes_once : (g : GroupedCounts) (j k : ℕ) → PassesTotalAt g j → PassesTotalAt g k → j < k → ⊥
@@ -77,9 +41,8 @@ module _ (list : MenuList) (per : Option ℕ) where
   pub units_one : (one other : Result Units (List ℕ)) → UnitsOf list per one → UnitsOf list per other → one ≡ other
   units_one (Ok a) (Ok b) (are, valid, shares) (also, fit, too) =
       let inside = λ (i : ℕ) (within : i < length list.groups). group_within list.groups list.counts are i within in
-      let total = same_total g inside per a.total b.total (slice_index a.units) (slice_index b.units) shares too in
-      let under = subst (λ n. HasShares g per n (slice_index b.units)) (sym total) too in
-      let units = ext_get_or 0 a.units b.units (valid.one_each ∙ sym fit.one_each) (λ i l. same_under g inside per a.total (slice_index a.units) (slice_index b.units) shares under i (omega (arith, l, valid.one_each))) in
+      let total = same_all g inside per a.total b.total (slice_index a.units) (slice_index b.units) shares too in
+      let units = ext_get_or 0 a.units b.units (valid.one_each ∙ sym fit.one_each) (λ i l. same_units g inside per a.total b.total (slice_index a.units) (slice_index b.units) shares too i (omega (arith, l, valid.one_each))) in
       ap Ok (same_record a b total units)
   units_one (Ok a) (Err line) (are, valid, shares) (menu, (none, passes), is) = absurd (passes_apart g per a.total (slice_index a.units) menu shares valid.few none passes)
   units_one (Err line) (Ok b) (menu, (none, passes), is) (are, valid, shares) = absurd (passes_apart g per b.total (slice_index b.units) menu shares valid.few none passes)

@@ -1,5 +1,5 @@
 -- The content of a line's files denotes one input or one refusal at most.
-use Rattle.std.proofs.Common.{◌≡◌, ◌⊎◌, ◌≤◌, ℕ, Bool, true, false, Option, Some, List, length, map, Result, Ok, Err, [], ◌∷◌, inl, inr, refl, sym, subst, ap, ◌∙◌, arith, codes}
+use Rattle.std.proofs.Common.{◌≡◌, ◌⊎◌, ℕ, Bool, true, false, Option, Some, List, map, Result, Ok, Err, [], ◌∷◌, inl, inr, refl, sym, subst, ap, ◌∙◌, arith}
 use Rattle.std.proofs.lemmas.List.{length-map}
 use Rattle.rp_cost.specs.Denotation.{asked_beside, tech_in}
 use Rattle.rp_evidence.specs.declared.certificate.Certificate.{Certificate}

@@ -1,9 +1,8 @@
 -- What a cause tells of what was asked, when there is none, and that no line is both answered and refused.
-use Rattle.std.proofs.Common.{◌≡◌, ◌⊎◌, ◌<◌, inl, inr, List, [], length, ℕ, Option, Some, Ok, Err, sym, subst, ap, refl}
+use Rattle.std.proofs.Common.{◌≡◌, ◌⊎◌, ◌<◌, inl, inr, List, [], length, ℕ, Option, Some, Ok, Err, sym, subst, refl}
 use Rattle.std.specs.List.{Contains}
 use Rattle.std.proofs.lemmas.List.Elements.{Contains-get_or}
 use Rattle.rp_words.specs.CommandLine.{Line, file_at, files_of}
-use Rattle.rp_run.specs.FaultLines.{read_line}
 use Rattle.rp_words.specs.CommandLine.{Given}
 use Rattle.rp_words.specs.declared.commands.Command.{Command}
 use Rattle.rp_words.specs.declared.commands.Command.TheVariants.{Check, CheckRandom}
@@ -29,19 +28,12 @@ use Rattle.rp_answers.specs.Checked.{IsRandomCheck, IsTableCheck, check_status a
 use Rattle.rp_outside.specs.Faults.{HasRisen}
 use Rattle.rp_outside.specs.Known.{Grows, GrowsByPrefix}
 use Rattle.rp_run.specs.Calls.{IsWritten}
-use Rattle.rp_run.specs.Endings.{IsEnd, IsFaultLine, IsSilent, Rose, NoneRose}
-use Rattle.rp_run.specs.Causes.{status_of_cause, cause_line, IsCause}
+use Rattle.rp_run.specs.Endings.{IsEnd, IsSilent, Rose, NoneRose}
+use Rattle.rp_run.specs.Causes.{status_of_cause, IsCause}
 use Rattle.rp_answers.specs.declared.status.Status.{Status}
 use Rattle.rp_answers.specs.declared.status.Status.TheVariants as status
 use Rattle.rp_run.specs.declared.files.Cause.{Cause}
 use Rattle.rp_run.specs.declared.files.Cause.TheVariants.{Read, Refused, NoMemory}
-
--- the line of a cause that holds is the fault line of its status
-pub cause_told : (files : Files) (rose : List ℕ → Type 0) (asks : Line → ℕ → Type 0) (asked : Option Line) (line : Line) (why : Cause) → asked ≡ Some line
-    → IsCause files rose asks line why → IsFaultLine files rose asks asked (status_of_cause why) (cause_line why)
-cause_told files rose asks asked line (Read file) is (k, within, its, up, once) = (line, k, is, within, subst rose its up, ap read_line its, once)
-cause_told files rose asks asked line (Refused text) is refused = (line, is, refused)
-cause_told files rose asks asked line NoMemory is none = refl
 
 -- a file of a line is among its files
 its_file : (line : Line) (k : ℕ) → k < length (files_of line) → Contains (files_of line) (file_at line k)

@@ -1,5 +1,5 @@
-ghost use Rattle.std.specs.Prelude.{◌≡◌, ◌+◌, ◌++◌, true, false, ◌^◌, ◌<◌, ◌≤◌};
-ghost use Rattle.std.specs.Prelude.{IfOk, IfErr, Ok, length, codes};
+ghost use Rattle.std.specs.Prelude.{◌≡◌, ◌+◌, true, false, ◌<◌, ◌≤◌};
+ghost use Rattle.std.specs.Prelude.{IfOk, IfErr, Ok, length};
 ghost use Rattle.rp_cost.specs.Denotation.{asked_beside, tech_in};
 ghost use Rattle.rp_evidence.specs.Kinds.{IsCertificateOf};
 ghost use Rattle.rp_outside.specs.Faults.{EachStays, NoneFalls};

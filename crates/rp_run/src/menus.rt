@@ -1,6 +1,5 @@
 //! Choices from menus in a file, with the units of their cells.
 ghost use Rattle.std.specs.Prelude.{◌≡◌, ◌≤◌, ◌+◌, ◌++◌, IfErr, IfOk, Ok, OnOk};
-ghost use Rattle.rp_orders.specs.OrderMixtures.{AreUnitsOf};
 ghost use Rattle.rp_outside.specs.Faults.{EachStays, NoneFalls};
 ghost use Rattle.rp_words.specs.CommandLine.{file_set, takes_levels};
 ghost use Rattle.rp_words.specs.Named.{named_line};

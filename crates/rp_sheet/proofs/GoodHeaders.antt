@@ -1,6 +1,5 @@
 -- The headers of a table that have no fault: each good has its two columns, once.
 use Rattle.std.proofs.Common.{◌≡◌, ◌≢◌, ℕ, zero, suc, ◌<◌, ◌≤◌, Bool, true, false, not, ◌&&◌, ◌||◌, nat_eq, if◌then◌else◌, cond, List, [], ◌∷◌, ◌++◌, length, get_or, map, filter, Option, Some, None, refl, sym, ap, ◌∙◌, arith}
-use Rattle.std.specs.Prelude.{unwrap_or}
 use Rattle.std.specs.List.{AllPairs, Contains, starts_with}
 use Rattle.std.specs.Option.{option_map_or, option_or}
 use Rattle.std.proofs.lemmas.Bool.Decides.{Decides-eqb}
@@ -9,10 +8,8 @@ use Rattle.std.proofs.lemmas.List.Elements.{filter_passes, All-filter, All-conta
 use Rattle.std.proofs.lemmas.List.Kept.{AllPairs-filter}
 use Rattle.std.proofs.lemmas.Slice.Eq.{starts_is}
 use Rattle.rp_sheet.specs.Texts.{text_at, place_of}
-use Rattle.rp_sheet.specs.Columns.{role_of, named_role, good_role, role_at, takes, measures, is_name, is_price, is_quantity, name_in, names_with, mark_of_prices, mark_of_quantities}
-use Rattle.rp_sheet.specs.Forms.{table_form}
+use Rattle.rp_sheet.specs.Columns.{role_of, named_role, good_role, role_at, is_name, is_price, is_quantity, name_in, names_with, mark_of_prices, mark_of_quantities}
 use Rattle.rp_sheet.specs.Headers.{has, names_of, partner_of, headers_stage, pair_fault, present_fault, goods_stage}
-use Rattle.rp_sheet.specs.Sizes.{limit_of}
 use Rattle.rp_sheet.specs.declared.form.Form.{Form}
 use Rattle.rp_sheet.specs.declared.form.Marks.{Marks}
 use Rattle.rp_sheet.specs.declared.form.Marks.TheVariants.{Goods, Inputs}
@@ -22,7 +19,6 @@ use Rattle.rp_sheet.specs.declared.fault.TableFault.{TableFault}
 use Rattle.rp_sheet.proofs.RoleLemmas.{no_good}
 use Rattle.rp_sheet.proofs.NameLemmas.{price_header}
 use Rattle.rp_sheet.proofs.PlaceLemmas.{found_at, present, none_below}
-use Rattle.rp_sheet.proofs.MeasuredRoles.{measured_role}
 use Rattle.rp_sheet.proofs.FineHeaders.{FineHeaders, fine_goods, fine_headers, same_place, all_distinct, there_from}
 
 -- headers without a fault, of which each good's has a partner
@@ -66,24 +62,6 @@ is_price_role (Some OutputPrice) e = cc e
 is_price_role (Some Menu) e = cc e
 is_price_role (Some Choice) e = cc e
 is_price_role (Some OwnLevel) e = cc e
-
-pub measured_quantity : (o : Option Role) → option_map_or (takes table_form) o false ≡ true → measures (unwrap_or o Observation) ≡ true → o ≡ Some Quantity
-measured_quantity = measured_role (takes table_form) Quantity (λ e. refl) (λ e. cc e) (λ e. cc e)
-
-pub limit_is : (o : Option Role) → option_map_or (takes table_form) o false ≡ true → limit_of (unwrap_or o Observation) ≡ 9999999
-limit_is None e = cc e
-limit_is (Some Observation) e = refl
-limit_is (Some Price) e = refl
-limit_is (Some Quantity) e = refl
-limit_is (Some Expenditure) e = cc e
-limit_is (Some Income) e = cc e
-limit_is (Some Budget) e = refl
-limit_is (Some Times) e = refl
-limit_is (Some Output) e = refl
-limit_is (Some OutputPrice) e = refl
-limit_is (Some Menu) e = refl
-limit_is (Some Choice) e = refl
-limit_is (Some OwnLevel) e = refl
 
 quantity_good : (named p q : Bool) → option_map_or is_quantity (if not named then None else if p then Some Price else if q then Some Quantity else None) false ≡ true → (named ≡ true) × (q ≡ true)
 quantity_good true true q e = cc e

@@ -1,6 +1,6 @@
 -- The columns of a file that are measured to its places are those of one role: what the file takes of quantities, of
 -- what is spent and of incomes.
-use Rattle.std.proofs.Common.{◌≡◌, Bool, true, false, Option, Some, None, refl, ap}
+use Rattle.std.proofs.Common.{◌≡◌, Bool, true, false, Option, Some, None, ap}
 use Rattle.std.specs.Prelude.{unwrap_or}
 use Rattle.std.specs.Option.{option_map_or}
 use Rattle.rp_sheet.specs.Columns.{measures}

@@ -1,25 +1,14 @@
 -- What a sheet of numbers says under its form: the first fault of the earliest stage that finds one, and the numbers
 -- in its columns (this project's own order of stages).
-use Rattle.std.specs.Prelude.{Bool, ◌-◌, if◌then◌else◌, map, codes, ℕ, List, [], ◌∷◌, ◌++◌, length, Option, None}
+use Rattle.std.specs.Prelude.{ℕ, List, [], ◌∷◌, ◌++◌, length, Option, None}
 use Rattle.std.specs.Prelude.{Some, Result, Ok, Err, unwrap_or, slice_index}
-use Rattle.rp_num.specs.declared.decimal.Decimal.{Decimal}
-use Rattle.rp_table.specs.Tables.{Observations}
-use Rattle.rp_table.specs.PriceLists.{PriceList}
-use Rattle.rp_table.specs.BundleLists.{BundleList}
-use Rattle.rp_table.specs.BudgetLists.{BudgetList}
-use Rattle.rp_table.specs.ChoiceLists.{ChoiceList}
 use Rattle.rp_num.specs.Below.{first_there, rows_below, listed}
 use Rattle.rp_sheet.specs.Texts.{text_at, place_of}
 use Rattle.rp_sheet.specs.ChoiceCounts.{column_named, choices_stage}
-use Rattle.rp_sheet.specs.Forms.{table_form, prices_form, bundles_form, budgets_form, choices_form}
-use Rattle.rp_sheet.specs.Records.{records_of}
-use Rattle.rp_sheet.specs.Columns.{names_with, is_price, price_mark, quantity_mark}
-use Rattle.rp_sheet.specs.Headers.{headers_in, headers_of, headers_stage, goods_stage}
+use Rattle.rp_sheet.specs.Headers.{headers_in, headers_stage, goods_stage}
 use Rattle.rp_sheet.specs.Fields.{figures_of, count_stage, fields_stage}
-use Rattle.rp_sheet.specs.Sizes.{places_of, sizes_of, sizes_stage}
+use Rattle.rp_sheet.specs.Sizes.{sizes_stage}
 use Rattle.rp_sheet.specs.declared.form.Form.{Form}
-use Rattle.rp_sheet.specs.declared.form.Marks.TheVariants.{Goods}
-use Rattle.rp_sheet.specs.declared.form.Role.TheVariants.{Price, Quantity}
 use Rattle.rp_sheet.specs.declared.fault.TableFault.{TableFault}
 use Rattle.rp_sheet.specs.declared.fault.TableFault.TheVariants as fault
 

@@ -1,7 +1,7 @@
-ghost use Rattle.std.specs.Prelude.{◌≡◌, ◌+◌, ◌<◌, ◌&&◌, None, OnOk, IfOk, length, nat_lt};
+ghost use Rattle.std.specs.Prelude.{◌≡◌, ◌+◌, ◌<◌, ◌&&◌, None, IfOk, length, nat_lt};
 ghost use Rattle.std.specs.Prelude.{slice_index_or};
 ghost use Rattle.rp_num.specs.Below.{first_of, listed, any_below};
-ghost use Rattle.rp_sheet.specs.Texts.{trimmed, text_at};
+ghost use Rattle.rp_sheet.specs.Texts.{trimmed};
 ghost use Rattle.rp_sheet.specs.Columns.{role_at, measures};
 ghost use Rattle.std.specs.Result.{result_err};
 ghost use Rattle.rp_num.specs.Decimal.{decimal_of};

@@ -1,9 +1,8 @@
-ghost use Rattle.std.specs.Prelude.{◌≡◌, ◌+◌, ◌<◌, ◌==◌, ◌&&◌, Some, None, nat_lt, OnOk, IfOk};
-ghost use Rattle.std.specs.Prelude.{IfErr, All, length, codes, slice_index_or};
+ghost use Rattle.std.specs.Prelude.{◌≡◌, ◌+◌, ◌<◌, ◌==◌, ◌&&◌, Some, None, OnOk, IfOk};
+ghost use Rattle.std.specs.Prelude.{IfErr, length, slice_index_or};
 ghost use Rattle.rp_sheet.specs.Headers.{headers_of};
 ghost use Rattle.rp_sheet.specs.Fields.{nothing, count_stage};
 ghost use Rattle.rp_sheet.specs.Sizes.{sheet_figures, sheet_sizes};
-ghost use Rattle.rp_num.specs.Below.{any_below};
 ghost use Rattle.rp_sheet.specs.ChoiceCounts.{choices_stage, is_chosen};
 ghost use Rattle.rp_sheet.specs.Sheets.{first_fault};
 ghost use Rattle.rp_sheet.specs.Refusals.{RefusedAt};

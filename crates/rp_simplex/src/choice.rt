@@ -1,4 +1,4 @@
-ghost use Rattle.std.specs.Prelude.{◌≡◌, ◌+◌, ◌<◌, ◌≤◌, ℕ, pos, ◌*ℤ◌, ◌<ℤ◌, ◌⊎◌, MatchBool};
+ghost use Rattle.std.specs.Prelude.{◌≡◌, ◌+◌, ◌<◌, ℕ, ◌*ℤ◌, ◌⊎◌, MatchBool};
 ghost use Rattle.std.specs.Prelude.{MatchOption};
 ghost use Rattle.rp_simplex.specs.Choice.{IsLeaving, IsUnbounded};
 ghost use Rattle.rp_simplex.specs.InnerTableau.{HasNoTies, LeavesBelow};

@@ -1,6 +1,5 @@
 //! Which column enters: a column is priced when it is looked at, by the objective's multipliers that are not 0.
-ghost use Rattle.std.specs.Prelude.{◌≡◌, suc, ◌^◌, ◌<◌, ◌≤◌, length, MatchOption};
-ghost use Rattle.std.specs.Int.RustNames.{unsigned_abs};
+ghost use Rattle.std.specs.Prelude.{◌≡◌, suc, ◌<◌, ◌≤◌, length, MatchOption};
 ghost use Rattle.rp_farkas.specs.Limits.{largest_entry, most_rows};
 ghost use Rattle.rp_simplex.specs.Choice.{IsEntering, IsOptimal};
 ghost use Rattle.rp_simplex.specs.InnerCombined.{AreSmall, ElementsFit, IsGathered, dot};

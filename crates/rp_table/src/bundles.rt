@@ -1,4 +1,4 @@
-ghost use Rattle.std.specs.Prelude.{◌≡◌, ◌<◌, ◌≤◌, All, length};
+ghost use Rattle.std.specs.Prelude.{◌≡◌, ◌<◌, All, length};
 ghost use Rattle.rp_table.specs.Rows.{rows_count, row_of};
 ghost use Rattle.rp_table.specs.BundleLists.{IsBundleList};
 ghost use Rattle.rp_table.specs.Limits.{IsQuantity};

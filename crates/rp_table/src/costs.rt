@@ -1,4 +1,4 @@
-ghost use Rattle.std.specs.Prelude.{◌≡◌, ℕ, ◌<◌, ◌≤◌, ◌^◌, ◌<ℤ◌, neg_ℤ, pos, IfOk};
+ghost use Rattle.std.specs.Prelude.{◌≡◌, ◌<◌, ◌≤◌, ◌^◌, ◌<ℤ◌, neg_ℤ, pos, IfOk};
 ghost use Rattle.rp_table.specs.Tables.{records_of};
 ghost use Rattle.rp_table.specs.Cost.{IsCostTable, IsCostsOf, cost_at, cost_of};
 ghost use Rattle.rp_table.specs.Cost.{gap_of, own_of, scale_of};

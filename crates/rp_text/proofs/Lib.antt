@@ -1,4 +1,5 @@
 mod Worked
+pub mod PricedTables
 pub mod TableFacts
 pub mod TableMade
 pub mod PriceFacts

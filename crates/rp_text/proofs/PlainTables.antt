@@ -8,20 +8,20 @@ use Rattle.rp_num.specs.declared.decimal.Decimal.{Decimal}
 use Rattle.rp_table.specs.Tables.{Observations, IsTable, goods_of, records_of, price_of, quantity_of}
 use Rattle.rp_num.specs.Below.{rows_below}
 use Rattle.rp_sheet.specs.Texts.{text_at}
-use Rattle.rp_sheet.specs.Columns.{price_mark, quantity_mark}
+use Rattle.rp_sheet.specs.Columns.{is_price, names_with, price_mark, quantity_mark}
 use Rattle.rp_sheet.specs.Forms.{table_form}
 use Rattle.rp_sheet.specs.Records.{record_at}
 use Rattle.rp_sheet.specs.Headers.{headers_in}
 use Rattle.rp_sheet.specs.Fields.{figures_of, rows_in, row_at}
-use Rattle.rp_sheet.specs.Sizes.{sizes_of}
+use Rattle.rp_sheet.specs.Sizes.{places_of, sizes_of}
 use Rattle.rp_sheet.specs.ChoiceCounts.{choices_stage}
-use Rattle.rp_text.specs.Denotation.{table_of, denoted_table}
+use Rattle.rp_text.specs.Denotation.{own_levels, table_of, denoted_table}
 use Rattle.rp_sheet.specs.Sheets.{fault_under, first_fault, numbers_under, column_of}
 use Rattle.rp_text.specs.Plain.{IsPlainHeader, IsPlainRecord}
+use Rattle.rp_sheet.specs.declared.form.Marks.TheVariants.{Goods}
 use Rattle.rp_sheet.specs.declared.form.Role.TheVariants.{Price, Quantity}
 use Rattle.rp_sheet.proofs.RowLemmas.{length-rows, row_number}
 use Rattle.rp_sheet.proofs.StageLemmas.{under_headers, fine_records, in_none}
-use Rattle.rp_text.proofs.TableFacts.{table_made}
 use Rattle.rp_sheet.proofs.ColumnSizes.{sizes_are}
 use Rattle.rp_text.proofs.TableMade.{table_there}
 use Rattle.rp_text.proofs.PlainHeaders.{headers_are, names_are, no_headers_fault, no_goods_stage_fault, no_levels, price_place, quantity_place}
@@ -56,6 +56,17 @@ quantity_within table within t g row good =
     let inside : t * goods_of table + g < length table.quantities = omega (arith, below, long, mul_comm (goods_of table) (records_of table)) in
     within.quantity_limits (t * goods_of table + g) 0 inside
 
+-- a table from its parts
+table_parts : (headers : List (List ℕ)) (figures : List (List Decimal)) (names : List (List ℕ)) (prices quantities : List ℕ) (a b : ℕ) (levels : List ℕ) → names ≡ names_with Goods is_price headers
+    → prices ≡ numbers_under price_mark headers names (sizes_of table_form headers figures) → quantities ≡ numbers_under quantity_mark headers names (sizes_of table_form headers figures)
+    → a ≡ places_of table_form headers figures Price → b ≡ places_of table_form headers figures Quantity → levels ≡ own_levels headers (sizes_of table_form headers figures)
+    → record { names = names; prices = prices; quantities = quantities; price_places = a; quantity_places = b; levels = levels } ≡ table_of headers figures
+unfolding table_of
+table_parts headers figures names prices quantities a b levels named priced counted at_a at_b levelled =
+    let p = priced ∙ ap (λ goods. numbers_under price_mark headers goods (sizes_of table_form headers figures)) named in
+    let q = counted ∙ ap (λ goods. numbers_under quantity_mark headers goods (sizes_of table_form headers figures)) named in
+    rw (p, q, named, at_a, at_b, levelled) refl
+
 module _ (headers : List (List ℕ)) (records : List (List (List ℕ))) (table : Observations) (plain : IsPlainHeader headers table.names) (all : rows_in records ≡ records_of table)
     (each : (t : ℕ) → t < records_of table → IsPlainRecord (row_at records t) (goods_of table) (price_of table t) (quantity_of table t)) (within : IsTable table) where
   rows_count : length (sizes_of table_form headers (figures_of table_form headers records)) ≡ records_of table
@@ -85,8 +96,8 @@ module _ (headers : List (List ℕ)) (records : List (List (List ℕ))) (table :
   table_is price_scale quantity_scale levels =
       let named = sym (names_are headers table.names plain) in
       let scale = no_places headers table.names plain records (records_of table) (price_of table) (quantity_of table) all each (price_within table within) (quantity_within table within) in
-      table_made headers (figures_of table_form headers records) table.names table.names (sizes_of table_form headers (figures_of table_form headers records)) table.prices table.quantities table.price_places table.quantity_places table.levels
-      named named refl prices_are quantities_are (price_scale ∙ sym (scale Price (inl refl))) (quantity_scale ∙ sym (scale Quantity (inr refl))) (rw (levels, no_levels headers table.names plain) refl)
+      table_parts headers (figures_of table_form headers records) table.names table.prices table.quantities table.price_places table.quantity_places table.levels
+      named prices_are quantities_are (price_scale ∙ sym (scale Price (inl refl))) (quantity_scale ∙ sym (scale Quantity (inr refl))) (rw (levels, no_levels headers table.names plain) refl)
 
   no_fault : fault_under table_form [] headers records ≡ None
   no_fault =

@@ -1,43 +1,45 @@
 -- What a file of numbers denotes: its value, or the first fault of the earliest stage that finds one.
-use Rattle.std.specs.Prelude.{Bool, ◌-◌, if◌then◌else◌, map, codes, ℕ, List, [], ◌∷◌, ◌++◌, length, Option, None}
-use Rattle.std.specs.Prelude.{Some, Result, Ok, Err, unwrap_or, slice_index}
+use Rattle.std.specs.Prelude.{Bool, ◌-◌, if◌then◌else◌, map, codes, ℕ, List, [], length, Result}
 use Rattle.rp_num.specs.declared.decimal.Decimal.{Decimal}
 use Rattle.rp_table.specs.Tables.{Observations}
 use Rattle.rp_table.specs.PriceLists.{PriceList}
 use Rattle.rp_table.specs.BundleLists.{BundleList}
 use Rattle.rp_table.specs.BudgetLists.{BudgetList}
 use Rattle.rp_table.specs.ChoiceLists.{ChoiceList}
-use Rattle.rp_num.specs.Below.{first_there, rows_below, listed}
 use Rattle.rp_sheet.specs.Sheets.{first_fault, unless_fault, numbers_under, column_numbers}
-use Rattle.rp_sheet.specs.Texts.{text_at, place_of}
-use Rattle.rp_sheet.specs.ChoiceCounts.{column_named, choices_stage}
 use Rattle.rp_sheet.specs.Forms.{table_form, prices_form, bundles_form, budgets_form, choices_form}
 use Rattle.rp_sheet.specs.Records.{records_of}
-use Rattle.rp_sheet.specs.Columns.{names_with, is_price, price_mark, quantity_mark}
-use Rattle.rp_sheet.specs.Headers.{headers_in, headers_of, has, headers_stage, goods_stage}
-use Rattle.rp_sheet.specs.Fields.{figures_of, count_stage, fields_stage}
-use Rattle.rp_sheet.specs.Sizes.{places_of, sizes_of, sizes_stage}
+use Rattle.rp_sheet.specs.Columns.{names_with, is_price, mark_of_prices, mark_of_quantities, price_mark, quantity_mark}
+use Rattle.rp_sheet.specs.Headers.{headers_of, has}
+use Rattle.rp_sheet.specs.Fields.{figures_of}
+use Rattle.rp_sheet.specs.Sizes.{places_of, sizes_of}
 use Rattle.rp_sheet.specs.declared.form.Form.{Form}
 use Rattle.rp_sheet.specs.declared.form.Marks.TheVariants.{Goods}
 use Rattle.rp_sheet.specs.declared.form.Role.TheVariants.{Price, Quantity}
 use Rattle.rp_sheet.specs.declared.fault.TableFault.{TableFault}
-use Rattle.rp_sheet.specs.declared.fault.TableFault.TheVariants as fault
 
 -- the own levels of observations in thousandths, where there is a column of them
 abbrev pub own_levels : List (List ℕ) → List (List ℕ) → List ℕ
 own_levels headers sizes = if has headers (codes "e") then column_numbers (codes "e") headers sizes else []
 
+-- the prices and quantities in files of this form, scaled, as a table with these levels. The names stand in the order
+-- of the columns of prices
+abbrev pub priced_table : Form → List (List ℕ) → List (List Decimal) → List ℕ → Observations
+priced_table form headers figures levels = record {
+  names = names_with form.marks is_price headers;
+  prices = numbers_under (mark_of_prices form.marks) headers (names_with form.marks is_price headers)
+      (sizes_of form headers figures);
+  quantities = numbers_under (mark_of_quantities form.marks) headers (names_with form.marks is_price headers)
+      (sizes_of form headers figures);
+  price_places = places_of form headers figures Price;
+  quantity_places = places_of form headers figures Quantity;
+  levels = levels;
+}
+
 -- the table of these numbers
 unfoldable pub table_of : List (List ℕ) → List (List Decimal) → Observations
-table_of headers figures = record {
-  names = names_with Goods is_price headers;
-  prices = numbers_under price_mark headers (names_with Goods is_price headers) (sizes_of table_form headers figures);
-  quantities = numbers_under quantity_mark headers (names_with Goods is_price headers)
-      (sizes_of table_form headers figures);
-  price_places = places_of table_form headers figures Price;
-  quantity_places = places_of table_form headers figures Quantity;
-  levels = own_levels headers (sizes_of table_form headers figures);
-}
+table_of headers figures =
+    priced_table table_form headers figures (own_levels headers (sizes_of table_form headers figures))
 
 -- the table in these records, if they have no fault
 unfoldable pub table_under : List (List ℕ) → List (List (List ℕ)) → Observations

@@ -5,6 +5,7 @@ mod budgets;
 mod bundles;
 mod choices;
 mod plain;
+mod priced;
 mod prices;
 mod tables;
 
@@ -12,6 +13,7 @@ pub use budgets::read_budgets;
 pub use bundles::read_bundles;
 pub use choices::read_choices;
 pub use plain::plain_tables;
+pub use priced::priced_table;
 pub use prices::read_prices;
 pub use rp_sheet::TableFault;
 pub use tables::read_table;

@@ -1,4 +1,4 @@
-ghost use Rattle.std.specs.Prelude.{◌≡◌, ◌≤◌, [], Ok, None, OnOk, IfOk, IfSome, All, length};
+ghost use Rattle.std.specs.Prelude.{◌≡◌, ◌≤◌, [], Ok, None, IfOk, IfSome, All, length};
 ghost use Rattle.rp_table.specs.Tables.{IsTable, levels_given};
 ghost use Rattle.rp_table.specs.declared.TheConstants.{LARGEST};
 ghost use Rattle.rp_sheet.specs.Columns.{names_with, is_price};
@@ -9,10 +9,10 @@ ghost use Rattle.rp_text.specs.Denotation as Denotation;
 ghost use Rattle.rp_text.specs.Denotation.{table_of, denoted_table, table_in};
 ghost use Rattle.rp_sheet.specs.Refusals.{RefusedAs};
 
+use crate::priced::priced_table;
 use rp_num::{Decimal, NoMemory, Seq};
 use rp_sheet::{
-    Columns, Form, Records, Role, TableFault, column_numbers, narrowed, numbers_under, places_of,
-    read_names, read_sheet,
+    Columns, Form, Records, TableFault, column_numbers, narrowed, read_names, read_sheet,
 };
 use rp_table::{Name, RECORDS, Table};
 use std::alloc::Global;
@@ -59,19 +59,8 @@ fn fill_table(
     requires within { IsTable (table_of columns.now.headers figures.now) }
     ensures { IfOk result (λ table. table ≡ table_of columns.now.headers figures.now) }
 {
-    let prices = numbers_under(alloc, columns, b"p_", names.as_slice(), sizes)?;
-    let quantities = numbers_under(alloc, columns, b"q_", names.as_slice(), sizes)?;
-    let price_places = places_of(columns, figures, Role::Price) as u8;
-    let quantity_places = places_of(columns, figures, Role::Quantity) as u8;
     let levels = own_levels(alloc, columns, sizes)?;
-    Ok(Table::make(
-        names,
-        prices,
-        quantities,
-        price_places,
-        quantity_places,
-        levels,
-    ))
+    priced_table(alloc, columns, names, figures, sizes, levels)
 }
 
 /// The own levels by observation, where there is a column of them.

@@ -1,4 +1,4 @@
-ghost use Rattle.std.specs.Prelude.{◌≡◌, ◌≤◌, IfErr, IfOk, length};
+ghost use Rattle.std.specs.Prelude.{◌≤◌, IfErr, IfOk, length};
 ghost use Rattle.rp_patch.specs.Types.{AreRationalTypes, combinations};
 ghost use Rattle.rp_types.specs.Listed.{SaysWhy, types_of};
 

@@ -9,7 +9,8 @@ ghost use Rattle.rp_walk.specs.Walk.{KeepsOrder, StartsAlike, TotalRule, prefix_
 /// A walk of as many steps as there are observations, p 0, p 1, .. to p n, whose total is less than
 /// that of every walk with fewer steps to its end, has a closed part that ends below its start.
 pub fn long_walk_holds_closed_part()
-    ensures { (w : TotalRule) (p : ℕ → ℕ) → KeepsOrder w → ((m : ℕ) → m ≤ w.count → p m < w.count)
+    ensures { (w : TotalRule) (p : ℕ → ℕ)
+        → KeepsOrder w → ((m : ℕ) → m ≤ w.count → p m < w.count)
         → IsLessThanShorter w w.count (p w.count) (prefix_total w p w.count)
         → (a d : ℕ) × (0 < d) × (a + d ≤ w.count) × (p a ≡ p (a + d))
         × IsLess (prefix_total w p (a + d)) (prefix_total w p a) }

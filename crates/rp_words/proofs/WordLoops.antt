@@ -1,7 +1,7 @@
 -- What a loop over arguments has read so far.
 use Rattle.std.proofs.Common.{◌≡◌, ◌<◌, ◌≤◌, ◌^◌, ◌+◌, ◌++◌, nat_lt, subst, if◌then◌else◌, ℕ, suc, Bool, true, false, List, [], ◌∷◌, Option, Some, None, length, drop, map, take, get_or, refl, sym, ap, ◌∙◌}
 use Rattle.std.specs.Prelude.{nat_le, option_and_then, option_map}
-use Rattle.std.proofs.lemmas.List.{append-nil, append_assoc, map-append, take-append-drop, take_more}
+use Rattle.std.proofs.lemmas.List.{append_assoc, map-append, take-append-drop, take_more}
 use Rattle.std.proofs.Math.Seq.{drop-cons}
 use Rattle.clap.specs.Walk.{Row, Rule, Text, first_of, one_of}
 use Rattle.clap.specs.Simple.{App, with_subcommand}
@@ -75,10 +75,6 @@ pub rules_whole : (start : App) (files numbers per json : List Rule) → with_ru
 rules_whole start files numbers per json =
     ap (λ (rules : List Rule). with_rules (record start { top = record start.top { rules = [] } }) rules)
     (append_assoc (start.top.rules ++ files ++ numbers) per json ∙ append_assoc (start.top.rules ++ files) numbers (per ++ json) ∙ append_assoc start.top.rules files (numbers ++ (per ++ json)))
-
--- no further argument
-pub no_rules : (start : App) → start ≡ with_rules start []
-no_rules start = ap (λ (rules : List Rule). with_rules (record start { top = record start.top { rules = [] } }) rules) (sym (append-nil start.top.rules))
 
 pub map_twice : {A X V : Type 0} (f : X → V) (g : A → X) (xs : List A) → map (λ x. f (g x)) xs ≡ map f (map g xs)
 map_twice f g [] = refl

@@ -2,7 +2,7 @@
 -- that words denote have them.
 use Rattle.std.specs.Prelude.{◌≡◌, ◌≤◌, ℕ, Option, IfSome, length}
 use Rattle.rp_words.specs.CommandLine.{Line, file_set, files_of, form_of}
-use Rattle.rp_words.specs.Forms.{draws, goods, rows, units}
+use Rattle.rp_words.specs.Forms.{goods, rows, units}
 use Rattle.rp_words.specs.CommandLine.{file_names}
 use Rattle.rp_words.specs.Shapes.{HasRanges, IsInRange}
 
@@ -12,10 +12,6 @@ pub record IsTrialSize (count kinds : ℕ) : Type 0 where
   pub few_rows : count ≤ rows.most
   pub some_goods : goods.least ≤ kinds
   pub few_goods : kinds ≤ goods.most
-
--- so many random behaviours are drawn
-abbrev pub IsDrawCount : ℕ → Type 0
-IsDrawCount = IsInRange draws
 
 -- a unit that is asked for is in range
 abbrev pub IsUnit : Option ℕ → Type 0

@@ -1,8 +1,8 @@
 //! The commands of the program, each with its form.
 ghost use Rattle.std.specs.Prelude.{◌≡◌, Some, None, map};
 ghost use Rattle.rp_words.specs.CommandLine.{command_named, commands, file_names, form_of};
-ghost use Rattle.rp_words.specs.Forms.{over};
-ghost use Rattle.rp_words.specs.Named.{named_form};
+ghost use Rattle.rp_words.specs.Forms.{over, with_json, with_levels, with_numbers, with_per};
+ghost use Rattle.rp_words.specs.Named.{named_form, named_number};
 ghost use Rattle.rp_words.specs.Usage.{usage_text};
 
 /// What the program is asked for.
@@ -176,57 +176,20 @@ impl Command {
         ensures { named_form result ≡ form_of self }
     {
         match self {
-            Command::Pairs => Form {
-                levels: true,
-                ..over("pairs", FileSet::Table)
-            },
-            Command::Analyse => Form {
-                levels: true,
-                ..over("analyse", FileSet::Table)
-            },
-            Command::Certify => Form {
-                levels: true,
-                ..over("certify", FileSet::Table)
-            },
-            Command::Check => Form {
-                levels: true,
-                ..over("check", FileSet::TableAndCertificate)
-            },
-            Command::Demand => Form {
-                json: true,
-                ..over("demand", FileSet::TableAndPricesWithExpenditure)
-            },
-            Command::Welfare => Form {
-                json: true,
-                ..over("welfare", FileSet::TableAndPrices)
-            },
-            Command::Utility => Form {
-                levels: true,
-                ..over("utility", FileSet::TableAndBundles)
-            },
-            Command::Random => Form {
-                per: true,
-                json: true,
-                ..over("random", FileSet::Choices)
-            },
-            Command::CheckRandom => Form {
-                per: true,
-                ..over("checkrandom", FileSet::ChoicesAndCertificate)
-            },
-            Command::Trial => Form {
-                numbers: &[SEED, ROWS, GOODS],
-                ..over("trial", FileSet::Nothing)
-            },
-            Command::Menus => Form {
-                per: true,
-                ..over("menus", FileSet::Menus)
-            },
+            Command::Pairs => over("pairs", FileSet::Table).with_levels(),
+            Command::Analyse => over("analyse", FileSet::Table).with_levels(),
+            Command::Certify => over("certify", FileSet::Table).with_levels(),
+            Command::Check => over("check", FileSet::TableAndCertificate).with_levels(),
+            Command::Demand => over("demand", FileSet::TableAndPricesWithExpenditure).with_json(),
+            Command::Welfare => over("welfare", FileSet::TableAndPrices).with_json(),
+            Command::Utility => over("utility", FileSet::TableAndBundles).with_levels(),
+            Command::Random => over("random", FileSet::Choices).with_json().with_per(),
+            Command::CheckRandom => over("checkrandom", FileSet::ChoicesAndCertificate).with_per(),
+            Command::Trial => over("trial", FileSet::Nothing).with_numbers(&[SEED, ROWS, GOODS]),
+            Command::Menus => over("menus", FileSet::Menus).with_per(),
             Command::Pump => over("pump", FileSet::Table),
             Command::Cost => over("cost", FileSet::TechnologyAndAsked),
-            Command::Power => Form {
-                numbers: &[SEED, DRAWS],
-                ..over("power", FileSet::Table)
-            },
+            Command::Power => over("power", FileSet::Table).with_numbers(&[SEED, DRAWS]),
         }
     }
 }
@@ -242,6 +205,39 @@ fn over(name: &'static str, files: FileSet) -> Form
         per: false,
         json: false,
         levels: false,
+    }
+}
+
+impl Form {
+    /// The same form with these numbers after the files.
+    fn with_numbers(self, numbers: &'static [Number]) -> Form
+        ensures { named_form result ≡ with_numbers (map named_number numbers.now) (named_form self) }
+    {
+        Form { numbers, ..self }
+    }
+
+    /// The same form with the option `--per N`.
+    fn with_per(self) -> Form
+        ensures { named_form result ≡ with_per (named_form self) }
+    {
+        Form { per: true, ..self }
+    }
+
+    /// The same form with the option `--json`.
+    fn with_json(self) -> Form
+        ensures { named_form result ≡ with_json (named_form self) }
+    {
+        Form { json: true, ..self }
+    }
+
+    /// The same form of a command that takes tables with levels.
+    fn with_levels(self) -> Form
+        ensures { named_form result ≡ with_levels (named_form self) }
+    {
+        Form {
+            levels: true,
+            ..self
+        }
     }
 }
 

@@ -5,7 +5,6 @@ ghost use Rattle.clap.specs.Words.{found_of, rows_of};
 ghost use Rattle.rp_words.specs.CommandLine.{file, number};
 ghost use Rattle.rp_words.specs.Forms.{units};
 ghost use Rattle.rp_words.specs.Named.{named_form, named_given, named_number};
-ghost use Rattle.rp_words.specs.Shapes.{HasRanges};
 ghost use Rattle.rp_words.specs.Words.{all_in, given_in, json_of, number_of};
 
 use crate::commands::{Form, Number, UNITS};

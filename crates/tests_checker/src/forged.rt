@@ -2,12 +2,12 @@ ghost use Rattle.std.specs.Prelude.{IfOk};
 ghost use Rattle.rp_evidence.specs.Kinds.{IsOfKind};
 ghost use Rattle.rp_evidence.specs.declared.certificate.Kind.TheVariants.{Table as TableKind};
 
+use crate::items::list;
 use rp_evidence::{AfriatPart, Efficiency, Garp, Homothetic, Item, Level, Numbers, Quasi};
 use rp_num::{Frac, Seq};
 use std::alloc::Global;
 use std::process::Abort;
 use std::test::Fail;
-use tests_checker_support::list;
 
 pub fn fraction(rt: &impl Abort, num: u128, den: u128) -> Frac {
     assert!(rt; den >= 1, "not a fraction");

@@ -1,8 +1,15 @@
-//! Tests of the checker on the tests of a table: forged evidence, each with the clause that it fails first.
+//! Tests of the checker on the tests of a table and on bounds of demand and welfare: forged evidence, each with the
+//! clause that it fails first.
 #![tactic(auto)]
 
 #[cfg(test)]
+mod bound;
+#[cfg(test)]
+mod bounds;
+#[cfg(test)]
 mod forged;
+#[cfg(test)]
+mod items;
 #[cfg(test)]
 mod totals;
 #[cfg(test)]

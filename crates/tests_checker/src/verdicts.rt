@@ -1,7 +1,7 @@
 use crate::forged::{efficiency, model, no_model};
+use crate::items::{answer_alone, at, garp};
 use rp_evidence::Level;
 use std::test::Fail;
-use tests_checker_support::{answer_alone, at, garp};
 
 /// Costs 5, 4; 4, 5: each would have bought the other's bundle for less.
 const CONTRADICTION: &str = "p_a,q_a,p_b,q_b\n1,1,2,2\n2,2,1,1\n";

@@ -1,10 +1,10 @@
+use crate::given::{Given, made_of};
 use rp_evidence::{RandomPart, Share};
 use rp_patch::Patches;
 use rp_random::random;
 use rp_types::rational_types;
 use std::alloc::Global;
 use std::test::Fail;
-use tests_patches_support::{Given, made_of};
 
 /// The numbers, with a space before each.
 fn push_weights(alloc: Global, text: &mut String, weights: &[u64]) -> Result<(), Fail> {

@@ -1,8 +1,8 @@
+use crate::given::{Given, made_of, told_patches};
 use rp_num::Seq;
 use rp_types::{Rational, rational_types};
 use std::alloc::{AllocError, Global};
 use std::test::Fail;
-use tests_patches_support::{Given, made_of, told_patches};
 
 const CROSSED: &str = "p_a,p_b,w\n1,2,4\n2,1,4\n";
 

@@ -1,3 +1,4 @@
+use crate::written::table_in;
 use rp_table::Table;
 use rp_text::{TableFault, read_table};
 use std::test::Fail;
@@ -28,7 +29,7 @@ fn own_levels_stand_first_between_and_last(rt: HostRuntime) -> Result<(), Fail> 
 
 #[test]
 fn a_table_without_the_column_has_no_levels(rt: HostRuntime) -> Result<(), Fail> {
-    let table = read_table(rt.alloc(), b"p_a,q_a,p_e,q_e\n1,1,2,2\n")?;
+    let table = table_in(rt.alloc(), "p_a,q_a,p_e,q_e\n1,1,2,2\n")?;
     assert!(rt; !table.levelled());
     assert!(rt; table.level(0) == 1_000);
     Ok(())

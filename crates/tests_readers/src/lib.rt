@@ -11,3 +11,5 @@ mod limits;
 mod readers;
 #[cfg(test)]
 mod sheets;
+#[cfg(test)]
+mod written;

@@ -1,5 +1,6 @@
-use crate::readers::{budgets, bundles, choices, is_read, new_prices, whole_table};
-use rp_text::{TableFault, read_budgets};
+use crate::readers::{budgets, bundles, choices, is_read, new_prices};
+use crate::written::{budgets_in, whole_table};
+use rp_text::TableFault;
 use std::alloc::{AllocError, Global};
 use std::test::Fail;
 
@@ -55,7 +56,7 @@ fn as_many_budgets_and_choices_as_the_limit_and_one_more(rt: HostRuntime) -> Res
             Err(TableFault::TooManyRecords)
         )
     );
-    let one = read_budgets(alloc, b"p_a,w\n1,10\n")?;
+    let one = budgets_in(alloc, "p_a,w\n1,10\n")?;
     let file = file_of(alloc, "budget,q_a,n\n", "1,1,1\n", 4_096)?;
     let all = numbers_of(alloc, &[0, 1, 1], 4_096)?;
     assert!(rt; is_read(&choices(alloc, file.as_str(), &one)?, Ok(all.as_slice())));

@@ -1,25 +1,11 @@
+use crate::written::{fine_table, two_budgets, whole_table};
 use rp_table::{Budgets, Table};
-use rp_text::{TableFault, read_budgets, read_bundles, read_choices, read_prices, read_table};
+use rp_text::{TableFault, read_budgets, read_bundles, read_choices, read_prices};
 use std::alloc::{AllocError, Global};
 use std::test::Fail;
 
 /// The numbers of a file, record by record, or its fault.
 pub(crate) type Read = Result<Vec<u64>, TableFault>;
-
-/// Two goods, with whole quantities.
-pub(crate) fn whole_table(alloc: Global) -> Result<Table, TableFault> {
-    read_table(alloc, b"p_a,q_a,p_b,q_b\n1,1,2,2\n2,2,1,1\n")
-}
-
-/// The same goods, with quantities of two places.
-fn fine_table(alloc: Global) -> Result<Table, TableFault> {
-    read_table(alloc, b"p_a,q_a,p_b,q_b\n1,0.5,2,2.25\n2,2,1,1\n")
-}
-
-/// Two budgets over two goods.
-fn two_budgets(alloc: Global) -> Result<Budgets, TableFault> {
-    read_budgets(alloc, b"p_a,p_b,w\n1,2,10\n2,1,10\n")
-}
 
 /// Whether these numbers were read, or this fault found.
 pub(crate) fn is_read(got: &Read, want: Result<&[u64], TableFault>) -> bool {

@@ -15,11 +15,16 @@ fn sheet_numbers(alloc: Global, form: &Form, goods: &[Name], file: &str) -> Read
     Ok(numbers)
 }
 
-/// Two inputs.
-fn two_inputs(alloc: Global) -> Result<Vec<Name>, TableFault> {
-    let records = Records::of(alloc, b"y,w_a,x_a,w_b,x_b\n1,1,1,1,1\n", 3)?;
+/// The inputs in a file.
+fn inputs_in(alloc: Global, file: &str) -> Result<Vec<Name>, TableFault> {
+    let records = Records::of(alloc, file.as_bytes(), 3)?;
     let sheet = read_sheet(alloc, &Form::technology(), &[], &records)?;
     Ok(read_names(alloc, &sheet.columns)?)
+}
+
+/// Two inputs.
+fn two_inputs(alloc: Global) -> Result<Vec<Name>, TableFault> {
+    inputs_in(alloc, "y,w_a,x_a,w_b,x_b\n1,1,1,1,1\n")
 }
 
 #[test]

@@ -1,15 +1,21 @@
 use rp_afriat::{afriat, utility_at};
 use rp_evidence::AfriatPart;
 use rp_garp::garp;
-use rp_table::Costs;
-use rp_text::read_table;
+use rp_table::{Costs, Table};
+use rp_text::{TableFault, read_table};
+use std::alloc::Global;
 use std::test::Fail;
+
+/// The table in a file. With no clause, so that no proof works out what a file that is written out denotes.
+fn table_in(alloc: Global, file: &str) -> Result<Table, TableFault> {
+    read_table(alloc, file.as_bytes())
+}
 
 /// Two bundles at the same prices: the utility is what a bundle costs, less 8.
 #[test]
 fn utilities_of_bundles_beside_the_observed_ones(rt: HostRuntime) -> Result<(), Fail> {
     let alloc = rt.alloc();
-    let table = read_table(alloc, b"p_a,q_a,p_b,q_b\n1,4,1,4\n1,2,1,2\n")?;
+    let table = table_in(alloc, "p_a,q_a,p_b,q_b\n1,4,1,4\n1,2,1,2\n")?;
     let costs = Costs::of(alloc, &table)?;
     let verdict = garp(alloc, &costs)?;
     match afriat(alloc, &costs, &verdict)? {

@@ -1,5 +1,6 @@
-use Rattle.std.proofs.Common.{◌≡◌, ◌+◌, ◌%◌, refl, sym, arith, ◌∙◌, ap}
-use Rattle.rp_answers.proofs.TrialLemmas.{quantities_more, total_more, bought_first, bought_as_drawn, quantity_at}
+use Rattle.std.proofs.Common.{◌≡◌, ℕ, ◌+◌, ◌%◌, List, set, refl, sym, arith, ◌∙◌, ap}
+use Rattle.rp_answers.proofs.TrialLemmas.{quantities_more, total_more, quantity_at}
+use Rattle.rp_power.proofs.DrawnLemmas.{as_they_are, first_is_one}
 use Rattle.rp_draws.proofs.WordLemmas.{one_word_more, none_yet}
 use Rattle.rp_answers.proofs.generated.draw_quantities.Goals as goal
 use Rattle.rp_answers.proofs.generated.draw_quantities.Goals.{then-total-eq0, else-total-eq0}
@@ -28,6 +29,6 @@ returns-clause-drawn c =
     let drawn = rw all at c.loop.invariant.drawn in
     let added = rw all at c.loop.invariant.added in
     elim c.if-total-eq0.branch [
-      | then-total-eq0 w ↦ ap (λ v. v.items) w.row-is ∙ bought_first goods (quantity_at g) c.loop.row.items drawn (sym added ∙ w.if-total-eq0.true) c.requires.some_goods
-      | else-total-eq0 w ↦ ap (λ v. v.items) w.row-is ∙ bought_as_drawn goods (quantity_at g) c.loop.row.items drawn (λ none. w.if-total-eq0.false (added ∙ none))
+      | then-total-eq0 w ↦ ap (λ v. v.items) w.row-is ∙ ap (λ (row : List ℕ). set row 0 1) drawn ∙ first_is_one goods (quantity_at g) (sym added ∙ w.if-total-eq0.true) c.requires.some_goods
+      | else-total-eq0 w ↦ ap (λ v. v.items) w.row-is ∙ drawn ∙ as_they_are goods (quantity_at g) (λ none. w.if-total-eq0.false (added ∙ none))
     ]

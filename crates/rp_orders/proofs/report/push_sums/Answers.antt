@@ -1,6 +1,6 @@
 use Rattle.std.proofs.Common.{◌≡◌, ◌++◌, [], ap, refl, arith}
 use Rattle.rp_print.proofs.Texts.{on_ok}
-use Rattle.rp_orders.specs.Report.{IsSumsText, sum_text}
+use Rattle.rp_orders.specs.Report.{sum_text}
 use Rattle.rp_orders.proofs.LeastLemmas.{small_menu}
 use Rattle.rp_orders.proofs.ReportLemmas.{nothing_more}
 use Rattle.rp_orders.proofs.report.push_sums.Goals as goal

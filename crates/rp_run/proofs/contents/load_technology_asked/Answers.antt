@@ -1,4 +1,4 @@
-use Rattle.std.proofs.Common.{◌≡◌, ℕ, List, [], ◌∷◌, Option, Some, None, Result, Ok, Err, refl, sym, subst, ap, length}
+use Rattle.std.proofs.Common.{◌≡◌, ℕ, List, [], ◌∷◌, Some, None, Result, Ok, Err, refl, sym, subst, ap, length}
 use Rattle.rp_cost.specs.Denotation.{asked_beside, tech_in}
 use Rattle.rp_words.specs.CommandLine.{Line, file_at, file_set, files_of, takes_levels}
 use Rattle.rp_words.specs.Named.{named_line}

@@ -6,7 +6,7 @@ use mir.Val.{to_z, of_z}
 use Rattle.rp_simplex.specs.InnerRows.{AreRenewed, factor, less_multiple}
 use Rattle.rp_simplex.proofs.ClearedRows.{back, factor_read, row_left_out, rows_more, same_multiple}
 use Rattle.rp_simplex.proofs.renewal.renew_others.Goals as goal
-use Rattle.rp_simplex.proofs.renewal.renew_others.Goals.{After-renew_row, After-factor_of-factor, then-i-r+else-not-renew_row, else-i-r}
+use Rattle.rp_simplex.proofs.renewal.renew_others.Goals.{After-factor_of-factor, then-i-r+else-not-renew_row, else-i-r}
 
 read : (c : After-factor_of-factor) → to_z w64 (of_z w64 c.factor_of-factor.result) ≡ factor c.args.grid.now c.args.column.now c.loop-i.i
 read c = factor_read c.args.grid.now c.loop-i.grid c.args.r (to_z w64 (of_z w64 c.args.pivot)) (factor c.args.grid.now c.args.column.now) c.args.divisor c.loop-i.i c.loop-i.invariant c.args.column.now c.factor_of-factor.result

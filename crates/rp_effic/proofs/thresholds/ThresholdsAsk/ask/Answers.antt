@@ -1,4 +1,4 @@
-use Rattle.std.proofs.Common.{IsTrue, get_or, subst, sym, ap, ◌∙◌}
+use Rattle.std.proofs.Common.{get_or, subst, sym, ◌∙◌}
 use Rattle.std.proofs.lemmas.List.{get_or_default}
 use Rattle.rp_table.specs.Cost.{cost_at}
 use Rattle.rp_effic.specs.InnerCycles.{HasCycle}
