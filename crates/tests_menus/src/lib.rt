@@ -1,5 +1,5 @@
-//! Tests of choices from menus: what their files say and the units of their cells, mixtures of strict orders with
-//! forged evidence, and what `run` prints of them.
+//! Tests of choices from menus: what their files say and the units of their cells, and mixtures of strict orders with
+//! forged evidence.
 #![tactic(auto)]
 
 #[cfg(test)]
@@ -16,12 +16,6 @@ mod given;
 mod limits;
 #[cfg(test)]
 mod menus;
-#[cfg(test)]
-mod refused;
-#[cfg(test)]
-mod reports;
-#[cfg(test)]
-mod six_letters;
 #[cfg(test)]
 mod sums;
 #[cfg(test)]
