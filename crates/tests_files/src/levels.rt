@@ -236,6 +236,14 @@ fn another_fault_of_a_table_with_levels_comes_first(rt: HostRuntime) -> Result<(
         ("p_a,q_a,e\n1,0,9\n", "rp: t.csv: ZeroBundle record 1\n"),
         ("p_a,q_a,e\n", "rp: t.csv: NoRecords\n"),
         ("p_a,q_a,e,e\n1,1,9,9\n", "rp: t.csv: TwiceNamed column 4\n"),
+        (
+            "p_a,q_a,p_b,q_b,e\n1,1,2,2,0\n2,2,1,1,1000\n",
+            "rp: t.csv: BadLevel record 1 column 5\n",
+        ),
+        (
+            "p_a,q_a,p_b,q_b,e\n1,1,2,2,999.5\n2,2,1,1,1000\n",
+            "rp: t.csv: BadNumber record 1 column 5\n",
+        ),
     ] {
         for words in [
             &["rp", "pairs", "t.csv"] as &[&str],

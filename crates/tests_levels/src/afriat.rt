@@ -51,6 +51,66 @@ fn no_numbers_where_two_contradict_each_other(rt: HostRuntime) -> Result<(), Fai
     Ok(())
 }
 
+/// Sixteen goods whose numbers are the greatest that there are, but where a record says less.
+const HEADERS: &str =
+    "p_a,q_a,p_b,q_b,p_c,q_c,p_d,q_d,p_e,q_e,p_f,q_f,p_g,q_g,p_h,q_h,p_i,q_i,p_j,q_j,p_k,q_k,p_l,q_l,p_m,q_m,p_n,q_n,p_o,q_o,p_p,q_p";
+
+const OF_FEW: &str =
+    "9999999,9999999,1,9999998,1,9999999,1,9999999,1,9999999,1,9999999,1,9999999,1,9999999,1,9999999,1,9999999,1,9999999,1,9999999,1,9999999,1,9999999,1,9999999,1,9999999";
+
+const OF_MORE: &str =
+    "1,0,9999999,9999999,1,9999998,1,9999999,1,9999999,1,9999999,1,9999999,1,9999999,1,9999999,1,9999999,1,9999999,1,9999999,1,9999999,1,9999999,1,9999999,1,9999999";
+
+const OF_NOTHING: &str =
+    "1,0,1,0,867,0,9999999,9999999,9999999,9999999,9999999,9999999,9999999,9999999,9999999,9999999,9999999,9999999,9999999,9999999,9999999,9999999,9999999,9999999,9999999,9999999,9999999,9999999,9999999,9999999,9999999,9999999";
+
+const OF_ONE: &str =
+    "9999999,0,9999999,0,9999999,0,9999999,1,9999999,0,9999999,0,9999999,0,9999999,0,9999999,0,9999999,0,9999999,0,9999999,0,9999999,0,9999999,0,9999999,0,9999999,0";
+
+/// The table of these four records, each with what is given for the column of levels.
+fn steepest(alloc: Global, header: &str, level: &str) -> Result<Costs, Fail> {
+    let text = format!(in alloc;
+        "{HEADERS}{header}\n{OF_FEW}{level}\n{OF_MORE}{level}\n{OF_NOTHING}{level}\n{OF_ONE}{level}\n"
+    )?;
+    costs_of(alloc, text.as_str())
+}
+
+/// Each class falls as far below the one above it as a multiplier near 2^60 lets it. Without levels the last utility is
+/// above -2^120; at levels that take nothing away it is 1,000 times as far down, and passes its width where no multiplier
+/// does.
+#[test]
+fn a_utility_is_the_first_to_pass_its_width(rt: HostRuntime) -> Result<(), Fail> {
+    let alloc = rt.alloc();
+    let costs = steepest(alloc, "", "")?;
+    let verdict = garp(alloc, &costs)?;
+    match afriat(alloc, &costs, &verdict)? {
+        AfriatPart::Model(numbers) => {
+            let u = [
+                0i128,
+                -99_999_980_000_001,
+                -9_999_997_000_000_299_999_990_000_000,
+                -1_497_705_391_529_570_773_856_442_573_106_704,
+            ];
+            let lambda = [
+                1u64,
+                99_999_980_000_001,
+                1_152_073_617_378_793_336,
+                1_152_073_617_378_793_336,
+            ];
+            assert_eq!(rt; numbers.u.as_slice(), u.as_slice());
+            assert_eq!(rt; numbers.lambda.as_slice(), lambda.as_slice());
+        }
+        _ => assert!(rt; false),
+    }
+    let costs = steepest(alloc, ",e", ",1000")?;
+    let verdict = garp(alloc, &costs)?;
+    match afriat(alloc, &costs, &verdict)? {
+        AfriatPart::Wide { at } => assert_eq!(rt; at, 3),
+        _ => assert!(rt; false, "at levels"),
+    }
+    Ok(())
+}
+
 /// The utility of a bundle under the numbers of the table, where it has some.
 fn utility(
     rt: &impl Abort,

@@ -1,3 +1,5 @@
+use rp_evidence::Garp;
+use rp_garp::garp;
 use rp_power::drawn;
 use rp_table::{Costs, Table};
 use rp_text::read_table;
@@ -93,6 +95,30 @@ fn tables_of_words(rt: HostRuntime) -> Result<(), Fail> {
         let got = table_drawn(&rt, rt.alloc(), file, words)?;
         let want = read_table(rt.alloc(), want.as_bytes())?;
         assert!(rt; are_same(&got, &want), "{file} {words:?}");
+    }
+    Ok(())
+}
+
+/// All for the second good and then all for the first costs 4 and 2, 2 and 4, so each would have been cheaper than what
+/// was bought in its place; the other way round it costs 5 and 10, 10 and 5, and neither could have been bought.
+#[test]
+fn verdicts_on_drawn_tables(rt: HostRuntime) -> Result<(), Fail> {
+    for (words, want, fails) in [
+        ([0u32, 1, 1, 0].as_slice(), [4u64, 2, 2, 4], true),
+        (&[101, 0, 100, 7], [5, 10, 10, 5], false),
+    ] {
+        let table = table_drawn(&rt, rt.alloc(), CONTRADICTION, words)?;
+        let costs = Costs::of(rt.alloc(), &table)?;
+        assert!(rt; costs.n() == 2);
+        let all = [
+            costs.cost(0, 0),
+            costs.cost(0, 1),
+            costs.cost(1, 0),
+            costs.cost(1, 1),
+        ];
+        assert_eq!(rt; all, want, "{words:?}");
+        let is_violated = matches!(&garp(rt.alloc(), &costs)?, Garp::Cycle(_));
+        assert_eq!(rt; is_violated, fails, "{words:?}");
     }
     Ok(())
 }

@@ -1,4 +1,6 @@
+use rp_power::report_power;
 use rp_run::Status;
+use rp_text::read_table;
 use std::test::Fail;
 use tests_support::tables::{ALONE, CONTRADICTION};
 use tests_support::{gives, run_over};
@@ -7,7 +9,7 @@ use tests_support::{gives, run_over};
 const PARALLEL: &str = "p_a,q_a,p_b,q_b\n1,2,1,2\n1,4,1,4\n";
 
 #[test]
-fn power_counts_no_violation_where_budgets_never_cross(rt: HostRuntime) -> Result<(), Fail> {
+fn power_counts_violations(rt: HostRuntime) -> Result<(), Fail> {
     for (file, seed, draws, out) in [
         (
             ALONE,
@@ -20,6 +22,13 @@ fn power_counts_no_violation_where_budgets_never_cross(rt: HostRuntime) -> Resul
             "0",
             "1",
             "observations 2 goods 2 places 0 0\npower 0 draws 1 violations 0\n",
+        ),
+        // budgets that cross: as many as another program counts
+        (
+            CONTRADICTION,
+            "7",
+            "1000",
+            "observations 2 goods 2 places 0 0\npower 7 draws 1000 violations 69\n",
         ),
     ] {
         let words = &["rp", "power", "t.csv", seed, draws];
@@ -36,5 +45,15 @@ fn power_at_the_greatest_numbers(rt: HostRuntime) -> Result<(), Fail> {
     let out =
         "observations 1 goods 1 places 0 0\npower 18446744073709551615 draws 1000 violations 0\n";
     assert!(rt; gives(&got, Status::Done, out), "{}", got.out);
+    Ok(())
+}
+
+#[test]
+fn a_report_of_power(rt: HostRuntime) -> Result<(), Fail> {
+    let alloc = rt.alloc();
+    let table = read_table(alloc, b"p_a,q_a,p_b,q_b\n1.50,1,2,0.5\n")?;
+    let text = report_power(alloc, &table, 42, 1000, 345)?;
+    let want = b"observations 1 goods 2 places 2 1\npower 42 draws 1000 violations 345\n";
+    assert_eq!(rt; text.as_slice(), want.as_slice());
     Ok(())
 }
