@@ -8,17 +8,10 @@ use rp_text::read_table;
 use std::alloc::Global;
 use std::process::Abort;
 use std::test::Fail;
-
-const APART: &str = "p_a,q_a,p_b,q_b\n1,2,2,1\n2,1,1,2\n";
-
-const MORE_AND_LESS: &str = "p_a,q_a,p_b,q_b\n1,4,1,4\n1,2,1,2\n";
-
-const CONTRADICTION: &str = "p_a,q_a,p_b,q_b\n1,1,2,2\n2,2,1,1\n";
+use tests_inputs::tables::{ALONE, APART, CONTRADICTION, MORE_AND_LESS};
 
 /// The first is weakly preferred to the second alone, the second strictly to the third alone.
 const IN_TURN: &str = "p_a,q_a,p_b,q_b\n1,2,1,2\n5,1,1,3\n9,0,1,7\n";
-
-const ALONE: &str = "p_a,q_a\n3,2\n";
 
 /// Whether each price is within the limits.
 fn are_prices(prices: &[u32]) -> bool

@@ -7,19 +7,12 @@ use rp_welfare::welfare;
 use std::alloc::Global;
 use std::process::Abort;
 use std::test::Fail;
-
-const MORE_AND_LESS: &str = "p_a,q_a,p_b,q_b\n1,4,1,4\n1,2,1,2\n";
-
-const CONTRADICTION: &str = "p_a,q_a,p_b,q_b\n1,1,2,2\n2,2,1,1\n";
-
-const ALONE: &str = "p_a,q_a\n3,2\n";
+use tests_inputs::tables::{ALONE, CONTRADICTION, EQUAL, MORE_AND_LESS};
 
 const TWO_GOODS_ALONE: &str = "p_a,q_a,p_b,q_b\n2,1,3,1\n";
 
 /// The lines of what was spent at the first and at the second cross where the second chose.
 const CROSSING: &str = "p_a,q_a,p_b,q_b\n1,2,1,2\n1,3,3,1\n";
-
-const INDIFFERENT: &str = "p_a,q_a,p_b,q_b\n1,2,1,2\n1,3,1,1\n";
 
 /// After two pivots an entry of the objective row is about 10^21.
 const STEEP: &str =
@@ -151,18 +144,8 @@ fn bounds_on_worked_tables(rt: HostRuntime) -> Result<(), Fail> {
             "upper 5 at 2 lower 4 x 0 6 y 1:2 over 3",
         ),
         // two that reach each other, at one cost: the upper bound is the first's
-        (
-            INDIFFERENT,
-            [1, 1],
-            1,
-            "upper 4 at 1 lower 4 x 0 4 y 1:1 over 1",
-        ),
-        (
-            INDIFFERENT,
-            [1, 1],
-            2,
-            "upper 4 at 1 lower 4 x 0 4 y 1:1 over 1",
-        ),
+        (EQUAL, [1, 1], 1, "upper 4 at 1 lower 4 x 0 4 y 1:1 over 1"),
+        (EQUAL, [1, 1], 2, "upper 4 at 1 lower 4 x 0 4 y 1:1 over 1"),
     ] {
         assert_eq!(rt;
             given(&rt, alloc, table, &prices, t)?.as_str(),

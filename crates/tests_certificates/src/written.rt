@@ -4,7 +4,9 @@ use rp_run::Status;
 use std::alloc::Global;
 use std::process::Abort;
 use std::test::Fail;
-use tests_support::tables::{APART, CONTRADICTION, EQUAL, MORE_AND_LESS, certificate_of};
+use tests_inputs::tables::{
+    ALONE, APART, CONTRADICTION, EQUAL, MORE_AND_LESS, NINE_TENTHS, THREE, certificate_of,
+};
 use tests_support::{CHECK, check, run_over, run_with_failures};
 
 /// Whether the text is read as a certificate on a table, and written again as it stood.
@@ -55,17 +57,17 @@ fn certificates_of_tables_are_written_and_accepted(rt: HostRuntime) -> Result<()
             0,
         ),
         (
-            "p_a,q_a,p_b,q_b\n1,1,3,3\n21,2,8,1\n",
+            NINE_TENTHS,
             "{\"cycle\":[1,2,1],\"item\":\"garp\"},{\"cycle\":[1,2,1],\"item\":\"afriat\"},{\"above\":[1,2,1],\"at_cycle\":[2,1,2],\"below\":[2,1],\"item\":\"efficiency\",\"level\":\"9/10\"},{\"cycle\":[1,2,1],\"item\":\"homothetic\",\"start\":\"1\"},{\"cycle\":[1,2,1],\"item\":\"quasilinear\"}",
             0,
         ),
         (
-            "p_a,q_a,p_b,q_b,p_c,q_c\n2,1,1,0,3,0\n3,0,2,1,1,0\n1,0,3,0,2,1\n",
+            THREE,
             "{\"cycle\":[1,2,3,1],\"item\":\"garp\"},{\"cycle\":[1,2,3,1],\"item\":\"afriat\"},{\"above\":[1,2,3,1],\"at_ranks\":[3,3,3],\"below\":[1,1,1],\"item\":\"efficiency\",\"level\":\"1/2\"},{\"cycle\":[1,2,1],\"item\":\"homothetic\",\"start\":\"1\"},{\"cycle\":[1,2,3,1],\"item\":\"quasilinear\"}",
             0,
         ),
         (
-            "p_a,q_a\n3,2\n",
+            ALONE,
             "{\"item\":\"garp\",\"ranks\":[1]},{\"item\":\"afriat\",\"lambda\":[\"1\"],\"utility\":[\"0\"]},{\"above\":[],\"at_ranks\":[1],\"below\":[1],\"item\":\"efficiency\",\"level\":\"1\"},{\"item\":\"homothetic\",\"values\":[\"1\"]},{\"item\":\"quasilinear\",\"values\":[\"0\"]}",
             0,
         ),

@@ -5,12 +5,7 @@ use crate::items::answer_alone;
 use rp_evidence::Bound;
 use rp_num::Seq;
 use std::test::Fail;
-
-/// Costs 4, 5; 5, 4.
-const CONSISTENT: &str = "p_a,q_a,p_b,q_b\n1,2,2,1\n2,1,1,2\n";
-
-/// Costs 8, 4; 8, 4.
-const MORE_AND_LESS: &str = "p_a,q_a,p_b,q_b\n1,4,1,4\n1,2,1,2\n";
+use tests_inputs::tables::{APART, MORE_AND_LESS};
 
 #[test]
 fn forged_sets_and_points(rt: HostRuntime) -> Result<(), Fail> {
@@ -41,7 +36,7 @@ fn forged_sets_and_points(rt: HostRuntime) -> Result<(), Fail> {
     for (below, strict, inner, den, expected) in cases {
         let item = demand(alloc, below, strict, inner, den, true_goods(alloc)?)?;
         assert_eq!(rt;
-            answer_after(alloc, CONSISTENT, &[1, 1], item)?.as_str(),
+            answer_after(alloc, APART, &[1, 1], item)?.as_str(),
             expected
         );
     }
@@ -69,14 +64,14 @@ fn forged_bounds_of_goods(rt: HostRuntime) -> Result<(), Fail> {
         let goods = goods(alloc, first, upper, other_lower, other_upper)?;
         let item = demand(alloc, &[0, 1], &[], &[2, 1], 1, goods)?;
         assert_eq!(rt;
-            answer_after(alloc, CONSISTENT, &[1, 1], item)?.as_str(),
+            answer_after(alloc, APART, &[1, 1], item)?.as_str(),
             expected
         );
     }
     let goods = goods(alloc, Bound::Wide { step: u64::MAX }, 2, 1, 2)?;
     let item = demand(alloc, &[0, 1], &[], &[2, 1], 1, goods)?;
     assert_eq!(rt;
-        answer_after(alloc, CONSISTENT, &[1, 1], item)?.as_str(),
+        answer_after(alloc, APART, &[1, 1], item)?.as_str(),
         "accepted"
     );
     Ok(())
@@ -87,7 +82,7 @@ fn demand_without_ranks_or_bounds(rt: HostRuntime) -> Result<(), Fail> {
     let alloc = rt.alloc();
     let item = demand(alloc, &[0, 1], &[], &[2, 1], 1, true_goods(alloc)?)?;
     assert_eq!(rt;
-        answer_alone(alloc, CONSISTENT, item)?.as_str(),
+        answer_alone(alloc, APART, item)?.as_str(),
         "item 1 NoGarp 0"
     );
     let item = demand(
@@ -99,7 +94,7 @@ fn demand_without_ranks_or_bounds(rt: HostRuntime) -> Result<(), Fail> {
         Seq::from_vec(Vec::new(alloc)),
     )?;
     assert_eq!(rt;
-        answer_after(alloc, CONSISTENT, &[1, 1], item)?.as_str(),
+        answer_after(alloc, APART, &[1, 1], item)?.as_str(),
         "item 2 Shape 2"
     );
     Ok(())
@@ -123,7 +118,7 @@ fn forged_prices(rt: HostRuntime) -> Result<(), Fail> {
     for (prices, m, expected) in cases {
         let item = no_demand(alloc, prices, m, &[0, 1, 0])?;
         assert_eq!(rt;
-            answer_after(alloc, CONSISTENT, &[1, 1], item)?.as_str(),
+            answer_after(alloc, APART, &[1, 1], item)?.as_str(),
             expected
         );
     }

@@ -2,18 +2,7 @@ use crate::forged::{falling, fraction, negative, products, sums};
 use crate::items::{answer, answer_alone, garp};
 use rp_evidence::{AfriatPart, Homothetic, Item};
 use std::test::Fail;
-
-/// Costs 5, 4; 4, 5: each would have bought the other's bundle for less.
-const CONTRADICTION: &str = "p_a,q_a,p_b,q_b\n1,1,2,2\n2,2,1,1\n";
-
-/// Costs 4, 5; 5, 4.
-const CONSISTENT: &str = "p_a,q_a,p_b,q_b\n1,2,2,1\n2,1,1,2\n";
-
-/// Costs 8, 4; 8, 4.
-const MORE_AND_LESS: &str = "p_a,q_a,p_b,q_b\n1,4,1,4\n1,2,1,2\n";
-
-/// One observation.
-const ALONE: &str = "p_a,q_a\n3,2\n";
+use tests_inputs::tables::{ALONE, APART, CONTRADICTION, MORE_AND_LESS};
 
 /// The greatest part of a fraction.
 const WIDEST: u128 = (1 << 127) - 1;
@@ -28,7 +17,7 @@ fn forged_products(rt: HostRuntime) -> Result<(), Fail> {
         (CONTRADICTION, 1, 1, 1, 1, "item 1 Order 1"),
         (MORE_AND_LESS, 1, 1, 1, 4, "item 1 Order 2"),
         (CONTRADICTION, WIDEST, 1, 1, 1, "item 1 Wide 1"),
-        (CONSISTENT, 1, 1, 1, WIDEST, "item 1 Wide 2"),
+        (APART, 1, 1, 1, WIDEST, "item 1 Wide 2"),
         // the steps from the first come before those from the second
         (CONTRADICTION, 1, 1, WIDEST, 1, "item 1 Order 1"),
     ];
@@ -39,7 +28,7 @@ fn forged_products(rt: HostRuntime) -> Result<(), Fail> {
     }
     let item = products(alloc, &[])?;
     assert_eq!(rt;
-        answer_alone(alloc, CONSISTENT, item)?.as_str(),
+        answer_alone(alloc, APART, item)?.as_str(),
         "item 1 Shape 0"
     );
     Ok(())
@@ -56,7 +45,7 @@ fn forged_falling_cycles(rt: HostRuntime) -> Result<(), Fail> {
         (CONTRADICTION, 1, 1, &[], "item 1 Shape 0"),
         (CONTRADICTION, 1, 1, &[0, 1], "item 1 NotClosed 0"),
         (CONTRADICTION, 1, 1, &[0, 2, 0], "item 1 Number 2"),
-        (CONSISTENT, 1, 1, &[0, 1, 0], "item 1 NotLess 0"),
+        (APART, 1, 1, &[0, 1, 0], "item 1 NotLess 0"),
         (CONTRADICTION, 1, 1, &[0, 0], "item 1 NotLess 0"),
         (CONTRADICTION, WIDEST, 1, &[0, 1, 0], "item 1 Wide 1"),
         (CONTRADICTION, 1, WIDEST, &[0, 1, 0], "item 1 Wide 1"),
@@ -74,8 +63,8 @@ fn forged_sums(rt: HostRuntime) -> Result<(), Fail> {
     let alloc = rt.alloc();
     let cases: [(&str, &[i128], &str); 12] = [
         (MORE_AND_LESS, &[0, -4], "accepted"),
-        (CONSISTENT, &[], "item 1 Shape 0"),
-        (CONSISTENT, &[0], "item 1 Shape 0"),
+        (APART, &[], "item 1 Shape 0"),
+        (APART, &[0], "item 1 Shape 0"),
         (CONTRADICTION, &[0, 0], "item 1 Order 1"),
         (MORE_AND_LESS, &[0, -3], "item 1 Order 1"),
         (MORE_AND_LESS, &[0, -5], "item 1 Order 2"),
@@ -101,7 +90,7 @@ fn forged_negative_cycles(rt: HostRuntime) -> Result<(), Fail> {
         (CONTRADICTION, &[], "item 1 Shape 0"),
         (CONTRADICTION, &[0, 1], "item 1 NotClosed 0"),
         (CONTRADICTION, &[7, 7], "item 1 Number 1"),
-        (CONSISTENT, &[0, 1, 0], "item 1 NotLess 0"),
+        (APART, &[0, 1, 0], "item 1 NotLess 0"),
         // a sum of just 0
         (MORE_AND_LESS, &[0, 1, 0], "item 1 NotLess 0"),
     ];

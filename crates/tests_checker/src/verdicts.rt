@@ -2,24 +2,7 @@ use crate::forged::{efficiency, model, no_model};
 use crate::items::{answer_alone, at, garp};
 use rp_evidence::Level;
 use std::test::Fail;
-
-/// Costs 5, 4; 4, 5: each would have bought the other's bundle for less.
-const CONTRADICTION: &str = "p_a,q_a,p_b,q_b\n1,1,2,2\n2,2,1,1\n";
-
-/// Costs 4, 5; 5, 4.
-const CONSISTENT: &str = "p_a,q_a,p_b,q_b\n1,2,2,1\n2,1,1,2\n";
-
-/// Costs 8, 4; 8, 4.
-const MORE_AND_LESS: &str = "p_a,q_a,p_b,q_b\n1,4,1,4\n1,2,1,2\n";
-
-/// All costs are 4: a weak cycle without a strict step.
-const INDIFFERENT: &str = "p_a,q_a,p_b,q_b\n1,2,1,2\n1,3,1,1\n";
-
-/// Costs 10, 5; 45, 50: the index 9/10 is not attained.
-const NOT_ATTAINED: &str = "p_a,q_a,p_b,q_b\n1,1,3,3\n21,2,8,1\n";
-
-/// One observation.
-const ALONE: &str = "p_a,q_a\n3,2\n";
+use tests_inputs::tables::{ALONE, APART, CONTRADICTION, EQUAL, MORE_AND_LESS, NINE_TENTHS};
 
 #[test]
 fn forged_cycles(rt: HostRuntime) -> Result<(), Fail> {
@@ -33,11 +16,11 @@ fn forged_cycles(rt: HostRuntime) -> Result<(), Fail> {
         (CONTRADICTION, &[4294967295, 0], "item 1 Number 1"),
         (CONTRADICTION, &[0, 1, 4294967295], "item 1 Number 3"),
         (CONTRADICTION, &[0, 1], "item 1 NotClosed 0"),
-        (CONSISTENT, &[0, 1, 0], "item 1 NotWeak 1"),
+        (APART, &[0, 1, 0], "item 1 NotWeak 1"),
         (MORE_AND_LESS, &[0, 1, 0], "item 1 NotWeak 2"),
-        (INDIFFERENT, &[0, 1, 0], "item 1 NoStrict 0"),
+        (EQUAL, &[0, 1, 0], "item 1 NoStrict 0"),
         (CONTRADICTION, &[0, 0], "item 1 NoStrict 0"),
-        (INDIFFERENT, &[0, 1, 2], "item 1 Number 3"),
+        (EQUAL, &[0, 1, 2], "item 1 Number 3"),
     ];
     for (text, walk, expected) in cases {
         let item = garp(alloc, false, walk)?;
@@ -50,17 +33,17 @@ fn forged_cycles(rt: HostRuntime) -> Result<(), Fail> {
 fn forged_ranks(rt: HostRuntime) -> Result<(), Fail> {
     let alloc = rt.alloc();
     let cases: [(&str, &[u32], &str); 10] = [
-        (CONSISTENT, &[0, 4294967295], "accepted"),
-        (CONSISTENT, &[], "item 1 Shape 0"),
-        (CONSISTENT, &[1], "item 1 Shape 0"),
-        (CONSISTENT, &[1, 1, 1], "item 1 Shape 0"),
+        (APART, &[0, 4294967295], "accepted"),
+        (APART, &[], "item 1 Shape 0"),
+        (APART, &[1], "item 1 Shape 0"),
+        (APART, &[1, 1, 1], "item 1 Shape 0"),
         (CONTRADICTION, &[1, 1], "item 1 Order 1"),
         // a strict step that stays
         (MORE_AND_LESS, &[1, 1], "item 1 Order 1"),
         // a weak step that rises
-        (INDIFFERENT, &[1, 2], "item 1 Order 1"),
-        (INDIFFERENT, &[2, 1], "item 1 Order 2"),
-        (INDIFFERENT, &[4294967295, 4294967295], "accepted"),
+        (EQUAL, &[1, 2], "item 1 Order 1"),
+        (EQUAL, &[2, 1], "item 1 Order 2"),
+        (EQUAL, &[4294967295, 4294967295], "accepted"),
         (MORE_AND_LESS, &[2, 1], "accepted"),
     ];
     for (text, ranks, expected) in cases {
@@ -103,7 +86,7 @@ fn forged_models(rt: HostRuntime) -> Result<(), Fail> {
     }
     let item = no_model(alloc, &[0, 1, 0])?;
     assert_eq!(rt;
-        answer_alone(alloc, CONSISTENT, item)?.as_str(),
+        answer_alone(alloc, APART, item)?.as_str(),
         "item 1 NotWeak 1"
     );
     Ok(())
@@ -223,7 +206,7 @@ fn forged_parts_of_an_efficiency_index(rt: HostRuntime) -> Result<(), Fail> {
             "item 1 Order 1",
         ),
         (
-            CONSISTENT,
+            APART,
             1,
             1,
             &[1, 1],
@@ -233,7 +216,7 @@ fn forged_parts_of_an_efficiency_index(rt: HostRuntime) -> Result<(), Fail> {
             "item 1 Shape 1",
         ),
         (
-            CONSISTENT,
+            APART,
             (1 << 51) - 1,
             (1 << 51) - 1,
             &[1, 1],
@@ -244,7 +227,7 @@ fn forged_parts_of_an_efficiency_index(rt: HostRuntime) -> Result<(), Fail> {
         ),
         // an index that is not attained
         (
-            NOT_ATTAINED,
+            NINE_TENTHS,
             9,
             10,
             &[2, 1],
@@ -254,7 +237,7 @@ fn forged_parts_of_an_efficiency_index(rt: HostRuntime) -> Result<(), Fail> {
             "accepted",
         ),
         (
-            NOT_ATTAINED,
+            NINE_TENTHS,
             9,
             10,
             &[2, 1],

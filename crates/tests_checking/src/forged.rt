@@ -2,10 +2,10 @@ use rp_run::Status;
 use std::alloc::Global;
 use std::process::Abort;
 use std::test::Fail;
-use tests_support::check;
-use tests_support::tables::{
+use tests_inputs::tables::{
     APART, CERTIFICATE, CONTRADICTION, EQUAL, MORE_AND_LESS, certificate_of,
 };
+use tests_support::check;
 
 /// The certificate is rejected on the table, with the item, the reason and the place.
 fn rejects(

@@ -1,7 +1,7 @@
 use rp_run::Status;
 use std::alloc::Global;
 use std::test::Fail;
-use tests_support::tables::{CERTIFICATE, CONTRADICTION};
+use tests_inputs::tables::{CERTIFICATE, CONTRADICTION};
 use tests_support::{Ended, check};
 
 /// The certificate after so many spaces, and what a check says of it.

@@ -2,7 +2,7 @@ use rp_run::Status;
 use std::alloc::Global;
 use std::process::Abort;
 use std::test::Fail;
-use tests_support::tables::{CERTIFICATE, CONTRADICTION, certificate_of};
+use tests_inputs::tables::{CERTIFICATE, CONTRADICTION, certificate_of};
 use tests_support::{CHECK, check, run_over};
 
 /// The text is refused as a certificate with that fault, and nothing is printed.

@@ -1,6 +1,6 @@
 use rp_run::Status;
 use std::test::Fail;
-use tests_support::choices::{
+use tests_inputs::choices::{
     COPRIME, CROSSED, DEAR, HALVES, IRRATIONAL, MIXTURE, OF_COPRIME_PER_100, OF_HALVES,
     OF_IRRATIONAL, OF_MIXTURE, OF_ONE_CHOICE, OF_VIOLATION, OF_VIOLATION_PER_100, ONE_BUDGET,
     ONE_CHOICE, VIOLATION,

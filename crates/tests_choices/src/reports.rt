@@ -1,6 +1,6 @@
 use rp_run::Status;
 use std::test::Fail;
-use tests_support::choices::{
+use tests_inputs::choices::{
     COPRIME, CROSSED, DEAR, HALVES, IRRATIONAL, MIXTURE, ONE_BUDGET, ONE_CHOICE, VIOLATION,
 };
 use tests_support::{gives, run_over};

@@ -1,7 +1,7 @@
 use rp_run::Status;
 use std::alloc::Global;
 use std::test::Fail;
-use tests_support::tables::{CERTIFICATE, CONTRADICTION};
+use tests_inputs::tables::{CERTIFICATE, CONTRADICTION};
 use tests_support::{CALM, Plan, is_ended, run_in_pieces};
 
 /// Whether `check` ends so, where both files and the output go byte by byte.

@@ -2,7 +2,7 @@ use rp_run::Status;
 use std::alloc::Global;
 use std::process::Abort;
 use std::test::Fail;
-use tests_support::tables::{APART, CERTIFICATE, CONTRADICTION, MORE_AND_LESS};
+use tests_inputs::tables::{APART, CERTIFICATE, CONTRADICTION, MORE_AND_LESS};
 use tests_support::{CALM, Ended, Plan, is_ended, run_in_pieces};
 
 /// A line of words over files, and how it ends where nothing fails, with the text that it writes.

@@ -2,7 +2,7 @@ use rp_run::Status;
 use std::alloc::Global;
 use std::process::Abort;
 use std::test::Fail;
-use tests_support::tables::{CERTIFICATE, CONTRADICTION};
+use tests_inputs::tables::{CERTIFICATE, CONTRADICTION};
 use tests_support::{CALM, Ended, is_ended, run_in_pieces};
 
 /// What `pairs` does over the first bytes of the worked file.

@@ -1,7 +1,7 @@
 use rp_run::Status;
 use std::alloc::Global;
 use std::test::Fail;
-use tests_support::tables::CONTRADICTION;
+use tests_inputs::tables::CONTRADICTION;
 use tests_support::{CALM, Plan, is_ended, run_in_pieces};
 
 const WORDS: [&str; 3] = ["rp", "pairs", "t.csv"];

@@ -2,7 +2,7 @@ use rp_run::Status;
 use std::alloc::Global;
 use std::process::Abort;
 use std::test::Fail;
-use tests_support::choices::{CROSSED, MIXTURE, OF_VIOLATION, VIOLATION};
+use tests_inputs::choices::{CROSSED, MIXTURE, OF_VIOLATION, VIOLATION};
 use tests_support::{CALM, Ended, Plan, is_ended, run_in_pieces};
 
 const BUDGETS: (&str, &str) = ("b.csv", CROSSED);

@@ -1,18 +1,13 @@
 use rp_run::Status;
 use std::test::Fail;
+use tests_inputs::tables::{AT_799, AT_800, AT_ALL, CONTRADICTION, MORE_AND_LESS_AT_ALL};
 use tests_support::{gives, run_over, tells};
-
-/// Costs 5, 4; 4, 5. At four fifths the first step is an equality.
-const LEVELLED: &str = "p_a,q_a,p_b,q_b,e\n1,1,2,2,800\n2,2,1,1,1000\n";
 
 #[test]
 fn pairs_takes_a_table_with_levels(rt: HostRuntime) -> Result<(), Fail> {
     for (file, out) in [
-        (LEVELLED, "pair 1 2\n"),
-        (
-            "p_a,q_a,p_b,q_b,e\n1,1,2,2,799\n2,2,1,1,1000\n",
-            "pair none\n",
-        ),
+        (AT_800, "pair 1 2\n"),
+        (AT_799, "pair none\n"),
         (
             "e,p_a,q_a,p_b,q_b\n1000,1,1,2,2\n1000.0,2,2,1,1\n",
             "pair 1 2\n",
@@ -23,12 +18,6 @@ fn pairs_takes_a_table_with_levels(rt: HostRuntime) -> Result<(), Fail> {
     }
     Ok(())
 }
-
-/// Just below four fifths the first step is none.
-const BELOW: &str = "p_a,q_a,p_b,q_b,e\n1,1,2,2,799\n2,2,1,1,1000\n";
-
-/// Costs 8, 4; 8, 4, of which all counts.
-const MORE_AND_LESS: &str = "p_a,q_a,p_b,q_b,e\n1,4,1,4,1000\n1,2,1,2,1000\n";
 
 /// The certificate of the table just below.
 const CERTIFICATE: &str =
@@ -47,7 +36,7 @@ fn verdicts_and_utilities_by_levels(rt: HostRuntime) -> Result<(), Fail> {
             "observations 2 goods 2 places 0 0\nlevels 799 1000\ngarp holds\nranks 1 2\nafriat model\nutility -1000 0\nlambda 200 1\nat 1 value -1000\nat 2 value 0\n",
         ),
     ] {
-        let files = &[("t.csv", BELOW), ("b.csv", "q_a,q_b\n1,2\n2,1\n")];
+        let files = &[("t.csv", AT_799), ("b.csv", "q_a,q_b\n1,2\n2,1\n")];
         let got = run_over(rt.alloc(), words, files)?;
         assert!(rt; gives(&got, Status::Done, out), "{words:?} {}", got.out);
     }
@@ -61,17 +50,17 @@ fn levels_that_change_no_verdict(rt: HostRuntime) -> Result<(), Fail> {
     for (words, table, out) in [
         (
             &["rp", "utility", "t.csv", "b.csv"] as &[&str],
-            LEVELLED,
+            AT_800,
             "observations 2 goods 2 places 0 0\nlevels 800 1000\ngarp violated\ncycle 1 2 1\nafriat none\ncycle 1 2 1\nat 1 none\n",
         ),
         (
             &["rp", "analyse", "t.csv"],
-            LEVELLED,
+            AT_800,
             "observations 2 goods 2 places 0 0\nlevels 800 1000\ngarp violated\ncycle 1 2 1\nafriat none\ncycle 1 2 1\nefficiency 4/5 attained yes\nbelow 1 1\nabove 1 2 1\nat ranks 2 2\nhomothetic violated\nstart 1\ncycle 1 2 1\nquasilinear violated\ncycle 1 2 1\n",
         ),
         (
             &["rp", "utility", "t.csv", "b.csv"],
-            MORE_AND_LESS,
+            MORE_AND_LESS_AT_ALL,
             "observations 2 goods 2 places 0 0\nlevels 1000 1000\ngarp holds\nranks 2 1\nafriat model\nutility 0 -4000\nlambda 1 1\nat 1 value -5000\n",
         ),
     ] {
@@ -87,13 +76,13 @@ fn levels_that_change_no_verdict(rt: HostRuntime) -> Result<(), Fail> {
 fn levels_of_a_certificate_are_those_of_the_table(rt: HostRuntime) -> Result<(), Fail> {
     for (table, certificate, status, out) in [
         (
-            BELOW,
+            AT_799,
             CERTIFICATE,
             Status::Done,
             "accepted items 5 withheld 0\n",
         ),
         (
-            "p_a,q_a,p_b,q_b\n1,1,2,2\n2,2,1,1\n",
+            CONTRADICTION,
             CERTIFICATE,
             Status::Rejected,
             "rejected item 0 Levels place 0\n",
@@ -105,37 +94,37 @@ fn levels_of_a_certificate_are_those_of_the_table(rt: HostRuntime) -> Result<(),
             "rejected item 0 Levels place 2\n",
         ),
         (
-            BELOW,
+            AT_799,
             "{\"items\":[],\"kind\":\"table\",\"version\":1}",
             Status::Rejected,
             "rejected item 0 Levels place 0\n",
         ),
         (
-            BELOW,
+            AT_799,
             "{\"items\":[],\"kind\":\"table\",\"levels\":[799,1000],\"version\":2}",
             Status::Done,
             "accepted items 0 withheld 0\n",
         ),
         (
-            BELOW,
+            AT_799,
             "{\"items\":[],\"kind\":\"table\",\"levels\":[800,999],\"version\":2}",
             Status::Rejected,
             "rejected item 0 Levels place 1\n",
         ),
         (
-            BELOW,
+            AT_799,
             "{\"items\":[],\"kind\":\"table\",\"levels\":[799],\"version\":2}",
             Status::Rejected,
             "rejected item 0 Levels place 0\n",
         ),
         (
-            BELOW,
+            AT_799,
             "{\"items\":[],\"kind\":\"table\",\"levels\":[800,1000,1000],\"version\":2}",
             Status::Rejected,
             "rejected item 0 Levels place 0\n",
         ),
         (
-            "p_a,q_a,p_b,q_b,e\n1,1,2,2,1000\n2,2,1,1,1000\n",
+            AT_ALL,
             "{\"items\":[{\"cycle\":[1,2,1],\"item\":\"garp\"}],\"kind\":\"table\",\"version\":1}",
             Status::Rejected,
             "rejected item 0 Levels place 0\n",
@@ -154,7 +143,7 @@ fn levels_of_a_certificate_are_those_of_the_table(rt: HostRuntime) -> Result<(),
 fn forged_evidence_with_levels(rt: HostRuntime) -> Result<(), Fail> {
     for (table, certificate, out) in [
         (
-            BELOW,
+            AT_799,
             "{\"items\":[{\"cycle\":[1,2,1],\"item\":\"garp\"}],\"kind\":\"table\",\"levels\":[799,1000],\"version\":2}",
             "rejected item 1 NotWeak place 1\n",
         ),
@@ -164,37 +153,37 @@ fn forged_evidence_with_levels(rt: HostRuntime) -> Result<(), Fail> {
             "rejected item 1 NoStrict place 0\n",
         ),
         (
-            BELOW,
+            AT_799,
             "{\"items\":[{\"item\":\"afriat\",\"lambda\":[\"1\",\"1\"],\"utility\":[\"-1\",\"0\"]}],\"kind\":\"table\",\"levels\":[799,1000],\"version\":2}",
             "rejected item 1 Order place 2\n",
         ),
         (
-            BELOW,
+            AT_799,
             "{\"items\":[{\"item\":\"garp\",\"ranks\":[1,1]}],\"kind\":\"table\",\"levels\":[799,1000],\"version\":2}",
             "rejected item 1 Order place 2\n",
         ),
         (
-            BELOW,
+            AT_799,
             "{\"items\":[{\"item\":\"afriat\",\"lambda\":[\"199\",\"1\"],\"utility\":[\"-1000\",\"0\"]}],\"kind\":\"table\",\"levels\":[799,1000],\"version\":2}",
             "rejected item 1 Order place 1\n",
         ),
         (
-            MORE_AND_LESS,
+            MORE_AND_LESS_AT_ALL,
             "{\"items\":[{\"item\":\"afriat\",\"lambda\":[\"1\",\"1\"],\"utility\":[\"0\",\"-4\"]}],\"kind\":\"table\",\"levels\":[1000,1000],\"version\":2}",
             "rejected item 1 Order place 1\n",
         ),
         (
-            BELOW,
+            AT_799,
             "{\"items\":[{\"item\":\"garp\",\"ranks\":[1,2]},{\"cycle\":[],\"expenditure\":\"0\",\"item\":\"demand\",\"prices\":[]}],\"kind\":\"table\",\"levels\":[799,1000],\"version\":2}",
             "rejected item 2 Levels place 0\n",
         ),
         (
-            BELOW,
+            AT_799,
             "{\"items\":[{\"cycle\":[1,2,1],\"expenditure\":\"3\",\"item\":\"demand\",\"prices\":[\"1\",\"1\"]}],\"kind\":\"table\",\"levels\":[799,1000],\"version\":2}",
             "rejected item 1 Levels place 0\n",
         ),
         (
-            BELOW,
+            AT_799,
             "{\"items\":[{\"cycle\":[1,2,1],\"item\":\"welfare\",\"observation\":1,\"prices\":[\"1\",\"1\"]}],\"kind\":\"table\",\"levels\":[799,1000],\"version\":2}",
             "rejected item 1 Levels place 0\n",
         ),
@@ -219,7 +208,7 @@ fn other_commands_refuse_levels(rt: HostRuntime) -> Result<(), Fail> {
         &["rp", "pump", "t.csv"],
         &["rp", "power", "t.csv", "7", "1000"],
     ] {
-        let got = run_over(rt.alloc(), words, &[("t.csv", LEVELLED)])?;
+        let got = run_over(rt.alloc(), words, &[("t.csv", AT_800)])?;
         let line = "rp: t.csv: OwnLevels\n";
         assert!(rt; tells(&got, Status::Refused, line), "{words:?} {}", got.err);
     }

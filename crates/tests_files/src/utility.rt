@@ -1,7 +1,7 @@
 use rp_run::Status;
 use std::alloc::Global;
 use std::test::Fail;
-use tests_support::tables::{CONTRADICTION, MORE_AND_LESS};
+use tests_inputs::tables::{CONTRADICTION, MORE_AND_LESS};
 use tests_support::{Ended, run_with_failures};
 
 /// Runs `utility t.csv b.csv` over these files, of which one may be missing. Of the desk the listed calls fail.

@@ -1,6 +1,4 @@
-use crate::tables::{
-    AT_799, AT_800, AT_ALL, HALF, MORE_AND_LESS, MORE_AND_LESS_WITHOUT, WITHOUT, costs_of,
-};
+use crate::tables::{HALF, costs_of};
 use rp_afriat::{afriat, utility_at};
 use rp_evidence::AfriatPart;
 use rp_garp::garp;
@@ -9,6 +7,9 @@ use rp_text::read_table;
 use std::alloc::Global;
 use std::process::Abort;
 use std::test::Fail;
+use tests_inputs::tables::{
+    AT_799, AT_800, AT_ALL, CONTRADICTION, MORE_AND_LESS, MORE_AND_LESS_AT_ALL,
+};
 
 /// At 799 the second observation is still preferred to the first and allows it 4,000 - 5,000; the first, to which the
 /// second costs 4,000 - 3,995 too much, needs that 200 times to allow the second its 0. Where all levels are 1,000 the
@@ -18,8 +19,8 @@ fn numbers_by_own_levels(rt: HostRuntime) -> Result<(), Fail> {
     let alloc = rt.alloc();
     for (text, u, lambda) in [
         (AT_799, &[-1000i128, 0] as &[i128], &[200u64, 1] as &[u64]),
-        (MORE_AND_LESS, &[0, -4000], &[1, 1]),
-        (MORE_AND_LESS_WITHOUT, &[0, -4], &[1, 1]),
+        (MORE_AND_LESS_AT_ALL, &[0, -4000], &[1, 1]),
+        (MORE_AND_LESS, &[0, -4], &[1, 1]),
         (HALF, &[0], &[1]),
     ] {
         let costs = costs_of(alloc, text)?;
@@ -38,7 +39,7 @@ fn numbers_by_own_levels(rt: HostRuntime) -> Result<(), Fail> {
 #[test]
 fn no_numbers_where_two_contradict_each_other(rt: HostRuntime) -> Result<(), Fail> {
     let alloc = rt.alloc();
-    for text in [AT_800, AT_ALL, WITHOUT] {
+    for text in [AT_800, AT_ALL, CONTRADICTION] {
         let costs = costs_of(alloc, text)?;
         let verdict = garp(alloc, &costs)?;
         match afriat(alloc, &costs, &verdict)? {
@@ -140,8 +141,8 @@ fn utilities_by_own_levels(rt: HostRuntime) -> Result<(), Fail> {
         (AT_799, &[3, 3], Some(4000)),
         (AT_799, &[0, 0], Some(-800_000)),
         (AT_800, &[1, 2], None),
-        (MORE_AND_LESS, &[3, 3], Some(-2000)),
-        (MORE_AND_LESS_WITHOUT, &[3, 3], Some(-2)),
+        (MORE_AND_LESS_AT_ALL, &[3, 3], Some(-2000)),
+        (MORE_AND_LESS, &[3, 3], Some(-2)),
         (HALF, &[2], Some(3000)),
         (HALF, &[1], Some(0)),
     ] {

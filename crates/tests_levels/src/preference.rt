@@ -1,8 +1,9 @@
-use crate::tables::{AT_799, AT_800, AT_ALL, MORE_AND_LESS, WITHOUT, costs_of};
+use crate::tables::costs_of;
 use rp_evidence::Garp;
 use rp_garp::{garp, pairs};
 use rp_pref::{Closure, own_strict, own_walk, own_weak};
 use std::test::Fail;
+use tests_inputs::tables::{AT_799, AT_800, AT_ALL, CONTRADICTION, MORE_AND_LESS_AT_ALL};
 
 /// The first observation costs 5 at its own prices and the second 4 at them: 800 thousandths of 5 are just 4.
 #[test]
@@ -12,7 +13,7 @@ fn what_observations_are_held_to(rt: HostRuntime) -> Result<(), Fail> {
         (AT_800, 1000u64, 4000u64, 0i64, -1000i64),
         (AT_799, 1000, 3995, 5, -1000),
         (AT_ALL, 1000, 5000, -1000, -1000),
-        (WITHOUT, 1, 5, -1, -1),
+        (CONTRADICTION, 1, 5, -1, -1),
     ] {
         let costs = costs_of(alloc, text)?;
         assert!(rt; costs.n() == 2);
@@ -32,8 +33,8 @@ fn steps_and_closures_by_own_levels(rt: HostRuntime) -> Result<(), Fail> {
         (AT_800, "01 11", "00 10", "11 11"),
         (AT_799, "00 11", "00 10", "00 11"),
         (AT_ALL, "11 11", "01 10", "11 11"),
-        (WITHOUT, "11 11", "01 10", "11 11"),
-        (MORE_AND_LESS, "11 01", "01 00", "11 01"),
+        (CONTRADICTION, "11 11", "01 10", "11 11"),
+        (MORE_AND_LESS_AT_ALL, "11 01", "01 00", "11 01"),
     ] {
         let costs = costs_of(alloc, text)?;
         let closure = Closure::own(alloc, &costs)?;
@@ -72,7 +73,7 @@ fn shortest_walks_by_own_levels(rt: HostRuntime) -> Result<(), Fail> {
         (AT_799, 0, 0, none),
         (AT_799, 0, 1, none),
         (AT_799, 1, 0, &[1, 0]),
-        (WITHOUT, 0, 0, &[0, 0]),
+        (CONTRADICTION, 0, 0, &[0, 0]),
     ] {
         let costs = costs_of(alloc, text)?;
         assert!(rt; s < costs.n() && t < costs.n());
@@ -92,8 +93,8 @@ fn verdicts_by_own_levels(rt: HostRuntime) -> Result<(), Fail> {
         (AT_800, Some((0u32, 1u32)), false, &[0u32, 1, 0] as &[u32]),
         (AT_799, None, true, &[1, 2]),
         (AT_ALL, Some((0, 1)), false, &[0, 1, 0]),
-        (WITHOUT, Some((0, 1)), false, &[0, 1, 0]),
-        (MORE_AND_LESS, None, true, &[2, 1]),
+        (CONTRADICTION, Some((0, 1)), false, &[0, 1, 0]),
+        (MORE_AND_LESS_AT_ALL, None, true, &[2, 1]),
     ] {
         let costs = costs_of(alloc, text)?;
         assert!(rt; pairs(&costs) == pair, "{text}");

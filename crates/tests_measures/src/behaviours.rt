@@ -6,9 +6,7 @@ use rp_text::read_table;
 use std::alloc::Global;
 use std::process::Abort;
 use std::test::Fail;
-
-/// Costs 5 and 5 of what was bought, at the prices 1, 2 and 2, 1.
-const CONTRADICTION: &str = "p_a,q_a,p_b,q_b\n1,1,2,2\n2,2,1,1\n";
+use tests_inputs::tables::CONTRADICTION;
 
 /// Whether two tables have the same names, prices, quantities and places.
 fn are_same(one: &Table, other: &Table) -> bool {

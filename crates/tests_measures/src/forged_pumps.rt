@@ -4,12 +4,7 @@ use rp_table::Costs;
 use rp_text::read_table;
 use std::alloc::Global;
 use std::test::Fail;
-
-/// Costs 10, 5; 45, 50, of which the greatest ratio is 1/6.
-const NINE_TENTHS: &str = "p_a,q_a,p_b,q_b\n1,1,3,3\n21,2,8,1\n";
-
-/// Costs 8, 4; 8, 4: no weak step leads from the second observation to the first.
-const MORE_AND_LESS: &str = "p_a,q_a,p_b,q_b\n1,4,1,4\n1,2,1,2\n";
+use tests_inputs::tables::{MORE_AND_LESS, NINE_TENTHS};
 
 /// The greatest absolute value that a value may have.
 const WIDTH: i128 = 1 << 121;

@@ -10,15 +10,10 @@ use rp_text::read_table;
 use std::alloc::Global;
 use std::process::Abort;
 use std::test::Fail;
-
-/// Two budgets that cross.
-const CROSSED: &str = "p_a,q_a,p_b,q_b\n1,1,2,2\n2,2,1,1\n";
+use tests_inputs::tables::{ALONE, CONTRADICTION};
 
 /// Budgets that never cross: the second is the first with twice as much to spend.
 const PARALLEL: &str = "p_a,q_a,p_b,q_b\n1,2,1,2\n1,4,1,4\n";
-
-/// One observation of one good.
-const ALONE: &str = "p_a,q_a\n3,2\n";
 
 /// How many of so many behaviours on the budgets of a file fail the axiom.
 fn counted<R: Abort>(
@@ -38,13 +33,13 @@ fn counted<R: Abort>(
 #[test]
 fn counts_of_behaviours(rt: HostRuntime) -> Result<(), Fail> {
     for (file, seed, draws, want) in [
-        (CROSSED, 0u64, 1u32, 1u32),
-        (CROSSED, 7, 1, 0),
-        (CROSSED, 7, 100, 4),
-        (CROSSED, 7, 1000, 69),
-        (CROSSED, 8, 100, 11),
-        (CROSSED, 8, 1000, 77),
-        (CROSSED, 18_446_744_073_709_551_615, 1000, 60),
+        (CONTRADICTION, 0u64, 1u32, 1u32),
+        (CONTRADICTION, 7, 1, 0),
+        (CONTRADICTION, 7, 100, 4),
+        (CONTRADICTION, 7, 1000, 69),
+        (CONTRADICTION, 8, 100, 11),
+        (CONTRADICTION, 8, 1000, 77),
+        (CONTRADICTION, 18_446_744_073_709_551_615, 1000, 60),
         (PARALLEL, 0, 1000, 0),
         (PARALLEL, 7, 1000, 0),
         (ALONE, 7, 10, 0),
@@ -88,7 +83,7 @@ fn counted_one_by_one<R: Abort>(
 #[test]
 fn counts_by_verdicts(rt: HostRuntime) -> Result<(), Fail> {
     let alloc = rt.alloc();
-    let table = read_table(alloc, CROSSED.as_bytes())?;
+    let table = read_table(alloc, CONTRADICTION.as_bytes())?;
     assert!(rt; !table.levelled());
     let costs = Costs::of(alloc, &table)?;
     for (seed, want) in [(7u64, 1u32), (8, 2), (42, 0)] {

@@ -2,7 +2,7 @@ use rp_power::report_power;
 use rp_run::Status;
 use rp_text::read_table;
 use std::test::Fail;
-use tests_support::tables::{ALONE, CONTRADICTION};
+use tests_inputs::tables::{ALONE, CONTRADICTION};
 use tests_support::{gives, run_over};
 
 /// Budgets that never cross: the second is the first with twice as much to spend.

@@ -2,28 +2,29 @@ use rp_pump::{check_pump, pump, report_pump};
 use rp_table::Costs;
 use rp_text::read_table;
 use std::test::Fail;
+use tests_inputs::tables::{ALONE, CONTRADICTION, MORE_AND_LESS, NINE_TENTHS, THREE};
 
 #[test]
 fn worked_tables(rt: HostRuntime) -> Result<(), Fail> {
     for (text, report) in [
         (
-            b"p_a,q_a,p_b,q_b\n1,1,2,2\n2,2,1,1\n".as_slice(),
+            CONTRADICTION.as_bytes(),
             b"observations 2 goods 2 places 0 0\npump 1/5\ncycle 1 2 1\nvalues 0 0\n".as_slice(),
         ),
         (
-            b"p_a,q_a,p_b,q_b\n1,4,1,4\n1,2,1,2\n",
+            MORE_AND_LESS.as_bytes(),
             b"observations 2 goods 2 places 0 0\npump 0\ncycle 1 1\nvalues 0 -4\n",
         ),
         (
-            b"p_a,q_a,p_b,q_b\n1,1,3,3\n21,2,8,1\n",
+            NINE_TENTHS.as_bytes(),
             b"observations 2 goods 2 places 0 0\npump 1/6\ncycle 1 2 1\nvalues 0 -20\n",
         ),
         (
-            b"p_a,q_a,p_b,q_b,p_c,q_c\n2,1,1,0,3,0\n3,0,2,1,1,0\n1,0,3,0,2,1\n",
+            THREE.as_bytes(),
             b"observations 3 goods 3 places 0 0\npump 1/2\ncycle 1 2 3 1\nvalues 0 0 0\n",
         ),
         (
-            b"p_a,q_a\n3,2\n",
+            ALONE.as_bytes(),
             b"observations 1 goods 1 places 0 0\npump 0\ncycle 1 1\nvalues 0\n",
         ),
     ] {

@@ -1,7 +1,7 @@
 use rp_run::Status;
 use std::alloc::Global;
 use std::test::Fail;
-use tests_support::tables::{ALONE, CONTRADICTION, MORE_AND_LESS, NINE_TENTHS, THREE};
+use tests_inputs::tables::{ALONE, CONTRADICTION, MORE_AND_LESS, NINE_TENTHS, THREE};
 use tests_support::{gives, run_over};
 
 #[test]

@@ -11,16 +11,6 @@ use rp_text::{read_budgets, read_choices};
 use std::alloc::Global;
 use std::test::Fail;
 
-/// Two budgets, with the prices 1, 2 and 2, 1, and 4 to spend on each.
-pub const CROSSED: &str = "p_a,p_b,w\n1,2,4\n2,1,4\n";
-
-/// Choices from both: the first patch of each lies above the other budget, the second below. Three of the four
-/// choices in four are made by rational types.
-pub const VIOLATION: &str = "budget,q_a,q_b,n\n1,2,1,1\n1,0,2,3\n2,1,2,2\n2,2,0,2\n";
-
-/// The same patches, with units that a mixture makes.
-pub const MIXTURE: &str = "budget,q_a,q_b,n\n1,2,1,3\n1,0,2,1\n2,1,2,2\n2,2,0,2\n";
-
 /// The patches of choices in a file, from budgets in a file.
 pub fn patches_of(
     alloc: Global,

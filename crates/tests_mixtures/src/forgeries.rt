@@ -1,8 +1,6 @@
-use crate::forged::{
-    CROSSED, MIXTURE, Parts, VIOLATION, answer, answer_alone, mixture, patches_of, violation,
-    withheld,
-};
+use crate::forged::{Parts, answer, answer_alone, mixture, patches_of, violation, withheld};
 use std::test::Fail;
+use tests_inputs::choices::{CROSSED, MIXTURE, VIOLATION};
 
 /// The greatest number that a linear program may give, 2^63 - 1.
 const WIDTH: u64 = 9_223_372_036_854_775_807;

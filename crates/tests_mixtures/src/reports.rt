@@ -2,9 +2,7 @@ ghost use Rattle.std.specs.Prelude.{◌≤◌, All, IfSome};
 ghost use Rattle.rp_evidence.specs.Kinds.{IsOfKind};
 ghost use Rattle.rp_evidence.specs.declared.certificate.Kind.TheVariants.{Random as RandomKind};
 
-use crate::forged::{
-    CROSSED, MIXTURE, VIOLATION, certificate, mixture, patches_of, violation, withheld,
-};
+use crate::forged::{certificate, mixture, patches_of, violation, withheld};
 use rp_check::{Verdict, check_random};
 use rp_evidence::Item;
 use rp_patch::{Patches, UNITS};
@@ -13,6 +11,7 @@ use rp_report::report_random;
 use rp_types::rational_types;
 use std::alloc::Global;
 use std::test::Fail;
+use tests_inputs::choices::{COPRIME, CROSSED, IRRATIONAL, MIXTURE, VIOLATION};
 
 /// The report of these items, or that they are not accepted.
 fn reported(alloc: Global, patches: &Patches, types: u32, items: Vec<Item>) -> Result<String, Fail>
@@ -70,14 +69,14 @@ fn reports_of_what_is_found(rt: HostRuntime) -> Result<(), Fail> {
         ),
         (
             CROSSED,
-            "budget,q_a,q_b,n\n1,2,1,99991\n2,1,2,99989\n",
+            COPRIME,
             Some(100),
             "budgets 2 patches 2 types 1 total 100\napportioned per 100\nrandom mixture over 1\npart 1 2 weight 100\n",
         ),
         // no type is rational
         (
             CROSSED,
-            "budget,q_a,q_b,n\n1,0,2,1\n2,2,0,1\n",
+            IRRATIONAL,
             None,
             "budgets 2 patches 2 types 0 total 1\nrandom violated share 0\nweights 0 0 over 1\n",
         ),

@@ -4,6 +4,7 @@ use crate::given::{Given, made_of, told_patches};
 use rp_patch::PatchFault;
 use std::alloc::{AllocError, Global};
 use std::test::Fail;
+use tests_inputs::choices::CROSSED;
 
 /// How many patches there are, or the fault with its budget from 1.
 fn patches_counted(alloc: Global, budgets: &str, choices: &str) -> Result<String, AllocError> {
@@ -130,7 +131,7 @@ fn types_past_their_limit_by_one(rt: HostRuntime) -> Result<(), Fail> {
 #[test]
 fn totals_at_their_limit(rt: HostRuntime) -> Result<(), Fail> {
     let alloc = rt.alloc();
-    let budgets = "p_a,p_b,w\n1,2,4\n2,1,4\n";
+    let budgets = CROSSED;
     let at_the_limit = "budget,q_a,q_b,n\n1,2,1,512\n2,1,2,1953125\n";
     assert_eq!(rt;
         told_patches(alloc, budgets, at_the_limit, None)?.as_str(),

@@ -4,6 +4,7 @@ use crate::counts::counted;
 use crate::given::told_patches;
 use std::alloc::{AllocError, Global};
 use std::test::Fail;
+use tests_inputs::choices::{COPRIME, CROSSED};
 
 /// So many budgets with prices (j, n + 1 - j) and income 1.
 fn fan(alloc: Global, n: u32) -> Result<String, AllocError>
@@ -148,8 +149,8 @@ fn as_many_types_as_the_limit_and_more(rt: HostRuntime) -> Result<(), Fail> {
 #[test]
 fn totals_up_to_their_limit(rt: HostRuntime) -> Result<(), Fail> {
     let alloc = rt.alloc();
-    let budgets = "p_a,p_b,w\n1,2,4\n2,1,4\n";
-    let coprime = "budget,q_a,q_b,n\n1,2,1,99991\n2,1,2,99989\n";
+    let budgets = CROSSED;
+    let coprime = COPRIME;
     assert_eq!(rt;
         told_patches(alloc, budgets, coprime, None)?.as_str(),
         "NeedUnit 2"

@@ -5,6 +5,7 @@ use rp_random::random;
 use rp_types::rational_types;
 use std::alloc::Global;
 use std::test::Fail;
+use tests_inputs::choices::{CROSSED, IRRATIONAL, MIXTURE, VIOLATION};
 
 /// The numbers, with a space before each.
 fn push_weights(alloc: Global, text: &mut String, weights: &[u64]) -> Result<(), Fail> {
@@ -68,24 +69,20 @@ fn found(alloc: Global, made: &Patches) -> Result<String, Fail> {
 #[test]
 fn mixtures_and_violations(rt: HostRuntime) -> Result<(), Fail> {
     let alloc = rt.alloc();
-    let crossed = "p_a,p_b,w\n1,2,4\n2,1,4\n";
+    let crossed = CROSSED;
     for (budgets, choices, expected) in [
         (
             crossed,
-            "budget,q_a,q_b,n\n1,2,1,1\n1,0,2,3\n2,1,2,2\n2,2,0,2\n",
+            VIOLATION,
             "violated, weights 1 0 1 0 over 1, 1 4 weight 1, 2 3 weight 2",
         ),
         (
             crossed,
-            "budget,q_a,q_b,n\n1,2,1,3\n1,0,2,1\n2,1,2,2\n2,2,0,2\n",
+            MIXTURE,
             "mixture over 1, 1 3 weight 1, 1 4 weight 2, 2 3 weight 1",
         ),
         // no type is rational
-        (
-            crossed,
-            "budget,q_a,q_b,n\n1,0,2,1\n2,2,0,1\n",
-            "violated, weights 0 0 over 1",
-        ),
+        (crossed, IRRATIONAL, "violated, weights 0 0 over 1"),
         (
             "p_a,w\n3,10\n",
             "budget,q_a,n\n1,2,7\n",

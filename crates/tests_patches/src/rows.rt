@@ -3,8 +3,7 @@ use rp_num::Seq;
 use rp_types::{Rational, rational_types};
 use std::alloc::{AllocError, Global};
 use std::test::Fail;
-
-const CROSSED: &str = "p_a,p_b,w\n1,2,4\n2,1,4\n";
+use tests_inputs::choices::{CROSSED, IRRATIONAL, VIOLATION};
 
 /// The types, each with its patches from 1.
 fn push_types(alloc: Global, text: &mut String, types: &Seq<Rational>) -> Result<(), AllocError> {
@@ -39,10 +38,7 @@ fn told_types(alloc: Global, budgets: &str, choices: &str) -> Result<String, All
 fn patches_by_budget_and_first_choice(rt: HostRuntime) -> Result<(), Fail> {
     let alloc = rt.alloc();
     for (choices, told) in [
-        (
-            "budget,q_a,q_b,n\n1,2,1,1\n1,0,2,3\n2,1,2,2\n2,2,0,2\n",
-            "1:0+ 1, 1:0- 3, 2:+0 2, 2:-0 2, total 4",
-        ),
+        (VIOLATION, "1:0+ 1, 1:0- 3, 2:+0 2, 2:-0 2, total 4"),
         // the record that was chosen no time comes first and makes no patch
         (
             "budget,q_a,q_b,n\n1,0,2,0\n1,2,1,1\n1,0,2,3\n2,1,2,2\n2,4,0,0\n2,2,0,2\n",
@@ -106,13 +102,9 @@ fn incomes_are_multiplied_across(rt: HostRuntime) -> Result<(), Fail> {
 fn types_in_order(rt: HostRuntime) -> Result<(), Fail> {
     let alloc = rt.alloc();
     for (budgets, choices, told) in [
-        (
-            CROSSED,
-            "budget,q_a,q_b,n\n1,2,1,1\n1,0,2,3\n2,1,2,2\n2,2,0,2\n",
-            " 1 3, 1 4, 2 3",
-        ),
+        (CROSSED, VIOLATION, " 1 3, 1 4, 2 3"),
         // each below the other's budget: no type is rational
-        (CROSSED, "budget,q_a,q_b,n\n1,0,2,1\n2,2,0,1\n", ""),
+        (CROSSED, IRRATIONAL, ""),
         // each on the line of the other's budget: a cycle without a strict step
         (CROSSED, "budget,q_a,q_b,n\n1,1,1,1\n2,1,1,1\n", " 1 2"),
         // on the line, and below: a cycle with a strict step

@@ -4,20 +4,7 @@ use rp_table::Costs;
 use rp_text::read_table;
 use std::alloc::Global;
 use std::test::Fail;
-
-const CONTRADICTION: &str = "p_a,q_a,p_b,q_b\n1,1,2,2\n2,2,1,1\n";
-
-const APART: &str = "p_a,q_a,p_b,q_b\n1,2,2,1\n2,1,1,2\n";
-
-const MORE_AND_LESS: &str = "p_a,q_a,p_b,q_b\n1,4,1,4\n1,2,1,2\n";
-
-const INDIFFERENT: &str = "p_a,q_a,p_b,q_b\n1,2,1,2\n1,3,1,1\n";
-
-const NINE_TENTHS: &str = "p_a,q_a,p_b,q_b\n1,1,3,3\n21,2,8,1\n";
-
-const THREE_STEPS: &str = "p_a,q_a,p_b,q_b,p_c,q_c\n2,1,1,0,3,0\n3,0,2,1,1,0\n1,0,3,0,2,1\n";
-
-const ALONE: &str = "p_a,q_a\n3,2\n";
+use tests_inputs::tables::{ALONE, APART, CONTRADICTION, EQUAL, MORE_AND_LESS, NINE_TENTHS, THREE};
 
 fn costs_of(alloc: Global, text: &str) -> Result<Costs, Fail> {
     let table = read_table(alloc, text.as_bytes())?;
@@ -37,13 +24,13 @@ fn closures_at_several_levels(rt: HostRuntime) -> Result<(), Fail> {
         (APART, 1, 1, weak, "10 01", "11"),
         (MORE_AND_LESS, 1, 1, weak, "11 01", "21"),
         (MORE_AND_LESS, 1, 1, strict, "01 00", "21"),
-        (INDIFFERENT, 1, 1, weak, "11 11", "22"),
-        (INDIFFERENT, 1, 1, strict, "00 00", "11"),
+        (EQUAL, 1, 1, weak, "11 11", "22"),
+        (EQUAL, 1, 1, strict, "00 00", "11"),
         (NINE_TENTHS, 9, 10, weak, "11 11", "22"),
         (NINE_TENTHS, 9, 10, strict, "01 00", "21"),
-        (THREE_STEPS, 1, 1, strict, "111 111 111", "333"),
-        (THREE_STEPS, 1, 2, weak, "111 111 111", "333"),
-        (THREE_STEPS, 1, 2, strict, "000 000 000", "111"),
+        (THREE, 1, 1, strict, "111 111 111", "333"),
+        (THREE, 1, 2, weak, "111 111 111", "333"),
+        (THREE, 1, 2, strict, "000 000 000", "111"),
         (ALONE, 1, 1, weak, "1", "1"),
         (ALONE, 1, 1, strict, "0", "1"),
     ] {
@@ -77,20 +64,12 @@ fn shortest_walks_at_several_levels(rt: HostRuntime) -> Result<(), Fail> {
     let (weak, strict) = (Steps::Weak, Steps::Strict);
     let none: &[u32] = &[];
     for (text, num, den, steps, s, t, expected) in [
-        (
-            THREE_STEPS,
-            1u64,
-            1u64,
-            weak,
-            0u32,
-            0u32,
-            &[0u32, 0] as &[u32],
-        ),
-        (THREE_STEPS, 1, 1, strict, 0, 0, &[0, 1, 2, 0]),
-        (THREE_STEPS, 1, 1, weak, 0, 2, &[0, 1, 2]),
-        (THREE_STEPS, 1, 1, strict, 2, 1, &[2, 0, 1]),
-        (THREE_STEPS, 1, 2, weak, 0, 0, &[0, 1, 2, 0]),
-        (THREE_STEPS, 1, 2, strict, 0, 1, none),
+        (THREE, 1u64, 1u64, weak, 0u32, 0u32, &[0u32, 0] as &[u32]),
+        (THREE, 1, 1, strict, 0, 0, &[0, 1, 2, 0]),
+        (THREE, 1, 1, weak, 0, 2, &[0, 1, 2]),
+        (THREE, 1, 1, strict, 2, 1, &[2, 0, 1]),
+        (THREE, 1, 2, weak, 0, 0, &[0, 1, 2, 0]),
+        (THREE, 1, 2, strict, 0, 1, none),
         (ALONE, 1, 1, weak, 0, 0, &[0, 0]),
         (ALONE, 1, 1, strict, 0, 0, none),
         (NINE_TENTHS, 9, 10, strict, 0, 1, &[0, 1]),

@@ -3,6 +3,7 @@
 use rp_table::{Budgets, Table};
 use rp_text::{TableFault, read_budgets, read_table};
 use std::alloc::Global;
+use tests_inputs::tables::CONTRADICTION;
 
 /// The table in a file.
 pub(crate) fn table_in(alloc: Global, file: &str) -> Result<Table, TableFault> {
@@ -11,7 +12,7 @@ pub(crate) fn table_in(alloc: Global, file: &str) -> Result<Table, TableFault> {
 
 /// Two goods, with whole quantities.
 pub(crate) fn whole_table(alloc: Global) -> Result<Table, TableFault> {
-    table_in(alloc, "p_a,q_a,p_b,q_b\n1,1,2,2\n2,2,1,1\n")
+    table_in(alloc, CONTRADICTION)
 }
 
 /// The same goods, with quantities of two places.

@@ -1,6 +1,6 @@
 use rp_run::Status;
 use std::test::Fail;
-use tests_support::choices::{COPRIME, CROSSED, OF_VIOLATION, VIOLATION};
+use tests_inputs::choices::{COPRIME, CROSSED, OF_VIOLATION, VIOLATION};
 use tests_support::{gives, run_over, tells};
 
 const UNKNOWN: &str = "budget,q_a,q_b,n\n3,2,1,1\n";

@@ -1,6 +1,7 @@
 use rp_run::Status;
 use std::test::Fail;
-use tests_support::choices::{CROSSED, MIXTURE, OF_VIOLATION, ON_A_TABLE, VIOLATION};
+use tests_inputs::choices::{CROSSED, MIXTURE, OF_VIOLATION, ON_A_TABLE, VIOLATION};
+use tests_inputs::tables::ALONE;
 use tests_support::{gives, run_over, tells};
 
 const WORDS: &[&str] = &["rp", "checkrandom", "b.csv", "c.csv", "v.json"];
@@ -191,7 +192,7 @@ fn texts_of_certificates(rt: HostRuntime) -> Result<(), Fail> {
 /// A certificate on choices is none on a table.
 #[test]
 fn a_certificate_of_the_other_kind(rt: HostRuntime) -> Result<(), Fail> {
-    let files = &[("t.csv", "p_a,q_a\n3,2\n"), ("v.json", OF_VIOLATION)];
+    let files = &[("t.csv", ALONE), ("v.json", OF_VIOLATION)];
     let got = run_over(rt.alloc(), &["rp", "check", "t.csv", "v.json"], files)?;
     assert!(rt;
         tells(&got, Status::Refused, "rp: v.json: BadShape item 0\n"),

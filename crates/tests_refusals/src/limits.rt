@@ -3,7 +3,7 @@ ghost use Rattle.std.specs.Prelude.{◌≤◌};
 use rp_run::Status;
 use std::alloc::{AllocError, Global};
 use std::test::Fail;
-use tests_support::choices::{CROSSED, VIOLATION};
+use tests_inputs::choices::{CROSSED, VIOLATION};
 use tests_support::{Ended, gives, run_over, tells};
 
 /// So many budgets with prices (j, n + 1 - j) and income 1.

@@ -2,10 +2,8 @@ use rp_run::Status;
 use std::alloc::Global;
 use std::process::Abort;
 use std::test::Fail;
+use tests_inputs::tables::{ALONE, APART, CONTRADICTION, EQUAL, MORE_AND_LESS, NINE_TENTHS, THREE};
 use tests_support::run_over;
-use tests_support::tables::{
-    ALONE, APART, CONTRADICTION, EQUAL, MORE_AND_LESS, NINE_TENTHS, THREE,
-};
 
 /// What `rp analyse t.csv` writes over a file with these bytes, where it ends well.
 fn report(rt: &impl Abort, alloc: Global, file: &str) -> Result<String, Fail> {

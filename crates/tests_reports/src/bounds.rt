@@ -1,7 +1,7 @@
 use rp_run::Status;
 use std::alloc::Global;
 use std::test::Fail;
-use tests_support::tables::{ALONE, APART, CONTRADICTION, MORE_AND_LESS};
+use tests_inputs::tables::{ALONE, APART, CONTRADICTION, MORE_AND_LESS};
 use tests_support::{Ended, run_over};
 
 /// The tableaus of programs on this table soon pass 2^63 - 1.

@@ -1,11 +1,8 @@
-//! What the crates of tests share: `run` over files in memory, and inputs whose answers are known. It has no test of
-//! its own.
+//! What the crates of tests share: `run` over files in memory. It has no test of its own.
 #![tactic(auto)]
 
 mod checking;
-pub mod choices;
 mod running;
-pub mod tables;
 
 pub use checking::{CHECK, check};
 pub use running::{

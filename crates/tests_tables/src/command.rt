@@ -2,7 +2,7 @@ use rp_outside::{MemFile, SureDesk, SureSink};
 use rp_run::{Status, run_surely};
 use std::alloc::Global;
 use std::test::Fail;
-use tests_support::tables::{ALONE, APART, CONTRADICTION, THREE};
+use tests_inputs::tables::{ALONE, APART, CONTRADICTION, THREE};
 use tests_support::{Ended, run_with_failures};
 
 /// The words of a command line.

@@ -2,8 +2,8 @@ use crate::command::answer;
 use rp_run::Status;
 use std::alloc::Global;
 use std::test::Fail;
+use tests_inputs::tables::CONTRADICTION;
 use tests_support::Ended;
-use tests_support::tables::CONTRADICTION;
 
 /// What `pairs` does over a file.
 fn pairs(alloc: Global, file: &str) -> Result<Ended, Fail> {

@@ -5,6 +5,7 @@ use rp_table::{Costs, Table};
 use rp_text::{TableFault, read_table};
 use std::alloc::Global;
 use std::test::Fail;
+use tests_inputs::tables::MORE_AND_LESS;
 
 /// The table in a file. With no clause, so that no proof works out what a file that is written out denotes.
 fn table_in(alloc: Global, file: &str) -> Result<Table, TableFault> {
@@ -15,7 +16,7 @@ fn table_in(alloc: Global, file: &str) -> Result<Table, TableFault> {
 #[test]
 fn utilities_of_bundles_beside_the_observed_ones(rt: HostRuntime) -> Result<(), Fail> {
     let alloc = rt.alloc();
-    let table = table_in(alloc, "p_a,q_a,p_b,q_b\n1,4,1,4\n1,2,1,2\n")?;
+    let table = table_in(alloc, MORE_AND_LESS)?;
     let costs = Costs::of(alloc, &table)?;
     let verdict = garp(alloc, &costs)?;
     match afriat(alloc, &costs, &verdict)? {

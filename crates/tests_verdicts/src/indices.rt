@@ -4,6 +4,7 @@ use rp_table::Costs;
 use rp_text::read_table;
 use std::alloc::Global;
 use std::test::Fail;
+use tests_inputs::tables::{ALONE, APART, CONTRADICTION, EQUAL, MORE_AND_LESS, NINE_TENTHS, THREE};
 
 /// The index, whether it is attained, and the three lists of evidence, with observations counted from 1.
 fn text_of(alloc: Global, file: &str) -> Result<String, Fail> {
@@ -38,31 +39,13 @@ fn push_list(
 #[test]
 fn the_index_of_worked_tables(rt: HostRuntime) -> Result<(), Fail> {
     for (file, wanted) in [
-        (
-            "p_a,q_a,p_b,q_b\n1,1,2,2\n2,2,1,1\n",
-            "4/5, below 1 1, above 1 2 1, ranks 2 2",
-        ),
-        (
-            "p_a,q_a,p_b,q_b\n1,2,2,1\n2,1,1,2\n",
-            "1/1, below 1 1, above, ranks 1 1",
-        ),
-        (
-            "p_a,q_a,p_b,q_b\n1,4,1,4\n1,2,1,2\n",
-            "1/1, below 2 1, above, ranks 2 1",
-        ),
-        (
-            "p_a,q_a,p_b,q_b\n1,2,1,2\n1,3,1,1\n",
-            "1/1, below 1 1, above, ranks 2 2",
-        ),
-        (
-            "p_a,q_a,p_b,q_b\n1,1,3,3\n21,2,8,1\n",
-            "9/10, below 2 1, above 1 2 1, cycle 2 1 2",
-        ),
-        (
-            "p_a,q_a,p_b,q_b,p_c,q_c\n2,1,1,0,3,0\n3,0,2,1,1,0\n1,0,3,0,2,1\n",
-            "1/2, below 1 1 1, above 1 2 3 1, ranks 3 3 3",
-        ),
-        ("p_a,q_a\n3,2\n", "1/1, below 1, above, ranks 1"),
+        (CONTRADICTION, "4/5, below 1 1, above 1 2 1, ranks 2 2"),
+        (APART, "1/1, below 1 1, above, ranks 1 1"),
+        (MORE_AND_LESS, "1/1, below 2 1, above, ranks 2 1"),
+        (EQUAL, "1/1, below 1 1, above, ranks 2 2"),
+        (NINE_TENTHS, "9/10, below 2 1, above 1 2 1, cycle 2 1 2"),
+        (THREE, "1/2, below 1 1 1, above 1 2 3 1, ranks 3 3 3"),
+        (ALONE, "1/1, below 1, above, ranks 1"),
     ] {
         let got = text_of(rt.alloc(), file)?;
         assert_eq!(rt; got.as_str(), wanted, "the index of {file}");

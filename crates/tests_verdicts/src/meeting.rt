@@ -3,6 +3,7 @@ use rp_garp::{garp, meets_garp};
 use rp_table::Costs;
 use rp_text::read_table;
 use std::test::Fail;
+use tests_inputs::tables::{ALONE, AT_799, AT_800, CONTRADICTION, MORE_AND_LESS};
 
 /// Tables on which the axiom holds, and others on which it does not; the verdict with evidence is the same.
 #[test]
@@ -10,13 +11,13 @@ fn whether_the_axiom_holds(rt: HostRuntime) -> Result<(), Fail> {
     let alloc = rt.alloc();
     for (file, holds) in [
         // one observation
-        ("p_a,q_a\n3,2\n", true),
+        (ALONE, true),
         // all of one bundle less than the other
-        ("p_a,q_a,p_b,q_b\n1,4,1,4\n1,2,1,2\n", true),
+        (MORE_AND_LESS, true),
         // each weakly preferred to the other, neither strictly
         ("p_a,q_a,p_b,q_b\n1,1,1,2\n1,2,1,1\n", true),
         // each strictly preferred to the other
-        ("p_a,q_a,p_b,q_b\n1,1,2,2\n2,2,1,1\n", false),
+        (CONTRADICTION, false),
         // one weakly preferred to the other, and that one strictly to it
         ("p_a,q_a,p_b,q_b\n1,1,1,2\n2,2,1,1\n", false),
         // three of which no two contradict each other
@@ -25,8 +26,8 @@ fn whether_the_axiom_holds(rt: HostRuntime) -> Result<(), Fail> {
             false,
         ),
         // held to levels, at one of which the second bundle costs as much as what counts, and at the other more
-        ("p_a,q_a,p_b,q_b,e\n1,1,2,2,800\n2,2,1,1,1000\n", false),
-        ("p_a,q_a,p_b,q_b,e\n1,1,2,2,799\n2,2,1,1,1000\n", true),
+        (AT_800, false),
+        (AT_799, true),
     ] {
         let table = read_table(alloc, file.as_bytes())?;
         let costs = Costs::of(alloc, &table)?;

@@ -9,6 +9,7 @@ use rp_table::Costs;
 use rp_text::read_table;
 use rp_walk::{Settled, Total, settle};
 use std::test::Fail;
+use tests_inputs::tables::{ALONE, APART, CONTRADICTION, MORE_AND_LESS, NINE_TENTHS, THREE};
 
 /// A total of the test's own: sums over observations in a row, of which only -1, 0 and 1 fit.
 #[derive(Drop)]
@@ -103,12 +104,9 @@ fn the_first_step_that_does_not_fit(rt: HostRuntime) -> Result<(), Fail> {
 #[test]
 fn sums_of_worked_tables(rt: HostRuntime) -> Result<(), Fail> {
     for (text, values) in [
-        (
-            b"p_a,q_a,p_b,q_b\n1,2,2,1\n2,1,1,2\n".as_slice(),
-            [0, 0].as_slice(),
-        ),
-        (b"p_a,q_a,p_b,q_b\n1,4,1,4\n1,2,1,2\n", &[0, -4]),
-        (b"p_a,q_a\n3,2\n", &[0]),
+        (APART.as_bytes(), [0, 0].as_slice()),
+        (MORE_AND_LESS.as_bytes(), &[0, -4]),
+        (ALONE.as_bytes(), &[0]),
     ] {
         match quasilinear(
             rt.alloc(),
@@ -119,15 +117,9 @@ fn sums_of_worked_tables(rt: HostRuntime) -> Result<(), Fail> {
         }
     }
     for (text, cycle) in [
-        (
-            b"p_a,q_a,p_b,q_b\n1,1,2,2\n2,2,1,1\n".as_slice(),
-            [0, 1, 0].as_slice(),
-        ),
-        (b"p_a,q_a,p_b,q_b\n1,1,3,3\n21,2,8,1\n", &[0, 1, 0]),
-        (
-            b"p_a,q_a,p_b,q_b,p_c,q_c\n2,1,1,0,3,0\n3,0,2,1,1,0\n1,0,3,0,2,1\n",
-            &[0, 1, 2, 0],
-        ),
+        (CONTRADICTION.as_bytes(), [0, 1, 0].as_slice()),
+        (NINE_TENTHS.as_bytes(), &[0, 1, 0]),
+        (THREE.as_bytes(), &[0, 1, 2, 0]),
     ] {
         match quasilinear(
             rt.alloc(),

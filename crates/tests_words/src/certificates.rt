@@ -1,7 +1,7 @@
 use crate::over_files::answer;
 use rp_run::Status;
 use std::test::Fail;
-use tests_support::tables::CERTIFICATE;
+use tests_inputs::tables::CERTIFICATE;
 
 const DEMAND: &str =
     "{\"items\":[{\"item\":\"garp\",\"ranks\":[1,1]},{\"below\":[1,2],\"expenditure\":\"3\",\"goods\":[{\"lower\":{\"den\":\"1\",\"value\":\"1\",\"x\":[\"1\",\"2\"],\"y\":[[2,\"1\"],[4,\"1\"]]},\"upper\":{\"den\":\"1\",\"value\":\"2\",\"x\":[\"2\",\"1\"],\"y\":[[1,\"1\"],[4,\"1\"]]}},{\"lower\":{\"den\":\"1\",\"value\":\"1\",\"x\":[\"2\",\"1\"],\"y\":[[1,\"1\"],[4,\"1\"]]},\"upper\":{\"den\":\"1\",\"value\":\"2\",\"x\":[\"1\",\"2\"],\"y\":[[2,\"1\"],[4,\"1\"]]}}],\"inner\":{\"den\":\"1\",\"num\":[\"2\",\"1\"]},\"item\":\"demand\",\"prices\":[\"1\",\"1\"],\"strict\":[]}],\"kind\":\"table\",\"version\":1}\n";

@@ -2,7 +2,7 @@ use crate::over_files::USAGE;
 use rp_run::Status;
 use std::alloc::Global;
 use std::test::Fail;
-use tests_support::choices::{CROSSED, OF_VIOLATION, OF_VIOLATION_PER_100, VIOLATION};
+use tests_inputs::choices::{CROSSED, OF_VIOLATION, OF_VIOLATION_PER_100, VIOLATION};
 use tests_support::{Ended, gives, run_over, tells};
 
 const REPORT: &str =

@@ -1,6 +1,6 @@
 use std::alloc::Global;
 use std::test::Fail;
-use tests_support::tables::{APART, CERTIFICATE, CONTRADICTION, MORE_AND_LESS};
+use tests_inputs::tables::{APART, CERTIFICATE, CONTRADICTION, MORE_AND_LESS};
 use tests_support::{Ended, run_over};
 
 /// The usage, with every command.

@@ -21,6 +21,17 @@ pub const NINE_TENTHS: &str = "p_a,q_a,p_b,q_b\n1,1,3,3\n21,2,8,1\n";
 /// Costs 2, 1, 3; 3, 2, 1; 1, 3, 2: no two contradict each other, and three do.
 pub const THREE: &str = "p_a,q_a,p_b,q_b,p_c,q_c\n2,1,1,0,3,0\n3,0,2,1,1,0\n1,0,3,0,2,1\n";
 
+/// `CONTRADICTION` with levels: at 800 thousandths of 5 the first step is an equality, at 799 there is none.
+pub const AT_800: &str = "p_a,q_a,p_b,q_b,e\n1,1,2,2,800\n2,2,1,1,1000\n";
+
+pub const AT_799: &str = "p_a,q_a,p_b,q_b,e\n1,1,2,2,799\n2,2,1,1,1000\n";
+
+/// The same with levels that take nothing away.
+pub const AT_ALL: &str = "p_a,q_a,p_b,q_b,e\n1,1,2,2,1000\n2,2,1,1,1000\n";
+
+/// `MORE_AND_LESS` with such levels.
+pub const MORE_AND_LESS_AT_ALL: &str = "p_a,q_a,p_b,q_b,e\n1,4,1,4,1000\n1,2,1,2,1000\n";
+
 /// One observation of one good.
 pub const ALONE: &str = "p_a,q_a\n3,2\n";
 
