@@ -1,7 +1,4 @@
--- Steps are noted as bits, and what the rounds make of them is the closure (Warshall 1962). What k rounds find is
--- defined by recursion on k: walks through observations below k alone, so that one round is its definition. That it is
--- every walk in the end needs only that such walks can be joined at observations below k, and one induction over the
--- walk.
+-- Steps are noted as bits, and what the rounds make of them is the closure.
 use Rattle.std.proofs.Common.{◌≡◌, ℕ, ◌+◌, ◌*◌, ◌-◌, ◌<◌, ◌≤◌, ◌⊎◌, ◌↔◌, Bool, true, false, not, cond, IsTrue, length, replicate, count_by, refl, sym, ap, ◌∙◌, subst, arith}
 use mir.Val.{bool_byte}
 use Rattle.std.specs.List.{range_with_len}
