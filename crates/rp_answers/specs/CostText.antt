@@ -51,7 +51,7 @@ pub record AreBoundsOfFirst (tech : Technology) (asked : AskedOutputs) (count : 
 abbrev pub AreBoundsOfEach : Technology → AskedOutputs → List CostBounds → Type 0
 AreBoundsOfEach tech asked = AreBoundsOfFirst tech asked (rows_count asked.prices.prices asked.prices.goods)
 
--- where no pair breaks the cost axiom, bounds of each asked record; where one does, nothing
+-- the same where the cost axiom holds, and none where it fails
 abbrev pub AreBoundsUnder : Technology → AskedOutputs → Axiom → List CostBounds → Type 0
 AreBoundsUnder tech asked Holds bounds = AreBoundsOfEach tech asked bounds
 AreBoundsUnder tech asked (Pair first second) bounds = bounds ≡ []
