@@ -9,8 +9,9 @@ use Rattle.rp_pump.specs.declared.part.PumpPart.{PumpPart}
 use Rattle.rp_table.specs.Cost.{cost_of}
 use Rattle.rp_table.specs.Tables.{Observations, records_of}
 
--- for the costs of n observations: the greatest ratio in lowest terms, with a walk that has it and the least totals at
--- it as values, which the check accepts; it is above 0 just where the generalized axiom fails
+-- what is found by the costs of n observations: a fraction in lowest terms, and no closed walk gives away a greater
+-- share; the walk beside it gives away just that, the values are least totals at it, and the check accepts all of it;
+-- something is given away just where the generalized axiom fails
 pub record IsPumpAnswer (n : ℕ) (c : ℕ → ℕ → ℕ) (part : PumpPart) : Type 0 where
   pub index : IsPumpIndex n c part.num part.den
   pub lowest_terms : IsCoprime part.num part.den

@@ -1,4 +1,7 @@
--- Afriat's theorem for whole costs: where the axiom holds the standard numbers exist, once, and are a model.
+-- Afriat's theorem for whole costs: where the axiom holds the standard numbers exist, once, and are a model. Classes
+-- are by count: a bundle of a higher class costs more than an observation is held to, so each class gets its utility,
+-- and its observations their multipliers, from the classes above it; strict steps lead to lower classes, so the numbers
+-- are a model.
 use Rattle.std.proofs.Common.{◌≡◌, ◌≢◌, ℕ, ◌<◌, ◌≤◌, ◌⊎◌, ◌↔◌, inl, inr, [], ◌∷◌, ◌++◌, refl, sym, subst, ◌∙◌, arith}
 use Rattle.std.proofs.lemmas.Bool.{cases_lt}
 use Rattle.std.specs.Prelude.{ℤ}

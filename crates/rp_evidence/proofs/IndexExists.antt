@@ -1,4 +1,6 @@
--- Every table of positive costs has an efficiency index.
+-- Every table of positive costs has an efficiency index. All ratios have the product of what was spent as a
+-- denominator, and whether a closed walk of weak steps exists at a level can be told (Warshall), so the index is a
+-- least number.
 use Rattle.std.proofs.Common.{◌≡◌, ◌<◌, ◌≤◌, ◌*◌, ◌⊎◌, inl, inr, ℕ, zero, suc, List, [], ◌∷◌, refl, sym, ap, subst, arith}
 use Rattle.std.proofs.Math.Nat.{lt_of_mul-lt-mul_left, mul-lt-mul_of_pos_left, one-le-mul}
 use Rattle.std.proofs.lemmas.Bool.{cases_eq, cases_lt}

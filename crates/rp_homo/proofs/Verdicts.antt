@@ -1,3 +1,5 @@
+-- From what the rounds settle on, as fractions, to the words of the homothetic test, which are products of whole
+-- numbers: least products, values that bound them, falling cycles, and where the width is passed.
 use Rattle.std.proofs.Common.{All, ◌+◌, ◌*◌, ap, subst, ◌≡◌, ℕ, zero, suc, ◌<◌, ◌≤◌, ◌↔◌, arith, refl, sym, ◌∙◌, List, [], ◌∷◌, length, ◌⊎◌, inl, inr, ◌/◌, ◌^◌}
 use Rattle.std.proofs.lemmas.Bool.{cases_lt}
 use Rattle.std.proofs.lemmas.Nat.{mul-add-lt}

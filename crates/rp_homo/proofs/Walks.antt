@@ -1,3 +1,5 @@
+-- The total of a walk as two products of whole numbers, of the costs across and of those of the observations
+-- themselves; it ends below its start just where the first is less.
 use Rattle.std.proofs.Common.{IsTrue, nat_lt, ◌*◌, ap, subst, ◌≡◌, ℕ, suc, ◌<◌, ◌≤◌, ◌↔◌, arith, refl, ◌∙◌, List, [], ◌∷◌, All}
 use Rattle.std.proofs.Math.Nat.{le-max_left, one-le-mul, mul-lt-mul_of_pos_right, lt_of_mul-lt-mul_right}
 use Rattle.std.specs.Prelude.{ℤ, pos, ◌*ℤ◌, ◌<ℤ◌}

@@ -1,4 +1,5 @@
--- The text of a certificate within the limits is UTF-8, and it is read as the certificate's value.
+-- The text of a certificate within the limits is UTF-8, and it is read as the certificate's value. Each kind of value
+-- has one lemma that says both with its depth (`ReadsBack`), from numbers over entries and items up to the certificate.
 use Rattle.std.proofs.Common.{◌≡◌, inl, inr, map, subst, sym, ℕ, suc, ◌+◌, ◌<◌, ◌^◌, ℤ, pos, negsuc, Bool, true, false, List, [], ◌∷◌, All, Some, if◌then◌else◌, ◌==◌, IsUtf8, refl, arith, codes}
 use Rattle.std.specs.Fmt.{decimal, signed_decimal}
 use Rattle.std.proofs.lemmas.Fmt.{IsAscii-decimal_wide}

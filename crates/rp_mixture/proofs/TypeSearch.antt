@@ -1,4 +1,9 @@
--- How the search for a type that weighs too little goes on, what it has shown in the end, and that it ends.
+-- How the search for a type that weighs too little goes on, what it has shown in the end, and that it ends. The parts
+-- on the way stand in an array, with a depth and the patch that is tried next; each rational type before the patches at
+-- hand weighs enough (`IsSearching`). A turn passes a patch (`passed`), goes deeper by it (`deeper`) or goes back
+-- (`back`), each of which gives that record anew. The patches at hand, read as the digits of a number (`place_of`),
+-- rise by a greater last digit, by one digit more, or by a greater last digit but one; what is left below a power
+-- falls.
 use Rattle.std.proofs.Common.{◌≡◌, ◌≢◌, ◌<◌, ◌≤◌, ◌⊎◌, ◌+◌, ◌-◌, ◌^◌, ◌++◌, inl, inr, ℕ, zero, suc, List, [], ◌∷◌, length, length-append, length-set, get_or, get_or-set_same, get_or-set_other, set, slice_index, refl, sym, ap, subst, ◌∙◌, arith, below_more}
 use Rattle.std.proofs.Math.Nat.{mul-le-mul_right, pow-succ', pow-zero}
 use Rattle.std.proofs.lemmas.List.{get_or-append_right}

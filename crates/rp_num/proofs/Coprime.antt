@@ -1,3 +1,5 @@
+-- Greatest common divisors and numbers without a common one, by Euclid's steps: what is scaled has the scaled divisor,
+-- and everything else follows (Elements, book VII).
 use Rattle.std.proofs.Common.{◌≡◌, ℕ, ◌+◌, ◌*◌, ◌/◌, ◌%◌, ◌<◌, refl, sym, ◌∙◌, ap, subst, arith, zero, suc, ◌↔◌}
 use Prim.Native.Nat.{◌∣◌}
 use Rattle.std.specs.Int.{IsGcd}

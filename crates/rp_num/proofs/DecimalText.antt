@@ -1,3 +1,5 @@
+-- How a decimal is read digit by digit: what is kept at a limit agrees with the number up to it, and the zeros at the
+-- end are left out.
 use Rattle.std.proofs.Common.{◌≡◌, ℕ, ◌+◌, ◌-◌, ◌*◌, ◌^◌, ◌<◌, ◌≤◌, Bool, true, false, refl, sym, ◌∙◌, ap, arith, zero, suc, List, [], ◌∷◌, ◌++◌, length, get_or, take, min, eqb, add-one, nat_lt, nat_le, Ok, Err, ◌&&◌, if◌then◌else◌}
 use Rattle.std.specs.Char.{is_ascii_digit, digit_value}
 use Rattle.std.specs.Str.Parse.{digits_value, digits_value_after}

@@ -1,3 +1,5 @@
+-- Lowest terms of fractions: they exist, they are one, products that are cancelled across have them, and they tell
+-- where a width is passed.
 use Rattle.std.proofs.Common.{◌≡◌, ℕ, ◌*◌, ◌/◌, ◌^◌, ◌<◌, ◌≤◌, refl, sym, ◌∙◌, ap, subst, arith, zero, suc}
 use Prim.Native.Nat.{◌∣◌}
 use Rattle.std.specs.Int.{IsGcd}

@@ -1,4 +1,7 @@
--- Strict orders among the lists that have numbers: they rise with the numbers, and every strict order is one of them.
+-- Strict orders among the lists that have numbers: they rise with the numbers, and every strict order is one of them. A
+-- list has a number by its first letters, which are any digits, and ends with the letter that these miss. That the
+-- lists rise is one induction over digits (`digits_rise`); the last letter of a strict order is the one that the others
+-- miss, since one more would be more numbers than there are (`no_other`, by the pigeonhole principle).
 use Rattle.std.proofs.Common.{◌≡◌, ◌≢◌, ◌<◌, ◌≤◌, ◌⊎◌, ◌+◌, ◌-◌, ◌*◌, ◌/◌, ◌%◌, ◌^◌, ◌==◌, ◌||◌, ◌++◌, inl, inr, ℕ, zero, suc, Bool, true, false, not, List, [], ◌∷◌, All, length, length-append, take, get_or, slice_index, refl, sym, ap, subst, ◌∙◌, arith, if◌then◌else◌, nat_lt}
 use Rattle.std.specs.Cmp.Lexicographic.{slice_cmp}
 use Rattle.std.specs.List.{list_any}

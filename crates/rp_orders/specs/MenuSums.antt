@@ -34,8 +34,8 @@ holds b a = bit_and b a == a
 abbrev pub signed : Bool → ℕ → ℤ
 signed even units = if even then pos units else neg_ℤ (pos units)
 
--- The sum of letter x at menu A: over the menus B that hold A, the units of x on B, counted negative where B has an odd
--- number of letters more than A.
+-- The sum of letter x at menu A: over the menus B that hold A, the units of letter x on B, with a minus where B has an
+-- odd number of further letters.
 abbrev pub sum_at : MenuList → Units → ℕ → ℕ → ℤ
 sum_at list units x a = total (2 ^ list.letters)
     (λ b. if holds b a

@@ -61,7 +61,7 @@ pub record IsSumsText (list : MenuList) (units : Units) (text : List ℕ) : Type
       × (text ≡ sum_text (sum_at list units x menu) x menu)
   pub incomplete : ¬ AreComplete list → text ≡ []
 
--- the report, under the number of orders that pick a cell from every menu and the text on the least sum
+-- the report, with how many orders pick cells alone, and with the text on the least sum
 abbrev pub menus_report : MenuList → Units → RandomPart → Option ℕ → ℕ → List ℕ → List ℕ
 menus_report list units part asked orders sums =
     counts_text list orders units.total ++ apportioned_text asked ++ evidence_text units part ++ sums

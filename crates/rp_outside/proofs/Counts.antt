@@ -1,3 +1,4 @@
+-- Counts that stop at their last value: one more has risen, or stands there.
 use Rattle.std.proofs.Common.{ℕ, ◌≤◌, ◌⊎◌, ⊎_elim, arith, inl, inr}
 use Rattle.std.proofs.lemmas.Bool.{cases_lt}
 use Rattle.rp_outside.specs.Faults.{HasRisen, last_count, next_count}

@@ -1,3 +1,5 @@
+-- Bytes that are read piece by piece: each piece makes the front longer, and the calls are no more than its bytes and
+-- one.
 use Rattle.std.proofs.Common.{◌≡◌, ℕ, ◌+◌, ◌≤◌, List, ◌++◌, Option, Some, None, length, take, drop, sym, ap, ◌∙◌, arith, length-append, length-drop, refl}
 use Rattle.std.proofs.lemmas.List.{length-take-le, take_all}
 use Rattle.std.proofs.Math.Seq.{take-add}

@@ -1,3 +1,4 @@
+-- How far a loop of reads or of writes has come, in one record each.
 use Rattle.std.proofs.Common.{◌≡◌, ℕ, ◌+◌, ◌<◌, ◌≤◌, ◌⊎◌, List, Option, length, take}
 use Rattle.rp_outside.specs.Faults.{HasRisen, last_count}
 use Rattle.rp_outside.specs.Known.{BeginsWith, Grows}

@@ -1,5 +1,5 @@
--- How often a desk is asked to read a name through. Each read but the last gives at least one byte, so that it takes at
--- most one call a byte and one more.
+-- How many calls it takes to read a file to its end: where each gives a single byte, as many as there are bytes, and
+-- then the one that finds nothing left.
 use Rattle.std.specs.Prelude.{ℕ, ◌+◌, List, Option, Some, None, length, min}
 
 -- the most calls to read a name through, of which at most so many bytes are taken; a name whose bytes are not known may

@@ -1,4 +1,6 @@
--- Patches without units that are added to others change nothing.
+-- Patches without units that are added to others change nothing. A type is carried over patch by patch, and violations
+-- with it, since walks are over the budgets, which stay. Back go the types that weigh something: on a patch without
+-- units nothing may weigh, so each patch that they use is one of those that were there.
 use Rattle.std.proofs.Common.{◌≡◌, ◌≢◌, ◌<◌, ◌≤◌, ◌⊎◌, ◌↔◌, ◌+◌, ◌*◌, ◌==◌, ◌||◌, inl, inr, ℕ, ℤ, zero, suc, pos, ◌≤ℤ◌, ◌<ℤ◌, Bool, true, false, List, [], ◌∷◌, Contains, None, length, map, slice_index, slice_index_or, sum_by, refl, sym, ap, subst, ◌∙◌, arith, if◌then◌else◌}
 use Rattle.std.proofs.lemmas.Bool.{cases_eq, eq-eqb, ne_eqb}
 use Rattle.std.proofs.lemmas.List.{get_or-map, length-map}

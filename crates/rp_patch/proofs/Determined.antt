@@ -1,4 +1,6 @@
--- Units of groups are determined, with a unit and without, and so are patches.
+-- Units of groups are determined, with a unit and without, and so are patches. By largest remainders: were one place
+-- raised here and not there, another of its group would be raised there and not here, since both share the total, and
+-- each of the two would come before the other.
 use Rattle.std.proofs.Common.{◌≡◌, ℕ, zero, suc, ◌+◌, ◌<◌, ◌==◌, ◌⊎◌, inl, inr, Option, Some, None, length, refl, sym, subst, ◌∙◌, arith, if◌then◌else◌}
 use Rattle.std.proofs.Math.Nat.{eq_of_mul-eq-mul_right, eq-zero_of_zero-dvd}
 use Rattle.std.proofs.lemmas.List.{ext_get_or}

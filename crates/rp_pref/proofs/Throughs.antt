@@ -1,4 +1,7 @@
--- A walk through observations below n is any walk (Warshall): what the rounds find is what is reached.
+-- A walk through observations below n is any walk (Warshall 1962): what the rounds find is what is reached. What k
+-- rounds find is defined by recursion on k, as walks through observations below k alone, so that one round is its
+-- definition. That it is every walk in the end needs only that such walks can be joined at observations below k
+-- (`through_joined`), and one induction over the walk.
 use Rattle.std.proofs.Common.{ℕ, zero, suc, ◌<◌, ◌≤◌, List, [], ◌∷◌, length, inl, inr, subst, arith}
 use Rattle.std.proofs.lemmas.Bool.{cases_eq}
 use Rattle.rp_evidence.specs.Walk.{LeadsTo, IsWalk, Reaches}

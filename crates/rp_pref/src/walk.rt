@@ -36,7 +36,7 @@ pub fn walk_between(
     shortest_walk(alloc, &AtLevel { costs, level }, steps, s, t)
 }
 
-/// A walk of one or more weak steps from `s` to `t`, each observation held to its own level, with as few steps as any.
+/// A shortest walk by weak steps, at least one, from `s` to `t`, each observation held to its own level.
 pub fn own_walk(alloc: Global, costs: &Costs, s: u32, t: u32) -> Result<Option<Seq<u32>>, NoMemory>
     requires from { s < costs.now.n }
     requires to { t < costs.now.n }

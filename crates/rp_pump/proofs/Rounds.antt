@@ -1,4 +1,5 @@
--- A closed walk whose total is negative has a greater ratio, and the rounds end.
+-- A closed walk whose total is negative has a greater ratio, and the rounds end. Ratios with denominators up to 2^60
+-- are at least 2^-120 apart, so the whole part of 2^122 times the ratio rises each round, and it is bounded.
 use borrow.Author.Differences.{up, down}
 use Rattle.std.proofs.Common.{◌+◌, ◌*◌, ◌-◌, ◌/◌, ◌%◌, ◌^◌, ap, subst, ◌≡◌, ◌≢◌, ℕ, suc, ◌<◌, ◌≤◌, arith, refl, sym, ◌∙◌, List, [], ◌∷◌, length, slice_index, ◌⊎◌, inl, inr}
 use Rattle.std.proofs.lemmas.Bool.{cases_lt}

@@ -1,4 +1,6 @@
--- Values that bound the steps leave no closed walk a greater ratio, and a ratio above 0 is a violation.
+-- Values that bound the steps leave no closed walk a greater ratio, and a ratio above 0 is a violation. The bounds are
+-- added along the walk: the values cancel, and what is left is the walk's total at the ratio. A walk of weak steps
+-- gains something just where one of its steps is strict.
 use borrow.Author.Differences.{up, down}
 use Rattle.std.proofs.Common.{◌+◌, ◌*◌, ap, subst, ◌≡◌, ◌≢◌, ℕ, zero, suc, ◌<◌, ◌≤◌, ◌↔◌, arith, refl, sym, List, [], ◌∷◌, length, ◌⊎◌, inl, inr}
 use Rattle.std.proofs.lemmas.Int.{ints}

@@ -13,9 +13,9 @@ use rp_table::{Costs, RECORDS};
 use rp_walk::{Settled, settle};
 use std::alloc::Global;
 
-/// The greatest money pump ratio in lowest terms, with a walk that has it and the least totals at it. From the walk
-/// that rests each round takes on the ratio of a closed walk whose total at the ratio in hand is negative, until there
-/// is none (Dinkelbach 1967; Echenique, Lee and Shum 2011).
+/// The greatest money pump ratio: as a fraction in lowest terms, with a closed walk that gives away just that
+/// share, and values by which none gives away more. It rises from 0 by closed walks whose total at the share that the
+/// last one gave away is below 0, and ends where no walk is left (Dinkelbach 1967; Echenique, Lee and Shum 2011).
 pub fn pump(alloc: Global, costs: &Costs) -> Result<PumpPart, NoMemory>
     requires no_levels { costs.now.levels ≡ [] }
     ensures index { IfOk result (λ part.

@@ -1,3 +1,5 @@
+-- Two observations in the quasilinear test: the walk there and back is negative just where it costs less to swap their
+-- bundles.
 use Rattle.std.proofs.Common.{IsTrue, nat_lt, ◌+◌, ◌≡◌, ℕ, ◌<◌, ◌↔◌, arith}
 use Rattle.std.proofs.lemmas.Int.{ints}
 use Rattle.std.specs.Prelude.{pos, ◌+ℤ◌, ◌-ℤ◌, ◌<ℤ◌}

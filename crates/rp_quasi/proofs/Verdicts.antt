@@ -1,3 +1,5 @@
+-- From what the rounds settle on to the words of the quasilinear test: least sums, values that bound the steps,
+-- negative cycles; and sums of a table stay narrow enough for every walk that is tried.
 use Rattle.std.proofs.Common.{◌+◌, ◌*◌, ◌^◌, ap, subst, ◌≡◌, ℕ, ◌<◌, ◌≤◌, arith, refl, sym, ◌∙◌, List, [], ◌∷◌, length, get_or, ◌⊎◌, inl, inr, lit<}
 use Rattle.std.proofs.lemmas.Int.{ints}
 use Rattle.std.proofs.lemmas.Bool.{cases_lt}

@@ -1,5 +1,5 @@
--- In which order a desk is asked for the files of a line, and how often: each file is read through at most once, in
--- the order of the words, and none after the first that is refused or fails (this program's own order).
+-- How a desk is asked for the files of a line: for one after another as the words name them, for none a second time,
+-- and for no further one once a file was refused or could not be read (this program's own order).
 use Rattle.std.specs.Prelude.{◌≤◌, ℕ, ◌+◌, nat_lt, if◌then◌else◌, List, [], ◌∷◌, Option, None, Err, length, sum, take}
 use Rattle.rp_outside.specs.Reads.{calls_through}
 use Rattle.rp_words.specs.CommandLine.{Line, file_at, file_set, files_of, takes_levels}

@@ -1,4 +1,9 @@
--- Each entry of a tableau is a combination of those of tableau 0, before a pivot and after it.
+-- Each entry of a tableau is a combination of those of tableau 0, before a pivot and after it. What a pivot does is
+-- linear: a cleared entry is the sum of the cleared multipliers by the same column (`combined`). So memory holds
+-- tableau 0 and the multipliers alone, and every proof of the run is about whole tableaus, as if each entry were
+-- stored. The slack columns are the multipliers (`slack_entry`), and the last multiplier is the denominator's
+-- (`renewed_last`), so that one divisor divides the tableau just where it divides the multipliers (`all_divided`,
+-- `divides_each`), and a multiplier that passes the width is an entry that passes it.
 use Prim.Native.Nat.{◌∣◌}
 use Rattle.std.proofs.Common.{◌≡◌, ◌≢◌, ℕ, suc, ◌*◌, ◌^◌, ◌<◌, ◌≤◌, ℤ, pos, ◌-ℤ◌, ◌*ℤ◌, List, length, get_or, cond, eqb, true, false, inl, inr, refl, sym, ◌∙◌, ap, subst, arith}
 use Rattle.std.specs.Int.RustNames.{unsigned_abs, int_div}

@@ -1,4 +1,6 @@
--- The run has one course and one end.
+-- The run has one course and one end. Tableaus with the same numbers and the same basic columns have the same entering
+-- column, and of two leaving rows neither has the lesser ratios, so they are one; by induction there is one tableau
+-- after each number of pivots, and the run cannot both stop there and go on.
 use Prim.Native.Nat.{◌∣◌}
 use Rattle.std.proofs.Common.{◌≡◌, ℕ, ◌*◌, ◌^◌, ◌<◌, ◌≤◌, ℤ, pos, ◌-ℤ◌, ◌*ℤ◌, ◌<ℤ◌, ◌≤ℤ◌, inl, inr, sym, ◌∙◌, ap, subst, arith}
 use Rattle.std.specs.Int.RustNames.{unsigned_abs}

@@ -1,7 +1,8 @@
--- The run ends: a number that falls with each pivot, as long as the tableaus are within the width W. Fractions that
--- differ and have denominators up to W are at least 1/W^2 apart, so the whole parts of W^2 (N/D + W) keep their
--- order strictly, and they are at most 2 W^3. The objective row of these whole parts, read as one number in the base
--- 2 W^3 + 1, rises with each pivot and is bounded.
+-- The run ends: a number that falls with each pivot (`distance`), as long as the tableaus are within the width W.
+-- Fractions that differ and have denominators up to W are at least 1/W^2 apart, so the whole parts of W^2 (N/D + W)
+-- (`height`) keep their order strictly (`height_less`, `height_same`), and they are at most 2 W^3. The objective row,
+-- which rises with each pivot (`PivotSound.objective_rises`), is read by these whole parts as one number
+-- (`number`) in the base 2 W^3 + 1, which rises with it (`number-less`) and is bounded (`number-below`).
 use Rattle.std.proofs.Common.{◌≡◌, ℕ, zero, suc, ◌+◌, ◌-◌, ◌*◌, ◌/◌, ◌^◌, ◌<◌, ◌≤◌, ℤ, pos, negsuc, ◌+ℤ◌, ◌*ℤ◌, ◌<ℤ◌, ◌≤ℤ◌, inl, inr, refl, sym, ◌∙◌, ap, subst, arith, pow-suc}
 use Rattle.std.proofs.Math.Nat.{pow-zero}
 use Rattle.std.specs.Int.RustNames.{unsigned_abs}

@@ -1,4 +1,6 @@
--- A pivot keeps what every tableau of a run keeps.
+-- A pivot keeps what every tableau of a run keeps (`pivot_sound`): each part of it is an equation of plain numbers,
+-- with the divisor taken out at the end. The new objective row is the old one and a positive multiple of the pivot row,
+-- which is lexicographically positive, so it rises (`objective_rises`).
 use Rattle.std.proofs.Common.{◌≡◌, ◌≢◌, ℕ, zero, suc, ◌*◌, ◌<◌, ◌≤◌, ℤ, pos, negsuc, ◌+ℤ◌, ◌-ℤ◌, ◌*ℤ◌, neg_ℤ, ◌<ℤ◌, ◌≤ℤ◌, ◌⊎◌, eqb, true, false, inl, inr, refl, sym, ◌∙◌, ap, subst, arith}
 use Rattle.std.proofs.lemmas.Int.{ints}
 use Rattle.std.proofs.lemmas.Bool.{cases_eq, cases_lt, eq-eqb, ne_eqb}

@@ -1,4 +1,11 @@
--- What every tableau of a run keeps.
+-- What every tableau of a run keeps, as one record (`IsSound`): each row is the combination of the first tableau's rows
+-- that its slack entries name (`combined`); each row of the first tableau is the combination of the present rows that
+-- its basic columns name (`recovered`); the basic columns are unit columns (`unit`); every row but the objective is
+-- lexicographically positive (`rows_positive`). The first tableau has it (`first_sound`), and a pivot keeps it
+-- (`PivotSound.pivot_sound`). The unit columns show that two rows never tie: the basic column of one is clear in the
+-- other (`Steps.no_tie`). So the strict choice of a leaving row always exists, and each other row stays positive.
+-- Another rule for that choice has to keep `rows_positive`; for the entering column any with a negative objective entry
+-- serves.
 use Rattle.std.proofs.Common.{◌≡◌, ℕ, zero, suc, ◌<◌, ◌≤◌, ℤ, pos, negsuc, ◌+ℤ◌, ◌*ℤ◌, ◌<ℤ◌, ◌≤ℤ◌, ◌⊎◌, ltb, true, inl, inr, refl, sym, ◌∙◌, ap, subst, arith}
 use Rattle.std.proofs.lemmas.Int.{ints}
 use Rattle.std.proofs.lemmas.Bool.{cases_lt, lt-ltb}

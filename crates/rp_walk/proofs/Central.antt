@@ -1,3 +1,6 @@
+-- Closed parts that fall below their start. A walk of as many steps as there are observations repeats one; were no
+-- closed part falling, leaving one out would give a shorter walk with no greater total. Where closed walks treat all
+-- starts alike, least totals leave none that falls: going round once more would be less than the least.
 use Rattle.std.proofs.Common.{◌≡◌, ℕ, zero, suc, ◌+◌, ◌<◌, ◌≤◌, arith, ap, sym, ◌∙◌, refl, subst, List, [], ◌∷◌, length, get_or, All}
 use Rattle.rp_walk.specs.ExactTotal.{ExactTotal, IsLess}
 use Rattle.rp_walk.specs.Walk.{prefix_total, TotalRule, IsTotal, KeepsOrder, StartsAlike, end_of, total_after}

@@ -1,3 +1,5 @@
+-- A walk that the rounds found, and its closed parts. Each of its beginnings is a least walk and each of its steps
+-- fits; a part that ends where it began, and below its total there, falls below its start.
 use Rattle.std.proofs.Common.{◌≡◌, ℕ, zero, suc, ◌+◌, ◌<◌, ◌≤◌, arith, ◌⊎◌, inl, inr, ap, sym, ◌∙◌, refl, subst, List, [], ◌∷◌, length, get_or, take, drop, All, drop-cons}
 use Rattle.std.proofs.lemmas.Bool.{cases_lt}
 use Rattle.rp_walk.specs.ExactTotal.{ExactTotal, IsLess, SameTotal}

@@ -1,3 +1,5 @@
+-- One round of steps, observation by observation: what it has found by the first t of them, and that all their steps
+-- fit.
 use Rattle.std.proofs.Common.{◌≡◌, ℕ, ◌+◌, ◌<◌, ◌≤◌, arith, ◌⊎◌, inl, inr, sym, ◌∙◌, subst, List, get_or}
 use Rattle.std.proofs.lemmas.Bool.{cases_lt}
 use Rattle.rp_walk.specs.ExactTotal.{ExactTotal, IsLess, SameTotal}

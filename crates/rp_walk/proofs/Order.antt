@@ -1,3 +1,5 @@
+-- The order of totals, which are fractions: one, the other or neither is less. What is "not more" is said as "the other
+-- is not less", so that chains of the two need no split into cases.
 use Rattle.std.proofs.Common.{ℕ, ◌+◌, ◌*◌, ◌<◌, ◌≤◌, arith, ◌⊎◌, inl, inr}
 use Rattle.std.proofs.lemmas.Int.{ints}
 use Rattle.std.proofs.lemmas.Bool.{cases_lt}

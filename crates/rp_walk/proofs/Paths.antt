@@ -1,3 +1,5 @@
+-- Totals along one walk. What is least at its end may be followed on from any other walk to a place of it, so a walk
+-- that is less than all shorter ones has no closed part that could be left out.
 use Rattle.std.proofs.Common.{◌≡◌, ℕ, zero, suc, ◌+◌, ◌-◌, ◌<◌, ◌≤◌, arith, ◌⊎◌, inl, inr, sym, subst}
 use Rattle.rp_walk.specs.ExactTotal.{ExactTotal, IsLess, SameTotal}
 use Rattle.rp_walk.specs.Walk.{prefix_total, TotalRule, IsTotal, KeepsOrder}

@@ -1,3 +1,4 @@
+-- The pigeonhole principle: a list of more numbers below n than n holds one of them twice.
 use Rattle.std.proofs.Common.{◌≡◌, ℕ, suc, ◌+◌, ◌<◌, arith, ◌⊎◌, inl, inr, ap, sym, ◌∙◌, List, [], ◌∷◌, length, get_or, All, true, false, eqb}
 use Rattle.std.specs.List.{IsDistinct, AllByRecursion, list_any}
 use Rattle.std.proofs.lemmas.Bool.Decides.{nat_tests}

@@ -1,3 +1,5 @@
+-- Round k finds the least totals over walks of at most k steps, for every k: the last step of a walk goes from a total
+-- of the round before.
 use Rattle.std.proofs.Common.{◌≡◌, ℕ, zero, suc, ◌-◌, ◌<◌, ◌≤◌, arith, ◌⊎◌, inl, inr, sym, refl, subst}
 use Rattle.std.proofs.lemmas.Bool.{cases_lt}
 use Rattle.rp_walk.specs.ExactTotal.{ExactTotal, IsLess, SameTotal}

@@ -1,3 +1,5 @@
+-- What the computation keeps from round to round, in one record, and what it has found where it stops: after a round
+-- that makes nothing less, at a step that does not fit, or past the last round.
 use Rattle.std.proofs.Common.{◌≡◌, ℕ, suc, ◌+◌, ◌*◌, ◌<◌, ◌≤◌, arith, ◌⊎◌, inl, inr, ap, sym, ◌∙◌, refl, subst, List, [], ◌++◌, length, get_or, replicate, length-append}
 use Rattle.std.proofs.lemmas.List.{get_or-replicate, length-replicate, get_or_append_left, get_or-append-add}
 use Rattle.std.proofs.lemmas.Bool.{cases_lt}

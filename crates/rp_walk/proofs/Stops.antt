@@ -1,3 +1,5 @@
+-- Where the rounds stop, and why rightly: the first step that does not fit is the first triple that is too wide; a
+-- round that makes nothing less has the least totals over all walks, and no later one would go on.
 use Rattle.std.proofs.Common.{◌≡◌, ℕ, zero, suc, ◌-◌, ◌<◌, ◌≤◌, arith, ◌⊎◌, inl, inr, sym, subst}
 use Rattle.std.proofs.lemmas.Bool.{cases_lt}
 use Rattle.rp_walk.specs.ExactTotal.{ExactTotal, IsLess, SameTotal}

@@ -1,3 +1,5 @@
+-- How a cycle is found: of two observations at once, or by the way back from the last round, of which the first closed
+-- part is cut out.
 use Rattle.std.proofs.Common.{◌≡◌, ℕ, zero, suc, ◌+◌, ◌-◌, ◌*◌, ◌<◌, ◌≤◌, arith, ◌⊎◌, inl, inr, ap, sym, ◌∙◌, refl, subst, List, [], ◌∷◌, length, get_or, set, take, drop, replicate, get_or-set_same, get_or-set_other, length-set}
 use Rattle.std.proofs.lemmas.List.{get_or-replicate, length-replicate}
 use Rattle.std.proofs.lemmas.Bool.{cases_lt}

@@ -1,3 +1,5 @@
+-- A least total over all walks is that of a walk with fewer steps than observations: a longer one repeats, and without
+-- the part between it is no greater. So where the last round still made a total less, some have no least one.
 use Rattle.std.proofs.Common.{◌≡◌, ℕ, zero, suc, ◌+◌, ◌-◌, ◌<◌, ◌≤◌, arith, ◌⊎◌, inl, inr, ap, sym, ◌∙◌, subst, List, [], ◌∷◌, length, get_or, take, All}
 use Rattle.std.proofs.Math.Seq.{take-length}
 use Rattle.std.proofs.lemmas.Bool.{cases_lt}

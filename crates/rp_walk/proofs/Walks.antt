@@ -1,3 +1,4 @@
+-- Walks with their totals: of no step, gone on by one more step, and taken apart at the last one.
 use Rattle.std.proofs.Common.{◌≡◌, ℕ, zero, suc, ◌+◌, ◌<◌, arith, ◌∙◌, refl, subst, List, [], ◌∷◌, ◌++◌, length, length-append, All}
 use Rattle.rp_walk.specs.ExactTotal.{ExactTotal}
 use Rattle.rp_walk.specs.Walk.{TotalRule, IsTotal, end_of, total_after}

@@ -1,4 +1,6 @@
 -- Words that give the command of a form what it asks for are taken, whatever the form, and its matches give that again.
+-- `clap`'s walk is led on by the words of one argument after another (`Leads`), files, numbers and options; where it
+-- ends nothing is missed and defaults come, and each argument is found in the rows by its own id.
 use Rattle.std.proofs.Common.{◌≡◌, ◌&&◌, ◌||◌, ◌++◌, ◌<◌, ◌^◌, ℕ, Bool, true, false, not, List, [], ◌∷◌, Option, Some, None, fold, is_some, map, nat_lt, codes, refl, sym, ap, ◌∙◌, if◌then◌else◌, arith}
 use Rattle.std.proofs.lemmas.List.{append-nil}
 use Rattle.std.proofs.lemmas.List.Folds.{find-append}

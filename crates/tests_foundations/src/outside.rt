@@ -5,7 +5,7 @@ use rp_outside::{
 use std::alloc::{AllocError, Global};
 use std::test::Fail;
 
-/// The file of the first worked row.
+/// Two purchases that contradict each other, as a file.
 const TABLE: &[u8] = b"p_a,q_a,p_b,q_b\n1,1,2,2\n2,2,1,1\n";
 
 fn file(alloc: Global, name: &str, bytes: &[u8]) -> Result<MemFile, AllocError> {

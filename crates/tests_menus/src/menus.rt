@@ -1,7 +1,7 @@
 use crate::given::told_menus;
 use std::test::Fail;
 
-/// Menus and cells by their first record with a positive count, cells within their menu.
+/// A menu takes its place, and so does a cell in its menu, when a record first says that somebody chose there.
 #[test]
 fn menus_and_cells_in_order(rt: HostRuntime) -> Result<(), Fail> {
     let alloc = rt.alloc();
