@@ -1,9 +1,8 @@
 -- Evidence on demand and welfare for one input is evidence for every other that agrees with it.
-use Rattle.std.proofs.Common.{◌≡◌, ◌<◌, ◌≤◌, ◌+◌, ◌*◌, ◌⊎◌, inl, inr, ℕ, List, [], ◌∷◌, sym, ap, subst, ◌∙◌, arith}
+use Rattle.std.proofs.Common.{◌≡◌, ◌<◌, ◌≤◌, ◌+◌, ◌*◌, ◌⊎◌, inl, inr, ℕ, List, [], ◌∷◌, refl, sym, ap, subst, ◌∙◌, arith}
 use Rattle.std.specs.Prelude.{slice_index, slice_index_or}
 use Rattle.std.proofs.lemmas.Bool.{cases_lt}
-use Rattle.rp_table.specs.Sums.{sum_below}
-use Rattle.rp_table.proofs.SumsBelow.{sum_below-same}
+use Rattle.rp_table.proofs.SpendingLaws.{spending-same}
 use Rattle.rp_evidence.specs.Demand.{NewBudget, FractionBundle, IsBelow, IsInfimum, IsStrictlyBelow, IsSupportingDemand, IsSupremum, enlarged, spending}
 use Rattle.rp_evidence.specs.DemandEvidence.{ProvesDemand, ProvesLower, ProvesLowerWelfare, ProvesUpper, ProvesWelfare, budget_of, bundle_of}
 use Rattle.rp_evidence.specs.DemandPrograms.{ListsBelow, ListsStrictlyBelow}
@@ -24,7 +23,7 @@ use Rattle.rp_evidence.proofs.Walks.{ends_below, has_weaker_step, starts_below}
 
 -- the law that costs are sums
 abbrev pub AreSums : ℕ → ℕ → (ℕ → ℕ → ℕ) → (ℕ → ℕ → ℕ) → (ℕ → ℕ → ℕ) → Type 0
-AreSums n goods price quantity cost = (s t : ℕ) → s < n → t < n → cost s t ≡ sum_below goods (λ g. price s g * quantity t g)
+AreSums n goods price quantity cost = (s t : ℕ) → s < n → t < n → cost s t ≡ spending goods (price s) (quantity t)
 
 -- the same numbers at n observations of these goods
 abbrev pub SameNumbers : ℕ → ℕ → (ℕ → ℕ → ℕ) → (ℕ → ℕ → ℕ) → Type 0
@@ -51,14 +50,14 @@ module _ (n goods : ℕ) (levels levels' : List ℕ) (p p' q q' c c' : ℕ → �
   costs_same : AgreeBelow n c c'
   costs_same s t a b =
       sums s t a b
-      ∙ (sum_below-same (λ g. p s g * q t g) (λ g. p' s g * q' t g) goods (λ g l. let e = pe s g a l in let f = qe t g b l in λ i. e i * f i)
+      ∙ (spending-same goods goods (p s) (q t) (p' s) (q' t) refl (λ g. pe s g a) (λ g. qe t g b)
       ∙ sym (sums' s t a b))
 
   spend_at : (s : ℕ) (x : ℕ → ℕ) → s < n → spending goods (p s) x ≡ spending goods (p' s) x
-  spend_at s x a = sum_below-same (λ g. p s g * x g) (λ g. p' s g * x g) goods (λ g l. ap (λ v. v * x g) (pe s g a l))
+  spend_at s x a = spending-same goods goods (p s) x (p' s) x refl (λ g. pe s g a) (λ g l. refl)
 
   spend_on : (prices : ℕ → ℕ) (t : ℕ) → t < n → spending goods prices (q t) ≡ spending goods prices (q' t)
-  spend_on prices t a = sum_below-same (λ g. prices g * q t g) (λ g. prices g * q' t g) goods (λ g l. ap (λ v. prices g * v) (qe t g a l))
+  spend_on prices t a = spending-same goods goods prices (q t) prices (q' t) refl (λ g l. refl) (λ g. qe t g a)
 
   enlarged_same : (b : NewBudget) (x : FractionBundle) → 0 < x.den → AgreeBelow (n + 1) (enlarged here b x) (enlarged there b x)
   enlarged_same b x some s t s_in t_in = go (cases_lt s n) (cases_lt t n)
