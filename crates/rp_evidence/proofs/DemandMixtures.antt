@@ -2,7 +2,7 @@
 use Rattle.std.proofs.Common.{◌≡◌, ◌<◌, ◌≤◌, ◌+◌, ◌*◌, ◌-◌, ℕ, zero, suc, refl, sym, subst, ◌∙◌, ap, arith}
 use Rattle.std.proofs.Math.Nat.{mul-le-mul_left, mul-lt-mul_of_pos_left, mul-pos}
 use Rattle.rp_table.proofs.SpendingLaws.{spending-same}
-use Rattle.rp_evidence.specs.Demand.{NewBudget, FractionBundle, IsOnBudget, IsSupportingDemand, IsBelow, CostsEnough, CostsMore, mixed, spending}
+use Rattle.rp_evidence.specs.Demand.{BudgetInput, FractionBundle, IsOnBudget, IsSupportingDemand, IsBelow, CostsEnough, CostsMore, mixed, spending}
 use Rattle.rp_evidence.specs.Garp.{MeetsGarp}
 use Rattle.rp_evidence.specs.Input.{TableInput}
 use Rattle.rp_evidence.proofs.DemandLaws.{keeps, enough_where_kept, more_where_kept}
@@ -20,7 +20,7 @@ spending_mixed goods prices k x z =
     spending-same goods goods prices (mixed k x z).num prices (λ g. ((k - 1) * z.den) * x.num g + x.den * z.num g) refl (λ g l. refl) (λ g l. omega arith)
     ∙ spending_of_sum goods prices x.num z.num ((k - 1) * z.den) x.den
 
-module _ (input : TableInput) (budget : NewBudget) (x z : FractionBundle) (k : ℕ) (some : 0 < k) where
+module _ (input : TableInput) (budget : BudgetInput) (x z : FractionBundle) (k : ℕ) (some : 0 < k) where
   mixed_on_budget : IsOnBudget input budget x → IsOnBudget input budget z → IsOnBudget input budget (mixed k x z)
   mixed_on_budget on_x on_z = record {
     fraction = mul-pos some (mul-pos on_x.fraction on_z.fraction);

@@ -6,7 +6,7 @@ use Rattle.std.proofs.lemmas.Bool.{cases_lt}
 use Rattle.std.proofs.Math.Dec.{eqb-suc-zero}
 use Rattle.rp_table.proofs.SpendingLaws.{spending-same}
 use Rattle.rp_evidence.specs.Count.{AreCounts}
-use Rattle.rp_evidence.specs.Demand.{NewBudget, FractionBundle, IsOnBudget, IsSupportingDemand, IsBelow, IsStrictlyBelow, IsInnerStart, IsInnerDemand, CostsEnough, CostsMore, Buys, all_on_first, spending, with_rest_on_first}
+use Rattle.rp_evidence.specs.Demand.{BudgetInput, FractionBundle, IsOnBudget, IsSupportingDemand, IsBelow, IsStrictlyBelow, IsInnerStart, IsInnerDemand, CostsEnough, CostsMore, Buys, all_on_first, spending, with_rest_on_first}
 use Rattle.rp_evidence.specs.Garp.{MeetsGarp}
 use Rattle.rp_evidence.specs.Input.{TableInput}
 use Rattle.rp_evidence.specs.Preference.{IsWeak, IsStrict}
@@ -29,7 +29,7 @@ spending_first (suc (suc j)) prices k some =
     let p : prices (suc j) * cond (eqb (suc j) 0) k 0 ≡ prices (suc j) * 0 = ap (λ v. prices (suc j) * v) z in
     omega arith
 
-module _ (input : TableInput) (budget : NewBudget) (sound : MeetsGarp input.n input.cost 1 1) (some_goods : 0 < input.goods)
+module _ (input : TableInput) (budget : BudgetInput) (sound : MeetsGarp input.n input.cost 1 1) (some_goods : 0 < input.goods)
     (new_prices : 0 < budget.prices 0) (old_prices : (t : ℕ) → t < input.n → 0 < input.price t 0) where
   -- ---- from a bundle of the table, with the rest on good 0
 
