@@ -1,4 +1,5 @@
-ghost use Rattle.std.specs.Prelude.{◌≤◌, ◌↔◌, All, IsTrue};
+ghost use Rattle.std.specs.Prelude.{◌↔◌, All, IsTrue};
+ghost use Rattle.rp_table.specs.Limits.{IsPrice};
 
 use rp_evidence::{Bound, DemandPart, Point};
 use rp_garp::garp;
@@ -22,7 +23,7 @@ const ALONE: &str = "p_a,q_a\n3,2\n";
 
 /// Whether each price is within the limits.
 fn are_prices(prices: &[u32]) -> bool
-    ensures { IsTrue result ↔ All (λ p. (1 ≤ p) × (p ≤ LARGEST)) prices.now }
+    ensures { IsTrue result ↔ All IsPrice prices.now }
 {
     prices.iter().all(|p| 1 <= *p && *p <= LARGEST)
 }
