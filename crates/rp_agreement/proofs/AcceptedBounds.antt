@@ -6,7 +6,7 @@ use Rattle.rp_check.specs.DemandFailure.{DemandBoundsFail, DemandFails}
 use Rattle.rp_check.specs.ItemFailure.{shows_garp}
 use Rattle.rp_clauses.specs.PricesFailure.{PricesFail}
 use Rattle.rp_check.specs.WelfareFailure.{LowerHolds, WelfareFails}
-use Rattle.rp_evidence.specs.Demand.{NewBudget}
+use Rattle.rp_evidence.specs.Demand.{BudgetInput}
 use Rattle.rp_evidence.specs.DemandEvidence.{ProvesDemand, ProvesDemandBounds, ProvesWelfare, budget_of, bundle_of}
 use Rattle.rp_evidence.specs.Garp.{MeetsGarp, ProvesGarp}
 use Rattle.rp_evidence.specs.Input.{TableInput}
@@ -32,7 +32,7 @@ prices_pass : (goods : ℕ) (prices : List ℕ) → AreNewPrices goods prices �
 prices_pass goods prices new = (new.one_each, ((λ g g_in. new.fit g 0 (omega (arith, new.one_each))), tt))
 
 module _ (input : TableInput) (shown : Bool) where
-  demand_bounds_pass : (budget : NewBudget) (below strict : List ℕ) (inner : Point) (goods : List GoodBounds) → IsTrue shown
+  demand_bounds_pass : (budget : BudgetInput) (below strict : List ℕ) (inner : Point) (goods : List GoodBounds) → IsTrue shown
       → ProvesDemandBounds input budget below strict inner goods → AreBoundsOf input budget below goods → DemandBoundsFail input shown budget below strict inner goods (Ok tt)
   demand_bounds_pass budget below strict inner goods is_shown proves bounds =
       let kept = proves.inner_supports in

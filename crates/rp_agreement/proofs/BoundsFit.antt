@@ -4,7 +4,7 @@ use Rattle.std.proofs.lemmas.List.{get_or_default}
 use Rattle.std.proofs.lemmas.Nat.{mul-le}
 use Rattle.rp_table.specs.Limits.{IsExpenditure}
 use Rattle.rp_table.specs.NewPrices.{AreNewPrices}
-use Rattle.rp_evidence.specs.Demand.{IsBelow, IsInnerDemand, IsStrictlyBelow, NewBudget, spending}
+use Rattle.rp_evidence.specs.Demand.{BudgetInput, IsBelow, IsInnerDemand, IsStrictlyBelow, spending}
 use Rattle.rp_evidence.specs.DemandEvidence.{ProvesDemand, ProvesWelfare, budget_of, bundle_of}
 use Rattle.rp_evidence.specs.DemandPrograms.{lower_program, upper_program}
 use Rattle.rp_evidence.specs.Input.{TableInput}
@@ -115,7 +115,7 @@ module _ (input : TableInput) (limited : IsLimited input) (prices : List ℕ) (n
   -- ---- demand
 
   module _ (m : ℕ) (spends : IsExpenditure m) where
-    abbrev budget : NewBudget
+    abbrev budget : BudgetInput
     budget = budget_of prices m
 
     numerator_fits : (inner : Point) → IsInnerDemand input budget (bundle_of inner) → (g : ℕ) → g < input.goods → slice_index inner.num g < 2 ^ 64

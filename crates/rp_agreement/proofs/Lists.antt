@@ -1,14 +1,12 @@
 -- Walks, counts and lists of observations, each of which is one of few.
 use Rattle.std.proofs.Common.{◌≡◌, ◌<◌, ◌≤◌, ℕ, List, [], ◌∷◌, length, All, Contains, arith, get_or}
-use Rattle.std.specs.List.{range_with_len}
 use Rattle.std.specs.List.Sorted.{IsStrictlyIncreasing}
 use Rattle.std.proofs.lemmas.List.{get_or_default}
-use Rattle.std.proofs.lemmas.List.FromFn.{length-range_with_len, get_or-range_with_len}
 use Rattle.std.proofs.lemmas.Map.Keys.{sorted_from_strictly_increasing}
 use Rattle.std.proofs.lemmas.Map.Views.{length-le_from_below}
 use Rattle.rp_evidence.specs.Count.{AreCounts, IsNumberOf}
 use Rattle.rp_evidence.specs.Walk.{IsClosedWalk}
-use Rattle.rp_evidence.proofs.CountLists.{none_twice_is_shorter}
+use Rattle.rp_evidence.proofs.Enumerations.{enumerates_few}
 use Rattle.rp_evidence.proofs.Places.{below_at}
 use Rattle.rp_notation.specs.Reading.{FitObservations, FitsCount}
 use Rattle.rp_table.specs.declared.TheConstants.{RECORDS}
@@ -19,13 +17,7 @@ module _ (n : ℕ) (few : n ≤ RECORDS) where
   walk_fits step (x ∷ w) (s, (is, leads), some) = λ k d within. omega (arith, few, below_at n step x s w leads k within, get_or_default (x ∷ w) k d 0 within)
 
   number_few : (P : ℕ → Type 0) (k : ℕ) → IsNumberOf n P k → k ≤ n
-  number_few P k (those, apart, just, len) =
-      omega (arith, none_twice_is_shorter those (range_with_len 0 n) apart (λ t c. among t ((just t).0 c).0), len, length-range_with_len 0 n)
-    where
-      among : (t : ℕ) → t < n → Contains (range_with_len 0 n) t
-      among t t_in =
-          let there : get_or (range_with_len 0 n) t t ≡ t = omega (arith, get_or-range_with_len 0 n t t t_in) in
-          (t, omega (arith, t_in, length-range_with_len 0 n), there)
+  number_few P k (those, lists, len) = omega (arith, enumerates_few n P those lists, len)
 
   pub counts_fit : (step : ℕ → ℕ → Type 0) (counts : List ℕ) → AreCounts n step counts → All FitsCount counts
   counts_fit step counts are k d within =

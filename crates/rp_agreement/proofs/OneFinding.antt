@@ -14,7 +14,7 @@ use Rattle.rp_clauses.specs.WalkFailure.{ClosedWalkFails, ViolationFails}
 use Rattle.rp_check.specs.WelfareFailure.{WelfareBoundsFail, WelfareFails, WelfarePartFails}
 use Rattle.rp_check.specs.declared.verdict.Verdict.{Verdict}
 use Rattle.rp_check.specs.declared.verdict.Verdict.TheVariants.{Accepted, Rejected}
-use Rattle.rp_evidence.specs.Demand.{NewBudget}
+use Rattle.rp_evidence.specs.Demand.{BudgetInput}
 use Rattle.rp_evidence.specs.DemandEvidence.{budget_of}
 use Rattle.rp_evidence.specs.Input.{TableInput}
 use Rattle.rp_evidence.specs.Preference.{IsStrict, IsWeak, StrictByLevels, WeakByLevels}
@@ -145,7 +145,7 @@ module _ (e : Failure) where
   prices_exclude goods prices (one_each, (fit, done)) (inr (h, inr none)) = none.1
 
   module _ (input : TableInput) where
-    module _ (budget : NewBudget) where
+    module _ (budget : BudgetInput) where
       sets_exclude : (below strict : List ℕ) → SetsFail input budget below strict (Ok tt) → SetsFail input budget below strict (Err e) → ⊥
       sets_exclude below strict (lists, (others, done)) (inl (not, is)) = not lists
       sets_exclude below strict (lists, (others, done)) (inr (h, inl (not, is))) = not others

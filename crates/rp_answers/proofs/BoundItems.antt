@@ -9,7 +9,8 @@ use Rattle.rp_evidence.specs.declared.demand.DemandPart.{DemandPart}
 use Rattle.rp_evidence.specs.declared.demand.WelfarePart.{WelfarePart}
 use Rattle.rp_evidence.specs.declared.garp.Garp.{Garp}
 use Rattle.rp_support.specs.Verdict.{IsDemandGiven}
-use Rattle.rp_table.specs.declared.TheConstants.{LARGEST, LARGEST_EXPENDITURE}
+use Rattle.rp_table.specs.Limits.{IsPrice}
+use Rattle.rp_table.specs.declared.TheConstants.{LARGEST_EXPENDITURE}
 use Rattle.rp_welfare.specs.Verdict.{IsWelfareVerdict}
 use Rattle.rp_answers.specs.Demands.{IsDemandItem}
 use Rattle.rp_answers.specs.Welfares.{IsWelfareItem}
@@ -18,7 +19,7 @@ use Rattle.rp_table.specs.NewPrices.{AreNewPrices}
 use Rattle.rp_agreement.specs.Limited.{IsLimited}
 use Rattle.rp_agreement.proofs.BoundsFit.{demand_fits, welfare_fits}
 
-module _ (input : TableInput) (none : input.levels ≡ []) (limited : IsLimited input) (garp : Garp) (prices kept : List ℕ) (same : kept ≡ prices) (one_each : length prices ≡ input.goods) (limits : All (λ p. (1 ≤ p) × (p ≤ LARGEST)) prices) where
+module _ (input : TableInput) (none : input.levels ≡ []) (limited : IsLimited input) (garp : Garp) (prices kept : List ℕ) (same : kept ≡ prices) (one_each : length prices ≡ input.goods) (limits : All IsPrice prices) where
   new : AreNewPrices input.goods prices
   new = record { one_each = one_each; fit = limits }
 

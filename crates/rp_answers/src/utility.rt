@@ -1,10 +1,10 @@
-ghost use Rattle.std.specs.Prelude.{◌≡◌, ◌++◌, ◌≤◌, IfOk, All, codes, length};
+ghost use Rattle.std.specs.Prelude.{◌≡◌, ◌++◌, IfOk, All, codes, length};
 ghost use Rattle.std.specs.Fmt.{signed_decimal};
 ghost use Rattle.rp_afriat.specs.Verdict.{IsOwnAfriatVerdict};
 ghost use Rattle.rp_table.specs.Cost.{IsCostsOf, cost_at};
+ghost use Rattle.rp_table.specs.Limits.{IsQuantity};
 ghost use Rattle.rp_table.specs.Rows.{rows_count};
 ghost use Rattle.rp_table.specs.Tables.{goods_of};
-ghost use Rattle.rp_table.specs.declared.TheConstants.{LARGEST};
 ghost use Rattle.rp_answers.specs.UtilityText.{AreUtilityLines, IsUtilityLine, IsUtilityText};
 ghost use Rattle.rp_answers.specs.UtilityText.{at_line};
 ghost use Rattle.rp_answers.specs.UtilityText.{first_items};
@@ -91,7 +91,7 @@ fn utility_line(
     requires given { IsOwnAfriatVerdict costs.now.n costs.now.levels (cost_at costs.now)
         evidence.now }
     requires goods { length bundle.now ≡ goods_of table.now }
-    requires limits { All (λ q. q ≤ LARGEST) bundle.now }
+    requires limits { All IsQuantity bundle.now }
     ensures { IfOk result (λ line. IsUtilityLine table.now evidence.now k bundle.now line.items) }
 {
     match evidence {

@@ -1,6 +1,6 @@
 -- The clauses of an item on demand, put together.
 use Rattle.std.proofs.Common.{◌≡◌, ◌<◌, ◌+◌, ◌*◌, ℕ, Bool, IsTrue, List, [], ◌∷◌, Result, Ok, Err, length, refl, sym, subst, inl, inr, slice_index}
-use Rattle.rp_evidence.specs.Demand.{NewBudget, spending}
+use Rattle.rp_evidence.specs.Demand.{BudgetInput, spending}
 use Rattle.rp_evidence.specs.DemandEvidence.{budget_of, bundle_of}
 use Rattle.rp_evidence.specs.Input.{TableInput}
 use Rattle.rp_evidence.specs.Preference.{IsStrict, IsWeak}
@@ -15,7 +15,7 @@ use Rattle.rp_check.specs.DemandFailure.{CostsEnoughAt, DemandBoundsFail, Demand
 use Rattle.rp_clauses.specs.PricesFailure.{ExpenditureFails, PricesFail}
 use Rattle.rp_clauses.specs.WalkFailure.{ViolationFails}
 
-pub inner_fails_at : (input : TableInput) (budget : NewBudget) (inner : InnerPoint) (r : Result (Unit {0}) Failure) (t : ℕ) → 0 < inner.den → length inner.num ≡ input.goods
+pub inner_fails_at : (input : TableInput) (budget : BudgetInput) (inner : InnerPoint) (r : Result (Unit {0}) Failure) (t : ℕ) → 0 < inner.den → length inner.num ≡ input.goods
     → spending input.goods budget.prices (slice_index inner.num) ≡ inner.den * budget.expenditure → t < input.n
     → ((k : ℕ) → k < t → CostsEnoughAt input budget (bundle_of inner) k) → ¬ CostsEnoughAt input budget (bundle_of inner) t
     → r ≡ Err (failure Point (t + 1)) → InnerFails input budget inner r
@@ -31,7 +31,7 @@ then_more : (first : Result (Unit {0}) Failure → Type 0) (rest : List (Result 
 then_more first rest (Ok done) holds found = (holds, found)
 then_more first rest (Err e) holds found = inr (holds, found)
 
-module _ (input : TableInput) (garp_shown : Bool) (budget : NewBudget) (evidence : DemandPart) (r : Result (Unit {0}) Failure) where
+module _ (input : TableInput) (garp_shown : Bool) (budget : BudgetInput) (evidence : DemandPart) (r : Result (Unit {0}) Failure) where
   pub from_bounds : (below strict below' strict' : List ℕ) (inner : InnerPoint) (goods goods' : List GoodBounds) → evidence ≡ Bounds below strict inner goods → below' ≡ below → strict' ≡ strict → goods' ≡ goods
       → DemandBoundsFail input garp_shown budget below' strict' inner goods' r → DemandPartFails input garp_shown budget evidence r
   from_bounds below strict below' strict' inner goods goods' is a b d h =

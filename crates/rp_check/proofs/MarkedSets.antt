@@ -2,14 +2,14 @@
 use Rattle.std.proofs.Common.{◌≡◌, ◌<◌, ◌+◌, ◌↔◌, inl, inr, ℕ, Bool, false, IsTrue, List, length, length-set, set, sym, subst, ◌∙◌, arith}
 use Rattle.std.proofs.lemmas.Bool.{cases_eq}
 use Rattle.std.proofs.lemmas.List.{get_or-set_other, get_or-set_same}
-use Rattle.rp_evidence.specs.Demand.{Buys, IsBelow, IsStrictStart, IsStrictlyBelow, NewBudget}
+use Rattle.rp_evidence.specs.Demand.{BudgetInput, Buys, IsBelow, IsStrictStart, IsStrictlyBelow}
 use Rattle.rp_evidence.specs.Input.{TableInput}
 use Rattle.rp_evidence.specs.Preference.{IsWeak}
 use Rattle.rp_evidence.proofs.EqualOrReached.{leads_by, rest_of}
 use Rattle.rp_evidence.proofs.StrictStarts.{below_exactly, strictly_exactly}
 use Rattle.rp_clauses.specs.InnerMarks.{AreMarked, IsLedTo}
 
-module _ (input : TableInput) (budget : NewBudget) where
+module _ (input : TableInput) (budget : BudgetInput) where
   pub marks_below : (starts marks : List Bool) → AreMarked input.n (Buys input budget) starts → AreMarked input.n (IsLedTo input.n (IsWeak input.cost 1 1) starts) marks
       → AreMarked input.n (IsBelow input budget) marks
   marks_below starts marks told led t t_in = (

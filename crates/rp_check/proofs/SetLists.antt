@@ -1,6 +1,6 @@
 -- The lists of the observations below and strictly below, by the marks.
 use Rattle.std.proofs.Common.{◌≡◌, ◌≤◌, ℕ, List, Result, Err, refl, inl, inr, arith}
-use Rattle.rp_evidence.specs.Demand.{IsBelow, IsStrictlyBelow, NewBudget}
+use Rattle.rp_evidence.specs.Demand.{BudgetInput, IsBelow, IsStrictlyBelow}
 use Rattle.rp_evidence.specs.DemandPrograms.{ListsBelow, ListsStrictlyBelow}
 use Rattle.rp_evidence.specs.Input.{TableInput}
 use Rattle.rp_evidence.specs.declared.failure.Failure.{Failure}
@@ -19,7 +19,7 @@ few_of n P list small lists = record {
   few = (let h = enumerates_few n P list lists in omega (arith, h));
 }
 
-module _ (input : TableInput) (budget : NewBudget) (sets : Sets) (are : AreSets input budget sets) (below strict : List ℕ) where
+module _ (input : TableInput) (budget : BudgetInput) (sets : Sets) (are : AreSets input budget sets) (below strict : List ℕ) where
   pub lists_below : Enumerates input.n (IsMarked sets.below) below → ListsBelow input budget below
   lists_below lists = enumerates_same input.n (IsMarked sets.below) (IsBelow input budget) are.below below lists
 
@@ -41,5 +41,5 @@ module _ (input : TableInput) (budget : NewBudget) (sets : Sets) (are : AreSets 
       → SetsFail input budget below strict r
   strict_fails r lists not e = rw e (inr (lists_below lists, inl ((λ l. not (back_strictly l)), refl)))
 
-pub few_below : (input : TableInput) (budget : NewBudget) (below : List ℕ) → input.n ≤ 512 → ListsBelow input budget below → AreFewOf input.n below
+pub few_below : (input : TableInput) (budget : BudgetInput) (below : List ℕ) → input.n ≤ 512 → ListsBelow input budget below → AreFewOf input.n below
 few_below input budget below small l = few_of input.n (IsBelow input budget) below small l

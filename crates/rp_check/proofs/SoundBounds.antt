@@ -3,7 +3,7 @@ use Rattle.std.proofs.Common.{◌≡◌, ◌*◌, ◌<◌, ◌≤◌, ℕ, List,
 use Rattle.std.proofs.Math.Nat.{eq_of_mul-eq-mul_right, le_of_mul-le-mul_right, lt_of_mul-lt-mul_right, mul-le-mul_right, mul-lt-mul_of_pos_right}
 use Rattle.rp_num.specs.Fraction.{Fraction, IsLowestTerms}
 use Rattle.rp_evidence.specs.BoundEvidence.{BoundHolds}
-use Rattle.rp_evidence.specs.Demand.{FractionBundle, IsInfimum, IsSupportingDemand, IsSupremum, NewBudget, spending}
+use Rattle.rp_evidence.specs.Demand.{BudgetInput, FractionBundle, IsInfimum, IsSupportingDemand, IsSupremum, spending}
 use Rattle.rp_evidence.specs.DemandEvidence.{ProvesDemand, ProvesDemandBounds, ProvesGood, ProvesLower, ProvesLowerWelfare, ProvesUpper, ProvesWelfare, bundle_of, budget_of}
 use Rattle.rp_evidence.specs.DemandPrograms.{ListsBelow, lower_program, upper_program}
 use Rattle.rp_evidence.specs.Garp.{MeetsGarp}
@@ -57,7 +57,7 @@ module _ (a b n d m e : ℕ) (d_some : 0 < d) (e_some : 0 < e) (same : m * d ≡
       eq_of_mul-eq-mul_right d d_some (a * e) (m * b) (omega (arith, k, q))
 
 module _ (input : TableInput) (num den : ℕ) (value : Fraction) (lowest : IsLowestTerms num den value) where
-  infimum_reduced : (budget : NewBudget) (g : ℕ) → IsInfimum input budget g num den → IsInfimum input budget g value.num value.den
+  infimum_reduced : (budget : BudgetInput) (g : ℕ) → IsInfimum input budget g num den → IsInfimum input budget g value.num value.den
   infimum_reduced budget g is = record {
     fraction = lowest.positive;
     none_less = λ bundle s less. is.none_less bundle s (below_there (bundle.num g) bundle.den num den value.num value.den is.fraction lowest.positive lowest.same_number less);
@@ -65,7 +65,7 @@ module _ (input : TableInput) (num den : ℕ) (value : Fraction) (lowest : IsLow
         is.approached num' den' some (above_there num' den' num den value.num value.den is.fraction lowest.positive lowest.same_number greater);
   }
 
-  supremum_reduced : (budget : NewBudget) (g : ℕ) → IsSupremum input budget g num den → IsSupremum input budget g value.num value.den
+  supremum_reduced : (budget : BudgetInput) (g : ℕ) → IsSupremum input budget g num den → IsSupremum input budget g value.num value.den
   supremum_reduced budget g is = record {
     fraction = lowest.positive;
     none_more = λ bundle s more. is.none_more bundle s (above_there (bundle.num g) bundle.den num den value.num value.den is.fraction lowest.positive lowest.same_number more);
@@ -88,7 +88,7 @@ module _ (input : TableInput) (num den : ℕ) (value : Fraction) (lowest : IsLow
 module _ (input : TableInput) (garp_shown : Bool) (sound : IsTrue garp_shown → MeetsGarp input.n input.cost 1 1) where
   -- ---- demand
 
-  module _ (budget : NewBudget) (below : List ℕ) (lists : ListsBelow input budget below) (meets : MeetsGarp input.n input.cost 1 1) (inner : FractionBundle) (kept : IsSupportingDemand input budget inner) (g : ℕ) (g_in : g < input.goods) (some : 0 < budget.prices g) where
+  module _ (budget : BudgetInput) (below : List ℕ) (lists : ListsBelow input budget below) (meets : MeetsGarp input.n input.cost 1 1) (inner : FractionBundle) (kept : IsSupportingDemand input budget inner) (g : ℕ) (g_in : g < input.goods) (some : 0 < budget.prices g) where
     proves_lower : (bound : Bound) → BoundHolds (lower_program input budget below g) (λ x. x g) bound → ProvesLower input budget g bound
     proves_lower (Shown value pair) (equal, lowest) =
         infimum_reduced input (slice_index pair.x g) pair.den value lowest budget g
@@ -104,7 +104,7 @@ module _ (input : TableInput) (garp_shown : Bool) (sound : IsTrue garp_shown →
     proves_good : (bounds : GoodBounds) → GoodFails input budget below g bounds (Ok tt) → ProvesGood input budget g bounds
     proves_good bounds (lower, (upper, done)) = (proves_lower bounds.lower lower, proves_upper bounds.upper upper)
 
-  demand_bounds_prove : (budget : NewBudget) (below strict : List ℕ) (inner : Point) (goods : List GoodBounds) → ((g : ℕ) → g < input.goods → 0 < budget.prices g)
+  demand_bounds_prove : (budget : BudgetInput) (below strict : List ℕ) (inner : Point) (goods : List GoodBounds) → ((g : ℕ) → g < input.goods → 0 < budget.prices g)
       → DemandBoundsFail input garp_shown budget below strict inner goods (Ok tt) → ProvesDemandBounds input budget below strict inner goods
   demand_bounds_prove budget below strict inner goods some (is_shown, ((below_listed, (strict_listed, listed)), ((den, (length_is, (spent, (enough, point)))), ((one_each, (each, all)), done)))) =
       let kept : IsSupportingDemand input budget (bundle_of inner) =

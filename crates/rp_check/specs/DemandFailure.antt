@@ -5,7 +5,7 @@ use Rattle.rp_patch.specs.Clauses.{Finding, Unless, InOrder, FirstBelow, FirstUn
 use Rattle.rp_clauses.specs.PricesFailure.{ExpenditureFails, PricesFail}
 use Rattle.rp_clauses.specs.WalkFailure.{ViolationFails}
 use Rattle.rp_evidence.specs.BoundEvidence.{BoundHolds}
-use Rattle.rp_evidence.specs.Demand.{FractionBundle, IsBelow, IsStrictlyBelow, NewBudget, spending}
+use Rattle.rp_evidence.specs.Demand.{BudgetInput, FractionBundle, IsBelow, IsStrictlyBelow, spending}
 use Rattle.rp_evidence.specs.DemandEvidence.{budget_of, bundle_of}
 use Rattle.rp_evidence.specs.DemandPrograms.{ListsBelow, ListsStrictlyBelow, lower_program, upper_program}
 use Rattle.rp_evidence.specs.Input.{TableInput}
@@ -18,19 +18,19 @@ use Rattle.rp_evidence.specs.declared.failure.Reason.TheVariants.{Shape, Number,
 use Rattle.rp_evidence.specs.declared.failure.Reason.TheVariants.{Bound as BoundReason}
 
 -- Good g, from 0: its lower bound, then its upper one, each of which is the price of row g.
-abbrev pub GoodFails : TableInput → NewBudget → List ℕ → ℕ → GoodBounds → Finding
+abbrev pub GoodFails : TableInput → BudgetInput → List ℕ → ℕ → GoodBounds → Finding
 GoodFails input budget below g bounds = InOrder (
     Unless (BoundHolds (lower_program input budget below g) (λ x. x g) bounds.lower) BoundReason (2 * g + 1)
     ∷ Unless (BoundHolds (upper_program input budget below g) (λ x. x g) bounds.upper) BoundReason (2 * g + 2)
     ∷ [])
 
 -- The good of that number in a list of bounds.
-abbrev pub GoodFailsAt : TableInput → NewBudget → List ℕ → List GoodBounds → ℕ → Finding
+abbrev pub GoodFailsAt : TableInput → BudgetInput → List ℕ → List GoodBounds → ℕ → Finding
 GoodFailsAt input budget below goods g found =
     (other : GoodBounds) → GoodFails input budget below g (slice_index_or goods g other) found
 
 -- One pair of bounds for each good, and the bounds of each good in order.
-abbrev pub GoodsFail : TableInput → NewBudget → List ℕ → List GoodBounds → Finding
+abbrev pub GoodsFail : TableInput → BudgetInput → List ℕ → List GoodBounds → Finding
 GoodsFail input budget below goods = InOrder (
     Unless (length goods ≡ input.goods) Shape 2
     ∷ FirstBelow input.goods (GoodFailsAt input budget below goods)
@@ -38,13 +38,13 @@ GoodsFail input budget below goods = InOrder (
 
 -- The bundle costs enough at observation t: at least what was spent there where t is below, and more where it is
 -- strictly below.
-abbrev pub CostsEnoughAt : TableInput → NewBudget → FractionBundle → ℕ → Type 0
+abbrev pub CostsEnoughAt : TableInput → BudgetInput → FractionBundle → ℕ → Type 0
 CostsEnoughAt input budget bundle t =
     (IsBelow input budget t → bundle.den * input.cost t t ≤ spending input.goods (input.price t) bundle.num)
     × (IsStrictlyBelow input budget t → bundle.den * input.cost t t < spending input.goods (input.price t) bundle.num)
 
 -- The inner point: a denominator, one numerator for each good, on the budget, and it costs enough at each observation.
-abbrev pub InnerFails : TableInput → NewBudget → InnerPoint → Finding
+abbrev pub InnerFails : TableInput → BudgetInput → InnerPoint → Finding
 InnerFails input budget inner = InOrder (
     Unless (0 < inner.den) Number 0
     ∷ Unless (length inner.num ≡ input.goods) Shape 1
@@ -53,12 +53,12 @@ InnerFails input budget inner = InOrder (
     ∷ [])
 
 -- The lists of the observations below and strictly below.
-abbrev pub SetsFail : TableInput → NewBudget → List ℕ → List ℕ → Finding
+abbrev pub SetsFail : TableInput → BudgetInput → List ℕ → List ℕ → Finding
 SetsFail input budget below strict = InOrder (
     Unless (ListsBelow input budget below) Set 1 ∷ Unless (ListsStrictlyBelow input budget strict) Set 2 ∷ [])
 
 -- Bounds; `garp_shown` says whether an item before this one shows by ranks that the axiom holds.
-abbrev pub DemandBoundsFail : TableInput → Bool → NewBudget → List ℕ → List ℕ → InnerPoint → List GoodBounds → Finding
+abbrev pub DemandBoundsFail : TableInput → Bool → BudgetInput → List ℕ → List ℕ → InnerPoint → List GoodBounds → Finding
 DemandBoundsFail input garp_shown budget below strict inner goods = InOrder (
     Unless (IsTrue garp_shown) NoGarp 0
     ∷ SetsFail input budget below strict
@@ -67,7 +67,7 @@ DemandBoundsFail input garp_shown budget below strict inner goods = InOrder (
     ∷ [])
 
 -- Bounds, or a violation.
-abbrev pub DemandPartFails : TableInput → Bool → NewBudget → DemandPart → Finding
+abbrev pub DemandPartFails : TableInput → Bool → BudgetInput → DemandPart → Finding
 DemandPartFails input garp_shown budget (Bounds below strict inner goods) =
     DemandBoundsFail input garp_shown budget below strict inner goods
 DemandPartFails input garp_shown budget (NoModel walk) =

@@ -1,5 +1,6 @@
 ghost use Rattle.std.specs.Prelude.{◌≡◌, ◌<◌, ◌↔◌, ◌∷◌, [], IsTrue, length};
-ghost use Rattle.rp_check.specs.InnerSets.{AreFewOf, AreSets, budget_at, input_of};
+ghost use Rattle.rp_check.specs.InnerSets.{AreFewOf, AreSets};
+ghost use Rattle.rp_evidence.specs.InnerBudget.{budget_at, input_of};
 ghost use Rattle.rp_check.specs.DemandFailure.{CostsEnoughAt, SetsFail};
 ghost use Rattle.rp_check.specs.DemandFailure.{DemandFails, GoodFails, GoodsFail, InnerFails};
 ghost use Rattle.rp_clauses.specs.InnerBits.{IsClosureOf};

@@ -1,5 +1,6 @@
 ghost use Rattle.std.specs.Prelude.{◌<◌, ◌≤◌, ◌↔◌, ℕ, IsTrue, length};
-ghost use Rattle.rp_check.specs.InnerSets.{AreSets, budget_at, input_of};
+ghost use Rattle.rp_check.specs.InnerSets.{AreSets};
+ghost use Rattle.rp_evidence.specs.InnerBudget.{budget_at, input_of};
 ghost use Rattle.rp_check.specs.DemandFailure.{SetsFail};
 ghost use Rattle.rp_clauses.specs.InnerBits.{IsClosureOf};
 ghost use Rattle.rp_clauses.specs.InnerMarks.{AreMarked, IsMarked};

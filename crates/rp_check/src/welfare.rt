@@ -1,5 +1,6 @@
 ghost use Rattle.std.specs.Prelude.{◌≤◌, ◌<◌, ◌↔◌, ◌∷◌, [], IsTrue, length, slice_index};
-ghost use Rattle.rp_check.specs.InnerSets.{AreFewOf, input_of};
+ghost use Rattle.rp_check.specs.InnerSets.{AreFewOf};
+ghost use Rattle.rp_evidence.specs.InnerBudget.{input_of};
 ghost use Rattle.rp_patch.specs.Clauses.{FirstUnless, InOrder, Unless};
 ghost use Rattle.rp_clauses.specs.InnerBits.{IsClosureOf};
 ghost use Rattle.rp_clauses.specs.InnerMarks.{AreMarked};

@@ -53,7 +53,7 @@ module _ (n : ℕ) (weak : ℕ → ℕ → Type 0) (cost : ℕ → ℕ → ℕ) 
           count_falls n weak s t a b (strict_is_weak s t h) (count s) (count t) (no_way_back s t a b h) (are s a) (are t b)
 
 pub count_is_some : (n : ℕ) (step : ℕ → ℕ → Type 0) (s k : ℕ) → s < n → IsCount n step s k → 1 ≤ k
-count_is_some n step s k a p = let h = (p.2 s).1 (a, inl refl) in omega (arith, p.3, h.1)
+count_is_some n step s k a p = let h = (p.1.just_these s).1 (a, inl refl) in omega (arith, p.2, h.1)
 
 module _ (n : ℕ) (weak : ℕ → ℕ → Type 0) (cost : ℕ → ℕ → ℕ) (own : ℕ → ℕ) (weak_is : ComparesWeakly weak cost own) where
   pub count_is_within : (s k : ℕ) → s < n → IsCount n weak s k → k ≤ n

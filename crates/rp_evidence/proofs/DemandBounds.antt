@@ -13,7 +13,7 @@ use Rattle.rp_farkas.proofs.Integers.{plus_times}
 use Rattle.rp_farkas.proofs.Duality.{best_prices}
 use Rattle.rp_farkas.proofs.Totals.{total-add, total-same}
 use Rattle.rp_table.specs.Sums.{sum_below}
-use Rattle.rp_evidence.specs.Demand.{NewBudget, FractionBundle, IsInfimum, IsOnBudget, IsSupportingDemand, IsSupremum, CostsEnough, mixed, spending}
+use Rattle.rp_evidence.specs.Demand.{BudgetInput, FractionBundle, IsInfimum, IsOnBudget, IsSupportingDemand, IsSupremum, CostsEnough, mixed, spending}
 use Rattle.rp_evidence.specs.DemandPrograms.{ListsBelow, demand_program, demand_worth, lower_program, upper_program}
 use Rattle.rp_evidence.specs.Garp.{MeetsGarp}
 use Rattle.rp_evidence.specs.Input.{TableInput}
@@ -66,7 +66,7 @@ total_at (suc k) g w l = elim (cases_lt g k) [
 
 -- ---- the price vectors of these programs
 
-module _ (input : TableInput) (budget : NewBudget) (below : List ℕ) (right : ℕ → ℤ) where
+module _ (input : TableInput) (budget : BudgetInput) (below : List ℕ) (right : ℕ → ℤ) where
   at_observation : (j : ℕ) (x : ℕ → ℕ) → j < length below
       → column_times (demand_program input budget below right) j x ≡ pos (spending input.goods (input.price (slice_index below j)) x)
   at_observation j x l =
@@ -152,7 +152,7 @@ module _ (input : TableInput) (budget : NewBudget) (below : List ℕ) (right : �
 
 -- ---- the bounds
 
-module _ (input : TableInput) (budget : NewBudget) (below : List ℕ) (lists : ListsBelow input budget below) (sound : MeetsGarp input.n input.cost 1 1)
+module _ (input : TableInput) (budget : BudgetInput) (below : List ℕ) (lists : ListsBelow input budget below) (sound : MeetsGarp input.n input.cost 1 1)
     (inner : FractionBundle) (kept : IsSupportingDemand input budget inner) where
   module _ (right : ℕ → ℤ) (den : ℕ) (x : ℕ → ℕ) (p : IsPriced input budget below right den x) where
     priced_on_budget : IsOnBudget input budget (record { den = den; num = x })

@@ -1,7 +1,7 @@
 -- The laws of supporting demand, in the words of its definitions.
 use Rattle.std.proofs.Common.{◌≡◌, ◌<◌, ◌⊎◌, ◌↔◌, inl, inr, ℕ, List, [], ◌∷◌, refl, subst, ◌∙◌, ap, arith, ltb, cond, Bool, true, false}
 use Rattle.std.proofs.lemmas.Bool.{lt-ltb, le-ltb}
-use Rattle.rp_evidence.specs.Demand.{NewBudget, FractionBundle, IsOnBudget, IsSupportingDemand, IsBelow, IsStrictlyBelow, CostsEnough, CostsMore, BuysWithRest, enlarged, spending}
+use Rattle.rp_evidence.specs.Demand.{BudgetInput, FractionBundle, IsOnBudget, IsSupportingDemand, IsBelow, IsStrictlyBelow, CostsEnough, CostsMore, BuysWithRest, enlarged, spending}
 use Rattle.rp_evidence.specs.Garp.{MeetsGarp}
 use Rattle.rp_evidence.specs.Input.{TableInput}
 use Rattle.rp_evidence.specs.Preference.{IsWeak, IsStrict}
@@ -11,7 +11,7 @@ use Rattle.rp_evidence.proofs.SupportingDemands.{IsEnlarged, Leads, LeadsStrictl
 pick : {A : Type 0} (b d : Bool) (x y : A) → b ≡ d → cond b x y ≡ cond d x y
 pick b d x y e = ap (λ z. cond z x y) e
 
-module _ (input : TableInput) (budget : NewBudget) (bundle : FractionBundle) where
+module _ (input : TableInput) (budget : BudgetInput) (bundle : FractionBundle) where
   pub is_enlarged : 0 < bundle.den → IsEnlarged input.n bundle.den budget.expenditure input.cost (enlarged input budget bundle) (λ t. spending input.goods (input.price t) bundle.num) (λ t. spending input.goods budget.prices (input.quantity t))
   is_enlarged some = record {
     some = some;
@@ -69,7 +69,7 @@ module _ (input : TableInput) (budget : NewBudget) (bundle : FractionBundle) whe
       costs_more input.n bundle.den budget.expenditure input.cost (enlarged input budget bundle) (λ t. spending input.goods (input.price t) bundle.num) (λ t. spending input.goods budget.prices (input.quantity t)) (is_enlarged kept.on_budget.fraction)
       kept.meets t a (leads_strictly t b)
 
-pub supporting_exactly : (input : TableInput) (budget : NewBudget) (bundle : FractionBundle) → MeetsGarp input.n input.cost 1 1 → IsOnBudget input budget bundle
+pub supporting_exactly : (input : TableInput) (budget : BudgetInput) (bundle : FractionBundle) → MeetsGarp input.n input.cost 1 1 → IsOnBudget input budget bundle
     → IsSupportingDemand input budget bundle ↔ (CostsEnough input budget bundle × CostsMore input budget bundle)
 supporting_exactly input budget bundle sound on = (
   (λ kept. (enough_where_kept input budget bundle kept, more_where_kept input budget bundle kept)),

@@ -1,7 +1,8 @@
 -- Mixtures of a bundle that costs enough with a supporting demand, and sums over goods.
 use Rattle.std.proofs.Common.{◌≡◌, ◌<◌, ◌≤◌, ◌+◌, ◌*◌, ◌-◌, ℕ, zero, suc, refl, sym, subst, ◌∙◌, ap, arith}
 use Rattle.std.proofs.Math.Nat.{mul-le-mul_left, mul-lt-mul_of_pos_left, mul-pos}
-use Rattle.rp_evidence.specs.Demand.{NewBudget, FractionBundle, IsOnBudget, IsSupportingDemand, IsBelow, CostsEnough, CostsMore, mixed, spending}
+use Rattle.rp_table.proofs.SpendingLaws.{spending-same}
+use Rattle.rp_evidence.specs.Demand.{BudgetInput, FractionBundle, IsOnBudget, IsSupportingDemand, IsBelow, CostsEnough, CostsMore, mixed, spending}
 use Rattle.rp_evidence.specs.Garp.{MeetsGarp}
 use Rattle.rp_evidence.specs.Input.{TableInput}
 use Rattle.rp_evidence.proofs.DemandLaws.{keeps, enough_where_kept, more_where_kept}
@@ -13,21 +14,13 @@ spending_of_sum (suc k) prices x z a b =
     let h = spending_of_sum k prices x z a b in
     omega arith
 
--- bundles with the same parts cost the same
-pub spending_same : (goods : ℕ) (prices x z : ℕ → ℕ) → ((g : ℕ) → g < goods → x g ≡ z g) → spending goods prices x ≡ spending goods prices z
-spending_same zero prices x z e = refl
-spending_same (suc k) prices x z e =
-    let h = spending_same k prices x z (λ g l. e g (omega arith)) in
-    let i : prices k * x k ≡ prices k * z k = ap (λ v. prices k * v) (e k (omega arith)) in
-    omega arith
-
 spending_mixed : (goods : ℕ) (prices : ℕ → ℕ) (k : ℕ) (x z : FractionBundle)
     → spending goods prices (mixed k x z).num ≡ ((k - 1) * z.den) * spending goods prices x.num + x.den * spending goods prices z.num
 spending_mixed goods prices k x z =
-    spending_same goods prices (mixed k x z).num (λ g. ((k - 1) * z.den) * x.num g + x.den * z.num g) (λ g l. omega arith)
+    spending-same goods goods prices (mixed k x z).num prices (λ g. ((k - 1) * z.den) * x.num g + x.den * z.num g) refl (λ g l. refl) (λ g l. omega arith)
     ∙ spending_of_sum goods prices x.num z.num ((k - 1) * z.den) x.den
 
-module _ (input : TableInput) (budget : NewBudget) (x z : FractionBundle) (k : ℕ) (some : 0 < k) where
+module _ (input : TableInput) (budget : BudgetInput) (x z : FractionBundle) (k : ℕ) (some : 0 < k) where
   mixed_on_budget : IsOnBudget input budget x → IsOnBudget input budget z → IsOnBudget input budget (mixed k x z)
   mixed_on_budget on_x on_z = record {
     fraction = mul-pos some (mul-pos on_x.fraction on_z.fraction);

@@ -1,7 +1,7 @@
 -- Supporting demand, tried at a small table: two consistent observations, and a new budget at the prices 1 and 1.
 use Rattle.std.proofs.Common.{◌<◌, ◌≤◌, ◌*◌, ℕ, zero, suc, List, [], ◌∷◌, inl, refl, arith, slice_index, slice_index_or}
 use Rattle.rp_table.specs.Sums.{sum_below}
-use Rattle.rp_evidence.specs.Demand.{NewBudget, FractionBundle, IsBelow, IsStrictlyBelow, IsSupportingDemand, enlarged}
+use Rattle.rp_evidence.specs.Demand.{BudgetInput, FractionBundle, IsBelow, IsStrictlyBelow, IsSupportingDemand, enlarged}
 use Rattle.rp_evidence.specs.Garp.{IsViolationAt}
 use Rattle.rp_evidence.specs.Input.{TableInput}
 use Rattle.rp_evidence.specs.Preference.{IsWeak, IsStrict}
@@ -21,7 +21,7 @@ consistent = record {
   sums = λ s t s_in t_in. refl;
 }
 
-abbrev budget_of : ℕ → NewBudget
+abbrev budget_of : ℕ → BudgetInput
 budget_of m = record { prices = slice_index (1 ∷ 1 ∷ []); expenditure = m }
 
 abbrev whole : ℕ → ℕ → FractionBundle

@@ -1,11 +1,12 @@
 -- The inner demand is a supporting demand: nothing below costs more than what its start costs there, since the count would
 -- be greater; and where it costs the same at an observation strictly below, money is left for good 0.
-use Rattle.std.proofs.Common.{◌≡◌, ◌<◌, ◌≤◌, ◌+◌, ◌*◌, ◌-◌, inl, inr, ℕ, zero, suc, List, [], ◌∷◌, sym, subst, ◌∙◌, ap, arith, slice_index, eqb, cond}
+use Rattle.std.proofs.Common.{◌≡◌, ◌<◌, ◌≤◌, ◌+◌, ◌*◌, ◌-◌, inl, inr, ℕ, zero, suc, List, [], ◌∷◌, refl, sym, subst, ◌∙◌, ap, arith, slice_index, eqb, cond}
 use Rattle.std.proofs.Math.Nat.{mul-le-mul_left, mul-lt-mul_of_pos_left, mul-pos}
 use Rattle.std.proofs.lemmas.Bool.{cases_lt}
 use Rattle.std.proofs.Math.Dec.{eqb-suc-zero}
+use Rattle.rp_table.proofs.SpendingLaws.{spending-same}
 use Rattle.rp_evidence.specs.Count.{AreCounts}
-use Rattle.rp_evidence.specs.Demand.{NewBudget, FractionBundle, IsOnBudget, IsSupportingDemand, IsBelow, IsStrictlyBelow, IsInnerStart, IsInnerDemand, CostsEnough, CostsMore, Buys, all_on_first, spending, with_rest_on_first}
+use Rattle.rp_evidence.specs.Demand.{BudgetInput, FractionBundle, IsOnBudget, IsSupportingDemand, IsBelow, IsStrictlyBelow, IsInnerStart, IsInnerDemand, CostsEnough, CostsMore, Buys, all_on_first, spending, with_rest_on_first}
 use Rattle.rp_evidence.specs.Garp.{MeetsGarp}
 use Rattle.rp_evidence.specs.Input.{TableInput}
 use Rattle.rp_evidence.specs.Preference.{IsWeak, IsStrict}
@@ -13,7 +14,7 @@ use Rattle.rp_evidence.specs.Ranks.{RespectPreference}
 use Rattle.rp_evidence.specs.Walk.{LeadsTo, IsWalk, HasStep, HasStepFrom}
 use Rattle.rp_evidence.proofs.Counts.{counts_respect_preference}
 use Rattle.rp_evidence.proofs.DemandLaws.{keeps}
-use Rattle.rp_evidence.proofs.DemandMixtures.{spending_of_sum, spending_same}
+use Rattle.rp_evidence.proofs.DemandMixtures.{spending_of_sum}
 use Rattle.rp_evidence.proofs.Levels.{strict_to_weak}
 use Rattle.rp_evidence.proofs.Violations.{falls, never_rises}
 use Rattle.rp_evidence.proofs.Walks.{starts_below}
@@ -28,7 +29,7 @@ spending_first (suc (suc j)) prices k some =
     let p : prices (suc j) * cond (eqb (suc j) 0) k 0 ≡ prices (suc j) * 0 = ap (λ v. prices (suc j) * v) z in
     omega arith
 
-module _ (input : TableInput) (budget : NewBudget) (sound : MeetsGarp input.n input.cost 1 1) (some_goods : 0 < input.goods)
+module _ (input : TableInput) (budget : BudgetInput) (sound : MeetsGarp input.n input.cost 1 1) (some_goods : 0 < input.goods)
     (new_prices : 0 < budget.prices 0) (old_prices : (t : ℕ) → t < input.n → 0 < input.price t 0) where
   -- ---- from a bundle of the table, with the rest on good 0
 
@@ -39,7 +40,7 @@ module _ (input : TableInput) (budget : NewBudget) (sound : MeetsGarp input.n in
         ≡ budget.prices 0 * spending input.goods prices (input.quantity s) + prices 0 * (budget.expenditure - spending input.goods budget.prices (input.quantity s))
     spent_there prices =
         let rest = budget.expenditure - spending input.goods budget.prices (input.quantity s) in
-        let a = spending_same input.goods prices bundle.num (λ g. budget.prices 0 * input.quantity s g + 1 * cond (eqb g 0) rest 0) (λ g l. parts g l ∙ omega arith) in
+        let a = spending-same input.goods input.goods prices bundle.num prices (λ g. budget.prices 0 * input.quantity s g + 1 * cond (eqb g 0) rest 0) refl (λ g l. refl) (λ g l. parts g l ∙ omega arith) in
         let b = spending_of_sum input.goods prices (input.quantity s) (λ g. cond (eqb g 0) rest 0) (budget.prices 0) 1 in
         let d = spending_first input.goods prices rest some_goods in
         omega arith
@@ -148,7 +149,7 @@ module _ (input : TableInput) (budget : NewBudget) (sound : MeetsGarp input.n in
       on : IsOnBudget input budget bundle
       on = record {
         fraction = subst (λ v. 0 < v) (sym over) new_prices;
-        spent = spending_same input.goods budget.prices bundle.num (all_on_first budget) parts ∙ spending_first input.goods budget.prices budget.expenditure some_goods ∙ ap (λ v. v * budget.expenditure) (sym over);
+        spent = spending-same input.goods input.goods budget.prices bundle.num budget.prices (all_on_first budget) refl (λ g l. refl) parts ∙ spending_first input.goods budget.prices budget.expenditure some_goods ∙ ap (λ v. v * budget.expenditure) (sym over);
       }
 
   pub inner_demand_supports : (bundle : FractionBundle) → IsInnerDemand input budget bundle → IsSupportingDemand input budget bundle

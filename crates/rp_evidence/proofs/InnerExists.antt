@@ -6,7 +6,7 @@ use Rattle.std.proofs.lemmas.Nat.{mul-add-lt}
 use Rattle.rp_table.specs.Cost.{cost_of}
 use Rattle.rp_table.specs.Tables.{IsTable, Observations, goods_of, price_of, records_of}
 use Rattle.rp_evidence.specs.Count.{AreCounts, IsCount}
-use Rattle.rp_evidence.specs.Demand.{Buys, FractionBundle, HasInnerSupport, IsInnerDemand, IsInnerStart, NewBudget, all_on_first, spending, with_rest_on_first}
+use Rattle.rp_evidence.specs.Demand.{BudgetInput, Buys, FractionBundle, HasInnerSupport, IsInnerDemand, IsInnerStart, all_on_first, spending, with_rest_on_first}
 use Rattle.rp_evidence.specs.DemandEvidence.{budget_of}
 use Rattle.rp_evidence.specs.Garp.{MeetsGarp}
 use Rattle.rp_evidence.specs.Input.{TableInput, input_of_table}
@@ -135,7 +135,7 @@ module _ (P : ℕ → Type 0) (told : (t : ℕ) → P t ⊎ ¬ P t) (f : ℕ →
         | inr d ↦ none t (omega (arith, l, d)) h
       ])
 
-module _ (input : TableInput) (budget : NewBudget) where
+module _ (input : TableInput) (budget : BudgetInput) where
   buys_or_not : (t : ℕ) → Buys input budget t ⊎ ¬ Buys input budget t
   buys_or_not t = elim (cases_lt budget.expenditure (spending input.goods budget.prices (input.quantity t))) [
     | inl l ↦ inr (λ h. omega (arith, l, h))

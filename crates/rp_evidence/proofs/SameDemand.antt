@@ -1,10 +1,9 @@
 -- Evidence on demand and welfare for one input is evidence for every other that agrees with it.
-use Rattle.std.proofs.Common.{◌≡◌, ◌<◌, ◌≤◌, ◌+◌, ◌*◌, ◌⊎◌, inl, inr, ℕ, List, [], ◌∷◌, sym, ap, subst, ◌∙◌, arith}
+use Rattle.std.proofs.Common.{◌≡◌, ◌<◌, ◌≤◌, ◌+◌, ◌*◌, ◌⊎◌, inl, inr, ℕ, List, [], ◌∷◌, refl, sym, ap, subst, ◌∙◌, arith}
 use Rattle.std.specs.Prelude.{slice_index, slice_index_or}
 use Rattle.std.proofs.lemmas.Bool.{cases_lt}
-use Rattle.rp_table.specs.Sums.{sum_below}
-use Rattle.rp_table.proofs.SumsBelow.{sum_below-same}
-use Rattle.rp_evidence.specs.Demand.{NewBudget, FractionBundle, IsBelow, IsInfimum, IsStrictlyBelow, IsSupportingDemand, IsSupremum, enlarged, spending}
+use Rattle.rp_table.proofs.SpendingLaws.{spending-same}
+use Rattle.rp_evidence.specs.Demand.{BudgetInput, FractionBundle, IsBelow, IsInfimum, IsStrictlyBelow, IsSupportingDemand, IsSupremum, enlarged, spending}
 use Rattle.rp_evidence.specs.DemandEvidence.{ProvesDemand, ProvesLower, ProvesLowerWelfare, ProvesUpper, ProvesWelfare, budget_of, bundle_of}
 use Rattle.rp_evidence.specs.DemandPrograms.{ListsBelow, ListsStrictlyBelow}
 use Rattle.rp_evidence.specs.Input.{AgreeInputs, TableInput}
@@ -24,7 +23,7 @@ use Rattle.rp_evidence.proofs.Walks.{ends_below, has_weaker_step, starts_below}
 
 -- the law that costs are sums
 abbrev pub AreSums : ℕ → ℕ → (ℕ → ℕ → ℕ) → (ℕ → ℕ → ℕ) → (ℕ → ℕ → ℕ) → Type 0
-AreSums n goods price quantity cost = (s t : ℕ) → s < n → t < n → cost s t ≡ sum_below goods (λ g. price s g * quantity t g)
+AreSums n goods price quantity cost = (s t : ℕ) → s < n → t < n → cost s t ≡ spending goods (price s) (quantity t)
 
 -- the same numbers at n observations of these goods
 abbrev pub SameNumbers : ℕ → ℕ → (ℕ → ℕ → ℕ) → (ℕ → ℕ → ℕ) → Type 0
@@ -51,16 +50,16 @@ module _ (n goods : ℕ) (levels levels' : List ℕ) (p p' q q' c c' : ℕ → �
   costs_same : AgreeBelow n c c'
   costs_same s t a b =
       sums s t a b
-      ∙ (sum_below-same (λ g. p s g * q t g) (λ g. p' s g * q' t g) goods (λ g l. let e = pe s g a l in let f = qe t g b l in λ i. e i * f i)
+      ∙ (spending-same goods goods (p s) (q t) (p' s) (q' t) refl (λ g. pe s g a) (λ g. qe t g b)
       ∙ sym (sums' s t a b))
 
   spend_at : (s : ℕ) (x : ℕ → ℕ) → s < n → spending goods (p s) x ≡ spending goods (p' s) x
-  spend_at s x a = sum_below-same (λ g. p s g * x g) (λ g. p' s g * x g) goods (λ g l. ap (λ v. v * x g) (pe s g a l))
+  spend_at s x a = spending-same goods goods (p s) x (p' s) x refl (λ g. pe s g a) (λ g l. refl)
 
   spend_on : (prices : ℕ → ℕ) (t : ℕ) → t < n → spending goods prices (q t) ≡ spending goods prices (q' t)
-  spend_on prices t a = sum_below-same (λ g. prices g * q t g) (λ g. prices g * q' t g) goods (λ g l. ap (λ v. prices g * v) (qe t g a l))
+  spend_on prices t a = spending-same goods goods prices (q t) prices (q' t) refl (λ g l. refl) (λ g. qe t g a)
 
-  enlarged_same : (b : NewBudget) (x : FractionBundle) → 0 < x.den → AgreeBelow (n + 1) (enlarged here b x) (enlarged there b x)
+  enlarged_same : (b : BudgetInput) (x : FractionBundle) → 0 < x.den → AgreeBelow (n + 1) (enlarged here b x) (enlarged there b x)
   enlarged_same b x some s t s_in t_in = go (cases_lt s n) (cases_lt t n)
     where
       e : IsEnlarged n x.den b.expenditure c (enlarged here b x) (λ t. spending goods (p t) x.num) (λ t. spending goods b.prices (q t))
@@ -83,7 +82,7 @@ module _ (n goods : ℕ) (levels levels' : List ℕ) (p p' q q' c c' : ℕ → �
           subst (λ z. enlarged here b x z t ≡ enlarged there b x z t) same
           (subst (λ z. enlarged here b x n z ≡ enlarged there b x n z) same' (e.itself ∙ sym e'.itself))
 
-  pub supporting_there : (b : NewBudget) (x : FractionBundle) → IsSupportingDemand here b x → IsSupportingDemand there b x
+  pub supporting_there : (b : BudgetInput) (x : FractionBundle) → IsSupportingDemand here b x → IsSupportingDemand there b x
   supporting_there b x kept = record {
     on_budget = record { fraction = kept.on_budget.fraction; spent = kept.on_budget.spent };
     meets = meets_same (n + 1) (enlarged here b x) (enlarged there b x) 1 1 (enlarged_same b x kept.on_budget.fraction) kept.meets;
@@ -92,7 +91,7 @@ module _ (n goods : ℕ) (levels levels' : List ℕ) (p p' q q' c c' : ℕ → �
   pub led_there : (s t : ℕ) (w : List ℕ) → IsWalk n (IsWeak c 1 1) s t w → IsWalk n (IsWeak c' 1 1) s t w
   led_there = walk_same n (IsWeak c 1 1) (IsWeak c' 1 1) (weak_same n c c' 1 1 costs_same)
 
-  pub below_there : (b : NewBudget) (t : ℕ) → IsBelow here b t → IsBelow there b t
+  pub below_there : (b : BudgetInput) (t : ℕ) → IsBelow here b t → IsBelow there b t
   below_there b t below = record {
     from = below.from;
     walk = below.walk;
@@ -104,7 +103,7 @@ module _ (n goods : ℕ) (levels levels' : List ℕ) (p p' q q' c c' : ℕ → �
   has_strict s t [] l h = absurd l
   has_strict s t (x ∷ w) l h = has_weaker_step n (IsWeak c 1 1) (IsStrict c 1 1) (IsStrict c' 1 1) (λ u v a d. (strict_same n c c' 1 1 costs_same u v a d).0) x t w l.1 h
 
-  pub strictly_there : (b : NewBudget) (t : ℕ) → IsStrictlyBelow here b t → IsStrictlyBelow there b t
+  pub strictly_there : (b : BudgetInput) (t : ℕ) → IsStrictlyBelow here b t → IsStrictlyBelow there b t
   strictly_there b t below =
       let starts = walk_starts n (IsWeak c 1 1) below.from t below.walk below.leads in
       record {
@@ -136,7 +135,7 @@ module _ (n goods : ℕ) (levels levels' : List ℕ) (p p' q q' c c' : ℕ → �
   abbrev two : TableInput
   two = input_with n goods levels' p' q' c' sums'
 
-  pub infimum_there : (b : NewBudget) (g num den : ℕ) → IsInfimum one b g num den → IsInfimum two b g num den
+  pub infimum_there : (b : BudgetInput) (g num den : ℕ) → IsInfimum one b g num den → IsInfimum two b g num den
   infimum_there b g num den is = record {
     fraction = is.fraction;
     none_less = λ x kept. is.none_less x (supporting_there n goods levels' levels p' p q' q c' c sums' sums pe' qe' b x kept);
@@ -145,7 +144,7 @@ module _ (n goods : ℕ) (levels levels' : List ℕ) (p p' q q' c c' : ℕ → �
         (r.0, supporting_there n goods levels levels' p p' q q' c c' sums sums' pe qe b r.0 r.1, r.2);
   }
 
-  pub supremum_there : (b : NewBudget) (g num den : ℕ) → IsSupremum one b g num den → IsSupremum two b g num den
+  pub supremum_there : (b : BudgetInput) (g num den : ℕ) → IsSupremum one b g num den → IsSupremum two b g num den
   supremum_there b g num den is = record {
     fraction = is.fraction;
     none_more = λ x kept. is.none_more x (supporting_there n goods levels' levels p' p q' q c' c sums' sums pe' qe' b x kept);
@@ -154,7 +153,7 @@ module _ (n goods : ℕ) (levels levels' : List ℕ) (p p' q q' c c' : ℕ → �
         (r.0, supporting_there n goods levels levels' p p' q q' c c' sums sums' pe qe b r.0 r.1, r.2);
   }
 
-  pub lists_there : (b : NewBudget) (below : List ℕ) → ListsBelow one b below → ListsBelow two b below
+  pub lists_there : (b : BudgetInput) (below : List ℕ) → ListsBelow one b below → ListsBelow two b below
   lists_there b below lists = record {
     rising = lists.rising;
     just_these = λ t. (
@@ -163,7 +162,7 @@ module _ (n goods : ℕ) (levels levels' : List ℕ) (p p' q q' c c' : ℕ → �
     );
   }
 
-  pub strict_lists_there : (b : NewBudget) (strict : List ℕ) → ListsStrictlyBelow one b strict → ListsStrictlyBelow two b strict
+  pub strict_lists_there : (b : BudgetInput) (strict : List ℕ) → ListsStrictlyBelow one b strict → ListsStrictlyBelow two b strict
   strict_lists_there b strict lists = record {
     rising = lists.rising;
     just_these = λ t. (
@@ -172,11 +171,11 @@ module _ (n goods : ℕ) (levels levels' : List ℕ) (p p' q q' c c' : ℕ → �
     );
   }
 
-  lower_there : (b : NewBudget) (g : ℕ) (bound : Bound) → ProvesLower one b g bound → ProvesLower two b g bound
+  lower_there : (b : BudgetInput) (g : ℕ) (bound : Bound) → ProvesLower one b g bound → ProvesLower two b g bound
   lower_there b g (Shown value pair) proves = infimum_there b g value.num value.den proves
   lower_there b g (Wide step) proves = proves
 
-  upper_there : (b : NewBudget) (g : ℕ) (bound : Bound) → ProvesUpper one b g bound → ProvesUpper two b g bound
+  upper_there : (b : BudgetInput) (g : ℕ) (bound : Bound) → ProvesUpper one b g bound → ProvesUpper two b g bound
   upper_there b g (Shown value pair) proves = supremum_there b g value.num value.den proves
   upper_there b g (Wide step) proves = proves
 

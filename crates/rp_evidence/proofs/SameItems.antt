@@ -1,7 +1,6 @@
 -- Evidence for one input is evidence for every other that agrees with it.
-use Rattle.std.proofs.Common.{◌≡◌, ◌<◌, ◌*◌, ℕ, sym, ap, subst, ◌∙◌}
-use Rattle.rp_table.specs.Sums.{sum_below}
-use Rattle.rp_table.proofs.SumsBelow.{sum_below-same}
+use Rattle.std.proofs.Common.{◌≡◌, ◌<◌, ℕ, sym, subst, ◌∙◌}
+use Rattle.rp_table.proofs.SpendingLaws.{spending-same}
 use Rattle.rp_evidence.specs.AfriatEvidence.{ProvesOwnAfriat}
 use Rattle.rp_evidence.specs.Efficiency.{ProvesEfficiency}
 use Rattle.rp_evidence.specs.Homothetic.{ProvesHomothetic}
@@ -23,12 +22,14 @@ module _ (input other : TableInput) (agree : AgreeInputs input other) where
   costs_agree : AgreeBelow input.n input.cost other.cost
   costs_agree s t s_in t_in =
       input.sums s t s_in t_in
-      ∙ (sum_below-same (λ g. input.price s g * input.quantity t g) (λ g. other.price s g * other.quantity t g) input.goods bought
-      ∙ (ap (λ k. sum_below k (λ g. other.price s g * other.quantity t g)) agree.goods
-      ∙ sym (other.sums s t (subst (λ m. s < m) agree.n s_in) (subst (λ m. t < m) agree.n t_in))))
+      ∙ (spending-same input.goods other.goods (input.price s) (input.quantity t) (other.price s) (other.quantity t) agree.goods prices quantities
+      ∙ sym (other.sums s t (subst (λ m. s < m) agree.n s_in) (subst (λ m. t < m) agree.n t_in)))
     where
-      bought : (g : ℕ) → g < input.goods → input.price s g * input.quantity t g ≡ other.price s g * other.quantity t g
-      bought g g_in = let p = agree.prices s g s_in g_in in let q = agree.quantities t g t_in g_in in λ i. p i * q i
+      prices : (g : ℕ) → g < other.goods → input.price s g ≡ other.price s g
+      prices g g_in = agree.prices s g s_in (subst (λ m. g < m) (sym agree.goods) g_in)
+
+      quantities : (g : ℕ) → g < other.goods → input.quantity t g ≡ other.quantity t g
+      quantities g g_in = agree.quantities t g t_in (subst (λ m. g < m) (sym agree.goods) g_in)
 
   pub item_same : (item : Item) → Proves input item → Proves other item
   item_same (GarpItem verdict) p =

@@ -1,6 +1,6 @@
 -- The observations below and strictly below by where the walks to them start.
 use Rattle.std.proofs.Common.{◌<◌, ◌⊎◌, ◌↔◌, inl, inr, ℕ, List, [], ◌∷◌, ◌++◌, refl, subst, arith}
-use Rattle.rp_evidence.specs.Demand.{Buys, BuysWithRest, IsBelow, IsStrictStart, IsStrictlyBelow, NewBudget}
+use Rattle.rp_evidence.specs.Demand.{BudgetInput, Buys, BuysWithRest, IsBelow, IsStrictStart, IsStrictlyBelow}
 use Rattle.rp_evidence.specs.Input.{TableInput}
 use Rattle.rp_evidence.specs.Preference.{IsStrict, IsWeak}
 use Rattle.rp_evidence.specs.Walk.{HasStep, HasStepFrom, IsWalk, LeadsTo}
@@ -9,7 +9,7 @@ use Rattle.rp_evidence.proofs.EqualOrReached.{leads_by, rest_of}
 use Rattle.rp_evidence.proofs.Levels.{strict_to_weak}
 use Rattle.rp_evidence.proofs.Walks.{has_step_right, leads_by_step, leads_on, starts_below}
 
-module _ (input : TableInput) (budget : NewBudget) where
+module _ (input : TableInput) (budget : BudgetInput) where
   -- a walk of weak steps, or of none
   abbrev Leads : ℕ → ℕ → List ℕ → Type 0
   Leads s t w = LeadsTo input.n (IsWeak input.cost 1 1) s t w

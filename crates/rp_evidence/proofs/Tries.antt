@@ -1,5 +1,6 @@
 -- The definitions, tried at small tables. A table stands as its costs: a row for each observation's prices.
-use Rattle.std.proofs.Common.{◌≡◌, ◌≢◌, ◌<◌, ◌≤◌, ◌*◌, ℕ, zero, suc, List, [], ◌∷◌, ◌⊎◌, inl, inr, refl, sym, subst, ◌∙◌, arith, AllPairs, Contains, slice_index, slice_index_or}
+use Rattle.std.proofs.Common.{◌≡◌, ◌<◌, ◌≤◌, ◌*◌, ℕ, zero, suc, List, [], ◌∷◌, ◌⊎◌, inl, inr, refl, sym, subst, ◌∙◌, arith, Contains, slice_index, slice_index_or}
+use Rattle.std.specs.List.Sorted.{IsStrictlyIncreasing}
 use Rattle.rp_evidence.specs.Count.{IsCount}
 use Rattle.rp_evidence.specs.Garp.{IsViolationAt, MeetsGarp}
 use Rattle.rp_evidence.specs.Preference.{IsWeak, IsStrict, StrictByLevels, WeakByLevels}
@@ -138,14 +139,11 @@ abbrev more_and_less : ℕ → ℕ → ℕ
 more_and_less = costs ((8 ∷ 4 ∷ []) ∷ (8 ∷ 4 ∷ []) ∷ [])
 
 more_counts_both : IsCount 2 (IsWeak more_and_less 1 1) 0 2
-more_counts_both = (0 ∷ 1 ∷ [], apart, λ t. (λ c. all t c.0 c.1 c.2, λ h. only t h.0), refl)
+more_counts_both = (0 ∷ 1 ∷ [], record { rising = rising; just_these = λ t. (λ c. all t c.0 c.1 c.2, λ h. only t h.0) }, refl)
   where
-    apart : AllPairs {X = ℕ} (λ x y. x ≢ y) (0 ∷ 1 ∷ [])
-    apart zero (suc zero) d a b e = absurd (omega arith)
-    apart zero zero d a b e = absurd (omega arith)
-    apart (suc i) zero d a b e = absurd (omega arith)
-    apart (suc i) (suc zero) d a b e = absurd (omega arith)
-    apart i (suc (suc j)) d a b e = absurd (omega arith)
+    rising : IsStrictlyIncreasing (0 ∷ 1 ∷ [])
+    rising zero l = omega arith
+    rising (suc k) l = absurd (omega arith)
 
     all : (t k : ℕ) → k < 2 → slice_index_or (0 ∷ 1 ∷ []) k t ≡ t → (t < 2) × ((t ≡ 0) ⊎ Reaches 2 (IsWeak more_and_less 1 1) 0 t)
     all t zero l e = (omega arith, inl (sym e))
@@ -166,11 +164,8 @@ less_leads_to_itself (suc zero) t (suc zero ∷ w) e h = less_leads_to_itself 1 
 less_leads_to_itself (suc zero) t (suc (suc x) ∷ w) e h = absurd (omega (arith, starts_below 2 (IsWeak more_and_less 1 1) (suc (suc x)) t w h.2))
 
 less_counts_itself : IsCount 2 (IsWeak more_and_less 1 1) 1 1
-less_counts_itself = (1 ∷ [], apart, λ t. (λ c. all t c.0 c.1 c.2, λ h. (0, omega arith, only t h.1)), refl)
+less_counts_itself = (1 ∷ [], record { rising = λ k l. absurd (omega arith); just_these = λ t. (λ c. all t c.0 c.1 c.2, λ h. (0, omega arith, only t h.1)) }, refl)
   where
-    apart : AllPairs {X = ℕ} (λ x y. x ≢ y) (1 ∷ [])
-    apart i j d a b e = absurd (omega arith)
-
     all : (t k : ℕ) → k < 1 → slice_index_or (1 ∷ []) k t ≡ t → (t < 2) × ((t ≡ 1) ⊎ Reaches 2 (IsWeak more_and_less 1 1) 1 t)
     all t zero l e = (omega arith, inl (sym e))
     all t (suc k) l e = absurd (omega arith)

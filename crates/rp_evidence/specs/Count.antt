@@ -1,12 +1,11 @@
 -- How many observations an observation stands above, itself among them (this program's own ranks).
-use Rattle.std.specs.Prelude.{◌≡◌, ◌≢◌, ◌<◌, ◌⊎◌, ◌↔◌, ℕ, List, length, AllPairs, Contains, slice_index}
+use Rattle.std.specs.Prelude.{◌≡◌, ◌<◌, ◌⊎◌, ℕ, List, length, slice_index}
+use Rattle.rp_evidence.specs.Enumeration.{Enumerates}
 use Rattle.rp_evidence.specs.Walk.{Reaches}
 
--- k is the number of those below n of which P holds: they are the entries of a list of length k that has none twice.
+-- k is the number of those below n of which P holds: the list of them has length k.
 abbrev pub IsNumberOf : ℕ → (ℕ → Type 0) → ℕ → Type 0
-IsNumberOf n P k =
-    (those : List ℕ) × AllPairs (λ x y. x ≢ y) those × ((t : ℕ) → Contains those t ↔ ((t < n) × P t))
-    × (length those ≡ k)
+IsNumberOf n P k = (those : List ℕ) × Enumerates n P those × (length those ≡ k)
 
 -- k is the count of s: how many observations are s or are reached from s.
 abbrev pub IsCount : ℕ → (ℕ → ℕ → Type 0) → ℕ → ℕ → Type 0

@@ -1,6 +1,6 @@
 -- What evidence on demand at new prices and on welfare has to be to prove its verdict (Varian 1982).
 use Rattle.std.specs.Prelude.{◌≡◌, ℕ, ◌<◌, ◌+◌, List, length, slice_index, slice_index_or, sum_by}
-use Rattle.rp_evidence.specs.Demand.{FractionBundle, IsInfimum, IsSupportingDemand, IsSupremum, NewBudget}
+use Rattle.rp_evidence.specs.Demand.{BudgetInput, FractionBundle, IsInfimum, IsSupportingDemand, IsSupremum}
 use Rattle.rp_evidence.specs.DemandPrograms.{ListsBelow, ListsStrictlyBelow}
 use Rattle.rp_evidence.specs.Garp.{IsViolationAt, MeetsGarp}
 use Rattle.rp_evidence.specs.Input.{TableInput}
@@ -19,26 +19,26 @@ abbrev pub bundle_of : Point → FractionBundle
 bundle_of point = record { den = point.den; num = slice_index point.num }
 
 -- The budget at listed prices.
-abbrev pub budget_of : List ℕ → ℕ → NewBudget
+abbrev pub budget_of : List ℕ → ℕ → BudgetInput
 budget_of prices m = record { prices = slice_index prices; expenditure = m }
 
 -- What a shown lower bound is; a withheld one claims nothing.
-abbrev pub ProvesLower : TableInput → NewBudget → ℕ → Bound → Type 0
+abbrev pub ProvesLower : TableInput → BudgetInput → ℕ → Bound → Type 0
 ProvesLower input budget g (Shown value pair) = IsInfimum input budget g value.num value.den
 ProvesLower input budget g (Wide step) = Unit {0}
 
 -- What a shown upper bound is.
-abbrev pub ProvesUpper : TableInput → NewBudget → ℕ → Bound → Type 0
+abbrev pub ProvesUpper : TableInput → BudgetInput → ℕ → Bound → Type 0
 ProvesUpper input budget g (Shown value pair) = IsSupremum input budget g value.num value.den
 ProvesUpper input budget g (Wide step) = Unit {0}
 
 -- What both bounds of good g are.
-abbrev pub ProvesGood : TableInput → NewBudget → ℕ → GoodBounds → Type 0
+abbrev pub ProvesGood : TableInput → BudgetInput → ℕ → GoodBounds → Type 0
 ProvesGood input budget g bounds = ProvesLower input budget g bounds.lower × ProvesUpper input budget g bounds.upper
 
 -- The axiom holds, the lists are those of the observations below and strictly below, the point is a supporting
 -- demand, and each shown bound is the infimum or the supremum over supporting demands.
-pub record ProvesDemandBounds (input : TableInput) (budget : NewBudget) (below strict : List ℕ) (inner : Point)
+pub record ProvesDemandBounds (input : TableInput) (budget : BudgetInput) (below strict : List ℕ) (inner : Point)
     (goods : List GoodBounds) : Type 0 where
   pub sound : MeetsGarp input.n input.cost 1 1
   pub below_listed : ListsBelow input budget below

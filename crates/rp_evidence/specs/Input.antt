@@ -1,8 +1,8 @@
 -- What a table says of n choices (Varian 1982, section 1): prices, the bundles that were bought at them, and what
 -- each bundle costs at each prices.
-use Rattle.std.specs.Prelude.{◌≡◌, refl, ℕ, ◌*◌, ◌<◌, List}
+use Rattle.std.specs.Prelude.{◌≡◌, refl, ℕ, ◌<◌, List}
 use Rattle.rp_table.specs.Cost.{cost_of}
-use Rattle.rp_table.specs.Sums.{sum_below}
+use Rattle.rp_table.specs.Spending.{spending}
 use Rattle.rp_table.specs.Tables.{Observations, goods_of, price_of, quantity_of, records_of}
 
 -- n observations of these goods: `price s g` and `quantity s g` are those of good g at observation s, and `cost s t`
@@ -14,7 +14,7 @@ pub record TableInput : Type 0 where
   pub quantity : ℕ → ℕ → ℕ
   pub cost : ℕ → ℕ → ℕ
   pub levels : List ℕ
-  pub sums : (s t : ℕ) → s < n → t < n → cost s t ≡ sum_below goods (λ g. price s g * quantity t g)
+  pub sums : (s t : ℕ) → s < n → t < n → cost s t ≡ spending goods (price s) (quantity t)
 
 -- What a table gives.
 abbrev pub input_of_table : Observations → TableInput

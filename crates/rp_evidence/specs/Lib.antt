@@ -11,6 +11,7 @@ pub mod Demand
 pub mod DemandEvidence
 pub mod DemandPrograms
 pub mod Input
+pub mod InnerBudget
 pub mod Kinds
 pub mod Preference
 pub mod Proves

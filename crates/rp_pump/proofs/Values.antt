@@ -16,7 +16,7 @@ use Rattle.rp_evidence.specs.Preference.{IsWeak}
 use Rattle.rp_evidence.specs.Walk.{AnyStep, IsWalk, LeadsTo}
 use Rattle.rp_evidence.proofs.Walks.{leads_by_weaker}
 use Rattle.rp_pump.specs.PumpTotals.{IsLeastPumpTotal, excess, walk_total}
-use Rattle.rp_pump.specs.PumpEvidence.{FitsValue}
+use Rattle.rp_pump.specs.PumpEvidence.{FitsPumpValue}
 use Rattle.rp_pump.specs.InnerTotal.{added}
 use Rattle.rp_pump.proofs.Totals.{IsSmall, added_other, along_above, along_weak, bound, low_is_weak, other_weak}
 
@@ -33,7 +33,7 @@ module _ (n : ℕ) (c : ℕ → ℕ → ℕ) (num den : ℕ) (small : (s t : ℕ
       let r = mul-le-mul_right {m = m} {n = n} bound (omega arith) in
       omega (arith, r, few)
 
-  pub value_limits : (s : ℕ) (z : ℤ) → s < n → IsLeast (sums n (added c num den)) s (whole_total z) → FitsValue z
+  pub value_limits : (s : ℕ) (z : ℤ) → s < n → IsLeast (sums n (added c num den)) s (whole_total z) → FitsPumpValue z
   value_limits s z hs least =
       let r = short s z least in
       let t = r.3 in
@@ -42,7 +42,7 @@ module _ (n : ℕ) (c : ℕ → ℕ → ℕ) (num den : ℕ) (small : (s t : ℕ
       let m : length t.rest * bound < 2 ^ 121 = rows (length t.rest) (omega (arith, t.steps, r.2)) in
       between z (length t.rest * bound) m (subst (λ v. down v ≤ up v + length t.rest * bound) e low) (at_most_zero s z hs least)
     where
-      between : (z : ℤ) (m : ℕ) → m < 2 ^ 121 → down z ≤ up z + m → z ≤ℤ pos 0 → FitsValue z
+      between : (z : ℤ) (m : ℕ) → m < 2 ^ 121 → down z ≤ up z + m → z ≤ℤ pos 0 → FitsPumpValue z
       between z m l low high = (omega (arith, ints), omega (arith, ints))
 
   pub least_pump_total : (s : ℕ) (z : ℤ) → s < n → IsLeast (sums n (added c num den)) s (whole_total z) → IsLeastPumpTotal n c num den s z

@@ -11,8 +11,8 @@ abbrev pub value_at : List ℤ → ℕ → ℤ
 value_at values s = slice_index_or values s (pos 0)
 
 -- A value is at most 2^121 in absolute value.
-abbrev pub FitsValue : ℤ → Type 0
-FitsValue x = (neg_ℤ (pos (2 ^ 121)) ≤ℤ x) × (x ≤ℤ pos (2 ^ 121))
+abbrev pub FitsPumpValue : ℤ → Type 0
+FitsPumpValue x = (neg_ℤ (pos (2 ^ 121)) ≤ℤ x) × (x ≤ℤ pos (2 ^ 121))
 
 -- The value of s bounds the step to t, where this is another observation and the step is weak.
 abbrev pub BoundsStep : (ℕ → ℕ → ℕ) → ℕ → ℕ → List ℤ → ℕ → ℕ → Type 0
@@ -31,7 +31,7 @@ pub record IsWeakCycle (n : ℕ) (c : ℕ → ℕ → ℕ) (walk : List ℕ) : T
 -- Values as evidence: one of each observation, within its width.
 pub record AreValues (n : ℕ) (values : List ℤ) : Type 0 where
   pub one_each : length values ≡ n
-  pub fit : (s : ℕ) → s < n → FitsValue (value_at values s)
+  pub fit : (s : ℕ) → s < n → FitsPumpValue (value_at values s)
 
 -- What a checker looks at: the width of the numbers, the cycle with its ratio, and the values, which leave no closed
 -- walk a greater ratio.

@@ -3,7 +3,7 @@ ghost use Rattle.std.specs.Prelude.{[], IsTrue, length};
 ghost use Rattle.rp_evidence.specs.Efficiency.{FailsGarp};
 ghost use Rattle.rp_pump.specs.InnerWalks.{AreObserved, ClosesByPlaces, StepsAreWeak};
 ghost use Rattle.rp_pump.specs.MoneyPump.{HasPumpRatio, IsPumpIndex};
-ghost use Rattle.rp_pump.specs.PumpEvidence.{AreValues, BoundsFrom, BoundsStep, FitsValue};
+ghost use Rattle.rp_pump.specs.PumpEvidence.{AreValues, BoundsFrom, BoundsStep, FitsPumpValue};
 ghost use Rattle.rp_pump.specs.PumpEvidence.{IsWeakCycle, PumpHolds};
 ghost use Rattle.rp_pump.specs.PumpTotals.{excess};
 ghost use Rattle.rp_table.specs.Cost.{cost_at};
@@ -181,7 +181,7 @@ fn at_most(a: i128, b: i128) -> bool
 fn allowed(costs: &Costs, num: u64, den: u64, value: i128, s: u32, t: u32) -> i128
     requires from { s < costs.now.n }
     requires to { t < costs.now.n }
-    requires fits { FitsValue value }
+    requires fits { FitsPumpValue value }
     ensures { result ≡ value +ℤ excess (cost_at costs.now) num den s t }
 {
     value + excess(costs, num, den, s, t)

@@ -5,7 +5,6 @@ pub mod MenuFiles
 pub mod MenusOnce
 pub mod OneAnswer
 pub mod OneFault
-pub mod PassedOn
 pub mod PatchesApart
 pub mod Pigeons
 pub mod RunLemmas

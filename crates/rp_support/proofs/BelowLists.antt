@@ -1,6 +1,6 @@
 -- The observations below and strictly below, by what the closure tells of where the walks to them start.
 use Rattle.std.proofs.Common.{◌≡◌, ◌<◌, ◌⊎◌, ◌↔◌, inl, inr, ℕ, Bool, List, Contains, length, arith, IsTrue, slice_index_or}
-use Rattle.rp_evidence.specs.Demand.{Buys, BuysWithRest, IsBelow, IsStrictStart, IsStrictlyBelow, NewBudget}
+use Rattle.rp_evidence.specs.Demand.{BudgetInput, Buys, BuysWithRest, IsBelow, IsStrictStart, IsStrictlyBelow}
 use Rattle.rp_evidence.specs.DemandPrograms.{ListsBelow, ListsStrictlyBelow}
 use Rattle.rp_evidence.specs.Enumeration.{Enumerates}
 use Rattle.rp_evidence.specs.Input.{TableInput}
@@ -12,7 +12,7 @@ use Rattle.rp_evidence.proofs.StrictStarts.{below_exactly, strictly_exactly}
 use Rattle.rp_pref.specs.Closure.{IsClosureOf, Reached, reaches_in}
 use Rattle.rp_support.specs.InnerMarks.{MarksEach, IsReachedFrom}
 
-module _ (input : TableInput) (budget : NewBudget) where
+module _ (input : TableInput) (budget : BudgetInput) where
   -- ---- what the closure tells
 
   module _ (reached : Reached) (closed : IsClosureOf reached input.n (IsWeak input.cost 1 1)) (P : ℕ → Type 0) (starts : List Bool) (marks : MarksEach input.n P starts) where

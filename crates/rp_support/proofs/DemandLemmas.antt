@@ -3,7 +3,7 @@ use Rattle.std.proofs.Common.{◌≡◌, ◌<◌, ◌+◌, ◌*◌, ℕ, ℤ, Li
 use Rattle.std.proofs.lemmas.Nat.{mul-add-lt}
 use Rattle.std.proofs.Math.Nat.{lt_of_mul-lt-mul_left, mul-lt-mul_of_pos_left}
 use Rattle.rp_num.specs.Fraction.{Fraction, IsLowestTerms}
-use Rattle.rp_evidence.specs.Demand.{FractionBundle, IsInfimum, IsInnerDemand, IsSupportingDemand, IsSupremum, NewBudget}
+use Rattle.rp_evidence.specs.Demand.{BudgetInput, FractionBundle, IsInfimum, IsInnerDemand, IsSupportingDemand, IsSupremum}
 use Rattle.rp_evidence.specs.DemandEvidence.{ProvesLower, ProvesUpper, budget_of}
 use Rattle.rp_evidence.specs.DemandPrograms.{ListsBelow, demand_program, lower_program, upper_program}
 use Rattle.rp_evidence.specs.Garp.{MeetsGarp, ProvesGarp}
@@ -48,7 +48,7 @@ module _ (a b n d m e : ℕ) (d_some : 0 < d) (e_some : 0 < e) (same : m * d ≡
       let l : d * (m * b) ≡ e * (n * b) = omega (arith, q) in
       lt_of_mul-lt-mul_left e (omega (arith, k, l))
 
-module _ (input : TableInput) (budget : NewBudget) (g num den : ℕ) (value : Fraction) (lowest : IsLowestTerms num den value) where
+module _ (input : TableInput) (budget : BudgetInput) (g num den : ℕ) (value : Fraction) (lowest : IsLowestTerms num den value) where
   infimum_reduced : IsInfimum input budget g num den → IsInfimum input budget g value.num value.den
   infimum_reduced is = record {
     fraction = lowest.positive;
@@ -99,7 +99,7 @@ module _ (table : Observations) (prices : List ℕ) (m : ℕ) (valid : IsTable t
 
 -- ---- mixtures, and bounded programs
 
-module _ (input : TableInput) (budget : NewBudget) (below : List ℕ) (lists : ListsBelow input budget below) (sound : MeetsGarp input.n input.cost 1 1)
+module _ (input : TableInput) (budget : BudgetInput) (below : List ℕ) (lists : ListsBelow input budget below) (sound : MeetsGarp input.n input.cost 1 1)
     (inner : FractionBundle) (kept : IsSupportingDemand input budget inner) where
   pub mixes : (right : ℕ → ℤ) (measure : (ℕ → ℕ) → ℕ) (bound : Bound) → IsBoundOf (demand_program input budget below right) measure bound → Mixes input budget inner bound
   mixes right measure (Shown value pair) is = λ k some.

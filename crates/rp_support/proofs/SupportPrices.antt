@@ -4,13 +4,13 @@ use Rattle.std.proofs.lemmas.List.{get_or_default}
 use Rattle.rp_farkas.specs.Best.{HasNoBound}
 use Rattle.rp_farkas.specs.Prices.{HasFeasiblePrices}
 use Rattle.rp_farkas.proofs.Costs.{prices_bound}
-use Rattle.rp_evidence.specs.Demand.{FractionBundle, HasSupport, IsSupportingDemand, NewBudget}
+use Rattle.rp_evidence.specs.Demand.{BudgetInput, FractionBundle, HasSupport, IsSupportingDemand}
 use Rattle.rp_evidence.specs.DemandPrograms.{ListsBelow, demand_program}
 use Rattle.rp_evidence.specs.Input.{TableInput}
 use Rattle.rp_evidence.proofs.DemandBounds.{IsPriced, prices_feasible}
 use Rattle.rp_evidence.proofs.DemandLaws.{enough_where_kept}
 
-module _ (input : TableInput) (budget : NewBudget) (below : List ℕ) (lists : ListsBelow input budget below) where
+module _ (input : TableInput) (budget : BudgetInput) (below : List ℕ) (lists : ListsBelow input budget below) where
   priced_by : (right : ℕ → ℤ) (w : FractionBundle) → IsSupportingDemand input budget w → IsPriced input budget below right w.den w.num
   priced_by right w s = record {
     some = s.on_budget.fraction;

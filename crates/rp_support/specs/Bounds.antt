@@ -2,7 +2,7 @@
 -- linear programming as in Gale, Kuhn and Tucker 1951).
 use Rattle.std.specs.Prelude.{◌≡◌, ◌<◌, ℕ, List, length, slice_index, slice_index_or}
 use Rattle.rp_bound.specs.ProgramBound.{IsBoundOf}
-use Rattle.rp_evidence.specs.Demand.{FractionBundle, IsSupportingDemand, NewBudget, mixed}
+use Rattle.rp_evidence.specs.Demand.{BudgetInput, FractionBundle, IsSupportingDemand, mixed}
 use Rattle.rp_evidence.specs.DemandPrograms.{lower_program, upper_program}
 use Rattle.rp_evidence.specs.Input.{TableInput}
 use Rattle.rp_evidence.specs.declared.demand.Bound.{Bound}
@@ -11,7 +11,7 @@ use Rattle.rp_evidence.specs.declared.demand.GoodBounds.{GoodBounds}
 use Rattle.rp_farkas.specs.Best.{HasNoBound}
 
 -- One pair of bounds for each good, each of them that of its program on the price of the good.
-pub record AreBoundsOf (input : TableInput) (budget : NewBudget) (below : List ℕ)
+pub record AreBoundsOf (input : TableInput) (budget : BudgetInput) (below : List ℕ)
     (goods : List GoodBounds) : Type 0 where
   pub one_each : length goods ≡ input.goods
   pub lower : (g : ℕ) (d : GoodBounds) → g < input.goods
@@ -21,13 +21,13 @@ pub record AreBoundsOf (input : TableInput) (budget : NewBudget) (below : List �
 
 -- Every mixture of the price side of a shown pair with this demand is a supporting demand, however little of the
 -- demand it has.
-abbrev pub Mixes : TableInput → NewBudget → FractionBundle → Bound → Type 0
+abbrev pub Mixes : TableInput → BudgetInput → FractionBundle → Bound → Type 0
 Mixes input budget inner (Shown value pair) = (k : ℕ) → 0 < k
     → IsSupportingDemand input budget (mixed k (record { den = pair.den; num = slice_index pair.x }) inner)
 Mixes input budget inner (Wide step) = Unit {0}
 
 -- So it is with the bounds of each good, and no program of theirs has feasible points that pass every value.
-pub record AreMixed (input : TableInput) (budget : NewBudget) (below : List ℕ) (inner : FractionBundle)
+pub record AreMixed (input : TableInput) (budget : BudgetInput) (below : List ℕ) (inner : FractionBundle)
     (goods : List GoodBounds) : Type 0 where
   pub lower : (g : ℕ) (d : GoodBounds) → g < input.goods → Mixes input budget inner (slice_index_or goods g d).lower
   pub upper : (g : ℕ) (d : GoodBounds) → g < input.goods → Mixes input budget inner (slice_index_or goods g d).upper

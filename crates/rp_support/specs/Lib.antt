@@ -1,5 +1,4 @@
 pub mod Bounds
-pub mod InnerBudget
 pub mod InnerMarks
 pub mod InnerStart
 pub mod Verdict

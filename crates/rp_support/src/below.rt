@@ -5,7 +5,7 @@ ghost use Rattle.rp_evidence.specs.Preference.{IsStrict};
 ghost use Rattle.rp_pref.specs.Closure.{IsWeakClosureOf};
 ghost use Rattle.rp_table.specs.Cost.{cost_of};
 ghost use Rattle.rp_table.specs.Tables.{records_of};
-ghost use Rattle.rp_support.specs.InnerBudget.{input_of, new_budget};
+ghost use Rattle.rp_evidence.specs.InnerBudget.{input_of, new_budget};
 ghost use Rattle.rp_support.specs.InnerMarks.{MarksEach, IsReachedFrom};
 ghost use Rattle.rp_evidence.specs.Enumeration.{Enumerates};
 
@@ -16,9 +16,9 @@ use std::alloc::Global;
 
 /// The observations below the budget, in order.
 pub fn below(alloc: Global, budget: &NewBudget, closure: &Closure) -> Result<Vec<u32>, NoMemory>
-    requires { IsWeakClosureOf closure.now (input_of budget.now) }
+    requires { IsWeakClosureOf closure.now (input_of budget.now.at) }
     ensures { IfOk result (λ below.
-        ListsBelow (input_of budget.now) (new_budget budget.now) below.items) }
+        ListsBelow (input_of budget.now.at) (new_budget budget.now) below.items) }
 {
     let starts = bought(alloc, budget)?;
     reached_from(alloc, closure, budget.at.table.n(), &starts)
@@ -31,10 +31,10 @@ pub fn strictly_below(
     closure: &Closure,
     below: &[u32],
 ) -> Result<Vec<u32>, NoMemory>
-    requires closed { IsWeakClosureOf closure.now (input_of budget.now) }
-    requires below { ListsBelow (input_of budget.now) (new_budget budget.now) below.now }
+    requires closed { IsWeakClosureOf closure.now (input_of budget.now.at) }
+    requires below { ListsBelow (input_of budget.now.at) (new_budget budget.now) below.now }
     ensures { IfOk result (λ strict.
-        ListsStrictlyBelow (input_of budget.now) (new_budget budget.now) strict.items) }
+        ListsStrictlyBelow (input_of budget.now.at) (new_budget budget.now) strict.items) }
 {
     let starts = strict_starts(alloc, budget, below)?;
     reached_from(alloc, closure, budget.at.table.n(), &starts)
@@ -43,7 +43,7 @@ pub fn strictly_below(
 /// Of each observation, whether the budget buys its bundle.
 fn bought(alloc: Global, budget: &NewBudget) -> Result<Vec<bool>, NoMemory>
     ensures { IfOk result (λ marks. MarksEach (records_of budget.now.at.table.now)
-        (Buys (input_of budget.now) (new_budget budget.now)) marks.items) }
+        (Buys (input_of budget.now.at) (new_budget budget.now)) marks.items) }
 {
     let mut marks = Vec::new(alloc);
     for s in 0..budget.at.table.n() {
@@ -54,9 +54,9 @@ fn bought(alloc: Global, budget: &NewBudget) -> Result<Vec<bool>, NoMemory>
 
 /// Of each observation, whether a walk from it on is strict.
 fn strict_starts(alloc: Global, budget: &NewBudget, below: &[u32]) -> Result<Vec<bool>, NoMemory>
-    requires { ListsBelow (input_of budget.now) (new_budget budget.now) below.now }
+    requires { ListsBelow (input_of budget.now.at) (new_budget budget.now) below.now }
     ensures { IfOk result (λ marks. MarksEach (records_of budget.now.at.table.now)
-        (IsStrictStart (input_of budget.now) (new_budget budget.now)) marks.items) }
+        (IsStrictStart (input_of budget.now.at) (new_budget budget.now)) marks.items) }
 {
     let mut marks = Vec::new(alloc);
     for v in 0..budget.at.table.n() {
@@ -67,10 +67,10 @@ fn strict_starts(alloc: Global, budget: &NewBudget, below: &[u32]) -> Result<Vec
 
 /// Whether a walk from `v` on is strict.
 fn is_strict_start(budget: &NewBudget, below: &[u32], v: u32) -> bool
-    requires below { ListsBelow (input_of budget.now) (new_budget budget.now) below.now }
+    requires below { ListsBelow (input_of budget.now.at) (new_budget budget.now) below.now }
     requires observed { v < records_of budget.now.at.table.now }
     ensures { IsTrue result
-        ↔ IsStrictStart (input_of budget.now) (new_budget budget.now) v }
+        ↔ IsStrictStart (input_of budget.now.at) (new_budget budget.now) v }
 {
     budget.at.spending(v) < budget.m || some_strict(budget, below, v)
 }

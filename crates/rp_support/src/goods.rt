@@ -2,7 +2,7 @@ ghost use Rattle.std.specs.Prelude.{◌<◌, IfOk};
 ghost use Rattle.rp_evidence.specs.Demand.{HasSupport};
 ghost use Rattle.rp_evidence.specs.DemandPrograms.{ListsBelow, lower_program, upper_program};
 ghost use Rattle.rp_table.specs.Tables.{goods_of};
-ghost use Rattle.rp_support.specs.InnerBudget.{input_of, new_budget};
+ghost use Rattle.rp_evidence.specs.InnerBudget.{input_of, new_budget};
 ghost use Rattle.rp_bound.specs.ProgramBound.{IsBoundOf};
 ghost use Rattle.rp_support.specs.Bounds.{AreBoundsOf};
 
@@ -16,9 +16,9 @@ use std::alloc::Global;
 
 /// The bounds of each good.
 pub fn goods(alloc: Global, budget: &NewBudget, below: &[u32]) -> Result<Vec<GoodBounds>, NoMemory>
-    requires below { ListsBelow (input_of budget.now) (new_budget budget.now) below.now }
-    requires support { HasSupport (input_of budget.now) (new_budget budget.now) }
-    ensures { IfOk result (λ goods. AreBoundsOf (input_of budget.now)
+    requires below { ListsBelow (input_of budget.now.at) (new_budget budget.now) below.now }
+    requires support { HasSupport (input_of budget.now.at) (new_budget budget.now) }
+    ensures { IfOk result (λ goods. AreBoundsOf (input_of budget.now.at)
         (new_budget budget.now) below.now goods.items) }
 {
     let mut goods = Vec::new(alloc);
@@ -32,10 +32,10 @@ pub fn goods(alloc: Global, budget: &NewBudget, below: &[u32]) -> Result<Vec<Goo
 
 /// The least of good `g`.
 fn lower_bound(alloc: Global, budget: &NewBudget, below: &[u32], g: u32) -> Result<Bound, NoMemory>
-    requires below { ListsBelow (input_of budget.now) (new_budget budget.now) below.now }
-    requires support { HasSupport (input_of budget.now) (new_budget budget.now) }
+    requires below { ListsBelow (input_of budget.now.at) (new_budget budget.now) below.now }
+    requires support { HasSupport (input_of budget.now.at) (new_budget budget.now) }
     requires good { g < goods_of budget.now.at.table.now }
-    ensures { IfOk result (λ bound. IsBoundOf (lower_program (input_of budget.now)
+    ensures { IfOk result (λ bound. IsBoundOf (lower_program (input_of budget.now.at)
         (new_budget budget.now) below.now g) (λ x. x g) bound) }
 {
     bound_of(alloc, &Lower::make(budget, below, g), Measure::Price(g))
@@ -43,10 +43,10 @@ fn lower_bound(alloc: Global, budget: &NewBudget, below: &[u32], g: u32) -> Resu
 
 /// The greatest of good `g`.
 fn upper_bound(alloc: Global, budget: &NewBudget, below: &[u32], g: u32) -> Result<Bound, NoMemory>
-    requires below { ListsBelow (input_of budget.now) (new_budget budget.now) below.now }
-    requires support { HasSupport (input_of budget.now) (new_budget budget.now) }
+    requires below { ListsBelow (input_of budget.now.at) (new_budget budget.now) below.now }
+    requires support { HasSupport (input_of budget.now.at) (new_budget budget.now) }
     requires good { g < goods_of budget.now.at.table.now }
-    ensures { IfOk result (λ bound. IsBoundOf (upper_program (input_of budget.now)
+    ensures { IfOk result (λ bound. IsBoundOf (upper_program (input_of budget.now.at)
         (new_budget budget.now) below.now g) (λ x. x g) bound) }
 {
     bound_of(alloc, &Upper::make(budget, below, g), Measure::Price(g))

@@ -4,7 +4,7 @@ ghost use Rattle.rp_evidence.specs.Demand.{Buys, IsInnerDemand};
 ghost use Rattle.rp_evidence.specs.DemandEvidence.{bundle_of};
 ghost use Rattle.rp_evidence.specs.Preference.{IsWeak};
 ghost use Rattle.rp_table.specs.Tables.{goods_of, records_of};
-ghost use Rattle.rp_support.specs.InnerBudget.{input_of, new_budget};
+ghost use Rattle.rp_evidence.specs.InnerBudget.{input_of, new_budget};
 ghost use Rattle.rp_support.specs.InnerStart.{IsBetter, IsStart, inner_numerator};
 ghost use Rattle.rp_pref.specs.Closure.{IsWeakClosureOf};
 
@@ -16,9 +16,9 @@ use std::alloc::Global;
 
 /// The inner demand, over the price of good 0.
 pub fn inner(alloc: Global, budget: &NewBudget, closure: &Closure) -> Result<Point, NoMemory>
-    requires { IsWeakClosureOf closure.now (input_of budget.now) }
+    requires { IsWeakClosureOf closure.now (input_of budget.now.at) }
     ensures goods { IfOk result (λ point. length point.num ≡ goods_of budget.now.at.table.now) }
-    ensures inner { IfOk result (λ point. IsInnerDemand (input_of budget.now)
+    ensures inner { IfOk result (λ point. IsInnerDemand (input_of budget.now.at)
         (new_budget budget.now) (bundle_of point)) }
 {
     prove!(budget.at.table.goods() > 0);
@@ -33,9 +33,10 @@ pub fn inner(alloc: Global, budget: &NewBudget, closure: &Closure) -> Result<Poi
 
 /// The counts of the observations.
 fn counts(alloc: Global, budget: &NewBudget, closure: &Closure) -> Result<Vec<u32>, NoMemory>
-    requires { IsWeakClosureOf closure.now (input_of budget.now) }
+    requires { IsWeakClosureOf closure.now (input_of budget.now.at) }
     ensures { IfOk result (λ counts.
-        AreCounts (input_of budget.now).n (IsWeak (input_of budget.now).cost 1 1) counts.items) }
+        AreCounts (input_of budget.now.at).n (IsWeak (input_of budget.now.at).cost 1 1)
+        counts.items) }
 {
     let mut counts = Vec::new(alloc);
     for s in 0..budget.at.table.n() {
@@ -48,7 +49,7 @@ fn counts(alloc: Global, budget: &NewBudget, closure: &Closure) -> Result<Vec<u3
 /// least cost at the new prices, of these the first.
 fn start(budget: &NewBudget, counts: &[u32]) -> Option<u32>
     requires { length counts.now ≡ records_of budget.now.at.table.now }
-    ensures { IsStart (input_of budget.now) (new_budget budget.now) counts.now result }
+    ensures { IsStart (input_of budget.now.at) (new_budget budget.now) counts.now result }
 {
     let mut best = None;
     for s in 0..budget.at.table.n() {
@@ -64,7 +65,7 @@ fn is_better(budget: &NewBudget, counts: &[u32], s: u32, best: Option<u32>) -> b
     requires each { length counts.now ≡ records_of budget.now.at.table.now }
     requires observed { s < records_of budget.now.at.table.now }
     requires earlier { IfSome best (λ b. b < records_of budget.now.at.table.now) }
-    ensures { IsTrue result ↔ IsBetter (input_of budget.now)
+    ensures { IsTrue result ↔ IsBetter (input_of budget.now.at)
         (new_budget budget.now) counts.now s best }
 {
     let spent = budget.at.spending(s);
@@ -83,11 +84,11 @@ fn is_better(budget: &NewBudget, counts: &[u32], s: u32, best: Option<u32>) -> b
 /// What the inner demand has of each good.
 fn numerators(alloc: Global, budget: &NewBudget, start: Option<u32>) -> Result<Vec<u64>, NoMemory>
     requires { IfSome start (λ s. (s < records_of budget.now.at.table.now)
-        × Buys (input_of budget.now) (new_budget budget.now) s) }
+        × Buys (input_of budget.now.at) (new_budget budget.now) s) }
     ensures goods { IfOk result (λ num. length num.items ≡ goods_of budget.now.at.table.now) }
     ensures exact { IfOk result (λ num. (g : ℕ) → g < goods_of budget.now.at.table.now
         → slice_index num.items g
-        ≡ inner_numerator (input_of budget.now) (new_budget budget.now) start g) }
+        ≡ inner_numerator (input_of budget.now.at) (new_budget budget.now) start g) }
 {
     let mut num = Vec::new(alloc);
     for g in 0..budget.at.table.goods() {
@@ -100,9 +101,9 @@ fn numerators(alloc: Global, budget: &NewBudget, start: Option<u32>) -> Result<V
 fn numerator(budget: &NewBudget, start: Option<u32>, g: u32) -> u64
     requires good { g < goods_of budget.now.at.table.now }
     requires start { IfSome start (λ s. (s < records_of budget.now.at.table.now)
-        × Buys (input_of budget.now) (new_budget budget.now) s) }
+        × Buys (input_of budget.now.at) (new_budget budget.now) s) }
     ensures { result
-        ≡ inner_numerator (input_of budget.now) (new_budget budget.now) start g }
+        ≡ inner_numerator (input_of budget.now.at) (new_budget budget.now) start g }
 {
     match start {
         Some(s) => {

@@ -3,7 +3,7 @@ ghost use Rattle.rp_evidence.specs.DemandPrograms.{demand_entry, demand_worth, l
 ghost use Rattle.rp_evidence.specs.DemandPrograms.{upper_program};
 ghost use Rattle.rp_farkas.specs.Limits.{IsWithinLimits};
 ghost use Rattle.rp_table.specs.Tables.{goods_of, records_of};
-ghost use Rattle.rp_support.specs.InnerBudget.{input_of, new_budget};
+ghost use Rattle.rp_evidence.specs.InnerBudget.{input_of, new_budget};
 
 use rp_farkas::Lp;
 use rp_table::NewBudget;
@@ -18,7 +18,7 @@ pub struct Lower<'a> {
     ghost observed: { All (λ t. t < records_of budget.at.table.now) below.now },
     ghost few: { length below.now ≤ records_of budget.at.table.now },
     ghost within: { IsWithinLimits
-        (lower_program (input_of budget) (new_budget budget) below.now good) },
+        (lower_program (input_of budget.at) (new_budget budget) below.now good) },
 }
 
 impl<'a> Lower<'a> {
@@ -27,7 +27,7 @@ impl<'a> Lower<'a> {
         requires observed { All (λ t. t < records_of budget.now.at.table.now) below.now }
         requires few { length below.now ≤ records_of budget.now.at.table.now }
         requires good { good < goods_of budget.now.at.table.now }
-        ensures { ⟦<Lower<'a> as Lp>⟧.program result ≡ lower_program (input_of budget.now)
+        ensures { ⟦<Lower<'a> as Lp>⟧.program result ≡ lower_program (input_of budget.now.at)
             (new_budget budget.now) below.now good }
     {
         prove!(budget.at.table.goods() > 0);
@@ -42,10 +42,10 @@ impl<'a> Lower<'a> {
 
 impl Lp for Lower<'_> {
     ghost use Rattle.rp_evidence.specs.DemandPrograms.{lower_program};
-    ghost use Rattle.rp_support.specs.InnerBudget.{input_of, new_budget};
+    ghost use Rattle.rp_evidence.specs.InnerBudget.{input_of, new_budget};
 
     ghost program = { λ p.
-        lower_program (input_of p.budget) (new_budget p.budget) p.below.now p.good };
+        lower_program (input_of p.budget.at) (new_budget p.budget) p.below.now p.good };
 
     ghost within_limits = { λ p. p.within };
 
@@ -80,7 +80,7 @@ pub struct Upper<'a> {
     ghost observed: { All (λ t. t < records_of budget.at.table.now) below.now },
     ghost few: { length below.now ≤ records_of budget.at.table.now },
     ghost within: { IsWithinLimits
-        (upper_program (input_of budget) (new_budget budget) below.now good) },
+        (upper_program (input_of budget.at) (new_budget budget) below.now good) },
 }
 
 impl<'a> Upper<'a> {
@@ -89,7 +89,7 @@ impl<'a> Upper<'a> {
         requires observed { All (λ t. t < records_of budget.now.at.table.now) below.now }
         requires few { length below.now ≤ records_of budget.now.at.table.now }
         requires good { good < goods_of budget.now.at.table.now }
-        ensures { ⟦<Upper<'a> as Lp>⟧.program result ≡ upper_program (input_of budget.now)
+        ensures { ⟦<Upper<'a> as Lp>⟧.program result ≡ upper_program (input_of budget.now.at)
             (new_budget budget.now) below.now good }
     {
         prove!(budget.at.table.goods() > 0);
@@ -104,10 +104,10 @@ impl<'a> Upper<'a> {
 
 impl Lp for Upper<'_> {
     ghost use Rattle.rp_evidence.specs.DemandPrograms.{upper_program};
-    ghost use Rattle.rp_support.specs.InnerBudget.{input_of, new_budget};
+    ghost use Rattle.rp_evidence.specs.InnerBudget.{input_of, new_budget};
 
     ghost program = { λ p.
-        upper_program (input_of p.budget) (new_budget p.budget) p.below.now p.good };
+        upper_program (input_of p.budget.at) (new_budget p.budget) p.below.now p.good };
 
     ghost within_limits = { λ p. p.within };
 
@@ -143,7 +143,7 @@ fn entry(budget: &NewBudget, below: &[u32], i: u32, j: u32) -> i64
     requires few { length below.now ≤ records_of budget.now.at.table.now }
     requires row { i < goods_of budget.now.at.table.now }
     requires column { j < length below.now + 2 }
-    ensures { result ≡ demand_entry (input_of budget.now)
+    ensures { result ≡ demand_entry (input_of budget.now.at)
         (new_budget budget.now) below.now i j }
 {
     let j = j as usize;
@@ -161,7 +161,7 @@ fn entry(budget: &NewBudget, below: &[u32], i: u32, j: u32) -> i64
 fn worth(budget: &NewBudget, below: &[u32], j: u32) -> i64
     requires observed { All (λ t. t < records_of budget.now.at.table.now) below.now }
     requires column { j < length below.now + 2 }
-    ensures { result ≡ demand_worth (input_of budget.now)
+    ensures { result ≡ demand_worth (input_of budget.now.at)
         (new_budget budget.now) below.now j }
 {
     let j = j as usize;

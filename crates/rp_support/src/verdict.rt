@@ -8,7 +8,7 @@ ghost use Rattle.rp_table.specs.Cost.{IsCostsOf, cost_at, cost_of};
 ghost use Rattle.rp_table.specs.Limits.{IsExpenditure};
 ghost use Rattle.rp_table.specs.NewPrices.{AreNewPrices};
 ghost use Rattle.rp_table.specs.Tables.{goods_of, records_of};
-ghost use Rattle.rp_support.specs.InnerBudget.{input_of, new_budget};
+ghost use Rattle.rp_evidence.specs.InnerBudget.{input_of, new_budget};
 ghost use Rattle.rp_support.specs.Verdict.{HasMixtures, IsDemandGiven, IsGivenWhereMet};
 
 use crate::below::{below, strictly_below};
@@ -89,12 +89,12 @@ pub fn demand_by_closure(
 fn bounds(alloc: Global, budget: &NewBudget, closure: &Closure) -> Result<DemandPart, NoMemory>
     requires sound { MeetsGarp (records_of budget.now.at.table.now)
         (cost_of budget.now.at.table.now) 1 1 }
-    requires closes { IsWeakClosureOf closure.now (input_of budget.now) }
+    requires closes { IsWeakClosureOf closure.now (input_of budget.now.at) }
     ensures proves { IfOk result (λ part.
-        ProvesDemand (input_of budget.now) budget.now.at.prices.now budget.now.m part) }
-    ensures given { IfOk result (λ part. IsGivenWhereMet (input_of budget.now)
+        ProvesDemand (input_of budget.now.at) budget.now.at.prices.now budget.now.m part) }
+    ensures given { IfOk result (λ part. IsGivenWhereMet (input_of budget.now.at)
         (new_budget budget.now) part) }
-    ensures mixtures { IfOk result (λ part. HasMixtures (input_of budget.now)
+    ensures mixtures { IfOk result (λ part. HasMixtures (input_of budget.now.at)
         (new_budget budget.now) part) }
 {
     prove!(budget.at.table.goods() > 0);

@@ -1,4 +1,5 @@
-ghost use Rattle.std.specs.Prelude.{◌≤◌, ◌↔◌, All, IsTrue};
+ghost use Rattle.std.specs.Prelude.{◌↔◌, All, IsTrue};
+ghost use Rattle.rp_table.specs.Limits.{IsPrice};
 
 use rp_evidence::{Bound, DemandPart, Point};
 use rp_garp::garp;
@@ -15,7 +16,7 @@ const IN_TURN: &str = "p_a,q_a,p_b,q_b\n1,2,1,2\n5,1,1,3\n9,0,1,7\n";
 
 /// Whether each price is within the limits.
 fn are_prices(prices: &[u32]) -> bool
-    ensures { IsTrue result ↔ All (λ p. (1 ≤ p) × (p ≤ LARGEST)) prices.now }
+    ensures { IsTrue result ↔ All IsPrice prices.now }
 {
     prices.iter().all(|p| 1 <= *p && *p <= LARGEST)
 }

@@ -1,5 +1,5 @@
 use Rattle.std.proofs.Common.{arith}
-use Rattle.rp_check.specs.InnerSets.{budget_at, input_of}
+use Rattle.rp_evidence.specs.InnerBudget.{budget_at, input_of}
 use Rattle.rp_check.proofs.SetLists.{few_below}
 use Rattle.rp_check.proofs.demand.check_bounds.Goals as goal
 

@@ -1,7 +1,7 @@
 use Rattle.std.proofs.Common.{◌≡◌, ◌*◌, ℕ, List, length, slice_index, ap, arith, sym, ◌∙◌}
 use Rattle.std.proofs.lemmas.Bool.{false≢true}
 use Rattle.rp_evidence.specs.Demand.{spending}
-use Rattle.rp_check.specs.InnerSets.{budget_at, input_of}
+use Rattle.rp_evidence.specs.InnerBudget.{budget_at, input_of}
 use Rattle.rp_check.proofs.DemandClauses.{inner_fails_at}
 use Rattle.rp_check.proofs.demand.check_inner.Goals as goal
 

@@ -1,5 +1,5 @@
 use Rattle.std.proofs.Common.{◌↔◌, IsTrue, slice_index, subst}
-use Rattle.rp_check.specs.InnerSets.{input_of}
+use Rattle.rp_evidence.specs.InnerBudget.{input_of}
 use Rattle.rp_check.proofs.WelfareClauses.{cost_told}
 use Rattle.rp_evidence.specs.BoundEvidence.{BoundHolds}
 use Rattle.rp_farkas.specs.LinearProgram.{LinearProgram}

@@ -1,5 +1,5 @@
 use Rattle.std.proofs.Common.{ℕ, subst, take, arith, slice_index}
-use Rattle.rp_check.specs.InnerSets.{input_of}
+use Rattle.rp_evidence.specs.InnerBudget.{input_of}
 use Rattle.rp_evidence.specs.Enumeration.{Enumerates}
 use Rattle.rp_clauses.specs.InnerMarks.{IsMarked}
 use Rattle.rp_check.proofs.SetLists.{few_of}

@@ -1,5 +1,5 @@
 use Rattle.std.proofs.Common.{◌<◌, arith}
-use Rattle.rp_check.specs.InnerSets.{input_of}
+use Rattle.rp_evidence.specs.InnerBudget.{input_of}
 use Rattle.rp_evidence.specs.Welfare.{EqualsOrReaches}
 use Rattle.rp_check.proofs.MarkedSets.{marked_more}
 use Rattle.rp_check.proofs.welfare.reached.Goals as goal

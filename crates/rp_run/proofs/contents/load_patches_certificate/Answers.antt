@@ -19,7 +19,7 @@ use Rattle.rp_run.specs.declared.contents.Contents.TheVariants as contents
 use Rattle.rp_run.proofs.FileLemmas.{three_input, three_first, three_second, three_third, three_last, moved_cause, moved_value, then_caused}
 use Rattle.rp_run.proofs.GainsLemmas.{rises_later}
 use Rattle.rp_run.proofs.LineLemmas.{calls_are, three_named}
-use Rattle.rp_run.proofs.PassedOn.{passed_on}
+use Rattle.rp_sheet.proofs.PassedOn.{passed_on}
 use Rattle.rp_run.proofs.TurnLemmas.{IsToldRefused, IsToldTaken, asks_one, asks_two, asks_three, calls_later, first_turn, second_apart, second_turn, taken_apart, third_turn, told_before, told_refused, untold}
 use Rattle.rp_run.proofs.contents.load_patches_certificate.Goals as goal
 

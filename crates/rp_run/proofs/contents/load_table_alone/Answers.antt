@@ -14,7 +14,7 @@ use Rattle.rp_run.specs.declared.contents.Contents.{Contents}
 use Rattle.rp_run.specs.declared.contents.Contents.TheVariants as contents
 use Rattle.rp_run.proofs.FileLemmas.{one_cause, one_input}
 use Rattle.rp_run.proofs.LineLemmas.{calls_are, one_named}
-use Rattle.rp_run.proofs.PassedOn.{passed_on}
+use Rattle.rp_sheet.proofs.PassedOn.{passed_on}
 use Rattle.rp_run.proofs.TurnLemmas.{asks_one, first_turn}
 use Rattle.rp_run.proofs.contents.load_table_alone.Goals as goal
 

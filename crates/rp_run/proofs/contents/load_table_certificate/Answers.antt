@@ -16,7 +16,7 @@ use Rattle.rp_run.specs.declared.contents.Contents.TheVariants as contents
 use Rattle.rp_run.proofs.FileLemmas.{two_input, first_cause, second_cause, moved_cause, moved_value}
 use Rattle.rp_run.proofs.GainsLemmas.{rises_later}
 use Rattle.rp_run.proofs.LineLemmas.{calls_are, two_named}
-use Rattle.rp_run.proofs.PassedOn.{passed_on}
+use Rattle.rp_sheet.proofs.PassedOn.{passed_on}
 use Rattle.rp_run.proofs.TurnLemmas.{IsToldRefused, asks_one, asks_two, calls_later, first_turn, second_turn, taken_apart, told_refused, untold}
 use Rattle.rp_run.proofs.contents.load_table_certificate.Goals as goal
 

@@ -16,7 +16,7 @@ use Rattle.rp_run.specs.declared.contents.Contents.TheVariants as contents
 use Rattle.rp_run.proofs.FileLemmas.{one_cause, one_input}
 use Rattle.rp_run.proofs.LineLemmas.{calls_are, one_named}
 use Rattle.rp_run.proofs.MenuFiles.{menus_caused, units_caused, with_units}
-use Rattle.rp_run.proofs.PassedOn.{passed_on}
+use Rattle.rp_sheet.proofs.PassedOn.{passed_on}
 use Rattle.rp_run.proofs.TurnLemmas.{asks_one, first_turn}
 use Rattle.rp_run.proofs.menus.load_menus_with_units.Goals as goal
 

@@ -1,4 +1,4 @@
-use Rattle.rp_check.specs.InnerSets.{budget_at, input_of}
+use Rattle.rp_evidence.specs.InnerBudget.{budget_at, input_of}
 use Rattle.rp_check.proofs.MarkedSets.{marks_below, marks_strictly}
 use Rattle.rp_check.proofs.sets.Sets.of.Goals as goal
 
