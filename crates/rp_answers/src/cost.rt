@@ -1,10 +1,9 @@
-ghost use Rattle.std.specs.Prelude.{◌≡◌, ◌↔◌, IfOk};
+ghost use Rattle.std.specs.Prelude.{◌≡◌, IfOk};
 ghost use Rattle.rp_cost.specs.Axioms.{MeetsCost};
-ghost use Rattle.rp_cost.specs.declared.axioms.Axiom.TheVariants.{Holds};
 ghost use Rattle.rp_table.specs.Tables.{goods_of};
 ghost use Rattle.rp_answers.specs.CostText.{AreBoundsOfEach, AreBoundsUnder, IsCostText};
 
-use rp_cost::{Asked, Axiom, CostBounds, Tech, cost_axiom, cost_bounds, profit_axiom, report_cost};
+use rp_cost::{Asked, Axiom, CostBounds, Tech, cost_axiom, cost_bounds, report_cost};
 use rp_num::NoMemory;
 use std::alloc::Global;
 
@@ -13,25 +12,17 @@ pub fn cost_text(alloc: Global, tech: &Tech, asked: &Asked) -> Result<Vec<u8>, N
     requires { asked.now.prices.goods ≡ goods_of tech.now.table }
     ensures { IfOk result (λ text. IsCostText tech.now asked.now text.items) }
 {
-    let cost = cost_axiom(tech);
-    let profit = profit_axiom(tech);
-    let bounds = bounds_under(alloc, tech, asked, cost)?;
-    let text = report_cost(alloc, tech, asked, cost, profit, bounds.as_slice())?;
+    let bounds = bounds_under(alloc, tech, asked)?;
+    let text = report_cost(alloc, tech, asked, bounds.as_slice())?;
     Ok(text)
 }
 
 /// The bounds of each asked record where the cost axiom holds, and none where it fails.
-fn bounds_under(
-    alloc: Global,
-    tech: &Tech,
-    asked: &Asked,
-    cost: Axiom,
-) -> Result<Vec<CostBounds>, NoMemory>
-    requires inputs { asked.now.prices.goods ≡ goods_of tech.now.table }
-    requires verdict { (cost ≡ Holds) ↔ MeetsCost tech.now }
-    ensures { IfOk result (λ bounds. AreBoundsUnder tech.now asked.now cost bounds.items) }
+fn bounds_under(alloc: Global, tech: &Tech, asked: &Asked) -> Result<Vec<CostBounds>, NoMemory>
+    requires { asked.now.prices.goods ≡ goods_of tech.now.table }
+    ensures { IfOk result (λ bounds. AreBoundsUnder tech.now asked.now bounds.items) }
 {
-    match cost {
+    match cost_axiom(tech) {
         Axiom::Holds => bounds_of_each(alloc, tech, asked),
         Axiom::Pair { .. } => Ok(Vec::new(alloc)),
     }

@@ -1,15 +1,15 @@
 -- The bound from below is at most the one from above: under the cost axiom, inputs that made enough are in the outer set.
-use Rattle.std.proofs.Common.{◌<◌, ◌≤◌, ◌*◌, ℕ, Option, Some, None, subst, arith}
+use Rattle.std.proofs.Common.{◌≤◌, ◌*◌, ℕ, Option, Some, None, subst, arith}
 use Rattle.rp_evidence.specs.Input.{TableInput}
 use Rattle.rp_evidence.specs.declared.demand.Bound.{Bound}
 use Rattle.rp_evidence.specs.declared.demand.Bound.TheVariants.{Shown, Wide}
 use Rattle.rp_cost.specs.CostAxiom.{MeetsCostAxiom}
 use Rattle.rp_cost.specs.CostBounds.{IsAtMost, IsUpperGiven, ProvesLowerCost}
-use Rattle.rp_cost.specs.OuterSet.{IsInOuterSet}
+use Rattle.rp_cost.specs.OuterSet.{MadeIsOuter}
 use Rattle.rp_cost.specs.declared.bounds.Upper.{Upper}
 
 module _ (input : TableInput) (y : ℕ → ℕ) (y0 : ℕ) (minimises : MeetsCostAxiom input.n input.cost y) where
-  pub made_in_outer_set : (s : ℕ) → s < input.n → y0 ≤ y s → IsInOuterSet input y y0 (record { den = 1; num = input.quantity s })
+  pub made_in_outer_set : MadeIsOuter input y y0
   made_in_outer_set s s_in enough = record {
     fraction = omega arith;
     dear = λ t t_in made.

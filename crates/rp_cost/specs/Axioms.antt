@@ -1,5 +1,5 @@
 -- What is answered on the two axioms of production (Varian 1984): that one holds, or the first pair that breaks it.
-use Rattle.std.specs.Prelude.{ℕ, slice_index}
+use Rattle.std.specs.Prelude.{◌≡◌, ◌↔◌, ℕ, Option, IfSome, IsNone, length, slice_index}
 use Rattle.rp_evidence.specs.First.{IsFirstRelated, NoneRelated}
 use Rattle.rp_table.specs.Cost.{cost_of}
 use Rattle.rp_table.specs.Tables.{records_of}
@@ -28,3 +28,15 @@ Breaks Profit tech = BreaksProfitAxiom (cost_of tech.table) (slice_index tech.y)
 abbrev pub AreFirstBroken : ℕ → (ℕ → ℕ → Type 0) → Axiom → Type 0
 AreFirstBroken n breaks Holds = NoneRelated n breaks
 AreFirstBroken n breaks (Pair first second) = IsFirstRelated n breaks first second
+
+-- the verdict on the cost axiom: that it holds, or the first pair that breaks it
+pub record IsCostVerdict (tech : Technology) (verdict : Axiom) : Type 0 where
+  pub first : AreFirstBroken (records_of tech.table) (BreaksCostAxiom (cost_of tech.table) (slice_index tech.y)) verdict
+  pub holds : (verdict ≡ Holds) ↔ MeetsCost tech
+
+-- the same on the profit axiom, and none where the output has no price
+pub record IsProfitVerdict (tech : Technology) (verdict : Option Axiom) : Type 0 where
+  pub priced : IsNone verdict ↔ (length tech.p ≡ 0)
+  pub first : IfSome verdict (AreFirstBroken (records_of tech.table)
+      (BreaksProfitAxiom (cost_of tech.table) (slice_index tech.y) (slice_index tech.p)))
+  pub holds : IfSome verdict (λ found. (found ≡ Holds) ↔ MeetsProfit tech)

@@ -31,6 +31,11 @@ pub record IsUpperCost (input : TableInput) (y : ℕ → ℕ) (y0 : ℕ) (prices
 abbrev pub NoneMakes : TableInput → (ℕ → ℕ) → ℕ → Type 0
 NoneMakes input y y0 = (s : ℕ) → s < input.n → y s < y0
 
+-- Every observation that made y0 or more lies in the outer set, so that the inner bound is nowhere below the outer one.
+abbrev pub MadeIsOuter : TableInput → (ℕ → ℕ) → ℕ → Type 0
+MadeIsOuter input y y0 = (s : ℕ) → s < input.n → y0 ≤ y s
+    → IsInOuterSet input y y0 (record { den = 1; num = input.quantity s })
+
 -- Every observation made more than y0.
 abbrev pub AllMakeMore : TableInput → (ℕ → ℕ) → ℕ → Type 0
 AllMakeMore input y y0 = (t : ℕ) → t < input.n → y0 < y t

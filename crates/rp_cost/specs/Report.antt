@@ -1,11 +1,12 @@
 -- The lines of a report on a technology (this program's own format).
-use Rattle.std.specs.Prelude.{ℕ, zero, suc, List, [], ◌++◌, Option, Some, None, codes, slice_get, slice_index}
+use Rattle.std.specs.Prelude.{◌≡◌, ℕ, zero, suc, List, [], ◌++◌, Option, Some, None, codes, slice_get, slice_index}
 use Rattle.std.specs.Fmt.{decimal}
 use Rattle.rp_print.specs.BoundText.{bound_text, bounds_text, pair_line}
 use Rattle.rp_print.specs.ListText.{line_of, numbers_text, ordinal_text}
 use Rattle.rp_table.specs.Rows.{row_of, rows_count}
 use Rattle.rp_table.specs.Tables.{goods_of, records_of}
 use Rattle.rp_cost.specs.AskedOutputs.{AskedOutputs}
+use Rattle.rp_cost.specs.Axioms.{IsCostVerdict, IsProfitVerdict}
 use Rattle.rp_cost.specs.Technology.{Technology}
 use Rattle.rp_cost.specs.declared.axioms.Axiom.{Axiom}
 use Rattle.rp_cost.specs.declared.axioms.Axiom.TheVariants.{Holds, Pair}
@@ -61,3 +62,12 @@ abbrev pub production_report : Technology → AskedOutputs → Axiom → Option 
 production_report tech asked cost profit bounds =
     head_text tech ++ axiom_text (codes "cost") cost ++ profit_text profit
     ++ answers_text (rows_count asked.prices.prices asked.prices.goods) asked bounds
+
+-- the text is the report of these bounds, with the verdicts on the technology's axioms
+pub record IsProductionReport (tech : Technology) (asked : AskedOutputs) (bounds : List CostBounds) (text : List ℕ)
+    : Type 0 where
+  pub cost : Axiom
+  pub profit : Option Axiom
+  pub cost_given : IsCostVerdict tech cost
+  pub profit_given : IsProfitVerdict tech profit
+  pub text_is : text ≡ production_report tech asked cost profit bounds

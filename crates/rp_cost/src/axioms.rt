@@ -4,9 +4,10 @@ ghost use Rattle.rp_evidence.specs.First.{IsFirstOf};
 ghost use Rattle.rp_table.specs.Cost.{cost_of};
 ghost use Rattle.rp_table.specs.Tables.{records_of};
 ghost use Rattle.rp_cost.specs.Axioms.{AreFirstBroken, Breaks, MeetsCost, MeetsProfit};
-ghost use Rattle.rp_cost.specs.ProfitAxiom.{profit};
+ghost use Rattle.rp_cost.specs.CostAxiom.{BreaksCostAxiom};
+ghost use Rattle.rp_cost.specs.ProfitAxiom.{BreaksProfitAxiom, profit};
 ghost use Rattle.rp_cost.specs.declared.axioms.Axiom.TheVariants.{Holds};
-ghost use Rattle.rp_cost.specs.declared.axioms.Test.TheVariants.{Cost, Profit};
+ghost use Rattle.rp_cost.specs.declared.axioms.Test.TheVariants.{Profit};
 
 use crate::tech::Tech;
 
@@ -27,7 +28,8 @@ pub(crate) enum Test {
 
 /// Whether the inputs minimise cost: the first observation of a pair spent more than it had to.
 pub fn cost_axiom(tech: &Tech) -> Axiom
-    ensures first { AreFirstBroken (records_of tech.now.table) (Breaks Cost tech.now) result }
+    ensures first { AreFirstBroken (records_of tech.now.table)
+        (BreaksCostAxiom (cost_of tech.now.table) (slice_index tech.now.y)) result }
     ensures holds { (result ≡ Holds) ↔ MeetsCost tech.now }
 {
     first_pair(tech, Test::Cost)
@@ -36,8 +38,8 @@ pub fn cost_axiom(tech: &Tech) -> Axiom
 /// Whether inputs and output maximise profit; none where the output has no price.
 pub fn profit_axiom(tech: &Tech) -> Option<Axiom>
     ensures priced { IsNone result ↔ (length tech.now.p ≡ 0) }
-    ensures first { IfSome result (λ found.
-        AreFirstBroken (records_of tech.now.table) (Breaks Profit tech.now) found) }
+    ensures first { IfSome result (AreFirstBroken (records_of tech.now.table) (BreaksProfitAxiom
+        (cost_of tech.now.table) (slice_index tech.now.y) (slice_index tech.now.p))) }
     ensures holds { IfSome result (λ found. (found ≡ Holds) ↔ MeetsProfit tech.now) }
 {
     prove!(tech.count() > 0);

@@ -6,7 +6,7 @@ ghost use Rattle.rp_table.specs.declared.TheConstants.{LARGEST};
 ghost use Rattle.rp_cost.specs.Axioms.{MeetsCost};
 ghost use Rattle.rp_cost.specs.CostBounds.{AreBoundsGiven, BoundsHold, IsAtMost, ProvesCostBounds};
 ghost use Rattle.rp_cost.specs.CostBounds.{ShowsNothing};
-ghost use Rattle.rp_cost.specs.OuterSet.{AllMakeMore};
+ghost use Rattle.rp_cost.specs.OuterSet.{AllMakeMore, MadeIsOuter};
 
 use crate::lower::lower_bound;
 use crate::question::Question;
@@ -48,6 +48,7 @@ pub fn cost_bounds(
         (slice_index tech.now.y) y (slice_index prices.now)) }
     ensures accepted { IfOk result (BoundsHold (input_of_table tech.now.table)
         (slice_index tech.now.y) y (slice_index prices.now)) }
+    ensures made_is_outer { MadeIsOuter (input_of_table tech.now.table) (slice_index tech.now.y) y }
     ensures lower_at_most_upper { IfOk result
         (λ bounds. IsAtMost bounds.lower bounds.upper) }
     ensures nothing_below { AllMakeMore (input_of_table tech.now.table) (slice_index tech.now.y) y

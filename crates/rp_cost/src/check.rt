@@ -11,11 +11,12 @@ ghost use Rattle.rp_cost.specs.OuterProgram.{outer_program};
 ghost use Rattle.rp_cost.specs.OuterSet.{NoneMakes};
 
 use crate::bounds::{CostBounds, Upper};
-use crate::listed::{ROOM, write_not_above};
+use crate::listed::write_not_above;
 use crate::program::OuterProgram;
 use crate::question::Question;
 use crate::tech::Tech;
 use rp_clauses::bound::bound_holds;
+use rp_clauses::reach::ROOM;
 use rp_evidence::Bound;
 use rp_farkas::Measure;
 

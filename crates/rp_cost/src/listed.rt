@@ -4,12 +4,6 @@ ghost use Rattle.rp_table.specs.Tables.{records_of};
 ghost use Rattle.rp_cost.specs.OuterProgram.{ListsNotAbove};
 
 use crate::tech::Tech;
-use rp_table::RECORDS;
-
-/// Room for each observation that a technology may have.
-pub(crate) const ROOM: usize = 512;
-
-const _: () = prove!(ROOM == RECORDS as usize);
 
 /// Writes the observations that made `y` or less into the front of the list, in increasing order, and gives their
 /// number.

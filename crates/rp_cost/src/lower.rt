@@ -8,10 +8,11 @@ ghost use Rattle.rp_table.specs.declared.TheConstants.{RECORDS};
 ghost use Rattle.rp_cost.specs.CostBounds.{IsLowerGiven, ProvesLowerCost};
 ghost use Rattle.rp_cost.specs.OuterProgram.{outer_program};
 
-use crate::listed::{ROOM, write_not_above};
+use crate::listed::write_not_above;
 use crate::program::OuterProgram;
 use crate::question::Question;
 use rp_bound::bound_of;
+use rp_clauses::reach::ROOM;
 use rp_evidence::Bound;
 use rp_farkas::Measure;
 use rp_num::NoMemory;

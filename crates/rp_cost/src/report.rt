@@ -1,11 +1,13 @@
-ghost use Rattle.std.specs.Prelude.{◌≡◌, ◌++◌, ◌<◌, IfOk, OnOk, Some};
+ghost use Rattle.std.specs.Prelude.{◌≡◌, ◌++◌, ◌<◌, [], IfOk, OnOk, Some, length};
+ghost use Rattle.rp_cost.specs.Axioms.{MeetsCost};
 ghost use Rattle.rp_cost.specs.Report.{answer_text, answers_text, asked_text, axiom_text};
 ghost use Rattle.rp_cost.specs.Report.{both_text};
-ghost use Rattle.rp_cost.specs.Report.{found_text, head_text, production_report, profit_text};
+ghost use Rattle.rp_cost.specs.Report.{IsProductionReport, found_text, head_text};
+ghost use Rattle.rp_cost.specs.Report.{production_report, profit_text};
 ghost use Rattle.rp_table.specs.Rows.{rows_count};
 
 use crate::asked::Asked;
-use crate::axioms::Axiom;
+use crate::axioms::{Axiom, cost_axiom, profit_axiom};
 use crate::bounds::CostBounds;
 use crate::tech::Tech;
 use rp_num::NoMemory;
@@ -15,8 +17,27 @@ use rp_print::{
 use std::alloc::Global;
 
 /// The report on a technology: the verdicts on its axioms, and the bounds of each asked record, in their order. The
-/// list of bounds is empty where the cost axiom fails; a record without bounds is told to have none.
+/// list of bounds is empty where the cost axiom fails; each record is then told to have none.
 pub fn report_cost(
+    alloc: Global,
+    tech: &Tech,
+    asked: &Asked,
+    bounds: &[CostBounds],
+) -> Result<Vec<u8>, NoMemory>
+    requires bounded { MeetsCost tech.now → length bounds.now
+        ≡ rows_count asked.now.prices.prices asked.now.prices.goods }
+    requires unbounded { ¬ MeetsCost tech.now → bounds.now ≡ [] }
+    ensures { IfOk result
+        (λ text. IsProductionReport tech.now asked.now bounds.now text.items) }
+{
+    let cost = cost_axiom(tech);
+    let profit = profit_axiom(tech);
+    let text = report_of(alloc, tech, asked, cost, profit, bounds)?;
+    Ok(text)
+}
+
+/// The report of these verdicts and bounds.
+fn report_of(
     alloc: Global,
     tech: &Tech,
     asked: &Asked,

@@ -1,6 +1,5 @@
 use rp_cost::{
-    Asked, Axiom, Tech, check_cost, cost_axiom, cost_bounds, profit_axiom, read_asked, read_tech,
-    report_cost,
+    Asked, Axiom, Tech, check_cost, cost_axiom, cost_bounds, read_asked, read_tech, report_cost,
 };
 use std::alloc::Global;
 use std::process::Abort;
@@ -9,17 +8,20 @@ use std::test::Fail;
 /// The whole report, with bounds of each record where the cost axiom holds; each passes its check.
 fn report<R: Abort>(rt: &R, alloc: Global, tech: &Tech, asked: &Asked) -> Result<String, Fail> {
     let mut all = Vec::new(alloc);
-    let cost = cost_axiom(tech);
-    if let Axiom::Holds = cost {
-        for i in 0..asked.count() {
-            let prices = asked.row(i);
-            assert!(rt; prices.len() == tech.inputs() as usize);
-            let bounds = cost_bounds(alloc, tech, prices, asked.y(i))?;
-            assert!(rt; check_cost(tech, prices, asked.y(i), &bounds));
-            all.push(bounds)?;
+    let text = match cost_axiom(tech) {
+        Axiom::Holds => {
+            for i in 0..asked.count() {
+                let prices = asked.row(i);
+                assert!(rt; prices.len() == tech.inputs() as usize);
+                let bounds = cost_bounds(alloc, tech, prices, asked.y(i))?;
+                assert!(rt; check_cost(tech, prices, asked.y(i), &bounds));
+                all.push(bounds)?;
+            }
+            assert!(rt; all.len() == asked.count() as usize);
+            report_cost(alloc, tech, asked, all.as_slice())?
         }
-    }
-    let text = report_cost(alloc, tech, asked, cost, profit_axiom(tech), all.as_slice())?;
+        Axiom::Pair { .. } => report_cost(alloc, tech, asked, &[])?,
+    };
     Ok(String::from_utf8_lossy(alloc, text.as_slice())?)
 }
 

@@ -19,6 +19,7 @@ loop-i-preserved c =
         proves = last.proves;
         given = last.given;
         accepted = last.accepted;
+        made_is_outer = last.made_is_outer;
         lower_at_most_upper = last.lower_at_most_upper;
         nothing_below = last.nothing_below;
       }) c.push.new.self.items c.in_ok-push.ensures.items;

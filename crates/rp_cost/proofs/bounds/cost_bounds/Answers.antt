@@ -1,8 +1,12 @@
 use Rattle.std.proofs.Common.{slice_index, arith}
 use Rattle.rp_evidence.specs.Input.{input_of_table}
-use Rattle.rp_cost.proofs.AtMost.{lower_at_most}
+use Rattle.rp_cost.proofs.AtMost.{lower_at_most, made_in_outer_set}
 use Rattle.rp_cost.proofs.NothingBelow.{nothing_shown}
 use Rattle.rp_cost.proofs.bounds.cost_bounds.Goals as goal
+
+pub returns-clause-made_is_outer : goal.returns-clause-made_is_outer
+returns-clause-made_is_outer c =
+    made_in_outer_set (input_of_table c.args.tech.now.table) (slice_index c.args.tech.now.y) c.args.y c.requires.minimises
 
 pub returns-clause-lower_at_most_upper : goal.returns-clause-lower_at_most_upper
 returns-clause-lower_at_most_upper c =
