@@ -36,7 +36,7 @@ pub record AreBoundsOfFirst (tech : Technology) (asked : AskedOutputs) (count : 
 abbrev pub AreBoundsOfEach : Technology → AskedOutputs → List CostBounds → Type 0
 AreBoundsOfEach tech asked = AreBoundsOfFirst tech asked (rows_count asked.prices.prices asked.prices.goods)
 
--- the same where the cost axiom holds, and none where it fails
+-- where the technology meets the cost axiom, bounds of each asked record; where it does not, nothing
 pub record AreBoundsUnder (tech : Technology) (asked : AskedOutputs) (bounds : List CostBounds) : Type 0 where
   pub of_each : MeetsCost tech → AreBoundsOfEach tech asked bounds
   pub none : ¬ MeetsCost tech → bounds ≡ []

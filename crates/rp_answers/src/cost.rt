@@ -17,7 +17,7 @@ pub fn cost_text(alloc: Global, tech: &Tech, asked: &Asked) -> Result<Vec<u8>, N
     Ok(text)
 }
 
-/// The bounds of each asked record where the cost axiom holds, and none where it fails.
+/// Bounds of each asked record where the technology meets the cost axiom, and else nothing.
 fn bounds_under(alloc: Global, tech: &Tech, asked: &Asked) -> Result<Vec<CostBounds>, NoMemory>
     requires { asked.now.prices.goods ≡ goods_of tech.now.table }
     ensures { IfOk result (λ bounds. AreBoundsUnder tech.now asked.now bounds.items) }
