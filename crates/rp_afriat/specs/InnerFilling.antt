@@ -54,8 +54,8 @@ lesser_of None b = b
 lesser_of (Some x) None = Some x
 lesser_of (Some x) (Some y) = Some (int_min x y)
 
--- k is the least whole number with difference ≤ k · extra
-pub record IsRoundedUp (difference : ℤ) (extra k : ℕ) : Type 0 where
+-- k is the ceiling of difference over extra, none below 0: the least whole number with difference ≤ k · extra
+pub record IsCeiling (difference : ℤ) (extra k : ℕ) : Type 0 where
   pub enough : difference ≤ℤ pos (k * extra)
   pub least : (j : ℕ) → difference ≤ℤ pos (j * extra) → k ≤ j
 

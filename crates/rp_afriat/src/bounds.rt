@@ -1,6 +1,6 @@
 ghost use Rattle.std.specs.Prelude.{◌≡◌, ◌<◌, ◌≤◌, ◌*◌, ◌^◌, ◌+ℤ◌, ◌-ℤ◌, ◌*ℤ◌, ◌≤ℤ◌, neg_ℤ, pos};
 ghost use Rattle.rp_evidence.specs.StandardNumbers.{FitsMultiplier, FitsUtility};
-ghost use Rattle.rp_afriat.specs.InnerFilling.{IsRoundedUp, scaled_at};
+ghost use Rattle.rp_afriat.specs.InnerFilling.{IsCeiling, scaled_at};
 
 use rp_table::Costs;
 
@@ -31,7 +31,7 @@ fn times(lambda: u64, beyond: i128) -> i128
 /// The least multiplier that makes up for a difference of utilities at that cost beyond what an observation is held to.
 pub fn rounded_up(difference: i128, extra: u64) -> u128
     requires { 0 < extra }
-    ensures { IsRoundedUp difference extra result }
+    ensures { IsCeiling difference extra result }
 {
     if difference <= 0 {
         return 0;
