@@ -4,10 +4,11 @@ use Rattle.std.proofs.lemmas.Bool.{ltb-false, ltb-true}
 use Rattle.std.specs.Prelude.{nat_lt}
 use Rattle.rp_evidence.specs.Garp.{HasNoViolation}
 use Rattle.rp_table.specs.Sums.{sum_below}
+use Rattle.rp_patch.specs.Apportionment.{HasExactShares, IsCommonMultiple}
 use Rattle.rp_patch.specs.Choices.{RandomInput}
-use Rattle.rp_patch.specs.Patches.{IsPatchList, PatchList, budget_at, sign_at}
+use Rattle.rp_patch.specs.Patches.{IsPatchList, PatchList, budget_at, sign_at, units_at}
 use Rattle.rp_patch.specs.Types.{AreRationalTypes, IsRationalType, IsType, combinations, patches_on}
-use Rattle.rp_patch.specs.Units.{ArePatchesOf, HasExactUnits, HasUnits, IsMultiple, SaysWhy, chosen_as, chosen_below, tally_on}
+use Rattle.rp_patch.specs.Units.{ArePatchesOf, HasUnits, SaysWhy, chosen_as, chosen_below, chosen_counts, tally_on}
 use Rattle.rp_patch.specs.declared.fault.PatchFault.{PatchFault}
 use Rattle.rp_patch.specs.declared.fault.PatchFault.TheVariants as patch_fault
 use Rattle.rp_types.specs.Listed.{SaysWhy as SaysWhyNoTypes}
@@ -36,7 +37,7 @@ chosen_within input j (suc n) le = go (λ l. chosen_within input j n l) (nat_lt 
         subst (λ m. length (chosen_below input j) ≤ length (chosen_below input m)) (sym same) (omega arith)
 
 -- the total without a unit is a multiple on the first budgets too
-exact_of : (input : RandomInput) (asked : Option ℕ) (p : PatchList) → HasUnits input asked p → asked ≡ None → HasExactUnits input p
+exact_of : (input : RandomInput) (asked : Option ℕ) (p : PatchList) → HasUnits input asked p → asked ≡ None → HasExactShares (chosen_counts input) p.total (units_at p)
 exact_of input asked p units none = subst (λ a. HasUnits input a p) none units
 
 pub patches_apart : (input : RandomInput) (asked : Option ℕ) (p : PatchList) (fault : PatchFault) → ArePatchesOf input asked p → IsPatchList p → fault ≢ patch_fault.NoMemory
@@ -47,7 +48,7 @@ patches_apart input asked p (patch_fault.TooManyPatches j) are valid other (belo
 patches_apart input asked p (patch_fault.NeedUnit j) are valid other (few, none, (below, fits, (m, (multiple, least), many))) =
     let exact = exact_of input asked p are.units none in
     let whole = exact.total.0 in
-    let first : IsMultiple input (j + 1) p.total = (whole.0, λ i l. whole.1 i (omega (arith, below, l))) in
+    let first : IsCommonMultiple (chosen_counts input) (j + 1) p.total = (whole.0, λ i l. whole.1 i (omega (arith, below, l))) in
     let less = least p.total first in
     omega (arith, less, many, valid.few_units)
 patches_apart input asked p patch_fault.NoMemory are valid other why = other refl
