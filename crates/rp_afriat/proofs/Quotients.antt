@@ -7,7 +7,7 @@ use Rattle.std.specs.Prelude.{ℤ, pos, ◌+ℤ◌, ◌-ℤ◌, ◌*ℤ◌, ◌�
 use Rattle.rp_evidence.specs.StandardNumbers.{FitsMultiplier, IsMultiplierBy}
 use Rattle.rp_evidence.proofs.AfriatStages.{IsNeeded}
 use Rattle.rp_evidence.proofs.AfriatSums.{allowed_parts}
-use Rattle.rp_afriat.specs.InnerFilling.{AreMultipliersSet, IsRoundedUp, utility_of}
+use Rattle.rp_afriat.specs.InnerFilling.{AreMultipliersSet, IsCeiling, utility_of}
 
 filled : (x y : ℤ) (k a b e : ℕ) → b + e ≡ a → (y -ℤ x) ≤ℤ pos (k * e) → y ≤ℤ (x +ℤ (pos k *ℤ (pos a -ℤ pos b)))
 filled x y k a b e s h =
@@ -22,8 +22,8 @@ unfilled x y k a b e s h =
     omega (arith, ints)
 
 -- the rounded-up quotient is the least multiplier that serves
-pub rounded_is_needed : (cost : ℕ → ℕ → ℕ) (own : ℕ → ℕ) (u : ℕ → ℤ) (s t : ℕ) (gap : ℤ) (extra q : ℕ) → gap ≡ u t -ℤ u s → own s + extra ≡ cost s t → IsRoundedUp gap extra q → IsNeeded cost own u s t q
-rounded_is_needed cost own u s t gap extra q g e is = record {
+pub rounded_is_needed : (cost : ℕ → ℕ → ℕ) (own : ℕ → ℕ) (u : ℕ → ℤ) (s t : ℕ) (difference : ℤ) (extra q : ℕ) → difference ≡ u t -ℤ u s → own s + extra ≡ cost s t → IsCeiling difference extra q → IsNeeded cost own u s t q
+rounded_is_needed cost own u s t difference extra q g e is = record {
   enough = filled (u s) (u t) q (cost s t) (own s) extra e (subst (λ z. z ≤ℤ pos (q * extra)) g is.enough);
   least = λ j h. is.least j (subst (λ z. z ≤ℤ pos (j * extra)) (sym g) (unfilled (u s) (u t) j (cost s t) (own s) extra e h));
 }

@@ -8,15 +8,9 @@ use Rattle.rp_evidence.specs.declared.afriat.AfriatPart.{AfriatPart}
 use Rattle.rp_evidence.specs.declared.afriat.AfriatPart.TheVariants.{Model, NoModel, Wide}
 use Rattle.rp_evidence.proofs.OwnAfriat.{evidence_without_levels, standard_without_levels, violation_there}
 use Rattle.rp_evidence.proofs.OwnLevels.{strict_by_levels_same, strict_without_levels, weak_by_levels_same, weak_without_levels}
-use Rattle.rp_evidence.proofs.SameAfriat.{own_standard_same, standard_same}
-use Rattle.rp_evidence.proofs.SameCosts.{meets_same, no_violation_same, preference_violation_same, violation_same}
+use Rattle.rp_evidence.proofs.SameAfriat.{own_standard_same}
+use Rattle.rp_evidence.proofs.SameCosts.{no_violation_same, preference_violation_same}
 use Rattle.rp_afriat.specs.Verdict.{IsAfriatVerdict, IsOwnAfriatVerdict}
-
-pub verdict_same : (n : ℕ) (c d : ℕ → ℕ → ℕ) (part : AfriatPart) → AgreeBelow n c d → IsAfriatVerdict n c part → IsAfriatVerdict n d part
-verdict_same n c d (Model numbers) same p = (meets_same n c d 1 1 same p.0, p.1, p.2, (p.3.0, standard_same n c d same _ _ _ p.3.1))
-verdict_same n c d (NoModel walk) same p = violation_same n c d 1 1 same walk p
-verdict_same n c d (Wide at) same p =
-    (meets_same n c d 1 1 same p.0, (p.1.0, p.1.1, p.1.2, standard_same n c d same _ _ _ p.1.3, p.1.4))
 
 module _ (n : ℕ) (levels : List ℕ) (c d : ℕ → ℕ → ℕ) (same : AgreeBelow n c d) where
   own_holds_same : HasNoViolation n (WeakByLevels levels c) (StrictByLevels levels c) → HasNoViolation n (WeakByLevels levels d) (StrictByLevels levels d)

@@ -5,7 +5,7 @@ use Rattle.std.specs.Int.{int_min}
 use Rattle.rp_evidence.specs.Afriat.{allowed_by}
 use Rattle.rp_evidence.specs.StandardNumbers.{AreNumbersBy, AreStandardBy, FitsMultiplier, FitsUtility}
 use Rattle.rp_evidence.specs.StandardNumbers.{IsMultiplierBy, PassWidthFirstAt}
-use Rattle.rp_table.specs.Cost.{CostTable, cost_at, scale_of}
+use Rattle.rp_table.specs.Cost.{CostTable, cost_at, own_of, scale_of}
 
 -- what bundle t costs at prices s, in the scale of the levels
 abbrev pub scaled_at : CostTable → ℕ → ℕ → ℕ
@@ -54,10 +54,10 @@ lesser_of None b = b
 lesser_of (Some x) None = Some x
 lesser_of (Some x) (Some y) = Some (int_min x y)
 
--- k is the least whole number with gap ≤ k · extra
-pub record IsRoundedUp (gap : ℤ) (extra k : ℕ) : Type 0 where
-  pub enough : gap ≤ℤ pos (k * extra)
-  pub least : (j : ℕ) → gap ≤ℤ pos (j * extra) → k ≤ j
+-- k is the ceiling of difference over extra, none below 0: the least whole number with difference ≤ k · extra
+pub record IsCeiling (difference : ℤ) (extra k : ℕ) : Type 0 where
+  pub enough : difference ≤ℤ pos (k * extra)
+  pub least : (j : ℕ) → difference ≤ℤ pos (j * extra) → k ≤ j
 
 -- the utilities of a class are x, and all others are as they were
 pub record IsClassSet (n : ℕ) (counts : List ℕ) (class : ℕ) (x : ℤ) (before after : List ℤ) : Type 0 where
@@ -79,6 +79,15 @@ abbrev pub IsTooSteep : ℕ → (ℕ → ℕ → ℕ) → (ℕ → ℕ) → List
 IsTooSteep n cost own counts class u at =
     (at < n) × (slice_index counts at ≡ class)
     × ((k : ℕ) × IsMultiplierBy n cost own (slice_index counts) (utility_of u) at k × (¬ FitsMultiplier k))
+
+-- over these costs, those below m of a class are given their multipliers, by these counts and utilities
+abbrev pub SetsMultipliers : CostTable → List ℕ → ℕ → List ℤ → List ℕ → List ℕ → ℕ → Type 0
+SetsMultipliers costs counts class u before after m =
+    AreMultipliersSet m costs.n (scaled_at costs) (own_of costs) counts class u before after
+
+-- over these costs, at is of the class and its multiplier is too wide
+abbrev pub PassesMultiplier : CostTable → List ℕ → ℕ → List ℤ → ℕ → Type 0
+PassesMultiplier costs counts class u at = IsTooSteep costs.n (scaled_at costs) (own_of costs) counts class u at
 
 -- the standard numbers, which go on past the widths, pass them first at t
 abbrev pub StandardNumbersPassAt : ℕ → (ℕ → ℕ → Type 0) → (ℕ → ℕ → ℕ) → (ℕ → ℕ) → List ℕ → ℕ → Type 0

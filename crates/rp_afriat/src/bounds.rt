@@ -1,6 +1,6 @@
 ghost use Rattle.std.specs.Prelude.{◌≡◌, ◌<◌, ◌≤◌, ◌*◌, ◌^◌, ◌+ℤ◌, ◌-ℤ◌, ◌*ℤ◌, ◌≤ℤ◌, neg_ℤ, pos};
 ghost use Rattle.rp_evidence.specs.StandardNumbers.{FitsMultiplier, FitsUtility};
-ghost use Rattle.rp_afriat.specs.InnerFilling.{IsRoundedUp, scaled_at};
+ghost use Rattle.rp_afriat.specs.InnerFilling.{IsCeiling, scaled_at};
 
 use rp_table::Costs;
 
@@ -28,15 +28,15 @@ fn times(lambda: u64, beyond: i128) -> i128
     i128::from(lambda) * beyond
 }
 
-/// The least multiplier that makes up for a gap in utility at that cost beyond what an observation is held to.
-pub fn rounded_up(gap: i128, extra: u64) -> u128
+/// The least multiplier that makes up for a difference of utilities at that cost beyond what an observation is held to.
+pub fn rounded_up(difference: i128, extra: u64) -> u128
     requires { 0 < extra }
-    ensures { IsRoundedUp gap extra result }
+    ensures { IsCeiling difference extra result }
 {
-    if gap <= 0 {
+    if difference <= 0 {
         return 0;
     }
-    gap.unsigned_abs().div_ceil(u128::from(extra))
+    difference.unsigned_abs().div_ceil(u128::from(extra))
 }
 
 /// What the bundle of `t` costs at the prices of `s`, in the scale of the levels.

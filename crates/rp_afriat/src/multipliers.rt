@@ -4,7 +4,7 @@ ghost use Rattle.rp_evidence.specs.Count.{AreCounts};
 ghost use Rattle.rp_evidence.specs.StandardNumbers.{FitsUtility, IsMultiplierBy};
 ghost use Rattle.rp_pref.specs.Steps.{OwnWeak};
 ghost use Rattle.rp_table.specs.Cost.{own_of};
-ghost use Rattle.rp_afriat.specs.InnerFilling.{AreMultipliersSet, IsTooSteep, scaled_at};
+ghost use Rattle.rp_afriat.specs.InnerFilling.{PassesMultiplier, SetsMultipliers, scaled_at};
 ghost use Rattle.rp_afriat.specs.InnerFilling.{utility_of};
 
 use crate::bounds::{rounded_up, scaled};
@@ -46,13 +46,10 @@ pub fn set_multipliers(
     requires fit { (t : ℕ) → t < costs.now.n → class ≤ slice_index counts.now t
         → FitsUtility (utility_of u.now t) }
     ensures set { IfNone result
-        (AreMultipliersSet costs.now.n costs.now.n (scaled_at costs.now) (own_of costs.now)
-        counts.now class u.now lambda.old lambda.new) }
-    ensures steep { IfSome result
-        (IsTooSteep costs.now.n (scaled_at costs.now) (own_of costs.now) counts.now class u.now) }
+        (SetsMultipliers costs.now counts.now class u.now lambda.old lambda.new costs.now.n) }
+    ensures steep { IfSome result (PassesMultiplier costs.now counts.now class u.now) }
     ensures so_far { IfSome result
-        (λ at. AreMultipliersSet at costs.now.n (scaled_at costs.now) (own_of costs.now)
-        counts.now class u.now lambda.old lambda.new) }
+        (SetsMultipliers costs.now counts.now class u.now lambda.old lambda.new) }
 {
     for s in 0..costs.n() {
         let i = s as usize;

@@ -12,7 +12,7 @@ use Rattle.rp_effic.specs.Verdict.{IsEfficiencyVerdict}
 use Rattle.rp_evidence.specs.AfriatEvidence.{ProvesOwnAfriat}
 use Rattle.rp_evidence.specs.Efficiency.{BoundsFromAbove, ProvesEfficiency}
 use Rattle.rp_evidence.specs.Garp.{ProvesOfPreference}
-use Rattle.rp_evidence.specs.Homothetic.{ProvesHomothetic, next_costs, own_costs}
+use Rattle.rp_evidence.specs.Homothetic.{ProvesHomothetic, next_product, spent_product}
 use Rattle.rp_evidence.specs.Preference.{IsStrict, IsWeak, StrictByLevels, WeakByLevels}
 use Rattle.rp_evidence.specs.Quasilinear.{ProvesQuasilinear}
 use Rattle.rp_evidence.specs.Walk.{AnyStep}
@@ -86,7 +86,7 @@ module _ (n : ℕ) (c : ℕ → ℕ → ℕ) where
     ),
   )
   homothetic_passes (FallingCycle start walk) proves given = (
-    no_zero start (next_costs c walk) (own_costs c walk) given.ends_below,
+    no_zero start (next_product c walk) (spent_product c walk) given.ends_below,
     (
       closed_passes n AnyStep walk given.closed,
       (((λ k within wide. narrow_after c start walk k within given.products_fit wide), (given.ends_below, tt)), tt),

@@ -6,7 +6,7 @@ use Rattle.std.proofs.lemmas.List.{get_or_default}
 use Rattle.rp_num.specs.Spelled.{FitsSum, IsReduced}
 use Rattle.rp_afriat.specs.Verdict.{IsOwnAfriatVerdict}
 use Rattle.rp_effic.specs.Verdict.{IsEfficiencyVerdict}
-use Rattle.rp_pref.specs.Violation.{IsVerdictOn}
+use Rattle.rp_pref.specs.Violation.{IsVerdictOfPreference}
 use Rattle.rp_evidence.specs.AfriatEvidence.{ProvesOwnAfriat}
 use Rattle.rp_evidence.specs.Efficiency.{BoundsFromAbove, ProvesEfficiency}
 use Rattle.rp_evidence.specs.Garp.{ProvesOfPreference}
@@ -40,7 +40,7 @@ sum_fits (pos k) limited = omega (arith, ints, limited.at_most_zero)
 sum_fits (negsuc k) limited = omega (arith, ints, limited.above)
 
 module _ (n : ℕ) (few : n ≤ RECORDS) where
-  pub garp_fits : (weak strict : ℕ → ℕ → Type 0) (verdict : Garp) → ProvesOfPreference n weak strict verdict → IsVerdictOn n weak strict verdict → FitsGarp verdict
+  pub garp_fits : (weak strict : ℕ → ℕ → Type 0) (verdict : Garp) → ProvesOfPreference n weak strict verdict → IsVerdictOfPreference n weak strict verdict → FitsGarp verdict
   garp_fits weak strict (Ranks ranks) proves given = counts_fit n few weak ranks given
   garp_fits weak strict (Cycle walk) proves given = walk_fits n few weak walk proves.0
 

@@ -30,11 +30,11 @@ Passes finding = finding (Ok tt)
 -- observations' own, where they have them. Demand and welfare are given from this verdict on the axiom, where there are
 -- no levels, at new prices that are within their limits.
 abbrev pub IsGivenFrom : TableInput → Garp → Item → Type 0
-IsGivenFrom input verdict (GarpItem own) = IsOwnGarpVerdict input.n input.levels input.cost own
+IsGivenFrom input verdict (GarpItem garp) = IsOwnGarpVerdict input.n input.levels input.cost garp
 IsGivenFrom input verdict (AfriatItem part) = IsOwnAfriatVerdict input.n input.levels input.cost part
 IsGivenFrom input verdict (EfficiencyItem evidence) = IsEfficiencyVerdict input.n input.cost evidence
-IsGivenFrom input verdict (HomotheticItem own) = IsHomotheticVerdict input.n input.cost own
-IsGivenFrom input verdict (QuasiItem own) = IsQuasilinearVerdict input.n input.cost own
+IsGivenFrom input verdict (HomotheticItem homothetic) = IsHomotheticVerdict input.n input.cost homothetic
+IsGivenFrom input verdict (QuasiItem quasilinear) = IsQuasilinearVerdict input.n input.cost quasilinear
 IsGivenFrom input verdict (DemandItem prices m part) =
     (input.levels ≡ []) × AreNewPrices input.goods prices × IsExpenditure m
     × IsDemandGiven input (budget_of prices m) verdict part

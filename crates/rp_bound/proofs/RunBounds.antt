@@ -9,7 +9,7 @@ use Rattle.rp_evidence.specs.declared.demand.Bound.{Bound}
 use Rattle.rp_evidence.specs.declared.demand.Bound.TheVariants.{Shown, Wide}
 use Rattle.rp_farkas.specs.Best.{HasNoBound, IsBestPrices, IsLeastCost}
 use Rattle.rp_farkas.specs.LinearProgram.{LinearProgram}
-use Rattle.rp_farkas.specs.Prices.{IsFeasiblePrices, cost_of}
+use Rattle.rp_farkas.specs.Prices.{IsFeasiblePrices, value_of_prices}
 use Rattle.rp_farkas.specs.declared.entry.Entry.{Entry}
 use Rattle.rp_farkas.specs.declared.entry.Pair.{Pair}
 use Rattle.rp_simplex.specs.Evidence.{IsEvidence}
@@ -87,26 +87,26 @@ scaled_at_most n d n' d' b s positive same h =
     let r : n' * b * d ≤ s * d' * d = omega (arith, p, q) in
     le_of_mul-le-mul_right r positive
 
-module _ (p : LinearProgram) (whole : (x : ℕ → ℕ) → cost_of p x ≡ pos (unsigned_abs (cost_of p x))) (den : ℕ) (x : ℕ → ℕ) (best : IsBestPrices p den x) where
-  pub least_in_lowest_terms : (f : Fraction) → IsLowestTerms (unsigned_abs (cost_of p x)) den f → IsLeastCost p f.num f.den
+module _ (p : LinearProgram) (whole : (x : ℕ → ℕ) → value_of_prices p x ≡ pos (unsigned_abs (value_of_prices p x))) (den : ℕ) (x : ℕ → ℕ) (best : IsBestPrices p den x) where
+  pub least_in_lowest_terms : (f : Fraction) → IsLowestTerms (unsigned_abs (value_of_prices p x)) den f → IsLeastCost p f.num f.den
   least_in_lowest_terms f lowest = record {
     fraction = omega (arith, lowest.positive);
     none_less = none_less;
     attained = (den, x, best.feasible, same);
   }
     where
-      none_less : (d : ℕ) (w : ℕ → ℕ) → IsFeasiblePrices p d w → pos (f.num * d) ≤ℤ (cost_of p w *ℤ pos f.den)
+      none_less : (d : ℕ) (w : ℕ → ℕ) → IsFeasiblePrices p d w → pos (f.num * d) ≤ℤ (value_of_prices p w *ℤ pos f.den)
       none_less d w feasible =
-          let n = unsigned_abs (cost_of p x) in
-          let s = unsigned_abs (cost_of p w) in
-          let e : cost_of p x ≡ pos n = whole x in
-          let e' : cost_of p w ≡ pos s = whole w in
-          let h : (pos n *ℤ pos d) ≤ℤ (pos s *ℤ pos den) = subst (λ (z : ℤ). (z *ℤ pos d) ≤ℤ (pos s *ℤ pos den)) e (subst (λ (z : ℤ). (cost_of p x *ℤ pos d) ≤ℤ (z *ℤ pos den)) e' (best.no_lower d w feasible)) in
+          let n = unsigned_abs (value_of_prices p x) in
+          let s = unsigned_abs (value_of_prices p w) in
+          let e : value_of_prices p x ≡ pos n = whole x in
+          let e' : value_of_prices p w ≡ pos s = whole w in
+          let h : (pos n *ℤ pos d) ≤ℤ (pos s *ℤ pos den) = subst (λ (z : ℤ). (z *ℤ pos d) ≤ℤ (pos s *ℤ pos den)) e (subst (λ (z : ℤ). (value_of_prices p x *ℤ pos d) ≤ℤ (z *ℤ pos den)) e' (best.no_lower d w feasible)) in
           let k : n * d ≤ s * den = omega (arith, ints, h) in
           let m = scaled_at_most n den f.num f.den d s best.feasible.den_positive lowest.same_number k in
           subst (λ (z : ℤ). pos (f.num * d) ≤ℤ (z *ℤ pos f.den)) (sym e') (omega (arith, ints, m))
 
-      same : (cost_of p x *ℤ pos f.den) ≡ pos (f.num * den)
+      same : (value_of_prices p x *ℤ pos f.den) ≡ pos (f.num * den)
       same =
-          let n = unsigned_abs (cost_of p x) in
+          let n = unsigned_abs (value_of_prices p x) in
           subst (λ (z : ℤ). (z *ℤ pos f.den) ≡ pos (f.num * den)) (sym (whole x)) (ap pos (omega (arith, lowest.same_number)))

@@ -4,7 +4,7 @@ use Rattle.std.proofs.Math.Nat.{lt_of_mul-lt-mul_right, mul-le-mul_left}
 use Rattle.rp_evidence.specs.AfriatEvidence.{ProvesOwnAfriat}
 use Rattle.rp_evidence.specs.Efficiency.{BoundsFromAbove, FailsGarp, IsEfficiencyIndex, ProvesEfficiency}
 use Rattle.rp_evidence.specs.Garp.{ProvesOfPreference, ViolatesByPlaces}
-use Rattle.rp_evidence.specs.Homothetic.{BoundProducts, EndsBelow, ProvesHomothetic, next_costs, own_costs}
+use Rattle.rp_evidence.specs.Homothetic.{BoundProducts, EndsBelow, ProvesHomothetic, next_product, spent_product}
 use Rattle.rp_evidence.specs.Preference.{IsLevel, IsStrict, IsWeak, StrictByLevels, WeakByLevels}
 use Rattle.rp_evidence.specs.Quasilinear.{BoundSteps, ProvesQuasilinear}
 use Rattle.rp_evidence.specs.Ranks.{OrderStrictSteps, RespectPreference}
@@ -76,8 +76,8 @@ module _ (n : ℕ) (c : ℕ → ℕ → ℕ) where
     negative = negative;
   }
 
-  falls : (start : Fraction) (walk : List ℕ) → EndsBelow c start walk → next_costs c walk < own_costs c walk
-  falls start walk below = less start.num start.den (next_costs c walk) (own_costs c walk) below
+  falls : (start : Fraction) (walk : List ℕ) → EndsBelow c start walk → next_product c walk < spent_product c walk
+  falls start walk below = less start.num start.den (next_product c walk) (spent_product c walk) below
     where
       less : (a b p q : ℕ) → (a * p) * b < a * (b * q) → p < q
       less a b p q h = lt_of_mul-lt-mul_right (a * b) (omega (arith, h))

@@ -3,7 +3,7 @@ use Rattle.std.proofs.Common.{◌≡◌, ℕ, zero, suc, ◌+◌, ◌*◌, ◌-�
 use Rattle.std.proofs.Math.Nat.{one-le-mul}
 use Rattle.std.proofs.lemmas.List.{take_all}
 use Rattle.rp_num.specs.Fraction.{Fraction, IsLowestTerms, PassesWidth}
-use Rattle.rp_evidence.specs.Homothetic.{EndsBelow, next_costs, own_costs, product_from, walk_product}
+use Rattle.rp_evidence.specs.Homothetic.{EndsBelow, next_product, spent_product, product_from, walk_product}
 use Rattle.rp_evidence.specs.declared.failure.Failure.{Failure}
 use Rattle.rp_evidence.specs.declared.failure.Reason.TheVariants.{NotLess, Wide}
 use Rattle.rp_patch.specs.Clauses.{failure}
@@ -32,8 +32,8 @@ one_entry f (t ∷ rest) = refl
 
 -- after k steps the product is p, and none so far was too wide
 pub record IsAfter (c : ℕ → ℕ → ℕ) (start : Fraction) (walk : List ℕ) (k : ℕ) (p : Fraction) : Type 0 where
-  pub lowest : IsLowestTerms (start.num * next_costs c (take (k + 1) walk)) (start.den * own_costs c (take (k + 1) walk)) p
-  pub some : 1 ≤ start.den * own_costs c (take (k + 1) walk)
+  pub lowest : IsLowestTerms (start.num * next_product c (take (k + 1) walk)) (start.den * spent_product c (take (k + 1) walk)) p
+  pub some : 1 ≤ start.den * spent_product c (take (k + 1) walk)
   pub none_wide : (j : ℕ) → j < k → ¬ IsWideAfter c start walk (j + 1)
 
 module _ (c : ℕ → ℕ → ℕ) (start : Fraction) (walk : List ℕ) where
@@ -51,28 +51,28 @@ module _ (c : ℕ → ℕ → ℕ) (start : Fraction) (walk : List ℕ) where
       times_one n = omega arith
 
   module _ (k s t : ℕ) (v : Fraction) (within : k + 1 < length walk) (is_s : s ≡ slice_index walk k) (is_t : t ≡ slice_index walk (k + 1)) (own : 1 ≤ c s s) (so_far : IsAfter c start walk k v) where
-    num_more : (start.num * next_costs c (take (k + 1) walk)) * c s t ≡ start.num * next_costs c (take (k + 1 + 1) walk)
+    num_more : (start.num * next_product c (take (k + 1) walk)) * c s t ≡ start.num * next_product c (take (k + 1 + 1) walk)
     num_more = rw (product_more c walk k within, ← is_s, ← is_t) (omega arith)
 
-    den_more : (start.den * own_costs c (take (k + 1) walk)) * c s s ≡ start.den * own_costs c (take (k + 1 + 1) walk)
+    den_more : (start.den * spent_product c (take (k + 1) walk)) * c s s ≡ start.den * spent_product c (take (k + 1 + 1) walk)
     den_more = rw (product_more (λ i j. c i i) walk k within, ← is_s) (omega arith)
 
     pub wide_at : PassesWidth (v.num * c s t) (v.den * c s s) → IsWideAfter c start walk (k + 1)
     wide_at w =
-        let p = (taken_wide v (start.num * next_costs c (take (k + 1) walk)) (start.den * own_costs c (take (k + 1) walk)) (c s t) (c s s) so_far.some own so_far.lowest).0 w in
-        subst (λ n. PassesWidth n (start.den * own_costs c (take (k + 1 + 1) walk))) num_more (subst (λ d. PassesWidth ((start.num * next_costs c (take (k + 1) walk)) * c s t) d) den_more p)
+        let p = (taken_wide v (start.num * next_product c (take (k + 1) walk)) (start.den * spent_product c (take (k + 1) walk)) (c s t) (c s s) so_far.some own so_far.lowest).0 w in
+        subst (λ n. PassesWidth n (start.den * spent_product c (take (k + 1 + 1) walk))) num_more (subst (λ d. PassesWidth ((start.num * next_product c (take (k + 1) walk)) * c s t) d) den_more p)
 
     narrow_at : ¬ PassesWidth (v.num * c s t) (v.den * c s s) → ¬ IsWideAfter c start walk (k + 1)
     narrow_at fits w =
-        let p = subst (λ n. PassesWidth n (start.den * own_costs c (take (k + 1 + 1) walk))) (sym num_more) w in
-        let q = subst (λ d. PassesWidth ((start.num * next_costs c (take (k + 1) walk)) * c s t) d) (sym den_more) p in
-        fits ((taken_wide v (start.num * next_costs c (take (k + 1) walk)) (start.den * own_costs c (take (k + 1) walk)) (c s t) (c s s) so_far.some own so_far.lowest).1 q)
+        let p = subst (λ n. PassesWidth n (start.den * spent_product c (take (k + 1 + 1) walk))) (sym num_more) w in
+        let q = subst (λ d. PassesWidth ((start.num * next_product c (take (k + 1) walk)) * c s t) d) (sym den_more) p in
+        fits ((taken_wide v (start.num * next_product c (take (k + 1) walk)) (start.den * spent_product c (take (k + 1) walk)) (c s t) (c s s) so_far.some own so_far.lowest).1 q)
 
     pub one_more : (p : Fraction) → IsLowestTerms (v.num * c s t) (v.den * c s s) p → ¬ PassesWidth (v.num * c s t) (v.den * c s s) → IsAfter c start walk (k + 1) p
     one_more p lowest fits =
-        let l = taken_lowest v p (start.num * next_costs c (take (k + 1) walk)) (start.den * own_costs c (take (k + 1) walk)) (c s t) (c s s) own so_far.lowest lowest in
+        let l = taken_lowest v p (start.num * next_product c (take (k + 1) walk)) (start.den * spent_product c (take (k + 1) walk)) (c s t) (c s s) own so_far.lowest lowest in
         record {
-          lowest = subst (λ n. IsLowestTerms n (start.den * own_costs c (take (k + 1 + 1) walk)) p) num_more (subst (λ d. IsLowestTerms ((start.num * next_costs c (take (k + 1) walk)) * c s t) d p) den_more l);
+          lowest = subst (λ n. IsLowestTerms n (start.den * spent_product c (take (k + 1 + 1) walk)) p) num_more (subst (λ d. IsLowestTerms ((start.num * next_product c (take (k + 1) walk)) * c s t) d p) den_more l);
           some = subst (λ d. 1 ≤ d) den_more (one-le-mul so_far.some own);
           none_wide = below_more (λ j. ¬ IsWideAfter c start walk (j + 1)) k so_far.none_wide (narrow_at fits);
         }
@@ -86,9 +86,9 @@ module _ (c : ℕ → ℕ → ℕ) (start : Fraction) (walk : List ℕ) where
 
     crossed : (p.num * start.den < start.num * p.den → EndsBelow c start walk) × (EndsBelow c start walk → p.num * start.den < start.num * p.den)
     crossed =
-        let l : IsLowestTerms (start.num * next_costs c walk) (start.den * own_costs c walk) p = subst (λ w. IsLowestTerms (start.num * next_costs c w) (start.den * own_costs c w) p) whole done.lowest in
-        let s : 1 ≤ start.den * own_costs c walk = subst (λ w. 1 ≤ start.den * own_costs c w) whole done.some in
-        let b = below_cross p start (start.num * next_costs c walk) (start.den * own_costs c walk) s l in
+        let l : IsLowestTerms (start.num * next_product c walk) (start.den * spent_product c walk) p = subst (λ w. IsLowestTerms (start.num * next_product c w) (start.den * spent_product c w) p) whole done.lowest in
+        let s : 1 ≤ start.den * spent_product c walk = subst (λ w. 1 ≤ start.den * spent_product c w) whole done.some in
+        let b = below_cross p start (start.num * next_product c walk) (start.den * spent_product c walk) s l in
         (b.0, b.1)
 
     pub ends_below : p.num * start.den < start.num * p.den → ProductsFail c start walk (Ok tt)

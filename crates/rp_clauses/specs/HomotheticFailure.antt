@@ -3,7 +3,7 @@ use Rattle.std.specs.Prelude.{◌≡◌, ◌≢◌, ◌+◌, ◌*◌, ◌-◌, �
 use Rattle.rp_patch.specs.Clauses.{Finding, Unless, InOrder, FirstBelow, FirstUnless}
 use Rattle.rp_clauses.specs.WalkFailure.{ClosedWalkFails}
 use Rattle.rp_num.specs.Fraction.{Fraction, PassesWidth}
-use Rattle.rp_evidence.specs.Homothetic.{EndsBelow, next_costs, own_costs, value_at}
+use Rattle.rp_evidence.specs.Homothetic.{EndsBelow, next_product, spent_product, value_at}
 use Rattle.rp_evidence.specs.declared.homothetic.Homothetic.{Homothetic}
 use Rattle.rp_evidence.specs.declared.homothetic.Homothetic.TheVariants.{Values, Cycle, Withheld}
 use Rattle.rp_evidence.specs.declared.failure.Reason.TheVariants.{Shape, Number, Order, NotLess, Wide}
@@ -41,7 +41,7 @@ ValuesFail n c values = InOrder (
 -- fractions.
 abbrev pub IsWideAfter : (ℕ → ℕ → ℕ) → Fraction → List ℕ → ℕ → Type 0
 IsWideAfter c start walk k =
-    PassesWidth (start.num * next_costs c (take (k + 1) walk)) (start.den * own_costs c (take (k + 1) walk))
+    PassesWidth (start.num * next_product c (take (k + 1) walk)) (start.den * spent_product c (take (k + 1) walk))
 
 -- No product along the walk is too wide, and the last one is below the start.
 abbrev pub ProductsFail : (ℕ → ℕ → ℕ) → Fraction → List ℕ → Finding

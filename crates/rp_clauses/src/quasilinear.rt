@@ -1,4 +1,4 @@
-ghost use Rattle.std.specs.Prelude.{◌≡◌, ◌*◌, ◌<◌, ◌≤◌, ◌↔◌, ◌+ℤ◌, ◌^◌, ℕ, ℤ};
+ghost use Rattle.std.specs.Prelude.{◌≡◌, ◌*◌, ◌<◌, ◌≤◌, ◌↔◌, ◌+ℤ◌, ◌^◌, ℕ};
 ghost use Rattle.std.specs.Prelude.{IsTrue};
 ghost use Rattle.std.specs.Prelude.{length, slice_index};
 ghost use Rattle.std.specs.Int.RustNames.{unsigned_abs};

@@ -14,7 +14,7 @@ use Rattle.rp_evidence.proofs.DemandBounds.{total_of_sum}
 use Rattle.rp_farkas.specs.Best.{IsLeastCost}
 use Rattle.rp_farkas.specs.Listing.{numerator_at}
 use Rattle.rp_farkas.specs.Measure.{measured}
-use Rattle.rp_farkas.specs.Prices.{IsFeasiblePrices, column_times, cost_of}
+use Rattle.rp_farkas.specs.Prices.{IsFeasiblePrices, column_times, value_of_prices}
 use Rattle.rp_farkas.specs.declared.measure.Measure.TheVariants.{Cost}
 use Rattle.rp_farkas.proofs.Duality.{best_prices}
 use Rattle.rp_num.specs.Fraction.{IsLowestTerms}
@@ -26,7 +26,7 @@ use Rattle.rp_cost.specs.OuterSet.{IsInOuterSet, IsLowerCost}
 -- ---- what the price side costs is what it costs at the new prices
 
 module _ (input : TableInput) (prices : ℕ → ℕ) (listed : List ℕ) where
-  cost_is : (x : ℕ → ℕ) → cost_of (outer_program input prices listed) x ≡ pos (spending input.goods prices x)
+  cost_is : (x : ℕ → ℕ) → value_of_prices (outer_program input prices listed) x ≡ pos (spending input.goods prices x)
   cost_is x = total_of_sum input.goods prices x
 
   measure_is : (x : ℕ → ℕ) → measured (outer_program input prices listed) Cost x ≡ spending input.goods prices x

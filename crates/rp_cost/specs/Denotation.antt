@@ -7,7 +7,7 @@ use Rattle.rp_sheet.specs.Columns.{mark_of_prices}
 use Rattle.rp_sheet.specs.Fields.{figures_of}
 use Rattle.rp_sheet.specs.Forms.{asked_form, technology_form}
 use Rattle.rp_sheet.specs.Headers.{has, headers_of}
-use Rattle.rp_sheet.specs.Records.{records_of}
+use Rattle.rp_sheet.specs.Records.{records_in}
 use Rattle.rp_sheet.specs.Sheets.{column_numbers, first_fault, numbers_under, unless_fault}
 use Rattle.rp_sheet.specs.Sizes.{sizes_of}
 use Rattle.rp_sheet.specs.declared.fault.TableFault.{TableFault}
@@ -41,7 +41,7 @@ denoted_tech records =
 
 -- what the bytes of a file denote as a technology
 abbrev pub tech_in : List ℕ → Result Technology TableFault
-tech_in bytes = denoted_tech (records_of bytes)
+tech_in bytes = denoted_tech (records_in bytes)
 
 -- new prices of these inputs with an output each, in scaled numbers
 abbrev pub asked_list : List (List ℕ) → List (List ℕ) → List (List ℕ) → AskedOutputs
@@ -67,7 +67,7 @@ denoted_asked places inputs records =
 
 -- what the bytes of a file denote as outputs that are asked of a technology with these inputs and places
 abbrev pub asked_in : ℕ → List (List ℕ) → List ℕ → Result AskedOutputs TableFault
-asked_in places inputs bytes = denoted_asked places inputs (records_of bytes)
+asked_in places inputs bytes = denoted_asked places inputs (records_in bytes)
 
 -- the same of the inputs and the scale of a technology
 abbrev pub asked_beside : Technology → List ℕ → Result AskedOutputs TableFault

@@ -2,7 +2,7 @@
 use Rattle.std.proofs.Common.{add-one, inl, inr, ◌≡◌, ◌<◌, ◌≤◌, ◌+◌, ◌-◌, ◌*◌, ◌/◌, ◌^◌, ℕ, zero, suc, sym, subst, arith}
 use Rattle.std.proofs.Math.Nat.{mul-le-mul_left, pow-suc}
 use Rattle.std.proofs.lemmas.Bool.{cases_eq}
-use Rattle.rp_effic.specs.Monotone.{IsFirstTrue, IsMonotone}
+use Rattle.rp_effic.specs.Monotone.{IsMonotone}
 
 -- it holds at none before low, and at high or high is the end; what is left between them bounds the tests so far
 pub record Halves (n : ℕ) (holds : ℕ → Type 0) (tested low high : ℕ) : Type 0 where
@@ -12,16 +12,6 @@ pub record Halves (n : ℕ) (holds : ℕ → Type 0) (tested low high : ℕ) : T
   pub holds_there : high < n → holds high
   pub few_left : low < high → 2 ^ tested * (2 * (high - low)) ≤ 2 * n
   pub few : 2 ^ tested ≤ 2 * n + 1
-
-pub starts : (n : ℕ) (holds : ℕ → Type 0) (size : ℕ) → size ≡ n → Halves n holds 0 0 size
-starts n holds size e = record {
-  ordered = omega arith;
-  within = omega arith;
-  none_below = λ j l. absurd (omega arith);
-  holds_there = λ l. absurd (omega arith);
-  few_left = λ l. omega arith;
-  few = omega arith;
-}
 
 -- one test more doubles the power
 module _ (tested length' width half : ℕ) (bound : 2 ^ tested * (2 * width) ≤ 2 * length') where
@@ -58,13 +48,6 @@ module _ (n : ℕ) (holds : ℕ → Type 0) (tested low high middle : ℕ) (h : 
     few_left = λ l. few_left_after tested n (high - low) (high - (middle + 1)) (h.few_left some) (omega arith);
     few = few_after tested n (high - low) 0 (h.few_left some) (omega arith);
   }
-
-pub ends : (n : ℕ) (holds : ℕ → Type 0) (tested low high : ℕ) → Halves n holds tested low high → high ≤ low → IsFirstTrue n holds low
-ends n holds tested low high h none = record {
-  within = omega (arith, h.within, h.ordered);
-  none_before = h.none_below;
-  holds_there = λ l. let same : high ≡ low = omega (arith, h.ordered) in subst holds same (h.holds_there (omega (arith, same)));
-}
 
 -- a number is below its power of two
 pub below_power : (k : ℕ) → k < 2 ^ k

@@ -6,7 +6,7 @@ use Rattle.rp_evidence.specs.Preference.{IsStrict, IsWeak}
 use Rattle.rp_evidence.specs.Walk.{IsShortestWalk, Reaches}
 use Rattle.rp_evidence.specs.declared.level.Level.{Level}
 use Rattle.rp_evidence.specs.declared.efficiency.Efficiency.{Efficiency}
-use Rattle.rp_pref.specs.Violation.{IsVerdictOn}
+use Rattle.rp_pref.specs.Violation.{IsVerdictOfPreference}
 
 -- The level is in lowest terms, and its parts are below 2^51, as costs are.
 pub record IsLowestLevel (level : Level) : Type 0 where
@@ -30,5 +30,5 @@ pub record IsEfficiencyVerdict (n : ℕ) (c : ℕ → ℕ → ℕ) (evidence : E
   pub level : IsLowestLevel evidence.level
   pub below : AreCounts n (IsStrict c evidence.level.num evidence.level.den) evidence.below
   pub above : IsAbove n c evidence.level.num evidence.level.den evidence.above
-  pub at : IsVerdictOn n (IsWeak c evidence.level.num evidence.level.den)
+  pub at : IsVerdictOfPreference n (IsWeak c evidence.level.num evidence.level.den)
       (IsStrict c evidence.level.num evidence.level.den) evidence.at

@@ -7,7 +7,7 @@ use Rattle.std.proofs.lemmas.List.{get_or_default}
 use Rattle.std.proofs.lemmas.Bool.{cases_lt, cond-false, cond-true, eq-eqb, lt-ltb, le-ltb, ne_eqb}
 use Rattle.rp_farkas.specs.Best.{IsBestPrices}
 use Rattle.rp_farkas.specs.EqualPair.{IsEqualPair}
-use Rattle.rp_farkas.specs.Prices.{IsFeasiblePrices, column_times, cost_of}
+use Rattle.rp_farkas.specs.Prices.{IsFeasiblePrices, column_times, value_of_prices}
 use Rattle.rp_farkas.specs.Total.{total}
 use Rattle.rp_farkas.proofs.Integers.{plus_times}
 use Rattle.rp_farkas.proofs.Duality.{best_prices}
@@ -197,7 +197,7 @@ module _ (input : TableInput) (budget : BudgetInput) (below : List ℕ) (lists :
   -- ---- the lower bound
 
   module _ (g den : ℕ) (y x : ℕ → ℕ) (g_in : g < input.goods) where
-    lower_cost : (w : ℕ → ℕ) → cost_of (lower_program input budget below g) w ≡ pos (w g)
+    lower_cost : (w : ℕ → ℕ) → value_of_prices (lower_program input budget below g) w ≡ pos (w g)
     lower_cost w =
         total-same input.goods _ (λ i. cond (eqb i g) (pos (w i)) (pos 0)) (λ i h. one_part (eqb i g) (w i)) ∙ total_at input.goods g (λ i. pos (w i)) g_in
       where
@@ -227,10 +227,10 @@ module _ (input : TableInput) (budget : BudgetInput) (below : List ℕ) (lists :
 
     -- ---- the upper bound
 
-    upper_cost : (w : ℕ → ℕ) → (cost_of (upper_program input budget below g) w +ℤ pos (budget.prices g * w g)) ≡ pos (spending input.goods budget.prices w)
+    upper_cost : (w : ℕ → ℕ) → (value_of_prices (upper_program input budget below g) w +ℤ pos (budget.prices g * w g)) ≡ pos (spending input.goods budget.prices w)
     upper_cost w =
         let rest = total_at input.goods g (λ i. pos (budget.prices i * w i)) g_in in
-        ap (λ v. cost_of (upper_program input budget below g) w +ℤ v) (sym rest)
+        ap (λ v. value_of_prices (upper_program input budget below g) w +ℤ v) (sym rest)
         ∙ sym (total-add input.goods (λ i. cond (eqb i g) (pos 0) (pos (budget.prices i)) *ℤ pos (w i)) (λ i. cond (eqb i g) (pos (budget.prices i * w i)) (pos 0)))
         ∙ total-same input.goods _ (λ i. pos (budget.prices i) *ℤ pos (w i)) (λ i h. both_parts (eqb i g) (budget.prices i) (w i))
         ∙ total_of_sum input.goods budget.prices w

@@ -4,7 +4,7 @@ use Rattle.rp_evidence.specs.Input.{TableInput}
 use Rattle.rp_evidence.specs.Preference.{IsWeak}
 use Rattle.rp_evidence.specs.Walk.{IsWalk, LeadsTo, Reaches}
 use Rattle.rp_evidence.specs.Welfare.{EqualsOrReaches}
-use Rattle.rp_evidence.proofs.Walks.{ends_below, starts_below}
+use Rattle.rp_evidence.proofs.Walks.{starts_below}
 
 module _ (input : TableInput) (s t : ℕ) where
   pub leads_by : (w : List ℕ) → LeadsTo input.n (IsWeak input.cost 1 1) s t w → EqualsOrReaches input s t
@@ -19,9 +19,6 @@ module _ (input : TableInput) (s t : ℕ) where
 
   pub starts_in : EqualsOrReaches input s t → s < input.n
   starts_in r = let k = rest_of r in starts_below input.n (IsWeak input.cost 1 1) s t k.0 k.1
-
-  pub ends_in : EqualsOrReaches input s t → t < input.n
-  ends_in r = let k = rest_of r in ends_below input.n (IsWeak input.cost 1 1) s t k.0 k.1
 
   pub equals : s < input.n → s ≡ t → EqualsOrReaches input s t
   equals l e = (s ∷ [], (refl, (l, e)))

@@ -2,16 +2,16 @@
 use Rattle.std.proofs.Common.{◌≡◌, ℕ, zero, suc, ◌+◌, ◌*◌, ◌<◌, ◌≤◌, List, [], ◌∷◌, get_or, arith, refl}
 use Rattle.rp_num.specs.Fraction.{Fraction}
 use Rattle.rp_evidence.specs.Walk.{AnyStep, LeadsTo}
-use Rattle.rp_evidence.specs.Homothetic.{BoundProducts, EndsBelow, IsFallingCycle, MeetsHomotheticTest, next_costs, own_costs, product_from, value_at}
+use Rattle.rp_evidence.specs.Homothetic.{BoundProducts, EndsBelow, IsFallingCycle, MeetsHomotheticTest, next_product, spent_product, product_from, value_at}
 
 abbrev costs : List ℕ → ℕ → ℕ → ℕ
 costs entries s t = get_or entries (s * 2 + t) 0
 
 -- 5, 4; 4, 5: around the two observations the product is 16/25
-crossed : next_costs (costs (5 ∷ 4 ∷ 4 ∷ 5 ∷ [])) (0 ∷ 1 ∷ 0 ∷ []) ≡ 16
+crossed : next_product (costs (5 ∷ 4 ∷ 4 ∷ 5 ∷ [])) (0 ∷ 1 ∷ 0 ∷ []) ≡ 16
 crossed = refl
 
-spent : own_costs (costs (5 ∷ 4 ∷ 4 ∷ 5 ∷ [])) (0 ∷ 1 ∷ 0 ∷ []) ≡ 25
+spent : spent_product (costs (5 ∷ 4 ∷ 4 ∷ 5 ∷ [])) (0 ∷ 1 ∷ 0 ∷ []) ≡ 25
 spent = refl
 
 falls : IsFallingCycle 2 (costs (5 ∷ 4 ∷ 4 ∷ 5 ∷ [])) (0 ∷ 1 ∷ 0 ∷ [])

@@ -4,12 +4,12 @@ use Rattle.std.specs.Prelude.{ℤ, pos, ◌+ℤ◌, ◌-ℤ◌, ◌*ℤ◌, ◌*
 use Rattle.rp_table.specs.OwnLevels.{level_scale, own_by_level}
 use Rattle.rp_evidence.specs.Afriat.{IsAfriatModel, IsModelBy, IsOwnModel, allowed_by, in_scale, spent}
 use Rattle.rp_evidence.specs.AfriatEvidence.{ProvesAfriat, ProvesOwnAfriat}
-use Rattle.rp_evidence.specs.Preference.{AgreeBelow, IsWeak, StrictByLevels, WeakByLevels}
-use Rattle.rp_evidence.specs.StandardNumbers.{AllowsHigherBy, AreOwnStandardNumbers, AreStandardBy, AreStandardNumbers, IsClassUtilityBy, IsMultiplierBy}
+use Rattle.rp_evidence.specs.Preference.{AgreeBelow, StrictByLevels, WeakByLevels}
+use Rattle.rp_evidence.specs.StandardNumbers.{AllowsHigherBy, AreOwnStandardNumbers, AreStandardBy, IsClassUtilityBy, IsMultiplierBy}
 use Rattle.rp_evidence.specs.declared.afriat.AfriatPart.{AfriatPart}
 use Rattle.rp_evidence.specs.declared.afriat.AfriatPart.TheVariants.{Model, NoModel, Wide}
 use Rattle.rp_evidence.proofs.OwnLevels.{own_same, strict_by_levels_same, weak_by_levels_same}
-use Rattle.rp_evidence.proofs.SameCosts.{agree_back, count_same, preference_violation_same, violation_same, weak_same}
+use Rattle.rp_evidence.proofs.SameCosts.{agree_back, count_same, preference_violation_same, violation_same}
 
 -- the same of what observations are held to
 abbrev pub AgreeOwn : ℕ → (ℕ → ℕ) → (ℕ → ℕ) → Type 0
@@ -59,9 +59,6 @@ module _ (n : ℕ) (c d : ℕ → ℕ → ℕ) (own own' : ℕ → ℕ) (same : 
 module _ (n : ℕ) (c d : ℕ → ℕ → ℕ) (same : AgreeBelow n c d) where
   pub model_same : (u : ℕ → ℤ) (m : ℕ → ℕ) → IsAfriatModel n c u m → IsAfriatModel n d u m
   model_same = model_by_same n c d (spent c) (spent d) same (λ s a. same s s a a)
-
-  pub standard_same : (count : ℕ → ℕ) (u : ℕ → ℤ) (m : ℕ → ℕ) → AreStandardNumbers n c count u m → AreStandardNumbers n d count u m
-  standard_same = standard_by_same n c d (spent c) (spent d) same (λ s a. same s s a a) (IsWeak c 1 1) (IsWeak d 1 1) (weak_same n c d 1 1 same)
 
 pub afriat_same : (n : ℕ) (c d : ℕ → ℕ → ℕ) (part : AfriatPart) → AgreeBelow n c d → ProvesAfriat n c part → ProvesAfriat n d part
 afriat_same n c d (Model numbers) same p = (p.0, model_same n c d same _ _ p.1)

@@ -3,7 +3,7 @@ use Rattle.std.proofs.Common.{◌≡◌, ◌<◌, ◌≤◌, ◌*◌, ◌⊎◌,
 use Rattle.rp_evidence.specs.Count.{AreCounts, IsCount}
 use Rattle.rp_evidence.specs.Garp.{HasNoViolation, IsViolation, IsViolationAt, MeetsGarp, ProvesGarp, ProvesOfPreference}
 use Rattle.rp_evidence.specs.Preference.{AgreeBelow, IsStrict, IsWeak}
-use Rattle.rp_evidence.specs.Ranks.{OrderSteps, OrderStrictSteps, RespectLevel, RespectPreference}
+use Rattle.rp_evidence.specs.Ranks.{OrderSteps, OrderStrictSteps, RespectPreference}
 use Rattle.rp_evidence.specs.Walk.{IsShortestWalk, IsWalk, Reaches}
 use Rattle.rp_evidence.specs.declared.garp.Garp.{Garp}
 use Rattle.rp_evidence.specs.declared.garp.Garp.TheVariants.{Ranks, Cycle}
@@ -96,7 +96,7 @@ module _ (n : ℕ) (c d : ℕ → ℕ → ℕ) (num den : ℕ) (same : AgreeBelo
   pub meets_same : MeetsGarp n c num den → MeetsGarp n d num den
   meets_same = no_violation_same n (IsWeak c num den) (IsStrict c num den) (IsWeak d num den) (IsStrict d num den) weak_same strict_same
 
-  pub respect_same : (ranks : List ℕ) → RespectLevel n c num den ranks → RespectLevel n d num den ranks
+  pub respect_same : (ranks : List ℕ) → RespectPreference n (IsWeak c num den) (IsStrict c num den) ranks → RespectPreference n (IsWeak d num den) (IsStrict d num den) ranks
   respect_same = respect_preference_same n (IsWeak c num den) (IsStrict c num den) (IsWeak d num den) (IsStrict d num den) weak_same strict_same
 
   pub order_same : (ranks : List ℕ) → OrderStrictSteps n c num den ranks → OrderStrictSteps n d num den ranks

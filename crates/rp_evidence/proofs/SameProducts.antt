@@ -2,7 +2,7 @@
 use Rattle.std.proofs.Common.{◌≡◌, ◌*◌, ◌≤◌, ℕ, List, [], ◌∷◌, refl}
 use Rattle.rp_num.specs.Fraction.{Fraction, PassesWidth}
 use Rattle.rp_evidence.specs.Preference.{AgreeBelow}
-use Rattle.rp_evidence.specs.Homothetic.{EndsBelow, IsFallingCycle, IsLeastProduct, MeetsHomotheticTest, ProductsFit, ProvesHomothetic, StepsFitFrom, next_costs, own_costs, product_from, value_at}
+use Rattle.rp_evidence.specs.Homothetic.{EndsBelow, IsFallingCycle, IsLeastProduct, MeetsHomotheticTest, ProductsFit, ProvesHomothetic, StepsFitFrom, next_product, spent_product, product_from, value_at}
 use Rattle.rp_evidence.specs.Walk.{AnyStep, IsClosedWalk, IsWalk, LeadsTo}
 use Rattle.rp_evidence.specs.declared.homothetic.Homothetic.{Homothetic}
 use Rattle.rp_evidence.specs.declared.homothetic.Homothetic.TheVariants.{Values, Cycle, Withheld}
@@ -15,24 +15,24 @@ product_from_same n f g same t e (s ∷ rest) leads =
     let further = product_from_same n f g same s e rest leads.2 in
     λ i. step i * further i
 
-pub next_costs_same : (n : ℕ) (c d : ℕ → ℕ → ℕ) → AgreeBelow n c d → (s t : ℕ) (walk : List ℕ) → IsWalk n AnyStep s t walk → next_costs c walk ≡ next_costs d walk
-next_costs_same n c d same s t [] leads = refl
-next_costs_same n c d same s t (x ∷ rest) leads = product_from_same n c d same x t rest leads.1
+pub next_product_same : (n : ℕ) (c d : ℕ → ℕ → ℕ) → AgreeBelow n c d → (s t : ℕ) (walk : List ℕ) → IsWalk n AnyStep s t walk → next_product c walk ≡ next_product d walk
+next_product_same n c d same s t [] leads = refl
+next_product_same n c d same s t (x ∷ rest) leads = product_from_same n c d same x t rest leads.1
 
-pub own_costs_same : (n : ℕ) (c d : ℕ → ℕ → ℕ) → AgreeBelow n c d → (s t : ℕ) (walk : List ℕ) → IsWalk n AnyStep s t walk → own_costs c walk ≡ own_costs d walk
-own_costs_same n c d same s t [] leads = refl
-own_costs_same n c d same s t (x ∷ rest) leads =
+pub spent_product_same : (n : ℕ) (c d : ℕ → ℕ → ℕ) → AgreeBelow n c d → (s t : ℕ) (walk : List ℕ) → IsWalk n AnyStep s t walk → spent_product c walk ≡ spent_product d walk
+spent_product_same n c d same s t [] leads = refl
+spent_product_same n c d same s t (x ∷ rest) leads =
     product_from_same n (λ i j. c i i) (λ i j. d i i) (λ i j i_in j_in. same i i i_in i_in) x t rest leads.1
 
 pub falling_same : (n : ℕ) (c d : ℕ → ℕ → ℕ) → AgreeBelow n c d → (walk : List ℕ) → IsFallingCycle n c walk → IsFallingCycle n d walk
 falling_same n c d same walk cycle = record {
   closed = cycle.closed;
-  falls = rw (← next_costs_same n c d same cycle.closed.0 cycle.closed.0 walk cycle.closed.1, ← own_costs_same n c d same cycle.closed.0 cycle.closed.0 walk cycle.closed.1) cycle.falls;
+  falls = rw (← next_product_same n c d same cycle.closed.0 cycle.closed.0 walk cycle.closed.1, ← spent_product_same n c d same cycle.closed.0 cycle.closed.0 walk cycle.closed.1) cycle.falls;
 }
 
 pub meets_homothetic_same : (n : ℕ) (c d : ℕ → ℕ → ℕ) → AgreeBelow n c d → MeetsHomotheticTest n c → MeetsHomotheticTest n d
 meets_homothetic_same n c d same meets walk closed =
-    rw (← next_costs_same n c d same closed.0 closed.0 walk closed.1, ← own_costs_same n c d same closed.0 closed.0 walk closed.1) (meets walk closed)
+    rw (← next_product_same n c d same closed.0 closed.0 walk closed.1, ← spent_product_same n c d same closed.0 closed.0 walk closed.1) (meets walk closed)
 
 pub least_product_same : (n : ℕ) (c d : ℕ → ℕ → ℕ) → AgreeBelow n c d → (s : ℕ) (x : Fraction) → IsLeastProduct n c s x → IsLeastProduct n d s x
 least_product_same n c d same s x least =
@@ -43,15 +43,15 @@ least_product_same n c d same s x least =
         there.0,
         there.1,
         there.2,
-        rw (← next_costs_same n c d same there.0 s there.1 there.2, ← own_costs_same n c d same there.0 s there.1 there.2) there.3,
+        rw (← next_product_same n c d same there.0 s there.1 there.2, ← spent_product_same n c d same there.0 s there.1 there.2) there.3,
       );
       lowest = λ t walk leads.
-          rw (← next_costs_same n c d same t s walk leads, ← own_costs_same n c d same t s walk leads) (least.lowest t walk leads);
+          rw (← next_product_same n c d same t s walk leads, ← spent_product_same n c d same t s walk leads) (least.lowest t walk leads);
     }
 
 pub ends_below_same : (n : ℕ) (c d : ℕ → ℕ → ℕ) → AgreeBelow n c d → (start : Fraction) (walk : List ℕ) → IsClosedWalk n AnyStep walk → EndsBelow c start walk → EndsBelow d start walk
 ends_below_same n c d same start walk closed below =
-    rw (← next_costs_same n c d same closed.0 closed.0 walk closed.1, ← own_costs_same n c d same closed.0 closed.0 walk closed.1) below
+    rw (← next_product_same n c d same closed.0 closed.0 walk closed.1, ← spent_product_same n c d same closed.0 closed.0 walk closed.1) below
 
 steps_fit_same : (n : ℕ) (c d : ℕ → ℕ → ℕ) → AgreeBelow n c d → (num den t e : ℕ) (rest : List ℕ) → LeadsTo n AnyStep t e rest → StepsFitFrom c num den t rest → StepsFitFrom d num den t rest
 steps_fit_same n c d same num den t e [] leads fit = tt

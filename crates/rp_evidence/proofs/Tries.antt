@@ -4,7 +4,7 @@ use Rattle.std.specs.List.Sorted.{IsStrictlyIncreasing}
 use Rattle.rp_evidence.specs.Count.{IsCount}
 use Rattle.rp_evidence.specs.Garp.{IsViolationAt, MeetsGarp}
 use Rattle.rp_evidence.specs.Preference.{IsWeak, IsStrict, StrictByLevels, WeakByLevels}
-use Rattle.rp_evidence.specs.Ranks.{OrderStrictSteps, RespectLevel}
+use Rattle.rp_evidence.specs.Ranks.{OrderStrictSteps, RespectPreference}
 use Rattle.rp_evidence.specs.Walk.{IsClosedWalk, HasStep, LeadsTo, Reaches}
 use Rattle.rp_evidence.proofs.Levels.{ordering_ranks_exclude}
 use Rattle.rp_evidence.proofs.Violations.{no_violation_under_ranks}
@@ -55,7 +55,7 @@ indifference_is_not_strict (inl h) = absurd (omega arith)
 indifference_is_not_strict (inr (inl h)) = absurd (omega arith)
 indifference_is_not_strict (inr (inr h)) = absurd h
 
-indifference_ranks : RespectLevel 2 indifference 1 1 (2 ∷ 2 ∷ [])
+indifference_ranks : RespectPreference 2 (IsWeak indifference 1 1) (IsStrict indifference 1 1) (2 ∷ 2 ∷ [])
 indifference_ranks = record { one_each = refl; weak_never_rises = weak; strict_falls = strict }
   where
     weak : (s t : ℕ) → s < 2 → t < 2 → IsWeak indifference 1 1 s t → slice_index (2 ∷ 2 ∷ []) t ≤ slice_index (2 ∷ 2 ∷ []) s

@@ -3,7 +3,7 @@ use Rattle.std.proofs.Common.{◌≡◌, ◌<◌, ◌*◌, ℕ, ℤ, pos, ◌*�
 use Rattle.std.proofs.lemmas.Int.{ints}
 use Rattle.rp_farkas.specs.Best.{HasNoBound}
 use Rattle.rp_farkas.specs.Point.{IsFeasiblePoint, value_of}
-use Rattle.rp_farkas.specs.Prices.{cost_of}
+use Rattle.rp_farkas.specs.Prices.{value_of_prices}
 use Rattle.rp_farkas.specs.Ray.{IsRay}
 use Rattle.rp_farkas.proofs.Duality.{no_bound, weak_duality}
 use Rattle.rp_evidence.specs.Demand.{spending}
@@ -18,8 +18,8 @@ module _ (input : TableInput) (prices : ℕ → ℕ) (t : ℕ) (reached : List �
   none_worth_more s leads den y point =
       let feasible = region_is_feasible input prices t reached lists (record { den = 1; num = input.quantity s }) (reaching_in_region input s t sound leads) in
       let h = weak_duality (welfare_program input prices reached) den 1 y (input.quantity s) point feasible in
-      let e : cost_of (welfare_program input prices reached) (input.quantity s) ≡ pos (spending input.goods prices (input.quantity s)) = total_of_sum input.goods prices (input.quantity s) in
-      at_most (value_of (welfare_program input prices reached) y) (cost_of (welfare_program input prices reached) (input.quantity s)) (spending input.goods prices (input.quantity s)) den e h
+      let e : value_of_prices (welfare_program input prices reached) (input.quantity s) ≡ pos (spending input.goods prices (input.quantity s)) = total_of_sum input.goods prices (input.quantity s) in
+      at_most (value_of (welfare_program input prices reached) y) (value_of_prices (welfare_program input prices reached) (input.quantity s)) (spending input.goods prices (input.quantity s)) den e h
     where
       at_most : (v c : ℤ) (k d : ℕ) → c ≡ pos k → (v *ℤ pos 1) ≤ℤ (c *ℤ pos d) → v ≤ℤ pos (k * d)
       at_most v c k d e h =

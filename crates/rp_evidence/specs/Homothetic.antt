@@ -17,25 +17,25 @@ walk_product f [] = 1
 walk_product f (t ∷ rest) = product_from f t rest
 
 -- Over the steps of a walk, the product of what the next bundle costs, c(t,s).
-abbrev pub next_costs : (ℕ → ℕ → ℕ) → List ℕ → ℕ
-next_costs c walk = walk_product c walk
+abbrev pub next_product : (ℕ → ℕ → ℕ) → List ℕ → ℕ
+next_product c walk = walk_product c walk
 
 -- Over the steps of a walk, the product of what was spent, c(t,t).
-abbrev pub own_costs : (ℕ → ℕ → ℕ) → List ℕ → ℕ
-own_costs c walk = walk_product (λ t s. c t t) walk
+abbrev pub spent_product : (ℕ → ℕ → ℕ) → List ℕ → ℕ
+spent_product c walk = walk_product (λ t s. c t t) walk
 
 -- The test: on every closed walk, however long, the product of the c(t,s) is at least that of the c(t,t).
 abbrev pub MeetsHomotheticTest : ℕ → (ℕ → ℕ → ℕ) → Type 0
-MeetsHomotheticTest n c = (walk : List ℕ) → IsClosedWalk n AnyStep walk → own_costs c walk ≤ next_costs c walk
+MeetsHomotheticTest n c = (walk : List ℕ) → IsClosedWalk n AnyStep walk → spent_product c walk ≤ next_product c walk
 
 -- A closed walk on which the product of the c(t,s)/c(t,t) is below 1.
 pub record IsFallingCycle (n : ℕ) (c : ℕ → ℕ → ℕ) (walk : List ℕ) : Type 0 where
   pub closed : IsClosedWalk n AnyStep walk
-  pub falls : next_costs c walk < own_costs c walk
+  pub falls : next_product c walk < spent_product c walk
 
 -- The start, multiplied by c(t,s)/c(t,t) at each step of the walk, ends below itself. No start of 0 does.
 abbrev pub EndsBelow : (ℕ → ℕ → ℕ) → Fraction → List ℕ → Type 0
-EndsBelow c start walk = (start.num * next_costs c walk) * start.den < start.num * (start.den * own_costs c walk)
+EndsBelow c start walk = (start.num * next_product c walk) * start.den < start.num * (start.den * spent_product c walk)
 
 -- From num/den, multiplied by c(t,s)/c(t,t) at each step from t to the first of the list and so on, each product in
 -- lowest terms is within the width of fractions.
@@ -53,9 +53,9 @@ ProductsFit c start (t ∷ rest) = StepsFitFrom c start.num start.den t rest
 pub record IsLeastProduct (n : ℕ) (c : ℕ → ℕ → ℕ) (s : ℕ) (x : Fraction) : Type 0 where
   pub lowest_terms : IsLowestTerms x.num x.den x
   pub reached : (t : ℕ) × (walk : List ℕ) × IsWalk n AnyStep t s walk
-      × (x.num * own_costs c walk ≡ next_costs c walk * x.den)
+      × (x.num * spent_product c walk ≡ next_product c walk * x.den)
   pub lowest : (t : ℕ) (walk : List ℕ) → IsWalk n AnyStep t s walk
-      → x.num * own_costs c walk ≤ next_costs c walk * x.den
+      → x.num * spent_product c walk ≤ next_product c walk * x.den
 
 -- The value of an observation; past the last it is 0.
 abbrev pub value_at : List Fraction → ℕ → Fraction

@@ -1,6 +1,6 @@
 -- Ranks of observations, which show that no violation exists (ranks by preference, Varian 1982).
 use Rattle.std.specs.Prelude.{◌≡◌, ℕ, ◌<◌, ◌≤◌, List, length, slice_index}
-use Rattle.rp_evidence.specs.Preference.{IsWeak, IsStrict}
+use Rattle.rp_evidence.specs.Preference.{IsStrict}
 
 -- The ranks respect a preference: one for each observation, no weak step rises and each strict step falls.
 pub record RespectPreference (n : ℕ) (weak strict : ℕ → ℕ → Type 0) (ranks : List ℕ) : Type 0 where
@@ -12,10 +12,6 @@ pub record RespectPreference (n : ℕ) (weak strict : ℕ → ℕ → Type 0) (r
 pub record OrderSteps (n : ℕ) (step : ℕ → ℕ → Type 0) (ranks : List ℕ) : Type 0 where
   pub one_each : length ranks ≡ n
   pub step_falls : (s t : ℕ) → s < n → t < n → step s t → slice_index ranks t < slice_index ranks s
-
--- The ranks respect the level num/den.
-abbrev pub RespectLevel : ℕ → (ℕ → ℕ → ℕ) → ℕ → ℕ → List ℕ → Type 0
-RespectLevel n c num den ranks = RespectPreference n (IsWeak c num den) (IsStrict c num den) ranks
 
 -- The ranks order the strict steps of the level num/den.
 abbrev pub OrderStrictSteps : ℕ → (ℕ → ℕ → ℕ) → ℕ → ℕ → List ℕ → Type 0

@@ -6,7 +6,7 @@ use Rattle.std.proofs.Math.Nat.{le-mul_of_pos_right}
 use Rattle.rp_farkas.specs.Total.{total}
 use Rattle.rp_farkas.specs.LinearProgram.{LinearProgram}
 use Rattle.rp_farkas.specs.Point.{IsFeasiblePoint, row_times, value_of}
-use Rattle.rp_farkas.specs.Prices.{IsFeasiblePrices, column_times, cost_of}
+use Rattle.rp_farkas.specs.Prices.{IsFeasiblePrices, column_times, value_of_prices}
 use Rattle.rp_farkas.specs.EqualPair.{IsEqualPair}
 use Rattle.rp_farkas.specs.Ray.{IsRay}
 use Rattle.rp_farkas.specs.Best.{IsBestPoint, IsBestPrices, HasNoBound}
@@ -27,7 +27,7 @@ by_rows p y x =
     ∙ total-scale p.cols (λ j. p.a i j *ℤ pos (y j)) (pos (x i)))
 
 -- no feasible point is worth more than what a feasible price vector costs
-pub weak_duality : (p : LinearProgram) (d e : ℕ) (y x : ℕ → ℕ) → IsFeasiblePoint p d y → IsFeasiblePrices p e x → (value_of p y *ℤ pos e) ≤ℤ (cost_of p x *ℤ pos d)
+pub weak_duality : (p : LinearProgram) (d e : ℕ) (y x : ℕ → ℕ) → IsFeasiblePoint p d y → IsFeasiblePrices p e x → (value_of p y *ℤ pos e) ≤ℤ (value_of_prices p x *ℤ pos d)
 weak_duality p d e y x point prices =
     let left : (value_of p y *ℤ pos e) ≡ total p.cols (λ j. (p.c j *ℤ pos e) *ℤ pos (y j))
     = sym (total-scale p.cols (λ j. p.c j *ℤ pos (y j)) (pos e))
@@ -38,11 +38,11 @@ weak_duality p d e y x point prices =
     let rows : total p.rows (λ i. row_times p i y *ℤ pos (x i)) ≤ℤ total p.rows (λ i. (p.b i *ℤ pos d) *ℤ pos (x i))
     = total-mono p.rows (λ i. row_times p i y *ℤ pos (x i)) (λ i. (p.b i *ℤ pos d) *ℤ pos (x i))
     (λ i h. times_mono (row_times p i y) (p.b i *ℤ pos d) (x i) (point.rows_hold i h)) in
-    let right : total p.rows (λ i. (p.b i *ℤ pos d) *ℤ pos (x i)) ≡ (cost_of p x *ℤ pos d)
+    let right : total p.rows (λ i. (p.b i *ℤ pos d) *ℤ pos (x i)) ≡ (value_of_prices p x *ℤ pos d)
     = total-same p.rows (λ i. (p.b i *ℤ pos d) *ℤ pos (x i)) (λ i. (p.b i *ℤ pos (x i)) *ℤ pos d) (λ i _. turn (p.b i) (pos d) (pos (x i)))
     ∙ total-scale p.rows (λ i. p.b i *ℤ pos (x i)) (pos d) in
     chain (value_of p y *ℤ pos e) (total p.cols (λ j. (p.c j *ℤ pos e) *ℤ pos (y j))) (total p.cols (λ j. column_times p j x *ℤ pos (y j)))
-    (total p.rows (λ i. row_times p i y *ℤ pos (x i))) (total p.rows (λ i. (p.b i *ℤ pos d) *ℤ pos (x i))) (cost_of p x *ℤ pos d)
+    (total p.rows (λ i. row_times p i y *ℤ pos (x i))) (total p.rows (λ i. (p.b i *ℤ pos d) *ℤ pos (x i))) (value_of_prices p x *ℤ pos d)
     left columns (by_rows p y x) rows right
 
 pub best_point : (p : LinearProgram) (den : ℕ) (y x : ℕ → ℕ) → IsEqualPair p den y x → IsBestPoint p den y
@@ -54,7 +54,7 @@ best_point p den y x pair = record {
 pub best_prices : (p : LinearProgram) (den : ℕ) (y x : ℕ → ℕ) → IsEqualPair p den y x → IsBestPrices p den x
 best_prices p den y x pair = record {
   feasible = pair.prices;
-  no_lower = λ d w feasible. subst (λ (v : ℤ). (v *ℤ pos d) ≤ℤ (cost_of p w *ℤ pos den)) pair.equal (weak_duality p den d y w pair.point feasible);
+  no_lower = λ d w feasible. subst (λ (v : ℤ). (v *ℤ pos d) ≤ℤ (value_of_prices p w *ℤ pos den)) pair.equal (weak_duality p den d y w pair.point feasible);
 }
 
 -- ---- a ray

@@ -2,7 +2,7 @@
 use Rattle.std.specs.Prelude.{◌≡◌, ℕ, ◌*◌, ◌<◌, ℤ, pos, ◌*ℤ◌, ◌≤ℤ◌, ◌<ℤ◌}
 use Rattle.rp_farkas.specs.LinearProgram.{LinearProgram}
 use Rattle.rp_farkas.specs.Point.{IsFeasiblePoint, value_of}
-use Rattle.rp_farkas.specs.Prices.{IsFeasiblePrices, cost_of}
+use Rattle.rp_farkas.specs.Prices.{IsFeasiblePrices, value_of_prices}
 
 -- y / den is feasible, and no feasible point has a greater value.
 pub record IsBestPoint (p : LinearProgram) (den : ℕ) (y : ℕ → ℕ) : Type 0 where
@@ -12,13 +12,14 @@ pub record IsBestPoint (p : LinearProgram) (den : ℕ) (y : ℕ → ℕ) : Type 
 -- x / den is a feasible price vector, and no feasible price vector has a lower cost.
 pub record IsBestPrices (p : LinearProgram) (den : ℕ) (x : ℕ → ℕ) : Type 0 where
   pub feasible : IsFeasiblePrices p den x
-  pub no_lower : (d : ℕ) (w : ℕ → ℕ) → IsFeasiblePrices p d w → (cost_of p x *ℤ pos d) ≤ℤ (cost_of p w *ℤ pos den)
+  pub no_lower : (d : ℕ) (w : ℕ → ℕ) → IsFeasiblePrices p d w
+      → (value_of_prices p x *ℤ pos d) ≤ℤ (value_of_prices p w *ℤ pos den)
 
 -- num/den is the least cost: no feasible price vector costs less, and one costs just that.
 pub record IsLeastCost (p : LinearProgram) (num den : ℕ) : Type 0 where
   pub fraction : 0 < den
-  pub none_less : (d : ℕ) (x : ℕ → ℕ) → IsFeasiblePrices p d x → pos (num * d) ≤ℤ (cost_of p x *ℤ pos den)
-  pub attained : (d : ℕ) × (x : ℕ → ℕ) × IsFeasiblePrices p d x × ((cost_of p x *ℤ pos den) ≡ pos (num * d))
+  pub none_less : (d : ℕ) (x : ℕ → ℕ) → IsFeasiblePrices p d x → pos (num * d) ≤ℤ (value_of_prices p x *ℤ pos den)
+  pub attained : (d : ℕ) × (x : ℕ → ℕ) × IsFeasiblePrices p d x × ((value_of_prices p x *ℤ pos den) ≡ pos (num * d))
 
 -- A feasible point whose value is above the fraction n / d.
 pub record Passes (p : LinearProgram) (n : ℤ) (d : ℕ) : Type 0 where

@@ -9,8 +9,8 @@ abbrev pub column_times : LinearProgram → ℕ → (ℕ → ℕ) → ℤ
 column_times p j x = total p.rows (λ i. p.a i j *ℤ pos (x i))
 
 -- The price of the right side, b·x.
-abbrev pub cost_of : LinearProgram → (ℕ → ℕ) → ℤ
-cost_of p x = total p.rows (λ i. p.b i *ℤ pos (x i))
+abbrev pub value_of_prices : LinearProgram → (ℕ → ℕ) → ℤ
+value_of_prices p x = total p.rows (λ i. p.b i *ℤ pos (x i))
 
 -- The fractions x_i / den are a feasible price vector: x ≥ 0, and c ≤ A^T x (the dual of von Neumann, and of
 -- Gale, Kuhn and Tucker, "Linear Programming and the Theory of Games", 1951).

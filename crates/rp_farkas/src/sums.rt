@@ -4,7 +4,7 @@ ghost use Rattle.std.specs.Int.RustNames.{unsigned_abs};
 ghost use Rattle.rp_farkas.specs.Limits.{FitsEvidence, largest_entry, most_columns};
 ghost use Rattle.rp_farkas.specs.Listing.{IsListing, numerator_at};
 ghost use Rattle.rp_farkas.specs.Point.{row_times, value_of};
-ghost use Rattle.rp_farkas.specs.Prices.{column_times, cost_of};
+ghost use Rattle.rp_farkas.specs.Prices.{column_times, value_of_prices};
 
 use crate::entry::Entry;
 use crate::program::Lp;
@@ -63,7 +63,7 @@ pub fn column_sum<P: Lp>(p: &P, j: u32, x: &[u64]) -> i128
 pub fn cost_sum<P: Lp>(p: &P, x: &[u64]) -> i128
     requires rows { length x.now ≡ (P.program p.now).rows }
     requires fits { All FitsEvidence x.now }
-    ensures { result ≡ cost_of (P.program p.now) (slice_index x.now) }
+    ensures { result ≡ value_of_prices (P.program p.now) (slice_index x.now) }
 {
     let mut sum = 0;
     for i in 0..p.rows() {

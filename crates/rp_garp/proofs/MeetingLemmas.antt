@@ -8,7 +8,8 @@ use Rattle.rp_evidence.proofs.OwnLevels.{strict_without_levels, weak_without_lev
 use Rattle.rp_evidence.proofs.SameCosts.{no_violation_same}
 use Rattle.rp_evidence.proofs.Violations.{has_reach_and_strict, reach_and_strict}
 use Rattle.rp_evidence.proofs.Walks.{reach_ends_below, reach_starts_below}
-use Rattle.rp_garp.specs.Meeting.{HasSomeViolation, SomeViolate}
+use Rattle.rp_garp.specs.Meeting.{HasSomeViolation}
+use Rattle.rp_garp.specs.InnerMeeting.{SomeViolate}
 
 module _ (n : ℕ) (weak strict : ℕ → ℕ → Type 0) (is_weak : (s t : ℕ) → s < n → t < n → strict s t → weak s t) where
   some_violate : HasSomeViolation n weak strict → SomeViolate n weak strict

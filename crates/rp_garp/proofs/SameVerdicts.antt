@@ -7,7 +7,7 @@ use Rattle.rp_evidence.specs.declared.garp.Garp.{Garp}
 use Rattle.rp_evidence.proofs.OwnLevels.{garp_without_levels, strict_by_levels_same, strict_without_levels, weak_by_levels_same, weak_without_levels}
 use Rattle.rp_evidence.proofs.SameCosts.{strict_same, weak_same}
 use Rattle.rp_pref.proofs.SameVerdicts.{first_or_none_same, verdict_on_same}
-use Rattle.rp_pref.specs.Violation.{IsVerdictOn}
+use Rattle.rp_pref.specs.Violation.{IsVerdictOfPreference}
 use Rattle.rp_garp.specs.Pairs.{Contradict, IsOwnPairs}
 use Rattle.rp_garp.specs.Verdict.{IsGarpVerdict, IsOwnGarpVerdict}
 
@@ -43,8 +43,8 @@ module _ (n : ℕ) (levels : List ℕ) (c : ℕ → ℕ → ℕ) (none : levels 
   proves_at_one verdict proves =
       (garp_without_levels n c verdict).0 (subst (λ l. ProvesOfPreference n (WeakByLevels l c) (StrictByLevels l c) verdict) none proves)
 
-  pub given_at_one : (verdict : Garp) → IsVerdictOn n (WeakByLevels levels c) (StrictByLevels levels c) verdict → IsGarpVerdict n c verdict
+  pub given_at_one : (verdict : Garp) → IsVerdictOfPreference n (WeakByLevels levels c) (StrictByLevels levels c) verdict → IsGarpVerdict n c verdict
   given_at_one verdict given =
       verdict_on_same n (WeakByLevels [] c) (StrictByLevels [] c) (IsWeak c 1 1) (IsStrict c 1 1)
       (λ s t a b. weak_without_levels c s t) (λ s t a b. strict_without_levels c s t)
-      verdict (subst (λ l. IsVerdictOn n (WeakByLevels l c) (StrictByLevels l c) verdict) none given)
+      verdict (subst (λ l. IsVerdictOfPreference n (WeakByLevels l c) (StrictByLevels l c) verdict) none given)

@@ -2,13 +2,13 @@
 use Rattle.std.specs.Prelude.{ℕ, List}
 use Rattle.rp_evidence.specs.Preference.{IsStrict, IsWeak, StrictByLevels, WeakByLevels}
 use Rattle.rp_evidence.specs.declared.garp.Garp.{Garp}
-use Rattle.rp_pref.specs.Violation.{IsVerdictOn}
+use Rattle.rp_pref.specs.Violation.{IsVerdictOfPreference}
 
 -- The ranks are the counts over the preference at the level 1; a cycle is that of the first two observations that
 -- violate the axiom.
 abbrev pub IsGarpVerdict : ℕ → (ℕ → ℕ → ℕ) → Garp → Type 0
-IsGarpVerdict n c verdict = IsVerdictOn n (IsWeak c 1 1) (IsStrict c 1 1) verdict
+IsGarpVerdict n c verdict = IsVerdictOfPreference n (IsWeak c 1 1) (IsStrict c 1 1) verdict
 
 -- The same where the observations have these levels, or none.
 abbrev pub IsOwnGarpVerdict : ℕ → List ℕ → (ℕ → ℕ → ℕ) → Garp → Type 0
-IsOwnGarpVerdict n levels c verdict = IsVerdictOn n (WeakByLevels levels c) (StrictByLevels levels c) verdict
+IsOwnGarpVerdict n levels c verdict = IsVerdictOfPreference n (WeakByLevels levels c) (StrictByLevels levels c) verdict

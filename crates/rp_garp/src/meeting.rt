@@ -3,7 +3,8 @@ ghost use Rattle.rp_evidence.specs.Garp.{HasNoViolation, MeetsGarp};
 ghost use Rattle.rp_pref.specs.Closure.{IsClosureOf};
 ghost use Rattle.rp_pref.specs.Steps.{OwnStrict, OwnWeak};
 ghost use Rattle.rp_table.specs.Cost.{cost_at};
-ghost use Rattle.rp_garp.specs.Meeting.{HasSomeViolation, SomeViolate, SomeViolateAt};
+ghost use Rattle.rp_garp.specs.Meeting.{HasSomeViolation};
+ghost use Rattle.rp_garp.specs.InnerMeeting.{SomeViolate, SomeViolateAt};
 
 use rp_num::NoMemory;
 use rp_pref::{Closure, OwnLevels, Revealed, Steps};

@@ -1,7 +1,7 @@
 ghost use Rattle.std.specs.Prelude.{◌≡◌, [], IfOk};
 ghost use Rattle.rp_evidence.specs.Garp.{ProvesGarp, ProvesOfPreference};
 ghost use Rattle.rp_pref.specs.Steps.{OwnStrict, OwnWeak};
-ghost use Rattle.rp_pref.specs.Violation.{IsVerdictOn};
+ghost use Rattle.rp_pref.specs.Violation.{IsVerdictOfPreference};
 ghost use Rattle.rp_table.specs.Cost.{cost_at};
 ghost use Rattle.rp_garp.specs.Verdict.{IsGarpVerdict};
 
@@ -17,7 +17,7 @@ use std::alloc::Global;
 pub fn garp(alloc: Global, costs: &Costs) -> Result<Garp, NoMemory>
     ensures proves { IfOk result (ProvesOfPreference costs.now.n
         (OwnWeak costs.now) (OwnStrict costs.now)) }
-    ensures given { IfOk result (IsVerdictOn costs.now.n
+    ensures given { IfOk result (IsVerdictOfPreference costs.now.n
         (OwnWeak costs.now) (OwnStrict costs.now)) }
     ensures proves_without_levels { IfOk result (λ verdict. costs.now.levels ≡ []
         → ProvesGarp costs.now.n (cost_at costs.now) verdict) }

@@ -1,6 +1,6 @@
 -- Two rows are exchanged column by column.
 use Rattle.std.proofs.Common.{◌≡◌, ◌≢◌, ℕ, ◌+◌, ◌<◌, ◌≤◌, List, [], ◌∷◌, ◌++◌, length, take, drop, set, get_or, sym, ap, ◌∙◌, arith, length-set, append_assoc, append-nil, take_all, get_or-set_same, get_or-set_other, set-set}
-use Rattle.std.proofs.lemmas.List.{set_comm, set-get_or, set_at, take_more, drop_more, drop_all, get_or_at, length-take-le}
+use Rattle.std.proofs.lemmas.List.{set_comm, set_at, take_more, drop_more, drop_all, get_or_at, length-take-le}
 use Rattle.rp_grid.specs.Rows.{Rows, row_of, with_row, with_cell, exchanged}
 
 module _ {X : Type 0} where
@@ -64,16 +64,8 @@ module _ {X : Type 0} where
         ∙ ap (λ s. with_cell (with_cell s a c of_b) b c of_a) is
         ∙ one_more of_a of_b (is_a ∙ ap (λ s. get_or (row_of s a) c of_a) is) (is_b ∙ ap (λ s. get_or (row_of s b) c of_b) is)
 
-  pub none_yet : (g : Rows X) (a b : ℕ) → g ≡ exchanged_to 0 g a b
-  none_yet g a b = sym (λ i. record { rows = (ap (λ l. set l b (row_of g b)) (set-get_or g.rows a []) ∙ set-get_or g.rows b []) i; cols = g.cols })
-
   pub all_done : (g : Rows X) (a b : ℕ) → length (row_of g a) ≡ g.cols → length (row_of g b) ≡ g.cols → exchanged_to g.cols g a b ≡ exchanged g a b
   all_done g a b long_a long_b =
       let whole : (xs ys : List X) → length xs ≡ g.cols → length ys ≡ g.cols → mixed g.cols xs ys ≡ xs =
       λ xs ys long_x long_y. (λ i. take_all g.cols xs (omega arith) i ++ drop_all g.cols ys (omega arith) i) ∙ append-nil xs in
       λ i. with_row (with_row g a (whole (row_of g b) (row_of g a) long_b long_a i)) b (whole (row_of g a) (row_of g b) long_a long_b i)
-
-  pub itself : (g : Rows X) (a b : ℕ) → a ≡ b → g ≡ exchanged g a b
-  itself g a b e =
-      let same : exchanged g a a ≡ g = λ i. record { rows = (set-set g.rows a (row_of g a) (row_of g a) ∙ set-get_or g.rows a []) i; cols = g.cols } in
-      sym (ap (exchanged g a) (sym e) ∙ same)

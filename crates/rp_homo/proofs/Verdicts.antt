@@ -20,7 +20,7 @@ use Rattle.rp_walk.proofs.Walks.{IsTotal-here, IsTotal-further}
 use Rattle.rp_walk.proofs.Paths.{after-same}
 use Rattle.rp_walk.proofs.Central.{no_walk_falls}
 use Rattle.rp_evidence.specs.Walk.{AnyStep, IsClosedWalk, IsWalk, LeadsTo}
-use Rattle.rp_evidence.specs.Homothetic.{BoundProducts, EndsBelow, IsFallingCycle, IsLeastProduct, MeetsHomotheticTest, ProductsFit, StepsFitFrom, next_costs, own_costs, product_from, value_at}
+use Rattle.rp_evidence.specs.Homothetic.{BoundProducts, EndsBelow, IsFallingCycle, IsLeastProduct, MeetsHomotheticTest, ProductsFit, StepsFitFrom, next_product, spent_product, product_from, value_at}
 use Rattle.rp_evidence.proofs.Walks.{starts_below}
 use Rattle.rp_table.specs.Cost.{CostTable, IsCostTable, cost_at}
 use Rattle.rp_walk.specs.Products.{FitsFraction, as_total, at_least_one, products, times}
@@ -84,7 +84,7 @@ IsLeastProduct-least n c positive s f terms least =
       lowest = λ t walk h. lowest t walk h;
     }
   where
-    lowest : (t : ℕ) (walk : List ℕ) → IsWalk n AnyStep t s walk → f.num * own_costs c walk ≤ next_costs c walk * f.den
+    lowest : (t : ℕ) (walk : List ℕ) → IsWalk n AnyStep t s walk → f.num * spent_product c walk ≤ next_product c walk * f.den
     lowest t [] h = absurd h
     lowest t (x ∷ rest) h =
         let way = leads_to (products n c) x s rest h.1 in
@@ -106,9 +106,9 @@ HasLeastTotals-values : (n : ℕ) (c : ℕ → ℕ → ℕ) (values : List Fract
 HasLeastTotals-values n c values least s hs = (as_total (value_at values s), least s hs)
 
 pub MeetsHomotheticTest-least : (n : ℕ) (c : ℕ → ℕ → ℕ) → Positive n c → HasLeastTotals (products n c) → MeetsHomotheticTest n c
-MeetsHomotheticTest-least n c positive all walk closed = decided (cases_lt (next_costs c walk) (own_costs c walk))
+MeetsHomotheticTest-least n c positive all walk closed = decided (cases_lt (next_product c walk) (spent_product c walk))
   where
-    violation : (walk : List ℕ) → IsClosedWalk n AnyStep walk → next_costs c walk < own_costs c walk → FallsBelowStart (products n c) (products n c).empty walk
+    violation : (walk : List ℕ) → IsClosedWalk n AnyStep walk → next_product c walk < spent_product c walk → FallsBelowStart (products n c) (products n c).empty walk
     violation [] closed falls = absurd closed.1
     violation (x ∷ rest) closed falls =
         let way = leads_to (products n c) x closed.0 rest closed.1.1 in
@@ -125,7 +125,7 @@ MeetsHomotheticTest-least n c positive all walk closed = decided (cases_lt (next
           ends_below = ends_below n c (products n c).empty 1 x rest (omega arith) refl (omega (arith, ea, eo, falls));
         }
 
-    decided : (next_costs c walk < own_costs c walk) ⊎ (own_costs c walk ≤ next_costs c walk) → own_costs c walk ≤ next_costs c walk
+    decided : (next_product c walk < spent_product c walk) ⊎ (spent_product c walk ≤ next_product c walk) → spent_product c walk ≤ next_product c walk
     decided (inr l) = l
     decided (inl l) = absurd (no_walk_falls (products n c) (products_keep_order n c) (products_treat_starts_alike n c) all (products n c).empty walk (violation walk closed l))
 
@@ -137,20 +137,20 @@ positive_value p q zero d hp hd e =
     absurd (omega (arith, h, e))
 positive_value p q (suc m) d hp hd e = omega arith
 
-next_costs-positive : (n : ℕ) (c : ℕ → ℕ → ℕ) → Positive n c → (t s : ℕ) (rest : List ℕ) → LeadsTo n AnyStep t s rest → 1 ≤ product_from c t rest
-next_costs-positive n c positive t s [] h = omega arith
-next_costs-positive n c positive t s (x ∷ rest) h =
-    one-le-mul (positive t x h.0 (starts_below n AnyStep x s rest h.2)) (next_costs-positive n c positive x s rest h.2)
+next_product-positive : (n : ℕ) (c : ℕ → ℕ → ℕ) → Positive n c → (t s : ℕ) (rest : List ℕ) → LeadsTo n AnyStep t s rest → 1 ≤ product_from c t rest
+next_product-positive n c positive t s [] h = omega arith
+next_product-positive n c positive t s (x ∷ rest) h =
+    one-le-mul (positive t x h.0 (starts_below n AnyStep x s rest h.2)) (next_product-positive n c positive x s rest h.2)
 
 num_positive : (n : ℕ) (c : ℕ → ℕ → ℕ) → Positive n c → (s : ℕ) (f : Fraction) → IsLeastProduct n c s f → 1 ≤ f.num
 num_positive n c positive s f least =
     let r = least.reached in
     go r.0 r.1 r.2 r.3
   where
-    go : (t : ℕ) (walk : List ℕ) → IsWalk n AnyStep t s walk → f.num * own_costs c walk ≡ next_costs c walk * f.den → 1 ≤ f.num
+    go : (t : ℕ) (walk : List ℕ) → IsWalk n AnyStep t s walk → f.num * spent_product c walk ≡ next_product c walk * f.den → 1 ≤ f.num
     go t [] h e = absurd h
     go t (x ∷ rest) h e =
-        positive_value (product_from c x rest) (product_from (λ i j. c i i) x rest) f.num f.den (next_costs-positive n c positive x s rest h.1) least.lowest_terms.positive e
+        positive_value (product_from c x rest) (product_from (λ i j. c i i) x rest) f.num f.den (next_product-positive n c positive x s rest h.1) least.lowest_terms.positive e
 
 pub BoundProducts-least : (n : ℕ) (c : ℕ → ℕ → ℕ) → Positive n c → (values : List Fraction) → length values ≡ n → AllLowest n values → AllLeast n c values → BoundProducts n c values
 BoundProducts-least n c positive values len terms least = record {
@@ -198,14 +198,14 @@ IsClosedWalk-falls n c start walk v =
     (v.first, (refl, leads_from n v.first v.first v.rest v.is_walk.begins_within v.is_walk.goes_within v.closed), omega (arith, v.has_step))
 
 -- what the start is multiplied by along the walk is below 1, and the start is not 0
-falls_along : (n : ℕ) (c : ℕ → ℕ → ℕ) → Positive n c → (start : Fraction) (walk : List ℕ) → FallsBelowStart (products n c) (as_total start) walk → (1 ≤ start.num) × (next_costs c walk < own_costs c walk)
+falls_along : (n : ℕ) (c : ℕ → ℕ → ℕ) → Positive n c → (start : Fraction) (walk : List ℕ) → FallsBelowStart (products n c) (as_total start) walk → (1 ≤ start.num) × (next_product c walk < spent_product c walk)
 falls_along n c positive start walk v =
     let ea = product_from-across n c positive v.first v.rest v.is_walk.begins_within v.is_walk.goes_within in
     let eo = product_from-own n c positive v.first v.rest v.is_walk.begins_within v.is_walk.goes_within in
     let less = falls_from n c (as_total start) start.num v.first v.rest refl v.ends_below in (
       not_zero start.num (total_after (products n c) (as_total start) v.first v.rest).num (at_least_one start.den) (product_from (across c) v.first v.rest) (total_after (products n c) (as_total start) v.first v.rest).den
           (num_after n c (as_total start) start.num v.first v.rest refl) v.ends_below,
-      subst (λ (xs : List ℕ). next_costs c xs < own_costs c xs) (sym v.walk_is) (omega (arith, ea, eo, less)),
+      subst (λ (xs : List ℕ). next_product c xs < spent_product c xs) (sym v.walk_is) (omega (arith, ea, eo, less)),
     )
   where
     not_zero : (m : ℕ) (z : ℤ) (d p e : ℕ) → z ≡ pos (m * p) → (z *ℤ pos d) <ℤ (pos m *ℤ pos e) → 1 ≤ m
@@ -214,8 +214,8 @@ falls_along n c positive start walk v =
         absurd (omega (arith, less-pos (0 * p * d) (0 * e) g))
     not_zero (suc m) z d p e ez h = omega arith
 
-ends_below_start : (c : ℕ → ℕ → ℕ) (start : Fraction) (walk : List ℕ) → 1 ≤ start.num → 1 ≤ start.den → next_costs c walk < own_costs c walk → EndsBelow c start walk
-ends_below_start c start walk hn hd h = scaled start.num start.den (next_costs c walk) (own_costs c walk) hn hd h
+ends_below_start : (c : ℕ → ℕ → ℕ) (start : Fraction) (walk : List ℕ) → 1 ≤ start.num → 1 ≤ start.den → next_product c walk < spent_product c walk → EndsBelow c start walk
+ends_below_start c start walk hn hd h = scaled start.num start.den (next_product c walk) (spent_product c walk) hn hd h
   where
     scaled : (m d p q : ℕ) → 1 ≤ m → 1 ≤ d → p < q → (m * p) * d < m * (d * q)
     scaled m d p q hm hd h =

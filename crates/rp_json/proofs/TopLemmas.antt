@@ -48,20 +48,6 @@ pub not_without_levels : (kind : Kind) (ms : Members) → ((ds : List Data) → 
 not_without_levels kind ms none levels items fit e =
     none (array (items_of items) ∷ string (kind_name kind) ∷ number (unsigned 1) ∷ []) (refl, sym (same_object _ _ e))
 
--- the four members of version 2
-pub with_levels : (ms : Members) (ds : List Data) (levels : List ℕ) → AreNamed four_names ms ds → AreThirdBy ds (Some levels) → AreLevelsBy Table 2 (object ms) (Some levels)
-with_levels ms ds levels is (some, (a, b, c, same)) = (inr (refl, refl, some), whole)
-  where
-    whole : (items : List Data) → IsTop Table 2 items (object ms) → object ms ≡ top_value Table 2 levels items
-    whole items top =
-        let members : named four_names (a ∷ b ∷ counts_value levels ∷ c ∷ []) ≡ ms = ap (named four_names) (sym same) ∙ is.1 in
-        let moved : IsTop Table 2 items (object (named four_names (a ∷ b ∷ counts_value levels ∷ c ∷ []))) = subst (λ m. IsTop Table 2 items (object m)) (sym members) top in
-        let ea = some_same a (array (items_of items)) moved.has_items in
-        let eb = some_same b (string (kind_name Table)) moved.has_kind in
-        let ec = some_same c (number (unsigned 2)) moved.has_version in
-        sym (ap object members)
-        ∙ (λ i. object (member (codes "items") (ea i) (member (codes "kind") (eb i) (member (codes "levels") (counts_value levels) (member (codes "version") (ec i) no_members)))))
-
 abbrev others_in : Members → Members
 others_in no_members = no_members
 others_in (member name d ms) = ms
@@ -169,21 +155,6 @@ no_top kind d none = (
   λ version levels items fit e. none version items (subst (IsTop kind version items) (sym e) (top_there kind version levels items fit)),
   λ other. none other.0 other.1 other.2,
 )
-
--- of version 1 or 2, but without its levels
-pub no_levels : (kind : Kind) (d : Data) (version : ℕ) (values : List Data) → IsTop kind version values d → (version ≢ 1 → version ≡ 2) → AreLevelsBy kind version d None
-    → HasNoShape kind d × ¬ HasOtherVersion kind d
-no_levels kind d version values top known none = (shape, other)
-  where
-    shape : HasNoShape kind d
-    shape v levels items fit e =
-        let same : v ≡ version = one_version kind v version items values d (subst (IsTop kind v items) (sym e) (top_there kind v levels items fit)) top in
-        none levels items (subst (λ n. FitLevels kind n levels) same fit) (e ∙ (λ i. top_value kind (same i) levels items))
-
-    other : ¬ HasOtherVersion kind d
-    other (v, items, is, not1, not2) =
-        let same : v ≡ version = one_version kind v version items values d is top in
-        not2 (same ∙ known (λ is1. not1 (same ∙ is1)))
 
 -- ---- where the value is an object
 

@@ -12,7 +12,7 @@ use Rattle.rp_sheet.specs.Columns.{role_at}
 use Rattle.rp_sheet.specs.Fields.{count_stage, field_at, figures_of, row_at, rows_in}
 use Rattle.rp_sheet.specs.Forms.{menus_form}
 use Rattle.rp_sheet.specs.Headers.{goods_stage, headers_in, headers_of, headers_stage}
-use Rattle.rp_sheet.specs.Records.{records_of}
+use Rattle.rp_sheet.specs.Records.{records_in}
 use Rattle.rp_sheet.specs.Sheets.{column_numbers}
 use Rattle.rp_sheet.specs.Sizes.{sizes_of, sizes_stage}
 use Rattle.rp_sheet.specs.Texts.{number_of, text_at}
@@ -164,7 +164,7 @@ denoted_menus records = unless_fault (first_fault records) (menu_list (entries_i
 
 -- what the bytes of a file denote
 abbrev pub menus_in : List ℕ → Result MenuList MenuFault
-menus_in bytes = denoted_menus (records_of bytes)
+menus_in bytes = denoted_menus (records_in bytes)
 
 -- refused with the fault of a stage, or with the one that is denoted; or for want of memory, which has no cause in a
 -- file

@@ -14,7 +14,7 @@ use Rattle.rp_patch.specs.Patches.{PatchList}
 use Rattle.rp_patch.specs.Types.{IsRationalType}
 use Rattle.rp_patch.specs.declared.part.Part.{Part}
 use Rattle.rp_patch.proofs.SearchLaws.{before_first, before_last, before_next, begins_at, begins_length, whole_part}
-use Rattle.rp_mixture.specs.InnerSearch.{IsSearching, front_of, no_part, part_at, place_of}
+use Rattle.rp_mixture.specs.InnerSearch.{IsSearching, front_of, no_part, part_of_depth, place_of}
 
 -- ---- patches as the digits of a number
 
@@ -100,11 +100,11 @@ last_digit xs i n count =
     get_or-append_right xs (i ∷ []) n n 0 count (omega arith) ∙ (let none : n - n ≡ 0 = omega arith in ap (λ k. get_or (i ∷ []) k 0) none)
 
 module _ (p : PatchList) (weights : List ℕ) (least : ℕ) where
-  size : (parts : List Part) (depth i : ℕ) → IsSearching p weights least parts depth i → length (taken_in (part_at parts depth)) ≡ depth
+  size : (parts : List Part) (depth i : ℕ) → IsSearching p weights least parts depth i → length (taken_in (part_of_depth parts depth)) ≡ depth
   size parts depth i s = (s.each depth (omega arith)).0.0.count ∙ (s.each depth (omega arith)).1
 
   in_patches : (parts : List Part) (depth i : ℕ) → IsSearching p weights least parts depth i → (j : ℕ) → j < depth
-      → slice_index (taken_in (part_at parts depth)) j < length p.patches
+      → slice_index (taken_in (part_of_depth parts depth)) j < length p.patches
   in_patches parts depth i s j below = (s.each depth (omega arith)).0.0.patch j (omega (arith, below, (s.each depth (omega arith)).1))
 
   -- what is left to search falls where the number of the patches rises
@@ -117,7 +117,7 @@ module _ (p : PatchList) (weights : List ℕ) (least : ℕ) where
   left_falls : (parts now : List Part) (depth i d j : ℕ) → IsSearching p weights least now d j
       → number (front_of parts depth i) < number (front_of now d j) → left now d j < left parts depth i
   left_falls parts now depth i d j s less =
-      let front = taken_in (part_at now d) in
+      let front = taken_in (part_of_depth now d) in
       let long = size now d j s in
       falls ((length p.patches + 2) ^ p.budgets) _ _ less
       (place_below (length p.patches + 2) p.budgets (front_of now d j) (omega arith)
@@ -126,7 +126,7 @@ module _ (p : PatchList) (weights : List ℕ) (least : ℕ) where
 
   module _ (parts : List Part) (depth i : ℕ) (s : IsSearching p weights least parts depth i) where
     abbrev front : List ℕ
-    front = taken_in (part_at parts depth)
+    front = taken_in (part_of_depth parts depth)
 
     type_longer : (type : List ℕ) → IsRationalType p type → length front < length type
     type_longer type rational = omega (arith, size parts depth i s, s.deep, rational.0.one_each)
@@ -180,10 +180,10 @@ module _ (p : PatchList) (weights : List ℕ) (least : ℕ) where
         deep : depth + 1 < p.budgets
         deep = omega (arith, is.0.few, more, other)
 
-        before : (k : ℕ) → k ≤ depth → part_at now k ≡ part_at parts k
+        before : (k : ℕ) → k ≤ depth → part_of_depth now k ≡ part_of_depth parts k
         before k l = get_or-set_other parts (depth + 1) k longer no_part (λ e. omega (arith, e, l))
 
-        here : part_at now (depth + 1) ≡ longer
+        here : part_of_depth now (depth + 1) ≡ longer
         here = get_or-set_same parts (depth + 1) longer no_part (omega (arith, deep, few, s.room))
 
         last_grown : taken_in longer ≡ front ++ slice_index (taken_in longer) depth ∷ []
@@ -194,13 +194,13 @@ module _ (p : PatchList) (weights : List ℕ) (least : ℕ) where
           room = length-set parts (depth + 1) longer ∙ s.room;
           deep = deep;
           within = omega arith;
-          each = λ k l. below_more (λ k. IsPart p (part_at now k) × ((part_at now k).taken ≡ k)) (depth + 1)
+          each = λ k l. below_more (λ k. IsPart p (part_of_depth now k) × ((part_of_depth now k).taken ≡ k)) (depth + 1)
               (λ k l. subst (λ (x : Part). IsPart p x × (x.taken ≡ k)) (sym (before k (omega (arith, l)))) (s.each k (omega (arith, l))))
               (subst (λ (x : Part). IsPart p x × (x.taken ≡ depth + 1)) (sym here) (is, more)) k (omega (arith, l));
-          grown = λ k l. below_more (λ k. taken_in (part_at now (k + 1)) ≡ taken_in (part_at now k) ++ slice_index (taken_in (part_at now (k + 1))) k ∷ []) depth
-              (λ k l. subst (λ (x : Part). taken_in x ≡ taken_in (part_at now k) ++ slice_index (taken_in x) k ∷ []) (sym (before (k + 1) (omega (arith, l))))
-              (subst (λ (x : Part). taken_in (part_at parts (k + 1)) ≡ taken_in x ++ slice_index (taken_in (part_at parts (k + 1))) k ∷ []) (sym (before k (omega (arith, l)))) (s.grown k l)))
-              (subst (λ (x : Part). taken_in x ≡ taken_in (part_at now depth) ++ slice_index (taken_in x) depth ∷ []) (sym here)
+          grown = λ k l. below_more (λ k. taken_in (part_of_depth now (k + 1)) ≡ taken_in (part_of_depth now k) ++ slice_index (taken_in (part_of_depth now (k + 1))) k ∷ []) depth
+              (λ k l. subst (λ (x : Part). taken_in x ≡ taken_in (part_of_depth now k) ++ slice_index (taken_in x) k ∷ []) (sym (before (k + 1) (omega (arith, l))))
+              (subst (λ (x : Part). taken_in (part_of_depth parts (k + 1)) ≡ taken_in x ++ slice_index (taken_in (part_of_depth parts (k + 1))) k ∷ []) (sym (before k (omega (arith, l)))) (s.grown k l)))
+              (subst (λ (x : Part). taken_in x ≡ taken_in (part_of_depth now depth) ++ slice_index (taken_in x) depth ∷ []) (sym here)
               (subst (λ (x : Part). taken_in longer ≡ taken_in x ++ slice_index (taken_in longer) depth ∷ []) (sym (before depth (omega arith))) last_grown)) k l;
           weighed = λ type rational b. s.weighed type rational
               (subst (λ xs. Before type xs) takes ((before_first type (taken_in longer)).0 (subst (λ (x : Part). Before type (taken_in x ++ 0 ∷ [])) here b)));
@@ -216,11 +216,11 @@ module _ (p : PatchList) (weights : List ℕ) (least : ℕ) where
     -- no patch is left: back to the budget before, whose patch was j
     module _ (d : ℕ) (up : depth ≡ d + 1) (last : i ≡ length p.patches) (j : ℕ) (was : j ≡ slice_index front d) where
       abbrev front_before : List ℕ
-      front_before = taken_in (part_at parts d)
+      front_before = taken_in (part_of_depth parts d)
 
       grown : front ≡ front_before ++ j ∷ []
       grown =
-          subst (λ k. taken_in (part_at parts k) ≡ front_before ++ slice_index (taken_in (part_at parts k)) d ∷ []) (sym up) (s.grown d (omega (arith, up)))
+          subst (λ k. taken_in (part_of_depth parts k) ≡ front_before ++ slice_index (taken_in (part_of_depth parts k)) d ∷ []) (sym up) (s.grown d (omega (arith, up)))
           ∙ ap (λ k. front_before ++ k ∷ []) (sym was)
 
       pub back : IsSearching p weights least parts d (j + 1)

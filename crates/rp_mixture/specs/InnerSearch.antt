@@ -10,12 +10,12 @@ use Rattle.rp_patch.specs.declared.part.Part.{Part}
 abbrev pub no_part : Part
 no_part = record { taken = 0; patches = []; reached = [] }
 
-abbrev pub part_at : List Part → ℕ → Part
-part_at parts k = slice_index_or parts k no_part
+abbrev pub part_of_depth : List Part → ℕ → Part
+part_of_depth parts k = slice_index_or parts k no_part
 
 -- The patches of the part of a depth, and the patch that is tried next.
 abbrev pub front_of : List Part → ℕ → ℕ → List ℕ
-front_of parts depth i = taken_in (part_at parts depth) ++ i ∷ []
+front_of parts depth i = taken_in (part_of_depth parts depth) ++ i ∷ []
 
 -- Patches as the digits of a number, of which so many are left.
 abbrev pub place_of : ℕ → ℕ → List ℕ → ℕ
@@ -28,9 +28,9 @@ pub record IsSearching (p : PatchList) (weights : List ℕ) (least : ℕ) (parts
   pub room : length parts ≡ 48
   pub deep : depth < p.budgets
   pub within : i ≤ length p.patches
-  pub each : (k : ℕ) → k ≤ depth → IsPart p (part_at parts k) × ((part_at parts k).taken ≡ k)
+  pub each : (k : ℕ) → k ≤ depth → IsPart p (part_of_depth parts k) × ((part_of_depth parts k).taken ≡ k)
   pub grown : (k : ℕ) → k < depth
-      → taken_in (part_at parts (k + 1))
-      ≡ taken_in (part_at parts k) ++ slice_index (taken_in (part_at parts (k + 1))) k ∷ []
+      → taken_in (part_of_depth parts (k + 1))
+      ≡ taken_in (part_of_depth parts k) ++ slice_index (taken_in (part_of_depth parts (k + 1))) k ∷ []
   pub weighed : (type : List ℕ) → IsRationalType p type → Before type (front_of parts depth i)
       → least ≤ cells_weight weights type

@@ -12,7 +12,7 @@ use Rattle.rp_farkas.specs.Limits.{FitsEvidence}
 use Rattle.rp_farkas.specs.LinearProgram.{LinearProgram}
 use Rattle.rp_farkas.specs.Listing.{IsListing, numerator_at}
 use Rattle.rp_farkas.specs.PairCheck.{IsShownPair}
-use Rattle.rp_farkas.specs.Prices.{IsFeasiblePrices, cost_of}
+use Rattle.rp_farkas.specs.Prices.{IsFeasiblePrices, value_of_prices}
 use Rattle.rp_farkas.specs.Total.{total}
 use Rattle.rp_farkas.specs.declared.entry.Entry.{Entry}
 use Rattle.rp_farkas.specs.declared.entry.Pair.{Pair}
@@ -53,7 +53,7 @@ total_used cells x (suc n) = by (uses cells n) (x n) (sum_below n (λ i. if uses
 
 prices_bound : (p : LinearProgram) (den : ℕ) (x : ℕ → ℕ) → IsFeasiblePrices p den x → HasNoBound p → ⊥
 prices_bound p den x feasible none =
-    let beyond = none (cost_of p x) den feasible.den_positive in
+    let beyond = none (value_of_prices p x) den feasible.den_positive in
     let h = weak_duality p beyond.den den beyond.point x beyond.feasible feasible in
     omega (arith, ints, h, beyond.above)
 

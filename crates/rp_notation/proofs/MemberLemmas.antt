@@ -161,10 +161,6 @@ is_object (object m) ms e = ap object (sym (some_same ms m e))
     some_same : (a b : Members) → Some a ≡ Some b → a ≡ b
     some_same a b p = search
 
-abbrev first_in : List Data → Data
-first_in [] = null
-first_in (d ∷ ds) = d
-
 -- one name each: the values are the same where the members are
 pub same_named : (names : List (List ℕ)) (ds es : List Data) → length ds ≡ length names → length es ≡ length names → named names ds ≡ named names es → ds ≡ es
 same_named [] [] [] a b e = refl

@@ -1,5 +1,5 @@
 -- The least of the sums that were looked at, as the loops over menus and over letters go on.
-use Rattle.std.proofs.Common.{◌≡◌, ◌<◌, ◌≤◌, ◌≤ℤ◌, ◌<ℤ◌, ◌+◌, ◌^◌, ◌⊎◌, inl, inr, ℕ, ℤ, T, true, false, not, refl, sym, subst, arith}
+use Rattle.std.proofs.Common.{◌≡◌, ◌<◌, ◌≤◌, ◌≤ℤ◌, ◌<ℤ◌, ◌+◌, ◌^◌, ◌⊎◌, inl, inr, ℕ, ℤ, T, true, false, not, sym, subst, arith}
 use Rattle.std.specs.Int.Signed.{<ℤ-≤ℤ_trans, ≤ℤ_refl, lt_z, lt_z_no, lt_z_yes}
 use Rattle.std.proofs.lemmas.Bool.{cases_lt}
 use Rattle.std.proofs.Math.Nat.{pow-le-pow_right}
@@ -7,7 +7,7 @@ use Rattle.std.proofs.lemmas.Int.{ints}
 use Rattle.rp_menu.specs.MenuLists.{MenuList, has_letter}
 use Rattle.rp_menu.proofs.MenuLetters.{letter_within}
 use Rattle.rp_orders.specs.InnerLeast.{IsLeastBefore}
-use Rattle.rp_orders.specs.LeastSums.{ComesBefore, IsLeastSum}
+use Rattle.rp_orders.specs.LeastSums.{ComesBefore}
 use Rattle.rp_orders.specs.MenuSums.{sum_at}
 use Rattle.rp_orders.specs.declared.least.LeastSum.{LeastSum}
 use Rattle.rp_patch.specs.declared.apportionment.Units.{Units}
@@ -20,44 +20,11 @@ split m z b y (inr (e, l)) = elim (cases_lt y z) [
   | inr g ↦ inr (e, omega (arith, l, g))
 ]
 
--- nothing comes before the first letter of the first menu
-nothing_first : (b y : ℕ) → has_letter b y ≡ true → ¬ ComesBefore b y 1 0
-nothing_first b y on (inl l) =
-    let none : b ≡ 0 = omega (arith, l) in
-    let inside = letter_within 0 0 y (omega arith) (subst (λ m. has_letter m y ≡ true) none on) in
-    omega (arith, inside)
-nothing_first b y on (inr (e, l)) = omega (arith, l)
-
 module _ (list : MenuList) (units : Units) where
   abbrev sum : ℕ → ℕ → ℤ
   sum b y = sum_at list units y b
 
-  pub at_first : (found : LeastSum) → 1 ≤ list.letters → found.menu ≡ 1 → found.letter ≡ 0 → found.sum ≡ sum 1 0 → IsLeastBefore list units 1 0 found
-  at_first found some menu letter exact = record {
-    within = subst (λ m. m < 2 ^ list.letters) (sym menu) (omega (arith, two));
-    held = rw (menu, letter) refl;
-    exact = rw (menu, letter) exact;
-    least = λ b y on before. absurd (nothing_first b y on before);
-    first = λ b y on before. absurd (nothing_first b y on (rw (menu, letter) at before));
-  }
-    where
-      two : 2 ≤ 2 ^ list.letters
-      two = pow-le-pow_right {n = 2} (omega arith) {i = 1} {j = list.letters} (omega (arith, some))
-
   module _ (m z : ℕ) (found : LeastSum) (is : IsLeastBefore list units m z found) where
-    -- the menu does not have the letter
-    pub passed_over : has_letter m z ≡ false → IsLeastBefore list units m (z + 1) found
-    passed_over off = record {
-      within = is.within;
-      held = is.held;
-      exact = is.exact;
-      least = λ b y on before. elim (split m z b y before) [
-        | inl earlier ↦ is.least b y on earlier
-        | inr here ↦ absurd (let there = rw (here.0, here.1) at on in let not_there = off in cc)
-      ];
-      first = is.first;
-    }
-
     -- the sum is no less
     pub kept : (x : ℤ) → x ≡ sum m z → found.sum ≤ℤ x → IsLeastBefore list units m (z + 1) found
     kept x exact no_less = record {
@@ -106,15 +73,6 @@ module _ (list : MenuList) (units : Units) where
             inr (here, omega (arith, inside, all))
       ]
       earlier b y on (inr (e, l)) = absurd (omega (arith, l))
-
-  -- all menus
-  pub least_of_all : (found : LeastSum) → IsLeastBefore list units (2 ^ list.letters) 0 found → IsLeastSum list units found.menu found.letter
-  least_of_all found is = record {
-    within = is.within;
-    held = is.held;
-    least = λ b y small on. rw (← is.exact) (is.least b y on (inl small));
-    first = λ b y on before. rw (← is.exact) (is.first b y on before);
-  }
 
 -- a menu is one of the letters that there may be
 pub small_menu : (letters menu : ℕ) → letters ≤ 6 → menu < 2 ^ letters → menu < 64

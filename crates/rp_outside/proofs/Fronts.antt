@@ -5,7 +5,7 @@ use Rattle.std.proofs.lemmas.List.{length-take-le, take_all}
 use Rattle.std.proofs.Math.Seq.{take-add}
 use Rattle.rp_outside.specs.Faults.{next_count}
 use Rattle.rp_outside.specs.Reads.{calls_through}
-use Rattle.rp_outside.specs.Known.{BeginsWith}
+use Rattle.rp_outside.specs.InnerFronts.{BeginsWith}
 
 -- a front and the n bytes that stand after it are a longer front
 pub longer_front : (bs front piece : List ℕ) (n : ℕ) → (length front ≤ length bs) × (take (length front) bs ≡ front) → (piece ≡ take n (drop (length front) bs)) × (n ≤ length (drop (length front) bs)) → (length (front ++ piece) ≤ length bs) × (take (length (front ++ piece)) bs ≡ front ++ piece)

@@ -1,7 +1,8 @@
 -- How far a loop of reads or of writes has come, in one record each.
 use Rattle.std.proofs.Common.{◌≡◌, ℕ, ◌+◌, ◌<◌, ◌≤◌, ◌⊎◌, List, Option, length, take}
 use Rattle.rp_outside.specs.Faults.{HasRisen, last_count}
-use Rattle.rp_outside.specs.Known.{BeginsWith, Grows}
+use Rattle.rp_outside.specs.Known.{Grows}
+use Rattle.rp_outside.specs.InnerFronts.{BeginsWith}
 
 -- what a load keeps: it has the first bytes of its name, and each read gave at least one of them
 pub record IsLoadedSoFar (known : Option (List ℕ)) (front : List ℕ) (limit calls_before calls : ℕ) : Type 0 where

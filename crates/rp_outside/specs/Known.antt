@@ -2,10 +2,6 @@
 use Rattle.std.specs.Prelude.{ℕ, ◌≡◌, ◌≢◌, ◌<◌, ◌≤◌, List, ◌++◌, Option, Some, length, take}
 use Rattle.std.specs.Option.{ForSome}
 
--- the known bytes begin with these
-abbrev pub BeginsWith : Option (List ℕ) → List ℕ → Type 0
-BeginsWith known front = ForSome known (λ bs. (length front ≤ length bs) × (take (length front) bs ≡ front))
-
 -- these are all of the known bytes
 abbrev pub AreAll : Option (List ℕ) → List ℕ → Type 0
 AreAll known bs = ForSome known (λ all. bs ≡ all)

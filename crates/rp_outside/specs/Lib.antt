@@ -8,3 +8,4 @@ pub mod Reads
 pub mod SureDesk
 pub mod SystemCounts
 pub mod Known
+pub mod InnerFronts

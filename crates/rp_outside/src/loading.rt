@@ -2,7 +2,8 @@ ghost use Rattle.std.specs.Prelude.{◌≡◌, ◌+◌, ◌^◌, ◌<◌, ◌≤
 ghost use Rattle.std.specs.Prelude.{length, vec_len};
 ghost use Rattle.rp_outside.specs.Faults.{EachStays, HasRisen, NoneFalls, next_count};
 ghost use Rattle.rp_outside.specs.Reads.{calls_through};
-ghost use Rattle.rp_outside.specs.Known.{AreAll, AreAtMost, AreMoreThan, BeginsWith};
+ghost use Rattle.rp_outside.specs.Known.{AreAll, AreAtMost, AreMoreThan};
+ghost use Rattle.rp_outside.specs.InnerFronts.{BeginsWith};
 
 use crate::desks::{Desk, DeskFault};
 use std::alloc::Global;

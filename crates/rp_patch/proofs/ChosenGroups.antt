@@ -13,7 +13,7 @@ use Rattle.rp_patch.specs.Units.{all_chosen, chosen_at, chosen_counts}
 use Rattle.rp_patch.specs.declared.chosen.Chosen.{Chosen}
 use Rattle.rp_patch.proofs.Apart.{some_or_none}
 use Rattle.rp_patch.proofs.ChosenLaws.{chosen_budget, chosen_rising, chosen_total, times_if}
-use Rattle.rp_patch.proofs.RaisedGroups.{sum_zero}
+use Rattle.rp_patch.proofs.RoundedUpGroups.{sum_zero}
 use Rattle.rp_patch.proofs.Sums.{some_times}
 
 -- some choices were made on every budget, and not too many

@@ -29,14 +29,14 @@ module _ (n : ℕ) (budget whole rest : ℕ → ℕ) (total : ℕ) where
   one_first h i (inr a) (inl b) = omega (arith, a.0, b)
   one_first h i (inr a) (inr b) = omega (arith, a.1, b.1)
 
-  -- no place is raised in one and not in the other
+  -- no place is rounded up in one and not in the other
   not_apart : (one other : ℕ → ℕ) → IsShared n budget whole rest total one → IsShared n budget whole rest total other
       → (i : ℕ) → i < n → one i ≡ whole i + 1 → other i ≡ whole i → ⊥
-  not_apart one other a b i within raised not_raised =
+  not_apart one other a b i within rounded_up not_rounded_up =
       let here = counts_same (budget i) (budget i) (one i) refl in
       let there = counts_same (budget i) (budget i) (other i) refl in
       let found = other_more (λ k. if budget k == budget i then one k else 0) (λ k. if budget k == budget i then other k else 0) n i
-      (a.together i within ∙ sym (b.together i within)) within (omega (arith, here, there, raised, not_raised)) in
+      (a.together i within ∙ sym (b.together i within)) within (omega (arith, here, there, rounded_up, not_rounded_up)) in
       go found.0 found.1 (counts_less (budget found.0) (budget i) (one found.0) (other found.0) found.2)
     where
       go : (h : ℕ) → h < n → (budget h ≡ budget i) × (one h < other h) → ⊥
@@ -49,7 +49,7 @@ module _ (n : ℕ) (budget whole rest : ℕ → ℕ) (total : ℕ) where
             | inl w ↦ w
             | inr w ↦ omega (arith, w, up, less)
           ] in
-          one_first h i (b.largest h i l within same up not_raised) (a.largest i h within l (sym same) raised down)
+          one_first h i (b.largest h i l within same up not_rounded_up) (a.largest i h within l (sym same) rounded_up down)
 
   pub same_shares : (one other : ℕ → ℕ) → IsShared n budget whole rest total one → IsShared n budget whole rest total other
       → (i : ℕ) → i < n → one i ≡ other i

@@ -1,6 +1,6 @@
 pub mod AddedPatches
 pub mod Apart
-pub mod RaisedPortions
+pub mod RoundedUpPortions
 pub mod ChosenFacts
 pub mod ChosenGroups
 pub mod ChosenLaws
@@ -12,7 +12,7 @@ pub mod GroupFacts
 pub mod Multiples
 pub mod PartLaws
 pub mod PatchesMade
-pub mod RaisedGroups
+pub mod RoundedUpGroups
 pub mod Rows
 pub mod SearchLaws
 pub mod SetLaws

@@ -8,9 +8,9 @@ use Rattle.std.proofs.Math.Nat.{dvd-mul_left, dvd_trans}
 use Rattle.rp_table.specs.Sums.{sum_below}
 use Rattle.rp_table.proofs.SumsBelow.{sum_below-same}
 use Rattle.rp_patch.specs.Apportionment.{AreFilled, ComesBefore, GroupedCounts, HasApportionedShares, HasShares, counts_in, rest_of, whole_of}
-use Rattle.rp_patch.specs.InnerPortions.{ArePortions, AreRaisedBelow, AreUnitsOf, AreWhole, IsAhead, IsTotal, portion_at, portions_on, raised_on, units_of, whole_on}
+use Rattle.rp_patch.specs.InnerPortions.{ArePortions, AreRoundedUpBelow, AreUnitsOf, AreWhole, IsAhead, IsTotal, portion_at, portions_on, rounded_up_on, units_of, whole_on}
 use Rattle.rp_patch.specs.declared.portion.Portion.{Portion}
-use Rattle.rp_patch.proofs.RaisedGroups.{same_whole}
+use Rattle.rp_patch.proofs.RoundedUpGroups.{same_whole}
 use Rattle.rp_patch.proofs.Shares.{cancelled, sum_plus, sum_scaled_at_most}
 use Rattle.rp_patch.proofs.Sums.{sum_at_least}
 
@@ -92,8 +92,8 @@ module _ (g : GroupedCounts) (inside : (i : ℕ) → i < g.places → g.group i 
       scaled a b zero le = omega arith
       scaled a b (suc t) le = omega (arith, scaled a b t le, le)
 
-  none_raised : (i : ℕ) → (portion_at portions i).raised ≡ false
-  none_raised i = by (cases_lt i (length portions))
+  none_rounded_up : (i : ℕ) → (portion_at portions i).rounded_up ≡ false
+  none_rounded_up i = by (cases_lt i (length portions))
     where
       cases_lt : (k m : ℕ) → (k < m) ⊎ (m ≤ k)
       cases_lt zero zero = inr (omega arith)
@@ -101,9 +101,9 @@ module _ (g : GroupedCounts) (inside : (i : ℕ) → i < g.places → g.group i 
       cases_lt (suc k) zero = inr (omega arith)
       cases_lt (suc k) (suc m) = elim (cases_lt k m) [ inl l ↦ inl (omega (arith, l)) | inr g ↦ inr (omega (arith, g)) ]
 
-      by : (i < length portions) ⊎ (length portions ≤ i) → (portion_at portions i).raised ≡ false
-      by (inl l) = ap (λ (p : Portion). p.raised) (shared.1 i (omega (arith, l, shared.0)))
-      by (inr g) = ap (λ (p : Portion). p.raised) (get_or_past portions i _ g)
+      by : (i < length portions) ⊎ (length portions ≤ i) → (portion_at portions i).rounded_up ≡ false
+      by (inl l) = ap (λ (p : Portion). p.rounded_up) (shared.1 i (omega (arith, l, shared.0)))
+      by (inr g) = ap (λ (p : Portion). p.rounded_up) (get_or_past portions i _ g)
 
   pub are_whole : g.places ≤ 64 → total ≤ 1000000000 → AreWhole portions g.groups total
   are_whole few small = record {
@@ -111,42 +111,42 @@ module _ (g : GroupedCounts) (inside : (i : ℕ) → i < g.places → g.group i 
     small = λ i within. omega (arith, whole_small i within, small);
     within = whole_within;
     enough = whole_enough;
-    none_raised = none_raised;
+    none_rounded_up = none_rounded_up;
   }
 
-  module _ (raised : List Portion) (all : AreRaisedBelow portions raised g.groups total) (units : List ℕ) (made : AreUnitsOf raised g.places units) where
-    unit_at : (i : ℕ) → i < g.places → slice_index units i ≡ units_of (portion_at raised i)
+  module _ (rounded_up : List Portion) (all : AreRoundedUpBelow portions rounded_up g.groups total) (units : List ℕ) (made : AreUnitsOf rounded_up g.places units) where
+    unit_at : (i : ℕ) → i < g.places → slice_index units i ≡ units_of (portion_at rounded_up i)
     unit_at i within = made.1 i within
 
-    raised_count : length raised ≡ g.places
-    raised_count = all.same.count ∙ shared.0
+    rounded_up_count : length rounded_up ≡ g.places
+    rounded_up_count = all.same.count ∙ shared.0
 
-    raised_group : (i : ℕ) → i < g.places → (portion_at raised i).group ≡ g.group i
-    raised_group i within = all.same.group i ∙ group_is i within
+    rounded_up_group : (i : ℕ) → i < g.places → (portion_at rounded_up i).group ≡ g.group i
+    rounded_up_group i within = all.same.group i ∙ group_is i within
 
     pub given_on : AreFilled g total (slice_index units)
     given_on j below =
-        ap (λ k. sum_below k (λ i. if g.group i == j then slice_index units i else 0)) (sym raised_count)
-        ∙ sum_below-same _ _ (length raised) (λ i within.
-        let in_all : i < g.places = omega (arith, within, raised_count) in
-        (λ k. if (sym (raised_group i in_all)) k == j then unit_at i in_all k else 0))
-        ∙ sum_plus (λ i. (portion_at raised i).group == j) (λ i. (portion_at raised i).whole) (λ i. if (portion_at raised i).raised then 1 else 0) (length raised)
+        ap (λ k. sum_below k (λ i. if g.group i == j then slice_index units i else 0)) (sym rounded_up_count)
+        ∙ sum_below-same _ _ (length rounded_up) (λ i within.
+        let in_all : i < g.places = omega (arith, within, rounded_up_count) in
+        (λ k. if (sym (rounded_up_group i in_all)) k == j then unit_at i in_all k else 0))
+        ∙ sum_plus (λ i. (portion_at rounded_up i).group == j) (λ i. (portion_at rounded_up i).whole) (λ i. if (portion_at rounded_up i).rounded_up then 1 else 0) (length rounded_up)
         ∙ all.given j below
 
-    same_whole_of : (i : ℕ) → i < g.places → whole_of g total i ≡ (portion_at raised i).whole
+    same_whole_of : (i : ℕ) → i < g.places → whole_of g total i ≡ (portion_at rounded_up i).whole
     same_whole_of i within = sym (whole_is i within) ∙ sym (all.same.whole i)
 
-    same_rest_of : (i : ℕ) → i < g.places → rest_of g total i ≡ (portion_at raised i).rest
+    same_rest_of : (i : ℕ) → i < g.places → rest_of g total i ≡ (portion_at rounded_up i).rest
     same_rest_of i within = sym (rest_is i within) ∙ sym (all.same.rest i)
 
     units_cases : (b : Bool) (w u : ℕ) → u ≡ w + (if b then 1 else 0) → ((b ≡ true) × (u ≡ w + 1)) ⊎ ((b ≡ false) × (u ≡ w))
     units_cases true w u e = inl (refl, e)
     units_cases false w u e = inr (refl, omega (arith, e))
 
-    cases_of : (i : ℕ) → i < g.places → (((portion_at raised i).raised ≡ true) × (slice_index units i ≡ whole_of g total i + 1))
-        ⊎ (((portion_at raised i).raised ≡ false) × (slice_index units i ≡ whole_of g total i))
-    cases_of i within = units_cases (portion_at raised i).raised (whole_of g total i) (slice_index units i)
-        (unit_at i within ∙ ap (λ w. w + (if (portion_at raised i).raised then 1 else 0)) (sym (same_whole_of i within)))
+    cases_of : (i : ℕ) → i < g.places → (((portion_at rounded_up i).rounded_up ≡ true) × (slice_index units i ≡ whole_of g total i + 1))
+        ⊎ (((portion_at rounded_up i).rounded_up ≡ false) × (slice_index units i ≡ whole_of g total i))
+    cases_of i within = units_cases (portion_at rounded_up i).rounded_up (whole_of g total i) (slice_index units i)
+        (unit_at i within ∙ ap (λ w. w + (if (portion_at rounded_up i).rounded_up then 1 else 0)) (sym (same_whole_of i within)))
 
     pub apportioned : (unit : ℕ) → total ≡ unit → HasApportionedShares g unit total (slice_index units)
     apportioned unit is = record {
@@ -154,17 +154,17 @@ module _ (g : GroupedCounts) (inside : (i : ℕ) → i < g.places → g.group i 
       each = λ i within. elim (cases_of i within) [ inl h ↦ inr h.1 | inr h ↦ inl h.1 ];
       together = given_on;
       largest = λ h i h_in i_in same up down.
-          let is_up : (portion_at raised h).raised ≡ true = elim (cases_of h h_in) [ inl c ↦ c.0 | inr c ↦ absurd (omega (arith, c.1, up)) ] in
-          let is_down : (portion_at raised i).raised ≡ false = elim (cases_of i i_in) [ inl c ↦ absurd (omega (arith, c.1, down)) | inr c ↦ c.0 ] in
-          before h i h_in i_in (all.first h i (omega (arith, h_in, raised_count)) (omega (arith, i_in, raised_count))
-          (raised_group h h_in ∙ same ∙ sym (raised_group i i_in)) is_up is_down);
+          let is_up : (portion_at rounded_up h).rounded_up ≡ true = elim (cases_of h h_in) [ inl c ↦ c.0 | inr c ↦ absurd (omega (arith, c.1, up)) ] in
+          let is_down : (portion_at rounded_up i).rounded_up ≡ false = elim (cases_of i i_in) [ inl c ↦ absurd (omega (arith, c.1, down)) | inr c ↦ c.0 ] in
+          before h i h_in i_in (all.first h i (omega (arith, h_in, rounded_up_count)) (omega (arith, i_in, rounded_up_count))
+          (rounded_up_group h h_in ∙ same ∙ sym (rounded_up_group i i_in)) is_up is_down);
     }
       where
-        before : (h i : ℕ) → h < g.places → i < g.places → IsAhead raised h i → ComesBefore g total h i
+        before : (h i : ℕ) → h < g.places → i < g.places → IsAhead rounded_up h i → ComesBefore g total h i
         before h i h_in i_in (inl l) = inl (rw (same_rest_of h h_in, same_rest_of i i_in) l)
         before h i h_in i_in (inr l) = inr (same_rest_of h h_in ∙ l.0 ∙ sym (same_rest_of i i_in), l.1)
 
-    -- without a unit nothing is left over, so none is raised
+    -- without a unit nothing is left over, so none is rounded up
     module _ (least : (j : ℕ) → j < g.groups → counts_in g j ∣ total) where
       no_rest : (i : ℕ) → i < g.places → (portion_at portions i).rest ≡ 0
       no_rest i within = rest_is i within ∙ mod-eq-zero_of_dvd (all_on i) (divides_product (g.count i) (least (g.group i) (inside i within)))
@@ -182,20 +182,20 @@ module _ (g : GroupedCounts) (inside : (i : ℕ) → i < g.places → g.group i 
           let le = sum_scaled_at_most (on j) (λ i. g.count i) (λ i. (portion_at portions i).whole) total (counts_in g j) (length portions) (exactly j) in
           cancelled total (whole_on portions j) (counts_in g j) (omega (arith, le, ap (λ k. k * total) (times_here j below))) (positive j below)
 
-      not_raised : (i : ℕ) → i < g.places → units_of (portion_at raised i) ≡ (portion_at raised i).whole
-      not_raised i within =
+      not_rounded_up : (i : ℕ) → i < g.places → units_of (portion_at rounded_up i) ≡ (portion_at rounded_up i).whole
+      not_rounded_up i within =
           let j = g.group i in
           let below : j < g.groups = inside i within in
-          let none : raised_on raised j ≡ 0 = omega (arith, all.given j below, same_whole portions raised j all.same, all_whole j below) in
-          let in_raised : i < length raised = omega (arith, within, raised_count) in
-          let term = sum_at_least (λ k. if (portion_at raised k).group == j then (if (portion_at raised k).raised then 1 else 0) else 0) (length raised) i in_raised in
-          let here : ◌≡◌ {A = ℕ} (if (portion_at raised i).group == j then (if (portion_at raised i).raised then 1 else 0) else 0) (if (portion_at raised i).raised then 1 else 0) =
-          ap (λ b. if b then (if (portion_at raised i).raised then 1 else 0) else 0) (eq-eqb (portion_at raised i).group j (raised_group i within)) in
+          let none : rounded_up_on rounded_up j ≡ 0 = omega (arith, all.given j below, same_whole portions rounded_up j all.same, all_whole j below) in
+          let in_rounded_up : i < length rounded_up = omega (arith, within, rounded_up_count) in
+          let term = sum_at_least (λ k. if (portion_at rounded_up k).group == j then (if (portion_at rounded_up k).rounded_up then 1 else 0) else 0) (length rounded_up) i in_rounded_up in
+          let here : ◌≡◌ {A = ℕ} (if (portion_at rounded_up i).group == j then (if (portion_at rounded_up i).rounded_up then 1 else 0) else 0) (if (portion_at rounded_up i).rounded_up then 1 else 0) =
+          ap (λ b. if b then (if (portion_at rounded_up i).rounded_up then 1 else 0) else 0) (eq-eqb (portion_at rounded_up i).group j (rounded_up_group i within)) in
           omega (arith, none, term, here)
 
       pub exact_units : (i : ℕ) → i < g.places → slice_index units i * counts_in g (g.group i) ≡ g.count i * total
       exact_units i within =
-          let is : slice_index units i ≡ (portion_at portions i).whole = unit_at i within ∙ not_raised i within ∙ all.same.whole i in
+          let is : slice_index units i ≡ (portion_at portions i).whole = unit_at i within ∙ not_rounded_up i within ∙ all.same.whole i in
           (λ k. is k * counts_in g (g.group i)) ∙ omega (arith, split i within, no_rest i within)
 
     pub has_shares : (asked : Option ℕ) → IsTotal g asked total → HasShares g asked total (slice_index units)

@@ -49,8 +49,8 @@ abbrev pub ComesBefore : GroupedCounts → ℕ → ℕ → ℕ → Type 0
 ComesBefore g all h i = (rest_of g all i < rest_of g all h) ⊎ ((rest_of g all h ≡ rest_of g all i) × (h < i))
 
 -- The units of place i are the whole part of its share and one more.
-abbrev pub IsRaised : GroupedCounts → ℕ → (ℕ → ℕ) → ℕ → Type 0
-IsRaised g all units i = units i ≡ whole_of g all i + 1
+abbrev pub IsRoundedUp : GroupedCounts → ℕ → (ℕ → ℕ) → ℕ → Type 0
+IsRoundedUp g all units i = units i ≡ whole_of g all i + 1
 
 -- The places of each group have the total together.
 abbrev pub AreFilled : GroupedCounts → ℕ → (ℕ → ℕ) → Type 0
@@ -60,10 +60,10 @@ AreFilled g all units = (j : ℕ) → j < g.groups → sum_in g units j ≡ all
 -- group have the total together; one more have those with the largest rests, of equal ones the earlier.
 pub record HasApportionedShares (g : GroupedCounts) (unit all : ℕ) (units : ℕ → ℕ) : Type 0 where
   pub total : all ≡ unit
-  pub each : (i : ℕ) → i < g.places → (units i ≡ whole_of g all i) ⊎ IsRaised g all units i
+  pub each : (i : ℕ) → i < g.places → (units i ≡ whole_of g all i) ⊎ IsRoundedUp g all units i
   pub together : AreFilled g all units
   pub largest : (h i : ℕ) → h < g.places → i < g.places → g.group h ≡ g.group i
-      → IsRaised g all units h → units i ≡ whole_of g all i → ComesBefore g all h i
+      → IsRoundedUp g all units h → units i ≡ whole_of g all i → ComesBefore g all h i
 
 -- The units of the places, under a total of each group, as they are asked for.
 abbrev pub HasShares : GroupedCounts → Option ℕ → ℕ → (ℕ → ℕ) → Type 0

@@ -7,19 +7,19 @@ use Rattle.rp_patch.specs.declared.TheConstants.{PLACES, UNITS}
 use Rattle.rp_patch.specs.declared.portion.Portion.{Portion}
 
 abbrev pub portion_at : List Portion → ℕ → Portion
-portion_at portions i = slice_index_or portions i (record { group = 0; whole = 0; rest = 0; raised = false })
+portion_at portions i = slice_index_or portions i (record { group = 0; whole = 0; rest = 0; rounded_up = false })
 
--- The portion of a place of a group with such a count, of so many, not raised: the whole part of its share of a total,
--- and what is left of the share.
+-- The portion of a place of a group with such a count, of so many, not rounded up: the whole part of its share of a
+-- total, and what is left of the share.
 abbrev pub portion_of : ℕ → ℕ → ℕ → ℕ → Portion
 portion_of group count all total = record {
   group = group;
   whole = (count * total) / all;
   rest = (count * total) % all;
-  raised = false;
+  rounded_up = false;
 }
 
--- The portions of the first n places, not raised.
+-- The portions of the first n places, not rounded up.
 abbrev pub ArePortions : GroupedCounts → ℕ → ℕ → List Portion → Type 0
 ArePortions g total n portions = (length portions ≡ n) × ((i : ℕ) → i < n
     → portion_at portions i ≡ portion_of (g.group i) (g.count i) (counts_in g (g.group i)) total)
@@ -37,16 +37,16 @@ IsAhead portions h i =
     ((portion_at portions i).rest < (portion_at portions h).rest)
     ⊎ (((portion_at portions h).rest ≡ (portion_at portions i).rest) × (h < i))
 
--- Those of each group that are raised are ahead of those that are not.
-abbrev pub RaisesFirst : List Portion → Type 0
-RaisesFirst portions = (h i : ℕ) → h < length portions → i < length portions
+-- Those of each group that are rounded up are ahead of those that are not.
+abbrev pub RoundsUpFirst : List Portion → Type 0
+RoundsUpFirst portions = (h i : ℕ) → h < length portions → i < length portions
     → (portion_at portions h).group ≡ (portion_at portions i).group
-    → (portion_at portions h).raised ≡ true → (portion_at portions i).raised ≡ false → IsAhead portions h i
+    → (portion_at portions h).rounded_up ≡ true → (portion_at portions i).rounded_up ≡ false → IsAhead portions h i
 
--- How many are raised of group j.
-abbrev pub raised_on : List Portion → ℕ → ℕ
-raised_on portions j = sum_below (length portions)
-    (λ i. if (portion_at portions i).group == j then (if (portion_at portions i).raised then 1 else 0) else 0)
+-- How many are rounded up of group j.
+abbrev pub rounded_up_on : List Portion → ℕ → ℕ
+rounded_up_on portions j = sum_below (length portions)
+    (λ i. if (portion_at portions i).group == j then (if (portion_at portions i).rounded_up then 1 else 0) else 0)
 
 -- The whole parts of group j together.
 abbrev pub whole_on : List Portion → ℕ → ℕ
@@ -57,43 +57,43 @@ whole_on portions j =
 abbrev pub portions_on : List Portion → ℕ → ℕ
 portions_on portions j = sum_below (length portions) (λ i. if (portion_at portions i).group == j then 1 else 0)
 
--- Portion i is of group j and not raised.
+-- Portion i is of group j and not rounded up.
 abbrev pub IsLeft : List Portion → ℕ → ℕ → Type 0
-IsLeft portions j i = ((portion_at portions i).group ≡ j) × ((portion_at portions i).raised ≡ false)
+IsLeft portions j i = ((portion_at portions i).group ≡ j) × ((portion_at portions i).rounded_up ≡ false)
 
--- Of the first n portions, which of group j is to be raised next: none, or one that is ahead of all others.
+-- Of the first n portions, which of group j is to be rounded up next: none, or one that is ahead of all others.
 abbrev pub IsNextUp : List Portion → ℕ → ℕ → Option ℕ → Type 0
 IsNextUp portions j n found = MatchOption found
     ((i : ℕ) → i < n → ¬ IsLeft portions j i)
     (λ best. (best < n) × IsLeft portions j best
     × ((i : ℕ) → i < n → IsLeft portions j i → i ≢ best → IsAhead portions best i))
 
--- So many are raised of group j, those with the largest rests, and those of other groups are as they were.
-pub record IsRaisedBy (old new : List Portion) (j many : ℕ) : Type 0 where
+-- So many are rounded up of group j, those with the largest rests, and those of other groups are as they were.
+pub record IsRoundedUpBy (old new : List Portion) (j many : ℕ) : Type 0 where
   pub same : AreSamePortions old new
-  pub first : RaisesFirst new
-  pub many_raised : raised_on new j ≡ many
-  pub others : (i : ℕ) → (portion_at old i).group ≢ j → (portion_at new i).raised ≡ (portion_at old i).raised
+  pub first : RoundsUpFirst new
+  pub many_rounded_up : rounded_up_on new j ≡ many
+  pub others : (i : ℕ) → (portion_at old i).group ≢ j → (portion_at new i).rounded_up ≡ (portion_at old i).rounded_up
 
 -- Whole parts within the limits, of which those of each of the first groups are less than the total by no more than
--- one for each portion, and none is raised.
+-- one for each portion, and none is rounded up.
 pub record AreWhole (portions : List Portion) (groups total : ℕ) : Type 0 where
   pub few : length portions ≤ PLACES
   pub small : (i : ℕ) → i < length portions → (portion_at portions i).whole ≤ UNITS
   pub within : (j : ℕ) → j < groups → whole_on portions j ≤ total
   pub enough : (j : ℕ) → j < groups → total ≤ whole_on portions j + portions_on portions j
-  pub none_raised : (i : ℕ) → (portion_at portions i).raised ≡ false
+  pub none_rounded_up : (i : ℕ) → (portion_at portions i).rounded_up ≡ false
 
--- All of the total is given on the first groups, and none is raised of the others.
-pub record AreRaisedBelow (old new : List Portion) (groups total : ℕ) : Type 0 where
+-- All of the total is given on the first groups, and none is rounded up of the others.
+pub record AreRoundedUpBelow (old new : List Portion) (groups total : ℕ) : Type 0 where
   pub same : AreSamePortions old new
-  pub first : RaisesFirst new
-  pub given : (j : ℕ) → j < groups → whole_on new j + raised_on new j ≡ total
-  pub later : (i : ℕ) → groups ≤ (portion_at new i).group → (portion_at new i).raised ≡ false
+  pub first : RoundsUpFirst new
+  pub given : (j : ℕ) → j < groups → whole_on new j + rounded_up_on new j ≡ total
+  pub later : (i : ℕ) → groups ≤ (portion_at new i).group → (portion_at new i).rounded_up ≡ false
 
 -- The units that a portion has.
 abbrev pub units_of : Portion → ℕ
-units_of portion = portion.whole + (if portion.raised then 1 else 0)
+units_of portion = portion.whole + (if portion.rounded_up then 1 else 0)
 
 -- The units of the first n portions.
 abbrev pub AreUnitsOf : List Portion → ℕ → List ℕ → Type 0

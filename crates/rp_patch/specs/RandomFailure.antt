@@ -1,6 +1,6 @@
 -- When an item on random choices fails (this program's own order of clauses; types after McFadden and Richter 1990).
 -- The clauses are about rational types as such, however they are found.
-use Rattle.std.specs.Prelude.{◌≡◌, ℕ, List, [], ◌∷◌}
+use Rattle.std.specs.Prelude.{◌≡◌, ℕ, [], ◌∷◌}
 use Rattle.rp_evidence.specs.declared.certificate.Item.{Item}
 use Rattle.rp_evidence.specs.declared.certificate.Item.TheVariants.{Garp as GarpItem, Afriat as AfriatItem}
 use Rattle.rp_evidence.specs.declared.certificate.Item.TheVariants.{Efficiency as EfficiencyItem}
@@ -9,16 +9,10 @@ use Rattle.rp_evidence.specs.declared.certificate.Item.TheVariants.{Demand as De
 use Rattle.rp_evidence.specs.declared.certificate.Item.TheVariants.{Random as RandomItem}
 use Rattle.rp_evidence.specs.declared.failure.Reason.TheVariants.{Units}
 use Rattle.rp_evidence.specs.declared.random.RandomPart.{RandomPart}
-use Rattle.rp_evidence.specs.declared.random.Share.{Share}
 use Rattle.rp_patch.specs.Clauses.{Finding, InOrder, Unless}
-use Rattle.rp_patch.specs.KindFailure.{EvidenceFailsOf, ViolationFailsOf}
+use Rattle.rp_patch.specs.KindFailure.{EvidenceFailsOf}
 use Rattle.rp_patch.specs.Mixtures.{types_on}
 use Rattle.rp_patch.specs.Patches.{PatchList}
-
--- A violation: a weight of each patch; no patch gets more than its units; every rational type weighs at least the
--- denominator; the parts have as much as the units weigh; and that is less than the total.
-abbrev pub ViolationFails : PatchList → ℕ → List Share → List ℕ → Finding
-ViolationFails p = ViolationFailsOf (types_on p)
 
 -- What the evidence says, whatever its total. What is withheld claims nothing.
 abbrev pub RandomPartFails : PatchList → RandomPart → Finding

@@ -7,8 +7,7 @@ use Rattle.rp_patch.specs.declared.TheConstants.{PATCHES}
 use Rattle.rp_patch.specs.declared.fault.PatchFault.{PatchFault}
 use Rattle.rp_patch.specs.declared.fault.PatchFault.TheVariants.{TooManyPatches, NeedUnit, NoMemory}
 use Rattle.rp_patch.specs.declared.chosen.Chosen.{Chosen}
-use Rattle.rp_patch.specs.Apportionment.{GroupedCounts, HasExactShares, HasShares, IsCommonMultiple}
-use Rattle.rp_patch.specs.Apportionment.{PassesTotalAt}
+use Rattle.rp_patch.specs.Apportionment.{GroupedCounts, HasShares, PassesTotalAt}
 use Rattle.rp_patch.specs.Choices.{RandomInput}
 use Rattle.rp_patch.specs.Patches.{PatchList, budget_at, patch_at, units_at}
 use Rattle.rp_patch.specs.Signs.{signs_of}
@@ -57,13 +56,7 @@ chosen_counts input = record {
   count = λ i. (chosen_at (all_chosen input) i).times;
 }
 
--- Multiples of what was chosen on the first budgets, and units of patches: those of these counts.
-abbrev pub IsMultiple : RandomInput → ℕ → ℕ → Type 0
-IsMultiple input budgets m = IsCommonMultiple (chosen_counts input) budgets m
-
-abbrev pub HasExactUnits : RandomInput → PatchList → Type 0
-HasExactUnits input p = HasExactShares (chosen_counts input) p.total (units_at p)
-
+-- Units of patches: those of these counts.
 abbrev pub HasUnits : RandomInput → Option ℕ → PatchList → Type 0
 HasUnits input asked p = HasShares (chosen_counts input) asked p.total (units_at p)
 

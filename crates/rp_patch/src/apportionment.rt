@@ -5,7 +5,7 @@ ghost use Rattle.rp_patch.specs.InnerPortions.{IsTotal};
 ghost use Rattle.rp_patch.specs.declared.TheConstants.{UNITS};
 
 use crate::ApportionFault;
-use crate::portion::{all_units, portions_of, raise_all};
+use crate::portion::{all_units, portions_of, round_all_up};
 use crate::totals::{common_total, count_groups};
 use rp_num::Seq;
 use std::alloc::Global;
@@ -38,7 +38,7 @@ pub fn apportion(
 {
     let total = total_of(groups, counts, unit)?;
     let mut portions = portions_of(alloc, groups, counts, total)?;
-    raise_all(&mut portions, count_groups(groups, counts), total);
+    round_all_up(&mut portions, count_groups(groups, counts), total);
     let units = all_units(alloc, portions.as_slice())?;
     Ok(Units {
         total,

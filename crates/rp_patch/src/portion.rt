@@ -2,24 +2,25 @@
 ghost use Rattle.std.specs.Prelude.{◌≡◌, ◌<◌, ◌≤◌, ◌↔◌, ℕ, true, All, IfOk, IfSome, IsTrue, length};
 ghost use Rattle.std.specs.Prelude.{MatchOption, nat_lt};
 ghost use Rattle.rp_patch.specs.Apportionment.{AreGrouped, grouped};
-ghost use Rattle.rp_patch.specs.InnerPortions.{ArePortions, AreRaisedBelow, AreUnitsOf, AreWhole};
-ghost use Rattle.rp_patch.specs.InnerPortions.{IsLeft, IsNextUp, IsRaisedBy, RaisesFirst};
+ghost use Rattle.rp_patch.specs.InnerPortions.{ArePortions, AreRoundedUpBelow, AreUnitsOf};
+ghost use Rattle.rp_patch.specs.InnerPortions.{AreWhole, IsLeft, IsNextUp, IsRoundedUpBy};
+ghost use Rattle.rp_patch.specs.InnerPortions.{RoundsUpFirst};
 ghost use Rattle.rp_patch.specs.InnerPortions.{portion_at, portion_of as portion_of_place, portions_on};
-ghost use Rattle.rp_patch.specs.InnerPortions.{raised_on, units_of, whole_on as whole_of_group};
+ghost use Rattle.rp_patch.specs.InnerPortions.{rounded_up_on, units_of, whole_on as whole_of_group};
 
 use crate::totals::sum_of;
 use crate::{PLACES, UNITS};
 use rp_num::NoMemory;
 use std::alloc::Global;
 
-/// What a place has of its group's units: the whole part of its share, and one more where it is raised. The rest is
+/// What a place has of its group's units: the whole part of its share, and one more where it is rounded up. The rest is
 /// what is left of the share, in parts of a unit of which there are as many as the counts of the group together.
 #[derive(Debug, Drop)]
 pub struct Portion {
     pub group: u32,
     pub whole: u64,
     pub rest: u64,
-    pub raised: bool,
+    pub rounded_up: bool,
 }
 
 /// The portion of a place of a group, with a count of all in the group.
@@ -34,11 +35,11 @@ fn portion_of(group: u32, count: u64, all: u64, total: u64) -> Portion
         group,
         whole: (share / u128::from(all)) as u64,
         rest: (share % u128::from(all)) as u64,
-        raised: false,
+        rounded_up: false,
     }
 }
 
-/// The portions of all places, none raised yet.
+/// The portions of all places, none rounded up yet.
 pub fn portions_of(
     alloc: Global,
     groups: &[u32],
@@ -71,15 +72,15 @@ fn is_better(portions: &[Portion], i: usize, best: Option<usize>) -> bool
     }
 }
 
-/// Whether portion `i` is of group `j` and not raised.
+/// Whether portion `i` is of group `j` and not rounded up.
 fn is_left(portions: &[Portion], i: usize, j: u32) -> bool
     requires { i < length portions.now }
     ensures { IsTrue result ↔ IsLeft portions.now j i }
 {
-    portions[i].group == j && !portions[i].raised
+    portions[i].group == j && !portions[i].rounded_up
 }
 
-/// The portion of group `j` with the largest rest of those that are not raised, the first of equal ones.
+/// The portion of group `j` with the largest rest of those that are not rounded up, the first of equal ones.
 fn next_up(portions: &[Portion], j: u32) -> Option<usize>
     ensures { IsNextUp portions.now j (length portions.now) result }
 {
@@ -92,16 +93,16 @@ fn next_up(portions: &[Portion], j: u32) -> Option<usize>
     best
 }
 
-/// Raises so many portions of group `j`.
-fn raise(portions: &mut Vec<Portion>, j: u32, many: u64)
-    requires first { RaisesFirst portions.old.items }
-    requires none_yet { raised_on portions.old.items j ≡ 0 }
+/// Rounds up so many portions of group `j`.
+fn round_up(portions: &mut Vec<Portion>, j: u32, many: u64)
+    requires first { RoundsUpFirst portions.old.items }
+    requires none_yet { rounded_up_on portions.old.items j ≡ 0 }
     requires enough { many ≤ portions_on portions.old.items j }
-    ensures { IsRaisedBy portions.old.items portions.new.items j many }
+    ensures { IsRoundedUpBy portions.old.items portions.new.items j many }
 {
     for _ in 0..many {
         if let Some(i) = next_up(portions.as_slice(), j) {
-            portions[i].raised = true;
+            portions[i].rounded_up = true;
         }
     }
 }
@@ -121,14 +122,14 @@ fn whole_on(portions: &[Portion], j: u32) -> u64
     whole
 }
 
-/// Raises portions of each group until all of the total is given.
-pub fn raise_all(portions: &mut Vec<Portion>, groups: u32, total: u64)
+/// Rounds up portions of each group until all of the total is given.
+pub fn round_all_up(portions: &mut Vec<Portion>, groups: u32, total: u64)
     requires { AreWhole portions.old.items groups total }
-    ensures { AreRaisedBelow portions.old.items portions.new.items groups total }
+    ensures { AreRoundedUpBelow portions.old.items portions.new.items groups total }
 {
     for j in 0..groups {
         let missing = total - whole_on(portions.as_slice(), j);
-        raise(portions, j, missing);
+        round_up(portions, j, missing);
     }
 }
 
@@ -137,7 +138,7 @@ fn units(portion: &Portion) -> u64
     requires { portion.now.whole ≤ UNITS }
     ensures { result ≡ units_of portion.now }
 {
-    portion.whole + u64::from(portion.raised)
+    portion.whole + u64::from(portion.rounded_up)
 }
 
 /// The units of all portions.

@@ -4,7 +4,7 @@ use Rattle.rp_evidence.specs.First.{AreFirstRelated, IsFirstRelated}
 use Rattle.rp_evidence.specs.declared.garp.Garp.{Garp}
 use Rattle.rp_evidence.specs.declared.garp.Garp.TheVariants.{Ranks, Cycle}
 use Rattle.rp_evidence.proofs.SameCosts.{counts_same, reach_same, shortest_same}
-use Rattle.rp_pref.specs.Violation.{IsVerdictOn, Violate}
+use Rattle.rp_pref.specs.Violation.{IsVerdictOfPreference, Violate}
 
 -- ---- the first two that stand in a relation
 
@@ -31,7 +31,7 @@ module _ (n : ℕ) (weak strict weak' strict' : ℕ → ℕ → Type 0) (weak_is
       let k = strict_is t s b a in
       (λ h. (r.0 h.0, k.0 h.1), λ h. (r.1 h.0, k.1 h.1))
 
-  pub verdict_on_same : (verdict : Garp) → IsVerdictOn n weak strict verdict → IsVerdictOn n weak' strict' verdict
+  pub verdict_on_same : (verdict : Garp) → IsVerdictOfPreference n weak strict verdict → IsVerdictOfPreference n weak' strict' verdict
   verdict_on_same (Ranks ranks) h = counts_same n weak weak' weak_is ranks h
   verdict_on_same (Cycle cycle) h = (
     h.0,

@@ -16,7 +16,7 @@ abbrev pub IsCycleOf : ℕ → (ℕ → ℕ → Type 0) → ℕ → ℕ → List
 IsCycleOf n weak s t cycle = (walk : List ℕ) × IsShortestWalk n weak s t walk × (cycle ≡ walk ++ s ∷ [])
 
 -- The ranks are the counts; a cycle is that of the first two observations that violate the axiom.
-abbrev pub IsVerdictOn : ℕ → (ℕ → ℕ → Type 0) → (ℕ → ℕ → Type 0) → Garp → Type 0
-IsVerdictOn n weak strict (Ranks ranks) = AreCounts n weak ranks
-IsVerdictOn n weak strict (Cycle cycle) =
+abbrev pub IsVerdictOfPreference : ℕ → (ℕ → ℕ → Type 0) → (ℕ → ℕ → Type 0) → Garp → Type 0
+IsVerdictOfPreference n weak strict (Ranks ranks) = AreCounts n weak ranks
+IsVerdictOfPreference n weak strict (Cycle cycle) =
     (s : ℕ) × (t : ℕ) × IsFirstRelated n (Violate n weak strict) s t × IsCycleOf n weak s t cycle

@@ -6,7 +6,7 @@ ghost use Rattle.rp_evidence.specs.Preference.{IsLevel};
 ghost use Rattle.rp_evidence.specs.Walk.{IsShortestWalk, Reaches};
 ghost use Rattle.rp_pref.specs.Closure.{IsClosureOf};
 ghost use Rattle.rp_pref.specs.Steps.{OwnStrict, OwnWeak, StrictAt, WeakAt};
-ghost use Rattle.rp_pref.specs.Violation.{IsVerdictOn, Violate};
+ghost use Rattle.rp_pref.specs.Violation.{IsVerdictOfPreference, Violate};
 
 use crate::closure::Closure;
 use crate::revealed::{AtLevel, OwnLevels, Revealed};
@@ -28,7 +28,7 @@ pub fn verdict_at(
     requires closed { IsClosureOf closure.now costs.now.n (WeakAt costs.now level) }
     ensures proves { IfOk result (ProvesOfPreference costs.now.n
         (WeakAt costs.now level) (StrictAt costs.now level)) }
-    ensures given { IfOk result (IsVerdictOn costs.now.n
+    ensures given { IfOk result (IsVerdictOfPreference costs.now.n
         (WeakAt costs.now level) (StrictAt costs.now level)) }
 {
     verdict_over(alloc, &AtLevel { costs, level }, closure)
@@ -39,7 +39,7 @@ pub fn own_verdict(alloc: Global, costs: &Costs, closure: &Closure) -> Result<Ga
     requires { IsClosureOf closure.now costs.now.n (OwnWeak costs.now) }
     ensures proves { IfOk result (ProvesOfPreference costs.now.n
         (OwnWeak costs.now) (OwnStrict costs.now)) }
-    ensures given { IfOk result (IsVerdictOn costs.now.n
+    ensures given { IfOk result (IsVerdictOfPreference costs.now.n
         (OwnWeak costs.now) (OwnStrict costs.now)) }
 {
     verdict_over(alloc, &OwnLevels { costs }, closure)
@@ -57,7 +57,7 @@ pub fn verdict_over<P: Revealed>(
     requires closed { IsClosureOf closure.now (P.count preference.now) (P.weak preference.now) }
     ensures proves { IfOk result (ProvesOfPreference (P.count preference.now)
         (P.weak preference.now) (P.strict preference.now)) }
-    ensures given { IfOk result (IsVerdictOn (P.count preference.now)
+    ensures given { IfOk result (IsVerdictOfPreference (P.count preference.now)
         (P.weak preference.now) (P.strict preference.now)) }
 {
     match first_violation(preference, closure) {

@@ -1,7 +1,6 @@
 ghost use Rattle.std.specs.Prelude.{◌≤◌, IfOk, length};
 ghost use Rattle.rp_patch.specs.RandomEvidence.{ProvesRandom};
 ghost use Rattle.rp_patch.specs.Types.{AreRationalTypes};
-ghost use Rattle.rp_random.specs.Added.{IsUnchangedByAdded};
 ghost use Rattle.rp_random.specs.Verdict.{IsRandomVerdict};
 ghost use Rattle.rp_types.specs.Listed.{types_of};
 ghost use Rattle.rp_types.specs.declared.TheConstants.{TYPES};
@@ -10,7 +9,7 @@ use crate::listed::ListedTypes;
 use rp_evidence::RandomPart;
 use rp_mixture_program::mixture;
 use rp_num::{NoMemory, Seq};
-use rp_patch::{Patches, patches_without_units_change_nothing};
+use rp_patch::Patches;
 use rp_types::Rational;
 use std::alloc::Global;
 
@@ -25,11 +24,7 @@ pub fn random(
     requires few { length types.now ≤ TYPES }
     ensures proves { IfOk result (ProvesRandom patches.now patches.now.total) }
     ensures run { IfOk result (IsRandomVerdict patches.now (types_of types.now)) }
-
-    // Patches that nobody chose, had they been counted too, would change nothing.
-    ensures added { IsUnchangedByAdded patches.now }
 {
     prove!(patches.budgets() >= 1);
-    patches_without_units_change_nothing();
     mixture(alloc, &ListedTypes::make(patches, types.as_slice()))
 }

@@ -10,9 +10,10 @@ use Rattle.rp_json.specs.Denoted.{FitsKind, HasBadItem, HasNoShape, HasOtherVers
 use Rattle.rp_json.specs.declared.fault.JsonFault.{JsonFault}
 use Rattle.rp_json.specs.declared.fault.JsonFault.TheVariants.{BadShape, BadVersion, NoMemory, NotJson}
 use Rattle.rp_json.proofs.TopLemmas.{no_other_version, same_top}
+use Rattle.rp_patch.specs.Apportionment.{IsCommonMultiple}
 use Rattle.rp_patch.specs.Choices.{RandomInput}
 use Rattle.rp_patch.specs.Patches.{PatchList}
-use Rattle.rp_patch.specs.Units.{IsMultiple, PassesPatchesAt, PassesUnitsAt, SaysWhy, all_chosen}
+use Rattle.rp_patch.specs.Units.{PassesPatchesAt, PassesUnitsAt, SaysWhy, all_chosen, chosen_counts}
 use Rattle.rp_patch.specs.declared.TheConstants.{PATCHES}
 use Rattle.rp_patch.specs.declared.fault.PatchFault.{PatchFault}
 use Rattle.rp_patch.specs.declared.fault.PatchFault.TheVariants as patch_fault
@@ -100,7 +101,7 @@ passed_once input j k (below, few, many) (also_below, also_few, also_many) less 
 
 units_once : (input : RandomInput) (j k : ℕ) → PassesUnitsAt input j → PassesUnitsAt input k → j < k → ⊥
 units_once input j k (below, fits, (m, (multiple, least), many)) (also_below, (n, (also_multiple, also_least), few), also_many) less =
-    let first : IsMultiple input (j + 1) n = (also_multiple.0, λ i l. also_multiple.1 i (omega (arith, less, l))) in
+    let first : IsCommonMultiple (chosen_counts input) (j + 1) n = (also_multiple.0, λ i l. also_multiple.1 i (omega (arith, less, l))) in
     let no_more = least n first in
     omega (arith, no_more, many, few)
 

@@ -1,14 +1,14 @@
 -- No choices both have patches within the limits and are refused, and the patches that they have are the same but for their units.
-use Rattle.std.proofs.Common.{◌≡◌, ◌≢◌, ◌≤◌, ◌==◌, ◌*◌, ◌+◌, ℕ, zero, suc, true, false, pos, ◌≤ℤ◌, ◌<ℤ◌, List, Option, None, length, map, slice_index, length-append, get_or, if◌then◌else◌, refl, sym, ap, subst, ◌∙◌, arith}
+use Rattle.std.proofs.Common.{◌≡◌, ◌≢◌, ◌≤◌, ◌==◌, ◌*◌, ◌+◌, ℕ, zero, suc, true, false, pos, ◌≤ℤ◌, ◌<ℤ◌, List, Option, None, length, map, slice_index, length-append, if◌then◌else◌, refl, sym, ap, subst, ◌∙◌, arith}
 use Rattle.std.proofs.lemmas.Bool.{ltb-false, ltb-true}
-use Rattle.std.proofs.lemmas.List.{get_or_past}
 use Rattle.std.specs.Prelude.{nat_lt}
 use Rattle.rp_evidence.specs.Garp.{HasNoViolation}
 use Rattle.rp_table.specs.Sums.{sum_below}
+use Rattle.rp_patch.specs.Apportionment.{HasExactShares, IsCommonMultiple}
 use Rattle.rp_patch.specs.Choices.{RandomInput}
-use Rattle.rp_patch.specs.Patches.{IsPatchList, PatchList, budget_at, no_patch, patch_at, sign_at}
+use Rattle.rp_patch.specs.Patches.{IsPatchList, PatchList, budget_at, sign_at, units_at}
 use Rattle.rp_patch.specs.Types.{AreRationalTypes, IsRationalType, IsType, combinations, patches_on}
-use Rattle.rp_patch.specs.Units.{ArePatchesOf, HasExactUnits, HasUnits, IsMultiple, SaysWhy, chosen_as, chosen_below, tally_on}
+use Rattle.rp_patch.specs.Units.{ArePatchesOf, HasUnits, SaysWhy, chosen_as, chosen_below, chosen_counts, tally_on}
 use Rattle.rp_patch.specs.declared.fault.PatchFault.{PatchFault}
 use Rattle.rp_patch.specs.declared.fault.PatchFault.TheVariants as patch_fault
 use Rattle.rp_types.specs.Listed.{SaysWhy as SaysWhyNoTypes}
@@ -37,7 +37,7 @@ chosen_within input j (suc n) le = go (λ l. chosen_within input j n l) (nat_lt 
         subst (λ m. length (chosen_below input j) ≤ length (chosen_below input m)) (sym same) (omega arith)
 
 -- the total without a unit is a multiple on the first budgets too
-exact_of : (input : RandomInput) (asked : Option ℕ) (p : PatchList) → HasUnits input asked p → asked ≡ None → HasExactUnits input p
+exact_of : (input : RandomInput) (asked : Option ℕ) (p : PatchList) → HasUnits input asked p → asked ≡ None → HasExactShares (chosen_counts input) p.total (units_at p)
 exact_of input asked p units none = subst (λ a. HasUnits input a p) none units
 
 pub patches_apart : (input : RandomInput) (asked : Option ℕ) (p : PatchList) (fault : PatchFault) → ArePatchesOf input asked p → IsPatchList p → fault ≢ patch_fault.NoMemory
@@ -48,7 +48,7 @@ patches_apart input asked p (patch_fault.TooManyPatches j) are valid other (belo
 patches_apart input asked p (patch_fault.NeedUnit j) are valid other (few, none, (below, fits, (m, (multiple, least), many))) =
     let exact = exact_of input asked p are.units none in
     let whole = exact.total.0 in
-    let first : IsMultiple input (j + 1) p.total = (whole.0, λ i l. whole.1 i (omega (arith, below, l))) in
+    let first : IsCommonMultiple (chosen_counts input) (j + 1) p.total = (whole.0, λ i l. whole.1 i (omega (arith, below, l))) in
     let less = least p.total first in
     omega (arith, less, many, valid.few_units)
 patches_apart input asked p patch_fault.NoMemory are valid other why = other refl
@@ -61,33 +61,6 @@ pub record AreAlike (p q : PatchList) : Type 0 where
   pub count : length p.patches ≡ length q.patches
   pub budget : (i : ℕ) → budget_at p i ≡ budget_at q i
   pub sign : (i k : ℕ) → sign_at p i k ≡ sign_at q i k
-
-pub alike : (input : RandomInput) (asked : Option ℕ) (p q : PatchList) → ArePatchesOf input asked p → ArePatchesOf input asked q → AreAlike p q
-alike input asked p q a b = record {
-  budgets = a.budgets ∙ sym b.budgets;
-  count = a.count ∙ sym b.count;
-  budget = λ i. budget_of i (nat_lt i (length p.patches)) refl;
-  sign = λ i k. sign_of i k (nat_lt i (length p.patches)) refl;
-}
-  where
-    past : (r : PatchList) (i : ℕ) → length r.patches ≤ i → patch_at r i ≡ no_patch
-    past r i out = get_or_past r.patches i no_patch out
-
-    budget_of : (i : ℕ) (t : _) → nat_lt i (length p.patches) ≡ t → budget_at p i ≡ budget_at q i
-    budget_of i true is =
-        let l = ltb-true i (length p.patches) is in
-        a.budget i l ∙ sym (b.budget i (omega (arith, l, a.count, b.count)))
-    budget_of i false is =
-        let out = ltb-false i (length p.patches) is in
-        ap (λ x. x.budget) (past p i out ∙ sym (past q i (omega (arith, out, a.count, b.count))))
-
-    sign_of : (i k : ℕ) (t : _) → nat_lt i (length p.patches) ≡ t → sign_at p i k ≡ sign_at q i k
-    sign_of i k true is =
-        let l = ltb-true i (length p.patches) is in
-        ap (λ signs. get_or signs k (pos 0)) (a.signs i l ∙ sym (b.signs i (omega (arith, l, a.count, b.count))))
-    sign_of i k false is =
-        let out = ltb-false i (length p.patches) is in
-        ap (λ x. get_or x.signs k (pos 0)) (past p i out ∙ sym (past q i (omega (arith, out, a.count, b.count))))
 
 same_on : (p q : PatchList) → AreAlike p q → (j : ℕ) → patches_on p j ≡ patches_on q j
 same_on p q like j = λ k. sum_below (like.count k) (λ i. if like.budget i k == j then 1 else 0)

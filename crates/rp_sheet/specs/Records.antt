@@ -3,8 +3,8 @@ use Rattle.std.specs.Prelude.{ℕ, List, [], slice_index_or}
 use Rattle.csv.specs.Reading.{default_config, records, strip_bom}
 
 -- the records of a file's bytes, each a list of fields, without a byte order mark at the beginning
-unfoldable pub records_of : List ℕ → List (List (List ℕ))
-records_of bytes = records default_config (strip_bom bytes)
+unfoldable pub records_in : List ℕ → List (List (List ℕ))
+records_in bytes = records default_config (strip_bom bytes)
 
 -- the k-th record, from 0
 abbrev pub record_at : List (List (List ℕ)) → ℕ → List (List ℕ)

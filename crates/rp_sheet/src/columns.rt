@@ -1,4 +1,4 @@
-ghost use Rattle.std.specs.Prelude.{◌≡◌, ℕ, ◌<◌, List, [], ◌∷◌, ◌++◌, None, Some, OnOk, length};
+ghost use Rattle.std.specs.Prelude.{◌≡◌, ◌<◌, [], ◌∷◌, ◌++◌, None, Some, OnOk, length};
 ghost use Rattle.rp_sheet.specs.Texts.{text_at, place_of};
 ghost use Rattle.rp_sheet.specs.Columns.{role_of};
 
@@ -16,7 +16,7 @@ pub struct Columns<'a> {
 }
 
 impl<'a> Model for Columns<'a> {
-    ghost use Rattle.std.specs.Prelude.{◌≡◌, ℕ, List, Some, map};
+    ghost use Rattle.std.specs.Prelude.{◌≡◌, Some, map};
     ghost use Rattle.std.specs.List.{All};
     ghost use Rattle.indexmap.specs.IndexMap.{keys};
     ghost use Rattle.rp_sheet.specs.Columns.{Layout, role_of};

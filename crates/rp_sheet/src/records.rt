@@ -1,6 +1,6 @@
 ghost use Rattle.std.specs.Prelude.{◌≡◌, ◌+◌, ◌<◌, IfOk, length, take};
 ghost use Rattle.csv.specs.Records.{fields_of};
-ghost use Rattle.rp_sheet.specs.Records.{records_of, record_at};
+ghost use Rattle.rp_sheet.specs.Records.{records_in, record_at};
 ghost use Rattle.rp_sheet.specs.Fields.{row_at};
 ghost use Rattle.rp_sheet.specs.Texts.{text_at};
 
@@ -27,7 +27,7 @@ impl Model for Records {
 impl Records {
     /// Reads the records of a file, and no more than so many.
     pub fn of(alloc: Global, bytes: &[u8], most: usize) -> Result<Records, NoMemory>
-        ensures { IfOk result (λ records. records ≡ take most (records_of bytes.now)) }
+        ensures { IfOk result (λ records. records ≡ take most (records_in bytes.now)) }
     {
         let mut reader = ReaderBuilder::new()
             .has_headers(false)

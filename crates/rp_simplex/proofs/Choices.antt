@@ -5,7 +5,7 @@ use Rattle.std.proofs.lemmas.Bool.{cases_eq, cases_lt}
 use lib.Signed.{lt_z}
 use Rattle.rp_simplex.specs.ExactTableau.{ExactTableau}
 use Rattle.rp_simplex.specs.Lexicographic.{IsLexLess}
-use Rattle.rp_simplex.specs.Choice.{IsLeaving, IsUnbounded}
+use Rattle.rp_simplex.specs.Choice.{IsLeaving}
 use Rattle.rp_simplex.specs.InnerTableau.{HasNoTies, LeavesBelow}
 use Rattle.rp_simplex.proofs.Ring.{at, ◌⊗◌, ring}
 use Rattle.rp_simplex.proofs.Linear.{cancel, cancel_less, as_pos}
@@ -128,13 +128,6 @@ module _ (rows width : ℕ) (t : ExactTableau) (c i : ℕ) (hi : i < rows) (ties
       | inl e ↦ let here : pos 0 <ℤ t.at i c = subst (λ q. pos 0 <ℤ t.at q c) e positive in absurd (omega (arith, ints))
       | inr other ↦ h.least k (omega arith) ne positive
     ];
-  }
-
-  pub first_row : pos 0 <ℤ t.at i c → IsUnbounded i t c → IsLeaving (i + 1) width t c i
-  first_row above none = record {
-    in_rows = omega arith;
-    positive = above;
-    least = λ k l ne positive. let flat : t.at k c ≤ℤ pos 0 = none k (omega arith) in absurd (omega (arith, ints));
   }
 
   pub replaced : (r : ℕ) → pos 0 <ℤ t.at i c → IsLeaving i width t c r → IsLexLess width (λ j. t.at r c *ℤ t.at i j) (λ j. t.at i c *ℤ t.at r j) → IsLeaving (i + 1) width t c i

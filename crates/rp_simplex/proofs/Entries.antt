@@ -1,34 +1,12 @@
 -- Lists of numerators and of positive entries that grow by one.
-use Rattle.std.proofs.Common.{◌≡◌, ◌≢◌, ℕ, suc, ◌+◌, ◌<◌, ◌≤◌, ◌^◌, List, [], ◌∷◌, ◌++◌, length, map, slice_index, All, ℤ, pos, cond, eqb, true, false, inl, inr, refl, sym, ◌∙◌, ap, subst, arith}
+use Rattle.std.proofs.Common.{◌≡◌, ◌≢◌, ℕ, ◌+◌, ◌<◌, ◌≤◌, ◌^◌, List, [], ◌∷◌, ◌++◌, length, map, slice_index, All, cond, eqb, true, false, inl, inr, refl, sym, ap, subst, arith}
 use Rattle.std.specs.List.Sorted.{IsStrictlyIncreasing}
-use Rattle.std.proofs.lemmas.Bool.{cases_eq, cases_lt, eq-eqb, ne_eqb}
+use Rattle.std.proofs.lemmas.Bool.{cases_lt, eq-eqb, ne_eqb}
 use Rattle.std.proofs.lemmas.List.{get_or_push, map_push, length_push}
 use Rattle.std.proofs.Math.ListN.{get_or-append}
 use Rattle.std.proofs.lemmas.List.Elements.{All-push, All-weaker, All-head, All-tail, All-map}
 use Rattle.rp_farkas.specs.declared.entry.Entry.{Entry}
 use Rattle.rp_farkas.specs.Listing.{IsListing, numerator_at}
-use Rattle.rp_simplex.specs.ExactTableau.{ExactTableau}
-use Rattle.rp_simplex.specs.Readout.{IsReadAt}
-
--- the reading of one more column
-pub read_more : (rows j : ℕ) (t : ExactTableau) (f : ℕ → ℤ) (c : ℕ) (z : ℤ) (old new : ℕ → ℕ) (n : ℕ) → IsReadAt rows j t f c z old → new j ≡ n → ((k : ℕ) → k < j → new k ≡ old k)
-    → ((i : ℕ) → i < rows → t.basis i ≡ suc (rows + j) → pos n ≡ f i) → (c ≡ suc (rows + j) → pos n ≡ z)
-    → (((i : ℕ) → i < rows → t.basis i ≢ suc (rows + j)) → c ≢ suc (rows + j) → n ≡ 0) → IsReadAt rows (j + 1) t f c z new
-read_more rows j t f c z old new n h at_end before basic entering others =
-    record {
-      basic = λ k i hk hi q. elim (cases_eq k j) [
-        | inl same ↦ ap pos (ap new same ∙ at_end) ∙ basic i hi (q ∙ ap (λ m. suc (rows + m)) same)
-        | inr ne ↦ ap pos (before k (omega arith)) ∙ h.basic k i (omega arith) hi q
-      ];
-      entering = λ k hk q. elim (cases_eq k j) [
-        | inl same ↦ ap pos (ap new same ∙ at_end) ∙ entering (q ∙ ap (λ m. suc (rows + m)) same)
-        | inr ne ↦ ap pos (before k (omega arith)) ∙ h.entering k (omega arith) q
-      ];
-      others = λ k hk none off. elim (cases_eq k j) [
-        | inl same ↦ ap new same ∙ at_end ∙ others (λ i hi q. none i hi (q ∙ ap (λ m. suc (rows + m)) (sym same))) (λ q. off (q ∙ ap (λ m. suc (rows + m)) (sym same)))
-        | inr ne ↦ before k (omega arith) ∙ h.others k (omega arith) none off
-      ];
-    }
 
 -- ---- positive entries
 numerator-none : (j : ℕ) (es : List Entry) → All (λ (e : Entry). e.at < j) es → (k : ℕ) → j ≤ k → numerator_at es k ≡ 0

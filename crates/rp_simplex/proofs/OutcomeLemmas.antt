@@ -7,7 +7,7 @@ use Rattle.rp_farkas.specs.Listing.{IsListing, numerator_at}
 use Rattle.rp_simplex.specs.declared.stage.Stage.{Stage}
 use Rattle.rp_simplex.specs.Choice.{IsEntering, IsOptimal, IsLeaving, IsUnbounded}
 use Rattle.rp_simplex.specs.Width.{IsWithinWidth}
-use Rattle.rp_simplex.specs.Pivot.{PivotPasses}
+use Rattle.rp_simplex.specs.InnerPivot.{PivotPasses}
 use Rattle.rp_simplex.specs.InnerStage.{exact}
 use Rattle.rp_simplex.specs.Readout.{IsReadAt}
 use Rattle.rp_simplex.specs.Outcome.{EndsOptimal, EndsUnbounded, EndsPastWidth}

@@ -7,7 +7,7 @@ use Rattle.std.proofs.Math.Nat.{mul-le-mul_right, mul-lt-mul_of_pos_right}
 use Rattle.rp_grid.specs.Rows.{Rows}
 use Rattle.rp_simplex.specs.Cells.{cell}
 use Rattle.rp_simplex.specs.InnerCombined.{combination, delta}
-use Rattle.rp_simplex.specs.Pivot.{PivotPasses}
+use Rattle.rp_simplex.specs.InnerPivot.{PivotPasses}
 use Rattle.rp_simplex.specs.InnerStage.{exact, renewed}
 use Rattle.rp_simplex.specs.declared.stage.Stage.{Stage}
 use Rattle.rp_simplex.proofs.CombinationLemmas.{cleared_slack, entries_after, renewed_last}

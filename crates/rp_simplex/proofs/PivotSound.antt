@@ -205,9 +205,6 @@ module _ (p : LinearProgram) (t : ExactTableau) (r c : ℕ) (u : ExactTableau) (
   pub next_den_positive : 0 < u.den
   next_den_positive = left_factor u.den pivot.divisor den_times
 
-  abbrev G : ℤ
-  G = pos pivot.divisor
-
   not_objective : delta p.rows r ≡ pos 0
   not_objective = delta-other p.rows r (let l = leaving.in_rows in omega arith)
 

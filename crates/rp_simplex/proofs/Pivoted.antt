@@ -8,7 +8,8 @@ use Rattle.std.proofs.lemmas.Nat.{div-add-mod'}
 use Rattle.std.proofs.lemmas.Nat.Gcd.{mod-eq-zero_of_dvd, le_of_dvd}
 use Rattle.std.proofs.Math.Nat.{mul-lt-mul_of_pos_right}
 use Rattle.rp_simplex.specs.ExactTableau.{ExactTableau}
-use Rattle.rp_simplex.specs.Pivot.{cleared, DividesAll, IsPivot, PivotPasses}
+use Rattle.rp_simplex.specs.Pivot.{cleared, DividesAll, IsPivot}
+use Rattle.rp_simplex.specs.InnerPivot.{PivotPasses}
 use Rattle.rp_simplex.proofs.Divisors.{divided}
 use Rattle.rp_simplex.proofs.OneMore.{not_zero}
 

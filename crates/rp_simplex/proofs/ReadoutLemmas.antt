@@ -5,7 +5,7 @@ use Rattle.std.proofs.lemmas.Bool.{cases_eq, cases_lt, lt-ltb, le-ltb}
 use Rattle.rp_farkas.specs.Total.{total}
 use Rattle.rp_farkas.specs.LinearProgram.{LinearProgram}
 use Rattle.rp_farkas.specs.Point.{IsFeasiblePoint, row_times, value_of}
-use Rattle.rp_farkas.specs.Prices.{IsFeasiblePrices, column_times, cost_of}
+use Rattle.rp_farkas.specs.Prices.{IsFeasiblePrices, column_times, value_of_prices}
 use Rattle.rp_farkas.specs.EqualPair.{IsEqualPair}
 use Rattle.rp_farkas.specs.Ray.{IsRay}
 use Rattle.rp_farkas.proofs.Totals.{total-same, total-add, total-scale, total-swap, total-mono, total-zero}
@@ -305,8 +305,8 @@ module _ (p : LinearProgram) (t : ExactTableau) (sound : IsSound p t) where
           (delta-same p.rows) (first-objective p j) (optimal (suc (p.rows + j)) (omega arith) (omega arith));
     }
 
-    pub prices_cost : cost_of p x ≡ t.at p.rows 0
-    prices_cost = cost_is (t.at p.rows 0) (cost_of p x) (delta p.rows p.rows) (pos t.den) (first_entry p p.rows 0)
+    pub prices_cost : value_of_prices p x ≡ t.at p.rows 0
+    prices_cost = cost_is (t.at p.rows 0) (value_of_prices p x) (delta p.rows p.rows) (pos t.den) (first_entry p p.rows 0)
         (sound.combined p.rows 0 (omega arith) (omega arith)
         ∙ ap (λ z. z +ℤ (delta p.rows p.rows *ℤ (pos t.den *ℤ first_entry p p.rows 0)))
         (total-same p.rows (λ s. t.at p.rows (suc s) *ℤ first_entry p s 0) (λ s. p.b s *ℤ pos (x s))

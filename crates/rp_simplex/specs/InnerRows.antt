@@ -1,14 +1,14 @@
 -- For the proofs alone: rows of a grid that are written one element after the other. No public clause cites these
 -- words.
 use Prim.Native.Nat.{◌∣◌}
-use Rattle.std.specs.Prelude.{ℕ, ◌≡◌, ◌≢◌, ◌*◌, ◌^◌, ◌<◌, ◌≤◌, ℤ, pos, ◌*ℤ◌, ◌-ℤ◌, List, Bool, MatchBool}
+use Rattle.std.specs.Prelude.{ℕ, suc, ◌≡◌, ◌≢◌, ◌*◌, ◌^◌, ◌<◌, ◌≤◌, ℤ, pos, ◌*ℤ◌, ◌-ℤ◌, List, Bool, MatchBool}
 use Rattle.std.specs.Prelude.{if◌then◌else◌, ◌==◌, length}
 use Rattle.std.specs.Int.RustNames.{unsigned_abs}
 use Rattle.rp_farkas.specs.LinearProgram.{LinearProgram}
-use Rattle.rp_farkas.specs.Limits.{FitsEvidence, largest_entry}
+use Rattle.rp_farkas.specs.Limits.{FitsEvidence, largest_entry, most_rows}
 use Rattle.rp_grid.specs.Rows.{Rows, AreEqual, row_of}
 use Rattle.rp_simplex.specs.Cells.{cell}
-use Rattle.rp_simplex.specs.InnerCombined.{dot}
+use Rattle.rp_simplex.specs.InnerCombined.{AreSmall, dot}
 use Rattle.rp_simplex.specs.ExactTableau.{width_of}
 use Rattle.rp_simplex.specs.FirstTableau.{first_entry}
 
@@ -51,6 +51,23 @@ FitEvidence g i = (j : ℕ) → j < g.cols → FitsEvidence (unsigned_abs (cell 
 abbrev pub less_multiple : Rows ℤ → ℕ → ℕ → ℤ → ℤ → ℕ → ℤ
 less_multiple g r i p f s = cell g i s *ℤ p -ℤ f *ℤ cell g r s
 
+-- Row i can be cleared with the multiple of row r, the pivot's, that these numbers name: both rows and the numbers are
+-- within the width.
+pub record CanClear (g : Rows ℤ) (r i : ℕ) (p f : ℤ) (d : ℕ) : Type 0 where
+  pub pivot_row : r < length g.rows
+  pub row : i < length g.rows
+  pub apart : i ≢ r
+  pub pivot_fit : FitEvidence g r
+  pub fit : FitEvidence g i
+  pub pivot : FitsEvidence (unsigned_abs p)
+  pub factor : FitsEvidence (unsigned_abs f)
+  pub positive : 0 < d
+  pub small : d < 2 ^ 127
+
+-- The elements of all rows are within the width.
+abbrev pub AllFitEvidence : Rows ℤ → Type 0
+AllFitEvidence g = (i : ℕ) → i < length g.rows → FitEvidence g i
+
 -- The first n rows but row r have been changed by the pivot's entry p and their factors f, and divided by d; the
 -- others are as they were.
 pub record AreRenewed (old new : Rows ℤ) (r : ℕ) (p : ℤ) (f : ℕ → ℤ) (d n : ℕ) : Type 0 where
@@ -78,6 +95,17 @@ factor m column i = dot m.cols (row_of m i) column
 -- These entries of all rows are within the width.
 abbrev pub FactorsFit : Rows ℤ → List ℤ → Type 0
 FactorsFit m column = (i : ℕ) → i < length m.rows → FitsEvidence (unsigned_abs (factor m column i))
+
+-- What the multipliers m, a column of tableau 0 that is as long as they are wide, the pivot's row r and entry p and a
+-- divisor d are when a pivot begins.
+pub record CanPivot (m : Rows ℤ) (column : List ℤ) (r : ℕ) (p : ℤ) (d : ℕ) : Type 0 where
+  pub same : length column ≡ m.cols
+  pub few : m.cols ≤ suc most_rows
+  pub column_small : AreSmall largest_entry column
+  pub pivot_row : r < length m.rows
+  pub pivot : FitsEvidence (unsigned_abs p)
+  pub factors_fit : FactorsFit m column
+  pub positive : 0 < d
 
 -- The number in row i and place s of the multipliers m after the pivot, before the common divisor is taken out: d was
 -- the denominator, p is the pivot's entry in row r, and f is the entry of row i in its column.

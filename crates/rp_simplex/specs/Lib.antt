@@ -16,3 +16,4 @@ pub mod InnerTableau
 pub mod ReadProgram
 pub mod InnerReady
 pub mod InnerRows
+pub mod InnerPivot

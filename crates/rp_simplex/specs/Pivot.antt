@@ -3,7 +3,6 @@ use Prim.Native.Nat.{◌∣◌}
 use Rattle.std.specs.Prelude.{ℕ, ◌≡◌, ◌≢◌, ◌*◌, ◌<◌, ◌≤◌, ℤ, pos, ◌*ℤ◌, ◌-ℤ◌, if◌then◌else◌, ◌==◌}
 use Rattle.std.specs.Int.RustNames.{unsigned_abs}
 use Rattle.rp_simplex.specs.ExactTableau.{ExactTableau}
-use Rattle.rp_simplex.specs.Width.{IsWithinWidth}
 
 -- The entry in row i and column j after the pivot at row r and column c, over the old denominator times the pivot's
 -- entry: the multiple of row r that clears column c is taken from each other row.
@@ -24,9 +23,3 @@ pub record IsPivot (rows width : ℕ) (t : ExactTableau) (r c : ℕ) (u : ExactT
   pub entries : (i j : ℕ) → i ≤ rows → j < width → cleared t r c i j ≡ u.at i j *ℤ pos divisor
   pub enters : u.basis r ≡ c
   pub stays : (i : ℕ) → i < rows → i ≢ r → u.basis i ≡ t.basis i
-
--- The pivot leads past the width.
-pub record PivotPasses (rows width : ℕ) (t : ExactTableau) (r c : ℕ) : Type 0 where
-  pub next : ExactTableau
-  pub pivot : IsPivot rows width t r c next
-  pub passes : IsWithinWidth rows width next → ⊥

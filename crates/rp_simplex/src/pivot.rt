@@ -1,5 +1,6 @@
 ghost use Rattle.std.specs.Prelude.{◌≡◌, ◌^◌, ◌<◌, pos, ◌*ℤ◌, ◌<ℤ◌, MatchOption};
-ghost use Rattle.rp_simplex.specs.Pivot.{IsPivot, PivotPasses};
+ghost use Rattle.rp_simplex.specs.Pivot.{IsPivot};
+ghost use Rattle.rp_simplex.specs.InnerPivot.{PivotPasses};
 ghost use Rattle.rp_simplex.specs.InnerStage.{exact};
 
 use crate::division::WIDTH;

@@ -1,12 +1,12 @@
 //! The multipliers after a pivot.
-ghost use Rattle.std.specs.Prelude.{◌≡◌, ◌≢◌, ℕ, suc, ◌^◌, ◌<◌, ◌≤◌, ◌*ℤ◌, length};
+ghost use Rattle.std.specs.Prelude.{◌≡◌, suc, ◌^◌, ◌<◌, ◌≤◌, ◌*ℤ◌, length};
 ghost use Rattle.std.specs.Int.RustNames.{unsigned_abs};
 ghost use Rattle.rp_farkas.specs.Limits.{FitsEvidence, largest_entry, most_rows};
 ghost use Rattle.rp_grid.specs.Rows.{row_of};
 ghost use Rattle.rp_simplex.specs.Cells.{cell};
 ghost use Rattle.rp_simplex.specs.InnerCombined.{AreSmall, dot};
-ghost use Rattle.rp_simplex.specs.InnerRows.{DividesAllOf, DividesEach, DividesOthers, DividesRow};
-ghost use Rattle.rp_simplex.specs.InnerRows.{DividesRows, FactorsFit};
+ghost use Rattle.rp_simplex.specs.InnerRows.{AllFitEvidence, CanClear, CanPivot, DividesAllOf};
+ghost use Rattle.rp_simplex.specs.InnerRows.{DividesEach, DividesOthers, DividesRow, DividesRows};
 ghost use Rattle.rp_simplex.specs.InnerRows.{FitEvidence, RenewsRows, less_multiple, factor, moved};
 
 use crate::division::quotient;
@@ -18,15 +18,7 @@ use rp_grid::Grid;
 /// Takes from row i, times the pivot's entry, the multiple of row r that clears the pivot's column, and divides. Row r
 /// is read while row i is written. It stops at a number that passes the width.
 fn clear_row(grid: &mut Grid<i64>, r: u32, pivot: i64, i: u32, factor: i64, divisor: u128) -> bool
-    requires pivot_row { r < length grid.old.rows }
-    requires pivot { FitsEvidence (unsigned_abs pivot) }
-    requires row { i < length grid.old.rows }
-    requires factor { FitsEvidence (unsigned_abs factor) }
-    requires apart { i ≢ r }
-    requires fit { FitEvidence grid.old i }
-    requires pivot_fit { FitEvidence grid.old r }
-    requires positive { 0 < divisor }
-    requires small { divisor < 2 ^ 127 }
+    requires ready { CanClear grid.old r i pivot factor divisor }
     requires divides { DividesEach grid.old.cols divisor
         (less_multiple grid.old r i pivot factor) }
     ensures { DividesRow result grid.old grid.new i (less_multiple grid.old r i pivot factor)
@@ -66,15 +58,7 @@ fn scale_row(grid: &mut Grid<i64>, i: u32, by: i64, divisor: u128) -> bool
 
 /// Clears the pivot's column in row i, and divides. A row with 0 there changes its scale alone.
 fn renew_row(grid: &mut Grid<i64>, r: u32, pivot: i64, i: u32, factor: i64, divisor: u128) -> bool
-    requires pivot_row { r < length grid.old.rows }
-    requires pivot { FitsEvidence (unsigned_abs pivot) }
-    requires row { i < length grid.old.rows }
-    requires factor { FitsEvidence (unsigned_abs factor) }
-    requires apart { i ≢ r }
-    requires fit { FitEvidence grid.old i }
-    requires pivot_fit { FitEvidence grid.old r }
-    requires positive { 0 < divisor }
-    requires small { divisor < 2 ^ 127 }
+    requires ready { CanClear grid.old r i pivot factor divisor }
     requires divides { DividesEach grid.old.cols divisor
         (less_multiple grid.old r i pivot factor) }
     ensures { DividesRow result grid.old grid.new i (less_multiple grid.old r i pivot factor)
@@ -102,14 +86,8 @@ fn factor_of(grid: &Grid<i64>, column: &[i64], i: u32) -> i64
 
 /// Writes the new multipliers of every row but row r.
 fn renew_others(grid: &mut Grid<i64>, column: &[i64], r: u32, pivot: i64, divisor: u128) -> bool
-    requires same { length column.now ≡ grid.old.cols }
-    requires few { grid.old.cols ≤ suc most_rows }
-    requires column_small { AreSmall largest_entry column.now }
-    requires pivot_row { r < length grid.old.rows }
-    requires pivot { FitsEvidence (unsigned_abs pivot) }
-    requires fit { (i : ℕ) → i < length grid.old.rows → FitEvidence grid.old i }
-    requires factors_fit { FactorsFit grid.old column.now }
-    requires positive { 0 < divisor }
+    requires ready { CanPivot grid.old column.now r pivot divisor }
+    requires fit { AllFitEvidence grid.old }
     requires small { divisor < 2 ^ 127 }
     requires divides { DividesOthers grid.old r pivot (factor grid.old column.now) divisor }
     ensures { RenewsRows result grid.old grid.new r pivot (factor grid.old column.now) divisor }
@@ -134,15 +112,9 @@ pub fn renew(
     pivot: i64,
     divisor: u128,
 ) -> bool
-    requires same { length column.now ≡ grid.old.cols }
-    requires few { grid.old.cols ≤ suc most_rows }
-    requires column_small { AreSmall largest_entry column.now }
-    requires pivot_row { r < length grid.old.rows }
-    requires pivot { FitsEvidence (unsigned_abs pivot) }
-    requires fit { (i : ℕ) → i < length grid.old.rows → FitEvidence grid.old i }
-    requires factors_fit { FactorsFit grid.old column.now }
+    requires ready { CanPivot grid.old column.now r pivot divisor }
+    requires fit { AllFitEvidence grid.old }
     requires den { FitsEvidence den }
-    requires positive { 0 < divisor }
     requires small { divisor < 2 ^ 127 }
     requires divides { DividesAllOf grid.old
         (λ i. moved grid.old den r pivot i (factor grid.old column.now i)) divisor }

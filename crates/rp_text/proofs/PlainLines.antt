@@ -11,7 +11,7 @@ use Rattle.csv.specs.Reading.{default_config, records_from, strip_bom}
 use Rattle.csv.specs.declared.parser.State.TheVariants as st
 use Rattle.rp_num.specs.Below.{listed}
 use Rattle.rp_text.specs.Plain.{lines_of, fields_in}
-use Rattle.rp_sheet.specs.Records.{records_of}
+use Rattle.rp_sheet.specs.Records.{records_in}
 use Rattle.rp_sheet.specs.Texts.{text_at}
 
 -- no carriage return, no quote, and no first byte of a byte order mark
@@ -195,8 +195,8 @@ no_mark (a ∷ b ∷ c ∷ rest) ordinary =
 
 -- each line that ends with a line feed is a record of its parts, where none is empty and nothing comes after the last one
 pub plain_records : (bytes : List ℕ) (n : ℕ) → All Ordinary bytes → length (lines_of bytes) ≡ n + 1 → text_at (lines_of bytes) n ≡ []
-    → ((k : ℕ) → k < n → text_at (lines_of bytes) k ≢ []) → records_of bytes ≡ listed n (λ k. fields_in (text_at (lines_of bytes) k))
-unfolding records_of
+    → ((k : ℕ) → k < n → text_at (lines_of bytes) k ≢ []) → records_in bytes ≡ listed n (λ k. fields_in (text_at (lines_of bytes) k))
+unfolding records_in
 plain_records bytes n ordinary counted last some =
     let enough : n ≤ length bytes + 1 = omega (arith, counted, few_parts bytes 10) in
     rw (no_mark bytes ordinary) (lines_from n (length bytes + 1) bytes enough ordinary (counted, last, some))

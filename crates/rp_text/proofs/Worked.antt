@@ -5,7 +5,7 @@ use Rattle.csv.specs.Machine.{next_record}
 use Rattle.csv.specs.Reading.{records_from, strip_bom}
 use Rattle.rp_sheet.specs.Texts.{after_blanks, before_blanks}
 use Rattle.rp_sheet.specs.Columns.{named_role, good_role, role_of}
-use Rattle.rp_sheet.specs.Records.{records_of}
+use Rattle.rp_sheet.specs.Records.{records_in}
 use Rattle.rp_sheet.specs.Headers.{header_fault, headers_stage, pair_fault, other_goods_fault, present_fault, missing_fault, goods_count_fault, goods_stage}
 use Rattle.rp_sheet.specs.Fields.{field_of, field_at, record_fault, count_stage, fields_stage}
 use Rattle.rp_sheet.specs.Sizes.{greatest_places, places_of, size_at, sizes_stage}
@@ -16,7 +16,7 @@ use Rattle.rp_sheet.specs.declared.fault.TableFault.TheVariants as fault
 
 -- what computes a file's meaning
 unfoldable on_files : ⊤
-unfolding next_record records_from strip_bom after_blanks before_blanks named_role good_role role_of records_of header_fault headers_stage pair_fault other_goods_fault present_fault missing_fault goods_count_fault goods_stage field_of field_at record_fault count_stage fields_stage greatest_places places_of size_at sizes_stage is_chosen choices_stage fault_under first_fault table_of table_under denoted_table prices_of denoted_prices bundles_of denoted_bundles budgets_of denoted_budgets choices_of denoted_choices
+unfolding next_record records_from strip_bom after_blanks before_blanks named_role good_role role_of records_in header_fault headers_stage pair_fault other_goods_fault present_fault missing_fault goods_count_fault goods_stage field_of field_at record_fault count_stage fields_stage greatest_places places_of size_at sizes_stage is_chosen choices_stage fault_under first_fault table_of table_under denoted_table prices_of denoted_prices bundles_of denoted_bundles budgets_of denoted_budgets choices_of denoted_choices
 on_files = tt
 
 line : List ℕ → List ℕ
@@ -131,62 +131,62 @@ goods_a_b : List (List ℕ)
 goods_a_b = codes "a" ∷ codes "b" ∷ []
 
 -- an expenditure with a place beside prices and quantities without any
-too_fine : denoted_prices true 0 goods_a_b (records_of (codes "p_a,p_b,m\n1,1,3.5\n")) ≡ Err (fault.TooFine 1 3)
+too_fine : denoted_prices true 0 goods_a_b (records_in (codes "p_a,p_b,m\n1,1,3.5\n")) ≡ Err (fault.TooFine 1 3)
 unfolding on_files goods_a_b
 too_fine = refl
 
-no_expenditure : denoted_prices true 0 goods_a_b (records_of (codes "p_a,p_b,m\n1,1,0\n")) ≡ Err (fault.ZeroBundle 1)
+no_expenditure : denoted_prices true 0 goods_a_b (records_in (codes "p_a,p_b,m\n1,1,0\n")) ≡ Err (fault.ZeroBundle 1)
 unfolding on_files goods_a_b
 no_expenditure = refl
 
 -- prices with a place beside quantities with two: an expenditure has three
-scaled_expenditure : denoted_prices true 2 goods_a_b (records_of (codes "m,p_b,p_a\n1.125,2.5,3\n"))
+scaled_expenditure : denoted_prices true 2 goods_a_b (records_in (codes "m,p_b,p_a\n1.125,2.5,3\n"))
     ≡ Ok (record { goods = 2; prices = 30 ∷ 25 ∷ []; m = 1125 ∷ [] })
 unfolding on_files goods_a_b
 scaled_expenditure = refl
 
-expenditure_missing : denoted_prices true 0 goods_a_b (records_of (codes "p_a,p_b")) ≡ Err (fault.Unpaired 0)
+expenditure_missing : denoted_prices true 0 goods_a_b (records_in (codes "p_a,p_b")) ≡ Err (fault.Unpaired 0)
 unfolding on_files goods_a_b
 expenditure_missing = refl
 
-good_not_given : denoted_prices false 0 goods_a_b (records_of (codes "p_a,p_c")) ≡ Err (fault.OtherGoods 2)
+good_not_given : denoted_prices false 0 goods_a_b (records_in (codes "p_a,p_c")) ≡ Err (fault.OtherGoods 2)
 unfolding on_files goods_a_b
 good_not_given = refl
 
-good_missing : denoted_bundles 0 goods_a_b (records_of (codes "q_a")) ≡ Err (fault.OtherGoods 0)
+good_missing : denoted_bundles 0 goods_a_b (records_in (codes "q_a")) ≡ Err (fault.OtherGoods 0)
 unfolding on_files goods_a_b
 good_missing = refl
 
-given_scale : denoted_bundles 2 goods_a_b (records_of (codes "q_a,q_b\n1.5,0\n")) ≡ Ok (record { goods = 2; quantities = 150 ∷ 0 ∷ [] })
+given_scale : denoted_bundles 2 goods_a_b (records_in (codes "q_a,q_b\n1.5,0\n")) ≡ Ok (record { goods = 2; quantities = 150 ∷ 0 ∷ [] })
 unfolding on_files goods_a_b
 given_scale = refl
 
-finer_bundle : denoted_bundles 1 goods_a_b (records_of (codes "q_a,q_b\n1.25,0\n")) ≡ Err (fault.TooFine 1 1)
+finer_bundle : denoted_bundles 1 goods_a_b (records_in (codes "q_a,q_b\n1.25,0\n")) ≡ Err (fault.TooFine 1 1)
 unfolding on_files goods_a_b
 finer_bundle = refl
 
-two_budgets : denoted_budgets (records_of (codes "p_a,p_b,w\n1,2,4.5\n2,1.25,4\n"))
+two_budgets : denoted_budgets (records_in (codes "p_a,p_b,w\n1,2,4.5\n2,1.25,4\n"))
     ≡ Ok (record { names = codes "a" ∷ codes "b" ∷ []; prices = 100 ∷ 200 ∷ 200 ∷ 125 ∷ []; w = 45 ∷ 40 ∷ [] })
 unfolding on_files
 two_budgets = refl
 
 -- own levels are those of a table
-levels_of_budgets : denoted_budgets (records_of (codes "p_a,w,e\n1,4,1000\n")) ≡ Err (fault.BadHeader 3)
+levels_of_budgets : denoted_budgets (records_in (codes "p_a,w,e\n1,4,1000\n")) ≡ Err (fault.BadHeader 3)
 unfolding on_files
 levels_of_budgets = refl
 
-third_of_two_budgets : denoted_choices 2 goods_a_b (records_of (codes "budget,q_a,q_b,n\n3,1,1,1\n")) ≡ Err (fault.UnknownBudget 1)
+third_of_two_budgets : denoted_choices 2 goods_a_b (records_in (codes "budget,q_a,q_b,n\n3,1,1,1\n")) ≡ Err (fault.UnknownBudget 1)
 unfolding on_files goods_a_b
 third_of_two_budgets = refl
 
-no_choices_on_the_second : denoted_choices 2 goods_a_b (records_of (codes "budget,q_a,q_b,n\n1,1,1,5\n2,1,1,0\n")) ≡ Err (fault.NoChoices 2)
+no_choices_on_the_second : denoted_choices 2 goods_a_b (records_in (codes "budget,q_a,q_b,n\n1,1,1,5\n2,1,1,0\n")) ≡ Err (fault.NoChoices 2)
 unfolding on_files goods_a_b
 no_choices_on_the_second = refl
 
-whole_with_a_zero : denoted_choices 1 goods_a_b (records_of (codes "n,q_b,q_a,budget\n7,0.5,1,1.0\n")) ≡ Ok (record { goods = 2; budget = 0 ∷ []; quantities = 10 ∷ 5 ∷ []; times = 7 ∷ [] })
+whole_with_a_zero : denoted_choices 1 goods_a_b (records_in (codes "n,q_b,q_a,budget\n7,0.5,1,1.0\n")) ≡ Ok (record { goods = 2; budget = 0 ∷ []; quantities = 10 ∷ 5 ∷ []; times = 7 ∷ [] })
 unfolding on_files goods_a_b
 whole_with_a_zero = refl
 
-not_whole : denoted_choices 2 goods_a_b (records_of (codes "budget,q_a,q_b,n\n1.5,1,1,1\n")) ≡ Err (fault.BadNumber 1 1)
+not_whole : denoted_choices 2 goods_a_b (records_in (codes "budget,q_a,q_b,n\n1.5,1,1,1\n")) ≡ Err (fault.BadNumber 1 1)
 unfolding on_files goods_a_b
 not_whole = refl

@@ -8,7 +8,7 @@ use Rattle.rp_table.specs.BudgetLists.{BudgetList}
 use Rattle.rp_table.specs.ChoiceLists.{ChoiceList}
 use Rattle.rp_sheet.specs.Sheets.{first_fault, unless_fault, numbers_under, column_numbers}
 use Rattle.rp_sheet.specs.Forms.{table_form, prices_form, bundles_form, budgets_form, choices_form}
-use Rattle.rp_sheet.specs.Records.{records_of}
+use Rattle.rp_sheet.specs.Records.{records_in}
 use Rattle.rp_sheet.specs.Columns.{names_with, is_price, mark_of_prices, mark_of_quantities, price_mark, quantity_mark}
 use Rattle.rp_sheet.specs.Headers.{headers_of, has}
 use Rattle.rp_sheet.specs.Fields.{figures_of}
@@ -51,7 +51,7 @@ denoted_table records = unless_fault (first_fault table_form [] records) (table_
 
 -- what the bytes of a file denote as a table
 abbrev pub table_in : List ℕ → Result Observations TableFault
-table_in bytes = denoted_table (records_of bytes)
+table_in bytes = denoted_table (records_in bytes)
 
 -- new prices of these goods, in scaled numbers
 abbrev pub price_list : Bool → List (List ℕ) → List (List ℕ) → List (List ℕ) → PriceList
@@ -75,7 +75,7 @@ denoted_prices with_m places goods records =
 
 -- what the bytes of a file denote as new prices of these goods
 abbrev pub prices_in : Bool → ℕ → List (List ℕ) → List ℕ → Result PriceList TableFault
-prices_in with_m places goods bytes = denoted_prices with_m places goods (records_of bytes)
+prices_in with_m places goods bytes = denoted_prices with_m places goods (records_in bytes)
 
 -- the same of the goods and the scale of a table
 abbrev pub prices_beside : Bool → Observations → List ℕ → Result PriceList TableFault
@@ -101,7 +101,7 @@ denoted_bundles places goods records =
 
 -- what the bytes of a file denote as bundles of these goods
 abbrev pub bundles_in : ℕ → List (List ℕ) → List ℕ → Result BundleList TableFault
-bundles_in places goods bytes = denoted_bundles places goods (records_of bytes)
+bundles_in places goods bytes = denoted_bundles places goods (records_in bytes)
 
 -- the same of the goods and the scale of a table
 abbrev pub bundles_beside : Observations → List ℕ → Result BundleList TableFault
@@ -128,7 +128,7 @@ denoted_budgets records =
 
 -- what the bytes of a file denote as budgets
 abbrev pub budgets_in : List ℕ → Result BudgetList TableFault
-budgets_in bytes = denoted_budgets (records_of bytes)
+budgets_in bytes = denoted_budgets (records_in bytes)
 
 -- choices of bundles of these goods, in scaled numbers. In code budgets are numbered from 0
 abbrev pub choice_list : List (List ℕ) → List (List ℕ) → List (List ℕ) → ChoiceList
@@ -152,7 +152,7 @@ denoted_choices budgets goods records =
 
 -- what the bytes of a file denote as choices on so many budgets over these goods
 abbrev pub choices_in : ℕ → List (List ℕ) → List ℕ → Result ChoiceList TableFault
-choices_in budgets goods bytes = denoted_choices budgets goods (records_of bytes)
+choices_in budgets goods bytes = denoted_choices budgets goods (records_in bytes)
 
 -- the same on these budgets
 abbrev pub choices_on : BudgetList → List ℕ → Result ChoiceList TableFault

@@ -16,13 +16,13 @@ use Rattle.rp_evidence.proofs.EqualOrReached.{equals}
 use Rattle.rp_evidence.proofs.WelfareLaws.{in_region, reaching_in_region, region_is_feasible}
 use Rattle.rp_farkas.specs.Best.{IsLeastCost}
 use Rattle.rp_farkas.specs.Measure.{measured}
-use Rattle.rp_farkas.specs.Prices.{HasFeasiblePrices, cost_of}
+use Rattle.rp_farkas.specs.Prices.{HasFeasiblePrices, value_of_prices}
 use Rattle.rp_farkas.specs.declared.measure.Measure.TheVariants.{Cost}
 use Rattle.rp_welfare.specs.Verdict.{IsAtMost}
 
 -- what the price side of the program costs is what it costs at the new prices
 module _ (input : TableInput) (prices : ℕ → ℕ) (reached : List ℕ) where
-  cost_is : (x : ℕ → ℕ) → cost_of (welfare_program input prices reached) x ≡ pos (spending input.goods prices x)
+  cost_is : (x : ℕ → ℕ) → value_of_prices (welfare_program input prices reached) x ≡ pos (spending input.goods prices x)
   cost_is x = total_of_sum input.goods prices x
 
   pub cost_bound : (bound : Bound) → IsBoundOf (welfare_program input prices reached) (measured (welfare_program input prices reached) Cost) bound

@@ -35,12 +35,12 @@ loop-t-preserved c =
       | then-counts-j w ↦
           let more = costs_more n (OwnWeak a.costs.now) (scaled_at a.costs.now) (own_of a.costs.now) (weak_by_own a.costs.now.n a.costs.now.levels (cost_at a.costs.now)) (slice_index a.counts.now) c.requires.counted.each a.s l.t c.requires.observed own w.if-counts-j.true in
           let extra : own_of a.costs.now a.s + (w.scaled.result - w.own.result) ≡ scaled_at a.costs.now a.s l.t = omega (arith, w.scaled.ensures.exact, w.own.ensures.exact) in
-          let gap = difference_same (utility_of a.u.now l.t) (utility_of a.u.now a.s) (c.requires.fit l.t own (omega (arith, w.if-counts-j.true))) (c.requires.fit a.s c.requires.observed (omega arith)) in
+          let difference = difference_same (utility_of a.u.now l.t) (utility_of a.u.now a.s) (c.requires.fit l.t own (omega (arith, w.if-counts-j.true))) (c.requires.fit a.s c.requires.observed (omega arith)) in
           subst (λ k. IsMultiplierBy (l.t + 1) (scaled_at a.costs.now) (own_of a.costs.now) (slice_index a.counts.now) (utility_of a.u.now) a.s k) (sym (w.most-is ∙ w.max-most.ensures))
           (multiplier_raised (scaled_at a.costs.now) (own_of a.costs.now) (slice_index a.counts.now) (utility_of a.u.now) a.s l.t l.most w.rounded_up.result
           (λ t b h. costs_more n (OwnWeak a.costs.now) (scaled_at a.costs.now) (own_of a.costs.now) (weak_by_own a.costs.now.n a.costs.now.levels (cost_at a.costs.now)) (slice_index a.counts.now) c.requires.counted.each a.s t c.requires.observed (omega arith) h)
           w.if-counts-j.true l.invariant
-          (rounded_is_needed (scaled_at a.costs.now) (own_of a.costs.now) (utility_of a.u.now) a.s l.t _ _ w.rounded_up.result gap extra w.rounded_up.ensures))
+          (rounded_is_needed (scaled_at a.costs.now) (own_of a.costs.now) (utility_of a.u.now) a.s l.t _ _ w.rounded_up.result difference extra w.rounded_up.ensures))
       | else-counts-j w ↦ subst (λ k. IsMultiplierBy (l.t + 1) (scaled_at a.costs.now) (own_of a.costs.now) (slice_index a.counts.now) (utility_of a.u.now) a.s k) (sym w.most-is)
           (multiplier_passed (scaled_at a.costs.now) (own_of a.costs.now) (slice_index a.counts.now) (utility_of a.u.now) a.s l.t l.most w.if-counts-j.false l.invariant)
     ]

@@ -3,7 +3,7 @@ use Rattle.rp_table.specs.declared.TheConstants.{NEW_RECORDS}
 use Rattle.rp_sheet.specs.Fields.{figures_of}
 use Rattle.rp_sheet.specs.Forms.{asked_form}
 use Rattle.rp_sheet.specs.Headers.{headers_in}
-use Rattle.rp_sheet.specs.Records.{records_of, record_at}
+use Rattle.rp_sheet.specs.Records.{records_in, record_at}
 use Rattle.rp_sheet.proofs.StageLemmas.{first_records}
 use Rattle.rp_cost.specs.Denotation.{asked_of, denoted_asked}
 use Rattle.rp_cost.proofs.asked_file.read_asked.Goals as goal
@@ -15,10 +15,10 @@ first_read places inputs records =
 
 pub returns-clause-denoted : goal.returns-clause-denoted
 returns-clause-denoted c =
-    let same = ap (denoted_asked c.args.tech.now.table.quantity_places c.args.tech.now.table.names) c.in_ok-records.ensures ∙ first_read c.args.tech.now.table.quantity_places c.args.tech.now.table.names (records_of c.args.bytes.now) in
+    let same = ap (denoted_asked c.args.tech.now.table.quantity_places c.args.tech.now.table.names) c.in_ok-records.ensures ∙ first_read c.args.tech.now.table.quantity_places c.args.tech.now.table.names (records_in c.args.bytes.now) in
     rw (← same) c.asked_from.ensures.denoted
 
 pub returns-clause-refused : goal.returns-clause-refused
 returns-clause-refused c =
-    let same = ap (denoted_asked c.args.tech.now.table.quantity_places c.args.tech.now.table.names) c.in_ok-records.ensures ∙ first_read c.args.tech.now.table.quantity_places c.args.tech.now.table.names (records_of c.args.bytes.now) in
+    let same = ap (denoted_asked c.args.tech.now.table.quantity_places c.args.tech.now.table.names) c.in_ok-records.ensures ∙ first_read c.args.tech.now.table.quantity_places c.args.tech.now.table.names (records_in c.args.bytes.now) in
     rw (← same) c.asked_from.ensures.refused

@@ -1,5 +1,5 @@
 use Rattle.std.proofs.Common.{ℕ, ◌<◌}
-use Rattle.rp_garp.specs.Meeting.{SomeViolateAt}
+use Rattle.rp_garp.specs.InnerMeeting.{SomeViolateAt}
 use Rattle.rp_garp.proofs.meeting.is_violated.Given as goal
 
 abbrev pub invariant-loop-t : goal.invariant-loop-t

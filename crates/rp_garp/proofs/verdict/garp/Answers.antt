@@ -1,7 +1,7 @@
 use Rattle.std.proofs.Common.{◌≡◌, []}
 use Rattle.rp_evidence.specs.Garp.{ProvesGarp, ProvesOfPreference}
 use Rattle.rp_pref.specs.Steps.{OwnStrict, OwnWeak}
-use Rattle.rp_pref.specs.Violation.{IsVerdictOn}
+use Rattle.rp_pref.specs.Violation.{IsVerdictOfPreference}
 use Rattle.rp_table.specs.Cost.{cost_at}
 use Rattle.rp_garp.specs.Verdict.{IsGarpVerdict}
 use Rattle.rp_garp.proofs.MeetingLemmas.{if_ok}
@@ -17,5 +17,5 @@ returns-clause-proves_without_levels c =
 pub returns-clause-given_without_levels : goal.returns-clause-given_without_levels
 returns-clause-given_without_levels c =
     let k = c.args.costs.now in
-    if_ok (IsVerdictOn k.n (OwnWeak k) (OwnStrict k)) (IsGarpVerdict k.n (cost_at k)) (k.levels ≡ []) (given_at_one k.n k.levels (cost_at k))
+    if_ok (IsVerdictOfPreference k.n (OwnWeak k) (OwnStrict k)) (IsGarpVerdict k.n (cost_at k)) (k.levels ≡ []) (given_at_one k.n k.levels (cost_at k))
     c.own_verdict.result c.own_verdict.ensures.given

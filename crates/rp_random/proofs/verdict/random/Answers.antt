@@ -8,9 +8,3 @@ use Rattle.rp_random.proofs.verdict.random.Goals as goal
 pub mixture-requires-clause-whole : goal.mixture-requires-clause-whole
 mixture-requires-clause-whole c =
     subst (λ (p : PatchList). AreWhole (types_on p)) (sym c.make.ensures.patches) (are_whole c.args.patches.now c.budgets.ensures.valid)
-
-pub returns-clause-added : goal.returns-clause-added
-returns-clause-added c = record {
-  mixtures = c.patches_without_units_change_nothing.ensures.mixtures c.args.patches.now;
-  shares = c.patches_without_units_change_nothing.ensures.shares c.args.patches.now;
-}

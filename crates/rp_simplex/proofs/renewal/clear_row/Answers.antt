@@ -13,12 +13,12 @@ number_is : (c : After-difference_of_products-number) → to_z w128 (of_z w128 c
 number_is c =
     let inv = c.loop-s.invariant in
     cleared_read c.args.grid.now c.loop-s.rows.grid.now c.args.r c.args.i c.loop-s.s c.args.divisor (to_z w64 (of_z w64 c.args.pivot)) (to_z w64 (of_z w64 c.args.factor))
-    c.requires.row c.requires.pivot_row c.requires.apart (omega (arith, c.cols-cols.ensures.count)) c.requires.fit c.requires.pivot_fit inv.written
+    c.requires.ready.row c.requires.ready.pivot_row c.requires.ready.apart (omega (arith, c.cols-cols.ensures.count)) c.requires.ready.fit c.requires.ready.pivot_fit inv.written
     c.difference_of_products-number.result c.into_at.result c.from_at.result c.loop-s.rows.into c.loop-s.rows.from inv.into inv.from c.into_at.ensures c.from_at.ensures
     c.difference_of_products-number.type_inv c.difference_of_products-number.ensures.value
 
 whole : (c : After-difference_of_products-number) → to_z w128 (of_z w128 c.difference_of_products-number.result) ≡ less_multiple c.args.grid.now c.args.r c.args.i c.args.pivot c.args.factor c.loop-s.s
-whole c = number_is c ∙ same_row c.args.grid.now c.args.r c.args.i c.loop-s.s c.args.pivot c.args.factor c.requires.pivot c.requires.factor
+whole c = number_is c ∙ same_row c.args.grid.now c.args.r c.args.i c.loop-s.s c.args.pivot c.args.factor c.requires.ready.pivot c.requires.ready.factor
 
 pub quotient-requires-clause-divides : goal.quotient-requires-clause-divides
 quotient-requires-clause-divides c =
@@ -36,7 +36,7 @@ loop-s-preserved c =
       into = c.set.ensures.into ∙ inv.into;
       from = c.set.ensures.from ∙ inv.from;
       written = row_more c.args.grid.now c.loop-s.rows.grid.now c.args.r c.args.i c.loop-s.s c.args.divisor (to_z w64 (of_z w64 c.args.pivot)) (to_z w64 (of_z w64 c.args.factor))
-          c.requires.row c.requires.pivot_row c.requires.apart (omega (arith, c.cols-cols.ensures.count)) c.requires.fit c.requires.pivot_fit inv.written
+          c.requires.ready.row c.requires.ready.pivot_row c.requires.ready.apart (omega (arith, c.cols-cols.ensures.count)) c.requires.ready.fit c.requires.ready.pivot_fit inv.written
           c.in-Some.value _ c.loop-s.rows.into c.set.new.self.grid.now (number_is (goal.at.loop-s-preserved c).After-difference_of_products-number) c.in-Some.ensures inv.into c.set.ensures.written;
     }
 
@@ -45,5 +45,5 @@ returns c =
     let inv = c.loop-s.invariant in
     other_numbers true c.args.grid.now _ c.args.i c.args.divisor
     (less_multiple c.args.grid.now c.args.r c.args.i (to_z w64 (of_z w64 c.args.pivot)) (to_z w64 (of_z w64 c.args.factor))) (less_multiple c.args.grid.now c.args.r c.args.i c.args.pivot c.args.factor)
-    (λ s l. same_row c.args.grid.now c.args.r c.args.i s c.args.pivot c.args.factor c.requires.pivot c.requires.factor)
+    (λ s l. same_row c.args.grid.now c.args.r c.args.i s c.args.pivot c.args.factor c.requires.ready.pivot c.requires.ready.factor)
     (all_written c.args.grid.now c.loop-s.rows.grid.now _ c.args.i c.loop-s.s (λ k value. IsQuotient (less_multiple c.args.grid.now c.args.r c.args.i (to_z w64 (of_z w64 c.args.pivot)) (to_z w64 (of_z w64 c.args.factor)) k) c.args.divisor value) inv.written (search rules) (search rules))

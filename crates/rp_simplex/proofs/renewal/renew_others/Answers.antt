@@ -10,13 +10,13 @@ use Rattle.rp_simplex.proofs.renewal.renew_others.Goals.{After-factor_of-factor,
 
 read : (c : After-factor_of-factor) → to_z w64 (of_z w64 c.factor_of-factor.result) ≡ factor c.args.grid.now c.args.column.now c.loop-i.i
 read c = factor_read c.args.grid.now c.loop-i.grid c.args.r (to_z w64 (of_z w64 c.args.pivot)) (factor c.args.grid.now c.args.column.now) c.args.divisor c.loop-i.i c.loop-i.invariant c.args.column.now c.factor_of-factor.result
-    c.requires.factors_fit (omega (arith, c.rows-i-end.ensures.count)) c.factor_of-factor.ensures
+    c.requires.ready.factors_fit (omega (arith, c.rows-i-end.ensures.count)) c.factor_of-factor.ensures
 
 same : (c : After-factor_of-factor) (s : ℕ) → less_multiple c.loop-i.grid c.args.r c.loop-i.i (to_z w64 (of_z w64 c.args.pivot)) (to_z w64 (of_z w64 c.factor_of-factor.result)) s
     ≡ less_multiple c.args.grid.now c.args.r c.loop-i.i c.args.pivot (factor c.args.grid.now c.args.column.now c.loop-i.i) s
 same c s =
     same_multiple c.args.grid.now c.loop-i.grid c.args.r (to_z w64 (of_z w64 c.args.pivot)) (factor c.args.grid.now c.args.column.now) c.args.divisor c.loop-i.i c.loop-i.invariant (to_z w64 (of_z w64 c.factor_of-factor.result)) s
-    ∙ (λ k. less_multiple c.args.grid.now c.args.r c.loop-i.i (back c.args.pivot c.requires.pivot k) (read c k) s)
+    ∙ (λ k. less_multiple c.args.grid.now c.args.r c.loop-i.i (back c.args.pivot c.requires.ready.pivot k) (read c k) s)
 
 pub renew_row-requires-clause-divides : goal.renew_row-requires-clause-divides
 renew_row-requires-clause-divides c = λ s l.
@@ -43,7 +43,7 @@ loop-i-preserved c =
       | then-i-r+else-not-renew_row w ↦ subst (λ g. AreRenewed old g c.args.r (to_z w64 (of_z w64 c.args.pivot)) (factor old c.args.column.now) c.args.divisor (c.loop-i.i + 1)) (sym w.grid-is)
           (rows_more old now c.args.r (to_z w64 (of_z w64 c.args.pivot)) (factor old c.args.column.now) c.args.divisor c.loop-i.i so_far w.renew_row.new.grid (to_z w64 (of_z w64 w.factor_of-factor.result))
           (factor_read old now c.args.r (to_z w64 (of_z w64 c.args.pivot)) (factor old c.args.column.now) c.args.divisor c.loop-i.i so_far c.args.column.now w.factor_of-factor.result
-          c.requires.factors_fit (omega (arith, c.rows-i-end.ensures.count)) w.factor_of-factor.ensures)
+          c.requires.ready.factors_fit (omega (arith, c.rows-i-end.ensures.count)) w.factor_of-factor.ensures)
           w.if-i-r.true w.if-not-renew_row.ensures)
       | else-i-r w ↦ subst (λ g. AreRenewed old g c.args.r (to_z w64 (of_z w64 c.args.pivot)) (factor old c.args.column.now) c.args.divisor (c.loop-i.i + 1)) (sym w.grid-is)
           (row_left_out old now c.args.r (to_z w64 (of_z w64 c.args.pivot)) (factor old c.args.column.now) c.args.divisor c.loop-i.i so_far w.if-i-r.false)

@@ -2,7 +2,7 @@ use Rattle.std.proofs.Common.{◌≡◌, ℕ, List, [], take, ap, ◌∙◌}
 use Rattle.rp_sheet.specs.Forms.{budgets_form}
 use Rattle.rp_sheet.specs.Headers.{headers_in}
 use Rattle.rp_sheet.specs.Fields.{figures_of}
-use Rattle.rp_sheet.specs.Records.{records_of, record_at}
+use Rattle.rp_sheet.specs.Records.{records_in, record_at}
 use Rattle.rp_text.specs.Denotation.{budgets_of, denoted_budgets}
 use Rattle.rp_sheet.proofs.StageLemmas.{first_records}
 use Rattle.rp_text.proofs.budgets.read_budgets.Goals as goal
@@ -13,10 +13,10 @@ first_read records = first_records budgets_form [] (λ rows. budgets_of (headers
 
 pub returns-clause-denoted : goal.returns-clause-denoted
 returns-clause-denoted c =
-    let same = ap denoted_budgets c.in_ok-records.ensures ∙ first_read (records_of c.args.bytes.now) in
+    let same = ap denoted_budgets c.in_ok-records.ensures ∙ first_read (records_in c.args.bytes.now) in
     rw (← same) c.budgets_from.ensures.denoted
 
 pub returns-clause-refused : goal.returns-clause-refused
 returns-clause-refused c =
-    let same = ap denoted_budgets c.in_ok-records.ensures ∙ first_read (records_of c.args.bytes.now) in
+    let same = ap denoted_budgets c.in_ok-records.ensures ∙ first_read (records_in c.args.bytes.now) in
     rw (← same) c.budgets_from.ensures.refused

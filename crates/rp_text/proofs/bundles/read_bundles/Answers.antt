@@ -2,7 +2,7 @@ use Rattle.std.proofs.Common.{◌≡◌, ℕ, List, take, ap, ◌∙◌}
 use Rattle.rp_sheet.specs.Forms.{bundles_form}
 use Rattle.rp_sheet.specs.Headers.{headers_in}
 use Rattle.rp_sheet.specs.Fields.{figures_of}
-use Rattle.rp_sheet.specs.Records.{records_of, record_at}
+use Rattle.rp_sheet.specs.Records.{records_in, record_at}
 use Rattle.rp_text.specs.Denotation.{bundles_of, denoted_bundles}
 use Rattle.rp_sheet.proofs.StageLemmas.{first_records}
 use Rattle.rp_text.proofs.bundles.read_bundles.Goals as goal
@@ -14,10 +14,10 @@ first_read places goods records =
 
 pub returns-clause-denoted : goal.returns-clause-denoted
 returns-clause-denoted c =
-    let same = ap (denoted_bundles c.args.table.now.quantity_places c.args.table.now.names) c.in_ok-records.ensures ∙ first_read c.args.table.now.quantity_places c.args.table.now.names (records_of c.args.bytes.now) in
+    let same = ap (denoted_bundles c.args.table.now.quantity_places c.args.table.now.names) c.in_ok-records.ensures ∙ first_read c.args.table.now.quantity_places c.args.table.now.names (records_in c.args.bytes.now) in
     rw (← same) c.bundles_from.ensures.denoted
 
 pub returns-clause-refused : goal.returns-clause-refused
 returns-clause-refused c =
-    let same = ap (denoted_bundles c.args.table.now.quantity_places c.args.table.now.names) c.in_ok-records.ensures ∙ first_read c.args.table.now.quantity_places c.args.table.now.names (records_of c.args.bytes.now) in
+    let same = ap (denoted_bundles c.args.table.now.quantity_places c.args.table.now.names) c.in_ok-records.ensures ∙ first_read c.args.table.now.quantity_places c.args.table.now.names (records_in c.args.bytes.now) in
     rw (← same) c.bundles_from.ensures.refused

@@ -2,7 +2,7 @@ use Rattle.std.proofs.Common.{◌≡◌, ℕ, Bool, List, take, ap, ◌∙◌}
 use Rattle.rp_sheet.specs.Forms.{prices_form}
 use Rattle.rp_sheet.specs.Headers.{headers_in}
 use Rattle.rp_sheet.specs.Fields.{figures_of}
-use Rattle.rp_sheet.specs.Records.{records_of, record_at}
+use Rattle.rp_sheet.specs.Records.{records_in, record_at}
 use Rattle.rp_text.specs.Denotation.{prices_of, denoted_prices}
 use Rattle.rp_sheet.proofs.StageLemmas.{first_records}
 use Rattle.rp_text.proofs.prices.read_prices.Goals as goal
@@ -14,10 +14,10 @@ first_read with_m places goods records =
 
 pub returns-clause-denoted : goal.returns-clause-denoted
 returns-clause-denoted c =
-    let same = ap (denoted_prices c.args.with_m c.args.table.now.quantity_places c.args.table.now.names) c.in_ok-records.ensures ∙ first_read c.args.with_m c.args.table.now.quantity_places c.args.table.now.names (records_of c.args.bytes.now) in
+    let same = ap (denoted_prices c.args.with_m c.args.table.now.quantity_places c.args.table.now.names) c.in_ok-records.ensures ∙ first_read c.args.with_m c.args.table.now.quantity_places c.args.table.now.names (records_in c.args.bytes.now) in
     rw (← same) c.prices_from.ensures.denoted
 
 pub returns-clause-refused : goal.returns-clause-refused
 returns-clause-refused c =
-    let same = ap (denoted_prices c.args.with_m c.args.table.now.quantity_places c.args.table.now.names) c.in_ok-records.ensures ∙ first_read c.args.with_m c.args.table.now.quantity_places c.args.table.now.names (records_of c.args.bytes.now) in
+    let same = ap (denoted_prices c.args.with_m c.args.table.now.quantity_places c.args.table.now.names) c.in_ok-records.ensures ∙ first_read c.args.with_m c.args.table.now.quantity_places c.args.table.now.names (records_in c.args.bytes.now) in
     rw (← same) c.prices_from.ensures.refused

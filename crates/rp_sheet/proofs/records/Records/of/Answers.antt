@@ -4,7 +4,7 @@ use Rattle.csv.specs.Reading.{Reached, default_config, strip_bom}
 use Rattle.csv.specs.Records.{fields_of}
 use Rattle.csv.specs.declared.parser.State.TheVariants as st
 use Rattle.csv.proofs.ReadFacts.{rows-end, rows-more}
-use Rattle.rp_sheet.specs.Records.{records_of}
+use Rattle.rp_sheet.specs.Records.{records_in}
 use Rattle.rp_sheet.proofs.CsvLemmas.{read_some, read_all}
 use Rattle.rp_sheet.proofs.records.Records.of.Goals as goal
 
@@ -25,7 +25,7 @@ loop-init c =
     })
 
 pub returns-in-Ok-false : goal.returns-in-Ok-false
-unfolding records_of
+unfolding records_in
 returns-in-Ok-false c =
     let before = c.loop.invariant in
     let read = rw c.in-Ok-false.field-0-test at (c.in-Ok-false.ensures.reads before.untrimmed before.ready) in
@@ -50,7 +50,7 @@ loop-preserved c =
     }
 
 pub returns : goal.returns
-unfolding records_of
+unfolding records_in
 returns c =
     let before = c.loop.invariant in
     let counted : length (map fields_of c.loop.records.items) ≡ c.args.most = omega (arith, length-map c.loop.records.items fields_of, before.counted, c.loop-test.false) in
