@@ -1,7 +1,7 @@
 -- What new prices of the program stand for, and what marks the sets of observations below a budget; words that only the
 -- crate's own functions and their proofs need.
 use Rattle.std.specs.Prelude.{◌<◌, ◌≤◌, ℕ, All, List, length}
-use Rattle.rp_clauses.specs.InnerMarks.{AreMarked}
+use Rattle.rp_rounds.specs.Marks.{AreMarked}
 use Rattle.rp_table.specs.declared.new_prices.NewPrices.{NewPrices}
 use Rattle.rp_check.specs.declared.sets.Sets.{Sets}
 use Rattle.rp_evidence.specs.Demand.{IsBelow, IsStrictlyBelow, NewBudget}

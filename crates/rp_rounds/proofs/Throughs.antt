@@ -3,7 +3,7 @@ use Rattle.std.proofs.Common.{ℕ, zero, suc, ◌<◌, ◌≤◌, List, [], ◌�
 use Rattle.std.proofs.lemmas.Bool.{cases_eq}
 use Rattle.rp_evidence.specs.Walk.{LeadsTo, IsWalk, Reaches}
 use Rattle.rp_evidence.proofs.Walks.{reach_by_step, reach_on}
-use Rattle.rp_clauses.specs.InnerBits.{ReachesThrough}
+use Rattle.rp_rounds.specs.Through.{ReachesThrough}
 
 module _ (step : ℕ → ℕ → Type 0) where
   -- Two walks of which the first ends below k, where the second begins.
@@ -53,3 +53,12 @@ module _ (n : ℕ) (step : ℕ → ℕ → Type 0) where
       by_case : (ReachesThrough k step s t → Reaches n step s t) → (ReachesThrough k step s k → Reaches n step s k) → (ReachesThrough k step k t → Reaches n step k t) → ReachesThrough (suc k) step s t → Reaches n step s t
       by_case both to from (inl x) = both x
       by_case both to from (inr x) = reach_on n step s k t (to x.0) (from x.1)
+
+  -- What is led to is below n where each step leads to what is below n.
+  pub through_ends_below : ((a b : ℕ) → a < n → step a b → b < n) → (k s t : ℕ) → k ≤ n → s < n → ReachesThrough k step s t → t < n
+  through_ends_below ends zero s t le a h = ends s t a h
+  through_ends_below ends (suc k) s t le a h = by_case (through_ends_below ends k s t (omega arith) a) (through_ends_below ends k k t (omega arith) (omega arith)) h
+    where
+      by_case : (ReachesThrough k step s t → t < n) → (ReachesThrough k step k t → t < n) → ReachesThrough (suc k) step s t → t < n
+      by_case both from (inl x) = both x
+      by_case both from (inr x) = from x.1
