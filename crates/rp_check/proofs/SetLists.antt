@@ -9,7 +9,7 @@ use Rattle.rp_check.specs.InnerSets.{AreFewOf, AreSets}
 use Rattle.rp_patch.specs.Clauses.{failure}
 use Rattle.rp_check.specs.DemandFailure.{SetsFail}
 use Rattle.rp_evidence.specs.Enumeration.{Enumerates}
-use Rattle.rp_clauses.specs.InnerMarks.{IsMarked}
+use Rattle.rp_rounds.specs.Marks.{IsMarked}
 use Rattle.rp_check.specs.declared.sets.Sets.{Sets}
 use Rattle.rp_evidence.proofs.Enumerations.{enumerates_few, enumerates_observed, enumerates_same}
 

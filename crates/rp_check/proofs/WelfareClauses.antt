@@ -14,7 +14,7 @@ use Rattle.rp_evidence.specs.declared.failure.Reason.TheVariants.{Number}
 use Rattle.rp_patch.specs.Clauses.{InOrder, Unless}
 use Rattle.rp_clauses.specs.PricesFailure.{PricesFail}
 use Rattle.rp_evidence.specs.Enumeration.{Enumerates}
-use Rattle.rp_clauses.specs.InnerMarks.{AreMarked, IsMarked}
+use Rattle.rp_rounds.specs.Marks.{AreMarked, IsMarked}
 use Rattle.rp_clauses.specs.WalkFailure.{ViolationFails}
 use Rattle.rp_check.specs.WelfareFailure.{LowerHolds, WelfareBoundsFail, WelfareFails, WelfarePartFails}
 use Rattle.rp_evidence.proofs.DemandBounds.{total_of_sum}

@@ -2,8 +2,8 @@ ghost use Rattle.std.specs.Prelude.{◌<◌, ◌≤◌, ◌↔◌, ℕ, IsTrue, 
 ghost use Rattle.rp_check.specs.InnerSets.{AreSets};
 ghost use Rattle.rp_evidence.specs.InnerBudget.{budget_at, input_of};
 ghost use Rattle.rp_check.specs.DemandFailure.{SetsFail};
-ghost use Rattle.rp_clauses.specs.InnerBits.{IsClosureOf};
-ghost use Rattle.rp_clauses.specs.InnerMarks.{AreMarked, IsMarked};
+ghost use Rattle.rp_clauses.specs.InnerBits.{HoldsWeakClosure};
+ghost use Rattle.rp_rounds.specs.Marks.{AreMarked, IsMarked};
 ghost use Rattle.rp_evidence.specs.Demand.{Buys, IsBelow, IsStrictStart};
 ghost use Rattle.rp_evidence.specs.Preference.{IsStrict};
 ghost use Rattle.rp_table.specs.Cost.{cost_of};
@@ -27,7 +27,7 @@ pub struct Sets {
 impl Sets {
     /// The sets of the budget at these prices and the expenditure `m`.
     pub fn of(new_prices: &NewPrices<'_>, closure: &Closure, m: u64) -> Sets
-        requires { IsClosureOf closure.now (input_of new_prices.now) }
+        requires { HoldsWeakClosure closure.now (input_of new_prices.now) }
         ensures { AreSets (input_of new_prices.now) (budget_at new_prices.now m) result }
     {
         prove!(new_prices.n() as usize <= ROOM);

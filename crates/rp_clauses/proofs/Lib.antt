@@ -1,12 +1,11 @@
-pub mod BitLemmas
+pub mod BitRows
 pub mod BoundMeasures
 pub mod HomotheticSteps
 pub mod MarkLemmas
 pub mod MarkedLists
 pub mod OwnCosts
-pub mod Rounds
 pub mod SameFractions
 pub mod SoundTests
-pub mod Throughs
+pub mod TakenIn
 pub mod WalkProducts
 pub mod WalkSums

@@ -1,10 +1,12 @@
 //! Which observations of a table reach which by walks of weak steps, found once for all items.
 ghost use Rattle.std.specs.Prelude.{◌≡◌, ◌<◌, ◌≤◌, ◌&&◌, ◌||◌, ◌↔◌, ℕ, IsTrue, length};
-ghost use Rattle.rp_clauses.specs.InnerBits.{IsClosureOf, ReachesThrough, bit_in, has_bit};
-ghost use Rattle.rp_clauses.specs.InnerMarks.{IsMarked};
+ghost use Rattle.rp_clauses.specs.InnerBits.{HoldsWeakClosure, has_bit};
+ghost use Rattle.rp_rounds.specs.Marks.{IsMarked};
 ghost use Rattle.rp_evidence.specs.Input.{TableInput, input_of_table};
 ghost use Rattle.rp_evidence.specs.Preference.{IsWeak};
 ghost use Rattle.rp_evidence.specs.Welfare.{EqualsOrReaches};
+ghost use Rattle.rp_rounds.specs.Bits.{bit_in};
+ghost use Rattle.rp_rounds.specs.Through.{ReachesThrough};
 ghost use Rattle.rp_table.specs.Cost.{cost_of};
 ghost use Rattle.rp_table.specs.Tables.{records_of};
 ghost use Rattle.rp_table.specs.declared.TheConstants.{RECORDS};
@@ -23,7 +25,7 @@ pub struct Closure {
 impl Closure {
     /// The closure of the weak steps of a table.
     pub fn of(input: &Input<'_>) -> Closure
-        ensures { IsClosureOf result (input_of_table input.now.table.now) }
+        ensures { HoldsWeakClosure result (input_of_table input.now.table.now) }
     {
         let mut rows = [[0; WORDS]; ROOM];
         note_steps(input, &mut rows);
@@ -35,7 +37,7 @@ impl Closure {
     pub fn equals_or_reaches(&self, s: u32, t: u32) -> bool
         requires from { s < RECORDS }
         requires to { t < RECORDS }
-        ensures { (input : TableInput) → IsClosureOf self.now input → s < input.n → t < input.n
+        ensures { (input : TableInput) → HoldsWeakClosure self.now input → s < input.n → t < input.n
             → IsTrue result ↔ EqualsOrReaches input s t }
     {
         s == t || is_set(&self.rows[s as usize], t)

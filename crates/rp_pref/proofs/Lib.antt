@@ -1,3 +1,4 @@
+pub mod BitCounts
 pub mod ClosureLemmas
 pub mod DepthLemmas
 pub mod LevelOrder
@@ -5,9 +6,7 @@ pub mod Noted
 pub mod Rounds
 pub mod SearchLemmas
 pub mod Tables
-pub mod Throughs
 pub mod WalkLemmas
-pub mod Words
 pub mod WeakClosures
 pub mod VerdictLemmas
 pub mod SameVerdicts

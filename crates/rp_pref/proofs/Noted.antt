@@ -1,19 +1,19 @@
 -- Steps are noted as bits, and what the rounds make of them is the closure.
-use Rattle.std.proofs.Common.{◌≡◌, ℕ, ◌+◌, ◌*◌, ◌-◌, ◌<◌, ◌≤◌, ◌⊎◌, ◌↔◌, Bool, true, false, not, cond, IsTrue, length, replicate, count_by, refl, sym, ap, ◌∙◌, subst, arith}
+use Rattle.std.proofs.Common.{◌≡◌, ℕ, ◌+◌, ◌*◌, ◌-◌, ◌<◌, ◌≤◌, ◌↔◌, Bool, true, false, not, cond, IsTrue, length, replicate, count_by, refl, sym, ap, ◌∙◌, subst, arith}
 use mir.Val.{bool_byte}
 use Rattle.std.specs.List.{range_with_len}
 use Rattle.std.proofs.lemmas.List.{length-replicate}
-use Rattle.rp_evidence.specs.Count.{IsNumberOf}
 use Rattle.rp_evidence.specs.Walk.{Reaches}
 use Rattle.rp_grid.specs.Rows.{Rows, row_of, filled}
-use Rattle.rp_pref.specs.InnerBits.{bit_in, has_bit, HoldsBits}
-use Rattle.rp_pref.specs.Closure.{IsClosureOf, reached_by, reaches_in, counts_in}
-use Rattle.rp_pref.specs.InnerThrough.{ReachesThrough}
-use Rattle.rp_pref.proofs.ClosureLemmas.{counted}
+use Rattle.rp_rounds.specs.Bits.{bit_in}
+use Rattle.rp_rounds.specs.Through.{ReachesThrough}
+use Rattle.rp_rounds.proofs.Rounds.{HasClosed, closed_all}
+use Rattle.rp_rounds.proofs.Throughs.{through_ends_below}
+use Rattle.rp_pref.specs.InnerBits.{has_bit, HoldsBits}
+use Rattle.rp_pref.specs.Closure.{IsClosureOf, IsCountIn, reached_by, reaches_in}
+use Rattle.rp_pref.proofs.ClosureLemmas.{counted, counts_in}
 use Rattle.rp_pref.proofs.Tables.{reaches_in_by}
-use Rattle.rp_pref.proofs.Throughs.{through_from_reaches, reaches_from_through, through_ends_below}
-use Rattle.rp_evidence.proofs.SameCosts.{reach_same}
-use Rattle.rp_pref.proofs.Words.{none_after, counted_with}
+use Rattle.rp_pref.proofs.BitCounts.{none_after, counted_with}
 
 -- ---- one row of steps
 
@@ -38,23 +38,17 @@ pub record HasNotedRows (old now : Rows ℕ) (n end : ℕ) (step : ℕ → ℕ �
 
 module _ (n : ℕ) (first last : Rows ℕ) (step : ℕ → ℕ → Type 0)
     (noted : (s t : ℕ) → s < n → IsTrue (has_bit first s t) ↔ ((t < n) × step s t))
-    (closed : (s t : ℕ) → s < n → IsTrue (has_bit last s t) ↔ ReachesThrough n (λ a b. IsTrue (has_bit first a b)) s t) where
-  abbrev Noted : ℕ → ℕ → Type 0
-  Noted a b = IsTrue (has_bit first a b)
-
+    (closed : HasClosed n (has_bit first) (has_bit last) n) where
   pub ends_below : (s t : ℕ) → s < n → IsTrue (has_bit last s t) → t < n
-  ends_below s t l h = through_ends_below n Noted (λ a b c d. ((noted a b c).0 d).0) n s t (omega arith) l ((closed s t l).0 h)
+  ends_below s t l h = through_ends_below n (λ a b. IsTrue (has_bit first a b)) (λ a b c d. ((noted a b c).0 d).0) n s t (omega arith) l ((closed s t l).0 h)
 
-  same_walks : (s t : ℕ) → Reaches n Noted s t ↔ Reaches n step s t
-  same_walks = reach_same n Noted step (λ s t a b. (λ h. ((noted s t a).0 h).1, λ h. (noted s t a).1 (b, h)))
+  reached : (s t : ℕ) → s < n → t < n → IsTrue (has_bit last s t) ↔ Reaches n step s t
+  reached = closed_all n step (has_bit first) (has_bit last) (λ s t a b. ((λ h. ((noted s t a).0 h).1), (λ h. (noted s t a).1 (b, h)))) closed
 
   pub closure_by_bits : IsClosureOf (reached_by n (has_bit last)) n step
   closure_by_bits = record {
     size = refl;
-    exact = λ s t a b. subst (λ x. IsTrue x ↔ Reaches n step s t) (sym (reaches_in_by n (has_bit last) s t a b)) (
-      λ h. (same_walks s t).0 (reaches_from_through n Noted n s t (omega arith) a b ((closed s t a).0 h)),
-      λ h. (closed s t a).1 (through_from_reaches n Noted s t ((same_walks s t).1 h)),
-    );
+    exact = λ s t a b. subst (λ x. IsTrue x ↔ Reaches n step s t) (sym (reaches_in_by n (has_bit last) s t a b)) (reached s t a b);
   }
 
 -- From a grid without bits, by the steps, to the closure.
@@ -89,7 +83,7 @@ byte_below false = omega arith
 
 pub counted_by_bits : (n : ℕ) (bits : Rows ℕ) (holds : HoldsBits n bits) (s k total : ℕ) → s < n → length (row_of bits s) ≡ bits.cols
     → total ≡ count_by (bit_in (row_of bits s)) (range_with_len 0 (length (row_of bits s) * 64)) → k ≡ total + bool_byte (not (has_bit bits s s))
-    → IsNumberOf n (λ t. (t ≡ s) ⊎ IsTrue (reaches_in (reached_by n (has_bit bits)) s t)) k
+    → IsCountIn (reached_by n (has_bit bits)) s k
 counted_by_bits n bits holds s k total below long all is =
     let p = has_bit bits s in let reached = reached_by n (has_bit bits) in let end = bits.cols * 64 in
     let past : (t : ℕ) → n ≤ t → p t ≡ false = λ t l. not_true (p t) (λ h. omega (arith, l, holds.none_past s t below h)) in
@@ -98,7 +92,7 @@ counted_by_bits n bits holds s k total below long all is =
     ∙ ap (λ m. count_by p (range_with_len 0 m)) (let e : end ≡ n + (end - n) = omega (arith, holds.enough) in e) ∙ none_after p n (end - n) past in
     let with_itself : count_by (counts_in reached s) (range_with_len 0 n) ≡ count_by p (range_with_len 0 n) + cond (p s) 0 1 =
     counted_with p (reaches_in reached s) n s (λ t l. reaches_in_by n (has_bit bits) s t below l) below in
-    subst (IsNumberOf n (λ t. (t ≡ s) ⊎ IsTrue (reaches_in reached s t))) (with_itself ∙ ap (λ m. m + cond (p s) 0 1) (sym some) ∙ ap (λ m. total + m) (sym (unset (p s))) ∙ sym is) (counted reached s)
+    subst (IsCountIn reached s) (with_itself ∙ ap (λ m. m + cond (p s) 0 1) (sym some) ∙ ap (λ m. total + m) (sym (unset (p s))) ∙ sym is) (counted reached s)
   where
     not_true : (b : Bool) → (IsTrue b → ⊥) → b ≡ false
     not_true true h = absurd (h refl)

@@ -1,12 +1,13 @@
--- Rows of bits take in others, round by round. The records say how far a loop has come.
-use Rattle.std.proofs.Common.{◌≡◌, ◌≢◌, ℕ, ◌+◌, ◌/◌, ◌%◌, ◌<◌, ◌≤◌, ◌↔◌, ◌||◌, ◌&&◌, Bool, true, false, IsTrue, eqb, List, [], length, get_or, bit_or, inl, inr, refl, sym, ap, ◌∙◌, subst, arith}
+-- Rows of a grid of bits take in others, round by round. The records say how far a loop has come.
+use Rattle.std.proofs.Common.{◌≡◌, ◌≢◌, ℕ, ◌+◌, ◌/◌, ◌%◌, ◌<◌, ◌≤◌, ◌||◌, true, false, eqb, List, [], length, get_or, bit_or, inl, inr, sym, ap, ◌∙◌, arith}
 use Rattle.std.specs.Int.{bit_at}
-use Rattle.std.proofs.lemmas.Bool.{cases_eq, cases_lt}
+use Rattle.std.proofs.lemmas.Bool.{cases_lt}
 use Rattle.std.proofs.lemmas.List.{get_or_past}
 use Rattle.rp_grid.specs.Rows.{Rows, row_of, AreEqual}
-use Rattle.rp_pref.specs.InnerBits.{bit_in, has_bit}
-use Rattle.rp_pref.specs.InnerThrough.{ReachesThrough}
-use Rattle.rp_pref.proofs.Words.{or_false, bit_of_or}
+use Rattle.rp_rounds.specs.Bits.{bit_in}
+use Rattle.rp_rounds.proofs.BitLemmas.{bit_of_or}
+use Rattle.rp_rounds.proofs.Rounds.{HasClosed, HasGone, itself_gone, reached_gone, unreached_gone}
+use Rattle.rp_pref.specs.InnerBits.{has_bit}
 
 -- ---- one row takes in another
 
@@ -39,58 +40,41 @@ module _ (old now : Rows ℕ) (s k w : ℕ) (into : s < length old.rows) (from :
 -- ---- one round
 
 -- The first rows have gone through observation k.
-pub record HasGone (old now : Rows ℕ) (k end : ℕ) : Type 0 where
+pub record HasGoneRows (old now : Rows ℕ) (k end : ℕ) : Type 0 where
   pub count : length now.rows ≡ length old.rows
   pub cols : now.cols ≡ old.cols
-  pub gone : (a t : ℕ) → a < end → has_bit now a t ≡ (has_bit old a t || (has_bit old a k && has_bit old k t))
-  pub left : (a t : ℕ) → end ≤ a → has_bit now a t ≡ has_bit old a t
+  pub bits : HasGone (has_bit old) (has_bit now) k end
   pub middle : (t : ℕ) → has_bit now k t ≡ has_bit old k t
 
-absorbs : (x y : Bool) → (x || (y && x)) ≡ x
-absorbs true y = refl
-absorbs false true = refl
-absorbs false false = refl
-
-module _ (old now : Rows ℕ) (k s : ℕ) (so_far : HasGone old now k s) where
-  -- The row stays as it is where it is row k, or where k is not reached.
-  pub row_skipped : ((t : ℕ) → has_bit old s t ≡ (has_bit old s t || (has_bit old s k && has_bit old k t))) → HasGone old now k (s + 1)
-  row_skipped same = record {
+module _ (old now : Rows ℕ) (k s : ℕ) (so_far : HasGoneRows old now k s) where
+  pub skipped_itself : s ≡ k → HasGoneRows old now k (s + 1)
+  skipped_itself e = record {
     count = so_far.count;
     cols = so_far.cols;
-    gone = λ a t l. elim (cases_eq a s) [
-      | inl e ↦ subst (λ b. has_bit now b t ≡ (has_bit old b t || (has_bit old b k && has_bit old k t))) (sym e) (so_far.left s t (omega arith) ∙ same t)
-      | inr e ↦ so_far.gone a t (omega arith)
-    ];
-    left = λ a t l. so_far.left a t (omega arith);
+    bits = itself_gone (has_bit old) (has_bit now) k s so_far.bits e;
     middle = so_far.middle;
   }
 
-  pub skipped_itself : s ≡ k → HasGone old now k (s + 1)
-  skipped_itself e = row_skipped (λ t. subst (λ b. has_bit old b t ≡ (has_bit old b t || (has_bit old b k && has_bit old k t))) (sym e) (sym (absorbs (has_bit old k t) (has_bit old k k))))
-
-  pub skipped_unreached : has_bit now s k ≡ false → HasGone old now k (s + 1)
-  skipped_unreached none =
-      row_skipped (λ t. sym (ap (λ b. has_bit old s t || (b && has_bit old k t)) (sym (so_far.left s k (omega arith)) ∙ none) ∙ or_false (has_bit old s t)))
+  pub skipped_unreached : has_bit now s k ≡ false → HasGoneRows old now k (s + 1)
+  skipped_unreached none = record {
+    count = so_far.count;
+    cols = so_far.cols;
+    bits = unreached_gone (has_bit old) (has_bit now) k s so_far.bits none;
+    middle = so_far.middle;
+  }
 
   pub row_gone : (new : Rows ℕ) → s ≢ k → has_bit now s k ≡ true → length new.rows ≡ length now.rows → new.cols ≡ now.cols
-      → ((t : ℕ) → has_bit new s t ≡ (has_bit now s t || has_bit now k t)) → ((a t : ℕ) → a ≢ s → has_bit new a t ≡ has_bit now a t) → HasGone old new k (s + 1)
+      → ((t : ℕ) → has_bit new s t ≡ (has_bit now s t || has_bit now k t)) → ((a t : ℕ) → a ≢ s → has_bit new a t ≡ has_bit now a t) → HasGoneRows old new k (s + 1)
   row_gone new apart reached count cols row others = record {
     count = count ∙ so_far.count;
     cols = cols ∙ so_far.cols;
-    gone = λ a t l. elim (cases_eq a s) [
-      | inl e ↦ subst (λ b. has_bit new b t ≡ (has_bit old b t || (has_bit old b k && has_bit old k t))) (sym e)
-          (row t ∙ (λ i. so_far.left s t (omega arith) i || so_far.middle t i)
-          ∙ ap (λ b. has_bit old s t || (b && has_bit old k t)) (sym (sym (so_far.left s k (omega arith)) ∙ reached)))
-      | inr e ↦ others a t e ∙ so_far.gone a t (omega arith)
-    ];
-    left = λ a t l. let e : a ≡ s → ⊥ = λ e. omega arith in others a t e ∙ so_far.left a t (omega arith);
+    bits = reached_gone (has_bit old) (has_bit now) k s so_far.bits reached (has_bit new) (λ t. row t ∙ ap (λ b. has_bit now s t || b) (so_far.middle t)) others;
     middle = λ t. others k t (λ e. apart (sym e)) ∙ so_far.middle t;
   }
 
 -- ---- all rounds
 
--- Each row has what walks through observations below k lead to.
-pub record HasClosed (old now : Rows ℕ) (k : ℕ) : Type 0 where
+pub record HasClosedRows (old now : Rows ℕ) (k : ℕ) : Type 0 where
   pub count : length now.rows ≡ length old.rows
   pub cols : now.cols ≡ old.cols
-  pub rows : (s t : ℕ) → s < length old.rows → IsTrue (has_bit now s t) ↔ ReachesThrough k (λ a b. IsTrue (has_bit old a b)) s t
+  pub rows : HasClosed (length old.rows) (has_bit old) (has_bit now) k

@@ -1,5 +1,5 @@
 -- Which observations reach which (the transitive closure of revealed preference, Varian 1982).
-use Rattle.std.specs.Prelude.{◌≡◌, ◌<◌, ◌↔◌, ◌==◌, ◌||◌, ◌⊎◌, ℕ, Bool, false, List, [], IsTrue, length, map}
+use Rattle.std.specs.Prelude.{◌≡◌, ◌<◌, ◌↔◌, ◌⊎◌, ℕ, Bool, false, List, [], IsTrue, length, map}
 use Rattle.std.specs.Prelude.{slice_index, slice_index_or}
 use Rattle.std.specs.List.{range_with_len}
 use Rattle.rp_evidence.specs.Count.{IsNumberOf}
@@ -20,9 +20,9 @@ reached_by n f = record { n = n; rows = map (λ s. map (f s) (range_with_len 0 n
 abbrev pub reaches_in : Reached → ℕ → ℕ → Bool
 reaches_in reached s t = slice_index_or (slice_index_or reached.rows s []) t false
 
--- t is s or is reached from it.
-abbrev pub counts_in : Reached → ℕ → ℕ → Bool
-counts_in reached s t = (t == s) || reaches_in reached s t
+-- By the truth values s equals or reaches t.
+abbrev pub EqualsOrReachesIn : Reached → ℕ → ℕ → Type 0
+EqualsOrReachesIn reached s t = (s ≡ t) ⊎ IsTrue (reaches_in reached s t)
 
 -- The pairs are exactly those that walks of one or more steps join.
 pub record IsClosureOf (reached : Reached) (n : ℕ) (step : ℕ → ℕ → Type 0) : Type 0 where
@@ -35,7 +35,7 @@ IsWeakClosureOf reached input = IsClosureOf reached input.n (IsWeak input.cost 1
 
 -- How many observations the closure reaches from s, with s itself among them.
 abbrev pub IsCountIn : Reached → ℕ → ℕ → Type 0
-IsCountIn reached s k = IsNumberOf reached.n (λ t. (t ≡ s) ⊎ IsTrue (reaches_in reached s t)) k
+IsCountIn reached s k = IsNumberOf reached.n (EqualsOrReachesIn reached s) k
 
 -- The list has that number of each observation.
 pub record AreCounted (reached : Reached) (counts : List ℕ) : Type 0 where

@@ -1,12 +1,8 @@
--- For the proofs alone: rows of bits in words of 64, where bit t of a row is bit t % 64 of its word t / 64. A closure
--- is seen as what its bits say (Closure).
-use Rattle.std.specs.Prelude.{◌≡◌, ℕ, ◌*◌, ◌/◌, ◌%◌, ◌<◌, ◌≤◌, ◌==◌, Bool, IsTrue, List, length, slice_index}
-use Rattle.std.specs.Int.{bit_at}
+-- For the proofs alone: rows of bits in words of 64, one for each observation. A closure is seen as what its bits say
+-- (Closure).
+use Rattle.std.specs.Prelude.{◌≡◌, ℕ, ◌*◌, ◌<◌, ◌≤◌, Bool, IsTrue, length}
 use Rattle.rp_grid.specs.Rows.{Rows, row_of}
-
--- Bit t of the words.
-abbrev pub bit_in : List ℕ → ℕ → Bool
-bit_in words t = bit_at (slice_index words (t / 64)) (t % 64) == 1
+use Rattle.rp_rounds.specs.Bits.{bit_in}
 
 -- Bit t of row s.
 abbrev pub has_bit : Rows ℕ → ℕ → ℕ → Bool

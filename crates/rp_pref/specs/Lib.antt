@@ -3,4 +3,3 @@ pub mod Closure
 pub mod InnerSearch
 pub mod Steps
 pub mod Violation
-pub mod InnerThrough

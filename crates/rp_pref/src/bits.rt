@@ -2,8 +2,9 @@
 ghost use Rattle.std.specs.Prelude.{◌≡◌, ◌≢◌, ◌<◌, ◌≤◌, ◌+◌, ◌*◌, ◌↔◌, ◌&&◌, ◌||◌, ◌==◌, ℕ, IsTrue};
 ghost use Rattle.std.specs.Prelude.{count_by, length};
 ghost use Rattle.std.specs.List.{range_with_len};
-ghost use Rattle.rp_pref.specs.InnerBits.{bit_in, has_bit};
-ghost use Rattle.rp_pref.specs.InnerThrough.{ReachesThrough};
+ghost use Rattle.rp_rounds.specs.Bits.{bit_in};
+ghost use Rattle.rp_rounds.specs.Through.{ReachesThrough};
+ghost use Rattle.rp_pref.specs.InnerBits.{has_bit};
 
 use rp_grid::Grid;
 

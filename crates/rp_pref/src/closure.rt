@@ -1,13 +1,13 @@
-ghost use Rattle.std.specs.Prelude.{◌≡◌, ◌≢◌, ◌<◌, ◌≤◌, ◌*◌, ◌⊎◌, ◌↔◌, ℕ, false, IsTrue, IfOk};
+ghost use Rattle.std.specs.Prelude.{◌≡◌, ◌≢◌, ◌<◌, ◌≤◌, ◌*◌, ◌↔◌, ℕ, false, IsTrue, IfOk};
 ghost use Rattle.std.specs.Prelude.{length};
-ghost use Rattle.rp_evidence.specs.Count.{IsCount, IsNumberOf};
+ghost use Rattle.rp_evidence.specs.Count.{IsCount};
 ghost use Rattle.rp_evidence.specs.Input.{TableInput};
 ghost use Rattle.rp_evidence.specs.Preference.{IsLevel};
 ghost use Rattle.rp_evidence.specs.Welfare.{EqualsOrReaches};
 ghost use Rattle.rp_table.specs.Cost.{CostTable, cost_at};
 ghost use Rattle.rp_pref.specs.InnerBits.{has_bit};
-ghost use Rattle.rp_pref.specs.Closure.{AreCounted, IsClosureOf, IsWeakClosureOf, Reached};
-ghost use Rattle.rp_pref.specs.Closure.{reaches_in};
+ghost use Rattle.rp_pref.specs.Closure.{AreCounted, EqualsOrReachesIn, IsClosureOf, IsCountIn};
+ghost use Rattle.rp_pref.specs.Closure.{IsWeakClosureOf, Reached, reaches_in};
 ghost use Rattle.rp_pref.specs.Steps.{IsStep, OwnWeak, StepOf};
 ghost use Rattle.rp_pref.specs.declared.steps.Steps.{Steps};
 
@@ -86,7 +86,7 @@ impl Closure {
     pub fn equals_or_reaches(&self, s: u32, t: u32) -> bool
         requires from { s < self.now.n }
         requires to { t < self.now.n }
-        ensures exact { IsTrue result ↔ ((s ≡ t) ⊎ IsTrue (reaches_in self.now s t)) }
+        ensures exact { IsTrue result ↔ EqualsOrReachesIn self.now s t }
         ensures by_weak_steps { (input : TableInput) → IsWeakClosureOf self.now input
             → IsTrue result ↔ EqualsOrReaches input s t }
     {
@@ -114,7 +114,7 @@ impl Closure {
     /// How many observations are reached from `s`, with `s` itself among them.
     pub fn count(&self, s: u32) -> u32
         requires { s < self.now.n }
-        ensures { IsNumberOf self.now.n (λ t. (t ≡ s) ⊎ IsTrue (reaches_in self.now s t)) result }
+        ensures { IsCountIn self.now s result }
     {
         count_set(self.bits.row(s)) + u32::from(!is_set(&self.bits, s, s))
     }
@@ -124,8 +124,7 @@ impl Closure {
 pub fn closures_count()
     ensures { (reached : Reached) (costs : CostTable) (steps : Steps) (num den s k : ℕ)
         → IsClosureOf reached costs.n (IsStep steps (cost_at costs) num den) → s < costs.n
-        → IsNumberOf reached.n (λ t. (t ≡ s) ⊎ IsTrue (reaches_in reached s t)) k
-        → IsCount costs.n (IsStep steps (cost_at costs) num den) s k }
+        → IsCountIn reached s k → IsCount costs.n (IsStep steps (cost_at costs) num den) s k }
 {}
 
 /// Notes the chosen steps from every observation.

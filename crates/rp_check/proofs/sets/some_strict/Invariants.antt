@@ -1,7 +1,7 @@
 use Rattle.std.proofs.Common.{ℕ, ◌<◌}
 use Rattle.rp_evidence.specs.Preference.{IsStrict}
 use Rattle.rp_table.specs.Cost.{cost_of}
-use Rattle.rp_clauses.specs.InnerMarks.{IsMarked}
+use Rattle.rp_rounds.specs.Marks.{IsMarked}
 use Rattle.rp_check.proofs.sets.some_strict.Given as goal
 
 abbrev pub invariant-loop-u : goal.invariant-loop-u

@@ -1,5 +1,5 @@
 use Rattle.std.proofs.Common.{arith}
-use Rattle.rp_clauses.proofs.BitLemmas.{row_taken}
+use Rattle.rp_clauses.proofs.TakenIn.{row_taken}
 use Rattle.rp_clauses.proofs.bits.take_in.Goals as goal
 
 pub returns : goal.returns

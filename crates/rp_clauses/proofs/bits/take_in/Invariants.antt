@@ -1,4 +1,4 @@
-use Rattle.rp_clauses.proofs.BitLemmas.{IsTakenIn}
+use Rattle.rp_clauses.proofs.TakenIn.{IsTakenIn}
 use Rattle.rp_clauses.proofs.bits.take_in.Given as goal
 
 abbrev pub invariant-loop-word : goal.invariant-loop-word

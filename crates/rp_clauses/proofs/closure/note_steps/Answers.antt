@@ -2,7 +2,7 @@ use Rattle.std.proofs.Common.{arith}
 use Rattle.rp_evidence.specs.Preference.{IsWeak}
 use Rattle.rp_table.specs.Cost.{cost_of}
 use Rattle.rp_table.specs.Tables.{records_of}
-use Rattle.rp_clauses.proofs.Rounds.{noted_row}
+use Rattle.rp_clauses.proofs.BitRows.{noted_row}
 use Rattle.rp_clauses.proofs.closure.note_steps.Goals as goal
 
 pub loop-s-preserved : goal.loop-s-preserved

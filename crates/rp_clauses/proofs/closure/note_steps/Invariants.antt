@@ -1,7 +1,7 @@
 use Rattle.rp_evidence.specs.Preference.{IsWeak}
 use Rattle.rp_table.specs.Cost.{cost_of}
 use Rattle.rp_table.specs.Tables.{records_of}
-use Rattle.rp_clauses.proofs.Rounds.{HasNotedRows}
+use Rattle.rp_clauses.proofs.BitRows.{HasNotedRows}
 use Rattle.rp_clauses.proofs.closure.note_steps.Given as goal
 
 abbrev pub invariant-loop-s : goal.invariant-loop-s

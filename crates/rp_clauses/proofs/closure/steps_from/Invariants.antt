@@ -1,6 +1,6 @@
 use Rattle.rp_evidence.specs.Preference.{IsWeak}
 use Rattle.rp_table.specs.Cost.{cost_of}
-use Rattle.rp_clauses.proofs.Rounds.{HasNoted}
+use Rattle.rp_clauses.proofs.BitRows.{HasNoted}
 use Rattle.rp_clauses.proofs.closure.steps_from.Given as goal
 
 abbrev pub invariant-loop-t : goal.invariant-loop-t

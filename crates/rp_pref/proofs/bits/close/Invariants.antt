@@ -1,5 +1,5 @@
-use Rattle.rp_pref.proofs.Rounds.{HasClosed}
+use Rattle.rp_pref.proofs.Rounds.{HasClosedRows}
 use Rattle.rp_pref.proofs.bits.close.Given as goal
 
 abbrev pub invariant-loop-k : goal.invariant-loop-k
-invariant-loop-k l = HasClosed l.initial.bits l.bits l.k
+invariant-loop-k l = HasClosedRows l.initial.bits l.bits l.k

@@ -1,5 +1,5 @@
 use Rattle.std.proofs.Common.{◌+◌, ap, sym, ◌∙◌, refl, arith, get_or, count_ones}
-use Rattle.rp_pref.proofs.Words.{word_more, ones_below}
+use Rattle.rp_pref.proofs.BitCounts.{word_more, ones_below}
 use Rattle.rp_pref.proofs.bits.count_set.Goals as goal
 
 pub loop-word-preserved : goal.loop-word-preserved

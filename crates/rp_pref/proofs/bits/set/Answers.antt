@@ -1,8 +1,8 @@
 use Rattle.std.proofs.Common.{◌/◌, ◌%◌, ◌^◌, ◌*◌, ◌<◌, ap, ◌∙◌, refl, arith, length, length-set, slice_set, bit_or, get_or}
 use Rattle.rp_grid.specs.Rows.{row_of}
 use Rattle.rp_grid.proofs.RowLemmas.{row_written}
-use Rattle.rp_pref.specs.InnerBits.{bit_in}
-use Rattle.rp_pref.proofs.Words.{bit_set}
+use Rattle.rp_rounds.specs.Bits.{bit_in}
+use Rattle.rp_rounds.proofs.BitLemmas.{bit_set}
 use Rattle.rp_pref.proofs.bits.set.Goals as goal
 
 pub returns-clause-row : goal.returns-clause-row

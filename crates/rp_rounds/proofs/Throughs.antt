@@ -6,7 +6,7 @@ use Rattle.std.proofs.Common.{ℕ, zero, suc, ◌<◌, ◌≤◌, List, [], ◌�
 use Rattle.std.proofs.lemmas.Bool.{cases_eq}
 use Rattle.rp_evidence.specs.Walk.{LeadsTo, IsWalk, Reaches}
 use Rattle.rp_evidence.proofs.Walks.{reach_by_step, reach_on}
-use Rattle.rp_pref.specs.InnerThrough.{ReachesThrough}
+use Rattle.rp_rounds.specs.Through.{ReachesThrough}
 
 module _ (step : ℕ → ℕ → Type 0) where
   -- Two walks of which the first ends below k, where the second begins.

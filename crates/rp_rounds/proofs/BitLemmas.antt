@@ -1,10 +1,9 @@
--- Bits of rows of words: one is set, and two rows are united.
-use Rattle.std.proofs.Common.{◌≡◌, ℕ, zero, suc, ◌*◌, ◌/◌, ◌%◌, ◌^◌, ◌<◌, ◌≤◌, ◌||◌, max, Bool, true, false, eqb, List, length, set, get_or, bit_or, inl, inr, refl, sym, ap, ◌∙◌, arith, mod-lt, get_or-set_same, get_or-set_other, shl_exact}
+-- Bits of rows of words: two words are united, and one bit is set.
+use Rattle.std.proofs.Common.{◌≡◌, ℕ, zero, suc, ◌*◌, ◌/◌, ◌%◌, ◌^◌, ◌<◌, ◌||◌, max, Bool, true, false, eqb, List, length, set, get_or, bit_or, inl, inr, refl, sym, ap, ◌∙◌, arith, mod-lt, get_or-set_same, get_or-set_other, shl_exact}
 use Rattle.std.specs.Int.{bit_at}
-use Rattle.std.proofs.lemmas.Bool.{cases_eq, cases_lt, eq-eqb, ne_eqb}
-use Rattle.std.proofs.lemmas.List.{get_or_past}
+use Rattle.std.proofs.lemmas.Bool.{cases_eq, eq-eqb, ne_eqb}
 use Rattle.std.proofs.lemmas.Nat.Bits.{bit_at_or, bit_at-pow_same, bit_at-pow_other}
-use Rattle.rp_clauses.specs.InnerBits.{bit_in}
+use Rattle.rp_rounds.specs.Bits.{bit_in}
 
 pub or_false : (a : Bool) → (a || false) ≡ a
 or_false true = refl
@@ -65,27 +64,3 @@ module _ (words : List ℕ) (t w : ℕ) (within : t / 64 < length words) (is : w
         ap (λ v. eqb (bit_at v (b % 64)) 1) (get_or-set_other words (t / 64) (b / 64) new 0 other)
         ∙ sym (ap (λ x. bit_in words b || x) (ne_eqb b t apart) ∙ or_false (bit_in words b))
   ]
-
--- ---- one row takes in another
-
--- The row has taken in the first w words.
-pub record IsTakenIn (old now from : List ℕ) (w : ℕ) : Type 0 where
-  pub long : length now ≡ length old
-  pub done : (v : ℕ) → v < w → get_or now v 0 ≡ bit_or (get_or old v 0) (get_or from v 0)
-  pub left : (v : ℕ) → w ≤ v → get_or now v 0 ≡ get_or old v 0
-
-pub none_taken : (old from : List ℕ) → IsTakenIn old old from 0
-none_taken old from = record { long = refl; done = λ v l. absurd (omega arith); left = λ v l. refl }
-
-pub row_taken : (old now from : List ℕ) (w : ℕ) → IsTakenIn old now from w → length old ≤ w → length from ≤ w → (t : ℕ) → bit_in now t ≡ (bit_in old t || bit_in from t)
-row_taken old now from w taken long_old long_from t =
-    ap (λ v. eqb (bit_at v (t % 64)) 1) (word (t / 64)) ∙ bit_of_or (get_or old (t / 64) 0) (get_or from (t / 64) 0) (t % 64)
-  where
-    word : (v : ℕ) → get_or now v 0 ≡ bit_or (get_or old v 0) (get_or from v 0)
-    word v = elim (cases_lt v w) [
-      | inl l ↦ taken.done v l
-      | inr l ↦
-          let past_old : length old ≤ v = omega (arith, long_old, l) in
-          let past_from : length from ≤ v = omega (arith, long_from, l) in
-          taken.left v l ∙ get_or_past old v 0 past_old ∙ sym (λ i. bit_or (get_or_past old v 0 past_old i) (get_or_past from v 0 past_from i))
-    ]

@@ -1,5 +1,5 @@
--- For the proofs alone: walks through some of the observations only, in the manner of Warshall. No public clause cites
--- these words.
+-- Walks through some of the observations only (Warshall 1962, A theorem on Boolean matrices). How a closure is found;
+-- no definition of evidence rests on these words.
 use Rattle.std.specs.Prelude.{ℕ, zero, suc, ◌⊎◌}
 
 -- Some walk with at least one step leads from s to t, and each observation between its ends is below k: observation k

@@ -1,0 +1,7 @@
+//! Rows of bits, one for each observation, and what walks reach that go through the first so many observations alone:
+//! laws for those who make closures round by round, and no code.
+#![tactic(auto)]
+
+mod laws;
+
+pub use laws::{rounds_find_what_is_reached, unions_have_bits_of_both};
