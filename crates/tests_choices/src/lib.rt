@@ -1,7 +1,14 @@
-//! Tests of `run` on `random` and `checkrandom`: reports, and certificates over their own files and over others.
+//! Tests of `run` on choices: `random` and `checkrandom` with their reports and certificates; what `menus` prints and
+//! refuses.
 #![tactic(auto)]
 
 #[cfg(test)]
 mod certificates;
 #[cfg(test)]
-mod reports;
+mod choice_reports;
+#[cfg(test)]
+mod menu_reports;
+#[cfg(test)]
+mod refused_menus;
+#[cfg(test)]
+mod six_letters;

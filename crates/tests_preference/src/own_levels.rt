@@ -1,4 +1,4 @@
-use crate::tables::costs_of;
+use crate::costs::costs_of;
 use rp_evidence::Garp;
 use rp_garp::{garp, pairs};
 use rp_pref::{Closure, own_strict, own_walk, own_weak};

@@ -1,4 +1,4 @@
-use crate::tables::{HALF, costs_of};
+use crate::costs::{HALF, costs_of};
 use rp_afriat::{afriat, utility_at};
 use rp_evidence::AfriatPart;
 use rp_garp::garp;
