@@ -8,7 +8,8 @@ use Rattle.rp_evidence.specs.declared.failure.Reason.TheVariants.{Irrational}
 use Rattle.rp_evidence.specs.declared.random.Share.{Share}
 use Rattle.rp_table.specs.Sums.{sum_below}
 use Rattle.rp_patch.specs.Clauses.{failure}
-use Rattle.rp_patch.specs.KindFailure.{IsWithinWidth, PartFailsOf, part_at}
+use Rattle.rp_farkas.specs.Limits.{FitsEvidence}
+use Rattle.rp_patch.specs.KindFailure.{PartFailsOf, part_at}
 use Rattle.rp_patch.specs.Kinds.{Kinds, uses, weight_using}
 
 -- the patches of a share that was read
@@ -33,7 +34,7 @@ no_kind k shares n share r is formed some not found =
 
 -- a turn of the loop that adds the weight of a share, where its kind uses the cell
 pub taken_more : (k : Kinds) (shares : List Share) (i n weight : ℕ) (share : Share) (used : Bool) (new : ℕ) → n < length shares → share ≡ get_or shares n share
-    → All (λ s. IsWithinWidth s.weight) shares → used ≡ uses (k.used share.patches) i → (weight ≡ weight_using k (take n shares) i) × (weight ≤ n * 2 ^ 63)
+    → All (λ s. FitsEvidence s.weight) shares → used ≡ uses (k.used share.patches) i → (weight ≡ weight_using k (take n shares) i) × (weight ≤ n * 2 ^ 63)
     → new ≡ weight + (if used then share.weight else 0) → (new ≡ weight_using k (take (n + 1) shares) i) × (new ≤ (n + 1) * 2 ^ 63)
 taken_more k shares i n weight share used new within is fit does so_far adds = (
   adds ∙ ap (λ w. w + (if used then share.weight else 0)) so_far.0
@@ -44,7 +45,7 @@ taken_more k shares i n weight share used new within is fit does so_far adds = (
 )
   where
     small : share.weight ≤ 2 ^ 63
-    small = let h = subst (λ (s : Share). IsWithinWidth s.weight) (sym is) (fit n share within) in omega (arith, h)
+    small = let h = subst (λ (s : Share). FitsEvidence s.weight) (sym is) (fit n share within) in omega (arith, h)
 
     by : (b : Bool) → new ≡ weight + (if b then share.weight else 0) → new ≤ (n + 1) * 2 ^ 63
     by true e = omega (arith, e, small, so_far.1)

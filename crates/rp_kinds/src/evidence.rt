@@ -1,7 +1,8 @@
 //! Mixtures of kinds, and weights of cells that show that there is none.
 ghost use Rattle.std.specs.Prelude.{◌≡◌, ◌*◌, ◌<◌, ◌≤◌, All, [], ◌∷◌, length};
 ghost use Rattle.rp_patch.specs.Clauses.{FirstUnless, InOrder, Unless};
-ghost use Rattle.rp_patch.specs.KindFailure.{EvidenceFailsOf, IsWithinWidth, MixtureFailsOf};
+ghost use Rattle.rp_farkas.specs.Limits.{FitsEvidence};
+ghost use Rattle.rp_patch.specs.KindFailure.{EvidenceFailsOf, MixtureFailsOf};
 ghost use Rattle.rp_patch.specs.KindFailure.{PartFailsOf, PartsFailOf, ViolationFailsOf};
 ghost use Rattle.rp_patch.specs.Kinds.{all_units_weight, weight_of as weight_of_shares};
 ghost use Rattle.rp_patch.specs.Kinds.{weight_using};
@@ -45,7 +46,7 @@ fn check_shares<C: Choosers>(choosers: &C, shares: &[Share]) -> Result<(), Failu
 /// How much there is of the kinds that use a cell.
 fn weight_on<C: Choosers>(choosers: &C, shares: &[Share], cell: u32) -> u128
     requires cell { cell < (C.kinds choosers.now).cells }
-    requires fit { All (λ share. IsWithinWidth share.weight) shares.now }
+    requires fit { All (λ share. FitsEvidence share.weight) shares.now }
     ensures { result ≡ weight_using (C.kinds choosers.now) shares.now cell }
 {
     let mut weight = 0;
@@ -71,7 +72,7 @@ fn weight_of_units<C: Choosers>(choosers: &C, weights: &[u64]) -> u128
 
 /// Checks that each cell gets just its units.
 fn check_exact_units<C: Choosers>(choosers: &C, den: u64, shares: &[Share]) -> Result<(), Failure>
-    requires { All (λ share. IsWithinWidth share.weight) shares.now }
+    requires { All (λ share. FitsEvidence share.weight) shares.now }
     ensures { FirstUnless (C.kinds choosers.now).cells
         (λ i. weight_using (C.kinds choosers.now) shares.now i
         ≡ den * (C.kinds choosers.now).units i) Reason.Units result }
@@ -86,7 +87,7 @@ fn check_exact_units<C: Choosers>(choosers: &C, den: u64, shares: &[Share]) -> R
 
 /// Checks that no cell gets more than its units.
 fn check_within_units<C: Choosers>(choosers: &C, den: u64, shares: &[Share]) -> Result<(), Failure>
-    requires { All (λ share. IsWithinWidth share.weight) shares.now }
+    requires { All (λ share. FitsEvidence share.weight) shares.now }
     ensures { FirstUnless (C.kinds choosers.now).cells
         (λ i. weight_using (C.kinds choosers.now) shares.now i
         ≤ den * (C.kinds choosers.now).units i) Reason.Units result }
@@ -115,7 +116,7 @@ fn check_shortfall<C: Choosers>(
     shares: &[Share],
     weights: &[u64],
 ) -> Result<(), Failure>
-    requires shares { All (λ share. IsWithinWidth share.weight) shares.now }
+    requires shares { All (λ share. FitsEvidence share.weight) shares.now }
     requires one_each { length weights.now ≡ (C.kinds choosers.now).cells }
     ensures { InOrder (
         Unless (weight_of_shares shares.now ≡ all_units_weight (C.kinds choosers.now) weights.now)

@@ -3,23 +3,22 @@ ghost use Rattle.std.specs.Prelude.{◌≡◌, ◌<◌, ◌↔◌, All, IsTrue, 
 ghost use Rattle.std.specs.Cmp.Lexicographic.{slice_cmp};
 ghost use Rattle.std.specs.Ordering.{nat_cmp};
 ghost use Rattle.std.specs.declared.cmp.Ordering.TheVariants.{Less};
+ghost use Rattle.rp_farkas.specs.Limits.{FitsEvidence};
 ghost use Rattle.rp_patch.specs.Clauses.{Unless};
-ghost use Rattle.rp_patch.specs.KindFailure.{ComesInOrder, HasFitNumbers, IsWithinWidth};
+ghost use Rattle.rp_patch.specs.KindFailure.{ComesInOrder, HasFitNumbers};
 ghost use Rattle.rp_patch.specs.Kinds.{weight_of as weight_of_shares};
 
 use rp_evidence::{Failure, Reason, Share};
+use rp_farkas::EVIDENCE_WIDTH;
 use rp_patch::fails;
 use std::cmp::Ordering;
 
-/// The greatest number that a program of mixtures may give.
-const WIDTH: u64 = (1 << 63) - 1;
-
 /// Whether the weight of each share is within the width.
 fn shares_fit(shares: &[Share]) -> bool
-    ensures { IsTrue result ↔ All (λ share. IsWithinWidth share.weight) shares.now }
+    ensures { IsTrue result ↔ All (λ share. FitsEvidence share.weight) shares.now }
 {
     for share in shares {
-        if share.weight > WIDTH {
+        if share.weight > EVIDENCE_WIDTH {
             return false;
         }
     }
@@ -28,10 +27,10 @@ fn shares_fit(shares: &[Share]) -> bool
 
 /// Whether each weight of a cell is within the width.
 fn weights_fit(weights: &[u64]) -> bool
-    ensures { IsTrue result ↔ All IsWithinWidth weights.now }
+    ensures { IsTrue result ↔ All FitsEvidence weights.now }
 {
     for weight in weights {
-        if *weight > WIDTH {
+        if *weight > EVIDENCE_WIDTH {
             return false;
         }
     }
@@ -42,7 +41,7 @@ fn weights_fit(weights: &[u64]) -> bool
 pub fn check_numbers(den: u64, shares: &[Share], weights: &[u64]) -> Result<(), Failure>
     ensures { Unless (HasFitNumbers den shares.now weights.now) Reason.Number 0 result }
 {
-    if den == 0 || den > WIDTH || !shares_fit(shares) || !weights_fit(weights) {
+    if den == 0 || den > EVIDENCE_WIDTH || !shares_fit(shares) || !weights_fit(weights) {
         return fails(Reason::Number, 0);
     }
     Ok(())
@@ -69,7 +68,7 @@ pub fn comes_in_order(shares: &[Share], k: usize) -> bool
 
 /// How much there is of all kinds.
 pub fn total_weight(shares: &[Share]) -> u128
-    requires { All (λ share. IsWithinWidth share.weight) shares.now }
+    requires { All (λ share. FitsEvidence share.weight) shares.now }
     ensures { result ≡ weight_of_shares shares.now }
 {
     let mut weight = 0;

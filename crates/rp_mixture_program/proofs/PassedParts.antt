@@ -9,11 +9,11 @@ use Rattle.std.specs.declared.cmp.Ordering.TheVariants.{Less}
 use Rattle.rp_evidence.specs.declared.random.RandomPart.{RandomPart}
 use Rattle.rp_evidence.specs.declared.random.RandomPart.TheVariants.{Mixture, Violated, Wide}
 use Rattle.rp_evidence.specs.declared.random.Share.{Share}
-use Rattle.rp_farkas.specs.Limits.{IsWithinLimits}
+use Rattle.rp_farkas.specs.Limits.{FitsEvidence, IsWithinLimits}
 use Rattle.rp_farkas.specs.PairCheck.{IsShownPair}
 use Rattle.rp_farkas.specs.declared.entry.Entry.{Entry}
 use Rattle.rp_farkas.specs.declared.entry.Pair.{Pair}
-use Rattle.rp_patch.specs.KindFailure.{ComesInOrder, EvidenceFailsOf, HasFitNumbers, IsWithinWidth, PartsFailOf, part_at}
+use Rattle.rp_patch.specs.KindFailure.{ComesInOrder, EvidenceFailsOf, HasFitNumbers, PartsFailOf, part_at}
 use Rattle.rp_patch.specs.Kinds.{AreAllOf, AreWhole, Kinds, program_of, weight_of}
 use Rattle.rp_patch.proofs.KindWeights.{at_most_all}
 use Rattle.rp_simplex.specs.Outcome.{IsOutcome}
@@ -48,7 +48,7 @@ module _ (kinds : List (List ℕ)) (entries : List Entry) where
 
 module _ (k : Kinds) (is : AreWhole k) (formed : (kind : List ℕ) → k.IsKind kind → k.IsFormed kind) (kinds : List (List ℕ)) (all : AreAllOf k.IsKind kinds) where
   module _ (pair : Pair) (shown : IsShownPair (program_of k kinds) pair) where
-    numbers_fit : (weights : List ℕ) → All IsWithinWidth weights → HasFitNumbers pair.den (shares_of kinds pair.y) weights
+    numbers_fit : (weights : List ℕ) → All FitsEvidence weights → HasFitNumbers pair.den (shares_of kinds pair.y) weights
     numbers_fit weights fit = record {
       fraction = shown.den_positive;
       den_fits = omega (arith, shown.den_fits);
@@ -93,7 +93,7 @@ module _ (k : Kinds) (is : AreWhole k) (formed : (kind : List ℕ) → k.IsKind 
     violation_passes less =
         let found = partial k is kinds all pair shown in
         let most = at_most_all k is pair.den (shares_of kinds pair.y) found in
-        let fit : All IsWithinWidth pair.x = λ n d l. omega (arith, shown.x_fits n d l) in
+        let fit : All FitsEvidence pair.x = λ n d l. omega (arith, shown.x_fits n d l) in
         (numbers_fit pair.x fit, (parts_pass, (shown.x_length, (found.within, (heavy k is kinds all pair shown, (same k is kinds all pair shown, (omega (arith, less, most), tt)))))))
 
     pub pair_passes : (part : RandomPart) → IsPairVerdict k kinds pair part → EvidenceFailsOf k part (Ok tt)

@@ -6,7 +6,7 @@ ghost use Rattle.rp_orders.specs.OrderKinds.{orders_over};
 ghost use Rattle.rp_orders.specs.OrderMixtures.{AreUnitsOf};
 ghost use Rattle.rp_orders.specs.Report.{IsMenusReport, IsSumsText, counts_text, evidence_text};
 ghost use Rattle.rp_orders.specs.Report.{menu_text, sum_text};
-ghost use Rattle.rp_patch.specs.KindFailure.{IsWithinWidth};
+ghost use Rattle.rp_farkas.specs.Limits.{FitsEvidence};
 ghost use Rattle.rp_patch.specs.Kinds.{all_units_weight};
 ghost use Rattle.rp_print.specs.LowestTerms.{lowest_terms};
 
@@ -116,9 +116,9 @@ fn push_evidence(
 fn share(seen: &Menus, units: &Units, den: u64, weights: &[u64]) -> Frac
     requires units { AreUnitsOf seen.now units.now }
     requires fraction { 1 ≤ den }
-    requires den_fits { IsWithinWidth den }
+    requires den_fits { FitsEvidence den }
     requires one_each { length weights.now ≡ length seen.now.groups }
-    requires weights_fit { All IsWithinWidth weights.now }
+    requires weights_fit { All FitsEvidence weights.now }
     ensures { result ≡ lowest_terms
         (all_units_weight (orders_over seen.now units.now) weights.now) (den * units.now.total) }
 {
@@ -130,7 +130,7 @@ fn share(seen: &Menus, units: &Units, den: u64, weights: &[u64]) -> Frac
 fn weight_of_units(seen: &Menus, units: &Units, weights: &[u64]) -> u128
     requires units { AreUnitsOf seen.now units.now }
     requires one_each { length weights.now ≡ length seen.now.groups }
-    requires weights_fit { All IsWithinWidth weights.now }
+    requires weights_fit { All FitsEvidence weights.now }
     ensures exact { result ≡ all_units_weight (orders_over seen.now units.now) weights.now }
     ensures fits { result ≤ 64 * (2 ^ 63 * 2 ^ 30) }
 {

@@ -1,6 +1,6 @@
 -- When evidence on a mixture of kinds fails (this program's own order of clauses; kinds after McFadden and Richter
 -- 1990). The clauses are about kinds as such, however they are found.
-use Rattle.std.specs.Prelude.{◌≡◌, ◌⊎◌, ◌<◌, ◌≤◌, ◌+◌, ◌-◌, ◌*◌, ◌^◌, ℕ, List, [], ◌∷◌, All, length, slice_index_or}
+use Rattle.std.specs.Prelude.{◌≡◌, ◌⊎◌, ◌<◌, ◌≤◌, ◌+◌, ◌-◌, ◌*◌, ℕ, List, [], ◌∷◌, All, length, slice_index_or}
 use Rattle.std.specs.Cmp.Lexicographic.{slice_cmp}
 use Rattle.std.specs.Ordering.{nat_cmp}
 use Rattle.std.specs.declared.cmp.Ordering.TheVariants.{Less}
@@ -9,19 +9,16 @@ use Rattle.rp_evidence.specs.declared.failure.Reason.TheVariants.{Irrational}
 use Rattle.rp_evidence.specs.declared.random.RandomPart.{RandomPart}
 use Rattle.rp_evidence.specs.declared.random.RandomPart.TheVariants.{Mixture, Violated, Wide}
 use Rattle.rp_evidence.specs.declared.random.Share.{Share}
+use Rattle.rp_farkas.specs.Limits.{FitsEvidence}
 use Rattle.rp_patch.specs.Clauses.{Finding, FirstBelow, FirstUnless, InOrder, Unless}
 use Rattle.rp_patch.specs.Kinds.{Kinds, all_units_weight, cells_weight, weight_of, weight_using}
-
--- A number within the width of a linear program.
-abbrev pub IsWithinWidth : ℕ → Type 0
-IsWithinWidth k = k ≤ 2 ^ 63 - 1
 
 -- The denominator and all weights are numbers that a program may give.
 pub record HasFitNumbers (den : ℕ) (parts : List Share) (weights : List ℕ) : Type 0 where
   pub fraction : 0 < den
-  pub den_fits : IsWithinWidth den
-  pub parts_fit : All (λ part. IsWithinWidth part.weight) parts
-  pub weights_fit : All IsWithinWidth weights
+  pub den_fits : FitsEvidence den
+  pub parts_fit : All (λ part. FitsEvidence part.weight) parts
+  pub weights_fit : All FitsEvidence weights
 
 -- Part n, from 0.
 abbrev pub part_at : List Share → ℕ → Share

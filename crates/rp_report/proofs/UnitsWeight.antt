@@ -9,7 +9,7 @@ pub sum_more : (f : ℕ → ℕ) (n so_far a b x y : ℕ) → so_far ≡ sum_bel
 sum_more f n so_far a b x y so_far_is xa yb here = rw (add-one n, so_far_is, xa, yb, here) refl
 
 -- no term is past the limit
-pub product_fits : (x y n so_far : ℕ) → x ≤ 2 ^ 63 - 1 → y ≤ UNITS → so_far ≤ n * (2 ^ 63 * 2 ^ 30) → so_far + x * y ≤ (n + 1) * (2 ^ 63 * 2 ^ 30)
+pub product_fits : (x y n so_far : ℕ) → x < 2 ^ 63 → y ≤ UNITS → so_far ≤ n * (2 ^ 63 * 2 ^ 30) → so_far + x * y ≤ (n + 1) * (2 ^ 63 * 2 ^ 30)
 product_fits x y n so_far hx hy h =
     let p : x * y ≤ (2 ^ 63) * (2 ^ 30) = mul-le-mul {n₁ = x} {m₁ = y} {n₂ = 2 ^ 63} {m₂ = 2 ^ 30} (omega arith) (omega arith) in
     omega (arith, p, h)

@@ -1,6 +1,6 @@
 ghost use Rattle.std.specs.Prelude.{◌≡◌, ◌≤◌, ◌*◌, ◌^◌, ◌++◌, All, Ok, OnOk, length};
 ghost use Rattle.rp_patch.specs.Mixtures.{units_weight};
-ghost use Rattle.rp_patch.specs.KindFailure.{IsWithinWidth};
+ghost use Rattle.rp_farkas.specs.Limits.{FitsEvidence};
 ghost use Rattle.rp_patch.specs.RandomFailure.{RandomPartFails};
 ghost use Rattle.rp_patch.specs.declared.TheConstants.{UNITS};
 ghost use Rattle.rp_report.specs.RandomText.{random_text, share_of};
@@ -49,9 +49,9 @@ pub(crate) fn push_random(
 /// What the units of the patches weigh over the denominator, as a share of the total.
 fn share(patches: &Patches, den: u64, weights: &[u64]) -> Frac
     requires fraction { 1 ≤ den }
-    requires den_fits { IsWithinWidth den }
+    requires den_fits { FitsEvidence den }
     requires one_each { length weights.now ≡ length patches.now.patches }
-    requires weights_fit { All IsWithinWidth weights.now }
+    requires weights_fit { All FitsEvidence weights.now }
     ensures { result ≡ share_of patches.now den weights.now }
 {
     prove!(patches.budgets() >= 1);
@@ -63,7 +63,7 @@ fn share(patches: &Patches, den: u64, weights: &[u64]) -> Frac
 fn weight_of_units(patches: &Patches, weights: &[u64]) -> u128
     requires few { patches.now.total ≤ UNITS }
     requires one_each { length weights.now ≡ length patches.now.patches }
-    requires weights_fit { All IsWithinWidth weights.now }
+    requires weights_fit { All FitsEvidence weights.now }
     ensures exact { result ≡ units_weight patches.now weights.now }
     ensures fits { result ≤ 48 * (2 ^ 63 * 2 ^ 30) }
 {
