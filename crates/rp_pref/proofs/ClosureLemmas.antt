@@ -14,18 +14,18 @@ count_more p m =
     ap (count_by p) (sym (map-id (range_with_len 0 (m + 1)))) ∙ (sum_by-map-range_with_len_more (λ x. cond (p x) 1 0) (λ x. x) 0 m m (omega arith)
     ∙ ap (λ xs. count_by p xs + cond (p m) 1 0) (map-id (range_with_len 0 m)))
 
--- The test of what counts.
-abbrev pub counts_in : Reached → ℕ → ℕ → Bool
-counts_in reached s t = eqb t s || reaches_in reached s t
+-- The test of what equals or is reached.
+abbrev pub equals_or_reaches_in : Reached → ℕ → ℕ → Bool
+equals_or_reaches_in reached s t = eqb t s || reaches_in reached s t
 
-pub counted : (reached : Reached) (s : ℕ) → IsCountIn reached s (count_by (counts_in reached s) (range_with_len 0 reached.n))
-counted reached s = number_by_test reached.n (EqualsOrReachesIn reached s) (counts_in reached s) (λ t l. (there t (eqb t s) refl, back t))
+pub counted : (reached : Reached) (s : ℕ) → IsCountIn reached s (count_by (equals_or_reaches_in reached s) (range_with_len 0 reached.n))
+counted reached s = number_by_test reached.n (EqualsOrReachesIn reached s) (equals_or_reaches_in reached s) (λ t l. (there t (eqb t s) refl, back t))
   where
     there : (t : ℕ) (b : Bool) → eqb t s ≡ b → (b || reaches_in reached s t) ≡ true → EqualsOrReachesIn reached s t
     there t true e h = inl (sym (eqb-true t s e))
     there t false e h = inr h
 
-    back : (t : ℕ) → EqualsOrReachesIn reached s t → counts_in reached s t ≡ true
+    back : (t : ℕ) → EqualsOrReachesIn reached s t → equals_or_reaches_in reached s t ≡ true
     back t (inl e) = ap (λ b. b || reaches_in reached s t) (eq-eqb t s (sym e))
     back t (inr h) = or_true (eqb t s) (reaches_in reached s t) h
       where

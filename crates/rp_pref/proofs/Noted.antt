@@ -11,7 +11,7 @@ use Rattle.rp_rounds.proofs.Rounds.{HasClosed, closed_all}
 use Rattle.rp_rounds.proofs.Throughs.{through_ends_below}
 use Rattle.rp_pref.specs.InnerBits.{has_bit, HoldsBits}
 use Rattle.rp_pref.specs.Closure.{IsClosureOf, IsCountIn, reached_by, reaches_in}
-use Rattle.rp_pref.proofs.ClosureLemmas.{counted, counts_in}
+use Rattle.rp_pref.proofs.ClosureLemmas.{counted, equals_or_reaches_in}
 use Rattle.rp_pref.proofs.Tables.{reaches_in_by}
 use Rattle.rp_pref.proofs.BitCounts.{none_after, counted_with}
 
@@ -90,7 +90,7 @@ counted_by_bits n bits holds s k total below long all is =
     let some : total ≡ count_by p (range_with_len 0 n) =
     all ∙ ap (λ m. count_by p (range_with_len 0 (m * 64))) long
     ∙ ap (λ m. count_by p (range_with_len 0 m)) (let e : end ≡ n + (end - n) = omega (arith, holds.enough) in e) ∙ none_after p n (end - n) past in
-    let with_itself : count_by (counts_in reached s) (range_with_len 0 n) ≡ count_by p (range_with_len 0 n) + cond (p s) 0 1 =
+    let with_itself : count_by (equals_or_reaches_in reached s) (range_with_len 0 n) ≡ count_by p (range_with_len 0 n) + cond (p s) 0 1 =
     counted_with p (reaches_in reached s) n s (λ t l. reaches_in_by n (has_bit bits) s t below l) below in
     subst (IsCountIn reached s) (with_itself ∙ ap (λ m. m + cond (p s) 0 1) (sym some) ∙ ap (λ m. total + m) (sym (unset (p s))) ∙ sym is) (counted reached s)
   where

@@ -1,5 +1,5 @@
 -- The observations below and strictly below, by what the closure tells of where the walks to them start.
-use Rattle.std.proofs.Common.{◌≡◌, ◌<◌, ◌⊎◌, ◌↔◌, inl, inr, ℕ, Bool, List, Contains, length, arith, IsTrue, slice_index_or}
+use Rattle.std.proofs.Common.{◌<◌, ◌↔◌, inl, inr, ℕ, Bool, List, Contains, length, arith, IsTrue, slice_index_or}
 use Rattle.rp_evidence.specs.Demand.{BudgetInput, Buys, BuysWithRest, IsBelow, IsStrictStart, IsStrictlyBelow}
 use Rattle.rp_evidence.specs.DemandPrograms.{ListsBelow, ListsStrictlyBelow}
 use Rattle.rp_evidence.specs.Enumeration.{Enumerates}
@@ -9,7 +9,7 @@ use Rattle.rp_evidence.specs.Welfare.{EqualsOrReaches}
 use Rattle.rp_evidence.proofs.Enumerations.{enumerates_observed, enumerates_same}
 use Rattle.rp_evidence.proofs.EqualOrReached.{equal_or_reached, equals, reaches}
 use Rattle.rp_evidence.proofs.StrictStarts.{below_exactly, strictly_exactly}
-use Rattle.rp_pref.specs.Closure.{IsClosureOf, Reached, reaches_in}
+use Rattle.rp_pref.specs.Closure.{EqualsOrReachesIn, IsClosureOf, Reached}
 use Rattle.rp_support.specs.InnerMarks.{MarksEach, IsReachedFrom}
 
 module _ (input : TableInput) (budget : BudgetInput) where
@@ -22,11 +22,11 @@ module _ (input : TableInput) (budget : BudgetInput) where
       (λ h. (h.0, omega (arith, h.1, closed.size), (marks.each h.0 h.1).1 h.2, back h.0 h.1 h.3)),
     )
       where
-        there : (s : ℕ) → s < input.n → (s ≡ t) ⊎ IsTrue (reaches_in reached s t) → EqualsOrReaches input s t
+        there : (s : ℕ) → s < input.n → EqualsOrReachesIn reached s t → EqualsOrReaches input s t
         there s s_in (inl e) = equals input s t s_in e
         there s s_in (inr r) = reaches input s t ((closed.exact s t s_in t_in).0 r)
 
-        back : (s : ℕ) → s < input.n → EqualsOrReaches input s t → (s ≡ t) ⊎ IsTrue (reaches_in reached s t)
+        back : (s : ℕ) → s < input.n → EqualsOrReaches input s t → EqualsOrReachesIn reached s t
         back s s_in h = elim (equal_or_reached input s t h) [ inl e ↦ inl e | inr r ↦ inr ((closed.exact s t s_in t_in).1 r) ]
 
     pub enumerates_reached : (Q : ℕ → Type 0) → ((t : ℕ) → ((s : ℕ) × (s < input.n) × P s × EqualsOrReaches input s t) ↔ Q t) → (list : List ℕ)

@@ -1,11 +1,12 @@
-use Rattle.std.proofs.Common.{◌≡◌, ◌<◌, ◌↔◌, ℕ, false, IsTrue, slice_index_or, vec_len}
+use Rattle.std.proofs.Common.{◌≡◌, vec_len}
 use Rattle.rp_evidence.specs.Demand.{Buys}
 use Rattle.rp_evidence.specs.DemandEvidence.{budget_of}
 use Rattle.rp_evidence.specs.Input.{input_of_table}
+use Rattle.rp_rounds.specs.Marks.{AreMarked}
 use Rattle.rp_support.proofs.below.bought.Given as goal
 
 abbrev pub invariant-loop-s : goal.invariant-loop-s
 invariant-loop-s l = record {
   one_each : vec_len l.marks ≡ l.s;
-  each : (k : ℕ) → k < l.s → IsTrue (slice_index_or l.marks.items k false) ↔ Buys (input_of_table l.budget.at.table.now) (budget_of l.budget.at.prices.now l.budget.m) k;
+  each : AreMarked l.s (Buys (input_of_table l.budget.at.table.now) (budget_of l.budget.at.prices.now l.budget.m)) l.marks.items;
 }

@@ -1,11 +1,12 @@
-use Rattle.std.proofs.Common.{◌≡◌, ◌<◌, ◌↔◌, ℕ, false, IsTrue, slice_index_or, vec_len}
+use Rattle.std.proofs.Common.{◌≡◌, vec_len}
 use Rattle.rp_evidence.specs.DemandEvidence.{budget_of}
 use Rattle.rp_evidence.specs.Input.{input_of_table}
 use Rattle.rp_evidence.specs.Demand.{IsStrictStart}
+use Rattle.rp_rounds.specs.Marks.{AreMarked}
 use Rattle.rp_support.proofs.below.strict_starts.Given as goal
 
 abbrev pub invariant-loop-v : goal.invariant-loop-v
 invariant-loop-v l = record {
   one_each : vec_len l.marks ≡ l.v;
-  each : (k : ℕ) → k < l.v → IsTrue (slice_index_or l.marks.items k false) ↔ IsStrictStart (input_of_table l.budget.at.table.now) (budget_of l.budget.at.prices.now l.budget.m) k;
+  each : AreMarked l.v (IsStrictStart (input_of_table l.budget.at.table.now) (budget_of l.budget.at.prices.now l.budget.m)) l.marks.items;
 }
