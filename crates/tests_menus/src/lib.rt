@@ -17,6 +17,8 @@ mod limits;
 #[cfg(test)]
 mod menus;
 #[cfg(test)]
+mod reports;
+#[cfg(test)]
 mod sums;
 #[cfg(test)]
 mod units;
