@@ -20,7 +20,7 @@ use Rattle.rp_evidence.specs.declared.quasilinear.Quasi.{Quasi}
 use Rattle.rp_homo.specs.Verdict.{IsHomotheticVerdict}
 use Rattle.rp_quasi.specs.Verdict.{IsQuasilinearVerdict}
 use Rattle.rp_answers.specs.Accepted.{PassesAfter}
-use Rattle.rp_answers.specs.Analysis.{certificate_of, five_items}
+use Rattle.rp_answers.specs.AnalysisText.{certificate_of, five_items}
 use Rattle.rp_answers.specs.GarpFirst.{AreAnswered}
 use Rattle.rp_answers.specs.UtilityText.{first_items}
 use Rattle.rp_agreement.proofs.Accepted.{afriat_passes, efficiency_passes, garp_passes, homothetic_passes, quasilinear_passes}

@@ -12,8 +12,8 @@ use Rattle.rp_support.specs.Verdict.{IsDemandGiven}
 use Rattle.rp_table.specs.Limits.{IsPrice}
 use Rattle.rp_table.specs.declared.TheConstants.{LARGEST_EXPENDITURE}
 use Rattle.rp_welfare.specs.Verdict.{IsWelfareVerdict}
-use Rattle.rp_answers.specs.Demands.{IsDemandItem}
-use Rattle.rp_answers.specs.Welfares.{IsWelfareItem}
+use Rattle.rp_answers.specs.DemandText.{IsDemandItem}
+use Rattle.rp_answers.specs.WelfareText.{IsWelfareItem}
 use Rattle.rp_agreement.proofs.AcceptedBounds.{demand_passes, welfare_passes}
 use Rattle.rp_table.specs.NewPrices.{AreNewPrices}
 use Rattle.rp_agreement.specs.Limited.{IsLimited}

@@ -1,5 +1,5 @@
 -- The JSON of the certificates of the program is read back as they are.
-use Rattle.std.proofs.Common.{ℕ, List, slice_index_or, arith, inl, refl}
+use Rattle.std.proofs.Common.{ℕ, List, [], slice_index_or, arith, inl, refl}
 use Rattle.rp_evidence.specs.Garp.{ProvesGarp}
 use Rattle.rp_evidence.specs.Preference.{IsStrict, IsWeak}
 use Rattle.rp_evidence.specs.declared.certificate.Item.{Item}
@@ -11,17 +11,17 @@ use Rattle.rp_json.specs.Denoted.{FitsKind}
 use Rattle.rp_notation.proofs.ListLemmas.{all_more}
 use Rattle.rp_table.specs.Tables.{IsTable, Observations, records_of}
 use Rattle.rp_table.specs.Cost.{cost_of}
-use Rattle.rp_agreement.specs.ReadBack.{IsReadBack}
+use Rattle.rp_agreement.specs.ReadBack.{IsReadBack, certificate_from}
 use Rattle.rp_agreement.proofs.SameValues.{text_read_back}
 use Rattle.rp_agreement.proofs.TestsFit.{garp_fits}
-use Rattle.rp_answers.specs.GarpFirst.{AreAnswered, garp_first}
+use Rattle.rp_answers.specs.GarpFirst.{AreAnswered}
 
 module _ (table : Observations) (valid : IsTable table) (garp : Garp) (proves : ProvesGarp (records_of table) (cost_of table) garp) (given : IsGarpVerdict (records_of table) (cost_of table) garp) where
   -- the verdict on the axiom, and then items that can be read back
   pub garp_first_read_back : (count : ℕ) (P : ℕ → Item → Type 0) (others : List Item) → AreAnswered count P others → ((k : ℕ) (item : Item) → P k item → FitsKind Table item)
-      → IsReadBack Table (garp_first garp others)
+      → IsReadBack Table (certificate_from [] garp others)
   garp_first_read_back count P others answered fit =
-      text_read_back Table (garp_first garp others) (record {
+      text_read_back Table (certificate_from [] garp others) (record {
         of_kind = refl;
         levels = inl (refl, refl);
         items = all_more (FitsKind Table) (GarpItem garp) others (tt, garp_fits (records_of table) valid.few_records (IsWeak (cost_of table) 1 1) (IsStrict (cost_of table) 1 1) garp proves given)

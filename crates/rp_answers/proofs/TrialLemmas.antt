@@ -11,7 +11,6 @@ use Rattle.rand_pcg.specs.Lcg.{Lcg}
 use Rattle.rp_num.specs.Below.{listed, rows_below}
 use Rattle.rp_draws.proofs.WordLemmas.{word_later, words_later}
 use Rattle.rp_num.proofs.BelowLemmas.{length-listed, get-listed}
-use Rattle.rp_table.specs.Sums.{sum_below}
 use Rattle.rp_table.specs.Names.{IsName}
 use Rattle.rp_table.specs.declared.TheConstants.{RECORDS, GOODS}
 use Rattle.rp_table.specs.Tables.{IsTable, records_of, quantity_of}
@@ -35,11 +34,6 @@ pub quantities_more : (g here : Lcg) (k word quantity : ℕ) (row more : List �
 quantities_more g here k word quantity row more so is drawn measured pushed =
     let at : word_after here 0 ≡ word_after g k = ap (λ (h : Lcg). word_after h 0) is ∙ word_later g k 0 ∙ (let e : k + 0 ≡ k = omega arith in ap (word_after g) e) in
     rw (pushed, so, measured, drawn, at, add-one) refl
-
-pub total_more : (g here : Lcg) (k word quantity total sum : ℕ) → total ≡ sum_below k (quantity_at g) → here ≡ after_words g k → word ≡ word_after here 0 → quantity ≡ word % 100 → sum ≡ total + quantity → sum ≡ sum_below (k + 1) (quantity_at g)
-total_more g here k word quantity total sum so is drawn measured added =
-    let at : word_after here 0 ≡ word_after g k = ap (λ (h : Lcg). word_after h 0) is ∙ word_later g k 0 ∙ (let e : k + 0 ≡ k = omega arith in ap (word_after g) e) in
-    rw (added, so, measured, drawn, at, add-one) refl
 
 -- the name of one of few goods is a name
 pub good_name_is : (g : ℕ) → g < 16 → IsName (good_name g)
@@ -106,10 +100,6 @@ record_more seed goods k here priced_after after is priced bought =
 pub first_record : (seed goods : ℕ) (g : Lcg) → g ≡ generator_of seed → g ≡ record_generator seed goods 0
 unfolding after_words
 first_record seed goods g is = is ∙ (let e : 0 ≡ 0 * (goods + goods) = omega arith in ap (after_words (generator_of seed)) e)
-
--- one more row
-pub row_more : (k goods : ℕ) (f : ℕ → ℕ → ℕ) (rows row more : List ℕ) → rows ≡ rows_below k goods f → row ≡ listed goods (f k) → more ≡ rows ++ row → more ≡ rows_below (k + 1) goods f
-row_more k goods f rows row more so here pushed = rw (pushed, so, here, add-one) refl
 
 -- quantities of a record, by the words after those of its prices
 pub quantities_after : (goods : ℕ) (here priced_after : Lcg) (row : List ℕ) → priced_after ≡ after_words here goods → row ≡ listed goods (not_all_zero goods (λ g. word_after priced_after g % 100)) → row ≡ listed goods (not_all_zero goods (drawn_quantity goods here))

@@ -1,6 +1,6 @@
 -- A certificate on a table that begins with the verdict on the generalized axiom of revealed preference (Varian 1982),
 -- and has one item for each of several questions under that verdict, in order.
-use Rattle.std.specs.Prelude.{◌≡◌, ℕ, ◌<◌, List, [], ◌∷◌, length, slice_index_or}
+use Rattle.std.specs.Prelude.{◌≡◌, ℕ, ◌<◌, List, [], length, slice_index_or}
 use Rattle.rp_evidence.specs.Input.{TableInput}
 use Rattle.rp_evidence.specs.Proves.{Proves}
 use Rattle.rp_evidence.specs.declared.certificate.Certificate.{Certificate}
@@ -9,12 +9,8 @@ use Rattle.rp_evidence.specs.declared.certificate.Item.TheVariants.{Garp as Garp
 use Rattle.rp_evidence.specs.declared.certificate.Kind.TheVariants.{Table}
 use Rattle.rp_evidence.specs.declared.garp.Garp.{Garp}
 use Rattle.rp_garp.specs.Verdict.{IsGarpVerdict}
-use Rattle.rp_agreement.specs.ReadBack.{IsReadBack}
+use Rattle.rp_agreement.specs.ReadBack.{IsReadBack, certificate_from}
 use Rattle.rp_answers.specs.Accepted.{IsAcceptedOn}
-
--- the certificate of a table without levels, with a verdict on the axiom and then these items
-abbrev pub garp_first : Garp → List Item → Certificate
-garp_first garp others = record { kind = Table; version = 1; levels = []; items = GarpItem garp ∷ others }
 
 -- one item for each of so many questions: the k-th answers the k-th, from 0
 pub record AreAnswered (count : ℕ) (IsAnswer : ℕ → Item → Type 0) (items : List Item) : Type 0 where
@@ -27,7 +23,7 @@ pub record IsGarpFirst (input : TableInput) (count : ℕ) (IsAnswer : Garp → �
     (certificate : Certificate) : Type 0 where
   pub garp : Garp
   pub others : List Item
-  pub items : certificate ≡ garp_first garp others
+  pub items : certificate ≡ certificate_from [] garp others
   pub garp_proves : Proves input (GarpItem garp)
   pub garp_given : IsGarpVerdict input.n input.cost garp
   pub answered : AreAnswered count (IsAnswer garp) others

@@ -1,7 +1,6 @@
 ghost use Rattle.std.specs.Prelude.{◌≡◌, IfOk};
 ghost use Rattle.rp_evidence.specs.Input.{input_of_table};
-ghost use Rattle.rp_table.specs.Cost.{IsCostsOf};
-ghost use Rattle.rp_answers.specs.Analysis.{IsAnalysis, IsAnalysisText, five_items};
+ghost use Rattle.rp_answers.specs.AnalysisText.{IsAnalysis, IsAnalysisText, five_items};
 
 use crate::shared::{report_or_json, table_certificate};
 use rp_afriat::afriat;
@@ -15,31 +14,25 @@ use rp_table::{Costs, Table};
 use std::alloc::Global;
 
 /// The report of the verdicts on a table, or their certificate as JSON.
-pub fn analysis_text(
-    alloc: Global,
-    table: &Table,
-    costs: &Costs,
-    json: bool,
-) -> Result<Vec<u8>, NoMemory>
-    requires of_table { IsCostsOf costs.now table.now }
+pub fn analysis_text(alloc: Global, table: &Table, json: bool) -> Result<Vec<u8>, NoMemory>
     ensures { IfOk result (λ text. IsAnalysisText json table.now text.items) }
 {
-    let certificate = analyse(alloc, table, costs)?;
+    let certificate = analyse(alloc, table)?;
     let text = report_or_json(alloc, &certificate, table, json)?;
     Ok(text)
 }
 
 /// The certificate of the verdicts on a table.
-fn analyse(alloc: Global, table: &Table, costs: &Costs) -> Result<Certificate, NoMemory>
-    requires of_table { IsCostsOf costs.now table.now }
+fn analyse(alloc: Global, table: &Table) -> Result<Certificate, NoMemory>
     ensures { IfOk result (IsAnalysis (input_of_table table.now)) }
 {
     prove!(table.n() >= 1);
-    let garp = garp(alloc, costs)?;
-    let afriat = afriat(alloc, costs, &garp)?;
-    let efficiency = efficiency(alloc, costs)?;
-    let homothetic = homothetic(alloc, costs)?;
-    let quasilinear = quasilinear(alloc, costs)?;
+    let costs = Costs::of(alloc, table)?;
+    let garp = garp(alloc, &costs)?;
+    let afriat = afriat(alloc, &costs, &garp)?;
+    let efficiency = efficiency(alloc, &costs)?;
+    let homothetic = homothetic(alloc, &costs)?;
+    let quasilinear = quasilinear(alloc, &costs)?;
     let items = five_items(alloc, garp, afriat, efficiency, homothetic, quasilinear)?;
     let certificate = table_certificate(alloc, table, items)?;
     Ok(certificate)

@@ -2,10 +2,9 @@ ghost use Rattle.std.specs.Prelude.{◌≡◌, ◌++◌, IfOk, OnOk};
 ghost use Rattle.rp_evidence.specs.Kinds.{IsCertificateOf};
 ghost use Rattle.rp_evidence.specs.declared.certificate.Kind.TheVariants.{Table as TableKind};
 ghost use Rattle.rp_evidence.specs.declared.certificate.Kind.TheVariants.{Random as RandomKind};
-ghost use Rattle.rp_table.specs.Cost.{IsCostsOf};
-ghost use Rattle.rp_answers.specs.Checked.{IsRandomCheck, IsTableCheck, accepted_line, check_line};
-ghost use Rattle.rp_answers.specs.Checked.{check_status};
-ghost use Rattle.rp_answers.specs.Checked.{reason_name, rejected_line};
+ghost use Rattle.rp_answers.specs.CheckText.{IsRandomCheck, IsTableCheck, accepted_line, check_line};
+ghost use Rattle.rp_answers.specs.CheckText.{check_status};
+ghost use Rattle.rp_answers.specs.CheckText.{reason_name, rejected_line};
 
 use crate::answer::Answer;
 use crate::status::Status;
@@ -21,15 +20,14 @@ use std::alloc::Global;
 pub fn check_answer(
     alloc: Global,
     table: &Table,
-    costs: &Costs,
     certificate: &Certificate,
 ) -> Result<Answer, NoMemory>
-    requires costs { IsCostsOf costs.now table.now }
-    requires kind { IsCertificateOf TableKind certificate.now }
+    requires { IsCertificateOf TableKind certificate.now }
     ensures { IfOk result (λ answer.
         IsTableCheck table.now certificate.now answer.status answer.text.items) }
 {
-    let outcome = check(table, costs, certificate);
+    let costs = Costs::of(alloc, table)?;
+    let outcome = check(table, &costs, certificate);
     let text = check_line(alloc, certificate, outcome)?;
     Ok(Answer {
         status: status_of(outcome),

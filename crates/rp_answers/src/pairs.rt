@@ -1,5 +1,4 @@
 ghost use Rattle.std.specs.Prelude.{◌≡◌, IfOk};
-ghost use Rattle.rp_table.specs.Cost.{IsCostsOf};
 ghost use Rattle.rp_answers.specs.PairsText.{IsPairsText, pairs_line};
 
 use rp_garp::pairs;
@@ -9,11 +8,11 @@ use rp_table::{Costs, Table};
 use std::alloc::Global;
 
 /// The line on the first two observations that contradict each other.
-pub fn pairs_text(alloc: Global, table: &Table, costs: &Costs) -> Result<Vec<u8>, NoMemory>
-    requires { IsCostsOf costs.now table.now }
+pub fn pairs_text(alloc: Global, table: &Table) -> Result<Vec<u8>, NoMemory>
     ensures { IfOk result (λ text. IsPairsText table.now text.items) }
 {
-    let text = line_of_pair(alloc, pairs(costs))?;
+    let costs = Costs::of(alloc, table)?;
+    let text = line_of_pair(alloc, pairs(&costs))?;
     Ok(text)
 }
 

@@ -1,5 +1,5 @@
-ghost use Rattle.std.specs.Prelude.{◌≡◌, [], IfOk};
-ghost use Rattle.rp_table.specs.Cost.{IsCostsOf};
+ghost use Rattle.std.specs.Prelude.{◌≡◌, ◌≤◌, [], IfOk};
+ghost use Rattle.rp_words.specs.Forms.{draws as draws_range};
 ghost use Rattle.rp_answers.specs.PowerText.{IsPowerText};
 
 use rp_num::NoMemory;
@@ -8,18 +8,14 @@ use rp_table::{Costs, Table};
 use std::alloc::Global;
 
 /// The report of how many of so many random behaviours on a table's budgets fail the axiom, without evidence.
-pub fn power_text(
-    alloc: Global,
-    table: &Table,
-    costs: &Costs,
-    seed: u64,
-    draws: u32,
-) -> Result<Vec<u8>, NoMemory>
-    requires of_table { IsCostsOf costs.now table.now }
+pub fn power_text(alloc: Global, table: &Table, seed: u64, draws: u64) -> Result<Vec<u8>, NoMemory>
     requires no_levels { table.now.levels ≡ [] }
+    requires few { draws ≤ draws_range.most }
     ensures { IfOk result (λ text. IsPowerText table.now seed draws text.items) }
 {
-    let violations = power(alloc, table, costs, seed, draws)?;
+    let draws = draws as u32;
+    let costs = Costs::of(alloc, table)?;
+    let violations = power(alloc, table, &costs, seed, draws)?;
     let text = report_power(alloc, table, seed, draws, violations)?;
     Ok(text)
 }

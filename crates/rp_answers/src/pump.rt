@@ -1,5 +1,4 @@
 ghost use Rattle.std.specs.Prelude.{◌≡◌, [], IfOk};
-ghost use Rattle.rp_table.specs.Cost.{IsCostsOf};
 ghost use Rattle.rp_answers.specs.PumpText.{IsPumpText};
 
 use rp_num::NoMemory;
@@ -8,12 +7,12 @@ use rp_table::{Costs, Table};
 use std::alloc::Global;
 
 /// The report of the greatest money pump ratio of a table, with its evidence.
-pub fn pump_text(alloc: Global, table: &Table, costs: &Costs) -> Result<Vec<u8>, NoMemory>
-    requires of_table { IsCostsOf costs.now table.now }
-    requires no_levels { table.now.levels ≡ [] }
+pub fn pump_text(alloc: Global, table: &Table) -> Result<Vec<u8>, NoMemory>
+    requires { table.now.levels ≡ [] }
     ensures { IfOk result (λ text. IsPumpText table.now text.items) }
 {
-    let part = pump(alloc, costs)?;
+    let costs = Costs::of(alloc, table)?;
+    let part = pump(alloc, &costs)?;
     let text = report_pump(alloc, table, &part)?;
     Ok(text)
 }

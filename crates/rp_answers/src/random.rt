@@ -2,7 +2,7 @@ ghost use Rattle.std.specs.Prelude.{◌≡◌, IfOk};
 ghost use Rattle.rp_agreement.specs.ReadBack.{random_certificate};
 ghost use Rattle.rp_answers.specs.Typed.{AreTyped};
 ghost use Rattle.rp_answers.specs.Typed.{typed};
-ghost use Rattle.rp_answers.specs.Randoms.{IsRandomAnswer, IsRandomText};
+ghost use Rattle.rp_answers.specs.RandomText.{IsRandomAnswer, IsRandomText};
 
 use rp_evidence::{Certificate, Item, Kind, RandomPart};
 use rp_json::write;

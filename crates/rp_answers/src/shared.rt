@@ -1,36 +1,58 @@
-//! What the commands share: a certificate that begins with the verdict on the axiom, and the report of a certificate or
-//! its JSON.
+//! What the commands share: the judgement that questions under the verdict on the axiom are answered by, certificates on
+//! a table, and the report of a certificate or its JSON.
 
 ghost use Rattle.rp_evidence.specs.Kinds.{IsCertificateOf};
 ghost use Rattle.rp_evidence.specs.declared.certificate.Kind.TheVariants.{Table as TableKind};
-ghost use Rattle.rp_agreement.specs.ReadBack.{table_certificate, version_of};
-ghost use Rattle.rp_answers.specs.GarpFirst.{garp_first};
+ghost use Rattle.rp_agreement.specs.ReadBack.{certificate_from, table_certificate, version_of};
+ghost use Rattle.rp_answers.specs.InnerJudgement.{IsJudgementOn};
 ghost use Rattle.rp_answers.specs.ReportOrJson.{report_or_json};
-ghost use Rattle.std.specs.Prelude.{IfOk, ◌≡◌};
+ghost use Rattle.std.specs.Prelude.{IfOk, ◌≡◌, []};
 
 use rp_evidence::{Certificate, Garp, Item, Kind};
 use rp_json::write;
 use rp_num::{NoMemory, Seq};
+use rp_pref::{Closure, own_verdict};
 use rp_report::report;
-use rp_table::Table;
+use rp_table::{Costs, Table};
 use std::alloc::Global;
 
-/// The certificate of a table without levels, with a verdict on the generalized axiom and then these items.
-pub(crate) fn garp_first(
-    alloc: Global,
-    garp: Garp,
-    others: Vec<Item>,
-) -> Result<Certificate, NoMemory>
-    ensures { IfOk result (λ made. made ≡ garp_first garp others.items) }
+/// What questions under the verdict on the axiom are answered by: the costs of a table, the closure of their weak steps,
+/// which is made once, and the verdict that it shows.
+#[derive(Drop)]
+pub(crate) struct Judgement {
+    pub costs: Costs,
+    pub closure: Closure,
+    pub garp: Garp,
+}
+
+/// The judgement on a table without levels.
+pub(crate) fn judge(alloc: Global, table: &Table) -> Result<Judgement, NoMemory>
+    requires { table.now.levels ≡ [] }
+    ensures { IfOk result (IsJudgementOn table.now) }
 {
-    let mut items = others;
-    items.insert(0, Item::Garp(garp))?;
-    Ok(Certificate {
-        kind: Kind::Table,
-        version: 1,
-        levels: Seq::from_vec(Vec::new(alloc)),
-        items: Seq::from_vec(items),
+    prove!(table.n() >= 1);
+    let costs = Costs::of(alloc, table)?;
+    let closure = Closure::own(alloc, &costs)?;
+    let garp = own_verdict(alloc, &costs, &closure)?;
+    Ok(Judgement {
+        costs,
+        closure,
+        garp,
     })
+}
+
+/// The certificate of a table that begins with this verdict on the axiom and goes on with these items.
+pub(crate) fn certificate_from(
+    alloc: Global,
+    table: &Table,
+    garp: Garp,
+    rest: Vec<Item>,
+) -> Result<Certificate, NoMemory>
+    ensures { IfOk result (λ made. made ≡ certificate_from table.now.levels garp rest.items) }
+{
+    let mut items = rest;
+    items.insert(0, Item::Garp(garp))?;
+    table_certificate(alloc, table, items)
 }
 
 /// The certificate of a table with these items: of version 1 where it has no levels, else of version 2 with them.

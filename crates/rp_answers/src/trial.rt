@@ -4,7 +4,8 @@ ghost use Rattle.rp_words.specs.Ranges.{IsTrialSize};
 ghost use Rattle.rp_answers.specs.TrialText.{AreVerdicts, IsTrialText, trial_head, verdict_lines};
 ghost use Rattle.rp_answers.specs.TrialText.{garp_word, homothetic_word, quasilinear_word};
 
-use crate::generated::trial_table;
+mod table;
+
 use rp_effic::efficiency;
 use rp_evidence::{Efficiency, Garp, Homothetic, Quasi};
 use rp_garp::garp;
@@ -15,6 +16,7 @@ use rp_quasi::quasilinear;
 use rp_report::push_index;
 use rp_table::{Costs, Table};
 use std::alloc::Global;
+pub use table::trial_table;
 
 /// The verdicts on a table, but for Afriat's numbers.
 #[derive(Drop)]
@@ -26,10 +28,12 @@ struct Verdicts {
 }
 
 /// The verdicts on the trial table of a seed, without their evidence.
-pub fn trial_text(alloc: Global, seed: u64, rows: u32, goods: u32) -> Result<Vec<u8>, NoMemory>
+pub fn trial_text(alloc: Global, seed: u64, rows: u64, goods: u64) -> Result<Vec<u8>, NoMemory>
     requires { IsTrialSize rows goods }
     ensures { IfOk result (λ text. IsTrialText seed rows goods text.items) }
 {
+    let rows = rows as u32;
+    let goods = goods as u32;
     let table = trial_table(alloc, seed, rows, goods)?;
     let verdicts = verdicts_on(alloc, &table)?;
     let mut text = head(alloc, seed, rows, goods)?;

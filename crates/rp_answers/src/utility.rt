@@ -20,19 +20,14 @@ use rp_table::{Bundles, Costs, Table};
 use std::alloc::Global;
 
 /// The report of the first two verdicts on a table, and the utility of each bundle.
-pub fn utility_text(
-    alloc: Global,
-    table: &Table,
-    costs: &Costs,
-    bundles: &Bundles,
-) -> Result<Vec<u8>, NoMemory>
-    requires of_table { IsCostsOf costs.now table.now }
-    requires goods { bundles.now.goods ≡ goods_of table.now }
+pub fn utility_text(alloc: Global, table: &Table, bundles: &Bundles) -> Result<Vec<u8>, NoMemory>
+    requires { bundles.now.goods ≡ goods_of table.now }
     ensures { IfOk result (λ text. IsUtilityText table.now bundles.now text.items) }
 {
-    let garp = garp(alloc, costs)?;
-    let afriat = afriat(alloc, costs, &garp)?;
-    let lines = utility_lines(alloc, table, costs, &afriat, bundles)?;
+    let costs = Costs::of(alloc, table)?;
+    let garp = garp(alloc, &costs)?;
+    let afriat = afriat(alloc, &costs, &garp)?;
+    let lines = utility_lines(alloc, table, &costs, &afriat, bundles)?;
     let certificate = certificate(alloc, table, garp, afriat)?;
     let mut text = report(alloc, &certificate, table)?;
     text.extend_from_slice(lines.as_slice())?;

@@ -13,8 +13,8 @@ use Rattle.rp_table.specs.Cost.{cost_of}
 use Rattle.rp_table.specs.Limits.{IsQuantity}
 use Rattle.rp_table.specs.Tables.{IsTable, Observations, goods_of, records_of}
 use Rattle.rp_power.specs.DrawnTable.{drawn_quantity, drawn_table}
-use Rattle.rp_power.specs.PowerCount.{FailsGarp, words_of}
-use Rattle.rp_power.specs.Spent.{cost_among, cost_in}
+use Rattle.rp_power.specs.PowerCount.{FailsAxiom, words_of}
+use Rattle.rp_power.specs.InnerSpent.{cost_among, cost_in}
 use Rattle.rp_power.proofs.DrawnLemmas.{drawn_is_table}
 
 pub both : {A B C : Type 0} → A ↔ B → B ↔ C → A ↔ C
@@ -49,7 +49,7 @@ module _ (table : Observations) (words quantities costs : List ℕ) (drawn : qua
       ∙ ap (λ (q : List ℕ). cost_among table q s t) drawn
 
   -- what the costs violate, the drawn table does
-  pub some_drawn : HasSomeViolation (records_of table) (IsWeak (cost_in (records_of table) costs) 1 1) (IsStrict (cost_in (records_of table) costs) 1 1) ↔ FailsGarp (drawn_table table words)
+  pub some_drawn : HasSomeViolation (records_of table) (IsWeak (cost_in (records_of table) costs) 1 1) (IsStrict (cost_in (records_of table) costs) 1 1) ↔ FailsAxiom (drawn_table table words)
   some_drawn =
       let n = records_of table in
       let c = cost_in n costs in

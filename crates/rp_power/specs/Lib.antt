@@ -1,5 +1,5 @@
 pub mod Shares
 pub mod DrawnTable
-pub mod Spent
+pub mod InnerSpent
 pub mod PowerCount
 pub mod PowerText

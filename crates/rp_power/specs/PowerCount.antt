@@ -3,7 +3,7 @@
 use Rattle.std.specs.Prelude.{ℕ, ◌+◌, ◌*◌, List}
 use Rattle.rp_draws.specs.Words.{generator_of, word_after}
 use Rattle.rp_evidence.specs.Count.{IsNumberOf}
-use Rattle.rp_evidence.specs.Garp.{IsViolationAt}
+use Rattle.rp_evidence.specs.Efficiency.{FailsGarp}
 use Rattle.rp_num.specs.Below.{listed}
 use Rattle.rp_table.specs.Cost.{cost_of}
 use Rattle.rp_table.specs.Tables.{Observations, goods_of, records_of}
@@ -21,10 +21,10 @@ behaviour_words table seed i = listed (words_of table) (λ k. word_after (genera
 abbrev pub behaviour : Observations → ℕ → ℕ → Observations
 behaviour table seed i = drawn_table table (behaviour_words table seed i)
 
--- some walk over the observations of the table, however long, is a violation of the axiom
-abbrev pub FailsGarp : Observations → Type 0
-FailsGarp table = (walk : List ℕ) × IsViolationAt (records_of table) (cost_of table) 1 1 walk
+-- what the table says fails the axiom, where all that was spent counts
+abbrev pub FailsAxiom : Observations → Type 0
+FailsAxiom table = FailsGarp (records_of table) (cost_of table) 1 1
 
 -- of the first so many behaviours, so many fail the axiom
 abbrev pub IsPowerCount : Observations → ℕ → ℕ → ℕ → Type 0
-IsPowerCount table seed draws count = IsNumberOf draws (λ i. FailsGarp (behaviour table seed i)) count
+IsPowerCount table seed draws count = IsNumberOf draws (λ i. FailsAxiom (behaviour table seed i)) count

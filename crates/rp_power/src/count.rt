@@ -4,7 +4,7 @@ ghost use Rattle.rp_evidence.specs.Preference.{IsStrict, IsWeak};
 ghost use Rattle.rp_garp.specs.Meeting.{HasSomeViolation};
 ghost use Rattle.rp_num.specs.Below.{listed};
 ghost use Rattle.rp_power.specs.PowerCount.{IsPowerCount};
-ghost use Rattle.rp_power.specs.Spent.{cost_in};
+ghost use Rattle.rp_power.specs.InnerSpent.{cost_in};
 ghost use Rattle.rp_table.specs.Cost.{IsCostsOf};
 ghost use Rattle.rp_table.specs.Tables.{records_of};
 

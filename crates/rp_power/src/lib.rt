@@ -11,3 +11,4 @@ mod spending;
 pub use behaviour::drawn;
 pub use count::power;
 pub use report::report_power;
+pub use shares::leave_not_all_zero;

@@ -35,7 +35,7 @@ pub(crate) fn draw_shares(
 }
 
 /// Makes the first number 1 where all of them are 0.
-pub(crate) fn leave_not_all_zero(numbers: &mut Vec<u32>)
+pub fn leave_not_all_zero(numbers: &mut Vec<u32>)
     requires some { 1 ≤ length numbers.old.items }
     requires few { length numbers.old.items ≤ GOODS }
     requires within { All (λ number. number ≤ LARGEST) numbers.old.items }

@@ -2,7 +2,7 @@ ghost use Rattle.std.specs.Prelude.{◌≡◌, ◌++◌, ◌+◌, ◌*◌, ◌<�
 ghost use Rattle.rp_evidence.specs.Preference.{IsStrict, IsWeak};
 ghost use Rattle.rp_num.specs.Below.{listed, rows_below};
 ghost use Rattle.rp_power.specs.PowerCount.{words_of};
-ghost use Rattle.rp_power.specs.Spent.{cost_among, cost_in};
+ghost use Rattle.rp_power.specs.InnerSpent.{cost_among, cost_in};
 ghost use Rattle.rp_table.specs.Limits.{IsQuantity};
 ghost use Rattle.rp_table.specs.Tables.{records_of};
 ghost use Rattle.rp_table.specs.declared.TheConstants.{RECORDS};
@@ -33,7 +33,7 @@ impl Spending<'_> {
 
 impl Revealed for Spending<'_> {
     ghost use Rattle.rp_evidence.specs.Preference.{IsStrict, IsWeak};
-    ghost use Rattle.rp_power.specs.Spent.{cost_in};
+    ghost use Rattle.rp_power.specs.InnerSpent.{cost_in};
 
     ghost count = { λ b. b.n };
 

@@ -24,7 +24,7 @@ use Rattle.rp_evidence.specs.Input.{input_of_table}
 use Rattle.rp_evidence.specs.declared.certificate.Certificate.{Certificate}
 use Rattle.rp_table.specs.Tables.{Observations}
 use Rattle.rp_run.specs.Answers.{Files, Answers, AnswersLine, IsAccepted, IsAcceptedOver, IsRefused, IsRejectedOver, MayBe, MustBe}
-use Rattle.rp_answers.specs.Checked.{IsRandomCheck, IsTableCheck, check_status as verdict_status}
+use Rattle.rp_answers.specs.CheckText.{IsRandomCheck, IsTableCheck, check_status as verdict_status}
 use Rattle.rp_outside.specs.Faults.{HasRisen}
 use Rattle.rp_outside.specs.Known.{Grows, GrowsByPrefix}
 use Rattle.rp_run.specs.Calls.{IsWritten}

@@ -9,11 +9,11 @@ use Rattle.rp_check.specs.declared.verdict.Verdict.TheVariants.{Accepted, Reject
 use Rattle.rp_evidence.specs.Input.{input_of_table}
 use Rattle.rp_evidence.specs.declared.failure.Reason.{Reason}
 use Rattle.rp_answers.specs.PairsText.{IsPairsText}
-use Rattle.rp_answers.specs.Analysis.{IsAnalysisText}
-use Rattle.rp_answers.specs.Checked.{IsRandomCheck, IsTableCheck}
-use Rattle.rp_answers.specs.Randoms.{IsRandomText}
-use Rattle.rp_answers.specs.Demands.{IsDemandText}
-use Rattle.rp_answers.specs.Welfares.{IsWelfareText}
+use Rattle.rp_answers.specs.AnalysisText.{IsAnalysisText}
+use Rattle.rp_answers.specs.CheckText.{IsRandomCheck, IsTableCheck}
+use Rattle.rp_answers.specs.RandomText.{IsRandomText}
+use Rattle.rp_answers.specs.DemandText.{IsDemandText}
+use Rattle.rp_answers.specs.WelfareText.{IsWelfareText}
 use Rattle.rp_answers.specs.UtilityText.{IsUtilityText}
 use Rattle.rp_answers.specs.TrialText.{IsTrialText}
 use Rattle.rp_answers.specs.MenusText.{IsMenusText}

@@ -8,7 +8,7 @@ use Rattle.rp_evidence.specs.Kinds.{IsCertificateOf}
 use Rattle.rp_orders.specs.OrderMixtures.{AreUnitsOf}
 use Rattle.rp_evidence.specs.declared.certificate.Kind.TheVariants.{Table as TableKind, Random as RandomKind}
 use Rattle.rp_words.specs.CommandLine.{Given, Line, file_set, takes_levels}
-use Rattle.rp_answers.specs.Demands.{IsSpentOn}
+use Rattle.rp_answers.specs.DemandText.{IsSpentOn}
 use Rattle.rp_answers.specs.Typed.{AreTyped, typed}
 use Rattle.rp_words.specs.declared.commands.FileSet.{FileSet}
 use Rattle.rp_words.specs.declared.commands.FileSet.TheVariants as files

@@ -6,9 +6,6 @@ ghost use Rattle.rp_run.specs.Turns.{AreReadInTurn, AsksForFirst};
 ghost use Rattle.rp_run.specs.Causes.{IsCause};
 ghost use Rattle.rp_run.specs.Contents.{AreOf};
 ghost use Rattle.rp_run.specs.declared.contents.Contents.TheVariants as contents;
-ghost use Rattle.rp_answers.specs.Analysis.{IsAnalysisText};
-ghost use Rattle.rp_answers.specs.PairsText.{IsPairsText};
-ghost use Rattle.rp_answers.specs.PumpText.{IsPumpText};
 ghost use Rattle.rp_words.specs.CommandLine.{Given, file_set, takes_levels};
 ghost use Rattle.rp_words.specs.declared.commands.Command.TheVariants as commands;
 ghost use Rattle.rp_words.specs.declared.commands.FileSet.TheVariants as files;
@@ -24,7 +21,7 @@ use rp_answers::{
 };
 use rp_num::NoMemory;
 use rp_outside::Desk;
-use rp_table::{Costs, Table};
+use rp_table::Table;
 use rp_words::{Command, Line};
 use std::alloc::Global;
 
@@ -62,9 +59,9 @@ fn answer_over(alloc: Global, line: &Line<'_>, held: &Contents) -> Result<Answer
         held.now answer.status answer.text.items) }
 {
     match line.command {
-        Command::Pairs => Ok(done(text_of_pairs(alloc, held.any_table())?)),
-        Command::Analyse => Ok(done(text_of_analysis(alloc, held.any_table(), false)?)),
-        Command::Certify => Ok(done(text_of_analysis(alloc, held.any_table(), true)?)),
+        Command::Pairs => Ok(done(pairs_text(alloc, held.any_table())?)),
+        Command::Analyse => Ok(done(analysis_text(alloc, held.any_table(), false)?)),
+        Command::Certify => Ok(done(analysis_text(alloc, held.any_table(), true)?)),
         Command::Check => check_of_table(alloc, held),
         Command::Demand => Ok(done(text_of_demand(alloc, line, held)?)),
         Command::Welfare => Ok(done(text_of_welfare(alloc, line, held)?)),
@@ -73,26 +70,10 @@ fn answer_over(alloc: Global, line: &Line<'_>, held: &Contents) -> Result<Answer
         Command::CheckRandom => check_of_choices(alloc, held),
         Command::Trial => Ok(done(text_of_trial(alloc, line)?)),
         Command::Menus => Ok(done(text_of_menus(alloc, line, held)?)),
-        Command::Pump => Ok(done(text_of_pump(alloc, held.table())?)),
+        Command::Pump => Ok(done(pump_text(alloc, held.table())?)),
         Command::Cost => Ok(done(text_of_cost(alloc, held)?)),
         Command::Power => Ok(done(text_of_power(alloc, line, held.table())?)),
     }
-}
-
-/// The contradicting pairs of a table.
-fn text_of_pairs(alloc: Global, table: &Table) -> Result<Vec<u8>, NoMemory>
-    ensures { IfOk result (λ text. IsPairsText table.now text.items) }
-{
-    let costs = Costs::of(alloc, table)?;
-    pairs_text(alloc, table, &costs)
-}
-
-/// The verdicts on a table: their report, or their certificate as JSON.
-fn text_of_analysis(alloc: Global, table: &Table, json: bool) -> Result<Vec<u8>, NoMemory>
-    ensures { IfOk result (λ text. IsAnalysisText json table.now text.items) }
-{
-    let costs = Costs::of(alloc, table)?;
-    analysis_text(alloc, table, &costs, json)
 }
 
 /// What the checker says of a certificate on a table.
@@ -102,8 +83,7 @@ fn check_of_table(alloc: Global, held: &Contents) -> Result<Answer, NoMemory>
         Answers commands.Check given held.now answer.status answer.text.items) }
 {
     let (table, certificate) = held.table_and_certificate();
-    let costs = Costs::of(alloc, table)?;
-    check_answer(alloc, table, &costs, certificate)
+    check_answer(alloc, table, certificate)
 }
 
 /// Demand at new prices, by the verdict on the axiom.
@@ -113,8 +93,7 @@ fn text_of_demand(alloc: Global, line: &Line<'_>, held: &Contents) -> Result<Vec
         IsText commands.Demand (named_given line.now.given) held.now text.items) }
 {
     let (table, new) = held.table_and_prices_with_expenditure();
-    let costs = Costs::of(alloc, table)?;
-    demand_text(alloc, table, &costs, new, line.given.json)
+    demand_text(alloc, table, new, line.given.json)
 }
 
 /// Welfare at new prices, by the verdict on the axiom.
@@ -124,8 +103,7 @@ fn text_of_welfare(alloc: Global, line: &Line<'_>, held: &Contents) -> Result<Ve
         IsText commands.Welfare (named_given line.now.given) held.now text.items) }
 {
     let (table, new) = held.table_and_prices();
-    let costs = Costs::of(alloc, table)?;
-    welfare_text(alloc, table, &costs, new, line.given.json)
+    welfare_text(alloc, table, new, line.given.json)
 }
 
 /// The utility of bundles, by the verdict on the axiom.
@@ -135,8 +113,7 @@ fn text_of_utility(alloc: Global, held: &Contents) -> Result<Vec<u8>, NoMemory>
         IsText commands.Utility given held.now text.items) }
 {
     let (table, bundles) = held.table_and_bundles();
-    let costs = Costs::of(alloc, table)?;
-    utility_text(alloc, table, &costs, bundles)
+    utility_text(alloc, table, bundles)
 }
 
 /// Whether a population makes the choices.
@@ -167,8 +144,8 @@ fn text_of_trial(alloc: Global, line: &Line<'_>) -> Result<Vec<u8>, NoMemory>
         IsText commands.Trial (named_given line.now.given) contents.Nothing text.items) }
 {
     let seed = line.given.number(0);
-    let rows = line.given.number(1) as u32;
-    let goods = line.given.number(2) as u32;
+    let rows = line.given.number(1);
+    let goods = line.given.number(2);
     trial_text(alloc, seed, rows, goods)
 }
 
@@ -180,15 +157,6 @@ fn text_of_menus(alloc: Global, line: &Line<'_>, held: &Contents) -> Result<Vec<
 {
     let (seen, units) = held.menus();
     menus_text(alloc, seen, units, line.given.per)
-}
-
-/// The greatest money pump ratio of a table.
-fn text_of_pump(alloc: Global, table: &Table) -> Result<Vec<u8>, NoMemory>
-    requires { table.now.levels ≡ [] }
-    ensures { IfOk result (λ text. IsPumpText table.now text.items) }
-{
-    let costs = Costs::of(alloc, table)?;
-    pump_text(alloc, table, &costs)
 }
 
 /// The axioms of production on a technology, and what the outputs cost that are asked of it.
@@ -212,8 +180,7 @@ fn text_of_power(alloc: Global, line: &Line<'_>, table: &Table) -> Result<Vec<u8
     let seed = line.given.number(0);
     let draws = line.given.number(1);
     prove!(draws <= 1_000);
-    let costs = Costs::of(alloc, table)?;
-    power_text(alloc, table, &costs, seed, draws as u32)
+    power_text(alloc, table, seed, draws)
 }
 
 /// A text with which a call is done.

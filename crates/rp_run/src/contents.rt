@@ -1,6 +1,6 @@
 //! What the files of a line hold.
 ghost use Rattle.std.specs.Prelude.{◌≡◌, true, false, List, [], IfOk, IfErr};
-ghost use Rattle.rp_answers.specs.Demands.{IsSpentOn};
+ghost use Rattle.rp_answers.specs.DemandText.{IsSpentOn};
 ghost use Rattle.rp_answers.specs.Typed.{AreTyped, typed};
 ghost use Rattle.rp_evidence.specs.Kinds.{IsCertificateOf};
 ghost use Rattle.rp_evidence.specs.declared.certificate.Kind.TheVariants.{Table as TableKind};

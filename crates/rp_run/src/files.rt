@@ -14,7 +14,7 @@ ghost use Rattle.rp_run.specs.Turns.{calls_of_certificate, calls_of_numbers};
 ghost use Rattle.rp_run.specs.Contents.{MayHaveLevels};
 ghost use Rattle.rp_run.specs.Readings.{CertificateIn, Just, Numbers, TakenTable, all_bytes};
 ghost use Rattle.rp_run.specs.Readings.{unless_levelled};
-ghost use Rattle.rp_answers.specs.Demands.{IsSpentOn};
+ghost use Rattle.rp_answers.specs.DemandText.{IsSpentOn};
 ghost use Rattle.rp_run.specs.Causes.{IsJsonRefusalOf, IsRefusal, IsRefusalOf, IsFileCause};
 ghost use Rattle.rp_run.specs.Causes.{IsLoaded, IsReadingCause};
 

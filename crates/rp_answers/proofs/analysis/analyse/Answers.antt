@@ -22,17 +22,17 @@ use Rattle.rp_evidence.specs.declared.certificate.Kind.TheVariants.{Table}
 use Rattle.rp_agreement.specs.ReadBack.{IsReadBack, table_certificate}
 use Rattle.rp_agreement.proofs.ItemsFit.{analysis_readable, table_limited}
 use Rattle.rp_agreement.proofs.SameValues.{text_read_back}
-use Rattle.rp_answers.specs.Analysis.{certificate_of}
+use Rattle.rp_answers.specs.AnalysisText.{certificate_of}
 use Rattle.rp_answers.proofs.analysis.analyse.Goals as goal
 
 pub returns : goal.returns
 returns c =
-    let is = c.requires.of_table in
-    let n = c.args.costs.now.n in
-    let here = cost_at c.args.costs.now in
+    let is = c.in_ok-costs.ensures in
+    let costs = c.in_ok-costs.costs in
+    let n = costs.n in
+    let here = cost_at costs in
     let there = cost_of c.args.table.now in
     let same : AgreeBelow n here there = λ s t s_in t_in. is.each s t (rw is.size at s_in) (rw is.size at t_in) in
-    let costs = c.args.costs.now in
     let table = c.args.table.now in
     let input = input_of_table table in
     let garp = c.in_ok-garp.garp in

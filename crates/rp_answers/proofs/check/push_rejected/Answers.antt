@@ -1,7 +1,7 @@
 use Rattle.std.specs.Prelude.{codes}
 use Rattle.std.specs.Fmt.{decimal}
 use Rattle.rp_print.proofs.Texts.{three_numbers}
-use Rattle.rp_answers.specs.Checked.{reason_name}
+use Rattle.rp_answers.specs.CheckText.{reason_name}
 use Rattle.rp_answers.proofs.check.push_rejected.Goals as goal
 
 pub returns : goal.returns

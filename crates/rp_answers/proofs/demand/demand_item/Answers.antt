@@ -8,4 +8,4 @@ pub returns : goal.returns
 returns c =
     let q = c.requires in
     let given = c.in_ok-evidence.ensures in
-    demand_record (input_of_table c.args.table.now) q.no_levels (table_limited c.args.table.now c.n.ensures.valid) c.args.garp.now c.args.prices.now c.from_vec.result (c.from_vec.ensures ∙ c.in_ok-prices.ensures.items) q.prices.one_each q.prices.fit c.args.m c.in_ok-evidence.evidence q.spent.0 q.spent.1 given.proves given.given
+    demand_record (input_of_table c.args.table.now) q.no_levels (table_limited c.args.table.now q.judged.valid) c.args.judgement.now.garp c.args.prices.now c.from_vec.result (c.from_vec.ensures ∙ c.in_ok-prices.ensures.items) q.prices.one_each q.prices.fit c.args.m c.in_ok-evidence.evidence q.spent.0 q.spent.1 given.proves given.given

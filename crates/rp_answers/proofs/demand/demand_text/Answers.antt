@@ -1,7 +1,7 @@
 use Rattle.std.proofs.Common.{slice_index}
 use Rattle.rp_evidence.specs.Input.{input_of_table}
 use Rattle.rp_table.specs.Rows.{row_of, rows_count}
-use Rattle.rp_answers.specs.Demands.{IsDemandItem}
+use Rattle.rp_answers.specs.DemandText.{IsDemandItem}
 use Rattle.rp_answers.proofs.GarpFirstLemmas.{garp_first_of_table}
 use Rattle.rp_answers.proofs.demand.demand_text.Goals as goal
 

@@ -4,5 +4,6 @@ use Rattle.rp_answers.proofs.pairs.pairs_text.Goals as goal
 
 pub returns : goal.returns
 returns c =
-    let costs = c.requires in
-    (c.pairs.result, rw (← costs.size, ← costs.levels) (own_pairs_same c.args.costs.now.n (cost_at c.args.costs.now) (cost_of c.args.table.now) (λ s t s_in t_in. costs.each s t (rw costs.size at s_in) (rw costs.size at t_in)) c.args.costs.now.levels c.pairs.result c.pairs.ensures.own), c.in_ok-text.ensures)
+    let costs = c.in_ok-costs.costs in
+    let is = c.in_ok-costs.ensures in
+    (c.pairs.result, rw (← is.size, ← is.levels) (own_pairs_same costs.n (cost_at costs) (cost_of c.args.table.now) (λ s t s_in t_in. is.each s t (rw is.size at s_in) (rw is.size at t_in)) costs.levels c.pairs.result c.pairs.ensures.own), c.in_ok-text.ensures)

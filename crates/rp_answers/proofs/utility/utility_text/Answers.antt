@@ -10,8 +10,8 @@ use Rattle.rp_answers.proofs.utility.utility_text.Goals as goal
 
 pub returns : goal.returns
 returns c =
-    let is = c.requires.of_table in
-    let costs = c.args.costs.now in
+    let is = c.in_ok-costs.ensures in
+    let costs = c.in_ok-costs.costs in
     let table = c.args.table.now in
     let input = input_of_table table in
     let garp = c.in_ok-garp.garp in

@@ -9,5 +9,5 @@ pub returns : goal.returns
 returns c =
     let q = c.requires in
     let given = c.in_ok-evidence.ensures in
-    welfare_record (input_of_table c.args.table.now) q.no_levels (table_limited c.args.table.now c.n.ensures.valid) c.args.garp.now c.args.prices.now c.from_vec.result (c.from_vec.ensures ∙ c.in_ok-prices.ensures.items) q.prices.one_each q.prices.fit c.args.t c.in_ok-evidence.evidence q.observed
-    (garp_at_one_there c.args.costs.now c.args.table.now q.of_table c.args.garp.now q.verdict) given.proves given.given
+    welfare_record (input_of_table c.args.table.now) q.no_levels (table_limited c.args.table.now q.judged.valid) c.args.judgement.now.garp c.args.prices.now c.from_vec.result (c.from_vec.ensures ∙ c.in_ok-prices.ensures.items) q.prices.one_each q.prices.fit c.args.t c.in_ok-evidence.evidence q.observed
+    (garp_at_one_there c.args.judgement.now.costs c.args.table.now q.judged.of_table c.args.judgement.now.garp q.judged.proves) given.proves given.given

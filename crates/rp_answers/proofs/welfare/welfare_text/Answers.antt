@@ -2,7 +2,7 @@ use Rattle.std.proofs.Common.{◌*◌, ◌/◌, ◌%◌}
 use Rattle.rp_evidence.specs.Input.{input_of_table}
 use Rattle.rp_table.specs.Rows.{row_of, rows_count}
 use Rattle.rp_table.specs.Tables.{records_of}
-use Rattle.rp_answers.specs.Welfares.{IsWelfareItem}
+use Rattle.rp_answers.specs.WelfareText.{IsWelfareItem}
 use Rattle.rp_answers.proofs.GarpFirstLemmas.{garp_first_of_table}
 use Rattle.rp_answers.proofs.welfare.welfare_text.Goals as goal
 

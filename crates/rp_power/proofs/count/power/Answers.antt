@@ -1,7 +1,7 @@
 use Rattle.std.proofs.Common.{◌≡◌, ◌↔◌, ◌*◌, IsTrue, length, subst, ap, ◌∙◌, arith}
 use Rattle.rp_draws.specs.Words.{word_after}
 use Rattle.rp_power.specs.DrawnTable.{drawn_table}
-use Rattle.rp_power.specs.PowerCount.{FailsGarp, behaviour, behaviour_words, words_of}
+use Rattle.rp_power.specs.PowerCount.{FailsAxiom, behaviour, behaviour_words, words_of}
 use Rattle.rp_power.proofs.CountMore.{none_of_none, number_told, one_at_most}
 use Rattle.rp_power.proofs.DrawnLemmas.{count_of}
 use Rattle.rp_power.proofs.SpentLemmas.{both, costs_count, quantities_count, quantities_within, some_drawn}
@@ -11,7 +11,7 @@ use Rattle.rp_power.proofs.count.power.Goals as goal
 pub loop-init : goal.loop-init
 loop-init c = record {
   moved = first_block c.args.seed (words_of c.args.table.now) c.generator-generator.result c.generator-generator.ensures;
-  counted = none_of_none (λ i. FailsGarp (behaviour c.args.table.now c.args.seed i));
+  counted = none_of_none (λ i. FailsAxiom (behaviour c.args.table.now c.args.seed i));
   few = omega arith;
 }
 
@@ -43,10 +43,10 @@ loop-preserved c =
     let words = block_words seed (words_of table) k c.loop.generator c.draw_words.new.words.items i.moved (rw size at c.in_ok-draw_words.ensures.drawn) in
     let drawn : c.as_slice-drawn.result.now ≡ behaviour_words table seed k = c.as_slice-drawn.ensures.value ∙ words in
     let some = some_drawn table c.as_slice-drawn.result.now c.as_slice.result.now c.as_slice-in-loop.result.now (c.as_slice.ensures.value ∙ c.in_ok-draw_quantities.ensures) (c.as_slice-in-loop.ensures.value ∙ c.in_ok-fill_costs.ensures) in
-    let told = subst (λ w. IsTrue c.in_ok-failed.failed ↔ FailsGarp (drawn_table table w)) drawn (both c.in_ok-failed.ensures some) in
+    let told = subst (λ w. IsTrue c.in_ok-failed.failed ↔ FailsAxiom (drawn_table table w)) drawn (both c.in_ok-failed.ensures some) in
     record {
       moved = next_block seed (words_of table) k c.loop.generator c.draw_words.new.generator i.moved (rw size at c.in_ok-draw_words.ensures.moved);
-      counted = number_told (λ b. FailsGarp (behaviour table seed b)) k c.loop.violations c.from-violations.result c.in_ok-failed.failed told c.from-violations.ensures i.counted;
+      counted = number_told (λ b. FailsAxiom (behaviour table seed b)) k c.loop.violations c.from-violations.result c.in_ok-failed.failed told c.from-violations.ensures i.counted;
       few = omega (arith, i.few, one_at_most c.in_ok-failed.failed c.from-violations.result c.from-violations.ensures);
     }
 

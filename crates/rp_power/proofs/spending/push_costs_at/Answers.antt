@@ -1,7 +1,7 @@
 use Rattle.std.proofs.Common.{◌∙◌, ◌+◌, ◌*◌, ℕ, ap, slice_index, arith}
 use Rattle.rp_table.specs.Tables.{goods_of}
 use Rattle.rp_table.proofs.SpendingLaws.{spending-same}
-use Rattle.rp_power.specs.Spent.{cost_among}
+use Rattle.rp_power.specs.InnerSpent.{cost_among}
 use Rattle.rp_power.proofs.SpentLemmas.{appended_more}
 use Rattle.rp_power.proofs.spending.push_costs_at.Goals as goal
 

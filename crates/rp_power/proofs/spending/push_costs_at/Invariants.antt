@@ -1,6 +1,6 @@
 use Rattle.std.proofs.Common.{◌≡◌, ◌++◌}
 use Rattle.rp_num.specs.Below.{listed}
-use Rattle.rp_power.specs.Spent.{cost_among}
+use Rattle.rp_power.specs.InnerSpent.{cost_among}
 use Rattle.rp_power.proofs.spending.push_costs_at.Given as goal
 
 abbrev pub invariant-loop-t : goal.invariant-loop-t

@@ -9,6 +9,7 @@ ghost use Rattle.rp_power.specs.Shares.{not_all_zero};
 use rand_pcg::Lcg64Xsh32;
 use rp_draws::{draw, generator};
 use rp_num::{NoMemory, print_u128};
+use rp_power::leave_not_all_zero;
 use rp_table::{Name, Table};
 use std::alloc::Global;
 
@@ -59,15 +60,10 @@ fn draw_quantities(
     ensures moved { OnOk result (generator.new ≡ after_words generator.old goods) }
 {
     let mut row = Vec::new(alloc);
-    let mut total = 0;
     for _ in 0..goods {
-        let quantity = draw(generator) % 100;
-        total += quantity;
-        row.push(quantity)?;
+        row.push(draw(generator) % 100)?;
     }
-    if total == 0 {
-        row[0] = 1;
-    }
+    leave_not_all_zero(&mut row);
     Ok(row)
 }
 

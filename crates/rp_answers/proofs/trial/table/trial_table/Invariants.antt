@@ -2,7 +2,7 @@ use Rattle.std.proofs.Common.{◌≡◌}
 use Rattle.rp_num.specs.Below.{rows_below}
 use Rattle.rp_answers.specs.TrialTable.{record_generator, drawn_price, drawn_quantity}
 use Rattle.rp_power.specs.Shares.{not_all_zero}
-use Rattle.rp_answers.proofs.generated.trial_table.Given as goal
+use Rattle.rp_answers.proofs.trial.table.trial_table.Given as goal
 
 abbrev pub invariant-loop : goal.invariant-loop
 invariant-loop l = record {

@@ -1,5 +1,6 @@
 -- What drawn bundles cost (Varian 1982, section 1).
-use Rattle.std.specs.Prelude.{ℕ, ◌+◌, ◌*◌, List, slice_index}
+use Rattle.std.specs.Prelude.{ℕ, ◌+◌, ◌*◌, List, [], slice_index}
+use Rattle.rp_table.specs.Cost.{cost_at}
 use Rattle.rp_table.specs.Spending.{spending}
 use Rattle.rp_table.specs.Tables.{Observations, goods_of, price_of}
 
@@ -10,4 +11,4 @@ cost_among table quantities s t =
 
 -- the cost of the bundle of t at the prices of s in a list of n by n costs, by prices and then bundles
 abbrev pub cost_in : ℕ → List ℕ → ℕ → ℕ → ℕ
-cost_in n costs s t = slice_index costs (s * n + t)
+cost_in n costs = cost_at (record { n = n; entries = costs; levels = [] })

@@ -1,7 +1,7 @@
 use Rattle.std.proofs.Common.{◌+◌, ◌%◌, refl}
 use Rattle.rp_answers.proofs.TrialLemmas.{prices_more}
 use Rattle.rp_draws.proofs.WordLemmas.{one_word_more, none_yet}
-use Rattle.rp_answers.proofs.generated.draw_prices.Goals as goal
+use Rattle.rp_answers.proofs.trial.table.draw_prices.Goals as goal
 
 pub loop-init : goal.loop-init
 loop-init c = record { drawn = c.new-row.ensures.items; moved = none_yet c.args.generator.now }

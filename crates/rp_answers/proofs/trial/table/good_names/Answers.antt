@@ -3,7 +3,7 @@ use Rattle.std.specs.Fmt.{decimal}
 use Rattle.rp_table.specs.Names.{IsName}
 use Rattle.rp_answers.specs.TrialTable.{good_name}
 use Rattle.rp_answers.proofs.TrialLemmas.{good_name_is}
-use Rattle.rp_answers.proofs.generated.good_names.Goals as goal
+use Rattle.rp_answers.proofs.trial.table.good_names.Goals as goal
 
 pub new-requires : goal.new-requires
 new-requires c =

@@ -2,8 +2,9 @@ use Rattle.std.proofs.Common.{◌≡◌, ◌∙◌, ◌++◌, ap, sym, subst, ar
 use Rattle.rp_table.specs.Tables.{IsTable}
 use Rattle.rp_answers.specs.TrialTable.{record_generator, drawn_price, drawn_quantity}
 use Rattle.rp_power.specs.Shares.{not_all_zero}
-use Rattle.rp_answers.proofs.TrialLemmas.{first_record, record_more, row_more, quantities_after, trial_is_table, trial_is}
-use Rattle.rp_answers.proofs.generated.trial_table.Goals as goal
+use Rattle.rp_power.proofs.DrawnLemmas.{row_more}
+use Rattle.rp_answers.proofs.TrialLemmas.{first_record, record_more, quantities_after, trial_is_table, trial_is}
+use Rattle.rp_answers.proofs.trial.table.trial_table.Goals as goal
 
 pub loop-init : goal.loop-init
 loop-init c = record {

@@ -1,14 +1,11 @@
-use Rattle.std.proofs.Common.{◌≡◌, ◌*◌, ◌≤◌}
+use Rattle.std.proofs.Common.{◌≡◌}
 use Rattle.rp_num.specs.Below.{listed}
-use Rattle.rp_table.specs.Sums.{sum_below}
 use Rattle.rp_draws.specs.Words.{after_words}
 use Rattle.rp_answers.proofs.TrialLemmas.{quantity_at}
-use Rattle.rp_answers.proofs.generated.draw_quantities.Given as goal
+use Rattle.rp_answers.proofs.trial.table.draw_quantities.Given as goal
 
 abbrev pub invariant-loop : goal.invariant-loop
 invariant-loop l = record {
   drawn : l.row.items ≡ listed l.counter (quantity_at l.fn.generator);
   moved : l.generator ≡ after_words l.fn.generator l.counter;
-  added : l.total ≡ sum_below l.counter (quantity_at l.fn.generator);
-  small : l.total ≤ 99 * l.counter;
 }
