@@ -1,5 +1,4 @@
 -- What questions under the verdict on the generalized axiom of revealed preference (Varian 1982) are answered by.
-use Rattle.std.specs.Prelude.{◌≡◌}
 use Rattle.rp_evidence.specs.Garp.{ProvesGarp}
 use Rattle.rp_evidence.specs.Preference.{IsWeak}
 use Rattle.rp_garp.specs.Verdict.{IsGarpVerdict}
