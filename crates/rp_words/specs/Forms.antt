@@ -1,9 +1,12 @@
 -- What the form of a command says (this program's own words): its name, its files and its numbers in the order of the
 -- words, its options, and which tables it takes. What `clap` is told, the usage text, the words of a line and what its
 -- matches name follow from it.
-use Rattle.std.specs.Prelude.{ℕ, Bool, true, false, List, [], codes}
+use Rattle.std.specs.Prelude.{ℕ, ◌-◌, ◌^◌, Bool, true, false, List, [], codes}
 use Rattle.clap.specs.Walk.{Text}
+use Rattle.rp_patch.specs.declared.TheConstants.{UNITS}
+use Rattle.rp_table.specs.declared.TheConstants.{GOODS}
 use Rattle.rp_words.specs.declared.commands.FileSet.{FileSet}
+use Rattle.rp_words.specs.declared.commands.TheConstants.{MOST_DRAWS, MOST_ROWS}
 
 -- a number from least to most
 pub record Number : Type 0 where
@@ -24,21 +27,21 @@ pub record Form : Type 0 where
 
 -- the state that a generator starts from, and how many observations and goods a trial table has
 abbrev pub seed : Number
-seed = record { name = codes "SEED"; least = 0; most = 18446744073709551615 }
+seed = record { name = codes "SEED"; least = 0; most = 2 ^ 64 - 1 }
 
 abbrev pub rows : Number
-rows = record { name = codes "ROWS"; least = 1; most = 256 }
+rows = record { name = codes "ROWS"; least = 1; most = MOST_ROWS }
 
 abbrev pub goods : Number
-goods = record { name = codes "GOODS"; least = 1; most = 16 }
+goods = record { name = codes "GOODS"; least = 1; most = GOODS }
 
 -- how many random behaviours are drawn
 abbrev pub draws : Number
-draws = record { name = codes "N"; least = 1; most = 1000 }
+draws = record { name = codes "N"; least = 1; most = MOST_DRAWS }
 
 -- how many units there are on each budget or menu
 abbrev pub units : Number
-units = record { name = codes "per"; least = 1; most = 1000000000 }
+units = record { name = codes "per"; least = 1; most = UNITS }
 
 -- a form with files alone; with numbers after them; with options; with levels that a table may have
 abbrev pub over : Text → FileSet → Form

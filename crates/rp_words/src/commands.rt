@@ -102,11 +102,17 @@ pub(crate) struct Form {
     pub(crate) levels: bool,
 }
 
+/// The most observations of a trial table.
+pub(crate) const MOST_ROWS: u64 = 256;
+
+/// The most random behaviours that are drawn.
+pub(crate) const MOST_DRAWS: u64 = 1_000;
+
 /// How many units there are on each budget or menu.
 pub(crate) const UNITS: Number = Number {
     name: "per",
     least: 1,
-    most: 1_000_000_000,
+    most: rp_patch::UNITS as u64,
 };
 
 pub(crate) const SEED: Number = Number {
@@ -118,27 +124,27 @@ pub(crate) const SEED: Number = Number {
 pub(crate) const ROWS: Number = Number {
     name: "ROWS",
     least: 1,
-    most: 256,
+    most: MOST_ROWS,
 };
 
 pub(crate) const GOODS: Number = Number {
     name: "GOODS",
     least: 1,
-    most: 16,
+    most: rp_table::GOODS as u64,
 };
 
 /// How many random behaviours are drawn.
 pub(crate) const DRAWS: Number = Number {
     name: "N",
     least: 1,
-    most: 1_000,
+    most: MOST_DRAWS,
 };
 
 /// The commands, in the order of the usage text.
-pub(crate) fn commands() -> [Command; 14]
-    ensures { result ≡ commands }
+pub(crate) fn commands() -> &'static [Command]
+    ensures { result.now ≡ commands }
 {
-    [
+    &[
         Command::Pairs,
         Command::Analyse,
         Command::Certify,
@@ -245,7 +251,7 @@ impl Form {
 pub(crate) fn command_named(name: &str) -> Option<Command>
     ensures { result ≡ command_named name.now }
 {
-    for command in &commands() {
+    for command in commands() {
         if name == command.form().name {
             return Some(*command);
         }

@@ -20,7 +20,7 @@ pub(crate) fn program<'a>(alloc: Global) -> Result<Command<'a>, AllocError>
         .subcommand_required(true)
         .disable_help_flag(true)
         .disable_help_subcommand(true);
-    for command in &commands() {
+    for command in commands() {
         program = program.subcommand(command_of(alloc, &command.form())?)?;
     }
     Ok(program)

@@ -1,4 +1,4 @@
-use Rattle.std.proofs.Common.{◌≡◌, ◌<◌, None, add-one, ap, length, subst, sym, take, ◌∙◌}
+use Rattle.std.proofs.Common.{◌≡◌, None, add-one, ap, subst, sym, take, ◌∙◌}
 use Rattle.std.specs.List.{find}
 use Rattle.std.specs.Str.{bytes_eq}
 use Rattle.rp_words.specs.CommandLine.{form_of}
@@ -11,8 +11,7 @@ use Rattle.rp_words.proofs.commands.command_named.Goals as goal
 pub loop-command-preserved : goal.loop-command-preserved
 loop-command-preserved c =
     let i = c.loop-command.command-index in
-    let all = c.commands.result in
+    let all = c.commands-command-items.result.now in
     let test = λ (command : Command). bytes_eq c.args.name.now (form_of command).name in
     let fails = ap (λ (form : Form). bytes_eq c.args.name.now form.name) (sym c.form.ensures) ∙ sym c.eq.ensures ∙ c.if-eq.false in
-    let within = subst (λ xs. i < length xs) (sym c.commands.ensures) c.loop-command-test.true in
-    subst (λ n. find test (take n all) ≡ None) (sym (add-one i)) (none_more test all i Pairs c.loop-command.invariant fails within)
+    subst (λ n. find test (take n all) ≡ None) (sym (add-one i)) (none_more test all i Pairs c.loop-command.invariant fails c.loop-command-test.true)

@@ -1,7 +1,7 @@
-use Rattle.std.proofs.Common.{◌≡◌, ◌<◌, ◌≤◌, ◌∙◌, List, ap, length, map, subst, sym}
+use Rattle.std.proofs.Common.{◌∙◌, List, ap, map}
 use Rattle.std.proofs.lemmas.List.{take_all}
 use Rattle.clap.specs.Simple.{App, app_of, app_of_fields}
-use Rattle.rp_words.specs.CommandLine.{commands, form_of}
+use Rattle.rp_words.specs.CommandLine.{form_of}
 use Rattle.rp_words.specs.Commands.{alone, command_of}
 use Rattle.rp_words.specs.Forms.{Form}
 use Rattle.rp_words.specs.declared.commands.Command.{Command}
@@ -19,15 +19,11 @@ loop-command-init c =
 
 pub loop-command-preserved : goal.loop-command-preserved
 loop-command-preserved c =
-    let all : length c.commands.result ≡ length commands = ap length c.commands.ensures in
-    let within = subst (λ n. c.loop-command.command-index < n) (sym all) c.loop-command-test.true in
-    command_more form_of c.commands.result c.loop-command.command-index Pairs
-    (app_of c.loop-command.program) (app_of c.in_ok-program.program) (app_of c.in_ok-command_of.field-0) within c.loop-command.invariant
+    command_more form_of c.commands-command-items.result.now c.loop-command.command-index Pairs
+    (app_of c.loop-command.program) (app_of c.in_ok-program.program) (app_of c.in_ok-command_of.field-0) c.loop-command-test.true c.loop-command.invariant
     (c.in_ok-command_of.ensures.shape ∙ ap (λ (form : Form). alone (command_of form)) c.form.ensures)
     (c.in_ok-program.ensures.shape c.in_ok-command_of.ensures.local)
 
 pub returns : goal.returns
 returns c =
-    let whole : length c.commands.result ≡ length commands = ap length c.commands.ensures in
-    let all : length c.commands.result ≤ c.loop-command.command-index = subst (λ n. n ≤ c.loop-command.command-index) (sym whole) c.loop-command-test.false in
-    c.loop-command.invariant ∙ ap (λ (some : List Command). program_so_far (map form_of some)) (take_all c.loop-command.command-index c.commands.result all) ∙ ap (λ (some : List Command). program_so_far (map form_of some)) c.commands.ensures
+    c.loop-command.invariant ∙ ap (λ (some : List Command). program_so_far (map form_of some)) (take_all c.loop-command.command-index c.commands-command-items.result.now c.loop-command-test.false) ∙ ap (λ (some : List Command). program_so_far (map form_of some)) c.commands-command-items.ensures
