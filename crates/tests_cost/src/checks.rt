@@ -1,4 +1,4 @@
-use rp_cost::{CostBounds, Upper, check_cost, read_asked, read_tech};
+use rp_cost::{Asked, CostBounds, Tech, Upper, check_cost, read_asked, read_tech};
 use rp_evidence::Bound;
 use rp_farkas::{Entry, Pair};
 use rp_num::{Frac, Seq};
@@ -75,6 +75,11 @@ fn lower_of<R: Abort>(rt: &R, alloc: Global, lower: Option<Shown>) -> Result<Bou
     })
 }
 
+/// What a file asks of a technology.
+fn asked_of(alloc: Global, file: &str, tech: &Tech) -> Result<Asked, Fail> {
+    Ok(read_asked(alloc, file.as_bytes(), tech)?)
+}
+
 /// Whether these are the bounds of the output `y` at equal prices.
 fn accepts<R: Abort>(
     rt: &R,
@@ -85,7 +90,7 @@ fn accepts<R: Abort>(
     lower: Option<Shown>,
 ) -> Result<bool, Fail> {
     let tech = read_tech(alloc, file.as_bytes())?;
-    let asked = read_asked(alloc, ASKED.as_bytes(), &tech)?;
+    let asked = asked_of(alloc, ASKED, &tech)?;
     assert!(rt; y < asked.count());
     let prices = asked.row(y);
     assert!(rt; prices.len() == tech.inputs() as usize);

@@ -1,6 +1,7 @@
 ghost use Rattle.std.specs.Prelude.{◌≡◌, []};
 ghost use Rattle.rp_table.specs.Cost.{IsCostsOf};
 
+use crate::powers::table_in;
 use rp_draws::{draw, generator};
 use rp_evidence::Garp;
 use rp_garp::garp;
@@ -83,7 +84,7 @@ fn counted_one_by_one<R: Abort>(
 #[test]
 fn counts_by_verdicts(rt: HostRuntime) -> Result<(), Fail> {
     let alloc = rt.alloc();
-    let table = read_table(alloc, CONTRADICTION.as_bytes())?;
+    let table = table_in(alloc, CONTRADICTION)?;
     assert!(rt; !table.levelled());
     let costs = Costs::of(alloc, &table)?;
     for (seed, want) in [(7u64, 1u32), (8, 2), (42, 0)] {

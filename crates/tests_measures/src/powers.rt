@@ -1,12 +1,19 @@
 use rp_power::report_power;
 use rp_run::Status;
+use rp_table::Table;
 use rp_text::read_table;
+use std::alloc::Global;
 use std::test::Fail;
 use tests_inputs::tables::{ALONE, CONTRADICTION};
 use tests_support::{gives, run_over};
 
 /// Budgets that never cross: the second is the first with twice as much to spend.
 const PARALLEL: &str = "p_a,q_a,p_b,q_b\n1,2,1,2\n1,4,1,4\n";
+
+/// The table of a file.
+pub fn table_in(alloc: Global, file: &str) -> Result<Table, Fail> {
+    Ok(read_table(alloc, file.as_bytes())?)
+}
 
 #[test]
 fn power_counts_violations(rt: HostRuntime) -> Result<(), Fail> {
@@ -51,7 +58,7 @@ fn power_at_the_greatest_numbers(rt: HostRuntime) -> Result<(), Fail> {
 #[test]
 fn a_report_of_power(rt: HostRuntime) -> Result<(), Fail> {
     let alloc = rt.alloc();
-    let table = read_table(alloc, b"p_a,q_a,p_b,q_b\n1.50,1,2,0.5\n")?;
+    let table = table_in(alloc, "p_a,q_a,p_b,q_b\n1.50,1,2,0.5\n")?;
     let text = report_power(alloc, &table, 42, 1000, 345)?;
     let want = b"observations 1 goods 2 places 2 1\npower 42 draws 1000 violations 345\n";
     assert_eq!(rt; text.as_slice(), want.as_slice());
