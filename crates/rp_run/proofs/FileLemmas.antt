@@ -12,7 +12,8 @@ use Rattle.rp_words.specs.CommandLine.{Line, files_of}
 use Rattle.rp_run.specs.Answers.{Files, IsContent, AreContents, HasContents}
 use Rattle.rp_run.specs.Contents.{Denotes, MayHaveLevels}
 use Rattle.rp_run.specs.declared.contents.Contents.{Contents}
-use Rattle.rp_run.specs.Readings.{AndThen, CertificateIn, Just, Numbers, Reading, TakenTable, all_bytes, and_unless_levelled, most_bytes, most_certificate_bytes, refuses_levels, unless_levelled}
+use Rattle.rp_run.specs.Readings.{AndThen, CertificateIn, Just, Numbers, Reading, TakenTable, all_bytes, and_unless_levelled, refuses_levels, unless_levelled}
+use Rattle.rp_run.specs.declared.files.TheConstants.{MOST_BYTES, MOST_CERTIFICATE_BYTES}
 use Rattle.rp_run.specs.FaultLines.{file_line}
 use Rattle.rp_run.specs.Causes.{IsLoaded, IsRefusal, IsFileCause, IsReadingCause, HoldsValue, IsCause}
 use Rattle.rp_run.specs.declared.files.Cause.{Cause}
@@ -24,19 +25,19 @@ some_long None limit long = (replicate (limit + 1) 0, (λ t is. cc), omega (arit
 some_long (Some bytes) limit long = (bytes, (λ t is. cc), long bytes refl)
 
 -- a file that is too long is refused as such
-pub too_long : (files : Files) (rose : List ℕ → Type 0) (file : List ℕ) (why : Cause) → ForSome (files file) (λ bytes. most_bytes < length bytes) → IsRefusal (file_line file (codes "TooLong")) why → IsFileCause files rose file (Numbers file all_bytes) why
+pub too_long : (files : Files) (rose : List ℕ → Type 0) (file : List ℕ) (why : Cause) → ForSome (files file) (λ bytes. MOST_BYTES < length bytes) → IsRefusal (file_line file (codes "TooLong")) why → IsFileCause files rose file (Numbers file all_bytes) why
 too_long files rose file (Read name) long refused = absurd refused
 too_long files rose file (Refused line) long refused =
-    let some = some_long (files file) most_bytes long in
-    (some.0, some.1, rw (lt-ltb most_bytes (length some.0) some.2) (ap Err (sym refused)))
+    let some = some_long (files file) MOST_BYTES long in
+    (some.0, some.1, rw (lt-ltb MOST_BYTES (length some.0) some.2) (ap Err (sym refused)))
 too_long files rose file NoMemory long refused = tt
 
 -- and so is a certificate that is too long
-pub too_long_certificate : (files : Files) (rose : List ℕ → Type 0) (file : List ℕ) (kind : Kind) (why : Cause) → ForSome (files file) (λ bytes. most_certificate_bytes < length bytes)
+pub too_long_certificate : (files : Files) (rose : List ℕ → Type 0) (file : List ℕ) (kind : Kind) (why : Cause) → ForSome (files file) (λ bytes. MOST_CERTIFICATE_BYTES < length bytes)
     → IsRefusal (file_line file (codes "TooLong")) why → IsFileCause files rose file (CertificateIn file kind) why
 too_long_certificate files rose file kind (Read name) long refused = absurd refused
 too_long_certificate files rose file kind (Refused line) long refused =
-    let some = some_long (files file) most_certificate_bytes long in
+    let some = some_long (files file) MOST_CERTIFICATE_BYTES long in
     (some.0, some.1, inl (some.2, refused))
 too_long_certificate files rose file kind NoMemory long refused = tt
 

@@ -1,8 +1,7 @@
 -- What a file of choices from menus comes to: menus with the units of their cells (by largest remainders: Hamilton's
 -- method), or the first refusal.
-use Rattle.std.specs.Prelude.{◌≡◌, ◌+◌, ℕ, nat_lt, if◌then◌else◌, Option, List, [], ◌∷◌, ◌++◌, length, codes}
+use Rattle.std.specs.Prelude.{◌≡◌, ℕ, nat_lt, if◌then◌else◌, Option, List, [], ◌++◌, length, codes}
 use Rattle.std.specs.Prelude.{Result, Ok, Err, slice_index}
-use Rattle.std.specs.Fmt.{decimal}
 use Rattle.rp_menu.specs.Denotation.{menus_in}
 use Rattle.rp_menu.specs.MenuLists.{MenuList}
 use Rattle.rp_menu.specs.declared.fault.MenuFault.{MenuFault}
@@ -11,9 +10,11 @@ use Rattle.rp_orders.specs.OrderMixtures.{AreUnitsOf}
 use Rattle.rp_patch.specs.Apportionment.{AreGrouped, HasShares, SaysWhyNoUnits, grouped}
 use Rattle.rp_patch.specs.declared.apportionment.Units.{Units}
 use Rattle.rp_patch.specs.declared.fault.ApportionFault.TheVariants.{NeedUnit}
+use Rattle.rp_print.specs.ListText.{line_of, ordinal_text}
 use Rattle.rp_run.specs.FaultLines.{file_line}
 use Rattle.rp_run.specs.FaultTexts.{column_text, record_text}
-use Rattle.rp_run.specs.Readings.{AndThen, Just, Reading, most_bytes}
+use Rattle.rp_run.specs.Readings.{AndThen, Just, Reading}
+use Rattle.rp_run.specs.declared.files.TheConstants.{MOST_BYTES}
 
 -- the text of each fault: its name, and then the record and the column where it has them, which count from 1
 abbrev pub menu_fault_name : MenuFault → List ℕ
@@ -55,7 +56,7 @@ menu_fault_text f = menu_fault_name f ++ menu_places_text f
 
 -- no total that all menus have in common is within the limit, from this menu on, which counts from 1
 abbrev pub need_unit_line : ℕ → List ℕ
-need_unit_line menu = codes "rp: NeedUnit menu " ++ decimal (menu + 1) ++ 10 ∷ []
+need_unit_line menu = line_of (codes "rp: NeedUnit menu " ++ ordinal_text menu)
 
 -- menus that were read from a file, or the line of its fault
 abbrev pub menus_or_line : List ℕ → Result MenuList MenuFault → Result MenuList (List ℕ)
@@ -65,7 +66,7 @@ menus_or_line file (Err f) = Err (file_line file (menu_fault_text f))
 -- the menus that the bytes of a file denote, where they are not too many
 abbrev pub menus_of : List ℕ → List ℕ → Result MenuList (List ℕ)
 menus_of file bytes =
-    if nat_lt most_bytes (length bytes) then Err (file_line file (codes "TooLong"))
+    if nat_lt MOST_BYTES (length bytes) then Err (file_line file (codes "TooLong"))
     else menus_or_line file (menus_in bytes)
 
 abbrev pub MenusOf : List ℕ → List ℕ → Reading MenuList

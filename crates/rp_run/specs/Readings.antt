@@ -13,6 +13,7 @@ use Rattle.rp_json.specs.declared.fault.JsonFault.TheVariants as json_fault
 use Rattle.rp_words.specs.CommandLine.{Given, file}
 use Rattle.rp_run.specs.FaultTexts.{fault_text, json_fault_text}
 use Rattle.rp_run.specs.FaultLines.{file_line}
+use Rattle.rp_run.specs.declared.files.TheConstants.{MOST_BYTES, MOST_CERTIFICATE_BYTES}
 
 -- what is read: which values, and which lines of a refusal
 abbrev pub Reading : Type 0 → Type 1
@@ -27,14 +28,6 @@ abbrev pub AndThen : {A B : Type 0} → Reading A → (A → Reading B) → Read
 AndThen {A} first next (Ok value) = (earlier : A) × first (Ok earlier) × next earlier (Ok value)
 AndThen {A} first next (Err line) = first (Err line) ⊎ ((earlier : A) × first (Ok earlier) × next earlier (Err line))
 
--- the most bytes of a file of numbers
-abbrev pub most_bytes : ℕ
-most_bytes = 4194304
-
--- the most bytes of a certificate
-abbrev pub most_certificate_bytes : ℕ
-most_certificate_bytes = 16777216
-
 -- a value that was read from a file, or the line of its fault
 abbrev pub or_line : {A : Type 0} → List ℕ → Result A TableFault → Result A (List ℕ)
 or_line file (Ok value) = Ok value
@@ -43,7 +36,7 @@ or_line file (Err fault) = Err (file_line file (fault_text fault))
 -- what the bytes of a file of numbers denote by this reading, where they are not too many
 abbrev pub numbers_in : {A : Type 0} → List ℕ → (List ℕ → Result A TableFault) → List ℕ → Result A (List ℕ)
 numbers_in file reading bytes =
-    if nat_lt most_bytes (length bytes) then Err (file_line file (codes "TooLong"))
+    if nat_lt MOST_BYTES (length bytes) then Err (file_line file (codes "TooLong"))
     else or_line file (reading bytes)
 
 abbrev pub Numbers : {A : Type 0} → List ℕ → (List ℕ → Result A TableFault) → List ℕ → Reading A
@@ -55,11 +48,11 @@ all_bytes bytes = Ok bytes
 
 -- the certificate of a kind that the bytes of its file denote, where they are not too many
 abbrev pub CertificateIn : List ℕ → Kind → List ℕ → Reading Certificate
-CertificateIn file kind bytes (Ok certificate) = (length bytes ≤ most_certificate_bytes)
+CertificateIn file kind bytes (Ok certificate) = (length bytes ≤ MOST_CERTIFICATE_BYTES)
     × IsDenoted kind bytes (Ok certificate)
 CertificateIn file kind bytes (Err line) =
-    ((most_certificate_bytes < length bytes) × (line ≡ file_line file (codes "TooLong")))
-    ⊎ ((length bytes ≤ most_certificate_bytes)
+    ((MOST_CERTIFICATE_BYTES < length bytes) × (line ≡ file_line file (codes "TooLong")))
+    ⊎ ((length bytes ≤ MOST_CERTIFICATE_BYTES)
     × ((fault : JsonFault) × (fault ≢ json_fault.NoMemory) × IsDenoted kind bytes (Err fault)
     × (line ≡ file_line file (json_fault_text fault))))
 

@@ -6,14 +6,14 @@ use Rattle.rp_words.specs.CommandLine.{Line, file_at, file_set, files_of, takes_
 use Rattle.rp_words.specs.CommandLine.{Certificate, File, Numbers, files_in}
 use Rattle.rp_run.specs.Answers.{Files}
 use Rattle.rp_run.specs.Contents.{ContentsIn}
-use Rattle.rp_run.specs.Readings.{most_bytes, most_certificate_bytes}
+use Rattle.rp_run.specs.declared.files.TheConstants.{MOST_BYTES, MOST_CERTIFICATE_BYTES}
 
 -- the most calls to read a file of numbers through, and a certificate
 abbrev pub calls_of_numbers : Files → List ℕ → ℕ
-calls_of_numbers files file = calls_through most_bytes (files file)
+calls_of_numbers files file = calls_through MOST_BYTES (files file)
 
 abbrev pub calls_of_certificate : Files → List ℕ → ℕ
-calls_of_certificate files file = calls_through most_certificate_bytes (files file)
+calls_of_certificate files file = calls_through MOST_CERTIFICATE_BYTES (files file)
 
 abbrev pub calls_of_file : Files → File → List ℕ → ℕ
 calls_of_file files (Numbers name) file = calls_of_numbers files file

@@ -1,9 +1,11 @@
 ghost use Rattle.std.specs.Prelude.{◌≡◌, ◌++◌, IfOk, OnOk};
 ghost use Rattle.rp_json.specs.declared.fault.JsonFault.TheVariants as json_fault;
+ghost use Rattle.rp_print.specs.ListText.{line_of, ordinal_text};
 ghost use Rattle.rp_run.specs.FaultTexts as text;
 
 use rp_json::JsonFault;
-use rp_num::{NoMemory, print_u128};
+use rp_num::NoMemory;
+use rp_print::{Number, Ordinal, push_after};
 use rp_text::TableFault;
 use std::alloc::Global;
 
@@ -57,8 +59,8 @@ pub(crate) fn text_of_json_fault(alloc: Global, fault: JsonFault) -> Result<Vec<
 fn bad_shape(alloc: Global, item: u32) -> Result<Vec<u8>, NoMemory>
     ensures { IfOk result (λ t. t.items ≡ text.json_fault_text (json_fault.BadShape item)) }
 {
-    let mut out = Vec::from_slice(alloc, b"BadShape item ")?;
-    print_u128(alloc, &mut out, u128::from(item))?;
+    let mut out = Vec::new(alloc);
+    push_after::<Number>(alloc, &mut out, b"BadShape item ", item)?;
     Ok(out)
 }
 
@@ -92,25 +94,19 @@ fn push_places(alloc: Global, out: &mut Vec<u8>, fault: TableFault) -> Result<()
 pub(crate) fn push_record(alloc: Global, out: &mut Vec<u8>, row: u32) -> Result<(), NoMemory>
     ensures { OnOk result (out.new.items ≡ out.old.items ++ text.record_text row) }
 {
-    out.extend_from_slice(b" record ")?;
-    print_u128(alloc, out, u128::from(row))?;
-    Ok(())
+    push_after::<Number>(alloc, out, b" record ", row)
 }
 
 pub(crate) fn push_column(alloc: Global, out: &mut Vec<u8>, column: u32) -> Result<(), NoMemory>
     ensures { OnOk result (out.new.items ≡ out.old.items ++ text.column_text column) }
 {
-    out.extend_from_slice(b" column ")?;
-    print_u128(alloc, out, u128::from(column))?;
-    Ok(())
+    push_after::<Number>(alloc, out, b" column ", column)
 }
 
 fn push_budget(alloc: Global, out: &mut Vec<u8>, budget: u32) -> Result<(), NoMemory>
     ensures { OnOk result (out.new.items ≡ out.old.items ++ text.budget_text budget) }
 {
-    out.extend_from_slice(b" budget ")?;
-    print_u128(alloc, out, u128::from(budget))?;
-    Ok(())
+    push_after::<Number>(alloc, out, b" budget ", budget)
 }
 
 /// Appends a record and a column.
@@ -126,4 +122,14 @@ pub(crate) fn push_cell(
     push_record(alloc, out, row)?;
     push_column(alloc, out, column)?;
     Ok(())
+}
+
+/// The line of a fault at one of several budgets or menus, which is told from 1.
+pub(crate) fn ordinal_line(alloc: Global, told: &[u8], ordinal: u32) -> Result<Vec<u8>, NoMemory>
+    ensures { IfOk result (λ line. line.items ≡ line_of (told.now ++ ordinal_text ordinal)) }
+{
+    let mut line = Vec::new(alloc);
+    push_after::<Ordinal>(alloc, &mut line, told, ordinal)?;
+    line.push(b'\n')?;
+    Ok(line)
 }

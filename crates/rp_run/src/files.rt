@@ -24,15 +24,16 @@ use rp_evidence::{Certificate, Kind};
 use rp_json::{JsonFault, read};
 use rp_num::NoMemory;
 use rp_outside::{Desk, LoadFault, load};
+use rp_print::push_line;
 use rp_table::{Budgets, Bundles, Choices, Prices, Table};
 use rp_text::{TableFault, read_budgets, read_bundles, read_choices, read_prices, read_table};
 use std::alloc::Global;
 
 /// The most bytes of a file of numbers.
-const MOST_BYTES: u64 = 4_194_304;
+pub(crate) const MOST_BYTES: u64 = 4_194_304;
 
 /// The most bytes of a certificate.
-const MOST_CERTIFICATE_BYTES: u64 = 16_777_216;
+pub(crate) const MOST_CERTIFICATE_BYTES: u64 = 16_777_216;
 
 /// Why a line has no input.
 #[derive(Drop)]
@@ -287,7 +288,7 @@ pub(crate) fn load_numbers<'a, D: Desk>(
     file: &'a str,
 ) -> Result<Vec<u8>, Cause<'a>>
     ensures content { IfOk result (λ v. IsContent (D.bytes desk.old) file.now v.items) }
-    ensures few { IfOk result (λ v. length v.items ≤ 4194304) }
+    ensures few { IfOk result (λ v. length v.items ≤ MOST_BYTES) }
     ensures caused { IfErr result
         (IsFileCause (D.bytes desk.old) (Rose (D.faults desk.old) (D.faults desk.new))
         file.now (Numbers file.now all_bytes)) }
@@ -347,7 +348,6 @@ fn file_line(alloc: Global, file: &str, fault: &[u8]) -> Result<Vec<u8>, NoMemor
     let mut line = Vec::from_slice(alloc, b"rp: ")?;
     line.extend_from_slice(file.as_bytes())?;
     line.extend_from_slice(b": ")?;
-    line.extend_from_slice(fault)?;
-    line.extend_from_slice(b"\n")?;
+    push_line(&mut line, fault)?;
     Ok(line)
 }

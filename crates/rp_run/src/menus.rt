@@ -15,10 +15,10 @@ ghost use Rattle.rp_run.specs.MenuContents.{MenusOf, UnitsOf};
 ghost use Rattle.rp_run.specs.Turns.{AreReadInTurn, AsksForFirst, calls_of_numbers};
 
 use crate::contents::Contents;
-use crate::fault_text::{push_cell, push_column, push_record};
+use crate::fault_text::{ordinal_line, push_cell, push_column, push_record};
 use crate::files::{Cause, load_numbers, refused};
 use rp_menu::{MenuFault, Menus, read_menus};
-use rp_num::{NoMemory, print_u128};
+use rp_num::NoMemory;
 use rp_outside::Desk;
 use rp_patch::ApportionFault;
 use rp_patch::apportionment::{Units, apportion};
@@ -83,20 +83,10 @@ fn units_of<'a>(alloc: Global, seen: &Menus, per: Option<u32>) -> Result<Units, 
 fn unit_needed<'a>(alloc: Global, menu: u32) -> Cause<'a>
     ensures { IsRefusal (text.need_unit_line menu) result }
 {
-    match need_unit_line(alloc, menu) {
+    match ordinal_line(alloc, b"rp: NeedUnit menu ", menu) {
         Ok(line) => Cause::Refused(line),
         Err(_) => Cause::NoMemory,
     }
-}
-
-/// The line that tells it.
-fn need_unit_line(alloc: Global, menu: u32) -> Result<Vec<u8>, NoMemory>
-    ensures { IfOk result (λ line. line.items ≡ text.need_unit_line menu) }
-{
-    let mut line = Vec::from_slice(alloc, b"rp: NeedUnit menu ")?;
-    print_u128(alloc, &mut line, u128::from(menu) + 1)?;
-    line.extend_from_slice(b"\n")?;
-    Ok(line)
 }
 
 /// The cause that a fault of a file of menus is.

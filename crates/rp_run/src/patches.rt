@@ -1,5 +1,4 @@
-ghost use Rattle.std.specs.Prelude.{◌≡◌, ◌+◌, ◌++◌, ◌∷◌, [], IfOk, IfErr, Ok};
-ghost use Rattle.std.specs.Fmt.{decimal};
+ghost use Rattle.std.specs.Prelude.{IfOk, IfErr, Ok};
 ghost use Rattle.rp_patch.specs.Choices.{AreChoicesFrom};
 ghost use Rattle.rp_run.specs.Causes.{IsPatchRefusal, IsReadingCause, IsTypesRefusal};
 ghost use Rattle.rp_answers.specs.Typed.{AreTyped};
@@ -7,8 +6,9 @@ ghost use Rattle.rp_answers.specs.Typed.{typed};
 ghost use Rattle.rp_run.specs.ChoiceContents.{TypedPatchesOf};
 ghost use Rattle.rp_words.specs.Ranges.{IsUnit};
 
+use crate::fault_text::ordinal_line;
 use crate::files::Cause;
-use rp_num::{NoMemory, Seq, print_u128};
+use rp_num::{NoMemory, Seq};
 use rp_patch::of_choices::patches;
 use rp_patch::{PatchFault, Patches};
 use rp_table::{Budgets, Choices};
@@ -47,25 +47,15 @@ fn patches_refused<'a>(alloc: Global, fault: PatchFault) -> Cause<'a>
 {
     let line = match fault {
         PatchFault::TooManyPatches { budget } => {
-            budget_line(alloc, b"rp: TooManyPatches budget ", budget)
+            ordinal_line(alloc, b"rp: TooManyPatches budget ", budget)
         }
-        PatchFault::NeedUnit { budget } => budget_line(alloc, b"rp: NeedUnit budget ", budget),
+        PatchFault::NeedUnit { budget } => ordinal_line(alloc, b"rp: NeedUnit budget ", budget),
         PatchFault::NoMemory => Err(NoMemory),
     };
     match line {
         Ok(line) => Cause::Refused(line),
         Err(_) => Cause::NoMemory,
     }
-}
-
-/// A line that ends with a budget.
-fn budget_line(alloc: Global, told: &[u8], budget: u32) -> Result<Vec<u8>, NoMemory>
-    ensures { IfOk result (λ line. line.items ≡ told.now ++ decimal (budget + 1) ++ 10 ∷ []) }
-{
-    let mut line = Vec::from_slice(alloc, told)?;
-    print_u128(alloc, &mut line, u128::from(budget) + 1)?;
-    line.extend_from_slice(b"\n")?;
-    Ok(line)
 }
 
 /// The cause that a fault of rational types is.

@@ -10,7 +10,8 @@ use Rattle.rp_run.specs.Causes.{IsCause}
 use Rattle.rp_run.specs.ChoiceContents.{TypedPatchesOf}
 use Rattle.rp_run.specs.Contents.{ContentsIn, Denotes}
 use Rattle.rp_run.specs.Endings.{Rose}
-use Rattle.rp_run.specs.Readings.{AndThen, Just, Numbers, Told, most_bytes, numbers_in}
+use Rattle.rp_run.specs.Readings.{AndThen, Just, Numbers, Told, numbers_in}
+use Rattle.rp_run.specs.declared.files.TheConstants.{MOST_BYTES}
 use Rattle.rp_run.specs.Turns.{AreRefused, AsksForFirst, calls_of_files, first_told}
 use Rattle.rp_run.specs.declared.contents.Contents.{Contents}
 use Rattle.rp_run.specs.declared.contents.Contents.TheVariants as contents
@@ -31,7 +32,7 @@ module _ (line : Line) (holds : file_set line ≡ Choices) (sized : IsSized line
   named : files_of line ≡ first line ∷ second line ∷ []
   named = two_named line Choices holds sized refl
 
-  each : (files : Files) → calls_of_files files line ≡ calls_through most_bytes (files (first line)) ∷ calls_through most_bytes (files (second line)) ∷ []
+  each : (files : Files) → calls_of_files files line ≡ calls_through MOST_BYTES (files (first line)) ∷ calls_through MOST_BYTES (files (second line)) ∷ []
   each files = calls_are line Choices holds sized files (first line ∷ second line ∷ []) named
 
   denoted : (bytes : ℕ → List ℕ) (r : Result Contents (List ℕ)) → AndThen (Numbers (first line) budgets_in (bytes 0)) (λ a. AndThen (Numbers (second line) (choices_on a) (bytes 1)) (λ b. AndThen (TypedPatchesOf a b line.given.per) (λ made. Just (Ok (contents.Choices made.0 made.1))))) r → Denotes line bytes r
@@ -67,7 +68,7 @@ returns-in_err-choices-clause-caused g c =
     let once = rw c.file.ensures at c.in_ok-budgets.ensures.read_through in
     let moved = moved_cause files later (Rose before after) (Rose mid after) s (Numbers (second line) (choices_on a)) why (c.in_ok-budgets.ensures.bytes_stay s) (λ up. rises_later (before s) (mid s) (after s) (c.in_ok-budgets.ensures.never_falls s) up) (rw c.file-2.ensures at c.in_err-choices.ensures.loaded) in
     let asks = AsksForFirst files (g.D.Desk.calls c.args.desk.now) (g.D.Desk.calls c.load_choices.new.desk) in
-    let also = calls_later files later s most_bytes _ _ (c.in_ok-budgets.ensures.bytes_stay s) (rw c.file-2.ensures at c.in_err-choices.ensures.read_through) in
+    let also = calls_later files later s MOST_BYTES _ _ (c.in_ok-budgets.ensures.bytes_stay s) (rw c.file-2.ensures at c.in_err-choices.ensures.read_through) in
     passed_on c.from_residual-in_err-choices.result why (IsCause files (Rose before after) asks line) c.from_residual-in_err-choices.ensures
     (second_cause files (Rose before after) asks line (first line) s (Numbers (first line) budgets_in) (λ a. Numbers (second line) (choices_on a)) (λ a. λ b. AndThen (TypedPatchesOf a b line.given.per) (λ made. Just (Ok (contents.Choices made.0 made.1)))) (named line c.requires.files c.requires.sized) (denoted line c.requires.files c.requires.sized) a why (asks_two files line _ _ _ (each line c.requires.files c.requires.sized files) _ _ _ once also) loaded moved)
 
@@ -116,7 +117,7 @@ returns-in_err-choices-clause-in_turn g c =
     let a = c.in_ok-budgets.budgets in
     let loaded = rw c.file.ensures at c.in_ok-budgets.ensures.loaded in
     let once = rw c.file.ensures at c.in_ok-budgets.ensures.read_through in
-    let also = calls_later files later (second line) most_bytes _ _ (c.in_ok-budgets.ensures.bytes_stay (second line)) (rw c.file-2.ensures at c.in_err-choices.ensures.read_through) in
+    let also = calls_later files later (second line) MOST_BYTES _ _ (c.in_ok-budgets.ensures.bytes_stay (second line)) (rw c.file-2.ensures at c.in_err-choices.ensures.read_through) in
     second_turn files line _ _ _ (each line c.requires.files c.requires.sized files) _ _ _ 0 (ap length (named line c.requires.files c.requires.sized)) once also
     (λ is. taken_apart files (first line) (numbers_in (first line) budgets_in) a loaded (refused line c.requires.files c.requires.sized files is))
 
@@ -128,7 +129,7 @@ returns-in_err-patches-clause-in_turn g c =
     let a = c.in_ok-budgets.budgets in
     let loaded = rw c.file.ensures at c.in_ok-budgets.ensures.loaded in
     let once = rw c.file.ensures at c.in_ok-budgets.ensures.read_through in
-    let also = calls_later files later (second line) most_bytes _ _ (c.in_ok-budgets.ensures.bytes_stay (second line)) (rw c.file-2.ensures at c.in_ok-choices.ensures.read_through) in
+    let also = calls_later files later (second line) MOST_BYTES _ _ (c.in_ok-budgets.ensures.bytes_stay (second line)) (rw c.file-2.ensures at c.in_ok-choices.ensures.read_through) in
     second_turn files line _ _ _ (each line c.requires.files c.requires.sized files) _ _ _ 0 (ap length (named line c.requires.files c.requires.sized)) once also
     (λ is. taken_apart files (first line) (numbers_in (first line) budgets_in) a loaded (refused line c.requires.files c.requires.sized files is))
 
@@ -140,6 +141,6 @@ returns-clause-in_turn g c =
     let a = c.in_ok-budgets.budgets in
     let loaded = rw c.file.ensures at c.in_ok-budgets.ensures.loaded in
     let once = rw c.file.ensures at c.in_ok-budgets.ensures.read_through in
-    let also = calls_later files later (second line) most_bytes _ _ (c.in_ok-budgets.ensures.bytes_stay (second line)) (rw c.file-2.ensures at c.in_ok-choices.ensures.read_through) in
+    let also = calls_later files later (second line) MOST_BYTES _ _ (c.in_ok-budgets.ensures.bytes_stay (second line)) (rw c.file-2.ensures at c.in_ok-choices.ensures.read_through) in
     second_turn files line _ _ _ (each line c.requires.files c.requires.sized files) _ _ _ 0 (ap length (named line c.requires.files c.requires.sized)) once also
     (λ is. taken_apart files (first line) (numbers_in (first line) budgets_in) a loaded (refused line c.requires.files c.requires.sized files is))

@@ -12,7 +12,8 @@ use Rattle.rp_run.specs.Causes.{IsCause}
 use Rattle.rp_run.specs.ChoiceContents.{TypedPatchesOf}
 use Rattle.rp_run.specs.Contents.{ContentsIn, Denotes}
 use Rattle.rp_run.specs.Endings.{Rose}
-use Rattle.rp_run.specs.Readings.{AndThen, CertificateIn, Just, Numbers, Told, most_bytes, most_certificate_bytes, numbers_in}
+use Rattle.rp_run.specs.Readings.{AndThen, CertificateIn, Just, Numbers, Told, numbers_in}
+use Rattle.rp_run.specs.declared.files.TheConstants.{MOST_BYTES, MOST_CERTIFICATE_BYTES}
 use Rattle.rp_run.specs.Turns.{AreRefused, AsksForFirst, calls_of_files, first_told}
 use Rattle.rp_run.specs.declared.contents.Contents.{Contents}
 use Rattle.rp_run.specs.declared.contents.Contents.TheVariants as contents
@@ -36,7 +37,7 @@ module _ (line : Line) (holds : file_set line ≡ ChoicesAndCertificate) (sized 
   named : files_of line ≡ first line ∷ second line ∷ third line ∷ []
   named = three_named line ChoicesAndCertificate holds sized refl
 
-  each : (files : Files) → calls_of_files files line ≡ calls_through most_bytes (files (first line)) ∷ calls_through most_bytes (files (second line)) ∷ calls_through most_certificate_bytes (files (third line)) ∷ []
+  each : (files : Files) → calls_of_files files line ≡ calls_through MOST_BYTES (files (first line)) ∷ calls_through MOST_BYTES (files (second line)) ∷ calls_through MOST_CERTIFICATE_BYTES (files (third line)) ∷ []
   each files = calls_are line ChoicesAndCertificate holds sized files (first line ∷ second line ∷ third line ∷ []) named
 
   denoted : (bytes : ℕ → List ℕ) (r : Result Contents (List ℕ)) → AndThen (Numbers (first line) budgets_in (bytes 0)) (λ a. AndThen (Numbers (second line) (choices_on a) (bytes 1)) (λ b. AndThen (CertificateIn (third line) RandomKind (bytes 2)) (λ read. AndThen (TypedPatchesOf a b line.given.per) (λ made. Just (Ok (contents.ChoicesAndCertificate made.0 made.1 read)))))) r → Denotes line bytes r
@@ -86,7 +87,7 @@ returns-in_err-choices-clause-caused g c =
     let after = g.D.Desk.faults c.load_choices.new.desk in
     let why = c.in_err-choices.field-0.0 in
     let moved = moved_cause files later (Rose before after) (Rose mid after) s (Numbers (second line) (choices_on a)) why (c.in_ok-budgets.ensures.bytes_stay s) (λ up. rises_later (before s) (mid s) (after s) (c.in_ok-budgets.ensures.never_falls s) up) (rw c.file-2.ensures at c.in_err-choices.ensures.loaded) in
-    let also = calls_later files later s most_bytes _ _ (c.in_ok-budgets.ensures.bytes_stay s) (rw c.file-2.ensures at c.in_err-choices.ensures.read_through) in
+    let also = calls_later files later s MOST_BYTES _ _ (c.in_ok-budgets.ensures.bytes_stay s) (rw c.file-2.ensures at c.in_err-choices.ensures.read_through) in
     passed_on c.from_residual-in_err-choices.result why (IsCause files rose asks line) c.from_residual-in_err-choices.ensures
     (three_second files rose asks line (first line) (second line) (third line) (Numbers (first line) budgets_in) (λ a. Numbers (second line) (choices_on a)) (CertificateIn (third line) RandomKind) (λ a b. λ read. AndThen (TypedPatchesOf a b line.given.per) (λ made. Just (Ok (contents.ChoicesAndCertificate made.0 made.1 read)))) (named line c.requires.files c.requires.sized) (denoted line c.requires.files c.requires.sized) a why (asks_two files line _ _ _ (each line c.requires.files c.requires.sized files) _ _ _ once also) loaded moved)
 
@@ -102,11 +103,11 @@ returns-in_err-certificate-clause-caused g c =
     let s = second line in
     let later = g.D.Desk.bytes c.load_budgets.new.desk in
     let moved = moved_value files later s (Numbers (second line) (choices_on a)) c.in_ok-choices.choices (c.in_ok-budgets.ensures.bytes_stay s) (rw c.file-2.ensures at c.in_ok-choices.ensures.loaded) in
-    let also = calls_later files later s most_bytes _ _ (c.in_ok-budgets.ensures.bytes_stay s) (rw c.file-2.ensures at c.in_ok-choices.ensures.read_through) in
+    let also = calls_later files later s MOST_BYTES _ _ (c.in_ok-budgets.ensures.bytes_stay s) (rw c.file-2.ensures at c.in_ok-choices.ensures.read_through) in
     let t = third line in
     let last = g.D.Desk.bytes c.load_choices.new.desk in
     let stays = c.in_ok-choices.ensures.bytes_stay t ∙ c.in_ok-budgets.ensures.bytes_stay t in
-    let too = calls_later files last t most_certificate_bytes _ _ stays (rw c.file-3.ensures at c.in_err-certificate.ensures.read_through) in
+    let too = calls_later files last t MOST_CERTIFICATE_BYTES _ _ stays (rw c.file-3.ensures at c.in_err-certificate.ensures.read_through) in
     let before = g.D.Desk.faults c.args.desk.now in
     let mid = g.D.Desk.faults c.load_choices.new.desk in
     let after = g.D.Desk.faults c.load_certificate.new.desk in
@@ -171,7 +172,7 @@ returns-in_err-choices-clause-in_turn g c =
     let a = c.in_ok-budgets.budgets in
     let s = second line in
     let later = g.D.Desk.bytes c.load_budgets.new.desk in
-    let also = calls_later files later s most_bytes _ _ (c.in_ok-budgets.ensures.bytes_stay s) (rw c.file-2.ensures at c.in_err-choices.ensures.read_through) in
+    let also = calls_later files later s MOST_BYTES _ _ (c.in_ok-budgets.ensures.bytes_stay s) (rw c.file-2.ensures at c.in_err-choices.ensures.read_through) in
     second_turn files line _ _ _ (each line c.requires.files c.requires.sized files) _ _ _ 1 (ap length (named line c.requires.files c.requires.sized)) once also (λ is. taken_apart files (first line) (numbers_in (first line) budgets_in) a loaded (refused line c.requires.files c.requires.sized files is))
 
 pub returns-in_err-certificate-clause-in_turn : goal.returns-in_err-certificate-clause-in_turn
@@ -184,11 +185,11 @@ returns-in_err-certificate-clause-in_turn g c =
     let s = second line in
     let later = g.D.Desk.bytes c.load_budgets.new.desk in
     let moved = moved_value files later s (Numbers (second line) (choices_on a)) c.in_ok-choices.choices (c.in_ok-budgets.ensures.bytes_stay s) (rw c.file-2.ensures at c.in_ok-choices.ensures.loaded) in
-    let also = calls_later files later s most_bytes _ _ (c.in_ok-budgets.ensures.bytes_stay s) (rw c.file-2.ensures at c.in_ok-choices.ensures.read_through) in
+    let also = calls_later files later s MOST_BYTES _ _ (c.in_ok-budgets.ensures.bytes_stay s) (rw c.file-2.ensures at c.in_ok-choices.ensures.read_through) in
     let t = third line in
     let last = g.D.Desk.bytes c.load_choices.new.desk in
     let stays = c.in_ok-choices.ensures.bytes_stay t ∙ c.in_ok-budgets.ensures.bytes_stay t in
-    let too = calls_later files last t most_certificate_bytes _ _ stays (rw c.file-3.ensures at c.in_err-certificate.ensures.read_through) in
+    let too = calls_later files last t MOST_CERTIFICATE_BYTES _ _ stays (rw c.file-3.ensures at c.in_err-certificate.ensures.read_through) in
     third_turn files line _ _ _ _ (each line c.requires.files c.requires.sized files) _ _ _ _ (ap length (named line c.requires.files c.requires.sized)) once also too (λ is. taken_apart files (first line) (numbers_in (first line) budgets_in) a loaded (refused line c.requires.files c.requires.sized files is))
     (λ is. elim (then_refused line c.requires.files c.requires.sized files is) [
       | inl one ↦ taken_apart files (first line) (numbers_in (first line) budgets_in) a loaded one
@@ -205,11 +206,11 @@ returns-in_err-patches-clause-in_turn g c =
     let s = second line in
     let later = g.D.Desk.bytes c.load_budgets.new.desk in
     let moved = moved_value files later s (Numbers (second line) (choices_on a)) c.in_ok-choices.choices (c.in_ok-budgets.ensures.bytes_stay s) (rw c.file-2.ensures at c.in_ok-choices.ensures.loaded) in
-    let also = calls_later files later s most_bytes _ _ (c.in_ok-budgets.ensures.bytes_stay s) (rw c.file-2.ensures at c.in_ok-choices.ensures.read_through) in
+    let also = calls_later files later s MOST_BYTES _ _ (c.in_ok-budgets.ensures.bytes_stay s) (rw c.file-2.ensures at c.in_ok-choices.ensures.read_through) in
     let t = third line in
     let last = g.D.Desk.bytes c.load_choices.new.desk in
     let stays = c.in_ok-choices.ensures.bytes_stay t ∙ c.in_ok-budgets.ensures.bytes_stay t in
-    let too = calls_later files last t most_certificate_bytes _ _ stays (rw c.file-3.ensures at c.in_ok-certificate.ensures.read_through) in
+    let too = calls_later files last t MOST_CERTIFICATE_BYTES _ _ stays (rw c.file-3.ensures at c.in_ok-certificate.ensures.read_through) in
     third_turn files line _ _ _ _ (each line c.requires.files c.requires.sized files) _ _ _ _ (ap length (named line c.requires.files c.requires.sized)) once also too (λ is. taken_apart files (first line) (numbers_in (first line) budgets_in) a loaded (refused line c.requires.files c.requires.sized files is))
     (λ is. elim (then_refused line c.requires.files c.requires.sized files is) [
       | inl one ↦ taken_apart files (first line) (numbers_in (first line) budgets_in) a loaded one
@@ -226,11 +227,11 @@ returns-clause-in_turn g c =
     let s = second line in
     let later = g.D.Desk.bytes c.load_budgets.new.desk in
     let moved = moved_value files later s (Numbers (second line) (choices_on a)) c.in_ok-choices.choices (c.in_ok-budgets.ensures.bytes_stay s) (rw c.file-2.ensures at c.in_ok-choices.ensures.loaded) in
-    let also = calls_later files later s most_bytes _ _ (c.in_ok-budgets.ensures.bytes_stay s) (rw c.file-2.ensures at c.in_ok-choices.ensures.read_through) in
+    let also = calls_later files later s MOST_BYTES _ _ (c.in_ok-budgets.ensures.bytes_stay s) (rw c.file-2.ensures at c.in_ok-choices.ensures.read_through) in
     let t = third line in
     let last = g.D.Desk.bytes c.load_choices.new.desk in
     let stays = c.in_ok-choices.ensures.bytes_stay t ∙ c.in_ok-budgets.ensures.bytes_stay t in
-    let too = calls_later files last t most_certificate_bytes _ _ stays (rw c.file-3.ensures at c.in_ok-certificate.ensures.read_through) in
+    let too = calls_later files last t MOST_CERTIFICATE_BYTES _ _ stays (rw c.file-3.ensures at c.in_ok-certificate.ensures.read_through) in
     third_turn files line _ _ _ _ (each line c.requires.files c.requires.sized files) _ _ _ _ (ap length (named line c.requires.files c.requires.sized)) once also too (λ is. taken_apart files (first line) (numbers_in (first line) budgets_in) a loaded (refused line c.requires.files c.requires.sized files is))
     (λ is. elim (then_refused line c.requires.files c.requires.sized files is) [
       | inl one ↦ taken_apart files (first line) (numbers_in (first line) budgets_in) a loaded one

@@ -8,7 +8,8 @@ use Rattle.rp_run.specs.Answers.{Files}
 use Rattle.rp_run.specs.Causes.{IsCause}
 use Rattle.rp_run.specs.Contents.{ContentsIn, Denotes}
 use Rattle.rp_run.specs.Endings.{Rose}
-use Rattle.rp_run.specs.Readings.{AndThen, Just, TakenTable, most_bytes}
+use Rattle.rp_run.specs.Readings.{AndThen, Just, TakenTable}
+use Rattle.rp_run.specs.declared.files.TheConstants.{MOST_BYTES}
 use Rattle.rp_run.specs.Turns.{AsksForFirst, calls_of_files}
 use Rattle.rp_run.specs.declared.contents.Contents.{Contents}
 use Rattle.rp_run.specs.declared.contents.Contents.TheVariants as contents
@@ -25,7 +26,7 @@ module _ (line : Line) (holds : file_set line ≡ Table) (sized : IsSized line) 
   named : files_of line ≡ first line ∷ []
   named = one_named line Table holds sized refl
 
-  each : (files : Files) → calls_of_files files line ≡ calls_through most_bytes (files (first line)) ∷ []
+  each : (files : Files) → calls_of_files files line ≡ calls_through MOST_BYTES (files (first line)) ∷ []
   each files = calls_are line Table holds sized files (first line ∷ []) named
 
   denoted : (bytes : ℕ → List ℕ) (r : Result Contents (List ℕ)) → AndThen (TakenTable (takes_levels line) (first line) (bytes 0)) (λ t. Just (Ok (contents.Table t))) r → Denotes line bytes r

@@ -9,7 +9,8 @@ use Rattle.rp_run.specs.Answers.{Files}
 use Rattle.rp_run.specs.Causes.{IsCause}
 use Rattle.rp_run.specs.Contents.{ContentsIn, Denotes}
 use Rattle.rp_run.specs.Endings.{Rose}
-use Rattle.rp_run.specs.Readings.{AndThen, Just, Numbers, Told, most_bytes, numbers_in}
+use Rattle.rp_run.specs.Readings.{AndThen, Just, Numbers, Told, numbers_in}
+use Rattle.rp_run.specs.declared.files.TheConstants.{MOST_BYTES}
 use Rattle.rp_run.specs.Turns.{AreRefused, AsksForFirst, calls_of_files, first_told}
 use Rattle.rp_run.specs.declared.contents.Contents.{Contents}
 use Rattle.rp_run.specs.declared.contents.Contents.TheVariants as contents
@@ -30,7 +31,7 @@ module _ (line : Line) (holds : file_set line ≡ TechnologyAndAsked) (sized : I
   named : files_of line ≡ first line ∷ second line ∷ []
   named = two_named line TechnologyAndAsked holds sized refl
 
-  each : (files : Files) → calls_of_files files line ≡ calls_through most_bytes (files (first line)) ∷ calls_through most_bytes (files (second line)) ∷ []
+  each : (files : Files) → calls_of_files files line ≡ calls_through MOST_BYTES (files (first line)) ∷ calls_through MOST_BYTES (files (second line)) ∷ []
   each files = calls_are line TechnologyAndAsked holds sized files (first line ∷ second line ∷ []) named
 
   denoted : (bytes : ℕ → List ℕ) (r : Result Contents (List ℕ)) → AndThen (Numbers (first line) tech_in (bytes 0)) (λ a. AndThen (Numbers (second line) (asked_beside a) (bytes 1)) (λ b. Just (Ok (contents.TechnologyAndAsked a b)))) r → Denotes line bytes r
@@ -66,7 +67,7 @@ returns-in_err-asked-clause-caused g c =
     let once = rw c.file.ensures at c.in_ok-tech.ensures.read_through in
     let moved = moved_cause files later (Rose before after) (Rose mid after) s (Numbers (second line) (asked_beside a)) why (c.in_ok-tech.ensures.bytes_stay s) (λ up. rises_later (before s) (mid s) (after s) (c.in_ok-tech.ensures.never_falls s) up) (rw c.file-2.ensures at c.in_err-asked.ensures.loaded) in
     let asks = AsksForFirst files (g.D.Desk.calls c.args.desk.now) (g.D.Desk.calls c.load_asked.new.desk) in
-    let also = calls_later files later s most_bytes _ _ (c.in_ok-tech.ensures.bytes_stay s) (rw c.file-2.ensures at c.in_err-asked.ensures.read_through) in
+    let also = calls_later files later s MOST_BYTES _ _ (c.in_ok-tech.ensures.bytes_stay s) (rw c.file-2.ensures at c.in_err-asked.ensures.read_through) in
     passed_on c.from_residual-in_err-asked.result why (IsCause files (Rose before after) asks line) c.from_residual-in_err-asked.ensures
     (second_cause files (Rose before after) asks line (first line) s (Numbers (first line) tech_in) (λ a. Numbers (second line) (asked_beside a)) (λ a. λ b. Just (Ok (contents.TechnologyAndAsked a b))) (named line c.requires.files c.requires.sized) (denoted line c.requires.files c.requires.sized) a why (asks_two files line _ _ _ (each line c.requires.files c.requires.sized files) _ _ _ once also) loaded moved)
 
@@ -99,7 +100,7 @@ returns-in_err-asked-clause-in_turn g c =
     let a = c.in_ok-tech.tech in
     let loaded = rw c.file.ensures at c.in_ok-tech.ensures.loaded in
     let once = rw c.file.ensures at c.in_ok-tech.ensures.read_through in
-    let also = calls_later files later (second line) most_bytes _ _ (c.in_ok-tech.ensures.bytes_stay (second line)) (rw c.file-2.ensures at c.in_err-asked.ensures.read_through) in
+    let also = calls_later files later (second line) MOST_BYTES _ _ (c.in_ok-tech.ensures.bytes_stay (second line)) (rw c.file-2.ensures at c.in_err-asked.ensures.read_through) in
     second_turn files line _ _ _ (each line c.requires.files c.requires.sized files) _ _ _ 0 (ap length (named line c.requires.files c.requires.sized)) once also
     (λ is. taken_apart files (first line) (numbers_in (first line) tech_in) a loaded (refused line c.requires.files c.requires.sized files is))
 
@@ -111,6 +112,6 @@ returns-clause-in_turn g c =
     let a = c.in_ok-tech.tech in
     let loaded = rw c.file.ensures at c.in_ok-tech.ensures.loaded in
     let once = rw c.file.ensures at c.in_ok-tech.ensures.read_through in
-    let also = calls_later files later (second line) most_bytes _ _ (c.in_ok-tech.ensures.bytes_stay (second line)) (rw c.file-2.ensures at c.in_ok-asked.ensures.read_through) in
+    let also = calls_later files later (second line) MOST_BYTES _ _ (c.in_ok-tech.ensures.bytes_stay (second line)) (rw c.file-2.ensures at c.in_ok-asked.ensures.read_through) in
     second_turn files line _ _ _ (each line c.requires.files c.requires.sized files) _ _ _ 0 (ap length (named line c.requires.files c.requires.sized)) once also
     (λ is. taken_apart files (first line) (numbers_in (first line) tech_in) a loaded (refused line c.requires.files c.requires.sized files is))

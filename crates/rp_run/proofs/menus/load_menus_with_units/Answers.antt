@@ -9,7 +9,8 @@ use Rattle.rp_run.specs.Causes.{IsCause}
 use Rattle.rp_run.specs.Contents.{ContentsIn, Denotes}
 use Rattle.rp_run.specs.Endings.{Rose}
 use Rattle.rp_run.specs.MenuContents.{MenusIn}
-use Rattle.rp_run.specs.Readings.{AndThen, Just, most_bytes}
+use Rattle.rp_run.specs.Readings.{AndThen, Just}
+use Rattle.rp_run.specs.declared.files.TheConstants.{MOST_BYTES}
 use Rattle.rp_run.specs.Turns.{AsksForFirst, calls_of_files}
 use Rattle.rp_run.specs.declared.contents.Contents.{Contents}
 use Rattle.rp_run.specs.declared.contents.Contents.TheVariants as contents
@@ -27,7 +28,7 @@ module _ (line : Line) (holds : file_set line ≡ Menus) (sized : IsSized line) 
   named : files_of line ≡ first line ∷ []
   named = one_named line Menus holds sized refl
 
-  each : (files : Files) → calls_of_files files line ≡ calls_through most_bytes (files (first line)) ∷ []
+  each : (files : Files) → calls_of_files files line ≡ calls_through MOST_BYTES (files (first line)) ∷ []
   each files = calls_are line Menus holds sized files (first line ∷ []) named
 
   denoted : (bytes : ℕ → List ℕ) (r : Result Contents (List ℕ)) → AndThen (MenusIn line.given.per (first line) (bytes 0)) (λ made. Just (Ok (contents.Menus made.0 made.1))) r → Denotes line bytes r
