@@ -1,5 +1,5 @@
 -- What the units of the patches weigh, and the share that this is.
-use Rattle.std.proofs.Common.{◌≡◌, ℕ, ◌+◌, ◌*◌, ◌^◌, ◌-◌, ◌≤◌, refl, arith, add-one}
+use Rattle.std.proofs.Common.{◌≡◌, ℕ, ◌+◌, ◌*◌, ◌^◌, ◌<◌, ◌≤◌, refl, arith, add-one}
 use Rattle.std.proofs.Math.Nat.{mul-le-mul}
 use Rattle.rp_table.specs.Sums.{sum_below}
 use Rattle.rp_patch.specs.declared.TheConstants.{UNITS}
