@@ -68,11 +68,18 @@ const OF_NOTHING: &str =
 const OF_ONE: &str =
     "9999999,0,9999999,0,9999999,0,9999999,1,9999999,0,9999999,0,9999999,0,9999999,0,9999999,0,9999999,0,9999999,0,9999999,0,9999999,0,9999999,0,9999999,0,9999999,0";
 
-/// The table of these four records, each with what is given for the column of levels.
-fn steepest(alloc: Global, header: &str, level: &str) -> Result<Costs, Fail> {
-    let text = format!(in alloc;
-        "{HEADERS}{header}\n{OF_FEW}{level}\n{OF_MORE}{level}\n{OF_NOTHING}{level}\n{OF_ONE}{level}\n"
-    )?;
+/// The costs of a table: its headers and records, each line with what is given for the column of levels.
+fn steepest(
+    alloc: Global,
+    headers: &str,
+    records: &[&str],
+    header: &str,
+    level: &str,
+) -> Result<Costs, Fail> {
+    let mut text = format!(in alloc; "{headers}{header}\n")?;
+    for record in records {
+        text.push_str(format!(in alloc; "{record}{level}\n")?.as_str())?;
+    }
     costs_of(alloc, text.as_str())
 }
 
@@ -82,7 +89,8 @@ fn steepest(alloc: Global, header: &str, level: &str) -> Result<Costs, Fail> {
 #[test]
 fn a_utility_is_the_first_to_pass_its_width(rt: HostRuntime) -> Result<(), Fail> {
     let alloc = rt.alloc();
-    let costs = steepest(alloc, "", "")?;
+    let records = [OF_FEW, OF_MORE, OF_NOTHING, OF_ONE];
+    let costs = steepest(alloc, HEADERS, &records, "", "")?;
     let verdict = garp(alloc, &costs)?;
     match afriat(alloc, &costs, &verdict)? {
         AfriatPart::Model(numbers) => {
@@ -103,7 +111,7 @@ fn a_utility_is_the_first_to_pass_its_width(rt: HostRuntime) -> Result<(), Fail>
         }
         _ => assert!(rt; false),
     }
-    let costs = steepest(alloc, ",e", ",1000")?;
+    let costs = steepest(alloc, HEADERS, &records, ",e", ",1000")?;
     let verdict = garp(alloc, &costs)?;
     match afriat(alloc, &costs, &verdict)? {
         AfriatPart::Wide { at } => assert_eq!(rt; at, 3),
