@@ -1,8 +1,15 @@
-use crate::costs::costs_of;
 use rp_evidence::Level;
 use rp_pref::{Closure, Steps, walk_between};
+use rp_table::Costs;
+use rp_text::read_table;
+use std::alloc::Global;
 use std::test::Fail;
 use tests_inputs::tables::{ALONE, APART, CONTRADICTION, EQUAL, MORE_AND_LESS, NINE_TENTHS, THREE};
+
+fn costs_of(alloc: Global, text: &str) -> Result<Costs, Fail> {
+    let table = read_table(alloc, text.as_bytes())?;
+    Ok(Costs::of(alloc, &table)?)
+}
 
 /// Which observations reach which, row by row, and how many each counts.
 #[test]

@@ -1,6 +1,6 @@
 use Rattle.std.proofs.Common.{◌≡◌, ◌^◌, ◌≤◌, All, vec_len}
 use Rattle.std.specs.Int.RustNames.{unsigned_abs}
-use Rattle.tests_bounds.proofs.programs.entries.Given as goal
+use Rattle.tests_programs.proofs.programs.entries.Given as goal
 
 abbrev pub invariant-loop-value : goal.invariant-loop-value
 invariant-loop-value l = record {
