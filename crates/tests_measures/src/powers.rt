@@ -58,7 +58,7 @@ fn power_at_the_greatest_numbers(rt: HostRuntime) -> Result<(), Fail> {
 #[test]
 fn a_report_of_power(rt: HostRuntime) -> Result<(), Fail> {
     let alloc = rt.alloc();
-    let table = table_in(alloc, "p_a,q_a,p_b,q_b\n1.50,1,2,0.5\n")?;
+    let table = table_in(alloc, "p_a,q_a,p_b,q_b\n1.25,1,2,0.5\n")?;
     let text = report_power(alloc, &table, 42, 1000, 345)?;
     let want = b"observations 1 goods 2 places 2 1\npower 42 draws 1000 violations 345\n";
     assert_eq!(rt; text.as_slice(), want.as_slice());
