@@ -11,9 +11,10 @@ use Rattle.rp_check.specs.DemandFailure.{SetsFail}
 use Rattle.rp_evidence.specs.Enumeration.{Enumerates}
 use Rattle.rp_rounds.specs.Marks.{IsMarked}
 use Rattle.rp_check.specs.declared.sets.Sets.{Sets}
+use Rattle.rp_table.specs.declared.TheConstants.{RECORDS}
 use Rattle.rp_evidence.proofs.Enumerations.{enumerates_few, enumerates_observed, enumerates_same}
 
-pub few_of : (n : ℕ) (P : ℕ → Type 0) (list : List ℕ) → n ≤ 512 → Enumerates n P list → AreFewOf n list
+pub few_of : (n : ℕ) (P : ℕ → Type 0) (list : List ℕ) → n ≤ RECORDS → Enumerates n P list → AreFewOf n list
 few_of n P list small lists = record {
   observed = enumerates_observed n P list lists;
   few = (let h = enumerates_few n P list lists in omega (arith, h));
@@ -41,5 +42,5 @@ module _ (input : TableInput) (budget : BudgetInput) (sets : Sets) (are : AreSet
       → SetsFail input budget below strict r
   strict_fails r lists not e = rw e (inr (lists_below lists, inl ((λ l. not (back_strictly l)), refl)))
 
-pub few_below : (input : TableInput) (budget : BudgetInput) (below : List ℕ) → input.n ≤ 512 → ListsBelow input budget below → AreFewOf input.n below
+pub few_below : (input : TableInput) (budget : BudgetInput) (below : List ℕ) → input.n ≤ RECORDS → ListsBelow input budget below → AreFewOf input.n below
 few_below input budget below small l = few_of input.n (IsBelow input budget) below small l

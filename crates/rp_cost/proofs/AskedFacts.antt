@@ -3,7 +3,8 @@ use Rattle.std.proofs.Common.{◌≡◌, ℕ, ◌*◌, ◌≤◌, inl, List, len
 use Rattle.std.specs.Prelude.{codes}
 use Rattle.std.proofs.lemmas.List.Elements.{All-nil}
 use Rattle.rp_num.proofs.BelowLemmas.{length-listed}
-use Rattle.rp_table.specs.declared.TheConstants.{LARGEST_EXPENDITURE}
+use Rattle.rp_table.specs.Limits.{IsExpenditure}
+use Rattle.rp_table.specs.declared.TheConstants.{GOODS, NEW_RECORDS}
 use Rattle.rp_sheet.specs.Columns.{mark_of_prices}
 use Rattle.rp_sheet.specs.Fields.{fields_stage, figures_of, rows_in}
 use Rattle.rp_sheet.specs.Forms.{asked_form}
@@ -25,7 +26,7 @@ use Rattle.rp_cost.proofs.OutputFacts.{outputs_within}
 -- the prices and outputs are within the limits
 asked_are : (places : ℕ) (inputs headers : List (List ℕ)) (records : List (List (List ℕ))) → FineHeaders (asked_form places) headers → goods_stage (asked_form places) inputs headers ≡ None
     → fields_stage (asked_form places) headers records ≡ None → sizes_stage (asked_form places) headers (figures_of (asked_form places) headers records) ≡ None
-    → 1 ≤ length inputs → length inputs ≤ 16 → 1 ≤ rows_in records → rows_in records ≤ 16
+    → 1 ≤ length inputs → length inputs ≤ GOODS → 1 ≤ rows_in records → rows_in records ≤ NEW_RECORDS
     → AreAskedOutputs (asked_list headers inputs (sizes_in (asked_form places) headers records))
 asked_are places inputs headers records fine sound fine_fields fine_sizes some few some_rows few_rows =
     let sizes = sizes_in (asked_form places) headers records in
@@ -40,14 +41,14 @@ asked_are places inputs headers records fine sound fine_fields fine_sizes some f
         all_prices = numbers_of_goods (mark_of_prices Inputs) headers inputs sizes ∙ ap (λ (k : ℕ). k * length inputs) (sym rows);
         all_expenditures = inl refl;
         price_limits = prices_within (asked_form places) inputs headers records fine refl sound fine_fields fine_sizes refl;
-        expenditure_limits = All-nil (λ m. (1 ≤ m) × (m ≤ LARGEST_EXPENDITURE));
+        expenditure_limits = All-nil IsExpenditure;
       };
       no_expenditure = refl;
       one_each = length-listed _ (length sizes) ∙ sym rows;
       output_limits = outputs_within (asked_form places) headers records fine_fields fine_sizes (required_there (has headers (codes "y")) _ fine.columns).0;
     }
 
-pub asked_made : (places : ℕ) (inputs : List (List ℕ)) (records : List (List (List ℕ))) → 1 ≤ length inputs → length inputs ≤ 16 → first_fault (asked_form places) inputs records ≡ None
+pub asked_made : (places : ℕ) (inputs : List (List ℕ)) (records : List (List (List ℕ))) → 1 ≤ length inputs → length inputs ≤ GOODS → first_fault (asked_form places) inputs records ≡ None
     → AreAskedOutputs (asked_list (headers_in (record_at records 0)) inputs (sizes_in (asked_form places) (headers_in (record_at records 0)) records))
 asked_made places inputs records some few faultless =
     let stages = passed (asked_form places) inputs records faultless in

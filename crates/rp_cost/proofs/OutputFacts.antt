@@ -3,6 +3,7 @@ use Rattle.std.proofs.Common.{◌≡◌, ℕ, ◌<◌, ◌≤◌, true, List, le
 use Rattle.std.specs.Prelude.{codes, unwrap_or}
 use Rattle.std.specs.List.{All}
 use Rattle.rp_num.specs.Decimal.{decimal_of}
+use Rattle.rp_table.specs.Limits.{IsPrice, IsQuantity}
 use Rattle.rp_sheet.specs.ChoiceCounts.{column_named}
 use Rattle.rp_sheet.specs.Columns.{role_of, named_role, role_at}
 use Rattle.rp_sheet.specs.Fields.{field_at, field_of, fields_stage, figure, figures_of, measured, nothing, row_at, rows_in}
@@ -41,9 +42,9 @@ module _ (form : Form) (headers : List (List ℕ)) (records : List (List (List �
       let most = subst (λ (r : Role). slice_index (text_at (sizes_in form headers records) t) column.0 ≤ limit_of r) here (within_limit form headers records fine_fields fine_sizes t column.0 row column.1) in
       rw at_column most
 
-  pub outputs_within : has headers (codes "y") ≡ true → All (λ y. y ≤ 9999999) (column_numbers (codes "y") headers (sizes_in form headers records))
+  pub outputs_within : has headers (codes "y") ≡ true → All IsQuantity (column_numbers (codes "y") headers (sizes_in form headers records))
   outputs_within there =
-      all_listed (λ y. y ≤ 9999999) (length (sizes_in form headers records)) _
+      all_listed IsQuantity (length (sizes_in form headers records)) _
       (λ t row. at_most (codes "y") Output (output_says form.marks) there t (omega (arith, sizes_are form headers records)))
 
   -- a price of the output is not 0
@@ -62,9 +63,9 @@ module _ (form : Form) (headers : List (List ℕ)) (records : List (List (List �
       let at_column : column_named (codes "p") headers ≡ column.0 = ap (λ o. unwrap_or o 0) column.2 in
       rw at_column (some_at form headers records fine_fields fine_sizes t column.0 row column.1 (price_units t column.0 row column.1 says))
 
-  pub output_prices_within : has headers (codes "p") ≡ true → All (λ p. (1 ≤ p) × (p ≤ 9999999)) (column_numbers (codes "p") headers (sizes_in form headers records))
+  pub output_prices_within : has headers (codes "p") ≡ true → All IsPrice (column_numbers (codes "p") headers (sizes_in form headers records))
   output_prices_within there =
-      all_listed (λ p. (1 ≤ p) × (p ≤ 9999999)) (length (sizes_in form headers records)) _
+      all_listed IsPrice (length (sizes_in form headers records)) _
       (λ t row.
       let inside : t < rows_in records = omega (arith, sizes_are form headers records) in
       (price_positive there t inside, at_most (codes "p") OutputPrice (output_price_says form.marks) there t inside))

@@ -5,6 +5,7 @@ use Rattle.std.specs.List.{All}
 use Rattle.std.proofs.lemmas.List.Elements.{All-nil}
 use Rattle.rp_num.specs.declared.decimal.Decimal.{Decimal}
 use Rattle.rp_num.proofs.BelowLemmas.{length-listed}
+use Rattle.rp_table.specs.Limits.{IsPrice, IsQuantity}
 use Rattle.rp_table.specs.Tables.{Observations, IsTable, records_of}
 use Rattle.rp_table.specs.declared.TheConstants.{RECORDS}
 use Rattle.rp_sheet.specs.Fields.{fields_stage, figures_of, rows_in}
@@ -48,9 +49,9 @@ module _ (headers : List (List ℕ)) (records : List (List (List ℕ))) (good : 
   count_output_prices true n is = inr (length-listed _ (length (sizes_in technology_form headers records)) ∙ rows_count ∙ is)
   count_output_prices false n is = inl refl
 
-  all_output_prices : (b : Bool) → has headers (codes "p") ≡ b → All (λ p. (1 ≤ p) × (p ≤ 9999999)) (if b then column_numbers (codes "p") headers (sizes_in technology_form headers records) else [])
+  all_output_prices : (b : Bool) → has headers (codes "p") ≡ b → All IsPrice (if b then column_numbers (codes "p") headers (sizes_in technology_form headers records) else [])
   all_output_prices true there = output_prices_within technology_form headers records fine_fields fine_sizes there
-  all_output_prices false there = All-nil (λ p. (1 ≤ p) × (p ≤ 9999999))
+  all_output_prices false there = All-nil IsPrice
 
   -- the technology is within the limits
   technology_is : 1 ≤ rows_in records → rows_in records ≤ RECORDS → IsTechnology (tech_of headers (figures_of technology_form headers records))
@@ -85,7 +86,7 @@ tech_made headers figures sizes table y p sized is_table is_y is_p =
 
 -- its parts are within the limits
 pub parts_within : (headers : List (List ℕ)) (figures : List (List Decimal)) (sizes : List (List ℕ)) → sizes ≡ sizes_of technology_form headers figures → IsTechnology (tech_of headers figures)
-    → IsTable (inputs_of headers figures) × All (λ y. y ≤ 9999999) (column_numbers (codes "y") headers sizes) × All (λ p. (1 ≤ p) × (p ≤ 9999999)) (output_prices headers sizes)
+    → IsTable (inputs_of headers figures) × All IsQuantity (column_numbers (codes "y") headers sizes) × All IsPrice (output_prices headers sizes)
 unfolding tech_of
 parts_within headers figures sizes sized within = rw sized (within.inputs, within.output_limits, within.output_price_limits)
 

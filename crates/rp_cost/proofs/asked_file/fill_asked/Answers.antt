@@ -1,5 +1,6 @@
-use Rattle.std.proofs.Common.{◌≤◌, length}
+use Rattle.std.proofs.Common.{length}
 use Rattle.std.specs.List.{slice_index}
+use Rattle.rp_table.specs.Limits.{IsPrice}
 use Rattle.rp_sheet.specs.Columns.{mark_of_prices}
 use Rattle.rp_sheet.specs.Sheets.{column_of}
 use Rattle.rp_sheet.specs.Texts.{text_at}
@@ -9,4 +10,4 @@ use Rattle.rp_cost.proofs.asked_file.fill_asked.Goals as goal
 
 pub numbers_under-requires : goal.numbers_under-requires
 numbers_under-requires c = λ t i row place.
-    (each_row (λ p. (1 ≤ p) × (p ≤ 9999999)) (length c.args.sizes.now) (length c.args.names.now) (λ s k. slice_index (text_at c.args.sizes.now s) (column_of (mark_of_prices Inputs) c.args.columns.now.headers c.args.names.now k)) c.requires.within.priced.price_limits t i row place).1
+    (each_row IsPrice (length c.args.sizes.now) (length c.args.names.now) (λ s k. slice_index (text_at c.args.sizes.now s) (column_of (mark_of_prices Inputs) c.args.columns.now.headers c.args.names.now k)) c.requires.within.priced.price_limits t i row place).1
