@@ -9,7 +9,8 @@ use Rattle.rp_evidence.specs.DemandEvidence.{ProvesDemand, ProvesWelfare, budget
 use Rattle.rp_evidence.specs.DemandPrograms.{lower_program, upper_program}
 use Rattle.rp_evidence.specs.Input.{TableInput}
 use Rattle.rp_evidence.specs.Preference.{IsWeak}
-use Rattle.rp_evidence.specs.Welfare.{EqualsOrReaches, IsUpperWelfare, welfare_program}
+use Rattle.rp_evidence.specs.LeastCost.{least_cost_program}
+use Rattle.rp_evidence.specs.Welfare.{EqualsOrReaches, IsUpperWelfare}
 use Rattle.rp_evidence.specs.declared.demand.Bound.{Bound}
 use Rattle.rp_evidence.specs.declared.demand.Bound.TheVariants.{Shown, Wide}
 use Rattle.rp_evidence.specs.declared.demand.DemandPart.{DemandPart}
@@ -175,7 +176,7 @@ module _ (input : TableInput) (limited : IsLimited input) (prices : List ℕ) (n
 
   lower_fits : (t : ℕ) (bound : Bound) → IsLowerBound input (slice_index prices) t bound → FitsBound bound
   lower_fits t bound lower =
-      bound_fits (welfare_program input (slice_index prices) lower.reached) (spending input.goods (slice_index prices)) bound narrow (λ pair shown. side_fits pair.x shown.x_fits) lower.is_bound
+      bound_fits (least_cost_program input (slice_index prices) lower.reached) (spending input.goods (slice_index prices)) bound narrow (λ pair shown. side_fits pair.x shown.x_fits) lower.is_bound
     where
       narrow : length lower.reached ≤ 2 ^ 31
       narrow = omega (arith, few, rising_few input.n few lower.reached (EqualsOrReaches input t) lower.listed.rising (λ s. (lower.listed.just_these s).0))

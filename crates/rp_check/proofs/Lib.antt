@@ -1,6 +1,5 @@
 pub mod DemandClauses
 pub mod MarkedSets
-pub mod ProgramLimits
 pub mod SetLists
 pub mod SoundBounds
 pub mod SoundItems

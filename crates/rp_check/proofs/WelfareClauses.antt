@@ -1,11 +1,11 @@
 -- The clauses of an item on welfare, put together.
-use Rattle.std.proofs.Common.{◌≡◌, ◌<◌, ◌↔◌, [], ◌∷◌, ℕ, Bool, IsTrue, List, Result, Ok, ap, slice_index, sym, subst}
-use Rattle.std.specs.Int.RustNames.{unsigned_abs}
+use Rattle.std.proofs.Common.{◌≡◌, ◌<◌, ◌↔◌, [], ◌∷◌, ℕ, Bool, IsTrue, List, Result, Ok, slice_index, sym, subst}
 use Rattle.rp_evidence.specs.BoundEvidence.{BoundHolds}
 use Rattle.rp_evidence.specs.Demand.{spending}
 use Rattle.rp_evidence.specs.Input.{TableInput}
 use Rattle.rp_evidence.specs.Preference.{IsStrict, IsWeak}
-use Rattle.rp_evidence.specs.Welfare.{EqualsOrReaches, ListsReached, welfare_program}
+use Rattle.rp_evidence.specs.LeastCost.{least_cost_program}
+use Rattle.rp_evidence.specs.Welfare.{EqualsOrReaches, ListsReached}
 use Rattle.rp_evidence.specs.declared.demand.Bound.{Bound}
 use Rattle.rp_evidence.specs.declared.demand.WelfarePart.{WelfarePart}
 use Rattle.rp_evidence.specs.declared.demand.WelfarePart.TheVariants.{Bounds, NoModel}
@@ -17,11 +17,11 @@ use Rattle.rp_evidence.specs.Enumeration.{Enumerates}
 use Rattle.rp_rounds.specs.Marks.{AreMarked, IsMarked}
 use Rattle.rp_clauses.specs.WalkFailure.{ViolationFails}
 use Rattle.rp_check.specs.WelfareFailure.{LowerHolds, WelfareBoundsFail, WelfareFails, WelfarePartFails}
-use Rattle.rp_evidence.proofs.DemandBounds.{total_of_sum}
 use Rattle.rp_evidence.proofs.Enumerations.{enumerates_same, enumeration_is_one}
 use Rattle.rp_farkas.specs.Measure.{measured}
 use Rattle.rp_farkas.specs.declared.measure.Measure.TheVariants.{Cost}
 use Rattle.rp_clauses.proofs.BoundMeasures.{holds_alike}
+use Rattle.rp_programs.proofs.LeastCosts.{measure_is}
 use Rattle.rp_patch.proofs.ClauseLemmas.{then_last}
 
 module _ (input : TableInput) (t : ℕ) where
@@ -29,22 +29,19 @@ module _ (input : TableInput) (t : ℕ) where
   lists_reached marks list are lists = enumerates_same input.n (IsMarked marks) (EqualsOrReaches input t) are list lists
 
   pub lower_told : (prices : ℕ → ℕ) (lower : Bound) (list : List ℕ) (b : Bool) → ListsReached input t list
-      → IsTrue b ↔ BoundHolds (welfare_program input prices list) (spending input.goods prices) lower → IsTrue b ↔ LowerHolds input prices t lower
+      → IsTrue b ↔ BoundHolds (least_cost_program input prices list) (spending input.goods prices) lower → IsTrue b ↔ LowerHolds input prices t lower
   lower_told prices lower list b lists told = (
     (λ h. (list, lists, told.0 h)),
-    (λ h. told.1 (subst (λ (xs : List ℕ). BoundHolds (welfare_program input prices xs) (spending input.goods prices) lower) (enumeration_is_one input.n (EqualsOrReaches input t) h.0 list h.1 lists) h.2)),
+    (λ h. told.1 (subst (λ (xs : List ℕ). BoundHolds (least_cost_program input prices xs) (spending input.goods prices) lower) (enumeration_is_one input.n (EqualsOrReaches input t) h.0 list h.1 lists) h.2)),
   )
 
 -- ---- what the price side costs is what it costs at the new prices
 
 module _ (input : TableInput) (prices : ℕ → ℕ) (reached : List ℕ) where
-  measure_is : (x : ℕ → ℕ) → measured (welfare_program input prices reached) Cost x ≡ spending input.goods prices x
-  measure_is x = ap unsigned_abs (total_of_sum input.goods prices x)
-
-  pub cost_told : (bound : Bound) (b : Bool) → IsTrue b ↔ BoundHolds (welfare_program input prices reached) (measured (welfare_program input prices reached) Cost) bound
-      → IsTrue b ↔ BoundHolds (welfare_program input prices reached) (spending input.goods prices) bound
+  pub cost_told : (bound : Bound) (b : Bool) → IsTrue b ↔ BoundHolds (least_cost_program input prices reached) (measured (least_cost_program input prices reached) Cost) bound
+      → IsTrue b ↔ BoundHolds (least_cost_program input prices reached) (spending input.goods prices) bound
   cost_told bound b told =
-      let same = holds_alike (welfare_program input prices reached) (measured (welfare_program input prices reached) Cost) (spending input.goods prices) measure_is bound in
+      let same = holds_alike (least_cost_program input prices reached) (measured (least_cost_program input prices reached) Cost) (spending input.goods prices) (measure_is input prices reached) bound in
       ((λ h. same.0 (told.0 h)), (λ h. told.1 (same.1 h)))
 
 -- ---- the parts of an item

@@ -7,7 +7,8 @@ use Rattle.rp_evidence.specs.BoundEvidence.{BoundHolds}
 use Rattle.rp_evidence.specs.Demand.{spending}
 use Rattle.rp_evidence.specs.Input.{TableInput}
 use Rattle.rp_evidence.specs.Preference.{IsStrict, IsWeak}
-use Rattle.rp_evidence.specs.Welfare.{EqualsOrReaches, ListsReached, welfare_program}
+use Rattle.rp_evidence.specs.LeastCost.{least_cost_program}
+use Rattle.rp_evidence.specs.Welfare.{EqualsOrReaches, ListsReached}
 use Rattle.rp_evidence.specs.declared.demand.Bound.{Bound}
 use Rattle.rp_evidence.specs.declared.demand.WelfarePart.{WelfarePart}
 use Rattle.rp_evidence.specs.declared.demand.WelfarePart.TheVariants.{Bounds, NoModel}
@@ -18,7 +19,7 @@ use Rattle.rp_evidence.specs.declared.failure.Reason.TheVariants.{Bound as Bound
 abbrev pub LowerHolds : TableInput → (ℕ → ℕ) → ℕ → Bound → Type 0
 LowerHolds input prices t lower =
     (reached : List ℕ) × ListsReached input t reached
-    × BoundHolds (welfare_program input prices reached) (spending input.goods prices) lower
+    × BoundHolds (least_cost_program input prices reached) (spending input.goods prices) lower
 
 -- The upper bound is not above what the bundle of s costs, if s equals or reaches t.
 abbrev pub IsNotAboveAt : TableInput → (ℕ → ℕ) → ℕ → ℕ → ℕ → Type 0

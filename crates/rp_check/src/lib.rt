@@ -1,7 +1,6 @@
 //! The checker: whether a certificate's evidence proves its verdicts, from the input alone. It takes no memory.
 #![tactic(auto)]
 
-mod bounds;
 mod certificate;
 mod demand;
 mod item;

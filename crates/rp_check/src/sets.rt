@@ -1,6 +1,6 @@
 ghost use Rattle.std.specs.Prelude.{◌<◌, ◌≤◌, ◌↔◌, ℕ, IsTrue, length};
 ghost use Rattle.rp_check.specs.InnerSets.{AreSets};
-ghost use Rattle.rp_evidence.specs.InnerBudget.{budget_at, input_of};
+ghost use Rattle.rp_evidence.specs.InnerBudget.{input_of, new_budget};
 ghost use Rattle.rp_check.specs.DemandFailure.{SetsFail};
 ghost use Rattle.rp_clauses.specs.InnerBits.{HoldsWeakClosure};
 ghost use Rattle.rp_rounds.specs.Marks.{AreMarked, IsMarked};
@@ -15,7 +15,7 @@ use rp_clauses::reach::{ROOM, is_marked_list, spread};
 use rp_clauses::standard::WHOLE;
 use rp_evidence::{Failure, Reason};
 use rp_patch::fails;
-use rp_table::NewPrices;
+use rp_table::NewBudget;
 
 /// Which observations are below a new budget, and which strictly below.
 #[derive(Drop)]
@@ -25,69 +25,69 @@ pub struct Sets {
 }
 
 impl Sets {
-    /// The sets of the budget at these prices and the expenditure `m`.
-    pub fn of(new_prices: &NewPrices<'_>, closure: &Closure, m: u64) -> Sets
-        requires { HoldsWeakClosure closure.now (input_of new_prices.now) }
-        ensures { AreSets (input_of new_prices.now) (budget_at new_prices.now m) result }
+    /// The sets of the budget.
+    pub fn of(budget: &NewBudget<'_>, closure: &Closure) -> Sets
+        requires { HoldsWeakClosure closure.now (input_of budget.now.at) }
+        ensures { AreSets (input_of budget.now.at) (new_budget budget.now) result }
     {
-        prove!(new_prices.n() as usize <= ROOM);
+        prove!(budget.at.n() as usize <= ROOM);
         let input = Input {
-            table: new_prices.table,
-            costs: new_prices.costs,
+            table: budget.at.table,
+            costs: budget.at.costs,
         };
         let mut below = [false; ROOM];
-        mark_bought(new_prices, m, &mut below);
+        mark_bought(budget, &mut below);
         spread(&input, closure, &mut below);
         let mut strict = [false; ROOM];
-        mark_strict_starts(new_prices, m, &below, &mut strict);
+        mark_strict_starts(budget, &below, &mut strict);
         spread(&input, closure, &mut strict);
         Sets { below, strict }
     }
 }
 
 /// Marks the observations of which the budget buys the bundle.
-fn mark_bought(new_prices: &NewPrices<'_>, m: u64, marks: &mut [bool])
-    requires { records_of new_prices.now.table.now ≤ length marks.old }
-    ensures { AreMarked (records_of new_prices.now.table.now)
-        (Buys (input_of new_prices.now) (budget_at new_prices.now m))
+fn mark_bought(budget: &NewBudget<'_>, marks: &mut [bool])
+    requires { records_of budget.now.at.table.now ≤ length marks.old }
+    ensures { AreMarked (records_of budget.now.at.table.now)
+        (Buys (input_of budget.now.at) (new_budget budget.now))
         marks.new }
 {
-    for s in 0..new_prices.n() {
-        marks[s as usize] = new_prices.spending(s) <= m;
+    for s in 0..budget.at.n() {
+        marks[s as usize] = budget.at.spending(s) <= budget.m;
     }
 }
 
 /// Marks the observations from which on a walk is strict, from those that are below.
-fn mark_strict_starts(new_prices: &NewPrices<'_>, m: u64, below: &[bool], marks: &mut [bool])
-    requires room { records_of new_prices.now.table.now ≤ length marks.old }
-    requires some { records_of new_prices.now.table.now ≤ length below.now }
-    requires below { AreMarked (records_of new_prices.now.table.now)
-        (IsBelow (input_of new_prices.now) (budget_at new_prices.now m))
+fn mark_strict_starts(budget: &NewBudget<'_>, below: &[bool], marks: &mut [bool])
+    requires room { records_of budget.now.at.table.now ≤ length marks.old }
+    requires some { records_of budget.now.at.table.now ≤ length below.now }
+    requires below { AreMarked (records_of budget.now.at.table.now)
+        (IsBelow (input_of budget.now.at) (new_budget budget.now))
         below.now }
-    ensures { AreMarked (records_of new_prices.now.table.now)
-        (IsStrictStart (input_of new_prices.now) (budget_at new_prices.now m)) marks.new }
+    ensures { AreMarked (records_of budget.now.at.table.now)
+        (IsStrictStart (input_of budget.now.at) (new_budget budget.now)) marks.new }
 {
-    for v in 0..new_prices.n() {
-        marks[v as usize] = is_strict_start(new_prices, m, below, v);
+    for v in 0..budget.at.n() {
+        marks[v as usize] = is_strict_start(budget, below, v);
     }
 }
 
 /// Whether money is left for the bundle of `v`, or an observation below is strictly preferred to it.
-fn is_strict_start(new_prices: &NewPrices<'_>, m: u64, below: &[bool], v: u32) -> bool
-    requires some { records_of new_prices.now.table.now ≤ length below.now }
-    requires below { AreMarked (records_of new_prices.now.table.now)
-        (IsBelow (input_of new_prices.now) (budget_at new_prices.now m))
+fn is_strict_start(budget: &NewBudget<'_>, below: &[bool], v: u32) -> bool
+    requires some { records_of budget.now.at.table.now ≤ length below.now }
+    requires below { AreMarked (records_of budget.now.at.table.now)
+        (IsBelow (input_of budget.now.at) (new_budget budget.now))
         below.now }
-    requires observed { v < records_of new_prices.now.table.now }
+    requires observed { v < records_of budget.now.at.table.now }
     ensures { IsTrue result
-        ↔ IsStrictStart (input_of new_prices.now) (budget_at new_prices.now m) v }
+        ↔ IsStrictStart (input_of budget.now.at) (new_budget budget.now) v }
 {
-    if new_prices.spending(v) < m {
+    if budget.at.spending(v) < budget.m {
         return true;
     }
     let input = Input {
-        table: new_prices.table,
-        costs: new_prices.costs,
+        table: budget.at.table,
+        costs: budget.at.costs,
     };
     some_strict(&input, below, v)
 }
@@ -109,17 +109,16 @@ fn some_strict(input: &Input<'_>, marks: &[bool], v: u32) -> bool
 
 /// Checks the lists of the observations below and strictly below.
 pub fn check_lists(
-    new_prices: &NewPrices<'_>,
-    m: u64,
+    budget: &NewBudget<'_>,
     sets: &Sets,
     below: &[u32],
     strict: &[u32],
 ) -> Result<(), Failure>
-    requires sets { AreSets (input_of new_prices.now) (budget_at new_prices.now m) sets.now }
-    ensures { SetsFail (input_of new_prices.now) (budget_at new_prices.now m)
+    requires sets { AreSets (input_of budget.now.at) (new_budget budget.now) sets.now }
+    ensures { SetsFail (input_of budget.now.at) (new_budget budget.now)
         below.now strict.now result }
 {
-    let n = new_prices.n();
+    let n = budget.at.n();
     if !is_marked_list(n, &sets.below, below) {
         return fails(Reason::Set, 1);
     }

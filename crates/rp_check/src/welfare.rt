@@ -10,14 +10,14 @@ ghost use Rattle.rp_check.specs.WelfareFailure.{WelfareBoundsFail, WelfareFails}
 ghost use Rattle.rp_evidence.specs.BoundEvidence.{BoundHolds};
 ghost use Rattle.rp_evidence.specs.Input.{input_of_table};
 ghost use Rattle.rp_evidence.specs.Preference.{IsStrict, IsWeak};
-ghost use Rattle.rp_evidence.specs.Welfare.{EqualsOrReaches, welfare_program};
+ghost use Rattle.rp_evidence.specs.LeastCost.{least_cost_program};
+ghost use Rattle.rp_evidence.specs.Welfare.{EqualsOrReaches};
 ghost use Rattle.rp_evidence.specs.declared.failure.Reason.TheVariants.{Least as LeastReason};
 ghost use Rattle.rp_evidence.specs.declared.failure.Reason.TheVariants.{Number};
 ghost use Rattle.rp_table.specs.Cost.{cost_of};
 ghost use Rattle.rp_table.specs.Spending.{spending};
 ghost use Rattle.rp_table.specs.Tables.{goods_of, records_of};
 
-use crate::bounds::Least;
 use rp_clauses::bound::bound_holds;
 use rp_clauses::closure::Closure;
 use rp_clauses::input::Input;
@@ -28,6 +28,7 @@ use rp_clauses::walk::check_violation;
 use rp_evidence::{Bound, Failure, Reason, WelfarePart};
 use rp_farkas::Measure;
 use rp_patch::fails;
+use rp_programs::LeastCostProgram;
 use rp_table::NewPrices;
 
 /// Checks evidence on the money metric of observation `t`, from 0, at new prices; `garp_shown` says whether an item
@@ -179,10 +180,14 @@ fn lower_holds(new_prices: &NewPrices<'_>, closure: &Closure, t: u32, lower: &Bo
 /// Whether a shown bound is what the price side costs in an equal pair of the program over these observations.
 fn cost_holds(new_prices: &NewPrices<'_>, list: &[u32], bound: &Bound) -> bool
     requires { AreFewOf (records_of new_prices.now.table.now) list.now }
-    ensures { IsTrue result ↔ BoundHolds (welfare_program (input_of new_prices.now)
+    ensures { IsTrue result ↔ BoundHolds (least_cost_program (input_of new_prices.now)
         (slice_index new_prices.now.prices.now) list.now)
         (spending (goods_of new_prices.now.table.now) (slice_index new_prices.now.prices.now))
         bound.now }
 {
-    bound_holds(&Least::make(new_prices, list), Measure::Cost, bound)
+    bound_holds(
+        &LeastCostProgram::make(new_prices, list),
+        Measure::Cost,
+        bound,
+    )
 }

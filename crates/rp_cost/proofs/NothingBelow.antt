@@ -9,6 +9,7 @@ use Rattle.std.specs.Int.RustNames.{unsigned_abs}
 use Prim.Native.Nat.{◌∣◌}
 use Rattle.rp_evidence.specs.Demand.{spending}
 use Rattle.rp_evidence.specs.Input.{TableInput}
+use Rattle.rp_evidence.specs.LeastCost.{least_cost_program}
 use Rattle.rp_evidence.specs.declared.demand.Bound.{Bound}
 use Rattle.rp_evidence.specs.declared.demand.Bound.TheVariants.{Shown, Wide}
 use Rattle.rp_farkas.specs.Limits.{FitsEvidence}
@@ -26,9 +27,9 @@ use Rattle.rp_simplex.specs.Run.{IsTableauAfter, begins, pivots}
 use Rattle.rp_simplex.specs.Width.{IsWithinWidth}
 use Rattle.rp_simplex.proofs.Linear.{delta-other}
 use Rattle.rp_simplex.proofs.Sound.{first-right, first-slack}
+use Rattle.rp_table.specs.declared.TheConstants.{LARGEST}
 use Rattle.rp_cost.specs.CostBounds.{IsLowerGiven, ShowsNothing}
-use Rattle.rp_cost.specs.OuterProgram.{ListsNotAbove, outer_program}
-use Rattle.rp_cost.specs.OuterSet.{AllMakeMore}
+use Rattle.rp_cost.specs.OuterSet.{AllMakeMore, ListsNotAbove}
 use Rattle.rp_cost.proofs.Enough.{sum_at_most}
 
 fits_delta : (i k : ℕ) → FitsEvidence (unsigned_abs (delta i k))
@@ -98,9 +99,9 @@ module _ (input : TableInput) (y : ℕ → ℕ) (y0 : ℕ) (prices : ℕ → ℕ
     | inr g ↦ omega (arith, g)
   ]
 
-  pub nothing_shown : ((i : ℕ) → i < input.goods → prices i ≤ 9999999) → (lower : Bound) → IsLowerGiven input y y0 prices lower → ShowsNothing input.goods lower
+  pub nothing_shown : ((i : ℕ) → i < input.goods → prices i ≤ LARGEST) → (lower : Bound) → IsLowerGiven input y y0 prices lower → ShowsNothing input.goods lower
   nothing_shown small (Shown value pair) given =
-      let p = outer_program input prices given.listed in
+      let p = least_cost_program input prices given.listed in
       let none : p.cols ≡ 0 = none_listed given.listed given.lists in
       let ends : EndsOptimal p pair = given.is_bound.run in
       let den : pair.den ≡ 1 = ends.den ∙ (at_first p none ends.reached).over_one in
@@ -115,6 +116,6 @@ module _ (input : TableInput) (y : ℕ → ℕ) (y0 : ℕ) (prices : ℕ → ℕ
         no_input = zeros;
       }
   nothing_shown small (Wide step) given =
-      let p = outer_program input prices given.listed in
+      let p = least_cost_program input prices given.listed in
       let none : p.cols ≡ 0 = none_listed given.listed given.lists in
       given.is_bound.run.passes (fits_first p none given.is_bound.run.last (at_first p none given.is_bound.run.reached) (λ i l. let h = small i l in omega (arith, h)))

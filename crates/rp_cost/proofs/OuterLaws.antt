@@ -8,47 +8,42 @@ use Rattle.rp_bound.proofs.RunBounds.{least_in_lowest_terms, same_measure}
 use Rattle.rp_evidence.specs.BoundEvidence.{BoundHolds}
 use Rattle.rp_evidence.specs.Demand.{FractionBundle, spending}
 use Rattle.rp_evidence.specs.Input.{TableInput}
+use Rattle.rp_evidence.specs.LeastCost.{least_cost_program}
 use Rattle.rp_evidence.specs.declared.demand.Bound.{Bound}
 use Rattle.rp_evidence.specs.declared.demand.Bound.TheVariants.{Shown, Wide}
 use Rattle.rp_evidence.proofs.DemandBounds.{total_of_sum}
 use Rattle.rp_farkas.specs.Best.{IsLeastCost}
 use Rattle.rp_farkas.specs.Listing.{numerator_at}
 use Rattle.rp_farkas.specs.Measure.{measured}
-use Rattle.rp_farkas.specs.Prices.{IsFeasiblePrices, column_times, value_of_prices}
+use Rattle.rp_farkas.specs.Prices.{IsFeasiblePrices, column_times}
 use Rattle.rp_farkas.specs.declared.measure.Measure.TheVariants.{Cost}
 use Rattle.rp_farkas.proofs.Duality.{best_prices}
 use Rattle.rp_num.specs.Fraction.{IsLowestTerms}
 use Rattle.rp_clauses.proofs.BoundMeasures.{holds_alike}
+use Rattle.rp_programs.proofs.LeastCosts.{cost_is, measure_is}
 use Rattle.rp_cost.specs.CostBounds.{LowerHolds, ProvesLowerCost}
-use Rattle.rp_cost.specs.OuterProgram.{ListsNotAbove, outer_program}
-use Rattle.rp_cost.specs.OuterSet.{IsInOuterSet, IsLowerCost}
+use Rattle.rp_cost.specs.OuterSet.{IsInOuterSet, IsLowerCost, ListsNotAbove}
 
 -- ---- what the price side costs is what it costs at the new prices
 
 module _ (input : TableInput) (prices : ℕ → ℕ) (listed : List ℕ) where
-  cost_is : (x : ℕ → ℕ) → value_of_prices (outer_program input prices listed) x ≡ pos (spending input.goods prices x)
-  cost_is x = total_of_sum input.goods prices x
-
-  measure_is : (x : ℕ → ℕ) → measured (outer_program input prices listed) Cost x ≡ spending input.goods prices x
-  measure_is x = ap unsigned_abs (cost_is x)
-
-  pub cost_bound : (bound : Bound) → IsBoundOf (outer_program input prices listed) (measured (outer_program input prices listed) Cost) bound
-      → IsBoundOf (outer_program input prices listed) (spending input.goods prices) bound
+  pub cost_bound : (bound : Bound) → IsBoundOf (least_cost_program input prices listed) (measured (least_cost_program input prices listed) Cost) bound
+      → IsBoundOf (least_cost_program input prices listed) (spending input.goods prices) bound
   cost_bound bound is =
-      same_measure (outer_program input prices listed) (measured (outer_program input prices listed) Cost) (spending input.goods prices) measure_is bound is
+      same_measure (least_cost_program input prices listed) (measured (least_cost_program input prices listed) Cost) (spending input.goods prices) (measure_is input prices listed) bound is
 
-  pub cost_holds : (bound : Bound) → BoundHolds (outer_program input prices listed) (measured (outer_program input prices listed) Cost) bound
-      ↔ BoundHolds (outer_program input prices listed) (spending input.goods prices) bound
+  pub cost_holds : (bound : Bound) → BoundHolds (least_cost_program input prices listed) (measured (least_cost_program input prices listed) Cost) bound
+      ↔ BoundHolds (least_cost_program input prices listed) (spending input.goods prices) bound
   cost_holds =
-      holds_alike (outer_program input prices listed) (measured (outer_program input prices listed) Cost) (spending input.goods prices) measure_is
+      holds_alike (least_cost_program input prices listed) (measured (least_cost_program input prices listed) Cost) (spending input.goods prices) (measure_is input prices listed)
 
 -- ---- feasible prices and the outer set
 
 module _ (input : TableInput) (y : ℕ → ℕ) (y0 : ℕ) (prices : ℕ → ℕ) (listed : List ℕ) (lists : ListsNotAbove input y y0 listed) where
-  column_is : (j : ℕ) (x : ℕ → ℕ) → column_times (outer_program input prices listed) j x ≡ pos (spending input.goods (input.price (slice_index listed j)) x)
+  column_is : (j : ℕ) (x : ℕ → ℕ) → column_times (least_cost_program input prices listed) j x ≡ pos (spending input.goods (input.price (slice_index listed j)) x)
   column_is j x = total_of_sum input.goods (input.price (slice_index listed j)) x
 
-  in_outer_set : (den : ℕ) (x : ℕ → ℕ) → IsFeasiblePrices (outer_program input prices listed) den x → IsInOuterSet input y y0 (record { den = den; num = x })
+  in_outer_set : (den : ℕ) (x : ℕ → ℕ) → IsFeasiblePrices (least_cost_program input prices listed) den x → IsInOuterSet input y y0 (record { den = den; num = x })
   in_outer_set den x f = record { fraction = f.den_positive; dear = dear }
     where
       dear : (t : ℕ) → t < input.n → y t ≤ y0 → den * input.cost t t ≤ spending input.goods (input.price t) x
@@ -58,17 +53,17 @@ module _ (input : TableInput) (y : ℕ → ℕ) (y0 : ℕ) (prices : ℕ → ℕ
           let h = rw (column_is there.0 x) at (f.columns_hold there.0 there.1) in
           subst (λ q. den * input.cost q q ≤ spending input.goods (input.price q) x) at (omega (arith, ints, h))
 
-  pub outer_is_feasible : (bundle : FractionBundle) → IsInOuterSet input y y0 bundle → IsFeasiblePrices (outer_program input prices listed) bundle.den bundle.num
+  pub outer_is_feasible : (bundle : FractionBundle) → IsInOuterSet input y y0 bundle → IsFeasiblePrices (least_cost_program input prices listed) bundle.den bundle.num
   outer_is_feasible bundle r = record { den_positive = r.fraction; columns_hold = columns }
     where
-      columns : (j : ℕ) → j < length listed → (pos (input.cost (slice_index listed j) (slice_index listed j)) *ℤ pos bundle.den) ≤ℤ column_times (outer_program input prices listed) j bundle.num
+      columns : (j : ℕ) → j < length listed → (pos (input.cost (slice_index listed j) (slice_index listed j)) *ℤ pos bundle.den) ≤ℤ column_times (least_cost_program input prices listed) j bundle.num
       columns j l =
           let there = (lists.just_these (slice_index listed j)).0 (j, l, get_or_default listed j (slice_index listed j) 0 l) in
           let h = r.dear (slice_index listed j) there.0 there.1 in
           rw (column_is j bundle.num) (omega (arith, ints, h))
 
   -- the least cost of the program is the least over the outer set
-  least_over_outer : (num den : ℕ) → IsLeastCost (outer_program input prices listed) num den → IsLowerCost input y y0 prices num den
+  least_over_outer : (num den : ℕ) → IsLeastCost (least_cost_program input prices listed) num den → IsLowerCost input y y0 prices num den
   least_over_outer num den least = record {
     fraction = least.fraction;
     none_less = none_less;
@@ -86,14 +81,14 @@ module _ (input : TableInput) (y : ℕ → ℕ) (y0 : ℕ) (prices : ℕ → ℕ
           let k = subst (λ (z : ℤ). (z *ℤ pos den) ≡ pos (num * least.attained.0)) (cost_is input prices listed least.attained.1) least.attained.3 in
           omega (arith, ints, k)
 
-  pub least_proves : (bound : Bound) → ShowsLeastCost (outer_program input prices listed) bound → ProvesLowerCost input y y0 prices bound
+  pub least_proves : (bound : Bound) → ShowsLeastCost (least_cost_program input prices listed) bound → ProvesLowerCost input y y0 prices bound
   least_proves (Shown value pair) least = least_over_outer value.num value.den least
   least_proves (Wide step) least = tt
 
 -- evidence that holds proves the bound, by the duality of linear programming
 pub holds_proves : (input : TableInput) (y : ℕ → ℕ) (y0 : ℕ) (prices : ℕ → ℕ) (bound : Bound) → LowerHolds input y y0 prices bound → ProvesLowerCost input y y0 prices bound
 holds_proves input y y0 prices (Shown value pair) (listed, lists, (equal, lowest)) =
-    let p = outer_program input prices listed in
+    let p = least_cost_program input prices listed in
     least_over_outer input y y0 prices listed lists value.num value.den
     (least_in_lowest_terms p (λ x. cost_is input prices listed x ∙ ap (λ (z : ℤ). pos (unsigned_abs z)) (sym (cost_is input prices listed x))) pair.den (slice_index pair.x)
     (best_prices p pair.den (numerator_at pair.y) (slice_index pair.x) equal.equal) value

@@ -5,12 +5,12 @@ use Rattle.rp_bound.specs.ProgramBound.{IsBoundOf}
 use Rattle.rp_evidence.specs.BoundEvidence.{BoundHolds}
 use Rattle.rp_evidence.specs.Demand.{spending}
 use Rattle.rp_evidence.specs.Input.{TableInput}
+use Rattle.rp_evidence.specs.LeastCost.{least_cost_program}
 use Rattle.rp_evidence.specs.declared.demand.Bound.{Bound}
 use Rattle.rp_evidence.specs.declared.demand.Bound.TheVariants.{Shown, Wide}
 use Rattle.rp_farkas.specs.declared.entry.Pair.{Pair}
 use Rattle.rp_num.specs.Fraction.{Fraction}
-use Rattle.rp_cost.specs.OuterProgram.{ListsNotAbove, outer_program}
-use Rattle.rp_cost.specs.OuterSet.{IsLowerCost, IsUpperCost, NoneMakes}
+use Rattle.rp_cost.specs.OuterSet.{IsLowerCost, IsUpperCost, ListsNotAbove, NoneMakes}
 use Rattle.rp_cost.specs.declared.bounds.CostBounds.{CostBounds}
 use Rattle.rp_cost.specs.declared.bounds.Upper.{Upper}
 
@@ -22,10 +22,11 @@ module _ (input : TableInput) (y : ℕ → ℕ) (y0 : ℕ) (prices : ℕ → ℕ
   UpperHolds None = NoneMakes input y y0
   UpperHolds (Some upper) = IsUpperCost input y y0 prices upper.at upper.cost
 
-  -- a shown cost from below is what the price side costs in an equal pair of the program; a withheld one claims nothing
+  -- a shown cost from below is what the price side costs in an equal pair of the program of least cost, with inputs in
+  -- place of goods, over the observations that made y0 or less; a withheld one claims nothing
   abbrev pub LowerHolds : Bound → Type 0
   LowerHolds lower = (listed : List ℕ) × ListsNotAbove input y y0 listed
-      × BoundHolds (outer_program input prices listed) (spending input.goods prices) lower
+      × BoundHolds (least_cost_program input prices listed) (spending input.goods prices) lower
 
   pub record BoundsHold (bounds : CostBounds) : Type 0 where
     pub upper : UpperHolds bounds.upper
@@ -52,11 +53,11 @@ module _ (input : TableInput) (y : ℕ → ℕ) (y0 : ℕ) (prices : ℕ → ℕ
   IsUpperGiven None = NoneMakes input y y0
   IsUpperGiven (Some upper) = IsFirstUpper upper.at upper.cost
 
-  -- the bound of the program on what its price side costs, by the run
+  -- the bound of that program on what its price side costs, by the run
   pub record IsLowerGiven (lower : Bound) : Type 0 where
     pub listed : List ℕ
     pub lists : ListsNotAbove input y y0 listed
-    pub is_bound : IsBoundOf (outer_program input prices listed) (spending input.goods prices) lower
+    pub is_bound : IsBoundOf (least_cost_program input prices listed) (spending input.goods prices) lower
 
   pub record AreBoundsGiven (bounds : CostBounds) : Type 0 where
     pub upper : IsUpperGiven bounds.upper

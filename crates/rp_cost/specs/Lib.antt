@@ -4,7 +4,6 @@ pub mod CostAxiom
 pub mod CostBounds
 pub mod Denotation
 pub mod InnerCheapest
-pub mod OuterProgram
 pub mod OuterSet
 pub mod ProfitAxiom
 pub mod Report

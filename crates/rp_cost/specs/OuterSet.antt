@@ -1,7 +1,8 @@
 -- What an output costs at new input prices, from above and from below (Varian 1984): the inner bound by what was seen
 -- to make it, and the outer bound by the inputs that no observation rules out.
-use Rattle.std.specs.Prelude.{◌≡◌, ℕ, ◌*◌, ◌<◌, ◌≤◌}
+use Rattle.std.specs.Prelude.{◌≡◌, ℕ, ◌*◌, ◌<◌, ◌≤◌, List}
 use Rattle.rp_evidence.specs.Demand.{FractionBundle, spending}
+use Rattle.rp_evidence.specs.Enumeration.{Enumerates}
 use Rattle.rp_evidence.specs.Input.{TableInput}
 
 -- The outer set of the output y0, `y t` being the output of observation t: inputs in fractions that cost at least what
@@ -10,6 +11,10 @@ pub record IsInOuterSet (input : TableInput) (y : ℕ → ℕ) (y0 : ℕ) (bundl
   pub fraction : 0 < bundle.den
   pub dear : (t : ℕ) → t < input.n → y t ≤ y0
       → bundle.den * input.cost t t ≤ spending input.goods (input.price t) bundle.num
+
+-- The list has just the observations that made y0 or less, in increasing order.
+abbrev pub ListsNotAbove : TableInput → (ℕ → ℕ) → ℕ → List ℕ → Type 0
+ListsNotAbove input y y0 listed = Enumerates input.n (λ t. y t ≤ y0) listed
 
 -- num/den is the lower bound: the least that inputs of the outer set cost at the new prices.
 pub record IsLowerCost (input : TableInput) (y : ℕ → ℕ) (y0 : ℕ) (prices : ℕ → ℕ) (num den : ℕ) : Type 0 where

@@ -1,13 +1,13 @@
 ghost use Rattle.std.specs.Prelude.{◌<◌, ◌≤◌, ◌↔◌, All, IsTrue, length, slice_index};
 ghost use Rattle.rp_evidence.specs.BoundEvidence.{BoundHolds};
 ghost use Rattle.rp_evidence.specs.Input.{input_of_table};
+ghost use Rattle.rp_evidence.specs.LeastCost.{least_cost_program};
 ghost use Rattle.rp_table.specs.NewPrices.{AreNewPrices};
 ghost use Rattle.rp_table.specs.Spending.{spending};
 ghost use Rattle.rp_table.specs.Tables.{goods_of, records_of};
 ghost use Rattle.rp_table.specs.declared.TheConstants.{LARGEST, RECORDS};
 ghost use Rattle.rp_cost.specs.CostBounds.{BoundsHold, LowerHolds, ProvesCostBounds, UpperHolds};
 ghost use Rattle.rp_cost.specs.InnerCheapest.{NoneCheaper};
-ghost use Rattle.rp_cost.specs.OuterProgram.{outer_program};
 ghost use Rattle.rp_cost.specs.OuterSet.{NoneMakes};
 
 use crate::bounds::{CostBounds, Upper};
@@ -93,7 +93,7 @@ fn lower_holds(question: &Question<'_>, lower: &Bound) -> bool
 fn holds_over(question: &Question<'_>, listed: &[u32], lower: &Bound) -> bool
     requires observed { All (λ t. t < records_of question.now.tech.now.table) listed.now }
     requires few { length listed.now ≤ RECORDS }
-    ensures { IsTrue result ↔ BoundHolds (outer_program
+    ensures { IsTrue result ↔ BoundHolds (least_cost_program
         (input_of_table question.now.tech.now.table) (slice_index question.now.prices.now)
         listed.now) (spending (goods_of question.now.tech.now.table)
         (slice_index question.now.prices.now)) lower.now }

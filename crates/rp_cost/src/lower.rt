@@ -1,12 +1,12 @@
 ghost use Rattle.std.specs.Prelude.{◌<◌, ◌≤◌, All, IfOk, length, slice_index};
 ghost use Rattle.rp_bound.specs.ProgramBound.{IsBoundOf, ShowsLeastCost};
 ghost use Rattle.rp_evidence.specs.Input.{input_of_table};
+ghost use Rattle.rp_evidence.specs.LeastCost.{least_cost_program};
 ghost use Rattle.rp_farkas.specs.Prices.{HasFeasiblePrices};
 ghost use Rattle.rp_table.specs.Spending.{spending};
 ghost use Rattle.rp_table.specs.Tables.{goods_of, records_of};
 ghost use Rattle.rp_table.specs.declared.TheConstants.{RECORDS};
 ghost use Rattle.rp_cost.specs.CostBounds.{IsLowerGiven, ProvesLowerCost};
-ghost use Rattle.rp_cost.specs.OuterProgram.{outer_program};
 
 use crate::listed::write_not_above;
 use crate::program::OuterProgram;
@@ -37,13 +37,13 @@ pub(crate) fn lower_bound(alloc: Global, question: &Question<'_>) -> Result<Boun
 fn bound_over(alloc: Global, question: &Question<'_>, listed: &[u32]) -> Result<Bound, NoMemory>
     requires observed { All (λ t. t < records_of question.now.tech.now.table) listed.now }
     requires few { length listed.now ≤ RECORDS }
-    requires prices { HasFeasiblePrices (outer_program (input_of_table
+    requires prices { HasFeasiblePrices (least_cost_program (input_of_table
         question.now.tech.now.table) (slice_index question.now.prices.now) listed.now) }
-    ensures bound { IfOk result (IsBoundOf (outer_program
+    ensures bound { IfOk result (IsBoundOf (least_cost_program
         (input_of_table question.now.tech.now.table) (slice_index question.now.prices.now)
         listed.now) (spending (goods_of question.now.tech.now.table)
         (slice_index question.now.prices.now))) }
-    ensures least { IfOk result (ShowsLeastCost (outer_program
+    ensures least { IfOk result (ShowsLeastCost (least_cost_program
         (input_of_table question.now.tech.now.table) (slice_index question.now.prices.now)
         listed.now)) }
 {

@@ -1,21 +1,21 @@
 ghost use Rattle.std.specs.Prelude.{◌≡◌, ◌<◌, ◌≤◌, All, length, slice_index};
 ghost use Rattle.rp_evidence.specs.Input.{input_of_table};
+ghost use Rattle.rp_evidence.specs.LeastCost.{least_cost_program};
 ghost use Rattle.rp_farkas.specs.Limits.{IsWithinLimits};
 ghost use Rattle.rp_table.specs.Tables.{records_of};
 ghost use Rattle.rp_table.specs.declared.TheConstants.{RECORDS};
-ghost use Rattle.rp_cost.specs.OuterProgram.{outer_program};
 
 use crate::question::Question;
 use rp_farkas::Lp;
 
-/// The program of a bound from below, over what it is made from: a row for each input with its new price, and a column
-/// for each listed observation with its prices and what was spent there.
+/// The program of least cost over a technology: a row for each input with its new price, and a column for each listed
+/// observation with its prices and what was spent there.
 #[derive(Clone, Copy)]
 pub(crate) struct OuterProgram<'a> {
     question: Question<'a>,
     listed: &'a [u32],
     ghost observed: { All (λ t. t < records_of question.tech.now.table) listed.now },
-    ghost within: { IsWithinLimits (outer_program (input_of_table question.tech.now.table)
+    ghost within: { IsWithinLimits (least_cost_program (input_of_table question.tech.now.table)
         (slice_index question.prices.now) listed.now) },
 }
 
@@ -25,7 +25,7 @@ impl<'a> OuterProgram<'a> {
         requires observed { All (λ t. t < records_of question.now.tech.now.table) listed.now }
         requires few { length listed.now ≤ RECORDS }
         ensures { ⟦<OuterProgram<'a> as Lp>⟧.program result
-            ≡ outer_program (input_of_table question.now.tech.now.table)
+            ≡ least_cost_program (input_of_table question.now.tech.now.table)
             (slice_index question.now.prices.now) listed.now }
     {
         prove!(question.tech.inputs() > 0);
@@ -39,9 +39,9 @@ impl<'a> OuterProgram<'a> {
 impl Lp for OuterProgram<'_> {
     ghost use Rattle.std.specs.Prelude.{slice_index};
     ghost use Rattle.rp_evidence.specs.Input.{input_of_table};
-    ghost use Rattle.rp_cost.specs.OuterProgram.{outer_program};
+    ghost use Rattle.rp_evidence.specs.LeastCost.{least_cost_program};
 
-    ghost program = { λ p. outer_program (input_of_table p.question.tech.now.table)
+    ghost program = { λ p. least_cost_program (input_of_table p.question.tech.now.table)
         (slice_index p.question.prices.now) p.listed.now };
 
     ghost within_limits = { λ p. p.within };

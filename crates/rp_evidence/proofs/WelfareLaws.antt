@@ -14,7 +14,8 @@ use Rattle.rp_evidence.specs.Garp.{MeetsGarp}
 use Rattle.rp_evidence.specs.Input.{TableInput}
 use Rattle.rp_evidence.specs.Preference.{IsWeak, IsStrict}
 use Rattle.rp_evidence.specs.Walk.{LeadsTo, IsWalk}
-use Rattle.rp_evidence.specs.Welfare.{EqualsOrReaches, IsInRegion, IsLowerWelfare, ListsReached, welfare_program}
+use Rattle.rp_evidence.specs.LeastCost.{least_cost_program}
+use Rattle.rp_evidence.specs.Welfare.{EqualsOrReaches, IsInRegion, IsLowerWelfare, ListsReached}
 use Rattle.rp_evidence.proofs.AfriatSums.{below, not_above}
 use Rattle.rp_evidence.proofs.DemandBounds.{total_of_sum}
 use Rattle.rp_evidence.proofs.Violations.{reach_and_strict}
@@ -79,10 +80,10 @@ module _ (input : TableInput) (utility : ℕ → ℤ) (multiplier : ℕ → ℕ)
 -- ---- the least cost over the region is that of an equal pair
 
 module _ (input : TableInput) (prices : ℕ → ℕ) (t : ℕ) (reached : List ℕ) (lists : ListsReached input t reached) where
-  column_is : (j : ℕ) (x : ℕ → ℕ) → column_times (welfare_program input prices reached) j x ≡ pos (spending input.goods (input.price (slice_index reached j)) x)
+  column_is : (j : ℕ) (x : ℕ → ℕ) → column_times (least_cost_program input prices reached) j x ≡ pos (spending input.goods (input.price (slice_index reached j)) x)
   column_is j x = total_of_sum input.goods (input.price (slice_index reached j)) x
 
-  pub in_region : (den : ℕ) (x : ℕ → ℕ) → IsFeasiblePrices (welfare_program input prices reached) den x → IsInRegion input t (record { den = den; num = x })
+  pub in_region : (den : ℕ) (x : ℕ → ℕ) → IsFeasiblePrices (least_cost_program input prices reached) den x → IsInRegion input t (record { den = den; num = x })
   in_region den x f = record { fraction = f.den_positive; dear = dear }
     where
       dear : (s : ℕ) → EqualsOrReaches input t s → den * input.cost s s ≤ spending input.goods (input.price s) x
@@ -97,16 +98,16 @@ module _ (input : TableInput) (prices : ℕ → ℕ) (t : ℕ) (reached : List �
           ends q (y ∷ w) l = ends_below input.n (IsWeak input.cost 1 1) y q w l.1
 
   -- a bundle of the region is a feasible price vector
-  pub region_is_feasible : (bundle : FractionBundle) → IsInRegion input t bundle → IsFeasiblePrices (welfare_program input prices reached) bundle.den bundle.num
+  pub region_is_feasible : (bundle : FractionBundle) → IsInRegion input t bundle → IsFeasiblePrices (least_cost_program input prices reached) bundle.den bundle.num
   region_is_feasible bundle r = record { den_positive = r.fraction; columns_hold = columns }
     where
-      columns : (j : ℕ) → j < length reached → (pos (input.cost (slice_index reached j) (slice_index reached j)) *ℤ pos bundle.den) ≤ℤ column_times (welfare_program input prices reached) j bundle.num
+      columns : (j : ℕ) → j < length reached → (pos (input.cost (slice_index reached j) (slice_index reached j)) *ℤ pos bundle.den) ≤ℤ column_times (least_cost_program input prices reached) j bundle.num
       columns j l =
           let there = (lists.just_these (slice_index reached j)).0 (j, l, get_or_default reached j (slice_index reached j) 0 l) in
           let h = r.dear (slice_index reached j) there.1 in
           rw (column_is j bundle.num) (omega (arith, ints, h))
 
-  pub pair_is_least : (den : ℕ) (y x : ℕ → ℕ) → IsEqualPair (welfare_program input prices reached) den y x
+  pub pair_is_least : (den : ℕ) (y x : ℕ → ℕ) → IsEqualPair (least_cost_program input prices reached) den y x
       → IsLowerWelfare input prices t (spending input.goods prices x) den
   pair_is_least den y x pair = record {
     fraction = best.feasible.den_positive;
@@ -117,8 +118,8 @@ module _ (input : TableInput) (prices : ℕ → ℕ) (t : ℕ) (reached : List �
     reached = (record { den = den; num = x }, in_region den x best.feasible, refl);
   }
     where
-      best : IsBestPrices (welfare_program input prices reached) den x
-      best = best_prices (welfare_program input prices reached) den y x pair
+      best : IsBestPrices (least_cost_program input prices reached) den x
+      best = best_prices (least_cost_program input prices reached) den y x pair
 
 -- ---- the lower bound is at most the upper one
 

@@ -1,5 +1,4 @@
 -- What new prices and new budgets of the program stand for: words that functions of the program and their proofs need.
-use Rattle.std.specs.Prelude.{ℕ}
 use Rattle.rp_table.specs.declared.new_prices.NewBudget.{NewBudget}
 use Rattle.rp_table.specs.declared.new_prices.NewPrices.{NewPrices}
 use Rattle.rp_evidence.specs.Demand.{BudgetInput}
@@ -10,10 +9,6 @@ use Rattle.rp_evidence.specs.Input.{TableInput, input_of_table}
 abbrev pub input_of : NewPrices → TableInput
 input_of new_prices = input_of_table new_prices.table.now
 
--- so much spent at the new prices
-abbrev pub budget_at : NewPrices → ℕ → BudgetInput
-budget_at new_prices m = budget_of new_prices.prices.now m
-
--- a budget of the program
+-- a budget of the program: what is spent at the new prices
 abbrev pub new_budget : NewBudget → BudgetInput
-new_budget budget = budget_at budget.at budget.m
+new_budget budget = budget_of budget.at.prices.now budget.m

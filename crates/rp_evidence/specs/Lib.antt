@@ -13,6 +13,7 @@ pub mod DemandPrograms
 pub mod Input
 pub mod InnerBudget
 pub mod Kinds
+pub mod LeastCost
 pub mod Preference
 pub mod Proves
 pub mod Quasilinear

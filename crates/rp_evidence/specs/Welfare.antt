@@ -1,7 +1,5 @@
 -- Bounds on the money metric: what it costs at new prices to be as well off as at an observation (after Varian 1982).
-use Rattle.std.specs.Prelude.{◌≡◌, ℕ, ◌*◌, ◌<◌, ◌≤◌, ℤ, pos, ◌*ℤ◌, ◌≤ℤ◌, List, length, slice_index}
-use Rattle.rp_farkas.specs.LinearProgram.{LinearProgram}
-use Rattle.rp_farkas.specs.Point.{IsFeasiblePoint, value_of}
+use Rattle.std.specs.Prelude.{◌≡◌, ℕ, ◌*◌, ◌<◌, ◌≤◌, ℤ, pos, ◌*ℤ◌, ◌≤ℤ◌, List}
 use Rattle.rp_evidence.specs.Afriat.{IsUtility}
 use Rattle.rp_evidence.specs.Demand.{FractionBundle, spending}
 use Rattle.rp_evidence.specs.Enumeration.{Enumerates}
@@ -38,21 +36,6 @@ pub record IsUpperWelfare (input : TableInput) (prices : ℕ → ℕ) (t s cost 
 -- The list has just t and the observations that it reaches, in increasing order.
 abbrev pub ListsReached : TableInput → ℕ → List ℕ → Type 0
 ListsReached input t reached = Enumerates input.n (EqualsOrReaches input t) reached
-
--- The program whose prices are the bundles of the region, at the least cost: a column for each listed observation,
--- its prices worth what was spent there, and the new prices on the right side.
-abbrev pub welfare_program : TableInput → (ℕ → ℕ) → List ℕ → LinearProgram
-welfare_program input prices reached = record {
-  rows = input.goods;
-  cols = length reached;
-  a = λ i j. pos (input.price (slice_index reached j) i);
-  b = λ i. pos (prices i);
-  c = λ j. pos (input.cost (slice_index reached j) (slice_index reached j));
-}
-
--- No feasible point of the program is worth more than the whole number k.
-abbrev pub NoneWorthMore : LinearProgram → ℕ → Type 0
-NoneWorthMore p k = (den : ℕ) (y : ℕ → ℕ) → IsFeasiblePoint p den y → value_of p y ≤ℤ pos (k * den)
 
 -- ---- as good as an observation, in an Afriat model
 

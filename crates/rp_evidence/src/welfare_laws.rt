@@ -3,12 +3,14 @@ ghost use Rattle.std.specs.Prelude.{◌<◌, ℕ, ℤ, List, pos, ◌*ℤ◌, �
 ghost use Rattle.rp_farkas.specs.EqualPair.{IsEqualPair};
 ghost use Rattle.rp_farkas.specs.Ray.{IsRay};
 ghost use Rattle.rp_evidence.specs.Afriat.{IsAfriatModel, IsUtility};
+ghost use Rattle.rp_evidence.specs.BoundEvidence.{NoneWorthMore};
 ghost use Rattle.rp_evidence.specs.Demand.{FractionBundle, spending};
 ghost use Rattle.rp_evidence.specs.DemandEvidence.{ProvesWelfare};
 ghost use Rattle.rp_evidence.specs.Garp.{MeetsGarp};
 ghost use Rattle.rp_evidence.specs.Input.{TableInput};
+ghost use Rattle.rp_evidence.specs.LeastCost.{least_cost_program};
 ghost use Rattle.rp_evidence.specs.Welfare.{EqualsOrReaches, IsInRegion, IsLowerWelfare};
-ghost use Rattle.rp_evidence.specs.Welfare.{ListsReached, NoneWorthMore, welfare_program};
+ghost use Rattle.rp_evidence.specs.Welfare.{ListsReached};
 ghost use Rattle.rp_evidence.specs.WelfareModels.{HoldsInEveryModel};
 ghost use Rattle.rp_evidence.specs.declared.demand.WelfarePart.{WelfarePart};
 
@@ -29,8 +31,8 @@ pub fn welfare_bounds_hold()
 /// The price side of an equal pair has the least cost over the region.
 pub fn equal_pairs_bound_welfare()
     ensures { (input : TableInput) (prices : ℕ → ℕ) (t : ℕ) (reached : List ℕ) (den : ℕ)
-        (y x : ℕ → ℕ)
-        → ListsReached input t reached → IsEqualPair (welfare_program input prices reached) den y x
+        (y x : ℕ → ℕ) → ListsReached input t reached
+        → IsEqualPair (least_cost_program input prices reached) den y x
         → IsLowerWelfare input prices t (spending input.goods prices x) den }
 {}
 
@@ -56,9 +58,9 @@ pub fn welfare_programs_are_bounded()
     ensures value { (input : TableInput) (prices : ℕ → ℕ) (s t : ℕ) (reached : List ℕ)
         → MeetsGarp input.n input.cost 1 1 → EqualsOrReaches input s t
         → ListsReached input t reached
-        → NoneWorthMore (welfare_program input prices reached)
+        → NoneWorthMore (least_cost_program input prices reached)
         (spending input.goods prices (input.quantity s)) }
     ensures no_ray { (input : TableInput) (prices ray : ℕ → ℕ) (t : ℕ) (reached : List ℕ)
         → MeetsGarp input.n input.cost 1 1 → t < input.n → ListsReached input t reached
-        → ¬ IsRay (welfare_program input prices reached) ray }
+        → ¬ IsRay (least_cost_program input prices reached) ray }
 {}

@@ -1,5 +1,4 @@
 pub mod BelowLists
 pub mod DemandLemmas
 pub mod ListSteps
-pub mod ProgramLimits
 pub mod SupportPrices

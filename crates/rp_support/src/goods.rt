@@ -6,11 +6,11 @@ ghost use Rattle.rp_evidence.specs.InnerBudget.{input_of, new_budget};
 ghost use Rattle.rp_bound.specs.ProgramBound.{IsBoundOf};
 ghost use Rattle.rp_support.specs.Bounds.{AreBoundsOf};
 
-use crate::programs::{Lower, Upper};
 use rp_bound::bound_of;
 use rp_evidence::{Bound, GoodBounds};
 use rp_farkas::Measure;
 use rp_num::NoMemory;
+use rp_programs::{LowerProgram, UpperProgram};
 use rp_table::NewBudget;
 use std::alloc::Global;
 
@@ -38,7 +38,12 @@ fn lower_bound(alloc: Global, budget: &NewBudget, below: &[u32], g: u32) -> Resu
     ensures { IfOk result (λ bound. IsBoundOf (lower_program (input_of budget.now.at)
         (new_budget budget.now) below.now g) (λ x. x g) bound) }
 {
-    bound_of(alloc, &Lower::make(budget, below, g), Measure::Price(g))
+    prove!(budget.at.n() > 0);
+    bound_of(
+        alloc,
+        &LowerProgram::make(budget, below, g),
+        Measure::Price(g),
+    )
 }
 
 /// The greatest of good `g`.
@@ -49,5 +54,10 @@ fn upper_bound(alloc: Global, budget: &NewBudget, below: &[u32], g: u32) -> Resu
     ensures { IfOk result (λ bound. IsBoundOf (upper_program (input_of budget.now.at)
         (new_budget budget.now) below.now g) (λ x. x g) bound) }
 {
-    bound_of(alloc, &Upper::make(budget, below, g), Measure::Price(g))
+    prove!(budget.at.n() > 0);
+    bound_of(
+        alloc,
+        &UpperProgram::make(budget, below, g),
+        Measure::Price(g),
+    )
 }

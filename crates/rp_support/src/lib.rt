@@ -4,7 +4,6 @@
 mod below;
 mod goods;
 mod inner;
-mod programs;
 mod verdict;
 
 pub use verdict::{demand, demand_by_closure};

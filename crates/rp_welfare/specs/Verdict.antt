@@ -5,7 +5,9 @@ use Rattle.rp_bound.specs.ProgramBound.{IsBoundOf}
 use Rattle.rp_evidence.specs.Demand.{spending}
 use Rattle.rp_evidence.specs.Garp.{MeetsGarp}
 use Rattle.rp_evidence.specs.Input.{TableInput}
-use Rattle.rp_evidence.specs.Welfare.{EqualsOrReaches, IsUpperWelfare, ListsReached, NoneWorthMore, welfare_program}
+use Rattle.rp_evidence.specs.BoundEvidence.{NoneWorthMore}
+use Rattle.rp_evidence.specs.LeastCost.{least_cost_program}
+use Rattle.rp_evidence.specs.Welfare.{EqualsOrReaches, IsUpperWelfare, ListsReached}
 use Rattle.rp_evidence.specs.declared.demand.Bound.{Bound}
 use Rattle.rp_evidence.specs.declared.demand.Bound.TheVariants.{Shown, Wide}
 use Rattle.rp_evidence.specs.declared.demand.WelfarePart.{WelfarePart}
@@ -23,7 +25,7 @@ pub record IsFirstCheapest (input : TableInput) (prices : ℕ → ℕ) (t s cost
 pub record IsLowerBound (input : TableInput) (prices : ℕ → ℕ) (t : ℕ) (bound : Bound) : Type 0 where
   pub reached : List ℕ
   pub listed : ListsReached input t reached
-  pub is_bound : IsBoundOf (welfare_program input prices reached) (spending input.goods prices) bound
+  pub is_bound : IsBoundOf (least_cost_program input prices reached) (spending input.goods prices) bound
 
 -- Bounds, which are given where the axiom holds.
 pub record AreWelfareBounds (input : TableInput) (prices : ℕ → ℕ) (t upper at : ℕ) (lower : Bound) : Type 0 where
@@ -51,5 +53,5 @@ HasLowerAtMostUpper (NoModel walk) = Unit {0}
 abbrev pub HasBoundedProgram : TableInput → List ℕ → ℕ → WelfarePart → Type 0
 HasBoundedProgram input prices t (Bounds upper at lower) =
     (reached : List ℕ) → ListsReached input t reached
-    → NoneWorthMore (welfare_program input (slice_index prices) reached) upper
+    → NoneWorthMore (least_cost_program input (slice_index prices) reached) upper
 HasBoundedProgram input prices t (NoModel walk) = Unit {0}

@@ -2,7 +2,6 @@
 #![tactic(auto)]
 
 mod lower;
-mod program;
 mod reached;
 mod upper;
 mod verdict;

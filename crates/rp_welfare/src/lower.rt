@@ -3,7 +3,7 @@ ghost use Rattle.rp_bound.specs.ProgramBound.{IsBoundOf, ShowsLeastCost};
 ghost use Rattle.rp_evidence.specs.DemandEvidence.{ProvesLowerWelfare};
 ghost use Rattle.rp_evidence.specs.Garp.{MeetsGarp};
 ghost use Rattle.rp_evidence.specs.Input.{input_of_table};
-ghost use Rattle.rp_evidence.specs.Welfare.{welfare_program};
+ghost use Rattle.rp_evidence.specs.LeastCost.{least_cost_program};
 ghost use Rattle.rp_farkas.specs.Prices.{HasFeasiblePrices};
 ghost use Rattle.rp_table.specs.Cost.{cost_of};
 ghost use Rattle.rp_table.specs.Spending.{spending};
@@ -12,13 +12,13 @@ ghost use Rattle.rp_table.specs.declared.TheConstants.{RECORDS};
 ghost use Rattle.rp_pref.specs.Closure.{IsWeakClosureOf};
 ghost use Rattle.rp_welfare.specs.Verdict.{IsLowerBound};
 
-use crate::program::LowerProgram;
 use crate::reached::reached_from;
 use rp_bound::bound_of;
 use rp_evidence::Bound;
 use rp_farkas::Measure;
 use rp_num::NoMemory;
 use rp_pref::Closure;
+use rp_programs::LeastCostProgram;
 use rp_table::NewPrices;
 use std::alloc::Global;
 
@@ -45,13 +45,13 @@ pub(crate) fn lower_bound(
 fn bound_over(alloc: Global, new: &NewPrices, reached: &[u32]) -> Result<Bound, NoMemory>
     requires observed { All (λ s. s < records_of new.now.table.now) reached.now }
     requires few { length reached.now ≤ RECORDS }
-    requires prices { HasFeasiblePrices (welfare_program (input_of_table new.now.table.now)
+    requires prices { HasFeasiblePrices (least_cost_program (input_of_table new.now.table.now)
         (slice_index new.now.prices.now) reached.now) }
-    ensures bound { IfOk result (IsBoundOf (welfare_program (input_of_table new.now.table.now)
+    ensures bound { IfOk result (IsBoundOf (least_cost_program (input_of_table new.now.table.now)
         (slice_index new.now.prices.now) reached.now)
         (spending (goods_of new.now.table.now) (slice_index new.now.prices.now))) }
-    ensures least { IfOk result (ShowsLeastCost (welfare_program
+    ensures least { IfOk result (ShowsLeastCost (least_cost_program
         (input_of_table new.now.table.now) (slice_index new.now.prices.now) reached.now)) }
 {
-    bound_of(alloc, &LowerProgram::make(new, reached), Measure::Cost)
+    bound_of(alloc, &LeastCostProgram::make(new, reached), Measure::Cost)
 }

@@ -5,4 +5,4 @@ use Rattle.rp_check.specs.DemandFailure.{GoodFailsAt}
 use Rattle.rp_check.proofs.demand.check_goods.Given as goal
 
 abbrev pub invariant-loop-g : goal.invariant-loop-g
-invariant-loop-g l = (k : ℕ) → k < l.g → GoodFailsAt (input_of_table l.new_prices.table.now) (budget_of l.new_prices.prices.now l.m) l.below l.goods k (Ok tt)
+invariant-loop-g l = (k : ℕ) → k < l.g → GoodFailsAt (input_of_table l.budget.at.table.now) (budget_of l.budget.at.prices.now l.budget.m) l.below l.goods k (Ok tt)

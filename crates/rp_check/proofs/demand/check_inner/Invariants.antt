@@ -5,4 +5,4 @@ use Rattle.rp_check.specs.DemandFailure.{CostsEnoughAt}
 use Rattle.rp_check.proofs.demand.check_inner.Given as goal
 
 abbrev pub invariant-loop-t : goal.invariant-loop-t
-invariant-loop-t l = (k : ℕ) → k < l.t → CostsEnoughAt (input_of_table l.new_prices.table.now) (budget_of l.new_prices.prices.now l.m) (bundle_of l.inner) k
+invariant-loop-t l = (k : ℕ) → k < l.t → CostsEnoughAt (input_of_table l.budget.at.table.now) (budget_of l.budget.at.prices.now l.budget.m) (bundle_of l.inner) k

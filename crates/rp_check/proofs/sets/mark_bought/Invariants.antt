@@ -5,4 +5,4 @@ use Rattle.rp_rounds.specs.Marks.{AreMarked}
 use Rattle.rp_check.proofs.sets.mark_bought.Given as goal
 
 abbrev pub invariant-loop-s : goal.invariant-loop-s
-invariant-loop-s l = AreMarked l.s (Buys (input_of_table l.new_prices.table.now) (budget_of l.new_prices.prices.now l.m)) l.marks
+invariant-loop-s l = AreMarked l.s (Buys (input_of_table l.budget.at.table.now) (budget_of l.budget.at.prices.now l.budget.m)) l.marks

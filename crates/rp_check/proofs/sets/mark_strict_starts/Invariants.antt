@@ -5,4 +5,4 @@ use Rattle.rp_rounds.specs.Marks.{AreMarked}
 use Rattle.rp_check.proofs.sets.mark_strict_starts.Given as goal
 
 abbrev pub invariant-loop-v : goal.invariant-loop-v
-invariant-loop-v l = AreMarked l.v (IsStrictStart (input_of_table l.new_prices.table.now) (budget_of l.new_prices.prices.now l.m)) l.marks
+invariant-loop-v l = AreMarked l.v (IsStrictStart (input_of_table l.budget.at.table.now) (budget_of l.budget.at.prices.now l.budget.m)) l.marks

@@ -1,4 +1,4 @@
-use Rattle.std.proofs.Common.{IfOk, sym, subst}
+use Rattle.std.proofs.Common.{IfOk, sym, subst, arith}
 use Rattle.rp_bound.specs.ProgramBound.{IsBoundOf}
 use Rattle.rp_farkas.specs.Prices.{HasFeasiblePrices}
 use Rattle.rp_farkas.specs.LinearProgram.{LinearProgram}
@@ -19,7 +19,8 @@ make-requires-clause-observed c =
 pub make-requires-clause-few : goal.make-requires-clause-few
 make-requires-clause-few c =
     let b = c.args.budget.now in
-    enumerates_few (records_of b.at.table.now) (IsBelow (input_of_table b.at.table.now) (budget_of b.at.prices.now b.m)) c.args.below.now c.requires.below
+    let few = enumerates_few (records_of b.at.table.now) (IsBelow (input_of_table b.at.table.now) (budget_of b.at.prices.now b.m)) c.args.below.now c.requires.below in
+    omega (arith, few, c.n.ensures.count, c.n.ensures.few)
 
 pub bound_of-requires-clause-prices : goal.bound_of-requires-clause-prices
 bound_of-requires-clause-prices c =

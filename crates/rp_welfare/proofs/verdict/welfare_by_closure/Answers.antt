@@ -1,7 +1,8 @@
 use Rattle.std.proofs.Common.{List, ℕ, slice_index, sym, subst, ◌∙◌, arith}
 use Rattle.rp_evidence.specs.Garp.{IsViolationAt}
 use Rattle.rp_evidence.specs.Input.{TableInput, input_of_table}
-use Rattle.rp_evidence.specs.Welfare.{NoneWorthMore, welfare_program}
+use Rattle.rp_evidence.specs.BoundEvidence.{NoneWorthMore}
+use Rattle.rp_evidence.specs.LeastCost.{least_cost_program}
 use Rattle.rp_evidence.proofs.AfriatModels.{model_meets_garp}
 use Rattle.rp_evidence.proofs.WelfareModels.{bounds_hold}
 use Rattle.rp_evidence.proofs.WelfarePrograms.{none_worth_more}
@@ -70,7 +71,7 @@ pub returns-in_ok-lower-in-Ranks-clause-bounded : goal.returns-in_ok-lower-in-Ra
 returns-in_ok-lower-in-Ranks-clause-bounded c = λ reached lists.
     let input : TableInput = input_of_table c.args.table.now in
     let upper = c.first_cheapest-upper.ensures.upper in
-    subst (λ (k : ℕ). NoneWorthMore (welfare_program input (slice_index c.args.prices.now) reached) k) upper.costs
+    subst (λ (k : ℕ). NoneWorthMore (least_cost_program input (slice_index c.args.prices.now) reached) k) upper.costs
     (none_worth_more input (slice_index c.args.prices.now) c.args.t reached lists
     (meets_by_ranks c.args.table.now c.args.costs.now c.requires.costs c.args.verdict.now _ c.requires.verdict c.in-Ranks.is)
     c.first_cheapest-upper.result.at upper.leads)
