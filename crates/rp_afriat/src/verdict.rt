@@ -3,6 +3,7 @@ ghost use Rattle.rp_evidence.specs.AfriatEvidence.{ProvesAfriat, ProvesOwnAfriat
 ghost use Rattle.rp_evidence.specs.Count.{AreCounts};
 ghost use Rattle.rp_evidence.specs.Garp.{HasNoViolation, ProvesOfPreference};
 ghost use Rattle.rp_evidence.specs.StandardNumbers.{FitsUtility};
+ghost use Rattle.rp_pref.specs.Closure.{IsClosureOf};
 ghost use Rattle.rp_pref.specs.Steps.{OwnStrict, OwnWeak};
 ghost use Rattle.rp_table.specs.Cost.{cost_at, own_of};
 ghost use Rattle.rp_afriat.specs.InnerFilling.{AreFilledAbove, AreForEach, FitAbove};
@@ -32,8 +33,31 @@ pub fn afriat(alloc: Global, costs: &Costs, verdict: &Garp) -> Result<AfriatPart
     ensures given_without_levels { IfOk result (λ part. costs.now.levels ≡ []
         → IsAfriatVerdict costs.now.n (cost_at costs.now) part) }
 {
+    let closure = Closure::own(alloc, costs)?;
+    afriat_by_closure(alloc, costs, verdict, &closure)
+}
+
+/// `afriat` by a closure of the weak steps that is there already, each observation held to its own level.
+pub fn afriat_by_closure(
+    alloc: Global,
+    costs: &Costs,
+    verdict: &Garp,
+    closure: &Closure,
+) -> Result<AfriatPart, NoMemory>
+    requires verdict { ProvesOfPreference costs.now.n
+        (OwnWeak costs.now) (OwnStrict costs.now) verdict.now }
+    requires closes { IsClosureOf closure.now costs.now.n (OwnWeak costs.now) }
+    ensures proves { IfOk result
+        (ProvesOwnAfriat costs.now.n costs.now.levels (cost_at costs.now)) }
+    ensures given { IfOk result
+        (IsOwnAfriatVerdict costs.now.n costs.now.levels (cost_at costs.now)) }
+    ensures proves_without_levels { IfOk result (λ part. costs.now.levels ≡ []
+        → ProvesAfriat costs.now.n (cost_at costs.now) part) }
+    ensures given_without_levels { IfOk result (λ part. costs.now.levels ≡ []
+        → IsAfriatVerdict costs.now.n (cost_at costs.now) part) }
+{
     match verdict {
-        Garp::Ranks(_) => standard(alloc, costs),
+        Garp::Ranks(_) => standard(alloc, costs, closure),
         Garp::Cycle(walk) => {
             let walk = Vec::from_slice(alloc, walk.as_slice())?;
             Ok(AfriatPart::NoModel(Seq::from_vec(walk)))
@@ -42,15 +66,16 @@ pub fn afriat(alloc: Global, costs: &Costs, verdict: &Garp) -> Result<AfriatPart
 }
 
 /// The standard numbers, or the place where they first pass their width.
-fn standard(alloc: Global, costs: &Costs) -> Result<AfriatPart, NoMemory>
-    requires { HasNoViolation costs.now.n (OwnWeak costs.now) (OwnStrict costs.now) }
+fn standard(alloc: Global, costs: &Costs, closure: &Closure) -> Result<AfriatPart, NoMemory>
+    requires holds { HasNoViolation costs.now.n (OwnWeak costs.now) (OwnStrict costs.now) }
+    requires closes { IsClosureOf closure.now costs.now.n (OwnWeak costs.now) }
     ensures proves { IfOk result
         (ProvesOwnAfriat costs.now.n costs.now.levels (cost_at costs.now)) }
     ensures given { IfOk result
         (IsOwnAfriatVerdict costs.now.n costs.now.levels (cost_at costs.now)) }
 {
     let n = costs.n() as usize;
-    let counts = counts(alloc, costs)?;
+    let counts = closure.counts(alloc)?;
     let mut u = vec![in alloc; 0i128; n]?;
     let mut lambda = vec![in alloc; 0u64; n]?;
     match fill(costs, counts.as_slice(), &mut u, &mut lambda) {
@@ -60,15 +85,6 @@ fn standard(alloc: Global, costs: &Costs) -> Result<AfriatPart, NoMemory>
             lambda: Seq::from_vec(lambda),
         })),
     }
-}
-
-/// The counts of the observations.
-fn counts(alloc: Global, costs: &Costs) -> Result<Seq<u32>, NoMemory>
-    ensures { IfOk result (AreCounts costs.now.n (OwnWeak costs.now)) }
-{
-    let closure = Closure::own(alloc, costs)?;
-    let counts = closure.counts(alloc)?;
-    Ok(counts)
 }
 
 /// Fills in the numbers from the highest class down, as far as they keep their widths; says where one does not.

@@ -1,6 +1,6 @@
--- The judgement on a table without levels, and a certificate that begins with its verdict.
+-- What the judgement on a table without levels is at the level 1, and a certificate that begins with its verdict.
 use Rattle.std.proofs.Common.{◌≡◌, ℕ, List, [], ap, sym, subst, ◌∙◌}
-use Rattle.rp_evidence.specs.Garp.{ProvesOwnGarp}
+use Rattle.rp_evidence.specs.Garp.{ProvesGarp}
 use Rattle.rp_evidence.specs.Input.{input_of_table}
 use Rattle.rp_evidence.specs.Preference.{IsWeak, WeakByLevels}
 use Rattle.rp_evidence.specs.Proves.{Proves}
@@ -9,23 +9,25 @@ use Rattle.rp_evidence.specs.declared.certificate.Item.{Item}
 use Rattle.rp_evidence.specs.declared.certificate.Item.TheVariants.{Garp as GarpItem}
 use Rattle.rp_evidence.specs.declared.certificate.Kind.TheVariants.{Table}
 use Rattle.rp_evidence.specs.declared.garp.Garp.{Garp}
-use Rattle.rp_evidence.proofs.OwnLevels.{garp_without_levels, weak_without_levels}
+use Rattle.rp_evidence.proofs.OwnLevels.{weak_without_levels}
 use Rattle.rp_evidence.proofs.SameCosts.{reach_same}
+use Rattle.rp_garp.specs.Verdict.{IsGarpVerdict}
+use Rattle.rp_garp.proofs.SameVerdicts.{given_at_one, proves_at_one}
 use Rattle.rp_json.specs.Denoted.{FitsKind}
 use Rattle.rp_pref.specs.Closure.{IsClosureOf, Reached}
-use Rattle.rp_table.specs.Cost.{cost_of}
-use Rattle.rp_table.specs.Tables.{Observations, records_of}
+use Rattle.rp_table.specs.Cost.{cost_at}
+use Rattle.rp_table.specs.Tables.{Observations}
 use Rattle.rp_agreement.specs.ReadBack.{IsReadBack, certificate_from}
 use Rattle.rp_answers.specs.Accepted.{IsAcceptedOn, PassesAfter}
 use Rattle.rp_answers.specs.GarpFirst.{AreAnswered, IsGarpFirst}
 use Rattle.rp_answers.specs.InnerJudgement.{IsJudgementOn}
 use Rattle.rp_answers.specs.declared.shared.Judgement.{Judgement}
 use Rattle.rp_answers.proofs.AcceptedLemmas.{garp_first_accepted}
-use Rattle.rp_answers.proofs.GarpFirstLemmas.{garp_at_one_there, garp_given_at_one_there}
+use Rattle.rp_answers.proofs.GarpFirstLemmas.{garp_at_one_there, garp_given_at_one_there, garp_there}
 use Rattle.rp_answers.proofs.ReadBackLemmas.{garp_first_read_back}
 
 -- without levels, the closure by the observations' own levels is that where all that was spent counts
-pub closure_at_one : (n : ℕ) (levels : List ℕ) (c : ℕ → ℕ → ℕ) → levels ≡ [] → (reached : Reached) → IsClosureOf reached n (WeakByLevels levels c) → IsClosureOf reached n (IsWeak c 1 1)
+closure_at_one : (n : ℕ) (levels : List ℕ) (c : ℕ → ℕ → ℕ) → levels ≡ [] → (reached : Reached) → IsClosureOf reached n (WeakByLevels levels c) → IsClosureOf reached n (IsWeak c 1 1)
 closure_at_one n levels c none reached closes =
     let own : IsClosureOf reached n (WeakByLevels [] c) = subst (λ (l : List ℕ). IsClosureOf reached n (WeakByLevels l c)) none closes in
     record {
@@ -37,6 +39,18 @@ closure_at_one n levels c none reached closes =
     }
 
 module _ (table : Observations) (none : table.levels ≡ []) (judgement : Judgement) (is : IsJudgementOn table judgement) where
+  no_levels : judgement.costs.levels ≡ []
+  no_levels = is.of_table.levels ∙ none
+
+  pub closes_at_one : IsClosureOf judgement.closure judgement.costs.n (IsWeak (cost_at judgement.costs) 1 1)
+  closes_at_one = closure_at_one judgement.costs.n judgement.costs.levels (cost_at judgement.costs) no_levels judgement.closure is.closes
+
+  pub judged_at_one : ProvesGarp judgement.costs.n (cost_at judgement.costs) judgement.garp
+  judged_at_one = proves_at_one judgement.costs.n judgement.costs.levels (cost_at judgement.costs) no_levels judgement.garp is.proves
+
+  given_at_one_here : IsGarpVerdict judgement.costs.n (cost_at judgement.costs) judgement.garp
+  given_at_one_here = given_at_one judgement.costs.n judgement.costs.levels (cost_at judgement.costs) no_levels judgement.garp is.given
+
   -- the verdict, and then items that answer under it
   pub judged_first : (count : ℕ) (IsAnswer : Garp → ℕ → Item → Type 0) (items : List Item) (certificate : Certificate) → certificate ≡ certificate_from table.levels judgement.garp items
       → AreAnswered count (IsAnswer judgement.garp) items → ((k : ℕ) (item : Item) → IsAnswer judgement.garp k item → PassesAfter (input_of_table table) judgement.garp item)
@@ -45,9 +59,9 @@ module _ (table : Observations) (none : table.levels ≡ []) (judgement : Judgem
       let input = input_of_table table in
       let garp = judgement.garp in
       let first : certificate ≡ certificate_from [] garp items = made ∙ ap (λ (l : List ℕ). certificate_from l garp items) none in
-      let at_one = garp_at_one_there judgement.costs table is.of_table garp is.proves in
-      let given = garp_given_at_one_there judgement.costs table is.of_table garp is.given in
-      let proves : Proves input (GarpItem garp) = subst (λ (l : List ℕ). ProvesOwnGarp (records_of table) l (cost_of table) garp) (sym none) ((garp_without_levels (records_of table) (cost_of table) garp).1 at_one) in
+      let at_one = garp_at_one_there judgement.costs table is.of_table garp judged_at_one in
+      let given = garp_given_at_one_there judgement.costs table is.of_table garp given_at_one_here in
+      let proves : Proves input (GarpItem garp) = garp_there judgement.costs table is.of_table garp is.proves in
       record {
         garp = garp;
         others = items;

@@ -2,15 +2,14 @@ ghost use Rattle.std.specs.Prelude.{◌≡◌, IfOk};
 ghost use Rattle.rp_evidence.specs.Input.{input_of_table};
 ghost use Rattle.rp_answers.specs.AnalysisText.{IsAnalysis, IsAnalysisText, five_items};
 
-use crate::shared::{report_or_json, table_certificate};
-use rp_afriat::afriat;
+use crate::shared::{judge, report_or_json, table_certificate};
+use rp_afriat::afriat_by_closure;
 use rp_effic::efficiency;
 use rp_evidence::{AfriatPart, Certificate, Efficiency, Garp, Homothetic, Item, Quasi};
-use rp_garp::garp;
 use rp_homo::homothetic;
 use rp_num::NoMemory;
 use rp_quasi::quasilinear;
-use rp_table::{Costs, Table};
+use rp_table::Table;
 use std::alloc::Global;
 
 /// The report of the verdicts on a table, or their certificate as JSON.
@@ -26,14 +25,20 @@ pub fn analysis_text(alloc: Global, table: &Table, json: bool) -> Result<Vec<u8>
 fn analyse(alloc: Global, table: &Table) -> Result<Certificate, NoMemory>
     ensures { IfOk result (IsAnalysis (input_of_table table.now)) }
 {
-    prove!(table.n() >= 1);
-    let costs = Costs::of(alloc, table)?;
-    let garp = garp(alloc, &costs)?;
-    let afriat = afriat(alloc, &costs, &garp)?;
-    let efficiency = efficiency(alloc, &costs)?;
-    let homothetic = homothetic(alloc, &costs)?;
-    let quasilinear = quasilinear(alloc, &costs)?;
-    let items = five_items(alloc, garp, afriat, efficiency, homothetic, quasilinear)?;
+    let judgement = judge(alloc, table)?;
+    let costs = &judgement.costs;
+    let afriat = afriat_by_closure(alloc, costs, &judgement.garp, &judgement.closure)?;
+    let efficiency = efficiency(alloc, costs)?;
+    let homothetic = homothetic(alloc, costs)?;
+    let quasilinear = quasilinear(alloc, costs)?;
+    let items = five_items(
+        alloc,
+        judgement.garp,
+        afriat,
+        efficiency,
+        homothetic,
+        quasilinear,
+    )?;
     let certificate = table_certificate(alloc, table, items)?;
     Ok(certificate)
 }

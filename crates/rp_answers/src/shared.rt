@@ -1,23 +1,24 @@
-//! What the commands share: the judgement that questions under the verdict on the axiom are answered by, certificates on
-//! a table, and the report of a certificate or its JSON.
+//! What the commands share: the judgement on a table that their answers begin with, certificates on a table, and the
+//! report of a certificate or its JSON.
 
 ghost use Rattle.rp_evidence.specs.Kinds.{IsCertificateOf};
 ghost use Rattle.rp_evidence.specs.declared.certificate.Kind.TheVariants.{Table as TableKind};
 ghost use Rattle.rp_agreement.specs.ReadBack.{certificate_from, table_certificate, version_of};
 ghost use Rattle.rp_answers.specs.InnerJudgement.{IsJudgementOn};
 ghost use Rattle.rp_answers.specs.ReportOrJson.{report_or_json};
-ghost use Rattle.std.specs.Prelude.{IfOk, ◌≡◌, []};
+ghost use Rattle.std.specs.Prelude.{IfOk, ◌≡◌};
 
 use rp_evidence::{Certificate, Garp, Item, Kind};
+use rp_garp::garp_by_closure;
 use rp_json::write;
 use rp_num::{NoMemory, Seq};
-use rp_pref::{Closure, own_verdict};
+use rp_pref::Closure;
 use rp_report::report;
 use rp_table::{Costs, Table};
 use std::alloc::Global;
 
-/// What questions under the verdict on the axiom are answered by: the costs of a table, the closure of their weak steps,
-/// which is made once, and the verdict that it shows.
+/// What the answers to questions about a table begin with: its costs, the closure of their weak steps, which is made
+/// once for a line, and the verdict on the axiom that it shows.
 #[derive(Drop)]
 pub(crate) struct Judgement {
     pub costs: Costs,
@@ -25,15 +26,14 @@ pub(crate) struct Judgement {
     pub garp: Garp,
 }
 
-/// The judgement on a table without levels.
+/// The judgement on a table, each observation held to its own level, or to all that it spent.
 pub(crate) fn judge(alloc: Global, table: &Table) -> Result<Judgement, NoMemory>
-    requires { table.now.levels ≡ [] }
     ensures { IfOk result (IsJudgementOn table.now) }
 {
     prove!(table.n() >= 1);
     let costs = Costs::of(alloc, table)?;
     let closure = Closure::own(alloc, &costs)?;
-    let garp = own_verdict(alloc, &costs, &closure)?;
+    let garp = garp_by_closure(alloc, &costs, &closure)?;
     Ok(Judgement {
         costs,
         closure,

@@ -9,4 +9,4 @@ mod verdict;
 pub use contradiction::pairs;
 pub use laws::given_evidence_depends_on_observed_costs;
 pub use meeting::{meets_garp, meets_garp_over};
-pub use verdict::garp;
+pub use verdict::{garp, garp_by_closure};

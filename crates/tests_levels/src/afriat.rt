@@ -83,9 +83,9 @@ fn steepest(
     costs_of(alloc, text.as_str())
 }
 
-/// Each class falls as far below the one above it as a multiplier near 2^60 lets it. Without levels the last utility is
-/// above -2^120; at levels that take nothing away it is 1,000 times as far down, and passes its width where no multiplier
-/// does.
+/// Each class falls as far below the one above it as a multiplier near 2^60 lets it. Without levels the last utility
+/// is above -2^120; at levels that take nothing away it is 1,000 times as far down, and passes its width where no
+/// multiplier does.
 #[test]
 fn a_utility_is_the_first_to_pass_its_width(rt: HostRuntime) -> Result<(), Fail> {
     let alloc = rt.alloc();

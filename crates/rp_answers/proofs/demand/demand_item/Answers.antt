@@ -2,7 +2,16 @@ use Rattle.std.proofs.Common.{◌∙◌}
 use Rattle.rp_evidence.specs.Input.{input_of_table}
 use Rattle.rp_agreement.proofs.ItemsFit.{table_limited}
 use Rattle.rp_answers.proofs.BoundItems.{demand_record}
+use Rattle.rp_answers.proofs.JudgementLemmas.{closes_at_one, judged_at_one}
 use Rattle.rp_answers.proofs.demand.demand_item.Goals as goal
+
+pub demand_by_closure-requires-clause-verdict : goal.demand_by_closure-requires-clause-verdict
+demand_by_closure-requires-clause-verdict c =
+    judged_at_one c.args.table.now c.requires.no_levels c.args.judgement.now c.requires.judged
+
+pub demand_by_closure-requires-clause-closes : goal.demand_by_closure-requires-clause-closes
+demand_by_closure-requires-clause-closes c =
+    closes_at_one c.args.table.now c.requires.no_levels c.args.judgement.now c.requires.judged
 
 pub returns : goal.returns
 returns c =

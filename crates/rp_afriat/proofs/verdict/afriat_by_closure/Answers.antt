@@ -4,7 +4,7 @@ use Rattle.rp_evidence.specs.declared.afriat.AfriatPart.TheVariants.{NoModel}
 use Rattle.rp_table.specs.Cost.{cost_at}
 use Rattle.rp_afriat.specs.Verdict.{IsAfriatVerdict, IsOwnAfriatVerdict}
 use Rattle.rp_afriat.proofs.SameVerdicts.{given_at_one, proves_at_one}
-use Rattle.rp_afriat.proofs.verdict.afriat.Goals as goal
+use Rattle.rp_afriat.proofs.verdict.afriat_by_closure.Goals as goal
 
 if_ok : {X E : Type 0} (P Q : X → Type 0) (N : Type 0) → (N → (x : X) → P x → Q x) → (r : Result X E) → IfOk r P → IfOk r (λ x. N → Q x)
 if_ok P Q N f (Ok x) p = λ none. f none x p
