@@ -8,7 +8,8 @@ use Rattle.rp_run.specs.FaultTexts.{fault_text, json_fault_text}
 use Rattle.rp_run.specs.MenuContents.{menu_fault_text}
 use Rattle.rp_words.specs.CommandLine.{Line, file_at, files_of}
 use Rattle.rp_run.specs.Readings.{Reading}
-use Rattle.rp_run.specs.Answers.{Files, IsContent, RefusesWith}
+use Rattle.rp_outside.specs.Known.{AreAll}
+use Rattle.rp_run.specs.Answers.{Files, RefusesWith}
 use Rattle.rp_menu.specs.declared.fault.MenuFault.{MenuFault}
 use Rattle.rp_menu.specs.declared.fault.MenuFault.TheVariants as menu_fault
 use Rattle.rp_patch.specs.declared.fault.PatchFault.{PatchFault}
@@ -75,13 +76,13 @@ IsReadingCause reading NoMemory = Unit {0}
 -- why a file gives no value: its count of faults rose, or some content of it is refused by that reading
 abbrev pub IsFileCause : {A : Type 0} → Files → (List ℕ → Type 0) → List ℕ → (List ℕ → Reading A) → Cause → Type 0
 IsFileCause files rose file reading (Read name) = (name.now ≡ file) × rose file
-IsFileCause files rose file reading (Refused line) = (bytes : List ℕ) × IsContent files file bytes
+IsFileCause files rose file reading (Refused line) = (bytes : List ℕ) × AreAll (files file) bytes
     × reading bytes (Err line.items)
 IsFileCause files rose file reading NoMemory = Unit {0}
 
 -- some content of a file has that value
 abbrev pub HoldsValue : {A : Type 0} → Files → List ℕ → (List ℕ → Reading A) → A → Type 0
-HoldsValue files file reading value = (bytes : List ℕ) × IsContent files file bytes × reading bytes (Ok value)
+HoldsValue files file reading value = (bytes : List ℕ) × AreAll (files file) bytes × reading bytes (Ok value)
 
 -- what a loader gives: the value of some content of its file, or why there is none
 abbrev pub IsLoaded : {A : Type 0} → Files → (List ℕ → Type 0) → List ℕ → (List ℕ → Reading A) → Result A Cause → Type 0

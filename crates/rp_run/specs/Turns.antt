@@ -33,14 +33,14 @@ calls_of_files files line = calls_of_each files (files_in (file_set line)) (file
 abbrev pub AsksForFirst : Files → ℕ → ℕ → Line → ℕ → Type 0
 AsksForFirst files before after line n = after ≤ before + sum (take n (calls_of_files files line))
 
--- the bytes of the first n files of a line, as far as they are told
-abbrev pub first_told : Files → Line → ℕ → ℕ → Option (List ℕ)
-first_told files line n k = if nat_lt k n then files (file_at line k) else None
+-- the bytes of the first n files of a line, as far as they are known
+abbrev pub first_known : Files → Line → ℕ → ℕ → Option (List ℕ)
+first_known files line n k = if nat_lt k n then files (file_at line k) else None
 
--- what the first n files of a line tell is refused, whatever the others hold
+-- what is known of the first n files of a line is refused, whatever the others hold
 abbrev pub AreRefused : Files → Line → ℕ → Type 0
 AreRefused files line n = (text : List ℕ)
-    × ContentsIn (takes_levels line) (file_set line) line.given (first_told files line n) (Err text)
+    × ContentsIn (takes_levels line) (file_set line) line.given (first_known files line n) (Err text)
 
 -- each file is read through at most once, and none after one that is refused
 pub record AreReadInTurn (files : Files) (before after : ℕ) (line : Line) : Type 0 where
