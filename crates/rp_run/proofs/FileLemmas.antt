@@ -13,7 +13,7 @@ use Rattle.rp_outside.specs.Known.{AreAll}
 use Rattle.rp_run.specs.Answers.{Files, AreContents, HasContents}
 use Rattle.rp_run.specs.Contents.{Denotes, MayHaveLevels}
 use Rattle.rp_run.specs.declared.contents.Contents.{Contents}
-use Rattle.rp_run.specs.Readings.{AndThen, CertificateIn, Just, Numbers, Reading, TakenTable, all_bytes, and_unless_levelled, refuses_levels, unless_levelled}
+use Rattle.rp_run.specs.Readings.{AndThen, CertificateIn, Just, NumbersIn, Reading, TakenTable, all_bytes, and_unless_levelled, refuses_levels, unless_levelled}
 use Rattle.rp_run.specs.declared.files.TheConstants.{MOST_BYTES, MOST_CERTIFICATE_BYTES}
 use Rattle.rp_run.specs.FaultLines.{file_line}
 use Rattle.rp_run.specs.Causes.{IsLoaded, IsRefusal, IsFileCause, IsReadingCause, HoldsValue, IsCause}
@@ -26,7 +26,7 @@ some_long None limit long = (replicate (limit + 1) 0, (λ t is. cc), omega (arit
 some_long (Some bytes) limit long = (bytes, (λ t is. cc), long bytes refl)
 
 -- a file that is too long is refused as such
-pub too_long : (files : Files) (rose : List ℕ → Type 0) (file : List ℕ) (why : Cause) → ForSome (files file) (λ bytes. MOST_BYTES < length bytes) → IsRefusal (file_line file (codes "TooLong")) why → IsFileCause files rose file (Numbers file all_bytes) why
+pub too_long : (files : Files) (rose : List ℕ → Type 0) (file : List ℕ) (why : Cause) → ForSome (files file) (λ bytes. MOST_BYTES < length bytes) → IsRefusal (file_line file (codes "TooLong")) why → IsFileCause files rose file (NumbersIn file all_bytes) why
 too_long files rose file (Read name) long refused = absurd refused
 too_long files rose file (Refused line) long refused =
     let some = some_long (files file) MOST_BYTES long in
@@ -43,16 +43,16 @@ too_long_certificate files rose file kind (Refused line) long refused =
 too_long_certificate files rose file kind NoMemory long refused = tt
 
 -- the table of a command, from what a table's file gives
-pub taken_value : (files : Files) (takes : Bool) (file : List ℕ) (table taken : Observations) → HoldsValue files file (Numbers file table_in) table → unless_levelled takes file table ≡ Ok taken
+pub taken_value : (files : Files) (takes : Bool) (file : List ℕ) (table taken : Observations) → HoldsValue files file (NumbersIn file table_in) table → unless_levelled takes file table ≡ Ok taken
     → HoldsValue files file (TakenTable takes file) taken
 taken_value files takes file table taken (bytes, content, read) is = (bytes, content, ap (and_unless_levelled takes file) read ∙ is)
 
-pub untaken_cause : (files : Files) (rose : List ℕ → Type 0) (takes : Bool) (file : List ℕ) (why : Cause) → IsFileCause files rose file (Numbers file table_in) why → IsFileCause files rose file (TakenTable takes file) why
+pub untaken_cause : (files : Files) (rose : List ℕ → Type 0) (takes : Bool) (file : List ℕ) (why : Cause) → IsFileCause files rose file (NumbersIn file table_in) why → IsFileCause files rose file (TakenTable takes file) why
 untaken_cause files rose takes file (Read name) why = why
 untaken_cause files rose takes file (Refused line) (bytes, content, refused) = (bytes, content, ap (and_unless_levelled takes file) refused)
 untaken_cause files rose takes file NoMemory why = tt
 
-pub levels_cause : (files : Files) (rose : List ℕ → Type 0) (takes : Bool) (file : List ℕ) (table : Observations) (why : Cause) → HoldsValue files file (Numbers file table_in) table
+pub levels_cause : (files : Files) (rose : List ℕ → Type 0) (takes : Bool) (file : List ℕ) (table : Observations) (why : Cause) → HoldsValue files file (NumbersIn file table_in) table
     → IsReadingCause (Just (unless_levelled takes file table)) why → IsFileCause files rose file (TakenTable takes file) why
 levels_cause files rose takes file table (Read name) held why = absurd why
 levels_cause files rose takes file table (Refused line) (bytes, content, read) refused = (bytes, content, ap (and_unless_levelled takes file) read ∙ refused)
@@ -64,7 +64,7 @@ pub passed_loaded : {A : Type 0} (files : Files) (rose : List ℕ → Type 0) (f
 passed_loaded files rose file reading (Ok x) e (wrong, is) p = cc
 passed_loaded files rose file reading (Err x) e h p = subst (IsFileCause files rose file reading) (sym h.1) p
 
-pub table_loaded : (files : Files) (rose : List ℕ → Type 0) (takes : Bool) (file : List ℕ) (table : Observations) (result : Result Observations Cause) → HoldsValue files file (Numbers file table_in) table
+pub table_loaded : (files : Files) (rose : List ℕ → Type 0) (takes : Bool) (file : List ℕ) (table : Observations) (result : Result Observations Cause) → HoldsValue files file (NumbersIn file table_in) table
     → IfOk result (λ taken. unless_levelled takes file table ≡ Ok taken) → IfErr result (IsReadingCause (Just (unless_levelled takes file table))) → IsLoaded files rose file (TakenTable takes file) result
 table_loaded files rose takes file table (Ok taken) held is none = taken_value files takes file table taken held is
 table_loaded files rose takes file table (Err why) held none refused = levels_cause files rose takes file table why held refused

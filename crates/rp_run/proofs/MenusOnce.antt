@@ -1,21 +1,14 @@
 -- Menus have units of their cells at most once, or are refused for one reason.
-use Rattle.std.proofs.Common.{◌≡◌, ◌<◌, ◌≤◌, ◌+◌, ℕ, List, Option, None, Some, Result, Ok, Err, length, slice_index, sym, ap, ◌∙◌, arith}
+use Rattle.std.proofs.Common.{◌≡◌, ◌<◌, ℕ, List, Option, Result, Ok, Err, length, slice_index, sym, ap, ◌∙◌, arith}
 use Rattle.std.proofs.lemmas.List.{ext_get_or}
 use Rattle.rp_menu.specs.MenuLists.{MenuList}
-use Rattle.rp_patch.specs.Apportionment.{GroupedCounts, HasExactShares, HasShares, IsCommonMultiple, PassesTotalAt, grouped}
+use Rattle.rp_patch.specs.Apportionment.{GroupedCounts, grouped}
 use Rattle.rp_patch.specs.declared.apportionment.Units.{Units}
 use Rattle.rp_patch.proofs.Determined.{same_all, same_units}
 use Rattle.rp_patch.proofs.GroupFacts.{group_within}
 use Rattle.rp_run.specs.MenuContents.{UnitsOf, need_unit_line}
 use Rattle.rp_run.proofs.OneFault.{neither_less, passes_once}
-
--- menus whose total passes the limit have no units without a number that is asked for
-passes_apart : (g : GroupedCounts) (asked : Option ℕ) (all : ℕ) (units : ℕ → ℕ) (j : ℕ) → HasShares g asked all units → all ≤ 1000000000 → asked ≡ None → PassesTotalAt g j → ⊥
-passes_apart g None all units j shares few none (below, fits, (m, (multiple, least), many)) =
-    let exact : HasExactShares g all units = shares in
-    let first : IsCommonMultiple g (j + 1) all = (exact.total.0.0, λ i l. exact.total.0.1 i (omega (arith, below, l))) in
-    omega (arith, least all first, many, few)
-passes_apart g (Some unit) all units j shares few none passes = cc
+use Rattle.rp_run.proofs.PatchesApart.{passes_apart}
 
 same_record : (a b : Units) → a.total ≡ b.total → a.units ≡ b.units → a ≡ b
 same_record a b total units = λ k. record { total = total k; units = units k }

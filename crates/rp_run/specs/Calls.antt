@@ -49,8 +49,8 @@ pub record AsksInTurn (files : Files) (before after : ℕ) (asked : Option Line)
 
 -- what stays: the bytes of every file are what they were, and no count of faults falls, of a file, of the output or of
 -- standard error, from those before to those after
-pub record LeavesTheRest (files later : Files) (before after : List ℕ → ℕ) (out_before out_after err_before err_after : ℕ)
-    : Type 0 where
+pub record LeavesTheRest (files later : Files) (before after : List ℕ → ℕ) (out_before out_after : ℕ)
+    (err_before err_after : ℕ) : Type 0 where
   pub bytes_stay : EachStays files later
   pub faults_of_files : NoneFalls before after
   pub faults_of_out : out_before ≤ out_after

@@ -38,34 +38,28 @@ IsRefusal line (Read file) = ⊥
 IsRefusal line (Refused text) = text.items ≡ line
 IsRefusal line NoMemory = Unit {0}
 
--- a fault of a file as a cause: its line, or want of memory
+-- a fault as a cause: its line, or want of memory, which no file is the cause of
+abbrev pub IsFaultCause : {F : Type 0} → F → (F → List ℕ) → F → Cause → Type 0
+IsFaultCause no_memory line f (Read name) = ⊥
+IsFaultCause no_memory line f (Refused text) = (f ≢ no_memory) × (text.items ≡ line f)
+IsFaultCause no_memory line f NoMemory = Unit {0}
+
+-- a fault of a file of numbers, of a certificate's, and of a file of menus
 abbrev pub IsRefusalOf : List ℕ → TableFault → Cause → Type 0
-IsRefusalOf file f (Read name) = ⊥
-IsRefusalOf file f (Refused text) = (f ≢ fault.NoMemory) × (text.items ≡ file_line file (fault_text f))
-IsRefusalOf file f NoMemory = Unit {0}
+IsRefusalOf file = IsFaultCause fault.NoMemory (λ f. file_line file (fault_text f))
 
--- a fault of a certificate's file as a cause: its line, or want of memory
 abbrev pub IsJsonRefusalOf : List ℕ → JsonFault → Cause → Type 0
-IsJsonRefusalOf file f (Read name) = ⊥
-IsJsonRefusalOf file f (Refused text) = (f ≢ json_fault.NoMemory) × (text.items ≡ file_line file (json_fault_text f))
-IsJsonRefusalOf file f NoMemory = Unit {0}
+IsJsonRefusalOf file = IsFaultCause json_fault.NoMemory (λ f. file_line file (json_fault_text f))
 
--- a fault of a file of menus as a cause: its line, or want of memory
 abbrev pub IsMenuRefusalOf : List ℕ → MenuFault → Cause → Type 0
-IsMenuRefusalOf file f (Read name) = ⊥
-IsMenuRefusalOf file f (Refused text) = (f ≢ menu_fault.NoMemory) × (text.items ≡ file_line file (menu_fault_text f))
-IsMenuRefusalOf file f NoMemory = Unit {0}
+IsMenuRefusalOf file = IsFaultCause menu_fault.NoMemory (λ f. file_line file (menu_fault_text f))
 
--- a fault of patches, or of rational types, as a cause: its line, or want of memory
+-- a fault of patches, and of rational types
 abbrev pub IsPatchRefusal : PatchFault → Cause → Type 0
-IsPatchRefusal f (Read name) = ⊥
-IsPatchRefusal f (Refused text) = (f ≢ patch_fault.NoMemory) × (text.items ≡ patch_line f)
-IsPatchRefusal f NoMemory = Unit {0}
+IsPatchRefusal = IsFaultCause patch_fault.NoMemory patch_line
 
 abbrev pub IsTypesRefusal : TypesFault → Cause → Type 0
-IsTypesRefusal f (Read name) = ⊥
-IsTypesRefusal f (Refused text) = (f ≢ types_fault.NoMemory) × (text.items ≡ types_line f)
-IsTypesRefusal f NoMemory = Unit {0}
+IsTypesRefusal = IsFaultCause types_fault.NoMemory types_line
 
 -- why nothing is made of what was read: it is refused
 abbrev pub IsReadingCause : {A : Type 0} → Reading A → Cause → Type 0

@@ -39,8 +39,8 @@ numbers_in file reading bytes =
     if nat_lt MOST_BYTES (length bytes) then Err (file_line file (codes "TooLong"))
     else or_line file (reading bytes)
 
-abbrev pub Numbers : {A : Type 0} → List ℕ → (List ℕ → Result A TableFault) → List ℕ → Reading A
-Numbers file reading bytes = Just (numbers_in file reading bytes)
+abbrev pub NumbersIn : {A : Type 0} → List ℕ → (List ℕ → Result A TableFault) → List ℕ → Reading A
+NumbersIn file reading bytes = Just (numbers_in file reading bytes)
 
 -- all bytes of a file, as a reading of it
 abbrev pub all_bytes : List ℕ → Result (List ℕ) TableFault

@@ -8,16 +8,10 @@ use Rattle.rp_run.specs.Answers.{Files}
 use Rattle.rp_run.specs.Contents.{ContentsIn}
 use Rattle.rp_run.specs.declared.files.TheConstants.{MOST_BYTES, MOST_CERTIFICATE_BYTES}
 
--- the most calls to read a file of numbers through, and a certificate
-abbrev pub calls_of_numbers : Files → List ℕ → ℕ
-calls_of_numbers files file = calls_through MOST_BYTES (files file)
-
-abbrev pub calls_of_certificate : Files → List ℕ → ℕ
-calls_of_certificate files file = calls_through MOST_CERTIFICATE_BYTES (files file)
-
+-- the most calls to read a file through
 abbrev pub calls_of_file : Files → File → List ℕ → ℕ
-calls_of_file files (Numbers name) file = calls_of_numbers files file
-calls_of_file files Certificate file = calls_of_certificate files file
+calls_of_file files (Numbers name) file = calls_through MOST_BYTES (files file)
+calls_of_file files Certificate file = calls_through MOST_CERTIFICATE_BYTES (files file)
 
 -- the most calls to read each of some files through, by their names
 abbrev pub calls_of_each : Files → List File → List (List ℕ) → List ℕ

@@ -1,3 +1,4 @@
+//! The answer to a line over what its files hold, by its command.
 ghost use Rattle.std.specs.Prelude.{◌≡◌, true, false, [], IfOk};
 ghost use Rattle.rp_run.specs.Answers.{Answers, AnswersLine, IsText};
 ghost use Rattle.rp_run.specs.Contents.{AreOf};

@@ -9,7 +9,7 @@ ghost use Rattle.rp_run.specs.FaultLines as text;
 ghost use Rattle.rp_run.specs.Endings.{Rose};
 ghost use Rattle.rp_run.specs.Contents.{MayHaveLevels};
 ghost use Rattle.rp_run.specs.InnerLoadings.{LoadsFile};
-ghost use Rattle.rp_run.specs.Readings.{CertificateIn, Just, Numbers, TakenTable, all_bytes};
+ghost use Rattle.rp_run.specs.Readings.{CertificateIn, Just, NumbersIn, TakenTable, all_bytes};
 ghost use Rattle.rp_run.specs.Readings.{unless_levelled};
 ghost use Rattle.rp_run.specs.Causes.{IsJsonRefusalOf, IsRefusal, IsRefusalOf, IsFileCause};
 ghost use Rattle.rp_run.specs.Causes.{IsReadingCause};
@@ -109,7 +109,7 @@ pub(crate) fn load_bytes<'a, D: Desk>(
     ensures few { IfOk result (λ v. length v.items ≤ MOST_BYTES) }
     ensures caused { IfErr result
         (IsFileCause (D.bytes desk.old) (Rose (D.faults desk.old) (D.faults desk.new))
-        file.now (Numbers file.now all_bytes)) }
+        file.now (NumbersIn file.now all_bytes)) }
     ensures read_through { D.calls desk.new ≤ D.calls desk.old
         + calls_through MOST_BYTES (D.bytes desk.old file.now) }
     ensures bytes_stay { EachStays (D.bytes desk.old) (D.bytes desk.new) }

@@ -9,7 +9,7 @@ ghost use Rattle.rp_text.specs.Denotation.{budgets_in, bundles_beside, choices_o
 ghost use Rattle.rp_text.specs.Denotation.{prices_beside, table_in};
 ghost use Rattle.rp_answers.specs.DemandText.{IsSpentOn};
 ghost use Rattle.rp_run.specs.InnerLoadings.{LoadsFile};
-ghost use Rattle.rp_run.specs.Readings.{Numbers};
+ghost use Rattle.rp_run.specs.Readings.{NumbersIn};
 ghost use Rattle.rp_run.specs.declared.files.TheConstants.{MOST_BYTES};
 
 use crate::files::{Cause, load_bytes, refusal};
@@ -45,7 +45,7 @@ pub(crate) fn load_numbers<'a, D: Desk, N: NumberFile>(
     kind: &N,
 ) -> Result<N::Value, Cause<'a>>
     ensures loads { LoadsFile D.bytes D.faults D.calls desk.old desk.new MOST_BYTES
-        file.now (Numbers file.now (N.denoted kind.now)) result }
+        file.now (NumbersIn file.now (N.denoted kind.now)) result }
     ensures fitting { IfOk result (N.fits kind.now) }
 {
     let bytes = load_bytes(alloc, desk, file)?;

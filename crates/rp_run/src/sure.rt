@@ -1,3 +1,4 @@
+//! A call of the program over an outside that never fails.
 ghost use Rattle.std.specs.Prelude.{◌≡◌, ◌⊎◌, Some};
 ghost use Rattle.rp_words.specs.CommandLine.{Line as Asked};
 ghost use Rattle.rp_words.specs.Words.{line_in};

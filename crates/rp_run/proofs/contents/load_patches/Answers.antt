@@ -6,7 +6,7 @@ use Rattle.rp_words.specs.Ranges.{IsSized}
 use Rattle.rp_words.specs.declared.commands.FileSet.TheVariants.{Choices}
 use Rattle.rp_run.specs.ChoiceContents.{TypedPatchesOf}
 use Rattle.rp_run.specs.InnerLoadings.{AreContentsOf, LoadsLine}
-use Rattle.rp_run.specs.Readings.{AndThen, Just, Numbers, numbers_in}
+use Rattle.rp_run.specs.Readings.{AndThen, Just, NumbersIn, numbers_in}
 use Rattle.rp_run.specs.declared.files.TheConstants.{MOST_BYTES}
 use Rattle.rp_run.specs.declared.contents.Contents.TheVariants as contents
 use Rattle.rp_run.proofs.FileLemmas.{then_caused}
@@ -14,10 +14,10 @@ use Rattle.rp_run.proofs.LoadLemmas.{IsOverTwo, failed_on, over_two, two_first_n
 use Rattle.rp_run.proofs.contents.load_patches.Goals as goal
 
 two : (line : Line) → file_set line ≡ Choices → IsSized line
-    → IsOverTwo line Choices MOST_BYTES MOST_BYTES (numbers_in (file_at line 0) budgets_in) (λ a. Numbers (file_at line 1) (choices_on a))
+    → IsOverTwo line Choices MOST_BYTES MOST_BYTES (numbers_in (file_at line 0) budgets_in) (λ a. NumbersIn (file_at line 1) (choices_on a))
     (λ a b. AndThen (TypedPatchesOf a b line.given.per) (λ made. Just (Ok (contents.Choices made.0 made.1))))
 two line holds sized =
-    over_two line Choices MOST_BYTES MOST_BYTES (numbers_in (file_at line 0) budgets_in) (λ a. Numbers (file_at line 1) (choices_on a))
+    over_two line Choices MOST_BYTES MOST_BYTES (numbers_in (file_at line 0) budgets_in) (λ a. NumbersIn (file_at line 1) (choices_on a))
     (λ a b. AndThen (TypedPatchesOf a b line.given.per) (λ made. Just (Ok (contents.Choices made.0 made.1))))
     holds sized refl (λ files f s. refl) (λ bytes r read. read) (λ files text refused. refused)
 

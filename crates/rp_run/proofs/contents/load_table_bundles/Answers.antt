@@ -5,16 +5,16 @@ use Rattle.rp_words.specs.Named.{named_line}
 use Rattle.rp_words.specs.Ranges.{IsSized}
 use Rattle.rp_words.specs.declared.commands.FileSet.TheVariants.{TableAndBundles}
 use Rattle.rp_run.specs.InnerLoadings.{AreContentsOf, LoadsLine}
-use Rattle.rp_run.specs.Readings.{Just, Numbers, taken_table}
+use Rattle.rp_run.specs.Readings.{Just, NumbersIn, taken_table}
 use Rattle.rp_run.specs.declared.files.TheConstants.{MOST_BYTES}
 use Rattle.rp_run.specs.declared.contents.Contents.TheVariants as contents
 use Rattle.rp_run.proofs.LoadLemmas.{IsOverTwo, failed_on, over_two, two_first_none, two_held, two_second_none}
 use Rattle.rp_run.proofs.contents.load_table_bundles.Goals as goal
 
 two : (line : Line) → file_set line ≡ TableAndBundles → IsSized line
-    → IsOverTwo line TableAndBundles MOST_BYTES MOST_BYTES (taken_table (takes_levels line) (file_at line 0)) (λ a. Numbers (file_at line 1) (bundles_beside a)) (λ a b. Just (Ok (contents.TableAndBundles a b)))
+    → IsOverTwo line TableAndBundles MOST_BYTES MOST_BYTES (taken_table (takes_levels line) (file_at line 0)) (λ a. NumbersIn (file_at line 1) (bundles_beside a)) (λ a b. Just (Ok (contents.TableAndBundles a b)))
 two line holds sized =
-    over_two line TableAndBundles MOST_BYTES MOST_BYTES (taken_table (takes_levels line) (file_at line 0)) (λ a. Numbers (file_at line 1) (bundles_beside a)) (λ a b. Just (Ok (contents.TableAndBundles a b)))
+    over_two line TableAndBundles MOST_BYTES MOST_BYTES (taken_table (takes_levels line) (file_at line 0)) (λ a. NumbersIn (file_at line 1) (bundles_beside a)) (λ a b. Just (Ok (contents.TableAndBundles a b)))
     holds sized refl (λ files f s. refl) (λ bytes r read. read) (λ files text refused. refused)
 
 pub returns-in_err-table : goal.returns-in_err-table

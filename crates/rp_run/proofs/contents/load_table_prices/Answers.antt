@@ -6,16 +6,16 @@ use Rattle.rp_words.specs.Named.{named_line}
 use Rattle.rp_words.specs.Ranges.{IsSized}
 use Rattle.rp_words.specs.declared.commands.FileSet.TheVariants.{TableAndPrices}
 use Rattle.rp_run.specs.InnerLoadings.{AreContentsOf, LoadsLine}
-use Rattle.rp_run.specs.Readings.{Just, Numbers, taken_table}
+use Rattle.rp_run.specs.Readings.{Just, NumbersIn, taken_table}
 use Rattle.rp_run.specs.declared.files.TheConstants.{MOST_BYTES}
 use Rattle.rp_run.specs.declared.contents.Contents.TheVariants as contents
 use Rattle.rp_run.proofs.LoadLemmas.{IsOverTwo, failed_on, over_two, two_first_none, two_held, two_second_none}
 use Rattle.rp_run.proofs.contents.load_table_prices.Goals as goal
 
 two : (line : Line) → file_set line ≡ TableAndPrices → IsSized line
-    → IsOverTwo line TableAndPrices MOST_BYTES MOST_BYTES (taken_table (takes_levels line) (file_at line 0)) (λ a. Numbers (file_at line 1) (prices_beside false a)) (λ a b. Just (Ok (contents.TableAndPrices a b)))
+    → IsOverTwo line TableAndPrices MOST_BYTES MOST_BYTES (taken_table (takes_levels line) (file_at line 0)) (λ a. NumbersIn (file_at line 1) (prices_beside false a)) (λ a b. Just (Ok (contents.TableAndPrices a b)))
 two line holds sized =
-    over_two line TableAndPrices MOST_BYTES MOST_BYTES (taken_table (takes_levels line) (file_at line 0)) (λ a. Numbers (file_at line 1) (prices_beside false a)) (λ a b. Just (Ok (contents.TableAndPrices a b)))
+    over_two line TableAndPrices MOST_BYTES MOST_BYTES (taken_table (takes_levels line) (file_at line 0)) (λ a. NumbersIn (file_at line 1) (prices_beside false a)) (λ a b. Just (Ok (contents.TableAndPrices a b)))
     holds sized refl (λ files f s. refl) (λ bytes r read. read) (λ files text refused. refused)
 
 pub returns-in_err-table : goal.returns-in_err-table

@@ -5,16 +5,16 @@ use Rattle.rp_words.specs.Named.{named_line}
 use Rattle.rp_words.specs.Ranges.{IsSized}
 use Rattle.rp_words.specs.declared.commands.FileSet.TheVariants.{TechnologyAndAsked}
 use Rattle.rp_run.specs.InnerLoadings.{AreContentsOf, LoadsLine}
-use Rattle.rp_run.specs.Readings.{Just, Numbers, numbers_in}
+use Rattle.rp_run.specs.Readings.{Just, NumbersIn, numbers_in}
 use Rattle.rp_run.specs.declared.files.TheConstants.{MOST_BYTES}
 use Rattle.rp_run.specs.declared.contents.Contents.TheVariants as contents
 use Rattle.rp_run.proofs.LoadLemmas.{IsOverTwo, failed_on, over_two, two_first_none, two_held, two_second_none}
 use Rattle.rp_run.proofs.contents.load_technology_asked.Goals as goal
 
 two : (line : Line) → file_set line ≡ TechnologyAndAsked → IsSized line
-    → IsOverTwo line TechnologyAndAsked MOST_BYTES MOST_BYTES (numbers_in (file_at line 0) tech_in) (λ a. Numbers (file_at line 1) (asked_beside a)) (λ a b. Just (Ok (contents.TechnologyAndAsked a b)))
+    → IsOverTwo line TechnologyAndAsked MOST_BYTES MOST_BYTES (numbers_in (file_at line 0) tech_in) (λ a. NumbersIn (file_at line 1) (asked_beside a)) (λ a b. Just (Ok (contents.TechnologyAndAsked a b)))
 two line holds sized =
-    over_two line TechnologyAndAsked MOST_BYTES MOST_BYTES (numbers_in (file_at line 0) tech_in) (λ a. Numbers (file_at line 1) (asked_beside a)) (λ a b. Just (Ok (contents.TechnologyAndAsked a b)))
+    over_two line TechnologyAndAsked MOST_BYTES MOST_BYTES (numbers_in (file_at line 0) tech_in) (λ a. NumbersIn (file_at line 1) (asked_beside a)) (λ a b. Just (Ok (contents.TechnologyAndAsked a b)))
     holds sized refl (λ files f s. refl) (λ bytes r read. read) (λ files text refused. refused)
 
 pub returns-in_err-tech : goal.returns-in_err-tech
