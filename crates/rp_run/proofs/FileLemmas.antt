@@ -9,23 +9,24 @@ use Rattle.rp_evidence.specs.declared.certificate.Kind.{Kind}
 use Rattle.rp_table.specs.Tables.{Observations}
 use Rattle.rp_text.specs.Denotation.{table_in}
 use Rattle.rp_words.specs.CommandLine.{Line, files_of}
-use Rattle.rp_run.specs.Answers.{Files, IsContent, AreContents, HasContents}
+use Rattle.rp_outside.specs.Known.{AreAll}
+use Rattle.rp_run.specs.Answers.{Files, AreContents, HasContents}
 use Rattle.rp_run.specs.Contents.{Denotes, MayHaveLevels}
 use Rattle.rp_run.specs.declared.contents.Contents.{Contents}
-use Rattle.rp_run.specs.Readings.{AndThen, CertificateIn, Just, Numbers, Reading, TakenTable, all_bytes, and_unless_levelled, refuses_levels, unless_levelled}
+use Rattle.rp_run.specs.Readings.{AndThen, CertificateIn, Just, NumbersIn, Reading, TakenTable, all_bytes, and_unless_levelled, refuses_levels, unless_levelled}
 use Rattle.rp_run.specs.declared.files.TheConstants.{MOST_BYTES, MOST_CERTIFICATE_BYTES}
 use Rattle.rp_run.specs.FaultLines.{file_line}
 use Rattle.rp_run.specs.Causes.{IsLoaded, IsRefusal, IsFileCause, IsReadingCause, HoldsValue, IsCause}
 use Rattle.rp_run.specs.declared.files.Cause.{Cause}
 use Rattle.rp_run.specs.declared.files.Cause.TheVariants.{Read, Refused, NoMemory}
 
--- some content that is longer than a limit, where no other is told
-pub some_long : (told : Option (List ℕ)) (limit : ℕ) → ForSome told (λ bytes. limit < length bytes) → (bytes : List ℕ) × ForSome told (λ t. bytes ≡ t) × (limit < length bytes)
+-- some content that is longer than a limit, where no other is known
+pub some_long : (known : Option (List ℕ)) (limit : ℕ) → ForSome known (λ bytes. limit < length bytes) → (bytes : List ℕ) × ForSome known (λ t. bytes ≡ t) × (limit < length bytes)
 some_long None limit long = (replicate (limit + 1) 0, (λ t is. cc), omega (arith, length-replicate {A = ℕ} (limit + 1) 0))
 some_long (Some bytes) limit long = (bytes, (λ t is. cc), long bytes refl)
 
 -- a file that is too long is refused as such
-pub too_long : (files : Files) (rose : List ℕ → Type 0) (file : List ℕ) (why : Cause) → ForSome (files file) (λ bytes. MOST_BYTES < length bytes) → IsRefusal (file_line file (codes "TooLong")) why → IsFileCause files rose file (Numbers file all_bytes) why
+pub too_long : (files : Files) (rose : List ℕ → Type 0) (file : List ℕ) (why : Cause) → ForSome (files file) (λ bytes. MOST_BYTES < length bytes) → IsRefusal (file_line file (codes "TooLong")) why → IsFileCause files rose file (NumbersIn file all_bytes) why
 too_long files rose file (Read name) long refused = absurd refused
 too_long files rose file (Refused line) long refused =
     let some = some_long (files file) MOST_BYTES long in
@@ -42,16 +43,16 @@ too_long_certificate files rose file kind (Refused line) long refused =
 too_long_certificate files rose file kind NoMemory long refused = tt
 
 -- the table of a command, from what a table's file gives
-pub taken_value : (files : Files) (takes : Bool) (file : List ℕ) (table taken : Observations) → HoldsValue files file (Numbers file table_in) table → unless_levelled takes file table ≡ Ok taken
+pub taken_value : (files : Files) (takes : Bool) (file : List ℕ) (table taken : Observations) → HoldsValue files file (NumbersIn file table_in) table → unless_levelled takes file table ≡ Ok taken
     → HoldsValue files file (TakenTable takes file) taken
 taken_value files takes file table taken (bytes, content, read) is = (bytes, content, ap (and_unless_levelled takes file) read ∙ is)
 
-pub untaken_cause : (files : Files) (rose : List ℕ → Type 0) (takes : Bool) (file : List ℕ) (why : Cause) → IsFileCause files rose file (Numbers file table_in) why → IsFileCause files rose file (TakenTable takes file) why
+pub untaken_cause : (files : Files) (rose : List ℕ → Type 0) (takes : Bool) (file : List ℕ) (why : Cause) → IsFileCause files rose file (NumbersIn file table_in) why → IsFileCause files rose file (TakenTable takes file) why
 untaken_cause files rose takes file (Read name) why = why
 untaken_cause files rose takes file (Refused line) (bytes, content, refused) = (bytes, content, ap (and_unless_levelled takes file) refused)
 untaken_cause files rose takes file NoMemory why = tt
 
-pub levels_cause : (files : Files) (rose : List ℕ → Type 0) (takes : Bool) (file : List ℕ) (table : Observations) (why : Cause) → HoldsValue files file (Numbers file table_in) table
+pub levels_cause : (files : Files) (rose : List ℕ → Type 0) (takes : Bool) (file : List ℕ) (table : Observations) (why : Cause) → HoldsValue files file (NumbersIn file table_in) table
     → IsReadingCause (Just (unless_levelled takes file table)) why → IsFileCause files rose file (TakenTable takes file) why
 levels_cause files rose takes file table (Read name) held why = absurd why
 levels_cause files rose takes file table (Refused line) (bytes, content, read) refused = (bytes, content, ap (and_unless_levelled takes file) read ∙ refused)
@@ -63,7 +64,7 @@ pub passed_loaded : {A : Type 0} (files : Files) (rose : List ℕ → Type 0) (f
 passed_loaded files rose file reading (Ok x) e (wrong, is) p = cc
 passed_loaded files rose file reading (Err x) e h p = subst (IsFileCause files rose file reading) (sym h.1) p
 
-pub table_loaded : (files : Files) (rose : List ℕ → Type 0) (takes : Bool) (file : List ℕ) (table : Observations) (result : Result Observations Cause) → HoldsValue files file (Numbers file table_in) table
+pub table_loaded : (files : Files) (rose : List ℕ → Type 0) (takes : Bool) (file : List ℕ) (table : Observations) (result : Result Observations Cause) → HoldsValue files file (NumbersIn file table_in) table
     → IfOk result (λ taken. unless_levelled takes file table ≡ Ok taken) → IfErr result (IsReadingCause (Just (unless_levelled takes file table))) → IsLoaded files rose file (TakenTable takes file) result
 table_loaded files rose takes file table (Ok taken) held is none = taken_value files takes file table taken held is
 table_loaded files rose takes file table (Err why) held none refused = levels_cause files rose takes file table why held refused
@@ -92,13 +93,13 @@ levels_refused false file table (Refused line) is some refused = some_untaken fi
 levels_refused false file table NoMemory is some refused = tt
 
 -- the content of one file
-one_of : (files : Files) (file bytes : List ℕ) → IsContent files file bytes → (k : ℕ) → k < length (file ∷ []) → IsContent files (slice_index_or (file ∷ []) k []) bytes
+one_of : (files : Files) (file bytes : List ℕ) → AreAll (files file) bytes → (k : ℕ) → k < length (file ∷ []) → AreAll (files (slice_index_or (file ∷ []) k [])) bytes
 one_of files file bytes content zero within = content
 one_of files file bytes content (suc k) within = let none : ⊥ = omega (arith, within) in absurd none
 
-one_content : (files : Files) (line : Line) (file bytes : List ℕ) → files_of line ≡ file ∷ [] → IsContent files file bytes → AreContents files line (λ _. bytes)
+one_content : (files : Files) (line : Line) (file bytes : List ℕ) → files_of line ≡ file ∷ [] → AreAll (files file) bytes → AreContents files line (λ _. bytes)
 one_content files line file bytes named content =
-    subst (λ (names : List (List ℕ)). (k : ℕ) → k < length names → IsContent files (slice_index_or names k []) bytes) (sym named) (one_of files file bytes content)
+    subst (λ (names : List (List ℕ)). (k : ℕ) → k < length names → AreAll (files (slice_index_or names k [])) bytes) (sym named) (one_of files file bytes content)
 
 -- a file at its place, whose count rose
 read_at : (rose : List ℕ → Type 0) (asks : ℕ → Type 0) (files names : List (List ℕ)) (k : ℕ) (name : List ℕ) → files ≡ names → k < length names → name ≡ slice_index_or names k []
@@ -126,18 +127,18 @@ pub two_bytes : List ℕ → List ℕ → ℕ → List ℕ
 two_bytes first second zero = first
 two_bytes first second (suc k) = second
 
-two_of : (files : Files) (f s first second : List ℕ) → IsContent files f first → IsContent files s second → (k : ℕ) → k < length (f ∷ s ∷ []) → IsContent files (slice_index_or (f ∷ s ∷ []) k []) (two_bytes first second k)
+two_of : (files : Files) (f s first second : List ℕ) → AreAll (files f) first → AreAll (files s) second → (k : ℕ) → k < length (f ∷ s ∷ []) → AreAll (files (slice_index_or (f ∷ s ∷ []) k [])) (two_bytes first second k)
 unfolding two_bytes
 two_of files f s first second one two zero within = one
 two_of files f s first second one two (suc zero) within = two
 two_of files f s first second one two (suc (suc k)) within = let none : ⊥ = omega (arith, within) in absurd none
 
-two_contents : (files : Files) (line : Line) (f s first second : List ℕ) → files_of line ≡ f ∷ s ∷ [] → IsContent files f first → IsContent files s second → AreContents files line (two_bytes first second)
+two_contents : (files : Files) (line : Line) (f s first second : List ℕ) → files_of line ≡ f ∷ s ∷ [] → AreAll (files f) first → AreAll (files s) second → AreContents files line (two_bytes first second)
 two_contents files line f s first second named one two =
-    subst (λ (names : List (List ℕ)). (k : ℕ) → k < length names → IsContent files (slice_index_or names k []) (two_bytes first second k)) (sym named) (two_of files f s first second one two)
+    subst (λ (names : List (List ℕ)). (k : ℕ) → k < length names → AreAll (files (slice_index_or names k [])) (two_bytes first second k)) (sym named) (two_of files f s first second one two)
 
 -- some content of a file
-some_content : (told : Option (List ℕ)) → ForSome told (λ t. unwrap_or told [] ≡ t)
+some_content : (known : Option (List ℕ)) → ForSome known (λ t. unwrap_or known [] ≡ t)
 some_content None t is = cc
 some_content (Some bytes) t is = cc
 
@@ -145,12 +146,12 @@ some_content (Some bytes) t is = cc
 pub moved_cause : {A : Type 0} (files later : Files) (rose since : List ℕ → Type 0) (file : List ℕ) (reading : List ℕ → Reading A) (why : Cause)
     → later file ≡ files file → (since file → rose file) → IsFileCause later since file reading why → IsFileCause files rose file reading why
 moved_cause files later rose since file reading (Read name) same up (is, rises) = (is, up rises)
-moved_cause files later rose since file reading (Refused line) same up (bytes, content, refused) = (bytes, (λ told is. content told (same ∙ is)), refused)
+moved_cause files later rose since file reading (Refused line) same up (bytes, content, refused) = (bytes, (λ known is. content known (same ∙ is)), refused)
 moved_cause files later rose since file reading NoMemory same up none = tt
 
 pub moved_value : {A : Type 0} (files later : Files) (file : List ℕ) (reading : List ℕ → Reading A) (value : A)
     → later file ≡ files file → HoldsValue later file reading value → HoldsValue files file reading value
-moved_value files later file reading value same (bytes, content, read) = (bytes, (λ told is. content told (same ∙ is)), read)
+moved_value files later file reading value same (bytes, content, read) = (bytes, (λ known is. content known (same ∙ is)), read)
 
 module _ {A B : Type 0} (files : Files) (rose : List ℕ → Type 0) (asks : Line → ℕ → Type 0) (line : Line) (f s : List ℕ) (reading : List ℕ → Reading A) (after : A → List ℕ → Reading B) (last : A → B → Reading Contents)
     (named : files_of line ≡ f ∷ s ∷ [])
@@ -192,18 +193,18 @@ three_bytes first second third zero = first
 three_bytes first second third (suc zero) = second
 three_bytes first second third (suc (suc k)) = third
 
-three_of : (files : Files) (f s t first second third : List ℕ) → IsContent files f first → IsContent files s second → IsContent files t third
-    → (k : ℕ) → k < length (f ∷ s ∷ t ∷ []) → IsContent files (slice_index_or (f ∷ s ∷ t ∷ []) k []) (three_bytes first second third k)
+three_of : (files : Files) (f s t first second third : List ℕ) → AreAll (files f) first → AreAll (files s) second → AreAll (files t) third
+    → (k : ℕ) → k < length (f ∷ s ∷ t ∷ []) → AreAll (files (slice_index_or (f ∷ s ∷ t ∷ []) k [])) (three_bytes first second third k)
 unfolding three_bytes
 three_of files f s t first second third one two three zero within = one
 three_of files f s t first second third one two three (suc zero) within = two
 three_of files f s t first second third one two three (suc (suc zero)) within = three
 three_of files f s t first second third one two three (suc (suc (suc k))) within = let none : ⊥ = omega (arith, within) in absurd none
 
-three_contents : (files : Files) (line : Line) (f s t first second third : List ℕ) → files_of line ≡ f ∷ s ∷ t ∷ [] → IsContent files f first → IsContent files s second → IsContent files t third
+three_contents : (files : Files) (line : Line) (f s t first second third : List ℕ) → files_of line ≡ f ∷ s ∷ t ∷ [] → AreAll (files f) first → AreAll (files s) second → AreAll (files t) third
     → AreContents files line (three_bytes first second third)
 three_contents files line f s t first second third named one two three =
-    subst (λ (names : List (List ℕ)). (k : ℕ) → k < length names → IsContent files (slice_index_or names k []) (three_bytes first second third k)) (sym named) (three_of files f s t first second third one two three)
+    subst (λ (names : List (List ℕ)). (k : ℕ) → k < length names → AreAll (files (slice_index_or names k [])) (three_bytes first second third k)) (sym named) (three_of files f s t first second third one two three)
 
 module _ {A B C : Type 0} (files : Files) (rose : List ℕ → Type 0) (asks : Line → ℕ → Type 0) (line : Line) (f s t : List ℕ) (reading : List ℕ → Reading A) (after : A → List ℕ → Reading B) (third : List ℕ → Reading C)
     (last : A → B → C → Reading Contents) (named : files_of line ≡ f ∷ s ∷ t ∷ [])

@@ -1,6 +1,7 @@
 pub mod FileLemmas
 pub mod GainsLemmas
 pub mod LineLemmas
+pub mod LoadLemmas
 pub mod MenuFiles
 pub mod MenusOnce
 pub mod OneAnswer

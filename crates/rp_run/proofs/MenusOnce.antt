@@ -1,35 +1,14 @@
 -- Menus have units of their cells at most once, or are refused for one reason.
-use Rattle.std.proofs.Common.{◌≡◌, ◌<◌, ◌≤◌, ◌+◌, ℕ, Bool, true, false, List, Option, None, Some, Result, Ok, Err, length, slice_index, refl, sym, ap, ◌∙◌, arith}
-use Rattle.std.proofs.lemmas.Bool.{ltb-false, ltb-true}
+use Rattle.std.proofs.Common.{◌≡◌, ◌<◌, ℕ, List, Option, Result, Ok, Err, length, slice_index, sym, ap, ◌∙◌, arith}
 use Rattle.std.proofs.lemmas.List.{ext_get_or}
-use Rattle.std.specs.Prelude.{nat_lt}
 use Rattle.rp_menu.specs.MenuLists.{MenuList}
-use Rattle.rp_patch.specs.Apportionment.{GroupedCounts, HasExactShares, HasShares, IsCommonMultiple, PassesTotalAt, grouped}
+use Rattle.rp_patch.specs.Apportionment.{GroupedCounts, grouped}
 use Rattle.rp_patch.specs.declared.apportionment.Units.{Units}
 use Rattle.rp_patch.proofs.Determined.{same_all, same_units}
 use Rattle.rp_patch.proofs.GroupFacts.{group_within}
 use Rattle.rp_run.specs.MenuContents.{UnitsOf, need_unit_line}
-
--- menus whose total passes the limit have no units without a number that is asked for
-passes_once : (g : GroupedCounts) (j k : ℕ) → PassesTotalAt g j → PassesTotalAt g k → j < k → ⊥
-passes_once g j k (below, fits, (m, (multiple, least), many)) (also_below, (n, (also_multiple, also_least), few), also_many) less =
-    let first : IsCommonMultiple g (j + 1) n = (also_multiple.0, λ i l. also_multiple.1 i (omega (arith, less, l))) in
-    omega (arith, least n first, many, few)
-
-passes_apart : (g : GroupedCounts) (asked : Option ℕ) (all : ℕ) (units : ℕ → ℕ) (j : ℕ) → HasShares g asked all units → all ≤ 1000000000 → asked ≡ None → PassesTotalAt g j → ⊥
-passes_apart g None all units j shares few none (below, fits, (m, (multiple, least), many)) =
-    let exact : HasExactShares g all units = shares in
-    let first : IsCommonMultiple g (j + 1) all = (exact.total.0.0, λ i l. exact.total.0.1 i (omega (arith, below, l))) in
-    omega (arith, least all first, many, few)
-passes_apart g (Some unit) all units j shares few none passes = cc
-
-neither_less : (j k : ℕ) → (j < k → ⊥) → (k < j → ⊥) → j ≡ k
-neither_less j k not_less not_more = go (nat_lt j k) refl (nat_lt k j) refl
-  where
-    go : (t : Bool) → nat_lt j k ≡ t → (u : Bool) → nat_lt k j ≡ u → j ≡ k
-    go true is u also = absurd (not_less (ltb-true j k is))
-    go false is true also = absurd (not_more (ltb-true k j also))
-    go false is false also = omega (arith, ltb-false j k is, ltb-false k j also)
+use Rattle.rp_run.proofs.OneFault.{neither_less, passes_once}
+use Rattle.rp_run.proofs.PatchesApart.{passes_apart}
 
 same_record : (a b : Units) → a.total ≡ b.total → a.units ≡ b.units → a ≡ b
 same_record a b total units = λ k. record { total = total k; units = units k }

@@ -10,10 +10,10 @@ use Rattle.rp_json.specs.Denoted.{FitsKind, HasBadItem, HasNoShape, HasOtherVers
 use Rattle.rp_json.specs.declared.fault.JsonFault.{JsonFault}
 use Rattle.rp_json.specs.declared.fault.JsonFault.TheVariants.{BadShape, BadVersion, NoMemory, NotJson}
 use Rattle.rp_json.proofs.TopLemmas.{no_other_version, same_top}
-use Rattle.rp_patch.specs.Apportionment.{IsCommonMultiple}
+use Rattle.rp_patch.specs.Apportionment.{GroupedCounts, IsCommonMultiple, PassesTotalAt}
 use Rattle.rp_patch.specs.Choices.{RandomInput}
 use Rattle.rp_patch.specs.Patches.{PatchList}
-use Rattle.rp_patch.specs.Units.{PassesPatchesAt, PassesUnitsAt, SaysWhy, all_chosen, chosen_counts}
+use Rattle.rp_patch.specs.Units.{PassesPatchesAt, SaysWhy, all_chosen, chosen_counts}
 use Rattle.rp_patch.specs.declared.TheConstants.{PATCHES}
 use Rattle.rp_patch.specs.declared.fault.PatchFault.{PatchFault}
 use Rattle.rp_patch.specs.declared.fault.PatchFault.TheVariants as patch_fault
@@ -23,7 +23,7 @@ use Rattle.rp_types.specs.declared.fault.TypesFault.TheVariants as types_fault
 use Rattle.rp_run.proofs.PatchesApart.{chosen_within}
 
 -- neither of two numbers is less
-neither_less : (j k : ℕ) → (j < k → ⊥) → (k < j → ⊥) → j ≡ k
+pub neither_less : (j k : ℕ) → (j < k → ⊥) → (k < j → ⊥) → j ≡ k
 neither_less j k not_less not_more = go (nat_lt j k) refl (nat_lt k j) refl
   where
     go : (t : Bool) → nat_lt j k ≡ t → (u : Bool) → nat_lt k j ≡ u → j ≡ k
@@ -99,11 +99,11 @@ passed_once input j k (below, few, many) (also_below, also_few, also_many) less 
     let rise = chosen_within input (j + 1) k (omega (arith, less)) in
     omega (arith, rise, many, also_few)
 
-units_once : (input : RandomInput) (j k : ℕ) → PassesUnitsAt input j → PassesUnitsAt input k → j < k → ⊥
-units_once input j k (below, fits, (m, (multiple, least), many)) (also_below, (n, (also_multiple, also_least), few), also_many) less =
-    let first : IsCommonMultiple (chosen_counts input) (j + 1) n = (also_multiple.0, λ i l. also_multiple.1 i (omega (arith, less, l))) in
-    let no_more = least n first in
-    omega (arith, no_more, many, few)
+-- what passes the limit first does so at one group
+pub passes_once : (g : GroupedCounts) (j k : ℕ) → PassesTotalAt g j → PassesTotalAt g k → j < k → ⊥
+passes_once g j k (below, fits, (m, (multiple, least), many)) (also_below, (n, (also_multiple, also_least), few), also_many) less =
+    let first : IsCommonMultiple g (j + 1) n = (also_multiple.0, λ i l. also_multiple.1 i (omega (arith, less, l))) in
+    omega (arith, least n first, many, few)
 
 patches_units_apart : (input : RandomInput) (j : ℕ) → PassesPatchesAt input j → length (all_chosen input) ≤ PATCHES → ⊥
 patches_units_apart input j (below, few, many) all =
@@ -119,7 +119,7 @@ patch_fault_once input asked (patch_fault.TooManyPatches j) (patch_fault.NeedUni
 patch_fault_once input asked (patch_fault.NeedUnit j) patch_fault.NoMemory real also is too = absurd (also refl)
 patch_fault_once input asked (patch_fault.NeedUnit j) (patch_fault.TooManyPatches k) real also is too = absurd (patches_units_apart input k too is.0)
 patch_fault_once input asked (patch_fault.NeedUnit j) (patch_fault.NeedUnit k) real also (few, none, is) (also_few, also_none, too) =
-    ap patch_fault.NeedUnit (neither_less j k (units_once input j k is too) (units_once input k j too is))
+    ap patch_fault.NeedUnit (neither_less j k (passes_once (chosen_counts input) j k is too) (passes_once (chosen_counts input) k j too is))
 
 -- ---- patches
 

@@ -1,14 +1,14 @@
 -- No choices both have patches within the limits and are refused, and the patches that they have are the same but for their units.
-use Rattle.std.proofs.Common.{◌≡◌, ◌≢◌, ◌≤◌, ◌==◌, ◌*◌, ◌+◌, ℕ, zero, suc, true, false, pos, ◌≤ℤ◌, ◌<ℤ◌, List, Option, None, length, map, slice_index, length-append, if◌then◌else◌, refl, sym, ap, subst, ◌∙◌, arith}
+use Rattle.std.proofs.Common.{◌≡◌, ◌≢◌, ◌≤◌, ◌==◌, ◌*◌, ◌+◌, ℕ, zero, suc, true, false, pos, ◌≤ℤ◌, ◌<ℤ◌, List, Option, None, Some, length, map, slice_index, length-append, if◌then◌else◌, refl, sym, ap, subst, ◌∙◌, arith}
 use Rattle.std.proofs.lemmas.Bool.{ltb-false, ltb-true}
 use Rattle.std.specs.Prelude.{nat_lt}
 use Rattle.rp_evidence.specs.Garp.{HasNoViolation}
 use Rattle.rp_table.specs.Sums.{sum_below}
-use Rattle.rp_patch.specs.Apportionment.{HasExactShares, IsCommonMultiple}
+use Rattle.rp_patch.specs.Apportionment.{GroupedCounts, HasExactShares, HasShares, IsCommonMultiple, PassesTotalAt}
 use Rattle.rp_patch.specs.Choices.{RandomInput}
 use Rattle.rp_patch.specs.Patches.{IsPatchList, PatchList, budget_at, sign_at, units_at}
 use Rattle.rp_patch.specs.Types.{AreRationalTypes, IsRationalType, IsType, combinations, patches_on}
-use Rattle.rp_patch.specs.Units.{ArePatchesOf, HasUnits, SaysWhy, chosen_as, chosen_below, chosen_counts, tally_on}
+use Rattle.rp_patch.specs.Units.{ArePatchesOf, SaysWhy, chosen_as, chosen_below, chosen_counts, tally_on}
 use Rattle.rp_patch.specs.declared.fault.PatchFault.{PatchFault}
 use Rattle.rp_patch.specs.declared.fault.PatchFault.TheVariants as patch_fault
 use Rattle.rp_types.specs.Listed.{SaysWhy as SaysWhyNoTypes}
@@ -36,21 +36,21 @@ chosen_within input j (suc n) le = go (λ l. chosen_within input j n l) (nat_lt 
         let same : suc n ≡ j = omega (arith, past, le) in
         subst (λ m. length (chosen_below input j) ≤ length (chosen_below input m)) (sym same) (omega arith)
 
--- the total without a unit is a multiple on the first budgets too
-exact_of : (input : RandomInput) (asked : Option ℕ) (p : PatchList) → HasUnits input asked p → asked ≡ None → HasExactShares (chosen_counts input) p.total (units_at p)
-exact_of input asked p units none = subst (λ a. HasUnits input a p) none units
+-- what passes the limit has no shares without a number that is asked for
+pub passes_apart : (g : GroupedCounts) (asked : Option ℕ) (all : ℕ) (units : ℕ → ℕ) (j : ℕ) → HasShares g asked all units → all ≤ 1000000000 → asked ≡ None → PassesTotalAt g j → ⊥
+passes_apart g None all units j shares few none (below, fits, (m, (multiple, least), many)) =
+    let exact : HasExactShares g all units = shares in
+    let first : IsCommonMultiple g (j + 1) all = (exact.total.0.0, λ i l. exact.total.0.1 i (omega (arith, below, l))) in
+    omega (arith, least all first, many, few)
+passes_apart g (Some unit) all units j shares few none passes = cc
 
 pub patches_apart : (input : RandomInput) (asked : Option ℕ) (p : PatchList) (fault : PatchFault) → ArePatchesOf input asked p → IsPatchList p → fault ≢ patch_fault.NoMemory
     → SaysWhy input asked fault → ⊥
 patches_apart input asked p (patch_fault.TooManyPatches j) are valid other (below, few, many) =
     let rise = chosen_within input (j + 1) input.budgets (omega (arith, below)) in
     omega (arith, rise, many, are.count, valid.few_patches)
-patches_apart input asked p (patch_fault.NeedUnit j) are valid other (few, none, (below, fits, (m, (multiple, least), many))) =
-    let exact = exact_of input asked p are.units none in
-    let whole = exact.total.0 in
-    let first : IsCommonMultiple (chosen_counts input) (j + 1) p.total = (whole.0, λ i l. whole.1 i (omega (arith, below, l))) in
-    let less = least p.total first in
-    omega (arith, less, many, valid.few_units)
+patches_apart input asked p (patch_fault.NeedUnit j) are valid other (few, none, passes) =
+    passes_apart (chosen_counts input) asked p.total (units_at p) j are.units valid.few_units none passes
 patches_apart input asked p patch_fault.NoMemory are valid other why = other refl
 
 -- ---- types

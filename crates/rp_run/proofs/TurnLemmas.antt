@@ -9,71 +9,71 @@ use Rattle.rp_run.specs.declared.contents.Contents.{Contents}
 use Rattle.rp_run.specs.Answers.{Files}
 use Rattle.rp_run.specs.Causes.{HoldsValue}
 use Rattle.rp_run.specs.Contents.{ContentsIn}
-use Rattle.rp_run.specs.Readings.{AndThen, Just, Reading, Told}
-use Rattle.rp_run.specs.Turns.{AreReadInTurn, AreRefused, AsksForFirst, calls_of_files, first_told}
+use Rattle.rp_run.specs.Readings.{AndThen, Just, Reading, WhereKnown}
+use Rattle.rp_run.specs.Turns.{AreReadInTurn, AreRefused, AsksForFirst, calls_of_files, first_known}
 
--- where the first file is not told, nothing is refused
-none_told : (takes : Bool) (set : FileSet) (given : Given) (told : ℕ → Option (List ℕ)) (text : List ℕ) → told 0 ≡ None → ContentsIn takes set given told (Err text) → ⊥
-none_told takes Nothing given told text is refused = cc
-none_told takes _ given told text is (inl refused) = let no = rw is at refused in no
-none_told takes _ given told text is (inr (value, taken, more)) = let no = rw is at taken in no
+-- where the first file is not known, nothing is refused
+none_known : (takes : Bool) (set : FileSet) (given : Given) (known : ℕ → Option (List ℕ)) (text : List ℕ) → known 0 ≡ None → ContentsIn takes set given known (Err text) → ⊥
+none_known takes Nothing given known text is refused = cc
+none_known takes _ given known text is (inl refused) = let no = rw is at refused in no
+none_known takes _ given known text is (inr (value, taken, more)) = let no = rw is at taken in no
 
 none_refused : (files : Files) (line : Line) → AreRefused files line 0 → ⊥
-none_refused files line (text, refused) = none_told (takes_levels line) (file_set line) line.given (first_told files line 0) text refl refused
+none_refused files line (text, refused) = none_known (takes_levels line) (file_set line) line.given (first_known files line 0) text refl refused
 
 -- where nothing is asked for
 pub unread : (files : Files) (count : ℕ) (line : Line) → AreReadInTurn files count count line
 unread files count line = record { each_once = omega arith; none_after_refused = λ n refused. omega arith }
 
--- a file is told and refused, and it is told and has that value
-abbrev pub IsToldRefused : {A : Type 0} → Files → List ℕ → (List ℕ → Reading A) → Type 0
-IsToldRefused files file reading = (bytes : List ℕ) × (files file ≡ Some bytes) × ((text : List ℕ) × reading bytes (Err text))
+-- a file is known and refused, and it is known and has that value
+abbrev pub IsKnownRefused : {A : Type 0} → Files → List ℕ → (List ℕ → Reading A) → Type 0
+IsKnownRefused files file reading = (bytes : List ℕ) × (files file ≡ Some bytes) × ((text : List ℕ) × reading bytes (Err text))
 
-abbrev pub IsToldTaken : {A : Type 0} → Files → List ℕ → (List ℕ → Reading A) → A → Type 0
-IsToldTaken files file reading value = (bytes : List ℕ) × (files file ≡ Some bytes) × reading bytes (Ok value)
+abbrev pub IsKnownTaken : {A : Type 0} → Files → List ℕ → (List ℕ → Reading A) → A → Type 0
+IsKnownTaken files file reading value = (bytes : List ℕ) × (files file ≡ Some bytes) × reading bytes (Ok value)
 
--- nothing is refused after a file that is not told
-pub untold : {A : Type 0} (reading : List ℕ → Reading A) (next : A → Reading Contents) (text : List ℕ) → AndThen (Told reading None) next (Err text) → ⊥
-untold reading next text (inl refused) = refused
-untold reading next text (inr (value, taken, more)) = taken
+-- nothing is refused after a file that is not known
+pub unknown : {A : Type 0} (reading : List ℕ → Reading A) (next : A → Reading Contents) (text : List ℕ) → AndThen (WhereKnown reading None) next (Err text) → ⊥
+unknown reading next text (inl refused) = refused
+unknown reading next text (inr (value, taken, more)) = taken
 
--- where nothing after it is refused, the file is told and refused
-pub told_refused : {A : Type 0} (files : Files) (file : List ℕ) (reading : List ℕ → Reading A) (next : A → Reading Contents) (text : List ℕ) → ((value : A) → next value (Err text) → ⊥)
-    → AndThen (Told reading (files file)) next (Err text) → IsToldRefused files file reading
-told_refused {A} files file reading next text later refused = go (files file) refl refused
+-- where nothing after it is refused, the file is known and refused
+pub known_refused : {A : Type 0} (files : Files) (file : List ℕ) (reading : List ℕ → Reading A) (next : A → Reading Contents) (text : List ℕ) → ((value : A) → next value (Err text) → ⊥)
+    → AndThen (WhereKnown reading (files file)) next (Err text) → IsKnownRefused files file reading
+known_refused {A} files file reading next text later refused = go (files file) refl refused
   where
-    go : (told : Option (List ℕ)) → files file ≡ told → AndThen (Told reading told) next (Err text) → IsToldRefused files file reading
+    go : (known : Option (List ℕ)) → files file ≡ known → AndThen (WhereKnown reading known) next (Err text) → IsKnownRefused files file reading
     go None is (inl refused) = absurd refused
     go None is (inr (value, taken, more)) = absurd taken
     go (Some bytes) is (inl refused) = (bytes, is, (text, refused))
     go (Some bytes) is (inr (value, taken, more)) = absurd (later value more)
 
--- else it is so, or it is told and taken and what comes next is refused
-pub told_before : {A : Type 0} (files : Files) (file : List ℕ) (reading : List ℕ → Reading A) (next : A → Reading Contents) (text : List ℕ) → AndThen (Told reading (files file)) next (Err text)
-    → IsToldRefused files file reading ⊎ ((value : A) × IsToldTaken files file reading value × next value (Err text))
-told_before {A} files file reading next text refused = go (files file) refl refused
+-- else it is so, or it is known and taken and what comes next is refused
+pub known_before : {A : Type 0} (files : Files) (file : List ℕ) (reading : List ℕ → Reading A) (next : A → Reading Contents) (text : List ℕ) → AndThen (WhereKnown reading (files file)) next (Err text)
+    → IsKnownRefused files file reading ⊎ ((value : A) × IsKnownTaken files file reading value × next value (Err text))
+known_before {A} files file reading next text refused = go (files file) refl refused
   where
-    go : (told : Option (List ℕ)) → files file ≡ told → AndThen (Told reading told) next (Err text)
-        → IsToldRefused files file reading ⊎ ((value : A) × IsToldTaken files file reading value × next value (Err text))
+    go : (known : Option (List ℕ)) → files file ≡ known → AndThen (WhereKnown reading known) next (Err text)
+        → IsKnownRefused files file reading ⊎ ((value : A) × IsKnownTaken files file reading value × next value (Err text))
     go None is (inl refused) = absurd refused
     go None is (inr (value, taken, more)) = absurd taken
     go (Some bytes) is (inl refused) = inl (bytes, is, (text, refused))
     go (Some bytes) is (inr (value, taken, more)) = inr (value, (bytes, is, taken), more)
 
--- a file that is taken is not told and refused, where its bytes have one result
+-- a file that is taken is not known and refused, where its bytes have one result
 pub taken_apart : {A : Type 0} (files : Files) (file : List ℕ) (read : List ℕ → Result A (List ℕ)) (value : A) → HoldsValue files file (λ bytes. Just (read bytes)) value
-    → IsToldRefused files file (λ bytes. Just (read bytes)) → ⊥
-taken_apart files file read value (bytes, content, is) (told, has, (text, refused)) =
-    let also = subst (λ b. Just (read b) (Ok value)) (content told has) is in cc
+    → IsKnownRefused files file (λ bytes. Just (read bytes)) → ⊥
+taken_apart files file read value (bytes, content, is) (known, has, (text, refused)) =
+    let also = subst (λ b. Just (read b) (Ok value)) (content known has) is in cc
 
 -- and so is a second, by what the first has
 pub second_apart : {A B : Type 0} (files : Files) (f s : List ℕ) (read : List ℕ → Result A (List ℕ)) (then_read : A → List ℕ → Result B (List ℕ)) (a : A) (b : B)
     → HoldsValue files f (λ bytes. Just (read bytes)) a → HoldsValue files s (λ bytes. Just (then_read a bytes)) b
-    → (x : A) × IsToldTaken files f (λ bytes. Just (read bytes)) x × IsToldRefused files s (λ bytes. Just (then_read x bytes)) → ⊥
-second_apart files f s read then_read a b (bytes, content, is) held (x, (told, has, taken), refused) =
-    let also = subst (λ b. Just (read b) (Ok a)) (content told has) is in
+    → (x : A) × IsKnownTaken files f (λ bytes. Just (read bytes)) x × IsKnownRefused files s (λ bytes. Just (then_read x bytes)) → ⊥
+second_apart files f s read then_read a b (bytes, content, is) held (x, (known, has, taken), refused) =
+    let also = subst (λ b. Just (read b) (Ok a)) (content known has) is in
     let same : x ≡ a = cc in
-    taken_apart files s (then_read a) b held (subst (λ y. IsToldRefused files s (λ bytes. Just (then_read y bytes))) same refused)
+    taken_apart files s (then_read a) b held (subst (λ y. IsKnownRefused files s (λ bytes. Just (then_read y bytes))) same refused)
 
 -- what is summed from a number on is no less than it
 no_less : (xs : List ℕ) (n : ℕ) → n ≤ fold ◌+◌ n xs
@@ -137,4 +137,4 @@ module _ (files : Files) (line : Line) (a b c : ℕ) (rest : List ℕ) (each : c
 
 -- the calls for a file, for files of the same contents
 pub calls_later : (files later : Files) (file : List ℕ) (limit before after : ℕ) → later file ≡ files file → after ≤ before + calls_through limit (later file) → after ≤ before + calls_through limit (files file)
-calls_later files later file limit before after same most = subst (λ told. after ≤ before + calls_through limit told) same most
+calls_later files later file limit before after same most = subst (λ known. after ≤ before + calls_through limit known) same most

@@ -1,7 +1,7 @@
--- What the program answers to a line, over the contents of its files. A desk may keep the bytes of a file to
--- itself; where it tells them, the content is these bytes.
+-- What the program answers to a line, over the contents of its files. The bytes of a file are known or not known; where
+-- they are, the content is these bytes.
 use Rattle.std.specs.Prelude.{◌≡◌, ℕ, ◌<◌, true, false, List, length, Option, Some, Ok, Err}
-use Rattle.std.specs.Option.{ForSome}
+use Rattle.rp_outside.specs.Known.{AreAll}
 use Rattle.rp_outside.specs.SureDesk.{SureState, bytes_or_none}
 use Rattle.rp_check.specs.CheckVerdict.{IsVerdictOn}
 use Rattle.rp_check.specs.RandomVerdict.{IsRandomVerdictOn}
@@ -32,21 +32,17 @@ use Rattle.rp_run.specs.Contents.{Denotes}
 use Rattle.rp_answers.specs.declared.status.Status.{Status}
 use Rattle.rp_answers.specs.declared.status.Status.TheVariants as status
 
--- the bytes of each file, told or not
+-- the bytes of each file, known or not
 abbrev pub Files : Type 0
 Files = List ℕ → Option (List ℕ)
 
--- every file told, and one that is not there as empty
-abbrev pub all_told : SureState → Files
-all_told desk name = Some (bytes_or_none desk name)
+-- every file known, and one that is not there as empty
+abbrev pub all_known : SureState → Files
+all_known desk name = Some (bytes_or_none desk name)
 
--- the file may hold these bytes: where its bytes are told, these are they
-abbrev pub IsContent : Files → List ℕ → List ℕ → Type 0
-IsContent files file bytes = ForSome (files file) (λ told. bytes ≡ told)
-
--- the files of a line may hold these bytes, each its own
+-- the files of a line may hold these bytes, each its own: where its bytes are known, these are they
 abbrev pub AreContents : Files → Line → (ℕ → List ℕ) → Type 0
-AreContents files line bytes = (k : ℕ) → k < length (files_of line) → IsContent files (file_at line k) (bytes k)
+AreContents files line bytes = (k : ℕ) → k < length (files_of line) → AreAll (files (file_at line k)) (bytes k)
 
 -- the text that answers a command which is no check, over what was given to it and what its files hold
 abbrev pub IsText : Command → Given → Contents → List ℕ → Type 0

@@ -1,7 +1,7 @@
 -- What a call of the program promises, by what it concerns. Each field is a clause of `run`; `run_surely` states those
--- that speak of no failure.
-use Rattle.std.specs.Prelude.{◌≡◌, ◌⊎◌, ℕ, List, Option, Some, None}
-use Rattle.rp_outside.specs.Faults.{HasRisen}
+-- that speak of no failure, and what stays, over counts of faults that are 0.
+use Rattle.std.specs.Prelude.{◌≡◌, ◌⊎◌, ◌≤◌, ℕ, List, Option, Some, None}
+use Rattle.rp_outside.specs.Faults.{EachStays, HasRisen, NoneFalls}
 use Rattle.rp_outside.specs.Known.{Stays, Grows, GrowsByPrefix}
 use Rattle.rp_words.specs.CommandLine.{Line}
 use Rattle.rp_answers.specs.declared.status.Status.{Status}
@@ -46,3 +46,12 @@ pub record TellsWhy (files : Files) (rose : List ℕ → Type 0) (asks : Line �
 pub record AsksInTurn (files : Files) (before after : ℕ) (asked : Option Line) : Type 0 where
   pub in_turn : (line : Line) → asked ≡ Some line → AreReadInTurn files before after line
   pub none_asked : asked ≡ None → after ≡ before
+
+-- what stays: the bytes of every file are what they were, and no count of faults falls, of a file, of the output or of
+-- standard error, from those before to those after
+pub record LeavesTheRest (files later : Files) (before after : List ℕ → ℕ) (out_before out_after : ℕ)
+    (err_before err_after : ℕ) : Type 0 where
+  pub bytes_stay : EachStays files later
+  pub faults_of_files : NoneFalls before after
+  pub faults_of_out : out_before ≤ out_after
+  pub faults_of_err : err_before ≤ err_after

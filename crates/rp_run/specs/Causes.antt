@@ -8,7 +8,8 @@ use Rattle.rp_run.specs.FaultTexts.{fault_text, json_fault_text}
 use Rattle.rp_run.specs.MenuContents.{menu_fault_text}
 use Rattle.rp_words.specs.CommandLine.{Line, file_at, files_of}
 use Rattle.rp_run.specs.Readings.{Reading}
-use Rattle.rp_run.specs.Answers.{Files, IsContent, RefusesWith}
+use Rattle.rp_outside.specs.Known.{AreAll}
+use Rattle.rp_run.specs.Answers.{Files, RefusesWith}
 use Rattle.rp_menu.specs.declared.fault.MenuFault.{MenuFault}
 use Rattle.rp_menu.specs.declared.fault.MenuFault.TheVariants as menu_fault
 use Rattle.rp_patch.specs.declared.fault.PatchFault.{PatchFault}
@@ -37,34 +38,28 @@ IsRefusal line (Read file) = ⊥
 IsRefusal line (Refused text) = text.items ≡ line
 IsRefusal line NoMemory = Unit {0}
 
--- a fault of a file as a cause: its line, or want of memory
+-- a fault as a cause: its line, or want of memory, which no file is the cause of
+abbrev pub IsFaultCause : {F : Type 0} → F → (F → List ℕ) → F → Cause → Type 0
+IsFaultCause no_memory line f (Read name) = ⊥
+IsFaultCause no_memory line f (Refused text) = (f ≢ no_memory) × (text.items ≡ line f)
+IsFaultCause no_memory line f NoMemory = Unit {0}
+
+-- a fault of a file of numbers, of a certificate's, and of a file of menus
 abbrev pub IsRefusalOf : List ℕ → TableFault → Cause → Type 0
-IsRefusalOf file f (Read name) = ⊥
-IsRefusalOf file f (Refused text) = (f ≢ fault.NoMemory) × (text.items ≡ file_line file (fault_text f))
-IsRefusalOf file f NoMemory = Unit {0}
+IsRefusalOf file = IsFaultCause fault.NoMemory (λ f. file_line file (fault_text f))
 
--- a fault of a certificate's file as a cause: its line, or want of memory
 abbrev pub IsJsonRefusalOf : List ℕ → JsonFault → Cause → Type 0
-IsJsonRefusalOf file f (Read name) = ⊥
-IsJsonRefusalOf file f (Refused text) = (f ≢ json_fault.NoMemory) × (text.items ≡ file_line file (json_fault_text f))
-IsJsonRefusalOf file f NoMemory = Unit {0}
+IsJsonRefusalOf file = IsFaultCause json_fault.NoMemory (λ f. file_line file (json_fault_text f))
 
--- a fault of a file of menus as a cause: its line, or want of memory
 abbrev pub IsMenuRefusalOf : List ℕ → MenuFault → Cause → Type 0
-IsMenuRefusalOf file f (Read name) = ⊥
-IsMenuRefusalOf file f (Refused text) = (f ≢ menu_fault.NoMemory) × (text.items ≡ file_line file (menu_fault_text f))
-IsMenuRefusalOf file f NoMemory = Unit {0}
+IsMenuRefusalOf file = IsFaultCause menu_fault.NoMemory (λ f. file_line file (menu_fault_text f))
 
--- a fault of patches, or of rational types, as a cause: its line, or want of memory
+-- a fault of patches, and of rational types
 abbrev pub IsPatchRefusal : PatchFault → Cause → Type 0
-IsPatchRefusal f (Read name) = ⊥
-IsPatchRefusal f (Refused text) = (f ≢ patch_fault.NoMemory) × (text.items ≡ patch_line f)
-IsPatchRefusal f NoMemory = Unit {0}
+IsPatchRefusal = IsFaultCause patch_fault.NoMemory patch_line
 
 abbrev pub IsTypesRefusal : TypesFault → Cause → Type 0
-IsTypesRefusal f (Read name) = ⊥
-IsTypesRefusal f (Refused text) = (f ≢ types_fault.NoMemory) × (text.items ≡ types_line f)
-IsTypesRefusal f NoMemory = Unit {0}
+IsTypesRefusal = IsFaultCause types_fault.NoMemory types_line
 
 -- why nothing is made of what was read: it is refused
 abbrev pub IsReadingCause : {A : Type 0} → Reading A → Cause → Type 0
@@ -75,13 +70,13 @@ IsReadingCause reading NoMemory = Unit {0}
 -- why a file gives no value: its count of faults rose, or some content of it is refused by that reading
 abbrev pub IsFileCause : {A : Type 0} → Files → (List ℕ → Type 0) → List ℕ → (List ℕ → Reading A) → Cause → Type 0
 IsFileCause files rose file reading (Read name) = (name.now ≡ file) × rose file
-IsFileCause files rose file reading (Refused line) = (bytes : List ℕ) × IsContent files file bytes
+IsFileCause files rose file reading (Refused line) = (bytes : List ℕ) × AreAll (files file) bytes
     × reading bytes (Err line.items)
 IsFileCause files rose file reading NoMemory = Unit {0}
 
 -- some content of a file has that value
 abbrev pub HoldsValue : {A : Type 0} → Files → List ℕ → (List ℕ → Reading A) → A → Type 0
-HoldsValue files file reading value = (bytes : List ℕ) × IsContent files file bytes × reading bytes (Ok value)
+HoldsValue files file reading value = (bytes : List ℕ) × AreAll (files file) bytes × reading bytes (Ok value)
 
 -- what a loader gives: the value of some content of its file, or why there is none
 abbrev pub IsLoaded : {A : Type 0} → Files → (List ℕ → Type 0) → List ℕ → (List ℕ → Reading A) → Result A Cause → Type 0

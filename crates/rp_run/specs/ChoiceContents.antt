@@ -17,14 +17,14 @@ use Rattle.rp_types.specs.declared.fault.TypesFault.TheVariants as types_fault
 use Rattle.rp_types.specs.declared.types.Rational.{Rational}
 use Rattle.rp_words.specs.CommandLine.{Given}
 use Rattle.rp_run.specs.FaultLines.{patch_line, types_line}
-use Rattle.rp_run.specs.Readings.{AndThen, FileIn, Just, Numbers, Reading}
+use Rattle.rp_run.specs.Readings.{AndThen, FileIn, Just, NumbersIn, Reading}
 
 -- budgets in the first file, and choices from them in the second
 abbrev pub BudgetsIn : Given → (ℕ → Option (List ℕ)) → Reading BudgetList
-BudgetsIn given told = FileIn given told 0 (λ name. Numbers name budgets_in)
+BudgetsIn given known = FileIn given known 0 (λ name. NumbersIn name budgets_in)
 
 abbrev pub ChoicesIn : BudgetList → Given → (ℕ → Option (List ℕ)) → Reading ChoiceList
-ChoicesIn budgets given told = FileIn given told 1 (λ name. Numbers name (choices_on budgets))
+ChoicesIn budgets given known = FileIn given known 1 (λ name. NumbersIn name (choices_on budgets))
 
 -- the patches of choices, with their units
 abbrev pub PatchesOf : RandomInput → Option ℕ → Reading PatchList

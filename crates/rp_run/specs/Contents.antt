@@ -16,44 +16,44 @@ use Rattle.rp_run.specs.declared.contents.Contents.{Contents}
 use Rattle.rp_run.specs.declared.contents.Contents.TheVariants as contents
 use Rattle.rp_run.specs.ChoiceContents.{BudgetsIn, ChoicesIn, TypedPatchesOf}
 use Rattle.rp_run.specs.MenuContents.{MenusIn}
-use Rattle.rp_run.specs.Readings.{AndThen, CertificateIn, FileIn, Just, Numbers, Reading, TableIn}
+use Rattle.rp_run.specs.Readings.{AndThen, CertificateIn, FileIn, Just, NumbersIn, Reading, TableIn}
 
 -- the contents of a set of files, or the first refusal, from the bytes of the k-th file for each k from 0, as far as
--- they are told. Where a file is not told, nothing is denoted but what is refused before it
+-- they are known. Where a file is not, nothing is denoted but what is refused before it
 abbrev pub ContentsIn : Bool → FileSet → Given → (ℕ → Option (List ℕ)) → Reading Contents
-ContentsIn takes files.Nothing given told = Just (Ok contents.Nothing)
-ContentsIn takes files.Table given told = AndThen (TableIn takes given told) (λ t. Just (Ok (contents.Table t)))
-ContentsIn takes files.TableAndCertificate given told =
-    AndThen (TableIn takes given told) (λ t.
-    AndThen (FileIn given told 1 (λ name. CertificateIn name TableKind))
+ContentsIn takes files.Nothing given known = Just (Ok contents.Nothing)
+ContentsIn takes files.Table given known = AndThen (TableIn takes given known) (λ t. Just (Ok (contents.Table t)))
+ContentsIn takes files.TableAndCertificate given known =
+    AndThen (TableIn takes given known) (λ t.
+    AndThen (FileIn given known 1 (λ name. CertificateIn name TableKind))
     (λ c. Just (Ok (contents.TableAndCertificate t c))))
-ContentsIn takes files.TableAndPricesWithExpenditure given told =
-    AndThen (TableIn takes given told) (λ t.
-    AndThen (FileIn given told 1 (λ name. Numbers name (prices_beside true t)))
+ContentsIn takes files.TableAndPricesWithExpenditure given known =
+    AndThen (TableIn takes given known) (λ t.
+    AndThen (FileIn given known 1 (λ name. NumbersIn name (prices_beside true t)))
     (λ new. Just (Ok (contents.TableAndPricesWithExpenditure t new))))
-ContentsIn takes files.TableAndPrices given told =
-    AndThen (TableIn takes given told) (λ t.
-    AndThen (FileIn given told 1 (λ name. Numbers name (prices_beside false t)))
+ContentsIn takes files.TableAndPrices given known =
+    AndThen (TableIn takes given known) (λ t.
+    AndThen (FileIn given known 1 (λ name. NumbersIn name (prices_beside false t)))
     (λ new. Just (Ok (contents.TableAndPrices t new))))
-ContentsIn takes files.TableAndBundles given told =
-    AndThen (TableIn takes given told) (λ t.
-    AndThen (FileIn given told 1 (λ name. Numbers name (bundles_beside t)))
+ContentsIn takes files.TableAndBundles given known =
+    AndThen (TableIn takes given known) (λ t.
+    AndThen (FileIn given known 1 (λ name. NumbersIn name (bundles_beside t)))
     (λ b. Just (Ok (contents.TableAndBundles t b))))
-ContentsIn takes files.Choices given told =
-    AndThen (BudgetsIn given told) (λ b.
-    AndThen (ChoicesIn b given told) (λ c.
+ContentsIn takes files.Choices given known =
+    AndThen (BudgetsIn given known) (λ b.
+    AndThen (ChoicesIn b given known) (λ c.
     AndThen (TypedPatchesOf b c given.per) (λ made. Just (Ok (contents.Choices made.0 made.1)))))
-ContentsIn takes files.ChoicesAndCertificate given told =
-    AndThen (BudgetsIn given told) (λ b.
-    AndThen (ChoicesIn b given told) (λ c.
-    AndThen (FileIn given told 2 (λ name. CertificateIn name RandomKind)) (λ certificate.
+ContentsIn takes files.ChoicesAndCertificate given known =
+    AndThen (BudgetsIn given known) (λ b.
+    AndThen (ChoicesIn b given known) (λ c.
+    AndThen (FileIn given known 2 (λ name. CertificateIn name RandomKind)) (λ certificate.
     AndThen (TypedPatchesOf b c given.per)
     (λ made. Just (Ok (contents.ChoicesAndCertificate made.0 made.1 certificate))))))
-ContentsIn takes files.Menus given told =
-    AndThen (FileIn given told 0 (MenusIn given.per)) (λ made. Just (Ok (contents.Menus made.0 made.1)))
-ContentsIn takes files.TechnologyAndAsked given told =
-    AndThen (FileIn given told 0 (λ name. Numbers name tech_in)) (λ tech.
-    AndThen (FileIn given told 1 (λ name. Numbers name (asked_beside tech)))
+ContentsIn takes files.Menus given known =
+    AndThen (FileIn given known 0 (MenusIn given.per)) (λ made. Just (Ok (contents.Menus made.0 made.1)))
+ContentsIn takes files.TechnologyAndAsked given known =
+    AndThen (FileIn given known 0 (λ name. NumbersIn name tech_in)) (λ tech.
+    AndThen (FileIn given known 1 (λ name. NumbersIn name (asked_beside tech)))
     (λ asked. Just (Ok (contents.TechnologyAndAsked tech asked))))
 
 -- the contents of a line's files, or its first refusal, from the bytes of all of them. A file that is named twice and

@@ -9,4 +9,5 @@ pub mod Turns
 pub mod Endings
 pub mod Gains
 pub mod Causes
+pub mod InnerLoadings
 pub mod Calls

@@ -39,8 +39,8 @@ numbers_in file reading bytes =
     if nat_lt MOST_BYTES (length bytes) then Err (file_line file (codes "TooLong"))
     else or_line file (reading bytes)
 
-abbrev pub Numbers : {A : Type 0} → List ℕ → (List ℕ → Result A TableFault) → List ℕ → Reading A
-Numbers file reading bytes = Just (numbers_in file reading bytes)
+abbrev pub NumbersIn : {A : Type 0} → List ℕ → (List ℕ → Result A TableFault) → List ℕ → Reading A
+NumbersIn file reading bytes = Just (numbers_in file reading bytes)
 
 -- all bytes of a file, as a reading of it
 abbrev pub all_bytes : List ℕ → Result (List ℕ) TableFault
@@ -56,14 +56,14 @@ CertificateIn file kind bytes (Err line) =
     × ((fault : JsonFault) × (fault ≢ json_fault.NoMemory) × IsDenoted kind bytes (Err fault)
     × (line ≡ file_line file (json_fault_text fault))))
 
--- what a file holds by a reading, where its bytes are told; nothing is read where they are not
-abbrev pub Told : {A : Type 0} → (List ℕ → Reading A) → Option (List ℕ) → Reading A
-Told reading None result = ⊥
-Told reading (Some bytes) result = reading bytes result
+-- what a file holds by a reading, where its bytes are known; nothing is read where they are not
+abbrev pub WhereKnown : {A : Type 0} → (List ℕ → Reading A) → Option (List ℕ) → Reading A
+WhereKnown reading None result = ⊥
+WhereKnown reading (Some bytes) result = reading bytes result
 
 -- the same of the k-th file of what is given, by a reading that has its name
 abbrev pub FileIn : {A : Type 0} → Given → (ℕ → Option (List ℕ)) → ℕ → (List ℕ → List ℕ → Reading A) → Reading A
-FileIn given told k reading = Told (reading (file given k)) (told k)
+FileIn given known k reading = WhereKnown (reading (file given k)) (known k)
 
 -- whether levels of a table's observations are refused: there are some, and the command takes none
 abbrev pub refuses_levels : Bool → List ℕ → Bool
@@ -88,4 +88,4 @@ TakenTable takes file bytes = Just (taken_table takes file bytes)
 
 -- a table in the first file
 abbrev pub TableIn : Bool → Given → (ℕ → Option (List ℕ)) → Reading Observations
-TableIn takes given told = FileIn given told 0 (TakenTable takes)
+TableIn takes given known = FileIn given known 0 (TakenTable takes)

@@ -8,16 +8,10 @@ use Rattle.rp_run.specs.Answers.{Files}
 use Rattle.rp_run.specs.Contents.{ContentsIn}
 use Rattle.rp_run.specs.declared.files.TheConstants.{MOST_BYTES, MOST_CERTIFICATE_BYTES}
 
--- the most calls to read a file of numbers through, and a certificate
-abbrev pub calls_of_numbers : Files → List ℕ → ℕ
-calls_of_numbers files file = calls_through MOST_BYTES (files file)
-
-abbrev pub calls_of_certificate : Files → List ℕ → ℕ
-calls_of_certificate files file = calls_through MOST_CERTIFICATE_BYTES (files file)
-
+-- the most calls to read a file through
 abbrev pub calls_of_file : Files → File → List ℕ → ℕ
-calls_of_file files (Numbers name) file = calls_of_numbers files file
-calls_of_file files Certificate file = calls_of_certificate files file
+calls_of_file files (Numbers name) file = calls_through MOST_BYTES (files file)
+calls_of_file files Certificate file = calls_through MOST_CERTIFICATE_BYTES (files file)
 
 -- the most calls to read each of some files through, by their names
 abbrev pub calls_of_each : Files → List File → List (List ℕ) → List ℕ
@@ -33,14 +27,14 @@ calls_of_files files line = calls_of_each files (files_in (file_set line)) (file
 abbrev pub AsksForFirst : Files → ℕ → ℕ → Line → ℕ → Type 0
 AsksForFirst files before after line n = after ≤ before + sum (take n (calls_of_files files line))
 
--- the bytes of the first n files of a line, as far as they are told
-abbrev pub first_told : Files → Line → ℕ → ℕ → Option (List ℕ)
-first_told files line n k = if nat_lt k n then files (file_at line k) else None
+-- the bytes of the first n files of a line, as far as they are known
+abbrev pub first_known : Files → Line → ℕ → ℕ → Option (List ℕ)
+first_known files line n k = if nat_lt k n then files (file_at line k) else None
 
--- what the first n files of a line tell is refused, whatever the others hold
+-- what is known of the first n files of a line is refused, whatever the others hold
 abbrev pub AreRefused : Files → Line → ℕ → Type 0
 AreRefused files line n = (text : List ℕ)
-    × ContentsIn (takes_levels line) (file_set line) line.given (first_told files line n) (Err text)
+    × ContentsIn (takes_levels line) (file_set line) line.given (first_known files line n) (Err text)
 
 -- each file is read through at most once, and none after one that is refused
 pub record AreReadInTurn (files : Files) (before after : ℕ) (line : Line) : Type 0 where

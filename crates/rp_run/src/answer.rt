@@ -1,10 +1,8 @@
-ghost use Rattle.std.specs.Prelude.{◌≡◌, true, false, [], IfOk, IfErr};
-ghost use Rattle.rp_outside.specs.Faults.{EachStays, NoneFalls};
+//! The answer to a line over what its files hold, by its command.
+ghost use Rattle.std.specs.Prelude.{◌≡◌, true, false, [], IfOk};
 ghost use Rattle.rp_run.specs.Answers.{Answers, AnswersLine, IsText};
-ghost use Rattle.rp_run.specs.Endings.{Rose};
-ghost use Rattle.rp_run.specs.Turns.{AreReadInTurn, AsksForFirst};
-ghost use Rattle.rp_run.specs.Causes.{IsCause};
 ghost use Rattle.rp_run.specs.Contents.{AreOf};
+ghost use Rattle.rp_run.specs.InnerLoadings.{LoadsLine};
 ghost use Rattle.rp_run.specs.declared.contents.Contents.TheVariants as contents;
 ghost use Rattle.rp_words.specs.CommandLine.{Given, file_set, takes_levels};
 ghost use Rattle.rp_words.specs.declared.commands.Command.TheVariants as commands;
@@ -32,16 +30,9 @@ pub(crate) fn answer_line<'a, D: Desk>(
     line: &Line<'a>,
 ) -> Result<Answer, Cause<'a>>
     requires { IsSized (named_line line.now) }
-    ensures answered { IfOk result (λ answer.
-        AnswersLine (D.bytes desk.old) (named_line line.now) answer.status answer.text.items) }
-    ensures caused { IfErr result
-        (IsCause (D.bytes desk.old) (Rose (D.faults desk.old) (D.faults desk.new))
-        (AsksForFirst (D.bytes desk.old) (D.calls desk.old) (D.calls desk.new))
-        (named_line line.now)) }
-    ensures in_turn { AreReadInTurn (D.bytes desk.old)
-        (D.calls desk.old) (D.calls desk.new) (named_line line.now) }
-    ensures bytes_stay { EachStays (D.bytes desk.old) (D.bytes desk.new) }
-    ensures never_falls { NoneFalls (D.faults desk.old) (D.faults desk.new) }
+    ensures { LoadsLine D.bytes D.faults D.calls desk.old desk.new (named_line line.now)
+        (λ answer. AnswersLine (D.bytes desk.old) (named_line line.now)
+        answer.status answer.text.items) result }
 {
     let held = read_contents(alloc, desk, line)?;
     match answer_over(alloc, line, &held) {

@@ -1,30 +1,27 @@
 //! What the files of a line hold.
-ghost use Rattle.std.specs.Prelude.{◌≡◌, true, false, List, [], IfOk, IfErr};
+ghost use Rattle.std.specs.Prelude.{◌≡◌, true, false, List, []};
 ghost use Rattle.rp_answers.specs.DemandText.{IsSpentOn};
 ghost use Rattle.rp_answers.specs.Typed.{AreTyped, typed};
 ghost use Rattle.rp_evidence.specs.Kinds.{IsCertificateOf};
 ghost use Rattle.rp_evidence.specs.declared.certificate.Kind.TheVariants.{Table as TableKind};
 ghost use Rattle.rp_evidence.specs.declared.certificate.Kind.TheVariants.{Random as RandomKind};
 ghost use Rattle.rp_orders.specs.OrderMixtures.{AreUnitsOf};
-ghost use Rattle.rp_outside.specs.Faults.{EachStays, NoneFalls};
 ghost use Rattle.rp_table.specs.Tables.{goods_of};
-ghost use Rattle.rp_words.specs.CommandLine.{file_set, takes_levels};
+ghost use Rattle.rp_words.specs.CommandLine.{file_set};
 ghost use Rattle.rp_words.specs.Named.{named_line};
 ghost use Rattle.rp_words.specs.Ranges.{IsSized};
 ghost use Rattle.rp_words.specs.declared.commands.FileSet.TheVariants as files;
-ghost use Rattle.rp_run.specs.Answers.{HasContents};
-ghost use Rattle.rp_run.specs.Causes.{IsCause};
-ghost use Rattle.rp_run.specs.Endings.{Rose};
 ghost use Rattle.rp_run.specs.Contents.{AreOf};
-ghost use Rattle.rp_run.specs.Turns.{AreReadInTurn, AsksForFirst};
+ghost use Rattle.rp_run.specs.InnerLoadings.{AreContentsOf, LoadsLine};
 ghost use Rattle.rp_run.specs.declared.contents.Contents.TheVariants as contents;
 ghost use Rattle.rp_types.specs.declared.types.Rational.{Rational as TypeOf};
 
-use crate::files::{
-    Cause, load_asked, load_budgets, load_bundles, load_certificate, load_choices, load_prices,
-    load_prices_with_expenditure, load_table, load_technology,
-};
+use crate::files::{Cause, load_certificate, load_table};
 use crate::menus::load_menus_with_units;
+use crate::number_files::{
+    AskedFile, BudgetedPricesFile, BudgetsFile, BundlesFile, ChoicesFile, PricesFile,
+    TechnologyFile, load_numbers,
+};
 use crate::patches::patches_of;
 use rp_cost::{Asked, Tech};
 use rp_evidence::{Certificate, Kind};
@@ -187,17 +184,8 @@ pub(crate) fn read_contents<'a, D: Desk>(
     line: &Line<'a>,
 ) -> Result<Contents, Cause<'a>>
     requires sized { IsSized (named_line line.now) }
-    ensures read { IfOk result (HasContents (D.bytes desk.old) (named_line line.now)) }
-    ensures matching { IfOk result
-        (AreOf (takes_levels (named_line line.now)) (file_set (named_line line.now))) }
-    ensures caused { IfErr result
-        (IsCause (D.bytes desk.old) (Rose (D.faults desk.old) (D.faults desk.new))
-        (AsksForFirst (D.bytes desk.old) (D.calls desk.old) (D.calls desk.new))
-        (named_line line.now)) }
-    ensures in_turn { AreReadInTurn (D.bytes desk.old)
-        (D.calls desk.old) (D.calls desk.new) (named_line line.now) }
-    ensures bytes_stay { EachStays (D.bytes desk.old) (D.bytes desk.new) }
-    ensures never_falls { NoneFalls (D.faults desk.old) (D.faults desk.new) }
+    ensures { LoadsLine D.bytes D.faults D.calls desk.old desk.new (named_line line.now)
+        (AreContentsOf (D.bytes desk.old) (named_line line.now)) result }
 {
     match line.command.files() {
         FileSet::Nothing => Ok(Contents::Nothing),
@@ -223,17 +211,8 @@ fn load_table_alone<'a, D: Desk>(
 ) -> Result<Contents, Cause<'a>>
     requires sized { IsSized (named_line line.now) }
     requires files { file_set (named_line line.now) ≡ files.Table }
-    ensures read { IfOk result (HasContents (D.bytes desk.old) (named_line line.now)) }
-    ensures matching { IfOk result
-        (AreOf (takes_levels (named_line line.now)) (file_set (named_line line.now))) }
-    ensures caused { IfErr result
-        (IsCause (D.bytes desk.old) (Rose (D.faults desk.old) (D.faults desk.new))
-        (AsksForFirst (D.bytes desk.old) (D.calls desk.old) (D.calls desk.new))
-        (named_line line.now)) }
-    ensures in_turn { AreReadInTurn (D.bytes desk.old)
-        (D.calls desk.old) (D.calls desk.new) (named_line line.now) }
-    ensures bytes_stay { EachStays (D.bytes desk.old) (D.bytes desk.new) }
-    ensures never_falls { NoneFalls (D.faults desk.old) (D.faults desk.new) }
+    ensures { LoadsLine D.bytes D.faults D.calls desk.old desk.new (named_line line.now)
+        (AreContentsOf (D.bytes desk.old) (named_line line.now)) result }
 {
     let table = load_table(alloc, desk, line.given.file(0), line.command.takes_levels())?;
     Ok(Contents::Table(table))
@@ -247,17 +226,8 @@ fn load_table_certificate<'a, D: Desk>(
 ) -> Result<Contents, Cause<'a>>
     requires sized { IsSized (named_line line.now) }
     requires files { file_set (named_line line.now) ≡ files.TableAndCertificate }
-    ensures read { IfOk result (HasContents (D.bytes desk.old) (named_line line.now)) }
-    ensures matching { IfOk result
-        (AreOf (takes_levels (named_line line.now)) (file_set (named_line line.now))) }
-    ensures caused { IfErr result
-        (IsCause (D.bytes desk.old) (Rose (D.faults desk.old) (D.faults desk.new))
-        (AsksForFirst (D.bytes desk.old) (D.calls desk.old) (D.calls desk.new))
-        (named_line line.now)) }
-    ensures in_turn { AreReadInTurn (D.bytes desk.old)
-        (D.calls desk.old) (D.calls desk.new) (named_line line.now) }
-    ensures bytes_stay { EachStays (D.bytes desk.old) (D.bytes desk.new) }
-    ensures never_falls { NoneFalls (D.faults desk.old) (D.faults desk.new) }
+    ensures { LoadsLine D.bytes D.faults D.calls desk.old desk.new (named_line line.now)
+        (AreContentsOf (D.bytes desk.old) (named_line line.now)) result }
 {
     let table = load_table(alloc, desk, line.given.file(0), line.command.takes_levels())?;
     let certificate = load_certificate(alloc, desk, line.given.file(1), Kind::Table)?;
@@ -272,20 +242,11 @@ fn load_table_prices_with_expenditure<'a, D: Desk>(
 ) -> Result<Contents, Cause<'a>>
     requires sized { IsSized (named_line line.now) }
     requires files { file_set (named_line line.now) ≡ files.TableAndPricesWithExpenditure }
-    ensures read { IfOk result (HasContents (D.bytes desk.old) (named_line line.now)) }
-    ensures matching { IfOk result
-        (AreOf (takes_levels (named_line line.now)) (file_set (named_line line.now))) }
-    ensures caused { IfErr result
-        (IsCause (D.bytes desk.old) (Rose (D.faults desk.old) (D.faults desk.new))
-        (AsksForFirst (D.bytes desk.old) (D.calls desk.old) (D.calls desk.new))
-        (named_line line.now)) }
-    ensures in_turn { AreReadInTurn (D.bytes desk.old)
-        (D.calls desk.old) (D.calls desk.new) (named_line line.now) }
-    ensures bytes_stay { EachStays (D.bytes desk.old) (D.bytes desk.new) }
-    ensures never_falls { NoneFalls (D.faults desk.old) (D.faults desk.new) }
+    ensures { LoadsLine D.bytes D.faults D.calls desk.old desk.new (named_line line.now)
+        (AreContentsOf (D.bytes desk.old) (named_line line.now)) result }
 {
     let table = load_table(alloc, desk, line.given.file(0), line.command.takes_levels())?;
-    let new = load_prices_with_expenditure(alloc, desk, line.given.file(1), &table)?;
+    let new = load_numbers(alloc, desk, line.given.file(1), &BudgetedPricesFile(&table))?;
     Ok(Contents::TableAndPricesWithExpenditure(table, new))
 }
 
@@ -297,20 +258,11 @@ fn load_table_prices<'a, D: Desk>(
 ) -> Result<Contents, Cause<'a>>
     requires sized { IsSized (named_line line.now) }
     requires files { file_set (named_line line.now) ≡ files.TableAndPrices }
-    ensures read { IfOk result (HasContents (D.bytes desk.old) (named_line line.now)) }
-    ensures matching { IfOk result
-        (AreOf (takes_levels (named_line line.now)) (file_set (named_line line.now))) }
-    ensures caused { IfErr result
-        (IsCause (D.bytes desk.old) (Rose (D.faults desk.old) (D.faults desk.new))
-        (AsksForFirst (D.bytes desk.old) (D.calls desk.old) (D.calls desk.new))
-        (named_line line.now)) }
-    ensures in_turn { AreReadInTurn (D.bytes desk.old)
-        (D.calls desk.old) (D.calls desk.new) (named_line line.now) }
-    ensures bytes_stay { EachStays (D.bytes desk.old) (D.bytes desk.new) }
-    ensures never_falls { NoneFalls (D.faults desk.old) (D.faults desk.new) }
+    ensures { LoadsLine D.bytes D.faults D.calls desk.old desk.new (named_line line.now)
+        (AreContentsOf (D.bytes desk.old) (named_line line.now)) result }
 {
     let table = load_table(alloc, desk, line.given.file(0), line.command.takes_levels())?;
-    let new = load_prices(alloc, desk, line.given.file(1), &table)?;
+    let new = load_numbers(alloc, desk, line.given.file(1), &PricesFile(&table))?;
     Ok(Contents::TableAndPrices(table, new))
 }
 
@@ -322,20 +274,11 @@ fn load_table_bundles<'a, D: Desk>(
 ) -> Result<Contents, Cause<'a>>
     requires sized { IsSized (named_line line.now) }
     requires files { file_set (named_line line.now) ≡ files.TableAndBundles }
-    ensures read { IfOk result (HasContents (D.bytes desk.old) (named_line line.now)) }
-    ensures matching { IfOk result
-        (AreOf (takes_levels (named_line line.now)) (file_set (named_line line.now))) }
-    ensures caused { IfErr result
-        (IsCause (D.bytes desk.old) (Rose (D.faults desk.old) (D.faults desk.new))
-        (AsksForFirst (D.bytes desk.old) (D.calls desk.old) (D.calls desk.new))
-        (named_line line.now)) }
-    ensures in_turn { AreReadInTurn (D.bytes desk.old)
-        (D.calls desk.old) (D.calls desk.new) (named_line line.now) }
-    ensures bytes_stay { EachStays (D.bytes desk.old) (D.bytes desk.new) }
-    ensures never_falls { NoneFalls (D.faults desk.old) (D.faults desk.new) }
+    ensures { LoadsLine D.bytes D.faults D.calls desk.old desk.new (named_line line.now)
+        (AreContentsOf (D.bytes desk.old) (named_line line.now)) result }
 {
     let table = load_table(alloc, desk, line.given.file(0), line.command.takes_levels())?;
-    let bundles = load_bundles(alloc, desk, line.given.file(1), &table)?;
+    let bundles = load_numbers(alloc, desk, line.given.file(1), &BundlesFile(&table))?;
     Ok(Contents::TableAndBundles(table, bundles))
 }
 
@@ -347,20 +290,11 @@ fn load_patches<'a, D: Desk>(
 ) -> Result<Contents, Cause<'a>>
     requires sized { IsSized (named_line line.now) }
     requires files { file_set (named_line line.now) ≡ files.Choices }
-    ensures read { IfOk result (HasContents (D.bytes desk.old) (named_line line.now)) }
-    ensures matching { IfOk result
-        (AreOf (takes_levels (named_line line.now)) (file_set (named_line line.now))) }
-    ensures caused { IfErr result
-        (IsCause (D.bytes desk.old) (Rose (D.faults desk.old) (D.faults desk.new))
-        (AsksForFirst (D.bytes desk.old) (D.calls desk.old) (D.calls desk.new))
-        (named_line line.now)) }
-    ensures in_turn { AreReadInTurn (D.bytes desk.old)
-        (D.calls desk.old) (D.calls desk.new) (named_line line.now) }
-    ensures bytes_stay { EachStays (D.bytes desk.old) (D.bytes desk.new) }
-    ensures never_falls { NoneFalls (D.faults desk.old) (D.faults desk.new) }
+    ensures { LoadsLine D.bytes D.faults D.calls desk.old desk.new (named_line line.now)
+        (AreContentsOf (D.bytes desk.old) (named_line line.now)) result }
 {
-    let budgets = load_budgets(alloc, desk, line.given.file(0))?;
-    let choices = load_choices(alloc, desk, line.given.file(1), &budgets)?;
+    let budgets = load_numbers(alloc, desk, line.given.file(0), &BudgetsFile)?;
+    let choices = load_numbers(alloc, desk, line.given.file(1), &ChoicesFile(&budgets))?;
     let (patches, types) = patches_of(alloc, &budgets, &choices, line.given.per)?;
     Ok(Contents::Choices(patches, types))
 }
@@ -373,20 +307,11 @@ fn load_patches_certificate<'a, D: Desk>(
 ) -> Result<Contents, Cause<'a>>
     requires sized { IsSized (named_line line.now) }
     requires files { file_set (named_line line.now) ≡ files.ChoicesAndCertificate }
-    ensures read { IfOk result (HasContents (D.bytes desk.old) (named_line line.now)) }
-    ensures matching { IfOk result
-        (AreOf (takes_levels (named_line line.now)) (file_set (named_line line.now))) }
-    ensures caused { IfErr result
-        (IsCause (D.bytes desk.old) (Rose (D.faults desk.old) (D.faults desk.new))
-        (AsksForFirst (D.bytes desk.old) (D.calls desk.old) (D.calls desk.new))
-        (named_line line.now)) }
-    ensures in_turn { AreReadInTurn (D.bytes desk.old)
-        (D.calls desk.old) (D.calls desk.new) (named_line line.now) }
-    ensures bytes_stay { EachStays (D.bytes desk.old) (D.bytes desk.new) }
-    ensures never_falls { NoneFalls (D.faults desk.old) (D.faults desk.new) }
+    ensures { LoadsLine D.bytes D.faults D.calls desk.old desk.new (named_line line.now)
+        (AreContentsOf (D.bytes desk.old) (named_line line.now)) result }
 {
-    let budgets = load_budgets(alloc, desk, line.given.file(0))?;
-    let choices = load_choices(alloc, desk, line.given.file(1), &budgets)?;
+    let budgets = load_numbers(alloc, desk, line.given.file(0), &BudgetsFile)?;
+    let choices = load_numbers(alloc, desk, line.given.file(1), &ChoicesFile(&budgets))?;
     let certificate = load_certificate(alloc, desk, line.given.file(2), Kind::Random)?;
     let (patches, types) = patches_of(alloc, &budgets, &choices, line.given.per)?;
     Ok(Contents::ChoicesAndCertificate(patches, types, certificate))
@@ -400,19 +325,10 @@ fn load_technology_asked<'a, D: Desk>(
 ) -> Result<Contents, Cause<'a>>
     requires sized { IsSized (named_line line.now) }
     requires files { file_set (named_line line.now) ≡ files.TechnologyAndAsked }
-    ensures read { IfOk result (HasContents (D.bytes desk.old) (named_line line.now)) }
-    ensures matching { IfOk result
-        (AreOf (takes_levels (named_line line.now)) (file_set (named_line line.now))) }
-    ensures caused { IfErr result
-        (IsCause (D.bytes desk.old) (Rose (D.faults desk.old) (D.faults desk.new))
-        (AsksForFirst (D.bytes desk.old) (D.calls desk.old) (D.calls desk.new))
-        (named_line line.now)) }
-    ensures in_turn { AreReadInTurn (D.bytes desk.old)
-        (D.calls desk.old) (D.calls desk.new) (named_line line.now) }
-    ensures bytes_stay { EachStays (D.bytes desk.old) (D.bytes desk.new) }
-    ensures never_falls { NoneFalls (D.faults desk.old) (D.faults desk.new) }
+    ensures { LoadsLine D.bytes D.faults D.calls desk.old desk.new (named_line line.now)
+        (AreContentsOf (D.bytes desk.old) (named_line line.now)) result }
 {
-    let tech = load_technology(alloc, desk, line.given.file(0))?;
-    let asked = load_asked(alloc, desk, line.given.file(1), &tech)?;
+    let tech = load_numbers(alloc, desk, line.given.file(0), &TechnologyFile)?;
+    let asked = load_numbers(alloc, desk, line.given.file(1), &AskedFile(&tech))?;
     Ok(Contents::TechnologyAndAsked(tech, asked))
 }

@@ -1,3 +1,4 @@
+//! The texts of faults, as they stand in the lines that tell them.
 ghost use Rattle.std.specs.Prelude.{◌≡◌, ◌++◌, IfOk, OnOk};
 ghost use Rattle.rp_json.specs.declared.fault.JsonFault.TheVariants as json_fault;
 ghost use Rattle.rp_print.specs.ListText.{line_of, ordinal_text};

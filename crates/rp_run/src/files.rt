@@ -1,32 +1,28 @@
-ghost use Rattle.std.specs.Prelude.{◌≡◌, ◌+◌, true, false, ◌<◌, ◌≤◌};
+//! The files of a line: why one gives nothing, its bytes, and the loaders of a table and of a certificate.
+ghost use Rattle.std.specs.Prelude.{◌≡◌, ◌+◌, ◌≤◌};
 ghost use Rattle.std.specs.Prelude.{IfOk, IfErr, Ok, length};
-ghost use Rattle.rp_cost.specs.Denotation.{asked_beside, tech_in};
 ghost use Rattle.rp_evidence.specs.Kinds.{IsCertificateOf};
 ghost use Rattle.rp_outside.specs.Faults.{EachStays, NoneFalls};
-ghost use Rattle.rp_patch.specs.Choices.{AreChoicesFrom};
-ghost use Rattle.rp_table.specs.Tables.{goods_of};
-ghost use Rattle.rp_text.specs.Denotation.{budgets_in, bundles_beside, choices_on};
-ghost use Rattle.rp_text.specs.Denotation.{prices_beside, table_in};
+ghost use Rattle.rp_outside.specs.Known.{AreAll};
+ghost use Rattle.rp_outside.specs.Reads.{calls_through};
 ghost use Rattle.rp_run.specs.FaultLines as text;
-ghost use Rattle.rp_run.specs.Answers.{IsContent};
 ghost use Rattle.rp_run.specs.Endings.{Rose};
-ghost use Rattle.rp_run.specs.Turns.{calls_of_certificate, calls_of_numbers};
 ghost use Rattle.rp_run.specs.Contents.{MayHaveLevels};
-ghost use Rattle.rp_run.specs.Readings.{CertificateIn, Just, Numbers, TakenTable, all_bytes};
+ghost use Rattle.rp_run.specs.InnerLoadings.{LoadsFile};
+ghost use Rattle.rp_run.specs.Readings.{CertificateIn, Just, NumbersIn, TakenTable, all_bytes};
 ghost use Rattle.rp_run.specs.Readings.{unless_levelled};
-ghost use Rattle.rp_answers.specs.DemandText.{IsSpentOn};
 ghost use Rattle.rp_run.specs.Causes.{IsJsonRefusalOf, IsRefusal, IsRefusalOf, IsFileCause};
-ghost use Rattle.rp_run.specs.Causes.{IsLoaded, IsReadingCause};
+ghost use Rattle.rp_run.specs.Causes.{IsReadingCause};
 
 use crate::fault_text::{text_of_fault, text_of_json_fault};
-use rp_cost::{Asked, Tech, read_asked, read_tech};
+use crate::number_files::{TableFile, load_numbers};
 use rp_evidence::{Certificate, Kind};
 use rp_json::{JsonFault, read};
 use rp_num::NoMemory;
 use rp_outside::{Desk, LoadFault, load};
 use rp_print::push_line;
-use rp_table::{Budgets, Bundles, Choices, Prices, Table};
-use rp_text::{TableFault, read_budgets, read_bundles, read_choices, read_prices, read_table};
+use rp_table::Table;
+use rp_text::TableFault;
 use std::alloc::Global;
 
 /// The most bytes of a file of numbers.
@@ -52,15 +48,11 @@ pub(crate) fn load_table<'a, D: Desk>(
     file: &'a str,
     takes_levels: bool,
 ) -> Result<Table, Cause<'a>>
-    ensures loaded { IsLoaded (D.bytes desk.old) (Rose (D.faults desk.old) (D.faults desk.new))
+    ensures loads { LoadsFile D.bytes D.faults D.calls desk.old desk.new MOST_BYTES
         file.now (TakenTable takes_levels file.now) result }
     ensures levels { IfOk result (MayHaveLevels takes_levels) }
-    ensures read_through { D.calls desk.new ≤ D.calls desk.old
-        + calls_of_numbers (D.bytes desk.old) file.now }
-    ensures bytes_stay { EachStays (D.bytes desk.old) (D.bytes desk.new) }
-    ensures never_falls { NoneFalls (D.faults desk.old) (D.faults desk.new) }
 {
-    let table = load_any_table(alloc, desk, file)?;
+    let table = load_numbers(alloc, desk, file, &TableFile)?;
     unless_levelled(alloc, file, table, takes_levels)
 }
 
@@ -85,176 +77,6 @@ fn unless_levelled<'a>(
     Ok(table)
 }
 
-/// The table in a file, with levels or without.
-fn load_any_table<'a, D: Desk>(
-    alloc: Global,
-    desk: &mut D,
-    file: &'a str,
-) -> Result<Table, Cause<'a>>
-    ensures loaded { IsLoaded (D.bytes desk.old) (Rose (D.faults desk.old) (D.faults desk.new))
-        file.now (Numbers file.now table_in) result }
-    ensures read_through { D.calls desk.new ≤ D.calls desk.old
-        + calls_of_numbers (D.bytes desk.old) file.now }
-    ensures bytes_stay { EachStays (D.bytes desk.old) (D.bytes desk.new) }
-    ensures never_falls { NoneFalls (D.faults desk.old) (D.faults desk.new) }
-{
-    let bytes = load_numbers(alloc, desk, file)?;
-    match read_table(alloc, bytes.as_slice()) {
-        Ok(table) => Ok(table),
-        Err(fault) => Err(refusal(alloc, file, fault)),
-    }
-}
-
-/// The bundles in a file beside a table.
-pub(crate) fn load_bundles<'a, D: Desk>(
-    alloc: Global,
-    desk: &mut D,
-    file: &'a str,
-    table: &Table,
-) -> Result<Bundles, Cause<'a>>
-    ensures loaded { IsLoaded (D.bytes desk.old) (Rose (D.faults desk.old) (D.faults desk.new))
-        file.now (Numbers file.now (bundles_beside table.now)) result }
-    ensures goods { IfOk result (λ bundles. bundles.goods ≡ goods_of table.now) }
-    ensures read_through { D.calls desk.new ≤ D.calls desk.old
-        + calls_of_numbers (D.bytes desk.old) file.now }
-    ensures bytes_stay { EachStays (D.bytes desk.old) (D.bytes desk.new) }
-    ensures never_falls { NoneFalls (D.faults desk.old) (D.faults desk.new) }
-{
-    let bytes = load_numbers(alloc, desk, file)?;
-    match read_bundles(alloc, bytes.as_slice(), table) {
-        Ok(bundles) => Ok(bundles),
-        Err(fault) => Err(refusal(alloc, file, fault)),
-    }
-}
-
-/// The new prices in a file beside a table, each with an expenditure.
-pub(crate) fn load_prices_with_expenditure<'a, D: Desk>(
-    alloc: Global,
-    desk: &mut D,
-    file: &'a str,
-    table: &Table,
-) -> Result<Prices, Cause<'a>>
-    ensures loaded { IsLoaded (D.bytes desk.old) (Rose (D.faults desk.old) (D.faults desk.new))
-        file.now (Numbers file.now (prices_beside true table.now)) result }
-    ensures goods { IfOk result (λ new. IsSpentOn table.now new) }
-    ensures read_through { D.calls desk.new ≤ D.calls desk.old
-        + calls_of_numbers (D.bytes desk.old) file.now }
-    ensures bytes_stay { EachStays (D.bytes desk.old) (D.bytes desk.new) }
-    ensures never_falls { NoneFalls (D.faults desk.old) (D.faults desk.new) }
-{
-    let bytes = load_numbers(alloc, desk, file)?;
-    match read_prices(alloc, bytes.as_slice(), table, true) {
-        Ok(new) => Ok(new),
-        Err(fault) => Err(refusal(alloc, file, fault)),
-    }
-}
-
-/// The new prices in a file beside a table.
-pub(crate) fn load_prices<'a, D: Desk>(
-    alloc: Global,
-    desk: &mut D,
-    file: &'a str,
-    table: &Table,
-) -> Result<Prices, Cause<'a>>
-    ensures loaded { IsLoaded (D.bytes desk.old) (Rose (D.faults desk.old) (D.faults desk.new))
-        file.now (Numbers file.now (prices_beside false table.now)) result }
-    ensures goods { IfOk result (λ new. new.goods ≡ goods_of table.now) }
-    ensures read_through { D.calls desk.new ≤ D.calls desk.old
-        + calls_of_numbers (D.bytes desk.old) file.now }
-    ensures bytes_stay { EachStays (D.bytes desk.old) (D.bytes desk.new) }
-    ensures never_falls { NoneFalls (D.faults desk.old) (D.faults desk.new) }
-{
-    let bytes = load_numbers(alloc, desk, file)?;
-    match read_prices(alloc, bytes.as_slice(), table, false) {
-        Ok(new) => Ok(new),
-        Err(fault) => Err(refusal(alloc, file, fault)),
-    }
-}
-
-/// The technology in a file.
-pub(crate) fn load_technology<'a, D: Desk>(
-    alloc: Global,
-    desk: &mut D,
-    file: &'a str,
-) -> Result<Tech, Cause<'a>>
-    ensures loaded { IsLoaded (D.bytes desk.old) (Rose (D.faults desk.old) (D.faults desk.new))
-        file.now (Numbers file.now tech_in) result }
-    ensures read_through { D.calls desk.new ≤ D.calls desk.old
-        + calls_of_numbers (D.bytes desk.old) file.now }
-    ensures bytes_stay { EachStays (D.bytes desk.old) (D.bytes desk.new) }
-    ensures never_falls { NoneFalls (D.faults desk.old) (D.faults desk.new) }
-{
-    let bytes = load_numbers(alloc, desk, file)?;
-    match read_tech(alloc, bytes.as_slice()) {
-        Ok(tech) => Ok(tech),
-        Err(fault) => Err(refusal(alloc, file, fault)),
-    }
-}
-
-/// The outputs in a file that are asked of a technology.
-pub(crate) fn load_asked<'a, D: Desk>(
-    alloc: Global,
-    desk: &mut D,
-    file: &'a str,
-    tech: &Tech,
-) -> Result<Asked, Cause<'a>>
-    ensures loaded { IsLoaded (D.bytes desk.old) (Rose (D.faults desk.old) (D.faults desk.new))
-        file.now (Numbers file.now (asked_beside tech.now)) result }
-    ensures inputs { IfOk result (λ asked. asked.prices.goods ≡ goods_of tech.now.table) }
-    ensures read_through { D.calls desk.new ≤ D.calls desk.old
-        + calls_of_numbers (D.bytes desk.old) file.now }
-    ensures bytes_stay { EachStays (D.bytes desk.old) (D.bytes desk.new) }
-    ensures never_falls { NoneFalls (D.faults desk.old) (D.faults desk.new) }
-{
-    let bytes = load_numbers(alloc, desk, file)?;
-    match read_asked(alloc, bytes.as_slice(), tech) {
-        Ok(asked) => Ok(asked),
-        Err(fault) => Err(refusal(alloc, file, fault)),
-    }
-}
-
-/// The budgets in a file.
-pub(crate) fn load_budgets<'a, D: Desk>(
-    alloc: Global,
-    desk: &mut D,
-    file: &'a str,
-) -> Result<Budgets, Cause<'a>>
-    ensures loaded { IsLoaded (D.bytes desk.old) (Rose (D.faults desk.old) (D.faults desk.new))
-        file.now (Numbers file.now budgets_in) result }
-    ensures read_through { D.calls desk.new ≤ D.calls desk.old
-        + calls_of_numbers (D.bytes desk.old) file.now }
-    ensures bytes_stay { EachStays (D.bytes desk.old) (D.bytes desk.new) }
-    ensures never_falls { NoneFalls (D.faults desk.old) (D.faults desk.new) }
-{
-    let bytes = load_numbers(alloc, desk, file)?;
-    match read_budgets(alloc, bytes.as_slice()) {
-        Ok(budgets) => Ok(budgets),
-        Err(fault) => Err(refusal(alloc, file, fault)),
-    }
-}
-
-/// The choices in a file, from budgets.
-pub(crate) fn load_choices<'a, D: Desk>(
-    alloc: Global,
-    desk: &mut D,
-    file: &'a str,
-    budgets: &Budgets,
-) -> Result<Choices, Cause<'a>>
-    ensures loaded { IsLoaded (D.bytes desk.old) (Rose (D.faults desk.old) (D.faults desk.new))
-        file.now (Numbers file.now (choices_on budgets.now)) result }
-    ensures from { IfOk result (AreChoicesFrom budgets.now) }
-    ensures read_through { D.calls desk.new ≤ D.calls desk.old
-        + calls_of_numbers (D.bytes desk.old) file.now }
-    ensures bytes_stay { EachStays (D.bytes desk.old) (D.bytes desk.new) }
-    ensures never_falls { NoneFalls (D.faults desk.old) (D.faults desk.new) }
-{
-    let bytes = load_numbers(alloc, desk, file)?;
-    match read_choices(alloc, bytes.as_slice(), budgets) {
-        Ok(choices) => Ok(choices),
-        Err(fault) => Err(refusal(alloc, file, fault)),
-    }
-}
-
 /// The certificate of a kind in a file.
 pub(crate) fn load_certificate<'a, D: Desk>(
     alloc: Global,
@@ -262,13 +84,9 @@ pub(crate) fn load_certificate<'a, D: Desk>(
     file: &'a str,
     kind: Kind,
 ) -> Result<Certificate, Cause<'a>>
-    ensures loaded { IsLoaded (D.bytes desk.old) (Rose (D.faults desk.old) (D.faults desk.new))
+    ensures loads { LoadsFile D.bytes D.faults D.calls desk.old desk.new MOST_CERTIFICATE_BYTES
         file.now (CertificateIn file.now kind) result }
     ensures kind { IfOk result (IsCertificateOf kind) }
-    ensures read_through { D.calls desk.new ≤ D.calls desk.old
-        + calls_of_certificate (D.bytes desk.old) file.now }
-    ensures bytes_stay { EachStays (D.bytes desk.old) (D.bytes desk.new) }
-    ensures never_falls { NoneFalls (D.faults desk.old) (D.faults desk.new) }
 {
     match load(alloc, desk, file, MOST_CERTIFICATE_BYTES) {
         Ok(bytes) => match read(alloc, bytes.as_slice(), kind) {
@@ -282,18 +100,18 @@ pub(crate) fn load_certificate<'a, D: Desk>(
 }
 
 /// All bytes of a file of numbers.
-pub(crate) fn load_numbers<'a, D: Desk>(
+pub(crate) fn load_bytes<'a, D: Desk>(
     alloc: Global,
     desk: &mut D,
     file: &'a str,
 ) -> Result<Vec<u8>, Cause<'a>>
-    ensures content { IfOk result (λ v. IsContent (D.bytes desk.old) file.now v.items) }
+    ensures content { IfOk result (λ v. AreAll (D.bytes desk.old file.now) v.items) }
     ensures few { IfOk result (λ v. length v.items ≤ MOST_BYTES) }
     ensures caused { IfErr result
         (IsFileCause (D.bytes desk.old) (Rose (D.faults desk.old) (D.faults desk.new))
-        file.now (Numbers file.now all_bytes)) }
+        file.now (NumbersIn file.now all_bytes)) }
     ensures read_through { D.calls desk.new ≤ D.calls desk.old
-        + calls_of_numbers (D.bytes desk.old) file.now }
+        + calls_through MOST_BYTES (D.bytes desk.old file.now) }
     ensures bytes_stay { EachStays (D.bytes desk.old) (D.bytes desk.new) }
     ensures never_falls { NoneFalls (D.faults desk.old) (D.faults desk.new) }
 {
@@ -306,7 +124,7 @@ pub(crate) fn load_numbers<'a, D: Desk>(
 }
 
 /// The cause that a fault of a file is.
-fn refusal<'a>(alloc: Global, file: &'a str, fault: TableFault) -> Cause<'a>
+pub(crate) fn refusal<'a>(alloc: Global, file: &'a str, fault: TableFault) -> Cause<'a>
     ensures { IsRefusalOf file.now fault result }
 {
     match fault {

@@ -7,6 +7,7 @@ mod fault_text;
 mod files;
 mod laws;
 mod menus;
+mod number_files;
 mod patches;
 mod running;
 mod sure;

@@ -1,22 +1,18 @@
 //! Choices from menus in a file, with the units of their cells.
-ghost use Rattle.std.specs.Prelude.{◌≡◌, ◌≤◌, ◌+◌, ◌++◌, IfErr, IfOk, Ok, OnOk};
-ghost use Rattle.rp_outside.specs.Faults.{EachStays, NoneFalls};
-ghost use Rattle.rp_words.specs.CommandLine.{file_set, takes_levels};
+ghost use Rattle.std.specs.Prelude.{◌≡◌, ◌++◌, IfErr, IfOk, Ok, OnOk};
+ghost use Rattle.rp_words.specs.CommandLine.{file_set};
 ghost use Rattle.rp_words.specs.Named.{named_line};
 ghost use Rattle.rp_words.specs.Ranges.{IsSized, IsUnit};
 ghost use Rattle.rp_words.specs.declared.commands.FileSet.TheVariants as files;
-ghost use Rattle.rp_run.specs.Answers.{HasContents};
-ghost use Rattle.rp_run.specs.Causes.{IsCause, IsLoaded, IsMenuRefusalOf, IsReadingCause};
-ghost use Rattle.rp_run.specs.Causes.{IsRefusal};
-ghost use Rattle.rp_run.specs.Contents.{AreOf};
-ghost use Rattle.rp_run.specs.Endings.{Rose};
+ghost use Rattle.rp_run.specs.Causes.{IsMenuRefusalOf, IsReadingCause, IsRefusal};
+ghost use Rattle.rp_run.specs.InnerLoadings.{AreContentsOf, LoadsFile, LoadsLine};
 ghost use Rattle.rp_run.specs.MenuContents as text;
 ghost use Rattle.rp_run.specs.MenuContents.{MenusOf, UnitsOf};
-ghost use Rattle.rp_run.specs.Turns.{AreReadInTurn, AsksForFirst, calls_of_numbers};
+ghost use Rattle.rp_run.specs.declared.files.TheConstants.{MOST_BYTES};
 
 use crate::contents::Contents;
 use crate::fault_text::{ordinal_line, push_cell, push_column, push_record};
-use crate::files::{Cause, load_numbers, refused};
+use crate::files::{Cause, load_bytes, refused};
 use rp_menu::{MenuFault, Menus, read_menus};
 use rp_num::NoMemory;
 use rp_outside::Desk;
@@ -33,17 +29,8 @@ pub(crate) fn load_menus_with_units<'a, D: Desk>(
 ) -> Result<Contents, Cause<'a>>
     requires sized { IsSized (named_line line.now) }
     requires files { file_set (named_line line.now) ≡ files.Menus }
-    ensures read { IfOk result (HasContents (D.bytes desk.old) (named_line line.now)) }
-    ensures matching { IfOk result
-        (AreOf (takes_levels (named_line line.now)) (file_set (named_line line.now))) }
-    ensures caused { IfErr result
-        (IsCause (D.bytes desk.old) (Rose (D.faults desk.old) (D.faults desk.new))
-        (AsksForFirst (D.bytes desk.old) (D.calls desk.old) (D.calls desk.new))
-        (named_line line.now)) }
-    ensures in_turn { AreReadInTurn (D.bytes desk.old)
-        (D.calls desk.old) (D.calls desk.new) (named_line line.now) }
-    ensures bytes_stay { EachStays (D.bytes desk.old) (D.bytes desk.new) }
-    ensures never_falls { NoneFalls (D.faults desk.old) (D.faults desk.new) }
+    ensures { LoadsLine D.bytes D.faults D.calls desk.old desk.new (named_line line.now)
+        (AreContentsOf (D.bytes desk.old) (named_line line.now)) result }
 {
     let seen = load_menus(alloc, desk, line.given.file(0))?;
     let units = units_of(alloc, &seen, line.given.per)?;
@@ -52,14 +39,10 @@ pub(crate) fn load_menus_with_units<'a, D: Desk>(
 
 /// The menus in a file.
 fn load_menus<'a, D: Desk>(alloc: Global, desk: &mut D, file: &'a str) -> Result<Menus, Cause<'a>>
-    ensures loaded { IsLoaded (D.bytes desk.old) (Rose (D.faults desk.old) (D.faults desk.new))
+    ensures loads { LoadsFile D.bytes D.faults D.calls desk.old desk.new MOST_BYTES
         file.now (MenusOf file.now) result }
-    ensures read_through { D.calls desk.new ≤ D.calls desk.old
-        + calls_of_numbers (D.bytes desk.old) file.now }
-    ensures bytes_stay { EachStays (D.bytes desk.old) (D.bytes desk.new) }
-    ensures never_falls { NoneFalls (D.faults desk.old) (D.faults desk.new) }
 {
-    let bytes = load_numbers(alloc, desk, file)?;
+    let bytes = load_bytes(alloc, desk, file)?;
     match read_menus(alloc, bytes.as_slice()) {
         Ok(seen) => Ok(seen),
         Err(fault) => Err(menus_refused(alloc, file, fault)),

@@ -1,3 +1,4 @@
+//! The patches of choices from budgets, with their rational types, or why there are none.
 ghost use Rattle.std.specs.Prelude.{IfOk, IfErr, Ok};
 ghost use Rattle.rp_patch.specs.Choices.{AreChoicesFrom};
 ghost use Rattle.rp_run.specs.Causes.{IsPatchRefusal, IsReadingCause, IsTypesRefusal};

@@ -1,13 +1,15 @@
+//! A call of the program: its words, their answer, and what is written and told.
 ghost use Rattle.std.specs.Prelude.{◌≡◌, ◌⊎◌, ◌≤◌, ℕ, List, [], ◌∷◌, Some, map, string_bytes};
 ghost use Rattle.clap.specs.Faults.{fault_of};
-ghost use Rattle.rp_outside.specs.Faults.{EachStays, HasRisen, NoneFalls};
+ghost use Rattle.rp_outside.specs.Faults.{HasRisen};
 ghost use Rattle.rp_outside.specs.Known.{Stays, Grows, GrowsByPrefix};
 ghost use Rattle.rp_words.specs.CommandLine.{Line as Asked};
 ghost use Rattle.rp_words.specs.Words.{line_in};
 ghost use Rattle.rp_words.specs.Commands.{program};
 ghost use Rattle.rp_words.specs.Shapes.{HasShape, shape_of};
 ghost use Rattle.rp_run.specs.Answers.{IsAccepted, IsRefused};
-ghost use Rattle.rp_run.specs.Calls.{AnswersUsage, AsksInTurn, GivesVerdict, IsWritten, TellsWhy};
+ghost use Rattle.rp_run.specs.Calls.{AnswersUsage, AsksInTurn, GivesVerdict, IsWritten};
+ghost use Rattle.rp_run.specs.Calls.{LeavesTheRest, TellsWhy};
 ghost use Rattle.rp_run.specs.FaultLines.{write_line};
 ghost use Rattle.rp_run.specs.Endings.{IsEnd, Rose, NoneRose};
 ghost use Rattle.rp_run.specs.Gains.{Gains};
@@ -68,10 +70,9 @@ pub fn run<D: Desk, O: Sink, E: Sink>(
         → (result ≡ Status.Refused) ⊎ (result ≡ Status.NoMemory) }
 
     // What is left as it was.
-    ensures bytes_stay { EachStays (D.bytes desk.old) (D.bytes desk.new) }
-    ensures faults_of_files { NoneFalls (D.faults desk.old) (D.faults desk.new) }
-    ensures faults_of_out { O.faults out.old ≤ O.faults out.new }
-    ensures faults_of_err { E.faults err.old ≤ E.faults err.new }
+    ensures stays { LeavesTheRest (D.bytes desk.old) (D.bytes desk.new)
+        (D.faults desk.old) (D.faults desk.new) (O.faults out.old) (O.faults out.new)
+        (E.faults err.old) (E.faults err.new) }
 {
     let Ok(asked) = read_line(alloc, words.as_slice()) else {
         return refuse(&Cause::NoMemory, err);

@@ -1,8 +1,9 @@
+//! A call of the program over an outside that never fails.
 ghost use Rattle.std.specs.Prelude.{◌≡◌, ◌⊎◌, Some};
 ghost use Rattle.rp_words.specs.CommandLine.{Line as Asked};
 ghost use Rattle.rp_words.specs.Words.{line_in};
-ghost use Rattle.rp_run.specs.Answers.{IsAccepted, IsRefused, all_told};
-ghost use Rattle.rp_run.specs.Calls.{AnswersUsage, AsksInTurn, GivesVerdict};
+ghost use Rattle.rp_run.specs.Answers.{IsAccepted, IsRefused, all_known};
+ghost use Rattle.rp_run.specs.Calls.{AnswersUsage, AsksInTurn, GivesVerdict, LeavesTheRest};
 ghost use Rattle.rp_run.specs.Endings.{IsEnd};
 
 use crate::running::run;
@@ -21,14 +22,16 @@ pub fn run_surely(
     ensures every_file_is_read { ¬ (result ≡ Status.ReadFault) }
     ensures every_answer_is_written { ¬ (result ≡ Status.WriteFault) }
     ensures words { AnswersUsage (line_in words.now.items) result }
-    ensures verdict { GivesVerdict (all_told desk.old) (line_in words.now.items) result }
-    ensures turns { AsksInTurn (all_told desk.old)
+    ensures verdict { GivesVerdict (all_known desk.old) (line_in words.now.items) result }
+    ensures turns { AsksInTurn (all_known desk.old)
         desk.old.calls desk.new.calls (line_in words.now.items) }
+    ensures stays { LeavesTheRest (all_known desk.old) (all_known desk.new)
+        (λ _. 0) (λ _. 0) 0 0 0 0 }
     ensures accepted { (line : Asked) → line_in words.now.items ≡ Some line
-        → IsAccepted (all_told desk.old) line
+        → IsAccepted (all_known desk.old) line
         → IsEnd result ⊎ (result ≡ Status.NoMemory) }
     ensures refused { (line : Asked) → line_in words.now.items ≡ Some line
-        → IsRefused (all_told desk.old) line
+        → IsRefused (all_known desk.old) line
         → (result ≡ Status.Refused) ⊎ (result ≡ Status.NoMemory) }
 {
     run(alloc, words, desk, out, err)

@@ -1,3 +1,4 @@
+//! Texts for standard error.
 ghost use Rattle.std.specs.Prelude.{◌≤◌};
 ghost use Rattle.std.specs.List.{flat_map};
 ghost use Rattle.rp_run.specs.Gains.{Gains};

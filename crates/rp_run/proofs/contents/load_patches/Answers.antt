@@ -1,146 +1,54 @@
-use Rattle.std.proofs.Common.{◌≡◌, ℕ, List, [], ◌∷◌, Some, None, Result, Ok, Err, refl, sym, subst, ap, length}
+use Rattle.std.proofs.Common.{◌≡◌, Ok, refl}
 use Rattle.rp_text.specs.Denotation.{budgets_in, choices_on}
-use Rattle.rp_words.specs.CommandLine.{Line, file_at, file_set, files_of, takes_levels}
+use Rattle.rp_words.specs.CommandLine.{Line, file_at, file_set}
 use Rattle.rp_words.specs.Named.{named_line}
 use Rattle.rp_words.specs.Ranges.{IsSized}
 use Rattle.rp_words.specs.declared.commands.FileSet.TheVariants.{Choices}
-use Rattle.rp_outside.specs.Reads.{calls_through}
-use Rattle.rp_run.specs.Answers.{Files}
-use Rattle.rp_run.specs.Causes.{IsCause}
 use Rattle.rp_run.specs.ChoiceContents.{TypedPatchesOf}
-use Rattle.rp_run.specs.Contents.{ContentsIn, Denotes}
-use Rattle.rp_run.specs.Endings.{Rose}
-use Rattle.rp_run.specs.Readings.{AndThen, Just, Numbers, Told, numbers_in}
+use Rattle.rp_run.specs.InnerLoadings.{AreContentsOf, LoadsLine}
+use Rattle.rp_run.specs.Readings.{AndThen, Just, NumbersIn, numbers_in}
 use Rattle.rp_run.specs.declared.files.TheConstants.{MOST_BYTES}
-use Rattle.rp_run.specs.Turns.{AreRefused, AsksForFirst, calls_of_files, first_told}
-use Rattle.rp_run.specs.declared.contents.Contents.{Contents}
 use Rattle.rp_run.specs.declared.contents.Contents.TheVariants as contents
-use Rattle.rp_run.proofs.FileLemmas.{two_input, first_cause, second_cause, moved_cause, moved_value, last_cause, then_caused}
-use Rattle.rp_run.proofs.GainsLemmas.{rises_later}
-use Rattle.rp_run.proofs.LineLemmas.{calls_are, two_named}
-use Rattle.rp_sheet.proofs.PassedOn.{passed_on}
-use Rattle.rp_run.proofs.TurnLemmas.{IsToldRefused, asks_one, asks_two, calls_later, first_turn, second_turn, taken_apart, told_refused, untold}
+use Rattle.rp_run.proofs.FileLemmas.{then_caused}
+use Rattle.rp_run.proofs.LoadLemmas.{IsOverTwo, failed_on, over_two, two_first_none, two_held, two_last_none, two_second_none}
 use Rattle.rp_run.proofs.contents.load_patches.Goals as goal
 
-abbrev first : Line → List ℕ
-first line = file_at line 0
+two : (line : Line) → file_set line ≡ Choices → IsSized line
+    → IsOverTwo line Choices MOST_BYTES MOST_BYTES (numbers_in (file_at line 0) budgets_in) (λ a. NumbersIn (file_at line 1) (choices_on a))
+    (λ a b. AndThen (TypedPatchesOf a b line.given.per) (λ made. Just (Ok (contents.Choices made.0 made.1))))
+two line holds sized =
+    over_two line Choices MOST_BYTES MOST_BYTES (numbers_in (file_at line 0) budgets_in) (λ a. NumbersIn (file_at line 1) (choices_on a))
+    (λ a b. AndThen (TypedPatchesOf a b line.given.per) (λ made. Just (Ok (contents.Choices made.0 made.1))))
+    holds sized refl (λ files f s. refl) (λ bytes r read. read) (λ files text refused. refused)
 
-abbrev second : Line → List ℕ
-second line = file_at line 1
-
-module _ (line : Line) (holds : file_set line ≡ Choices) (sized : IsSized line) where
-  named : files_of line ≡ first line ∷ second line ∷ []
-  named = two_named line Choices holds sized refl
-
-  each : (files : Files) → calls_of_files files line ≡ calls_through MOST_BYTES (files (first line)) ∷ calls_through MOST_BYTES (files (second line)) ∷ []
-  each files = calls_are line Choices holds sized files (first line ∷ second line ∷ []) named
-
-  denoted : (bytes : ℕ → List ℕ) (r : Result Contents (List ℕ)) → AndThen (Numbers (first line) budgets_in (bytes 0)) (λ a. AndThen (Numbers (second line) (choices_on a) (bytes 1)) (λ b. AndThen (TypedPatchesOf a b line.given.per) (λ made. Just (Ok (contents.Choices made.0 made.1))))) r → Denotes line bytes r
-  denoted bytes r read = subst (λ set. ContentsIn (takes_levels line) set line.given (λ k. Some (bytes k)) r) (sym holds) read
-
-  refused : (files : Files) → AreRefused files line 1 → IsToldRefused files (first line) (Numbers (first line) budgets_in)
-  refused files (text, is) =
-      told_refused files (first line) (Numbers (first line) budgets_in) (λ a. AndThen (Told (Numbers (second line) (choices_on a)) None) (λ b. AndThen (TypedPatchesOf a b line.given.per) (λ made. Just (Ok (contents.Choices made.0 made.1))))) text (λ a more. untold (Numbers (second line) (choices_on a)) (λ b. AndThen (TypedPatchesOf a b line.given.per) (λ made. Just (Ok (contents.Choices made.0 made.1)))) text more) (subst (λ set. ContentsIn (takes_levels line) set line.given (first_told files line 1) (Err text)) holds is)
-
-pub returns-in_err-budgets-clause-caused : goal.returns-in_err-budgets-clause-caused
-returns-in_err-budgets-clause-caused g c =
+pub returns-in_err-budgets : goal.returns-in_err-budgets
+returns-in_err-budgets g c =
     let line = named_line c.args.line.now in
-    let files = g.D.Desk.bytes c.args.desk.now in
-    let rose = Rose (g.D.Desk.faults c.args.desk.now) (g.D.Desk.faults c.load_budgets.new.desk) in
-    let asks = AsksForFirst files (g.D.Desk.calls c.args.desk.now) (g.D.Desk.calls c.load_budgets.new.desk) in
-    let loaded = rw c.file.ensures at c.in_err-budgets.ensures.loaded in
-    let once = rw c.file.ensures at c.in_err-budgets.ensures.read_through in
-    passed_on c.from_residual.result c.in_err-budgets.field-0.0 (IsCause files rose asks line) c.from_residual.ensures
-    (first_cause files rose asks line (first line) (second line) (Numbers (first line) budgets_in) (λ a. Numbers (second line) (choices_on a)) (λ a. λ b. AndThen (TypedPatchesOf a b line.given.per) (λ made. Just (Ok (contents.Choices made.0 made.1)))) (named line c.requires.files c.requires.sized) (denoted line c.requires.files c.requires.sized) c.in_err-budgets.field-0.0 (asks_one files line _ _ (each line c.requires.files c.requires.sized files) _ _ once) loaded)
+    let old = c.args.desk.now in
+    failed_on c.from_residual.result c.in_err-budgets.field-0.0 (LoadsLine g.D.Desk.bytes g.D.Desk.faults g.D.Desk.calls old _ line (AreContentsOf (g.D.Desk.bytes old) line)) c.from_residual.ensures
+    (two_first_none g.D.Desk.bytes g.D.Desk.faults g.D.Desk.calls line Choices MOST_BYTES MOST_BYTES _ _ _ (two line c.requires.files c.requires.sized) old _ c.in_err-budgets.field-0.0
+    (rw c.file.ensures at c.in_err-budgets.ensures.loads))
 
-pub returns-in_err-choices-clause-caused : goal.returns-in_err-choices-clause-caused
-returns-in_err-choices-clause-caused g c =
+pub returns-in_err-choices : goal.returns-in_err-choices
+returns-in_err-choices g c =
     let line = named_line c.args.line.now in
-    let files = g.D.Desk.bytes c.args.desk.now in
-    let later = g.D.Desk.bytes c.load_budgets.new.desk in
-    let before = g.D.Desk.faults c.args.desk.now in
-    let mid = g.D.Desk.faults c.load_budgets.new.desk in
-    let after = g.D.Desk.faults c.load_choices.new.desk in
-    let why = c.in_err-choices.field-0.0 in
-    let a = c.in_ok-budgets.budgets in
-    let s = second line in
-    let loaded = rw c.file.ensures at c.in_ok-budgets.ensures.loaded in
-    let once = rw c.file.ensures at c.in_ok-budgets.ensures.read_through in
-    let moved = moved_cause files later (Rose before after) (Rose mid after) s (Numbers (second line) (choices_on a)) why (c.in_ok-budgets.ensures.bytes_stay s) (λ up. rises_later (before s) (mid s) (after s) (c.in_ok-budgets.ensures.never_falls s) up) (rw c.file-2.ensures at c.in_err-choices.ensures.loaded) in
-    let asks = AsksForFirst files (g.D.Desk.calls c.args.desk.now) (g.D.Desk.calls c.load_choices.new.desk) in
-    let also = calls_later files later s MOST_BYTES _ _ (c.in_ok-budgets.ensures.bytes_stay s) (rw c.file-2.ensures at c.in_err-choices.ensures.read_through) in
-    passed_on c.from_residual-in_err-choices.result why (IsCause files (Rose before after) asks line) c.from_residual-in_err-choices.ensures
-    (second_cause files (Rose before after) asks line (first line) s (Numbers (first line) budgets_in) (λ a. Numbers (second line) (choices_on a)) (λ a. λ b. AndThen (TypedPatchesOf a b line.given.per) (λ made. Just (Ok (contents.Choices made.0 made.1)))) (named line c.requires.files c.requires.sized) (denoted line c.requires.files c.requires.sized) a why (asks_two files line _ _ _ (each line c.requires.files c.requires.sized files) _ _ _ once also) loaded moved)
+    let old = c.args.desk.now in
+    failed_on c.from_residual-in_err-choices.result c.in_err-choices.field-0.0 (LoadsLine g.D.Desk.bytes g.D.Desk.faults g.D.Desk.calls old _ line (AreContentsOf (g.D.Desk.bytes old) line)) c.from_residual-in_err-choices.ensures
+    (two_second_none g.D.Desk.bytes g.D.Desk.faults g.D.Desk.calls line Choices MOST_BYTES MOST_BYTES _ _ _ (two line c.requires.files c.requires.sized) old _ _ c.in_ok-budgets.budgets (rw c.file.ensures at c.in_ok-budgets.ensures.loads)
+    c.in_err-choices.field-0.0 (rw c.file-2.ensures at c.in_err-choices.ensures.loads))
 
-pub returns-in_err-patches-clause-caused : goal.returns-in_err-patches-clause-caused
-returns-in_err-patches-clause-caused g c =
+pub returns-in_err-patches : goal.returns-in_err-patches
+returns-in_err-patches g c =
     let line = named_line c.args.line.now in
-    let files = g.D.Desk.bytes c.args.desk.now in
-    let later = g.D.Desk.bytes c.load_budgets.new.desk in
-    let rose = Rose (g.D.Desk.faults c.args.desk.now) (g.D.Desk.faults c.load_choices.new.desk) in
-    let asks = AsksForFirst files (g.D.Desk.calls c.args.desk.now) (g.D.Desk.calls c.load_choices.new.desk) in
-    let a = c.in_ok-budgets.budgets in
-    let b = c.in_ok-choices.choices in
-    let s = second line in
+    let old = c.args.desk.now in
     let why = c.in_err-patches.field-0.0 in
-    let loaded = rw c.file.ensures at c.in_ok-budgets.ensures.loaded in
-    let moved = moved_value files later s (Numbers (second line) (choices_on a)) b (c.in_ok-budgets.ensures.bytes_stay s) (rw c.file-2.ensures at c.in_ok-choices.ensures.loaded) in
-    passed_on c.from_residual-in_err-patches.result why (IsCause files rose asks line) c.from_residual-in_err-patches.ensures
-    (last_cause files rose asks line (first line) s (Numbers (first line) budgets_in) (λ a. Numbers (second line) (choices_on a)) (λ a. λ b. AndThen (TypedPatchesOf a b line.given.per) (λ made. Just (Ok (contents.Choices made.0 made.1)))) (named line c.requires.files c.requires.sized) (denoted line c.requires.files c.requires.sized) a b why loaded moved (then_caused (TypedPatchesOf a b line.given.per) (λ made. contents.Choices made.0 made.1) why c.in_err-patches.ensures.caused))
+    failed_on c.from_residual-in_err-patches.result why (LoadsLine g.D.Desk.bytes g.D.Desk.faults g.D.Desk.calls old _ line (AreContentsOf (g.D.Desk.bytes old) line)) c.from_residual-in_err-patches.ensures
+    (two_last_none g.D.Desk.bytes g.D.Desk.faults g.D.Desk.calls line Choices MOST_BYTES MOST_BYTES _ _ _ (two line c.requires.files c.requires.sized) old _ _ c.in_ok-budgets.budgets (rw c.file.ensures at c.in_ok-budgets.ensures.loads) c.in_ok-choices.choices (rw c.file-2.ensures at c.in_ok-choices.ensures.loads) why
+    (then_caused (TypedPatchesOf c.in_ok-budgets.budgets c.in_ok-choices.choices line.given.per) (λ made. contents.Choices made.0 made.1) why c.in_err-patches.ensures.caused))
 
-pub returns-clause-read : goal.returns-clause-read
-returns-clause-read g c =
+pub returns : goal.returns
+returns g c =
     let line = named_line c.args.line.now in
-    let files = g.D.Desk.bytes c.args.desk.now in
-    let later = g.D.Desk.bytes c.load_budgets.new.desk in
-    let rose = Rose (g.D.Desk.faults c.args.desk.now) (g.D.Desk.faults c.load_choices.new.desk) in
-    let asks = AsksForFirst files (g.D.Desk.calls c.args.desk.now) (g.D.Desk.calls c.load_choices.new.desk) in
-    let a = c.in_ok-budgets.budgets in
-    let b = c.in_ok-choices.choices in
-    let s = second line in
-    let loaded = rw c.file.ensures at c.in_ok-budgets.ensures.loaded in
-    let moved = moved_value files later s (Numbers (second line) (choices_on a)) b (c.in_ok-budgets.ensures.bytes_stay s) (rw c.file-2.ensures at c.in_ok-choices.ensures.loaded) in
-    two_input files rose asks line (first line) s (Numbers (first line) budgets_in) (λ a. Numbers (second line) (choices_on a)) (λ a. λ b. AndThen (TypedPatchesOf a b line.given.per) (λ made. Just (Ok (contents.Choices made.0 made.1)))) (named line c.requires.files c.requires.sized) (denoted line c.requires.files c.requires.sized) a b (contents.Choices c.in_ok-patches.patches c.in_ok-patches.types) loaded moved ((c.in_ok-patches.patches, c.in_ok-patches.types), c.in_ok-patches.ensures.made, refl)
-
-pub returns-in_err-budgets-clause-in_turn : goal.returns-in_err-budgets-clause-in_turn
-returns-in_err-budgets-clause-in_turn g c =
-    let line = named_line c.args.line.now in
-    let files = g.D.Desk.bytes c.args.desk.now in
-    let once = rw c.file.ensures at c.in_err-budgets.ensures.read_through in
-    first_turn files line _ _ (each line c.requires.files c.requires.sized files) _ _ 1 (ap length (named line c.requires.files c.requires.sized)) once
-
-pub returns-in_err-choices-clause-in_turn : goal.returns-in_err-choices-clause-in_turn
-returns-in_err-choices-clause-in_turn g c =
-    let line = named_line c.args.line.now in
-    let files = g.D.Desk.bytes c.args.desk.now in
-    let later = g.D.Desk.bytes c.load_budgets.new.desk in
-    let a = c.in_ok-budgets.budgets in
-    let loaded = rw c.file.ensures at c.in_ok-budgets.ensures.loaded in
-    let once = rw c.file.ensures at c.in_ok-budgets.ensures.read_through in
-    let also = calls_later files later (second line) MOST_BYTES _ _ (c.in_ok-budgets.ensures.bytes_stay (second line)) (rw c.file-2.ensures at c.in_err-choices.ensures.read_through) in
-    second_turn files line _ _ _ (each line c.requires.files c.requires.sized files) _ _ _ 0 (ap length (named line c.requires.files c.requires.sized)) once also
-    (λ is. taken_apart files (first line) (numbers_in (first line) budgets_in) a loaded (refused line c.requires.files c.requires.sized files is))
-
-pub returns-in_err-patches-clause-in_turn : goal.returns-in_err-patches-clause-in_turn
-returns-in_err-patches-clause-in_turn g c =
-    let line = named_line c.args.line.now in
-    let files = g.D.Desk.bytes c.args.desk.now in
-    let later = g.D.Desk.bytes c.load_budgets.new.desk in
-    let a = c.in_ok-budgets.budgets in
-    let loaded = rw c.file.ensures at c.in_ok-budgets.ensures.loaded in
-    let once = rw c.file.ensures at c.in_ok-budgets.ensures.read_through in
-    let also = calls_later files later (second line) MOST_BYTES _ _ (c.in_ok-budgets.ensures.bytes_stay (second line)) (rw c.file-2.ensures at c.in_ok-choices.ensures.read_through) in
-    second_turn files line _ _ _ (each line c.requires.files c.requires.sized files) _ _ _ 0 (ap length (named line c.requires.files c.requires.sized)) once also
-    (λ is. taken_apart files (first line) (numbers_in (first line) budgets_in) a loaded (refused line c.requires.files c.requires.sized files is))
-
-pub returns-clause-in_turn : goal.returns-clause-in_turn
-returns-clause-in_turn g c =
-    let line = named_line c.args.line.now in
-    let files = g.D.Desk.bytes c.args.desk.now in
-    let later = g.D.Desk.bytes c.load_budgets.new.desk in
-    let a = c.in_ok-budgets.budgets in
-    let loaded = rw c.file.ensures at c.in_ok-budgets.ensures.loaded in
-    let once = rw c.file.ensures at c.in_ok-budgets.ensures.read_through in
-    let also = calls_later files later (second line) MOST_BYTES _ _ (c.in_ok-budgets.ensures.bytes_stay (second line)) (rw c.file-2.ensures at c.in_ok-choices.ensures.read_through) in
-    second_turn files line _ _ _ (each line c.requires.files c.requires.sized files) _ _ _ 0 (ap length (named line c.requires.files c.requires.sized)) once also
-    (λ is. taken_apart files (first line) (numbers_in (first line) budgets_in) a loaded (refused line c.requires.files c.requires.sized files is))
+    two_held g.D.Desk.bytes g.D.Desk.faults g.D.Desk.calls line Choices MOST_BYTES MOST_BYTES _ _ _ (two line c.requires.files c.requires.sized) c.args.desk.now _ _ c.in_ok-budgets.budgets (rw c.file.ensures at c.in_ok-budgets.ensures.loads) c.in_ok-choices.choices (rw c.file-2.ensures at c.in_ok-choices.ensures.loads)
+    (contents.Choices c.in_ok-patches.patches c.in_ok-patches.types)
+    ((c.in_ok-patches.patches, c.in_ok-patches.types), c.in_ok-patches.ensures.made, refl) c.in_ok-patches.ensures.typed

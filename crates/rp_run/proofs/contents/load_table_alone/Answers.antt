@@ -1,65 +1,30 @@
-use Rattle.std.proofs.Common.{◌≡◌, ℕ, List, [], ◌∷◌, Some, Result, Ok, refl, sym, subst, ap, length}
-use Rattle.rp_outside.specs.Reads.{calls_through}
-use Rattle.rp_words.specs.CommandLine.{Line, file_at, file_set, files_of, takes_levels}
+use Rattle.std.proofs.Common.{◌≡◌, refl}
+use Rattle.rp_words.specs.CommandLine.{Line, file_at, file_set, takes_levels}
 use Rattle.rp_words.specs.Named.{named_line}
 use Rattle.rp_words.specs.Ranges.{IsSized}
 use Rattle.rp_words.specs.declared.commands.FileSet.TheVariants.{Table}
-use Rattle.rp_run.specs.Answers.{Files}
-use Rattle.rp_run.specs.Causes.{IsCause}
-use Rattle.rp_run.specs.Contents.{ContentsIn, Denotes}
-use Rattle.rp_run.specs.Endings.{Rose}
-use Rattle.rp_run.specs.Readings.{AndThen, Just, TakenTable}
+use Rattle.rp_run.specs.InnerLoadings.{AreContentsOf, LoadsLine}
+use Rattle.rp_run.specs.Readings.{TakenTable}
 use Rattle.rp_run.specs.declared.files.TheConstants.{MOST_BYTES}
-use Rattle.rp_run.specs.Turns.{AsksForFirst, calls_of_files}
-use Rattle.rp_run.specs.declared.contents.Contents.{Contents}
 use Rattle.rp_run.specs.declared.contents.Contents.TheVariants as contents
-use Rattle.rp_run.proofs.FileLemmas.{one_cause, one_input}
-use Rattle.rp_run.proofs.LineLemmas.{calls_are, one_named}
-use Rattle.rp_sheet.proofs.PassedOn.{passed_on}
-use Rattle.rp_run.proofs.TurnLemmas.{asks_one, first_turn}
+use Rattle.rp_run.proofs.LoadLemmas.{IsOverOne, failed_on, one_held, one_none, over_one}
 use Rattle.rp_run.proofs.contents.load_table_alone.Goals as goal
 
-abbrev first : Line → List ℕ
-first line = file_at line 0
+one : (line : Line) → file_set line ≡ Table → IsSized line → IsOverOne line Table MOST_BYTES (TakenTable (takes_levels line) (file_at line 0)) contents.Table
+one line holds sized =
+    over_one line Table MOST_BYTES (TakenTable (takes_levels line) (file_at line 0)) contents.Table
+    holds sized refl (λ files f. refl) (λ bytes r read. read)
 
-module _ (line : Line) (holds : file_set line ≡ Table) (sized : IsSized line) where
-  named : files_of line ≡ first line ∷ []
-  named = one_named line Table holds sized refl
-
-  each : (files : Files) → calls_of_files files line ≡ calls_through MOST_BYTES (files (first line)) ∷ []
-  each files = calls_are line Table holds sized files (first line ∷ []) named
-
-  denoted : (bytes : ℕ → List ℕ) (r : Result Contents (List ℕ)) → AndThen (TakenTable (takes_levels line) (first line) (bytes 0)) (λ t. Just (Ok (contents.Table t))) r → Denotes line bytes r
-  denoted bytes r read = subst (λ set. ContentsIn (takes_levels line) set line.given (λ k. Some (bytes k)) r) (sym holds) read
-
-pub returns-in_err-table-clause-caused : goal.returns-in_err-table-clause-caused
-returns-in_err-table-clause-caused g c =
+pub returns-in_err-table : goal.returns-in_err-table
+returns-in_err-table g c =
     let line = named_line c.args.line.now in
-    let files = g.D.Desk.bytes c.args.desk.now in
-    let rose = Rose (g.D.Desk.faults c.args.desk.now) (g.D.Desk.faults c.load_table.new.desk) in
-    let asks = AsksForFirst files (g.D.Desk.calls c.args.desk.now) (g.D.Desk.calls c.load_table.new.desk) in
-    let loaded = rw (c.file.ensures, c.takes_levels.ensures) at c.in_err-table.ensures.loaded in
-    let once = rw c.file.ensures at c.in_err-table.ensures.read_through in
-    passed_on c.from_residual.result c.in_err-table.field-0.0 (IsCause files rose asks line) c.from_residual.ensures
-    (one_cause files rose asks line (first line) (TakenTable (takes_levels line) (first line)) contents.Table c.in_err-table.field-0.0 (named line c.requires.files c.requires.sized) (denoted line c.requires.files c.requires.sized) (asks_one files line _ _ (each line c.requires.files c.requires.sized files) _ _ once) loaded)
+    let old = c.args.desk.now in
+    failed_on c.from_residual.result c.in_err-table.field-0.0 (LoadsLine g.D.Desk.bytes g.D.Desk.faults g.D.Desk.calls old _ line (AreContentsOf (g.D.Desk.bytes old) line)) c.from_residual.ensures
+    (one_none g.D.Desk.bytes g.D.Desk.faults g.D.Desk.calls line Table MOST_BYTES _ contents.Table (one line c.requires.files c.requires.sized) old _ c.in_err-table.field-0.0
+    (rw (c.file.ensures, c.takes_levels.ensures) at c.in_err-table.ensures.loads))
 
-pub returns-clause-read : goal.returns-clause-read
-returns-clause-read g c =
+pub returns : goal.returns
+returns g c =
     let line = named_line c.args.line.now in
-    let files = g.D.Desk.bytes c.args.desk.now in
-    let loaded = rw (c.file.ensures, c.takes_levels.ensures) at c.in_ok-table.ensures.loaded in
-    one_input files line (first line) (TakenTable (takes_levels line) (first line)) contents.Table c.in_ok-table.table (named line c.requires.files c.requires.sized) (denoted line c.requires.files c.requires.sized) loaded
-
-pub returns-in_err-table-clause-in_turn : goal.returns-in_err-table-clause-in_turn
-returns-in_err-table-clause-in_turn g c =
-    let line = named_line c.args.line.now in
-    let files = g.D.Desk.bytes c.args.desk.now in
-    let once = rw c.file.ensures at c.in_err-table.ensures.read_through in
-    first_turn files line _ _ (each line c.requires.files c.requires.sized files) _ _ 0 (ap length (named line c.requires.files c.requires.sized)) once
-
-pub returns-clause-in_turn : goal.returns-clause-in_turn
-returns-clause-in_turn g c =
-    let line = named_line c.args.line.now in
-    let files = g.D.Desk.bytes c.args.desk.now in
-    let once = rw c.file.ensures at c.in_ok-table.ensures.read_through in
-    first_turn files line _ _ (each line c.requires.files c.requires.sized files) _ _ 0 (ap length (named line c.requires.files c.requires.sized)) once
+    one_held g.D.Desk.bytes g.D.Desk.faults g.D.Desk.calls line Table MOST_BYTES _ contents.Table (one line c.requires.files c.requires.sized) c.args.desk.now _ c.in_ok-table.table
+    (rw c.takes_levels.ensures at c.in_ok-table.ensures.levels) (rw (c.file.ensures, c.takes_levels.ensures) at c.in_ok-table.ensures.loads)

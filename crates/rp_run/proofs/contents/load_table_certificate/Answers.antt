@@ -1,117 +1,41 @@
-use Rattle.std.proofs.Common.{◌≡◌, ℕ, List, [], ◌∷◌, Some, None, Result, Ok, Err, refl, sym, subst, ap, length}
+use Rattle.std.proofs.Common.{◌≡◌, Ok, refl}
 use Rattle.rp_evidence.specs.declared.certificate.Kind.TheVariants.{Table as TableKind}
-use Rattle.rp_words.specs.CommandLine.{Line, file_at, file_set, files_of, takes_levels}
+use Rattle.rp_words.specs.CommandLine.{Line, file_at, file_set, takes_levels}
 use Rattle.rp_words.specs.Named.{named_line}
 use Rattle.rp_words.specs.Ranges.{IsSized}
 use Rattle.rp_words.specs.declared.commands.FileSet.TheVariants.{TableAndCertificate}
-use Rattle.rp_outside.specs.Reads.{calls_through}
-use Rattle.rp_run.specs.Answers.{Files}
-use Rattle.rp_run.specs.Causes.{IsCause}
-use Rattle.rp_run.specs.Contents.{ContentsIn, Denotes}
-use Rattle.rp_run.specs.Endings.{Rose}
-use Rattle.rp_run.specs.Readings.{AndThen, CertificateIn, Just, TakenTable, Told, taken_table}
+use Rattle.rp_run.specs.InnerLoadings.{AreContentsOf, LoadsLine}
+use Rattle.rp_run.specs.Readings.{CertificateIn, Just, taken_table}
 use Rattle.rp_run.specs.declared.files.TheConstants.{MOST_BYTES, MOST_CERTIFICATE_BYTES}
-use Rattle.rp_run.specs.Turns.{AreRefused, AsksForFirst, calls_of_files, first_told}
-use Rattle.rp_run.specs.declared.contents.Contents.{Contents}
 use Rattle.rp_run.specs.declared.contents.Contents.TheVariants as contents
-use Rattle.rp_run.proofs.FileLemmas.{two_input, first_cause, second_cause, moved_cause, moved_value}
-use Rattle.rp_run.proofs.GainsLemmas.{rises_later}
-use Rattle.rp_run.proofs.LineLemmas.{calls_are, two_named}
-use Rattle.rp_sheet.proofs.PassedOn.{passed_on}
-use Rattle.rp_run.proofs.TurnLemmas.{IsToldRefused, asks_one, asks_two, calls_later, first_turn, second_turn, taken_apart, told_refused, untold}
+use Rattle.rp_run.proofs.LoadLemmas.{IsOverTwo, failed_on, over_two, two_first_none, two_held, two_second_none}
 use Rattle.rp_run.proofs.contents.load_table_certificate.Goals as goal
 
-abbrev first : Line → List ℕ
-first line = file_at line 0
+two : (line : Line) → file_set line ≡ TableAndCertificate → IsSized line
+    → IsOverTwo line TableAndCertificate MOST_BYTES MOST_CERTIFICATE_BYTES (taken_table (takes_levels line) (file_at line 0)) (λ a. CertificateIn (file_at line 1) TableKind) (λ a b. Just (Ok (contents.TableAndCertificate a b)))
+two line holds sized =
+    over_two line TableAndCertificate MOST_BYTES MOST_CERTIFICATE_BYTES (taken_table (takes_levels line) (file_at line 0)) (λ a. CertificateIn (file_at line 1) TableKind) (λ a b. Just (Ok (contents.TableAndCertificate a b)))
+    holds sized refl (λ files f s. refl) (λ bytes r read. read) (λ files text refused. refused)
 
-abbrev second : Line → List ℕ
-second line = file_at line 1
-
-module _ (line : Line) (holds : file_set line ≡ TableAndCertificate) (sized : IsSized line) where
-  named : files_of line ≡ first line ∷ second line ∷ []
-  named = two_named line TableAndCertificate holds sized refl
-
-  each : (files : Files) → calls_of_files files line ≡ calls_through MOST_BYTES (files (first line)) ∷ calls_through MOST_CERTIFICATE_BYTES (files (second line)) ∷ []
-  each files = calls_are line TableAndCertificate holds sized files (first line ∷ second line ∷ []) named
-
-  denoted : (bytes : ℕ → List ℕ) (r : Result Contents (List ℕ)) → AndThen (TakenTable (takes_levels line) (first line) (bytes 0)) (λ a. AndThen (CertificateIn (second line) TableKind (bytes 1)) (λ b. Just (Ok (contents.TableAndCertificate a b)))) r → Denotes line bytes r
-  denoted bytes r read = subst (λ set. ContentsIn (takes_levels line) set line.given (λ k. Some (bytes k)) r) (sym holds) read
-
-  refused : (files : Files) → AreRefused files line 1 → IsToldRefused files (first line) (TakenTable (takes_levels line) (first line))
-  refused files (text, is) =
-      told_refused files (first line) (TakenTable (takes_levels line) (first line)) (λ a. AndThen (Told (CertificateIn (second line) TableKind) None) (λ b. Just (Ok (contents.TableAndCertificate a b)))) text (λ a more. untold (CertificateIn (second line) TableKind) (λ b. Just (Ok (contents.TableAndCertificate a b))) text more) (subst (λ set. ContentsIn (takes_levels line) set line.given (first_told files line 1) (Err text)) holds is)
-
-pub returns-in_err-table-clause-caused : goal.returns-in_err-table-clause-caused
-returns-in_err-table-clause-caused g c =
+pub returns-in_err-table : goal.returns-in_err-table
+returns-in_err-table g c =
     let line = named_line c.args.line.now in
-    let files = g.D.Desk.bytes c.args.desk.now in
-    let rose = Rose (g.D.Desk.faults c.args.desk.now) (g.D.Desk.faults c.load_table.new.desk) in
-    let asks = AsksForFirst files (g.D.Desk.calls c.args.desk.now) (g.D.Desk.calls c.load_table.new.desk) in
-    let loaded = rw (c.file.ensures, c.takes_levels.ensures) at c.in_err-table.ensures.loaded in
-    let once = rw c.file.ensures at c.in_err-table.ensures.read_through in
-    passed_on c.from_residual.result c.in_err-table.field-0.0 (IsCause files rose asks line) c.from_residual.ensures
-    (first_cause files rose asks line (first line) (second line) (TakenTable (takes_levels line) (first line)) (λ a. CertificateIn (second line) TableKind) (λ a. λ b. Just (Ok (contents.TableAndCertificate a b))) (named line c.requires.files c.requires.sized) (denoted line c.requires.files c.requires.sized) c.in_err-table.field-0.0 (asks_one files line _ _ (each line c.requires.files c.requires.sized files) _ _ once) loaded)
+    let old = c.args.desk.now in
+    failed_on c.from_residual.result c.in_err-table.field-0.0 (LoadsLine g.D.Desk.bytes g.D.Desk.faults g.D.Desk.calls old _ line (AreContentsOf (g.D.Desk.bytes old) line)) c.from_residual.ensures
+    (two_first_none g.D.Desk.bytes g.D.Desk.faults g.D.Desk.calls line TableAndCertificate MOST_BYTES MOST_CERTIFICATE_BYTES _ _ _ (two line c.requires.files c.requires.sized) old _ c.in_err-table.field-0.0
+    (rw (c.file.ensures, c.takes_levels.ensures) at c.in_err-table.ensures.loads))
 
-pub returns-in_err-certificate-clause-caused : goal.returns-in_err-certificate-clause-caused
-returns-in_err-certificate-clause-caused g c =
+pub returns-in_err-certificate : goal.returns-in_err-certificate
+returns-in_err-certificate g c =
     let line = named_line c.args.line.now in
-    let files = g.D.Desk.bytes c.args.desk.now in
-    let later = g.D.Desk.bytes c.load_table.new.desk in
-    let before = g.D.Desk.faults c.args.desk.now in
-    let mid = g.D.Desk.faults c.load_table.new.desk in
-    let after = g.D.Desk.faults c.load_certificate.new.desk in
-    let why = c.in_err-certificate.field-0.0 in
-    let a = c.in_ok-table.table in
-    let s = second line in
-    let loaded = rw (c.file.ensures, c.takes_levels.ensures) at c.in_ok-table.ensures.loaded in
-    let once = rw c.file.ensures at c.in_ok-table.ensures.read_through in
-    let moved = moved_cause files later (Rose before after) (Rose mid after) s (CertificateIn (second line) TableKind) why (c.in_ok-table.ensures.bytes_stay s) (λ up. rises_later (before s) (mid s) (after s) (c.in_ok-table.ensures.never_falls s) up) (rw c.file-2.ensures at c.in_err-certificate.ensures.loaded) in
-    let asks = AsksForFirst files (g.D.Desk.calls c.args.desk.now) (g.D.Desk.calls c.load_certificate.new.desk) in
-    let also = calls_later files later s MOST_CERTIFICATE_BYTES _ _ (c.in_ok-table.ensures.bytes_stay s) (rw c.file-2.ensures at c.in_err-certificate.ensures.read_through) in
-    passed_on c.from_residual-in_err-certificate.result why (IsCause files (Rose before after) asks line) c.from_residual-in_err-certificate.ensures
-    (second_cause files (Rose before after) asks line (first line) s (TakenTable (takes_levels line) (first line)) (λ a. CertificateIn (second line) TableKind) (λ a. λ b. Just (Ok (contents.TableAndCertificate a b))) (named line c.requires.files c.requires.sized) (denoted line c.requires.files c.requires.sized) a why (asks_two files line _ _ _ (each line c.requires.files c.requires.sized files) _ _ _ once also) loaded moved)
+    let old = c.args.desk.now in
+    failed_on c.from_residual-in_err-certificate.result c.in_err-certificate.field-0.0 (LoadsLine g.D.Desk.bytes g.D.Desk.faults g.D.Desk.calls old _ line (AreContentsOf (g.D.Desk.bytes old) line)) c.from_residual-in_err-certificate.ensures
+    (two_second_none g.D.Desk.bytes g.D.Desk.faults g.D.Desk.calls line TableAndCertificate MOST_BYTES MOST_CERTIFICATE_BYTES _ _ _ (two line c.requires.files c.requires.sized) old _ _ c.in_ok-table.table
+    (rw (c.file.ensures, c.takes_levels.ensures) at c.in_ok-table.ensures.loads) c.in_err-certificate.field-0.0 (rw c.file-2.ensures at c.in_err-certificate.ensures.loads))
 
-pub returns-clause-read : goal.returns-clause-read
-returns-clause-read g c =
+pub returns : goal.returns
+returns g c =
     let line = named_line c.args.line.now in
-    let files = g.D.Desk.bytes c.args.desk.now in
-    let later = g.D.Desk.bytes c.load_table.new.desk in
-    let rose = Rose (g.D.Desk.faults c.args.desk.now) (g.D.Desk.faults c.load_certificate.new.desk) in
-    let asks = AsksForFirst files (g.D.Desk.calls c.args.desk.now) (g.D.Desk.calls c.load_certificate.new.desk) in
-    let a = c.in_ok-table.table in
-    let b = c.in_ok-certificate.certificate in
-    let s = second line in
-    let loaded = rw (c.file.ensures, c.takes_levels.ensures) at c.in_ok-table.ensures.loaded in
-    let moved = moved_value files later s (CertificateIn (second line) TableKind) b (c.in_ok-table.ensures.bytes_stay s) (rw c.file-2.ensures at c.in_ok-certificate.ensures.loaded) in
-    two_input files rose asks line (first line) s (TakenTable (takes_levels line) (first line)) (λ a. CertificateIn (second line) TableKind) (λ a. λ b. Just (Ok (contents.TableAndCertificate a b))) (named line c.requires.files c.requires.sized) (denoted line c.requires.files c.requires.sized) a b (contents.TableAndCertificate a b) loaded moved refl
-
-pub returns-in_err-table-clause-in_turn : goal.returns-in_err-table-clause-in_turn
-returns-in_err-table-clause-in_turn g c =
-    let line = named_line c.args.line.now in
-    let files = g.D.Desk.bytes c.args.desk.now in
-    let once = rw c.file.ensures at c.in_err-table.ensures.read_through in
-    first_turn files line _ _ (each line c.requires.files c.requires.sized files) _ _ 1 (ap length (named line c.requires.files c.requires.sized)) once
-
-pub returns-in_err-certificate-clause-in_turn : goal.returns-in_err-certificate-clause-in_turn
-returns-in_err-certificate-clause-in_turn g c =
-    let line = named_line c.args.line.now in
-    let files = g.D.Desk.bytes c.args.desk.now in
-    let later = g.D.Desk.bytes c.load_table.new.desk in
-    let a = c.in_ok-table.table in
-    let loaded = rw (c.file.ensures, c.takes_levels.ensures) at c.in_ok-table.ensures.loaded in
-    let once = rw c.file.ensures at c.in_ok-table.ensures.read_through in
-    let also = calls_later files later (second line) MOST_CERTIFICATE_BYTES _ _ (c.in_ok-table.ensures.bytes_stay (second line)) (rw c.file-2.ensures at c.in_err-certificate.ensures.read_through) in
-    second_turn files line _ _ _ (each line c.requires.files c.requires.sized files) _ _ _ 0 (ap length (named line c.requires.files c.requires.sized)) once also
-    (λ is. taken_apart files (first line) (taken_table (takes_levels line) (first line)) a loaded (refused line c.requires.files c.requires.sized files is))
-
-pub returns-clause-in_turn : goal.returns-clause-in_turn
-returns-clause-in_turn g c =
-    let line = named_line c.args.line.now in
-    let files = g.D.Desk.bytes c.args.desk.now in
-    let later = g.D.Desk.bytes c.load_table.new.desk in
-    let a = c.in_ok-table.table in
-    let loaded = rw (c.file.ensures, c.takes_levels.ensures) at c.in_ok-table.ensures.loaded in
-    let once = rw c.file.ensures at c.in_ok-table.ensures.read_through in
-    let also = calls_later files later (second line) MOST_CERTIFICATE_BYTES _ _ (c.in_ok-table.ensures.bytes_stay (second line)) (rw c.file-2.ensures at c.in_ok-certificate.ensures.read_through) in
-    second_turn files line _ _ _ (each line c.requires.files c.requires.sized files) _ _ _ 0 (ap length (named line c.requires.files c.requires.sized)) once also
-    (λ is. taken_apart files (first line) (taken_table (takes_levels line) (first line)) a loaded (refused line c.requires.files c.requires.sized files is))
+    two_held g.D.Desk.bytes g.D.Desk.faults g.D.Desk.calls line TableAndCertificate MOST_BYTES MOST_CERTIFICATE_BYTES _ _ _ (two line c.requires.files c.requires.sized) c.args.desk.now _ _ c.in_ok-table.table
+    (rw (c.file.ensures, c.takes_levels.ensures) at c.in_ok-table.ensures.loads) c.in_ok-certificate.certificate (rw c.file-2.ensures at c.in_ok-certificate.ensures.loads)
+    (contents.TableAndCertificate c.in_ok-table.table c.in_ok-certificate.certificate) refl (rw c.takes_levels.ensures at c.in_ok-table.ensures.levels, c.in_ok-certificate.ensures.kind)

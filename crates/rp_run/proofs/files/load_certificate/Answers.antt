@@ -3,7 +3,11 @@ use Rattle.rp_run.specs.Endings.{Rose}
 use Rattle.rp_run.proofs.FileLemmas.{too_long_certificate}
 use Rattle.rp_run.proofs.files.load_certificate.Goals as goal
 
-pub returns-in-Err-TooLong-clause-loaded : goal.returns-in-Err-TooLong-clause-loaded
-returns-in-Err-TooLong-clause-loaded g c =
-    too_long_certificate (g.D.Desk.bytes c.args.desk.now) (Rose (g.D.Desk.faults c.args.desk.now) (g.D.Desk.faults c.load.new.desk)) c.args.file.now c.args.kind c.refused.result
-    ((rw c.in-Err-TooLong.field-0-is at c.in-Err-TooLong.ensures.too_long_only) refl) c.refused.ensures
+pub returns-in-Err-TooLong-clause-loads : goal.returns-in-Err-TooLong-clause-loads
+returns-in-Err-TooLong-clause-loads g c = record {
+  loaded = too_long_certificate (g.D.Desk.bytes c.args.desk.now) (Rose (g.D.Desk.faults c.args.desk.now) (g.D.Desk.faults c.load.new.desk)) c.args.file.now c.args.kind c.refused.result
+      ((rw c.in-Err-TooLong.field-0-is at c.in-Err-TooLong.ensures.too_long_only) refl) c.refused.ensures;
+  read_through = c.in-Err-TooLong.ensures.read_through;
+  bytes_stay = c.in-Err-TooLong.ensures.bytes_stay;
+  never_falls = c.in-Err-TooLong.ensures.never_falls;
+}

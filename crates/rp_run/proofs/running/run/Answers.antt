@@ -28,7 +28,7 @@ pub returns-in-Ok-answer_line-clause-refused : goal.returns-in-Ok-answer_line-cl
 returns-in-Ok-answer_line-clause-refused g c = λ line is refused calm.
     let answer = c.in-Ok-answer_line in
     let asked : line_in c.args.words.now.items ≡ Some (named_line c.in-Some.line) = rw (c.in-Some.is, c.as_slice.ensures.value) at (sym c.in-Ok.ensures.exact) in
-    elim (not_both (g.D.Desk.bytes c.args.desk.now) (line_in c.args.words.now.items) (named_line c.in-Some.line) line answer.answer.status answer.answer.text.items asked is answer.ensures.answered refused) [ ]
+    elim (not_both (g.D.Desk.bytes c.args.desk.now) (line_in c.args.words.now.items) (named_line c.in-Some.line) line answer.answer.status answer.answer.text.items asked is answer.ensures.held refused) [ ]
 
 pub returns-clause-shapes : goal.returns-clause-shapes
 returns-clause-shapes g c = λ line name has is. shape_given (map string_bytes c.args.words.now.items) line name has is
@@ -55,7 +55,7 @@ returns-in-Ok-answer_line-clause-written g c =
     let asked : line_in c.args.words.now.items ≡ Some (named_line c.in-Some.line) = rw (c.in-Some.is, c.as_slice.ensures.value) at (sym c.in-Ok.ensures.exact) in
     answer_written (g.D.Desk.bytes c.args.desk.now) (line_in c.args.words.now.items) (named_line c.in-Some.line) answer.answer.status c.finish.result answer.answer.text.items
     (g.O.Sink.written c.args.out.now) (g.O.Sink.written c.finish.new.out) (g.O.Sink.faults c.args.out.now) (g.O.Sink.faults c.finish.new.out)
-    asked answer.ensures.answered c.finish.ensures.either (λ ends. (c.finish.ensures.whole ends).0) c.finish.ensures.part
+    asked answer.ensures.held c.finish.ensures.either (λ ends. (c.finish.ensures.whole ends).0) c.finish.ensures.part
 
 pub returns-in-Ok-answer_line-clause-verdict : goal.returns-in-Ok-answer_line-clause-verdict
 returns-in-Ok-answer_line-clause-verdict g c =
@@ -64,15 +64,15 @@ returns-in-Ok-answer_line-clause-verdict g c =
     let asked : line_in c.args.words.now.items ≡ Some (named_line c.in-Some.line) = rw (c.in-Some.is, c.as_slice.ensures.value) at (sym c.in-Ok.ensures.exact) in
     record {
       rejected = λ rejected. elim c.finish.ensures.either [
-        | inl same ↦ line_rejected files (line_in c.args.words.now.items) (named_line c.in-Some.line) answer.answer.status answer.answer.text.items asked answer.ensures.answered (sym same ∙ rejected)
+        | inl same ↦ line_rejected files (line_in c.args.words.now.items) (named_line c.in-Some.line) answer.answer.status answer.answer.text.items asked answer.ensures.held (sym same ∙ rejected)
         | inr fault ↦ (let wrong = sym fault ∙ rejected in absurd cc)
       ];
       never_done = λ line is must done. elim c.finish.ensures.either [
-        | inl same ↦ done_line_apart files (line_in c.args.words.now.items) (named_line c.in-Some.line) line answer.answer.status answer.answer.text.items asked is answer.ensures.answered must (sym same ∙ done)
+        | inl same ↦ done_line_apart files (line_in c.args.words.now.items) (named_line c.in-Some.line) line answer.answer.status answer.answer.text.items asked is answer.ensures.held must (sym same ∙ done)
         | inr fault ↦ (let wrong = sym fault ∙ done in cc)
       ];
       never_rejected = λ line is must rejected. elim c.finish.ensures.either [
-        | inl same ↦ rejected_line_apart files (line_in c.args.words.now.items) (named_line c.in-Some.line) line answer.answer.status answer.answer.text.items asked is answer.ensures.answered must (sym same ∙ rejected)
+        | inl same ↦ rejected_line_apart files (line_in c.args.words.now.items) (named_line c.in-Some.line) line answer.answer.status answer.answer.text.items asked is answer.ensures.held must (sym same ∙ rejected)
         | inr fault ↦ (let wrong = sym fault ∙ rejected in cc)
       ];
     }
@@ -81,7 +81,7 @@ pub returns-in-Ok-answer_line-clause-why : goal.returns-in-Ok-answer_line-clause
 returns-in-Ok-answer_line-clause-why g c =
     let answer = c.in-Ok-answer_line in
     let files = g.D.Desk.bytes c.args.desk.now in
-    let ends : IsEnd answer.answer.status = line_ends files (named_line c.in-Some.line) answer.answer.status answer.answer.text.items answer.ensures.answered in
+    let ends : IsEnd answer.answer.status = line_ends files (named_line c.in-Some.line) answer.answer.status answer.answer.text.items answer.ensures.held in
     let rose = Rose (g.D.Desk.faults c.args.desk.now) (g.D.Desk.faults c.answer_line.new.desk) in
     let asks = AsksForFirst files (g.D.Desk.calls c.args.desk.now) (g.D.Desk.calls c.answer_line.new.desk) in
     record {
@@ -96,7 +96,7 @@ pub returns-in-Ok-answer_line-clause-complete : goal.returns-in-Ok-answer_line-c
 returns-in-Ok-answer_line-clause-complete g c = λ line is accepted calm not_risen.
     let answer = c.in-Ok-answer_line in
     let files = g.D.Desk.bytes c.args.desk.now in
-    let ends : IsEnd answer.answer.status = line_ends files (named_line c.in-Some.line) answer.answer.status answer.answer.text.items answer.ensures.answered in
+    let ends : IsEnd answer.answer.status = line_ends files (named_line c.in-Some.line) answer.answer.status answer.answer.text.items answer.ensures.held in
     elim c.finish.ensures.either [
       | inl same ↦ inl (subst IsEnd (sym same) ends)
       | inr fault ↦ absurd (not_risen (c.finish.ensures.part fault).1)
@@ -125,3 +125,8 @@ returns-clause-turns g c =
           subst (λ l. AreReadInTurn (g.D.Desk.bytes c.args.desk.now) (g.D.Desk.calls c.args.desk.now) (g.D.Desk.calls c.answer_line.new.desk) l) same c.in-Err.ensures.in_turn);
       none_asked = λ none. cc;
     }
+
+pub finish-requires : goal.finish-requires
+finish-requires g c =
+    let answer = c.in-Ok-answer_line in
+    line_ends (g.D.Desk.bytes c.args.desk.now) (named_line c.in-Some.line) answer.answer.status answer.answer.text.items answer.ensures.held

@@ -1,7 +1,7 @@
 use Rattle.std.proofs.Common.{refl}
 use Rattle.rp_run.specs.Endings.{Rose}
 use Rattle.rp_run.proofs.FileLemmas.{too_long}
-use Rattle.rp_run.proofs.files.load_numbers.Goals as goal
+use Rattle.rp_run.proofs.files.load_bytes.Goals as goal
 
 pub returns-in-Err-TooLong-clause-caused : goal.returns-in-Err-TooLong-clause-caused
 returns-in-Err-TooLong-clause-caused g c =
