@@ -1,25 +1,18 @@
 -- The first ratio with a closed walk of weak steps is the index.
-use Rattle.std.proofs.Common.{◌≡◌, ◌<◌, ◌≤◌, ◌*◌, ◌+◌, ℕ, List, [], ◌∷◌, length, get_or, inl, inr, refl, sym, ap, subst, ◌∙◌, arith}
+use Rattle.std.proofs.Common.{◌≡◌, ◌<◌, ◌≤◌, ◌*◌, ℕ, List, [], ◌∷◌, length, get_or, inl, inr, refl, sym, ap, subst, ◌∙◌, arith}
 use Rattle.std.proofs.Math.Nat.{mul-le-mul_left, mul-lt-mul_of_pos_left, lt_of_mul-lt-mul_left}
 use Rattle.std.proofs.lemmas.Bool.{cases_lt, cases_order}
 use Rattle.std.proofs.lemmas.List.{get_or_default}
-use Rattle.std.proofs.lemmas.Nat.{mul-add-lt}
 use Rattle.rp_num.specs.Fraction.{IsLowestTerms}
 use Rattle.rp_evidence.specs.Efficiency.{IsEfficiencyIndex, IsRatio}
 use Rattle.rp_evidence.proofs.Index.{NoLowerCycle, closed_rises, index_by_cycle, index_same}
 use Rattle.rp_table.specs.Cost.{CostTable, IsCostTable, cost_at}
+use Rattle.rp_table.proofs.CostLimits.{cost_positive}
 use Rattle.rp_effic.specs.InnerCycles.{HasCycle, HasCycleFrom}
 use Rattle.rp_effic.specs.Monotone.{IsFirstTrue}
 use Rattle.rp_pref.proofs.LevelOrder.{level_den}
 use Rattle.rp_effic.specs.InnerRatios.{AreRatios}
 use Rattle.rp_effic.specs.declared.ratio.Ratio.{Ratio}
-
--- every cost between observations is positive
-pub cost_positive : (costs : CostTable) → IsCostTable costs → (s t : ℕ) → s < costs.n → t < costs.n → 0 < cost_at costs s t
-cost_positive costs valid s t s_in t_in =
-    let within : s * costs.n + t < length costs.entries = omega (arith, valid.all, mul-add-lt s costs.n t costs.n s_in t_in) in
-    let limits = valid.limits (s * costs.n + t) 0 within in
-    omega (arith, limits.0)
 
 module _ (costs : CostTable) (valid : IsCostTable costs) (ratios : List Ratio) (are : AreRatios costs.n (cost_at costs) ratios) (place : ℕ) (first : IsFirstTrue (length ratios) (HasCycleFrom costs ratios) place) where
   spent : (s : ℕ) → s < costs.n → 0 < cost_at costs s s

@@ -1,15 +1,13 @@
-ghost use Rattle.std.specs.Prelude.{◌<◌, ◌≤◌, IfOk};
-ghost use Rattle.rp_num.specs.Fraction.{IsLowestTerms};
+ghost use Rattle.std.specs.Prelude.{IfOk};
 ghost use Rattle.rp_evidence.specs.Efficiency.{IsEfficiencyIndex};
 ghost use Rattle.rp_table.specs.Cost.{cost_at};
 ghost use Rattle.rp_effic.specs.Verdict.{IsLowestLevel};
 
 use crate::ask::first_true;
-use crate::ratio::Ratio;
 use crate::ratios::ratios;
 use crate::thresholds::Thresholds;
 use rp_evidence::Level;
-use rp_num::{NoMemory, gcd};
+use rp_num::{NoMemory, in_lowest_terms};
 use rp_table::Costs;
 use std::alloc::Global;
 
@@ -28,20 +26,7 @@ pub fn efficiency_index(alloc: Global, costs: &Costs) -> Result<Level, NoMemory>
         asks: 0,
     };
     let place = first_true(alloc, &mut thresholds)?;
-    Ok(in_lowest_terms(ratios[place as usize]))
-}
-
-/// The same level in lowest terms.
-fn in_lowest_terms(ratio: Ratio) -> Level
-    ensures lowest { IsLowestTerms ratio.num ratio.den
-        (record { num = result.num; den = result.den }) }
-    ensures small { result.den ≤ ratio.den }
-{
-    let num = u128::from(ratio.num);
-    let den = u128::from(ratio.den);
-    let common = gcd(num, den);
-    Level {
-        num: (num / common) as u64,
-        den: (den / common) as u64,
-    }
+    let ratio = ratios[place as usize];
+    let (num, den) = in_lowest_terms(ratio.num, ratio.den);
+    Ok(Level { num, den })
 }

@@ -2,19 +2,17 @@
 -- are by count: a bundle of a higher class costs more than an observation is held to, so each class gets its utility,
 -- and its observations their multipliers, from the classes above it; strict steps lead to lower classes, so the numbers
 -- are a model.
-use Rattle.std.proofs.Common.{◌≡◌, ◌≢◌, ℕ, ◌<◌, ◌≤◌, ◌⊎◌, ◌↔◌, inl, inr, [], ◌∷◌, ◌++◌, refl, sym, subst, ◌∙◌, arith}
+use Rattle.std.proofs.Common.{◌≡◌, ◌≢◌, ℕ, ◌<◌, ◌≤◌, ◌⊎◌, ◌↔◌, inl, inr, refl, sym, subst, ◌∙◌, arith}
 use Rattle.std.proofs.lemmas.Bool.{cases_lt}
 use Rattle.std.specs.Prelude.{ℤ}
 use Rattle.rp_evidence.specs.Afriat.{IsModelBy}
 use Rattle.rp_evidence.specs.Count.{IsCount}
 use Rattle.rp_evidence.specs.Garp.{HasNoViolation}
 use Rattle.rp_evidence.specs.StandardNumbers.{AllFit, AreNumbersBy, AreStandardBy, FitsMultiplier, FitsUtility, IsClassUtilityBy, IsMultiplierBy, PassWidthFirstAt}
-use Rattle.rp_evidence.specs.Walk.{Reaches}
 use Rattle.rp_evidence.proofs.AfriatClasses.{class_utility_is_one, standard_above_agree, standard_is_model}
 use Rattle.rp_evidence.proofs.AfriatStages.{standard_above_exists}
-use Rattle.rp_evidence.proofs.Counts.{count_falls, count_is_one, count_never_rises}
+use Rattle.rp_evidence.proofs.Counts.{count_falls, count_is_one, count_never_rises, no_way_back}
 use Rattle.rp_evidence.proofs.Reachability.{count_of, count_of-counts, count_of-within}
-use Rattle.rp_evidence.proofs.Violations.{reach_and_strict}
 
 -- ---- by the weak and the strict steps of a preference that compares costs with what observations are held to
 
@@ -43,14 +41,10 @@ module _ (n : ℕ) (weak : ℕ → ℕ → Type 0) (cost : ℕ → ℕ → ℕ) 
       strict_is_weak : (s t : ℕ) → strict s t → weak s t
       strict_is_weak s t h = (weak_is s t).1 (let k = (strict_is s t).0 h in omega arith)
 
-      no_way_back : (s t : ℕ) → s < n → t < n → strict s t → ¬ ((s ≡ t) ⊎ Reaches n weak t s)
-      no_way_back s t a b h (inl e) = holds ((t ∷ []) ++ t ∷ []) (reach_and_strict n weak strict t s (t ∷ []) (refl, (b, sym e)) (strict_is_weak s t h) h)
-      no_way_back s t a b h (inr r) = holds (r.0 ++ t ∷ []) (reach_and_strict n weak strict t s r.0 r.1 (strict_is_weak s t h) h)
-
       pub counts_fall : (s t : ℕ) → s < n → t < n → cost s t < own s → count t < count s
       counts_fall s t a b l =
           let h = (strict_is s t).1 l in
-          count_falls n weak s t a b (strict_is_weak s t h) (count s) (count t) (no_way_back s t a b h) (are s a) (are t b)
+          count_falls n weak s t a b (strict_is_weak s t h) (count s) (count t) (no_way_back n weak strict (λ i j _ _. strict_is_weak i j) holds s t a b h) (are s a) (are t b)
 
 pub count_is_some : (n : ℕ) (step : ℕ → ℕ → Type 0) (s k : ℕ) → s < n → IsCount n step s k → 1 ≤ k
 count_is_some n step s k a p = let h = (p.1.just_these s).1 (a, inl refl) in omega (arith, p.2, h.1)

@@ -25,16 +25,17 @@ module _ (n : ℕ) (step : ℕ → ℕ → Type 0) (s t : ℕ) (s_below : s < n)
       number_grows_past n (λ u. (u ≡ t) ⊎ Reaches n step t u) (λ u. (u ≡ s) ⊎ Reaches n step s u) above s k j s_below (inl refl) apart b a
 
 module _ (n : ℕ) (weak strict : ℕ → ℕ → Type 0) (is_weak : (s t : ℕ) → s < n → t < n → strict s t → weak s t) where
+  -- no walk leads back along a strict step
+  pub no_way_back : HasNoViolation n weak strict → (s t : ℕ) → s < n → t < n → strict s t → ¬ ((s ≡ t) ⊎ Reaches n weak t s)
+  no_way_back sound s t a b h (inl e) = sound ((t ∷ []) ++ t ∷ []) (reach_and_strict n weak strict t s (t ∷ []) (refl, (b, sym e)) (is_weak s t a b h) h)
+  no_way_back sound s t a b h (inr r) = sound (r.0 ++ t ∷ []) (reach_and_strict n weak strict t s r.0 r.1 (is_weak s t a b h) h)
+
   pub counts_respect_preference : (counts : List ℕ) → AreCounts n weak counts → HasNoViolation n weak strict → RespectPreference n weak strict counts
   counts_respect_preference counts are sound = record {
     one_each = are.one_each;
     weak_never_rises = λ s t a b h. count_never_rises n weak s t a b h (slice_index counts s) (slice_index counts t) (are.each s a) (are.each t b);
-    strict_falls = λ s t a b h. count_falls n weak s t a b (is_weak s t a b h) (slice_index counts s) (slice_index counts t) (no_way_back s t a b h) (are.each s a) (are.each t b);
+    strict_falls = λ s t a b h. count_falls n weak s t a b (is_weak s t a b h) (slice_index counts s) (slice_index counts t) (no_way_back sound s t a b h) (are.each s a) (are.each t b);
   }
-    where
-      no_way_back : (s t : ℕ) → s < n → t < n → strict s t → ¬ ((s ≡ t) ⊎ Reaches n weak t s)
-      no_way_back s t a b h (inl e) = sound ((t ∷ []) ++ t ∷ []) (reach_and_strict n weak strict t s (t ∷ []) (refl, (b, sym e)) (is_weak s t a b h) h)
-      no_way_back s t a b h (inr r) = sound (r.0 ++ t ∷ []) (reach_and_strict n weak strict t s r.0 r.1 (is_weak s t a b h) h)
 
 pub counts_order_steps : (n : ℕ) (step : ℕ → ℕ → Type 0) (counts : List ℕ) → AreCounts n step counts → ((walk : List ℕ) → ¬ IsClosedWalk n step walk) → OrderSteps n step counts
 counts_order_steps n step counts are none =

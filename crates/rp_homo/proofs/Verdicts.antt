@@ -1,8 +1,7 @@
 -- From what the rounds settle on, as fractions, to the words of the homothetic test, which are products of whole
 -- numbers: least products, values that bound them, falling cycles, and where the width is passed.
-use Rattle.std.proofs.Common.{All, ◌+◌, ◌*◌, ap, subst, ◌≡◌, ℕ, zero, suc, ◌<◌, ◌≤◌, ◌↔◌, arith, refl, sym, ◌∙◌, List, [], ◌∷◌, length, ◌⊎◌, inl, inr, ◌/◌, ◌^◌}
+use Rattle.std.proofs.Common.{All, ◌*◌, ap, subst, ◌≡◌, ℕ, zero, suc, ◌<◌, ◌≤◌, ◌↔◌, arith, refl, sym, ◌∙◌, List, [], ◌∷◌, length, ◌⊎◌, inl, inr, ◌/◌, ◌^◌}
 use Rattle.std.proofs.lemmas.Bool.{cases_lt}
-use Rattle.std.proofs.lemmas.Nat.{mul-add-lt}
 use Rattle.std.proofs.Math.Nat.{eq-one_of_dvd-one, one-le-mul, mul-le-mul_left, mul-lt-mul_of_pos_right}
 use Rattle.std.specs.Prelude.{ℤ, pos, ◌*ℤ◌, ◌<ℤ◌}
 use Rattle.rp_num.specs.Fraction.{Fraction, FitsWidth, IsLowestTerms, PassesWidth}
@@ -22,7 +21,6 @@ use Rattle.rp_walk.proofs.Central.{no_walk_falls}
 use Rattle.rp_evidence.specs.Walk.{AnyStep, IsClosedWalk, IsWalk, LeadsTo}
 use Rattle.rp_evidence.specs.Homothetic.{BoundProducts, EndsBelow, IsFallingCycle, IsLeastProduct, MeetsHomotheticTest, ProductsFit, StepsFitFrom, next_product, spent_product, product_from, value_at}
 use Rattle.rp_evidence.proofs.Walks.{starts_below}
-use Rattle.rp_table.specs.Cost.{CostTable, IsCostTable, cost_at}
 use Rattle.rp_walk.specs.Products.{FitsFraction, as_total, at_least_one, products, times}
 use Rattle.rp_walk.proofs.ProductLaws.{products_keep_order}
 use Rattle.rp_homo.specs.Verdict.{GivesCycle, GivesValues, GivesWithheld, IsFirstFall, IsLongCycle, IsPairCycle, NoPairFalls, PairFalls}
@@ -340,13 +338,3 @@ GivesCycle-settled n c positive limited start walk terms fits h =
 
 pub GivesWithheld-settled : (n : ℕ) (c : ℕ → ℕ → ℕ) → Positive n c → (k t s : ℕ) → SettlesInWide (products n c) FitsFraction k t s → GivesWithheld n c k t s
 GivesWithheld-settled n c positive k t s h = record { no_pair = NoPairFalls-breaks n c positive h.no_pair; first = h.first }
-
--- ---- the costs of a table
-
-pub positive_costs : (costs : CostTable) → IsCostTable costs → Positive costs.n (cost_at costs)
-positive_costs costs h t s ht hs =
-    (h.limits (t * costs.n + s) 0 (omega (arith, mul-add-lt t costs.n s costs.n ht hs, h.all))).0
-
-pub limited_costs : (costs : CostTable) → IsCostTable costs → Limited costs.n (cost_at costs)
-limited_costs costs h t s ht hs =
-    (h.limits (t * costs.n + s) 0 (omega (arith, mul-add-lt t costs.n s costs.n ht hs, h.all))).1

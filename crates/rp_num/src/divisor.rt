@@ -1,5 +1,6 @@
 ghost use Rattle.std.specs.Prelude.{◌≡◌, ◌%◌, ◌<◌, ◌≤◌, ◌↔◌};
 ghost use Rattle.std.specs.Int.{IsGcd};
+ghost use Rattle.rp_num.specs.Fraction.{IsLowestTerms};
 
 /// The greatest number of one word.
 const MOST_WORD: u128 = (1 << 64) - 1;
@@ -16,7 +17,19 @@ pub fn gcd(a: u128, b: u128) -> u128
     }
 }
 
-/// The same, where the lesser number stands first.
+/// The ratio of two words, numerator and denominator, in lowest terms.
+pub fn in_lowest_terms(num: u64, den: u64) -> (u64, u64)
+    requires { 1 ≤ den }
+    ensures lowest { IsLowestTerms num den (record { num = result.0; den = result.1 }) }
+    ensures small { result.1 ≤ den }
+{
+    let part = u128::from(num);
+    let whole = u128::from(den);
+    let common = gcd(part, whole);
+    ((part / common) as u64, (whole / common) as u64)
+}
+
+/// The greatest common divisor, where the lesser number stands first.
 fn ordered_gcd(small: u128, large: u128) -> u128
     requires { small ≤ large }
     ensures { IsGcd small large result }

@@ -11,7 +11,7 @@ mod print;
 mod read;
 
 pub use decimal::{Decimal, NumFault, read_decimal};
-pub use divisor::gcd;
+pub use divisor::{gcd, in_lowest_terms};
 pub use frac::{FRACTION_WIDTH, Frac};
 pub use laws::{cross_products_decide, lowest_terms_are_unique, lowest_terms_decide_width};
 pub use list::Seq;

@@ -1,8 +1,5 @@
 -- What the rounds come to, for a table of costs.
-use Rattle.std.proofs.Common.{◌+◌, ◌*◌, ◌^◌, ℕ, ◌<◌, ◌≤◌, ◌⊎◌, inl, inr, arith, lit<, List, length, get_or, slice_index_or}
-use Rattle.std.proofs.lemmas.Bool.{cases_lt}
-use Rattle.std.proofs.lemmas.List.{get_or_past}
-use Rattle.std.proofs.lemmas.Nat.{mul-add-lt}
+use Rattle.std.proofs.Common.{◌*◌, ◌^◌, ℕ, ◌<◌, ◌≤◌, arith, List, slice_index_or}
 use Rattle.std.proofs.Math.Nat.{mul-le-mul_right}
 use Rattle.std.specs.Prelude.{ℤ, pos}
 use Rattle.rp_walk.specs.ExactTotal.{ExactTotal}
@@ -15,20 +12,8 @@ use Rattle.rp_pump.proofs.Rounds.{IsGreater, IsGreater-falls, left, left_falls, 
 use Rattle.rp_pump.proofs.Totals.{IsSmall, added_small, bound, never_wide}
 use Rattle.rp_pump.proofs.Values.{least_pump_total, step_bounds, value_limits}
 use Rattle.rp_table.specs.Cost.{CostTable, IsCostTable, cost_at}
+use Rattle.rp_table.proofs.CostLimits.{cost_below}
 use Rattle.rp_table.specs.declared.TheConstants.{RECORDS}
-
--- the costs of a table are below 2^51, wherever they are read
-pub costs_below : (costs : CostTable) → IsCostTable costs → (i j : ℕ) → cost_at costs i j < 2 ^ 51
-costs_below costs h i j = by_cases (cases_lt (i * costs.n + j) (length costs.entries))
-  where
-    by_cases : (i * costs.n + j < length costs.entries) ⊎ (length costs.entries ≤ i * costs.n + j) → get_or costs.entries (i * costs.n + j) 0 < 2 ^ 51
-    by_cases (inl b) = (h.limits (i * costs.n + j) 0 b).1
-    by_cases (inr b) = rw (get_or_past costs.entries (i * costs.n + j) 0 b) (lit< tt)
-
-pub costs_positive : (costs : CostTable) → IsCostTable costs → (s : ℕ) → s < costs.n → 0 < cost_at costs s s
-costs_positive costs h s hs =
-    let l = (h.limits (s * costs.n + s) 0 (omega (arith, mul-add-lt s costs.n s costs.n hs hs, h.all))).0 in
-    omega (arith, l)
 
 few_steps : (n : ℕ) → n ≤ RECORDS → n * bound < 2 ^ 121
 few_steps n few =
@@ -37,7 +22,7 @@ few_steps n few =
 
 module _ (costs : CostTable) (valid : IsCostTable costs) (num den : ℕ) (walk : List ℕ) (best : IsBest costs.n (cost_at costs) num den walk) where
   small : (s t : ℕ) → IsSmall (added (cost_at costs) num den s t)
-  small = added_small (cost_at costs) num den (costs_below costs valid) (omega (arith, best.at_most_one, best.den_fits)) best.den_fits
+  small = added_small (cost_at costs) num den (cost_below costs valid) (omega (arith, best.at_most_one, best.den_fits)) best.den_fits
 
   few : costs.n * bound < 2 ^ 121
   few = few_steps costs.n valid.few

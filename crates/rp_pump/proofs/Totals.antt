@@ -15,6 +15,7 @@ use Rattle.rp_walk.proofs.Numbers.{parts_of_sum}
 use Rattle.rp_walk.proofs.Order.{less_not_more, not_less-same}
 use Rattle.rp_walk.proofs.Paths.{after-same}
 use Rattle.rp_walk.proofs.Rounds.{SameTotal-trans}
+use Rattle.rp_walk.proofs.SumWalks.{den_after, num_after}
 use Rattle.rp_walk.proofs.SumLaws.{sums_fit_alike, sums_keep_order}
 use Rattle.rp_walk.proofs.Walks.{IsTotal-here}
 use Rattle.rp_evidence.specs.Preference.{IsWeak}
@@ -98,27 +99,11 @@ module _ (n : ℕ) (a : ℕ → ℕ → ℤ) (small : (s t : ℕ) → IsSmall (a
   along_above s (t ∷ rest) =
       one_more (a s t) (added_along a t rest) (length rest * bound) (suc (length rest) * bound) bound (omega arith) (small s t).0 (along_above t rest)
 
-  den_after : (x : ExactTotal) (t : ℕ) (rest : List ℕ) → (total_after (sums n a) x t rest).den ≡ x.den
-  den_after x t [] = refl
-  den_after x t (s ∷ rest) = den_after ((sums n a).after x t s) s rest
-
-  two_added : (v k z : ℤ) (b : ℕ) → (v +ℤ (k *ℤ pos b)) +ℤ (z *ℤ pos b) ≡ v +ℤ ((k +ℤ z) *ℤ pos b)
-  two_added v k z b =
-      let e = ap (λ n. n * b) (parts_of_sum k z) in
-      omega (arith, ints)
-
-  none_added : (v : ℤ) (b : ℕ) → v ≡ v +ℤ (pos 0 *ℤ pos b)
-  none_added v b = omega (arith, ints)
-
-  num_after : (x : ExactTotal) (t : ℕ) (rest : List ℕ) → (total_after (sums n a) x t rest).num ≡ x.num +ℤ (added_along a t rest *ℤ pos x.den)
-  num_after x t [] = none_added x.num x.den
-  num_after x t (s ∷ rest) = num_after ((sums n a).after x t s) s rest ∙ two_added x.num (a t s) (added_along a s rest) x.den
-
   -- the total of a walk is what its steps add
   pub total_is_sum : (k s : ℕ) (y : ExactTotal) (total : IsTotal (sums n a) k s y) → SameTotal y (whole_total (added_along a total.first total.rest))
   total_is_sum k s y total =
       subst (λ (x : ExactTotal). SameTotal x (whole_total (added_along a total.first total.rest))) total.total
-      (same end.num (added_along a total.first total.rest) end.den (den_after (whole_total (pos 0)) total.first total.rest) (num_after (whole_total (pos 0)) total.first total.rest))
+      (same end.num (added_along a total.first total.rest) end.den (den_after n a (whole_total (pos 0)) total.first total.rest) (num_after n a (whole_total (pos 0)) total.first total.rest))
     where
       end : ExactTotal
       end = total_after (sums n a) (whole_total (pos 0)) total.first total.rest

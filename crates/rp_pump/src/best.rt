@@ -1,12 +1,11 @@
-ghost use Rattle.std.specs.Prelude.{◌≡◌, ◌≤◌, IfOk};
-ghost use Rattle.rp_num.specs.Fraction.{IsLowestTerms};
+ghost use Rattle.std.specs.Prelude.{◌≡◌, IfOk};
 ghost use Rattle.rp_pump.specs.InnerBest.{IsBest};
 ghost use Rattle.rp_pump.specs.PumpEvidence.{IsWeakCycle};
 ghost use Rattle.rp_table.specs.Cost.{cost_at};
 
-use crate::sums::{spent_along, swapped_along};
-use rp_num::{NoMemory, Seq, gcd};
-use rp_table::{Costs, RECORDS};
+use crate::sums::gained_and_spent;
+use rp_num::{NoMemory, Seq, in_lowest_terms};
+use rp_table::Costs;
 use std::alloc::Global;
 
 /// A closed walk of weak steps, and its ratio in lowest terms.
@@ -52,21 +51,6 @@ fn ratio_of(costs: &Costs, walk: &[u32]) -> (u64, u64)
     requires { IsWeakCycle costs.now.n (cost_at costs.now) walk.now }
     ensures { IsBest costs.now.n (cost_at costs.now) result.0 result.1 walk.now }
 {
-    let n = costs.n();
-    prove!(n <= RECORDS);
-    let spent = spent_along(costs, walk);
-    let gain = spent - swapped_along(costs, walk);
+    let (gain, spent) = gained_and_spent(costs, walk);
     in_lowest_terms(gain, spent)
-}
-
-/// A ratio in lowest terms.
-fn in_lowest_terms(gain: u64, spent: u64) -> (u64, u64)
-    requires { 1 ≤ spent }
-    ensures lowest { IsLowestTerms gain spent (record { num = result.0; den = result.1 }) }
-    ensures small { result.1 ≤ spent }
-{
-    let part = u128::from(gain);
-    let whole = u128::from(spent);
-    let common = gcd(part, whole);
-    ((part / common) as u64, (whole / common) as u64)
 }

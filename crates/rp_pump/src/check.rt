@@ -1,4 +1,4 @@
-ghost use Rattle.std.specs.Prelude.{◌≡◌, ◌↔◌, ◌+◌, ◌*◌, ◌<◌, ◌≤◌, ◌+ℤ◌, ◌≤ℤ◌, ℕ};
+ghost use Rattle.std.specs.Prelude.{◌≡◌, ◌↔◌, ◌+◌, ◌*◌, ◌<◌, ◌+ℤ◌, ◌≤ℤ◌, ℕ};
 ghost use Rattle.std.specs.Prelude.{[], IsTrue, length};
 ghost use Rattle.rp_evidence.specs.Efficiency.{FailsGarp};
 ghost use Rattle.rp_pump.specs.InnerWalks.{AreObserved, ClosesByPlaces, StepsAreWeak};
@@ -10,7 +10,7 @@ ghost use Rattle.rp_table.specs.Cost.{cost_at};
 
 use crate::part::PumpPart;
 use crate::step::{excess, is_weak};
-use crate::sums::{spent_along, swapped_along};
+use crate::sums::gained_and_spent;
 use rp_table::{Costs, RECORDS};
 
 /// The greatest part of a ratio.
@@ -97,10 +97,7 @@ fn has_ratio(costs: &Costs, num: u64, den: u64, walk: &[u32]) -> bool
     requires { IsWeakCycle costs.now.n (cost_at costs.now) walk.now }
     ensures { IsTrue result ↔ HasPumpRatio (cost_at costs.now) num den walk.now }
 {
-    let n = costs.n();
-    prove!(n <= RECORDS);
-    let spent = spent_along(costs, walk);
-    let gain = spent - swapped_along(costs, walk);
+    let (gain, spent) = gained_and_spent(costs, walk);
     is_part(gain, spent, num, den)
 }
 

@@ -1,13 +1,29 @@
 ghost use Rattle.std.specs.Prelude.{◌≡◌, ◌+◌, ◌*◌, ◌<◌, ◌≤◌, ◌^◌, length};
 ghost use Rattle.rp_pump.specs.InnerWalks.{AreObserved, walk_swapped};
 ghost use Rattle.rp_pump.specs.MoneyPump.{walk_spent};
+ghost use Rattle.rp_pump.specs.PumpEvidence.{IsWeakCycle};
 ghost use Rattle.rp_table.specs.Cost.{cost_at};
 ghost use Rattle.rp_table.specs.declared.TheConstants.{RECORDS};
 
-use rp_table::Costs;
+use rp_table::{Costs, RECORDS};
+
+/// What a closed walk of weak steps gains, and what was spent where its steps begin.
+pub(crate) fn gained_and_spent(costs: &Costs, walk: &[u32]) -> (u64, u64)
+    requires { IsWeakCycle costs.now.n (cost_at costs.now) walk.now }
+    ensures spent { result.1 ≡ walk_spent (cost_at costs.now) walk.now }
+    ensures gained { result.0 + walk_swapped (cost_at costs.now) walk.now ≡ result.1 }
+    ensures some { 1 ≤ result.1 }
+    ensures small { result.1 ≤ RECORDS * 2 ^ 51 }
+{
+    let n = costs.n();
+    prove!(n <= RECORDS);
+    let spent = spent_along(costs, walk);
+    let gain = spent - swapped_along(costs, walk);
+    (gain, spent)
+}
 
 /// What was spent where the steps of a walk begin.
-pub(crate) fn spent_along(costs: &Costs, walk: &[u32]) -> u64
+fn spent_along(costs: &Costs, walk: &[u32]) -> u64
     requires some { 0 < length walk.now }
     requires few { length walk.now ≤ RECORDS + 1 }
     requires observed { AreObserved costs.now.n walk.now }
@@ -22,7 +38,7 @@ pub(crate) fn spent_along(costs: &Costs, walk: &[u32]) -> u64
 }
 
 /// What the next bundles of a walk cost at the prices where its steps begin.
-pub(crate) fn swapped_along(costs: &Costs, walk: &[u32]) -> u64
+fn swapped_along(costs: &Costs, walk: &[u32]) -> u64
     requires some { 0 < length walk.now }
     requires few { length walk.now ≤ RECORDS + 1 }
     requires observed { AreObserved costs.now.n walk.now }

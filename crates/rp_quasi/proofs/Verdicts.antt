@@ -1,9 +1,7 @@
 -- From what the rounds settle on to the words of the quasilinear test: least sums, values that bound the steps,
 -- negative cycles; and sums of a table stay narrow enough for every walk that is tried.
-use Rattle.std.proofs.Common.{◌+◌, ◌*◌, ◌^◌, ap, subst, ◌≡◌, ℕ, ◌<◌, ◌≤◌, arith, refl, sym, ◌∙◌, List, [], ◌∷◌, length, get_or, ◌⊎◌, inl, inr, lit<}
+use Rattle.std.proofs.Common.{◌*◌, ◌^◌, ap, subst, ◌≡◌, ℕ, ◌<◌, ◌≤◌, arith, refl, sym, ◌∙◌, List, [], ◌∷◌, length, get_or, ◌⊎◌, inl, inr}
 use Rattle.std.proofs.lemmas.Int.{ints}
-use Rattle.std.proofs.lemmas.Bool.{cases_lt}
-use Rattle.std.proofs.lemmas.List.{get_or_past}
 use Rattle.std.proofs.Math.Nat.{mul-le-mul_right}
 use Rattle.std.specs.Prelude.{ℤ, pos, neg_ℤ, ◌+ℤ◌, ◌-ℤ◌, ◌<ℤ◌, ◌≤ℤ◌}
 use Rattle.rp_walk.specs.ExactTotal.{ExactTotal}
@@ -17,7 +15,6 @@ use Rattle.rp_walk.proofs.SumWalks.{least_sum_limits, negative_from, never_wide,
 use Rattle.rp_evidence.specs.Walk.{AnyStep, IsWalk}
 use Rattle.rp_evidence.specs.Quasilinear.{step_sum, sum_from, walk_sum, IsNegativeCycle, MeetsQuasilinearTest, IsLeastSum, BoundSteps}
 use Rattle.rp_quasi.specs.Verdict.{GivesNegativeCycle, IsLimitedSum}
-use Rattle.rp_table.specs.Cost.{CostTable, IsCostTable, cost_at}
 use Rattle.rp_table.specs.declared.TheConstants.{RECORDS}
 
 -- the sum of what the steps of a walk add, in the two ways of writing it
@@ -103,11 +100,3 @@ IsLimitedSum-least n c few limit s z hs least =
   where
     above : (m : ℕ) → m < 2 ^ 100 → neg_ℤ (pos m) ≤ℤ z → neg_ℤ (pos (2 ^ 100)) <ℤ z
     above m small h = omega (arith, ints)
-
--- the costs of a table are below 2^51, wherever they are read
-pub costs_below : (costs : CostTable) → IsCostTable costs → (i j : ℕ) → cost_at costs i j < 2 ^ 51
-costs_below costs h i j = by_cases (cases_lt (i * costs.n + j) (length costs.entries))
-  where
-    by_cases : (i * costs.n + j < length costs.entries) ⊎ (length costs.entries ≤ i * costs.n + j) → get_or costs.entries (i * costs.n + j) 0 < 2 ^ 51
-    by_cases (inl b) = (h.limits (i * costs.n + j) 0 b).1
-    by_cases (inr b) = rw (get_or_past costs.entries (i * costs.n + j) 0 b) (lit< tt)

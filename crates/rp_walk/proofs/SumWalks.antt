@@ -29,11 +29,11 @@ two_added a k z b =
 none_added : (a : ℤ) (b : ℕ) → a ≡ a +ℤ (pos 0 *ℤ pos b)
 none_added a b = omega (arith, ints)
 
-den_after : (n : ℕ) (added : ℕ → ℕ → ℤ) (x : ExactTotal) (t : ℕ) (rest : List ℕ) → (total_after (sums n added) x t rest).den ≡ x.den
+pub den_after : (n : ℕ) (added : ℕ → ℕ → ℤ) (x : ExactTotal) (t : ℕ) (rest : List ℕ) → (total_after (sums n added) x t rest).den ≡ x.den
 den_after n added x t [] = refl
 den_after n added x t (s ∷ rest) = den_after n added ((sums n added).after x t s) s rest
 
-num_after : (n : ℕ) (added : ℕ → ℕ → ℤ) (x : ExactTotal) (t : ℕ) (rest : List ℕ) → (total_after (sums n added) x t rest).num ≡ x.num +ℤ (added_along added t rest *ℤ pos x.den)
+pub num_after : (n : ℕ) (added : ℕ → ℕ → ℤ) (x : ExactTotal) (t : ℕ) (rest : List ℕ) → (total_after (sums n added) x t rest).num ≡ x.num +ℤ (added_along added t rest *ℤ pos x.den)
 num_after n added x t [] = none_added x.num x.den
 num_after n added x t (s ∷ rest) =
     num_after n added ((sums n added).after x t s) s rest ∙ two_added x.num (added t s) (added_along added s rest) x.den

@@ -4,9 +4,9 @@ use Rattle.rp_evidence.proofs.Counts.{counts_order_steps}
 use Rattle.rp_evidence.proofs.Index.{no_strict_cycle}
 use Rattle.rp_evidence.proofs.IndexThreshold.{index_is_least, walk_at_index}
 use Rattle.rp_table.specs.Cost.{cost_at}
+use Rattle.rp_table.proofs.CostLimits.{cost_positive}
 use Rattle.rp_pref.proofs.VerdictLemmas.{counts_of}
 use Rattle.rp_effic.proofs.Returns.{above_bounds}
-use Rattle.rp_effic.proofs.Indexed.{cost_positive}
 use Rattle.rp_effic.proofs.verdict.efficiency.Goals as goal
 
 pub above_index-requires-clause-returns : goal.above_index-requires-clause-returns

@@ -1,7 +1,8 @@
 use Rattle.std.proofs.Common.{List, ℕ, subst}
 use Rattle.rp_table.specs.Cost.{cost_at}
+use Rattle.rp_table.proofs.CostLimits.{cost_positive}
 use Rattle.rp_pump.specs.InnerBest.{IsBest}
-use Rattle.rp_pump.proofs.Outcomes.{comes_nearer, costs_positive, has_least, holds, is_greater, stays_narrow}
+use Rattle.rp_pump.proofs.Outcomes.{comes_nearer, has_least, holds, is_greater, stays_narrow}
 use Rattle.rp_pump.proofs.Soundness.{index_of, pumps_where_garp_fails}
 use Rattle.rp_pump.proofs.search.pump.Goals as goal
 
@@ -46,6 +47,6 @@ pub returns-in-Values-clause-garp : goal.returns-in-Values-clause-garp
 returns-in-Values-clause-garp c =
     let costs = c.args.costs.now in
     let best = c.rounds.best in
-    pumps_where_garp_fails costs.n (cost_at costs) best.num best.den (costs_positive costs c.n-n.ensures.valid)
+    pumps_where_garp_fails costs.n (cost_at costs) best.num best.den (λ s s_in. cost_positive costs c.n-n.ensures.valid s s s_in s_in)
     (index_of costs.n (cost_at costs) _
     (holds costs c.n-n.ensures.valid best.num best.den best.cycle c.rounds.invariant c.in-Values.values (rw c.in-Values.is at c.in_ok-values.ensures)))

@@ -1,14 +1,15 @@
 use Rattle.std.proofs.Common.{arith, ◌≤◌}
 use Rattle.rp_table.specs.Cost.{cost_at}
+use Rattle.rp_table.proofs.CostLimits.{cost_below}
 use Rattle.rp_table.specs.declared.TheConstants.{RECORDS}
-use Rattle.rp_quasi.proofs.Verdicts.{IsLeastSum-least, HasLeastTotals-values, MeetsQuasilinearTest-least, GivesNegativeCycle-settled, IsNegativeCycle-falls, BoundSteps-least, IsLimitedSum-least, sums_stay_narrow, costs_below}
+use Rattle.rp_quasi.proofs.Verdicts.{IsLeastSum-least, HasLeastTotals-values, MeetsQuasilinearTest-least, GivesNegativeCycle-settled, IsNegativeCycle-falls, BoundSteps-least, IsLimitedSum-least, sums_stay_narrow}
 use Rattle.rp_quasi.proofs.verdict.quasilinear.Goals as goal
 
 pub unreachable-requires : goal.unreachable-requires
 unreachable-requires c =
     let costs = c.args.costs.now in
     let few : costs.n ≤ RECORDS = omega (arith, c.n-n.ensures.valid.few) in
-    sums_stay_narrow costs.n (cost_at costs) few (costs_below costs c.n-n.ensures.valid) c.in-Wide.steps c.in-Wide.from c.in-Wide.to
+    sums_stay_narrow costs.n (cost_at costs) few (cost_below costs c.n-n.ensures.valid) c.in-Wide.steps c.in-Wide.from c.in-Wide.to
     (rw c.in-Wide.is at c.in_ok-values.ensures)
 
 pub returns-in-Values-clause-verdict : goal.returns-in-Values-clause-verdict
@@ -19,7 +20,7 @@ returns-in-Values-clause-verdict c =
       record {
         one_each = h.one_each;
         least = λ s hs. IsLeastSum-least costs.n (cost_at costs) s _ (h.least s _ hs);
-        limits = λ s hs. IsLimitedSum-least costs.n (cost_at costs) few (costs_below costs c.n-n.ensures.valid) s _ hs (h.least s _ hs);
+        limits = λ s hs. IsLimitedSum-least costs.n (cost_at costs) few (cost_below costs c.n-n.ensures.valid) s _ hs (h.least s _ hs);
       },
       MeetsQuasilinearTest-least costs.n (cost_at costs) (HasLeastTotals-values costs.n (cost_at costs) c.in-Values.values h.least),
     )
