@@ -5,7 +5,7 @@ use Rattle.rp_afriat.specs.Verdict.{IsOwnAfriatVerdict}
 use Rattle.rp_agreement.proofs.Accepted.{afriat_passes, efficiency_passes, garp_passes}
 use Rattle.rp_agreement.proofs.AcceptedItems.{levels_pass}
 use Rattle.rp_agreement.proofs.OneFinding.{only_accepted}
-use Rattle.rp_check.specs.CheckVerdict.{IsItemsVerdictOn, IsVerdictOn}
+use Rattle.rp_check.specs.CheckVerdict.{IsCheckVerdictOnItems, IsCheckVerdict}
 use Rattle.rp_check.specs.declared.verdict.Verdict.{Verdict}
 use Rattle.rp_check.specs.declared.verdict.Verdict.TheVariants.{Accepted}
 use Rattle.rp_effic.proofs.SameVerdicts.{verdict_same as efficiency_verdict_same}
@@ -31,7 +31,7 @@ module _ (input : TableInput) (garp : Garp) (afriat : AfriatPart) (efficiency : 
   items_pass : ProvesOwnGarp input.n input.levels input.cost garp
       → ProvesOwnAfriat input.n input.levels input.cost afriat → IsOwnAfriatVerdict input.n input.levels input.cost afriat
       → ProvesEfficiency input.n input.cost efficiency → IsEfficiencyVerdict input.n input.cost efficiency
-      → IsItemsVerdictOn input (certificate_of input.levels garp afriat efficiency).items Accepted
+      → IsCheckVerdictOnItems input (certificate_of input.levels garp afriat efficiency).items Accepted
   items_pass gp ap ag ep eg zero k_in other = garp_passes input.n (WeakByLevels input.levels input.cost) (StrictByLevels input.levels input.cost) garp gp
   items_pass gp ap ag ep eg (suc zero) k_in other = afriat_passes input.n input.levels input.cost afriat ap ag
   items_pass gp ap ag ep eg (suc (suc zero)) k_in other = efficiency_passes input.n input.cost efficiency ep eg
@@ -51,7 +51,7 @@ module _ (table : Observations) (costs : CostTable) (is : IsCostsOf costs table)
       → ProvesOwnAfriat costs.n costs.levels (cost_at costs) afriat → IsOwnAfriatVerdict costs.n costs.levels (cost_at costs) afriat
       → ProvesEfficiency costs.n (cost_at costs) efficiency → IsEfficiencyVerdict costs.n (cost_at costs) efficiency
       → certificate ≡ certificate_of table.levels garp afriat efficiency
-      → IsVerdictOn (input_of_table table) certificate.levels certificate.items outcome → outcome ≡ Accepted
+      → IsCheckVerdict (input_of_table table) certificate.levels certificate.items outcome → outcome ≡ Accepted
   certificate_accepted garp afriat efficiency certificate outcome gp ap ag ep eg made found =
       let n = costs.n in
       let levels = costs.levels in
@@ -64,6 +64,6 @@ module _ (table : Observations) (costs : CostTable) (is : IsCostsOf costs table)
       let efficiency_proves : ProvesEfficiency input.n input.cost efficiency = rw (← is.size) (efficiency_same n here there efficiency agree ep) in
       let efficiency_given : IsEfficiencyVerdict input.n input.cost efficiency = rw (← is.size) (efficiency_verdict_same n here there efficiency agree eg) in
       only_accepted input certificate.levels certificate.items outcome
-      (subst (λ made. IsVerdictOn input made.levels made.items Accepted) (sym made)
+      (subst (λ made. IsCheckVerdict input made.levels made.items Accepted) (sym made)
       (inr (levels_pass table.levels, items_pass input garp afriat efficiency garp_proves afriat_proves afriat_given efficiency_proves efficiency_given)))
       found

@@ -24,7 +24,7 @@ use Rattle.rp_evidence.specs.declared.garp.Garp.{Garp}
 use Rattle.rp_evidence.specs.declared.garp.Garp.TheVariants.{Ranks, Cycle}
 use Rattle.rp_evidence.proofs.DemandLaws.{enough_where_kept, more_where_kept}
 use Rattle.rp_support.specs.Bounds.{AreBoundsOf}
-use Rattle.rp_support.specs.Verdict.{IsDemandGiven}
+use Rattle.rp_support.specs.Verdict.{IsDemandVerdict}
 use Rattle.rp_welfare.specs.Verdict.{IsLowerBound, IsWelfareVerdict}
 use Rattle.rp_agreement.proofs.Closed.{violation_passes}
 
@@ -67,7 +67,7 @@ module _ (input : TableInput) (shown : Bool) where
       )
 
   pub demand_passes : (verdict : Garp) (prices : List ℕ) (m : ℕ) (part : DemandPart) → (IsTrue (shows_garp (GarpItem verdict)) → IsTrue shown)
-      → AreNewPrices input.goods prices → IsExpenditure m → ProvesDemand input prices m part → IsDemandGiven input (budget_of prices m) verdict part
+      → AreNewPrices input.goods prices → IsExpenditure m → ProvesDemand input prices m part → IsDemandVerdict input (budget_of prices m) verdict part
       → DemandFails input shown prices m part (Ok tt)
   demand_passes (Ranks ranks) prices m (Bounds below strict inner goods) is_shown new spent proves given = (
     prices_pass input.goods prices new,

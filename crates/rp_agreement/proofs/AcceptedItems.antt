@@ -1,7 +1,7 @@
 -- A certificate that begins with a verdict on the axiom, and goes on with items as they are given from it, is accepted.
 use Rattle.std.proofs.Common.{ℕ, ◌≡◌, ◌||◌, zero, suc, [], ◌∷◌, List, inr, subst, Bool, true, false, IsTrue, All, Ok, arith, refl, slice_index_or, take}
-use Rattle.rp_agreement.specs.Given.{ProvesAsGiven}
-use Rattle.rp_check.specs.CheckVerdict.{IsItemsVerdictOn, IsVerdictOn}
+use Rattle.rp_agreement.specs.ItemVerdict.{ProvesVerdict}
+use Rattle.rp_check.specs.CheckVerdict.{IsCheckVerdictOnItems, IsCheckVerdict}
 use Rattle.rp_check.specs.ItemFailure.{ItemFails, one_shows_garp, shows_garp}
 use Rattle.rp_check.specs.LevelsFailure.{LevelsFail}
 use Rattle.rp_check.specs.declared.verdict.Verdict.TheVariants.{Accepted}
@@ -25,7 +25,7 @@ module _ (input : TableInput) (verdict : Garp) (garp : ProvesOwnGarp input.n inp
       (garp_without_levels input.n input.cost verdict).0
       (subst (λ levels. ProvesOwnGarp input.n levels input.cost verdict) none garp)
 
-  pub item_passes : (shown : Bool) → (IsTrue (shows_garp (GarpItem verdict)) → IsTrue shown) → (item : Item) → ProvesAsGiven input verdict item → ItemFails input shown item (Ok tt)
+  pub item_passes : (shown : Bool) → (IsTrue (shows_garp (GarpItem verdict)) → IsTrue shown) → (item : Item) → ProvesVerdict input verdict item → ItemFails input shown item (Ok tt)
   item_passes shown is_shown (GarpItem own) (proves, given) =
       garp_passes input.n (WeakByLevels input.levels input.cost) (StrictByLevels input.levels input.cost) own proves
   item_passes shown is_shown (AfriatItem part) (proves, given) = afriat_passes input.n input.levels input.cost part proves given
@@ -43,7 +43,7 @@ module _ (input : TableInput) (verdict : Garp) (garp : ProvesOwnGarp input.n inp
   shown_first true b is = refl
   shown_first false b is = absurd (cc)
 
-  items_accepted : (rest : List Item) → All (ProvesAsGiven input verdict) rest → IsItemsVerdictOn input (GarpItem verdict ∷ rest) Accepted
+  items_accepted : (rest : List Item) → All (ProvesVerdict input verdict) rest → IsCheckVerdictOnItems input (GarpItem verdict ∷ rest) Accepted
   items_accepted rest all zero within other =
       garp_passes input.n (WeakByLevels input.levels input.cost) (StrictByLevels input.levels input.cost) verdict garp
   items_accepted rest all (suc k) within other =
@@ -51,5 +51,5 @@ module _ (input : TableInput) (verdict : Garp) (garp : ProvesOwnGarp input.n inp
       (shown_first (shows_garp (GarpItem verdict)) (one_shows_garp (take k rest)))
       (slice_index_or rest k other) (all k other (omega arith))
 
-  pub certificate_accepted : (rest : List Item) → All (ProvesAsGiven input verdict) rest → IsVerdictOn input input.levels (GarpItem verdict ∷ rest) Accepted
+  pub certificate_accepted : (rest : List Item) → All (ProvesVerdict input verdict) rest → IsCheckVerdict input input.levels (GarpItem verdict ∷ rest) Accepted
   certificate_accepted rest all = inr (levels_pass input.levels, items_accepted rest all)

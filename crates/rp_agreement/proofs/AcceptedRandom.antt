@@ -3,7 +3,7 @@ use Rattle.std.proofs.Common.{◌≤◌, ℕ, zero, suc, pos, Bool, true, false,
 use Rattle.std.proofs.lemmas.Int.{ints}
 use Rattle.std.specs.Int.RustNames.{unsigned_abs}
 use Rattle.rp_mixture_program.proofs.PassedParts.{verdict_passes}
-use Rattle.rp_check.specs.RandomVerdict.{IsRandomVerdictOn}
+use Rattle.rp_check.specs.RandomCheckVerdict.{IsRandomCheckVerdict}
 use Rattle.rp_check.specs.declared.verdict.Verdict.TheVariants.{Accepted}
 use Rattle.rp_evidence.specs.declared.certificate.Item.TheVariants.{Random as RandomItem}
 use Rattle.rp_evidence.specs.declared.random.RandomPart.{RandomPart}
@@ -35,6 +35,6 @@ module _ (p : PatchList) (is : IsPatchList p) (types : List (List ℕ)) (few : l
   pub random_passes : (part : RandomPart) → IsRandomVerdict p types part → RandomFails p p.total part (Ok tt)
   random_passes part verdict = (refl, (verdict_passes (types_on p) (are_whole p is) (λ type rational. rational.0) types all within_limits part verdict, tt))
 
-  pub random_certificate_passes : (part : RandomPart) → IsRandomVerdict p types part → IsRandomVerdictOn p (RandomItem p.total part ∷ []) Accepted
+  pub random_certificate_passes : (part : RandomPart) → IsRandomVerdict p types part → IsRandomCheckVerdict p (RandomItem p.total part ∷ []) Accepted
   random_certificate_passes part verdict zero within other = random_passes part verdict
   random_certificate_passes part verdict (suc k) within other = absurd (omega (arith, within))

@@ -30,14 +30,14 @@ use Rattle.rp_farkas.specs.declared.entry.Pair.{Pair}
 use Rattle.rp_program_items.specs.Limits.{FitsBound, FitsDemand, FitsEntry, FitsGood, FitsPoint, FitsWelfare}
 use Rattle.rp_notation.specs.Reading.{FitsCount, FitsLong}
 use Rattle.rp_notation.proofs.ListLemmas.{all_rest}
-use Rattle.rp_num.specs.Fraction.{Fraction, FitsPart, FitsWidth, IsLowestTerms}
+use Rattle.rp_num.specs.Fraction.{Fraction, FitsTerm, FitsWidth, IsLowestTerms}
 use Rattle.rp_num.specs.Spelled.{IsReduced}
 use Rattle.rp_num.proofs.Coprime.{IsGcd-exists}
 use Rattle.rp_num.proofs.Lowest.{FitsWidth-divided, IsLowestTerms-divided, IsLowestTerms-itself, same_IsLowestTerms}
 use Rattle.rp_simplex.specs.Outcome.{EndsPastWidth}
 use Rattle.rp_bound.specs.ProgramBound.{IsBoundOf}
 use Rattle.rp_support.specs.Bounds.{AreBoundsOf}
-use Rattle.rp_support.specs.Verdict.{IsDemandGiven}
+use Rattle.rp_support.specs.Verdict.{IsDemandVerdict}
 use Rattle.rp_table.specs.Sums.{sum_below}
 use Rattle.rp_table.specs.declared.TheConstants.{LARGEST, RECORDS}
 use Rattle.rp_welfare.specs.Verdict.{IsLowerBound, IsWelfareVerdict}
@@ -47,7 +47,7 @@ use Rattle.rp_agreement.proofs.Lists.{listed_fit, rising_few, walk_fits}
 -- ---- numbers
 
 -- the lowest terms of a fraction of two parts within the width are within it
-pub lowest_fits : (n d : ℕ) (f : Fraction) → 1 ≤ d → FitsPart n → FitsPart d → IsLowestTerms n d f → IsReduced f
+pub lowest_fits : (n d : ℕ) (f : Fraction) → 1 ≤ d → FitsTerm n → FitsTerm d → IsLowestTerms n d f → IsReduced f
 lowest_fits n d f positive num_fits den_fits lowest =
     let g = IsGcd-exists n d in
     let same = same_IsLowestTerms n d _ f positive (IsLowestTerms-divided n d g.0 positive g.1) lowest in
@@ -145,7 +145,7 @@ module _ (input : TableInput) (limited : IsLimited input) (prices : List ℕ) (n
           good_fits (upper_program input budget below k) k _ narrow g_in (are.upper k d g_in),
         )
 
-    pub demand_fits : (verdict : Garp) (part : DemandPart) → ProvesDemand input prices m part → IsDemandGiven input budget verdict part → FitsDemand prices m part
+    pub demand_fits : (verdict : Garp) (part : DemandPart) → ProvesDemand input prices m part → IsDemandVerdict input budget verdict part → FitsDemand prices m part
     demand_fits (Ranks ranks) (Bounds below strict inner goods) (each_good, proves) (demand, are) =
         let lists = proves.below_listed in (
           listed_fit input.n few below (IsBelow input budget) (λ t. (lists.just_these t).0),

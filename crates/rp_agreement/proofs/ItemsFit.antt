@@ -1,7 +1,7 @@
 -- Certificates of items as they are given can be read back.
 use Rattle.std.proofs.Common.{◌≢◌, ◌+◌, ◌*◌, ℕ, List, [], ◌∷◌, length, All, ap, arith, inl, inr, refl}
 use Rattle.std.proofs.lemmas.Nat.{mul-add-lt}
-use Rattle.rp_agreement.specs.Given.{ProvesAsGiven}
+use Rattle.rp_agreement.specs.ItemVerdict.{ProvesVerdict}
 use Rattle.rp_evidence.specs.Input.{TableInput, input_of_table}
 use Rattle.rp_evidence.specs.Preference.{StrictByLevels, WeakByLevels}
 use Rattle.rp_evidence.specs.declared.afriat.AfriatPart.{AfriatPart}
@@ -46,7 +46,7 @@ levels_fit n (level ∷ levels) (inl none) = absurd (some_levels level levels no
 levels_fit n (level ∷ levels) (inr (one_each, all)) = inr (refl, refl, (some_levels level levels, all))
 
 module _ (input : TableInput) (limited : IsLimited input) (verdict : Garp) where
-  pub item_fits : (item : Item) → ProvesAsGiven input verdict item → FitsKind Table item
+  pub item_fits : (item : Item) → ProvesVerdict input verdict item → FitsKind Table item
   item_fits (GarpItem own) (proves, given) = (tt, garp_fits input.n limited.few_observations (WeakByLevels input.levels input.cost) (StrictByLevels input.levels input.cost) own proves given)
   item_fits (AfriatItem part) (proves, given) = (tt, afriat_fits input.n limited.few_observations input.levels input.cost part proves given)
   item_fits (EfficiencyItem evidence) (proves, given) = (tt, efficiency_fits input.n input.cost limited.few_observations evidence proves given)
@@ -56,7 +56,7 @@ module _ (input : TableInput) (limited : IsLimited input) (verdict : Garp) where
   item_fits (WelfareItem prices t part) (proves, (none, new, t_in, given)) = (tt, welfare_fits input limited prices new t t_in verdict part proves given)
   item_fits (RandomItem total part) (proves, given) = absurd given
 
-  pub certificate_readable : (rest : List Item) → ProvesAsGiven input verdict (GarpItem verdict) → All (ProvesAsGiven input verdict) rest → IsReadable Table (certificate_from input.levels verdict rest)
+  pub certificate_readable : (rest : List Item) → ProvesVerdict input verdict (GarpItem verdict) → All (ProvesVerdict input verdict) rest → IsReadable Table (certificate_from input.levels verdict rest)
   certificate_readable rest first all = record {
     of_kind = refl;
     levels = levels_fit input.n input.levels limited.own_levels;
@@ -64,12 +64,12 @@ module _ (input : TableInput) (limited : IsLimited input) (verdict : Garp) where
   }
 
   -- the same of the tests of a table
-  pub analysis_readable : (afriat : AfriatPart) (efficiency : Efficiency) (homothetic : Homothetic) (quasilinear : Quasi) → ProvesAsGiven input verdict (GarpItem verdict)
-      → ProvesAsGiven input verdict (AfriatItem afriat) → ProvesAsGiven input verdict (EfficiencyItem efficiency)
-      → ProvesAsGiven input verdict (HomotheticItem homothetic) → ProvesAsGiven input verdict (QuasiItem quasilinear)
+  pub analysis_readable : (afriat : AfriatPart) (efficiency : Efficiency) (homothetic : Homothetic) (quasilinear : Quasi) → ProvesVerdict input verdict (GarpItem verdict)
+      → ProvesVerdict input verdict (AfriatItem afriat) → ProvesVerdict input verdict (EfficiencyItem efficiency)
+      → ProvesVerdict input verdict (HomotheticItem homothetic) → ProvesVerdict input verdict (QuasiItem quasilinear)
       → IsReadable Table (certificate_from input.levels verdict (AfriatItem afriat ∷ EfficiencyItem efficiency ∷ HomotheticItem homothetic ∷ QuasiItem quasilinear ∷ []))
   analysis_readable afriat efficiency homothetic quasilinear first a e h q =
-      let P : Item → Type 0 = ProvesAsGiven input verdict in
+      let P : Item → Type 0 = ProvesVerdict input verdict in
       let last : List Item = QuasiItem quasilinear ∷ [] in
       let last_two : List Item = HomotheticItem homothetic ∷ last in
       let last_three : List Item = EfficiencyItem efficiency ∷ last_two in

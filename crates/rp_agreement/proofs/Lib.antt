@@ -12,4 +12,4 @@ pub mod Narrow
 pub mod RandomFits
 pub mod SameValues
 pub mod TestsFit
-mod Tries
+mod Examples

@@ -1,7 +1,7 @@
 -- Where nothing is found wrong, nothing wrong can be found: no list of clauses both holds and fails.
 use Rattle.std.proofs.Common.{ℕ, ◌≡◌, Bool, List, [], Ok, Err, inl, inr, refl, slice_index, take, slice_index_or}
 use Rattle.rp_clauses.specs.AfriatFailure.{AfriatFails}
-use Rattle.rp_check.specs.CheckVerdict.{IsVerdictOn}
+use Rattle.rp_check.specs.CheckVerdict.{IsCheckVerdict}
 use Rattle.rp_check.specs.LevelsFailure.{LevelsFail}
 use Rattle.rp_check.specs.DemandFailure.{DemandBoundsFail, DemandFails, GoodFails, GoodsFail, InnerFails, SetsFail}
 use Rattle.rp_clauses.specs.EfficiencyFailure.{AboveFails, EfficiencyFails, LevelFails}
@@ -232,7 +232,7 @@ module _ (e : Failure) where
   levels_exclude levels claimed (one_each, (alike, done)) (inr (h, inr none)) = none.1
 
 -- what is accepted is not rejected
-pub only_accepted : (input : TableInput) (levels : List ℕ) (items : List Item) (verdict : Verdict) → IsVerdictOn input levels items Accepted → IsVerdictOn input levels items verdict → verdict ≡ Accepted
+pub only_accepted : (input : TableInput) (levels : List ℕ) (items : List Item) (verdict : Verdict) → IsCheckVerdict input levels items Accepted → IsCheckVerdict input levels items verdict → verdict ≡ Accepted
 only_accepted input levels items verdict (inl none) is = absurd none
 only_accepted input levels items Accepted (inr holds) is = refl
 only_accepted input levels items (Rejected item reason place) (inr (alike, holds)) (inl (whole, found)) =

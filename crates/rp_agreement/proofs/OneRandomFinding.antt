@@ -1,6 +1,6 @@
 -- Where nothing is found wrong on random choices, nothing wrong can be found.
 use Rattle.std.proofs.Common.{◌≡◌, ℕ, List, Ok, Err, inl, inr, refl, slice_index_or}
-use Rattle.rp_check.specs.RandomVerdict.{IsRandomVerdictOn}
+use Rattle.rp_check.specs.RandomCheckVerdict.{IsRandomCheckVerdict}
 use Rattle.rp_check.specs.declared.verdict.Verdict.{Verdict}
 use Rattle.rp_check.specs.declared.verdict.Verdict.TheVariants.{Accepted, Rejected}
 use Rattle.rp_evidence.specs.declared.certificate.Item.{Item}
@@ -33,7 +33,7 @@ module _ (p : PatchList) (e : Failure) where
   item_excludes (RandomItem total part) = random_excludes total part
 
 -- what is accepted is not rejected
-pub only_accepted_on_patches : (p : PatchList) (items : List Item) (verdict : Verdict) → IsRandomVerdictOn p items Accepted → IsRandomVerdictOn p items verdict → verdict ≡ Accepted
+pub only_accepted_on_patches : (p : PatchList) (items : List Item) (verdict : Verdict) → IsRandomCheckVerdict p items Accepted → IsRandomCheckVerdict p items verdict → verdict ≡ Accepted
 only_accepted_on_patches p items Accepted holds is = refl
 only_accepted_on_patches p items (Rejected item reason place) holds (k, within, number, found, before) =
     absurd (item_excludes p (record { reason = reason; place = place }) (slice_index_or items k any_item) (holds k within any_item) (found any_item))

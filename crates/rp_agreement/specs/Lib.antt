@@ -1,3 +1,3 @@
-pub mod Given
+pub mod ItemVerdict
 pub mod Limited
 pub mod ReadBack

@@ -1,9 +1,9 @@
 ghost use Rattle.std.specs.Prelude.{◌≡◌, ◌≤◌, ◌∷◌, [], All, List, length, ℕ};
-ghost use Rattle.rp_agreement.specs.Given.{ProvesAsGiven};
+ghost use Rattle.rp_agreement.specs.ItemVerdict.{ProvesVerdict};
 ghost use Rattle.rp_agreement.specs.Limited.{IsLimited};
 ghost use Rattle.rp_agreement.specs.ReadBack.{IsReadBack, certificate_from, random_certificate};
-ghost use Rattle.rp_check.specs.CheckVerdict.{IsVerdictOn};
-ghost use Rattle.rp_check.specs.RandomVerdict.{IsRandomVerdictOn};
+ghost use Rattle.rp_check.specs.CheckVerdict.{IsCheckVerdict};
+ghost use Rattle.rp_check.specs.RandomCheckVerdict.{IsRandomCheckVerdict};
 ghost use Rattle.rp_check.specs.declared.verdict.Verdict.{Verdict};
 ghost use Rattle.rp_check.specs.declared.verdict.Verdict.TheVariants.{Accepted};
 ghost use Rattle.rp_evidence.specs.Garp.{ProvesOwnGarp};
@@ -33,13 +33,13 @@ pub fn readable_texts_are_read_back()
 pub fn certificates_agree()
     ensures accepted { (input : TableInput) (verdict : Garp) (rest : List Item)
         → ProvesOwnGarp input.n input.levels input.cost verdict
-        → All (ProvesAsGiven input verdict) rest
-        → IsVerdictOn input input.levels (GarpItem verdict ∷ rest) Accepted }
+        → All (ProvesVerdict input verdict) rest
+        → IsCheckVerdict input input.levels (GarpItem verdict ∷ rest) Accepted }
     ensures readable { (input : TableInput) (verdict : Garp) (rest : List Item) → IsLimited input
-        → ProvesAsGiven input verdict (GarpItem verdict) → All (ProvesAsGiven input verdict) rest
+        → ProvesVerdict input verdict (GarpItem verdict) → All (ProvesVerdict input verdict) rest
         → IsReadable Table (certificate_from input.levels verdict rest) }
     ensures read_back { (input : TableInput) (verdict : Garp) (rest : List Item) → IsLimited input
-        → ProvesAsGiven input verdict (GarpItem verdict) → All (ProvesAsGiven input verdict) rest
+        → ProvesVerdict input verdict (GarpItem verdict) → All (ProvesVerdict input verdict) rest
         → IsReadBack Table (certificate_from input.levels verdict rest) }
 {}
 
@@ -48,7 +48,7 @@ pub fn random_certificates_agree()
     ensures accepted { (p : PatchList) (types : List (List ℕ)) (part : RandomPart)
         → IsPatchList p → length types ≤ TYPES → AreRationalTypes p types
         → IsRandomVerdict p types part
-        → IsRandomVerdictOn p (RandomItem p.total part ∷ []) Accepted }
+        → IsRandomCheckVerdict p (RandomItem p.total part ∷ []) Accepted }
     ensures readable { (p : PatchList) (types : List (List ℕ)) (part : RandomPart)
         → IsPatchList p → ProvesRandom p p.total part → IsRandomVerdict p types part
         → IsReadable Random (random_certificate p.total part) }
@@ -60,13 +60,13 @@ pub fn random_certificates_agree()
 /// What is accepted is not rejected: the checker's verdict on it is no other.
 pub fn accepted_is_not_rejected()
     ensures { (input : TableInput) (levels : List ℕ) (items : List Item) (verdict : Verdict)
-        → IsVerdictOn input levels items Accepted → IsVerdictOn input levels items verdict
+        → IsCheckVerdict input levels items Accepted → IsCheckVerdict input levels items verdict
         → verdict ≡ Accepted }
 {}
 
 /// What is accepted on random choices is not rejected: the checker's verdict on it is no other.
 pub fn accepted_is_not_rejected_on_patches()
     ensures { (p : PatchList) (items : List Item) (verdict : Verdict)
-        → IsRandomVerdictOn p items Accepted → IsRandomVerdictOn p items verdict
+        → IsRandomCheckVerdict p items Accepted → IsRandomCheckVerdict p items verdict
         → verdict ≡ Accepted }
 {}

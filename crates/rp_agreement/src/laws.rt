@@ -1,6 +1,6 @@
 ghost use Rattle.std.specs.Prelude.{◌<◌, ◌≤◌, List, length, ℕ};
 ghost use Rattle.rp_afriat.specs.Verdict.{IsOwnAfriatVerdict};
-ghost use Rattle.rp_agreement.specs.Given.{Passes};
+ghost use Rattle.rp_agreement.specs.ItemVerdict.{PassesCheck};
 ghost use Rattle.rp_agreement.specs.Limited.{IsLimited};
 ghost use Rattle.rp_clauses.specs.AfriatFailure.{AfriatFails};
 ghost use Rattle.rp_check.specs.DemandFailure.{DemandFails};
@@ -41,7 +41,7 @@ ghost use Rattle.rp_patch.specs.RandomFailure.{RandomFails};
 ghost use Rattle.rp_patch.specs.Types.{AreRationalTypes};
 ghost use Rattle.rp_quasi.specs.Verdict.{IsQuasilinearVerdict};
 ghost use Rattle.rp_random.specs.Verdict.{IsRandomVerdict};
-ghost use Rattle.rp_support.specs.Verdict.{IsDemandGiven};
+ghost use Rattle.rp_support.specs.Verdict.{IsDemandVerdict};
 ghost use Rattle.rp_table.specs.Limits.{IsExpenditure};
 ghost use Rattle.rp_table.specs.NewPrices.{AreNewPrices};
 ghost use Rattle.rp_table.specs.Tables.{IsTable, Observations};
@@ -59,7 +59,7 @@ pub fn tables_are_limited()
 pub fn garp_agrees()
     ensures accepted { (n : ℕ) (levels : List ℕ) (c : ℕ → ℕ → ℕ) (verdict : Garp)
         → ProvesOwnGarp n levels c verdict
-        → Passes (GarpFails n (WeakByLevels levels c) (StrictByLevels levels c) verdict) }
+        → PassesCheck (GarpFails n (WeakByLevels levels c) (StrictByLevels levels c) verdict) }
     ensures readable { (n : ℕ) (levels : List ℕ) (c : ℕ → ℕ → ℕ) (verdict : Garp)
         → n ≤ RECORDS → ProvesOwnGarp n levels c verdict → IsOwnGarpVerdict n levels c verdict
         → FitsGarp verdict }
@@ -69,7 +69,7 @@ pub fn garp_agrees()
 pub fn afriat_agrees()
     ensures accepted { (n : ℕ) (levels : List ℕ) (c : ℕ → ℕ → ℕ) (part : AfriatPart)
         → ProvesOwnAfriat n levels c part → IsOwnAfriatVerdict n levels c part
-        → Passes (AfriatFails n levels c part) }
+        → PassesCheck (AfriatFails n levels c part) }
     ensures readable { (n : ℕ) (levels : List ℕ) (c : ℕ → ℕ → ℕ) (part : AfriatPart)
         → n ≤ RECORDS → ProvesOwnAfriat n levels c part → IsOwnAfriatVerdict n levels c part
         → FitsAfriat part }
@@ -79,7 +79,7 @@ pub fn afriat_agrees()
 pub fn efficiency_agrees()
     ensures accepted { (n : ℕ) (c : ℕ → ℕ → ℕ) (evidence : Efficiency)
         → ProvesEfficiency n c evidence → IsEfficiencyVerdict n c evidence
-        → Passes (EfficiencyFails n c evidence) }
+        → PassesCheck (EfficiencyFails n c evidence) }
     ensures readable { (n : ℕ) (c : ℕ → ℕ → ℕ) (evidence : Efficiency) → n ≤ RECORDS
         → ProvesEfficiency n c evidence → IsEfficiencyVerdict n c evidence
         → FitsEfficiency evidence }
@@ -89,7 +89,7 @@ pub fn efficiency_agrees()
 pub fn homothetic_agrees()
     ensures accepted { (n : ℕ) (c : ℕ → ℕ → ℕ) (verdict : Homothetic)
         → ProvesHomothetic n c verdict → IsHomotheticVerdict n c verdict
-        → Passes (HomotheticFails n c verdict) }
+        → PassesCheck (HomotheticFails n c verdict) }
     ensures readable { (n : ℕ) (c : ℕ → ℕ → ℕ) (verdict : Homothetic) → n ≤ RECORDS
         → ProvesHomothetic n c verdict → IsHomotheticVerdict n c verdict
         → FitsHomothetic verdict }
@@ -99,7 +99,7 @@ pub fn homothetic_agrees()
 pub fn quasilinear_agrees()
     ensures accepted { (n : ℕ) (c : ℕ → ℕ → ℕ) (verdict : Quasi)
         → ProvesQuasilinear n c verdict → IsQuasilinearVerdict n c verdict
-        → Passes (QuasilinearFails n c verdict) }
+        → PassesCheck (QuasilinearFails n c verdict) }
     ensures readable { (n : ℕ) (c : ℕ → ℕ → ℕ) (verdict : Quasi) → n ≤ RECORDS
         → ProvesQuasilinear n c verdict → IsQuasilinearVerdict n c verdict
         → FitsQuasilinear verdict }
@@ -111,12 +111,12 @@ pub fn demand_agrees()
     ensures accepted { (input : TableInput) (verdict : Garp) (prices : List ℕ) (m : ℕ)
         (part : DemandPart)
         → AreNewPrices input.goods prices → IsExpenditure m
-        → ProvesDemand input prices m part → IsDemandGiven input (budget_of prices m) verdict part
-        → Passes (DemandFails input (shows_garp (GarpItem verdict)) prices m part) }
+        → ProvesDemand input prices m part → IsDemandVerdict input (budget_of prices m) verdict part
+        → PassesCheck (DemandFails input (shows_garp (GarpItem verdict)) prices m part) }
     ensures readable { (input : TableInput) (verdict : Garp) (prices : List ℕ) (m : ℕ)
         (part : DemandPart)
         → IsLimited input → AreNewPrices input.goods prices → IsExpenditure m
-        → ProvesDemand input prices m part → IsDemandGiven input (budget_of prices m) verdict part
+        → ProvesDemand input prices m part → IsDemandVerdict input (budget_of prices m) verdict part
         → FitsDemand prices m part }
 {}
 
@@ -127,7 +127,7 @@ pub fn welfare_agrees()
         (part : WelfarePart)
         → AreNewPrices input.goods prices → t < input.n → ProvesGarp input.n input.cost verdict
         → ProvesWelfare input prices t part → IsWelfareVerdict input prices t verdict part
-        → Passes (WelfareFails input (shows_garp (GarpItem verdict)) prices t part) }
+        → PassesCheck (WelfareFails input (shows_garp (GarpItem verdict)) prices t part) }
     ensures readable { (input : TableInput) (verdict : Garp) (prices : List ℕ) (t : ℕ)
         (part : WelfarePart)
         → IsLimited input → AreNewPrices input.goods prices → t < input.n
@@ -139,7 +139,7 @@ pub fn welfare_agrees()
 pub fn random_agrees()
     ensures accepted { (p : PatchList) (types : List (List ℕ)) (part : RandomPart)
         → IsPatchList p → length types ≤ TYPES → AreRationalTypes p types
-        → IsRandomVerdict p types part → Passes (RandomFails p p.total part) }
+        → IsRandomVerdict p types part → PassesCheck (RandomFails p p.total part) }
     ensures readable { (p : PatchList) (types : List (List ℕ)) (part : RandomPart)
         → IsPatchList p → ProvesRandom p p.total part → IsRandomVerdict p types part
         → FitsRandom p.total part }

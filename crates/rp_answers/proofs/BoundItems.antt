@@ -8,7 +8,7 @@ use Rattle.rp_evidence.specs.declared.certificate.Item.TheVariants.{Demand, Welf
 use Rattle.rp_evidence.specs.declared.demand.DemandPart.{DemandPart}
 use Rattle.rp_evidence.specs.declared.demand.WelfarePart.{WelfarePart}
 use Rattle.rp_evidence.specs.declared.garp.Garp.{Garp}
-use Rattle.rp_support.specs.Verdict.{IsDemandGiven}
+use Rattle.rp_support.specs.Verdict.{IsDemandVerdict}
 use Rattle.rp_table.specs.Limits.{IsPrice}
 use Rattle.rp_table.specs.declared.TheConstants.{LARGEST_EXPENDITURE}
 use Rattle.rp_welfare.specs.Verdict.{IsWelfareVerdict}
@@ -23,7 +23,7 @@ module _ (input : TableInput) (none : input.levels ≡ []) (limited : IsLimited 
   new : AreNewPrices input.goods prices
   new = record { one_each = one_each; fit = limits }
 
-  pub demand_record : (m : ℕ) (evidence : DemandPart) → 1 ≤ m → m ≤ LARGEST_EXPENDITURE → ProvesDemand input prices m evidence → IsDemandGiven input (budget_of prices m) garp evidence
+  pub demand_record : (m : ℕ) (evidence : DemandPart) → 1 ≤ m → m ≤ LARGEST_EXPENDITURE → ProvesDemand input prices m evidence → IsDemandVerdict input (budget_of prices m) garp evidence
       → IsDemandItem input garp prices m (Demand kept m evidence)
   demand_record m evidence least most proves given =
       subst (λ (list : List ℕ). IsDemandItem input garp prices m (Demand list m evidence)) (sym same) (record {

@@ -1,7 +1,7 @@
 pub mod AcceptedLemmas
 pub mod BoundItems
 pub mod GarpFirstLemmas
-pub mod JudgementLemmas
+pub mod GarpTestLemmas
 pub mod ReadBackLemmas
 pub mod TrialLemmas
 pub mod UtilityLemmas

@@ -3,8 +3,8 @@
 use Rattle.std.specs.Prelude.{◌≡◌, ◌++◌, ◌-◌, ◌^◌, ℕ, List, All, codes, length, min, sum_by}
 use Rattle.std.specs.Fmt.{decimal}
 use Rattle.rp_table.specs.Tables.{Observations}
-use Rattle.rp_check.specs.CheckVerdict.{IsVerdictOn}
-use Rattle.rp_check.specs.RandomVerdict.{IsRandomVerdictOn}
+use Rattle.rp_check.specs.CheckVerdict.{IsCheckVerdict}
+use Rattle.rp_check.specs.RandomCheckVerdict.{IsRandomCheckVerdict}
 use Rattle.rp_check.specs.declared.verdict.Verdict.{Verdict}
 use Rattle.rp_check.specs.declared.verdict.Verdict.TheVariants.{Accepted, Rejected}
 use Rattle.rp_evidence.specs.Input.{input_of_table}
@@ -69,7 +69,7 @@ check_status (Rejected item reason place) = status.Rejected
 -- its items proves its verdict
 pub record IsTableCheck (table : Observations) (certificate : Certificate) (s : Status) (text : List ℕ) : Type 0 where
   pub verdict : Verdict
-  pub found : IsVerdictOn (input_of_table table) certificate.levels certificate.items verdict
+  pub found : IsCheckVerdict (input_of_table table) certificate.levels certificate.items verdict
   pub proves : verdict ≡ Accepted → All (Proves (input_of_table table)) certificate.items
   pub ends : s ≡ check_status verdict
   pub tells : text ≡ check_line certificate.items verdict
@@ -77,7 +77,7 @@ pub record IsTableCheck (table : Observations) (certificate : Certificate) (s : 
 -- the same on choices from budgets
 pub record IsRandomCheck (p : PatchList) (certificate : Certificate) (s : Status) (text : List ℕ) : Type 0 where
   pub verdict : Verdict
-  pub found : IsRandomVerdictOn p certificate.items verdict
+  pub found : IsRandomCheckVerdict p certificate.items verdict
   pub proves : verdict ≡ Accepted → All (ProvesOnPatches p) certificate.items
   pub ends : s ≡ check_status verdict
   pub tells : text ≡ check_line certificate.items verdict

@@ -6,7 +6,7 @@ use Rattle.rp_table.specs.Rows.{row_of, rows_count}
 use Rattle.rp_table.specs.Tables.{goods_of}
 use Rattle.rp_cost.specs.AskedOutputs.{AskedOutputs}
 use Rattle.rp_cost.specs.Axioms.{MeetsCost}
-use Rattle.rp_cost.specs.CostBounds.{AreBoundsGiven, BoundsHold, IsAtMost, ProvesCostBounds, ShowsNothing}
+use Rattle.rp_cost.specs.CostBounds.{AreCostBounds, BoundsHold, IsAtMost, ProvesCostBounds, ShowsNothing}
 use Rattle.rp_cost.specs.OuterSet.{AllMakeMore, MadeIsOuter}
 use Rattle.rp_cost.specs.Report.{IsProductionReport}
 use Rattle.rp_cost.specs.Technology.{Technology}
@@ -17,7 +17,7 @@ use Rattle.rp_cost.specs.declared.bounds.CostBounds.{CostBounds}
 -- observation made more, nothing has to be spent
 pub record IsCostAnswer (tech : Technology) (prices : List ℕ) (y : ℕ) (bounds : CostBounds) : Type 0 where
   pub proves : ProvesCostBounds (input_of_table tech.table) (slice_index tech.y) y (slice_index prices) bounds
-  pub given : AreBoundsGiven (input_of_table tech.table) (slice_index tech.y) y (slice_index prices) bounds
+  pub given : AreCostBounds (input_of_table tech.table) (slice_index tech.y) y (slice_index prices) bounds
   pub accepted : BoundsHold (input_of_table tech.table) (slice_index tech.y) y (slice_index prices) bounds
   pub made_is_outer : MadeIsOuter (input_of_table tech.table) (slice_index tech.y) y
   pub lower_at_most_upper : IsAtMost bounds.lower bounds.upper

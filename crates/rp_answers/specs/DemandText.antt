@@ -13,7 +13,7 @@ use Rattle.rp_evidence.specs.declared.certificate.Kind.TheVariants.{Table}
 use Rattle.rp_evidence.specs.declared.certificate.Item.TheVariants.{Demand}
 use Rattle.rp_evidence.specs.declared.demand.DemandPart.{DemandPart}
 use Rattle.rp_evidence.specs.declared.garp.Garp.{Garp}
-use Rattle.rp_support.specs.Verdict.{IsDemandGiven}
+use Rattle.rp_support.specs.Verdict.{IsDemandVerdict}
 use Rattle.rp_json.specs.Denoted.{FitsKind}
 use Rattle.rp_answers.specs.Accepted.{PassesAfter}
 use Rattle.rp_answers.specs.GarpFirst.{IsGarpFirst}
@@ -25,7 +25,7 @@ pub record IsDemandItem (input : TableInput) (garp : Garp) (prices : List ℕ) (
   pub evidence : DemandPart
   pub on_budget : item ≡ Demand prices m evidence
   pub proves : Proves input item
-  pub given : IsDemandGiven input (budget_of prices m) garp evidence
+  pub given : IsDemandVerdict input (budget_of prices m) garp evidence
   pub passes : PassesAfter input garp item
   pub readable : FitsKind Table item
 

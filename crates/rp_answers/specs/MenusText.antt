@@ -16,5 +16,5 @@ pub record IsMenusAnswer (list : MenuList) (units : Units) (part : RandomPart) :
 
 -- the text is the report of that, with the unit that was asked for
 abbrev pub IsMenusText : Option ℕ → MenuList → Units → List ℕ → Type 0
-IsMenusText asked list units text =
-    (part : RandomPart) × IsMenusAnswer list units part × IsMenusReport list units part asked text
+IsMenusText per list units text =
+    (part : RandomPart) × IsMenusAnswer list units part × IsMenusReport list units part per text

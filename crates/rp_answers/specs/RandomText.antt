@@ -1,7 +1,7 @@
 -- What `random` prints: the report, or the JSON, of a certificate with the one item on whether rational types make the
 -- choices (McFadden and Richter 1990).
 use Rattle.std.specs.Prelude.{◌≡◌, ℕ, Bool, List, if◌then◌else◌, length}
-use Rattle.rp_check.specs.RandomVerdict.{IsRandomVerdictOn}
+use Rattle.rp_check.specs.RandomCheckVerdict.{IsRandomCheckVerdict}
 use Rattle.rp_check.specs.declared.verdict.Verdict.TheVariants.{Accepted}
 use Rattle.rp_evidence.specs.declared.certificate.Certificate.{Certificate}
 use Rattle.rp_evidence.specs.declared.certificate.Kind.TheVariants.{Random as RandomKind}
@@ -20,7 +20,7 @@ pub record IsRandomAnswer (choices : TypedPatches) (certificate : Certificate) :
   pub item : certificate ≡ random_certificate choices.patches.total evidence
   pub proves : ProvesRandom choices.patches choices.patches.total evidence
   pub given : IsRandomVerdict choices.patches choices.types evidence
-  pub accepted : IsRandomVerdictOn choices.patches certificate.items Accepted
+  pub accepted : IsRandomCheckVerdict choices.patches certificate.items Accepted
   pub read_back : IsReadBack RandomKind certificate
 
 -- the text is that of such a certificate

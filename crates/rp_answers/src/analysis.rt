@@ -2,7 +2,7 @@ ghost use Rattle.std.specs.Prelude.{◌≡◌, IfOk};
 ghost use Rattle.rp_evidence.specs.Input.{input_of_table};
 ghost use Rattle.rp_answers.specs.AnalysisText.{IsAnalysis, IsAnalysisText, five_items};
 
-use crate::shared::{judge, report_or_json, table_certificate};
+use crate::shared::{report_or_json, table_certificate, test_garp};
 use rp_afriat::afriat_by_closure;
 use rp_effic::efficiency;
 use rp_evidence::{AfriatPart, Certificate, Efficiency, Garp, Homothetic, Item, Quasi};
@@ -25,15 +25,15 @@ pub fn analysis_text(alloc: Global, table: &Table, json: bool) -> Result<Vec<u8>
 fn analyse(alloc: Global, table: &Table) -> Result<Certificate, NoMemory>
     ensures { IfOk result (IsAnalysis (input_of_table table.now)) }
 {
-    let judgement = judge(alloc, table)?;
-    let costs = &judgement.costs;
-    let afriat = afriat_by_closure(alloc, costs, &judgement.garp, &judgement.closure)?;
+    let tested = test_garp(alloc, table)?;
+    let costs = &tested.costs;
+    let afriat = afriat_by_closure(alloc, costs, &tested.garp, &tested.closure)?;
     let efficiency = efficiency(alloc, costs)?;
     let homothetic = homothetic(alloc, costs)?;
     let quasilinear = quasilinear(alloc, costs)?;
     let items = five_items(
         alloc,
-        judgement.garp,
+        tested.garp,
         afriat,
         efficiency,
         homothetic,

@@ -7,9 +7,9 @@ ghost use Rattle.rp_table.specs.Tables.{goods_of};
 ghost use Rattle.rp_answers.specs.DemandText.{IsDemandCertificate, IsDemandItem, IsDemandText};
 ghost use Rattle.rp_answers.specs.DemandText.{IsSpentOn};
 ghost use Rattle.rp_answers.specs.GarpFirst.{AreAnswered};
-ghost use Rattle.rp_answers.specs.InnerJudgement.{IsJudgementOn};
+ghost use Rattle.rp_answers.specs.InnerGarpTest.{IsTestOf};
 
-use crate::shared::{Judgement, certificate_from, judge, report_or_json};
+use crate::shared::{GarpTest, certificate_from, report_or_json, test_garp};
 use rp_evidence::{Certificate, Item};
 use rp_num::{NoMemory, Seq};
 use rp_support::demand_by_closure;
@@ -38,9 +38,9 @@ fn demand_certificate(alloc: Global, table: &Table, new: &Prices) -> Result<Cert
     requires spent { IsSpentOn table.now new.now }
     ensures { IfOk result (IsDemandCertificate (input_of_table table.now) new.now) }
 {
-    let judgement = judge(alloc, table)?;
-    let items = demand_items(alloc, table, &judgement, new)?;
-    let made = certificate_from(alloc, table, judgement.garp, items)?;
+    let tested = test_garp(alloc, table)?;
+    let items = demand_items(alloc, table, &tested, new)?;
+    let made = certificate_from(alloc, table, tested.garp, items)?;
     Ok(made)
 }
 
@@ -48,19 +48,19 @@ fn demand_certificate(alloc: Global, table: &Table, new: &Prices) -> Result<Cert
 fn demand_items(
     alloc: Global,
     table: &Table,
-    judgement: &Judgement,
+    tested: &GarpTest,
     new: &Prices,
 ) -> Result<Vec<Item>, NoMemory>
     requires no_levels { table.now.levels ≡ [] }
-    requires judged { IsJudgementOn table.now judgement.now }
+    requires is_test { IsTestOf table.now tested.now }
     requires spent { IsSpentOn table.now new.now }
     ensures { IfOk result (λ items. AreAnswered (rows_count new.now.prices new.now.goods)
-        (λ i. IsDemandItem (input_of_table table.now) judgement.now.garp
+        (λ i. IsDemandItem (input_of_table table.now) tested.now.garp
         (row_of new.now.prices new.now.goods i) (slice_index new.now.m i)) items.items) }
 {
     let mut items = Vec::new(alloc);
     for i in 0..new.count() {
-        let item = demand_item(alloc, table, judgement, new.row(i), new.m(i))?;
+        let item = demand_item(alloc, table, tested, new.row(i), new.m(i))?;
         items.push(item)?;
     }
     Ok(items)
@@ -70,23 +70,23 @@ fn demand_items(
 fn demand_item(
     alloc: Global,
     table: &Table,
-    judgement: &Judgement,
+    tested: &GarpTest,
     prices: &[u32],
     m: u64,
 ) -> Result<Item, NoMemory>
     requires no_levels { table.now.levels ≡ [] }
-    requires judged { IsJudgementOn table.now judgement.now }
+    requires is_test { IsTestOf table.now tested.now }
     requires prices { AreNewPrices (goods_of table.now) prices.now }
     requires spent { IsExpenditure m }
     ensures { IfOk result
-        (IsDemandItem (input_of_table table.now) judgement.now.garp prices.now m) }
+        (IsDemandItem (input_of_table table.now) tested.now.garp prices.now m) }
 {
     let evidence = demand_by_closure(
         alloc,
         table,
-        &judgement.costs,
-        &judgement.garp,
-        &judgement.closure,
+        &tested.costs,
+        &tested.garp,
+        &tested.closure,
         prices,
         m,
     )?;

@@ -13,12 +13,12 @@ pub fn menus_text(
     alloc: Global,
     seen: &Menus,
     units: &Units,
-    asked: Option<u32>,
+    per: Option<u32>,
 ) -> Result<Vec<u8>, NoMemory>
     requires { AreUnitsOf seen.now units.now }
-    ensures { IfOk result (λ text. IsMenusText asked seen.now units.now text.items) }
+    ensures { IfOk result (λ text. IsMenusText per seen.now units.now text.items) }
 {
     let part = menus(alloc, seen, units)?;
-    let text = report_menus(alloc, seen, units, &part, asked)?;
+    let text = report_menus(alloc, seen, units, &part, per)?;
     Ok(text)
 }

@@ -4,7 +4,7 @@
 ghost use Rattle.rp_evidence.specs.Kinds.{IsCertificateOf};
 ghost use Rattle.rp_evidence.specs.declared.certificate.Kind.TheVariants.{Table as TableKind};
 ghost use Rattle.rp_agreement.specs.ReadBack.{certificate_from, table_certificate, version_of};
-ghost use Rattle.rp_answers.specs.InnerJudgement.{IsJudgementOn};
+ghost use Rattle.rp_answers.specs.InnerGarpTest.{IsTestOf};
 ghost use Rattle.rp_answers.specs.ReportOrJson.{report_or_json};
 ghost use Rattle.std.specs.Prelude.{IfOk, ◌≡◌};
 
@@ -20,21 +20,21 @@ use std::alloc::Global;
 /// What the answers to questions about a table begin with: its costs, the closure of their weak steps, which is made
 /// once for a line, and the verdict on the axiom that it shows.
 #[derive(Drop)]
-pub(crate) struct Judgement {
+pub(crate) struct GarpTest {
     pub costs: Costs,
     pub closure: Closure,
     pub garp: Garp,
 }
 
 /// The judgement on a table, each observation held to its own level, or to all that it spent.
-pub(crate) fn judge(alloc: Global, table: &Table) -> Result<Judgement, NoMemory>
-    ensures { IfOk result (IsJudgementOn table.now) }
+pub(crate) fn test_garp(alloc: Global, table: &Table) -> Result<GarpTest, NoMemory>
+    ensures { IfOk result (IsTestOf table.now) }
 {
     prove!(table.n() >= 1);
     let costs = Costs::of(alloc, table)?;
     let closure = Closure::own(alloc, &costs)?;
     let garp = garp_by_closure(alloc, &costs, &closure)?;
-    Ok(Judgement {
+    Ok(GarpTest {
         costs,
         closure,
         garp,

@@ -9,7 +9,7 @@ ghost use Rattle.rp_answers.specs.UtilityText.{AreUtilityLines, IsUtilityLine, I
 ghost use Rattle.rp_answers.specs.UtilityText.{at_line};
 ghost use Rattle.rp_answers.specs.UtilityText.{first_items};
 
-use crate::shared::{judge, table_certificate};
+use crate::shared::{table_certificate, test_garp};
 use rp_afriat::{afriat_by_closure, utility_at};
 use rp_evidence::{AfriatPart, Certificate, Garp, Item};
 use rp_num::NoMemory;
@@ -23,11 +23,11 @@ pub fn utility_text(alloc: Global, table: &Table, bundles: &Bundles) -> Result<V
     requires { bundles.now.goods ≡ goods_of table.now }
     ensures { IfOk result (λ text. IsUtilityText table.now bundles.now text.items) }
 {
-    let judgement = judge(alloc, table)?;
-    let costs = &judgement.costs;
-    let afriat = afriat_by_closure(alloc, costs, &judgement.garp, &judgement.closure)?;
+    let tested = test_garp(alloc, table)?;
+    let costs = &tested.costs;
+    let afriat = afriat_by_closure(alloc, costs, &tested.garp, &tested.closure)?;
     let lines = utility_lines(alloc, table, costs, &afriat, bundles)?;
-    let certificate = certificate(alloc, table, judgement.garp, afriat)?;
+    let certificate = certificate(alloc, table, tested.garp, afriat)?;
     let mut text = report(alloc, &certificate, table)?;
     text.extend_from_slice(lines.as_slice())?;
     Ok(text)

@@ -4,10 +4,10 @@ ghost use Rattle.rp_table.specs.NewPrices.{AreNewPrices};
 ghost use Rattle.rp_table.specs.Rows.{row_of, rows_count};
 ghost use Rattle.rp_table.specs.Tables.{goods_of, records_of};
 ghost use Rattle.rp_answers.specs.GarpFirst.{AreAnswered};
-ghost use Rattle.rp_answers.specs.InnerJudgement.{IsJudgementOn};
+ghost use Rattle.rp_answers.specs.InnerGarpTest.{IsTestOf};
 ghost use Rattle.rp_answers.specs.WelfareText.{IsWelfareCertificate, IsWelfareItem, IsWelfareText};
 
-use crate::shared::{Judgement, certificate_from, judge, report_or_json};
+use crate::shared::{GarpTest, certificate_from, report_or_json, test_garp};
 use rp_evidence::{Certificate, Item};
 use rp_num::{NoMemory, Seq};
 use rp_table::{Prices, Table};
@@ -36,9 +36,9 @@ fn welfare_certificate(alloc: Global, table: &Table, new: &Prices) -> Result<Cer
     requires goods { new.now.goods ≡ goods_of table.now }
     ensures { IfOk result (IsWelfareCertificate (input_of_table table.now) new.now) }
 {
-    let judgement = judge(alloc, table)?;
-    let items = welfare_items(alloc, table, &judgement, new)?;
-    let made = certificate_from(alloc, table, judgement.garp, items)?;
+    let tested = test_garp(alloc, table)?;
+    let items = welfare_items(alloc, table, &tested, new)?;
+    let made = certificate_from(alloc, table, tested.garp, items)?;
     Ok(made)
 }
 
@@ -46,22 +46,22 @@ fn welfare_certificate(alloc: Global, table: &Table, new: &Prices) -> Result<Cer
 fn welfare_items(
     alloc: Global,
     table: &Table,
-    judgement: &Judgement,
+    tested: &GarpTest,
     new: &Prices,
 ) -> Result<Vec<Item>, NoMemory>
     requires no_levels { table.now.levels ≡ [] }
-    requires judged { IsJudgementOn table.now judgement.now }
+    requires is_test { IsTestOf table.now tested.now }
     requires goods { new.now.goods ≡ goods_of table.now }
     ensures { IfOk result (λ items. AreAnswered
         (rows_count new.now.prices new.now.goods * records_of table.now)
-        (λ k. IsWelfareItem (input_of_table table.now) judgement.now.garp
+        (λ k. IsWelfareItem (input_of_table table.now) tested.now.garp
         (row_of new.now.prices new.now.goods (k / records_of table.now)) (k % records_of table.now))
         items.items) }
 {
     let n = table.n();
     let mut items = Vec::new(alloc);
     for k in 0..new.count() * n {
-        let item = welfare_item(alloc, table, judgement, new.row(k / n), k % n)?;
+        let item = welfare_item(alloc, table, tested, new.row(k / n), k % n)?;
         items.push(item)?;
     }
     Ok(items)
@@ -71,23 +71,23 @@ fn welfare_items(
 fn welfare_item(
     alloc: Global,
     table: &Table,
-    judgement: &Judgement,
+    tested: &GarpTest,
     prices: &[u32],
     t: u32,
 ) -> Result<Item, NoMemory>
     requires no_levels { table.now.levels ≡ [] }
-    requires judged { IsJudgementOn table.now judgement.now }
+    requires is_test { IsTestOf table.now tested.now }
     requires prices { AreNewPrices (goods_of table.now) prices.now }
     requires observed { t < records_of table.now }
     ensures { IfOk result
-        (IsWelfareItem (input_of_table table.now) judgement.now.garp prices.now t) }
+        (IsWelfareItem (input_of_table table.now) tested.now.garp prices.now t) }
 {
     let evidence = welfare_by_closure(
         alloc,
         table,
-        &judgement.costs,
-        &judgement.garp,
-        &judgement.closure,
+        &tested.costs,
+        &tested.garp,
+        &tested.closure,
         prices,
         t,
     )?;

@@ -15,21 +15,21 @@ ItemFailsAt input items k found =
     (other : Item) → ItemFails input (one_shows_garp (take k items)) (slice_index_or items k other) found
 
 -- The verdict on these items. They are counted from 1.
-abbrev pub IsItemsVerdictOn : TableInput → List Item → Verdict → Type 0
-IsItemsVerdictOn input items Accepted = (k : ℕ) → k < length items → ItemFailsAt input items k (Ok tt)
-IsItemsVerdictOn input items (Rejected item reason place) =
+abbrev pub IsCheckVerdictOnItems : TableInput → List Item → Verdict → Type 0
+IsCheckVerdictOnItems input items Accepted = (k : ℕ) → k < length items → ItemFailsAt input items k (Ok tt)
+IsCheckVerdictOnItems input items (Rejected item reason place) =
     (k : ℕ) × (k < length items) × (item ≡ capped (k + 1))
     × ItemFailsAt input items k (Err (record { reason = reason; place = place }))
     × ((j : ℕ) → j < k → ItemFailsAt input items j (Ok tt))
 
 -- The verdict where the levels are not those of the table: item 0 stands for the certificate as a whole.
-abbrev pub IsLevelsVerdict : List ℕ → List ℕ → Verdict → Type 0
-IsLevelsVerdict levels claimed Accepted = ⊥
-IsLevelsVerdict levels claimed (Rejected item reason place) =
+abbrev pub IsCheckVerdictOnLevels : List ℕ → List ℕ → Verdict → Type 0
+IsCheckVerdictOnLevels levels claimed Accepted = ⊥
+IsCheckVerdictOnLevels levels claimed (Rejected item reason place) =
     (item ≡ 0) × LevelsFail levels claimed (Err (record { reason = reason; place = place }))
 
 -- The verdict on these levels and items: that on the levels, or they are those of the table, and that on the items.
-abbrev pub IsVerdictOn : TableInput → List ℕ → List Item → Verdict → Type 0
-IsVerdictOn input claimed items verdict =
-    IsLevelsVerdict input.levels claimed verdict
-    ⊎ (LevelsFail input.levels claimed (Ok tt) × IsItemsVerdictOn input items verdict)
+abbrev pub IsCheckVerdict : TableInput → List ℕ → List Item → Verdict → Type 0
+IsCheckVerdict input claimed items verdict =
+    IsCheckVerdictOnLevels input.levels claimed verdict
+    ⊎ (LevelsFail input.levels claimed (Ok tt) × IsCheckVerdictOnItems input items verdict)

@@ -3,5 +3,5 @@ pub mod DemandFailure
 pub mod InnerSets
 pub mod ItemFailure
 pub mod LevelsFailure
-pub mod RandomVerdict
+pub mod RandomCheckVerdict
 pub mod WelfareFailure

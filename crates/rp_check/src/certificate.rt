@@ -1,5 +1,5 @@
 ghost use Rattle.std.specs.Prelude.{◌≡◌, All};
-ghost use Rattle.rp_check.specs.CheckVerdict.{IsItemsVerdictOn, IsVerdictOn};
+ghost use Rattle.rp_check.specs.CheckVerdict.{IsCheckVerdictOnItems, IsCheckVerdict};
 ghost use Rattle.rp_check.specs.declared.verdict.Verdict.TheVariants.{Accepted};
 ghost use Rattle.rp_evidence.specs.Input.{input_of_table};
 ghost use Rattle.rp_evidence.specs.Kinds.{IsCertificateOf, IsOfKind};
@@ -21,7 +21,7 @@ use rp_table::{Costs, Table};
 pub fn check(table: &Table, costs: &Costs, certificate: &Certificate) -> Verdict
     requires costs { IsCostsOf costs.now table.now }
     requires kind { IsCertificateOf TableKind certificate.now }
-    ensures first_failure { IsVerdictOn (input_of_table table.now) certificate.now.levels
+    ensures first_failure { IsCheckVerdict (input_of_table table.now) certificate.now.levels
         certificate.now.items result }
     ensures accepted_proves { result ≡ Accepted
         → All (Proves (input_of_table table.now)) certificate.now.items }
@@ -40,7 +40,7 @@ pub fn check(table: &Table, costs: &Costs, certificate: &Certificate) -> Verdict
 fn check_items(table: &Table, costs: &Costs, items: &[Item]) -> Verdict
     requires costs { IsCostsOf costs.now table.now }
     requires kinds { All (IsOfKind TableKind) items.now }
-    ensures first_failure { IsItemsVerdictOn (input_of_table table.now) items.now result }
+    ensures first_failure { IsCheckVerdictOnItems (input_of_table table.now) items.now result }
     ensures accepted_proves { result ≡ Accepted
         → All (Proves (input_of_table table.now)) items.now }
 {

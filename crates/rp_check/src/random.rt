@@ -1,5 +1,5 @@
 ghost use Rattle.std.specs.Prelude.{◌≡◌, All};
-ghost use Rattle.rp_check.specs.RandomVerdict.{IsRandomVerdictOn};
+ghost use Rattle.rp_check.specs.RandomCheckVerdict.{IsRandomCheckVerdict};
 ghost use Rattle.rp_check.specs.declared.verdict.Verdict.TheVariants.{Accepted};
 ghost use Rattle.rp_evidence.specs.Kinds.{IsCertificateOf};
 ghost use Rattle.rp_evidence.specs.declared.certificate.Kind.TheVariants.{Random as RandomKind};
@@ -25,7 +25,7 @@ fn check_random_item(patches: &Patches, item: &Item) -> Result<(), Failure>
 /// What is withheld claims nothing and is passed over.
 pub fn check_random(patches: &Patches, certificate: &Certificate) -> Verdict
     requires { IsCertificateOf RandomKind certificate.now }
-    ensures first_failure { IsRandomVerdictOn patches.now certificate.now.items result }
+    ensures first_failure { IsRandomCheckVerdict patches.now certificate.now.items result }
     ensures accepted_proves { result ≡ Accepted
         → All (ProvesOnPatches patches.now) certificate.now.items }
 {

@@ -7,7 +7,7 @@ use Rattle.rp_evidence.proofs.Walks.{reaches_by, rest_of_reach}
 use Rattle.rp_rounds.specs.Bits.{bit_in}
 use Rattle.rp_clauses.specs.InnerBits.{has_bit}
 use Rattle.rp_rounds.specs.Marks.{AreMarked, IsMarked}
-use Rattle.rp_clauses.specs.InnerMarks.{IsLedTo}
+use Rattle.rp_clauses.specs.InnerMarks.{IsReachedFromMarked}
 
 -- ---- what is told of one observation after another is marked, up to v
 
@@ -50,8 +50,8 @@ module _ (step : ℕ → Type 0) (old : List Bool) where
 -- ---- what the marked observations reach
 
 -- The row has what the marked ones of the first s observations reach.
-abbrev pub IsLedFrom : List (List ℕ) → List Bool → List ℕ → ℕ → Type 0
-IsLedFrom rows marks row end =
+abbrev pub IsReachedFromFirst : List (List ℕ) → List Bool → List ℕ → ℕ → Type 0
+IsReachedFromFirst rows marks row end =
     (t : ℕ) → IsTrue (bit_in row t) ↔ ((s : ℕ) × (s < end) × IsMarked marks s × IsTrue (has_bit rows s t))
 
 of_or : (a b : Bool) → IsTrue (a || b) → IsTrue a ⊎ IsTrue b
@@ -67,8 +67,8 @@ or_right true b h = refl
 or_right false b h = h
 
 module _ (rows : List (List ℕ)) (marks : List Bool) where
-  module _ (row : List ℕ) (s : ℕ) (so_far : IsLedFrom rows marks row s) where
-    pub led_past : slice_index_or marks s false ≡ false → IsLedFrom rows marks row (s + 1)
+  module _ (row : List ℕ) (s : ℕ) (so_far : IsReachedFromFirst rows marks row s) where
+    pub led_past : slice_index_or marks s false ≡ false → IsReachedFromFirst rows marks row (s + 1)
     led_past none t = (
       (λ h. let k = (so_far t).0 h in (k.0, omega (arith, k.1), k.2, k.3)),
       (λ h. (so_far t).1 (h.0, below h.0 h.1 h.2, h.2, h.3)),
@@ -80,7 +80,7 @@ module _ (rows : List (List ℕ)) (marks : List Bool) where
           | inr d ↦ omega arith
         ]
 
-    pub led_at : IsMarked marks s → (new : List ℕ) → ((t : ℕ) → bit_in new t ≡ (bit_in row t || has_bit rows s t)) → IsLedFrom rows marks new (s + 1)
+    pub led_at : IsMarked marks s → (new : List ℕ) → ((t : ℕ) → bit_in new t ≡ (bit_in row t || has_bit rows s t)) → IsReachedFromFirst rows marks new (s + 1)
     led_at here new is t = (
       (λ h. elim (of_or (bit_in row t) (has_bit rows s t) (sym (is t) ∙ h)) [
         | inl k ↦ (let q = (so_far t).0 k in (q.0, omega (arith, q.1), q.2, q.3))
@@ -98,7 +98,7 @@ module _ (n : ℕ) (step : ℕ → ℕ → Type 0) (old marks : List Bool) (row 
     (told : (s t : ℕ) → s < n → t < n → IsTrue (has_bit rows s t) ↔ Reaches n step s t)
     (reached : (t : ℕ) → IsTrue (bit_in row t) ↔ ((s : ℕ) × (s < n) × IsMarked old s × IsTrue (has_bit rows s t)))
     (marked : (t : ℕ) → t < n → IsMarked marks t ↔ (IsMarked old t ⊎ IsTrue (bit_in row t))) where
-  pub spread_all : AreMarked n (IsLedTo n step old) marks
+  pub spread_all : AreMarked n (IsReachedFromMarked n step old) marks
   spread_all t t_in = (
     (λ h. elim ((marked t t_in).0 h) [
       | inl k ↦ (t, t_in, k, [], (t_in, refl))

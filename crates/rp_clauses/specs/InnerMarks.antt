@@ -5,5 +5,5 @@ use Rattle.rp_evidence.specs.Walk.{LeadsTo}
 use Rattle.rp_rounds.specs.Marks.{IsMarked}
 
 -- Steps, or none, lead from a marked observation to t.
-abbrev pub IsLedTo : ℕ → (ℕ → ℕ → Type 0) → List Bool → ℕ → Type 0
-IsLedTo n step marks t = (s : ℕ) × (s < n) × IsMarked marks s × (walk : List ℕ) × LeadsTo n step s t walk
+abbrev pub IsReachedFromMarked : ℕ → (ℕ → ℕ → Type 0) → List Bool → ℕ → Type 0
+IsReachedFromMarked n step marks t = (s : ℕ) × (s < n) × IsMarked marks s × (walk : List ℕ) × LeadsTo n step s t walk

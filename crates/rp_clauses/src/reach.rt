@@ -4,7 +4,7 @@ ghost use Rattle.rp_evidence.specs.Input.{input_of_table};
 ghost use Rattle.rp_evidence.specs.Preference.{IsWeak};
 ghost use Rattle.rp_clauses.specs.InnerBits.{HoldsWeakClosure};
 ghost use Rattle.rp_rounds.specs.Marks.{AreMarked, IsMarked};
-ghost use Rattle.rp_clauses.specs.InnerMarks.{IsLedTo};
+ghost use Rattle.rp_clauses.specs.InnerMarks.{IsReachedFromMarked};
 ghost use Rattle.rp_rounds.specs.Bits.{bit_in};
 ghost use Rattle.rp_table.specs.Cost.{cost_of};
 ghost use Rattle.rp_table.specs.Tables.{records_of};
@@ -25,7 +25,8 @@ pub fn spread(input: &Input<'_>, closure: &Closure, marks: &mut [bool])
     requires closure { HoldsWeakClosure closure.now (input_of_table input.now.table.now) }
     requires room { records_of input.now.table.now ≤ length marks.old }
     ensures { AreMarked (records_of input.now.table.now)
-        (IsLedTo (records_of input.now.table.now) (IsWeak (cost_of input.now.table.now) 1 1)
+        (IsReachedFromMarked (records_of input.now.table.now)
+        (IsWeak (cost_of input.now.table.now) 1 1)
         marks.old) marks.new }
 {
     let n = input.n();

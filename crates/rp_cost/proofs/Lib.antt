@@ -6,4 +6,4 @@ pub mod NothingBelow
 pub mod OuterLaws
 pub mod OutputFacts
 pub mod TechFacts
-mod Tried
+mod Examples

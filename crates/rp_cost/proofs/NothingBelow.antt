@@ -28,7 +28,7 @@ use Rattle.rp_simplex.specs.Width.{IsWithinWidth}
 use Rattle.rp_simplex.proofs.Linear.{delta-other}
 use Rattle.rp_simplex.proofs.Sound.{first-right, first-slack}
 use Rattle.rp_table.specs.declared.TheConstants.{LARGEST}
-use Rattle.rp_cost.specs.CostBounds.{IsLowerGiven, ShowsNothing}
+use Rattle.rp_cost.specs.CostBounds.{IsLowerCostBound, ShowsNothing}
 use Rattle.rp_cost.specs.OuterSet.{AllMakeMore, ListsNotAbove}
 use Rattle.rp_cost.proofs.Enough.{sum_at_most}
 
@@ -99,7 +99,7 @@ module _ (input : TableInput) (y : ℕ → ℕ) (y0 : ℕ) (prices : ℕ → ℕ
     | inr g ↦ omega (arith, g)
   ]
 
-  pub nothing_shown : ((i : ℕ) → i < input.goods → prices i ≤ LARGEST) → (lower : Bound) → IsLowerGiven input y y0 prices lower → ShowsNothing input.goods lower
+  pub nothing_shown : ((i : ℕ) → i < input.goods → prices i ≤ LARGEST) → (lower : Bound) → IsLowerCostBound input y y0 prices lower → ShowsNothing input.goods lower
   nothing_shown small (Shown value pair) given =
       let p = least_cost_program input prices given.listed in
       let none : p.cols ≡ 0 = none_listed given.listed given.lists in

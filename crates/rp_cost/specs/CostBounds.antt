@@ -49,19 +49,19 @@ module _ (input : TableInput) (y : ℕ → ℕ) (y0 : ℕ) (prices : ℕ → ℕ
     pub upper : IsUpperCost input y y0 prices s cost
     pub first : (r : ℕ) → r < s → y0 ≤ y r → cost < spending input.goods prices (input.quantity r)
 
-  abbrev pub IsUpperGiven : Option Upper → Type 0
-  IsUpperGiven None = NoneMakes input y y0
-  IsUpperGiven (Some upper) = IsFirstUpper upper.at upper.cost
+  abbrev pub IsUpperCostBound : Option Upper → Type 0
+  IsUpperCostBound None = NoneMakes input y y0
+  IsUpperCostBound (Some upper) = IsFirstUpper upper.at upper.cost
 
   -- the bound of that program on what its price side costs, by the run
-  pub record IsLowerGiven (lower : Bound) : Type 0 where
+  pub record IsLowerCostBound (lower : Bound) : Type 0 where
     pub listed : List ℕ
     pub lists : ListsNotAbove input y y0 listed
     pub is_bound : IsBoundOf (least_cost_program input prices listed) (spending input.goods prices) lower
 
-  pub record AreBoundsGiven (bounds : CostBounds) : Type 0 where
-    pub upper : IsUpperGiven bounds.upper
-    pub lower : IsLowerGiven bounds.lower
+  pub record AreCostBounds (bounds : CostBounds) : Type 0 where
+    pub upper : IsUpperCostBound bounds.upper
+    pub lower : IsLowerCostBound bounds.lower
 
 -- A shown bound from below is at most the one from above, where there is one.
 abbrev pub IsAtMost : Bound → Option Upper → Type 0

@@ -4,7 +4,7 @@ ghost use Rattle.rp_table.specs.NewPrices.{AreNewPrices};
 ghost use Rattle.rp_table.specs.Tables.{goods_of};
 ghost use Rattle.rp_table.specs.declared.TheConstants.{LARGEST};
 ghost use Rattle.rp_cost.specs.Axioms.{MeetsCost};
-ghost use Rattle.rp_cost.specs.CostBounds.{AreBoundsGiven, BoundsHold, IsAtMost, ProvesCostBounds};
+ghost use Rattle.rp_cost.specs.CostBounds.{AreCostBounds, BoundsHold, IsAtMost, ProvesCostBounds};
 ghost use Rattle.rp_cost.specs.CostBounds.{ShowsNothing};
 ghost use Rattle.rp_cost.specs.OuterSet.{AllMakeMore, MadeIsOuter};
 
@@ -44,7 +44,7 @@ pub fn cost_bounds(
     requires output { y ≤ LARGEST }
     ensures proves { IfOk result (ProvesCostBounds (input_of_table tech.now.table)
         (slice_index tech.now.y) y (slice_index prices.now)) }
-    ensures given { IfOk result (AreBoundsGiven (input_of_table tech.now.table)
+    ensures given { IfOk result (AreCostBounds (input_of_table tech.now.table)
         (slice_index tech.now.y) y (slice_index prices.now)) }
     ensures accepted { IfOk result (BoundsHold (input_of_table tech.now.table)
         (slice_index tech.now.y) y (slice_index prices.now)) }

@@ -6,7 +6,7 @@ ghost use Rattle.rp_farkas.specs.Prices.{HasFeasiblePrices};
 ghost use Rattle.rp_table.specs.Spending.{spending};
 ghost use Rattle.rp_table.specs.Tables.{goods_of, records_of};
 ghost use Rattle.rp_table.specs.declared.TheConstants.{RECORDS};
-ghost use Rattle.rp_cost.specs.CostBounds.{IsLowerGiven, ProvesLowerCost};
+ghost use Rattle.rp_cost.specs.CostBounds.{IsLowerCostBound, ProvesLowerCost};
 
 use crate::listed::write_not_above;
 use crate::program::OuterProgram;
@@ -23,7 +23,7 @@ pub(crate) fn lower_bound(alloc: Global, question: &Question<'_>) -> Result<Boun
     ensures proves { IfOk result (ProvesLowerCost (input_of_table question.now.tech.now.table)
         (slice_index question.now.tech.now.y) question.now.y
         (slice_index question.now.prices.now)) }
-    ensures given { IfOk result (IsLowerGiven (input_of_table question.now.tech.now.table)
+    ensures given { IfOk result (IsLowerCostBound (input_of_table question.now.tech.now.table)
         (slice_index question.now.tech.now.y) question.now.y
         (slice_index question.now.prices.now)) }
 {

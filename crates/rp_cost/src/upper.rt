@@ -1,7 +1,7 @@
 ghost use Rattle.std.specs.Prelude.{◌≡◌, ◌<◌, Option, slice_index, Some};
 ghost use Rattle.rp_evidence.specs.Input.{input_of_table};
 ghost use Rattle.rp_table.specs.Spending.{spending};
-ghost use Rattle.rp_cost.specs.CostBounds.{IsUpperGiven};
+ghost use Rattle.rp_cost.specs.CostBounds.{IsUpperCostBound};
 ghost use Rattle.rp_cost.specs.InnerCheapest.{cheaper_of};
 
 use crate::bounds::Upper;
@@ -9,7 +9,7 @@ use crate::question::Question;
 
 /// The first observation of least cost among those that made enough.
 pub(crate) fn first_cheapest(question: &Question) -> Option<Upper>
-    ensures { IsUpperGiven (input_of_table question.now.tech.now.table)
+    ensures { IsUpperCostBound (input_of_table question.now.tech.now.table)
         (slice_index question.now.tech.now.y) question.now.y
         (slice_index question.now.prices.now) result }
 {

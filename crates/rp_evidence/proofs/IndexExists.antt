@@ -10,11 +10,11 @@ use Rattle.rp_evidence.specs.Efficiency.{IsEfficiencyIndex}
 use Rattle.rp_evidence.specs.Preference.{IsWeak}
 use Rattle.rp_evidence.specs.Walk.{IsClosedWalk}
 use Rattle.rp_evidence.proofs.Index.{NoLowerCycle, closed_rises, index_by_cycle, index_same}
-use Rattle.rp_evidence.proofs.Loops.{closed_walk_told}
+use Rattle.rp_evidence.proofs.ClosedWalks.{closed_walk_decided}
 use Rattle.rp_evidence.proofs.Walks.{starts_below}
 
-pub weak_told : (c : ℕ → ℕ → ℕ) (num den s t : ℕ) → IsWeak c num den s t ⊎ (¬ IsWeak c num den s t)
-weak_told c num den s t = elim (cases_lt (num * c s s) (den * c s t)) [ inl more ↦ inr (λ h. absurd (omega arith)) | inr most ↦ inl most ]
+pub weak_decided : (c : ℕ → ℕ → ℕ) (num den s t : ℕ) → IsWeak c num den s t ⊎ (¬ IsWeak c num den s t)
+weak_decided c num den s t = elim (cases_lt (num * c s s) (den * c s t)) [ inl more ↦ inr (λ h. absurd (omega arith)) | inr most ↦ inl most ]
 
 -- the least number that meets P, up to one that does
 least_number : (P : ℕ → Type 0) → ((k : ℕ) → P k ⊎ (¬ P k)) → (m : ℕ) → ((k : ℕ) × (k ≤ m) × P k × ((j : ℕ) → j < k → ¬ P j)) ⊎ ((j : ℕ) → j ≤ m → ¬ P j)
@@ -54,9 +54,9 @@ module _ (n : ℕ) (c : ℕ → ℕ → ℕ) (positive : (s t : ℕ) → s < n �
     HasCycle : ℕ → Type 0
     HasCycle k = (walk : List ℕ) × IsClosedWalk n (IsWeak c k whole) walk
 
-    has_cycle_told : (k : ℕ) → HasCycle k ⊎ (¬ HasCycle k)
+    has_cycle_decided : (k : ℕ) → HasCycle k ⊎ (¬ HasCycle k)
     unfolding HasCycle
-    has_cycle_told k = elim (closed_walk_told n (IsWeak c k whole) (λ s t. weak_told c k whole s t)) [
+    has_cycle_decided k = elim (closed_walk_decided n (IsWeak c k whole) (λ s t. weak_decided c k whole s t)) [
       | inl r ↦ inl r
       | inr none ↦ inr (λ h. none h.0 h.1)
     ]
@@ -79,7 +79,7 @@ module _ (n : ℕ) (c : ℕ → ℕ → ℕ) (positive : (s t : ℕ) → s < n �
 
     pub found : (m : ℕ) × (walk : List ℕ) × IsClosedWalk n (IsWeak c m whole) walk × IsEfficiencyIndex n c m whole
     unfolding HasCycle
-    found = elim (least_number HasCycle has_cycle_told whole) [
+    found = elim (least_number HasCycle has_cycle_decided whole) [
       | inr none ↦ absurd (none whole (omega arith) whole_has)
       | inl r ↦ (
         r.0,

@@ -11,7 +11,7 @@ use Rattle.rp_evidence.specs.DemandEvidence.{budget_of}
 use Rattle.rp_evidence.specs.Garp.{MeetsGarp}
 use Rattle.rp_evidence.specs.Input.{TableInput, input_of_table}
 use Rattle.rp_evidence.specs.Preference.{IsWeak}
-use Rattle.rp_evidence.proofs.IndexExists.{weak_told}
+use Rattle.rp_evidence.proofs.IndexExists.{weak_decided}
 use Rattle.rp_evidence.proofs.InnerDemand.{inner_demand_supports}
 use Rattle.rp_evidence.proofs.Reachability.{count_of, count_of-counts}
 
@@ -144,12 +144,12 @@ module _ (input : TableInput) (budget : BudgetInput) where
 
   counts_exist : (counts : List ℕ) × AreCounts input.n (IsWeak input.cost 1 1) counts
   counts_exist =
-      let count = count_of input.n (IsWeak input.cost 1 1) (weak_told input.cost 1 1) in
+      let count = count_of input.n (IsWeak input.cost 1 1) (weak_decided input.cost 1 1) in
       let r = listed count input.n in (
         r.0,
         record {
           one_each = r.1;
-          each = λ s l. subst (λ k. IsCount input.n (IsWeak input.cost 1 1) s k) (sym (r.2 s l)) (count_of-counts input.n (IsWeak input.cost 1 1) (weak_told input.cost 1 1) s l);
+          each = λ s l. subst (λ k. IsCount input.n (IsWeak input.cost 1 1) s k) (sym (r.2 s l)) (count_of-counts input.n (IsWeak input.cost 1 1) (weak_decided input.cost 1 1) s l);
         },
       )
 

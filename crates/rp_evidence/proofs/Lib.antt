@@ -3,24 +3,24 @@ pub mod AfriatModels
 pub mod AfriatStages
 pub mod AfriatSums
 pub mod AfriatTheorem
-mod AfriatTries
+mod AfriatExamples
 pub mod CountLists
 pub mod Counts
-mod HomotheticTries
+mod HomotheticExamples
 pub mod DemandBounds
 pub mod DemandLaws
 pub mod DemandMixtures
 pub mod Enumerations
 pub mod EqualOrReached
-mod DemandTries
+mod DemandExamples
 pub mod InnerDemand
 pub mod InnerExists
 pub mod Index
 pub mod IndexExists
 pub mod IndexThreshold
-mod IndexTries
+mod IndexExamples
 pub mod Levels
-pub mod Loops
+pub mod ClosedWalks
 pub mod OwnAfriat
 pub mod OwnLevels
 pub mod Places
@@ -35,7 +35,7 @@ pub mod SameIndex
 pub mod SameItems
 pub mod SameProducts
 pub mod SameSums
-mod Tries
+mod Examples
 pub mod Values
 pub mod Violations
 pub mod Walks

@@ -3,5 +3,5 @@ pub mod Totals
 pub mod Duality
 pub mod Listings
 pub mod SumSteps
-pub mod Worked
+pub mod Examples
 pub mod Costs

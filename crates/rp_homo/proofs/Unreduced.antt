@@ -2,7 +2,7 @@
 use Rattle.std.proofs.Common.{◌*◌, ◌/◌, ap, ◌≡◌, ℕ, ◌≤◌, sym, subst, ◌∙◌}
 use Rattle.std.proofs.Math.Nat.{one-le-mul}
 use Rattle.std.specs.Prelude.{pos}
-use Rattle.rp_num.specs.Fraction.{Fraction, FitsPart, IsLowestTerms}
+use Rattle.rp_num.specs.Fraction.{Fraction, FitsTerm, IsLowestTerms}
 use Rattle.rp_num.proofs.Coprime.{IsGcd-exists}
 use Rattle.rp_num.proofs.Lowest.{FitsWidth-divided, IsLowestTerms-divided, IsLowestTerms-itself}
 use Rattle.rp_walk.specs.ExactTotal.{SameTotal}
@@ -10,7 +10,7 @@ use Rattle.rp_walk.specs.Products.{FitsFraction, as_total, times}
 use Rattle.rp_homo.proofs.Steps.{at_least_one-is}
 
 -- a product with both parts within the width before it is reduced fits
-pub fits_unreduced : (v : Fraction) (a b p q : ℕ) → 1 ≤ v.den → 1 ≤ a → 1 ≤ b → p ≡ v.num * a → q ≡ v.den * b → FitsPart p → FitsPart q → FitsFraction (times (as_total v) a b)
+pub fits_unreduced : (v : Fraction) (a b p q : ℕ) → 1 ≤ v.den → 1 ≤ a → 1 ≤ b → p ≡ v.num * a → q ≡ v.den * b → FitsTerm p → FitsTerm q → FitsFraction (times (as_total v) a b)
 fits_unreduced v a b p q hv ha hb ep eq fits_p fits_q =
     let g = IsGcd-exists p q in
     let some : 1 ≤ q = subst (λ n. 1 ≤ n) (sym eq) (one-le-mul hv hb) in

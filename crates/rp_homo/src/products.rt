@@ -1,5 +1,5 @@
 ghost use Rattle.std.specs.Prelude.{◌≡◌, ◌<◌, ◌*◌, ◌^◌, IfSome};
-ghost use Rattle.rp_num.specs.Fraction.{FitsPart};
+ghost use Rattle.rp_num.specs.Fraction.{FitsTerm};
 
 use rp_num::{FRACTION_WIDTH, Frac, Wide, cmp_products};
 use rp_table::Costs;
@@ -75,7 +75,7 @@ impl Total for Products<'_> {
 /// A part of a fraction times a cost, where that is within the width.
 fn unreduced(part: u128, cost: u64) -> Option<u128>
     ensures value { IfSome result (λ p. p ≡ part * cost) }
-    ensures fits { IfSome result FitsPart }
+    ensures fits { IfSome result FitsTerm }
 {
     match part.checked_mul(u128::from(cost)) {
         Some(p) if p <= FRACTION_WIDTH => Some(p),

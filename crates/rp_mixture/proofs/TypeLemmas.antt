@@ -1,6 +1,6 @@
 -- Types by the patches that they begin with.
 use Rattle.std.proofs.Common.{◌≡◌, ◌<◌, ◌++◌, ℕ, zero, suc, List, [], ◌∷◌, length, take, slice_index, arith, refl, sym}
-use Rattle.rp_patch.specs.Parts.{Begins}
+use Rattle.rp_patch.specs.PartialTypes.{Begins}
 
 -- a type begins with its first patches
 pub begins_so_far : (type : List ℕ) (k x : ℕ) → k < length type → x ≡ slice_index type k → Begins type (take k type ++ x ∷ [])

@@ -9,12 +9,12 @@ use Rattle.std.proofs.Math.Nat.{mul-le-mul_right, pow-succ', pow-zero}
 use Rattle.std.proofs.lemmas.List.{get_or-append_right}
 use Rattle.rp_table.specs.Sums.{sum_below}
 use Rattle.rp_patch.specs.Kinds.{cells_weight}
-use Rattle.rp_patch.specs.Parts.{Before, Begins, IsPart, taken_in}
+use Rattle.rp_patch.specs.PartialTypes.{Before, Begins, IsPartialType, taken_in}
 use Rattle.rp_patch.specs.Patches.{PatchList}
 use Rattle.rp_patch.specs.Types.{IsRationalType}
-use Rattle.rp_patch.specs.declared.part.Part.{Part}
-use Rattle.rp_patch.proofs.SearchLaws.{before_first, before_last, before_next, begins_at, begins_length, whole_part}
-use Rattle.rp_mixture.specs.InnerSearch.{IsSearching, front_of, no_part, part_of_depth, place_of}
+use Rattle.rp_patch.specs.declared.partial_type.PartialType.{PartialType}
+use Rattle.rp_patch.proofs.SearchLaws.{before_first, before_last, before_next, begins_at, begins_length, whole_type}
+use Rattle.rp_mixture.specs.InnerSearch.{IsSearching, front_of, no_patches, type_of_depth, place_of}
 
 -- ---- patches as the digits of a number
 
@@ -100,33 +100,33 @@ last_digit xs i n count =
     get_or-append_right xs (i ∷ []) n n 0 count (omega arith) ∙ (let none : n - n ≡ 0 = omega arith in ap (λ k. get_or (i ∷ []) k 0) none)
 
 module _ (p : PatchList) (weights : List ℕ) (least : ℕ) where
-  size : (parts : List Part) (depth i : ℕ) → IsSearching p weights least parts depth i → length (taken_in (part_of_depth parts depth)) ≡ depth
+  size : (parts : List PartialType) (depth i : ℕ) → IsSearching p weights least parts depth i → length (taken_in (type_of_depth parts depth)) ≡ depth
   size parts depth i s = (s.each depth (omega arith)).0.0.count ∙ (s.each depth (omega arith)).1
 
-  in_patches : (parts : List Part) (depth i : ℕ) → IsSearching p weights least parts depth i → (j : ℕ) → j < depth
-      → slice_index (taken_in (part_of_depth parts depth)) j < length p.patches
+  in_patches : (parts : List PartialType) (depth i : ℕ) → IsSearching p weights least parts depth i → (j : ℕ) → j < depth
+      → slice_index (taken_in (type_of_depth parts depth)) j < length p.patches
   in_patches parts depth i s j below = (s.each depth (omega arith)).0.0.patch j (omega (arith, below, (s.each depth (omega arith)).1))
 
   -- what is left to search falls where the number of the patches rises
   abbrev number : List ℕ → ℕ
   number = place_of (length p.patches + 2) p.budgets
 
-  abbrev left : List Part → ℕ → ℕ → ℕ
+  abbrev left : List PartialType → ℕ → ℕ → ℕ
   left parts depth i = (length p.patches + 2) ^ p.budgets - number (front_of parts depth i)
 
-  left_falls : (parts now : List Part) (depth i d j : ℕ) → IsSearching p weights least now d j
+  left_falls : (parts now : List PartialType) (depth i d j : ℕ) → IsSearching p weights least now d j
       → number (front_of parts depth i) < number (front_of now d j) → left now d j < left parts depth i
   left_falls parts now depth i d j s less =
-      let front = taken_in (part_of_depth now d) in
+      let front = taken_in (type_of_depth now d) in
       let long = size now d j s in
       falls ((length p.patches + 2) ^ p.budgets) _ _ less
       (place_below (length p.patches + 2) p.budgets (front_of now d j) (omega arith)
       (small_digits front j (length p.patches) (λ k l. in_patches now d j s k (omega (arith, l, long))) s.within)
       (omega (arith, length-append front (j ∷ []), long, s.deep)))
 
-  module _ (parts : List Part) (depth i : ℕ) (s : IsSearching p weights least parts depth i) where
+  module _ (parts : List PartialType) (depth i : ℕ) (s : IsSearching p weights least parts depth i) where
     abbrev front : List ℕ
-    front = taken_in (part_of_depth parts depth)
+    front = taken_in (type_of_depth parts depth)
 
     type_longer : (type : List ℕ) → IsRationalType p type → length front < length type
     type_longer type rational = omega (arith, size parts depth i s, s.deep, rational.0.one_each)
@@ -161,30 +161,30 @@ module _ (p : PatchList) (weights : List ℕ) (least : ℕ) where
         (place_next (length p.patches + 2) p.budgets front i (omega arith) (omega (arith, size parts depth i s, s.deep)))
 
     -- the patches weigh enough by themselves
-    pub weigh_enough : (longer : Part) → taken_in longer ≡ front ++ i ∷ [] → least ≤ cells_weight weights (taken_in longer)
+    pub weigh_enough : (longer : PartialType) → taken_in longer ≡ front ++ i ∷ [] → least ≤ cells_weight weights (taken_in longer)
         → (type : List ℕ) → IsRationalType p type → Begins type (front ++ i ∷ []) → least ≤ cells_weight weights type
     weigh_enough longer takes enough type rational begins =
         let least_by : least ≤ cells_weight weights (front ++ i ∷ []) = subst (λ xs. least ≤ cells_weight weights xs) takes enough in
         omega (arith, least_by, heavier weights type (front ++ i ∷ []) begins)
 
     -- a type that weighs too little
-    pub too_light : (longer : Part) → IsPart p longer → longer.taken ≡ p.budgets → cells_weight weights (taken_in longer) < least
+    pub too_light : (longer : PartialType) → IsPartialType p longer → longer.taken ≡ p.budgets → cells_weight weights (taken_in longer) < least
         → ¬ ((type : List ℕ) → IsRationalType p type → least ≤ cells_weight weights type)
-    too_light longer is whole light all = omega (arith, light, all (taken_in longer) (whole_part p longer is whole is.0.count))
+    too_light longer is whole light all = omega (arith, light, all (taken_in longer) (whole_type p longer is whole is.0.count))
 
-    module _ (longer : Part) (is : IsPart p longer) (more : longer.taken ≡ depth + 1) (takes : taken_in longer ≡ front ++ i ∷ []) where
+    module _ (longer : PartialType) (is : IsPartialType p longer) (more : longer.taken ≡ depth + 1) (takes : taken_in longer ≡ front ++ i ∷ []) where
       module _ (few : p.budgets ≤ 48) (other : longer.taken ≢ p.budgets) where
-        abbrev now : List Part
+        abbrev now : List PartialType
         now = set parts (depth + 1) longer
 
         deep : depth + 1 < p.budgets
         deep = omega (arith, is.0.few, more, other)
 
-        before : (k : ℕ) → k ≤ depth → part_of_depth now k ≡ part_of_depth parts k
-        before k l = get_or-set_other parts (depth + 1) k longer no_part (λ e. omega (arith, e, l))
+        before : (k : ℕ) → k ≤ depth → type_of_depth now k ≡ type_of_depth parts k
+        before k l = get_or-set_other parts (depth + 1) k longer no_patches (λ e. omega (arith, e, l))
 
-        here : part_of_depth now (depth + 1) ≡ longer
-        here = get_or-set_same parts (depth + 1) longer no_part (omega (arith, deep, few, s.room))
+        here : type_of_depth now (depth + 1) ≡ longer
+        here = get_or-set_same parts (depth + 1) longer no_patches (omega (arith, deep, few, s.room))
 
         last_grown : taken_in longer ≡ front ++ slice_index (taken_in longer) depth ∷ []
         last_grown = takes ∙ ap (λ j. front ++ j ∷ []) (sym (ap (λ xs. slice_index xs depth) takes ∙ last_digit front i depth (size parts depth i s)))
@@ -194,33 +194,33 @@ module _ (p : PatchList) (weights : List ℕ) (least : ℕ) where
           room = length-set parts (depth + 1) longer ∙ s.room;
           deep = deep;
           within = omega arith;
-          each = λ k l. below_more (λ k. IsPart p (part_of_depth now k) × ((part_of_depth now k).taken ≡ k)) (depth + 1)
-              (λ k l. subst (λ (x : Part). IsPart p x × (x.taken ≡ k)) (sym (before k (omega (arith, l)))) (s.each k (omega (arith, l))))
-              (subst (λ (x : Part). IsPart p x × (x.taken ≡ depth + 1)) (sym here) (is, more)) k (omega (arith, l));
-          grown = λ k l. below_more (λ k. taken_in (part_of_depth now (k + 1)) ≡ taken_in (part_of_depth now k) ++ slice_index (taken_in (part_of_depth now (k + 1))) k ∷ []) depth
-              (λ k l. subst (λ (x : Part). taken_in x ≡ taken_in (part_of_depth now k) ++ slice_index (taken_in x) k ∷ []) (sym (before (k + 1) (omega (arith, l))))
-              (subst (λ (x : Part). taken_in (part_of_depth parts (k + 1)) ≡ taken_in x ++ slice_index (taken_in (part_of_depth parts (k + 1))) k ∷ []) (sym (before k (omega (arith, l)))) (s.grown k l)))
-              (subst (λ (x : Part). taken_in x ≡ taken_in (part_of_depth now depth) ++ slice_index (taken_in x) depth ∷ []) (sym here)
-              (subst (λ (x : Part). taken_in longer ≡ taken_in x ++ slice_index (taken_in longer) depth ∷ []) (sym (before depth (omega arith))) last_grown)) k l;
+          each = λ k l. below_more (λ k. IsPartialType p (type_of_depth now k) × ((type_of_depth now k).taken ≡ k)) (depth + 1)
+              (λ k l. subst (λ (x : PartialType). IsPartialType p x × (x.taken ≡ k)) (sym (before k (omega (arith, l)))) (s.each k (omega (arith, l))))
+              (subst (λ (x : PartialType). IsPartialType p x × (x.taken ≡ depth + 1)) (sym here) (is, more)) k (omega (arith, l));
+          grown = λ k l. below_more (λ k. taken_in (type_of_depth now (k + 1)) ≡ taken_in (type_of_depth now k) ++ slice_index (taken_in (type_of_depth now (k + 1))) k ∷ []) depth
+              (λ k l. subst (λ (x : PartialType). taken_in x ≡ taken_in (type_of_depth now k) ++ slice_index (taken_in x) k ∷ []) (sym (before (k + 1) (omega (arith, l))))
+              (subst (λ (x : PartialType). taken_in (type_of_depth parts (k + 1)) ≡ taken_in x ++ slice_index (taken_in (type_of_depth parts (k + 1))) k ∷ []) (sym (before k (omega (arith, l)))) (s.grown k l)))
+              (subst (λ (x : PartialType). taken_in x ≡ taken_in (type_of_depth now depth) ++ slice_index (taken_in x) depth ∷ []) (sym here)
+              (subst (λ (x : PartialType). taken_in longer ≡ taken_in x ++ slice_index (taken_in longer) depth ∷ []) (sym (before depth (omega arith))) last_grown)) k l;
           weighed = λ type rational b. s.weighed type rational
-              (subst (λ xs. Before type xs) takes ((before_first type (taken_in longer)).0 (subst (λ (x : Part). Before type (taken_in x ++ 0 ∷ [])) here b)));
+              (subst (λ xs. Before type xs) takes ((before_first type (taken_in longer)).0 (subst (λ (x : PartialType). Before type (taken_in x ++ 0 ∷ [])) here b)));
         }
 
         pub deeper_falls : left now (depth + 1) 0 < left parts depth i
         deeper_falls =
             left_falls parts now depth i (depth + 1) 0 deeper
-            (subst (λ (x : Part). number (front ++ i ∷ []) < number (taken_in x ++ 0 ∷ [])) (sym here)
+            (subst (λ (x : PartialType). number (front ++ i ∷ []) < number (taken_in x ++ 0 ∷ [])) (sym here)
             (subst (λ xs. number (front ++ i ∷ []) < number (xs ++ 0 ∷ [])) (sym takes)
             (place_longer (length p.patches + 2) p.budgets (front ++ i ∷ []) 0 (omega arith) (omega (arith, length-append front (i ∷ []), size parts depth i s, deep)))))
 
     -- no patch is left: back to the budget before, whose patch was j
     module _ (d : ℕ) (up : depth ≡ d + 1) (last : i ≡ length p.patches) (j : ℕ) (was : j ≡ slice_index front d) where
       abbrev front_before : List ℕ
-      front_before = taken_in (part_of_depth parts d)
+      front_before = taken_in (type_of_depth parts d)
 
       grown : front ≡ front_before ++ j ∷ []
       grown =
-          subst (λ k. taken_in (part_of_depth parts k) ≡ front_before ++ slice_index (taken_in (part_of_depth parts k)) d ∷ []) (sym up) (s.grown d (omega (arith, up)))
+          subst (λ k. taken_in (type_of_depth parts k) ≡ front_before ++ slice_index (taken_in (type_of_depth parts k)) d ∷ []) (sym up) (s.grown d (omega (arith, up)))
           ∙ ap (λ k. front_before ++ k ∷ []) (sym was)
 
       pub back : IsSearching p weights least parts d (j + 1)

@@ -1,11 +1,11 @@
-//! The search for a rational type that weighs less than it should, depth first over the budgets. A part with a
+//! The search for a rational type that weighs less than it should, depth first over the budgets. A partial type with a
 //! violation is left, and so is one whose patches weigh enough by themselves.
 ghost use Rattle.std.specs.Prelude.{◌≡◌, ◌<◌, ◌≤◌, ◌↔◌, ℕ, List, IsTrue, length, slice_index};
 ghost use Rattle.rp_patch.specs.Kinds.{cells_weight};
 ghost use Rattle.rp_patch.specs.Types.{IsRationalType};
 
 use rp_patch::Patches;
-use rp_patch::part::Part;
+use rp_patch::partial_type::PartialType;
 
 /// What these patches weigh together.
 fn weight_of_type(weights: &[u64], numbers: &[u32]) -> u128
@@ -21,9 +21,9 @@ fn weight_of_type(weights: &[u64], numbers: &[u32]) -> u128
     weight
 }
 
-/// Whether every rational type weighs at least `least`. `parts` is room for the parts on the way: the one at place d
-/// has a patch of each of the first d budgets.
-fn all_weigh_by(patches: &Patches, least: u64, weights: &[u64], parts: &mut [Part]) -> bool
+/// Whether every rational type weighs at least `least`. `parts` is room for the partial types on the way: the one at
+/// place d has a patch of each of the first d budgets.
+fn all_weigh_by(patches: &Patches, least: u64, weights: &[u64], parts: &mut [PartialType]) -> bool
     requires one_each { length weights.now ≡ length patches.now.patches }
     requires room { length parts.old ≡ 48 }
     ensures { IsTrue result ↔ ((type : List ℕ) → IsRationalType patches.now type
@@ -32,7 +32,7 @@ fn all_weigh_by(patches: &Patches, least: u64, weights: &[u64], parts: &mut [Par
     prove!(patches.budgets() <= 48);
     let mut depth = 0;
     let mut i = 0;
-    parts[0] = Part::new(patches);
+    parts[0] = PartialType::new(patches);
     'types: loop {
         if i == patches.count() {
             if depth == 0 {
@@ -65,6 +65,6 @@ pub fn all_weigh(patches: &Patches, least: u64, weights: &[u64]) -> bool
     ensures { IsTrue result ↔ ((type : List ℕ) → IsRationalType patches.now type
         → least ≤ cells_weight weights.now type) }
 {
-    let mut parts = [Part::new(patches); 48];
+    let mut parts = [PartialType::new(patches); 48];
     all_weigh_by(patches, least, weights, &mut parts)
 }

@@ -3,7 +3,7 @@ ghost use Rattle.std.specs.Prelude.{◌↔◌, IsTrue};
 ghost use Rattle.rp_patch.specs.Types.{IsRationalType, IsType};
 
 use rp_patch::Patches;
-use rp_patch::part::Part;
+use rp_patch::partial_type::PartialType;
 
 /// Whether these are a patch of each budget, in the order of the budgets.
 pub fn is_type(patches: &Patches, numbers: &[u32]) -> bool
@@ -26,7 +26,7 @@ pub fn is_rational(patches: &Patches, numbers: &[u32]) -> bool
     requires { IsType patches.now numbers.now }
     ensures { IsTrue result ↔ IsRationalType patches.now numbers.now }
 {
-    let mut part = Part::new(patches);
+    let mut part = PartialType::new(patches);
     for i in numbers {
         match part.with(patches, *i) {
             Some(longer) => part = longer,

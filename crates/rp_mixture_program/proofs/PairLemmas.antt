@@ -21,13 +21,13 @@ use Rattle.rp_farkas.proofs.Listings.{listed_total}
 use Rattle.rp_farkas.proofs.SumSteps.{listing_short, total-listing}
 use Rattle.rp_table.specs.Sums.{sum_below}
 use Rattle.rp_table.proofs.SumsBelow.{sum_below-same}
-use Rattle.rp_patch.specs.Kinds.{AreAllOf, AreWhole, IsMixtureOf, IsPartialMixtureOf, Kinds, ProvesNoMixtureOf, all_units_weight, cells_weight, program_of, uses, weight_of, weight_using}
+use Rattle.rp_patch.specs.Kinds.{AreAllOf, AreWhole, IsMixtureOf, IsPartialMixtureOf, Kinds, ProvesNoMixtureOf, all_units_weight, cells_weight, mixture_program, uses, weight_of, weight_using}
 use Rattle.rp_patch.proofs.KindWeights.{at_most_all, is_greatest, makes_all, none_makes, of_cons, on_cons, weighed}
 use Rattle.rp_simplex.specs.Outcome.{IsOutcome}
 use Rattle.rp_simplex.specs.SameOutcome.{IsSameOutcome}
 use Rattle.rp_simplex.specs.declared.outcome.Outcome.{Outcome}
 use Rattle.rp_simplex.specs.declared.outcome.Outcome.TheVariants.{Optimal}
-use Rattle.rp_mixture_program.specs.Verdict.{IsOutcomeVerdict, IsPairVerdict, IsRunVerdict, Proves, shares_of}
+use Rattle.rp_mixture_program.specs.Verdict.{IsOutcomeVerdict, IsPairVerdict, IsRunVerdict, ProvesMixture, shares_of}
 
 -- ---- totals as sums
 
@@ -76,8 +76,8 @@ module _ (k : Kinds) where
     kind_at : (j : ℕ) → j < length kinds → k.IsKind (slice_index_or kinds j [])
     kind_at j l = (all.just_these (slice_index_or kinds j [])).0 (j, l, get_or_default kinds j (slice_index_or kinds j []) [] l)
 
-    pub has_bound : HasNoBound (program_of k kinds) → ⊥
-    has_bound = prices_bound (program_of k kinds) 1 (λ i. 1) (record { den_positive = omega arith; columns_hold = columns })
+    pub has_bound : HasNoBound (mixture_program k kinds) → ⊥
+    has_bound = prices_bound (mixture_program k kinds) 1 (λ i. 1) (record { den_positive = omega arith; columns_hold = columns })
       where
         columns : (j : ℕ) → j < length kinds → (pos 1 *ℤ pos 1) ≤ℤ total k.cells (λ i. (if uses (k.used (slice_index_or kinds j [])) i then pos 1 else pos 0) *ℤ pos 1)
         columns j l =
@@ -87,7 +87,7 @@ module _ (k : Kinds) where
             let many : 1 ≤ sum_below k.cells (λ i. if uses cells i then 1 else 0) = omega (arith, sum, one.one_each, is.some_groups) in
             rw (total_used cells (λ i. 1) k.cells) (omega (arith, ints, many))
 
-    module _ (pair : Pair) (shown : IsShownPair (program_of k kinds) pair) where
+    module _ (pair : Pair) (shown : IsShownPair (mixture_program k kinds) pair) where
       abbrev parts : List Share
       parts = shares_of kinds pair.y
 
@@ -158,12 +158,12 @@ module _ (k : Kinds) where
             weighs = heavy;
           }
 
-      pub proves_shown : (part : RandomPart) → IsPairVerdict k kinds pair part → Proves k part
-      proves_shown (Mixture den found) h = subst (λ (d : ℕ). Proves k (Mixture d found)) (sym h.0)
-          (subst (λ (ps : List Share). Proves k (Mixture pair.den ps)) (sym h.1) (whole_mixture (ap weight_of (sym h.1) ∙ h.2 ∙ ap (λ d. d * k.total) h.0)))
-      proves_shown (Violated den found weights) h = subst (λ (d : ℕ). Proves k (Violated d found weights)) (sym h.0)
-          (subst (λ (ps : List Share). Proves k (Violated pair.den ps weights)) (sym h.1)
-          (subst (λ (ws : List ℕ). Proves k (Violated pair.den parts ws)) (sym h.2)
+      pub proves_shown : (part : RandomPart) → IsPairVerdict k kinds pair part → ProvesMixture k part
+      proves_shown (Mixture den found) h = subst (λ (d : ℕ). ProvesMixture k (Mixture d found)) (sym h.0)
+          (subst (λ (ps : List Share). ProvesMixture k (Mixture pair.den ps)) (sym h.1) (whole_mixture (ap weight_of (sym h.1) ∙ h.2 ∙ ap (λ d. d * k.total) h.0)))
+      proves_shown (Violated den found weights) h = subst (λ (d : ℕ). ProvesMixture k (Violated d found weights)) (sym h.0)
+          (subst (λ (ps : List Share). ProvesMixture k (Violated pair.den ps weights)) (sym h.1)
+          (subst (λ (ws : List ℕ). ProvesMixture k (Violated pair.den parts ws)) (sym h.2)
           (no_mixture (λ e. h.3 (ap weight_of h.1 ∙ e ∙ ap (λ d. d * k.total) (sym h.0))))))
       proves_shown (Wide step) h = absurd h
 
@@ -184,8 +184,8 @@ fit_parts kinds es cols listed =
     All-map (λ (part : Share). FitsEvidence part.weight) (λ (entry : Entry). record { patches = slice_index_or kinds entry.at []; weight = entry.value }) es listed.fitting
 
 -- a verdict from an equal pair
-pub made_verdict : (k : Kinds) (kinds : List (List ℕ)) (pair : Pair) (outcome : Outcome) (part : RandomPart) → outcome ≡ Optimal pair → IsOutcome (program_of k kinds) outcome
-    → ((other : Outcome) → IsOutcome (program_of k kinds) other → IsSameOutcome (program_of k kinds) outcome other) → IsPairVerdict k kinds pair part → IsRunVerdict k kinds part
+pub made_verdict : (k : Kinds) (kinds : List (List ℕ)) (pair : Pair) (outcome : Outcome) (part : RandomPart) → outcome ≡ Optimal pair → IsOutcome (mixture_program k kinds) outcome
+    → ((other : Outcome) → IsOutcome (mixture_program k kinds) other → IsSameOutcome (mixture_program k kinds) outcome other) → IsPairVerdict k kinds pair part → IsRunVerdict k kinds part
 made_verdict k kinds pair outcome part is run only made = record {
   outcome = outcome;
   run = run;

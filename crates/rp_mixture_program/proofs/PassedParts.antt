@@ -14,7 +14,7 @@ use Rattle.rp_farkas.specs.PairCheck.{IsShownPair}
 use Rattle.rp_farkas.specs.declared.entry.Entry.{Entry}
 use Rattle.rp_farkas.specs.declared.entry.Pair.{Pair}
 use Rattle.rp_patch.specs.KindFailure.{ComesInOrder, EvidenceFailsOf, HasFitNumbers, PartsFailOf, part_at}
-use Rattle.rp_patch.specs.Kinds.{AreAllOf, AreWhole, Kinds, program_of, weight_of}
+use Rattle.rp_patch.specs.Kinds.{AreAllOf, AreWhole, Kinds, mixture_program, weight_of}
 use Rattle.rp_patch.proofs.KindWeights.{at_most_all}
 use Rattle.rp_simplex.specs.Outcome.{IsOutcome}
 use Rattle.rp_simplex.specs.declared.outcome.Outcome.{Outcome}
@@ -47,7 +47,7 @@ module _ (kinds : List (List ℕ)) (entries : List Entry) where
   weight_from n l = ap (λ (q : Share). q.weight) (made_from n l)
 
 module _ (k : Kinds) (is : AreWhole k) (formed : (kind : List ℕ) → k.IsKind kind → k.IsFormed kind) (kinds : List (List ℕ)) (all : AreAllOf k.IsKind kinds) where
-  module _ (pair : Pair) (shown : IsShownPair (program_of k kinds) pair) where
+  module _ (pair : Pair) (shown : IsShownPair (mixture_program k kinds) pair) where
     numbers_fit : (weights : List ℕ) → All FitsEvidence weights → HasFitNumbers pair.den (shares_of kinds pair.y) weights
     numbers_fit weights fit = record {
       fraction = shown.den_positive;
@@ -106,9 +106,9 @@ module _ (k : Kinds) (is : AreWhole k) (formed : (kind : List ℕ) → k.IsKind 
         (violation_passes (λ e. h.3 (ap weight_of h.1 ∙ e ∙ ap (λ d. d * k.total) (sym h.0))))))
     pair_passes (Wide step) h = absurd h
 
-  module _ (within : IsWithinLimits (program_of k kinds)) where
-    made_passes : (outcome : Outcome) (part : RandomPart) → IsOutcome (program_of k kinds) outcome → IsOutcomeVerdict k kinds outcome part → EvidenceFailsOf k part (Ok tt)
-    made_passes (Optimal pair) part run made = pair_passes pair (outcome_shows (program_of k kinds) (Optimal pair) within run).0 part made
+  module _ (within : IsWithinLimits (mixture_program k kinds)) where
+    made_passes : (outcome : Outcome) (part : RandomPart) → IsOutcome (mixture_program k kinds) outcome → IsOutcomeVerdict k kinds outcome part → EvidenceFailsOf k part (Ok tt)
+    made_passes (Optimal pair) part run made = pair_passes pair (outcome_shows (mixture_program k kinds) (Optimal pair) within run).0 part made
     made_passes (PassedWidth step) part run made = subst (λ (q : RandomPart). EvidenceFailsOf k q (Ok tt)) (sym made) tt
     made_passes (Unbounded den point ray) part run made = absurd made
 

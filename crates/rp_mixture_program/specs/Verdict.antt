@@ -6,17 +6,17 @@ use Rattle.rp_evidence.specs.declared.random.RandomPart.TheVariants.{Mixture, Vi
 use Rattle.rp_evidence.specs.declared.random.Share.{Share}
 use Rattle.rp_farkas.specs.declared.entry.Entry.{Entry}
 use Rattle.rp_farkas.specs.declared.entry.Pair.{Pair}
-use Rattle.rp_patch.specs.Kinds.{IsMixtureOf, Kinds, ProvesNoMixtureOf, program_of, weight_of}
+use Rattle.rp_patch.specs.Kinds.{IsMixtureOf, Kinds, ProvesNoMixtureOf, mixture_program, weight_of}
 use Rattle.rp_simplex.specs.Outcome.{IsOutcome}
 use Rattle.rp_simplex.specs.SameOutcome.{IsSameOutcome}
 use Rattle.rp_simplex.specs.declared.outcome.Outcome.{Outcome}
 use Rattle.rp_simplex.specs.declared.outcome.Outcome.TheVariants.{Optimal, Unbounded, Wide as PassedWidth}
 
 -- Evidence proves its verdict: the parts are a mixture, or there is none. What is withheld has no verdict.
-abbrev pub Proves : Kinds → RandomPart → Type 0
-Proves k (Mixture den parts) = IsMixtureOf k den parts
-Proves k (Violated den parts weights) = ProvesNoMixtureOf k den parts weights
-Proves k (Wide step) = Unit {0}
+abbrev pub ProvesMixture : Kinds → RandomPart → Type 0
+ProvesMixture k (Mixture den parts) = IsMixtureOf k den parts
+ProvesMixture k (Violated den parts weights) = ProvesNoMixtureOf k den parts weights
+ProvesMixture k (Wide step) = Unit {0}
 
 -- The kinds of positive weight, in order: those of the listed entries of a point.
 abbrev pub shares_of : List (List ℕ) → List Entry → List Share
@@ -41,7 +41,7 @@ IsOutcomeVerdict k kinds (Unbounded den point ray) part = ⊥
 -- it never ends unbounded, and the verdict is withheld just where it passes its width, at that step.
 pub record IsRunVerdict (k : Kinds) (kinds : List (List ℕ)) (part : RandomPart) : Type 0 where
   pub outcome : Outcome
-  pub run : IsOutcome (program_of k kinds) outcome
-  pub only : (other : Outcome) → IsOutcome (program_of k kinds) other
-      → IsSameOutcome (program_of k kinds) outcome other
+  pub run : IsOutcome (mixture_program k kinds) outcome
+  pub only : (other : Outcome) → IsOutcome (mixture_program k kinds) other
+      → IsSameOutcome (mixture_program k kinds) outcome other
   pub made : IsOutcomeVerdict k kinds outcome part

@@ -1,6 +1,6 @@
 ghost use Rattle.std.specs.Prelude.{◌≡◌, ◌<◌, ◌≤◌, ℕ, List, [], length, slice_index_or};
 ghost use Rattle.rp_farkas.specs.Limits.{IsWithinLimits};
-ghost use Rattle.rp_patch.specs.Kinds.{Kinds, program_of, uses};
+ghost use Rattle.rp_patch.specs.Kinds.{Kinds, mixture_program, uses};
 ghost use Rattle.rp_patch.specs.declared.TheConstants.{UNITS};
 
 /// Kinds of persons in a list, with the cells that they use.
@@ -39,5 +39,5 @@ pub trait Listed {
         ensures { result
             ≡ uses ((kinds self.now).used (slice_index_or (listed self.now) place [])) cell };
 
-    ghost within_limits: { (l : Self) → IsWithinLimits (program_of (kinds l) (listed l)) };
+    ghost within_limits: { (l : Self) → IsWithinLimits (mixture_program (kinds l) (listed l)) };
 }

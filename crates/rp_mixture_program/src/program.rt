@@ -1,5 +1,5 @@
 ghost use Rattle.std.specs.Prelude.{◌≡◌};
-ghost use Rattle.rp_patch.specs.Kinds.{program_of};
+ghost use Rattle.rp_patch.specs.Kinds.{mixture_program};
 
 use crate::listed::Listed;
 use rp_farkas::Lp;
@@ -14,16 +14,16 @@ impl<'a, L: Listed> MixtureProgram<'a, L> {
     /// The program of these kinds; no memory is taken.
     pub fn make(listed: &'a L) -> MixtureProgram<'a, L>
         ensures { ⟦<MixtureProgram<'a, L> as Lp>⟧.program result
-            ≡ program_of (L.kinds listed.now) (L.listed listed.now) }
+            ≡ mixture_program (L.kinds listed.now) (L.listed listed.now) }
     {
         MixtureProgram { listed }
     }
 }
 
 impl<L: Listed> Lp for MixtureProgram<'_, L> {
-    ghost use Rattle.rp_patch.specs.Kinds.{program_of};
+    ghost use Rattle.rp_patch.specs.Kinds.{mixture_program};
 
-    ghost program = { λ p. program_of (L.kinds p.listed.now) (L.listed p.listed.now) };
+    ghost program = { λ p. mixture_program (L.kinds p.listed.now) (L.listed p.listed.now) };
 
     ghost within_limits = { λ p. L.within_limits p.listed.now };
 

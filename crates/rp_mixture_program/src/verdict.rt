@@ -1,8 +1,8 @@
 ghost use Rattle.std.specs.Prelude.{IfOk, List, Ok, ℕ};
-ghost use Rattle.rp_mixture_program.specs.Verdict.{IsPairVerdict, IsRunVerdict, Proves};
+ghost use Rattle.rp_mixture_program.specs.Verdict.{IsPairVerdict, IsRunVerdict, ProvesMixture};
 ghost use Rattle.rp_farkas.specs.PairCheck.{IsShownPair};
 ghost use Rattle.rp_patch.specs.KindFailure.{EvidenceFailsOf};
-ghost use Rattle.rp_patch.specs.Kinds.{AreAllOf, AreWhole, program_of};
+ghost use Rattle.rp_patch.specs.Kinds.{AreAllOf, AreWhole, mixture_program};
 
 use crate::listed::Listed;
 use crate::program::MixtureProgram;
@@ -21,7 +21,7 @@ pub fn mixture<L: Listed>(alloc: Global, listed: &L) -> Result<RandomPart, NoMem
     requires formed { (kind : List ℕ) → (L.kinds listed.now).IsKind kind
         → (L.kinds listed.now).IsFormed kind }
     requires all { AreAllOf (L.kinds listed.now).IsKind (L.listed listed.now) }
-    ensures proves { IfOk result (Proves (L.kinds listed.now)) }
+    ensures proves { IfOk result (ProvesMixture (L.kinds listed.now)) }
     ensures run { IfOk result (IsRunVerdict (L.kinds listed.now) (L.listed listed.now)) }
     ensures passes { IfOk result (λ part. EvidenceFailsOf (L.kinds listed.now) part (Ok tt)) }
 {
@@ -35,7 +35,7 @@ pub fn mixture<L: Listed>(alloc: Global, listed: &L) -> Result<RandomPart, NoMem
 
 /// What an equal pair shows: a mixture where the kinds have the whole total, else that there is none.
 fn verdict_of_pair<L: Listed>(alloc: Global, listed: &L, pair: Pair) -> Result<RandomPart, NoMemory>
-    requires { IsShownPair (program_of (L.kinds listed.now) (L.listed listed.now)) pair }
+    requires { IsShownPair (mixture_program (L.kinds listed.now) (L.listed listed.now)) pair }
     ensures { IfOk result (IsPairVerdict (L.kinds listed.now) (L.listed listed.now) pair) }
 {
     let parts = listed_shares(alloc, listed, pair.y.as_slice())?;

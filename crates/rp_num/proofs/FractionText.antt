@@ -5,7 +5,7 @@ use Rattle.std.specs.List.{before_first, after_first, position_or_len}
 use Rattle.std.specs.Str.Parse.{AllDigits, digits_value}
 use Rattle.std.proofs.lemmas.Fmt.{decimal_is_IsNumeral_wide, decimal_digit}
 use Rattle.std.proofs.lemmas.Str.Parse.{digit_from_value}
-use Rattle.rp_num.specs.Fraction.{FitsPart, FitsWidth, Fraction, IsLowestTerms, fraction_text}
+use Rattle.rp_num.specs.Fraction.{FitsTerm, FitsWidth, Fraction, IsLowestTerms, fraction_text}
 use Rattle.rp_num.specs.Spelled.{IsReduced, IsSpelled}
 use Rattle.rp_num.proofs.Lowest.{same_IsLowestTerms}
 use Rattle.rp_num.proofs.ReadLemmas.{narrow}
@@ -81,7 +81,7 @@ part_read o p text fits h e = subst (IsSpelled decimal fits text) e h
 
 -- the fraction that is shown as this text is the one that its parts make
 pub same_fraction : (f found : Fraction) (num den : ℕ) (before after : List ℕ) → IsReduced f → (before ≡ decimal f.num) × (after ≡ decimal f.den)
-    → (decimal num ≡ before) × FitsPart num → (decimal den ≡ after) × FitsPart den → IsLowestTerms num den found → found ≡ f
+    → (decimal num ≡ before) × FitsTerm num → (decimal den ≡ after) × FitsTerm den → IsLowestTerms num den found → found ≡ f
 same_fraction f found num den before after h parts hn hd low =
     let en : num ≡ f.num = same_number num f.num before (omega (arith, hn.1)) (omega (arith, h.1.num_fits)) hn.0 (sym parts.0) in
     let ed : den ≡ f.den = same_number den f.den after (omega (arith, hd.1)) (omega (arith, h.1.den_fits)) hd.0 (sym parts.1) in
@@ -97,7 +97,7 @@ if_printed (Ok None) text found h some none only = λ f hf e. none refl (ap frac
 if_printed (Err e) text found h some none only = tt
 
 -- no fraction has the denominator 0
-pub no_zero : (f : Fraction) (den : ℕ) (after : List ℕ) → IsReduced f → after ≡ decimal f.den → (decimal den ≡ after) × FitsPart den → den ≡ 0 → ⊥
+pub no_zero : (f : Fraction) (den : ℕ) (after : List ℕ) → IsReduced f → after ≡ decimal f.den → (decimal den ≡ after) × FitsTerm den → den ≡ 0 → ⊥
 no_zero f den after h part read zero_den =
     let same : den ≡ f.den = same_number den f.den after (omega (arith, read.1)) (omega (arith, h.1.den_fits)) read.0 (sym part) in
     omega (arith, same, zero_den, h.0.positive)

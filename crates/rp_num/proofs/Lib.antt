@@ -7,4 +7,4 @@ pub mod Lowest
 pub mod Products
 pub mod ReadLemmas
 pub mod Twos
-mod Worked
+mod Examples

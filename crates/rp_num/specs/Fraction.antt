@@ -25,13 +25,13 @@ pub record IsLowestTerms (num den : ℕ) (f : Fraction) : Type 0 where
   pub same_number : f.num * den ≡ num * f.den
 
 -- A part of a fraction is within its width, 2^127 - 1.
-abbrev pub FitsPart : ℕ → Type 0
-FitsPart n = n < 2 ^ 127
+abbrev pub FitsTerm : ℕ → Type 0
+FitsTerm n = n < 2 ^ 127
 
 -- Both parts are within the width of fractions.
 pub record FitsWidth (f : Fraction) : Type 0 where
-  pub num_fits : FitsPart f.num
-  pub den_fits : FitsPart f.den
+  pub num_fits : FitsTerm f.num
+  pub den_fits : FitsTerm f.den
 
 -- num/den in lowest terms has a part past the width.
 abbrev pub PassesWidth : ℕ → ℕ → Type 0

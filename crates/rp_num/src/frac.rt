@@ -1,5 +1,5 @@
 ghost use Rattle.std.specs.Prelude.{◌≡◌, ◌*◌, ◌/◌, ◌<◌, ◌≤◌, ◌↔◌, IfOk, OnErr, IsErr};
-ghost use Rattle.rp_num.specs.Fraction.{FitsPart, Fraction, IsLowestTerms, FitsWidth, PassesWidth};
+ghost use Rattle.rp_num.specs.Fraction.{FitsTerm, Fraction, IsLowestTerms, FitsWidth, PassesWidth};
 ghost use Rattle.rp_num.specs.Fraction.{fraction_cmp};
 
 use crate::Wide;
@@ -35,8 +35,8 @@ impl Frac {
     /// The fraction `num/den`, brought to lowest terms.
     pub fn new(num: u128, den: u128) -> Frac
         requires positive { 1 ≤ den }
-        requires num_fits { FitsPart num }
-        requires den_fits { FitsPart den }
+        requires num_fits { FitsTerm num }
+        requires den_fits { FitsTerm den }
         ensures lowest { IsLowestTerms num den result }
         ensures fits { FitsWidth result }
     {
@@ -110,8 +110,8 @@ fn quotient(n: u128, by: u128) -> u128
 /// The product of two parts, within the width.
 fn product(a: u128, b: u128) -> Result<u128, Wide>
     ensures value { IfOk result (λ p. p ≡ a * b) }
-    ensures fits { IfOk result FitsPart }
-    ensures wide { OnErr result (¬ (FitsPart (a * b))) }
+    ensures fits { IfOk result FitsTerm }
+    ensures wide { OnErr result (¬ (FitsTerm (a * b))) }
 {
     match a.checked_mul(b) {
         Some(p) if p <= FRACTION_WIDTH => Ok(p),

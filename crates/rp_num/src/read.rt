@@ -1,6 +1,6 @@
 ghost use Rattle.std.specs.Prelude.{◌≡◌, ◌≢◌, IfOk, IfSome, None};
 ghost use Rattle.std.specs.Fmt.{decimal, signed_decimal};
-ghost use Rattle.rp_num.specs.Fraction.{FitsPart, FitsWidth, Fraction, fraction_text};
+ghost use Rattle.rp_num.specs.Fraction.{FitsTerm, FitsWidth, Fraction, fraction_text};
 ghost use Rattle.rp_num.specs.Spelled.{FitsSum, FitsWhole, IsReduced, IsSpelled};
 
 use crate::{FRACTION_WIDTH, Frac, NoMemory, print_frac};
@@ -69,7 +69,7 @@ fn split_at_stroke(text: &str) -> (&str, &str)
 
 /// The part of a fraction that is written as this text.
 fn read_part(alloc: Global, text: &str) -> Result<Option<u128>, NoMemory>
-    ensures { IfOk result (λ o. IsSpelled decimal FitsPart text.now o) }
+    ensures { IfOk result (λ o. IsSpelled decimal FitsTerm text.now o) }
 {
     let Some(part) = read_u128(alloc, text)? else {
         return Ok(None);

@@ -1,7 +1,7 @@
 -- A check that answers whether nothing is found wrong.
 use Rattle.std.proofs.Common.{◌≡◌, true, Result, Ok, Err, refl}
 use Rattle.std.specs.Result.{is_ok}
-use Rattle.rp_mixture_program.specs.Verdict.{Proves}
+use Rattle.rp_mixture_program.specs.Verdict.{ProvesMixture}
 use Rattle.rp_evidence.specs.declared.failure.Failure.{Failure}
 use Rattle.rp_evidence.specs.declared.random.RandomPart.{RandomPart}
 use Rattle.rp_evidence.specs.declared.random.RandomPart.TheVariants.{Mixture, Violated, Wide}
@@ -19,7 +19,7 @@ module _ (k : Kinds) (part : RandomPart) where
   is_passed (Ok done) found holds = refl
   is_passed (Err e) found holds = absurd (evidence_excludes k e part holds found)
 
-pub sound : (k : Kinds) → AreWhole k → (part : RandomPart) → EvidenceFailsOf k part (Ok tt) → Proves k part
+pub sound : (k : Kinds) → AreWhole k → (part : RandomPart) → EvidenceFailsOf k part (Ok tt) → ProvesMixture k part
 sound k is (Mixture den parts) found = mixture_sound k den parts found
 sound k is (Violated den parts weights) found = violation_sound k is den parts weights found
 sound k is (Wide step) found = tt

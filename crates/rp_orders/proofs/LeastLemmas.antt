@@ -7,13 +7,13 @@ use Rattle.std.proofs.lemmas.Int.{ints}
 use Rattle.rp_menu.specs.MenuLists.{MenuList, has_letter}
 use Rattle.rp_menu.proofs.MenuLetters.{letter_within}
 use Rattle.rp_orders.specs.InnerLeast.{IsLeastBefore}
-use Rattle.rp_orders.specs.LeastSums.{ComesBefore}
+use Rattle.rp_orders.specs.LeastSums.{SumComesBefore}
 use Rattle.rp_orders.specs.MenuSums.{sum_at}
 use Rattle.rp_orders.specs.declared.least.LeastSum.{LeastSum}
 use Rattle.rp_patch.specs.declared.apportionment.Units.{Units}
 
 -- what comes before the next letter comes before this one, or is this one
-split : (m z b y : ℕ) → ComesBefore b y m (z + 1) → ComesBefore b y m z ⊎ ((b ≡ m) × (y ≡ z))
+split : (m z b y : ℕ) → SumComesBefore b y m (z + 1) → SumComesBefore b y m z ⊎ ((b ≡ m) × (y ≡ z))
 split m z b y (inl l) = inl (inl l)
 split m z b y (inr (e, l)) = elim (cases_lt y z) [
   | inl less ↦ inl (inr (e, less))
@@ -64,7 +64,7 @@ module _ (list : MenuList) (units : Units) where
     first = is.first;
   }
     where
-      earlier : (b y : ℕ) → has_letter b y ≡ true → ComesBefore b y (m + 1) 0 → ComesBefore b y m z
+      earlier : (b y : ℕ) → has_letter b y ≡ true → SumComesBefore b y (m + 1) 0 → SumComesBefore b y m z
       earlier b y on (inl l) = elim (cases_lt b m) [
         | inl less ↦ inl less
         | inr g ↦

@@ -8,4 +8,4 @@ pub mod OrderLists
 pub mod OrderWeights
 pub mod ReportLemmas
 pub mod SumLemmas
-mod Tried
+mod Examples

@@ -12,7 +12,7 @@ use Rattle.rp_orders.specs.OrderKinds.{PicksCells, cell_of, cells_picked, orders
 use Rattle.rp_orders.specs.OrderMixtures.{AreUnitsOf, menu_at, units_of}
 use Rattle.rp_orders.specs.Orders.{picked}
 use Rattle.rp_orders.proofs.OrderLists.{first_passes, some_with}
-use Rattle.rp_patch.specs.Kinds.{AreWhole, UsesOneOfEach, program_of, uses}
+use Rattle.rp_patch.specs.Kinds.{AreWhole, UsesOneOfEach, mixture_program, uses}
 use Rattle.rp_patch.specs.declared.apportionment.Units.{Units}
 use Rattle.rp_patch.proofs.GroupFacts.{group_within}
 use Rattle.rp_patch.proofs.KindWeights.{sum_none, uses_none, uses_some}
@@ -160,7 +160,7 @@ module _ (list : MenuList) (is : IsMenuList list) where
           omega (arith, here, term, all, are.few)
 
       -- the program of any of these orders is within the limits
-      pub within_limits : (orders : List (List ℕ)) → length orders ≤ 8192 → IsWithinLimits (program_of (orders_over list units) orders)
+      pub within_limits : (orders : List (List ℕ)) → length orders ≤ 8192 → IsWithinLimits (mixture_program (orders_over list units) orders)
       within_limits orders few = record {
         rows_at_most = omega (arith, is.grouped.few);
         cols_at_most = omega (arith, few);

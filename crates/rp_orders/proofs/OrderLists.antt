@@ -14,7 +14,7 @@ use Rattle.std.proofs.lemmas.Nat.{div-mul-add, mod-mul-add}
 use Rattle.rp_orders.specs.InnerLists.{digits, first_missing, listed_order}
 use Rattle.rp_orders.specs.OrderKinds.{first_with}
 use Rattle.rp_orders.specs.Orders.{IsStrictOrder}
-use Rattle.rp_patch.specs.Parts.{Before}
+use Rattle.rp_patch.specs.PartialTypes.{Before}
 use Rattle.rp_patch.proofs.SearchLaws.{before_less}
 use Rattle.rp_walk.proofs.Repeats.{Repeats, repeats}
 

@@ -9,7 +9,7 @@ use Rattle.std.proofs.Math.Nat.{pow-le-pow_right}
 use Rattle.rp_evidence.specs.declared.random.RandomPart.{RandomPart}
 use Rattle.rp_evidence.specs.declared.random.RandomPart.TheVariants.{Mixture, Violated, Wide}
 use Rattle.rp_evidence.specs.declared.random.Share.{Share}
-use Rattle.rp_mixture_program.specs.Verdict.{Proves}
+use Rattle.rp_mixture_program.specs.Verdict.{ProvesMixture}
 use Rattle.rp_menu.specs.MenuLists.{IsMenuList, MenuList, has_letter}
 use Rattle.rp_menu.proofs.MenuLetters.{letter_within}
 use Rattle.rp_orders.specs.MenuEvidence.{ProvesMenus, ProvesNoOrderMixture}
@@ -226,7 +226,7 @@ module _ (list : MenuList) (is : IsMenuList list) (units : Units) (are : AreUnit
     weighs = proves.weighs;
   }
 
-  pub proves_menus : (part : RandomPart) → Proves k part → ProvesMenus list units part
+  pub proves_menus : (part : RandomPart) → ProvesMixture k part → ProvesMenus list units part
   proves_menus (Mixture den parts) proves = mixture_orders den parts proves
   proves_menus (Violated den parts weights) proves = no_orders den parts weights proves
   proves_menus (Wide step) proves = tt

@@ -5,14 +5,14 @@ use Rattle.rp_orders.specs.MenuSums.{sum_at}
 use Rattle.rp_patch.specs.declared.apportionment.Units.{Units}
 
 -- letter y at menu B comes before letter x at menu A: by the number of the menu, then by letter
-abbrev pub ComesBefore : ℕ → ℕ → ℕ → ℕ → Type 0
-ComesBefore b y a x = (b < a) ⊎ ((b ≡ a) × (y < x))
+abbrev pub SumComesBefore : ℕ → ℕ → ℕ → ℕ → Type 0
+SumComesBefore b y a x = (b < a) ⊎ ((b ≡ a) × (y < x))
 
 -- No sum is less than that of letter x at menu A, which holds it, and each that comes before it is greater.
-pub record IsLeastSum (list : MenuList) (units : Units) (a x : ℕ) : Type 0 where
+pub record IsLeastMenuSum (list : MenuList) (units : Units) (a x : ℕ) : Type 0 where
   pub within : a < 2 ^ list.letters
   pub held : has_letter a x ≡ true
   pub least : (b y : ℕ) → b < 2 ^ list.letters → has_letter b y ≡ true
       → sum_at list units x a ≤ℤ sum_at list units y b
-  pub first : (b y : ℕ) → has_letter b y ≡ true → ComesBefore b y a x
+  pub first : (b y : ℕ) → has_letter b y ≡ true → SumComesBefore b y a x
       → sum_at list units x a <ℤ sum_at list units y b

@@ -8,7 +8,7 @@ use Rattle.rp_evidence.specs.declared.random.Share.{Share}
 use Rattle.rp_menu.specs.MenuLists.{MenuList, has_letter}
 use Rattle.rp_menu.specs.declared.TheConstants.{LETTERS}
 use Rattle.rp_num.specs.Fraction.{Fraction}
-use Rattle.rp_orders.specs.LeastSums.{IsLeastSum}
+use Rattle.rp_orders.specs.LeastSums.{IsLeastMenuSum}
 use Rattle.rp_orders.specs.MenuSums.{AreComplete, sum_at}
 use Rattle.rp_orders.specs.OrderKinds.{PicksCells}
 use Rattle.rp_patch.specs.Kinds.{AreAllOf, weight_of}
@@ -57,20 +57,20 @@ sum_text sum x menu =
 
 -- the text is that of the least sum where the data are complete, and else there is none
 pub record IsSumsText (list : MenuList) (units : Units) (text : List ℕ) : Type 0 where
-  pub complete : AreComplete list → (menu : ℕ) × (x : ℕ) × IsLeastSum list units menu x
+  pub complete : AreComplete list → (menu : ℕ) × (x : ℕ) × IsLeastMenuSum list units menu x
       × (text ≡ sum_text (sum_at list units x menu) x menu)
   pub incomplete : ¬ AreComplete list → text ≡ []
 
 -- the report, with how many orders pick cells alone, and with the text on the least sum
 abbrev pub menus_report : MenuList → Units → RandomPart → Option ℕ → ℕ → List ℕ → List ℕ
-menus_report list units part asked orders sums =
-    counts_text list orders units.total ++ apportioned_text asked ++ evidence_text units part ++ sums
+menus_report list units part per orders sums =
+    counts_text list orders units.total ++ apportioned_text per ++ evidence_text units part ++ sums
 
 -- the text is the report of this evidence
-pub record IsMenusReport (list : MenuList) (units : Units) (part : RandomPart) (asked : Option ℕ) (text : List ℕ)
+pub record IsMenusReport (list : MenuList) (units : Units) (part : RandomPart) (per : Option ℕ) (text : List ℕ)
     : Type 0 where
   pub orders : List (List ℕ)
   pub sums : List ℕ
   pub all : AreAllOf (PicksCells list) orders
   pub least : IsSumsText list units sums
-  pub text_is : text ≡ menus_report list units part asked (length orders) sums
+  pub text_is : text ≡ menus_report list units part per (length orders) sums

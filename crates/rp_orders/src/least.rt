@@ -1,7 +1,7 @@
 //! The least of the sums over menus (after Block and Marschak 1960).
 ghost use Rattle.std.specs.Prelude.{◌≡◌, ◌<◌, ◌^◌, ◌+◌};
 ghost use Rattle.rp_orders.specs.InnerLeast.{IsLeastBefore};
-ghost use Rattle.rp_orders.specs.LeastSums.{IsLeastSum};
+ghost use Rattle.rp_orders.specs.LeastSums.{IsLeastMenuSum};
 ghost use Rattle.rp_orders.specs.MenuSums.{AreComplete, sum_at};
 ghost use Rattle.rp_orders.specs.OrderMixtures.{AreUnitsOf};
 
@@ -23,7 +23,7 @@ pub(crate) fn least_sum(seen: &Menus, units: &Units) -> LeastSum
     requires units { AreUnitsOf seen.now units.now }
     requires complete { AreComplete seen.now }
     ensures exact { result.sum ≡ sum_at seen.now units.now result.letter result.menu }
-    ensures least { IsLeastSum seen.now units.now result.menu result.letter }
+    ensures least { IsLeastMenuSum seen.now units.now result.menu result.letter }
 {
     prove!(seen.letters() >= 1);
     let mut least = LeastSum {

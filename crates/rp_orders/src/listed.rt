@@ -4,7 +4,7 @@ ghost use Rattle.rp_farkas.specs.Limits.{IsWithinLimits};
 ghost use Rattle.rp_orders.specs.InnerOrders.{orders_of};
 ghost use Rattle.rp_orders.specs.OrderKinds.{orders_over};
 ghost use Rattle.rp_orders.specs.OrderMixtures.{AreUnitsOf};
-ghost use Rattle.rp_patch.specs.Kinds.{program_of};
+ghost use Rattle.rp_patch.specs.Kinds.{mixture_program};
 
 use crate::orders::Order;
 use crate::picks::picks;
@@ -20,7 +20,7 @@ pub struct ListedOrders<'a> {
     orders: &'a [Order],
     ghost are: { AreUnitsOf seen.now units.now },
     ghost within: { IsWithinLimits
-        (program_of (orders_over seen.now units.now) (orders_of orders.now)) },
+        (mixture_program (orders_over seen.now units.now) (orders_of orders.now)) },
 }
 
 impl<'a> ListedOrders<'a> {

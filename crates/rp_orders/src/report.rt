@@ -30,17 +30,17 @@ pub fn report_menus(
     seen: &Menus,
     units: &Units,
     part: &RandomPart,
-    asked: Option<u32>,
+    per: Option<u32>,
 ) -> Result<Vec<u8>, NoMemory>
     requires units { AreUnitsOf seen.now units.now }
     requires accepted { PassesMenus seen.now units.now part.now }
     ensures { IfOk result (λ text.
-        IsMenusReport seen.now units.now part.now asked text.items) }
+        IsMenusReport seen.now units.now part.now per text.items) }
 {
     let orders = all_orders(alloc, seen)?;
     let mut text = Vec::new(alloc);
     push_counts(alloc, &mut text, seen, orders.len() as u32, units.total)?;
-    push_apportioned(alloc, &mut text, asked)?;
+    push_apportioned(alloc, &mut text, per)?;
     push_evidence(alloc, &mut text, seen, units, part)?;
     push_sums(alloc, &mut text, seen, units)?;
     Ok(text)

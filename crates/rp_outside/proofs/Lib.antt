@@ -2,4 +2,4 @@ pub mod Counts
 pub mod Fronts
 pub mod Growth
 pub mod Progress
-mod Worked
+mod Examples

@@ -6,7 +6,7 @@ use Rattle.std.proofs.lemmas.List.FromFn.{get_or-map-range_with_len}
 use Rattle.std.proofs.Math.Seq.{take-length, take-suc}
 use Rattle.rp_table.specs.BudgetLists.{BudgetList}
 use Rattle.rp_table.specs.ChoiceLists.{ChoiceList}
-use Rattle.rp_patch.specs.Choices.{RandomInput, input_of}
+use Rattle.rp_patch.specs.Choices.{RandomInput, random_input_of}
 use Rattle.rp_patch.specs.Signs.{signs_of}
 use Rattle.rp_patch.specs.InnerTallies.{tallied, tally_of}
 use Rattle.rp_patch.specs.Units.{chosen_as, chosen_below, tally_by, tally_on}
@@ -18,11 +18,11 @@ tally_by-same f g counts times (suc n) same = rw (tally_by-same f g counts times
 
 -- the tally of listed signs is that of the signs
 pub tally_same : (budgets : BudgetList) (choices : ChoiceList) (all : List (List ℤ)) (j : ℕ)
-    → all ≡ map (signs_of (input_of budgets choices)) (range_with_len 0 (length choices.budget))
-    → tally_of all choices j (length choices.budget) ≡ tally_on (input_of budgets choices) j
+    → all ≡ map (signs_of (random_input_of budgets choices)) (range_with_len 0 (length choices.budget))
+    → tally_of all choices j (length choices.budget) ≡ tally_on (random_input_of budgets choices) j
 tally_same budgets choices all j is =
     tally_by-same _ _ _ _ (length choices.budget)
-    (λ i within. rw is (get_or-map-range_with_len (signs_of (input_of budgets choices)) 0 (length choices.budget) i i [] within (omega arith)))
+    (λ i within. rw is (get_or-map-range_with_len (signs_of (random_input_of budgets choices)) 0 (length choices.budget) i i [] within (omega arith)))
 
 -- the patches of one more budget
 pub more_chosen : (input : RandomInput) (j : ℕ) (old new : List Chosen) (tally : List (List ℤ × ℕ))

@@ -7,7 +7,7 @@ use Rattle.rp_table.specs.ChoiceLists.{ChoiceList, IsChoiceList}
 use Rattle.rp_table.specs.Sums.{sum_below}
 use Rattle.rp_table.proofs.SumsBelow.{sum_below-mono}
 use Rattle.rp_patch.specs.Apportionment.{AreGrouped, GroupedCounts, counts_in, groups_in}
-use Rattle.rp_patch.specs.Choices.{AreChoicesFrom, RandomInput, input_of, times_on}
+use Rattle.rp_patch.specs.Choices.{AreChoicesFrom, RandomInput, random_input_of, times_on}
 use Rattle.rp_patch.specs.InnerUnited.{budgets_of, counts_of, times_of}
 use Rattle.rp_patch.specs.Units.{all_chosen, chosen_at, chosen_counts}
 use Rattle.rp_patch.specs.declared.chosen.Chosen.{Chosen}
@@ -17,7 +17,7 @@ use Rattle.rp_patch.proofs.RoundedUpGroups.{sum_zero}
 use Rattle.rp_patch.proofs.Sums.{some_times}
 
 -- some choices were made on every budget, and not too many
-pub some_on_every : (budgets : BudgetList) (choices : ChoiceList) → AreChoicesFrom budgets choices → (j : ℕ) → j < length budgets.w → 0 < times_on (input_of budgets choices) j
+pub some_on_every : (budgets : BudgetList) (choices : ChoiceList) → AreChoicesFrom budgets choices → (j : ℕ) → j < length budgets.w → 0 < times_on (random_input_of budgets choices) j
 some_on_every budgets choices from j below =
     let some = from.on_every j below in
     some_times (slice_index choices.budget) (slice_index choices.times) (length choices.budget) j some.0 some.1 some.2 some.3
@@ -31,7 +31,7 @@ sum_of_small on times j most (suc n) each = by (on n == j) (each n (omega arith)
     by true here rest = omega (arith, here, rest)
     by false here rest = omega (arith, here, rest)
 
-pub few_on_each : (budgets : BudgetList) (choices : ChoiceList) → IsChoiceList choices → (j : ℕ) → times_on (input_of budgets choices) j < 2 ^ 36
+pub few_on_each : (budgets : BudgetList) (choices : ChoiceList) → IsChoiceList choices → (j : ℕ) → times_on (random_input_of budgets choices) j < 2 ^ 36
 few_on_each budgets choices valid j =
     let few = sum_of_small (slice_index choices.budget) (slice_index choices.times) j 9999999 (length choices.budget)
     (λ i l. valid.times_limits i 0 (omega (arith, l, valid.all_times))) in

@@ -10,7 +10,7 @@ pub mod ExtendedWalks
 pub mod FirstChosen
 pub mod GroupFacts
 pub mod Multiples
-pub mod PartLaws
+pub mod PartialTypeLaws
 pub mod PatchesMade
 pub mod RoundedUpGroups
 pub mod Rows
@@ -24,4 +24,4 @@ pub mod TypeKinds
 pub mod Sums
 pub mod TallyMaps
 pub mod TallyEntries
-pub mod Tried
+pub mod Examples

@@ -8,8 +8,8 @@ use Rattle.rp_num.proofs.Coprime.{IsCoprime-divided, divides_other_factor}
 use Rattle.rp_patch.specs.Apportionment.{GroupedCounts, IsCommonMultiple, IsLeastCommonMultiple, counts_in}
 use Rattle.rp_patch.specs.InnerMultiples.{IsCommon}
 
-whole_part : (a g : ℕ) → g ∣ a → a / g * g ≡ a
-whole_part a g divides = let rest : a % g ≡ 0 = mod-eq-zero_of_dvd g divides in omega (arith, div-add-mod' a g, rest)
+whole_type : (a g : ℕ) → g ∣ a → a / g * g ≡ a
+whole_type a g divides = let rest : a % g ≡ 0 = mod-eq-zero_of_dvd g divides in omega (arith, div-add-mod' a g, rest)
 
 above_zero : (p b m : ℕ) → p * b ≡ m → 0 < m → 0 < p
 above_zero zero b m is positive = omega (arith, is)
@@ -30,8 +30,8 @@ least_of a b g p q k y hg is ea eb ey hk da =
 
 pub common : (a b g : ℕ) → 0 < a → 0 < b → IsGcd a b g → IsCommon a b (a / g * b)
 common a b g ha hb is =
-    let ea = whole_part a g is.0 in
-    let eb = whole_part b g is.1 in
+    let ea = whole_type a g is.0 in
+    let eb = whole_type b g is.1 in
     let hp = above_zero (a / g) g a ea ha in
     let hq = above_zero (b / g) g b eb hb in
     let hg : 0 < g = positive_divisor a g ha is.0 in
@@ -39,7 +39,7 @@ common a b g ha hb is =
       positive = mul-pos hp hb;
       first = subst (λ n. a ∣ n) (omega (arith, ap (λ n. (b / g) * n) ea, ap (λ n. (a / g) * n) eb)) (dvd-mul_left a (b / g));
       second = dvd-mul_left b (a / g);
-      least = λ k hk da db. least_of a b g (a / g) (b / g) k (k / b) hg is ea eb (whole_part k b db) hk da;
+      least = λ k hk da db. least_of a b g (a / g) (b / g) k (k / b) hg is ea eb (whole_type k b db) hk da;
     }
 
 -- the least common multiple of one more

@@ -7,10 +7,10 @@ use Rattle.std.proofs.lemmas.List.{get_or-append_right}
 use Rattle.rp_evidence.specs.Garp.{HasNoViolation, IsViolation}
 use Rattle.rp_evidence.specs.Walk.{IsWalk, LeadsTo}
 use Rattle.rp_evidence.proofs.Violations.{violates_by_weaker}
-use Rattle.rp_patch.specs.Parts.{Before, Begins, IsPart, IsRationalBelow, taken_in}
+use Rattle.rp_patch.specs.PartialTypes.{Before, Begins, IsPartialType, IsRationalBelow, taken_in}
 use Rattle.rp_patch.specs.Patches.{PatchList, budget_at, sign_at}
 use Rattle.rp_patch.specs.Types.{IsRationalType, IsStrictBy, IsWeakBy}
-use Rattle.rp_patch.specs.declared.part.Part.{Part}
+use Rattle.rp_patch.specs.declared.partial_type.PartialType.{PartialType}
 
 -- ---- how a type begins
 
@@ -66,8 +66,8 @@ excluded_by_budget p front i other type rational h =
     other (ap (budget_at p) (sym there) ∙ rational.0.on_its_budget (length front) (omega (arith, long, size, rational.0.one_each)))
 
 -- a part with a patch of every budget is a rational type
-pub whole_part : (p : PatchList) (part : Part) → IsPart p part → part.taken ≡ p.budgets → length (taken_in part) ≡ part.taken → IsRationalType p (taken_in part)
-whole_part p part is all count = (
+pub whole_type : (p : PatchList) (part : PartialType) → IsPartialType p part → part.taken ≡ p.budgets → length (taken_in part) ≡ part.taken → IsRationalType p (taken_in part)
+whole_type p part is all count = (
   record {
     one_each = count ∙ all;
     patch = λ j below. is.0.patch j (omega (arith, below, all));

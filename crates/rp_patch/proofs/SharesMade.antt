@@ -7,8 +7,8 @@ use Rattle.std.proofs.lemmas.Nat.Gcd.{mod-eq-zero_of_dvd}
 use Rattle.std.proofs.Math.Nat.{dvd-mul_left, dvd_trans}
 use Rattle.rp_table.specs.Sums.{sum_below}
 use Rattle.rp_table.proofs.SumsBelow.{sum_below-same}
-use Rattle.rp_patch.specs.Apportionment.{AreFilled, ComesBefore, GroupedCounts, HasApportionedShares, HasShares, counts_in, rest_of, whole_of}
-use Rattle.rp_patch.specs.InnerPortions.{ArePortions, AreRoundedUpBelow, AreUnitsOf, AreWhole, IsAhead, IsTotal, portion_at, portions_on, rounded_up_on, units_of, whole_on}
+use Rattle.rp_patch.specs.Apportionment.{AreFilled, RestComesBefore, GroupedCounts, HasApportionedShares, HasShares, counts_in, rest_of, whole_of}
+use Rattle.rp_patch.specs.InnerPortions.{ArePortions, AreRoundedUpBelow, ArePortionUnits, AreWholeParts, IsAhead, IsSharedTotal, portion_at, portions_on, rounded_up_on, portion_units, whole_on}
 use Rattle.rp_patch.specs.declared.portion.Portion.{Portion}
 use Rattle.rp_patch.proofs.RoundedUpGroups.{same_whole}
 use Rattle.rp_patch.proofs.Shares.{cancelled, sum_plus, sum_scaled_at_most}
@@ -105,7 +105,7 @@ module _ (g : GroupedCounts) (inside : (i : ℕ) → i < g.places → g.group i 
       by (inl l) = ap (λ (p : Portion). p.rounded_up) (shared.1 i (omega (arith, l, shared.0)))
       by (inr g) = ap (λ (p : Portion). p.rounded_up) (get_or_past portions i _ g)
 
-  pub are_whole : g.places ≤ 64 → total ≤ 1000000000 → AreWhole portions g.groups total
+  pub are_whole : g.places ≤ 64 → total ≤ 1000000000 → AreWholeParts portions g.groups total
   are_whole few small = record {
     few = omega (arith, few, shared.0);
     small = λ i within. omega (arith, whole_small i within, small);
@@ -114,8 +114,8 @@ module _ (g : GroupedCounts) (inside : (i : ℕ) → i < g.places → g.group i 
     none_rounded_up = none_rounded_up;
   }
 
-  module _ (rounded_up : List Portion) (all : AreRoundedUpBelow portions rounded_up g.groups total) (units : List ℕ) (made : AreUnitsOf rounded_up g.places units) where
-    unit_at : (i : ℕ) → i < g.places → slice_index units i ≡ units_of (portion_at rounded_up i)
+  module _ (rounded_up : List Portion) (all : AreRoundedUpBelow portions rounded_up g.groups total) (units : List ℕ) (made : ArePortionUnits rounded_up g.places units) where
+    unit_at : (i : ℕ) → i < g.places → slice_index units i ≡ portion_units (portion_at rounded_up i)
     unit_at i within = made.1 i within
 
     rounded_up_count : length rounded_up ≡ g.places
@@ -160,7 +160,7 @@ module _ (g : GroupedCounts) (inside : (i : ℕ) → i < g.places → g.group i 
           (rounded_up_group h h_in ∙ same ∙ sym (rounded_up_group i i_in)) is_up is_down);
     }
       where
-        before : (h i : ℕ) → h < g.places → i < g.places → IsAhead rounded_up h i → ComesBefore g total h i
+        before : (h i : ℕ) → h < g.places → i < g.places → IsAhead rounded_up h i → RestComesBefore g total h i
         before h i h_in i_in (inl l) = inl (rw (same_rest_of h h_in, same_rest_of i i_in) l)
         before h i h_in i_in (inr l) = inr (same_rest_of h h_in ∙ l.0 ∙ sym (same_rest_of i i_in), l.1)
 
@@ -182,7 +182,7 @@ module _ (g : GroupedCounts) (inside : (i : ℕ) → i < g.places → g.group i 
           let le = sum_scaled_at_most (on j) (λ i. g.count i) (λ i. (portion_at portions i).whole) total (counts_in g j) (length portions) (exactly j) in
           cancelled total (whole_on portions j) (counts_in g j) (omega (arith, le, ap (λ k. k * total) (times_here j below))) (positive j below)
 
-      not_rounded_up : (i : ℕ) → i < g.places → units_of (portion_at rounded_up i) ≡ (portion_at rounded_up i).whole
+      not_rounded_up : (i : ℕ) → i < g.places → portion_units (portion_at rounded_up i) ≡ (portion_at rounded_up i).whole
       not_rounded_up i within =
           let j = g.group i in
           let below : j < g.groups = inside i within in
@@ -198,6 +198,6 @@ module _ (g : GroupedCounts) (inside : (i : ℕ) → i < g.places → g.group i 
           let is : slice_index units i ≡ (portion_at portions i).whole = unit_at i within ∙ not_rounded_up i within ∙ all.same.whole i in
           (λ k. is k * counts_in g (g.group i)) ∙ omega (arith, split i within, no_rest i within)
 
-    pub has_shares : (asked : Option ℕ) → IsTotal g asked total → HasShares g asked total (slice_index units)
+    pub has_shares : (per : Option ℕ) → IsSharedTotal g per total → HasShares g per total (slice_index units)
     has_shares None is = record { total = is; each = exact_units (λ j below. is.0.1 j below) }
     has_shares (Some unit) is = apportioned unit is

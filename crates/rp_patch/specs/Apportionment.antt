@@ -45,8 +45,8 @@ abbrev pub rest_of : GroupedCounts → ℕ → ℕ → ℕ
 rest_of g all i = (g.count i * all) % counts_in g (g.group i)
 
 -- Place h has a greater rest than place i, or the same and an earlier number.
-abbrev pub ComesBefore : GroupedCounts → ℕ → ℕ → ℕ → Type 0
-ComesBefore g all h i = (rest_of g all i < rest_of g all h) ⊎ ((rest_of g all h ≡ rest_of g all i) × (h < i))
+abbrev pub RestComesBefore : GroupedCounts → ℕ → ℕ → ℕ → Type 0
+RestComesBefore g all h i = (rest_of g all i < rest_of g all h) ⊎ ((rest_of g all h ≡ rest_of g all i) × (h < i))
 
 -- The units of place i are the whole part of its share and one more.
 abbrev pub IsRoundedUp : GroupedCounts → ℕ → (ℕ → ℕ) → ℕ → Type 0
@@ -63,7 +63,7 @@ pub record HasApportionedShares (g : GroupedCounts) (unit all : ℕ) (units : �
   pub each : (i : ℕ) → i < g.places → (units i ≡ whole_of g all i) ⊎ IsRoundedUp g all units i
   pub together : AreFilled g all units
   pub largest : (h i : ℕ) → h < g.places → i < g.places → g.group h ≡ g.group i
-      → IsRoundedUp g all units h → units i ≡ whole_of g all i → ComesBefore g all h i
+      → IsRoundedUp g all units h → units i ≡ whole_of g all i → RestComesBefore g all h i
 
 -- The units of the places, under a total of each group, as they are asked for.
 abbrev pub HasShares : GroupedCounts → Option ℕ → ℕ → (ℕ → ℕ) → Type 0
@@ -78,8 +78,8 @@ PassesTotalAt g j =
 
 -- What each fault says. Want of memory says nothing.
 abbrev pub SaysWhyNoUnits : GroupedCounts → Option ℕ → ApportionFault → Type 0
-SaysWhyNoUnits g asked (NeedUnit j) = (asked ≡ None) × PassesTotalAt g j
-SaysWhyNoUnits g asked NoMemory = Unit {0}
+SaysWhyNoUnits g per (NeedUnit j) = (per ≡ None) × PassesTotalAt g j
+SaysWhyNoUnits g per NoMemory = Unit {0}
 
 -- ---- groups and counts in lists
 

@@ -17,8 +17,8 @@ pub record RandomInput : Type 0 where
   pub times : ℕ → ℕ
 
 -- What lists of budgets and of choices over the same goods give.
-abbrev pub input_of : BudgetList → ChoiceList → RandomInput
-input_of budgets choices = record {
+abbrev pub random_input_of : BudgetList → ChoiceList → RandomInput
+random_input_of budgets choices = record {
   budgets = length budgets.w;
   goods = length budgets.names;
   price = λ j g. slice_index budgets.prices (j * length budgets.names + g);

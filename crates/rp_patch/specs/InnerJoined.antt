@@ -1,9 +1,9 @@
 -- Words that only proofs need: how far the rows of a part are joined with what one budget more leads to.
 use Rattle.std.specs.Prelude.{◌≡◌, ◌<◌, ◌≤◌, ◌⊎◌, ◌↔◌, ℕ, length, slice_index}
 use Rattle.rp_patch.specs.Sets.{Has}
-use Rattle.rp_patch.specs.declared.part.Part.{Part}
+use Rattle.rp_patch.specs.declared.partial_type.PartialType.{PartialType}
 
-pub record IsJoined (old now : Part) (into from n : ℕ) : Type 0 where
+pub record IsJoined (old now : PartialType) (into from n : ℕ) : Type 0 where
   pub taken : now.taken ≡ old.taken
   pub patches : now.patches ≡ old.patches
   pub count : length now.reached ≡ length old.reached

@@ -77,7 +77,7 @@ pub record IsRoundedUpBy (old new : List Portion) (j many : ℕ) : Type 0 where
 
 -- Whole parts within the limits, of which those of each of the first groups are less than the total by no more than
 -- one for each portion, and none is rounded up.
-pub record AreWhole (portions : List Portion) (groups total : ℕ) : Type 0 where
+pub record AreWholeParts (portions : List Portion) (groups total : ℕ) : Type 0 where
   pub few : length portions ≤ PLACES
   pub small : (i : ℕ) → i < length portions → (portion_at portions i).whole ≤ UNITS
   pub within : (j : ℕ) → j < groups → whole_on portions j ≤ total
@@ -92,15 +92,15 @@ pub record AreRoundedUpBelow (old new : List Portion) (groups total : ℕ) : Typ
   pub later : (i : ℕ) → groups ≤ (portion_at new i).group → (portion_at new i).rounded_up ≡ false
 
 -- The units that a portion has.
-abbrev pub units_of : Portion → ℕ
-units_of portion = portion.whole + (if portion.rounded_up then 1 else 0)
+abbrev pub portion_units : Portion → ℕ
+portion_units portion = portion.whole + (if portion.rounded_up then 1 else 0)
 
 -- The units of the first n portions.
-abbrev pub AreUnitsOf : List Portion → ℕ → List ℕ → Type 0
-AreUnitsOf portions n units =
-    (length units ≡ n) × ((i : ℕ) → i < n → slice_index units i ≡ units_of (portion_at portions i))
+abbrev pub ArePortionUnits : List Portion → ℕ → List ℕ → Type 0
+ArePortionUnits portions n units =
+    (length units ≡ n) × ((i : ℕ) → i < n → slice_index units i ≡ portion_units (portion_at portions i))
 
 -- The total that is shared out: the unit that was asked for, or the least common multiple.
-abbrev pub IsTotal : GroupedCounts → Option ℕ → ℕ → Type 0
-IsTotal g None total = IsLeastCommonMultiple g g.groups total
-IsTotal g (Some unit) total = total ≡ unit
+abbrev pub IsSharedTotal : GroupedCounts → Option ℕ → ℕ → Type 0
+IsSharedTotal g None total = IsLeastCommonMultiple g g.groups total
+IsSharedTotal g (Some unit) total = total ≡ unit

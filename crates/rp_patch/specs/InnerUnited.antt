@@ -6,7 +6,7 @@ use Rattle.rp_patch.specs.Units.{chosen_at}
 use Rattle.rp_patch.specs.declared.chosen.Chosen.{Chosen}
 use Rattle.rp_patch.specs.declared.fault.PatchFault.{PatchFault}
 use Rattle.rp_patch.specs.declared.fault.PatchFault.TheVariants.{TooManyPatches, NeedUnit, NoMemory}
-use Rattle.rp_patch.specs.declared.listed.Patch.{Patch}
+use Rattle.rp_patch.specs.declared.patch_list.Patch.{Patch}
 
 -- The budgets of what was chosen, and the times.
 abbrev pub budgets_of : List Chosen → List ℕ
@@ -30,6 +30,6 @@ AreUnited chosen units n patches = (length patches ≡ n) × ((i : ℕ) → i < 
 
 -- What a fault says of the units. Want of memory says nothing, and no other fault comes.
 abbrev pub SaysWhyNotShared : GroupedCounts → Option ℕ → PatchFault → Type 0
-SaysWhyNotShared g asked (TooManyPatches j) = ⊥
-SaysWhyNotShared g asked (NeedUnit j) = (asked ≡ None) × PassesTotalAt g j
-SaysWhyNotShared g asked NoMemory = Unit {0}
+SaysWhyNotShared g per (TooManyPatches j) = ⊥
+SaysWhyNotShared g per (NeedUnit j) = (per ≡ None) × PassesTotalAt g j
+SaysWhyNotShared g per NoMemory = Unit {0}

@@ -82,8 +82,8 @@ IsGreatestMixtureOf k den parts =
 
 -- The program of mixtures: a row for each cell with its units on the right side, and a column worth 1 for each listed
 -- kind with 1 at the cells that it uses.
-abbrev pub program_of : Kinds → List (List ℕ) → LinearProgram
-program_of k kinds = record {
+abbrev pub mixture_program : Kinds → List (List ℕ) → LinearProgram
+mixture_program k kinds = record {
   rows = k.cells;
   cols = length kinds;
   a = λ i j. if uses (k.used (slice_index_or kinds j [])) i then pos 1 else pos 0;

@@ -9,7 +9,7 @@ pub mod Kinds
 pub mod KindFailure
 pub mod Mixtures
 pub mod InnerMultiples
-pub mod Parts
+pub mod PartialTypes
 pub mod Patches
 pub mod RandomEvidence
 pub mod RandomFailure

@@ -4,7 +4,7 @@ use Rattle.std.specs.Prelude.{◌≡◌, ◌<◌, ◌≤◌, ◌*◌, ℕ, List,
 use Rattle.rp_evidence.specs.declared.random.Share.{Share}
 use Rattle.rp_farkas.specs.LinearProgram.{LinearProgram}
 use Rattle.rp_patch.specs.Kinds.{HasMixtureOf, IsMixtureOf, IsPartialMixtureOf, Kinds}
-use Rattle.rp_patch.specs.Kinds.{all_units_weight, program_of, weight_of}
+use Rattle.rp_patch.specs.Kinds.{all_units_weight, mixture_program, weight_of}
 use Rattle.rp_patch.specs.Patches.{PatchList, budget_at, units_at}
 use Rattle.rp_patch.specs.Types.{IsRationalType, IsType}
 
@@ -45,7 +45,7 @@ pub record IsGreatestShare (p : PatchList) (num den : ℕ) : Type 0 where
 -- The program of random utility: a row for each patch with its units on the right side, and a column worth 1 for each
 -- listed type with 1 at its patches.
 abbrev pub random_program : PatchList → List (List ℕ) → LinearProgram
-random_program p = program_of (types_on p)
+random_program p = mixture_program (types_on p)
 
 -- What all units weigh together.
 abbrev pub units_weight : PatchList → List ℕ → ℕ

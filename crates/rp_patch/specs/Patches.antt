@@ -3,14 +3,14 @@ use Rattle.std.specs.Prelude.{◌≡◌, ℕ, ◌<◌, ◌≤◌, ◌==◌, ℤ,
 use Rattle.rp_table.specs.Sums.{sum_below}
 use Rattle.rp_table.specs.declared.TheConstants.{BUDGETS}
 use Rattle.rp_patch.specs.declared.TheConstants.{PATCHES, UNITS}
-use Rattle.rp_patch.specs.declared.listed.Patch.{Patch}
+use Rattle.rp_patch.specs.declared.patch_list.Patch.{Patch}
 
 -- The patches of so many budgets, the units of each budget, and the unit that was asked for.
 pub record PatchList : Type 0 where
   pub budgets : ℕ
   pub patches : List Patch
   pub total : ℕ
-  pub asked : Option ℕ
+  pub per : Option ℕ
 
 abbrev pub no_patch : Patch
 no_patch = record { budget = 0; signs = []; units = 0 }

@@ -1,7 +1,7 @@
 //! Units that stand for counts in groups.
 ghost use Rattle.std.specs.Prelude.{◌≡◌, ◌≤◌, IfErr, IfOk, IfSome, length, slice_index};
 ghost use Rattle.rp_patch.specs.Apportionment.{AreFilled, AreGrouped, HasShares, SaysWhyNoUnits, grouped};
-ghost use Rattle.rp_patch.specs.InnerPortions.{IsTotal};
+ghost use Rattle.rp_patch.specs.InnerPortions.{IsSharedTotal};
 ghost use Rattle.rp_patch.specs.declared.TheConstants.{UNITS};
 
 use crate::ApportionFault;
@@ -50,7 +50,7 @@ pub fn apportion(
 fn total_of(groups: &[u32], counts: &[u64], unit: Option<u32>) -> Result<u64, ApportionFault>
     requires grouped { AreGrouped groups.now counts.now }
     requires unit { IfSome unit (λ n. (1 ≤ n) × (n ≤ UNITS)) }
-    ensures exact { IfOk result (IsTotal (grouped groups.now counts.now) unit) }
+    ensures exact { IfOk result (IsSharedTotal (grouped groups.now counts.now) unit) }
     ensures within { IfOk result (λ total. (1 ≤ total) × (total ≤ UNITS)) }
     ensures refused { IfErr result (SaysWhyNoUnits (grouped groups.now counts.now) unit) }
 {

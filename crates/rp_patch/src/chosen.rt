@@ -2,7 +2,7 @@
 ghost use Rattle.std.specs.Prelude.{◌≡◌, ◌<◌, ◌≤◌, ◌++◌, [], IfErr, IfOk, OnOk, length, map};
 ghost use Rattle.std.specs.Prelude.{slice_index_or};
 ghost use Rattle.indexmap.specs.IndexMap.{index_map_len};
-ghost use Rattle.rp_patch.specs.Choices.{AreChoicesFrom, input_of};
+ghost use Rattle.rp_patch.specs.Choices.{AreChoicesFrom, random_input_of};
 ghost use Rattle.rp_patch.specs.InnerTallies.{SaysWhyChosen, tallied};
 ghost use Rattle.rp_patch.specs.Units.{all_chosen as chosen_in, chosen_as};
 
@@ -29,9 +29,9 @@ pub fn all_chosen(
 ) -> Result<Vec<Chosen>, PatchFault>
     requires { AreChoicesFrom budgets.now choices.now }
     ensures exact { IfOk result
-        (λ chosen. chosen.items ≡ chosen_in (input_of budgets.now choices.now)) }
+        (λ chosen. chosen.items ≡ chosen_in (random_input_of budgets.now choices.now)) }
     ensures few { IfOk result (λ chosen. length chosen.items ≤ PATCHES) }
-    ensures refused { IfErr result (SaysWhyChosen (input_of budgets.now choices.now)) }
+    ensures refused { IfErr result (SaysWhyChosen (random_input_of budgets.now choices.now)) }
 {
     let all = all_signs(alloc, budgets, choices)?;
     let mut chosen = Vec::new(alloc);

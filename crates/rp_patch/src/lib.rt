@@ -8,9 +8,9 @@ mod failure;
 mod fault;
 mod laws;
 mod limits;
-mod listed;
 pub mod of_choices;
-pub mod part;
+pub mod partial_type;
+mod patch_list;
 mod portion;
 mod sets;
 mod signs;
@@ -25,7 +25,7 @@ pub use laws::{
     patches_without_units_change_nothing,
 };
 pub use limits::limits_in_numbers;
-pub use listed::Patches;
+pub use patch_list::Patches;
 
 /// The most patches of all budgets together.
 pub const PATCHES: u32 = 48;

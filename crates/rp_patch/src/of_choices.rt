@@ -1,7 +1,7 @@
 //! The patches that choices fall in, with their units.
 ghost use Rattle.std.specs.Prelude.{◌≡◌, ◌≤◌, IfErr, IfOk, IfSome, length, slice_index};
 ghost use Rattle.rp_patch.specs.Apportionment.{AreFilled, AreGrouped, HasShares};
-ghost use Rattle.rp_patch.specs.Choices.{AreChoicesFrom, input_of};
+ghost use Rattle.rp_patch.specs.Choices.{AreChoicesFrom, random_input_of};
 ghost use Rattle.rp_patch.specs.InnerUnited.{AreUnited, SaysWhyNotShared, budgets_of as budgets_of_all};
 ghost use Rattle.rp_patch.specs.InnerUnited.{counts_of, times_of as times_of_all};
 ghost use Rattle.rp_patch.specs.Patches.{IsPatchList};
@@ -10,7 +10,7 @@ ghost use Rattle.rp_patch.specs.declared.TheConstants.{UNITS};
 
 use crate::apportionment::{Units, apportion};
 use crate::chosen::{Chosen, all_chosen};
-use crate::listed::Patch;
+use crate::patch_list::Patch;
 use crate::{ApportionFault, PatchFault};
 use rp_num::{NoMemory, Seq};
 use rp_table::{Budgets, Choices};
@@ -23,18 +23,18 @@ pub fn patches(
     budgets: &Budgets,
     choices: &Choices,
     unit: Option<u32>,
-) -> Result<crate::listed::Patches, PatchFault>
+) -> Result<crate::patch_list::Patches, PatchFault>
     requires from { AreChoicesFrom budgets.now choices.now }
     requires unit { IfSome unit (λ n. (1 ≤ n) × (n ≤ UNITS)) }
-    ensures exact { IfOk result (ArePatchesOf (input_of budgets.now choices.now) unit) }
+    ensures exact { IfOk result (ArePatchesOf (random_input_of budgets.now choices.now) unit) }
     ensures valid { IfOk result IsPatchList }
-    ensures refused { IfErr result (SaysWhy (input_of budgets.now choices.now) unit) }
+    ensures refused { IfErr result (SaysWhy (random_input_of budgets.now choices.now) unit) }
 {
     prove!(choices.count() > 0);
     let chosen = all_chosen(alloc, budgets, choices)?;
     let shared = shared_out(alloc, chosen.as_slice(), unit)?;
     let united = united(alloc, chosen.as_slice(), shared.units.as_slice())?;
-    Ok(crate::listed::Patches::make(budgets.count(), united, shared.total, unit))
+    Ok(crate::patch_list::Patches::make(budgets.count(), united, shared.total, unit))
 }
 
 /// The budgets of what was chosen.

@@ -2,11 +2,12 @@
 ghost use Rattle.std.specs.Prelude.{◌≡◌, ◌<◌, ◌≤◌, ◌↔◌, ℕ, true, All, IfOk, IfSome, IsTrue, length};
 ghost use Rattle.std.specs.Prelude.{MatchOption, nat_lt};
 ghost use Rattle.rp_patch.specs.Apportionment.{AreGrouped, grouped};
-ghost use Rattle.rp_patch.specs.InnerPortions.{ArePortions, AreRoundedUpBelow, AreUnitsOf};
-ghost use Rattle.rp_patch.specs.InnerPortions.{AreWhole, IsLeft, IsNextUp, IsRoundedUpBy};
+ghost use Rattle.rp_patch.specs.InnerPortions.{ArePortions, AreRoundedUpBelow, ArePortionUnits};
+ghost use Rattle.rp_patch.specs.InnerPortions.{AreWholeParts, IsLeft, IsNextUp, IsRoundedUpBy};
 ghost use Rattle.rp_patch.specs.InnerPortions.{RoundsUpFirst};
 ghost use Rattle.rp_patch.specs.InnerPortions.{portion_at, portion_of as portion_of_place, portions_on};
-ghost use Rattle.rp_patch.specs.InnerPortions.{rounded_up_on, units_of, whole_on as whole_of_group};
+ghost use Rattle.rp_patch.specs.InnerPortions.{rounded_up_on, portion_units};
+ghost use Rattle.rp_patch.specs.InnerPortions.{whole_on as whole_of_group};
 
 use crate::totals::sum_of;
 use crate::{PLACES, UNITS};
@@ -124,7 +125,7 @@ fn whole_on(portions: &[Portion], j: u32) -> u64
 
 /// Rounds up portions of each group until all of the total is given.
 pub fn round_all_up(portions: &mut Vec<Portion>, groups: u32, total: u64)
-    requires { AreWhole portions.old.items groups total }
+    requires { AreWholeParts portions.old.items groups total }
     ensures { AreRoundedUpBelow portions.old.items portions.new.items groups total }
 {
     for j in 0..groups {
@@ -136,7 +137,7 @@ pub fn round_all_up(portions: &mut Vec<Portion>, groups: u32, total: u64)
 /// The units of a portion.
 fn units(portion: &Portion) -> u64
     requires { portion.now.whole ≤ UNITS }
-    ensures { result ≡ units_of portion.now }
+    ensures { result ≡ portion_units portion.now }
 {
     portion.whole + u64::from(portion.rounded_up)
 }
@@ -144,7 +145,8 @@ fn units(portion: &Portion) -> u64
 /// The units of all portions.
 pub fn all_units(alloc: Global, portions: &[Portion]) -> Result<Vec<u64>, NoMemory>
     requires { (i : ℕ) → i < length portions.now → (portion_at portions.now i).whole ≤ UNITS }
-    ensures { IfOk result (λ units. AreUnitsOf portions.now (length portions.now) units.items) }
+    ensures { IfOk result (λ units.
+        ArePortionUnits portions.now (length portions.now) units.items) }
 {
     let mut all = Vec::new(alloc);
     for portion in portions {

@@ -1,6 +1,6 @@
 //! On which side of each budget the bundle of a choice lies.
 ghost use Rattle.std.specs.Prelude.{◌≡◌, ◌<◌, ◌^◌, IfOk, length};
-ghost use Rattle.rp_patch.specs.Choices.{AreChoicesFrom, input_of};
+ghost use Rattle.rp_patch.specs.Choices.{AreChoicesFrom, random_input_of};
 ghost use Rattle.rp_patch.specs.Signs.{cost_on as cost_of_choice, sign_to as sign_of_choice};
 ghost use Rattle.rp_patch.specs.Signs.{signs_of as signs_of_choice};
 
@@ -14,7 +14,7 @@ fn cost_on(budgets: &Budgets, choices: &Choices, k: u32, i: u32) -> u64
     requires from { AreChoicesFrom budgets.now choices.now }
     requires budget { k < length budgets.now.w }
     requires choice { i < length choices.now.budget }
-    ensures exact { result ≡ cost_of_choice (input_of budgets.now choices.now) k i }
+    ensures exact { result ≡ cost_of_choice (random_input_of budgets.now choices.now) k i }
     ensures below { result < 2 ^ 51 }
 {
     prove!(budgets.goods() <= 16);
@@ -27,7 +27,7 @@ fn sign_to(budgets: &Budgets, choices: &Choices, i: u32, k: u32) -> i8
     requires from { AreChoicesFrom budgets.now choices.now }
     requires budget { k < length budgets.now.w }
     requires choice { i < length choices.now.budget }
-    ensures { result ≡ sign_of_choice (input_of budgets.now choices.now) i k }
+    ensures { result ≡ sign_of_choice (random_input_of budgets.now choices.now) i k }
 {
     let own = choices.budget(i);
     let there = u128::from(budgets.w(own)) * u128::from(cost_on(budgets, choices, k, i));
@@ -49,7 +49,7 @@ pub fn signs_of(
     requires from { AreChoicesFrom budgets.now choices.now }
     requires choice { i < length choices.now.budget }
     ensures { IfOk result
-        (λ signs. signs.items ≡ signs_of_choice (input_of budgets.now choices.now) i) }
+        (λ signs. signs.items ≡ signs_of_choice (random_input_of budgets.now choices.now) i) }
 {
     let mut signs = Vec::new(alloc);
     for k in 0..budgets.count() {

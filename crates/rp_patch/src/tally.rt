@@ -2,7 +2,7 @@
 ghost use Rattle.std.specs.Prelude.{◌≡◌, ◌<◌, ◌+◌, ◌*◌, ◌==◌, ◌&&◌, [], IfOk, OnOk, length};
 ghost use Rattle.std.specs.Prelude.{map, nat_lt, slice_index, slice_index_or};
 ghost use Rattle.std.specs.List.{range_with_len};
-ghost use Rattle.rp_patch.specs.Choices.{AreChoicesFrom, input_of};
+ghost use Rattle.rp_patch.specs.Choices.{AreChoicesFrom, random_input_of};
 ghost use Rattle.rp_patch.specs.Signs.{signs_of as signs_of_choice};
 ghost use Rattle.rp_patch.specs.InnerTallies.{AtMost, tallied, tally_of};
 ghost use Rattle.rp_patch.specs.Units.{counted};
@@ -21,7 +21,7 @@ pub fn all_signs(
 ) -> Result<Vec<Seq<i8>>, NoMemory>
     requires { AreChoicesFrom budgets.now choices.now }
     ensures { IfOk result (λ all. all.items
-        ≡ map (signs_of_choice (input_of budgets.now choices.now))
+        ≡ map (signs_of_choice (random_input_of budgets.now choices.now))
         (range_with_len 0 (length choices.now.budget))) }
 {
     let mut all = Vec::new(alloc);

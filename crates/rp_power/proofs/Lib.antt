@@ -1,4 +1,4 @@
-mod Tried
+mod Examples
 pub mod CountMore
 pub mod DrawnLemmas
 pub mod SpentLemmas

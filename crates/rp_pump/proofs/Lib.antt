@@ -1,4 +1,4 @@
-mod Worked
+mod Examples
 pub mod CheckedWalks
 pub mod Soundness
 pub mod Totals

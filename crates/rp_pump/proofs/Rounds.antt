@@ -11,7 +11,8 @@ use Rattle.rp_num.specs.Fraction.{IsLowestTerms}
 use Rattle.rp_walk.specs.ExactTotal.{ExactTotal}
 use Rattle.rp_walk.specs.Walk.{AreObservations, IsSimpleCycle, end_of}
 use Rattle.rp_walk.specs.Settled.{FallsBelowStart}
-use Rattle.rp_walk.specs.Sums.{added_along, sums}
+use Rattle.rp_walk.specs.Sums.{sums}
+use Rattle.rp_walk.specs.InnerSums.{added_along}
 use Rattle.rp_walk.proofs.Numbers.{parts_of_sum}
 use Rattle.rp_walk.proofs.SumWalks.{negative_from}
 use Rattle.rp_evidence.specs.Preference.{IsWeak}

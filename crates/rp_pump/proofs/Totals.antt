@@ -10,7 +10,8 @@ use Rattle.std.specs.Prelude.{ℤ, pos, negsuc, neg_ℤ, ◌+ℤ◌, ◌-ℤ◌,
 use Rattle.rp_walk.specs.ExactTotal.{ExactTotal, IsLess, SameTotal}
 use Rattle.rp_walk.specs.Walk.{IsTotal, end_of, total_after}
 use Rattle.rp_walk.specs.Outcome.{SettlesInWide}
-use Rattle.rp_walk.specs.Sums.{FitsI128, added_along, sums, whole_total}
+use Rattle.rp_walk.specs.Sums.{FitsI128, sums, whole_total}
+use Rattle.rp_walk.specs.InnerSums.{added_along}
 use Rattle.rp_walk.proofs.Numbers.{parts_of_sum}
 use Rattle.rp_walk.proofs.Order.{less_not_more, not_less-same}
 use Rattle.rp_walk.proofs.Paths.{after-same}

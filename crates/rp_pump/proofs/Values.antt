@@ -7,7 +7,8 @@ use Rattle.std.specs.Prelude.{ℤ, pos, ◌+ℤ◌, ◌≤ℤ◌}
 use Rattle.rp_walk.specs.ExactTotal.{ExactTotal, SameTotal}
 use Rattle.rp_walk.specs.Walk.{IsTotal}
 use Rattle.rp_walk.specs.LeastTotals.{IsLeast}
-use Rattle.rp_walk.specs.Sums.{added_along, sums, whole_total}
+use Rattle.rp_walk.specs.Sums.{sums, whole_total}
+use Rattle.rp_walk.specs.InnerSums.{added_along}
 use Rattle.rp_walk.proofs.Leads.{leads_to}
 use Rattle.rp_walk.proofs.SumLaws.{sums_keep_order}
 use Rattle.rp_walk.proofs.SumWalks.{sum_bound, sum_is, sum_lowest}

@@ -1,4 +1,4 @@
 pub mod SameVerdicts
 pub mod Steps
 pub mod Verdicts
-mod Worked
+mod Examples

@@ -9,7 +9,8 @@ use Rattle.rp_walk.specs.LeastTotals.{IsLeast}
 use Rattle.rp_walk.specs.RoundWalk.{IsCutFromRounds}
 use Rattle.rp_walk.specs.Settled.{FallsBelowStart, HasLeastTotals, NoPairBreaks}
 use Rattle.rp_walk.specs.Outcome.{IsBreakingCycle, IsRoundCycle, SettlesInCycle, SettlesInWide}
-use Rattle.rp_walk.specs.Sums.{AddsWithin, FitsI128, added_along, sums, whole_total}
+use Rattle.rp_walk.specs.Sums.{FitsI128, sums, whole_total}
+use Rattle.rp_walk.specs.InnerSums.{AddsWithin, added_along}
 use Rattle.rp_walk.proofs.Leads.{leads_from, leads_to}
 use Rattle.rp_walk.proofs.SumWalks.{least_sum_limits, negative_from, never_wide, no_negative_walk, sum_bound, sum_is, sum_lowest}
 use Rattle.rp_evidence.specs.Walk.{AnyStep, IsWalk}

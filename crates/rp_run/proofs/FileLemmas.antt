@@ -11,12 +11,13 @@ use Rattle.rp_text.specs.Denotation.{table_in}
 use Rattle.rp_words.specs.CommandLine.{Line, files_of}
 use Rattle.rp_outside.specs.Known.{AreAll}
 use Rattle.rp_run.specs.Answers.{Files, AreContents, HasContents}
-use Rattle.rp_run.specs.Contents.{Denotes, MayHaveLevels}
+use Rattle.rp_run.specs.Contents.{Denotes}
+use Rattle.rp_run.specs.InnerContents.{MayHaveLevels}
 use Rattle.rp_run.specs.declared.contents.Contents.{Contents}
 use Rattle.rp_run.specs.Readings.{AndThen, CertificateIn, Just, NumbersIn, Reading, TakenTable, all_bytes, and_unless_levelled, refuses_levels, unless_levelled}
 use Rattle.rp_run.specs.declared.files.TheConstants.{MOST_BYTES, MOST_CERTIFICATE_BYTES}
 use Rattle.rp_run.specs.FaultLines.{file_line}
-use Rattle.rp_run.specs.Causes.{IsLoaded, IsRefusal, IsFileCause, IsReadingCause, HoldsValue, IsCause}
+use Rattle.rp_run.specs.InnerCauses.{IsLoaded, IsRefusal, IsFileCause, IsReadingCause, HoldsValue, IsCause}
 use Rattle.rp_run.specs.declared.files.Cause.{Cause}
 use Rattle.rp_run.specs.declared.files.Cause.TheVariants.{Read, Refused, NoMemory}
 

@@ -8,8 +8,9 @@ use Rattle.rp_words.specs.CommandLine.{Line, file_at, file_names, file_set, file
 use Rattle.rp_words.specs.Ranges.{IsSized}
 use Rattle.rp_words.specs.declared.commands.FileSet.{FileSet}
 use Rattle.rp_run.specs.Answers.{Files}
-use Rattle.rp_run.specs.Causes.{HoldsValue, IsReadingCause}
-use Rattle.rp_run.specs.Contents.{AreOf, ContentsIn, Denotes}
+use Rattle.rp_run.specs.InnerCauses.{HoldsValue, IsReadingCause}
+use Rattle.rp_run.specs.Contents.{ContentsIn, Denotes}
+use Rattle.rp_run.specs.InnerContents.{AreOf}
 use Rattle.rp_run.specs.Endings.{Rose}
 use Rattle.rp_run.specs.InnerLoadings.{AreContentsOf, LoadsFile, LoadsLine}
 use Rattle.rp_run.specs.Readings.{AndThen, Just, Reading, WhereKnown}
@@ -38,7 +39,7 @@ pub over_one : {A : Type 0} (line : Line) (set : FileSet) (limit : ℕ) (reading
     → file_set line ≡ set → IsSized line → length (file_names set) ≡ 1
     → ((files : Files) (f : List ℕ) → calls_of_each files (files_in set) (f ∷ []) ≡ calls_through limit (files f) ∷ [])
     → ((bytes : ℕ → List ℕ) (r : Result Contents (List ℕ)) → AndThen (reading (bytes 0)) (λ a. Just (Ok (over a))) r
-    → ContentsIn (takes_levels line) set line.given (λ k. Some (bytes k)) r)
+    → ContentsIn (takes_levels line) set line.arguments (λ k. Some (bytes k)) r)
     → IsOverOne line set limit reading over
 over_one line set limit reading over holds sized count each denotes =
     let named = one_named line set holds sized count in
@@ -46,7 +47,7 @@ over_one line set limit reading over holds sized count each denotes =
       holds = holds;
       named = named;
       calls = λ files. calls_are line set holds sized files (file_at line 0 ∷ []) named ∙ each files (file_at line 0);
-      denoted = λ bytes r read. subst (λ s. ContentsIn (takes_levels line) s line.given (λ k. Some (bytes k)) r) (sym holds) (denotes bytes r read);
+      denoted = λ bytes r read. subst (λ s. ContentsIn (takes_levels line) s line.arguments (λ k. Some (bytes k)) r) (sym holds) (denotes bytes r read);
     }
 
 module _ {D A : Type 0} (bytes : D → Files) (faults : D → List ℕ → ℕ) (calls : D → ℕ) (line : Line) (set : FileSet) (limit : ℕ) (reading : List ℕ → Reading A) (over : A → Contents)
@@ -89,8 +90,8 @@ pub over_two : {A B : Type 0} (line : Line) (set : FileSet) (limit then_limit : 
     → file_set line ≡ set → IsSized line → length (file_names set) ≡ 2
     → ((files : Files) (f s : List ℕ) → calls_of_each files (files_in set) (f ∷ s ∷ []) ≡ calls_through limit (files f) ∷ calls_through then_limit (files s) ∷ [])
     → ((bytes : ℕ → List ℕ) (r : Result Contents (List ℕ)) → AndThen (Just (read (bytes 0))) (λ a. AndThen (after a (bytes 1)) (last a)) r
-    → ContentsIn (takes_levels line) set line.given (λ k. Some (bytes k)) r)
-    → ((files : Files) (text : List ℕ) → ContentsIn (takes_levels line) set line.given (first_known files line 1) (Err text)
+    → ContentsIn (takes_levels line) set line.arguments (λ k. Some (bytes k)) r)
+    → ((files : Files) (text : List ℕ) → ContentsIn (takes_levels line) set line.arguments (first_known files line 1) (Err text)
     → AndThen (WhereKnown (λ b. Just (read b)) (files (file_at line 0))) (λ a. AndThen (WhereKnown (after a) None) (last a)) (Err text))
     → IsOverTwo line set limit then_limit read after last
 over_two line set limit then_limit read after last holds sized count each denotes refuses =
@@ -99,10 +100,10 @@ over_two line set limit then_limit read after last holds sized count each denote
       holds = holds;
       named = named;
       calls = λ files. calls_are line set holds sized files (file_at line 0 ∷ file_at line 1 ∷ []) named ∙ each files (file_at line 0) (file_at line 1);
-      denoted = λ bytes r read. subst (λ s. ContentsIn (takes_levels line) s line.given (λ k. Some (bytes k)) r) (sym holds) (denotes bytes r read);
+      denoted = λ bytes r read. subst (λ s. ContentsIn (takes_levels line) s line.arguments (λ k. Some (bytes k)) r) (sym holds) (denotes bytes r read);
       refused = λ files (text, is). known_refused files (file_at line 0) (λ b. Just (read b)) (λ a. AndThen (WhereKnown (after a) None) (last a)) text
           (λ a more. unknown (after a) (last a) text more)
-          (refuses files text (subst (λ s. ContentsIn (takes_levels line) s line.given (first_known files line 1) (Err text)) holds is));
+          (refuses files text (subst (λ s. ContentsIn (takes_levels line) s line.arguments (first_known files line 1) (Err text)) holds is));
     }
 
 module _ {D A B : Type 0} (bytes : D → Files) (faults : D → List ℕ → ℕ) (calls : D → ℕ) (line : Line) (set : FileSet) (limit then_limit : ℕ) (read : List ℕ → Result A (List ℕ))
@@ -204,10 +205,10 @@ pub over_three : {A B C : Type 0} (line : Line) (set : FileSet) (limit then_limi
     → file_set line ≡ set → IsSized line → length (file_names set) ≡ 3
     → ((files : Files) (f s t : List ℕ) → calls_of_each files (files_in set) (f ∷ s ∷ t ∷ []) ≡ calls_through limit (files f) ∷ calls_through then_limit (files s) ∷ calls_through last_limit (files t) ∷ [])
     → ((bytes : ℕ → List ℕ) (r : Result Contents (List ℕ)) → AndThen (Just (read (bytes 0))) (λ a. AndThen (Just (after a (bytes 1))) (λ b. AndThen (third (bytes 2)) (last a b))) r
-    → ContentsIn (takes_levels line) set line.given (λ k. Some (bytes k)) r)
-    → ((files : Files) (text : List ℕ) → ContentsIn (takes_levels line) set line.given (first_known files line 1) (Err text)
+    → ContentsIn (takes_levels line) set line.arguments (λ k. Some (bytes k)) r)
+    → ((files : Files) (text : List ℕ) → ContentsIn (takes_levels line) set line.arguments (first_known files line 1) (Err text)
     → AndThen (WhereKnown (λ b. Just (read b)) (files (file_at line 0))) (λ a. AndThen (WhereKnown (λ b. Just (after a b)) None) (λ b. AndThen (WhereKnown third None) (last a b))) (Err text))
-    → ((files : Files) (text : List ℕ) → ContentsIn (takes_levels line) set line.given (first_known files line 2) (Err text)
+    → ((files : Files) (text : List ℕ) → ContentsIn (takes_levels line) set line.arguments (first_known files line 2) (Err text)
     → AndThen (WhereKnown (λ b. Just (read b)) (files (file_at line 0))) (λ a. AndThen (WhereKnown (λ b. Just (after a b)) (files (file_at line 1))) (λ b. AndThen (WhereKnown third None) (last a b))) (Err text))
     → IsOverThree line set limit then_limit last_limit read after third last
 over_three line set limit then_limit last_limit read after third last holds sized count each denotes refuses then_refuses =
@@ -216,13 +217,13 @@ over_three line set limit then_limit last_limit read after third last holds size
       holds = holds;
       named = named;
       calls = λ files. calls_are line set holds sized files (file_at line 0 ∷ file_at line 1 ∷ file_at line 2 ∷ []) named ∙ each files (file_at line 0) (file_at line 1) (file_at line 2);
-      denoted = λ bytes r read. subst (λ s. ContentsIn (takes_levels line) s line.given (λ k. Some (bytes k)) r) (sym holds) (denotes bytes r read);
+      denoted = λ bytes r read. subst (λ s. ContentsIn (takes_levels line) s line.arguments (λ k. Some (bytes k)) r) (sym holds) (denotes bytes r read);
       refused = λ files (text, is). known_refused files (file_at line 0) (λ b. Just (read b)) (λ a. AndThen (WhereKnown (λ b. Just (after a b)) None) (λ b. AndThen (WhereKnown third None) (last a b))) text
           (λ a more. unknown (λ b. Just (after a b)) (λ b. AndThen (WhereKnown third None) (last a b)) text more)
-          (refuses files text (subst (λ s. ContentsIn (takes_levels line) s line.given (first_known files line 1) (Err text)) holds is));
+          (refuses files text (subst (λ s. ContentsIn (takes_levels line) s line.arguments (first_known files line 1) (Err text)) holds is));
       then_refused = λ files (text, is).
           elim (known_before files (file_at line 0) (λ b. Just (read b)) (λ a. AndThen (WhereKnown (λ b. Just (after a b)) (files (file_at line 1))) (λ b. AndThen (WhereKnown third None) (last a b))) text
-          (then_refuses files text (subst (λ s. ContentsIn (takes_levels line) s line.given (first_known files line 2) (Err text)) holds is))) [
+          (then_refuses files text (subst (λ s. ContentsIn (takes_levels line) s line.arguments (first_known files line 2) (Err text)) holds is))) [
             | inl one ↦ inl one
             | inr (a, taken, more) ↦ inr (a, taken, known_refused files (file_at line 1) (λ b. Just (after a b)) (λ b. AndThen (WhereKnown third None) (last a b)) text (λ b still. unknown third (last a b) text still) more)
           ];

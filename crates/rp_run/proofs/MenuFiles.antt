@@ -5,7 +5,7 @@ use Rattle.rp_patch.specs.declared.apportionment.Units.{Units}
 use Rattle.rp_run.specs.Answers.{Files}
 use Rattle.rp_patch.specs.Apportionment.{SaysWhyNoUnits, grouped}
 use Rattle.rp_patch.specs.declared.fault.ApportionFault.TheVariants.{NeedUnit}
-use Rattle.rp_run.specs.Causes.{HoldsValue, IsFileCause, IsReadingCause, IsRefusal}
+use Rattle.rp_run.specs.InnerCauses.{HoldsValue, IsFileCause, IsReadingCause, IsRefusal}
 use Rattle.rp_run.specs.Endings.{Rose}
 use Rattle.rp_run.specs.InnerLoadings.{LoadsFile}
 use Rattle.rp_run.specs.MenuContents.{MenusIn, MenusOf, UnitsOf, need_unit_line}

@@ -11,7 +11,7 @@ use Rattle.rp_json.proofs.ItemListLemmas.{denoted_once}
 use Rattle.rp_table.specs.BudgetLists.{BudgetList}
 use Rattle.rp_table.specs.ChoiceLists.{ChoiceList}
 use Rattle.rp_text.specs.Denotation.{budgets_in, bundles_beside, choices_on, prices_beside}
-use Rattle.rp_patch.specs.Choices.{RandomInput, input_of}
+use Rattle.rp_patch.specs.Choices.{RandomInput, random_input_of}
 use Rattle.rp_patch.specs.Patches.{IsPatchList, PatchList}
 use Rattle.rp_patch.specs.Types.{AreRationalTypes}
 use Rattle.rp_patch.specs.Units.{ArePatchesOf}
@@ -21,7 +21,7 @@ use Rattle.rp_run.specs.FaultLines.{file_line, patch_line, types_line}
 use Rattle.rp_run.specs.FaultTexts.{json_fault_text}
 use Rattle.rp_types.specs.Listed.{types_of}
 use Rattle.rp_types.specs.declared.types.Rational.{Rational}
-use Rattle.rp_words.specs.CommandLine.{Given, Line, file, file_set, takes_levels}
+use Rattle.rp_words.specs.CommandLine.{Arguments, Line, file, file_set, takes_levels}
 use Rattle.rp_words.specs.declared.commands.FileSet.{FileSet}
 use Rattle.rp_words.specs.declared.commands.FileSet.TheVariants as files
 use Rattle.rp_run.specs.declared.contents.Contents.{Contents}
@@ -143,44 +143,44 @@ module _
 
     typed_one : (budgets : BudgetList) (choices : ChoiceList) (per : Option ℕ) → GivesOne (TypedPatchesOf budgets choices per)
     typed_one budgets choices per =
-        then_one (PatchesOf (input_of budgets choices) per) (λ p. AndThen (TypesOf p) (λ types. Just (Ok (p, types))))
-        (patches_one (input_of budgets choices) per) (λ p. over_one (TypesOf p) (λ types. (p, types)) (types_one p))
+        then_one (PatchesOf (random_input_of budgets choices) per) (λ p. AndThen (TypesOf p) (λ types. Just (Ok (p, types))))
+        (patches_one (random_input_of budgets choices) per) (λ p. over_one (TypesOf p) (λ types. (p, types)) (types_one p))
 
-    denoted_one : (takes : Bool) (set : FileSet) (given : Given) (bytes : ℕ → List ℕ) → GivesOne (ContentsIn takes set given (λ k. Some (bytes k)))
-    denoted_one takes files.Nothing given bytes = just_one (Ok contents.Nothing)
-    denoted_one takes files.Table given bytes = one_file (taken_table takes (file given 0) (bytes 0)) contents.Table
-    denoted_one takes files.TableAndCertificate given bytes =
-        let first = taken_table takes (file given 0) (bytes 0) in
-        let second = CertificateIn (file given 1) TableKind (bytes 1) in
+    denoted_one : (takes : Bool) (set : FileSet) (arguments : Arguments) (bytes : ℕ → List ℕ) → GivesOne (ContentsIn takes set arguments (λ k. Some (bytes k)))
+    denoted_one takes files.Nothing arguments bytes = just_one (Ok contents.Nothing)
+    denoted_one takes files.Table arguments bytes = one_file (taken_table takes (file arguments 0) (bytes 0)) contents.Table
+    denoted_one takes files.TableAndCertificate arguments bytes =
+        let first = taken_table takes (file arguments 0) (bytes 0) in
+        let second = CertificateIn (file arguments 1) TableKind (bytes 1) in
         then_one (Just first) (λ t. AndThen second (λ c. Just (Ok (contents.TableAndCertificate t c)))) (just_one first)
-        (λ t. over_one second (contents.TableAndCertificate t) (certificate_one (file given 1) TableKind (bytes 1)))
-    denoted_one takes files.TableAndPricesWithExpenditure given bytes =
-        two_files (taken_table takes (file given 0) (bytes 0)) (λ t. numbers_in (file given 1) (prices_beside true t) (bytes 1)) contents.TableAndPricesWithExpenditure
-    denoted_one takes files.TableAndPrices given bytes =
-        two_files (taken_table takes (file given 0) (bytes 0)) (λ t. numbers_in (file given 1) (prices_beside false t) (bytes 1)) contents.TableAndPrices
-    denoted_one takes files.TableAndBundles given bytes =
-        two_files (taken_table takes (file given 0) (bytes 0)) (λ t. numbers_in (file given 1) (bundles_beside t) (bytes 1)) contents.TableAndBundles
-    denoted_one takes files.Choices given bytes =
-        let first = numbers_in (file given 0) budgets_in (bytes 0) in
-        let second = λ (b : BudgetList). numbers_in (file given 1) (choices_on b) (bytes 1) in
-        let made = λ (b : BudgetList) (c : ChoiceList). AndThen (TypedPatchesOf b c given.per) (λ made. Just (Ok (contents.Choices made.0 made.1))) in
+        (λ t. over_one second (contents.TableAndCertificate t) (certificate_one (file arguments 1) TableKind (bytes 1)))
+    denoted_one takes files.TableAndPricesWithExpenditure arguments bytes =
+        two_files (taken_table takes (file arguments 0) (bytes 0)) (λ t. numbers_in (file arguments 1) (prices_beside true t) (bytes 1)) contents.TableAndPricesWithExpenditure
+    denoted_one takes files.TableAndPrices arguments bytes =
+        two_files (taken_table takes (file arguments 0) (bytes 0)) (λ t. numbers_in (file arguments 1) (prices_beside false t) (bytes 1)) contents.TableAndPrices
+    denoted_one takes files.TableAndBundles arguments bytes =
+        two_files (taken_table takes (file arguments 0) (bytes 0)) (λ t. numbers_in (file arguments 1) (bundles_beside t) (bytes 1)) contents.TableAndBundles
+    denoted_one takes files.Choices arguments bytes =
+        let first = numbers_in (file arguments 0) budgets_in (bytes 0) in
+        let second = λ (b : BudgetList). numbers_in (file arguments 1) (choices_on b) (bytes 1) in
+        let made = λ (b : BudgetList) (c : ChoiceList). AndThen (TypedPatchesOf b c arguments.per) (λ made. Just (Ok (contents.Choices made.0 made.1))) in
         then_one (Just first) (λ b. AndThen (Just (second b)) (made b)) (just_one first)
         (λ b. then_one (Just (second b)) (made b) (just_one (second b))
-        (λ c. over_one (TypedPatchesOf b c given.per) (λ made. contents.Choices made.0 made.1) (typed_one b c given.per)))
-    denoted_one takes files.ChoicesAndCertificate given bytes =
-        let first = numbers_in (file given 0) budgets_in (bytes 0) in
-        let second = λ (b : BudgetList). numbers_in (file given 1) (choices_on b) (bytes 1) in
-        let third = CertificateIn (file given 2) RandomKind (bytes 2) in
+        (λ c. over_one (TypedPatchesOf b c arguments.per) (λ made. contents.Choices made.0 made.1) (typed_one b c arguments.per)))
+    denoted_one takes files.ChoicesAndCertificate arguments bytes =
+        let first = numbers_in (file arguments 0) budgets_in (bytes 0) in
+        let second = λ (b : BudgetList). numbers_in (file arguments 1) (choices_on b) (bytes 1) in
+        let third = CertificateIn (file arguments 2) RandomKind (bytes 2) in
         let made = λ (b : BudgetList) (c : ChoiceList) (read : Certificate).
-        AndThen (TypedPatchesOf b c given.per) (λ made. Just (Ok (contents.ChoicesAndCertificate made.0 made.1 read))) in
+        AndThen (TypedPatchesOf b c arguments.per) (λ made. Just (Ok (contents.ChoicesAndCertificate made.0 made.1 read))) in
         then_one (Just first) (λ b. AndThen (Just (second b)) (λ c. AndThen third (made b c))) (just_one first)
         (λ b. then_one (Just (second b)) (λ c. AndThen third (made b c)) (just_one (second b))
-        (λ c. then_one third (made b c) (certificate_one (file given 2) RandomKind (bytes 2))
-        (λ read. over_one (TypedPatchesOf b c given.per) (λ made. contents.ChoicesAndCertificate made.0 made.1 read) (typed_one b c given.per))))
-    denoted_one takes files.Menus given bytes =
-        over_one (MenusIn given.per (file given 0) (bytes 0)) (λ made. contents.Menus made.0 made.1) (menus_one given.per (file given 0) (bytes 0))
-    denoted_one takes files.TechnologyAndAsked given bytes =
-        two_files (numbers_in (file given 0) tech_in (bytes 0)) (λ t. numbers_in (file given 1) (asked_beside t) (bytes 1)) contents.TechnologyAndAsked
+        (λ c. then_one third (made b c) (certificate_one (file arguments 2) RandomKind (bytes 2))
+        (λ read. over_one (TypedPatchesOf b c arguments.per) (λ made. contents.ChoicesAndCertificate made.0 made.1 read) (typed_one b c arguments.per))))
+    denoted_one takes files.Menus arguments bytes =
+        over_one (MenusIn arguments.per (file arguments 0) (bytes 0)) (λ made. contents.Menus made.0 made.1) (menus_one arguments.per (file arguments 0) (bytes 0))
+    denoted_one takes files.TechnologyAndAsked arguments bytes =
+        two_files (numbers_in (file arguments 0) tech_in (bytes 0)) (λ t. numbers_in (file arguments 1) (asked_beside t) (bytes 1)) contents.TechnologyAndAsked
 
     pub denotes_one : (line : Line) (bytes : ℕ → List ℕ) → GivesOne (Denotes line bytes)
-    denotes_one line bytes = denoted_one (takes_levels line) (file_set line) line.given bytes
+    denotes_one line bytes = denoted_one (takes_levels line) (file_set line) line.arguments bytes

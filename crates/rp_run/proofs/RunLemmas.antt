@@ -3,7 +3,7 @@ use Rattle.std.proofs.Common.{◌≡◌, ◌⊎◌, ◌<◌, inl, inr, List, [],
 use Rattle.std.specs.List.{Contains}
 use Rattle.std.proofs.lemmas.List.Elements.{Contains-get_or}
 use Rattle.rp_words.specs.CommandLine.{Line, file_at, files_of}
-use Rattle.rp_words.specs.CommandLine.{Given}
+use Rattle.rp_words.specs.CommandLine.{Arguments}
 use Rattle.rp_words.specs.declared.commands.Command.{Command}
 use Rattle.rp_words.specs.declared.commands.Command.TheVariants.{Check, CheckRandom}
 use Rattle.rp_run.specs.declared.contents.Contents.{Contents}
@@ -13,8 +13,8 @@ use Rattle.rp_types.proofs.Determined.{types_once}
 use Rattle.rp_run.proofs.OneAnswer.{denotes_one}
 use Rattle.rp_run.specs.Contents.{Denotes}
 use Rattle.rp_agreement.proofs.OneFinding.{only_accepted}
-use Rattle.rp_check.specs.CheckVerdict.{IsVerdictOn}
-use Rattle.rp_check.specs.RandomVerdict.{IsRandomVerdictOn}
+use Rattle.rp_check.specs.CheckVerdict.{IsCheckVerdict}
+use Rattle.rp_check.specs.RandomCheckVerdict.{IsRandomCheckVerdict}
 use Rattle.rp_agreement.proofs.OneRandomFinding.{only_accepted_on_patches}
 use Rattle.rp_patch.specs.Patches.{PatchList}
 use Rattle.rp_types.specs.declared.types.Rational.{Rational}
@@ -29,7 +29,7 @@ use Rattle.rp_outside.specs.Faults.{HasRisen}
 use Rattle.rp_outside.specs.Known.{Grows, GrowsByPrefix}
 use Rattle.rp_run.specs.Calls.{IsWritten}
 use Rattle.rp_run.specs.Endings.{IsEnd, IsSilent, Rose, NoneRose}
-use Rattle.rp_run.specs.Causes.{status_of_cause, IsCause}
+use Rattle.rp_run.specs.InnerCauses.{status_of_cause, IsCause}
 use Rattle.rp_answers.specs.declared.status.Status.{Status}
 use Rattle.rp_answers.specs.declared.status.Status.TheVariants as status
 use Rattle.rp_run.specs.declared.files.Cause.{Cause}
@@ -81,7 +81,7 @@ cause_of_calm files before after asks asked line other NoMemory is also calm non
 check_rejected : (table : Observations) (certificate : Certificate) (text : List ℕ) → IsTableCheck table certificate status.Rejected text → IsRejectedOver (contents.TableAndCertificate table certificate)
 check_rejected table certificate text answers = go answers.verdict answers.found answers.ends
   where
-    go : (verdict : Verdict) → IsVerdictOn (input_of_table table) certificate.levels certificate.items verdict → status.Rejected ≡ verdict_status verdict → IsRejectedOver (contents.TableAndCertificate table certificate)
+    go : (verdict : Verdict) → IsCheckVerdict (input_of_table table) certificate.levels certificate.items verdict → status.Rejected ≡ verdict_status verdict → IsRejectedOver (contents.TableAndCertificate table certificate)
     go Accepted found ends = absurd cc
     go (Rejected item reason place) found ends = (item, reason, place, found)
 
@@ -89,17 +89,17 @@ random_check_rejected : (patches : PatchList) (types : List Rational) (certifica
     → IsRejectedOver (contents.ChoicesAndCertificate patches types certificate)
 random_check_rejected patches types certificate text answers = go answers.verdict answers.found answers.ends
   where
-    go : (verdict : Verdict) → IsRandomVerdictOn patches certificate.items verdict → status.Rejected ≡ verdict_status verdict → IsRejectedOver (contents.ChoicesAndCertificate patches types certificate)
+    go : (verdict : Verdict) → IsRandomCheckVerdict patches certificate.items verdict → status.Rejected ≡ verdict_status verdict → IsRejectedOver (contents.ChoicesAndCertificate patches types certificate)
     go Accepted found ends = absurd cc
     go (Rejected item reason place) found ends = (item, reason, place, found)
 
 done_apart_rejected : status.Rejected ≡ status.Done → ⊥
 done_apart_rejected wrong = cc
 
-pub answer_rejected : (command : Command) (given : Given) (held : Contents) (text : List ℕ) → Answers command given held status.Rejected text → IsRejectedOver held
-answer_rejected Check given (contents.TableAndCertificate table certificate) text answers = check_rejected table certificate text answers
-answer_rejected CheckRandom given (contents.ChoicesAndCertificate patches types certificate) text answers = random_check_rejected patches types certificate text answers
-answer_rejected _ given _ text answers = absurd (done_apart_rejected answers.0)
+pub answer_rejected : (command : Command) (arguments : Arguments) (held : Contents) (text : List ℕ) → Answers command arguments held status.Rejected text → IsRejectedOver held
+answer_rejected Check arguments (contents.TableAndCertificate table certificate) text answers = check_rejected table certificate text answers
+answer_rejected CheckRandom arguments (contents.ChoicesAndCertificate patches types certificate) text answers = random_check_rejected patches types certificate text answers
+answer_rejected _ arguments _ text answers = absurd (done_apart_rejected answers.0)
 
 -- what is accepted is not rejected
 pub accepted_apart : (held : Contents) → IsAcceptedOver held → IsRejectedOver held → ⊥
@@ -113,7 +113,7 @@ accepted_apart _ accepted rejected = accepted
 check_done : (table : Observations) (certificate : Certificate) (text : List ℕ) → IsTableCheck table certificate status.Done text → IsAcceptedOver (contents.TableAndCertificate table certificate)
 check_done table certificate text answers = go answers.verdict answers.found answers.ends
   where
-    go : (verdict : Verdict) → IsVerdictOn (input_of_table table) certificate.levels certificate.items verdict → status.Done ≡ verdict_status verdict → IsAcceptedOver (contents.TableAndCertificate table certificate)
+    go : (verdict : Verdict) → IsCheckVerdict (input_of_table table) certificate.levels certificate.items verdict → status.Done ≡ verdict_status verdict → IsAcceptedOver (contents.TableAndCertificate table certificate)
     go Accepted found ends = found
     go (Rejected item reason place) found ends = absurd cc
 
@@ -121,51 +121,51 @@ random_check_done : (patches : PatchList) (types : List Rational) (certificate :
     → IsAcceptedOver (contents.ChoicesAndCertificate patches types certificate)
 random_check_done patches types certificate text answers = go answers.verdict answers.found answers.ends
   where
-    go : (verdict : Verdict) → IsRandomVerdictOn patches certificate.items verdict → status.Done ≡ verdict_status verdict → IsAcceptedOver (contents.ChoicesAndCertificate patches types certificate)
+    go : (verdict : Verdict) → IsRandomCheckVerdict patches certificate.items verdict → status.Done ≡ verdict_status verdict → IsAcceptedOver (contents.ChoicesAndCertificate patches types certificate)
     go Accepted found ends = found
     go (Rejected item reason place) found ends = absurd cc
 
-pub done_apart : (command : Command) (given : Given) (held : Contents) (text : List ℕ) → Answers command given held status.Done text → IsRejectedOver held → ⊥
-done_apart Check given (contents.TableAndCertificate table certificate) text answers rejected =
+pub done_apart : (command : Command) (arguments : Arguments) (held : Contents) (text : List ℕ) → Answers command arguments held status.Done text → IsRejectedOver held → ⊥
+done_apart Check arguments (contents.TableAndCertificate table certificate) text answers rejected =
     accepted_apart (contents.TableAndCertificate table certificate) (check_done table certificate text answers) rejected
-done_apart CheckRandom given (contents.ChoicesAndCertificate patches types certificate) text answers rejected =
+done_apart CheckRandom arguments (contents.ChoicesAndCertificate patches types certificate) text answers rejected =
     accepted_apart (contents.ChoicesAndCertificate patches types certificate) (random_check_done patches types certificate text answers) rejected
-done_apart _ given (contents.TableAndCertificate table certificate) text answers rejected = answers.1
-done_apart _ given (contents.ChoicesAndCertificate patches types certificate) text answers rejected = answers.1
-done_apart _ given _ text answers rejected = rejected
+done_apart _ arguments (contents.TableAndCertificate table certificate) text answers rejected = answers.1
+done_apart _ arguments (contents.ChoicesAndCertificate patches types certificate) text answers rejected = answers.1
+done_apart _ arguments _ text answers rejected = rejected
 
 -- the same of lines that were asked
 pub line_rejected : (files : Files) (asked : Option Line) (line : Line) (s : Status) (text : List ℕ) → asked ≡ Some line → AnswersLine files line s text → s ≡ status.Rejected
     → (other : Line) × (asked ≡ Some other) × MayBe IsRejectedOver files other
 line_rejected files asked line s text is (held, has, answers) rejected =
-    (line, is, (held, has, answer_rejected line.command line.given held text (subst (λ t. Answers line.command line.given held t text) rejected answers)))
+    (line, is, (held, has, answer_rejected line.command line.arguments held text (subst (λ t. Answers line.command line.arguments held t text) rejected answers)))
 
 pub done_line_apart : (files : Files) (asked : Option Line) (line other : Line) (s : Status) (text : List ℕ) → asked ≡ Some line → asked ≡ Some other
     → AnswersLine files line s text → MustBe IsRejectedOver files other → s ≡ status.Done → ⊥
 done_line_apart files asked line other s text is also (held, (bytes, are, denoted), answers) must done =
     let same : line ≡ other = cc in
     let rejected = subst (λ (l : Line). MustBe IsRejectedOver files l) (sym same) must bytes are held denoted in
-    done_apart line.command line.given held text (subst (λ t. Answers line.command line.given held t text) done answers) rejected
+    done_apart line.command line.arguments held text (subst (λ t. Answers line.command line.arguments held t text) done answers) rejected
 
 pub rejected_line_apart : (files : Files) (asked : Option Line) (line other : Line) (s : Status) (text : List ℕ) → asked ≡ Some line → asked ≡ Some other
     → AnswersLine files line s text → MustBe IsAcceptedOver files other → s ≡ status.Rejected → ⊥
 rejected_line_apart files asked line other s text is also (held, (bytes, are, denoted), answers) must rejected =
     let same : line ≡ other = cc in
     let accepted = subst (λ (l : Line). MustBe IsAcceptedOver files l) (sym same) must bytes are held denoted in
-    accepted_apart held accepted (answer_rejected line.command line.given held text (subst (λ t. Answers line.command line.given held t text) rejected answers))
+    accepted_apart held accepted (answer_rejected line.command line.arguments held text (subst (λ t. Answers line.command line.arguments held t text) rejected answers))
 
 verdict_ends : (verdict : Verdict) → IsEnd (verdict_status verdict)
 verdict_ends Accepted = tt
 verdict_ends (Rejected item reason place) = tt
 
 -- an answer ends with one of two statuses
-pub answer_ends : (command : Command) (given : Given) (held : Contents) (s : Status) (text : List ℕ) → Answers command given held s text → IsEnd s
-answer_ends Check given (contents.TableAndCertificate table certificate) s text answers = rw answers.ends (verdict_ends answers.verdict)
-answer_ends CheckRandom given (contents.ChoicesAndCertificate patches types certificate) s text answers = rw answers.ends (verdict_ends answers.verdict)
-answer_ends _ given _ s text answers = rw answers.0 tt
+pub answer_ends : (command : Command) (arguments : Arguments) (held : Contents) (s : Status) (text : List ℕ) → Answers command arguments held s text → IsEnd s
+answer_ends Check arguments (contents.TableAndCertificate table certificate) s text answers = rw answers.ends (verdict_ends answers.verdict)
+answer_ends CheckRandom arguments (contents.ChoicesAndCertificate patches types certificate) s text answers = rw answers.ends (verdict_ends answers.verdict)
+answer_ends _ arguments _ s text answers = rw answers.0 tt
 
 pub line_ends : (files : Files) (line : Line) (s : Status) (text : List ℕ) → AnswersLine files line s text → IsEnd s
-line_ends files line s text answers = answer_ends line.command line.given answers.0 s text answers.2
+line_ends files line s text answers = answer_ends line.command line.arguments answers.0 s text answers.2
 
 -- a status that is an end is not silent
 end_not_silent : (s : Status) → IsEnd s → IsSilent s → ⊥

@@ -2,24 +2,24 @@
 use Rattle.std.proofs.Common.{◌≡◌, ◌⊎◌, ◌≤◌, ◌+◌, ℕ, zero, suc, Bool, List, [], ◌∷◌, Some, None, Option, Result, Ok, Err, inl, inr, length, sum, take, subst, arith, refl}
 use Rattle.std.specs.List.{fold}
 use Rattle.rp_outside.specs.Reads.{calls_through}
-use Rattle.rp_words.specs.CommandLine.{Given, Line, file_set, files_of, takes_levels}
+use Rattle.rp_words.specs.CommandLine.{Arguments, Line, file_set, files_of, takes_levels}
 use Rattle.rp_words.specs.declared.commands.FileSet.{FileSet}
 use Rattle.rp_words.specs.declared.commands.FileSet.TheVariants.{Nothing}
 use Rattle.rp_run.specs.declared.contents.Contents.{Contents}
 use Rattle.rp_run.specs.Answers.{Files}
-use Rattle.rp_run.specs.Causes.{HoldsValue}
+use Rattle.rp_run.specs.InnerCauses.{HoldsValue}
 use Rattle.rp_run.specs.Contents.{ContentsIn}
 use Rattle.rp_run.specs.Readings.{AndThen, Just, Reading, WhereKnown}
 use Rattle.rp_run.specs.Turns.{AreReadInTurn, AreRefused, AsksForFirst, calls_of_files, first_known}
 
 -- where the first file is not known, nothing is refused
-none_known : (takes : Bool) (set : FileSet) (given : Given) (known : ℕ → Option (List ℕ)) (text : List ℕ) → known 0 ≡ None → ContentsIn takes set given known (Err text) → ⊥
-none_known takes Nothing given known text is refused = cc
-none_known takes _ given known text is (inl refused) = let no = rw is at refused in no
-none_known takes _ given known text is (inr (value, taken, more)) = let no = rw is at taken in no
+none_known : (takes : Bool) (set : FileSet) (arguments : Arguments) (known : ℕ → Option (List ℕ)) (text : List ℕ) → known 0 ≡ None → ContentsIn takes set arguments known (Err text) → ⊥
+none_known takes Nothing arguments known text is refused = cc
+none_known takes _ arguments known text is (inl refused) = let no = rw is at refused in no
+none_known takes _ arguments known text is (inr (value, taken, more)) = let no = rw is at taken in no
 
 none_refused : (files : Files) (line : Line) → AreRefused files line 0 → ⊥
-none_refused files line (text, refused) = none_known (takes_levels line) (file_set line) line.given (first_known files line 0) text refl refused
+none_refused files line (text, refused) = none_known (takes_levels line) (file_set line) line.arguments (first_known files line 0) text refl refused
 
 -- where nothing is asked for
 pub unread : (files : Files) (count : ℕ) (line : Line) → AreReadInTurn files count count line

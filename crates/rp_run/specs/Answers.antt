@@ -3,8 +3,8 @@
 use Rattle.std.specs.Prelude.{◌≡◌, ℕ, ◌<◌, true, false, List, length, Option, Some, Ok, Err}
 use Rattle.rp_outside.specs.Known.{AreAll}
 use Rattle.rp_outside.specs.SureDesk.{SureState, bytes_or_none}
-use Rattle.rp_check.specs.CheckVerdict.{IsVerdictOn}
-use Rattle.rp_check.specs.RandomVerdict.{IsRandomVerdictOn}
+use Rattle.rp_check.specs.CheckVerdict.{IsCheckVerdict}
+use Rattle.rp_check.specs.RandomCheckVerdict.{IsRandomCheckVerdict}
 use Rattle.rp_check.specs.declared.verdict.Verdict.TheVariants.{Accepted, Rejected}
 use Rattle.rp_evidence.specs.Input.{input_of_table}
 use Rattle.rp_evidence.specs.declared.failure.Reason.{Reason}
@@ -21,7 +21,7 @@ use Rattle.rp_answers.specs.PumpText.{IsPumpText}
 use Rattle.rp_answers.specs.CostText.{IsCostText}
 use Rattle.rp_answers.specs.PowerText.{IsPowerText}
 use Rattle.rp_answers.specs.Typed.{typed}
-use Rattle.rp_words.specs.CommandLine.{Given, Line, files_of, file_at, number}
+use Rattle.rp_words.specs.CommandLine.{Arguments, Line, files_of, file_at, number}
 use Rattle.rp_words.specs.declared.commands.Command.{Command}
 use Rattle.rp_words.specs.declared.commands.Command.TheVariants.{Pairs, Analyse, Certify, Check, Demand, Welfare}
 use Rattle.rp_words.specs.declared.commands.Command.TheVariants.{Utility}
@@ -45,27 +45,29 @@ abbrev pub AreContents : Files → Line → (ℕ → List ℕ) → Type 0
 AreContents files line bytes = (k : ℕ) → k < length (files_of line) → AreAll (files (file_at line k)) (bytes k)
 
 -- the text that answers a command which is no check, over what was given to it and what its files hold
-abbrev pub IsText : Command → Given → Contents → List ℕ → Type 0
-IsText Pairs given (contents.Table table) text = IsPairsText table text
-IsText Analyse given (contents.Table table) text = IsAnalysisText false table text
-IsText Certify given (contents.Table table) text = IsAnalysisText true table text
-IsText Demand given (contents.TableAndPricesWithExpenditure table new) text = IsDemandText given.json table new text
-IsText Welfare given (contents.TableAndPrices table new) text = IsWelfareText given.json table new text
-IsText Utility given (contents.TableAndBundles table bundles) text = IsUtilityText table bundles text
-IsText Random given (contents.Choices patches types) text = IsRandomText given.json (typed patches types) text
-IsText Trial given contents.Nothing text = IsTrialText (number given 0) (number given 1) (number given 2) text
-IsText Menus given (contents.Menus list units) text = IsMenusText given.per list units text
-IsText Pump given (contents.Table table) text = IsPumpText table text
-IsText Cost given (contents.TechnologyAndAsked tech asked) text = IsCostText tech asked text
-IsText Power given (contents.Table table) text = IsPowerText table (number given 0) (number given 1) text
-IsText _ given _ text = ⊥
+abbrev pub IsText : Command → Arguments → Contents → List ℕ → Type 0
+IsText Pairs arguments (contents.Table table) text = IsPairsText table text
+IsText Analyse arguments (contents.Table table) text = IsAnalysisText false table text
+IsText Certify arguments (contents.Table table) text = IsAnalysisText true table text
+IsText Demand arguments (contents.TableAndPricesWithExpenditure table new) text =
+    IsDemandText arguments.json table new text
+IsText Welfare arguments (contents.TableAndPrices table new) text = IsWelfareText arguments.json table new text
+IsText Utility arguments (contents.TableAndBundles table bundles) text = IsUtilityText table bundles text
+IsText Random arguments (contents.Choices patches types) text = IsRandomText arguments.json (typed patches types) text
+IsText Trial arguments contents.Nothing text =
+    IsTrialText (number arguments 0) (number arguments 1) (number arguments 2) text
+IsText Menus arguments (contents.Menus list units) text = IsMenusText arguments.per list units text
+IsText Pump arguments (contents.Table table) text = IsPumpText table text
+IsText Cost arguments (contents.TechnologyAndAsked tech asked) text = IsCostText tech asked text
+IsText Power arguments (contents.Table table) text = IsPowerText table (number arguments 0) (number arguments 1) text
+IsText _ arguments _ text = ⊥
 
 -- the text and the status that answer a command
-abbrev pub Answers : Command → Given → Contents → Status → List ℕ → Type 0
-Answers Check given (contents.TableAndCertificate table certificate) s text = IsTableCheck table certificate s text
-Answers CheckRandom given (contents.ChoicesAndCertificate patches types certificate) s text =
+abbrev pub Answers : Command → Arguments → Contents → Status → List ℕ → Type 0
+Answers Check arguments (contents.TableAndCertificate table certificate) s text = IsTableCheck table certificate s text
+Answers CheckRandom arguments (contents.ChoicesAndCertificate patches types certificate) s text =
     IsRandomCheck patches certificate s text
-Answers command given held s text = (s ≡ status.Done) × IsText command given held text
+Answers command arguments held s text = (s ≡ status.Done) × IsText command arguments held text
 
 -- some bytes of a line's files denote these contents
 abbrev pub HasContents : Files → Line → Contents → Type 0
@@ -74,11 +76,11 @@ HasContents files line held = (bytes : ℕ → List ℕ) × AreContents files li
 -- the text and the status answer a line, over some content of its files
 abbrev pub AnswersLine : Files → Line → Status → List ℕ → Type 0
 AnswersLine files line s text = (held : Contents) × HasContents files line held
-    × Answers line.command line.given held s text
+    × Answers line.command line.arguments held s text
 
--- the text and the status answer what is asked
-abbrev pub AnswersAsked : Files → Option Line → Status → List ℕ → Type 0
-AnswersAsked files asked s text = (line : Line) × (asked ≡ Some line) × AnswersLine files line s text
+-- the text and the status answer the line that the words denote
+abbrev pub AnswersDenoted : Files → Option Line → Status → List ℕ → Type 0
+AnswersDenoted files denoted s text = (line : Line) × (denoted ≡ Some line) × AnswersLine files line s text
 
 -- some content of a line's files is refused with that line of text
 abbrev pub RefusesWith : Files → Line → List ℕ → Type 0
@@ -98,18 +100,18 @@ IsRefused files line = (bytes : ℕ → List ℕ) → AreContents files line byt
 abbrev pub IsRejectedOver : Contents → Type 0
 IsRejectedOver (contents.TableAndCertificate table certificate) =
     (item : ℕ) × (reason : Reason) × (place : ℕ)
-    × IsVerdictOn (input_of_table table) certificate.levels certificate.items (Rejected item reason place)
+    × IsCheckVerdict (input_of_table table) certificate.levels certificate.items (Rejected item reason place)
 IsRejectedOver (contents.ChoicesAndCertificate patches types certificate) =
     (item : ℕ) × (reason : Reason) × (place : ℕ)
-    × IsRandomVerdictOn patches certificate.items (Rejected item reason place)
+    × IsRandomCheckVerdict patches certificate.items (Rejected item reason place)
 IsRejectedOver _ = ⊥
 
 -- there is a certificate among the contents, and the checker accepts it
 abbrev pub IsAcceptedOver : Contents → Type 0
 IsAcceptedOver (contents.TableAndCertificate table certificate) =
-    IsVerdictOn (input_of_table table) certificate.levels certificate.items Accepted
+    IsCheckVerdict (input_of_table table) certificate.levels certificate.items Accepted
 IsAcceptedOver (contents.ChoicesAndCertificate patches types certificate) =
-    IsRandomVerdictOn patches certificate.items Accepted
+    IsRandomCheckVerdict patches certificate.items Accepted
 IsAcceptedOver _ = ⊥
 
 -- some content of a line's files denotes such contents

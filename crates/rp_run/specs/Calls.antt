@@ -6,46 +6,46 @@ use Rattle.rp_outside.specs.Known.{Stays, Grows, GrowsByPrefix}
 use Rattle.rp_words.specs.CommandLine.{Line}
 use Rattle.rp_answers.specs.declared.status.Status.{Status}
 use Rattle.rp_answers.specs.declared.status.Status.TheVariants.{Done, Rejected, Usage, WriteFault, NoMemory}
-use Rattle.rp_run.specs.Answers.{AnswersAsked, Files, IsAcceptedOver, IsRejectedOver, MayBe, MustBe}
+use Rattle.rp_run.specs.Answers.{AnswersDenoted, Files, IsAcceptedOver, IsRejectedOver, MayBe, MustBe}
 use Rattle.rp_run.specs.Endings.{IsEnd, IsFaultLine, IsSilent}
 use Rattle.rp_run.specs.Gains.{Gains}
 use Rattle.rp_run.specs.Turns.{AreReadInTurn}
 
 -- the usage answers words that are no line, and no others
-pub record AnswersUsage (asked : Option Line) (result : Status) : Type 0 where
-  pub usage : result ≡ Usage → asked ≡ None
-  pub no_line : asked ≡ None → (result ≡ Usage) ⊎ (result ≡ NoMemory)
+pub record AnswersUsage (denoted : Option Line) (result : Status) : Type 0 where
+  pub usage : result ≡ Usage → denoted ≡ None
+  pub no_line : denoted ≡ None → (result ≡ Usage) ⊎ (result ≡ NoMemory)
 
 -- the answer, and what the output gains: `old` and `new` are its known bytes before and after, and the last two its
 -- counts of faults
-pub record IsWritten (files : Files) (asked : Option Line) (result : Status) (old new : Option (List ℕ))
+pub record IsWritten (files : Files) (denoted : Option Line) (result : Status) (old new : Option (List ℕ))
     (before after : ℕ) : Type 0 where
-  pub answered : IsEnd result → (text : List ℕ) × AnswersAsked files asked result text × Grows old new text
+  pub answered : IsEnd result → (text : List ℕ) × AnswersDenoted files denoted result text × Grows old new text
   pub cut_short : result ≡ WriteFault → (s : Status) × (text : List ℕ)
-      × AnswersAsked files asked s text × GrowsByPrefix old new text
+      × AnswersDenoted files denoted s text × GrowsByPrefix old new text
   pub silent : IsSilent result → Stays old new
   pub write_counted : result ≡ WriteFault → HasRisen before after
 
 -- the checker's verdict on a certificate
-pub record GivesVerdict (files : Files) (asked : Option Line) (result : Status) : Type 0 where
-  pub rejected : result ≡ Rejected → (line : Line) × (asked ≡ Some line) × MayBe IsRejectedOver files line
-  pub never_done : (line : Line) → asked ≡ Some line → MustBe IsRejectedOver files line → ¬ (result ≡ Done)
-  pub never_rejected : (line : Line) → asked ≡ Some line → MustBe IsAcceptedOver files line → ¬ (result ≡ Rejected)
+pub record GivesCheckVerdict (files : Files) (denoted : Option Line) (result : Status) : Type 0 where
+  pub rejected : result ≡ Rejected → (line : Line) × (denoted ≡ Some line) × MayBe IsRejectedOver files line
+  pub never_done : (line : Line) → denoted ≡ Some line → MustBe IsRejectedOver files line → ¬ (result ≡ Done)
+  pub never_rejected : (line : Line) → denoted ≡ Some line → MustBe IsAcceptedOver files line → ¬ (result ≡ Rejected)
 
 -- why there is no answer, and what standard error gains, by its known bytes and its counts of faults. `rose file` says
 -- that the count of faults of a file has risen, and `asks line n` that the desk was asked for no more than the first n
 -- files of a line
-pub record TellsWhy (files : Files) (rose : List ℕ → Type 0) (asks : Line → ℕ → Type 0) (asked : Option Line)
+pub record TellsWhy (files : Files) (rose : List ℕ → Type 0) (asks : Line → ℕ → Type 0) (denoted : Option Line)
     (result : Status) (old new : Option (List ℕ)) (before after : ℕ) : Type 0 where
   pub quiet : IsEnd result → Stays old new
   pub told : ¬ IsEnd result → (line : List ℕ)
-      × IsFaultLine files rose asks asked result line × Gains old new before after line
+      × IsFaultLine files rose asks denoted result line × Gains old new before after line
 
 -- how often the desk is asked for the files of the words, and in which order, from its count of calls before to that
 -- after
-pub record AsksInTurn (files : Files) (before after : ℕ) (asked : Option Line) : Type 0 where
-  pub in_turn : (line : Line) → asked ≡ Some line → AreReadInTurn files before after line
-  pub none_asked : asked ≡ None → after ≡ before
+pub record AsksInTurn (files : Files) (before after : ℕ) (denoted : Option Line) : Type 0 where
+  pub in_turn : (line : Line) → denoted ≡ Some line → AreReadInTurn files before after line
+  pub none_asked : denoted ≡ None → after ≡ before
 
 -- what stays: the bytes of every file are what they were, and no count of faults falls, of a file, of the output or of
 -- standard error, from those before to those after

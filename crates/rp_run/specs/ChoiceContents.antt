@@ -4,7 +4,7 @@ use Rattle.std.specs.Prelude.{◌≡◌, ◌≢◌, ◌≤◌, ℕ, Option, List
 use Rattle.rp_table.specs.BudgetLists.{BudgetList}
 use Rattle.rp_table.specs.ChoiceLists.{ChoiceList}
 use Rattle.rp_text.specs.Denotation.{budgets_in, choices_on}
-use Rattle.rp_patch.specs.Choices.{RandomInput, input_of}
+use Rattle.rp_patch.specs.Choices.{RandomInput, random_input_of}
 use Rattle.rp_patch.specs.Patches.{IsPatchList, PatchList}
 use Rattle.rp_patch.specs.Types.{AreRationalTypes, combinations}
 use Rattle.rp_patch.specs.Units.{ArePatchesOf, SaysWhy as SaysWhyNoPatches}
@@ -15,16 +15,16 @@ use Rattle.rp_types.specs.declared.TheConstants.{COMBINATIONS, TYPES}
 use Rattle.rp_types.specs.declared.fault.TypesFault.{TypesFault}
 use Rattle.rp_types.specs.declared.fault.TypesFault.TheVariants as types_fault
 use Rattle.rp_types.specs.declared.types.Rational.{Rational}
-use Rattle.rp_words.specs.CommandLine.{Given}
+use Rattle.rp_words.specs.CommandLine.{Arguments}
 use Rattle.rp_run.specs.FaultLines.{patch_line, types_line}
 use Rattle.rp_run.specs.Readings.{AndThen, FileIn, Just, NumbersIn, Reading}
 
 -- budgets in the first file, and choices from them in the second
-abbrev pub BudgetsIn : Given → (ℕ → Option (List ℕ)) → Reading BudgetList
-BudgetsIn given known = FileIn given known 0 (λ name. NumbersIn name budgets_in)
+abbrev pub BudgetsIn : Arguments → (ℕ → Option (List ℕ)) → Reading BudgetList
+BudgetsIn arguments known = FileIn arguments known 0 (λ name. NumbersIn name budgets_in)
 
-abbrev pub ChoicesIn : BudgetList → Given → (ℕ → Option (List ℕ)) → Reading ChoiceList
-ChoicesIn budgets given known = FileIn given known 1 (λ name. NumbersIn name (choices_on budgets))
+abbrev pub ChoicesIn : BudgetList → Arguments → (ℕ → Option (List ℕ)) → Reading ChoiceList
+ChoicesIn budgets arguments known = FileIn arguments known 1 (λ name. NumbersIn name (choices_on budgets))
 
 -- the patches of choices, with their units
 abbrev pub PatchesOf : RandomInput → Option ℕ → Reading PatchList
@@ -42,4 +42,4 @@ TypesOf p (Err line) = (fault : TypesFault) × (fault ≢ types_fault.NoMemory) 
 -- both, of the choices in a list; with a unit asked for, or none
 abbrev pub TypedPatchesOf : BudgetList → ChoiceList → Option ℕ → Reading (PatchList × List Rational)
 TypedPatchesOf budgets choices per =
-    AndThen (PatchesOf (input_of budgets choices) per) (λ p. AndThen (TypesOf p) (λ types. Just (Ok (p, types))))
+    AndThen (PatchesOf (random_input_of budgets choices) per) (λ p. AndThen (TypesOf p) (λ types. Just (Ok (p, types))))

@@ -41,12 +41,12 @@ IsSilent NoMemory = Unit {0}
 -- the text is the line of a status that is no end, and its cause holds; `rose file` says that the count of faults of
 -- a file has risen, and `asks line n` that the desk was asked for no more than the first n files of a line
 abbrev pub IsFaultLine : Files → (List ℕ → Type 0) → (Line → ℕ → Type 0) → Option Line → Status → List ℕ → Type 0
-IsFaultLine files rose asks asked Done text = ⊥
-IsFaultLine files rose asks asked Rejected text = ⊥
-IsFaultLine files rose asks asked Usage text = text ≡ usage_text
-IsFaultLine files rose asks asked ReadFault text =
-    (line : Line) × (k : ℕ) × (asked ≡ Some line) × (k < length (files_of line))
+IsFaultLine files rose asks denoted Done text = ⊥
+IsFaultLine files rose asks denoted Rejected text = ⊥
+IsFaultLine files rose asks denoted Usage text = text ≡ usage_text
+IsFaultLine files rose asks denoted ReadFault text =
+    (line : Line) × (k : ℕ) × (denoted ≡ Some line) × (k < length (files_of line))
     × rose (file_at line k) × (text ≡ read_line (file_at line k)) × asks line (suc k)
-IsFaultLine files rose asks asked Refused text = (line : Line) × (asked ≡ Some line) × RefusesWith files line text
-IsFaultLine files rose asks asked WriteFault text = text ≡ write_line
-IsFaultLine files rose asks asked NoMemory text = text ≡ memory_line
+IsFaultLine files rose asks denoted Refused text = (line : Line) × (denoted ≡ Some line) × RefusesWith files line text
+IsFaultLine files rose asks denoted WriteFault text = text ≡ write_line
+IsFaultLine files rose asks denoted NoMemory text = text ≡ memory_line

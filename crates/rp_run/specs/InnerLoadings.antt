@@ -6,8 +6,8 @@ use Rattle.rp_outside.specs.Faults.{EachStays, NoneFalls}
 use Rattle.rp_outside.specs.Reads.{calls_through}
 use Rattle.rp_words.specs.CommandLine.{Line, file_set, takes_levels}
 use Rattle.rp_run.specs.Answers.{Files, HasContents}
-use Rattle.rp_run.specs.Causes.{IsCause, IsLoaded}
-use Rattle.rp_run.specs.Contents.{AreOf}
+use Rattle.rp_run.specs.InnerCauses.{IsCause, IsLoaded}
+use Rattle.rp_run.specs.InnerContents.{AreOf}
 use Rattle.rp_run.specs.Endings.{Rose}
 use Rattle.rp_run.specs.Readings.{Reading}
 use Rattle.rp_run.specs.Turns.{AreReadInTurn, AsksForFirst}

@@ -8,6 +8,7 @@ pub mod Answers
 pub mod Turns
 pub mod Endings
 pub mod Gains
-pub mod Causes
+pub mod InnerCauses
 pub mod InnerLoadings
 pub mod Calls
+pub mod InnerContents

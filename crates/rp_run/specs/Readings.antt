@@ -10,7 +10,7 @@ use Rattle.rp_evidence.specs.declared.certificate.Kind.{Kind}
 use Rattle.rp_json.specs.Denoted.{IsDenoted}
 use Rattle.rp_json.specs.declared.fault.JsonFault.{JsonFault}
 use Rattle.rp_json.specs.declared.fault.JsonFault.TheVariants as json_fault
-use Rattle.rp_words.specs.CommandLine.{Given, file}
+use Rattle.rp_words.specs.CommandLine.{Arguments, file}
 use Rattle.rp_run.specs.FaultTexts.{fault_text, json_fault_text}
 use Rattle.rp_run.specs.FaultLines.{file_line}
 use Rattle.rp_run.specs.declared.files.TheConstants.{MOST_BYTES, MOST_CERTIFICATE_BYTES}
@@ -62,8 +62,8 @@ WhereKnown reading None result = ⊥
 WhereKnown reading (Some bytes) result = reading bytes result
 
 -- the same of the k-th file of what is given, by a reading that has its name
-abbrev pub FileIn : {A : Type 0} → Given → (ℕ → Option (List ℕ)) → ℕ → (List ℕ → List ℕ → Reading A) → Reading A
-FileIn given known k reading = WhereKnown (reading (file given k)) (known k)
+abbrev pub FileIn : {A : Type 0} → Arguments → (ℕ → Option (List ℕ)) → ℕ → (List ℕ → List ℕ → Reading A) → Reading A
+FileIn arguments known k reading = WhereKnown (reading (file arguments k)) (known k)
 
 -- whether levels of a table's observations are refused: there are some, and the command takes none
 abbrev pub refuses_levels : Bool → List ℕ → Bool
@@ -87,5 +87,5 @@ abbrev pub TakenTable : Bool → List ℕ → List ℕ → Reading Observations
 TakenTable takes file bytes = Just (taken_table takes file bytes)
 
 -- a table in the first file
-abbrev pub TableIn : Bool → Given → (ℕ → Option (List ℕ)) → Reading Observations
-TableIn takes given known = FileIn given known 0 (TakenTable takes)
+abbrev pub TableIn : Bool → Arguments → (ℕ → Option (List ℕ)) → Reading Observations
+TableIn takes arguments known = FileIn arguments known 0 (TakenTable takes)

@@ -34,7 +34,7 @@ first_known files line n k = if nat_lt k n then files (file_at line k) else None
 -- what is known of the first n files of a line is refused, whatever the others hold
 abbrev pub AreRefused : Files → Line → ℕ → Type 0
 AreRefused files line n = (text : List ℕ)
-    × ContentsIn (takes_levels line) (file_set line) line.given (first_known files line n) (Err text)
+    × ContentsIn (takes_levels line) (file_set line) line.arguments (first_known files line n) (Err text)
 
 -- each file is read through at most once, and none after one that is refused
 pub record AreReadInTurn (files : Files) (before after : ℕ) (line : Line) : Type 0 where

@@ -1,13 +1,13 @@
 //! The answer to a line over what its files hold, by its command.
 ghost use Rattle.std.specs.Prelude.{◌≡◌, true, false, [], IfOk};
 ghost use Rattle.rp_run.specs.Answers.{Answers, AnswersLine, IsText};
-ghost use Rattle.rp_run.specs.Contents.{AreOf};
+ghost use Rattle.rp_run.specs.InnerContents.{AreOf};
 ghost use Rattle.rp_run.specs.InnerLoadings.{LoadsLine};
 ghost use Rattle.rp_run.specs.declared.contents.Contents.TheVariants as contents;
-ghost use Rattle.rp_words.specs.CommandLine.{Given, file_set, takes_levels};
+ghost use Rattle.rp_words.specs.CommandLine.{Arguments, file_set, takes_levels};
 ghost use Rattle.rp_words.specs.declared.commands.Command.TheVariants as commands;
 ghost use Rattle.rp_words.specs.declared.commands.FileSet.TheVariants as files;
-ghost use Rattle.rp_words.specs.Named.{named_given, named_line};
+ghost use Rattle.rp_words.specs.Named.{named_arguments, named_line};
 ghost use Rattle.rp_words.specs.Ranges.{IsSized};
 
 use crate::contents::{Contents, read_contents};
@@ -46,7 +46,7 @@ fn answer_over(alloc: Global, line: &Line<'_>, held: &Contents) -> Result<Answer
     requires sized { IsSized (named_line line.now) }
     requires matching { AreOf (takes_levels (named_line line.now))
         (file_set (named_line line.now)) held.now }
-    ensures { IfOk result (λ answer. Answers line.now.command (named_given line.now.given)
+    ensures { IfOk result (λ answer. Answers line.now.command (named_arguments line.now.arguments)
         held.now answer.status answer.text.items) }
 {
     match line.command {
@@ -70,8 +70,8 @@ fn answer_over(alloc: Global, line: &Line<'_>, held: &Contents) -> Result<Answer
 /// What the checker says of a certificate on a table.
 fn check_of_table(alloc: Global, held: &Contents) -> Result<Answer, NoMemory>
     requires { AreOf true files.TableAndCertificate held.now }
-    ensures { (given : Given) → IfOk result (λ answer.
-        Answers commands.Check given held.now answer.status answer.text.items) }
+    ensures { (arguments : Arguments) → IfOk result (λ answer.
+        Answers commands.Check arguments held.now answer.status answer.text.items) }
 {
     let (table, certificate) = held.table_and_certificate();
     check_answer(alloc, table, certificate)
@@ -81,27 +81,27 @@ fn check_of_table(alloc: Global, held: &Contents) -> Result<Answer, NoMemory>
 fn text_of_demand(alloc: Global, line: &Line<'_>, held: &Contents) -> Result<Vec<u8>, NoMemory>
     requires { AreOf false files.TableAndPricesWithExpenditure held.now }
     ensures { IfOk result (λ text.
-        IsText commands.Demand (named_given line.now.given) held.now text.items) }
+        IsText commands.Demand (named_arguments line.now.arguments) held.now text.items) }
 {
     let (table, new) = held.table_and_prices_with_expenditure();
-    demand_text(alloc, table, new, line.given.json)
+    demand_text(alloc, table, new, line.arguments.json)
 }
 
 /// Welfare at new prices, by the verdict on the axiom.
 fn text_of_welfare(alloc: Global, line: &Line<'_>, held: &Contents) -> Result<Vec<u8>, NoMemory>
     requires { AreOf false files.TableAndPrices held.now }
     ensures { IfOk result (λ text.
-        IsText commands.Welfare (named_given line.now.given) held.now text.items) }
+        IsText commands.Welfare (named_arguments line.now.arguments) held.now text.items) }
 {
     let (table, new) = held.table_and_prices();
-    welfare_text(alloc, table, new, line.given.json)
+    welfare_text(alloc, table, new, line.arguments.json)
 }
 
 /// The utility of bundles, by the verdict on the axiom.
 fn text_of_utility(alloc: Global, held: &Contents) -> Result<Vec<u8>, NoMemory>
     requires { AreOf true files.TableAndBundles held.now }
-    ensures { (given : Given) → IfOk result (λ text.
-        IsText commands.Utility given held.now text.items) }
+    ensures { (arguments : Arguments) → IfOk result (λ text.
+        IsText commands.Utility arguments held.now text.items) }
 {
     let (table, bundles) = held.table_and_bundles();
     utility_text(alloc, table, bundles)
@@ -111,17 +111,17 @@ fn text_of_utility(alloc: Global, held: &Contents) -> Result<Vec<u8>, NoMemory>
 fn text_of_random(alloc: Global, line: &Line<'_>, held: &Contents) -> Result<Vec<u8>, NoMemory>
     requires { AreOf false files.Choices held.now }
     ensures { IfOk result (λ text.
-        IsText commands.Random (named_given line.now.given) held.now text.items) }
+        IsText commands.Random (named_arguments line.now.arguments) held.now text.items) }
 {
     let (patches, types) = held.choices();
-    random_text(alloc, patches, types, line.given.json)
+    random_text(alloc, patches, types, line.arguments.json)
 }
 
 /// What the checker says of a certificate on choices.
 fn check_of_choices(alloc: Global, held: &Contents) -> Result<Answer, NoMemory>
     requires { AreOf false files.ChoicesAndCertificate held.now }
-    ensures { (given : Given) → IfOk result (λ answer.
-        Answers commands.CheckRandom given held.now answer.status answer.text.items) }
+    ensures { (arguments : Arguments) → IfOk result (λ answer.
+        Answers commands.CheckRandom arguments held.now answer.status answer.text.items) }
 {
     let (patches, certificate) = held.choices_and_certificate();
     check_random_answer(alloc, patches, certificate)
@@ -132,11 +132,11 @@ fn text_of_trial(alloc: Global, line: &Line<'_>) -> Result<Vec<u8>, NoMemory>
     requires sized { IsSized (named_line line.now) }
     requires asked { line.now.command ≡ commands.Trial }
     ensures { IfOk result (λ text.
-        IsText commands.Trial (named_given line.now.given) contents.Nothing text.items) }
+        IsText commands.Trial (named_arguments line.now.arguments) contents.Nothing text.items) }
 {
-    let seed = line.given.number(0);
-    let rows = line.given.number(1);
-    let goods = line.given.number(2);
+    let seed = line.arguments.number(0);
+    let rows = line.arguments.number(1);
+    let goods = line.arguments.number(2);
     trial_text(alloc, seed, rows, goods)
 }
 
@@ -144,17 +144,17 @@ fn text_of_trial(alloc: Global, line: &Line<'_>) -> Result<Vec<u8>, NoMemory>
 fn text_of_menus(alloc: Global, line: &Line<'_>, held: &Contents) -> Result<Vec<u8>, NoMemory>
     requires { AreOf false files.Menus held.now }
     ensures { IfOk result (λ text.
-        IsText commands.Menus (named_given line.now.given) held.now text.items) }
+        IsText commands.Menus (named_arguments line.now.arguments) held.now text.items) }
 {
     let (seen, units) = held.menus();
-    menus_text(alloc, seen, units, line.given.per)
+    menus_text(alloc, seen, units, line.arguments.per)
 }
 
 /// The axioms of production on a technology, and what the outputs cost that are asked of it.
 fn text_of_cost(alloc: Global, held: &Contents) -> Result<Vec<u8>, NoMemory>
     requires { AreOf false files.TechnologyAndAsked held.now }
-    ensures { (given : Given) → IfOk result (λ text.
-        IsText commands.Cost given held.now text.items) }
+    ensures { (arguments : Arguments) → IfOk result (λ text.
+        IsText commands.Cost arguments held.now text.items) }
 {
     let (tech, asked) = held.technology_and_asked();
     cost_text(alloc, tech, asked)
@@ -166,10 +166,11 @@ fn text_of_power(alloc: Global, line: &Line<'_>, table: &Table) -> Result<Vec<u8
     requires asked { line.now.command ≡ commands.Power }
     requires no_levels { table.now.levels ≡ [] }
     ensures { IfOk result (λ text.
-        IsText commands.Power (named_given line.now.given) (contents.Table table.now) text.items) }
+        IsText commands.Power (named_arguments line.now.arguments) (contents.Table table.now)
+        text.items) }
 {
-    let seed = line.given.number(0);
-    let draws = line.given.number(1);
+    let seed = line.arguments.number(0);
+    let draws = line.arguments.number(1);
     prove!(draws <= 1_000);
     power_text(alloc, table, seed, draws)
 }

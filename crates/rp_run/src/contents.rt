@@ -11,7 +11,7 @@ ghost use Rattle.rp_words.specs.CommandLine.{file_set};
 ghost use Rattle.rp_words.specs.Named.{named_line};
 ghost use Rattle.rp_words.specs.Ranges.{IsSized};
 ghost use Rattle.rp_words.specs.declared.commands.FileSet.TheVariants as files;
-ghost use Rattle.rp_run.specs.Contents.{AreOf};
+ghost use Rattle.rp_run.specs.InnerContents.{AreOf};
 ghost use Rattle.rp_run.specs.InnerLoadings.{AreContentsOf, LoadsLine};
 ghost use Rattle.rp_run.specs.declared.contents.Contents.TheVariants as contents;
 ghost use Rattle.rp_types.specs.declared.types.Rational.{Rational as TypeOf};
@@ -214,7 +214,12 @@ fn load_table_alone<'a, D: Desk>(
     ensures { LoadsLine D.bytes D.faults D.calls desk.old desk.new (named_line line.now)
         (AreContentsOf (D.bytes desk.old) (named_line line.now)) result }
 {
-    let table = load_table(alloc, desk, line.given.file(0), line.command.takes_levels())?;
+    let table = load_table(
+        alloc,
+        desk,
+        line.arguments.file(0),
+        line.command.takes_levels(),
+    )?;
     Ok(Contents::Table(table))
 }
 
@@ -229,8 +234,13 @@ fn load_table_certificate<'a, D: Desk>(
     ensures { LoadsLine D.bytes D.faults D.calls desk.old desk.new (named_line line.now)
         (AreContentsOf (D.bytes desk.old) (named_line line.now)) result }
 {
-    let table = load_table(alloc, desk, line.given.file(0), line.command.takes_levels())?;
-    let certificate = load_certificate(alloc, desk, line.given.file(1), Kind::Table)?;
+    let table = load_table(
+        alloc,
+        desk,
+        line.arguments.file(0),
+        line.command.takes_levels(),
+    )?;
+    let certificate = load_certificate(alloc, desk, line.arguments.file(1), Kind::Table)?;
     Ok(Contents::TableAndCertificate(table, certificate))
 }
 
@@ -245,8 +255,18 @@ fn load_table_prices_with_expenditure<'a, D: Desk>(
     ensures { LoadsLine D.bytes D.faults D.calls desk.old desk.new (named_line line.now)
         (AreContentsOf (D.bytes desk.old) (named_line line.now)) result }
 {
-    let table = load_table(alloc, desk, line.given.file(0), line.command.takes_levels())?;
-    let new = load_numbers(alloc, desk, line.given.file(1), &BudgetedPricesFile(&table))?;
+    let table = load_table(
+        alloc,
+        desk,
+        line.arguments.file(0),
+        line.command.takes_levels(),
+    )?;
+    let new = load_numbers(
+        alloc,
+        desk,
+        line.arguments.file(1),
+        &BudgetedPricesFile(&table),
+    )?;
     Ok(Contents::TableAndPricesWithExpenditure(table, new))
 }
 
@@ -261,8 +281,13 @@ fn load_table_prices<'a, D: Desk>(
     ensures { LoadsLine D.bytes D.faults D.calls desk.old desk.new (named_line line.now)
         (AreContentsOf (D.bytes desk.old) (named_line line.now)) result }
 {
-    let table = load_table(alloc, desk, line.given.file(0), line.command.takes_levels())?;
-    let new = load_numbers(alloc, desk, line.given.file(1), &PricesFile(&table))?;
+    let table = load_table(
+        alloc,
+        desk,
+        line.arguments.file(0),
+        line.command.takes_levels(),
+    )?;
+    let new = load_numbers(alloc, desk, line.arguments.file(1), &PricesFile(&table))?;
     Ok(Contents::TableAndPrices(table, new))
 }
 
@@ -277,8 +302,13 @@ fn load_table_bundles<'a, D: Desk>(
     ensures { LoadsLine D.bytes D.faults D.calls desk.old desk.new (named_line line.now)
         (AreContentsOf (D.bytes desk.old) (named_line line.now)) result }
 {
-    let table = load_table(alloc, desk, line.given.file(0), line.command.takes_levels())?;
-    let bundles = load_numbers(alloc, desk, line.given.file(1), &BundlesFile(&table))?;
+    let table = load_table(
+        alloc,
+        desk,
+        line.arguments.file(0),
+        line.command.takes_levels(),
+    )?;
+    let bundles = load_numbers(alloc, desk, line.arguments.file(1), &BundlesFile(&table))?;
     Ok(Contents::TableAndBundles(table, bundles))
 }
 
@@ -293,9 +323,9 @@ fn load_patches<'a, D: Desk>(
     ensures { LoadsLine D.bytes D.faults D.calls desk.old desk.new (named_line line.now)
         (AreContentsOf (D.bytes desk.old) (named_line line.now)) result }
 {
-    let budgets = load_numbers(alloc, desk, line.given.file(0), &BudgetsFile)?;
-    let choices = load_numbers(alloc, desk, line.given.file(1), &ChoicesFile(&budgets))?;
-    let (patches, types) = patches_of(alloc, &budgets, &choices, line.given.per)?;
+    let budgets = load_numbers(alloc, desk, line.arguments.file(0), &BudgetsFile)?;
+    let choices = load_numbers(alloc, desk, line.arguments.file(1), &ChoicesFile(&budgets))?;
+    let (patches, types) = patches_of(alloc, &budgets, &choices, line.arguments.per)?;
     Ok(Contents::Choices(patches, types))
 }
 
@@ -310,10 +340,10 @@ fn load_patches_certificate<'a, D: Desk>(
     ensures { LoadsLine D.bytes D.faults D.calls desk.old desk.new (named_line line.now)
         (AreContentsOf (D.bytes desk.old) (named_line line.now)) result }
 {
-    let budgets = load_numbers(alloc, desk, line.given.file(0), &BudgetsFile)?;
-    let choices = load_numbers(alloc, desk, line.given.file(1), &ChoicesFile(&budgets))?;
-    let certificate = load_certificate(alloc, desk, line.given.file(2), Kind::Random)?;
-    let (patches, types) = patches_of(alloc, &budgets, &choices, line.given.per)?;
+    let budgets = load_numbers(alloc, desk, line.arguments.file(0), &BudgetsFile)?;
+    let choices = load_numbers(alloc, desk, line.arguments.file(1), &ChoicesFile(&budgets))?;
+    let certificate = load_certificate(alloc, desk, line.arguments.file(2), Kind::Random)?;
+    let (patches, types) = patches_of(alloc, &budgets, &choices, line.arguments.per)?;
     Ok(Contents::ChoicesAndCertificate(patches, types, certificate))
 }
 
@@ -328,7 +358,7 @@ fn load_technology_asked<'a, D: Desk>(
     ensures { LoadsLine D.bytes D.faults D.calls desk.old desk.new (named_line line.now)
         (AreContentsOf (D.bytes desk.old) (named_line line.now)) result }
 {
-    let tech = load_numbers(alloc, desk, line.given.file(0), &TechnologyFile)?;
-    let asked = load_numbers(alloc, desk, line.given.file(1), &AskedFile(&tech))?;
+    let tech = load_numbers(alloc, desk, line.arguments.file(0), &TechnologyFile)?;
+    let asked = load_numbers(alloc, desk, line.arguments.file(1), &AskedFile(&tech))?;
     Ok(Contents::TechnologyAndAsked(tech, asked))
 }

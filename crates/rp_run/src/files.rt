@@ -7,12 +7,12 @@ ghost use Rattle.rp_outside.specs.Known.{AreAll};
 ghost use Rattle.rp_outside.specs.Reads.{calls_through};
 ghost use Rattle.rp_run.specs.FaultLines as text;
 ghost use Rattle.rp_run.specs.Endings.{Rose};
-ghost use Rattle.rp_run.specs.Contents.{MayHaveLevels};
+ghost use Rattle.rp_run.specs.InnerContents.{MayHaveLevels};
 ghost use Rattle.rp_run.specs.InnerLoadings.{LoadsFile};
 ghost use Rattle.rp_run.specs.Readings.{CertificateIn, Just, NumbersIn, TakenTable, all_bytes};
 ghost use Rattle.rp_run.specs.Readings.{unless_levelled};
-ghost use Rattle.rp_run.specs.Causes.{IsJsonRefusalOf, IsRefusal, IsRefusalOf, IsFileCause};
-ghost use Rattle.rp_run.specs.Causes.{IsReadingCause};
+ghost use Rattle.rp_run.specs.InnerCauses.{IsJsonRefusalOf, IsRefusal, IsRefusalOf, IsFileCause};
+ghost use Rattle.rp_run.specs.InnerCauses.{IsReadingCause};
 
 use crate::fault_text::{text_of_fault, text_of_json_fault};
 use crate::number_files::{TableFile, load_numbers};

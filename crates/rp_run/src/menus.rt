@@ -4,7 +4,7 @@ ghost use Rattle.rp_words.specs.CommandLine.{file_set};
 ghost use Rattle.rp_words.specs.Named.{named_line};
 ghost use Rattle.rp_words.specs.Ranges.{IsSized, IsUnit};
 ghost use Rattle.rp_words.specs.declared.commands.FileSet.TheVariants as files;
-ghost use Rattle.rp_run.specs.Causes.{IsMenuRefusalOf, IsReadingCause, IsRefusal};
+ghost use Rattle.rp_run.specs.InnerCauses.{IsMenuRefusalOf, IsReadingCause, IsRefusal};
 ghost use Rattle.rp_run.specs.InnerLoadings.{AreContentsOf, LoadsFile, LoadsLine};
 ghost use Rattle.rp_run.specs.MenuContents as text;
 ghost use Rattle.rp_run.specs.MenuContents.{MenusOf, UnitsOf};
@@ -32,8 +32,8 @@ pub(crate) fn load_menus_with_units<'a, D: Desk>(
     ensures { LoadsLine D.bytes D.faults D.calls desk.old desk.new (named_line line.now)
         (AreContentsOf (D.bytes desk.old) (named_line line.now)) result }
 {
-    let seen = load_menus(alloc, desk, line.given.file(0))?;
-    let units = units_of(alloc, &seen, line.given.per)?;
+    let seen = load_menus(alloc, desk, line.arguments.file(0))?;
+    let units = units_of(alloc, &seen, line.arguments.per)?;
     Ok(Contents::Menus(seen, units))
 }
 

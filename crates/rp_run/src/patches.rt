@@ -1,7 +1,7 @@
 //! The patches of choices from budgets, with their rational types, or why there are none.
 ghost use Rattle.std.specs.Prelude.{IfOk, IfErr, Ok};
 ghost use Rattle.rp_patch.specs.Choices.{AreChoicesFrom};
-ghost use Rattle.rp_run.specs.Causes.{IsPatchRefusal, IsReadingCause, IsTypesRefusal};
+ghost use Rattle.rp_run.specs.InnerCauses.{IsPatchRefusal, IsReadingCause, IsTypesRefusal};
 ghost use Rattle.rp_answers.specs.Typed.{AreTyped};
 ghost use Rattle.rp_answers.specs.Typed.{typed};
 ghost use Rattle.rp_run.specs.ChoiceContents.{TypedPatchesOf};

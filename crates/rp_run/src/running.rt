@@ -8,13 +8,13 @@ ghost use Rattle.rp_words.specs.Words.{line_in};
 ghost use Rattle.rp_words.specs.Commands.{program};
 ghost use Rattle.rp_words.specs.Shapes.{HasShape, shape_of};
 ghost use Rattle.rp_run.specs.Answers.{IsAccepted, IsRefused};
-ghost use Rattle.rp_run.specs.Calls.{AnswersUsage, AsksInTurn, GivesVerdict, IsWritten};
+ghost use Rattle.rp_run.specs.Calls.{AnswersUsage, AsksInTurn, GivesCheckVerdict, IsWritten};
 ghost use Rattle.rp_run.specs.Calls.{LeavesTheRest, TellsWhy};
 ghost use Rattle.rp_run.specs.FaultLines.{write_line};
 ghost use Rattle.rp_run.specs.Endings.{IsEnd, Rose, NoneRose};
 ghost use Rattle.rp_run.specs.Gains.{Gains};
 ghost use Rattle.rp_run.specs.Turns.{AsksForFirst};
-ghost use Rattle.rp_run.specs.Causes.{status_of_cause, cause_line};
+ghost use Rattle.rp_run.specs.InnerCauses.{status_of_cause, cause_line};
 
 use crate::answer::answer_line;
 use crate::files::Cause;
@@ -46,7 +46,7 @@ pub fn run<D: Desk, O: Sink, E: Sink>(
         (O.written out.old) (O.written out.new) (O.faults out.old) (O.faults out.new) }
 
     // The checker's verdict on a certificate.
-    ensures verdict { GivesVerdict (D.bytes desk.old) (line_in words.now.items) result }
+    ensures verdict { GivesCheckVerdict (D.bytes desk.old) (line_in words.now.items) result }
 
     // Why there is no answer.
     ensures why { TellsWhy (D.bytes desk.old) (Rose (D.faults desk.old) (D.faults desk.new))

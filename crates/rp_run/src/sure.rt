@@ -3,7 +3,7 @@ ghost use Rattle.std.specs.Prelude.{◌≡◌, ◌⊎◌, Some};
 ghost use Rattle.rp_words.specs.CommandLine.{Line as Asked};
 ghost use Rattle.rp_words.specs.Words.{line_in};
 ghost use Rattle.rp_run.specs.Answers.{IsAccepted, IsRefused, all_known};
-ghost use Rattle.rp_run.specs.Calls.{AnswersUsage, AsksInTurn, GivesVerdict, LeavesTheRest};
+ghost use Rattle.rp_run.specs.Calls.{AnswersUsage, AsksInTurn, GivesCheckVerdict, LeavesTheRest};
 ghost use Rattle.rp_run.specs.Endings.{IsEnd};
 
 use crate::running::run;
@@ -22,7 +22,7 @@ pub fn run_surely(
     ensures every_file_is_read { ¬ (result ≡ Status.ReadFault) }
     ensures every_answer_is_written { ¬ (result ≡ Status.WriteFault) }
     ensures words { AnswersUsage (line_in words.now.items) result }
-    ensures verdict { GivesVerdict (all_known desk.old) (line_in words.now.items) result }
+    ensures verdict { GivesCheckVerdict (all_known desk.old) (line_in words.now.items) result }
     ensures turns { AsksInTurn (all_known desk.old)
         desk.old.calls desk.new.calls (line_in words.now.items) }
     ensures stays { LeavesTheRest (all_known desk.old) (all_known desk.new)

@@ -11,7 +11,7 @@ use Rattle.rp_farkas.specs.Limits.{FitsEvidence}
 use Rattle.rp_grid.specs.Rows.{Rows, row_of, AreEqual, with_row, with_cell, written}
 use Rattle.rp_simplex.specs.Cells.{cell}
 use Rattle.rp_simplex.specs.InnerCombined.{dot}
-use Rattle.rp_simplex.specs.InnerRows.{AreRenewed, ArePivoted, FactorsFit, FitEvidence, HasDivided, IsQuotient, IsWritten, OnePasses, factor, less_multiple, moved}
+use Rattle.rp_simplex.specs.InnerRows.{AreRenewed, ArePivoted, FactorsFit, FitEvidence, HasDivided, IsQuotient, IsRowWritten, OnePasses, factor, less_multiple, moved}
 use Rattle.rp_simplex.proofs.Bits.{back128}
 use Rattle.rp_simplex.proofs.WrittenRows.{written_more}
 
@@ -22,13 +22,13 @@ read_cell : (g : Rows ℤ) (i j : ℕ) (x : ℤ) → AreEqual g → i < length g
 read_cell g i j x equal there within e = get_or_read (row_of g i) j x (omega (arith, equal i there)) e (pos 0)
 
 -- ---- a row that is written up to its end
-pub all_written : (old now g : Rows ℤ) (i n : ℕ) (P : ℕ → ℤ → Type 0) → IsWritten old now i n P → n ≡ old.cols → g ≡ now → IsWritten old g i old.cols P
-all_written old now g i n P so_far all e = subst (λ m. IsWritten old g i m P) all (subst (λ x. IsWritten old x i n P) (sym e) so_far)
+pub all_written : (old now g : Rows ℤ) (i n : ℕ) (P : ℕ → ℤ → Type 0) → IsRowWritten old now i n P → n ≡ old.cols → g ≡ now → IsRowWritten old g i old.cols P
+all_written old now g i n P so_far all e = subst (λ m. IsRowWritten old g i m P) all (subst (λ x. IsRowWritten old x i n P) (sym e) so_far)
 
 -- ---- row i is cleared while row r is read
 module _ (old now : Rows ℤ) (r i s d : ℕ) (p f : ℤ) (i_there : i < length old.rows) (r_there : r < length old.rows) (apart : i ≢ r) (s_there : s < old.cols)
     (fit : FitEvidence old i) (fit_pivot : FitEvidence old r)
-    (so_far : IsWritten old now i s (λ k value. IsQuotient (less_multiple old r i p f k) d value)) where
+    (so_far : IsRowWritten old now i s (λ k value. IsQuotient (less_multiple old r i p f k) d value)) where
   -- what the code computes from the elements that it reads
   pub cleared_read : (z a b : ℤ) (into from : ℕ) → into ≡ i → from ≡ r → a ≡ get_or (row_of now into) s a → b ≡ get_or (row_of now from) s b
       → mag z < 2 ^ 127 → z ≡ to_z w64 (of_z w64 a) *ℤ p -ℤ f *ℤ to_z w64 (of_z w64 b)
@@ -41,15 +41,15 @@ module _ (old now : Rows ℤ) (r i s d : ℕ) (p f : ℤ) (i_there : i < length 
       back128 z fits ∙ ez ∙ (λ k. a_read k *ℤ p -ℤ f *ℤ b_read k)
 
   pub row_more : (value : ℤ) (z : ℤ) (into : ℕ) (new : Rows ℤ) → z ≡ less_multiple old r i p f s → IsQuotient z d value → into ≡ i → new ≡ with_cell now into s (to_z w64 (of_z w64 value))
-      → IsWritten old new i (s + 1) (λ k value. IsQuotient (less_multiple old r i p f k) d value)
+      → IsRowWritten old new i (s + 1) (λ k value. IsQuotient (less_multiple old r i p f k) d value)
   row_more value z into new z_is quotient e_into e =
       let is : new ≡ with_cell now i s value = e ∙ ap (λ k. with_cell now k s (to_z w64 (of_z w64 value))) e_into ∙ ap (with_cell now i s) (back value quotient.fits) in
-      subst (λ g. IsWritten old g i (s + 1) (λ k value. IsQuotient (less_multiple old r i p f k) d value)) (sym is)
+      subst (λ g. IsRowWritten old g i (s + 1) (λ k value. IsQuotient (less_multiple old r i p f k) d value)) (sym is)
       (written_more old now i s (λ k value. IsQuotient (less_multiple old r i p f k) d value) i_there so_far s_there value (subst (λ y. IsQuotient y d value) z_is quotient))
 
 -- ---- row i is multiplied
 module _ (old now : Rows ℤ) (i j d : ℕ) (by : ℤ) (i_there : i < length old.rows) (j_there : j < old.cols) (fit : FitEvidence old i)
-    (so_far : IsWritten old now i j (λ k value. IsQuotient (cell old i k *ℤ by) d value)) where
+    (so_far : IsRowWritten old now i j (λ k value. IsQuotient (cell old i k *ℤ by) d value)) where
   pub scaled_read : (z : ℤ) (row : List ℤ) → row ≡ row_of now i → mag z < 2 ^ 127 → z ≡ to_z w64 (of_z w64 (get_or row j (pos 0))) *ℤ by → to_z w128 (of_z w128 z) ≡ cell old i j *ℤ by
   scaled_read z row e fits ez =
       let own : get_or row j (pos 0) ≡ cell old i j = ap (λ xs. get_or xs j (pos 0)) e ∙ so_far.left j (omega arith) in
@@ -57,12 +57,12 @@ module _ (old now : Rows ℤ) (i j d : ℕ) (by : ℤ) (i_there : i < length old
       back128 z fits ∙ ez ∙ ap (λ y. y *ℤ by) read
 
   pub scaled_more : (value : ℤ) (z : ℤ) (row : List ℤ) → row ≡ row_of now i → length row ≡ now.cols → ((xs : List ℤ) → length xs ≡ now.cols → written now i xs ≡ xs) → z ≡ cell old i j *ℤ by → IsQuotient z d value
-      → IsWritten old (with_row now i (written now i (slice_set row j (to_z w64 (of_z w64 value))))) i (j + 1) (λ k value. IsQuotient (cell old i k *ℤ by) d value)
+      → IsRowWritten old (with_row now i (written now i (slice_set row j (to_z w64 (of_z w64 value))))) i (j + 1) (λ k value. IsQuotient (cell old i k *ℤ by) d value)
   scaled_more value z row e long kept z_is quotient =
       let is : with_row now i (written now i (slice_set row j (to_z w64 (of_z w64 value)))) ≡ with_cell now i j value
       = ap (with_row now i) (kept (slice_set row j (to_z w64 (of_z w64 value))) (length-set row j (to_z w64 (of_z w64 value)) ∙ long) ∙ ap (λ xs. slice_set xs j (to_z w64 (of_z w64 value))) e)
       ∙ ap (with_cell now i j) (back value quotient.fits) in
-      subst (λ g. IsWritten old g i (j + 1) (λ k value. IsQuotient (cell old i k *ℤ by) d value)) (sym is)
+      subst (λ g. IsRowWritten old g i (j + 1) (λ k value. IsQuotient (cell old i k *ℤ by) d value)) (sym is)
       (written_more old now i j (λ k value. IsQuotient (cell old i k *ℤ by) d value) i_there so_far j_there value (subst (λ y. IsQuotient y d value) z_is quotient))
 
 -- ---- the same numbers by another rule

@@ -23,4 +23,4 @@ pub mod OutcomeLemmas
 pub mod Determined
 pub mod Same
 pub mod Outcomes
-pub mod Worked
+pub mod Examples

@@ -4,16 +4,16 @@ use Rattle.std.proofs.lemmas.Bool.{cases_eq}
 use Rattle.rp_grid.specs.Rows.{Rows, row_of, with_cell}
 use Rattle.rp_grid.proofs.RowLemmas.{same_count, row_stays, cell_written, cell_stays, still_equal}
 use Rattle.rp_simplex.specs.Cells.{cell}
-use Rattle.rp_simplex.specs.InnerRows.{IsWritten}
+use Rattle.rp_simplex.specs.InnerRows.{IsRowWritten}
 
-module _ (old now : Rows ℤ) (i n : ℕ) (P : ℕ → ℤ → Type 0) (there : i < length old.rows) (so_far : IsWritten old now i n P) (within : n < old.cols) (x : ℤ) (here : P n x) where
+module _ (old now : Rows ℤ) (i n : ℕ) (P : ℕ → ℤ → Type 0) (there : i < length old.rows) (so_far : IsRowWritten old now i n P) (within : n < old.cols) (x : ℤ) (here : P n x) where
   row_there : i < length now.rows
   row_there = omega (arith, so_far.count)
 
   column_there : n < length (row_of now i)
   column_there = omega (arith, so_far.cols, so_far.equal i row_there)
 
-  pub written_more : IsWritten old (with_cell now i n x) i (n + 1) P
+  pub written_more : IsRowWritten old (with_cell now i n x) i (n + 1) P
   written_more = record {
     count = same_count now i (slice_set (row_of now i) n x) ∙ so_far.count;
     cols = so_far.cols;

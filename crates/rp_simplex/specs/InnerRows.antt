@@ -13,7 +13,7 @@ use Rattle.rp_simplex.specs.ExactTableau.{width_of}
 use Rattle.rp_simplex.specs.FirstTableau.{first_entry}
 
 -- The first n elements of row i have been written, each as P says; nothing else has changed.
-pub record IsWritten (old new : Rows ℤ) (i n : ℕ) (P : ℕ → ℤ → Type 0) : Type 0 where
+pub record IsRowWritten (old new : Rows ℤ) (i n : ℕ) (P : ℕ → ℤ → Type 0) : Type 0 where
   pub count : length new.rows ≡ length old.rows
   pub cols : new.cols ≡ old.cols
   pub equal : AreEqual new
@@ -28,7 +28,7 @@ pub record IsQuotient (z : ℤ) (d : ℕ) (value : ℤ) : Type 0 where
 
 -- The numbers f, divided by d, have been written in row i.
 abbrev pub HasDivided : Rows ℤ → Rows ℤ → ℕ → (ℕ → ℤ) → ℕ → Type 0
-HasDivided old new i f d = IsWritten old new i old.cols (λ j value. IsQuotient (f j) d value)
+HasDivided old new i f d = IsRowWritten old new i old.cols (λ j value. IsQuotient (f j) d value)
 
 -- One of the first n numbers passes the width when it is divided by d.
 abbrev pub OnePasses : ℕ → (ℕ → ℤ) → ℕ → Type 0

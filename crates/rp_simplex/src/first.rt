@@ -6,7 +6,7 @@ ghost use Rattle.rp_simplex.specs.InnerCombined.{AreSmall, delta};
 ghost use Rattle.rp_simplex.specs.ExactTableau.{width_of};
 ghost use Rattle.rp_simplex.specs.FirstTableau.{IsFirstTableau, first_entry};
 ghost use Rattle.rp_simplex.specs.Cells.{cell};
-ghost use Rattle.rp_simplex.specs.InnerRows.{HasFirstEntries, IsFirstEntry, IsWritten};
+ghost use Rattle.rp_simplex.specs.InnerRows.{HasFirstEntries, IsFirstEntry, IsRowWritten};
 ghost use Rattle.rp_simplex.specs.InnerStage.{exact, IsShapedFor};
 
 use crate::stage::Stage;
@@ -51,7 +51,7 @@ fn fill_column<P: Lp>(columns: &mut Grid<i64>, p: &P, j: usize)
     requires column { j < width_of (P.program p.now) }
     requires count { length columns.old.rows ≡ width_of (P.program p.now) }
     requires height { columns.old.cols ≡ suc (P.program p.now).rows }
-    ensures { IsWritten columns.old columns.new j columns.old.cols
+    ensures { IsRowWritten columns.old columns.new j columns.old.cols
         (λ i value. IsFirstEntry (P.program p.now) i j value) }
 {
     for i in 0..columns.cols() as usize {

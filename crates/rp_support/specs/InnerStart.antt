@@ -15,15 +15,15 @@ inner_numerator input budget (Some s) g = with_rest_on_first input budget s g
 inner_numerator input budget None g = all_on_first budget g
 
 -- s comes before b: it has a greater count, or the same count and a lower cost at the new prices.
-abbrev pub ComesBefore : TableInput → BudgetInput → List ℕ → ℕ → ℕ → Type 0
-ComesBefore input budget counts s b =
+abbrev pub StartComesBefore : TableInput → BudgetInput → List ℕ → ℕ → ℕ → Type 0
+StartComesBefore input budget counts s b =
     (slice_index counts b < slice_index counts s)
     ⊎ ((slice_index counts s ≡ slice_index counts b)
     × (spending input.goods budget.prices (input.quantity s) < spending input.goods budget.prices (input.quantity b)))
 
 -- The budget buys the bundle of s, and s comes before the best one so far, if there is one.
 abbrev pub IsBetter : TableInput → BudgetInput → List ℕ → ℕ → Option ℕ → Type 0
-IsBetter input budget counts s (Some b) = Buys input budget s × ComesBefore input budget counts s b
+IsBetter input budget counts s (Some b) = Buys input budget s × StartComesBefore input budget counts s b
 IsBetter input budget counts s None = Buys input budget s
 
 -- Of the first k observations s is the one to begin from: no other that the budget buys comes before it, and it
@@ -31,8 +31,8 @@ IsBetter input budget counts s None = Buys input budget s
 pub record IsBest (input : TableInput) (budget : BudgetInput) (counts : List ℕ) (k s : ℕ) : Type 0 where
   pub tried : s < k
   pub bought : Buys input budget s
-  pub none_before : (t : ℕ) → t < k → Buys input budget t → ¬ ComesBefore input budget counts t s
-  pub first : (t : ℕ) → t < s → Buys input budget t → ComesBefore input budget counts s t
+  pub none_before : (t : ℕ) → t < k → Buys input budget t → ¬ StartComesBefore input budget counts t s
+  pub first : (t : ℕ) → t < s → Buys input budget t → StartComesBefore input budget counts s t
 
 -- So far as k observations were tried.
 abbrev pub IsBestSoFar : TableInput → BudgetInput → List ℕ → ℕ → Option ℕ → Type 0

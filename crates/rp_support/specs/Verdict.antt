@@ -10,16 +10,16 @@ use Rattle.rp_evidence.specs.declared.garp.Garp.TheVariants.{Cycle, Ranks}
 use Rattle.rp_support.specs.Bounds.{AreBoundsOf, AreMixed}
 
 -- Where the axiom holds: the inner demand, and the bounds of each good's programs over the list of those below.
-abbrev pub IsGivenWhereMet : TableInput → BudgetInput → DemandPart → Type 0
-IsGivenWhereMet input budget (Bounds below strict inner goods) =
+abbrev pub AreDemandBounds : TableInput → BudgetInput → DemandPart → Type 0
+AreDemandBounds input budget (Bounds below strict inner goods) =
     IsInnerDemand input budget (bundle_of inner) × AreBoundsOf input budget below goods
-IsGivenWhereMet input budget (NoModel walk) = ⊥
+AreDemandBounds input budget (NoModel walk) = ⊥
 
 -- From ranks what is given where the axiom holds; from a violation that violation.
-abbrev pub IsDemandGiven : TableInput → BudgetInput → Garp → DemandPart → Type 0
-IsDemandGiven input budget (Ranks ranks) part = IsGivenWhereMet input budget part
-IsDemandGiven input budget (Cycle cycle) (Bounds below strict inner goods) = ⊥
-IsDemandGiven input budget (Cycle cycle) (NoModel walk) = walk ≡ cycle
+abbrev pub IsDemandVerdict : TableInput → BudgetInput → Garp → DemandPart → Type 0
+IsDemandVerdict input budget (Ranks ranks) part = AreDemandBounds input budget part
+IsDemandVerdict input budget (Cycle cycle) (Bounds below strict inner goods) = ⊥
+IsDemandVerdict input budget (Cycle cycle) (NoModel walk) = walk ≡ cycle
 
 -- Where the axiom holds, the price sides of the shown pairs mix with the inner demand, and the programs are bounded.
 abbrev pub HasMixtures : TableInput → BudgetInput → DemandPart → Type 0

@@ -9,7 +9,7 @@ ghost use Rattle.rp_table.specs.Limits.{IsExpenditure};
 ghost use Rattle.rp_table.specs.NewPrices.{AreNewPrices};
 ghost use Rattle.rp_table.specs.Tables.{goods_of, records_of};
 ghost use Rattle.rp_evidence.specs.InnerBudget.{input_of, new_budget};
-ghost use Rattle.rp_support.specs.Verdict.{HasMixtures, IsDemandGiven, IsGivenWhereMet};
+ghost use Rattle.rp_support.specs.Verdict.{HasMixtures, IsDemandVerdict, AreDemandBounds};
 
 use crate::below::{below, strictly_below};
 use crate::goods::goods;
@@ -38,7 +38,7 @@ pub fn demand(
     ensures proves { IfOk result (λ part.
         ProvesDemand (input_of_table table.now) prices.now m part) }
     ensures given { IfOk result (λ part.
-        IsDemandGiven (input_of_table table.now) (budget_of prices.now m) verdict.now part) }
+        IsDemandVerdict (input_of_table table.now) (budget_of prices.now m) verdict.now part) }
     ensures mixtures { IfOk result (λ part.
         HasMixtures (input_of_table table.now) (budget_of prices.now m) part) }
 {
@@ -65,7 +65,7 @@ pub fn demand_by_closure(
     ensures proves { IfOk result (λ part.
         ProvesDemand (input_of_table table.now) prices.now m part) }
     ensures given { IfOk result (λ part.
-        IsDemandGiven (input_of_table table.now) (budget_of prices.now m) verdict.now part) }
+        IsDemandVerdict (input_of_table table.now) (budget_of prices.now m) verdict.now part) }
     ensures mixtures { IfOk result (λ part.
         HasMixtures (input_of_table table.now) (budget_of prices.now m) part) }
 {
@@ -92,7 +92,7 @@ fn bounds(alloc: Global, budget: &NewBudget, closure: &Closure) -> Result<Demand
     requires closes { IsWeakClosureOf closure.now (input_of budget.now.at) }
     ensures proves { IfOk result (λ part.
         ProvesDemand (input_of budget.now.at) budget.now.at.prices.now budget.now.m part) }
-    ensures given { IfOk result (λ part. IsGivenWhereMet (input_of budget.now.at)
+    ensures given { IfOk result (λ part. AreDemandBounds (input_of budget.now.at)
         (new_budget budget.now) part) }
     ensures mixtures { IfOk result (λ part. HasMixtures (input_of budget.now.at)
         (new_budget budget.now) part) }

@@ -1,4 +1,4 @@
 pub mod SumsBelow
 pub mod SpendingLaws
 pub mod CostLimits
-mod Tried
+mod Examples

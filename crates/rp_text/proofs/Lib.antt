@@ -1,4 +1,4 @@
-mod Worked
+mod Examples
 pub mod PricedTables
 pub mod TableFacts
 pub mod TableMade
@@ -10,7 +10,7 @@ pub mod PlainRecords
 pub mod PlainTables
 pub mod PlainLines
 pub mod PlainBytes
-mod WorkedPlain
+mod PlainExamples
 pub mod BudgetFacts
 pub mod ChoiceFacts
 pub mod ChosenFacts

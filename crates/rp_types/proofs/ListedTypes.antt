@@ -8,7 +8,7 @@ use Rattle.std.specs.declared.cmp.Ordering.{Ordering}
 use Rattle.std.specs.declared.cmp.Ordering.TheVariants.{Less, Equal}
 use Rattle.std.proofs.lemmas.List.{length-map, map_push}
 use Rattle.std.proofs.lemmas.List.Elements.{Contains-append_left, Contains-push, Contains-push_cases}
-use Rattle.rp_patch.specs.Parts.{Before, Begins}
+use Rattle.rp_patch.specs.PartialTypes.{Before, Begins}
 use Rattle.rp_patch.specs.Patches.{PatchList}
 use Rattle.rp_patch.specs.Types.{AreRationalTypes, HasMoreTypesThan, IsRationalType}
 use Rattle.rp_patch.proofs.SearchLaws.{before_first, before_last, before_less, before_next, begins_itself, begins_whole}

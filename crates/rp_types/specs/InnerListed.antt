@@ -4,7 +4,7 @@ use Rattle.std.specs.Prelude.{◌<◌, ◌≤◌, ◌⊎◌, ◌↔◌, ℕ, Lis
 use Rattle.std.specs.Cmp.Lexicographic.{slice_cmp}
 use Rattle.std.specs.List.Sorted.{IsStrictlySortedBy}
 use Rattle.std.specs.Ordering.{nat_cmp}
-use Rattle.rp_patch.specs.Parts.{Before, Begins}
+use Rattle.rp_patch.specs.PartialTypes.{Before, Begins}
 use Rattle.rp_patch.specs.Patches.{PatchList}
 use Rattle.rp_patch.specs.Types.{HasMoreTypesThan, IsRationalType, combinations}
 use Rattle.rp_types.specs.Listed.{types_of}

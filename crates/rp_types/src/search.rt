@@ -1,23 +1,23 @@
-//! All rational types by a search, depth first over the budgets, that leaves a part with a violation.
+//! All rational types by a search, depth first over the budgets, that leaves a partial type with a violation.
 ghost use Rattle.std.specs.Prelude.{◌≡◌, IfErr, OnOk};
-ghost use Rattle.rp_patch.specs.Parts.{IsPart, taken_in};
+ghost use Rattle.rp_patch.specs.PartialTypes.{IsPartialType, taken_in};
 ghost use Rattle.rp_types.specs.InnerListed.{AreListedBefore, AreListedThrough, SaysMore};
 
 use crate::types::Rational;
 use crate::{TYPES, TypesFault};
 use rp_num::Seq;
 use rp_patch::Patches;
-use rp_patch::part::Part;
+use rp_patch::partial_type::PartialType;
 use std::alloc::Global;
 
-/// Adds a part with a patch of every budget.
+/// Adds a partial type with a patch of every budget.
 fn push_type(
     alloc: Global,
     patches: &Patches,
-    part: &Part,
+    part: &PartialType,
     types: &mut Vec<Rational>,
 ) -> Result<(), TypesFault>
-    requires part { IsPart patches.now part.now }
+    requires part { IsPartialType patches.now part.now }
     requires whole { part.now.taken ≡ patches.now.budgets }
     requires so_far { AreListedBefore patches.now (taken_in part.now) types.old.items }
     ensures listed { OnOk result
@@ -35,14 +35,14 @@ fn push_type(
     Ok(())
 }
 
-/// Adds the rational types that begin with a part, where those that come before are listed.
+/// Adds the rational types that begin with a partial type, where those that come before are listed.
 pub fn extend(
     alloc: Global,
     patches: &Patches,
-    part: &Part,
+    part: &PartialType,
     types: &mut Vec<Rational>,
 ) -> Result<(), TypesFault>
-    requires part { IsPart patches.now part.now }
+    requires part { IsPartialType patches.now part.now }
     requires so_far { AreListedBefore patches.now (taken_in part.now) types.old.items }
     ensures listed { OnOk result
         (AreListedThrough patches.now (taken_in part.now) types.new.items) }

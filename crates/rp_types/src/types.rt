@@ -7,7 +7,7 @@ use crate::search::extend;
 use crate::{COMBINATIONS, TYPES, TypesFault};
 use rp_num::Seq;
 use rp_patch::Patches;
-use rp_patch::part::Part;
+use rp_patch::partial_type::PartialType;
 use std::alloc::Global;
 
 /// A rational type: the number of a patch of each budget, in their order.
@@ -26,7 +26,7 @@ pub fn rational_types(alloc: Global, patches: &Patches) -> Result<Seq<Rational>,
 {
     test_combinations(patches)?;
     let mut types = Vec::new(alloc);
-    let part = Part::new(patches);
+    let part = PartialType::new(patches);
     extend(alloc, patches, &part, &mut types)?;
     Ok(Seq::from_vec(types))
 }

@@ -4,7 +4,7 @@ use Rattle.std.proofs.Common.{◌≡◌, ℕ, zero, suc, ◌-◌, ◌<◌, ◌�
 use Rattle.std.proofs.lemmas.Bool.{cases_lt}
 use Rattle.rp_walk.specs.ExactTotal.{ExactTotal, IsLess, SameTotal}
 use Rattle.rp_walk.specs.Walk.{TotalRule, IsTotal, KeepsOrder}
-use Rattle.rp_walk.specs.LeastTotals.{IsLeast, IsLive, IsTooWide, NoneTooWide, ComesBefore, IsFirstTooWide, FitsAlike}
+use Rattle.rp_walk.specs.LeastTotals.{IsLeast, IsLive, IsTooWide, NoneTooWide, TripleComesBefore, IsFirstTooWide, FitsAlike}
 use Rattle.rp_walk.specs.InnerRounds.{AreRoundTotals, IsNext, TriedFits}
 use Rattle.rp_walk.specs.RoundWalk.{CameFrom, Carries}
 use Rattle.rp_walk.proofs.Order.{not_more_trans, not_less-same}
@@ -77,7 +77,7 @@ IsFirstTooWide-found w keeps fits alike k f from t s round none hk ht hs h fit_t
         subst (λ n. ¬ (IsTooWide w fits k n s')) (sym e)
         (not_wide-fits w keeps fits alike k f from t s' round (λ ht' hs' p. fit_s s' b))
 
-    before : (k' t' s' : ℕ) → ComesBefore k' t' s' k t s → ¬ (IsTooWide w fits k' t' s')
+    before : (k' t' s' : ℕ) → TripleComesBefore k' t' s' k t s → ¬ (IsTooWide w fits k' t' s')
     before k' t' s' (inl b) = none k' t' s' b
     before k' t' s' (inr (e, b)) = subst (λ n. ¬ (IsTooWide w fits n t' s')) (sym e) (at_round t' s' b)
 

@@ -10,7 +10,8 @@ use Rattle.rp_walk.specs.Walk.{AreObservations, IsTotal, StartsAlike, end_of, to
 use Rattle.rp_walk.specs.LeastTotals.{IsLeast}
 use Rattle.rp_walk.specs.Settled.{FallsBelowStart, HasLeastTotals}
 use Rattle.rp_walk.specs.Outcome.{SettlesInWide}
-use Rattle.rp_walk.specs.Sums.{AddsWithin, FitsI128, added_along, sums, whole_total}
+use Rattle.rp_walk.specs.Sums.{FitsI128, sums, whole_total}
+use Rattle.rp_walk.specs.InnerSums.{AddsWithin, added_along}
 use Rattle.rp_walk.proofs.SumLaws.{parts_times, sums_keep_order, sums_fit_alike}
 use Rattle.rp_walk.proofs.Numbers.{parts_of_sum}
 use Rattle.rp_walk.proofs.Order.{not_more_trans, not_less-same}

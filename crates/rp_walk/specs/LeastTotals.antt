@@ -37,13 +37,13 @@ pub record IsTooWide (w : TotalRule) (fits : ExactTotal → Type 0) (k t s : ℕ
   pub not_fit : (x : ExactTotal) × IsLeastWithin w k t x × (¬ (fits (w.after x t s)))
 
 -- Triples in the order of k, then t, then s.
-abbrev pub ComesBefore : ℕ → ℕ → ℕ → ℕ → ℕ → ℕ → Type 0
-ComesBefore k t s k' t' s' = (k < k') ⊎ ((k ≡ k') × ((t < t') ⊎ ((t ≡ t') × (s < s'))))
+abbrev pub TripleComesBefore : ℕ → ℕ → ℕ → ℕ → ℕ → ℕ → Type 0
+TripleComesBefore k t s k' t' s' = (k < k') ⊎ ((k ≡ k') × ((t < t') ⊎ ((t ≡ t') × (s < s'))))
 
 -- The first triple that is too wide.
 pub record IsFirstTooWide (w : TotalRule) (fits : ExactTotal → Type 0) (k t s : ℕ) : Type 0 where
   pub too_wide : IsTooWide w fits k t s
-  pub none_before : (k' t' s' : ℕ) → ComesBefore k' t' s' k t s → ¬ (IsTooWide w fits k' t' s')
+  pub none_before : (k' t' s' : ℕ) → TripleComesBefore k' t' s' k t s → ¬ (IsTooWide w fits k' t' s')
 
 -- No triple is too wide.
 abbrev pub NoneTooWide : TotalRule → (ExactTotal → Type 0) → Type 0

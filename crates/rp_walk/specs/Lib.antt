@@ -9,3 +9,4 @@ pub mod InnerAdvance
 pub mod Outcome
 pub mod Sums
 pub mod Products
+pub mod InnerSums

@@ -1,6 +1,6 @@
 -- Sums of whole numbers over the steps of walks, as a kind of total (cyclical monotonicity: Rockafellar 1970, section
 -- 24).
-use Rattle.std.specs.Prelude.{ℕ, ◌<◌, ℤ, pos, neg_ℤ, ◌+ℤ◌, ◌*ℤ◌, ◌≤ℤ◌, FitsSigned, List, [], ◌∷◌}
+use Rattle.std.specs.Prelude.{ℕ, ℤ, pos, ◌+ℤ◌, ◌*ℤ◌, FitsSigned}
 use mir.Syntax.{w128}
 use Rattle.std.proofs.Common.{lit≤}
 use Rattle.rp_walk.specs.ExactTotal.{ExactTotal, SameTotal}
@@ -17,15 +17,6 @@ sums n added = record {
   empty = whole_total (pos 0);
   after = λ x t s. record { num = x.num +ℤ (added t s *ℤ pos x.den); den = x.den; positive = x.positive };
 }
-
--- The sum over the steps from t to the first of the list, and so on.
-abbrev pub added_along : (ℕ → ℕ → ℤ) → ℕ → List ℕ → ℤ
-added_along added t [] = pos 0
-added_along added t (s ∷ rest) = added t s +ℤ added_along added s rest
-
--- No step adds more than b or less than -b.
-abbrev pub AddsWithin : ℕ → (ℕ → ℕ → ℤ) → ℕ → Type 0
-AddsWithin n added b = (t s : ℕ) → t < n → s < n → (added t s ≤ℤ pos b) × (neg_ℤ (pos b) ≤ℤ added t s)
 
 -- A sum that an `i128` can stand for.
 abbrev pub FitsI128 : ExactTotal → Type 0

@@ -18,12 +18,12 @@ use Rattle.clap.specs.Walk.{Held, Row, Rule, Text, Walk, arg_by_id, arg_by_long,
 use Rattle.clap.specs.declared.builder.value_parser.Reading.TheVariants.{AsWritten}
 use Rattle.clap.specs.declared.builder.value_parser.ValueParser.TheVariants.{NonEmptyString, Unsigned}
 use Rattle.clap.specs.declared.parser.matches.ValueSource.TheVariants.{DefaultValue}
-use Rattle.rp_words.specs.CommandLine.{Given}
+use Rattle.rp_words.specs.CommandLine.{Arguments}
 use Rattle.rp_words.specs.Commands.{json_rule, number_rule, per_rule, where_asked}
 use Rattle.rp_words.specs.Forms.{Form, Number, units}
 use Rattle.rp_words.specs.CommandLine.{file_names}
-use Rattle.rp_words.specs.Shapes.{AreInRange, AreNamed, AreUnits, Fits, MayAsk, json_word, per_words, words_of}
-use Rattle.rp_words.specs.Words.{all_in, given_in, json_of, number_of}
+use Rattle.rp_words.specs.Shapes.{AreInRange, AreFileNames, AreUnits, Fits, MayAsk, json_word, per_words, words_of}
+use Rattle.rp_words.specs.Words.{all_in, arguments_in, json_of, number_of}
 use Rattle.rp_words.proofs.KeptRows.{IsKept, all_found, are_kept, kept_from}
 use Rattle.rp_words.proofs.Leaves.{leaf}
 use Rattle.rp_words.proofs.PlacesTaken.{AreAt, AreFound, AreFresh, AreTakenAt, after, all_are_found, all_at, all_lead, are_apart, are_at, found_more, fresh_both, kept_found, name, new_found, no_default_comes, no_default_fails, none_found, none_fresh, none_missed, rows_for, same_if}
@@ -42,7 +42,7 @@ abbrev IsSmall : Number → Type 0
 IsSmall number = number.most < 2 ^ 64
 
 -- names of files and numbers in range are taken at their places
-files_taken : (ids : List Text) (files : List Text) → AreNamed ids files → AreTakenAt file_place ids files
+files_taken : (ids : List Text) (files : List Text) → AreFileNames ids files → AreTakenAt file_place ids files
 files_taken [] [] named = tt
 files_taken [] (file ∷ files) named = absurd named
 files_taken (id ∷ ids) [] named = absurd named
@@ -219,36 +219,36 @@ options_default j true has asked rows may fresh =
     ∙ json_default j has asked rows may fresh
 options_default j false has asked rows may fresh = json_default j has asked rows may fresh
 
-module _ (form : Form) (o : IsOrderly form) (given : Given) (fits : Fits form given) where
+module _ (form : Form) (o : IsOrderly form) (arguments : Arguments) (fits : Fits form arguments) where
   abbrev pub last : ℕ
   last = after number_place (after file_place 1 (file_names form.files)) form.numbers
 
   abbrev pub with_files : List Row
-  with_files = [] ++ rows_for file_place (file_names form.files) given.files
+  with_files = [] ++ rows_for file_place (file_names form.files) arguments.files
 
   abbrev pub with_numbers : List Row
-  with_numbers = with_files ++ rows_for number_place form.numbers (map decimal given.numbers)
+  with_numbers = with_files ++ rows_for number_place form.numbers (map decimal arguments.numbers)
 
   abbrev pub with_per : List Row
-  with_per = with_numbers ++ per_rows given.per
+  with_per = with_numbers ++ per_rows arguments.per
 
-  names_taken : AreTakenAt file_place (file_names form.files) given.files
-  names_taken = files_taken (file_names form.files) given.files fits.0
+  names_taken : AreTakenAt file_place (file_names form.files) arguments.files
+  names_taken = files_taken (file_names form.files) arguments.files fits.0
 
-  ranges_taken : AreTakenAt number_place form.numbers (map decimal given.numbers)
-  ranges_taken = numbers_taken form.numbers given.numbers o.small fits.1.0
+  ranges_taken : AreTakenAt number_place form.numbers (map decimal arguments.numbers)
+  ranges_taken = numbers_taken form.numbers arguments.numbers o.small fits.1.0
 
-  files_lead : Leads (leaf form) 1 nothing_held given.files (after file_place 1 (file_names form.files)) with_files × AreFresh (number_names form) with_files
+  files_lead : Leads (leaf form) 1 nothing_held arguments.files (after file_place 1 (file_names form.files)) with_files × AreFresh (number_names form) with_files
   files_lead =
-      all_lead file_place (leaf form) (file_names form.files) given.files (number_names form) 1 nothing_held [] o.files names_taken o.apart (none_fresh (all_names form))
+      all_lead file_place (leaf form) (file_names form.files) arguments.files (number_names form) 1 nothing_held [] o.files names_taken o.apart (none_fresh (all_names form))
       (record { free = refl; rows_are = refl })
 
   numbers_apart : are_apart (number_names form) ≡ true
   numbers_apart = apart_after (map (name file_place) (file_names form.files)) (number_names form) o.apart
 
-  numbers_lead : Leads (leaf form) (after file_place 1 (file_names form.files)) files_lead.0.held (map decimal given.numbers) last with_numbers × AreFresh option_names with_numbers
+  numbers_lead : Leads (leaf form) (after file_place 1 (file_names form.files)) files_lead.0.held (map decimal arguments.numbers) last with_numbers × AreFresh option_names with_numbers
   numbers_lead =
-      all_lead number_place (leaf form) form.numbers (map decimal given.numbers) option_names (after file_place 1 (file_names form.files)) files_lead.0.held with_files o.numbers ranges_taken
+      all_lead number_place (leaf form) form.numbers (map decimal arguments.numbers) option_names (after file_place 1 (file_names form.files)) files_lead.0.held with_files o.numbers ranges_taken
       numbers_apart files_lead.1 files_lead.0.calm
 
   per_lead : (h : Held) (per : Option ℕ) → AreUnits form.per per → IsCalm (leaf form) h with_numbers → Leads (leaf form) last h (per_words per) last (with_numbers ++ per_rows per)
@@ -271,92 +271,92 @@ module _ (form : Form) (o : IsOrderly form) (given : Given) (fits : Fits form gi
   json_lead h true may calm = go form.json refl may
     where
       go : (has : Bool) → form.json ≡ has → MayAsk has true → Leads (leaf form) last h (json_word true) last (with_per ++ json_rows true)
-      go true is may = json_leads (leaf form) last h with_per calm (o.json is).0 (per_fresh given.per)
+      go true is may = json_leads (leaf form) last h with_per calm (o.json is).0 (per_fresh arguments.per)
       go false is may = cc
 
-  lead : Leads (leaf form) 1 nothing_held (words_of given) last (with_per ++ json_rows given.json)
+  lead : Leads (leaf form) 1 nothing_held (words_of arguments) last (with_per ++ json_rows arguments.json)
   lead =
       let s = leaf form in
       let files = files_lead.0 in
       let numbers = numbers_lead.0 in
-      let per = per_lead numbers.held given.per fits.1.1 numbers.calm in
-      let json = json_lead per.held given.json fits.2 per.calm in
-      let options = then_leads s last last last numbers.held (per_words given.per) (json_word given.json) with_per (with_per ++ json_rows given.json) per json in
-      let rest = then_leads s (after file_place 1 (file_names form.files)) last last files.held (map decimal given.numbers) (per_words given.per ++ json_word given.json) with_numbers (with_per ++ json_rows given.json) numbers options in
-      then_leads s 1 (after file_place 1 (file_names form.files)) last nothing_held given.files (map decimal given.numbers ++ (per_words given.per ++ json_word given.json)) with_files (with_per ++ json_rows given.json) files rest
+      let per = per_lead numbers.held arguments.per fits.1.1 numbers.calm in
+      let json = json_lead per.held arguments.json fits.2 per.calm in
+      let options = then_leads s last last last numbers.held (per_words arguments.per) (json_word arguments.json) with_per (with_per ++ json_rows arguments.json) per json in
+      let rest = then_leads s (after file_place 1 (file_names form.files)) last last files.held (map decimal arguments.numbers) (per_words arguments.per ++ json_word arguments.json) with_numbers (with_per ++ json_rows arguments.json) numbers options in
+      then_leads s 1 (after file_place 1 (file_names form.files)) last nothing_held arguments.files (map decimal arguments.numbers ++ (per_words arguments.per ++ json_word arguments.json)) with_files (with_per ++ json_rows arguments.json) files rest
 
   -- so the walk ends there, free of faults
-  walk_ends : walk (leaf form).rules [] nothing_held (words_of given) ≡ at (leaf form) last lead.held
-  walk_ends = ap (λ (words : List Text). fold (walked (leaf form).rules []) (walk_from nothing_held) words) (sym (append-nil (words_of given))) ∙ lead.walks []
+  walk_ends : walk (leaf form).rules [] nothing_held (words_of arguments) ≡ at (leaf form) last lead.held
+  walk_ends = ap (λ (words : List Text). fold (walked (leaf form).rules []) (walk_from nothing_held) words) (sym (append-nil (words_of arguments))) ∙ lead.walks []
 
-  walk_free : walk_fault (leaf form) [] (walk_from nothing_held) (words_of given) ≡ []
+  walk_free : walk_fault (leaf form) [] (walk_from nothing_held) (words_of arguments) ≡ []
   unfolding walk_fault
-  walk_free = ap (λ (words : List Text). walk_fault (leaf form) [] (walk_from nothing_held) words) (sym (append-nil (words_of given))) ∙ lead.free []
+  walk_free = ap (λ (words : List Text). walk_fault (leaf form) [] (walk_from nothing_held) words) (sym (append-nil (words_of arguments))) ∙ lead.free []
 
   -- and the matches are these
   abbrev pub end_rows : List Row
-  end_rows = with_per ++ json_in_end form.json given.json
+  end_rows = with_per ++ json_in_end form.json arguments.json
 
-  defaults_come : fold with_default (with_per ++ json_rows given.json) (leaf form).rules ≡ end_rows
+  defaults_come : fold with_default (with_per ++ json_rows arguments.json) (leaf form).rules ≡ end_rows
   defaults_come =
-      no_default_comes file_place (file_names form.files) 1 (map number_rule form.numbers ++ option_rules form.per form.json) (with_per ++ json_rows given.json)
-      ∙ no_default_comes number_place form.numbers (after file_place 1 (file_names form.files)) (option_rules form.per form.json) (with_per ++ json_rows given.json)
-      ∙ options_default last form.per form.json given.json with_per fits.2 (per_fresh given.per)
+      no_default_comes file_place (file_names form.files) 1 (map number_rule form.numbers ++ option_rules form.per form.json) (with_per ++ json_rows arguments.json)
+      ∙ no_default_comes number_place form.numbers (after file_place 1 (file_names form.files)) (option_rules form.per form.json) (with_per ++ json_rows arguments.json)
+      ∙ options_default last form.per form.json arguments.json with_per fits.2 (per_fresh arguments.per)
 
   finished_are : finished (leaf form).rules lead.held ≡ end_rows
   finished_are = ap (λ (now : List Row). fold with_default now (leaf form).rules) lead.calm.rows_are ∙ defaults_come
 
-  pub rows_are : rows_after (leaf form).rules [] (words_of given) ≡ end_rows
+  pub rows_are : rows_after (leaf form).rules [] (words_of arguments) ≡ end_rows
   rows_are = ap (λ (w : Walk). finished (leaf form).rules w.held) walk_ends ∙ finished_are
 
   -- what is found in them
-  files_found : AreFound file_place (file_names form.files) given.files end_rows
+  files_found : AreFound file_place (file_names form.files) arguments.files end_rows
   files_found =
-      found_more file_place (file_names form.files) given.files with_per (json_in_end form.json given.json)
-      (found_more file_place (file_names form.files) given.files with_numbers (per_rows given.per)
-      (found_more file_place (file_names form.files) given.files with_files (rows_for number_place form.numbers (map decimal given.numbers))
-      (all_are_found file_place (file_names form.files) given.files (number_names form) [] names_taken o.apart (none_fresh (all_names form)))))
+      found_more file_place (file_names form.files) arguments.files with_per (json_in_end form.json arguments.json)
+      (found_more file_place (file_names form.files) arguments.files with_numbers (per_rows arguments.per)
+      (found_more file_place (file_names form.files) arguments.files with_files (rows_for number_place form.numbers (map decimal arguments.numbers))
+      (all_are_found file_place (file_names form.files) arguments.files (number_names form) [] names_taken o.apart (none_fresh (all_names form)))))
 
-  numbers_found : AreFound number_place form.numbers (map decimal given.numbers) end_rows
+  numbers_found : AreFound number_place form.numbers (map decimal arguments.numbers) end_rows
   numbers_found =
-      found_more number_place form.numbers (map decimal given.numbers) with_per (json_in_end form.json given.json)
-      (found_more number_place form.numbers (map decimal given.numbers) with_numbers (per_rows given.per)
-      (all_are_found number_place form.numbers (map decimal given.numbers) option_names with_files ranges_taken numbers_apart files_lead.1))
+      found_more number_place form.numbers (map decimal arguments.numbers) with_per (json_in_end form.json arguments.json)
+      (found_more number_place form.numbers (map decimal arguments.numbers) with_numbers (per_rows arguments.per)
+      (all_are_found number_place form.numbers (map decimal arguments.numbers) option_names with_files ranges_taken numbers_apart files_lead.1))
 
   json_row_not_per : (has asked : Bool) → has_row units.name (json_in_end has asked) ≡ false
   json_row_not_per true true = refl
   json_row_not_per true false = refl
   json_row_not_per false asked = refl
 
-  per_read : (has : Bool) (per : Option ℕ) → AreUnits has per → given.per ≡ per → (if has then number_of units end_rows else None) ≡ per
+  per_read : (has : Bool) (per : Option ℕ) → AreUnits has per → arguments.per ≡ per → (if has then number_of units end_rows else None) ≡ per
   per_read true None range is =
       let none : has_row units.name with_per ≡ false = rw is (fresh_both units.name with_numbers [] numbers_lead.1.0 refl) in
-      rw (none_found units.name end_rows (fresh_both units.name with_per (json_in_end form.json given.json) none (json_row_not_per form.json given.json))) refl
+      rw (none_found units.name end_rows (fresh_both units.name with_per (json_in_end form.json arguments.json) none (json_row_not_per form.json arguments.json))) refl
   per_read true (Some n) range is =
       let word = number_word units.least units.most n (omega (arith, range.1)) range.0 range.1 in
       let r = row units.name AsWritten (decimal n) in
       let found : find (λ x. bytes_eq x.id units.name) with_per ≡ Some r = rw is (new_found with_numbers [] r numbers_lead.1.0) in
-      rw (kept_found (λ x. bytes_eq x.id units.name) with_per (json_in_end form.json given.json) r found, word.taken) (ap (λ (m : ℕ). Some m) word.value)
+      rw (kept_found (λ x. bytes_eq x.id units.name) with_per (json_in_end form.json arguments.json) r found, word.taken) (ap (λ (m : ℕ). Some m) word.value)
   per_read false per range is = sym range
 
-  json_read : (has asked : Bool) → MayAsk has asked → form.json ≡ has → given.json ≡ asked → (if has then json_of end_rows else false) ≡ asked
+  json_read : (has asked : Bool) → MayAsk has asked → form.json ≡ has → arguments.json ≡ asked → (if has then json_of end_rows else false) ≡ asked
   json_read true true may has is =
-      rw (find-append (λ x. bytes_eq x.id (codes "json")) with_per (json_in_end form.json given.json), none_found (codes "json") with_per (per_fresh given.per), has, is) refl
+      rw (find-append (λ x. bytes_eq x.id (codes "json")) with_per (json_in_end form.json arguments.json), none_found (codes "json") with_per (per_fresh arguments.per), has, is) refl
   json_read true false may has is =
-      rw (find-append (λ x. bytes_eq x.id (codes "json")) with_per (json_in_end form.json given.json), none_found (codes "json") with_per (per_fresh given.per), has, is) refl
+      rw (find-append (λ x. bytes_eq x.id (codes "json")) with_per (json_in_end form.json arguments.json), none_found (codes "json") with_per (per_fresh arguments.per), has, is) refl
   json_read false asked may has is = sym may
 
   -- which give again what was given
-  pub given_again : given_in form end_rows ≡ Some given
+  pub given_again : arguments_in form end_rows ≡ Some arguments
   given_again =
-      rw (files_read (file_names form.files) given.files end_rows files_found, numbers_read form.numbers given.numbers end_rows o.small fits.1.0 numbers_found)
-      (λ k. Some (record { files = given.files; numbers = given.numbers; per = per_read form.per given.per fits.1.1 refl k; json = json_read form.json given.json fits.2 refl refl k }))
+      rw (files_read (file_names form.files) arguments.files end_rows files_found, numbers_read form.numbers arguments.numbers end_rows o.small fits.1.0 numbers_found)
+      (λ k. Some (record { files = arguments.files; numbers = arguments.numbers; per = per_read form.per arguments.per fits.1.1 refl k; json = json_read form.json arguments.json fits.2 refl refl k }))
 
   -- nothing is missed
   checks_free : check_fault (leaf form) end_rows false ≡ []
   checks_free =
-      let none = none_missed file_place (file_names form.files) given.files end_rows 1 (map number_rule form.numbers ++ option_rules form.per form.json) files_found
-      (none_missed number_place form.numbers (map decimal given.numbers) end_rows (after file_place 1 (file_names form.files)) (option_rules form.per form.json) numbers_found
+      let none = none_missed file_place (file_names form.files) arguments.files end_rows 1 (map number_rule form.numbers ++ option_rules form.per form.json) files_found
+      (none_missed number_place form.numbers (map decimal arguments.numbers) end_rows (after file_place 1 (file_names form.files)) (option_rules form.per form.json) numbers_found
       (options_unmissed form.per form.json last end_rows)) in
       rw none refl
 
@@ -366,5 +366,5 @@ module _ (form : Form) (o : IsOrderly form) (given : Given) (fits : Fits form gi
       (no_default_fails number_place form.numbers (after file_place 1 (file_names form.files)) (option_rules form.per form.json) (options_default_free form.per form.json last))
 
   -- so the command takes the words
-  pub words_free : level_fault (leaf form) [] nothing_held (words_of given) false [] ≡ []
+  pub words_free : level_fault (leaf form) [] nothing_held (words_of arguments) false [] ≡ []
   words_free = rw (walk_free, walk_ends, lead.calm.free, defaults_free (settled (leaf form).rules lead.held).rows, finished_are, checks_free) refl

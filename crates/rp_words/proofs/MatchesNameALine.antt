@@ -7,12 +7,12 @@ use Rattle.clap.specs.Faults.{built_fault, check_fault, defaults_fault, entered_
 use Rattle.clap.specs.Kinds.{or_else}
 use Rattle.clap.specs.Simple.{App, Shape, argument_words, built, entered, filled, filled_from, index_after, label_of, names_of, rows_at, subcommand_of, with_index}
 use Rattle.clap.specs.Walk.{Row, Rule, Text, answers_to, first_of, finished, nothing_held, rows_after, settled, walk, walk_from}
-use Rattle.rp_words.specs.CommandLine.{Given, Line, command_named, commands, form_of}
+use Rattle.rp_words.specs.CommandLine.{Arguments, Line, command_named, commands, form_of}
 use Rattle.rp_words.specs.declared.commands.Command.{Command}
 use Rattle.rp_words.specs.Commands.{file_rule, number_rule, program, rules_of}
 use Rattle.rp_words.specs.Forms.{Form, Number}
 use Rattle.rp_words.specs.CommandLine.{file_names}
-use Rattle.rp_words.specs.Words.{all_in, command_line, given_in, line_named, line_of, number_of}
+use Rattle.rp_words.specs.Words.{all_in, command_line, arguments_in, line_named, denoted_line, number_of}
 use Rattle.rp_words.proofs.KeptRows.{IsKept, all_found, are_kept, each_found, every, first_free, kept_from, second_free}
 use Rattle.rp_words.proofs.KeptWalk.{AreTaken, level_taken, none_wanted}
 use Rattle.rp_words.proofs.Leaves.{leaf, leaves}
@@ -77,7 +77,7 @@ module _ (c : List Rule) (rows : List Row) (taken : AreTaken c rows) where
       let a = with_index i (filled (number_rule number)) in
       number_read a number rows refl refl (required_read c rows a taken kept.own refl)
 
-given_named : (form : Form) (rows : List Row) → AreTaken (filled_from 1 (rules_of form)) rows → IsSome (given_in form rows)
+given_named : (form : Form) (rows : List Row) → AreTaken (filled_from 1 (rules_of form)) rows → IsSome (arguments_in form rows)
 given_named form rows taken =
     let c = filled_from 1 (rules_of form) in
     let files = all_read c rows taken file_rule first_of (file_reads c rows taken) (file_names form.files) 1 _ taken.kept in
@@ -86,14 +86,14 @@ given_named form rows taken =
 
 -- in the order of the commands
 command_names : (command : Command) → command_named (form_of command).name ≡ Some command → NamesALine (leaf (form_of command))
-command_names command own rows taken = rw own (go (given_in (form_of command) rows) (given_named (form_of command) rows taken))
+command_names command own rows taken = rw own (go (arguments_in (form_of command) rows) (given_named (form_of command) rows taken))
   where
-    over : Given → Line
-    over given = record { command = command; given = given }
+    over : Arguments → Line
+    over arguments = record { command = command; arguments = arguments }
 
-    go : (given : Option Given) → IsSome given → IsSome (option_map over given)
+    go : (arguments : Option Arguments) → IsSome arguments → IsSome (option_map over arguments)
     go None some = some
-    go (Some given) some = refl
+    go (Some arguments) some = refl
 
 all_names : (some : List Command) → AllByRecursion (λ command. command_named (form_of command).name ≡ Some command) some → AllByRecursion NamesALine (leaves (map form_of some))
 all_names [] own = tt
@@ -108,6 +108,6 @@ pub matches_name_a_line : (words : List (List ℕ)) → fault_of program words �
 matches_name_a_line words free = built_named (built program) refl (all_names commands each_own) (argument_words program words) refl free
 
 -- so words of which no line comes are refused
-pub refused_where_no_line : (words : List (List ℕ)) → line_of words ≡ None → fault_of program words ≡ [] → ⊥
-unfolding line_of
+pub refused_where_no_line : (words : List (List ℕ)) → denoted_line words ≡ None → fault_of program words ≡ [] → ⊥
+unfolding denoted_line
 refused_where_no_line words none free = let some = matches_name_a_line words free in let wrong = rw free at none in let no = rw wrong at some in cc

@@ -8,13 +8,13 @@ use Rattle.std.proofs.lemmas.Slice.Eq.{bytes_eq-Decides}
 use Rattle.clap.specs.Faults.{built_fault, defaults_fault, fault_of, level_fault, turn_fault, walk_fault}
 use Rattle.clap.specs.Simple.{Shape, built, entered, label_of, names_of, rows_at, subcommand_of}
 use Rattle.clap.specs.Walk.{Names, Row, Text, Walk, answers_to, nothing_held, rows_after, walk, walk_from, walked}
-use Rattle.rp_words.specs.CommandLine.{Given, Line, command_named, commands, form_of, forms}
+use Rattle.rp_words.specs.CommandLine.{Arguments, Line, command_named, commands, form_of, forms}
 use Rattle.rp_words.specs.declared.commands.Command.{Command}
 use Rattle.rp_words.specs.declared.commands.Command.TheVariants.{Pairs}
 use Rattle.rp_words.specs.Commands.{program, program_of}
 use Rattle.rp_words.specs.Forms.{Form}
 use Rattle.rp_words.specs.Shapes.{Fits, HasShape, shape_of, words_of}
-use Rattle.rp_words.specs.Words.{line_of}
+use Rattle.rp_words.specs.Words.{denoted_line}
 use Rattle.rp_words.proofs.FormsTaken.{end_rows, given_again, is_orderly, orderly, rows_are, words_free}
 use Rattle.rp_words.proofs.KeptRows.{all_found, every}
 use Rattle.rp_words.proofs.Leaves.{leaf, leaves}
@@ -109,31 +109,31 @@ form_found name command (c ∷ cs) is = rw (names_swap (form_of c).name name) (g
     go later false is = later is
 
 -- the words of a command denote its line with what is given
-module _ (command : Command) (own : command_named (form_of command).name ≡ Some command) (given : Given) (fits : Fits (form_of command) given) (name : Text) where
+module _ (command : Command) (own : command_named (form_of command).name ≡ Some command) (arguments : Arguments) (fits : Fits (form_of command) arguments) (name : Text) where
   abbrev words : List Text
-  words = name ∷ (form_of command).name ∷ words_of given
+  words = name ∷ (form_of command).name ∷ words_of arguments
 
   abbrev form : Form
   form = form_of command
 
-  command_denotes : line_of words ≡ Some (record { command = command; given = given })
-  unfolding line_of
+  command_denotes : denoted_line words ≡ Some (record { command = command; arguments = arguments })
+  unfolding denoted_line
   command_denotes =
       let o = orderly form (all_found (λ c. is_orderly (form_of c) ≡ true) (λ c. bytes_eq form.name (form_of c).name) command commands (every (λ c. is_orderly (form_of c)) commands commands_orderly) own) in
       let found = form_found form.name command commands own in
-      let free : fault_of program words ≡ [] = program_free forms form found (words_of given) (words_free form o given fits) in
-      let matches : subcommand_of program words ≡ Some (form.name, end_rows form o given fits) =
-      program_named forms form found (words_of given) name ∙ ap (λ (rows : List Row). Some (form.name, rows)) (rows_are form o given fits) in
-      rw (free, matches, own, given_again form o given fits) refl
+      let free : fault_of program words ≡ [] = program_free forms form found (words_of arguments) (words_free form o arguments fits) in
+      let matches : subcommand_of program words ≡ Some (form.name, end_rows form o arguments fits) =
+      program_named forms form found (words_of arguments) name ∙ ap (λ (rows : List Row). Some (form.name, rows)) (rows_are form o arguments fits) in
+      rw (free, matches, own, given_again form o arguments fits) refl
 
 -- each command is the one of its name
 each_own : (command : Command) → command_named (form_of command).name ≡ Some command
 each_own Pairs = refl
 each_own _ = refl
 
-pub shape_taken : (name : List ℕ) (line : Line) → HasShape line → line_of (name ∷ shape_of line) ≡ Some line
-shape_taken name line fits = command_denotes line.command (each_own line.command) line.given fits name
+pub shape_taken : (name : List ℕ) (line : Line) → HasShape line → denoted_line (name ∷ shape_of line) ≡ Some line
+shape_taken name line fits = command_denotes line.command (each_own line.command) line.arguments fits name
 
 -- the same of words that are those of a shape
-pub shape_given : (given : List (List ℕ)) (line : Line) (name : List ℕ) → HasShape line → given ≡ name ∷ shape_of line → line_of given ≡ Some line
-shape_given given line name has is = ap line_of is ∙ shape_taken name line has
+pub shape_given : (arguments : List (List ℕ)) (line : Line) (name : List ℕ) → HasShape line → arguments ≡ name ∷ shape_of line → denoted_line arguments ≡ Some line
+shape_given arguments line name has is = ap denoted_line is ∙ shape_taken name line has

@@ -20,7 +20,7 @@ use Rattle.clap.specs.declared.builder.value_parser.ValueParser.TheVariants.{Uns
 use Rattle.rp_words.specs.CommandLine.{Line}
 use Rattle.rp_words.specs.Commands.{program, with_rules}
 use Rattle.rp_words.specs.Forms.{Number}
-use Rattle.rp_words.specs.Words.{line_named, line_of, number_in}
+use Rattle.rp_words.specs.Words.{line_named, denoted_line, number_in}
 
 -- a numeral that fits passes the first two tests
 fits : (text : List ℕ) → IsNumeral 10 (without_leading_plus text) → digits_value 10 (without_leading_plus text) < 2 ^ 64
@@ -79,16 +79,16 @@ simple_and_free = refl
 
 -- words that are taken denote the line of the matches
 pub words_taken : (app : App) (words : List Text) (m : ArgMatches) (line : Option Line) → app ≡ program → (is_simple_and_free app ≡ true → fault_of app words ≡ []) → HasMatchesOf app words m
-    → line ≡ line_named (subcommand_rows_of m) → line_of words ≡ line
-unfolding line_of
+    → line ≡ line_named (subcommand_rows_of m) → denoted_line words ≡ line
+unfolding denoted_line
 words_taken app words m line is kinds matches named =
     let free : fault_of program words ≡ [] = subst (λ (a : App). fault_of a words ≡ []) is (kinds (ap is_simple_and_free is ∙ simple_and_free)) in
     let given : subcommand_rows_of m ≡ subcommand_of program words = (matches (ap is_simple is ∙ simple)).1 ∙ ap (λ (a : App). subcommand_of a words) is in
     rw free (ap line_named (sym given) ∙ sym named)
 
 -- and words that are refused for another cause than memory denote none
-pub words_refused : (app : App) (words : List Text) (e : Error) → app ≡ program → (is_simple_and_free app ≡ true → HasKind (fault_of app words) e) → (kind_of e ≡ OutOfMemory → ⊥) → line_of words ≡ None
-unfolding line_of
+pub words_refused : (app : App) (words : List Text) (e : Error) → app ≡ program → (is_simple_and_free app ≡ true → HasKind (fault_of app words) e) → (kind_of e ≡ OutOfMemory → ⊥) → denoted_line words ≡ None
+unfolding denoted_line
 words_refused app words e is kinds other =
     some_kind (fault_of program words) (subst (λ (a : App). HasKind (fault_of a words) e) is (kinds (ap is_simple_and_free is ∙ simple_and_free)))
   where

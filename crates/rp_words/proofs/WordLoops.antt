@@ -12,9 +12,9 @@ use Rattle.std.proofs.lemmas.Bool.{leb-true}
 use Rattle.std.specs.Str.Parse.{digits_value, without_leading_plus}
 use Rattle.clap.proofs.WalkLemmas.{both}
 use Rattle.clap.specs.ValueTests.{is_numeral, is_unsigned_in}
-use Rattle.rp_words.specs.CommandLine.{Given}
+use Rattle.rp_words.specs.CommandLine.{Arguments}
 use Rattle.rp_words.specs.Shapes.{AreInRange, AreUnits, HasRanges, IsInRange}
-use Rattle.rp_words.specs.Words.{all_in, given_in, json_of, number_in, number_of}
+use Rattle.rp_words.specs.Words.{all_in, arguments_in, json_of, number_in, number_of}
 
 module _ {X V : Type 0} (read : X → List Row → Option V) (rows : List Row) where
   -- one more value at the end, or none
@@ -107,8 +107,8 @@ numbers_ranged (number ∷ numbers) rows ns is = go (numbers_ranged numbers rows
         let whole : m ∷ ms ≡ ns = cc in
         subst (λ (all : List ℕ). AreInRange (number ∷ numbers) all) whole (number_ranged number (one_of number.name rows) m one, later ms rest)
 
-pub given_ranged : (form : Form) (rows : List Row) (given : Given) → given_in form rows ≡ Some given → HasRanges form given
-given_ranged form rows given is = go (all_in first_of (file_names form.files) rows) (all_in number_of form.numbers rows) refl is
+pub given_ranged : (form : Form) (rows : List Row) (arguments : Arguments) → arguments_in form rows ≡ Some arguments → HasRanges form arguments
+given_ranged form rows arguments is = go (all_in first_of (file_names form.files) rows) (all_in number_of form.numbers rows) refl is
   where
     per_ranged : (has : Bool) (per : Option ℕ) → (if has then number_of units rows else None) ≡ per → AreUnits has per
     per_ranged true None is = tt
@@ -121,12 +121,12 @@ given_ranged form rows given is = go (all_in first_of (file_names form.files) ro
           numbers = numbers;
           per = if form.per then number_of units rows else None;
           json = if form.json then json_of rows else false;
-        }) numbers) files ≡ Some given → HasRanges form given
+        }) numbers) files ≡ Some arguments → HasRanges form arguments
     go None numbers read is = cc
     go (Some files) None read is = cc
     go (Some files) (Some numbers) read is =
-        let same : record { files = files; numbers = numbers; per = if form.per then number_of units rows else None; json = if form.json then json_of rows else false } ≡ given = cc in
-        subst (λ (g : Given). HasRanges form g) same (numbers_ranged form.numbers rows numbers read, per_ranged form.per (if form.per then number_of units rows else None) refl)
+        let same : record { files = files; numbers = numbers; per = if form.per then number_of units rows else None; json = if form.json then json_of rows else false } ≡ arguments = cc in
+        subst (λ (g : Arguments). HasRanges form g) same (numbers_ranged form.numbers rows numbers read, per_ranged form.per (if form.per then number_of units rows else None) refl)
 
 -- and all are there
 all_there : {X V : Type 0} (read : X → List Row → Option V) (xs : List X) (rows : List Row) (vs : List V) → all_in read xs rows ≡ Some vs → length vs ≡ length xs
@@ -140,8 +140,8 @@ all_there read (x ∷ xs) rows vs is = go (all_there read xs rows) (read x rows)
     go later (Some w) None rest is = cc
     go later (Some w) (Some ws) rest is = let whole : w ∷ ws ≡ vs = cc in ap length (sym whole) ∙ ap suc (later ws rest)
 
-pub given_whole : (form : Form) (rows : List Row) (given : Given) → given_in form rows ≡ Some given → length given.files ≡ length (file_names form.files)
-given_whole form rows given is = go (all_in first_of (file_names form.files) rows) refl (all_in number_of form.numbers rows) is
+pub given_whole : (form : Form) (rows : List Row) (arguments : Arguments) → arguments_in form rows ≡ Some arguments → length arguments.files ≡ length (file_names form.files)
+given_whole form rows arguments is = go (all_in first_of (file_names form.files) rows) refl (all_in number_of form.numbers rows) is
   where
     go : (files : Option (List Text)) → all_in first_of (file_names form.files) rows ≡ files → (numbers : Option (List ℕ))
         → option_and_then (λ files. option_map (λ numbers. record {
@@ -149,9 +149,9 @@ given_whole form rows given is = go (all_in first_of (file_names form.files) row
           numbers = numbers;
           per = if form.per then number_of units rows else None;
           json = if form.json then json_of rows else false;
-        }) numbers) files ≡ Some given → length given.files ≡ length (file_names form.files)
+        }) numbers) files ≡ Some arguments → length arguments.files ≡ length (file_names form.files)
     go None read numbers is = cc
     go (Some files) read None is = cc
     go (Some files) read (Some numbers) is =
-        let same : record { files = files; numbers = numbers; per = if form.per then number_of units rows else None; json = if form.json then json_of rows else false } ≡ given = cc in
-        subst (λ (g : Given). length g.files ≡ length (file_names form.files)) same (all_there first_of (file_names form.files) rows files read)
+        let same : record { files = files; numbers = numbers; per = if form.per then number_of units rows else None; json = if form.json then json_of rows else false } ≡ arguments = cc in
+        subst (λ (g : Arguments). length g.files ≡ length (file_names form.files)) same (all_there first_of (file_names form.files) rows files read)

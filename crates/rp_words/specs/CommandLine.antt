@@ -67,22 +67,22 @@ abbrev pub command_named : Text → Option Command
 command_named name = find (λ command. bytes_eq name (form_of command).name) commands
 
 -- what is given to a command: its files and its numbers in the order of the words, and its options
-pub record Given : Type 0 where
+pub record Arguments : Type 0 where
   pub files : List Text
   pub numbers : List ℕ
   pub per : Option ℕ
   pub json : Bool
 
-abbrev pub file : Given → ℕ → List ℕ
-file given k = slice_index_or given.files k []
+abbrev pub file : Arguments → ℕ → List ℕ
+file arguments k = slice_index_or arguments.files k []
 
-abbrev pub number : Given → ℕ → ℕ
-number given k = slice_index_or given.numbers k 0
+abbrev pub number : Arguments → ℕ → ℕ
+number arguments k = slice_index_or arguments.numbers k 0
 
 -- a command with what is given to it
 pub record Line : Type 0 where
   pub command : Command
-  pub given : Given
+  pub arguments : Arguments
 
 -- which files a line is given
 abbrev pub file_set : Line → FileSet
@@ -94,8 +94,8 @@ takes_levels line = (form_of line.command).levels
 
 -- the files of a line, in the order of the words
 abbrev pub files_of : Line → List (List ℕ)
-files_of line = line.given.files
+files_of line = line.arguments.files
 
 -- the k-th file of a line, from 0
 abbrev pub file_at : Line → ℕ → List ℕ
-file_at line k = file line.given k
+file_at line k = file line.arguments k

@@ -1,10 +1,10 @@
 -- A form, what is given to a command, and a line of `src/`, as those that contracts speak of.
 use Rattle.std.specs.Prelude.{map}
-use Rattle.rp_words.specs.CommandLine.{Given, Line}
+use Rattle.rp_words.specs.CommandLine.{Arguments, Line}
 use Rattle.rp_words.specs.Forms.{Form, Number}
 use Rattle.rp_words.specs.declared.commands.Form.{Form as HeldForm}
 use Rattle.rp_words.specs.declared.commands.Number.{Number as HeldNumber}
-use Rattle.rp_words.specs.declared.given.Given.{Given as HeldGiven}
+use Rattle.rp_words.specs.declared.arguments.Arguments.{Arguments as HeldArguments}
 use Rattle.rp_words.specs.declared.line.Line.{Line as HeldLine}
 
 abbrev pub named_number : HeldNumber → Number
@@ -20,13 +20,13 @@ named_form form = record {
   levels = form.levels;
 }
 
-abbrev pub named_given : HeldGiven → Given
-named_given given = record {
-  files = map (λ file. file.now) given.files.items;
-  numbers = given.numbers.items;
-  per = given.per;
-  json = given.json;
+abbrev pub named_arguments : HeldArguments → Arguments
+named_arguments arguments = record {
+  files = map (λ file. file.now) arguments.files.items;
+  numbers = arguments.numbers.items;
+  per = arguments.per;
+  json = arguments.json;
 }
 
 abbrev pub named_line : HeldLine → Line
-named_line line = record { command = line.command; given = named_given line.given }
+named_line line = record { command = line.command; arguments = named_arguments line.arguments }

@@ -19,4 +19,4 @@ IsUnit per = IfSome per (IsInRange units)
 
 pub record IsSized (line : Line) : Type 0 where
   pub files : length (files_of line) ≡ length (file_names (file_set line))
-  pub ranges : HasRanges (form_of line.command) line.given
+  pub ranges : HasRanges (form_of line.command) line.arguments

@@ -4,7 +4,7 @@ use Rattle.std.specs.Prelude.{◌≡◌, ◌==◌, ◌≤◌, ℕ, Bool, true, f
 use Rattle.std.specs.Prelude.{IfSome, codes, map, if◌then◌else◌}
 use Rattle.std.specs.Fmt.{decimal}
 use Rattle.clap.specs.Walk.{Text}
-use Rattle.rp_words.specs.CommandLine.{Given, Line, form_of}
+use Rattle.rp_words.specs.CommandLine.{Arguments, Line, form_of}
 use Rattle.rp_words.specs.Forms.{Form, Number, units}
 use Rattle.rp_words.specs.CommandLine.{file_names}
 
@@ -23,18 +23,19 @@ per_words None = []
 per_words (Some n) = codes "--per" ∷ decimal n ∷ []
 
 -- the words that give this to a command
-abbrev pub words_of : Given → List (List ℕ)
-words_of given = given.files ++ (map decimal given.numbers ++ (per_words given.per ++ json_word given.json))
+abbrev pub words_of : Arguments → List (List ℕ)
+words_of arguments =
+    arguments.files ++ (map decimal arguments.numbers ++ (per_words arguments.per ++ json_word arguments.json))
 
 -- the words of a line after the program's name
 abbrev pub shape_of : Line → List (List ℕ)
-shape_of line = (form_of line.command).name ∷ words_of line.given
+shape_of line = (form_of line.command).name ∷ words_of line.arguments
 
 -- a name for each file
-abbrev pub AreNamed : List Text → List Text → Type 0
-AreNamed [] [] = Unit {0}
-AreNamed (id ∷ ids) (file ∷ files) = (is_file_name file ≡ true) × AreNamed ids files
-AreNamed _ _ = ⊥
+abbrev pub AreFileNames : List Text → List Text → Type 0
+AreFileNames [] [] = Unit {0}
+AreFileNames (id ∷ ids) (file ∷ files) = (is_file_name file ≡ true) × AreFileNames ids files
+AreFileNames _ _ = ⊥
 
 abbrev pub IsInRange : Number → ℕ → Type 0
 IsInRange number n = (number.least ≤ n) × (n ≤ number.most)
@@ -56,13 +57,14 @@ MayAsk true json = Unit {0}
 MayAsk false json = json ≡ false
 
 -- the numbers that are given are those of the form, each in its range
-abbrev pub HasRanges : Form → Given → Type 0
-HasRanges form given = AreInRange form.numbers given.numbers × AreUnits form.per given.per
+abbrev pub HasRanges : Form → Arguments → Type 0
+HasRanges form arguments = AreInRange form.numbers arguments.numbers × AreUnits form.per arguments.per
 
 -- what is given fits the form
-abbrev pub Fits : Form → Given → Type 0
-Fits form given = AreNamed (file_names form.files) given.files × HasRanges form given × MayAsk form.json given.json
+abbrev pub Fits : Form → Arguments → Type 0
+Fits form arguments =
+    AreFileNames (file_names form.files) arguments.files × HasRanges form arguments × MayAsk form.json arguments.json
 
 -- its files have names and its numbers are in range
 abbrev pub HasShape : Line → Type 0
-HasShape line = Fits (form_of line.command) line.given
+HasShape line = Fits (form_of line.command) line.arguments

@@ -10,7 +10,7 @@ use Rattle.clap.specs.Faults.{fault_of}
 use Rattle.clap.specs.Simple.{subcommand_of}
 use Rattle.clap.specs.ValueTests.{is_unsigned_in}
 use Rattle.clap.specs.Walk.{Row, Text, first_of, is_empty, one_of}
-use Rattle.rp_words.specs.CommandLine.{Given, Line, command_named, form_of}
+use Rattle.rp_words.specs.CommandLine.{Arguments, Line, command_named, form_of}
 use Rattle.rp_words.specs.Commands.{program}
 use Rattle.rp_words.specs.Forms.{Form, Number, units}
 use Rattle.rp_words.specs.CommandLine.{file_names}
@@ -34,8 +34,8 @@ all_in read (x ∷ xs) matches =
     option_and_then (λ v. option_map (λ vs. v ∷ vs) (all_in read xs matches)) (read x matches)
 
 -- what the matches give to a command of that form
-abbrev pub given_in : Form → List Row → Option Given
-given_in form matches =
+abbrev pub arguments_in : Form → List Row → Option Arguments
+arguments_in form matches =
     option_and_then (λ files. option_map (λ numbers. record {
       files = files;
       numbers = numbers;
@@ -46,17 +46,17 @@ given_in form matches =
 -- the line of the command of that name, by its matches
 abbrev pub command_line : Text → List Row → Option Line
 command_line name matches =
-    option_and_then (λ command. option_map (λ given. record { command = command; given = given })
-    (given_in (form_of command) matches))
+    option_and_then (λ command. option_map (λ arguments. record { command = command; arguments = arguments })
+    (arguments_in (form_of command) matches))
     (command_named name)
 
 abbrev pub line_named : Option (Text × List Row) → Option Line
 line_named matches = option_and_then (λ m. command_line m.0 m.1) matches
 
 -- the line that the words denote: that of the matches, where `clap` takes the words
-unfoldable pub line_of : List (List ℕ) → Option Line
-line_of words = if is_empty (fault_of program words) then line_named (subcommand_of program words) else None
+unfoldable pub denoted_line : List (List ℕ) → Option Line
+denoted_line words = if is_empty (fault_of program words) then line_named (subcommand_of program words) else None
 
 -- the same of words as strings
 abbrev pub line_in : {Z : Type 0} → List (String Z) → Option Line
-line_in words = line_of (map string_bytes words)
+line_in words = denoted_line (map string_bytes words)

@@ -9,10 +9,10 @@ ghost use Rattle.rp_words.specs.Commands.{program};
 ghost use Rattle.rp_words.specs.Named.{named_line};
 ghost use Rattle.rp_words.specs.Ranges.{IsSized};
 ghost use Rattle.rp_words.specs.Shapes.{HasShape, shape_of};
-ghost use Rattle.rp_words.specs.Words.{command_line, line_named, line_of};
+ghost use Rattle.rp_words.specs.Words.{command_line, line_named, denoted_line};
 
+use crate::arguments::{Arguments, arguments_in};
 use crate::commands::{Command, command_named};
-use crate::given::{Given, given_in};
 use crate::parser::program;
 use clap::error::ErrorKind;
 use clap::{ArgMatches, Error};
@@ -23,19 +23,19 @@ use std::alloc::Global;
 #[derive(Drop)]
 pub struct Line<'a> {
     pub command: Command,
-    pub given: Given<'a>,
+    pub arguments: Arguments<'a>,
 }
 
 /// The line that the words denote, or none. The first word is the program's name.
 pub fn read_line<'a>(alloc: Global, words: &'a [String]) -> Result<Option<Line<'a>>, NoMemory>
     ensures exact { IfOk result (λ asked.
-        option_map named_line asked ≡ line_of (map string_bytes words.entry.now)) }
+        option_map named_line asked ≡ denoted_line (map string_bytes words.entry.now)) }
     ensures sized { IfOk result (λ asked. IfSome asked (λ line. IsSized (named_line line))) }
     ensures refused_by_clap { result ≡ Ok None
         → ¬ (fault_of program (map string_bytes words.entry.now) ≡ []) }
     ensures shapes { (line : Asked) (name : List ℕ) → HasShape line
         → map string_bytes words.entry.now ≡ name ∷ shape_of line
-        → line_of (map string_bytes words.entry.now) ≡ Some line }
+        → denoted_line (map string_bytes words.entry.now) ≡ Some line }
 {
     let program = program(alloc)?;
     match program.try_get_matches_from(words) {
@@ -62,7 +62,7 @@ fn line_named<'a>(alloc: Global, matches: &ArgMatches<'a>) -> Result<Option<Line
     ensures sized { IfOk result (λ line. IfSome line (λ l. IsSized (named_line l))) }
 {
     match matches.subcommand() {
-        Some((name, given)) => command_line(alloc, name, given),
+        Some((name, arguments)) => command_line(alloc, name, arguments),
         None => Ok(None),
     }
 }
@@ -80,8 +80,8 @@ fn command_line<'a>(
     let Some(command) = command_named(name) else {
         return Ok(None);
     };
-    let Some(given) = given_in(alloc, &command.form(), matches)? else {
+    let Some(arguments) = arguments_in(alloc, &command.form(), matches)? else {
         return Ok(None);
     };
-    Ok(Some(Line { command, given }))
+    Ok(Some(Line { command, arguments }))
 }

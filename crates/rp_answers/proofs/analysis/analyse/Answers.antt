@@ -27,22 +27,22 @@ use Rattle.rp_answers.proofs.analysis.analyse.Goals as goal
 
 pub returns : goal.returns
 returns c =
-    let judged = c.in_ok-judgement.ensures in
-    let is = judged.of_table in
-    let costs = c.in_ok-judgement.judgement.costs in
+    let is_test = c.in_ok-tested.ensures in
+    let is = is_test.of_table in
+    let costs = c.in_ok-tested.tested.costs in
     let n = costs.n in
     let here = cost_at costs in
     let there = cost_of c.args.table.now in
     let same : AgreeBelow n here there = λ s t s_in t_in. is.each s t (rw is.size at s_in) (rw is.size at t_in) in
     let table = c.args.table.now in
     let input = input_of_table table in
-    let garp = c.in_ok-judgement.judgement.garp in
+    let garp = c.in_ok-tested.tested.garp in
     let afriat = c.in_ok-afriat.afriat in
     let efficiency = c.in_ok-efficiency.efficiency in
     let homothetic = c.in_ok-homothetic.homothetic in
     let quasilinear = c.in_ok-quasilinear.quasilinear in
-    let garp_proves : Proves input (GarpItem garp) = garp_there costs table is garp judged.proves in
-    let garp_given : IsOwnGarpVerdict input.n input.levels input.cost garp = garp_given_there costs table is garp judged.given in
+    let garp_proves : Proves input (GarpItem garp) = garp_there costs table is garp is_test.proves in
+    let garp_given : IsOwnGarpVerdict input.n input.levels input.cost garp = garp_given_there costs table is garp is_test.given in
     let afriat_proves : Proves input (AfriatItem afriat) = afriat_there costs table is afriat c.in_ok-afriat.ensures.proves in
     let afriat_given : IsOwnAfriatVerdict input.n input.levels input.cost afriat = afriat_given_there costs table is afriat c.in_ok-afriat.ensures.given in
     let efficiency_proves : Proves input (EfficiencyItem efficiency) = rw (← is.size) (efficiency_same n here there efficiency same c.in_ok-efficiency.ensures.proves) in
@@ -73,6 +73,6 @@ returns c =
           (analysis_accepted input garp garp_proves afriat afriat_proves afriat_given efficiency homothetic quasilinear efficiency_proves efficiency_given homothetic_proves homothetic_given quasilinear_proves quasilinear_given);
       read_back = subst (IsReadBack Table) (sym made)
           (text_read_back Table (certificate_of input.levels garp afriat efficiency homothetic quasilinear)
-          (analysis_readable input (table_limited c.args.table.now judged.valid) garp afriat efficiency homothetic quasilinear
+          (analysis_readable input (table_limited c.args.table.now is_test.valid) garp afriat efficiency homothetic quasilinear
           (garp_proves, garp_given) (afriat_proves, afriat_given) (efficiency_proves, efficiency_given) (homothetic_proves, homothetic_given) (quasilinear_proves, quasilinear_given)));
     }

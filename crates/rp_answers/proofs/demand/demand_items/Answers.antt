@@ -10,7 +10,7 @@ pub loop-i-preserved : goal.loop-i-preserved
 loop-i-preserved c =
     let l = c.loop-i in
     let new = c.args.new.now in
-    let IsAnswer = λ (i : ℕ) (item : Item). IsDemandItem (input_of_table c.args.table.now) c.args.judgement.now.garp (row_of new.prices new.goods i) (slice_index new.m i) item in
+    let IsAnswer = λ (i : ℕ) (item : Item). IsDemandItem (input_of_table c.args.table.now) c.args.tested.now.garp (row_of new.prices new.goods i) (slice_index new.m i) item in
     let last = rw (c.row.ensures.exact, c.m.ensures.exact) at c.in_ok-item.ensures in
     record {
       one_each = omega (arith, l.invariant.one_each, c.in_ok-push.ensures.len, l.items.ok.0, c.push.new.self.ok.0);

@@ -7,4 +7,4 @@ use Rattle.rp_answers.proofs.demand.demand_items.Given as goal
 
 abbrev pub invariant-loop-i : goal.invariant-loop-i
 invariant-loop-i l =
-    AreAnswered l.i (λ i. IsDemandItem (input_of_table l.table) l.judgement.garp (row_of l.new.prices l.new.goods i) (slice_index l.new.m i)) l.items.items
+    AreAnswered l.i (λ i. IsDemandItem (input_of_table l.table) l.tested.garp (row_of l.new.prices l.new.goods i) (slice_index l.new.m i)) l.items.items

@@ -1,6 +1,6 @@
 use Rattle.std.proofs.Common.{◌≡◌, ◌∙◌, ap, subst, sym}
 use Rattle.rp_agreement.proofs.AcceptedRandom.{random_certificate_passes}
-use Rattle.rp_check.specs.RandomVerdict.{IsRandomVerdictOn}
+use Rattle.rp_check.specs.RandomCheckVerdict.{IsRandomCheckVerdict}
 use Rattle.rp_check.specs.declared.verdict.Verdict.TheVariants.{Accepted}
 use Rattle.rp_evidence.specs.declared.certificate.Certificate.{Certificate}
 use Rattle.rp_types.specs.Listed.{types_of}
@@ -21,7 +21,7 @@ returns c =
       item = item;
       proves = c.in_ok-evidence.ensures.proves;
       given = c.in_ok-evidence.ensures.run;
-      accepted = subst (λ (made : Certificate). IsRandomVerdictOn p made.items Accepted) (sym item)
+      accepted = subst (λ (made : Certificate). IsRandomCheckVerdict p made.items Accepted) (sym item)
           (random_certificate_passes p c.budgets.ensures.valid types c.requires.few c.requires.all evidence c.in_ok-evidence.ensures.run);
       read_back = subst (IsReadBack RandomKind) (sym item)
           (text_read_back RandomKind (random_certificate p.total evidence) (random_readable p types evidence c.budgets.ensures.valid c.in_ok-evidence.ensures.proves c.in_ok-evidence.ensures.run));

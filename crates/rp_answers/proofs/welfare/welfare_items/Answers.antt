@@ -12,7 +12,7 @@ loop-k-preserved c =
     let l = c.loop-k in
     let new = c.args.new.now in
     let n = records_of c.args.table.now in
-    let IsAnswer = λ (k : ℕ) (item : Item). IsWelfareItem (input_of_table c.args.table.now) c.args.judgement.now.garp (row_of new.prices new.goods (k / n)) (k % n) item in
+    let IsAnswer = λ (k : ℕ) (item : Item). IsWelfareItem (input_of_table c.args.table.now) c.args.tested.now.garp (row_of new.prices new.goods (k / n)) (k % n) item in
     let last = rw (c.row.ensures.exact, c.n-n.ensures.count) at c.in_ok-item.ensures in
     record {
       one_each = omega (arith, l.invariant.one_each, c.in_ok-push.ensures.len, l.items.ok.0, c.push.new.self.ok.0);

@@ -9,4 +9,4 @@ use Rattle.rp_answers.proofs.welfare.welfare_items.Given as goal
 abbrev pub invariant-loop-k : goal.invariant-loop-k
 invariant-loop-k l =
     AreAnswered l.k
-    (λ k. IsWelfareItem (input_of_table l.table) l.judgement.garp (row_of l.new.prices l.new.goods (k / records_of l.table)) (k % records_of l.table)) l.items.items
+    (λ k. IsWelfareItem (input_of_table l.table) l.tested.garp (row_of l.new.prices l.new.goods (k / records_of l.table)) (k % records_of l.table)) l.items.items

@@ -1,5 +1,5 @@
 use Rattle.std.proofs.Common.{◌<◌, ℕ, Ok}
-use Rattle.rp_check.specs.RandomVerdict.{RandomItemFailsAt}
+use Rattle.rp_check.specs.RandomCheckVerdict.{RandomItemFailsAt}
 use Rattle.rp_check.proofs.random.check_random.Given as goal
 
 abbrev pub invariant-loop-k : goal.invariant-loop-k

@@ -1,6 +1,6 @@
 use Rattle.std.proofs.Common.{List, ℕ, ◌++◌, ◌∷◌, [], refl, slice_index, subst, sym}
 use Rattle.std.proofs.lemmas.Bool.{false≢true}
-use Rattle.rp_patch.specs.Parts.{Begins}
+use Rattle.rp_patch.specs.PartialTypes.{Begins}
 use Rattle.rp_mixture.proofs.TypeLemmas.{begins_so_far}
 use Rattle.rp_mixture.proofs.types.is_rational.Goals as goal
 

@@ -2,12 +2,12 @@ use Rattle.std.proofs.Common.{subst, Ok}
 use Rattle.std.proofs.lemmas.Result.{IfOk-weaker}
 use Rattle.rp_farkas.specs.LinearProgram.{LinearProgram}
 use Rattle.rp_patch.specs.KindFailure.{EvidenceFailsOf}
-use Rattle.rp_patch.specs.Kinds.{program_of}
+use Rattle.rp_patch.specs.Kinds.{mixture_program}
 use Rattle.rp_simplex.specs.Evidence.{IsEvidence}
 use Rattle.rp_simplex.specs.Outcome.{IsOutcome}
 use Rattle.rp_simplex.specs.SameOutcome.{IsSameOutcome}
 use Rattle.rp_simplex.specs.declared.outcome.Outcome.{Outcome}
-use Rattle.rp_mixture_program.specs.Verdict.{IsPairVerdict, IsRunVerdict, Proves}
+use Rattle.rp_mixture_program.specs.Verdict.{IsPairVerdict, IsRunVerdict, ProvesMixture}
 use Rattle.rp_mixture_program.proofs.PairLemmas.{has_bound, made_verdict, proves_shown}
 use Rattle.rp_mixture_program.proofs.PassedParts.{pair_passes}
 use Rattle.rp_mixture_program.proofs.verdict.mixture.Goals as goal
@@ -17,7 +17,7 @@ unreachable-requires g c =
     let k = g.L.Listed.kinds c.args.listed.now in
     let kinds = g.L.Listed.listed c.args.listed.now in
     let evidence = subst (λ (q : LinearProgram). IsEvidence q c.in_ok-pair.field-0) c.make-program.ensures c.in_ok-pair.ensures.evidence in
-    let shown = subst (λ (o : Outcome). IsEvidence (program_of k kinds) o) c.in-Unbounded.is evidence in
+    let shown = subst (λ (o : Outcome). IsEvidence (mixture_program k kinds) o) c.in-Unbounded.is evidence in
     has_bound k c.requires.whole kinds c.requires.all shown.1
 
 pub returns-in-Optimal-clause-proves : goal.returns-in-Optimal-clause-proves
@@ -25,8 +25,8 @@ returns-in-Optimal-clause-proves g c =
     let k = g.L.Listed.kinds c.args.listed.now in
     let kinds = g.L.Listed.listed c.args.listed.now in
     let evidence = subst (λ (q : LinearProgram). IsEvidence q c.in_ok-pair.field-0) c.make-program.ensures c.in_ok-pair.ensures.evidence in
-    let shown = subst (λ (o : Outcome). IsEvidence (program_of k kinds) o) c.in-Optimal.is evidence in
-    IfOk-weaker c.verdict_of_pair.result (IsPairVerdict k kinds c.in-Optimal.pair) (Proves k)
+    let shown = subst (λ (o : Outcome). IsEvidence (mixture_program k kinds) o) c.in-Optimal.is evidence in
+    IfOk-weaker c.verdict_of_pair.result (IsPairVerdict k kinds c.in-Optimal.pair) (ProvesMixture k)
     (λ part h. proves_shown k c.requires.whole kinds c.requires.all c.in-Optimal.pair shown.0 part h) c.verdict_of_pair.ensures
 
 pub returns-in-Optimal-clause-passes : goal.returns-in-Optimal-clause-passes
@@ -34,7 +34,7 @@ returns-in-Optimal-clause-passes g c =
     let k = g.L.Listed.kinds c.args.listed.now in
     let kinds = g.L.Listed.listed c.args.listed.now in
     let evidence = subst (λ (q : LinearProgram). IsEvidence q c.in_ok-pair.field-0) c.make-program.ensures c.in_ok-pair.ensures.evidence in
-    let shown = subst (λ (o : Outcome). IsEvidence (program_of k kinds) o) c.in-Optimal.is evidence in
+    let shown = subst (λ (o : Outcome). IsEvidence (mixture_program k kinds) o) c.in-Optimal.is evidence in
     IfOk-weaker c.verdict_of_pair.result (IsPairVerdict k kinds c.in-Optimal.pair) (λ part. EvidenceFailsOf k part (Ok tt))
     (λ part h. pair_passes k c.requires.whole c.requires.formed kinds c.requires.all c.in-Optimal.pair shown.0 part h) c.verdict_of_pair.ensures
 

@@ -1,6 +1,6 @@
 use Rattle.std.proofs.Common.{List, ℕ, IfOk, ap, subst, sym, ◌∙◌}
 use Rattle.std.proofs.lemmas.Result.{IfOk-weaker}
-use Rattle.rp_mixture_program.specs.Verdict.{IsRunVerdict, Proves}
+use Rattle.rp_mixture_program.specs.Verdict.{IsRunVerdict, ProvesMixture}
 use Rattle.rp_menu.specs.MenuLists.{MenuList}
 use Rattle.rp_orders.specs.InnerOrders.{orders_of}
 use Rattle.rp_orders.specs.MenuEvidence.{IsMenuVerdict, ProvesMenus, ShowsSums}
@@ -24,9 +24,9 @@ returns-clause-proves c =
     let list = c.args.seen.now in
     let units = c.args.units.now in
     let r = c.mixture.result in
-    let proves = subst (λ (u : Units). IfOk r (Proves (orders_over list u))) c.make.ensures.units
-    (subst (λ (m : MenuList). IfOk r (Proves (orders_over m c.make.result.units.now))) c.make.ensures.seen c.mixture.ensures.proves) in
-    IfOk-weaker r (Proves (orders_over list units)) (ProvesMenus list units)
+    let proves = subst (λ (u : Units). IfOk r (ProvesMixture (orders_over list u))) c.make.ensures.units
+    (subst (λ (m : MenuList). IfOk r (ProvesMixture (orders_over m c.make.result.units.now))) c.make.ensures.seen c.mixture.ensures.proves) in
+    IfOk-weaker r (ProvesMixture (orders_over list units)) (ProvesMenus list units)
     (λ part h. proves_menus list c.letters.ensures.valid units c.requires part h) proves
 
 pub returns-clause-run : goal.returns-clause-run
@@ -47,8 +47,8 @@ returns-clause-sums c =
     let list = c.args.seen.now in
     let units = c.args.units.now in
     let r = c.mixture.result in
-    let proves = subst (λ (u : Units). IfOk r (Proves (orders_over list u))) c.make.ensures.units
-    (subst (λ (m : MenuList). IfOk r (Proves (orders_over m c.make.result.units.now))) c.make.ensures.seen c.mixture.ensures.proves) in
+    let proves = subst (λ (u : Units). IfOk r (ProvesMixture (orders_over list u))) c.make.ensures.units
+    (subst (λ (m : MenuList). IfOk r (ProvesMixture (orders_over m c.make.result.units.now))) c.make.ensures.seen c.mixture.ensures.proves) in
     let is = c.letters.ensures.valid in
-    IfOk-weaker r (Proves (orders_over list units)) (ShowsSums list units)
+    IfOk-weaker r (ProvesMixture (orders_over list units)) (ShowsSums list units)
     (λ part h. shows_sums list is units c.requires part (proves_menus list is units c.requires part h)) proves

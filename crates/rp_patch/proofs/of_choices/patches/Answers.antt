@@ -1,6 +1,6 @@
 use Rattle.std.proofs.Common.{◌≤◌, List, ◌∙◌, ap, arith, length, refl, slice_index, subst, sym}
 use Rattle.rp_patch.specs.Apportionment.{AreFilled, AreGrouped, GroupedCounts, HasShares}
-use Rattle.rp_patch.specs.Choices.{input_of}
+use Rattle.rp_patch.specs.Choices.{random_input_of}
 use Rattle.rp_patch.specs.InnerUnited.{SaysWhyNotShared, budgets_of, counts_of, times_of}
 use Rattle.rp_patch.specs.Patches.{PatchList}
 use Rattle.rp_patch.specs.Units.{ArePatchesOf, SaysWhy}
@@ -11,7 +11,7 @@ use Rattle.rp_patch.proofs.of_choices.patches.Goals as goal
 
 pub shared_out-requires-clause-grouped : goal.shared_out-requires-clause-grouped
 shared_out-requires-clause-grouped c =
-    let input = input_of c.args.budgets.now c.args.choices.now in
+    let input = random_input_of c.args.budgets.now c.args.choices.now in
     let positive = some_on_every c.args.budgets.now c.args.choices.now c.requires.from in
     let some : 1 ≤ length c.args.budgets.now.w = omega (arith, c.requires.from.on_budgets 0 c.count.ensures.valid.some_choices) in
     let is = c.as_slice.ensures.value ∙ c.in_ok-chosen.ensures.exact in
@@ -21,7 +21,7 @@ shared_out-requires-clause-grouped c =
 
 pub make-requires : goal.make-requires
 make-requires c =
-    let input = input_of c.args.budgets.now c.args.choices.now in
+    let input = random_input_of c.args.budgets.now c.args.choices.now in
     let positive = some_on_every c.args.budgets.now c.args.choices.now c.requires.from in
     let some = c.count-2.ensures.valid.some_budgets in
     let is = c.as_slice.ensures.value ∙ c.in_ok-chosen.ensures.exact in
@@ -35,7 +35,7 @@ make-requires c =
 
 pub returns-clause-exact : goal.returns-clause-exact
 returns-clause-exact c =
-    let input = input_of c.args.budgets.now c.args.choices.now in
+    let input = random_input_of c.args.budgets.now c.args.choices.now in
     let positive = some_on_every c.args.budgets.now c.args.choices.now c.requires.from in
     let some = c.count-2.ensures.valid.some_budgets in
     let is = c.as_slice.ensures.value ∙ c.in_ok-chosen.ensures.exact in
@@ -48,7 +48,7 @@ returns-clause-exact c =
 
 pub returns-in_err-shared-clause-refused : goal.returns-in_err-shared-clause-refused
 returns-in_err-shared-clause-refused c =
-    let input = input_of c.args.budgets.now c.args.choices.now in
+    let input = random_input_of c.args.budgets.now c.args.choices.now in
     let positive = some_on_every c.args.budgets.now c.args.choices.now c.requires.from in
     let some : 1 ≤ length c.args.budgets.now.w = omega (arith, c.requires.from.on_budgets 0 c.count.ensures.valid.some_choices) in
     let is = c.as_slice.ensures.value ∙ c.in_ok-chosen.ensures.exact in

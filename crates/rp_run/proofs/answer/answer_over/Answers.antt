@@ -1,19 +1,19 @@
 use Rattle.std.proofs.Common.{refl}
-use Rattle.rp_words.specs.Named.{named_given}
+use Rattle.rp_words.specs.Named.{named_arguments}
 use Rattle.rp_run.proofs.answer.answer_over.Goals as goal
 
 pub returns-in-Check : goal.returns-in-Check
-returns-in-Check c = rw c.in-Check.is (c.check_of_table.ensures (named_given c.args.line.now.given))
+returns-in-Check c = rw c.in-Check.is (c.check_of_table.ensures (named_arguments c.args.line.now.arguments))
 
 pub returns-in_ok-text_of_utility-in-Utility : goal.returns-in_ok-text_of_utility-in-Utility
 returns-in_ok-text_of_utility-in-Utility c =
     rw (c.in-Utility.is, c.done-in-Utility.ensures)
-    (refl, c.in_ok-text_of_utility-in-Utility.ensures (named_given c.args.line.now.given))
+    (refl, c.in_ok-text_of_utility-in-Utility.ensures (named_arguments c.args.line.now.arguments))
 
 pub returns-in-CheckRandom : goal.returns-in-CheckRandom
-returns-in-CheckRandom c = rw c.in-CheckRandom.is (c.check_of_choices.ensures (named_given c.args.line.now.given))
+returns-in-CheckRandom c = rw c.in-CheckRandom.is (c.check_of_choices.ensures (named_arguments c.args.line.now.arguments))
 
 pub returns-in_ok-text_of_cost-in-Cost : goal.returns-in_ok-text_of_cost-in-Cost
 returns-in_ok-text_of_cost-in-Cost c =
     rw (c.in-Cost.is, c.done-in-Cost.ensures)
-    (refl, c.in_ok-text_of_cost-in-Cost.ensures (named_given c.args.line.now.given))
+    (refl, c.in_ok-text_of_cost-in-Cost.ensures (named_arguments c.args.line.now.arguments))

@@ -15,10 +15,10 @@ use Rattle.rp_run.proofs.contents.load_patches.Goals as goal
 
 two : (line : Line) → file_set line ≡ Choices → IsSized line
     → IsOverTwo line Choices MOST_BYTES MOST_BYTES (numbers_in (file_at line 0) budgets_in) (λ a. NumbersIn (file_at line 1) (choices_on a))
-    (λ a b. AndThen (TypedPatchesOf a b line.given.per) (λ made. Just (Ok (contents.Choices made.0 made.1))))
+    (λ a b. AndThen (TypedPatchesOf a b line.arguments.per) (λ made. Just (Ok (contents.Choices made.0 made.1))))
 two line holds sized =
     over_two line Choices MOST_BYTES MOST_BYTES (numbers_in (file_at line 0) budgets_in) (λ a. NumbersIn (file_at line 1) (choices_on a))
-    (λ a b. AndThen (TypedPatchesOf a b line.given.per) (λ made. Just (Ok (contents.Choices made.0 made.1))))
+    (λ a b. AndThen (TypedPatchesOf a b line.arguments.per) (λ made. Just (Ok (contents.Choices made.0 made.1))))
     holds sized refl (λ files f s. refl) (λ bytes r read. read) (λ files text refused. refused)
 
 pub returns-in_err-budgets : goal.returns-in_err-budgets
@@ -44,7 +44,7 @@ returns-in_err-patches g c =
     let why = c.in_err-patches.field-0.0 in
     failed_on c.from_residual-in_err-patches.result why (LoadsLine g.D.Desk.bytes g.D.Desk.faults g.D.Desk.calls old _ line (AreContentsOf (g.D.Desk.bytes old) line)) c.from_residual-in_err-patches.ensures
     (two_last_none g.D.Desk.bytes g.D.Desk.faults g.D.Desk.calls line Choices MOST_BYTES MOST_BYTES _ _ _ (two line c.requires.files c.requires.sized) old _ _ c.in_ok-budgets.budgets (rw c.file.ensures at c.in_ok-budgets.ensures.loads) c.in_ok-choices.choices (rw c.file-2.ensures at c.in_ok-choices.ensures.loads) why
-    (then_caused (TypedPatchesOf c.in_ok-budgets.budgets c.in_ok-choices.choices line.given.per) (λ made. contents.Choices made.0 made.1) why c.in_err-patches.ensures.caused))
+    (then_caused (TypedPatchesOf c.in_ok-budgets.budgets c.in_ok-choices.choices line.arguments.per) (λ made. contents.Choices made.0 made.1) why c.in_err-patches.ensures.caused))
 
 pub returns : goal.returns
 returns g c =

@@ -16,10 +16,10 @@ use Rattle.rp_run.proofs.contents.load_patches_certificate.Goals as goal
 
 three : (line : Line) → file_set line ≡ ChoicesAndCertificate → IsSized line
     → IsOverThree line ChoicesAndCertificate MOST_BYTES MOST_BYTES MOST_CERTIFICATE_BYTES (numbers_in (file_at line 0) budgets_in) (λ a. numbers_in (file_at line 1) (choices_on a)) (CertificateIn (file_at line 2) RandomKind)
-    (λ a b read. AndThen (TypedPatchesOf a b line.given.per) (λ made. Just (Ok (contents.ChoicesAndCertificate made.0 made.1 read))))
+    (λ a b read. AndThen (TypedPatchesOf a b line.arguments.per) (λ made. Just (Ok (contents.ChoicesAndCertificate made.0 made.1 read))))
 three line holds sized =
     over_three line ChoicesAndCertificate MOST_BYTES MOST_BYTES MOST_CERTIFICATE_BYTES (numbers_in (file_at line 0) budgets_in) (λ a. numbers_in (file_at line 1) (choices_on a)) (CertificateIn (file_at line 2) RandomKind)
-    (λ a b read. AndThen (TypedPatchesOf a b line.given.per) (λ made. Just (Ok (contents.ChoicesAndCertificate made.0 made.1 read))))
+    (λ a b read. AndThen (TypedPatchesOf a b line.arguments.per) (λ made. Just (Ok (contents.ChoicesAndCertificate made.0 made.1 read))))
     holds sized refl (λ files f s t. refl) (λ bytes r read. read) (λ files text refused. refused) (λ files text refused. refused)
 
 pub returns-in_err-budgets : goal.returns-in_err-budgets
@@ -53,7 +53,7 @@ returns-in_err-patches g c =
     let why = c.in_err-patches.field-0.0 in
     failed_on c.from_residual-in_err-patches.result why (LoadsLine g.D.Desk.bytes g.D.Desk.faults g.D.Desk.calls old _ line (AreContentsOf (g.D.Desk.bytes old) line)) c.from_residual-in_err-patches.ensures
     (three_last_none g.D.Desk.bytes g.D.Desk.faults g.D.Desk.calls line ChoicesAndCertificate MOST_BYTES MOST_BYTES MOST_CERTIFICATE_BYTES _ _ _ _ (three line c.requires.files c.requires.sized) old _ _ _ c.in_ok-budgets.budgets c.in_ok-choices.choices (rw c.file.ensures at c.in_ok-budgets.ensures.loads) (rw c.file-2.ensures at c.in_ok-choices.ensures.loads) c.in_ok-certificate.certificate (rw c.file-3.ensures at c.in_ok-certificate.ensures.loads) why
-    (then_caused (TypedPatchesOf c.in_ok-budgets.budgets c.in_ok-choices.choices line.given.per) (λ made. contents.ChoicesAndCertificate made.0 made.1 c.in_ok-certificate.certificate) why c.in_err-patches.ensures.caused))
+    (then_caused (TypedPatchesOf c.in_ok-budgets.budgets c.in_ok-choices.choices line.arguments.per) (λ made. contents.ChoicesAndCertificate made.0 made.1 c.in_ok-certificate.certificate) why c.in_err-patches.ensures.caused))
 
 pub returns : goal.returns
 returns g c =

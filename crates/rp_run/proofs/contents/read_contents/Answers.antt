@@ -2,7 +2,8 @@ use Rattle.std.proofs.Common.{◌≡◌, ◌∙◌, Some, Ok, refl, sym, subst, 
 use Rattle.rp_words.specs.CommandLine.{file_set, takes_levels}
 use Rattle.rp_words.specs.Named.{named_line}
 use Rattle.rp_words.specs.declared.commands.FileSet.TheVariants.{Nothing}
-use Rattle.rp_run.specs.Contents.{AreOf, ContentsIn}
+use Rattle.rp_run.specs.Contents.{ContentsIn}
+use Rattle.rp_run.specs.InnerContents.{AreOf}
 use Rattle.rp_run.specs.declared.contents.Contents.TheVariants as contents
 use Rattle.rp_run.proofs.FileLemmas.{no_files}
 use Rattle.rp_run.proofs.LineLemmas.{none_named}
@@ -17,7 +18,7 @@ returns-in-Nothing g c =
     record {
       held = (
         no_files files line contents.Nothing (none_named line Nothing holds c.requires.sized refl)
-            (λ bytes. subst (λ set. ContentsIn (takes_levels line) set line.given (λ k. Some (bytes k)) (Ok contents.Nothing)) (sym holds) refl),
+            (λ bytes. subst (λ set. ContentsIn (takes_levels line) set line.arguments (λ k. Some (bytes k)) (Ok contents.Nothing)) (sym holds) refl),
         subst (λ set. AreOf (takes_levels line) set contents.Nothing) (sym holds) tt,
       );
       caused = tt;

@@ -1,5 +1,5 @@
 use Rattle.std.proofs.Common.{◌++◌, ◌∷◌, [], List, ℕ, arith, rules, subst}
-use Rattle.rp_patch.specs.Parts.{taken_in}
+use Rattle.rp_patch.specs.PartialTypes.{taken_in}
 use Rattle.rp_types.specs.InnerListed.{AreListedBefore, AreListedThrough}
 use Rattle.rp_types.proofs.ListedTypes.{first_listed, last_listed, next_listed, passed_by}
 use Rattle.rp_types.proofs.search.+extend.Goals as goal

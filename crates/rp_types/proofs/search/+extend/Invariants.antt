@@ -1,5 +1,5 @@
 use Rattle.std.proofs.Common.{◌-◌, ◌++◌, ◌∷◌, []}
-use Rattle.rp_patch.specs.Parts.{taken_in}
+use Rattle.rp_patch.specs.PartialTypes.{taken_in}
 use Rattle.rp_types.specs.InnerListed.{AreListedBefore}
 use Rattle.rp_types.proofs.search.+extend.Given as goal
 

@@ -1,13 +1,13 @@
 use Rattle.std.proofs.Common.{◌≡◌, ◌<◌, ◌∙◌, ◌++◌, ◌∷◌, [], ap, length, rules}
-use Rattle.rp_patch.specs.Parts.{taken_in}
-use Rattle.rp_patch.proofs.SearchLaws.{whole_part}
+use Rattle.rp_patch.specs.PartialTypes.{taken_in}
+use Rattle.rp_patch.proofs.SearchLaws.{whole_type}
 use Rattle.rp_types.proofs.ListedTypes.{one_more_listed, too_many}
 use Rattle.rp_types.proofs.search.push_type.Goals as goal
 
 pub returns-then-len-clause-refused : goal.returns-then-len-clause-refused
 returns-then-len-clause-refused c =
     too_many c.args.patches.now (taken_in c.args.part.now) c.args.types.now.items c.requires.so_far
-    (whole_part c.args.patches.now c.args.part.now c.requires.part c.requires.whole c.requires.part.0.count) (search rules)
+    (whole_type c.args.patches.now c.args.part.now c.requires.part c.requires.whole c.requires.part.0.count) (search rules)
 
 pub returns-clause-listed : goal.returns-clause-listed
 returns-clause-listed c =
@@ -15,5 +15,5 @@ returns-clause-listed c =
     let room : length c.args.types.now.items < 4096 = search rules in
     let pushed : c.push.new.self.items ≡ c.args.types.now.items ++ record { patches = c.from_vec.result } ∷ [] = c.in_ok-push.ensures.items in
     one_more_listed c.args.patches.now front c.args.types.now.items c.requires.so_far
-    (whole_part c.args.patches.now c.args.part.now c.requires.part c.requires.whole c.requires.part.0.count) c.push.new.self.items room
+    (whole_type c.args.patches.now c.args.part.now c.requires.part c.requires.whole c.requires.part.0.count) c.push.new.self.items room
     (pushed ∙ ap (λ xs. c.args.types.now.items ++ record { patches = xs } ∷ []) (c.from_vec.ensures ∙ c.in_ok-taken.ensures.items ∙ c.patches.ensures))
