@@ -1,4 +1,4 @@
--- What the judgement on a table without levels is at the level 1, and a certificate that begins with its verdict.
+-- What the test of a table without levels shows at the level 1, and a certificate that begins with its verdict.
 use Rattle.std.proofs.Common.{◌≡◌, ℕ, List, [], ap, sym, subst, ◌∙◌}
 use Rattle.rp_evidence.specs.Garp.{ProvesGarp}
 use Rattle.rp_evidence.specs.Input.{input_of_table}

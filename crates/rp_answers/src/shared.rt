@@ -1,4 +1,4 @@
-//! What the commands share: the judgement on a table that their answers begin with, certificates on a table, and the
+//! What the commands share: the test of a table on the axiom that their answers begin with, certificates on a table, and the
 //! report of a certificate or its JSON.
 
 ghost use Rattle.rp_evidence.specs.Kinds.{IsCertificateOf};
@@ -26,7 +26,7 @@ pub(crate) struct GarpTest {
     pub garp: Garp,
 }
 
-/// The judgement on a table, each observation held to its own level, or to all that it spent.
+/// The test of a table on the axiom, each observation held to its own level, or to all that it spent.
 pub(crate) fn test_garp(alloc: Global, table: &Table) -> Result<GarpTest, NoMemory>
     ensures { IfOk result (IsTestOf table.now) }
 {

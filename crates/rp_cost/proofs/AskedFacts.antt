@@ -5,15 +5,15 @@ use Rattle.std.proofs.lemmas.List.Elements.{All-nil}
 use Rattle.rp_num.proofs.BelowLemmas.{length-listed}
 use Rattle.rp_table.specs.Limits.{IsExpenditure}
 use Rattle.rp_table.specs.declared.TheConstants.{GOODS, NEW_RECORDS}
-use Rattle.rp_sheet.specs.Columns.{mark_of_prices}
+use Rattle.rp_forms.specs.Columns.{mark_of_prices}
 use Rattle.rp_sheet.specs.Fields.{fields_stage, figures_of, rows_in}
-use Rattle.rp_sheet.specs.Forms.{asked_form}
+use Rattle.rp_forms.specs.Forms.{asked_form}
 use Rattle.rp_sheet.specs.Headers.{goods_stage, has, headers_in}
 use Rattle.rp_sheet.specs.Records.{record_at}
 use Rattle.rp_sheet.specs.Sheets.{first_fault}
 use Rattle.rp_sheet.specs.Sizes.{sizes_stage}
 use Rattle.rp_sheet.specs.declared.fault.TableFault.{TableFault}
-use Rattle.rp_sheet.specs.declared.form.Marks.TheVariants.{Inputs}
+use Rattle.rp_forms.specs.declared.form.Marks.TheVariants.{Inputs}
 use Rattle.rp_sheet.proofs.ColumnSizes.{sizes_are, sizes_in}
 use Rattle.rp_sheet.proofs.FineHeaders.{FineHeaders, fine_headers, required_there}
 use Rattle.rp_sheet.proofs.FixedHeaders.{numbers_of_goods, prices_within, rows_of_goods}

@@ -5,16 +5,17 @@ use Rattle.std.specs.List.{All}
 use Rattle.rp_num.specs.Decimal.{decimal_of}
 use Rattle.rp_table.specs.Limits.{IsPrice, IsQuantity}
 use Rattle.rp_sheet.specs.ChoiceCounts.{column_named}
-use Rattle.rp_sheet.specs.Columns.{role_of, named_role, role_at}
+use Rattle.rp_forms.specs.Columns.{role_of, named_role, role_at}
 use Rattle.rp_sheet.specs.Fields.{field_at, field_of, fields_stage, figure, figures_of, measured, nothing, row_at, rows_in}
 use Rattle.rp_sheet.specs.Headers.{has}
 use Rattle.rp_sheet.specs.Sheets.{column_numbers}
-use Rattle.rp_sheet.specs.Sizes.{figure_at, limit_of, sizes_stage}
-use Rattle.rp_sheet.specs.Texts.{number_of, text_at, trimmed}
-use Rattle.rp_sheet.specs.declared.form.Form.{Form}
-use Rattle.rp_sheet.specs.declared.form.Marks.{Marks}
-use Rattle.rp_sheet.specs.declared.form.Role.{Role}
-use Rattle.rp_sheet.specs.declared.form.Role.TheVariants.{Output, OutputPrice}
+use Rattle.rp_sheet.specs.Sizes.{figure_at, sizes_stage}
+use Rattle.rp_forms.specs.Columns.{limit_of}
+use Rattle.rp_forms.specs.Texts.{number_of, text_at, trimmed}
+use Rattle.rp_forms.specs.declared.form.Form.{Form}
+use Rattle.rp_forms.specs.declared.form.Marks.{Marks}
+use Rattle.rp_forms.specs.declared.form.Role.{Role}
+use Rattle.rp_forms.specs.declared.form.Role.TheVariants.{Output, OutputPrice}
 use Rattle.rp_sheet.proofs.ColumnSizes.{sizes_are, sizes_in, some_at, within_limit}
 use Rattle.rp_sheet.proofs.FieldFaults.{role_is}
 use Rattle.rp_sheet.proofs.FigureLemmas.{figure_there, good_record, some_units}

@@ -9,13 +9,13 @@ use Rattle.rp_table.specs.Limits.{IsPrice, IsQuantity}
 use Rattle.rp_table.specs.Tables.{Observations, IsTable, records_of}
 use Rattle.rp_table.specs.declared.TheConstants.{RECORDS}
 use Rattle.rp_sheet.specs.Fields.{fields_stage, figures_of, rows_in}
-use Rattle.rp_sheet.specs.Forms.{technology_form}
+use Rattle.rp_forms.specs.Forms.{technology_form}
 use Rattle.rp_sheet.specs.Headers.{has, headers_in}
 use Rattle.rp_sheet.specs.Records.{record_at}
 use Rattle.rp_sheet.specs.Sheets.{column_numbers, first_fault}
 use Rattle.rp_sheet.specs.Sizes.{sizes_of, sizes_stage}
 use Rattle.rp_sheet.specs.declared.fault.TableFault.{TableFault}
-use Rattle.rp_sheet.specs.declared.form.Form.{Form}
+use Rattle.rp_forms.specs.declared.form.Form.{Form}
 use Rattle.rp_sheet.proofs.ColumnSizes.{sizes_are, sizes_in}
 use Rattle.rp_sheet.proofs.FineHeaders.{required_there}
 use Rattle.rp_sheet.proofs.GoodHeaders.{GoodHeaders, good_headers}

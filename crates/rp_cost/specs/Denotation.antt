@@ -3,15 +3,15 @@
 use Rattle.std.specs.Prelude.{ℕ, List, [], codes, if◌then◌else◌, length, Result}
 use Rattle.rp_num.specs.declared.decimal.Decimal.{Decimal}
 use Rattle.rp_table.specs.Tables.{Observations}
-use Rattle.rp_sheet.specs.Columns.{mark_of_prices}
+use Rattle.rp_forms.specs.Columns.{mark_of_prices}
 use Rattle.rp_sheet.specs.Fields.{figures_of}
-use Rattle.rp_sheet.specs.Forms.{asked_form, technology_form}
+use Rattle.rp_forms.specs.Forms.{asked_form, technology_form}
 use Rattle.rp_sheet.specs.Headers.{has, headers_of}
 use Rattle.rp_sheet.specs.Records.{records_in}
 use Rattle.rp_sheet.specs.Sheets.{column_numbers, first_fault, numbers_under, unless_fault}
 use Rattle.rp_sheet.specs.Sizes.{sizes_of}
 use Rattle.rp_sheet.specs.declared.fault.TableFault.{TableFault}
-use Rattle.rp_sheet.specs.declared.form.Marks.TheVariants.{Inputs}
+use Rattle.rp_forms.specs.declared.form.Marks.TheVariants.{Inputs}
 use Rattle.rp_text.specs.Denotation.{priced_table}
 use Rattle.rp_cost.specs.AskedOutputs.{AskedOutputs}
 use Rattle.rp_cost.specs.Technology.{Technology}

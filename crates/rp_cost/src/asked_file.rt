@@ -7,8 +7,9 @@ ghost use Rattle.rp_cost.specs.Denotation.{asked_beside, asked_list, denoted_ask
 use crate::asked::Asked;
 use crate::tech::Tech;
 use crate::tech_file::outputs;
+use rp_forms::Form;
 use rp_num::{NoMemory, Seq};
-use rp_sheet::{Columns, Form, Records, TableFault, numbers_under, read_sheet};
+use rp_sheet::{Columns, Records, TableFault, numbers_under, read_sheet};
 use rp_table::{NEW_RECORDS, Name, Prices};
 use std::alloc::Global;
 

@@ -1,20 +1,19 @@
 ghost use Rattle.std.specs.Prelude.{◌≡◌, Ok, IfOk, All, codes, length};
-ghost use Rattle.rp_sheet.specs.Columns.{is_price, names_with};
-ghost use Rattle.rp_sheet.specs.Forms.{technology_form};
+ghost use Rattle.rp_forms.specs.Columns.{is_price, names_with};
+ghost use Rattle.rp_forms.specs.Forms.{technology_form};
 ghost use Rattle.rp_sheet.specs.Refusals.{RefusedAs};
 ghost use Rattle.rp_sheet.specs.Sheets as Sheets;
 ghost use Rattle.rp_sheet.specs.Sizes.{sizes_of};
-ghost use Rattle.rp_sheet.specs.declared.form.Marks.TheVariants.{Inputs};
+ghost use Rattle.rp_forms.specs.declared.form.Marks.TheVariants.{Inputs};
 ghost use Rattle.rp_table.specs.Limits.{IsPrice, IsQuantity};
 ghost use Rattle.rp_cost.specs.Denotation as Denotation;
 ghost use Rattle.rp_cost.specs.Denotation.{denoted_tech, tech_in, tech_of};
 ghost use Rattle.rp_cost.specs.Technology.{IsTechnology};
 
 use crate::tech::Tech;
+use rp_forms::Form;
 use rp_num::{Decimal, NoMemory, Seq};
-use rp_sheet::{
-    Columns, Form, Records, TableFault, column_numbers, narrowed, read_names, read_sheet,
-};
+use rp_sheet::{Columns, Records, TableFault, column_numbers, narrowed, read_names, read_sheet};
 use rp_table::{Name, RECORDS};
 use rp_text::priced_table;
 use std::alloc::Global;

@@ -3,7 +3,7 @@ use Rattle.std.proofs.Common.{◌≡◌, ℕ, zero, suc, ◌+◌, ◌*◌, ◌<�
 use Rattle.std.proofs.lemmas.List.{get_or_default}
 use Rattle.std.proofs.lemmas.Bool.Decides.{nat_tests}
 use Rattle.rp_num.specs.Below.{any_below, first_of}
-use Rattle.rp_sheet.specs.Texts.{number_of}
+use Rattle.rp_forms.specs.Texts.{number_of}
 use Rattle.rp_num.proofs.BelowLemmas.{first_at, one_holds}
 use Rattle.rp_sheet.proofs.PlaceLemmas.{none_below}
 use Rattle.rp_menu.specs.Cells.{cell_at, cell_of, cells_below, counted, entry_at, letters_of, menu_list, menus_below, offered, place_in}

@@ -5,7 +5,7 @@ use Rattle.std.proofs.lemmas.Bool.{cases_lt}
 use Rattle.std.proofs.lemmas.List.{length-take-le, take_all}
 use Rattle.rp_num.specs.Below.{first_there}
 use Rattle.rp_sheet.specs.Fields.{count_stage, figures_of}
-use Rattle.rp_sheet.specs.Forms.{menus_form}
+use Rattle.rp_forms.specs.Forms.{menus_form}
 use Rattle.rp_sheet.specs.Headers.{goods_stage, headers_in, headers_of, headers_stage}
 use Rattle.rp_sheet.specs.Sizes.{sizes_stage}
 use Rattle.rp_sheet.specs.declared.fault.TableFault.TheVariants as table_fault

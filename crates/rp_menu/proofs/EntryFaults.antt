@@ -6,12 +6,12 @@ use Rattle.std.specs.Result.{result_err}
 use Rattle.std.proofs.lemmas.Bool.Decides.{nat_tests}
 use Rattle.rp_num.specs.Below.{first_of}
 use Rattle.rp_num.specs.declared.decimal.Decimal.{Decimal}
-use Rattle.rp_sheet.specs.Columns.{role_at}
+use Rattle.rp_forms.specs.Columns.{role_at}
 use Rattle.rp_sheet.specs.Fields.{field_at, row_at}
-use Rattle.rp_sheet.specs.Forms.{menus_form}
-use Rattle.rp_sheet.specs.Texts.{number_of, text_at}
+use Rattle.rp_forms.specs.Forms.{menus_form}
+use Rattle.rp_forms.specs.Texts.{number_of, text_at}
 use Rattle.rp_sheet.specs.declared.fault.TableFault.{TableFault}
-use Rattle.rp_sheet.specs.declared.form.Marks.TheVariants.{Goods}
+use Rattle.rp_forms.specs.declared.form.Marks.TheVariants.{Goods}
 use Rattle.rp_menu.specs.Denotation.{choice_fault, column_fault, entry_fault, lacks_menu, menu_fault, text_under, told}
 use Rattle.rp_menu.specs.MenuTexts.{is_choice}
 use Rattle.rp_menu.specs.declared.fault.MenuFault.{MenuFault}

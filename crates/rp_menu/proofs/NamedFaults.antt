@@ -8,17 +8,18 @@ use Rattle.rp_num.specs.Below.{any_below, first_of}
 use Rattle.rp_num.specs.Decimal.{decimal_of}
 use Rattle.rp_num.specs.declared.decimal.Decimal.{Decimal}
 use Rattle.rp_num.specs.declared.decimal.NumFault.{NumFault}
-use Rattle.rp_sheet.specs.Columns.{is_quantity, name_in, names_with, role_at, role_of, takes}
+use Rattle.rp_forms.specs.Columns.{is_quantity, name_in, names_with, role_at, role_of, takes}
 use Rattle.rp_sheet.specs.Fields.{count_stage, field_at, field_of, figures_of, nothing, row_at, rows_in, whole}
-use Rattle.rp_sheet.specs.Forms.{menus_form}
+use Rattle.rp_forms.specs.Forms.{menus_form}
 use Rattle.rp_sheet.specs.Headers.{goods_count_fault, goods_stage, has, header_fault, headers_in, headers_of, headers_stage, lacks_column, missing_fault, present_fault}
-use Rattle.rp_sheet.specs.Sizes.{figure_at, limit_of, places_of, size_at, size_of, sizes_stage}
-use Rattle.rp_sheet.specs.Texts.{number_of, text_at, trimmed}
+use Rattle.rp_sheet.specs.Sizes.{figure_at, places_of, size_at, size_of, sizes_stage}
+use Rattle.rp_forms.specs.Columns.{limit_of}
+use Rattle.rp_forms.specs.Texts.{number_of, text_at, trimmed}
 use Rattle.rp_sheet.specs.declared.fault.TableFault.{TableFault}
 use Rattle.rp_sheet.specs.declared.fault.TableFault.TheVariants as table_fault
-use Rattle.rp_sheet.specs.declared.form.Marks.TheVariants.{Goods}
-use Rattle.rp_sheet.specs.declared.form.Role.{Role}
-use Rattle.rp_sheet.specs.declared.form.Role.TheVariants.{Observation, Price, Quantity, Expenditure, Income, Budget, Times, Output, OutputPrice, Menu, Choice, OwnLevel}
+use Rattle.rp_forms.specs.declared.form.Marks.TheVariants.{Goods}
+use Rattle.rp_forms.specs.declared.form.Role.{Role}
+use Rattle.rp_forms.specs.declared.form.Role.TheVariants.{Observation, Price, Quantity, Expenditure, Income, Budget, Times, Output, OutputPrice, Menu, Choice, OwnLevel}
 use Rattle.rp_sheet.proofs.FigureLemmas.{figure_there, rows_are}
 use Rattle.rp_sheet.proofs.PlaceLemmas.{none_below}
 use Rattle.rp_menu.specs.Cells.{cells_below, entry_at, menu_list}

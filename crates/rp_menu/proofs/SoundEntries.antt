@@ -6,15 +6,16 @@ use Rattle.std.specs.Result.{result_err}
 use Rattle.rp_num.specs.Below.{first_of}
 use Rattle.rp_num.proofs.BelowLemmas.{get-listed}
 use Rattle.rp_sheet.specs.ChoiceCounts.{column_named}
-use Rattle.rp_sheet.specs.Columns.{named_role, role_at, role_of}
+use Rattle.rp_forms.specs.Columns.{named_role, role_at, role_of}
 use Rattle.rp_sheet.specs.Fields.{field_at, figures_of, row_at, rows_in}
-use Rattle.rp_sheet.specs.Forms.{menus_form}
+use Rattle.rp_forms.specs.Forms.{menus_form}
 use Rattle.rp_sheet.specs.Headers.{has}
-use Rattle.rp_sheet.specs.Sizes.{limit_of, sizes_stage}
-use Rattle.rp_sheet.specs.Texts.{number_of, text_at}
-use Rattle.rp_sheet.specs.declared.form.Marks.TheVariants.{Goods}
-use Rattle.rp_sheet.specs.declared.form.Role.{Role}
-use Rattle.rp_sheet.specs.declared.form.Role.TheVariants.{Menu, Times}
+use Rattle.rp_sheet.specs.Sizes.{sizes_stage}
+use Rattle.rp_forms.specs.Columns.{limit_of}
+use Rattle.rp_forms.specs.Texts.{number_of, text_at}
+use Rattle.rp_forms.specs.declared.form.Marks.TheVariants.{Goods}
+use Rattle.rp_forms.specs.declared.form.Role.{Role}
+use Rattle.rp_forms.specs.declared.form.Role.TheVariants.{Menu, Times}
 use Rattle.rp_sheet.proofs.ColumnSizes.{sizes_are, sizes_in}
 use Rattle.rp_sheet.proofs.FieldFaults.{role_is}
 use Rattle.rp_sheet.proofs.FigureLemmas.{good_size, rows_are, size_listed}

@@ -8,20 +8,20 @@ use Rattle.std.specs.Result.{result_err}
 use Rattle.rp_num.specs.Below.{any_below, first_of, first_there, listed}
 use Rattle.rp_patch.specs.declared.TheConstants.{PLACES}
 use Rattle.rp_sheet.specs.ChoiceCounts.{column_named}
-use Rattle.rp_sheet.specs.Columns.{role_at}
+use Rattle.rp_forms.specs.Columns.{role_at}
 use Rattle.rp_sheet.specs.Fields.{count_stage, field_at, figures_of, row_at, rows_in}
-use Rattle.rp_sheet.specs.Forms.{menus_form}
+use Rattle.rp_forms.specs.Forms.{menus_form}
 use Rattle.rp_sheet.specs.Headers.{goods_stage, headers_in, headers_of, headers_stage}
 use Rattle.rp_sheet.specs.Records.{records_in}
 use Rattle.rp_sheet.specs.Sheets.{column_numbers}
 use Rattle.rp_sheet.specs.Sizes.{sizes_of, sizes_stage}
-use Rattle.rp_sheet.specs.Texts.{number_of, text_at}
+use Rattle.rp_forms.specs.Texts.{number_of, text_at}
 use Rattle.rp_sheet.specs.declared.fault.TableFault.{TableFault}
 use Rattle.rp_sheet.specs.declared.fault.TableFault.TheVariants as table_fault
-use Rattle.rp_sheet.specs.declared.form.Marks.TheVariants.{Goods}
-use Rattle.rp_sheet.specs.declared.form.Role.{Role}
-use Rattle.rp_sheet.specs.declared.form.Role.TheVariants.{Observation, Price, Quantity, Expenditure, Income, Budget}
-use Rattle.rp_sheet.specs.declared.form.Role.TheVariants.{Times, Output, OutputPrice, Menu, Choice, OwnLevel}
+use Rattle.rp_forms.specs.declared.form.Marks.TheVariants.{Goods}
+use Rattle.rp_forms.specs.declared.form.Role.{Role}
+use Rattle.rp_forms.specs.declared.form.Role.TheVariants.{Observation, Price, Quantity, Expenditure, Income, Budget}
+use Rattle.rp_forms.specs.declared.form.Role.TheVariants.{Times, Output, OutputPrice, Menu, Choice, OwnLevel}
 use Rattle.rp_menu.specs.Cells.{cells_below, entry_at, menu_list}
 use Rattle.rp_menu.specs.MenuLists.{MenuList}
 use Rattle.rp_menu.specs.MenuTexts.{is_choice, is_menu, letter_in, number_of_menu}

@@ -9,9 +9,9 @@ ghost use Rattle.rp_menu.specs.InnerCells.{is_seat};
 
 use crate::MenuFault;
 use crate::entry::Entry;
+use rp_forms::number_of;
 use rp_num::NoMemory;
 use rp_patch::PLACES;
-use rp_sheet::number_of;
 use rp_table::{CHOICES, LARGEST};
 use std::alloc::Global;
 

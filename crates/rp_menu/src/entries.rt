@@ -2,14 +2,15 @@
 ghost use Rattle.std.specs.Prelude.{◌≡◌, ◌+◌, ◌<◌, None, OnOk, IfOk, codes, length};
 ghost use Rattle.rp_num.specs.Below.{first_of, listed};
 ghost use Rattle.rp_sheet.specs.Fields.{figure, figures_of};
-ghost use Rattle.rp_sheet.specs.Forms.{menus_form};
+ghost use Rattle.rp_forms.specs.Forms.{menus_form};
 ghost use Rattle.rp_menu.specs.Denotation.{RefusedAt, choice_fault, column_fault, entries_stage};
 ghost use Rattle.rp_menu.specs.Denotation.{entry_fault, is_of_menus, lacks_menu, text_under};
 
 use crate::MenuFault;
 use crate::menu_texts::{is_choice, is_menu};
+use rp_forms::{Role, number_of};
 use rp_num::{Decimal, Seq};
-use rp_sheet::{Columns, Records, Role, number_of, read_field};
+use rp_sheet::{Columns, Records, read_field};
 use std::alloc::Global;
 
 /// The numbers of all records after the headers.

@@ -14,9 +14,10 @@ use crate::entries::{choice_at, menu_at, read_figures};
 use crate::entry::Entry;
 use crate::menu_texts::{has_letter, letter_in, number_of_menu};
 use crate::{LETTERS, MenuFault, Menus};
+use rp_forms::Form;
 use rp_num::NoMemory;
 use rp_sheet::{
-    Columns, Form, Records, check_count, check_goods, column_numbers, read_columns, read_sizes,
+    Columns, Records, check_count, check_goods, column_numbers, read_columns, read_sizes,
 };
 use rp_table::CHOICES;
 use std::alloc::Global;

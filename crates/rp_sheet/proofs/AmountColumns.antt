@@ -5,16 +5,17 @@ use Rattle.std.specs.List.{starts_with}
 use Rattle.std.specs.Option.{option_or}
 use Rattle.std.specs.Str.{bytes_eq}
 use Rattle.std.proofs.lemmas.Slice.Eq.{bytes_eq-Decides}
-use Rattle.rp_sheet.specs.Texts.{text_at}
-use Rattle.rp_sheet.specs.Columns.{role_of, named_role, good_role, role_at, measures, is_name, name_in, mark_of_prices, mark_of_quantities}
+use Rattle.rp_forms.specs.Texts.{text_at}
+use Rattle.rp_forms.specs.Columns.{role_of, named_role, good_role, role_at, measures, is_name, name_in, mark_of_prices, mark_of_quantities}
 use Rattle.rp_sheet.specs.Headers.{has}
 use Rattle.rp_sheet.specs.Fields.{figures_of, rows_in, fields_stage}
-use Rattle.rp_sheet.specs.Sizes.{limit_of, sizes_stage}
+use Rattle.rp_sheet.specs.Sizes.{sizes_stage}
+use Rattle.rp_forms.specs.Columns.{limit_of}
 use Rattle.rp_sheet.specs.ChoiceCounts.{column_named}
-use Rattle.rp_sheet.specs.declared.form.Form.{Form}
-use Rattle.rp_sheet.specs.declared.form.Marks.{Marks}
-use Rattle.rp_sheet.specs.declared.form.Role.{Role}
-use Rattle.rp_sheet.specs.declared.form.Role.TheVariants.{Observation, Price, Quantity, Expenditure, Income, Budget, Times, Output, OutputPrice, Menu, Choice, OwnLevel}
+use Rattle.rp_forms.specs.declared.form.Form.{Form}
+use Rattle.rp_forms.specs.declared.form.Marks.{Marks}
+use Rattle.rp_forms.specs.declared.form.Role.{Role}
+use Rattle.rp_forms.specs.declared.form.Role.TheVariants.{Observation, Price, Quantity, Expenditure, Income, Budget, Times, Output, OutputPrice, Menu, Choice, OwnLevel}
 use Rattle.rp_sheet.proofs.FieldFaults.{role_is}
 use Rattle.rp_sheet.proofs.FineHeaders.{FineHeaders, same_place, column_there}
 use Rattle.rp_sheet.proofs.ColumnSizes.{sizes_in, within_limit, bought_at}

@@ -9,10 +9,10 @@ use Rattle.std.proofs.lemmas.Option.{slice_get_within, get_or_from_slice_get}
 use Rattle.indexmap.specs.IndexMap.{IndexMap, get, insert_entry}
 use Rattle.indexmap.proofs.CallerLemmas.{insert_entry-new}
 use Rattle.indexmap.proofs.MapLemmas.{some_index}
-use Rattle.rp_sheet.specs.Texts.{text_at, place_of}
-use Rattle.rp_sheet.specs.Columns.{role_of}
-use Rattle.rp_sheet.specs.declared.form.Marks.{Marks}
-use Rattle.rp_sheet.specs.declared.form.Role.{Role}
+use Rattle.rp_forms.specs.Texts.{text_at, place_of}
+use Rattle.rp_forms.specs.Columns.{role_of}
+use Rattle.rp_forms.specs.declared.form.Marks.{Marks}
+use Rattle.rp_forms.specs.declared.form.Role.{Role}
 
 -- the headers of a map's entries
 abbrev pub headers_of : List (Bor (List ℕ) × Role) → List (List ℕ)

@@ -2,15 +2,16 @@
 use Rattle.std.proofs.Common.{◌≡◌, ℕ, ◌-◌, ◌*◌, ◌^◌, ◌<◌, ◌≤◌, Bool, true, false, not, ◌&&◌, nat_lt, List, length, slice_index, Some, None, refl, ap, ◌∙◌, arith}
 use Rattle.std.proofs.lemmas.Bool.Decides.{nat_tests}
 use Rattle.rp_num.specs.Below.{any_below}
-use Rattle.rp_sheet.specs.Texts.{text_at}
-use Rattle.rp_sheet.specs.Columns.{role_of, role_at, measures}
+use Rattle.rp_forms.specs.Texts.{text_at}
+use Rattle.rp_forms.specs.Columns.{role_of, role_at, measures}
 use Rattle.rp_sheet.specs.Records.{record_at}
 use Rattle.rp_sheet.specs.Headers.{headers_in}
 use Rattle.rp_sheet.specs.Fields.{figure, figures_of, rows_in, fields_stage}
-use Rattle.rp_sheet.specs.Sizes.{figure_at, places_of, limit_of, sizes_of, sizes_stage}
-use Rattle.rp_sheet.specs.declared.form.Form.{Form}
-use Rattle.rp_sheet.specs.declared.form.Role.{Role}
-use Rattle.rp_sheet.specs.declared.form.Role.TheVariants.{Price, Budget, OwnLevel}
+use Rattle.rp_sheet.specs.Sizes.{figure_at, places_of, sizes_of, sizes_stage}
+use Rattle.rp_forms.specs.Columns.{limit_of}
+use Rattle.rp_forms.specs.declared.form.Form.{Form}
+use Rattle.rp_forms.specs.declared.form.Role.{Role}
+use Rattle.rp_forms.specs.declared.form.Role.TheVariants.{Price, Budget, OwnLevel}
 use Rattle.rp_num.proofs.BelowLemmas.{length-listed, one_holds}
 use Rattle.rp_sheet.proofs.NameLemmas.{and_both}
 use Rattle.rp_sheet.proofs.PlaceLemmas.{one_below}

@@ -4,12 +4,12 @@ use Rattle.std.specs.Result.{result_err}
 use Rattle.std.proofs.lemmas.Bool.Decides.{nat_tests}
 use Rattle.rp_num.specs.declared.decimal.Decimal.{Decimal}
 use Rattle.rp_num.specs.Below.{first_of, listed}
-use Rattle.rp_sheet.specs.Texts.{trimmed, text_at, number_of}
-use Rattle.rp_sheet.specs.Columns.{role_of, role_at, measures}
+use Rattle.rp_forms.specs.Texts.{trimmed, text_at, number_of}
+use Rattle.rp_forms.specs.Columns.{role_of, role_at, measures}
 use Rattle.rp_sheet.specs.Fields.{nothing, field_of, field_at, figure, row_at, buys_nothing, record_fault}
-use Rattle.rp_sheet.specs.declared.form.Form.{Form}
-use Rattle.rp_sheet.specs.declared.form.Marks.{Marks}
-use Rattle.rp_sheet.specs.declared.form.Role.{Role}
+use Rattle.rp_forms.specs.declared.form.Form.{Form}
+use Rattle.rp_forms.specs.declared.form.Marks.{Marks}
+use Rattle.rp_forms.specs.declared.form.Role.{Role}
 use Rattle.rp_sheet.specs.declared.fault.TableFault.{TableFault}
 use Rattle.rp_sheet.specs.declared.fault.TableFault.TheVariants as fault
 use Rattle.rp_num.proofs.BelowLemmas.{any_same, get-listed}

@@ -4,7 +4,7 @@ use Rattle.std.proofs.lemmas.List.{get_or-map, length-map}
 use Rattle.csv.specs.Records.{field_at, fields_of}
 use Rattle.csv.specs.declared.record.ByteRecord.{ByteRecord}
 use Rattle.rp_sheet.specs.Records.{record_at}
-use Rattle.rp_sheet.specs.Texts.{text_at}
+use Rattle.rp_forms.specs.Texts.{text_at}
 
 pub field_there : (fields : List (List ℕ)) (c : ℕ) (field : List ℕ) → Some field ≡ field_at fields c → field ≡ text_at fields c
 unfolding field_at

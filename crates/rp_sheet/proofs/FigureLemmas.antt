@@ -13,13 +13,14 @@ use Rattle.rp_num.specs.declared.decimal.Decimal.{Decimal}
 use Rattle.rp_num.specs.declared.decimal.NumFault.{NumFault}
 use Rattle.rp_num.specs.declared.decimal.NumFault.TheVariants.{Bad, Decimals}
 use Rattle.rp_num.specs.Below.{first_of, listed}
-use Rattle.rp_sheet.specs.Texts.{text_at, trimmed, number_of}
-use Rattle.rp_sheet.specs.Columns.{role_of, role_at}
+use Rattle.rp_forms.specs.Texts.{text_at, trimmed, number_of}
+use Rattle.rp_forms.specs.Columns.{role_of, role_at}
 use Rattle.rp_sheet.specs.Fields.{nothing, measured, priced, whole, from_one, field_of, field_at, figure, figures_of, rows_in, row_at, buys_nothing, record_fault, fields_stage}
-use Rattle.rp_sheet.specs.Sizes.{figure_at, greatest_places, places_of, limit_of, size_of, size_at, scaled, sizes_of, sizes_stage, shares_scale}
-use Rattle.rp_sheet.specs.declared.form.Form.{Form}
-use Rattle.rp_sheet.specs.declared.form.Role.{Role}
-use Rattle.rp_sheet.specs.declared.form.Role.TheVariants.{Observation, Price, Quantity, Expenditure, Income, Budget, Times, Output, OutputPrice, Menu, Choice, OwnLevel}
+use Rattle.rp_sheet.specs.Sizes.{figure_at, greatest_places, places_of, size_of, size_at, scaled, sizes_of, sizes_stage}
+use Rattle.rp_forms.specs.Columns.{limit_of, shares_scale}
+use Rattle.rp_forms.specs.declared.form.Form.{Form}
+use Rattle.rp_forms.specs.declared.form.Role.{Role}
+use Rattle.rp_forms.specs.declared.form.Role.TheVariants.{Observation, Price, Quantity, Expenditure, Income, Budget, Times, Output, OutputPrice, Menu, Choice, OwnLevel}
 use Rattle.rp_sheet.specs.declared.fault.TableFault.{TableFault}
 use Rattle.rp_sheet.specs.declared.fault.TableFault.TheVariants as fault
 use Rattle.rp_sheet.proofs.FieldFaults.{role_is}

@@ -4,10 +4,11 @@ use Rattle.std.specs.List.{AllPairs}
 use Rattle.std.specs.Option.{option_map_or}
 use Rattle.std.proofs.lemmas.Bool.Decides.{nat_tests}
 use Rattle.std.proofs.lemmas.List.{get_or-take, get_or_default, length-take}
-use Rattle.rp_sheet.specs.Texts.{text_at, place_of}
-use Rattle.rp_sheet.specs.Columns.{role_of, takes}
-use Rattle.rp_sheet.specs.Headers.{has, has_goods, names_of, lacks_column, header_fault, headers_stage, present_fault, missing_fault, goods_count_fault, goods_stage}
-use Rattle.rp_sheet.specs.declared.form.Form.{Form}
+use Rattle.rp_forms.specs.Texts.{text_at, place_of}
+use Rattle.rp_forms.specs.Columns.{role_of, takes}
+use Rattle.rp_sheet.specs.Headers.{has, names_of, lacks_column, header_fault, headers_stage, present_fault, missing_fault, goods_count_fault, goods_stage}
+use Rattle.rp_forms.specs.Columns.{has_goods}
+use Rattle.rp_forms.specs.declared.form.Form.{Form}
 use Rattle.rp_sheet.specs.declared.fault.TableFault.{TableFault}
 use Rattle.rp_sheet.proofs.PlaceLemmas.{lt_false, absent, found_at, none_or, none_below, one_place}
 

@@ -6,17 +6,19 @@ use Rattle.std.specs.Option.{option_map_or}
 use Rattle.std.proofs.Math.Nat.{mul-div_cancel}
 use Rattle.rp_table.specs.Rows.{rows_count}
 use Rattle.rp_num.specs.Below.{any_below}
-use Rattle.rp_sheet.specs.Texts.{text_at, place_of}
-use Rattle.rp_sheet.specs.Columns.{role_of, named_role, good_role, takes, is_name, mark_of_prices, mark_of_quantities}
-use Rattle.rp_sheet.specs.Headers.{has, has_goods, good_mark, lacks_column, lacks_good, names_of, missing_fault, goods_stage}
+use Rattle.rp_forms.specs.Texts.{text_at, place_of}
+use Rattle.rp_forms.specs.Columns.{role_of, named_role, good_role, takes, is_name, mark_of_prices, mark_of_quantities}
+use Rattle.rp_sheet.specs.Headers.{has, good_mark, lacks_column, lacks_good, names_of, missing_fault, goods_stage}
+use Rattle.rp_forms.specs.Columns.{has_goods}
 use Rattle.rp_sheet.specs.Fields.{figures_of, rows_in, fields_stage}
-use Rattle.rp_sheet.specs.Sizes.{limit_of, sizes_stage}
+use Rattle.rp_sheet.specs.Sizes.{sizes_stage}
+use Rattle.rp_forms.specs.Columns.{limit_of}
 use Rattle.rp_sheet.specs.Sheets.{column_of, numbers_under}
-use Rattle.rp_sheet.specs.declared.form.Form.{Form}
-use Rattle.rp_sheet.specs.declared.form.Marks.{Marks}
-use Rattle.rp_sheet.specs.declared.form.Marks.TheVariants.{Goods, Inputs}
-use Rattle.rp_sheet.specs.declared.form.Role.{Role}
-use Rattle.rp_sheet.specs.declared.form.Role.TheVariants.{Price, Quantity}
+use Rattle.rp_forms.specs.declared.form.Form.{Form}
+use Rattle.rp_forms.specs.declared.form.Marks.{Marks}
+use Rattle.rp_forms.specs.declared.form.Marks.TheVariants.{Goods, Inputs}
+use Rattle.rp_forms.specs.declared.form.Role.{Role}
+use Rattle.rp_forms.specs.declared.form.Role.TheVariants.{Price, Quantity}
 use Rattle.rp_sheet.specs.declared.fault.TableFault.{TableFault}
 use Rattle.rp_num.proofs.BelowLemmas.{one_holds}
 use Rattle.rp_sheet.proofs.PlaceLemmas.{not_false}

@@ -7,16 +7,16 @@ use Rattle.std.proofs.lemmas.List.{get_or-map, get_or_default, length-map}
 use Rattle.std.proofs.lemmas.List.Elements.{filter_passes, All-filter, All-contains_itself}
 use Rattle.std.proofs.lemmas.List.Kept.{AllPairs-filter}
 use Rattle.std.proofs.lemmas.Slice.Eq.{starts_is}
-use Rattle.rp_sheet.specs.Texts.{text_at, place_of}
-use Rattle.rp_sheet.specs.Columns.{role_of, named_role, good_role, role_at, is_name, is_price, is_quantity, name_in, names_with, mark_of_prices, mark_of_quantities}
+use Rattle.rp_forms.specs.Texts.{text_at, place_of}
+use Rattle.rp_forms.specs.Columns.{role_of, named_role, good_role, role_at, is_name, is_price, is_quantity, name_in, names_with, mark_of_prices, mark_of_quantities}
 use Rattle.rp_sheet.specs.Headers.{has, names_of, partner_of, headers_stage, pair_fault, present_fault, goods_stage}
-use Rattle.rp_sheet.specs.declared.form.Form.{Form}
-use Rattle.rp_sheet.specs.declared.form.Marks.{Marks}
-use Rattle.rp_sheet.specs.declared.form.Marks.TheVariants.{Goods, Inputs}
-use Rattle.rp_sheet.specs.declared.form.Role.{Role}
-use Rattle.rp_sheet.specs.declared.form.Role.TheVariants.{Observation, Price, Quantity, Expenditure, Income, Budget, Times, Output, OutputPrice, Menu, Choice, OwnLevel}
+use Rattle.rp_forms.specs.declared.form.Form.{Form}
+use Rattle.rp_forms.specs.declared.form.Marks.{Marks}
+use Rattle.rp_forms.specs.declared.form.Marks.TheVariants.{Goods, Inputs}
+use Rattle.rp_forms.specs.declared.form.Role.{Role}
+use Rattle.rp_forms.specs.declared.form.Role.TheVariants.{Observation, Price, Quantity, Expenditure, Income, Budget, Times, Output, OutputPrice, Menu, Choice, OwnLevel}
 use Rattle.rp_sheet.specs.declared.fault.TableFault.{TableFault}
-use Rattle.rp_sheet.proofs.RoleLemmas.{no_good}
+use Rattle.rp_forms.proofs.RoleLemmas.{no_good}
 use Rattle.rp_sheet.proofs.NameLemmas.{price_header}
 use Rattle.rp_sheet.proofs.PlaceLemmas.{found_at, present, none_below}
 use Rattle.rp_sheet.proofs.FineHeaders.{FineHeaders, fine_goods, fine_headers, same_place, all_distinct, there_from}

@@ -3,10 +3,10 @@ use Rattle.std.proofs.Common.{◌≡◌, ℕ, ◌+◌, ◌<◌, true, false, Lis
 use Rattle.std.specs.Option.{option_map_or}
 use Rattle.std.proofs.lemmas.List.{get_or-map, length-map}
 use Rattle.rp_num.specs.Below.{first_of}
-use Rattle.rp_sheet.specs.Texts.{trimmed, text_at, place_of, number_of}
-use Rattle.rp_sheet.specs.Columns.{role_of, takes}
+use Rattle.rp_forms.specs.Texts.{trimmed, text_at, place_of, number_of}
+use Rattle.rp_forms.specs.Columns.{role_of, takes}
 use Rattle.rp_sheet.specs.Headers.{headers_in, header_fault, headers_stage}
-use Rattle.rp_sheet.specs.declared.form.Form.{Form}
+use Rattle.rp_forms.specs.declared.form.Form.{Form}
 use Rattle.rp_sheet.specs.declared.fault.TableFault.TheVariants as fault
 use Rattle.rp_num.proofs.BelowLemmas.{none_so_far, first_at}
 

@@ -1,8 +1,6 @@
-pub mod TextLemmas
 pub mod CsvLemmas
 pub mod FieldLemmas
 pub mod ColumnLemmas
-pub mod RoleLemmas
 pub mod HeaderLemmas
 pub mod FieldFaults
 pub mod PassedOn

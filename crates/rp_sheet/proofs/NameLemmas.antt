@@ -6,12 +6,12 @@ use Rattle.std.proofs.lemmas.Bool.Decides.{nat_tests}
 use Rattle.std.proofs.lemmas.List.{map_push, append-nil}
 use Rattle.std.proofs.lemmas.List.Elements.{filter_more, All-cons, All-nil}
 use Rattle.rp_table.specs.Names.{IsName}
-use Rattle.rp_sheet.specs.Texts.{text_at}
-use Rattle.rp_sheet.specs.Columns.{role_of, named_role, good_role, is_name, is_price, names_with, name_in, mark_of_prices, mark_of_quantities}
-use Rattle.rp_sheet.specs.declared.form.Marks.{Marks}
-use Rattle.rp_sheet.specs.declared.form.Role.{Role}
-use Rattle.rp_sheet.specs.declared.form.Role.TheVariants.{Price, Quantity}
-use Rattle.rp_sheet.proofs.RoleLemmas.{no_good}
+use Rattle.rp_forms.specs.Texts.{text_at}
+use Rattle.rp_forms.specs.Columns.{role_of, named_role, good_role, is_name, is_price, names_with, name_in, mark_of_prices, mark_of_quantities}
+use Rattle.rp_forms.specs.declared.form.Marks.{Marks}
+use Rattle.rp_forms.specs.declared.form.Role.{Role}
+use Rattle.rp_forms.specs.declared.form.Role.TheVariants.{Price, Quantity}
+use Rattle.rp_forms.proofs.RoleLemmas.{no_good}
 
 price_good : (named p q : Bool) → option_map_or is_price (if not named then None else if p then Some Price else if q then Some Quantity else None) false ≡ true → (named ≡ true) × (p ≡ true)
 price_good true true q e = (refl, refl)

@@ -8,7 +8,7 @@ use Rattle.std.proofs.lemmas.Bool.Decides.{nat_tests}
 use Rattle.std.proofs.lemmas.List.Sums.{prefix_len_passes, prefix_len_stops}
 use Rattle.std.proofs.lemmas.Slice.Eq.{bytes_eq-Decides}
 use Rattle.rp_num.specs.Below.{first_of, any_below, greatest_below}
-use Rattle.rp_sheet.specs.Texts.{text_at, place_of}
+use Rattle.rp_forms.specs.Texts.{text_at, place_of}
 
 lt_true : (n m : ℕ) → nat_lt n m ≡ true → n < m
 lt_true n m e = grind (arith, nat_tests)

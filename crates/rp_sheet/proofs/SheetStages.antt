@@ -1,13 +1,13 @@
 -- The first fault of records of any kind, from the stages that were passed.
 use Rattle.std.proofs.Common.{◌≡◌, ℕ, ◌<◌, List, [], ◌∷◌, length, Some, None, refl, ◌∙◌, arith}
-use Rattle.rp_sheet.specs.Columns.{Layout}
+use Rattle.rp_forms.specs.Columns.{Layout}
 use Rattle.rp_sheet.specs.Headers.{headers_in, headers_stage, goods_stage}
 use Rattle.rp_sheet.specs.Records.{record_at}
 use Rattle.rp_sheet.specs.Fields.{figures_of, count_stage, fields_stage}
 use Rattle.rp_sheet.specs.Sizes.{sizes_stage}
 use Rattle.rp_sheet.specs.ChoiceCounts.{choices_stage}
 use Rattle.rp_sheet.specs.Sheets.{first_fault}
-use Rattle.rp_sheet.specs.declared.form.Form.{Form}
+use Rattle.rp_forms.specs.declared.form.Form.{Form}
 use Rattle.rp_sheet.specs.declared.fault.TableFault.{TableFault}
 use Rattle.rp_sheet.specs.declared.fault.TableFault.TheVariants as fault
 use Rattle.rp_sheet.proofs.StageLemmas.{under_headers, in_headers, in_goods, in_count, in_fields, in_sizes, in_choices, in_none}

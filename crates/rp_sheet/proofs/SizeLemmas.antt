@@ -4,11 +4,12 @@ use Rattle.std.proofs.lemmas.Nat.{mul-le}
 use Rattle.std.proofs.Math.Nat.{mul_assoc, pow-suc, pow-le-pow_right}
 use Rattle.rp_num.specs.declared.decimal.Decimal.{Decimal}
 use Rattle.rp_num.specs.Below.{greatest_below, listed}
-use Rattle.rp_sheet.specs.Texts.{text_at, number_of}
-use Rattle.rp_sheet.specs.Columns.{role_of, role_at}
-use Rattle.rp_sheet.specs.Sizes.{figure_at, places_of, limit_of, size_of, size_at}
-use Rattle.rp_sheet.specs.declared.form.Form.{Form}
-use Rattle.rp_sheet.specs.declared.form.Role.{Role}
+use Rattle.rp_forms.specs.Texts.{text_at, number_of}
+use Rattle.rp_forms.specs.Columns.{role_of, role_at}
+use Rattle.rp_sheet.specs.Sizes.{figure_at, places_of, size_of, size_at}
+use Rattle.rp_forms.specs.Columns.{limit_of}
+use Rattle.rp_forms.specs.declared.form.Form.{Form}
+use Rattle.rp_forms.specs.declared.form.Role.{Role}
 use Rattle.rp_sheet.specs.declared.fault.TableFault.{TableFault}
 use Rattle.rp_num.proofs.BelowLemmas.{get-listed}
 use Rattle.rp_sheet.proofs.FieldFaults.{role_is}

@@ -9,7 +9,7 @@ use Rattle.rp_sheet.specs.Fields.{figures_of, count_stage, fields_stage}
 use Rattle.rp_sheet.specs.Sizes.{sizes_stage}
 use Rattle.rp_sheet.specs.ChoiceCounts.{choices_stage}
 use Rattle.rp_sheet.specs.Sheets.{fault_under, first_fault, unless_fault}
-use Rattle.rp_sheet.specs.declared.form.Form.{Form}
+use Rattle.rp_forms.specs.declared.form.Form.{Form}
 use Rattle.rp_sheet.specs.declared.fault.TableFault.{TableFault}
 use Rattle.rp_sheet.specs.declared.fault.TableFault.TheVariants as fault
 

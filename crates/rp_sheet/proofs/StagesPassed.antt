@@ -5,7 +5,7 @@ use Rattle.rp_sheet.specs.Headers.{headers_in, headers_stage, goods_stage}
 use Rattle.rp_sheet.specs.Fields.{rows_in, figures_of, count_stage, fields_stage}
 use Rattle.rp_sheet.specs.Sizes.{sizes_stage}
 use Rattle.rp_sheet.specs.Sheets.{fault_under, first_fault}
-use Rattle.rp_sheet.specs.declared.form.Form.{Form}
+use Rattle.rp_forms.specs.declared.form.Form.{Form}
 use Rattle.rp_sheet.specs.declared.fault.TableFault.{TableFault}
 use Rattle.rp_sheet.specs.declared.fault.TableFault.TheVariants as fault
 use Rattle.rp_sheet.proofs.PlaceLemmas.{lt_false, none_or}

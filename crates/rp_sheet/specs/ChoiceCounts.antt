@@ -3,9 +3,9 @@ use Rattle.std.specs.Prelude.{ℕ, ◌+◌, Bool, not, ◌&&◌, ◌==◌, nat_l
 use Rattle.std.specs.Prelude.{Some, unwrap_or}
 use Rattle.rp_num.specs.declared.decimal.Decimal.{Decimal}
 use Rattle.rp_num.specs.Below.{first_of, any_below}
-use Rattle.rp_sheet.specs.Texts.{place_of, number_of}
+use Rattle.rp_forms.specs.Texts.{place_of, number_of}
 use Rattle.rp_sheet.specs.Sizes.{figure_at}
-use Rattle.rp_sheet.specs.declared.form.Form.{Form}
+use Rattle.rp_forms.specs.declared.form.Form.{Form}
 use Rattle.rp_sheet.specs.declared.fault.TableFault.{TableFault}
 use Rattle.rp_sheet.specs.declared.fault.TableFault.TheVariants as fault
 

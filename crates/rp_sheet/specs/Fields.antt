@@ -10,14 +10,14 @@ use Rattle.rp_num.specs.declared.decimal.NumFault.{NumFault}
 use Rattle.rp_num.specs.declared.decimal.NumFault.TheVariants.{Bad, Decimals}
 use Rattle.rp_num.specs.Below.{first_of, any_below, listed}
 use Rattle.rp_table.specs.declared.TheConstants.{LEVEL_SCALE}
-use Rattle.rp_sheet.specs.Texts.{trimmed, text_at, number_of}
+use Rattle.rp_forms.specs.Texts.{trimmed, text_at, number_of}
 use Rattle.rp_sheet.specs.Records.{record_at}
-use Rattle.rp_sheet.specs.Columns.{role_at, measures}
-use Rattle.rp_sheet.specs.declared.form.Form.{Form}
-use Rattle.rp_sheet.specs.declared.form.Marks.{Marks}
-use Rattle.rp_sheet.specs.declared.form.Role.{Role}
-use Rattle.rp_sheet.specs.declared.form.Role.TheVariants.{Observation, Price, Quantity, Expenditure, Income, Budget}
-use Rattle.rp_sheet.specs.declared.form.Role.TheVariants.{Times, Output, OutputPrice, Menu, Choice, OwnLevel}
+use Rattle.rp_forms.specs.Columns.{role_at, measures}
+use Rattle.rp_forms.specs.declared.form.Form.{Form}
+use Rattle.rp_forms.specs.declared.form.Marks.{Marks}
+use Rattle.rp_forms.specs.declared.form.Role.{Role}
+use Rattle.rp_forms.specs.declared.form.Role.TheVariants.{Observation, Price, Quantity, Expenditure, Income, Budget}
+use Rattle.rp_forms.specs.declared.form.Role.TheVariants.{Times, Output, OutputPrice, Menu, Choice, OwnLevel}
 use Rattle.rp_sheet.specs.declared.fault.TableFault.{TableFault}
 use Rattle.rp_sheet.specs.declared.fault.TableFault.TheVariants as fault
 

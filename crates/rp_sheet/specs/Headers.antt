@@ -6,14 +6,15 @@ use Rattle.std.specs.List.{list_any}
 use Rattle.std.specs.Option.{option_map_or}
 use Rattle.rp_table.specs.declared.TheConstants.{GOODS}
 use Rattle.rp_num.specs.Below.{first_of, first_there, any_below}
-use Rattle.rp_sheet.specs.Texts.{trimmed, text_at, place_of, number_of}
+use Rattle.rp_forms.specs.Texts.{trimmed, text_at, place_of, number_of}
 use Rattle.rp_sheet.specs.Records.{record_at}
-use Rattle.rp_sheet.specs.Columns.{role_of, role_at, takes, header_of, is_price, is_quantity, names_with, name_in}
-use Rattle.rp_sheet.specs.Columns.{mark_of_prices, mark_of_quantities}
-use Rattle.rp_sheet.specs.declared.form.Column.{Column}
-use Rattle.rp_sheet.specs.declared.form.Form.{Form}
-use Rattle.rp_sheet.specs.declared.form.Marks.{Marks}
-use Rattle.rp_sheet.specs.declared.form.Role.{Role}
+use Rattle.rp_forms.specs.Columns.{role_of, role_at, takes, header_of, is_price, is_quantity, names_with, name_in}
+use Rattle.rp_forms.specs.Columns.{mark_of_prices, mark_of_quantities}
+use Rattle.rp_forms.specs.Columns.{has_goods}
+use Rattle.rp_forms.specs.declared.form.Column.{Column}
+use Rattle.rp_forms.specs.declared.form.Form.{Form}
+use Rattle.rp_forms.specs.declared.form.Marks.{Marks}
+use Rattle.rp_forms.specs.declared.form.Role.{Role}
 use Rattle.rp_sheet.specs.declared.fault.TableFault.{TableFault}
 use Rattle.rp_sheet.specs.declared.fault.TableFault.TheVariants as fault
 
@@ -90,10 +91,6 @@ good_mark form = if form.prices then mark_of_prices form.marks else mark_of_quan
 -- whether one of the fixed goods has no column
 abbrev pub lacks_good : Form → List (List ℕ) → List (List ℕ) → Bool
 lacks_good form goods headers = any_below (length goods) (λ g. not (has headers (good_mark form ++ text_at goods g)))
-
--- whether a kind of file has columns of goods
-abbrev pub has_goods : Form → Bool
-has_goods form = form.prices || form.quantities
 
 -- columns that are missing: every good or another needed one, and then one of the fixed goods
 unfoldable pub missing_fault : Form → List (List ℕ) → List (List ℕ) → Option TableFault

@@ -1,8 +1,5 @@
-pub mod Texts
-pub mod Columns
 pub mod Records
 pub mod Refusals
-pub mod Forms
 pub mod Headers
 pub mod Fields
 pub mod Sizes

@@ -3,12 +3,12 @@
 use Rattle.std.specs.Prelude.{ℕ, List, [], ◌∷◌, ◌++◌, length, Option, None}
 use Rattle.std.specs.Prelude.{Some, Result, Ok, Err, unwrap_or, slice_index}
 use Rattle.rp_num.specs.Below.{first_there, rows_below, listed}
-use Rattle.rp_sheet.specs.Texts.{text_at, place_of}
+use Rattle.rp_forms.specs.Texts.{text_at, place_of}
 use Rattle.rp_sheet.specs.ChoiceCounts.{column_named, choices_stage}
 use Rattle.rp_sheet.specs.Headers.{headers_in, headers_stage, goods_stage}
 use Rattle.rp_sheet.specs.Fields.{figures_of, count_stage, fields_stage}
 use Rattle.rp_sheet.specs.Sizes.{sizes_stage}
-use Rattle.rp_sheet.specs.declared.form.Form.{Form}
+use Rattle.rp_forms.specs.declared.form.Form.{Form}
 use Rattle.rp_sheet.specs.declared.fault.TableFault.{TableFault}
 use Rattle.rp_sheet.specs.declared.fault.TableFault.TheVariants as fault
 

@@ -3,34 +3,19 @@ use Rattle.std.specs.Prelude.{ℕ, ◌+◌, ◌-◌, ◌*◌, ◌^◌, Bool, fal
 use Rattle.std.specs.Prelude.{slice_index_or, Option, Result, Ok, Err}
 use Rattle.std.specs.Result.{result_err, result_unwrap_or}
 use Rattle.rp_num.specs.declared.decimal.Decimal.{Decimal}
-use Rattle.rp_table.specs.declared.TheConstants.{LARGEST, LARGEST_EXPENDITURE}
 use Rattle.rp_num.specs.Below.{first_of, greatest_below, listed}
-use Rattle.rp_sheet.specs.Texts.{number_of}
-use Rattle.rp_sheet.specs.Columns.{role_at, has_price_scale, has_quantity_scale, has_income_scale}
+use Rattle.rp_forms.specs.Texts.{number_of}
+use Rattle.rp_forms.specs.Columns.{role_at}
 use Rattle.rp_sheet.specs.Fields.{nothing, figures_of}
 use Rattle.rp_sheet.specs.Headers.{headers_of}
-use Rattle.rp_sheet.specs.declared.form.Form.{Form}
-use Rattle.rp_sheet.specs.declared.form.Marks.{Marks}
-use Rattle.rp_sheet.specs.declared.form.Role.{Role}
-use Rattle.rp_sheet.specs.declared.form.Role.TheVariants.{Observation, Price, Quantity, Expenditure, Income, Budget}
-use Rattle.rp_sheet.specs.declared.form.Role.TheVariants.{Times, Output, OutputPrice, Menu, Choice, OwnLevel}
+use Rattle.rp_forms.specs.Columns.{limit_of, shares_scale}
+use Rattle.rp_forms.specs.declared.form.Form.{Form}
+use Rattle.rp_forms.specs.declared.form.Marks.{Marks}
+use Rattle.rp_forms.specs.declared.form.Role.{Role}
+use Rattle.rp_forms.specs.declared.form.Role.TheVariants.{Observation, Price, Quantity, Expenditure, Income, Budget}
+use Rattle.rp_forms.specs.declared.form.Role.TheVariants.{Times, Output, OutputPrice, Menu, Choice, OwnLevel}
 use Rattle.rp_sheet.specs.declared.fault.TableFault.{TableFault}
 use Rattle.rp_sheet.specs.declared.fault.TableFault.TheVariants as fault
-
--- whether columns of the two roles have one scale of the file's own
-abbrev pub shares_scale : Role → Role → Bool
-shares_scale Observation other = false
-shares_scale Price other = has_price_scale other
-shares_scale Quantity other = has_quantity_scale other
-shares_scale Expenditure other = false
-shares_scale Income other = has_income_scale other
-shares_scale Budget other = false
-shares_scale Times other = false
-shares_scale Output other = has_quantity_scale other
-shares_scale OutputPrice other = has_price_scale other
-shares_scale Menu other = false
-shares_scale Choice other = false
-shares_scale OwnLevel other = false
 
 -- the number at a record and a column of these
 abbrev pub figure_at : List (List Decimal) → ℕ → ℕ → Decimal
@@ -60,21 +45,6 @@ places_of form headers figures OutputPrice = greatest_places form.marks headers 
 places_of form headers figures Menu = 0
 places_of form headers figures Choice = 0
 places_of form headers figures OwnLevel = 0
-
--- the largest scaled number of a role
-abbrev pub limit_of : Role → ℕ
-limit_of Observation = LARGEST
-limit_of Price = LARGEST
-limit_of Quantity = LARGEST
-limit_of Expenditure = LARGEST_EXPENDITURE
-limit_of Income = LARGEST_EXPENDITURE
-limit_of Budget = LARGEST
-limit_of Times = LARGEST
-limit_of Output = LARGEST
-limit_of OutputPrice = LARGEST
-limit_of Menu = LARGEST
-limit_of Choice = LARGEST
-limit_of OwnLevel = LARGEST
 
 -- a number at a scale with that many places: it has no more places, and is at most the limit
 abbrev pub size_of : Decimal → ℕ → ℕ → ℕ → ℕ → Result ℕ TableFault

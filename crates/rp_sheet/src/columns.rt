@@ -1,9 +1,9 @@
 ghost use Rattle.std.specs.Prelude.{◌≡◌, ◌<◌, [], ◌∷◌, ◌++◌, None, Some, OnOk, length};
-ghost use Rattle.rp_sheet.specs.Texts.{text_at, place_of};
-ghost use Rattle.rp_sheet.specs.Columns.{role_of};
+ghost use Rattle.rp_forms.specs.Texts.{text_at, place_of};
+ghost use Rattle.rp_forms.specs.Columns.{role_of};
 
-use crate::form::{Form, Role};
 use indexmap::IndexMap;
+use rp_forms::{Form, Role};
 use rp_num::NoMemory;
 use std::alloc::Global;
 use std::marker::Model;
@@ -19,7 +19,7 @@ impl<'a> Model for Columns<'a> {
     ghost use Rattle.std.specs.Prelude.{◌≡◌, Some, map};
     ghost use Rattle.std.specs.List.{All};
     ghost use Rattle.indexmap.specs.IndexMap.{keys};
-    ghost use Rattle.rp_sheet.specs.Columns.{Layout, role_of};
+    ghost use Rattle.rp_forms.specs.Columns.{Layout, role_of};
 
     ghost Value = { Layout };
 

@@ -1,8 +1,8 @@
 ghost use Rattle.std.specs.Prelude.{◌≡◌, ◌+◌, ◌<◌, ◌&&◌, None, IfOk, length, nat_lt};
 ghost use Rattle.std.specs.Prelude.{slice_index_or};
 ghost use Rattle.rp_num.specs.Below.{first_of, listed, any_below};
-ghost use Rattle.rp_sheet.specs.Texts.{trimmed};
-ghost use Rattle.rp_sheet.specs.Columns.{role_at, measures};
+ghost use Rattle.rp_forms.specs.Texts.{trimmed};
+ghost use Rattle.rp_forms.specs.Columns.{role_at, measures};
 ghost use Rattle.std.specs.Result.{result_err};
 ghost use Rattle.rp_num.specs.Decimal.{decimal_of};
 ghost use Rattle.rp_sheet.specs.Fields as Fields;
@@ -12,9 +12,8 @@ ghost use Rattle.rp_sheet.specs.Refusals.{RefusedAt};
 
 use crate::TableFault;
 use crate::columns::Columns;
-use crate::form::Role;
 use crate::records::Records;
-use crate::texts::{number_of, trimmed};
+use rp_forms::{Role, number_of, trimmed};
 use rp_num::{Decimal, NumFault, Seq, read_decimal};
 use rp_table::LEVEL_SCALE;
 use std::alloc::Global;

@@ -1,16 +1,14 @@
 ghost use Rattle.std.specs.Prelude.{◌≡◌, ◌<◌, ◌||◌, ◌&&◌, ◌++◌, None, not, OnOk, IfOk, length};
 ghost use Rattle.rp_num.specs.Below.{first_of, listed};
-ghost use Rattle.rp_sheet.specs.Texts.{text_at, place_of};
-ghost use Rattle.rp_sheet.specs.Columns.{role_at, is_price, is_quantity, names_with};
+ghost use Rattle.rp_forms.specs.Texts.{text_at, place_of};
+ghost use Rattle.rp_forms.specs.Columns.{role_at, is_price, is_quantity, names_with};
 ghost use Rattle.rp_sheet.specs.Headers.{has, partner_of, pair_fault};
 ghost use Rattle.rp_sheet.specs.Sheets.{column_of};
 ghost use Rattle.rp_sheet.specs.Refusals.{RefusedAt};
 
 use crate::TableFault;
 use crate::columns::Columns;
-use crate::form::Role;
-use crate::roles::name_in;
-use crate::texts::number_of;
+use rp_forms::{Role, name_in, number_of};
 use rp_num::NoMemory;
 use rp_table::Name;
 use std::alloc::Global;

@@ -1,15 +1,13 @@
 ghost use Rattle.std.specs.Prelude.{◌≡◌, ◌<◌, Some, None, true, false, IfOk, MatchOption, length};
 ghost use Rattle.std.specs.Option.{option_map_or};
-ghost use Rattle.rp_sheet.specs.Columns.{role_of, takes};
+ghost use Rattle.rp_forms.specs.Columns.{role_of, takes};
 ghost use Rattle.rp_sheet.specs.Headers.{headers_of, headers_stage};
 ghost use Rattle.rp_sheet.specs.Refusals.{RefusedAt};
 
 use crate::TableFault;
 use crate::columns::Columns;
-use crate::form::{Form, Role};
 use crate::records::Records;
-use crate::roles::role_of;
-use crate::texts::{number_of, trimmed};
+use rp_forms::{Form, Role, number_of, role_of, trimmed};
 use std::alloc::Global;
 
 /// The columns of a file, each under a header that such files take, and no two under the same.

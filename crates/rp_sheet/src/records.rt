@@ -2,7 +2,7 @@ ghost use Rattle.std.specs.Prelude.{◌≡◌, ◌+◌, ◌<◌, IfOk, length, t
 ghost use Rattle.csv.specs.Records.{fields_of};
 ghost use Rattle.rp_sheet.specs.Records.{records_in, record_at};
 ghost use Rattle.rp_sheet.specs.Fields.{row_at};
-ghost use Rattle.rp_sheet.specs.Texts.{text_at};
+ghost use Rattle.rp_forms.specs.Texts.{text_at};
 
 use csv::{ByteRecord, ReaderBuilder};
 use rp_num::NoMemory;

@@ -3,17 +3,17 @@ ghost use Rattle.std.specs.Prelude.{length, slice_index_or, if◌then◌else◌}
 ghost use Rattle.std.specs.Result.{result_err};
 ghost use Rattle.rp_table.specs.declared.TheConstants.{LARGEST_EXPENDITURE};
 ghost use Rattle.rp_num.specs.Below.{first_of, listed, greatest_below};
-ghost use Rattle.rp_sheet.specs.Columns.{role_at};
+ghost use Rattle.rp_forms.specs.Columns.{role_at};
 ghost use Rattle.rp_sheet.specs.Fields.{nothing};
 ghost use Rattle.rp_sheet.specs.Sizes as Sizes;
-ghost use Rattle.rp_sheet.specs.Sizes.{shares_scale, greatest_places, size_at, scaled, sizes_of};
+ghost use Rattle.rp_sheet.specs.Sizes.{greatest_places, size_at, scaled, sizes_of};
+ghost use Rattle.rp_forms.specs.Columns.{shares_scale};
 ghost use Rattle.rp_sheet.specs.Sizes.{sizes_stage};
 ghost use Rattle.rp_sheet.specs.Refusals.{RefusedAt};
 
 use crate::TableFault;
 use crate::columns::Columns;
-use crate::form::Role;
-use crate::texts::number_of;
+use rp_forms::{Role, number_of};
 use rp_num::{Decimal, NoMemory, Seq};
 use std::alloc::Global;
 

@@ -4,9 +4,9 @@ use Rattle.std.specs.Prelude.{codes, unwrap_or}
 use Rattle.std.specs.Option.{option_map_or}
 use Rattle.rp_table.specs.declared.TheConstants.{LARGEST_EXPENDITURE}
 use Rattle.rp_table.specs.BudgetLists.{IsBudgetList}
-use Rattle.rp_sheet.specs.Texts.{text_at}
-use Rattle.rp_sheet.specs.Columns.{role_of, takes, measures, is_price, names_with, price_mark}
-use Rattle.rp_sheet.specs.Forms.{budgets_form}
+use Rattle.rp_forms.specs.Texts.{text_at}
+use Rattle.rp_forms.specs.Columns.{role_of, takes, measures, is_price, names_with, price_mark}
+use Rattle.rp_forms.specs.Forms.{budgets_form}
 use Rattle.rp_sheet.specs.Records.{record_at}
 use Rattle.rp_sheet.specs.Headers.{headers_in, has}
 use Rattle.rp_sheet.specs.Fields.{rows_in, fields_stage, figures_of}
@@ -14,9 +14,9 @@ use Rattle.rp_sheet.specs.Sizes.{sizes_stage}
 use Rattle.rp_sheet.specs.ChoiceCounts.{column_named}
 use Rattle.rp_text.specs.Denotation.{budget_list, budgets_of, denoted_budgets}
 use Rattle.rp_sheet.specs.Sheets.{first_fault, column_of, column_numbers}
-use Rattle.rp_sheet.specs.declared.form.Marks.TheVariants.{Goods}
-use Rattle.rp_sheet.specs.declared.form.Role.{Role}
-use Rattle.rp_sheet.specs.declared.form.Role.TheVariants.{Observation, Income}
+use Rattle.rp_forms.specs.declared.form.Marks.TheVariants.{Goods}
+use Rattle.rp_forms.specs.declared.form.Role.{Role}
+use Rattle.rp_forms.specs.declared.form.Role.TheVariants.{Observation, Income}
 use Rattle.rp_sheet.specs.declared.fault.TableFault.{TableFault}
 use Rattle.rp_num.proofs.BelowLemmas.{length-listed}
 use Rattle.rp_sheet.proofs.RowLemmas.{length-rows, all_rows, all_listed}

@@ -1,8 +1,8 @@
 -- Records without a fault make bundles within the limits.
 use Rattle.std.proofs.Common.{◌≡◌, ℕ, ◌*◌, ◌≤◌, List, length, None, Some, Ok, Err, refl, sym, ap, ◌∙◌}
 use Rattle.rp_table.specs.BundleLists.{IsBundleList}
-use Rattle.rp_sheet.specs.Columns.{quantity_mark}
-use Rattle.rp_sheet.specs.Forms.{bundles_form}
+use Rattle.rp_forms.specs.Columns.{quantity_mark}
+use Rattle.rp_forms.specs.Forms.{bundles_form}
 use Rattle.rp_sheet.specs.Records.{record_at}
 use Rattle.rp_sheet.specs.Headers.{headers_in, goods_stage}
 use Rattle.rp_sheet.specs.Fields.{figures_of, rows_in, fields_stage}

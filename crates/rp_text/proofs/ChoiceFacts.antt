@@ -4,19 +4,20 @@ use Rattle.std.specs.Prelude.{codes, unwrap_or}
 use Rattle.std.proofs.lemmas.List.{length-map}
 use Rattle.std.proofs.lemmas.List.Elements.{All-map}
 use Rattle.rp_table.specs.ChoiceLists.{IsChoiceList}
-use Rattle.rp_sheet.specs.Texts.{text_at}
-use Rattle.rp_sheet.specs.Columns.{role_of, named_role, role_at, quantity_mark}
-use Rattle.rp_sheet.specs.Forms.{choices_form}
+use Rattle.rp_forms.specs.Texts.{text_at}
+use Rattle.rp_forms.specs.Columns.{role_of, named_role, role_at, quantity_mark}
+use Rattle.rp_forms.specs.Forms.{choices_form}
 use Rattle.rp_sheet.specs.Records.{record_at}
 use Rattle.rp_sheet.specs.Headers.{headers_in, has, goods_stage}
 use Rattle.rp_sheet.specs.Fields.{rows_in, fields_stage, figures_of}
-use Rattle.rp_sheet.specs.Sizes.{limit_of, sizes_stage}
+use Rattle.rp_sheet.specs.Sizes.{sizes_stage}
+use Rattle.rp_forms.specs.Columns.{limit_of}
 use Rattle.rp_sheet.specs.ChoiceCounts.{column_named}
 use Rattle.rp_text.specs.Denotation.{choice_list, choices_of, denoted_choices}
 use Rattle.rp_sheet.specs.Sheets.{first_fault, column_numbers}
-use Rattle.rp_sheet.specs.declared.form.Marks.TheVariants.{Goods}
-use Rattle.rp_sheet.specs.declared.form.Role.{Role}
-use Rattle.rp_sheet.specs.declared.form.Role.TheVariants.{Budget, Times}
+use Rattle.rp_forms.specs.declared.form.Marks.TheVariants.{Goods}
+use Rattle.rp_forms.specs.declared.form.Role.{Role}
+use Rattle.rp_forms.specs.declared.form.Role.TheVariants.{Budget, Times}
 use Rattle.rp_sheet.specs.declared.fault.TableFault.{TableFault}
 use Rattle.rp_num.proofs.BelowLemmas.{length-listed}
 use Rattle.rp_sheet.proofs.RowLemmas.{all_listed}

@@ -5,9 +5,9 @@ use Rattle.std.specs.List.{All}
 use Rattle.std.proofs.lemmas.Bool.Decides.{nat_tests}
 use Rattle.std.proofs.lemmas.List.{length-map, get_or-map}
 use Rattle.std.proofs.lemmas.List.Elements.{All-map}
-use Rattle.rp_sheet.specs.Texts.{text_at, number_of}
-use Rattle.rp_sheet.specs.Columns.{role_of}
-use Rattle.rp_sheet.specs.Forms.{choices_form}
+use Rattle.rp_forms.specs.Texts.{text_at, number_of}
+use Rattle.rp_forms.specs.Columns.{role_of}
+use Rattle.rp_forms.specs.Forms.{choices_form}
 use Rattle.rp_sheet.specs.Records.{record_at}
 use Rattle.rp_sheet.specs.Headers.{headers_in, headers_stage, goods_stage, has}
 use Rattle.rp_sheet.specs.Fields.{figures_of, rows_in, count_stage, fields_stage}
@@ -16,10 +16,10 @@ use Rattle.rp_sheet.specs.ChoiceCounts.{column_named, is_chosen, choices_stage}
 use Rattle.rp_sheet.specs.Chosen.{IsChosenFrom}
 use Rattle.rp_text.specs.Denotation.{choice_list}
 use Rattle.rp_sheet.specs.Sheets.{fault_under, first_fault, column_numbers}
-use Rattle.rp_sheet.specs.declared.form.Form.{Form}
-use Rattle.rp_sheet.specs.declared.form.Marks.TheVariants.{Goods}
-use Rattle.rp_sheet.specs.declared.form.Role.{Role}
-use Rattle.rp_sheet.specs.declared.form.Role.TheVariants.{Budget, Times}
+use Rattle.rp_forms.specs.declared.form.Form.{Form}
+use Rattle.rp_forms.specs.declared.form.Marks.TheVariants.{Goods}
+use Rattle.rp_forms.specs.declared.form.Role.{Role}
+use Rattle.rp_forms.specs.declared.form.Role.TheVariants.{Budget, Times}
 use Rattle.rp_sheet.specs.declared.fault.TableFault.{TableFault}
 use Rattle.rp_sheet.specs.declared.fault.TableFault.TheVariants as fault
 use Rattle.rp_num.proofs.BelowLemmas.{length-listed, get-listed}

@@ -3,8 +3,8 @@ use Rattle.std.proofs.Common.{◌≡◌, List, ℕ, [], ◌∷◌, ◌++◌, ref
 use Rattle.std.specs.Prelude.{⊤, codes}
 use Rattle.csv.specs.Machine.{next_record}
 use Rattle.csv.specs.Reading.{records_from, strip_bom}
-use Rattle.rp_sheet.specs.Texts.{after_blanks, before_blanks}
-use Rattle.rp_sheet.specs.Columns.{named_role, good_role, role_of}
+use Rattle.rp_forms.specs.Texts.{after_blanks, before_blanks}
+use Rattle.rp_forms.specs.Columns.{named_role, good_role, role_of}
 use Rattle.rp_sheet.specs.Records.{records_in}
 use Rattle.rp_sheet.specs.Headers.{header_fault, headers_stage, pair_fault, other_goods_fault, present_fault, missing_fault, goods_count_fault, goods_stage}
 use Rattle.rp_sheet.specs.Fields.{field_of, field_at, record_fault, count_stage, fields_stage}

@@ -4,8 +4,8 @@ use Rattle.std.specs.List.{All}
 use Rattle.std.proofs.lemmas.List.Elements.{All-nil, All-cons, All-same}
 use Rattle.rp_table.specs.Tables.{Observations, goods_of, records_of, price_of, quantity_of}
 use Rattle.rp_num.specs.Below.{listed}
-use Rattle.rp_sheet.specs.Texts.{text_at}
-use Rattle.rp_sheet.specs.Columns.{price_mark}
+use Rattle.rp_forms.specs.Texts.{text_at}
+use Rattle.rp_forms.specs.Columns.{price_mark}
 use Rattle.rp_sheet.specs.Records.{record_at}
 use Rattle.rp_sheet.specs.Fields.{row_at}
 use Rattle.rp_text.specs.Denotation.{denoted_table, table_in}

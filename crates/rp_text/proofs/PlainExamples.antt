@@ -3,7 +3,7 @@ use Rattle.std.proofs.Common.{◌≡◌, ℕ, zero, suc, ◌+◌, ◌*◌, ◌<�
 use Rattle.std.specs.Prelude.{codes}
 use Rattle.std.proofs.lemmas.List.Elements.{All-nil, All-cons}
 use Rattle.rp_table.specs.Tables.{Observations, IsTable, price_of, quantity_of}
-use Rattle.rp_sheet.specs.Texts.{text_at}
+use Rattle.rp_forms.specs.Texts.{text_at}
 use Rattle.rp_text.specs.Denotation.{table_in}
 use Rattle.rp_text.specs.Plain.{IsPlainName, IsPlainHeader, IsNumeral, IsPlainRecord, IsPlainTable}
 use Rattle.rp_text.proofs.PlainBytes.{plain_table}

@@ -8,13 +8,13 @@ use Rattle.std.proofs.lemmas.List.{get_or-take, length-take}
 use Rattle.std.proofs.lemmas.List.Elements.{All-tail, All-cons}
 use Rattle.std.proofs.lemmas.List.Sums.{list_all-from_AllPass}
 use Rattle.rp_num.specs.Below.{first_of}
-use Rattle.rp_sheet.specs.Texts.{text_at, place_of, trimmed}
-use Rattle.rp_sheet.specs.Columns.{role_of, takes, is_name, is_price, name_in, names_with, price_mark, quantity_mark}
-use Rattle.rp_sheet.specs.Forms.{table_form}
+use Rattle.rp_forms.specs.Texts.{text_at, place_of, trimmed}
+use Rattle.rp_forms.specs.Columns.{role_of, takes, is_name, is_price, name_in, names_with, price_mark, quantity_mark}
+use Rattle.rp_forms.specs.Forms.{table_form}
 use Rattle.rp_sheet.specs.Headers.{headers_in, has, header_fault, headers_stage, pair_fault, present_fault, goods_stage}
 use Rattle.rp_text.specs.Plain.{IsPlainName, IsPlainHeader}
-use Rattle.rp_sheet.specs.declared.form.Role.TheVariants.{Price, Quantity, OwnLevel}
-use Rattle.rp_sheet.specs.declared.form.Marks.TheVariants.{Goods}
+use Rattle.rp_forms.specs.declared.form.Role.TheVariants.{Price, Quantity, OwnLevel}
+use Rattle.rp_forms.specs.declared.form.Marks.TheVariants.{Goods}
 use Rattle.rp_sheet.proofs.GoodHeaders.{price_says, quantity_says}
 use Rattle.rp_sheet.proofs.FixedGoods.{own_goods, no_goods_fault}
 use Rattle.rp_sheet.proofs.PlaceLemmas.{present, found_at, not_listed, one_place}

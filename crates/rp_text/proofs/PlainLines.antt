@@ -12,7 +12,7 @@ use Rattle.csv.specs.declared.parser.State.TheVariants as st
 use Rattle.rp_num.specs.Below.{listed}
 use Rattle.rp_text.specs.Plain.{lines_of, fields_in}
 use Rattle.rp_sheet.specs.Records.{records_in}
-use Rattle.rp_sheet.specs.Texts.{text_at}
+use Rattle.rp_forms.specs.Texts.{text_at}
 
 -- no carriage return, no quote, and no first byte of a byte order mark
 abbrev pub Ordinary : ℕ → Type 0

@@ -10,9 +10,9 @@ use Rattle.std.proofs.lemmas.List.Elements.{All-tail}
 use Rattle.std.proofs.lemmas.List.Sums.{list_all-from_AllPass, position_or_len_is}
 use Rattle.std.proofs.Math.ListN.{drop_of_length-le}
 use Rattle.rp_num.specs.Decimal.{whole_part, after_point, is_number, written_places, decimal_of}
-use Rattle.rp_sheet.specs.Texts.{is_blank, after_blanks, before_blanks, trimmed}
+use Rattle.rp_forms.specs.Texts.{is_blank, after_blanks, before_blanks, trimmed}
 use Rattle.rp_text.specs.Plain.{IsNumeral}
-use Rattle.rp_sheet.proofs.TextLemmas.{blanks_before, blanks_after}
+use Rattle.rp_forms.proofs.TextLemmas.{blanks_before, blanks_after}
 
 no_blank : (byte : ℕ) → 33 ≤ byte → is_blank byte ≡ false
 no_blank byte some = grind (arith, nat_tests)

@@ -7,16 +7,17 @@ use Rattle.rp_num.specs.Decimal.{decimal_of}
 use Rattle.rp_num.specs.declared.decimal.Decimal.{Decimal}
 use Rattle.rp_table.specs.Sums.{sum_below}
 use Rattle.rp_num.specs.Below.{first_of}
-use Rattle.rp_sheet.specs.Texts.{text_at, trimmed, number_of}
-use Rattle.rp_sheet.specs.Columns.{role_at, measures}
-use Rattle.rp_sheet.specs.Forms.{table_form}
+use Rattle.rp_forms.specs.Texts.{text_at, trimmed, number_of}
+use Rattle.rp_forms.specs.Columns.{role_at, measures}
+use Rattle.rp_forms.specs.Forms.{table_form}
 use Rattle.rp_sheet.specs.Fields.{nothing, field_of, field_at, figure, figures_of, rows_in, row_at, buys_nothing, record_fault, fields_stage}
-use Rattle.rp_sheet.specs.Sizes.{figure_at, greatest_places, places_of, size_of, size_at, sizes_of, sizes_stage, shares_scale}
+use Rattle.rp_sheet.specs.Sizes.{figure_at, greatest_places, places_of, size_of, size_at, sizes_of, sizes_stage}
+use Rattle.rp_forms.specs.Columns.{shares_scale}
 use Rattle.rp_text.specs.Plain.{IsPlainHeader, IsPlainRecord, IsNumeral}
-use Rattle.rp_sheet.specs.declared.form.Role.{Role}
-use Rattle.rp_sheet.specs.declared.form.Role.TheVariants.{Price, Quantity}
+use Rattle.rp_forms.specs.declared.form.Role.{Role}
+use Rattle.rp_forms.specs.declared.form.Role.TheVariants.{Price, Quantity}
 use Rattle.rp_num.proofs.BelowLemmas.{one_holds}
-use Rattle.rp_sheet.specs.declared.form.Marks.TheVariants.{Goods}
+use Rattle.rp_forms.specs.declared.form.Marks.TheVariants.{Goods}
 use Rattle.rp_sheet.proofs.FigureLemmas.{figure_there, rows_are, size_listed}
 use Rattle.rp_sheet.proofs.PlaceLemmas.{greatest_at_most}
 use Rattle.rp_text.proofs.PlainNumbers.{numeral_decimal, numeral_trimmed}

@@ -7,9 +7,9 @@ use Rattle.std.proofs.Math.Nat.{mul_comm, div-lt_iff_lt-mul}
 use Rattle.rp_num.specs.declared.decimal.Decimal.{Decimal}
 use Rattle.rp_table.specs.Tables.{Observations, IsTable, goods_of, records_of, price_of, quantity_of}
 use Rattle.rp_num.specs.Below.{rows_below}
-use Rattle.rp_sheet.specs.Texts.{text_at}
-use Rattle.rp_sheet.specs.Columns.{is_price, names_with, price_mark, quantity_mark}
-use Rattle.rp_sheet.specs.Forms.{table_form}
+use Rattle.rp_forms.specs.Texts.{text_at}
+use Rattle.rp_forms.specs.Columns.{is_price, names_with, price_mark, quantity_mark}
+use Rattle.rp_forms.specs.Forms.{table_form}
 use Rattle.rp_sheet.specs.Records.{record_at}
 use Rattle.rp_sheet.specs.Headers.{headers_in}
 use Rattle.rp_sheet.specs.Fields.{figures_of, rows_in, row_at}
@@ -18,8 +18,8 @@ use Rattle.rp_sheet.specs.ChoiceCounts.{choices_stage}
 use Rattle.rp_text.specs.Denotation.{own_levels, table_of, denoted_table}
 use Rattle.rp_sheet.specs.Sheets.{fault_under, first_fault, numbers_under, column_of}
 use Rattle.rp_text.specs.Plain.{IsPlainHeader, IsPlainRecord}
-use Rattle.rp_sheet.specs.declared.form.Marks.TheVariants.{Goods}
-use Rattle.rp_sheet.specs.declared.form.Role.TheVariants.{Price, Quantity}
+use Rattle.rp_forms.specs.declared.form.Marks.TheVariants.{Goods}
+use Rattle.rp_forms.specs.declared.form.Role.TheVariants.{Price, Quantity}
 use Rattle.rp_sheet.proofs.RowLemmas.{length-rows, row_number}
 use Rattle.rp_sheet.proofs.StageLemmas.{under_headers, fine_records, in_none}
 use Rattle.rp_sheet.proofs.ColumnSizes.{sizes_are}

@@ -7,9 +7,9 @@ use Rattle.std.proofs.lemmas.List.Elements.{All-nil}
 use Rattle.rp_table.specs.declared.TheConstants.{LARGEST_EXPENDITURE}
 use Rattle.rp_table.specs.Rows.{rows_count}
 use Rattle.rp_table.specs.PriceLists.{IsPriceList}
-use Rattle.rp_sheet.specs.Texts.{text_at}
-use Rattle.rp_sheet.specs.Columns.{role_of, takes, measures, price_mark}
-use Rattle.rp_sheet.specs.Forms.{prices_form}
+use Rattle.rp_forms.specs.Texts.{text_at}
+use Rattle.rp_forms.specs.Columns.{role_of, takes, measures, price_mark}
+use Rattle.rp_forms.specs.Forms.{prices_form}
 use Rattle.rp_sheet.specs.Records.{record_at}
 use Rattle.rp_sheet.specs.Headers.{headers_in, has, goods_stage}
 use Rattle.rp_sheet.specs.Fields.{figures_of, rows_in, fields_stage}
@@ -17,9 +17,9 @@ use Rattle.rp_sheet.specs.Sizes.{sizes_stage}
 use Rattle.rp_sheet.specs.ChoiceCounts.{column_named}
 use Rattle.rp_text.specs.Denotation.{price_list, prices_of, denoted_prices}
 use Rattle.rp_sheet.specs.Sheets.{first_fault, column_numbers, numbers_under}
-use Rattle.rp_sheet.specs.declared.form.Marks.TheVariants.{Goods}
-use Rattle.rp_sheet.specs.declared.form.Role.{Role}
-use Rattle.rp_sheet.specs.declared.form.Role.TheVariants.{Observation, Expenditure}
+use Rattle.rp_forms.specs.declared.form.Marks.TheVariants.{Goods}
+use Rattle.rp_forms.specs.declared.form.Role.{Role}
+use Rattle.rp_forms.specs.declared.form.Role.TheVariants.{Observation, Expenditure}
 use Rattle.rp_sheet.specs.declared.fault.TableFault.{TableFault}
 use Rattle.rp_num.proofs.BelowLemmas.{length-listed}
 use Rattle.rp_sheet.proofs.RowLemmas.{all_listed}

@@ -7,14 +7,15 @@ use Rattle.rp_num.specs.declared.decimal.Decimal.{Decimal}
 use Rattle.rp_table.specs.OwnLevels.{AreOwnLevels}
 use Rattle.rp_table.specs.Tables.{IsTable, records_of, quantity_of}
 use Rattle.rp_table.specs.declared.TheConstants.{RECORDS}
-use Rattle.rp_sheet.specs.Columns.{is_price, mark_of_prices, mark_of_quantities, measures, names_with, role_of, takes}
+use Rattle.rp_forms.specs.Columns.{is_price, mark_of_prices, mark_of_quantities, measures, names_with, role_of, takes}
 use Rattle.rp_sheet.specs.Fields.{fields_stage, figures_of, rows_in}
 use Rattle.rp_sheet.specs.Sheets.{column_of}
-use Rattle.rp_sheet.specs.Sizes.{limit_of, places_of, sizes_of, sizes_stage}
-use Rattle.rp_sheet.specs.Texts.{place_of, text_at}
-use Rattle.rp_sheet.specs.declared.form.Form.{Form}
-use Rattle.rp_sheet.specs.declared.form.Role.{Role}
-use Rattle.rp_sheet.specs.declared.form.Role.TheVariants.{Observation, Price, Quantity, Expenditure, Income, Budget, Times, Output, OutputPrice, Menu, Choice, OwnLevel}
+use Rattle.rp_sheet.specs.Sizes.{places_of, sizes_of, sizes_stage}
+use Rattle.rp_forms.specs.Columns.{limit_of}
+use Rattle.rp_forms.specs.Texts.{place_of, text_at}
+use Rattle.rp_forms.specs.declared.form.Form.{Form}
+use Rattle.rp_forms.specs.declared.form.Role.{Role}
+use Rattle.rp_forms.specs.declared.form.Role.TheVariants.{Observation, Price, Quantity, Expenditure, Income, Budget, Times, Output, OutputPrice, Menu, Choice, OwnLevel}
 use Rattle.rp_sheet.proofs.ColumnSizes.{bought_at, price_at, sizes_are, sizes_in, within_limit}
 use Rattle.rp_sheet.proofs.FigureLemmas.{few_places}
 use Rattle.rp_sheet.proofs.GoodHeaders.{GoodHeaders, distinct_names, price_column, quantity_good_of, some_quantity}

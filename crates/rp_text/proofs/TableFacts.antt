@@ -8,9 +8,9 @@ use Rattle.std.proofs.lemmas.Nat.{mul-le}
 use Rattle.rp_num.specs.declared.decimal.Decimal.{Decimal}
 use Rattle.rp_table.specs.OwnLevels.{IsOwnLevel, AreOwnLevels}
 use Rattle.rp_table.specs.Tables.{IsTable, records_of}
-use Rattle.rp_sheet.specs.Texts.{text_at}
-use Rattle.rp_sheet.specs.Columns.{role_of, named_role, names_with, is_price}
-use Rattle.rp_sheet.specs.Forms.{table_form}
+use Rattle.rp_forms.specs.Texts.{text_at}
+use Rattle.rp_forms.specs.Columns.{role_of, named_role, names_with, is_price}
+use Rattle.rp_forms.specs.Forms.{table_form}
 use Rattle.rp_sheet.specs.Fields.{figures_of, rows_in, fields_stage}
 use Rattle.rp_sheet.specs.Sizes.{sizes_of, sizes_stage}
 use Rattle.rp_sheet.specs.Headers.{has}
@@ -18,9 +18,9 @@ use Rattle.rp_sheet.specs.ChoiceCounts.{column_named}
 use Rattle.rp_text.specs.Denotation.{own_levels, priced_table, table_of}
 use Rattle.rp_text.proofs.PricedTables.{IsPriced, priced_is}
 use Rattle.rp_sheet.specs.Sheets.{column_numbers}
-use Rattle.rp_sheet.specs.declared.form.Form.{Form}
-use Rattle.rp_sheet.specs.declared.form.Role.TheVariants.{OwnLevel}
-use Rattle.rp_sheet.specs.declared.form.Marks.TheVariants.{Goods}
+use Rattle.rp_forms.specs.declared.form.Form.{Form}
+use Rattle.rp_forms.specs.declared.form.Role.TheVariants.{OwnLevel}
+use Rattle.rp_forms.specs.declared.form.Marks.TheVariants.{Goods}
 use Rattle.rp_num.proofs.BelowLemmas.{length-listed}
 use Rattle.rp_sheet.proofs.FineHeaders.{column_there}
 use Rattle.rp_sheet.proofs.RowLemmas.{length-rows, all_listed}

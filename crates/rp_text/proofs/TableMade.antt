@@ -1,7 +1,7 @@
 -- The table of records that passed every stage is within the limits.
 use Rattle.std.proofs.Common.{◌≡◌, ℕ, List, [], Some, None, Ok, Err, refl}
 use Rattle.rp_table.specs.Tables.{IsTable}
-use Rattle.rp_sheet.specs.Forms.{table_form}
+use Rattle.rp_forms.specs.Forms.{table_form}
 use Rattle.rp_sheet.specs.Records.{record_at}
 use Rattle.rp_sheet.specs.Headers.{headers_in}
 use Rattle.rp_sheet.specs.Fields.{figures_of}

@@ -7,15 +7,15 @@ use Rattle.rp_table.specs.BundleLists.{BundleList}
 use Rattle.rp_table.specs.BudgetLists.{BudgetList}
 use Rattle.rp_table.specs.ChoiceLists.{ChoiceList}
 use Rattle.rp_sheet.specs.Sheets.{first_fault, unless_fault, numbers_under, column_numbers}
-use Rattle.rp_sheet.specs.Forms.{table_form, prices_form, bundles_form, budgets_form, choices_form}
+use Rattle.rp_forms.specs.Forms.{table_form, prices_form, bundles_form, budgets_form, choices_form}
 use Rattle.rp_sheet.specs.Records.{records_in}
-use Rattle.rp_sheet.specs.Columns.{names_with, is_price, mark_of_prices, mark_of_quantities, price_mark, quantity_mark}
+use Rattle.rp_forms.specs.Columns.{names_with, is_price, mark_of_prices, mark_of_quantities, price_mark, quantity_mark}
 use Rattle.rp_sheet.specs.Headers.{headers_of, has}
 use Rattle.rp_sheet.specs.Fields.{figures_of}
 use Rattle.rp_sheet.specs.Sizes.{places_of, sizes_of}
-use Rattle.rp_sheet.specs.declared.form.Form.{Form}
-use Rattle.rp_sheet.specs.declared.form.Marks.TheVariants.{Goods}
-use Rattle.rp_sheet.specs.declared.form.Role.TheVariants.{Price, Quantity}
+use Rattle.rp_forms.specs.declared.form.Form.{Form}
+use Rattle.rp_forms.specs.declared.form.Marks.TheVariants.{Goods}
+use Rattle.rp_forms.specs.declared.form.Role.TheVariants.{Price, Quantity}
 use Rattle.rp_sheet.specs.declared.fault.TableFault.{TableFault}
 
 -- the own levels of observations in thousandths, where there is a column of them

@@ -3,9 +3,10 @@ ghost use Rattle.rp_table.specs.BudgetLists.{IsBudgetList};
 ghost use Rattle.rp_text.specs.Denotation.{budget_list, denoted_budgets, budgets_in};
 ghost use Rattle.rp_sheet.specs.Refusals.{RefusedAs};
 
+use rp_forms::Form;
 use rp_num::{NoMemory, Seq};
 use rp_sheet::{
-    Columns, Form, Records, TableFault, column_numbers, numbers_under, read_names, read_sheet,
+    Columns, Records, TableFault, column_numbers, numbers_under, read_names, read_sheet,
 };
 use rp_table::{BUDGETS, Budgets, Name};
 use std::alloc::Global;

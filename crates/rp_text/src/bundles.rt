@@ -5,8 +5,9 @@ ghost use Rattle.rp_table.specs.BundleLists.{IsBundleList};
 ghost use Rattle.rp_text.specs.Denotation.{bundle_list, denoted_bundles, bundles_beside};
 ghost use Rattle.rp_sheet.specs.Refusals.{RefusedAs};
 
+use rp_forms::Form;
 use rp_num::{NoMemory, Seq};
-use rp_sheet::{Columns, Form, Records, TableFault, numbers_under, read_sheet};
+use rp_sheet::{Columns, Records, TableFault, numbers_under, read_sheet};
 use rp_table::{Bundles, NEW_RECORDS, Name, Table};
 use std::alloc::Global;
 

@@ -4,10 +4,9 @@ ghost use Rattle.rp_table.specs.ChoiceLists.{IsChoiceList};
 ghost use Rattle.rp_text.specs.Denotation.{choice_list, denoted_choices, choices_on};
 ghost use Rattle.rp_sheet.specs.Refusals.{RefusedAs};
 
+use rp_forms::Form;
 use rp_num::{NoMemory, Seq};
-use rp_sheet::{
-    Columns, Form, Records, TableFault, column_numbers, narrowed, numbers_under, read_sheet,
-};
+use rp_sheet::{Columns, Records, TableFault, column_numbers, narrowed, numbers_under, read_sheet};
 use rp_table::{BUDGETS, Budgets, CHOICES, Choices, Name};
 use std::alloc::Global;
 

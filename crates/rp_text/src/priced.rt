@@ -1,11 +1,12 @@
 ghost use Rattle.std.specs.Prelude.{◌≡◌, ◌≢◌, [], IfOk, IfSome, All, length};
 ghost use Rattle.rp_table.specs.Tables.{IsTable, levels_given};
-ghost use Rattle.rp_sheet.specs.Columns.{names_with, is_price};
+ghost use Rattle.rp_forms.specs.Columns.{names_with, is_price};
 ghost use Rattle.rp_sheet.specs.Sizes.{sizes_of};
 ghost use Rattle.rp_text.specs.Denotation.{priced_table};
 
+use rp_forms::Role;
 use rp_num::{Decimal, NoMemory, Seq};
-use rp_sheet::{Columns, Role, numbers_under, places_of};
+use rp_sheet::{Columns, numbers_under, places_of};
 use rp_table::{Name, Table};
 use std::alloc::Global;
 

@@ -6,8 +6,9 @@ ghost use Rattle.rp_sheet.specs.Sheets as Sheets;
 ghost use Rattle.rp_text.specs.Denotation.{price_list, denoted_prices, prices_beside};
 ghost use Rattle.rp_sheet.specs.Refusals.{RefusedAs};
 
+use rp_forms::Form;
 use rp_num::{NoMemory, Seq};
-use rp_sheet::{Columns, Form, Records, TableFault, column_numbers, numbers_under, read_sheet};
+use rp_sheet::{Columns, Records, TableFault, column_numbers, numbers_under, read_sheet};
 use rp_table::{NEW_RECORDS, Name, Prices, Table};
 use std::alloc::Global;
 

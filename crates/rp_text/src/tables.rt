@@ -1,19 +1,18 @@
 ghost use Rattle.std.specs.Prelude.{◌≡◌, ◌≤◌, [], Ok, None, IfOk, IfSome, All, length};
 ghost use Rattle.rp_table.specs.Tables.{IsTable, levels_given};
 ghost use Rattle.rp_table.specs.declared.TheConstants.{LARGEST};
-ghost use Rattle.rp_sheet.specs.Columns.{names_with, is_price};
-ghost use Rattle.rp_sheet.specs.Forms.{table_form};
-ghost use Rattle.rp_sheet.specs.declared.form.Marks.TheVariants.{Goods};
+ghost use Rattle.rp_forms.specs.Columns.{names_with, is_price};
+ghost use Rattle.rp_forms.specs.Forms.{table_form};
+ghost use Rattle.rp_forms.specs.declared.form.Marks.TheVariants.{Goods};
 ghost use Rattle.rp_sheet.specs.Sizes.{sizes_of};
 ghost use Rattle.rp_text.specs.Denotation as Denotation;
 ghost use Rattle.rp_text.specs.Denotation.{table_of, denoted_table, table_in};
 ghost use Rattle.rp_sheet.specs.Refusals.{RefusedAs};
 
 use crate::priced::priced_table;
+use rp_forms::Form;
 use rp_num::{Decimal, NoMemory, Seq};
-use rp_sheet::{
-    Columns, Form, Records, TableFault, column_numbers, narrowed, read_names, read_sheet,
-};
+use rp_sheet::{Columns, Records, TableFault, column_numbers, narrowed, read_names, read_sheet};
 use rp_table::{Name, RECORDS, Table};
 use std::alloc::Global;
 

@@ -1,5 +1,6 @@
 use crate::readers::{Read, is_read};
-use rp_sheet::{Form, Records, TableFault, read_names, read_sheet};
+use rp_forms::Form;
+use rp_sheet::{Records, TableFault, read_names, read_sheet};
 use rp_table::Name;
 use std::alloc::Global;
 use std::test::Fail;

@@ -1,5 +1,5 @@
 use Rattle.std.proofs.Common.{◌≡◌, ◌≢◌, Ok, Err, sym, ap, ◌∙◌, subst}
-use Rattle.rp_sheet.specs.Forms.{asked_form}
+use Rattle.rp_forms.specs.Forms.{asked_form}
 use Rattle.rp_sheet.specs.declared.fault.TableFault.{TableFault}
 use Rattle.rp_sheet.specs.declared.fault.TableFault.TheVariants as fault
 use Rattle.rp_sheet.proofs.ColumnSizes.{value_read}

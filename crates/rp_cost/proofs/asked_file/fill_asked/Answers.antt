@@ -1,10 +1,10 @@
 use Rattle.std.proofs.Common.{length}
 use Rattle.std.specs.List.{slice_index}
 use Rattle.rp_table.specs.Limits.{IsPrice}
-use Rattle.rp_sheet.specs.Columns.{mark_of_prices}
+use Rattle.rp_forms.specs.Columns.{mark_of_prices}
 use Rattle.rp_sheet.specs.Sheets.{column_of}
-use Rattle.rp_sheet.specs.Texts.{text_at}
-use Rattle.rp_sheet.specs.declared.form.Marks.TheVariants.{Inputs}
+use Rattle.rp_forms.specs.Texts.{text_at}
+use Rattle.rp_forms.specs.declared.form.Marks.TheVariants.{Inputs}
 use Rattle.rp_sheet.proofs.RowLemmas.{each_row}
 use Rattle.rp_cost.proofs.asked_file.fill_asked.Goals as goal
 

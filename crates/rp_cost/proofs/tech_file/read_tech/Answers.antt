@@ -1,7 +1,7 @@
 use Rattle.std.proofs.Common.{◌≡◌, ℕ, ◌+◌, List, [], take, ap, ◌∙◌}
 use Rattle.rp_table.specs.declared.TheConstants.{RECORDS}
 use Rattle.rp_sheet.specs.Fields.{figures_of}
-use Rattle.rp_sheet.specs.Forms.{technology_form}
+use Rattle.rp_forms.specs.Forms.{technology_form}
 use Rattle.rp_sheet.specs.Headers.{headers_in}
 use Rattle.rp_sheet.specs.Records.{records_in, record_at}
 use Rattle.rp_sheet.proofs.StageLemmas.{first_records}

@@ -1,6 +1,6 @@
 use Rattle.std.proofs.Common.{◌≡◌, ◌+◌, None, Some, if◌then◌else◌, length, nat_lt}
 use Rattle.rp_num.specs.Below.{first_of}
-use Rattle.rp_sheet.specs.Texts.{number_of}
+use Rattle.rp_forms.specs.Texts.{number_of}
 use Rattle.rp_menu.specs.Cells.{cells_below, menus_below}
 use Rattle.rp_menu.specs.declared.fault.MenuFault.TheVariants as fault
 use Rattle.rp_menu.proofs.cells.tally_of.Given as goal

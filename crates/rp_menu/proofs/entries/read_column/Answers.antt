@@ -1,11 +1,11 @@
 use Rattle.std.proofs.Common.{◌≡◌, ◌≢◌, Some, sym, subst, ap, refl, ◌∙◌}
-use Rattle.rp_sheet.specs.Columns.{role_of}
+use Rattle.rp_forms.specs.Columns.{role_of}
 use Rattle.rp_sheet.specs.Fields.{row_at}
-use Rattle.rp_sheet.specs.Forms.{menus_form}
-use Rattle.rp_sheet.specs.Texts.{text_at}
-use Rattle.rp_sheet.specs.declared.form.Form.{Form}
-use Rattle.rp_sheet.specs.declared.form.Marks.TheVariants.{Goods}
-use Rattle.rp_sheet.specs.declared.form.Role.{Role}
+use Rattle.rp_forms.specs.Forms.{menus_form}
+use Rattle.rp_forms.specs.Texts.{text_at}
+use Rattle.rp_forms.specs.declared.form.Form.{Form}
+use Rattle.rp_forms.specs.declared.form.Marks.TheVariants.{Goods}
+use Rattle.rp_forms.specs.declared.form.Role.{Role}
 use Rattle.rp_sheet.proofs.FieldFaults.{field_read, role_is}
 use Rattle.rp_sheet.proofs.PassedOn.{passed_on}
 use Rattle.rp_menu.specs.Denotation.{column_fault, lacks_menu, told}

@@ -1,7 +1,7 @@
 use Rattle.std.proofs.Common.{◌≡◌, None}
 use Rattle.rp_num.specs.Below.{first_of, listed}
 use Rattle.rp_sheet.specs.Fields.{figure}
-use Rattle.rp_sheet.specs.Forms.{menus_form}
+use Rattle.rp_forms.specs.Forms.{menus_form}
 use Rattle.rp_menu.specs.Denotation.{column_fault}
 use Rattle.rp_menu.proofs.entries.read_fields.Given as goal
 

@@ -1,9 +1,9 @@
 use Rattle.std.proofs.Common.{rules, ◌≡◌, ◌≢◌, ◌<◌, ℕ, List, [], length, None, Some, sym, ap, subst, arith, ◌∙◌}
 use Rattle.rp_num.proofs.BelowLemmas.{length-listed}
 use Rattle.rp_sheet.specs.Fields.{count_stage, rows_in}
-use Rattle.rp_sheet.specs.Forms.{menus_form}
+use Rattle.rp_forms.specs.Forms.{menus_form}
 use Rattle.rp_sheet.specs.Headers.{headers_of, headers_stage}
-use Rattle.rp_sheet.specs.declared.form.Form.{Form}
+use Rattle.rp_forms.specs.declared.form.Form.{Form}
 use Rattle.rp_sheet.proofs.FigureLemmas.{whole_rows}
 use Rattle.rp_sheet.proofs.FineHeaders.{fine_headers}
 use Rattle.rp_sheet.proofs.PassedOn.{passed_on}

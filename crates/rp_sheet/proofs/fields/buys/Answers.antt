@@ -1,6 +1,6 @@
 use Rattle.std.proofs.Common.{◌≡◌, ◌<◌, Bool, true, false, ◌&&◌, nat_lt, length, get_or, refl, sym, arith, ◌∙◌, ap}
 use Rattle.std.proofs.lemmas.Bool.Decides.{nat_tests}
-use Rattle.rp_sheet.specs.Columns.{role_at, measures}
+use Rattle.rp_forms.specs.Columns.{role_at, measures}
 use Rattle.rp_sheet.specs.Fields.{nothing}
 use Rattle.rp_num.proofs.BelowLemmas.{one_holds, none_holds}
 use Rattle.rp_sheet.proofs.FieldFaults.{role_is}

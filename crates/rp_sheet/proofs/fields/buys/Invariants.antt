@@ -1,6 +1,6 @@
 use Rattle.std.proofs.Common.{◌≡◌, false, ◌&&◌, nat_lt, get_or}
 use Rattle.rp_num.specs.Below.{any_below}
-use Rattle.rp_sheet.specs.Columns.{role_at, measures}
+use Rattle.rp_forms.specs.Columns.{role_at, measures}
 use Rattle.rp_sheet.specs.Fields.{nothing}
 use Rattle.rp_sheet.proofs.fields.buys.Given as goal
 

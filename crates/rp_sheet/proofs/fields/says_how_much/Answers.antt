@@ -1,5 +1,5 @@
 use Rattle.std.proofs.Common.{◌<◌, length, sym, arith, ◌∙◌, ap}
-use Rattle.rp_sheet.specs.Columns.{role_at, measures}
+use Rattle.rp_forms.specs.Columns.{role_at, measures}
 use Rattle.rp_num.proofs.BelowLemmas.{one_holds, none_holds}
 use Rattle.rp_sheet.proofs.FieldFaults.{role_is}
 use Rattle.rp_sheet.proofs.fields.says_how_much.Goals as goal

@@ -1,5 +1,5 @@
 use Rattle.std.proofs.Common.{sym, ap, ◌∙◌}
-use Rattle.rp_sheet.specs.declared.form.Form.{Form}
+use Rattle.rp_forms.specs.declared.form.Form.{Form}
 use Rattle.rp_sheet.proofs.FixedGoods.{no_goods_at_all, column_missing, own_goods, good_missing, all_goods}
 use Rattle.rp_sheet.proofs.fixed_goods.check_missing.Goals as goal
 

@@ -1,6 +1,6 @@
 use Rattle.std.proofs.Common.{◌<◌, Bool, not, ◌&&◌, ◌||◌, length, ◌∙◌, sym, ap, arith, refl}
-use Rattle.rp_sheet.specs.Texts.{text_at}
-use Rattle.rp_sheet.specs.Columns.{role_at, is_price, is_quantity, name_in}
+use Rattle.rp_forms.specs.Texts.{text_at}
+use Rattle.rp_forms.specs.Columns.{role_at, is_price, is_quantity, name_in}
 use Rattle.rp_sheet.specs.Headers.{other_goods_fault}
 use Rattle.rp_sheet.specs.declared.fault.TableFault.TheVariants as fault
 use Rattle.rp_num.proofs.BelowLemmas.{first_at, none_so_far}

@@ -1,6 +1,6 @@
 use Rattle.std.proofs.Common.{◌++◌, ℕ, List, [], length, not, sym, ap, ◌∙◌}
 use Rattle.std.proofs.lemmas.List.{get_or_default}
-use Rattle.rp_sheet.specs.Texts.{text_at}
+use Rattle.rp_forms.specs.Texts.{text_at}
 use Rattle.rp_sheet.specs.Headers.{has, good_mark}
 use Rattle.rp_num.proofs.BelowLemmas.{one_holds, none_holds}
 use Rattle.rp_sheet.proofs.fixed_goods.lacks_good.Goals as goal

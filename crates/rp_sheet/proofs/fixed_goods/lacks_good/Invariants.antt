@@ -1,6 +1,6 @@
 use Rattle.std.proofs.Common.{◌≡◌, ◌++◌, false, not}
 use Rattle.rp_num.specs.Below.{any_below}
-use Rattle.rp_sheet.specs.Texts.{text_at}
+use Rattle.rp_forms.specs.Texts.{text_at}
 use Rattle.rp_sheet.specs.Headers.{has, good_mark}
 use Rattle.rp_sheet.proofs.fixed_goods.lacks_good.Given as goal
 

@@ -1,7 +1,7 @@
 use Rattle.std.proofs.Common.{◌++◌, [], ap, ◌∙◌}
 use Rattle.std.specs.Prelude.{unwrap_or}
 use Rattle.std.proofs.lemmas.List.{get_or_default}
-use Rattle.rp_sheet.specs.Texts.{place_of}
+use Rattle.rp_forms.specs.Texts.{place_of}
 use Rattle.rp_sheet.specs.Sheets.{column_of}
 use Rattle.rp_num.proofs.BelowLemmas.{listed-more}
 use Rattle.rp_sheet.proofs.goods.columns_of.Goals as goal

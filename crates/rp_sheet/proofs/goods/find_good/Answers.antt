@@ -1,5 +1,5 @@
 use Rattle.std.proofs.Common.{◌≡◌, ◌++◌, ap, ◌∙◌}
-use Rattle.rp_sheet.specs.Texts.{place_of}
+use Rattle.rp_forms.specs.Texts.{place_of}
 use Rattle.rp_sheet.proofs.goods.find_good.Goals as goal
 
 pub returns : goal.returns

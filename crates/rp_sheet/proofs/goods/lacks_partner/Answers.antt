@@ -1,7 +1,7 @@
 use Rattle.std.proofs.Common.{◌≡◌, ℕ, List, ◌++◌, not, ap, ◌∙◌, subst, IfOk}
-use Rattle.rp_sheet.specs.Columns.{name_in, mark_of_prices, mark_of_quantities}
+use Rattle.rp_forms.specs.Columns.{name_in, mark_of_prices, mark_of_quantities}
 use Rattle.rp_sheet.specs.Headers.{has}
-use Rattle.rp_sheet.specs.declared.form.Form.{Form}
+use Rattle.rp_forms.specs.declared.form.Form.{Form}
 use Rattle.rp_sheet.proofs.FieldFaults.{role_is}
 use Rattle.rp_sheet.proofs.goods.lacks_partner.Goals as goal
 

@@ -1,8 +1,8 @@
 use Rattle.std.proofs.Common.{◌≡◌, ◌<◌, length, true, false, refl, sym, ap, ◌∙◌, arith, subst}
 use Rattle.std.specs.Option.{option_map_or}
 use Rattle.rp_table.specs.Names.{IsName}
-use Rattle.rp_sheet.specs.Texts.{text_at}
-use Rattle.rp_sheet.specs.Columns.{role_of, is_price, name_in}
+use Rattle.rp_forms.specs.Texts.{text_at}
+use Rattle.rp_forms.specs.Columns.{role_of, is_price, name_in}
 use Rattle.rp_sheet.proofs.NameLemmas.{price_header, named, names_more_yes, names_more_no}
 use Rattle.rp_sheet.proofs.goods.read_names.Goals as goal
 use Rattle.rp_sheet.proofs.goods.read_names.Goals.{then-is_price+in_ok-from_slice+in_ok-push, else-is_price}

@@ -1,9 +1,9 @@
 use Rattle.std.proofs.Common.{◌≡◌, ◌<◌, [], ◌∷◌, ◌++◌, length, take, false, true, is_some, ap, ◌∙◌, arith, refl}
 use Rattle.std.specs.Option.{option_map_or}
 use Rattle.std.proofs.lemmas.List.{take_more, length-map}
-use Rattle.rp_sheet.specs.Texts.{trimmed, place_of}
+use Rattle.rp_forms.specs.Texts.{trimmed, place_of}
 use Rattle.rp_sheet.specs.Records.{record_at}
-use Rattle.rp_sheet.specs.Columns.{takes, role_of}
+use Rattle.rp_forms.specs.Columns.{takes, role_of}
 use Rattle.rp_sheet.specs.Headers.{headers_in, headers_stage}
 use Rattle.rp_sheet.proofs.HeaderLemmas.{header_at, bad_header, named_before, good_header}
 use Rattle.rp_sheet.proofs.headers.read_columns.Goals as goal

@@ -1,6 +1,6 @@
 use Rattle.std.proofs.Common.{◌≡◌, slice_index}
 use Rattle.rp_num.specs.Below.{listed}
-use Rattle.rp_sheet.specs.Texts.{text_at}
+use Rattle.rp_forms.specs.Texts.{text_at}
 use Rattle.rp_sheet.proofs.numbers.column_numbers.Given as goal
 
 abbrev pub invariant-loop-row : goal.invariant-loop-row

@@ -1,6 +1,6 @@
 use Rattle.std.proofs.Common.{◌≡◌, ◌<◌, [], length, slice_index, get_or, ap, ◌∙◌, arith}
 use Rattle.std.proofs.lemmas.List.{get_or_default}
-use Rattle.rp_sheet.specs.Texts.{text_at}
+use Rattle.rp_forms.specs.Texts.{text_at}
 use Rattle.rp_sheet.specs.Sheets.{column_of}
 use Rattle.rp_num.proofs.BelowLemmas.{length-listed, get-listed}
 use Rattle.rp_sheet.proofs.RowMore.{rows-more}

@@ -1,6 +1,6 @@
 use Rattle.std.proofs.Common.{◌≡◌, length, slice_index}
 use Rattle.rp_num.specs.Below.{rows_below}
-use Rattle.rp_sheet.specs.Texts.{text_at}
+use Rattle.rp_forms.specs.Texts.{text_at}
 use Rattle.rp_sheet.specs.Sheets.{column_of}
 use Rattle.rp_sheet.proofs.numbers.numbers_under.Given as goal
 

@@ -1,8 +1,8 @@
 use Rattle.std.proofs.Common.{◌≡◌, ℕ, not, if◌then◌else◌, Some, None, refl, sym, ap, ◌∙◌, subst, arith}
 use Rattle.rp_num.specs.Below.{first_of}
-use Rattle.rp_sheet.specs.Texts.{number_of}
+use Rattle.rp_forms.specs.Texts.{number_of}
 use Rattle.rp_sheet.specs.ChoiceCounts.{is_chosen, choices_stage}
-use Rattle.rp_sheet.specs.declared.form.Form.{Form}
+use Rattle.rp_forms.specs.declared.form.Form.{Form}
 use Rattle.rp_sheet.specs.declared.fault.TableFault.TheVariants as fault
 use Rattle.rp_num.proofs.BelowLemmas.{first_at}
 use Rattle.rp_sheet.proofs.sheet.check_choices.Goals as goal

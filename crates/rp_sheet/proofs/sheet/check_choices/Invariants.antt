@@ -1,6 +1,6 @@
 use Rattle.std.proofs.Common.{◌≡◌, None, Some, not, if◌then◌else◌}
 use Rattle.rp_num.specs.Below.{first_of}
-use Rattle.rp_sheet.specs.Texts.{number_of}
+use Rattle.rp_forms.specs.Texts.{number_of}
 use Rattle.rp_sheet.specs.ChoiceCounts.{is_chosen}
 use Rattle.rp_sheet.specs.declared.fault.TableFault.TheVariants as fault
 use Rattle.rp_sheet.proofs.sheet.check_choices.Given as goal

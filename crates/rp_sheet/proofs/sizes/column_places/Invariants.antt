@@ -1,6 +1,6 @@
 use Rattle.std.proofs.Common.{◌≡◌}
 use Rattle.rp_num.specs.Below.{listed}
-use Rattle.rp_sheet.specs.Columns.{role_at}
+use Rattle.rp_forms.specs.Columns.{role_at}
 use Rattle.rp_sheet.specs.Sizes.{places_of}
 use Rattle.rp_sheet.proofs.sizes.column_places.Given as goal
 

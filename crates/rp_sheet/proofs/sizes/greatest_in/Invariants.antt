@@ -1,8 +1,8 @@
 use Rattle.std.proofs.Common.{◌≡◌, if◌then◌else◌, get_or}
 use Rattle.rp_num.specs.Below.{greatest_below}
-use Rattle.rp_sheet.specs.Columns.{role_at}
+use Rattle.rp_forms.specs.Columns.{role_at}
 use Rattle.rp_sheet.specs.Fields.{nothing}
-use Rattle.rp_sheet.specs.Sizes.{shares_scale}
+use Rattle.rp_forms.specs.Columns.{shares_scale}
 use Rattle.rp_sheet.proofs.sizes.greatest_in.Given as goal
 
 abbrev pub invariant-loop-c : goal.invariant-loop-c

@@ -2,9 +2,10 @@ use Rattle.std.proofs.Common.{◌≡◌, if◌then◌else◌, [], length, max, g
 use Rattle.std.proofs.lemmas.List.{get_or_default}
 use Rattle.std.proofs.lemmas.Grind.{common_steps}
 use Rattle.rp_num.specs.Below.{greatest_below}
-use Rattle.rp_sheet.specs.Columns.{role_at}
+use Rattle.rp_forms.specs.Columns.{role_at}
 use Rattle.rp_sheet.specs.Fields.{nothing}
-use Rattle.rp_sheet.specs.Sizes.{shares_scale, figure_at, greatest_places}
+use Rattle.rp_sheet.specs.Sizes.{figure_at, greatest_places}
+use Rattle.rp_forms.specs.Columns.{shares_scale}
 use Rattle.rp_sheet.proofs.SizeLemmas.{greatest_more}
 use Rattle.rp_sheet.proofs.sizes.greatest_places.Goals as goal
 

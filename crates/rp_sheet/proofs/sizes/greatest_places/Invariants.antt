@@ -1,7 +1,8 @@
 use Rattle.std.proofs.Common.{◌≡◌, if◌then◌else◌, length}
 use Rattle.rp_num.specs.Below.{greatest_below}
-use Rattle.rp_sheet.specs.Columns.{role_at}
-use Rattle.rp_sheet.specs.Sizes.{shares_scale, figure_at}
+use Rattle.rp_forms.specs.Columns.{role_at}
+use Rattle.rp_sheet.specs.Sizes.{figure_at}
+use Rattle.rp_forms.specs.Columns.{shares_scale}
 use Rattle.rp_sheet.proofs.sizes.greatest_places.Given as goal
 
 abbrev pub invariant-loop-row : goal.invariant-loop-row

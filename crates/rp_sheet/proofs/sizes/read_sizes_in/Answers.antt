@@ -2,7 +2,7 @@ use Rattle.std.proofs.Common.{◌≡◌, ◌≢◌, ◌<◌, [], length, get_or,
 use Rattle.std.specs.Result.{result_err}
 use Rattle.std.proofs.lemmas.List.{get_or_default}
 use Rattle.rp_num.specs.Below.{first_of}
-use Rattle.rp_sheet.specs.Columns.{role_at}
+use Rattle.rp_forms.specs.Columns.{role_at}
 use Rattle.rp_sheet.specs.Fields.{nothing}
 use Rattle.rp_sheet.specs.Sizes.{places_of, size_at, scaled}
 use Rattle.rp_sheet.specs.declared.fault.TableFault.{TableFault}

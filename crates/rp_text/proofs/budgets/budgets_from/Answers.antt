@@ -1,11 +1,11 @@
 use Rattle.std.proofs.Common.{◌≡◌, ◌≢◌, Some, None, Ok, Err, refl, sym, ap, ◌∙◌, subst}
 use Rattle.rp_table.specs.BudgetLists.{IsBudgetList}
-use Rattle.rp_sheet.specs.Columns.{names_with, is_price}
+use Rattle.rp_forms.specs.Columns.{names_with, is_price}
 use Rattle.rp_text.specs.Denotation.{budget_list, denoted_budgets}
-use Rattle.rp_sheet.specs.declared.form.Form.{Form}
+use Rattle.rp_forms.specs.declared.form.Form.{Form}
 use Rattle.rp_sheet.specs.declared.fault.TableFault.{TableFault}
 use Rattle.rp_sheet.specs.declared.fault.TableFault.TheVariants as fault
-use Rattle.rp_sheet.specs.declared.form.Marks.TheVariants.{Goods}
+use Rattle.rp_forms.specs.declared.form.Marks.TheVariants.{Goods}
 use Rattle.rp_sheet.proofs.ColumnSizes.{value_read}
 use Rattle.rp_sheet.proofs.StageLemmas.{same_fault}
 use Rattle.rp_text.proofs.BudgetFacts.{budgets_within, refused_budgets, budgets_there}

@@ -1,6 +1,6 @@
 use Rattle.std.proofs.Common.{ℕ, ◌<◌, ◌≤◌, List, length, slice_index, sym, subst}
-use Rattle.rp_sheet.specs.Texts.{text_at}
-use Rattle.rp_sheet.specs.Columns.{price_mark}
+use Rattle.rp_forms.specs.Texts.{text_at}
+use Rattle.rp_forms.specs.Columns.{price_mark}
 use Rattle.rp_sheet.specs.Sheets.{column_of}
 use Rattle.rp_sheet.proofs.RowLemmas.{each_row}
 use Rattle.rp_text.proofs.budgets.fill_budgets.Goals as goal

@@ -1,6 +1,6 @@
 use Rattle.std.proofs.Common.{◌≡◌, ◌≢◌, Ok, Err, sym, ap, ◌∙◌, subst}
 use Rattle.rp_table.specs.BundleLists.{IsBundleList}
-use Rattle.rp_sheet.specs.Forms.{bundles_form}
+use Rattle.rp_forms.specs.Forms.{bundles_form}
 use Rattle.rp_text.specs.Denotation.{bundle_list, denoted_bundles}
 use Rattle.rp_sheet.specs.declared.fault.TableFault.{TableFault}
 use Rattle.rp_sheet.specs.declared.fault.TableFault.TheVariants as fault

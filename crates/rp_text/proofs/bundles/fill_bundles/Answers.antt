@@ -1,7 +1,7 @@
 use Rattle.std.proofs.Common.{◌≤◌, length}
 use Rattle.std.specs.List.{slice_index}
-use Rattle.rp_sheet.specs.Texts.{text_at}
-use Rattle.rp_sheet.specs.Columns.{quantity_mark}
+use Rattle.rp_forms.specs.Texts.{text_at}
+use Rattle.rp_forms.specs.Columns.{quantity_mark}
 use Rattle.rp_sheet.specs.Sheets.{column_of}
 use Rattle.rp_sheet.proofs.RowLemmas.{each_row}
 use Rattle.rp_text.proofs.bundles.fill_bundles.Goals as goal

@@ -3,7 +3,7 @@ use Rattle.rp_table.specs.ChoiceLists.{ChoiceList, IsChoiceList}
 use Rattle.std.specs.List.{All}
 use Rattle.rp_sheet.specs.Chosen.{IsChosenFrom}
 use Rattle.rp_text.proofs.ChosenFacts.{choices_on_budgets, choices_from_every}
-use Rattle.rp_sheet.specs.Forms.{choices_form}
+use Rattle.rp_forms.specs.Forms.{choices_form}
 use Rattle.rp_text.specs.Denotation.{choice_list, denoted_choices}
 use Rattle.rp_sheet.specs.declared.fault.TableFault.{TableFault}
 use Rattle.rp_sheet.specs.declared.fault.TableFault.TheVariants as fault

@@ -1,6 +1,6 @@
 use Rattle.std.proofs.Common.{ℕ, ◌≤◌, length, slice_index}
-use Rattle.rp_sheet.specs.Texts.{text_at}
-use Rattle.rp_sheet.specs.Columns.{quantity_mark}
+use Rattle.rp_forms.specs.Texts.{text_at}
+use Rattle.rp_forms.specs.Columns.{quantity_mark}
 use Rattle.rp_sheet.specs.Sheets.{column_of}
 use Rattle.rp_sheet.proofs.RowLemmas.{each_row}
 use Rattle.rp_text.proofs.choices.fill_choices.Goals as goal

@@ -1,5 +1,5 @@
 use Rattle.std.proofs.Common.{inl, inr, ap, ◌∙◌}
-use Rattle.rp_sheet.specs.Columns.{mark_of_prices, mark_of_quantities}
+use Rattle.rp_forms.specs.Columns.{mark_of_prices, mark_of_quantities}
 use Rattle.rp_table.specs.Tables.{levels_given}
 use Rattle.rp_text.proofs.PricedTables.{priced_limits}
 use Rattle.rp_text.proofs.priced.priced_table.Goals as goal

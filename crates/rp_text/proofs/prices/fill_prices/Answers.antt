@@ -1,7 +1,7 @@
 use Rattle.std.proofs.Common.{◌≤◌, length}
 use Rattle.std.specs.List.{slice_index}
-use Rattle.rp_sheet.specs.Texts.{text_at}
-use Rattle.rp_sheet.specs.Columns.{price_mark}
+use Rattle.rp_forms.specs.Texts.{text_at}
+use Rattle.rp_forms.specs.Columns.{price_mark}
 use Rattle.rp_sheet.specs.Sheets.{column_of}
 use Rattle.rp_sheet.proofs.RowLemmas.{each_row}
 use Rattle.rp_text.proofs.prices.fill_prices.Goals as goal

@@ -1,7 +1,7 @@
 use Rattle.std.proofs.Common.{◌≡◌, ◌≢◌, length, Ok, Err, sym, ap, ◌∙◌, subst}
 use Rattle.rp_table.specs.PriceLists.{PriceList, IsPriceList}
 use Rattle.rp_table.specs.Rows.{rows_count}
-use Rattle.rp_sheet.specs.Forms.{prices_form}
+use Rattle.rp_forms.specs.Forms.{prices_form}
 use Rattle.rp_sheet.specs.Headers.{headers_in}
 use Rattle.rp_sheet.specs.Records.{record_at}
 use Rattle.rp_text.specs.Denotation.{price_list, denoted_prices}

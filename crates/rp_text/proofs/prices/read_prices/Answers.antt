@@ -1,5 +1,5 @@
 use Rattle.std.proofs.Common.{◌≡◌, ℕ, Bool, List, take, ap, ◌∙◌}
-use Rattle.rp_sheet.specs.Forms.{prices_form}
+use Rattle.rp_forms.specs.Forms.{prices_form}
 use Rattle.rp_sheet.specs.Headers.{headers_in}
 use Rattle.rp_sheet.specs.Fields.{figures_of}
 use Rattle.rp_sheet.specs.Records.{records_in, record_at}

@@ -1,6 +1,6 @@
 use Rattle.std.proofs.Common.{ap, ◌∙◌}
-use Rattle.rp_sheet.specs.Texts.{place_of}
-use Rattle.rp_sheet.specs.Columns.{Layout}
+use Rattle.rp_forms.specs.Texts.{place_of}
+use Rattle.rp_forms.specs.Columns.{Layout}
 use Rattle.rp_sheet.proofs.ColumnLemmas.{found}
 use Rattle.rp_sheet.proofs.columns.Columns.find.Goals as goal
 

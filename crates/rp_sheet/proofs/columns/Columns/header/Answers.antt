@@ -1,6 +1,6 @@
 use Rattle.std.proofs.Common.{ap, ◌∙◌}
-use Rattle.rp_sheet.specs.Texts.{text_at}
-use Rattle.rp_sheet.specs.Columns.{Layout}
+use Rattle.rp_forms.specs.Texts.{text_at}
+use Rattle.rp_forms.specs.Columns.{Layout}
 use Rattle.rp_sheet.proofs.ColumnLemmas.{header_there}
 use Rattle.rp_sheet.proofs.columns.Columns.header.Goals as goal
 

@@ -1,6 +1,6 @@
 use Rattle.std.proofs.Common.{◌≡◌, None, Some, [], ◌∷◌, ◌++◌, ap, ◌∙◌, subst, sym}
-use Rattle.rp_sheet.specs.Texts.{place_of}
-use Rattle.rp_sheet.specs.Columns.{Layout, role_of}
+use Rattle.rp_forms.specs.Texts.{place_of}
+use Rattle.rp_forms.specs.Columns.{Layout, role_of}
 use Rattle.rp_sheet.proofs.ColumnLemmas.{headers_of, added, headers-more, agrees-more}
 use Rattle.rp_sheet.proofs.columns.Columns.push.Goals as goal
 

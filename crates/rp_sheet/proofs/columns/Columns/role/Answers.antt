@@ -1,6 +1,6 @@
 use Rattle.std.proofs.Common.{◌≡◌, Some, subst}
-use Rattle.rp_sheet.specs.Texts.{text_at}
-use Rattle.rp_sheet.specs.Columns.{Layout, role_of}
+use Rattle.rp_forms.specs.Texts.{text_at}
+use Rattle.rp_forms.specs.Columns.{Layout, role_of}
 use Rattle.rp_sheet.proofs.ColumnLemmas.{role_there}
 use Rattle.rp_sheet.proofs.columns.Columns.role.Goals as goal
 

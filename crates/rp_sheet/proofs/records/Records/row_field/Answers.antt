@@ -1,5 +1,5 @@
 use Rattle.std.proofs.Common.{◌+◌, ◌∙◌, ap}
-use Rattle.rp_sheet.specs.Texts.{text_at}
+use Rattle.rp_forms.specs.Texts.{text_at}
 use Rattle.rp_sheet.proofs.FieldLemmas.{record_there}
 use Rattle.rp_sheet.proofs.records.Records.row_field.Goals as goal
 

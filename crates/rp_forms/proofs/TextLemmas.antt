@@ -2,7 +2,7 @@
 use Rattle.std.proofs.Common.{◌≡◌, ℕ, ◌-◌, ◌<◌, ◌≤◌, true, false, List, length, get_or, take, drop, sym, ap, arith, ◌∙◌}
 use Rattle.std.proofs.lemmas.List.{take_rest}
 use Rattle.std.proofs.lemmas.List.Sums.{prefix_len_is, suffix_len_is}
-use Rattle.rp_sheet.specs.Texts.{is_blank, after_blanks, before_blanks}
+use Rattle.rp_forms.specs.Texts.{is_blank, after_blanks, before_blanks}
 
 -- what stands after the blanks
 pub blanks_before : (text : List ℕ) (n : ℕ) → n ≤ length text → ((k : ℕ) → k < n → is_blank (get_or text k 0) ≡ true) → (n < length text → is_blank (get_or text n 0) ≡ false) → take (length text - n) (drop n text) ≡ after_blanks text

@@ -1,7 +1,7 @@
 use Rattle.std.proofs.Common.{arith, sym, ◌∙◌}
-use Rattle.rp_sheet.proofs.TextLemmas.{blanks_before}
-use Rattle.rp_sheet.proofs.texts.after_blanks.Goals as goal
-use Rattle.rp_sheet.proofs.texts.after_blanks.Goals.{then-loop-start-test+else-is_blank, else-loop-start-test}
+use Rattle.rp_forms.proofs.TextLemmas.{blanks_before}
+use Rattle.rp_forms.proofs.texts.after_blanks.Goals as goal
+use Rattle.rp_forms.proofs.texts.after_blanks.Goals.{then-loop-start-test+else-is_blank, else-loop-start-test}
 
 pub returns : goal.returns
 returns c =

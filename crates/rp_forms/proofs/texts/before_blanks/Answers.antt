@@ -1,7 +1,7 @@
 use Rattle.std.proofs.Common.{arith, sym, ◌∙◌}
-use Rattle.rp_sheet.proofs.TextLemmas.{blanks_after}
-use Rattle.rp_sheet.proofs.texts.before_blanks.Goals as goal
-use Rattle.rp_sheet.proofs.texts.before_blanks.Goals.{then-loop-end-test+else-is_blank, else-loop-end-test}
+use Rattle.rp_forms.proofs.TextLemmas.{blanks_after}
+use Rattle.rp_forms.proofs.texts.before_blanks.Goals as goal
+use Rattle.rp_forms.proofs.texts.before_blanks.Goals.{then-loop-end-test+else-is_blank, else-loop-end-test}
 
 pub returns : goal.returns
 returns c =

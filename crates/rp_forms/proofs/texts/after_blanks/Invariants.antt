@@ -1,6 +1,6 @@
 use Rattle.std.proofs.Common.{◌≡◌, ℕ, ◌-◌, ◌<◌, ◌≤◌, true, length, get_or}
-use Rattle.rp_sheet.specs.Texts.{is_blank}
-use Rattle.rp_sheet.proofs.texts.after_blanks.Given as goal
+use Rattle.rp_forms.specs.Texts.{is_blank}
+use Rattle.rp_forms.proofs.texts.after_blanks.Given as goal
 
 abbrev pub invariant-loop-start : goal.invariant-loop-start
 invariant-loop-start l = record {

@@ -1,13 +1,13 @@
 ghost use Rattle.std.specs.Prelude.{◌≡◌};
 ghost use Rattle.std.specs.List.{list_any};
-ghost use Rattle.rp_sheet.specs.Columns.{takes, measures, is_price, is_quantity, header_of};
-ghost use Rattle.rp_sheet.specs.Columns.{is_headed, has_price_scale, has_quantity_scale};
-ghost use Rattle.rp_sheet.specs.Columns.{has_income_scale, mark_of_prices, mark_of_quantities};
-ghost use Rattle.rp_sheet.specs.Forms as Forms;
-ghost use Rattle.rp_sheet.specs.Forms.{table_form, prices_form, bundles_form, budgets_form};
-ghost use Rattle.rp_sheet.specs.Forms.{choices_form, technology_form, asked_form, menus_form};
-ghost use Rattle.rp_sheet.specs.Headers.{has_goods};
-ghost use Rattle.rp_sheet.specs.Sizes.{shares_scale, limit_of};
+ghost use Rattle.rp_forms.specs.Columns.{takes, measures, is_price, is_quantity, header_of};
+ghost use Rattle.rp_forms.specs.Columns.{is_headed, has_price_scale, has_quantity_scale};
+ghost use Rattle.rp_forms.specs.Columns.{has_income_scale, mark_of_prices, mark_of_quantities};
+ghost use Rattle.rp_forms.specs.Forms as Forms;
+ghost use Rattle.rp_forms.specs.Forms.{table_form, prices_form, bundles_form, budgets_form};
+ghost use Rattle.rp_forms.specs.Forms.{choices_form, technology_form, asked_form, menus_form};
+ghost use Rattle.rp_forms.specs.Columns.{has_goods};
+ghost use Rattle.rp_forms.specs.Columns.{shares_scale, limit_of};
 
 use rp_table::{BUDGETS, CHOICES, LARGEST, LARGEST_EXPENDITURE, NEW_RECORDS, RECORDS};
 

@@ -1,12 +1,12 @@
 -- The kinds of files, by what each has.
 use Rattle.std.specs.Prelude.{ℕ, Bool, true, false, if◌then◌else◌, [], ◌∷◌, Option, Some, None}
 use Rattle.rp_table.specs.declared.TheConstants.{RECORDS, NEW_RECORDS, BUDGETS, CHOICES}
-use Rattle.rp_sheet.specs.declared.form.Column.{Column}
-use Rattle.rp_sheet.specs.declared.form.Form.{Form}
-use Rattle.rp_sheet.specs.declared.form.Marks.TheVariants.{Goods, Inputs}
-use Rattle.rp_sheet.specs.declared.form.Role.{Role}
-use Rattle.rp_sheet.specs.declared.form.Role.TheVariants.{Expenditure, Income, Budget, Times, Output, OutputPrice}
-use Rattle.rp_sheet.specs.declared.form.Role.TheVariants.{Menu, Choice, OwnLevel}
+use Rattle.rp_forms.specs.declared.form.Column.{Column}
+use Rattle.rp_forms.specs.declared.form.Form.{Form}
+use Rattle.rp_forms.specs.declared.form.Marks.TheVariants.{Goods, Inputs}
+use Rattle.rp_forms.specs.declared.form.Role.{Role}
+use Rattle.rp_forms.specs.declared.form.Role.TheVariants.{Expenditure, Income, Budget, Times, Output, OutputPrice}
+use Rattle.rp_forms.specs.declared.form.Role.TheVariants.{Menu, Choice, OwnLevel}
 
 -- a column that such a file has to have
 abbrev pub required : Role → Option Column

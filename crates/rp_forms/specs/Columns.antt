@@ -1,20 +1,20 @@
 -- What the headers of a file say (a format of this project's own). A column has the prices or the
 -- quantities of a good, under p_NAME or q_NAME, or those of an input, under w_NAME or x_NAME, or it has one of a
 -- few other headers.
-use Rattle.std.specs.Prelude.{ℕ, Bool, true, false, not, ◌&&◌, nat_eq, nat_le, if◌then◌else◌, List, [], length, drop}
+use Rattle.std.specs.Prelude.{ℕ, Bool, true, false, not, ◌&&◌, ◌||◌, nat_eq, nat_le, if◌then◌else◌, List, [], length, drop}
 use Rattle.std.specs.Prelude.{filter, map, codes, Option, Some, None, unwrap_or}
 use Rattle.std.specs.List.{list_all, list_any, starts_with}
 use Rattle.std.specs.Option.{option_map_or, option_or}
 use Rattle.std.specs.Str.{bytes_eq}
-use Rattle.rp_table.specs.declared.TheConstants.{NAME_BYTES}
-use Rattle.rp_sheet.specs.Texts.{text_at}
-use Rattle.rp_sheet.specs.declared.form.Column.{Column}
-use Rattle.rp_sheet.specs.declared.form.Form.{Form}
-use Rattle.rp_sheet.specs.declared.form.Marks.{Marks}
-use Rattle.rp_sheet.specs.declared.form.Marks.TheVariants.{Goods, Inputs}
-use Rattle.rp_sheet.specs.declared.form.Role.{Role}
-use Rattle.rp_sheet.specs.declared.form.Role.TheVariants.{Observation, Price, Quantity, Expenditure, Income, Budget}
-use Rattle.rp_sheet.specs.declared.form.Role.TheVariants.{Times, Output, OutputPrice, Menu, Choice, OwnLevel}
+use Rattle.rp_table.specs.declared.TheConstants.{LARGEST, LARGEST_EXPENDITURE, NAME_BYTES}
+use Rattle.rp_forms.specs.Texts.{text_at}
+use Rattle.rp_forms.specs.declared.form.Column.{Column}
+use Rattle.rp_forms.specs.declared.form.Form.{Form}
+use Rattle.rp_forms.specs.declared.form.Marks.{Marks}
+use Rattle.rp_forms.specs.declared.form.Marks.TheVariants.{Goods, Inputs}
+use Rattle.rp_forms.specs.declared.form.Role.{Role}
+use Rattle.rp_forms.specs.declared.form.Role.TheVariants.{Observation, Price, Quantity, Expenditure, Income, Budget}
+use Rattle.rp_forms.specs.declared.form.Role.TheVariants.{Times, Output, OutputPrice, Menu, Choice, OwnLevel}
 
 -- a good's name: 1 to NAME_BYTES bytes, none of them a control character
 abbrev pub is_name : List ℕ → Bool
@@ -189,6 +189,40 @@ has_income_scale OutputPrice = false
 has_income_scale Menu = false
 has_income_scale Choice = false
 has_income_scale OwnLevel = false
+
+-- whether columns of the two roles have one scale of the file's own
+abbrev pub shares_scale : Role → Role → Bool
+shares_scale Observation other = false
+shares_scale Price other = has_price_scale other
+shares_scale Quantity other = has_quantity_scale other
+shares_scale Expenditure other = false
+shares_scale Income other = has_income_scale other
+shares_scale Budget other = false
+shares_scale Times other = false
+shares_scale Output other = has_quantity_scale other
+shares_scale OutputPrice other = has_price_scale other
+shares_scale Menu other = false
+shares_scale Choice other = false
+shares_scale OwnLevel other = false
+
+-- the largest scaled number of a role
+abbrev pub limit_of : Role → ℕ
+limit_of Observation = LARGEST
+limit_of Price = LARGEST
+limit_of Quantity = LARGEST
+limit_of Expenditure = LARGEST_EXPENDITURE
+limit_of Income = LARGEST_EXPENDITURE
+limit_of Budget = LARGEST
+limit_of Times = LARGEST
+limit_of Output = LARGEST
+limit_of OutputPrice = LARGEST
+limit_of Menu = LARGEST
+limit_of Choice = LARGEST
+limit_of OwnLevel = LARGEST
+
+-- whether a kind of file has columns of goods
+abbrev pub has_goods : Form → Bool
+has_goods form = form.prices || form.quantities
 
 -- what the fields of the column at a place say
 abbrev pub role_at : Marks → List (List ℕ) → ℕ → Role

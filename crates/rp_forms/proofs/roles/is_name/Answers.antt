@@ -1,6 +1,6 @@
 use Rattle.std.proofs.Common.{arith}
 use Rattle.std.proofs.lemmas.Bool.Decides.{nat_tests}
-use Rattle.rp_sheet.proofs.roles.is_name.Goals as goal
+use Rattle.rp_forms.proofs.roles.is_name.Goals as goal
 
 pub returns : goal.returns
 returns c = grind (arith, nat_tests)

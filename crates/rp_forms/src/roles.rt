@@ -1,6 +1,6 @@
 ghost use Rattle.std.specs.Prelude.{◌≡◌, nat_le};
 ghost use Rattle.std.specs.List.{list_all};
-ghost use Rattle.rp_sheet.specs.Columns.{role_of, named_role, good_role, is_name, name_in};
+ghost use Rattle.rp_forms.specs.Columns.{role_of, named_role, good_role, is_name, name_in};
 
 use crate::form::{Marks, Role};
 use rp_table::NAME_BYTES;

@@ -1,6 +1,6 @@
 ghost use Rattle.std.specs.Prelude.{◌≡◌};
-ghost use Rattle.rp_sheet.specs.Texts.{trimmed, after_blanks, before_blanks, number_of};
-ghost use Rattle.rp_sheet.specs.Texts as Texts;
+ghost use Rattle.rp_forms.specs.Texts.{trimmed, after_blanks, before_blanks, number_of};
+ghost use Rattle.rp_forms.specs.Texts as Texts;
 
 /// A text without the spaces and tabs round it.
 pub fn trimmed(text: &[u8]) -> &[u8]
