@@ -1,5 +1,5 @@
-//! What the commands share: the test of a table on the axiom that their answers begin with, certificates on a table, and the
-//! report of a certificate or its JSON.
+//! What the commands share: the test of a table on the axiom that their answers begin with, certificates on a table,
+//! and the report of a certificate or its JSON.
 
 ghost use Rattle.rp_evidence.specs.Kinds.{IsCertificateOf};
 ghost use Rattle.rp_evidence.specs.declared.certificate.Kind.TheVariants.{Table as TableKind};
