@@ -1,5 +1,5 @@
 -- One row of bits takes in another, a word at a time.
-use Rattle.std.proofs.Common.{◌≡◌, ℕ, ◌/◌, ◌%◌, ◌<◌, ◌≤◌, ◌||◌, eqb, List, length, get_or, bit_or, inl, inr, refl, sym, ap, ◌∙◌, arith}
+use Rattle.std.proofs.Common.{◌≡◌, ℕ, ◌/◌, ◌%◌, ◌<◌, ◌≤◌, ◌||◌, eqb, List, length, get_or, bit_or, inl, inr, sym, ap, ◌∙◌, arith}
 use Rattle.std.specs.Int.{bit_at}
 use Rattle.std.proofs.lemmas.Bool.{cases_lt}
 use Rattle.std.proofs.lemmas.List.{get_or_past}
@@ -11,9 +11,6 @@ pub record IsTakenIn (old now from : List ℕ) (w : ℕ) : Type 0 where
   pub long : length now ≡ length old
   pub done : (v : ℕ) → v < w → get_or now v 0 ≡ bit_or (get_or old v 0) (get_or from v 0)
   pub left : (v : ℕ) → w ≤ v → get_or now v 0 ≡ get_or old v 0
-
-pub none_taken : (old from : List ℕ) → IsTakenIn old old from 0
-none_taken old from = record { long = refl; done = λ v l. absurd (omega arith); left = λ v l. refl }
 
 pub row_taken : (old now from : List ℕ) (w : ℕ) → IsTakenIn old now from w → length old ≤ w → length from ≤ w → (t : ℕ) → bit_in now t ≡ (bit_in old t || bit_in from t)
 row_taken old now from w taken long_old long_from t =

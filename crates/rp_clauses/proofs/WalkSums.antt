@@ -1,9 +1,9 @@
 -- The sum over a walk, step by step.
-use Rattle.std.proofs.Common.{◌≡◌, ℕ, zero, suc, ◌+◌, ◌<◌, ◌≤◌, List, [], ◌∷◌, length, take, slice_index, ◌*◌, ◌^◌, ◌∙◌, ap, arith, add-one, refl, subst, sym}
+use Rattle.std.proofs.Common.{◌≡◌, ℕ, zero, suc, ◌+◌, ◌<◌, ◌≤◌, List, [], ◌∷◌, length, take, slice_index, ◌*◌, ◌^◌, ◌∙◌, ap, arith, add-one, subst, sym}
 use Rattle.std.proofs.lemmas.Int.{ints, to_z-of_z}
 use Rattle.std.specs.Int.{w128}
 use Rattle.std.specs.Int.RustNames.{unsigned_abs}
-use Rattle.std.specs.Prelude.{◌+ℤ◌, ℤ, pos}
+use Rattle.std.specs.Prelude.{◌+ℤ◌, ℤ}
 use lib.Signed.{mag}
 use mir.Val.{of_z, to_z}
 use Rattle.rp_evidence.specs.Quasilinear.{step_sum, sum_from, walk_sum}
@@ -22,10 +22,6 @@ walk_more c (t ∷ rest) k within = from_more c t rest k (omega arith)
 -- one step more of a walk
 pub sum_more : (c : ℕ → ℕ → ℕ) (walk : List ℕ) (k : ℕ) → k + 1 < length walk → walk_sum c (take (k + 1 + 1) walk) ≡ walk_sum c (take (k + 1) walk) +ℤ step_sum c (slice_index walk k) (slice_index walk (k + 1))
 sum_more c walk k within = rw (add-one, add-one) (walk_more c walk k (omega arith))
-
-pub one_entry : (c : ℕ → ℕ → ℕ) (walk : List ℕ) → walk_sum c (take (0 + 1) walk) ≡ pos 0
-one_entry c [] = refl
-one_entry c (t ∷ rest) = refl
 
 -- a turn of the loop: s is the sum so far, a is what the step adds and r their sum
 pub sum_kept : (c : ℕ → ℕ → ℕ) (walk : List ℕ) (k : ℕ) (s a r : ℤ) → k + 1 < length walk

@@ -2,8 +2,24 @@
 use Rattle.std.proofs.Common.{◌≡◌, ℕ, zero, suc, ◌<◌, ◌≤◌, List, [], ◌∷◌, inl, inr, refl, arith, lit<, lit≤, slice_index, slice_index_or}
 use Rattle.std.proofs.lemmas.Int.{ints}
 use Rattle.std.specs.Prelude.{ℤ, pos, negsuc, ◌≤ℤ◌}
-use Rattle.rp_evidence.specs.Afriat.{IsAfriatModel, allowed}
-use Rattle.rp_evidence.specs.StandardNumbers.{AreNumbersOf, FitsMultiplier, FitsUtility, IsClassUtility, IsMultiplier, PassWidthFirstAt}
+use Rattle.rp_evidence.specs.Afriat.{IsAfriatModel, allowed_by, spent}
+use Rattle.rp_evidence.specs.StandardNumbers.{AreNumbersBy, FitsMultiplier, FitsUtility, IsClassUtilityBy, IsMultiplierBy, PassWidthFirstAt}
+
+-- ---- the numbers without levels of the observations' own
+
+abbrev allowed : (ℕ → ℕ → ℕ) → (ℕ → ℤ) → (ℕ → ℕ) → ℕ → ℕ → ℤ
+allowed c = allowed_by c (spent c)
+
+abbrev IsClassUtility : ℕ → (ℕ → ℕ → ℕ) → (ℕ → ℕ) → (ℕ → ℤ) → (ℕ → ℕ) → ℕ → ℤ → Type 0
+IsClassUtility n c = IsClassUtilityBy n c (spent c)
+
+abbrev IsMultiplier : ℕ → (ℕ → ℕ → ℕ) → (ℕ → ℕ) → (ℕ → ℤ) → ℕ → ℕ → Type 0
+IsMultiplier n c = IsMultiplierBy n c (spent c)
+
+abbrev AreNumbersOf : ℕ → (ℕ → ℕ → ℕ) → (ℕ → ℕ) → (ℕ → ℤ) → (ℕ → ℕ) → ℕ → Type 0
+AreNumbersOf n c = AreNumbersBy n c (spent c)
+
+-- ---- tables
 
 abbrev costs : List (List ℕ) → ℕ → ℕ → ℕ
 costs rows s t = slice_index (slice_index_or rows s []) t

@@ -16,9 +16,6 @@ in_scale scale c s t = scale * c s t
 abbrev pub allowed_by : (ℕ → ℕ → ℕ) → (ℕ → ℕ) → (ℕ → ℤ) → (ℕ → ℕ) → ℕ → ℕ → ℤ
 allowed_by cost own utility multiplier s t = utility s +ℤ (pos (multiplier s) *ℤ (pos (cost s t) -ℤ pos (own s)))
 
-abbrev pub allowed : (ℕ → ℕ → ℕ) → (ℕ → ℤ) → (ℕ → ℕ) → ℕ → ℕ → ℤ
-allowed c = allowed_by c (spent c)
-
 -- A model: whole numbers U_t, and λ_t from 1 on, such that any s and t have U_t ≤ U_s + λ_s (cost(s,t) - own(s)).
 pub record IsModelBy (n : ℕ) (cost : ℕ → ℕ → ℕ) (own : ℕ → ℕ) (utility : ℕ → ℤ) (multiplier : ℕ → ℕ) : Type 0 where
   pub at_least_one : (s : ℕ) → s < n → 1 ≤ multiplier s

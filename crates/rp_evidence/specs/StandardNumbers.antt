@@ -19,9 +19,6 @@ pub record IsClassUtilityBy (n : ℕ) (cost : ℕ → ℕ → ℕ) (own count : 
       → (s : ℕ) × (t : ℕ) × (s < n) × (t < n) × (class < count s) × (count t ≡ class)
       × (x ≡ allowed_by cost own utility multiplier s t)
 
-abbrev pub IsClassUtility : ℕ → (ℕ → ℕ → ℕ) → (ℕ → ℕ) → (ℕ → ℤ) → (ℕ → ℕ) → ℕ → ℤ → Type 0
-IsClassUtility n c = IsClassUtilityBy n c (spent c)
-
 -- With the multiplier k, observation s allows each observation of a higher class its utility.
 abbrev pub AllowsHigherBy : ℕ → (ℕ → ℕ → ℕ) → (ℕ → ℕ) → (ℕ → ℕ) → (ℕ → ℤ) → ℕ → ℕ → Type 0
 AllowsHigherBy n cost own count utility s k =
@@ -34,17 +31,11 @@ pub record IsMultiplierBy (n : ℕ) (cost : ℕ → ℕ → ℕ) (own count : �
   pub enough : AllowsHigherBy n cost own count utility s k
   pub least : (j : ℕ) → 1 ≤ j → AllowsHigherBy n cost own count utility s j → k ≤ j
 
-abbrev pub IsMultiplier : ℕ → (ℕ → ℕ → ℕ) → (ℕ → ℕ) → (ℕ → ℤ) → ℕ → ℕ → Type 0
-IsMultiplier n c = IsMultiplierBy n c (spent c)
-
 -- The numbers of t are its class's utility and its multiplier.
 pub record AreNumbersBy (n : ℕ) (cost : ℕ → ℕ → ℕ) (own count : ℕ → ℕ) (utility : ℕ → ℤ) (multiplier : ℕ → ℕ)
     (t : ℕ) : Type 0 where
   pub utility_is : IsClassUtilityBy n cost own count utility multiplier (count t) (utility t)
   pub multiplier_is : IsMultiplierBy n cost own count utility t (multiplier t)
-
-abbrev pub AreNumbersOf : ℕ → (ℕ → ℕ → ℕ) → (ℕ → ℕ) → (ℕ → ℤ) → (ℕ → ℕ) → ℕ → Type 0
-AreNumbersOf n c = AreNumbersBy n c (spent c)
 
 -- The standard numbers of n observations, without any width, by the weak steps of a preference.
 pub record AreStandardBy (n : ℕ) (weak : ℕ → ℕ → Type 0) (cost : ℕ → ℕ → ℕ) (own count : ℕ → ℕ) (utility : ℕ → ℤ)

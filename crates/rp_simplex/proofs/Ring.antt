@@ -47,6 +47,3 @@ sound (s ⊗ t) = sound_times (value s) (value t) (ups s) (downs s) (ups t) (dow
 
 pub ring : (s t : Term) → ups s + downs t ≡ ups t + downs s → value s ≡ value t
 ring s t h = same_in (value s) (value t) (omega (arith, sound s, sound t))
-
-try : (a b c : ℤ) → (a +ℤ b) *ℤ c ≡ (c *ℤ b) +ℤ (a *ℤ c)
-try a b c = ring ((at a ⊕ at b) ⊗ at c) ((at c ⊗ at b) ⊕ (at a ⊗ at c)) (omega arith)
