@@ -1,8 +1,5 @@
-ghost use Rattle.std.specs.Prelude.{IfOk};
-ghost use Rattle.rp_evidence.specs.Kinds.{IsOfKind};
-ghost use Rattle.rp_evidence.specs.declared.certificate.Kind.TheVariants.{Table as TableKind};
-
-use crate::items::{answer, garp, list};
+//! Evidence on demand and welfare, of whatever origin.
+use crate::items::list;
 use rp_evidence::{Bound, DemandPart, GoodBounds, Item, Point, WelfarePart};
 use rp_farkas::{Entry, Pair};
 use rp_num::{Frac, Seq};
@@ -10,7 +7,7 @@ use std::alloc::Global;
 use std::test::Fail;
 
 /// A bound with its pair over `den`: y is 1 at the columns, from 0, and 0 at every other.
-pub fn shown(
+pub(crate) fn shown(
     alloc: Global,
     value: u32,
     x: &[u64],
@@ -31,7 +28,7 @@ pub fn shown(
 
 /// The bounds of two goods, the first of which is given: each good is from 1 to 2 where 3 is spent at the prices 1
 /// and 1, on costs 4, 5; 5, 4. The values are those of the case, and the pairs true ones.
-pub fn goods(
+pub(crate) fn goods(
     alloc: Global,
     first: Bound,
     upper: u32,
@@ -51,22 +48,20 @@ pub fn goods(
 }
 
 /// The true bounds of both goods.
-pub fn true_goods(alloc: Global) -> Result<Seq<GoodBounds>, Fail> {
+pub(crate) fn true_goods(alloc: Global) -> Result<Seq<GoodBounds>, Fail> {
     let first = shown(alloc, 1, &[1, 2], &[1, 3], 1)?;
     goods(alloc, first, 2, 1, 2)
 }
 
 /// Demand at the prices 1 and 1 and the expenditure 3.
-pub fn demand(
+pub(crate) fn demand(
     alloc: Global,
     below: &[u32],
     strict: &[u32],
     inner: &[u64],
     den: u64,
     goods: Seq<GoodBounds>,
-) -> Result<Item, Fail>
-    ensures { IfOk result (IsOfKind TableKind) }
-{
+) -> Result<Item, Fail> {
     let prices = list(alloc, &[1, 1])?;
     let below = list(alloc, below)?;
     let strict = list(alloc, strict)?;
@@ -82,45 +77,29 @@ pub fn demand(
 }
 
 /// A violation in place of demand.
-pub fn no_demand(alloc: Global, prices: &[u32], m: u64, walk: &[u32]) -> Result<Item, Fail>
-    ensures { IfOk result (IsOfKind TableKind) }
-{
+pub(crate) fn no_demand(alloc: Global, prices: &[u32], m: u64, walk: &[u32]) -> Result<Item, Fail> {
     let prices = list(alloc, prices)?;
     let part = DemandPart::NoModel(list(alloc, walk)?);
     Ok(Item::Demand { prices, m, part })
 }
 
 /// Welfare of the observation `of`: the upper bound is at `at`.
-pub fn welfare(
+pub(crate) fn welfare(
     alloc: Global,
     prices: &[u32],
     of: u32,
     upper: u64,
     at: u32,
     lower: Bound,
-) -> Result<Item, Fail>
-    ensures { IfOk result (IsOfKind TableKind) }
-{
+) -> Result<Item, Fail> {
     let prices = list(alloc, prices)?;
     let part = WelfarePart::Bounds { upper, at, lower };
     Ok(Item::Welfare { prices, of, part })
 }
 
 /// A violation in place of welfare.
-pub fn no_welfare(alloc: Global, of: u32, walk: &[u32]) -> Result<Item, Fail>
-    ensures { IfOk result (IsOfKind TableKind) }
-{
+pub(crate) fn no_welfare(alloc: Global, of: u32, walk: &[u32]) -> Result<Item, Fail> {
     let prices = list(alloc, &[1, 2])?;
     let part = WelfarePart::NoModel(list(alloc, walk)?);
     Ok(Item::Welfare { prices, of, part })
-}
-
-/// What the checker answers on an item after ranks.
-pub fn answer_after(alloc: Global, text: &str, ranks: &[u32], item: Item) -> Result<String, Fail>
-    requires { IsOfKind TableKind item }
-{
-    let mut items = Vec::new(alloc);
-    items.push(garp(alloc, true, ranks)?)?;
-    items.push(item)?;
-    answer(alloc, text, items)
 }

@@ -1,30 +1,32 @@
-use crate::forged::{efficiency, model, no_model};
-use crate::items::{answer_alone, at, garp};
-use rp_evidence::Level;
+//! Forged cycles, ranks, Afriat numbers and indices, with the clause that they fail first.
+use crate::forged::{efficiency, garp, model, no_model};
+use crate::items::{Answer, answer_alone, at};
+use rp_evidence::Reason::{NoStrict, NotClosed, NotWeak, Number, Order, Shape};
+use rp_evidence::{Level, Reason};
 use std::test::Fail;
 use tests_inputs::tables::{ALONE, APART, CONTRADICTION, EQUAL, MORE_AND_LESS, NINE_TENTHS};
 
 #[test]
 fn forged_cycles(rt: HostRuntime) -> Result<(), Fail> {
     let alloc = rt.alloc();
-    let cases: [(&str, &[u32], &str); 13] = [
-        (CONTRADICTION, &[0, 1, 0], "accepted"),
-        (CONTRADICTION, &[0, 0, 1, 0], "accepted"),
-        (CONTRADICTION, &[], "item 1 Shape 0"),
-        (CONTRADICTION, &[0], "item 1 Shape 0"),
-        (CONTRADICTION, &[0, 2, 0], "item 1 Number 2"),
-        (CONTRADICTION, &[4294967295, 0], "item 1 Number 1"),
-        (CONTRADICTION, &[0, 1, 4294967295], "item 1 Number 3"),
-        (CONTRADICTION, &[0, 1], "item 1 NotClosed 0"),
-        (APART, &[0, 1, 0], "item 1 NotWeak 1"),
-        (MORE_AND_LESS, &[0, 1, 0], "item 1 NotWeak 2"),
-        (EQUAL, &[0, 1, 0], "item 1 NoStrict 0"),
-        (CONTRADICTION, &[0, 0], "item 1 NoStrict 0"),
-        (EQUAL, &[0, 1, 2], "item 1 Number 3"),
+    let cases: [(&str, &[u32], Answer); 13] = [
+        (CONTRADICTION, &[0, 1, 0], None),
+        (CONTRADICTION, &[0, 0, 1, 0], None),
+        (CONTRADICTION, &[], Some((1, Shape, 0))),
+        (CONTRADICTION, &[0], Some((1, Shape, 0))),
+        (CONTRADICTION, &[0, 2, 0], Some((1, Number, 2))),
+        (CONTRADICTION, &[4294967295, 0], Some((1, Number, 1))),
+        (CONTRADICTION, &[0, 1, 4294967295], Some((1, Number, 3))),
+        (CONTRADICTION, &[0, 1], Some((1, NotClosed, 0))),
+        (APART, &[0, 1, 0], Some((1, NotWeak, 1))),
+        (MORE_AND_LESS, &[0, 1, 0], Some((1, NotWeak, 2))),
+        (EQUAL, &[0, 1, 0], Some((1, NoStrict, 0))),
+        (CONTRADICTION, &[0, 0], Some((1, NoStrict, 0))),
+        (EQUAL, &[0, 1, 2], Some((1, Number, 3))),
     ];
     for (text, walk, expected) in cases {
         let item = garp(alloc, false, walk)?;
-        assert_eq!(rt; answer_alone(alloc, text, item)?.as_str(), expected);
+        assert_eq!(rt; answer_alone(alloc, text, item)?, expected);
     }
     Ok(())
 }
@@ -32,23 +34,23 @@ fn forged_cycles(rt: HostRuntime) -> Result<(), Fail> {
 #[test]
 fn forged_ranks(rt: HostRuntime) -> Result<(), Fail> {
     let alloc = rt.alloc();
-    let cases: [(&str, &[u32], &str); 10] = [
-        (APART, &[0, 4294967295], "accepted"),
-        (APART, &[], "item 1 Shape 0"),
-        (APART, &[1], "item 1 Shape 0"),
-        (APART, &[1, 1, 1], "item 1 Shape 0"),
-        (CONTRADICTION, &[1, 1], "item 1 Order 1"),
+    let cases: [(&str, &[u32], Answer); 10] = [
+        (APART, &[0, 4294967295], None),
+        (APART, &[], Some((1, Shape, 0))),
+        (APART, &[1], Some((1, Shape, 0))),
+        (APART, &[1, 1, 1], Some((1, Shape, 0))),
+        (CONTRADICTION, &[1, 1], Some((1, Order, 1))),
         // a strict step that stays
-        (MORE_AND_LESS, &[1, 1], "item 1 Order 1"),
+        (MORE_AND_LESS, &[1, 1], Some((1, Order, 1))),
         // a weak step that rises
-        (EQUAL, &[1, 2], "item 1 Order 1"),
-        (EQUAL, &[2, 1], "item 1 Order 2"),
-        (EQUAL, &[4294967295, 4294967295], "accepted"),
-        (MORE_AND_LESS, &[2, 1], "accepted"),
+        (EQUAL, &[1, 2], Some((1, Order, 1))),
+        (EQUAL, &[2, 1], Some((1, Order, 2))),
+        (EQUAL, &[4294967295, 4294967295], None),
+        (MORE_AND_LESS, &[2, 1], None),
     ];
     for (text, ranks, expected) in cases {
         let item = garp(alloc, true, ranks)?;
-        assert_eq!(rt; answer_alone(alloc, text, item)?.as_str(), expected);
+        assert_eq!(rt; answer_alone(alloc, text, item)?, expected);
     }
     Ok(())
 }
@@ -56,39 +58,36 @@ fn forged_ranks(rt: HostRuntime) -> Result<(), Fail> {
 #[test]
 fn forged_models(rt: HostRuntime) -> Result<(), Fail> {
     let alloc = rt.alloc();
-    let cases: [(&str, &[i128], &[u64], &str); 16] = [
-        (MORE_AND_LESS, &[0, -4], &[1, 1], "accepted"),
-        (MORE_AND_LESS, &[], &[], "item 1 Shape 0"),
-        (MORE_AND_LESS, &[0], &[1, 1], "item 1 Shape 0"),
-        (MORE_AND_LESS, &[0, -4], &[1, 1, 1], "item 1 Shape 0"),
-        (MORE_AND_LESS, &[0, -4], &[1, 0], "item 1 Number 2"),
-        (MORE_AND_LESS, &[0, 0], &[1, 1], "item 1 Order 1"),
-        (MORE_AND_LESS, &[0, -5], &[1, 1], "item 1 Order 2"),
+    let cases: [(&str, &[i128], &[u64], Answer); 16] = [
+        (MORE_AND_LESS, &[0, -4], &[1, 1], None),
+        (MORE_AND_LESS, &[], &[], Some((1, Shape, 0))),
+        (MORE_AND_LESS, &[0], &[1, 1], Some((1, Shape, 0))),
+        (MORE_AND_LESS, &[0, -4], &[1, 1, 1], Some((1, Shape, 0))),
+        (MORE_AND_LESS, &[0, -4], &[1, 0], Some((1, Number, 2))),
+        (MORE_AND_LESS, &[0, 0], &[1, 1], Some((1, Order, 1))),
+        (MORE_AND_LESS, &[0, -5], &[1, 1], Some((1, Order, 2))),
         // both ends of the widths
-        (MORE_AND_LESS, &[0, -4], &[1, 1 << 60], "accepted"),
+        (MORE_AND_LESS, &[0, -4], &[1, 1 << 60], None),
         (
             MORE_AND_LESS,
             &[0, -4],
             &[1, (1 << 60) + 1],
-            "item 1 Number 2",
+            Some((1, Number, 2)),
         ),
-        (ALONE, &[1 << 120], &[1], "accepted"),
-        (ALONE, &[-(1 << 120)], &[1], "accepted"),
-        (ALONE, &[(1 << 120) + 1], &[1], "item 1 Number 1"),
-        (ALONE, &[-(1 << 120) - 1], &[1], "item 1 Number 1"),
-        (ALONE, &[i128::MAX], &[1], "item 1 Number 1"),
-        (ALONE, &[i128::MIN], &[1], "item 1 Number 1"),
-        (ALONE, &[0], &[u64::MAX], "item 1 Number 1"),
+        (ALONE, &[1 << 120], &[1], None),
+        (ALONE, &[-(1 << 120)], &[1], None),
+        (ALONE, &[(1 << 120) + 1], &[1], Some((1, Number, 1))),
+        (ALONE, &[-(1 << 120) - 1], &[1], Some((1, Number, 1))),
+        (ALONE, &[i128::MAX], &[1], Some((1, Number, 1))),
+        (ALONE, &[i128::MIN], &[1], Some((1, Number, 1))),
+        (ALONE, &[0], &[u64::MAX], Some((1, Number, 1))),
     ];
     for (text, u, lambda, expected) in cases {
         let item = model(alloc, u, lambda)?;
-        assert_eq!(rt; answer_alone(alloc, text, item)?.as_str(), expected);
+        assert_eq!(rt; answer_alone(alloc, text, item)?, expected);
     }
     let item = no_model(alloc, &[0, 1, 0])?;
-    assert_eq!(rt;
-        answer_alone(alloc, APART, item)?.as_str(),
-        "item 1 NotWeak 1"
-    );
+    assert_eq!(rt; answer_alone(alloc, APART, item)?, Some((1, NotWeak, 1)));
     Ok(())
 }
 
@@ -96,26 +95,23 @@ fn forged_models(rt: HostRuntime) -> Result<(), Fail> {
 fn forged_levels(rt: HostRuntime) -> Result<(), Fail> {
     let alloc = rt.alloc();
     // (a level, and the answer with the other evidence of the index 4/5)
-    let cases: [(u64, u64, &str); 10] = [
-        (4, 5, "accepted"),
+    let cases: [(u64, u64, Answer); 10] = [
+        (4, 5, None),
         // a level is taken as it is written
-        (8, 10, "accepted"),
-        (0, 1, "item 1 Level 0"),
-        (0, 0, "item 1 Level 0"),
-        (6, 5, "item 1 Level 0"),
-        (4, 1 << 51, "item 1 Level 0"),
-        (u64::MAX, u64::MAX, "item 1 Level 0"),
-        (4, (1 << 51) - 1, "item 1 NotWeak 1"),
-        (9, 10, "item 1 Order 1"),
-        (3, 4, "item 1 NotWeak 1"),
+        (8, 10, None),
+        (0, 1, Some((1, Reason::Level, 0))),
+        (0, 0, Some((1, Reason::Level, 0))),
+        (6, 5, Some((1, Reason::Level, 0))),
+        (4, 1 << 51, Some((1, Reason::Level, 0))),
+        (u64::MAX, u64::MAX, Some((1, Reason::Level, 0))),
+        (4, (1 << 51) - 1, Some((1, NotWeak, 1))),
+        (9, 10, Some((1, Order, 1))),
+        (3, 4, Some((1, NotWeak, 1))),
     ];
     for (num, den, expected) in cases {
         let ranks = at(alloc, true, &[2, 2])?;
         let item = efficiency(alloc, Level { num, den }, &[1, 1], &[0, 1, 0], ranks)?;
-        assert_eq!(rt;
-            answer_alone(alloc, CONTRADICTION, item)?.as_str(),
-            expected
-        );
+        assert_eq!(rt; answer_alone(alloc, CONTRADICTION, item)?, expected);
     }
     Ok(())
 }
@@ -124,7 +120,7 @@ fn forged_levels(rt: HostRuntime) -> Result<(), Fail> {
 fn forged_parts_of_an_efficiency_index(rt: HostRuntime) -> Result<(), Fail> {
     let alloc = rt.alloc();
     // (table, numerator and denominator of the level, ranks below, walk above, ranks or a cycle at it, the answer)
-    let cases: [(&str, u64, u64, &[u32], &[u32], bool, &[u32], &str); 12] = [
+    let cases: [(&str, u64, u64, &[u32], &[u32], bool, &[u32], Answer); 12] = [
         (
             CONTRADICTION,
             4,
@@ -133,7 +129,7 @@ fn forged_parts_of_an_efficiency_index(rt: HostRuntime) -> Result<(), Fail> {
             &[0, 1, 0],
             true,
             &[2, 2],
-            "item 1 Shape 0",
+            Some((1, Shape, 0)),
         ),
         (
             CONTRADICTION,
@@ -143,7 +139,7 @@ fn forged_parts_of_an_efficiency_index(rt: HostRuntime) -> Result<(), Fail> {
             &[],
             true,
             &[2, 2],
-            "item 1 Shape 0",
+            Some((1, Shape, 0)),
         ),
         (
             CONTRADICTION,
@@ -153,7 +149,7 @@ fn forged_parts_of_an_efficiency_index(rt: HostRuntime) -> Result<(), Fail> {
             &[0, 1],
             true,
             &[2, 2],
-            "item 1 NotClosed 0",
+            Some((1, NotClosed, 0)),
         ),
         (
             CONTRADICTION,
@@ -163,7 +159,7 @@ fn forged_parts_of_an_efficiency_index(rt: HostRuntime) -> Result<(), Fail> {
             &[0, 2, 0],
             true,
             &[2, 2],
-            "item 1 Number 2",
+            Some((1, Number, 2)),
         ),
         (
             CONTRADICTION,
@@ -173,7 +169,7 @@ fn forged_parts_of_an_efficiency_index(rt: HostRuntime) -> Result<(), Fail> {
             &[0, 1, 0],
             true,
             &[2],
-            "item 1 Shape 0",
+            Some((1, Shape, 0)),
         ),
         (
             CONTRADICTION,
@@ -183,7 +179,7 @@ fn forged_parts_of_an_efficiency_index(rt: HostRuntime) -> Result<(), Fail> {
             &[0, 1, 0],
             true,
             &[1, 2],
-            "item 1 Order 1",
+            Some((1, Order, 1)),
         ),
         (
             CONTRADICTION,
@@ -193,7 +189,7 @@ fn forged_parts_of_an_efficiency_index(rt: HostRuntime) -> Result<(), Fail> {
             &[0, 1, 0],
             false,
             &[0, 1, 0],
-            "item 1 NoStrict 0",
+            Some((1, NoStrict, 0)),
         ),
         (
             CONTRADICTION,
@@ -203,7 +199,7 @@ fn forged_parts_of_an_efficiency_index(rt: HostRuntime) -> Result<(), Fail> {
             &[],
             true,
             &[2, 2],
-            "item 1 Order 1",
+            Some((1, Order, 1)),
         ),
         (
             APART,
@@ -213,7 +209,7 @@ fn forged_parts_of_an_efficiency_index(rt: HostRuntime) -> Result<(), Fail> {
             &[0, 1, 0],
             true,
             &[1, 1],
-            "item 1 Shape 1",
+            Some((1, Shape, 1)),
         ),
         (
             APART,
@@ -223,7 +219,7 @@ fn forged_parts_of_an_efficiency_index(rt: HostRuntime) -> Result<(), Fail> {
             &[],
             true,
             &[1, 1],
-            "accepted",
+            None,
         ),
         // an index that is not attained
         (
@@ -234,7 +230,7 @@ fn forged_parts_of_an_efficiency_index(rt: HostRuntime) -> Result<(), Fail> {
             &[0, 1, 0],
             false,
             &[1, 0, 1],
-            "accepted",
+            None,
         ),
         (
             NINE_TENTHS,
@@ -244,13 +240,13 @@ fn forged_parts_of_an_efficiency_index(rt: HostRuntime) -> Result<(), Fail> {
             &[0, 1, 0],
             true,
             &[2, 1],
-            "item 1 Order 2",
+            Some((1, Order, 2)),
         ),
     ];
     for (text, num, den, below, above, ranks, numbers, expected) in cases {
         let at = at(alloc, ranks, numbers)?;
         let item = efficiency(alloc, Level { num, den }, below, above, at)?;
-        assert_eq!(rt; answer_alone(alloc, text, item)?.as_str(), expected);
+        assert_eq!(rt; answer_alone(alloc, text, item)?, expected);
     }
     Ok(())
 }
