@@ -1,4 +1,4 @@
-//! Forged values and walks of the homothetic and the quasilinear test, with the clause that they fail first; and several
+//! Forged values and walks of the homothetic and the quasilinear test, with the clause that each fails first; several
 //! items.
 use crate::forged::{falling, fraction, negative, products, sums};
 use crate::items::{Answer, answer, answer_alone, list};
