@@ -2,6 +2,7 @@
 use Rattle.std.proofs.Common.{◌≡◌, ◌≢◌, ℕ, ◌+◌, ◌*◌, ◌/◌, ◌%◌, ◌<◌, ◌≤◌, List, [], ◌∷◌, ◌++◌, drop, map, inl, refl, sym, ap, ◌∙◌, arith, lit<, lit≤, add-one}
 use Rattle.std.proofs.lemmas.List.Elements.{All-nil, All-cons}
 use Rattle.std.proofs.lemmas.Nat.{div-mul-add}
+use Rattle.rp_table.specs.Limits.{IsPrice}
 use Rattle.rp_table.proofs.SumsBelow.{sum_below-same}
 use Rattle.std.specs.List.{All, AllPairs}
 use Rattle.std.specs.Int.Digits.{digits_of}
@@ -71,7 +72,7 @@ trial_is_table seed rows goods some_rows few_rows some_goods few_goods =
       few_records = omega arith;
       all_prices = rw (count, names) (length-rows rows goods price);
       all_quantities = rw (count, names) (length-rows rows goods quantity);
-      price_limits = all_rows (λ p. (1 ≤ p) × (p ≤ 9999999)) rows goods price (λ t g row good. (omega arith, omega (arith, mod_small (word_after (record_generator seed goods t) g) 99 (lit≤ tt))));
+      price_limits = all_rows IsPrice rows goods price (λ t g row good. (omega arith, omega (arith, mod_small (word_after (record_generator seed goods t) g) 99 (lit≤ tt))));
       quantity_limits = all_rows (λ q. q ≤ 9999999) rows goods quantity (λ t g row good. not_all_zero_within 9999999 goods (drawn_quantity goods (record_generator seed goods t)) g (lit≤ tt) (omega (arith, mod_small (word_after (record_generator seed goods t) (goods + g)) 100 (lit≤ tt))));
       bought = λ t row.
           let here : t < rows = omega arith in

@@ -4,6 +4,7 @@ use Rattle.std.specs.Prelude.{unwrap_or}
 use Rattle.std.specs.List.{All}
 use Rattle.std.specs.Option.{option_map_or}
 use Rattle.std.proofs.Math.Nat.{mul-div_cancel}
+use Rattle.rp_table.specs.Limits.{IsPrice}
 use Rattle.rp_table.specs.Rows.{rows_count}
 use Rattle.rp_num.specs.Below.{any_below}
 use Rattle.rp_forms.specs.Texts.{text_at, place_of}
@@ -120,9 +121,9 @@ module _ (form : Form) (goods headers : List (List ℕ)) (records : List (List (
       all_rows (λ q. q ≤ 9999999) (length (sizes_in form headers records)) (length goods) _
       (λ t g row place. number_within t g (omega (arith, sizes_are form headers records)) place)
 
-  pub prices_within : form.prices ≡ true → All (λ p. (1 ≤ p) × (p ≤ 9999999)) (numbers_under (good_mark form) headers goods (sizes_in form headers records))
+  pub prices_within : form.prices ≡ true → All IsPrice (numbers_under (good_mark form) headers goods (sizes_in form headers records))
   prices_within priced =
-      all_rows (λ p. (1 ≤ p) × (p ≤ 9999999)) (length (sizes_in form headers records)) (length goods) _
+      all_rows IsPrice (length (sizes_in form headers records)) (length goods) _
       (λ t g row place. price_within priced t g (omega (arith, sizes_are form headers records)) place)
 
 -- how many numbers of goods there are

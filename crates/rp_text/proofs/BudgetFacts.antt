@@ -2,6 +2,7 @@
 use Rattle.std.proofs.Common.{◌≡◌, ℕ, ◌*◌, ◌<◌, ◌≤◌, true, false, List, [], length, slice_index, Option, Some, None, Ok, Err, refl, sym, ap, ◌∙◌, arith}
 use Rattle.std.specs.Prelude.{codes, unwrap_or}
 use Rattle.std.specs.Option.{option_map_or}
+use Rattle.rp_table.specs.Limits.{IsPrice}
 use Rattle.rp_table.specs.declared.TheConstants.{LARGEST_EXPENDITURE}
 use Rattle.rp_table.specs.BudgetLists.{IsBudgetList}
 use Rattle.rp_forms.specs.Texts.{text_at}
@@ -64,7 +65,7 @@ module _ (headers : List (List ℕ)) (records : List (List (List ℕ))) (fine : 
     some_budgets = rw (income_count, rows_count) some;
     few_budgets = rw (income_count, rows_count) few;
     all_prices = length-rows (length (sizes_in budgets_form headers records)) (length (names_with Goods is_price headers)) _ ∙ ap (λ (k : ℕ). k * length (names_with Goods is_price headers)) (sym income_count);
-    price_limits = all_rows (λ p. (1 ≤ p) × (p ≤ 9999999)) (length (sizes_in budgets_form headers records)) (length (names_with Goods is_price headers)) _
+    price_limits = all_rows IsPrice (length (sizes_in budgets_form headers records)) (length (names_with Goods is_price headers)) _
         (λ t g row place. let inside : t < rows_in records = omega (arith, rows_count) in price_within t g inside place);
     income_limits = all_listed (λ w. (1 ≤ w) × (w ≤ LARGEST_EXPENDITURE)) (length (sizes_in budgets_form headers records)) _
         (λ t row. let inside : t < rows_in records = omega (arith, rows_count) in income_within t inside);

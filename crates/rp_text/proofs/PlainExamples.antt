@@ -2,6 +2,7 @@
 use Rattle.std.proofs.Common.{◌≡◌, ℕ, zero, suc, ◌+◌, ◌*◌, ◌<◌, ◌≤◌, inl, List, [], ◌∷◌, ◌++◌, Ok, refl, arith}
 use Rattle.std.specs.Prelude.{codes}
 use Rattle.std.proofs.lemmas.List.Elements.{All-nil, All-cons}
+use Rattle.rp_table.specs.Limits.{IsPrice}
 use Rattle.rp_table.specs.Tables.{Observations, IsTable, price_of, quantity_of}
 use Rattle.rp_forms.specs.Texts.{text_at}
 use Rattle.rp_text.specs.Denotation.{table_in}
@@ -69,7 +70,7 @@ within = record {
   few_records = omega arith;
   all_prices = refl;
   all_quantities = refl;
-  price_limits = All-cons (λ p. (1 ≤ p) × (p ≤ 9999999)) 7 [] (omega arith, omega arith) (All-nil (λ p. (1 ≤ p) × (p ≤ 9999999)));
+  price_limits = All-cons IsPrice 7 [] (omega arith, omega arith) (All-nil IsPrice);
   quantity_limits = All-cons (λ q. q ≤ 9999999) 12 [] (omega arith) (All-nil (λ q. q ≤ 9999999));
   bought = at_zero _ (omega arith);
   few_price_places = omega arith;

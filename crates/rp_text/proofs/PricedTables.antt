@@ -3,6 +3,7 @@ use Rattle.std.proofs.Common.{◌≡◌, ℕ, ◌*◌, ◌/◌, ◌<◌, ◌≤�
 use Rattle.std.specs.Prelude.{unwrap_or}
 use Rattle.std.specs.Option.{option_map_or}
 use Rattle.std.proofs.Math.Nat.{mul-div_cancel}
+use Rattle.rp_table.specs.Limits.{IsPrice}
 use Rattle.rp_num.specs.declared.decimal.Decimal.{Decimal}
 use Rattle.rp_table.specs.OwnLevels.{AreOwnLevels}
 use Rattle.rp_table.specs.Tables.{IsTable, records_of, quantity_of}
@@ -127,7 +128,7 @@ module _ (form : Form) (headers : List (List ℕ)) (records : List (List (List �
         few_records = rw (priced_records levels) few;
         all_prices = rw (priced_records levels) (length-rows (length sizes) goods _ ∙ ap (λ (k : ℕ). k * goods) rows_count);
         all_quantities = rw (priced_records levels) (length-rows (length sizes) goods _ ∙ ap (λ (k : ℕ). k * goods) rows_count);
-        price_limits = all_rows (λ p. (1 ≤ p) × (p ≤ 9999999)) (length sizes) goods _
+        price_limits = all_rows IsPrice (length sizes) goods _
             (λ t g row place. let inside : t < rows_in records = omega (arith, rows_count) in (price_positive t g inside place, number_within t g (mark_of_prices form.marks) inside));
         quantity_limits = all_rows (λ q. q ≤ 9999999) (length sizes) goods _
             (λ t g row place. let inside : t < rows_in records = omega (arith, rows_count) in number_within t g (mark_of_quantities form.marks) inside);
@@ -149,6 +150,6 @@ pub priced_limits : (form : Form) (headers : List (List ℕ)) (figures : List (L
     → given ≡ names_with form.marks is_price headers → sizes ≡ sizes_of form headers figures → (mark ≡ mark_of_prices form.marks) ⊎ (mark ≡ mark_of_quantities form.marks) → IsTable (priced_table form headers figures levels)
     → (t g : ℕ) → t < length sizes → g < length given → slice_index (text_at sizes t) (column_of mark headers given g) ≤ 9999999
 priced_limits form headers figures levels given sizes mark named sized (inl is) within =
-    rw (named, sized, is) (λ t g row place. (each_row (λ p. (1 ≤ p) × (p ≤ 9999999)) (length (sizes_of form headers figures)) (length (priced_names form headers)) (number_under (mark_of_prices form.marks) form headers (sizes_of form headers figures)) within.price_limits t g row place).1)
+    rw (named, sized, is) (λ t g row place. (each_row IsPrice (length (sizes_of form headers figures)) (length (priced_names form headers)) (number_under (mark_of_prices form.marks) form headers (sizes_of form headers figures)) within.price_limits t g row place).1)
 priced_limits form headers figures levels given sizes mark named sized (inr is) within =
     rw (named, sized, is) (λ t g row place. each_row (λ q. q ≤ 9999999) (length (sizes_of form headers figures)) (length (priced_names form headers)) (number_under (mark_of_quantities form.marks) form headers (sizes_of form headers figures)) within.quantity_limits t g row place)
