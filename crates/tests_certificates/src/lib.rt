@@ -1,5 +1,12 @@
-//! Tests of `run` on certificates that it writes: their texts, and that it accepts them.
+//! Tests of `run` on certificates on a table: their texts as it writes them, that it accepts them, and those that it
+//! rejects or refuses, with levels of observations and without.
 #![tactic(auto)]
 
+#[cfg(test)]
+mod forged;
+#[cfg(test)]
+mod levels;
+#[cfg(test)]
+mod refused;
 #[cfg(test)]
 mod written;

@@ -1,3 +1,4 @@
+use crate::lines::{ACCEPTED, CHECKED};
 use rp_run::Status;
 use std::test::Fail;
 use tests_inputs::choices::{
@@ -5,52 +6,56 @@ use tests_inputs::choices::{
     OF_IRRATIONAL, OF_MIXTURE, OF_ONE_CHOICE, OF_VIOLATION, OF_VIOLATION_PER_100, ONE_BUDGET,
     ONE_CHOICE, VIOLATION,
 };
-use tests_support::{gives, run_over, tells};
+use tests_support::{ends, prints, rejects};
 
-const ACCEPTED: &str = "accepted items 1 withheld 0\n";
+/// Budgets, choices and their certificate.
+const OF_CHOICES: &[(&str, &str, &str)] = &[
+    (CROSSED, VIOLATION, OF_VIOLATION),
+    (CROSSED, MIXTURE, OF_MIXTURE),
+    (CROSSED, IRRATIONAL, OF_IRRATIONAL),
+    (ONE_BUDGET, ONE_CHOICE, OF_ONE_CHOICE),
+    (DEAR, HALVES, OF_HALVES),
+];
 
 /// Each certificate is written so, and accepted over the files that it was made of.
 #[test]
 fn certificates_are_accepted_over_their_own_files(rt: HostRuntime) -> Result<(), Fail> {
-    for (budgets, choices, certificate) in [
-        (CROSSED, VIOLATION, OF_VIOLATION),
-        (CROSSED, MIXTURE, OF_MIXTURE),
-        (CROSSED, IRRATIONAL, OF_IRRATIONAL),
-        (ONE_BUDGET, ONE_CHOICE, OF_ONE_CHOICE),
-        (DEAR, HALVES, OF_HALVES),
-    ] {
+    let alloc = rt.alloc();
+    for (budgets, choices, certificate) in OF_CHOICES {
         let files = &[
-            ("b.csv", budgets),
+            ("b.csv", *budgets),
             ("c.csv", choices),
             ("v.json", certificate),
         ];
-        let got = run_over(
-            rt.alloc(),
+        prints(
+            &rt,
+            alloc,
             &["rp", "random", "b.csv", "c.csv", "--json"],
             files,
+            certificate,
         )?;
-        assert!(rt;
-            gives(&got, Status::Done, certificate),
-            "{choices} {}",
-            got.out
-        );
-        let got = run_over(
-            rt.alloc(),
-            &["rp", "checkrandom", "b.csv", "c.csv", "v.json"],
-            files,
-        )?;
-        assert!(rt;
-            gives(&got, Status::Done, ACCEPTED),
-            "{choices} {}",
-            got.out
-        );
+        prints(&rt, alloc, CHECKED, files, ACCEPTED)?;
     }
     Ok(())
+}
+
+/// The words of a check with so many units.
+fn checked_per<'a>(per: &'a str) -> [&'a str; 7] {
+    [
+        "rp",
+        "checkrandom",
+        "b.csv",
+        "c.csv",
+        "v.json",
+        "--per",
+        per,
+    ]
 }
 
 /// With so many units a certificate is accepted where as many are asked for, and only there.
 #[test]
 fn certificates_of_so_many_units(rt: HostRuntime) -> Result<(), Fail> {
+    let alloc = rt.alloc();
     let rejected = "rejected item 1 Units place 0\n";
     for (choices, certificate) in [
         (VIOLATION, OF_VIOLATION_PER_100),
@@ -62,73 +67,60 @@ fn certificates_of_so_many_units(rt: HostRuntime) -> Result<(), Fail> {
             ("v.json", certificate),
         ];
         let made = &["rp", "random", "b.csv", "c.csv", "--per", "100", "--json"];
-        let got = run_over(rt.alloc(), made, files)?;
-        assert!(rt;
-            gives(&got, Status::Done, certificate),
-            "{choices} {}",
-            got.out
-        );
-        for (per, status, text) in [
-            ("100", Status::Done, ACCEPTED),
-            ("99", Status::Rejected, rejected),
-        ] {
-            let checked = &[
-                "rp",
-                "checkrandom",
-                "b.csv",
-                "c.csv",
-                "v.json",
-                "--per",
-                per,
-            ];
-            let got = run_over(rt.alloc(), checked, files)?;
-            assert!(rt;
-                gives(&got, status, text),
-                "per {per} of {choices} {}",
-                got.out
-            );
-        }
+        prints(&rt, alloc, made, files, certificate)?;
+        prints(&rt, alloc, &checked_per("100"), files, ACCEPTED)?;
+        rejects(&rt, alloc, &checked_per("99"), files, rejected)?;
     }
-    let without = &["rp", "checkrandom", "b.csv", "c.csv", "v.json"];
-    let files = &[
-        ("b.csv", CROSSED),
-        ("c.csv", VIOLATION),
-        ("v.json", OF_VIOLATION_PER_100),
-    ];
-    let got = run_over(rt.alloc(), without, files)?;
-    assert!(rt; gives(&got, Status::Rejected, rejected), "{}", got.out);
-    let files = &[
-        ("b.csv", CROSSED),
-        ("c.csv", COPRIME),
-        ("v.json", OF_COPRIME_PER_100),
-    ];
-    let got = run_over(rt.alloc(), without, files)?;
-    assert!(rt; tells(&got, Status::Refused, "rp: NeedUnit budget 2\n"));
     Ok(())
 }
 
-/// Over other choices from the same budgets the first patch with other units is told.
 #[test]
-fn certificates_are_rejected_over_other_choices(rt: HostRuntime) -> Result<(), Fail> {
-    for (choices, certificate, text) in [
-        // the second patch has one unit, and its part has two
-        (MIXTURE, OF_VIOLATION, "rejected item 1 Units place 2\n"),
-        // the first patch has one unit, and its parts have three
-        (VIOLATION, OF_MIXTURE, "rejected item 1 Units place 1\n"),
-        (VIOLATION, OF_IRRATIONAL, "rejected item 1 Units place 0\n"),
+fn certificates_of_so_many_units_without_them(rt: HostRuntime) -> Result<(), Fail> {
+    for (choices, certificate, status, out, err) in [
+        (
+            VIOLATION,
+            OF_VIOLATION_PER_100,
+            Status::Rejected,
+            "rejected item 1 Units place 0\n",
+            "",
+        ),
+        (
+            COPRIME,
+            OF_COPRIME_PER_100,
+            Status::Refused,
+            "",
+            "rp: NeedUnit budget 2\n",
+        ),
     ] {
         let files = &[
             ("b.csv", CROSSED),
             ("c.csv", choices),
             ("v.json", certificate),
         ];
-        let checked = &["rp", "checkrandom", "b.csv", "c.csv", "v.json"];
-        let got = run_over(rt.alloc(), checked, files)?;
-        assert!(rt;
-            gives(&got, Status::Rejected, text),
-            "{choices} {}",
-            got.out
-        );
+        ends(&rt, rt.alloc(), CHECKED, files, status, out, err)?;
+    }
+    Ok(())
+}
+
+/// Choices, a certificate of others, and where it fails.
+const OF_OTHER_CHOICES: &[(&str, &str, &str)] = &[
+    // the second patch has one unit, and its part has two
+    (MIXTURE, OF_VIOLATION, "rejected item 1 Units place 2\n"),
+    // the first patch has one unit, and its parts have three
+    (VIOLATION, OF_MIXTURE, "rejected item 1 Units place 1\n"),
+    (VIOLATION, OF_IRRATIONAL, "rejected item 1 Units place 0\n"),
+];
+
+/// Over other choices from the same budgets the first patch with other units is told.
+#[test]
+fn certificates_are_rejected_over_other_choices(rt: HostRuntime) -> Result<(), Fail> {
+    for (choices, certificate, text) in OF_OTHER_CHOICES {
+        let files = &[
+            ("b.csv", CROSSED),
+            ("c.csv", *choices),
+            ("v.json", certificate),
+        ];
+        rejects(&rt, rt.alloc(), CHECKED, files, text)?;
     }
     Ok(())
 }

@@ -1,5 +1,5 @@
-//! Tests of `run` on choices: `random` and `checkrandom` with their reports and certificates; what `menus` prints and
-//! refuses.
+//! Tests of `run` on choices: `random` and `checkrandom` with their reports and certificates, what they reject and
+//! refuse, and limits; what `menus` prints and refuses.
 #![tactic(auto)]
 
 #[cfg(test)]
@@ -7,8 +7,14 @@ mod certificates;
 #[cfg(test)]
 mod choice_reports;
 #[cfg(test)]
-mod menu_reports;
+mod faults;
 #[cfg(test)]
-mod refused_menus;
+mod forged;
+#[cfg(test)]
+mod limits;
+#[cfg(test)]
+mod lines;
+#[cfg(test)]
+mod menus;
 #[cfg(test)]
 mod six_letters;

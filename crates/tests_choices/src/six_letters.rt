@@ -1,6 +1,6 @@
 use rp_run::Status;
 use std::test::Fail;
-use tests_support::{gives, run_over};
+use tests_support::{prints, run_over};
 
 /// All 57 menus of two or more of six letters, with the choices of one person, who ranks a first and f last.
 const ONE_ORDER: &str =
@@ -28,13 +28,13 @@ const FOUR_ORDERS: &str =
 fn all_menus_of_six_letters_by_one_order(rt: HostRuntime) -> Result<(), Fail> {
     let out = "alternatives 6 menus 57 cells 57 orders 1 total 1\nmenus mixture over 1\n\
                part a b c d e f weight 1\nsums least 0 at a in a\n";
-    let got = run_over(
+    prints(
+        &rt,
         rt.alloc(),
         &["rp", "menus", "m.csv"],
         &[("m.csv", ONE_ORDER)],
-    )?;
-    assert!(rt; gives(&got, Status::Done, out), "{}", got.out);
-    Ok(())
+        out,
+    )
 }
 
 /// Five orders pick a cell of every menu. More than one mixture of them makes these choices: no part is held against.

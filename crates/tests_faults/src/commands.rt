@@ -1,18 +1,8 @@
+use crate::failures::{Case, WHOLE, each_read_fails, each_write_fails};
 use rp_run::Status;
-use std::alloc::Global;
-use std::process::Abort;
 use std::test::Fail;
 use tests_inputs::tables::{APART, CERTIFICATE, CONTRADICTION, MORE_AND_LESS};
-use tests_support::{CALM, Ended, Plan, is_ended, run_in_pieces};
-
-/// A line of words over files, and how it ends where nothing fails, with the text that it writes.
-#[derive(Clone, Copy)]
-struct Case<'a> {
-    words: &'a [&'a str],
-    files: &'a [(&'a str, &'a str)],
-    status: Status,
-    text: &'a str,
-}
+use tests_support::{CALM, Plan, is_ended, run_in_pieces};
 
 const PAIRS: Case<'static> = Case {
     words: &["rp", "pairs", "t.csv"],
@@ -106,7 +96,7 @@ const TRIAL: Case<'static> = Case {
         quasilinear holds\n",
 };
 
-const CASES: [Case<'static>; 11] = [
+const COMMANDS: &[Case<'static>] = &[
     PAIRS,
     ANALYSE,
     CERTIFY,
@@ -120,90 +110,45 @@ const CASES: [Case<'static>; 11] = [
     TRIAL,
 ];
 
-/// What a case does where the reads and the writes of these numbers fail. Files are given whole, so that each has two
-/// reads; output is taken byte by byte.
-fn with_failures(
-    alloc: Global,
-    case: Case<'_>,
-    reads: &[u64],
-    writes: &[u64],
-) -> Result<Ended, Fail> {
-    let reads = Plan {
-        piece: 65_536,
-        fails: reads,
-    };
-    let writes = Plan {
-        piece: 1,
-        fails: writes,
-    };
-    run_in_pieces(alloc, case.words, case.files, reads, writes, CALM)
-}
-
-/// The case ends with its text where nothing fails.
-fn is_whole(rt: &impl Abort, alloc: Global, case: Case<'_>) -> Result<(), Fail> {
-    let got = with_failures(alloc, case, &[], &[])?;
-    assert!(rt;
-        is_ended(&got, case.status, case.text, ""),
-        "{:?}",
-        case.words
-    );
-    Ok(())
-}
-
-/// Each of the two reads of each file fails in turn: the file is named, and nothing is written.
-fn reads_fail(rt: &impl Abort, alloc: Global, case: Case<'_>) -> Result<(), Fail> {
-    let mut number = 1u64;
-    for (name, _) in case.files {
-        let line = format!(in alloc; "rp: {name}: read failed\n")?;
-        for _ in 0..2u32 {
-            let got = with_failures(alloc, case, &[number], &[])?;
-            let told = is_ended(&got, Status::ReadFault, "", line.as_str());
-            assert!(rt; told, "{:?}, read {number}", case.words);
-            number = number.saturating_add(1);
-        }
-    }
-    let got = with_failures(alloc, case, &[number], &[])?;
-    assert!(rt;
-        is_ended(&got, case.status, case.text, ""),
-        "{:?}",
-        case.words
-    );
-    Ok(())
-}
-
-/// Each write fails in turn: what was written is a front of the text.
-fn writes_fail(rt: &impl Abort, alloc: Global, case: Case<'_>) -> Result<(), Fail> {
-    for kept in 0..case.text.len() {
-        let Some(front) = case.text.get(..kept) else {
-            return Err("past the end".into());
-        };
-        let got = with_failures(alloc, case, &[], &[kept as u64 + 1])?;
-        let told = is_ended(&got, Status::WriteFault, front, "rp: write failed\n");
-        assert!(rt; told, "{:?}, after {kept} bytes", case.words);
-    }
-    Ok(())
-}
-
-#[test]
-fn each_command_over_its_files(rt: HostRuntime) -> Result<(), Fail> {
-    for case in CASES {
-        is_whole(&rt, rt.alloc(), case)?;
-    }
-    Ok(())
-}
-
 #[test]
 fn each_read_of_each_command_fails_in_turn(rt: HostRuntime) -> Result<(), Fail> {
-    for case in CASES {
-        reads_fail(&rt, rt.alloc(), case)?;
+    for case in COMMANDS {
+        each_read_fails(&rt, rt.alloc(), case, WHOLE)?;
     }
     Ok(())
 }
 
 #[test]
 fn each_write_of_each_command_fails_in_turn(rt: HostRuntime) -> Result<(), Fail> {
-    for case in CASES {
-        writes_fail(&rt, rt.alloc(), case)?;
+    for case in COMMANDS {
+        each_write_fails(&rt, rt.alloc(), case, WHOLE)?;
+    }
+    Ok(())
+}
+
+#[test]
+fn each_read_of_a_byte_fails_in_turn(rt: HostRuntime) -> Result<(), Fail> {
+    each_read_fails(&rt, rt.alloc(), &PAIRS, 1)?;
+    each_read_fails(&rt, rt.alloc(), &CHECK, 1)
+}
+
+#[test]
+fn each_write_after_reads_of_a_byte_fails_in_turn(rt: HostRuntime) -> Result<(), Fail> {
+    each_write_fails(&rt, rt.alloc(), &PAIRS, 1)
+}
+
+#[test]
+fn standard_error_that_fails_changes_no_status(rt: HostRuntime) -> Result<(), Fail> {
+    for (words, status) in [
+        (&["rp", "pair", "t.csv"], Status::Usage),
+        (&["rp", "pairs", "no.csv"], Status::ReadFault),
+    ] {
+        let first = Plan {
+            piece: WHOLE,
+            fails: &[1],
+        };
+        let got = run_in_pieces(rt.alloc(), words, &[], CALM, CALM, first)?;
+        assert!(rt; is_ended(&got, status, "", ""), "{words:?}");
     }
     Ok(())
 }

@@ -1,13 +1,18 @@
-//! Tests of `run` over an outside that gives and takes in pieces, and that fails at each of its calls in turn.
+//! Tests of `run` on faults: tables and files that are refused, in their order, and both sides of each limit; an outside
+//! that gives and takes in pieces, and that fails at each of its calls in turn, and one that never fails.
 #![tactic(auto)]
 
 #[cfg(test)]
-mod checks;
+mod choices;
 #[cfg(test)]
 mod commands;
 #[cfg(test)]
+mod failures;
+#[cfg(test)]
+mod files;
+#[cfg(test)]
 mod fronts;
 #[cfg(test)]
-mod pairs;
+mod sure;
 #[cfg(test)]
-mod randoms;
+mod tables;

@@ -42,6 +42,10 @@ pub const CERTIFICATE: &str =
     {\"cycle\":[1,2,1],\"item\":\"homothetic\",\"start\":\"1\"},{\"cycle\":[1,2,1],\"item\":\"quasilinear\"}],\
     \"kind\":\"table\",\"version\":1}\n";
 
+/// The certificate of `AT_799`.
+pub const OF_AT_799: &str =
+    "{\"items\":[{\"item\":\"garp\",\"ranks\":[1,2]},{\"item\":\"afriat\",\"lambda\":[\"200\",\"1\"],\"utility\":[\"-1000\",\"0\"]},{\"above\":[1,2,1],\"at_ranks\":[2,2],\"below\":[1,1],\"item\":\"efficiency\",\"level\":\"4/5\"},{\"cycle\":[1,2,1],\"item\":\"homothetic\",\"start\":\"1\"},{\"cycle\":[1,2,1],\"item\":\"quasilinear\"}],\"kind\":\"table\",\"levels\":[799,1000],\"version\":2}\n";
+
 /// The text of a certificate on a table with these items.
 pub fn certificate_of(alloc: Global, items: &str) -> Result<String, Fail> {
     Ok(format!(in alloc; "{{\"items\":[{items}],\"kind\":\"table\",\"version\":1}}\n")?)

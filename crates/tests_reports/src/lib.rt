@@ -1,7 +1,20 @@
-//! Tests of what `run` prints on worked tables: `analyse`, `demand` and `welfare`.
+//! Tests of what `run` prints: the reports of each command on worked tables, on tables of the most observations and
+//! the greatest numbers, on tables with levels of observations, and of trials.
 #![tactic(auto)]
 
 #[cfg(test)]
 mod analyses;
 #[cfg(test)]
 mod bounds;
+#[cfg(test)]
+mod greatest;
+#[cfg(test)]
+mod levels;
+#[cfg(test)]
+mod long_tables;
+#[cfg(test)]
+mod pairs;
+#[cfg(test)]
+mod trials;
+#[cfg(test)]
+mod utility;

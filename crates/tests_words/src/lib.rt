@@ -1,8 +1,7 @@
-//! Tests of `run` on words, those that are taken and those that are refused; of certificates, and of trials.
+//! Tests of `run` on words: those that are taken, as they are written or in another form, and those that the usage
+//! answers.
 #![tactic(auto)]
 
-#[cfg(test)]
-mod certificates;
 #[cfg(test)]
 mod choices;
 #[cfg(test)]
@@ -11,5 +10,3 @@ mod over_files;
 mod refused;
 #[cfg(test)]
 mod taken;
-#[cfg(test)]
-mod trials;

@@ -1,10 +1,12 @@
+use rp_run::Status;
 use std::alloc::Global;
+use std::process::Abort;
 use std::test::Fail;
 use tests_inputs::tables::{APART, CERTIFICATE, CONTRADICTION, MORE_AND_LESS};
-use tests_support::{Ended, run_over};
+use tests_support::ends;
 
 /// The usage, with every command.
-pub(crate) const USAGE: &str =
+const USAGE: &str =
     "usage: rp pairs TABLE\n       rp analyse TABLE\n       rp certify TABLE\n       rp check TABLE CERT\n\
     \x20      rp demand TABLE NEW [--json]\n       rp welfare TABLE NEW [--json]\n\
     \x20      rp utility TABLE BUNDLES\n       rp random BUDGETS CHOICES [--per N] [--json]\n\
@@ -12,19 +14,29 @@ pub(crate) const USAGE: &str =
     \x20      rp menus FILE [--per N]\n       rp pump TABLE\n       rp cost TECH NEW\n\
     \x20      rp power TABLE SEED N\n";
 
-/// Runs the words over tables, of which two observations of `t.csv` and of `--x` contradict each other, and bundles,
-/// new prices and a certificate beside them.
-pub(crate) fn answer(alloc: Global, words: &[&str]) -> Result<Ended, Fail> {
-    let files = [
-        ("t.csv", CONTRADICTION),
-        ("--x", CONTRADICTION),
-        ("c.json", CERTIFICATE),
-        ("--c", CERTIFICATE),
-        ("b.csv", "q_a,q_b\n1,1\n"),
-        ("two.csv", APART),
-        ("three.csv", "p_a,p_b,m\n1,1,3\n"),
-        ("even.csv", MORE_AND_LESS),
-        ("dear.csv", "p_a,p_b\n1,2\n"),
-    ];
-    run_over(alloc, words, &files)
+/// Tables, of which two observations of `t.csv` and of `--x` contradict each other, and bundles, new prices and a
+/// certificate beside them.
+pub(crate) const FILES: &[(&str, &str)] = &[
+    ("t.csv", CONTRADICTION),
+    ("--x", CONTRADICTION),
+    ("c.json", CERTIFICATE),
+    ("--c", CERTIFICATE),
+    ("b.csv", "q_a,q_b\n1,1\n"),
+    ("two.csv", APART),
+    ("three.csv", "p_a,p_b,m\n1,1,3\n"),
+    ("even.csv", MORE_AND_LESS),
+    ("dear.csv", "p_a,p_b\n1,2\n"),
+];
+
+/// Each line of words over these files is answered by the usage.
+pub(crate) fn each_is_answered_by_the_usage(
+    rt: &impl Abort,
+    alloc: Global,
+    lines: &[&[&str]],
+    files: &[(&str, &str)],
+) -> Result<(), Fail> {
+    for words in lines {
+        ends(rt, alloc, words, files, Status::Usage, "", USAGE)?;
+    }
+    Ok(())
 }

@@ -1,0 +1,138 @@
+use crate::lines::{CHECKED, RANDOM};
+use rp_run::Status;
+use std::test::Fail;
+use tests_inputs::choices::{COPRIME, CROSSED, OF_VIOLATION, VIOLATION};
+use tests_support::{ends, refuses, rejects};
+
+const UNKNOWN: &str = "budget,q_a,q_b,n\n3,2,1,1\n";
+
+/// Budgets, choices, a certificate, and what is told of them.
+const SEVERAL: &[(&str, &str, &str, &str)] = &[
+    ("", UNKNOWN, "", "rp: b.csv: Empty\n"),
+    ("", "", OF_VIOLATION, "rp: b.csv: Empty\n"),
+    (CROSSED, UNKNOWN, "", "rp: c.csv: UnknownBudget record 1\n"),
+    (CROSSED, COPRIME, "", "rp: v.json: NotJson\n"),
+    (CROSSED, COPRIME, OF_VIOLATION, "rp: NeedUnit budget 2\n"),
+];
+
+/// Files are read whole in the order of the words, and the patches are made of them after the last one.
+#[test]
+fn the_first_fault_of_several_is_told(rt: HostRuntime) -> Result<(), Fail> {
+    for (budgets, choices, certificate, line) in SEVERAL {
+        let files = &[
+            ("b.csv", *budgets),
+            ("c.csv", choices),
+            ("v.json", certificate),
+        ];
+        refuses(&rt, rt.alloc(), CHECKED, files, line)?;
+    }
+    Ok(())
+}
+
+/// With units that are asked for there are patches, and the certificate is looked at.
+#[test]
+fn with_units_the_certificate_is_looked_at(rt: HostRuntime) -> Result<(), Fail> {
+    let files = &[
+        ("b.csv", CROSSED),
+        ("c.csv", COPRIME),
+        ("v.json", OF_VIOLATION),
+    ];
+    let words = &["rp", "checkrandom", "--per=100", "b.csv", "c.csv", "v.json"];
+    rejects(
+        &rt,
+        rt.alloc(),
+        words,
+        files,
+        "rejected item 1 Units place 0\n",
+    )
+}
+
+/// Budgets, choices, and what is told of them: first of two faults, then faults with their places.
+const FAULTS: &[(&str, &str, &str)] = &[
+    ("", UNKNOWN, "rp: b.csv: Empty\n"),
+    (CROSSED, UNKNOWN, "rp: c.csv: UnknownBudget record 1\n"),
+    (CROSSED, COPRIME, "rp: NeedUnit budget 2\n"),
+    (
+        "p_a,w\n1,0\n",
+        VIOLATION,
+        "rp: b.csv: ZeroBundle record 1\n",
+    ),
+    (
+        "p_a,w\n1,4\n0,4\n",
+        VIOLATION,
+        "rp: b.csv: ZeroPrice record 2 column 1\n",
+    ),
+    (
+        "p_a,p_b\n1,2\n",
+        VIOLATION,
+        "rp: b.csv: Unpaired column 0\n",
+    ),
+    (
+        CROSSED,
+        "budget,q_a,q_c,n\n1,2,1,1\n",
+        "rp: c.csv: OtherGoods column 3\n",
+    ),
+    (
+        CROSSED,
+        "budget,q_a,q_b,n\n1,2,1,1\n2,1,2,0\n",
+        "rp: c.csv: NoChoices budget 2\n",
+    ),
+    (
+        CROSSED,
+        "budget,q_a,q_b,n\n1,2,1,1\n2,0,0,0\n",
+        "rp: c.csv: ZeroBundle record 2\n",
+    ),
+    (
+        CROSSED,
+        "budget,q_a,q_b,n\n1,2,1,1.5\n",
+        "rp: c.csv: BadNumber record 1 column 4\n",
+    ),
+];
+
+#[test]
+fn faults_of_budgets_and_choices(rt: HostRuntime) -> Result<(), Fail> {
+    for (budgets, choices, line) in FAULTS {
+        refuses(
+            &rt,
+            rt.alloc(),
+            RANDOM,
+            &[("b.csv", budgets), ("c.csv", choices)],
+            line,
+        )?;
+    }
+    Ok(())
+}
+
+const MISSING: &[(&[(&str, &str)], Status, &str)] = &[
+    (&[], Status::ReadFault, "rp: b.csv: read failed\n"),
+    (
+        &[("c.csv", UNKNOWN), ("v.json", "")],
+        Status::ReadFault,
+        "rp: b.csv: read failed\n",
+    ),
+    (&[("b.csv", "")], Status::Refused, "rp: b.csv: Empty\n"),
+    (
+        &[("b.csv", CROSSED), ("v.json", "")],
+        Status::ReadFault,
+        "rp: c.csv: read failed\n",
+    ),
+    (
+        &[("b.csv", CROSSED), ("c.csv", UNKNOWN)],
+        Status::Refused,
+        "rp: c.csv: UnknownBudget record 1\n",
+    ),
+    (
+        &[("b.csv", CROSSED), ("c.csv", COPRIME)],
+        Status::ReadFault,
+        "rp: v.json: read failed\n",
+    ),
+];
+
+/// A file that cannot be read is told where its turn comes, before what it would be refused for.
+#[test]
+fn files_that_are_not_there(rt: HostRuntime) -> Result<(), Fail> {
+    for (files, status, line) in MISSING {
+        ends(&rt, rt.alloc(), CHECKED, files, *status, "", line)?;
+    }
+    Ok(())
+}

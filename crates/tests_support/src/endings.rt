@@ -1,0 +1,85 @@
+use crate::running::{is_ended, run_over};
+use rp_run::Status;
+use std::alloc::Global;
+use std::process::Abort;
+use std::test::Fail;
+
+/// The words of a check of `c.json` on `t.csv`.
+pub const CHECK: &[&str] = &["rp", "check", "t.csv", "c.json"];
+
+/// The words over these files end with this status, this output and this text on standard error.
+pub fn ends(
+    rt: &impl Abort,
+    alloc: Global,
+    words: &[&str],
+    files: &[(&str, &str)],
+    status: Status,
+    out: &str,
+    err: &str,
+) -> Result<(), Fail> {
+    let got = run_over(alloc, words, files)?;
+    if !is_ended(&got, status, out, err) {
+        assert!(rt;
+            false,
+            "{words:?} over {files:?}: wanted {status:?} {out} {err}, got {:?} {} {}",
+            got.status, got.out, got.err
+        );
+    }
+    Ok(())
+}
+
+/// The words over these files are done with this output.
+pub fn prints(
+    rt: &impl Abort,
+    alloc: Global,
+    words: &[&str],
+    files: &[(&str, &str)],
+    out: &str,
+) -> Result<(), Fail> {
+    ends(rt, alloc, words, files, Status::Done, out, "")
+}
+
+/// The words over these files reject a certificate with this output.
+pub fn rejects(
+    rt: &impl Abort,
+    alloc: Global,
+    words: &[&str],
+    files: &[(&str, &str)],
+    out: &str,
+) -> Result<(), Fail> {
+    ends(rt, alloc, words, files, Status::Rejected, out, "")
+}
+
+/// The words over these files are refused with this line.
+pub fn refuses(
+    rt: &impl Abort,
+    alloc: Global,
+    words: &[&str],
+    files: &[(&str, &str)],
+    line: &str,
+) -> Result<(), Fail> {
+    ends(rt, alloc, words, files, Status::Refused, "", line)
+}
+
+/// The pieces after one another.
+pub fn joined(alloc: Global, pieces: &[&str]) -> Result<String, Fail> {
+    let mut text = String::new(alloc);
+    for piece in pieces {
+        text.push_str(piece)?;
+    }
+    Ok(text)
+}
+
+/// The text so many times.
+pub fn repeated(alloc: Global, piece: &str, times: usize) -> Result<String, Fail> {
+    let mut text = String::new(alloc);
+    for _ in 0..times {
+        text.push_str(piece)?;
+    }
+    Ok(text)
+}
+
+/// A text of so many of this ASCII character.
+pub fn filled(alloc: Global, byte: u8, size: usize) -> Result<String, Fail> {
+    Ok(String::from_utf8(vec![in alloc; byte; size]?)?)
+}
