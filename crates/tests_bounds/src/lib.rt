@@ -4,4 +4,6 @@
 #[cfg(test)]
 mod demands;
 #[cfg(test)]
+mod shared;
+#[cfg(test)]
 mod welfare;

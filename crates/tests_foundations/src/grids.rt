@@ -1,31 +1,56 @@
+//! Tests of a grid: its size, its rows, and what the calls that write leave in it.
 use rp_grid::Grid;
+use std::process::Abort;
 use std::test::Fail;
 
-/// Rows are written, exchanged, and one is read while another is written; all others stay.
-#[test]
-fn a_grid_through_every_call(rt: HostRuntime) -> Result<(), Fail> {
-    let alloc = rt.alloc();
-    let mut grid = Grid::new(alloc, 3, 2, 7u64)?;
-    assert_eq!(rt; (grid.rows(), grid.cols()), (3, 2));
-    assert_eq!(rt; grid.row(2), [7, 7].as_slice());
-    grid.row_mut(0)[0] = 1;
-    grid.row_mut(0)[1] = 2;
-    grid.row_mut(2)[1] = 4;
-    grid.swap(0, 2);
-    assert_eq!(rt; grid.row(0), [7, 4].as_slice());
-    assert_eq!(rt; grid.row(1), [7, 7].as_slice());
-    assert_eq!(rt; grid.row(2), [1, 2].as_slice());
-    grid.swap(1, 1);
-    let mut rows = grid.two(1, 2);
+/// Whether a row holds these.
+fn has_row(grid: &Grid<u64>, row: u32, want: &[u64]) -> bool {
+    row < grid.rows() && grid.row(row) == want
+}
+
+/// Writes a number at a place.
+fn set(rt: &impl Abort, grid: &mut Grid<u64>, row: u32, column: usize, value: u64) {
+    assert!(rt; row < grid.rows());
+    let cells = grid.row_mut(row);
+    assert!(rt; column < cells.len());
+    cells[column] = value;
+}
+
+/// Exchanges two rows.
+fn exchange(rt: &impl Abort, grid: &mut Grid<u64>, first: u32, second: u32) {
+    assert!(rt; first < grid.rows() && second < grid.rows());
+    grid.swap(first, second);
+}
+
+/// Adds to the first two numbers of row `into` those of row `from`, both rows in one loan.
+fn add_row(rt: &impl Abort, grid: &mut Grid<u64>, into: u32, from: u32) {
+    assert!(rt; into < grid.rows() && from < grid.rows() && into != from && grid.cols() == 2);
+    let mut rows = grid.two(into, from);
     let first = rows.into_at(0).saturating_add(rows.from_at(0));
     rows.set(0, first);
     let second = rows.into_at(1).saturating_add(rows.from_at(1));
     rows.set(1, second);
-    drop(rows);
+}
+
+/// Rows are written, exchanged, and one is read while another is written; all others stay.
+#[test]
+fn a_grid_through_every_call(rt: HostRuntime) -> Result<(), Fail> {
+    let mut grid = Grid::new(rt.alloc(), 3, 2, 7u64)?;
+    assert_eq!(rt; (grid.rows(), grid.cols()), (3, 2));
+    assert!(rt; has_row(&grid, 2, &[7, 7]));
+    set(&rt, &mut grid, 0, 0, 1);
+    set(&rt, &mut grid, 0, 1, 2);
+    set(&rt, &mut grid, 2, 1, 4);
+    exchange(&rt, &mut grid, 0, 2);
+    assert!(rt; has_row(&grid, 0, &[7, 4]));
+    assert!(rt; has_row(&grid, 1, &[7, 7]));
+    assert!(rt; has_row(&grid, 2, &[1, 2]));
+    exchange(&rt, &mut grid, 1, 1);
+    add_row(&rt, &mut grid, 1, 2);
     assert!(rt; grid.rows() == 3);
-    assert_eq!(rt; grid.row(0), [7, 4].as_slice());
-    assert_eq!(rt; grid.row(1), [8, 9].as_slice());
-    assert_eq!(rt; grid.row(2), [1, 2].as_slice());
+    assert!(rt; has_row(&grid, 0, &[7, 4]));
+    assert!(rt; has_row(&grid, 1, &[8, 9]));
+    assert!(rt; has_row(&grid, 2, &[1, 2]));
     Ok(())
 }
 

@@ -1,11 +1,21 @@
-//! Tests of calls that no verdict is asked of: exact numbers, grids, and the outside.
+//! Tests of calls that no verdict is asked of: exact numbers, grids, the outside, and linear programs.
 #![tactic(auto)]
 
 #[cfg(test)]
+mod calls;
+#[cfg(test)]
+mod exact;
+#[cfg(test)]
 mod grids;
+#[cfg(test)]
+mod large_programs;
 #[cfg(test)]
 mod numbers;
 #[cfg(test)]
 mod outside;
+#[cfg(test)]
+mod programs;
+#[cfg(test)]
+mod system;
 #[cfg(test)]
 mod wide_numbers;

@@ -1,18 +1,11 @@
-use rp_num::{Frac, gcd};
+//! Tests of exact numbers of more than one word: divisors, orders and products near the width.
+use crate::exact::{WIDTH, divisor, order, product};
 use std::cmp::Ordering;
-
-/// The greatest numerator and denominator.
-const WIDTH: u128 = (1 << 127) - 1;
 
 /// The last of Fibonacci's numbers below 2^127, which is number 184, and the one before it.
 const FIBONACCI: u128 = 127127879743834334146972278486287885163;
 
 const FIBONACCI_BEFORE: u128 = 78569350599398894027251472817058687522;
-
-/// The fraction of two numbers within the width, the second above 0.
-fn fraction(num: u128, den: u128) -> Frac {
-    Frac::new(num.min(WIDTH), den.clamp(1, WIDTH))
-}
 
 #[test]
 fn divisors_on_both_sides_of_a_word(rt: HostRuntime) {
@@ -31,8 +24,8 @@ fn divisors_on_both_sides_of_a_word(rt: HostRuntime) {
         (u128::MAX, 1 << 127, 1),
         (u128::MAX, word, word),
     ] {
-        assert_eq!(rt; gcd(a, b), greatest, "{a} and {b}");
-        assert_eq!(rt; gcd(b, a), greatest, "{b} and {a}");
+        assert!(rt; divisor(a, b) == greatest, "{a} and {b}");
+        assert!(rt; divisor(b, a) == greatest, "{b} and {a}");
     }
 }
 
@@ -50,15 +43,15 @@ fn divisors_that_take_the_most_steps(rt: HostRuntime) {
         (WIDTH, WIDTH, WIDTH),
         (WIDTH, WIDTH - 1, 1),
     ] {
-        assert_eq!(rt; gcd(a, b), greatest, "{a} and {b}");
-        assert_eq!(rt; gcd(b, a), greatest, "{b} and {a}");
+        assert!(rt; divisor(a, b) == greatest, "{a} and {b}");
+        assert!(rt; divisor(b, a) == greatest, "{b} and {a}");
     }
 }
 
 #[test]
 fn fractions_that_agree_in_their_high_words(rt: HostRuntime) {
     let high = 1 << 126;
-    for (a, b, c, d, order) in [
+    for (a, b, c, d, want) in [
         (high + 1, high, high + 2, high + 1, Ordering::Greater),
         (high, high + 1, high + 1, high + 2, Ordering::Less),
         (high + 1, high, high + 1, high, Ordering::Equal),
@@ -83,17 +76,13 @@ fn fractions_that_agree_in_their_high_words(rt: HostRuntime) {
             Ordering::Less,
         ),
     ] {
-        assert_eq!(rt;
-            fraction(a, b).cmp(fraction(c, d)),
-            order,
-            "{a}/{b} and {c}/{d}"
-        );
+        assert!(rt; order(a, b, c, d) == want, "{a}/{b} and {c}/{d}");
     }
 }
 
 #[test]
 fn products_with_ones_and_with_small_sides(rt: HostRuntime) {
-    for (a, b, c, d, product) in [
+    for (a, b, c, d, want) in [
         (WIDTH, WIDTH - 1, 1, 1, Some((WIDTH, WIDTH - 1))),
         (1, 1, 3, WIDTH, Some((3, WIDTH))),
         (
@@ -123,11 +112,6 @@ fn products_with_ones_and_with_small_sides(rt: HostRuntime) {
         ),
         (FIBONACCI, FIBONACCI_BEFORE, 4, 1, None),
     ] {
-        let got = fraction(a, b).mul(fraction(c, d)).ok();
-        assert_eq!(rt;
-            got.map(|p| (p.num(), p.den())),
-            product,
-            "{a}/{b} times {c}/{d}"
-        );
+        assert!(rt; product(a, b, c, d) == want, "{a}/{b} times {c}/{d}");
     }
 }

@@ -1,26 +1,26 @@
+//! Tests of closures of many sizes: fewer bits than a word, one word, one bit more, and several words.
+ghost use Rattle.std.specs.Prelude.{◌≡◌, ◌<◌};
+
+use crate::shared::{chain, costs_of, triangle};
 use rp_evidence::Level;
 use rp_pref::{Closure, Steps};
 use rp_table::Costs;
-use rp_text::read_table;
 use std::alloc::Global;
+use std::process::Abort;
 use std::test::Fail;
 
-fn triangle(side: u32) -> u32 {
-    side.saturating_mul(side.saturating_add(1)) / 2
+/// A table of any number of observations whose closure is known.
+#[derive(Clone, Copy, Debug)]
+enum Shape {
+    /// Each reaches itself and all that come later.
+    Chain,
+    /// Each reaches itself alone.
+    Apart,
+    /// Each reaches all of its own half.
+    TwoCycles,
 }
 
-/// Bundles on a convex curve, each bought where it and the next alone are affordable.
-fn chain(alloc: Global, n: u32) -> Result<String, Fail> {
-    let mut text = String::from_str(alloc, "p_a,q_a,p_b,q_b\n")?;
-    for t in 0..n {
-        let left = n - t;
-        let height = triangle(left);
-        text.push_str(format!(in alloc; "{left},{t},1,{height}\n")?.as_str())?;
-    }
-    Ok(text)
-}
-
-/// Bundles on a curve that is more convex, each bought where it alone is affordable.
+/// Bundles on a curve that is more convex than that of a chain, each bought where it alone is affordable.
 fn apart(alloc: Global, n: u32) -> Result<String, Fail> {
     let mut text = String::from_str(alloc, "p_a,q_a,p_b,q_b\n")?;
     for t in 0..n {
@@ -31,63 +31,98 @@ fn apart(alloc: Global, n: u32) -> Result<String, Fail> {
     Ok(text)
 }
 
-/// Two chains over goods of their own, each of which ends where all of its own bundles are affordable.
+/// A chain of so many observations that ends where all of its own bundles are affordable: the prices and quantities of
+/// its two goods, between what stands for two others on each side.
+fn push_cycle(
+    alloc: Global,
+    text: &mut String,
+    n: u32,
+    before: &str,
+    after: &str,
+) -> Result<(), Fail> {
+    for t in 0..n {
+        let left = n - t;
+        let price = if left == 1 { triangle(n) } else { left };
+        let height = triangle(left);
+        text.push_str(format!(in alloc; "{before}{price},{t},1,{height}{after}\n")?.as_str())?;
+    }
+    Ok(())
+}
+
+/// Two such chains over goods of their own.
 fn two_cycles(alloc: Global, n: u32) -> Result<String, Fail> {
     let mut text = String::from_str(alloc, "p_a,q_a,p_b,q_b,p_c,q_c,p_d,q_d\n")?;
     let half = n / 2;
-    for t in 0..half {
-        let left = half - t;
-        let price = if left == 1 { triangle(half) } else { left };
-        let height = triangle(left);
-        text.push_str(format!(in alloc; "{price},{t},1,{height},9000000,0,9000000,0\n")?.as_str())?;
-    }
-    let rest = n - half;
-    for t in 0..rest {
-        let left = rest - t;
-        let price = if left == 1 { triangle(rest) } else { left };
-        let height = triangle(left);
-        text.push_str(format!(in alloc; "9000000,0,9000000,0,{price},{t},1,{height}\n")?.as_str())?;
-    }
+    push_cycle(alloc, &mut text, half, "", ",9000000,0,9000000,0")?;
+    push_cycle(alloc, &mut text, n - half, "9000000,0,9000000,0,", "")?;
     Ok(text)
 }
 
-/// Fewer bits than a word, one word, one bit more, and several words.
+/// The costs of the table of so many observations.
+fn costs_by_shape(alloc: Global, shape: Shape, n: u32) -> Result<Costs, Fail> {
+    let text = match shape {
+        Shape::Chain => chain(alloc, n)?,
+        Shape::Apart => apart(alloc, n)?,
+        Shape::TwoCycles => two_cycles(alloc, n)?,
+    };
+    costs_of(alloc, text.as_str())
+}
+
+/// Whether one of n observations reaches another.
+fn is_reached(shape: Shape, n: u32, s: u32, t: u32) -> bool {
+    match shape {
+        Shape::Chain => s <= t,
+        Shape::Apart => s == t,
+        Shape::TwoCycles => (s < n / 2) == (t < n / 2),
+    }
+}
+
+/// How many one of n observations counts.
+fn count_of(shape: Shape, n: u32, s: u32) -> u32 {
+    match shape {
+        Shape::Chain => n.saturating_sub(s),
+        Shape::Apart => 1,
+        Shape::TwoCycles => if s < n / 2 {
+            n / 2
+        } else {
+            n.saturating_sub(n / 2)
+        },
+    }
+}
+
+/// Asserts what one of n observations reaches, and how many it counts.
+fn assert_row(rt: &impl Abort, closure: &Closure, shape: Shape, n: u32, s: u32)
+    requires size { closure.now.n ≡ n }
+    requires below { s < n }
+{
+    for t in 0..n {
+        assert!(rt;
+            closure.reaches(s, t) == is_reached(shape, n, s, t),
+            "{shape:?} {n}: {s} to {t}"
+        );
+    }
+    assert!(rt;
+        closure.count(s) == count_of(shape, n, s),
+        "{shape:?} {n}: count of {s}"
+    );
+}
+
+/// Asserts all of a closure at the level 1.
+fn assert_closure(rt: &impl Abort, alloc: Global, shape: Shape, n: u32) -> Result<(), Fail> {
+    let costs = costs_by_shape(alloc, shape, n)?;
+    assert!(rt; costs.n() == n);
+    let closure = Closure::of(alloc, &costs, Level { num: 1, den: 1 }, Steps::Weak)?;
+    for s in 0..n {
+        assert_row(rt, &closure, shape, n, s);
+    }
+    Ok(())
+}
+
 #[test]
 fn closures_of_many_sizes(rt: HostRuntime) -> Result<(), Fail> {
-    let alloc = rt.alloc();
-    let level = Level { num: 1, den: 1 };
     for n in [1u32, 63, 64, 65, 128, 512] {
-        let half = n / 2;
-        for kind in 0..3u32 {
-            let text = match kind {
-                0 => chain(alloc, n)?,
-                1 => apart(alloc, n)?,
-                _ => two_cycles(alloc, n)?,
-            };
-            let table = read_table(alloc, text.as_bytes())?;
-            let costs = Costs::of(alloc, &table)?;
-            assert_eq!(rt; costs.n(), n);
-            let closure = Closure::of(alloc, &costs, level, Steps::Weak)?;
-            for s in 0..costs.n() {
-                for t in 0..costs.n() {
-                    let expected = match kind {
-                        0 => s <= t,
-                        1 => s == t,
-                        _ => (s < half) == (t < half),
-                    };
-                    assert_eq!(rt; closure.reaches(s, t), expected, "{kind} {n}: {s} to {t}");
-                }
-                let count = match kind {
-                    0 => n.saturating_sub(s),
-                    1 => 1,
-                    _ => if s < half {
-                        half
-                    } else {
-                        n.saturating_sub(half)
-                    },
-                };
-                assert_eq!(rt; closure.count(s), count, "{kind} {n}: count of {s}");
-            }
+        for shape in [Shape::Chain, Shape::Apart, Shape::TwoCycles] {
+            assert_closure(&rt, rt.alloc(), shape, n)?;
         }
     }
     Ok(())

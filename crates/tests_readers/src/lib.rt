@@ -10,6 +10,6 @@ mod limits;
 #[cfg(test)]
 mod readers;
 #[cfg(test)]
-mod sheets;
+mod shared;
 #[cfg(test)]
-mod written;
+mod sheets;

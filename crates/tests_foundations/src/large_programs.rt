@@ -1,6 +1,7 @@
+//! Tests of linear programs of the most rows and columns, and of the most pivots.
 ghost use Rattle.std.specs.Prelude.{◌<◌};
 
-use crate::programs::outcome;
+use crate::programs::checked_outcome;
 use std::alloc::Global;
 use std::test::Fail;
 
@@ -60,9 +61,9 @@ fn a_program_of_the_most_rows_and_columns(rt: HostRuntime) -> Result<(), Fail> {
     for j in 0..8_192 {
         c.push(if j < 8_190 { 0 } else { 1 })?;
     }
-    let (got, taken) = outcome(&rt, alloc, &a, &b, &c)?;
-    assert_eq!(rt; got, last_columns(alloc, 64, 62, 8_128, 1)?);
-    assert!(rt; taken);
+    let got = checked_outcome(&rt, alloc, &a, &b, &c)?;
+    let want = last_columns(alloc, 64, 62, 8_128, 1)?;
+    assert!(rt; got.as_str() == want.as_str());
     Ok(())
 }
 
@@ -77,8 +78,8 @@ fn a_run_of_a_pivot_for_each_of_320_columns(rt: HostRuntime) -> Result<(), Fail>
     for j in 0..320i64 {
         c.push(1 + j / 8)?;
     }
-    let (got, taken) = outcome(&rt, alloc, &a, &b, &c)?;
-    assert_eq!(rt; got, last_columns(alloc, 8, 0, 312, 40)?);
-    assert!(rt; taken);
+    let got = checked_outcome(&rt, alloc, &a, &b, &c)?;
+    let want = last_columns(alloc, 8, 0, 312, 40)?;
+    assert!(rt; got.as_str() == want.as_str());
     Ok(())
 }
