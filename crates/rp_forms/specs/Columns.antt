@@ -1,8 +1,8 @@
 -- What the headers of a file say (a format of this project's own). A column has the prices or the
 -- quantities of a good, under p_NAME or q_NAME, or those of an input, under w_NAME or x_NAME, or it has one of a
 -- few other headers.
-use Rattle.std.specs.Prelude.{ℕ, Bool, true, false, not, ◌&&◌, ◌||◌, nat_eq, nat_le, if◌then◌else◌, List, [], length, drop}
-use Rattle.std.specs.Prelude.{filter, map, codes, Option, Some, None, unwrap_or}
+use Rattle.std.specs.Prelude.{ℕ, Bool, true, false, not, ◌&&◌, nat_eq, nat_le, if◌then◌else◌, List, [], length, drop}
+use Rattle.std.specs.Prelude.{◌||◌, filter, map, codes, Option, Some, None, unwrap_or}
 use Rattle.std.specs.List.{list_all, list_any, starts_with}
 use Rattle.std.specs.Option.{option_map_or, option_or}
 use Rattle.std.specs.Str.{bytes_eq}
