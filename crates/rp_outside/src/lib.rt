@@ -28,6 +28,3 @@ pub use pouring::{WriteFault, pour};
 pub use sinks::{Failed, Sink};
 pub use streams::StdSink;
 pub use sure::{SureDesk, SureSink};
-
-#[cfg(test)]
-mod tests;

@@ -1,13 +1,15 @@
+//! Tests of walks with totals: the least ones, a total that does not fit, and the quasilinear sums.
 ghost use Rattle.std.specs.Prelude.{◌≡◌, ◌<◌, ◌≤◌};
 ghost use Rattle.tests_verdicts.specs.Ladder.{ladder_cost};
 ghost use Rattle.rp_walk.specs.declared.TheConstants.{MOST_OBSERVATIONS};
 
+use crate::shared::costs_of;
 use rp_evidence::Quasi;
 use rp_num::Wide;
 use rp_quasi::quasilinear;
-use rp_table::Costs;
-use rp_text::read_table;
 use rp_walk::{Settled, Total, settle};
+use std::alloc::Global;
+use std::process::Abort;
 use std::test::Fail;
 use tests_inputs::tables::{ALONE, APART, CONTRADICTION, MORE_AND_LESS, NINE_TENTHS, THREE};
 
@@ -88,46 +90,97 @@ impl Total for Ladder {
     ) };
 }
 
+/// The least totals of so many observations in a row.
+fn settled(rt: &impl Abort, alloc: Global, n: u32) -> Result<Settled<i8>, Fail> {
+    assert!(rt; 1 <= n && n <= 4_096);
+    Ok(settle(alloc, &Ladder { n })?)
+}
+
+/// Whether these are the least totals.
+fn has_totals(settled: &Settled<i8>, totals: &[i8]) -> bool {
+    match settled {
+        Settled::Values(found) => found.as_slice() == totals,
+        _ => false,
+    }
+}
+
+/// Whether a total does not fit after so many steps and one more between these.
+fn is_too_wide(settled: &Settled<i8>, after: u32, ends: (u32, u32)) -> bool {
+    match settled {
+        Settled::Wide { steps, from, to } => (*steps, *from, *to) == (after, ends.0, ends.1),
+        _ => false,
+    }
+}
+
+/// The quasilinear verdict on the table in a file.
+fn sums_of(alloc: Global, file: &str) -> Result<Quasi, Fail> {
+    let costs = costs_of(alloc, file)?;
+    Ok(quasilinear(alloc, &costs)?)
+}
+
+/// Whether these are the least sums.
+fn has_values(verdict: &Quasi, values: &[i128]) -> bool {
+    match verdict {
+        Quasi::Values(found) => found.as_slice() == values,
+        Quasi::Cycle(_) => false,
+    }
+}
+
+/// Whether this cycle shows that there are none.
+fn has_cycle(verdict: &Quasi, cycle: &[u32]) -> bool {
+    match verdict {
+        Quasi::Cycle(found) => found.as_slice() == cycle,
+        Quasi::Values(_) => false,
+    }
+}
+
 #[test]
 fn the_first_step_that_does_not_fit(rt: HostRuntime) -> Result<(), Fail> {
-    match settle(rt.alloc(), &Ladder { n: 3 })? {
-        Settled::Wide { steps, from, to } => assert_eq!(rt; (steps, from, to), (1, 1, 2)),
-        _ => assert!(rt; false),
-    }
-    match settle(rt.alloc(), &Ladder { n: 2 })? {
-        Settled::Values(values) => assert_eq!(rt; values.as_slice(), [0, -1].as_slice()),
-        _ => assert!(rt; false),
+    assert!(rt; is_too_wide(&settled(&rt, rt.alloc(), 3)?, 1, (1, 2)));
+    assert!(rt; has_totals(&settled(&rt, rt.alloc(), 2)?, &[0, -1]));
+    Ok(())
+}
+
+/// Asserts the least sums of each table.
+fn assert_values(
+    rt: &impl Abort,
+    alloc: Global,
+    cases: &[(&'static str, &'static [i128])],
+) -> Result<(), Fail> {
+    for (file, values) in cases {
+        let verdict = sums_of(alloc, file)?;
+        assert!(rt; has_values(&verdict, values), "{file}");
     }
     Ok(())
 }
 
-#[test]
-fn sums_of_worked_tables(rt: HostRuntime) -> Result<(), Fail> {
-    for (text, values) in [
-        (APART.as_bytes(), [0, 0].as_slice()),
-        (MORE_AND_LESS.as_bytes(), &[0, -4]),
-        (ALONE.as_bytes(), &[0]),
-    ] {
-        match quasilinear(
-            rt.alloc(),
-            &Costs::of(rt.alloc(), &read_table(rt.alloc(), text)?)?,
-        )? {
-            Quasi::Values(found) => assert_eq!(rt; found.as_slice(), values),
-            Quasi::Cycle(_) => assert!(rt; false),
-        }
-    }
-    for (text, cycle) in [
-        (CONTRADICTION.as_bytes(), [0, 1, 0].as_slice()),
-        (NINE_TENTHS.as_bytes(), &[0, 1, 0]),
-        (THREE.as_bytes(), &[0, 1, 2, 0]),
-    ] {
-        match quasilinear(
-            rt.alloc(),
-            &Costs::of(rt.alloc(), &read_table(rt.alloc(), text)?)?,
-        )? {
-            Quasi::Cycle(found) => assert_eq!(rt; found.as_slice(), cycle),
-            Quasi::Values(_) => assert!(rt; false),
-        }
+/// Asserts the cycle of each table, which shows that it has no least sums.
+fn assert_cycles(
+    rt: &impl Abort,
+    alloc: Global,
+    cases: &[(&'static str, &'static [u32])],
+) -> Result<(), Fail> {
+    for (file, cycle) in cases {
+        let verdict = sums_of(alloc, file)?;
+        assert!(rt; has_cycle(&verdict, cycle), "{file}");
     }
     Ok(())
+}
+
+const VALUES: [(&'static str, &'static [i128]); 3] = [
+    (APART, &[0, 0]),
+    (MORE_AND_LESS, &[0, -4]),
+    (ALONE, &[0]),
+];
+
+const CYCLES: [(&'static str, &'static [u32]); 3] = [
+    (CONTRADICTION, &[0, 1, 0]),
+    (NINE_TENTHS, &[0, 1, 0]),
+    (THREE, &[0, 1, 2, 0]),
+];
+
+#[test]
+fn sums_of_worked_tables(rt: HostRuntime) -> Result<(), Fail> {
+    assert_values(&rt, rt.alloc(), &VALUES)?;
+    assert_cycles(&rt, rt.alloc(), &CYCLES)
 }
