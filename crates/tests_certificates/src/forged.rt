@@ -6,6 +6,23 @@ use tests_inputs::tables::{
 };
 use tests_support::{CHECK, joined, rejects};
 
+/// The certificate is rejected on the table with this line.
+fn rejects_certificate(
+    rt: &impl Abort,
+    alloc: Global,
+    table: &str,
+    certificate: &str,
+    line: &str,
+) -> Result<(), Fail> {
+    rejects(
+        rt,
+        alloc,
+        CHECK,
+        &[("t.csv", table), ("c.json", certificate)],
+        line,
+    )
+}
+
 /// A certificate with these items is rejected on the table, with the item, the reason and the place.
 fn rejects_items(
     rt: &impl Abort,
@@ -16,20 +33,13 @@ fn rejects_items(
 ) -> Result<(), Fail> {
     let certificate = certificate_of(alloc, items)?;
     let line = format!(in alloc; "rejected item {told}\n")?;
-    let files = &[("t.csv", table), ("c.json", certificate.as_str())];
-    rejects(rt, alloc, CHECK, files, line.as_str())
+    rejects_certificate(rt, alloc, table, certificate.as_str(), line.as_str())
 }
 
 #[test]
 fn a_certificate_of_another_table_is_rejected(rt: HostRuntime) -> Result<(), Fail> {
-    let files = &[("t.csv", APART), ("c.json", CERTIFICATE)];
-    rejects(
-        &rt,
-        rt.alloc(),
-        CHECK,
-        files,
-        "rejected item 1 NotWeak place 1\n",
-    )
+    let line = "rejected item 1 NotWeak place 1\n";
+    rejects_certificate(&rt, rt.alloc(), APART, CERTIFICATE, line)
 }
 
 /// Tables, forged items, and where these fail.
@@ -153,7 +163,7 @@ fn demand(alloc: Global, below: &str, inner: &str, upper: &str) -> Result<String
 
 const RANKS: &str = "{\"item\":\"garp\",\"ranks\":[1,1]},";
 
-/// What stands before the item on demand, the observations below, the inner demand, the upper bound, and where it fails.
+/// What stands before the item on demand, the observations below, the inner demand, the upper bound, and what fails.
 const FORGED_DEMANDS: &[(&str, &str, &str, &str, &str)] = &[
     ("", "1,2", "\"2\",\"1\"", "2", "1 NoGarp place 0"),
     (RANKS, "1", "\"2\",\"1\"", "2", "2 Set place 1"),

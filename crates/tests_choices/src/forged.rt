@@ -1,5 +1,7 @@
 use crate::lines::CHECKED;
 use rp_run::Status;
+use std::alloc::Global;
+use std::process::Abort;
 use std::test::Fail;
 use tests_inputs::choices::{CROSSED, MIXTURE, OF_VIOLATION, ON_A_TABLE, VIOLATION};
 use tests_inputs::tables::ALONE;
@@ -98,6 +100,23 @@ const FORGED: &[(&str, &str, Status, &str)] = &[
     (VIOLATION, "", Status::Done, "accepted items 0 withheld 0\n"),
 ];
 
+/// A check of this certificate on these choices ends so.
+fn check_ends<'a>(
+    rt: &impl Abort,
+    alloc: Global,
+    choices: &'a str,
+    certificate: &'a str,
+    status: Status,
+    text: &str,
+) -> Result<(), Fail> {
+    let files = &[
+        ("b.csv", CROSSED),
+        ("c.csv", choices),
+        ("v.json", certificate),
+    ];
+    ends(rt, alloc, CHECKED, files, status, text, "")
+}
+
 /// The first clause that fails is told with its item and its place.
 #[test]
 fn forged_certificates(rt: HostRuntime) -> Result<(), Fail> {
@@ -106,12 +125,7 @@ fn forged_certificates(rt: HostRuntime) -> Result<(), Fail> {
         let certificate = format!(in alloc;
             "{{\"items\":[{items}],\"kind\":\"random\",\"version\":1}}\n"
         )?;
-        let files = &[
-            ("b.csv", CROSSED),
-            ("c.csv", *choices),
-            ("v.json", certificate.as_str()),
-        ];
-        ends(&rt, alloc, CHECKED, files, *status, text, "")?;
+        check_ends(&rt, alloc, choices, certificate.as_str(), *status, text)?;
     }
     Ok(())
 }

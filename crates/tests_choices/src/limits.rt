@@ -73,6 +73,24 @@ const CHECKED_PER_2: &[&str] = &[
 /// A certificate with no item.
 const EMPTY: &str = "{\"items\":[],\"kind\":\"random\",\"version\":1}";
 
+/// The words over budgets, choices and a certificate print so.
+fn prints_over(
+    rt: &impl Abort,
+    alloc: Global,
+    words: &[&str],
+    budgets: &str,
+    choices: &str,
+    certificate: &str,
+    text: &str,
+) -> Result<(), Fail> {
+    let files = &[
+        ("b.csv", budgets),
+        ("c.csv", choices),
+        ("v.json", certificate),
+    ];
+    prints(rt, alloc, words, files, text)
+}
+
 /// The words over a fan, choices of each good alone, and this certificate print so.
 fn prints_over_fan(
     rt: &impl Abort,
@@ -85,12 +103,8 @@ fn prints_over_fan(
     requires { n ≤ 48 }
 {
     let (budgets, choices) = (fan(alloc, n)?, corners(alloc, n, true)?);
-    let files = &[
-        ("b.csv", budgets.as_str()),
-        ("c.csv", choices.as_str()),
-        ("v.json", certificate),
-    ];
-    prints(rt, alloc, words, files, text)
+    let (budgets, choices) = (budgets.as_str(), choices.as_str());
+    prints_over(rt, alloc, words, budgets, choices, certificate, text)
 }
 
 const OF_TWENTY: &str = "budgets 20 patches 40 types 21 total 2\nrandom mixture over 1\n\
@@ -168,12 +182,8 @@ fn prints_over_pairs(
     requires { n ≤ 8 }
 {
     let (budgets, choices) = (pairs(alloc, n)?, choices_on_pairs(alloc, n)?);
-    let files = &[
-        ("b.csv", budgets.as_str()),
-        ("c.csv", choices.as_str()),
-        ("v.json", certificate),
-    ];
-    prints(rt, alloc, words, files, text)
+    let (budgets, choices) = (budgets.as_str(), choices.as_str());
+    prints_over(rt, alloc, words, budgets, choices, certificate, text)
 }
 
 const OF_SEVEN: &str = "budgets 14 patches 28 types 2187 total 4\nrandom violated share 3/4\n\

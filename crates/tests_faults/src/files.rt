@@ -201,18 +201,24 @@ const OVER_FEEDS: &[(&[&str], &str, &str)] = &[
     (UTILITY, MORE_AND_LESS, "b.csv"),
 ];
 
-/// The words over this first file and the second are refused for the second, with that fault.
+/// The words over this first file and a second one of this name are refused for the second, with that fault.
 fn refuses_second(
     rt: &impl Abort,
     alloc: Global,
     words: &[&str],
     first: &str,
-    second: (&str, &str),
+    name: &str,
+    second: &str,
     fault: &str,
 ) -> Result<(), Fail> {
-    let (name, _) = second;
     let line = format!(in alloc; "rp: {name}: {fault}\n")?;
-    refuses(rt, alloc, words, &[("t.csv", first), second], line.as_str())
+    refuses(
+        rt,
+        alloc,
+        words,
+        &[("t.csv", first), (name, second)],
+        line.as_str(),
+    )
 }
 
 /// Line feeds alone are no record; with a byte past the limit a file is not looked at.
@@ -221,7 +227,7 @@ fn second_files_of_the_most_bytes_and_of_one_more(rt: HostRuntime) -> Result<(),
     for (size, fault) in [(4_194_304, "Empty"), (4_194_305, "TooLong")] {
         let feeds = filled(rt.alloc(), b'\n', size)?;
         for (words, first, name) in OVER_FEEDS {
-            refuses_second(&rt, rt.alloc(), words, first, (name, feeds.as_str()), fault)?;
+            refuses_second(&rt, rt.alloc(), words, first, name, feeds.as_str(), fault)?;
         }
     }
     Ok(())

@@ -1,5 +1,5 @@
-//! Tests of `run` on faults: tables and files that are refused, in their order, and both sides of each limit; an outside
-//! that gives and takes in pieces, and that fails at each of its calls in turn, and one that never fails.
+//! Tests of `run` on faults: tables and files that are refused, in their order, and both sides of each limit; and over
+//! an outside that gives and takes in pieces, one that fails at each of its calls in turn, and one that never fails.
 #![tactic(auto)]
 
 #[cfg(test)]
