@@ -1,5 +1,5 @@
 -- The numbers of a file as whole numbers: each times a power of ten, which the columns of one role share.
-use Rattle.std.specs.Prelude.{ℕ, ◌+◌, ◌-◌, ◌*◌, ◌^◌, Bool, false, nat_lt, if◌then◌else◌, List, [], length}
+use Rattle.std.specs.Prelude.{ℕ, ◌+◌, ◌-◌, ◌*◌, ◌^◌, nat_lt, if◌then◌else◌, List, [], length}
 use Rattle.std.specs.Prelude.{slice_index_or, Option, Result, Ok, Err}
 use Rattle.std.specs.Result.{result_err, result_unwrap_or}
 use Rattle.rp_num.specs.declared.decimal.Decimal.{Decimal}

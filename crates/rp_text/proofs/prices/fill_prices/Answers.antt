@@ -1,4 +1,4 @@
-use Rattle.std.proofs.Common.{◌≤◌, length}
+use Rattle.std.proofs.Common.{length}
 use Rattle.std.specs.List.{slice_index}
 use Rattle.rp_table.specs.Limits.{IsPrice}
 use Rattle.rp_forms.specs.Texts.{text_at}
