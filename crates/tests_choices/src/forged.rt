@@ -100,17 +100,18 @@ const FORGED: &[(&str, &str, Status, &str)] = &[
     (VIOLATION, "", Status::Done, "accepted items 0 withheld 0\n"),
 ];
 
-/// A check of this certificate on these choices ends so.
-fn check_ends<'a>(
+/// A check of this certificate over budgets and choices ends so.
+fn check_ends(
     rt: &impl Abort,
     alloc: Global,
-    choices: &'a str,
-    certificate: &'a str,
+    budgets: &str,
+    choices: &str,
+    certificate: &str,
     status: Status,
     text: &str,
 ) -> Result<(), Fail> {
     let files = &[
-        ("b.csv", CROSSED),
+        ("b.csv", budgets),
         ("c.csv", choices),
         ("v.json", certificate),
     ];
@@ -125,7 +126,8 @@ fn forged_certificates(rt: HostRuntime) -> Result<(), Fail> {
         let certificate = format!(in alloc;
             "{{\"items\":[{items}],\"kind\":\"random\",\"version\":1}}\n"
         )?;
-        check_ends(&rt, alloc, choices, certificate.as_str(), *status, text)?;
+        let made = certificate.as_str();
+        check_ends(&rt, alloc, CROSSED, choices, made, *status, text)?;
     }
     Ok(())
 }

@@ -1,13 +1,11 @@
-//! Tests of `run` on choices: `random` and `checkrandom` with their reports and certificates, what they reject and
-//! refuse, and limits; what `menus` prints and refuses.
+//! Tests of `run` on choices: `random` and `checkrandom` with their reports, certificates and limits, and forged
+//! certificates; what `menus` prints and refuses.
 #![tactic(auto)]
 
 #[cfg(test)]
 mod certificates;
 #[cfg(test)]
 mod choice_reports;
-#[cfg(test)]
-mod faults;
 #[cfg(test)]
 mod forged;
 #[cfg(test)]

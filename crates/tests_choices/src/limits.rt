@@ -4,8 +4,7 @@ use crate::lines::{ACCEPTED, CHECKED, RANDOM};
 use std::alloc::{AllocError, Global};
 use std::process::Abort;
 use std::test::Fail;
-use tests_inputs::choices::{CROSSED, VIOLATION};
-use tests_support::{filled, prints, refuses};
+use tests_support::{prints, refuses};
 
 /// So many budgets with prices (j, n + 1 - j) and income 1.
 fn fan(alloc: Global, n: u32) -> Result<String, AllocError>
@@ -279,46 +278,6 @@ fn more_types_than_the_limit(rt: HostRuntime) -> Result<(), Fail> {
     ];
     for words in [RANDOM, CHECKED] {
         refuses(&rt, rt.alloc(), words, files, "rp: TooManyTypes\n")?;
-    }
-    Ok(())
-}
-
-/// Line feeds alone are no record; with a byte past the limit a file is not looked at.
-#[test]
-fn files_of_the_most_bytes_and_of_one_more(rt: HostRuntime) -> Result<(), Fail> {
-    let alloc = rt.alloc();
-    let most = filled(alloc, b'\n', 4_194_304)?;
-    let more = filled(alloc, b'\n', 4_194_305)?;
-    let (most, more) = (most.as_str(), more.as_str());
-    for (budgets, choices, line) in [
-        (most, VIOLATION, "rp: b.csv: Empty\n"),
-        (more, VIOLATION, "rp: b.csv: TooLong\n"),
-        (more, more, "rp: b.csv: TooLong\n"),
-        (CROSSED, most, "rp: c.csv: Empty\n"),
-        (CROSSED, more, "rp: c.csv: TooLong\n"),
-    ] {
-        let files = &[("b.csv", budgets), ("c.csv", choices), ("v.json", "")];
-        refuses(&rt, alloc, RANDOM, files, line)?;
-        refuses(&rt, alloc, CHECKED, files, line)?;
-    }
-    Ok(())
-}
-
-/// Spaces alone are no JSON.
-#[test]
-fn certificates_of_the_most_bytes_and_of_one_more(rt: HostRuntime) -> Result<(), Fail> {
-    let alloc = rt.alloc();
-    for (size, line) in [
-        (16_777_216, "rp: v.json: NotJson\n"),
-        (16_777_217, "rp: v.json: TooLong\n"),
-    ] {
-        let text = filled(alloc, b' ', size)?;
-        let files = &[
-            ("b.csv", CROSSED),
-            ("c.csv", VIOLATION),
-            ("v.json", text.as_str()),
-        ];
-        refuses(&rt, alloc, CHECKED, files, line)?;
     }
     Ok(())
 }

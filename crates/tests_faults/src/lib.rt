@@ -1,5 +1,5 @@
-//! Tests of `run` on faults: tables and files that are refused, in their order, and both sides of each limit; and over
-//! an outside that gives and takes in pieces, one that fails at each of its calls in turn, and one that never fails.
+//! Tests of `run` over an outside that gives and takes in pieces, one that fails at each of its calls in turn, and one
+//! that never fails; over each front of a file; and of the statuses.
 #![tactic(auto)]
 
 #[cfg(test)]
@@ -9,10 +9,6 @@ mod commands;
 #[cfg(test)]
 mod failures;
 #[cfg(test)]
-mod files;
-#[cfg(test)]
 mod fronts;
 #[cfg(test)]
 mod sure;
-#[cfg(test)]
-mod tables;

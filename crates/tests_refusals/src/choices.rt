@@ -1,8 +1,12 @@
-use crate::lines::{CHECKED, RANDOM};
 use rp_run::Status;
 use std::test::Fail;
 use tests_inputs::choices::{COPRIME, CROSSED, OF_VIOLATION, VIOLATION};
-use tests_support::{ends, refuses, rejects};
+use tests_support::{ends, filled, refuses, rejects};
+
+/// The words over budgets and choices, and over a certificate of them.
+const RANDOM: &[&str] = &["rp", "random", "b.csv", "c.csv"];
+
+const CHECKED: &[&str] = &["rp", "checkrandom", "b.csv", "c.csv", "v.json"];
 
 const UNKNOWN: &str = "budget,q_a,q_b,n\n3,2,1,1\n";
 
@@ -133,6 +137,46 @@ const MISSING: &[(&[(&str, &str)], Status, &str)] = &[
 fn files_that_are_not_there(rt: HostRuntime) -> Result<(), Fail> {
     for (files, status, line) in MISSING {
         ends(&rt, rt.alloc(), CHECKED, files, *status, "", line)?;
+    }
+    Ok(())
+}
+
+/// Line feeds alone are no record; with a byte past the limit a file is not looked at.
+#[test]
+fn files_of_the_most_bytes_and_of_one_more(rt: HostRuntime) -> Result<(), Fail> {
+    let alloc = rt.alloc();
+    let most = filled(alloc, b'\n', 4_194_304)?;
+    let more = filled(alloc, b'\n', 4_194_305)?;
+    let (most, more) = (most.as_str(), more.as_str());
+    for (budgets, choices, line) in [
+        (most, VIOLATION, "rp: b.csv: Empty\n"),
+        (more, VIOLATION, "rp: b.csv: TooLong\n"),
+        (more, more, "rp: b.csv: TooLong\n"),
+        (CROSSED, most, "rp: c.csv: Empty\n"),
+        (CROSSED, more, "rp: c.csv: TooLong\n"),
+    ] {
+        let files = &[("b.csv", budgets), ("c.csv", choices), ("v.json", "")];
+        refuses(&rt, alloc, RANDOM, files, line)?;
+        refuses(&rt, alloc, CHECKED, files, line)?;
+    }
+    Ok(())
+}
+
+/// Spaces alone are no JSON.
+#[test]
+fn certificates_of_the_most_bytes_and_of_one_more(rt: HostRuntime) -> Result<(), Fail> {
+    let alloc = rt.alloc();
+    for (size, line) in [
+        (16_777_216, "rp: v.json: NotJson\n"),
+        (16_777_217, "rp: v.json: TooLong\n"),
+    ] {
+        let text = filled(alloc, b' ', size)?;
+        let files = &[
+            ("b.csv", CROSSED),
+            ("c.csv", VIOLATION),
+            ("v.json", text.as_str()),
+        ];
+        refuses(&rt, alloc, CHECKED, files, line)?;
     }
     Ok(())
 }
