@@ -1,5 +1,4 @@
 use std::alloc::Global;
-use std::process::Abort;
 use std::test::Fail;
 use tests_inputs::tables::{
     APART, CERTIFICATE, CONTRADICTION, EQUAL, MORE_AND_LESS, certificate_of,
@@ -8,14 +7,12 @@ use tests_support::{CHECK, joined, rejects};
 
 /// The certificate is rejected on the table with this line.
 fn rejects_certificate(
-    rt: &impl Abort,
     alloc: Global,
     table: &str,
     certificate: &str,
     line: &str,
 ) -> Result<(), Fail> {
     rejects(
-        rt,
         alloc,
         CHECK,
         &[("t.csv", table), ("c.json", certificate)],
@@ -24,22 +21,16 @@ fn rejects_certificate(
 }
 
 /// A certificate with these items is rejected on the table, with the item, the reason and the place.
-fn rejects_items(
-    rt: &impl Abort,
-    alloc: Global,
-    table: &str,
-    items: &str,
-    told: &str,
-) -> Result<(), Fail> {
+fn rejects_items(alloc: Global, table: &str, items: &str, told: &str) -> Result<(), Fail> {
     let certificate = certificate_of(alloc, items)?;
     let line = format!(in alloc; "rejected item {told}\n")?;
-    rejects_certificate(rt, alloc, table, certificate.as_str(), line.as_str())
+    rejects_certificate(alloc, table, certificate.as_str(), line.as_str())
 }
 
 #[test]
 fn a_certificate_of_another_table_is_rejected(rt: HostRuntime) -> Result<(), Fail> {
     let line = "rejected item 1 NotWeak place 1\n";
-    rejects_certificate(&rt, rt.alloc(), APART, CERTIFICATE, line)
+    rejects_certificate(rt.alloc(), APART, CERTIFICATE, line)
 }
 
 /// Tables, forged items, and where these fail.
@@ -114,7 +105,7 @@ const FORGED: &[(&str, &str, &str)] = &[
 #[test]
 fn forged_items_are_told_with_reason_and_place(rt: HostRuntime) -> Result<(), Fail> {
     for (table, item, told) in FORGED {
-        rejects_items(&rt, rt.alloc(), table, item, told)?;
+        rejects_items(rt.alloc(), table, item, told)?;
     }
     Ok(())
 }
@@ -139,7 +130,7 @@ const SEVERAL: &[(&str, &str)] = &[
 #[test]
 fn the_first_item_that_fails_is_told(rt: HostRuntime) -> Result<(), Fail> {
     for (items, told) in SEVERAL {
-        rejects_items(&rt, rt.alloc(), CONTRADICTION, items, told)?;
+        rejects_items(rt.alloc(), CONTRADICTION, items, told)?;
     }
     Ok(())
 }
@@ -178,7 +169,7 @@ fn forged_demands_are_told_with_reason_and_place(rt: HostRuntime) -> Result<(), 
     for (before, below, inner, upper, told) in FORGED_DEMANDS {
         let item = demand(alloc, below, inner, upper)?;
         let items = format!(in alloc; "{before}{item}")?;
-        rejects_items(&rt, alloc, APART, items.as_str(), told)?;
+        rejects_items(alloc, APART, items.as_str(), told)?;
     }
     Ok(())
 }
@@ -187,5 +178,5 @@ fn forged_demands_are_told_with_reason_and_place(rt: HostRuntime) -> Result<(), 
 fn a_forged_welfare_is_told_with_reason_and_place(rt: HostRuntime) -> Result<(), Fail> {
     let items =
         "{\"item\":\"garp\",\"ranks\":[2,1]},{\"at\":1,\"item\":\"welfare\",\"lower\":{\"den\":\"1\",\"value\":\"4\",\"x\":[\"4\",\"0\"],\"y\":[[1,\"1\"]]},\"observation\":2,\"prices\":[\"1\",\"2\"],\"upper\":\"12\"}";
-    rejects_items(&rt, rt.alloc(), MORE_AND_LESS, items, "2 Least place 2")
+    rejects_items(rt.alloc(), MORE_AND_LESS, items, "2 Least place 2")
 }

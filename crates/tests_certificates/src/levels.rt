@@ -65,7 +65,7 @@ const OF_LEVELS: &[(&str, &str, Status, &str)] = &[
 fn levels_of_a_certificate_are_those_of_the_table(rt: HostRuntime) -> Result<(), Fail> {
     for (table, certificate, status, out) in OF_LEVELS {
         let files = &[("t.csv", *table), ("c.json", *certificate)];
-        ends(&rt, rt.alloc(), CHECK, files, *status, out, "")?;
+        ends(rt.alloc(), CHECK, files, *status, out, "")?;
     }
     Ok(())
 }
@@ -124,7 +124,7 @@ const FORGED: &[(&str, &str, &str)] = &[
 fn forged_evidence_with_levels(rt: HostRuntime) -> Result<(), Fail> {
     for (table, certificate, out) in FORGED {
         let files = &[("t.csv", *table), ("c.json", *certificate)];
-        rejects(&rt, rt.alloc(), CHECK, files, out)?;
+        rejects(rt.alloc(), CHECK, files, out)?;
     }
     Ok(())
 }

@@ -1,15 +1,13 @@
 use rp_run::Status;
 use std::alloc::Global;
-use std::process::Abort;
 use std::test::Fail;
 use tests_inputs::tables::{CERTIFICATE, CONTRADICTION, certificate_of};
 use tests_support::{CHECK, ends, filled, prints, refuses};
 
 /// The text is refused as a certificate with that fault.
-fn refuses_text(rt: &impl Abort, alloc: Global, text: &str, fault: &str) -> Result<(), Fail> {
+fn refuses_text(alloc: Global, text: &str, fault: &str) -> Result<(), Fail> {
     let line = format!(in alloc; "rp: c.json: {fault}\n")?;
     refuses(
-        rt,
         alloc,
         CHECK,
         &[("t.csv", CONTRADICTION), ("c.json", text)],
@@ -73,9 +71,9 @@ fn texts_that_are_no_certificate(rt: HostRuntime) -> Result<(), Fail> {
     let Some(cut) = CERTIFICATE.get(..20) else {
         return Err("past the end".into());
     };
-    refuses_text(&rt, rt.alloc(), cut, "NotJson")?;
+    refuses_text(rt.alloc(), cut, "NotJson")?;
     for (text, fault) in TEXTS {
-        refuses_text(&rt, rt.alloc(), text, fault)?;
+        refuses_text(rt.alloc(), text, fault)?;
     }
     Ok(())
 }
@@ -109,7 +107,7 @@ const ITEMS: &[(&str, &str)] = &[
 fn items_that_are_none_are_told_by_their_number(rt: HostRuntime) -> Result<(), Fail> {
     for (items, fault) in ITEMS {
         let text = certificate_of(rt.alloc(), items)?;
-        refuses_text(&rt, rt.alloc(), text.as_str(), fault)?;
+        refuses_text(rt.alloc(), text.as_str(), fault)?;
     }
     Ok(())
 }
@@ -141,7 +139,7 @@ const FILES: &[(&[(&str, &str)], Status, &str)] = &[
 #[test]
 fn the_table_is_read_before_the_certificate(rt: HostRuntime) -> Result<(), Fail> {
     for (files, status, line) in FILES {
-        ends(&rt, rt.alloc(), CHECK, files, *status, "", line)?;
+        ends(rt.alloc(), CHECK, files, *status, "", line)?;
     }
     Ok(())
 }
@@ -153,7 +151,7 @@ fn one_file_as_table_and_as_certificate(rt: HostRuntime) -> Result<(), Fail> {
         ("t.csv", "rp: t.csv: NotJson\n"),
         ("c.json", "rp: c.json: BadHeader column 1\n"),
     ] {
-        refuses(&rt, rt.alloc(), &["rp", "check", name, name], files, line)?;
+        refuses(rt.alloc(), &["rp", "check", name, name], files, line)?;
     }
     Ok(())
 }
@@ -171,9 +169,9 @@ fn a_certificate_of_the_most_bytes_and_of_one_more(rt: HostRuntime) -> Result<()
     assert!(rt; CERTIFICATE.len() == 277);
     let most = after_spaces(alloc, 16_777_216 - 277)?;
     let files = &[("t.csv", CONTRADICTION), ("c.json", most.as_str())];
-    prints(&rt, alloc, CHECK, files, "accepted items 5 withheld 0\n")?;
+    prints(alloc, CHECK, files, "accepted items 5 withheld 0\n")?;
     let more = after_spaces(alloc, 16_777_217 - 277)?;
-    refuses_text(&rt, alloc, more.as_str(), "TooLong")
+    refuses_text(alloc, more.as_str(), "TooLong")
 }
 
 /// Spaces alone are no JSON.
@@ -181,7 +179,7 @@ fn a_certificate_of_the_most_bytes_and_of_one_more(rt: HostRuntime) -> Result<()
 fn a_long_file_is_refused_before_it_is_read(rt: HostRuntime) -> Result<(), Fail> {
     for (size, fault) in [(16_777_216, "NotJson"), (16_777_217, "TooLong")] {
         let text = filled(rt.alloc(), b' ', size)?;
-        refuses_text(&rt, rt.alloc(), text.as_str(), fault)?;
+        refuses_text(rt.alloc(), text.as_str(), fault)?;
     }
     Ok(())
 }

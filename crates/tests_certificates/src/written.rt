@@ -29,13 +29,12 @@ fn writes_and_accepts(
     let Some((_, table)) = files.first() else {
         return Err("no table".into());
     };
-    prints(rt, alloc, words, files, certificate)?;
+    prints(alloc, words, files, certificate)?;
     assert!(rt;
         is_read_unchanged(alloc, certificate)?,
         "{words:?} over {files:?}"
     );
     prints(
-        rt,
         alloc,
         CHECK,
         &[("t.csv", table), ("c.json", certificate)],
@@ -282,7 +281,7 @@ const SPELLINGS: &[(&str, &str)] = &[
 fn other_spellings_of_a_certificate(rt: HostRuntime) -> Result<(), Fail> {
     for (certificate, line) in SPELLINGS {
         let files = &[("t.csv", CONTRADICTION), ("c.json", certificate)];
-        prints(&rt, rt.alloc(), CHECK, files, line)?;
+        prints(rt.alloc(), CHECK, files, line)?;
     }
     Ok(())
 }

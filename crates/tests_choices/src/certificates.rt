@@ -28,13 +28,12 @@ fn certificates_are_accepted_over_their_own_files(rt: HostRuntime) -> Result<(),
             ("v.json", certificate),
         ];
         prints(
-            &rt,
             alloc,
             &["rp", "random", "b.csv", "c.csv", "--json"],
             files,
             certificate,
         )?;
-        prints(&rt, alloc, CHECKED, files, ACCEPTED)?;
+        prints(alloc, CHECKED, files, ACCEPTED)?;
     }
     Ok(())
 }
@@ -67,9 +66,9 @@ fn certificates_of_so_many_units(rt: HostRuntime) -> Result<(), Fail> {
             ("v.json", certificate),
         ];
         let made = &["rp", "random", "b.csv", "c.csv", "--per", "100", "--json"];
-        prints(&rt, alloc, made, files, certificate)?;
-        prints(&rt, alloc, &checked_per("100"), files, ACCEPTED)?;
-        rejects(&rt, alloc, &checked_per("99"), files, rejected)?;
+        prints(alloc, made, files, certificate)?;
+        prints(alloc, &checked_per("100"), files, ACCEPTED)?;
+        rejects(alloc, &checked_per("99"), files, rejected)?;
     }
     Ok(())
 }
@@ -97,7 +96,7 @@ fn certificates_of_so_many_units_without_them(rt: HostRuntime) -> Result<(), Fai
             ("c.csv", choices),
             ("v.json", certificate),
         ];
-        ends(&rt, rt.alloc(), CHECKED, files, status, out, err)?;
+        ends(rt.alloc(), CHECKED, files, status, out, err)?;
     }
     Ok(())
 }
@@ -120,7 +119,7 @@ fn certificates_are_rejected_over_other_choices(rt: HostRuntime) -> Result<(), F
             ("c.csv", *choices),
             ("v.json", certificate),
         ];
-        rejects(&rt, rt.alloc(), CHECKED, files, text)?;
+        rejects(rt.alloc(), CHECKED, files, text)?;
     }
     Ok(())
 }

@@ -51,7 +51,6 @@ const REPORTS: &[(&str, &str, &str)] = &[
 fn reports_of_choices_from_budgets(rt: HostRuntime) -> Result<(), Fail> {
     for (budgets, choices, text) in REPORTS {
         prints(
-            &rt,
             rt.alloc(),
             RANDOM,
             &[("b.csv", budgets), ("c.csv", choices)],
@@ -110,7 +109,6 @@ fn reports_of_so_many_units(rt: HostRuntime) -> Result<(), Fail> {
     for (per, choices, text) in OF_UNITS {
         let words = &["rp", "random", "b.csv", "c.csv", "--per", *per];
         prints(
-            &rt,
             rt.alloc(),
             words,
             &[("b.csv", CROSSED), ("c.csv", choices)],

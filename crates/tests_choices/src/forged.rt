@@ -1,7 +1,6 @@
 use crate::lines::CHECKED;
 use rp_run::Status;
 use std::alloc::Global;
-use std::process::Abort;
 use std::test::Fail;
 use tests_inputs::choices::{CROSSED, MIXTURE, OF_VIOLATION, ON_A_TABLE, VIOLATION};
 use tests_inputs::tables::ALONE;
@@ -102,7 +101,6 @@ const FORGED: &[(&str, &str, Status, &str)] = &[
 
 /// A check of this certificate over budgets and choices ends so.
 fn check_ends(
-    rt: &impl Abort,
     alloc: Global,
     budgets: &str,
     choices: &str,
@@ -115,7 +113,7 @@ fn check_ends(
         ("c.csv", choices),
         ("v.json", certificate),
     ];
-    ends(rt, alloc, CHECKED, files, status, text, "")
+    ends(alloc, CHECKED, files, status, text, "")
 }
 
 /// The first clause that fails is told with its item and its place.
@@ -127,7 +125,7 @@ fn forged_certificates(rt: HostRuntime) -> Result<(), Fail> {
             "{{\"items\":[{items}],\"kind\":\"random\",\"version\":1}}\n"
         )?;
         let made = certificate.as_str();
-        check_ends(&rt, alloc, CROSSED, choices, made, *status, text)?;
+        check_ends(alloc, CROSSED, choices, made, *status, text)?;
     }
     Ok(())
 }
@@ -179,7 +177,7 @@ const TEXTS: &[(&str, &str)] = &[
 fn texts_that_are_no_certificate(rt: HostRuntime) -> Result<(), Fail> {
     for (text, line) in TEXTS {
         let files = &[("b.csv", CROSSED), ("c.csv", VIOLATION), ("v.json", *text)];
-        refuses(&rt, rt.alloc(), CHECKED, files, line)?;
+        refuses(rt.alloc(), CHECKED, files, line)?;
     }
     Ok(())
 }
@@ -192,7 +190,7 @@ fn a_certificate_that_is_cut(rt: HostRuntime) -> Result<(), Fail> {
         ("c.csv", VIOLATION),
         ("v.json", shortened),
     ];
-    refuses(&rt, rt.alloc(), CHECKED, files, "rp: v.json: NotJson\n")
+    refuses(rt.alloc(), CHECKED, files, "rp: v.json: NotJson\n")
 }
 
 #[test]
@@ -200,13 +198,7 @@ fn another_spelling_of_a_certificate(rt: HostRuntime) -> Result<(), Fail> {
     let spaced = "\n{ \"version\" : 1, \"kind\" : \"r\\u0061ndom\",\n\
         \"items\" : [ { \"withheld\" : \"3\", \"total\" : \"4\", \"item\" : \"random\" } ] }";
     let files = &[("b.csv", CROSSED), ("c.csv", VIOLATION), ("v.json", spaced)];
-    prints(
-        &rt,
-        rt.alloc(),
-        CHECKED,
-        files,
-        "accepted items 1 withheld 1\n",
-    )
+    prints(rt.alloc(), CHECKED, files, "accepted items 1 withheld 1\n")
 }
 
 /// A certificate on choices is none on a table.
@@ -214,11 +206,5 @@ fn another_spelling_of_a_certificate(rt: HostRuntime) -> Result<(), Fail> {
 fn a_certificate_of_the_other_kind(rt: HostRuntime) -> Result<(), Fail> {
     let files = &[("t.csv", ALONE), ("v.json", OF_VIOLATION)];
     let words = &["rp", "check", "t.csv", "v.json"];
-    refuses(
-        &rt,
-        rt.alloc(),
-        words,
-        files,
-        "rp: v.json: BadShape item 0\n",
-    )
+    refuses(rt.alloc(), words, files, "rp: v.json: BadShape item 0\n")
 }

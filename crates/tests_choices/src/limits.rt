@@ -2,7 +2,6 @@ ghost use Rattle.std.specs.Prelude.{◌≤◌};
 
 use crate::lines::{ACCEPTED, CHECKED, RANDOM};
 use std::alloc::{AllocError, Global};
-use std::process::Abort;
 use std::test::Fail;
 use tests_support::{prints, refuses};
 
@@ -74,7 +73,6 @@ const EMPTY: &str = "{\"items\":[],\"kind\":\"random\",\"version\":1}";
 
 /// The words over budgets, choices and a certificate print so.
 fn prints_over(
-    rt: &impl Abort,
     alloc: Global,
     words: &[&str],
     budgets: &str,
@@ -87,12 +85,11 @@ fn prints_over(
         ("c.csv", choices),
         ("v.json", certificate),
     ];
-    prints(rt, alloc, words, files, text)
+    prints(alloc, words, files, text)
 }
 
 /// The words over a fan, choices of each good alone, and this certificate print so.
 fn prints_over_fan(
-    rt: &impl Abort,
     alloc: Global,
     words: &[&str],
     n: u32,
@@ -103,7 +100,7 @@ fn prints_over_fan(
 {
     let (budgets, choices) = (fan(alloc, n)?, corners(alloc, n, true)?);
     let (budgets, choices) = (budgets.as_str(), choices.as_str());
-    prints_over(rt, alloc, words, budgets, choices, certificate, text)
+    prints_over(alloc, words, budgets, choices, certificate, text)
 }
 
 const OF_TWENTY: &str = "budgets 20 patches 40 types 21 total 2\nrandom mixture over 1\n\
@@ -121,20 +118,13 @@ const AS_JSON_OF_TWENTY: &str = "{\"items\":[{\"den\":\"1\",\"item\":\"random\",
 fn twenty_budgets(rt: HostRuntime) -> Result<(), Fail> {
     let alloc = rt.alloc();
     let json = &["rp", "random", "b.csv", "c.csv", "--json"];
-    prints_over_fan(&rt, alloc, RANDOM, 20, "", OF_TWENTY)?;
-    prints_over_fan(&rt, alloc, json, 20, "", AS_JSON_OF_TWENTY)?;
-    prints_over_fan(&rt, alloc, CHECKED, 20, AS_JSON_OF_TWENTY, ACCEPTED)
+    prints_over_fan(alloc, RANDOM, 20, "", OF_TWENTY)?;
+    prints_over_fan(alloc, json, 20, "", AS_JSON_OF_TWENTY)?;
+    prints_over_fan(alloc, CHECKED, 20, AS_JSON_OF_TWENTY, ACCEPTED)
 }
 
 /// The words over a fan that is too great, and choices of each good alone, are refused so.
-fn refuses_fan(
-    rt: &impl Abort,
-    alloc: Global,
-    words: &[&str],
-    n: u32,
-    once: bool,
-    line: &str,
-) -> Result<(), Fail>
+fn refuses_fan(alloc: Global, words: &[&str], n: u32, once: bool, line: &str) -> Result<(), Fail>
     requires { n ≤ 48 }
 {
     let (budgets, choices) = (fan(alloc, n)?, corners(alloc, n, once)?);
@@ -143,7 +133,7 @@ fn refuses_fan(
         ("c.csv", choices.as_str()),
         ("v.json", EMPTY),
     ];
-    refuses(rt, alloc, words, files, line)
+    refuses(alloc, words, files, line)
 }
 
 /// Of what a fan is refused for the patches come first, then the unit that is needed, and then the combinations.
@@ -164,14 +154,13 @@ fn fans_past_the_limits(rt: HostRuntime) -> Result<(), Fail> {
         (CHECKED_PER_2, 21, false, "rp: TooManyCombinations\n"),
         (CHECKED_PER_2, 25, true, "rp: TooManyPatches budget 25\n"),
     ] {
-        refuses_fan(&rt, rt.alloc(), words, n, once, line)?;
+        refuses_fan(rt.alloc(), words, n, once, line)?;
     }
     Ok(())
 }
 
 /// The words over so many pairs, choices on them, and this certificate print so.
 fn prints_over_pairs(
-    rt: &impl Abort,
     alloc: Global,
     words: &[&str],
     n: u32,
@@ -182,7 +171,7 @@ fn prints_over_pairs(
 {
     let (budgets, choices) = (pairs(alloc, n)?, choices_on_pairs(alloc, n)?);
     let (budgets, choices) = (budgets.as_str(), choices.as_str());
-    prints_over(rt, alloc, words, budgets, choices, certificate, text)
+    prints_over(alloc, words, budgets, choices, certificate, text)
 }
 
 const OF_SEVEN: &str = "budgets 14 patches 28 types 2187 total 4\nrandom violated share 3/4\n\
@@ -204,8 +193,8 @@ const CERTIFICATE_OF_SEVEN: &str = "{\"items\":[{\"den\":\"1\",\"item\":\"random
 /// try`.
 #[test]
 fn seven_pairs(rt: HostRuntime) -> Result<(), Fail> {
-    prints_over_pairs(&rt, rt.alloc(), RANDOM, 7, "", OF_SEVEN)?;
-    prints_over_pairs(&rt, rt.alloc(), CHECKED, 7, CERTIFICATE_OF_SEVEN, ACCEPTED)
+    prints_over_pairs(rt.alloc(), RANDOM, 7, "", OF_SEVEN)?;
+    prints_over_pairs(rt.alloc(), CHECKED, 7, CERTIFICATE_OF_SEVEN, ACCEPTED)
 }
 
 /// Eight pairs have more rational types than the limit.
@@ -218,7 +207,7 @@ fn eight_pairs(rt: HostRuntime) -> Result<(), Fail> {
         ("v.json", EMPTY),
     ];
     for words in [RANDOM, CHECKED] {
-        refuses(&rt, rt.alloc(), words, files, "rp: TooManyTypes\n")?;
+        refuses(rt.alloc(), words, files, "rp: TooManyTypes\n")?;
     }
     Ok(())
 }
@@ -253,7 +242,7 @@ fn as_many_types_as_the_limit(rt: HostRuntime) -> Result<(), Fail> {
         ("v.json", CERTIFICATE_OF_SIX),
     ];
     let random = &["rp", "random", "b.csv", "c.csv", "--per", "1"];
-    prints(&rt, rt.alloc(), random, files, OF_SIX)?;
+    prints(rt.alloc(), random, files, OF_SIX)?;
     let checked = &[
         "rp",
         "checkrandom",
@@ -263,7 +252,7 @@ fn as_many_types_as_the_limit(rt: HostRuntime) -> Result<(), Fail> {
         "--per",
         "1",
     ];
-    prints(&rt, rt.alloc(), checked, files, ACCEPTED)
+    prints(rt.alloc(), checked, files, ACCEPTED)
 }
 
 /// With one more choice, below the other budget, there are 4^5 * 5.
@@ -277,7 +266,7 @@ fn more_types_than_the_limit(rt: HostRuntime) -> Result<(), Fail> {
         ("v.json", CERTIFICATE_OF_SIX),
     ];
     for words in [RANDOM, CHECKED] {
-        refuses(&rt, rt.alloc(), words, files, "rp: TooManyTypes\n")?;
+        refuses(rt.alloc(), words, files, "rp: TooManyTypes\n")?;
     }
     Ok(())
 }

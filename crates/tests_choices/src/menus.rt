@@ -39,7 +39,7 @@ const REPORTS: &[(&str, &str)] = &[
 #[test]
 fn choices_have_a_mixture_or_the_greatest_share(rt: HostRuntime) -> Result<(), Fail> {
     for (file, out) in REPORTS {
-        prints(&rt, rt.alloc(), MENUS, &[("m.csv", file)], out)?;
+        prints(rt.alloc(), MENUS, &[("m.csv", file)], out)?;
     }
     Ok(())
 }
@@ -51,7 +51,6 @@ fn as_many_units_as_were_asked_for_are_on_each_menu(rt: HostRuntime) -> Result<(
                menus mixture over 1\npart a b weight 3\npart b a weight 7\n\
                sums least 3 at b in b\n";
     prints(
-        &rt,
         rt.alloc(),
         words,
         &[("m.csv", "menu,choice,n\nab,a,1\nab,b,2\n")],
@@ -86,7 +85,7 @@ const FAULTS: &[(&str, &str)] = &[
 #[test]
 fn the_first_fault_of_a_file_is_told_with_its_place(rt: HostRuntime) -> Result<(), Fail> {
     for (file, line) in FAULTS {
-        refuses(&rt, rt.alloc(), MENUS, &[("m.csv", file)], line)?;
+        refuses(rt.alloc(), MENUS, &[("m.csv", file)], line)?;
     }
     Ok(())
 }
@@ -96,11 +95,11 @@ const COPRIME: &[(&str, &str)] = &[("m.csv", "menu,choice,n\na,a,99991\nab,a,999
 
 #[test]
 fn a_total_that_is_too_great_needs_a_unit(rt: HostRuntime) -> Result<(), Fail> {
-    refuses(&rt, rt.alloc(), MENUS, COPRIME, "rp: NeedUnit menu 2\n")?;
+    refuses(rt.alloc(), MENUS, COPRIME, "rp: NeedUnit menu 2\n")?;
     let words = &["rp", "menus", "--per", "100", "m.csv"];
     let out = "alternatives 2 menus 2 cells 2 orders 1 total 100\napportioned per 100\n\
                menus mixture over 1\npart a b weight 100\nsums least 0 at a in a\n";
-    prints(&rt, rt.alloc(), words, COPRIME, out)
+    prints(rt.alloc(), words, COPRIME, out)
 }
 
 /// Line feeds alone are no record; with a byte past the limit the choices are not looked at.
@@ -111,7 +110,7 @@ fn choices_of_the_most_bytes_and_of_one_more(rt: HostRuntime) -> Result<(), Fail
         (4_194_305, "rp: m.csv: TooLong\n"),
     ] {
         let choices = filled(rt.alloc(), b'\n', size)?;
-        refuses(&rt, rt.alloc(), MENUS, &[("m.csv", choices.as_str())], line)?;
+        refuses(rt.alloc(), MENUS, &[("m.csv", choices.as_str())], line)?;
     }
     Ok(())
 }

@@ -29,7 +29,6 @@ fn all_menus_of_six_letters_by_one_order(rt: HostRuntime) -> Result<(), Fail> {
     let out = "alternatives 6 menus 57 cells 57 orders 1 total 1\nmenus mixture over 1\n\
                part a b c d e f weight 1\nsums least 0 at a in a\n";
     prints(
-        &rt,
         rt.alloc(),
         &["rp", "menus", "m.csv"],
         &[("m.csv", ONE_ORDER)],

@@ -28,7 +28,7 @@ fn the_first_fault_of_several_is_told(rt: HostRuntime) -> Result<(), Fail> {
             ("c.csv", choices),
             ("v.json", certificate),
         ];
-        refuses(&rt, rt.alloc(), CHECKED, files, line)?;
+        refuses(rt.alloc(), CHECKED, files, line)?;
     }
     Ok(())
 }
@@ -42,13 +42,7 @@ fn with_units_the_certificate_is_looked_at(rt: HostRuntime) -> Result<(), Fail> 
         ("v.json", OF_VIOLATION),
     ];
     let words = &["rp", "checkrandom", "--per=100", "b.csv", "c.csv", "v.json"];
-    rejects(
-        &rt,
-        rt.alloc(),
-        words,
-        files,
-        "rejected item 1 Units place 0\n",
-    )
+    rejects(rt.alloc(), words, files, "rejected item 1 Units place 0\n")
 }
 
 /// Budgets, choices, and what is told of them: first of two faults, then faults with their places.
@@ -97,7 +91,6 @@ const FAULTS: &[(&str, &str, &str)] = &[
 fn faults_of_budgets_and_choices(rt: HostRuntime) -> Result<(), Fail> {
     for (budgets, choices, line) in FAULTS {
         refuses(
-            &rt,
             rt.alloc(),
             RANDOM,
             &[("b.csv", budgets), ("c.csv", choices)],
@@ -136,7 +129,7 @@ const MISSING: &[(&[(&str, &str)], Status, &str)] = &[
 #[test]
 fn files_that_are_not_there(rt: HostRuntime) -> Result<(), Fail> {
     for (files, status, line) in MISSING {
-        ends(&rt, rt.alloc(), CHECKED, files, *status, "", line)?;
+        ends(rt.alloc(), CHECKED, files, *status, "", line)?;
     }
     Ok(())
 }
@@ -156,8 +149,8 @@ fn files_of_the_most_bytes_and_of_one_more(rt: HostRuntime) -> Result<(), Fail> 
         (CROSSED, more, "rp: c.csv: TooLong\n"),
     ] {
         let files = &[("b.csv", budgets), ("c.csv", choices), ("v.json", "")];
-        refuses(&rt, alloc, RANDOM, files, line)?;
-        refuses(&rt, alloc, CHECKED, files, line)?;
+        refuses(alloc, RANDOM, files, line)?;
+        refuses(alloc, CHECKED, files, line)?;
     }
     Ok(())
 }
@@ -176,7 +169,7 @@ fn certificates_of_the_most_bytes_and_of_one_more(rt: HostRuntime) -> Result<(),
             ("c.csv", VIOLATION),
             ("v.json", text.as_str()),
         ];
-        refuses(&rt, alloc, CHECKED, files, line)?;
+        refuses(alloc, CHECKED, files, line)?;
     }
     Ok(())
 }

@@ -1,6 +1,5 @@
 use rp_run::Status;
 use std::alloc::Global;
-use std::process::Abort;
 use std::test::Fail;
 use tests_inputs::tables::{APART, CONTRADICTION, MORE_AND_LESS};
 use tests_support::{ends, filled, refuses, run_with_failures, tells};
@@ -26,9 +25,9 @@ const TECHNOLOGIES: &[(&str, &str)] = &[
 #[test]
 fn a_fault_of_the_technology_is_told_before_the_asked_file(rt: HostRuntime) -> Result<(), Fail> {
     for (tech, line) in TECHNOLOGIES {
-        refuses(&rt, rt.alloc(), COST, &[("t.csv", tech)], line)?;
+        refuses(rt.alloc(), COST, &[("t.csv", tech)], line)?;
         let files = &[("t.csv", *tech), ("n.csv", "w_c,y\n1,1\n")];
-        refuses(&rt, rt.alloc(), COST, files, line)?;
+        refuses(rt.alloc(), COST, files, line)?;
     }
     Ok(())
 }
@@ -95,7 +94,6 @@ const SECOND_FILES: &[(&[&str], &str, &str, &str)] = &[
 fn faults_of_a_second_file_are_told_with_it(rt: HostRuntime) -> Result<(), Fail> {
     for (words, first, second, line) in SECOND_FILES {
         refuses(
-            &rt,
             rt.alloc(),
             words,
             &[("t.csv", *first), ("n.csv", second)],
@@ -122,7 +120,7 @@ const BUNDLES: &[(&str, &str)] = &[
 fn faults_of_the_bundles_are_told_with_their_file(rt: HostRuntime) -> Result<(), Fail> {
     for (bundles, line) in BUNDLES {
         let files = &[("t.csv", MORE_AND_LESS), ("b.csv", *bundles)];
-        refuses(&rt, rt.alloc(), UTILITY, files, line)?;
+        refuses(rt.alloc(), UTILITY, files, line)?;
     }
     Ok(())
 }
@@ -130,9 +128,9 @@ fn faults_of_the_bundles_are_told_with_their_file(rt: HostRuntime) -> Result<(),
 #[test]
 fn a_fault_of_the_table_is_told_before_the_bundles_are_read(rt: HostRuntime) -> Result<(), Fail> {
     let line = "rp: t.csv: NoRecords\n";
-    refuses(&rt, rt.alloc(), UTILITY, &[("t.csv", "p_a,q_a\n")], line)?;
+    refuses(rt.alloc(), UTILITY, &[("t.csv", "p_a,q_a\n")], line)?;
     let files = &[("t.csv", "p_a,q_a\n"), ("b.csv", OTHER_GOODS)];
-    refuses(&rt, rt.alloc(), UTILITY, files, line)
+    refuses(rt.alloc(), UTILITY, files, line)
 }
 
 /// Words, the files that are there, and the one that is missed.
@@ -158,7 +156,7 @@ const MISSING: &[(&[&str], &[(&str, &str)], &str)] = &[
 #[test]
 fn a_file_that_is_missing_is_named(rt: HostRuntime) -> Result<(), Fail> {
     for (words, files, line) in MISSING {
-        ends(&rt, rt.alloc(), words, files, Status::ReadFault, "", line)?;
+        ends(rt.alloc(), words, files, Status::ReadFault, "", line)?;
     }
     Ok(())
 }
@@ -203,7 +201,6 @@ const OVER_FEEDS: &[(&[&str], &str, &str)] = &[
 
 /// The words over this first file and a second one of this name are refused for the second, with that fault.
 fn refuses_second(
-    rt: &impl Abort,
     alloc: Global,
     words: &[&str],
     first: &str,
@@ -213,7 +210,6 @@ fn refuses_second(
 ) -> Result<(), Fail> {
     let line = format!(in alloc; "rp: {name}: {fault}\n")?;
     refuses(
-        rt,
         alloc,
         words,
         &[("t.csv", first), (name, second)],
@@ -227,7 +223,7 @@ fn second_files_of_the_most_bytes_and_of_one_more(rt: HostRuntime) -> Result<(),
     for (size, fault) in [(4_194_304, "Empty"), (4_194_305, "TooLong")] {
         let feeds = filled(rt.alloc(), b'\n', size)?;
         for (words, first, name) in OVER_FEEDS {
-            refuses_second(&rt, rt.alloc(), words, first, name, feeds.as_str(), fault)?;
+            refuses_second(rt.alloc(), words, first, name, feeds.as_str(), fault)?;
         }
     }
     Ok(())
@@ -241,7 +237,7 @@ fn technologies_of_the_most_bytes_and_of_one_more(rt: HostRuntime) -> Result<(),
     ] {
         let feeds = filled(rt.alloc(), b'\n', size)?;
         let files = &[("t.csv", feeds.as_str()), ("n.csv", feeds.as_str())];
-        refuses(&rt, rt.alloc(), COST, files, line)?;
+        refuses(rt.alloc(), COST, files, line)?;
     }
     Ok(())
 }

@@ -1,5 +1,4 @@
 use std::alloc::Global;
-use std::process::Abort;
 use std::test::Fail;
 use tests_inputs::tables::{AT_800, CONTRADICTION};
 use tests_support::{filled, prints, refuses, repeated};
@@ -8,14 +7,14 @@ use tests_support::{filled, prints, refuses, repeated};
 const PAIRS: &[&str] = &["rp", "pairs", "t.csv"];
 
 /// The table is refused with that fault.
-fn refuses_table(rt: &impl Abort, alloc: Global, table: &str, fault: &str) -> Result<(), Fail> {
+fn refuses_table(alloc: Global, table: &str, fault: &str) -> Result<(), Fail> {
     let line = format!(in alloc; "rp: t.csv: {fault}\n")?;
-    refuses(rt, alloc, PAIRS, &[("t.csv", table)], line.as_str())
+    refuses(alloc, PAIRS, &[("t.csv", table)], line.as_str())
 }
 
 /// No two observations of the table contradict each other.
-fn has_no_pair(rt: &impl Abort, alloc: Global, table: &str) -> Result<(), Fail> {
-    prints(rt, alloc, PAIRS, &[("t.csv", table)], "pair none\n")
+fn has_no_pair(alloc: Global, table: &str) -> Result<(), Fail> {
+    prints(alloc, PAIRS, &[("t.csv", table)], "pair none\n")
 }
 
 const COLUMNS: &[(&str, &str)] = &[
@@ -43,7 +42,7 @@ const COLUMNS: &[(&str, &str)] = &[
 #[test]
 fn refused_column_names_are_told_with_their_column(rt: HostRuntime) -> Result<(), Fail> {
     for (table, fault) in COLUMNS {
-        refuses_table(&rt, rt.alloc(), table, fault)?;
+        refuses_table(rt.alloc(), table, fault)?;
     }
     Ok(())
 }
@@ -87,7 +86,7 @@ const RECORDS: &[(&str, &str)] = &[
 #[test]
 fn refused_records_are_told_with_their_place(rt: HostRuntime) -> Result<(), Fail> {
     for (table, fault) in RECORDS {
-        refuses_table(&rt, rt.alloc(), table, fault)?;
+        refuses_table(rt.alloc(), table, fault)?;
     }
     Ok(())
 }
@@ -97,9 +96,9 @@ fn as_many_observations_as_the_limit_and_one_more(rt: HostRuntime) -> Result<(),
     let alloc = rt.alloc();
     let mut table = String::from_str(alloc, "p_a,q_a\n")?;
     table.push_str(repeated(alloc, "1,1\n", 512)?.as_str())?;
-    has_no_pair(&rt, alloc, table.as_str())?;
+    has_no_pair(alloc, table.as_str())?;
     table.push_str("1,1\n")?;
-    refuses_table(&rt, alloc, table.as_str(), "TooManyRecords")
+    refuses_table(alloc, table.as_str(), "TooManyRecords")
 }
 
 #[test]
@@ -107,7 +106,7 @@ fn a_file_longer_than_the_limit_is_not_read(rt: HostRuntime) -> Result<(), Fail>
     let alloc = rt.alloc();
     let mut table = String::from_str(alloc, "p_a,q_a\n")?;
     table.push_str(repeated(alloc, "1,1\n", 1_048_576)?.as_str())?;
-    refuses_table(&rt, alloc, table.as_str(), "TooLong")
+    refuses_table(alloc, table.as_str(), "TooLong")
 }
 
 #[test]
@@ -119,9 +118,9 @@ fn as_many_goods_as_the_limit_and_one_more(rt: HostRuntime) -> Result<(), Fail> 
     }
     let record = repeated(alloc, ",1,1", 16)?;
     let most = format!(in alloc; "{names}\n1{record}\n")?;
-    has_no_pair(&rt, alloc, most.as_str())?;
+    has_no_pair(alloc, most.as_str())?;
     let more = format!(in alloc; "{names},p_z,q_z\n1{record},1,1\n")?;
-    refuses_table(&rt, alloc, more.as_str(), "TooManyGoods")
+    refuses_table(alloc, more.as_str(), "TooManyGoods")
 }
 
 #[test]
@@ -130,15 +129,9 @@ fn a_file_of_the_most_bytes_and_of_one_more(rt: HostRuntime) -> Result<(), Fail>
     let mut table = String::from_str(alloc, CONTRADICTION)?;
     table.push_str(filled(alloc, b'\n', 4_194_304 - 32)?.as_str())?;
     assert!(rt; table.len() == 4_194_304);
-    prints(
-        &rt,
-        alloc,
-        PAIRS,
-        &[("t.csv", table.as_str())],
-        "pair 1 2\n",
-    )?;
+    prints(alloc, PAIRS, &[("t.csv", table.as_str())], "pair 1 2\n")?;
     table.push('\n')?;
-    refuses_table(&rt, alloc, table.as_str(), "TooLong")
+    refuses_table(alloc, table.as_str(), "TooLong")
 }
 
 #[test]
@@ -146,9 +139,9 @@ fn a_name_of_the_most_bytes_and_of_one_more(rt: HostRuntime) -> Result<(), Fail>
     let alloc = rt.alloc();
     let name = filled(alloc, b'a', 64)?;
     let most = format!(in alloc; "p_{name},q_{name}\n1,1\n")?;
-    has_no_pair(&rt, alloc, most.as_str())?;
+    has_no_pair(alloc, most.as_str())?;
     let more = format!(in alloc; "p_{name}a,q_{name}a\n1,1\n")?;
-    refuses_table(&rt, alloc, more.as_str(), "BadHeader column 1")
+    refuses_table(alloc, more.as_str(), "BadHeader column 1")
 }
 
 /// Records within what is allowed.
@@ -163,7 +156,7 @@ const WITHIN: &[&str] = &[
 fn the_most_places_and_the_largest_sizes(rt: HostRuntime) -> Result<(), Fail> {
     for record in WITHIN {
         let table = format!(in rt.alloc(); "p_a,q_a\n{record}\n")?;
-        has_no_pair(&rt, rt.alloc(), table.as_str())?;
+        has_no_pair(rt.alloc(), table.as_str())?;
     }
     Ok(())
 }
@@ -181,7 +174,7 @@ const PAST: &[(&str, &str)] = &[
 fn a_place_more_and_a_number_greater_by_one(rt: HostRuntime) -> Result<(), Fail> {
     for (record, fault) in PAST {
         let table = format!(in rt.alloc(); "p_a,q_a\n{record}\n")?;
-        refuses_table(&rt, rt.alloc(), table.as_str(), fault)?;
+        refuses_table(rt.alloc(), table.as_str(), fault)?;
     }
     Ok(())
 }
@@ -198,7 +191,6 @@ const WITHOUT_LEVELS: &[&[&str]] = &[
 fn other_commands_refuse_levels(rt: HostRuntime) -> Result<(), Fail> {
     for words in WITHOUT_LEVELS {
         refuses(
-            &rt,
             rt.alloc(),
             words,
             &[("t.csv", AT_800)],
@@ -236,7 +228,7 @@ const OVER_A_TABLE: &[&[&str]] = &[
 fn another_fault_of_a_table_with_levels_comes_first(rt: HostRuntime) -> Result<(), Fail> {
     for (table, line) in LEVELS {
         for words in OVER_A_TABLE {
-            refuses(&rt, rt.alloc(), words, &[("t.csv", table)], line)?;
+            refuses(rt.alloc(), words, &[("t.csv", table)], line)?;
         }
     }
     Ok(())

@@ -1,5 +1,4 @@
 use std::alloc::Global;
-use std::process::Abort;
 use std::test::Fail;
 use tests_inputs::tables::{ALONE, APART, CONTRADICTION, EQUAL, MORE_AND_LESS, NINE_TENTHS, THREE};
 use tests_support::{joined, prints, repeated};
@@ -8,9 +7,9 @@ use tests_support::{joined, prints, repeated};
 const ANALYSE: &[&str] = &["rp", "analyse", "t.csv"];
 
 /// The analysis of each table prints its text.
-fn each_is_reported(rt: &impl Abort, alloc: Global, cases: &[(&str, &str)]) -> Result<(), Fail> {
+fn each_is_reported(alloc: Global, cases: &[(&str, &str)]) -> Result<(), Fail> {
     for (table, out) in cases {
-        prints(rt, alloc, ANALYSE, &[("t.csv", table)], out)?;
+        prints(alloc, ANALYSE, &[("t.csv", table)], out)?;
     }
     Ok(())
 }
@@ -61,7 +60,7 @@ const WORKED: &[(&str, &str)] = &[
 
 #[test]
 fn analyse_reports_the_verdicts_on_worked_tables(rt: HostRuntime) -> Result<(), Fail> {
-    each_is_reported(&rt, rt.alloc(), WORKED)
+    each_is_reported(rt.alloc(), WORKED)
 }
 
 const WIDE: &[(&str, &str)] = &[
@@ -93,7 +92,7 @@ const WIDE: &[(&str, &str)] = &[
 
 #[test]
 fn analyse_at_the_width_and_with_decimals(rt: HostRuntime) -> Result<(), Fail> {
-    each_is_reported(&rt, rt.alloc(), WIDE)
+    each_is_reported(rt.alloc(), WIDE)
 }
 
 /// 25 rounds that alternate between two budgets.
@@ -149,5 +148,5 @@ fn report_of_rounds(alloc: Global) -> Result<String, Fail> {
 fn analyse_of_rounds_with_decimals(rt: HostRuntime) -> Result<(), Fail> {
     let (table, wanted) = (rounds(rt.alloc())?, report_of_rounds(rt.alloc())?);
     let files = &[("t.csv", table.as_str())];
-    prints(&rt, rt.alloc(), ANALYSE, files, wanted.as_str())
+    prints(rt.alloc(), ANALYSE, files, wanted.as_str())
 }

@@ -1,5 +1,4 @@
 use std::alloc::Global;
-use std::process::Abort;
 use std::test::Fail;
 use tests_inputs::tables::{ALONE, APART, CONTRADICTION, MORE_AND_LESS};
 use tests_support::{prints, refuses};
@@ -13,13 +12,12 @@ const DEMAND: &[&str] = &["rp", "demand", "t.csv", "n.csv"];
 
 /// Each table and new prices have their text.
 fn each_is_reported(
-    rt: &impl Abort,
     alloc: Global,
     words: &[&str],
     cases: &[(&str, &str, &str)],
 ) -> Result<(), Fail> {
     for (table, new, text) in cases {
-        prints(rt, alloc, words, &[("t.csv", table), ("n.csv", new)], text)?;
+        prints(alloc, words, &[("t.csv", table), ("n.csv", new)], text)?;
     }
     Ok(())
 }
@@ -57,7 +55,6 @@ fn demand_has_one_item_a_record(rt: HostRuntime) -> Result<(), Fail> {
     for (new, items) in DEMANDS {
         let text = format!(in alloc; "{HEAD_OF_APART}{items}")?;
         prints(
-            &rt,
             alloc,
             DEMAND,
             &[("t.csv", APART), ("n.csv", new)],
@@ -77,10 +74,10 @@ fn sixteen_records_have_sixteen_items(rt: HostRuntime) -> Result<(), Fail> {
         text.push_str(DEMAND_OF_3)?;
     }
     let files = &[("t.csv", APART), ("n.csv", new.as_str())];
-    prints(&rt, alloc, DEMAND, files, text.as_str())?;
+    prints(alloc, DEMAND, files, text.as_str())?;
     new.push_str("1,1,3\n")?;
     let files = &[("t.csv", APART), ("n.csv", new.as_str())];
-    refuses(&rt, alloc, DEMAND, files, "rp: n.csv: TooManyRecords\n")
+    refuses(alloc, DEMAND, files, "rp: n.csv: TooManyRecords\n")
 }
 
 const OTHER_DEMANDS: &[(&str, &str, &str)] = &[
@@ -122,7 +119,7 @@ const OTHER_DEMANDS: &[(&str, &str, &str)] = &[
 
 #[test]
 fn demand_of_other_tables(rt: HostRuntime) -> Result<(), Fail> {
-    each_is_reported(&rt, rt.alloc(), DEMAND, OTHER_DEMANDS)
+    each_is_reported(rt.alloc(), DEMAND, OTHER_DEMANDS)
 }
 
 const WELFARES: &[(&str, &str, &str)] = &[
@@ -163,10 +160,5 @@ const WELFARES: &[(&str, &str, &str)] = &[
 
 #[test]
 fn welfare_has_one_item_an_observation(rt: HostRuntime) -> Result<(), Fail> {
-    each_is_reported(
-        &rt,
-        rt.alloc(),
-        &["rp", "welfare", "t.csv", "n.csv"],
-        WELFARES,
-    )
+    each_is_reported(rt.alloc(), &["rp", "welfare", "t.csv", "n.csv"], WELFARES)
 }

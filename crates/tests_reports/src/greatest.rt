@@ -235,7 +235,6 @@ fn welfare_on_the_most_observations(rt: HostRuntime) -> Result<(), Fail> {
         ("n.csv", "p_a,p_b,p_c,p_d\n1,1,1,1\n"),
     ];
     prints(
-        &rt,
         alloc,
         &["rp", "welfare", "t.csv", "n.csv"],
         files,

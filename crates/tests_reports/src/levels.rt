@@ -19,7 +19,7 @@ const BY_LEVELS: &[(&[&str], &str)] = &[
 fn verdicts_and_utilities_by_levels(rt: HostRuntime) -> Result<(), Fail> {
     let files = &[("t.csv", AT_799), ("b.csv", "q_a,q_b\n1,2\n2,1\n")];
     for (words, out) in BY_LEVELS {
-        prints(&rt, rt.alloc(), words, files, out)?;
+        prints(rt.alloc(), words, files, out)?;
     }
     Ok(())
 }
@@ -48,7 +48,6 @@ const UNCHANGED: &[(&[&str], &str, &str)] = &[
 fn levels_that_change_no_verdict(rt: HostRuntime) -> Result<(), Fail> {
     for (words, table, out) in UNCHANGED {
         prints(
-            &rt,
             rt.alloc(),
             words,
             &[("t.csv", table), ("b.csv", "q_a,q_b\n1,2\n")],

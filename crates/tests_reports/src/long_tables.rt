@@ -91,7 +91,6 @@ fn analyse_of_the_most_observations(rt: HostRuntime) -> Result<(), Fail> {
     let wanted = report_of_chain(rt.alloc())?;
     let files = &[("t.csv", file.as_str())];
     prints(
-        &rt,
         rt.alloc(),
         &["rp", "analyse", "t.csv"],
         files,

@@ -35,7 +35,6 @@ const PAIRS: &[(&str, &str)] = &[
 fn pairs_over_worked_tables(rt: HostRuntime) -> Result<(), Fail> {
     for (table, out) in PAIRS {
         prints(
-            &rt,
             rt.alloc(),
             &["rp", "pairs", "t.csv"],
             &[("t.csv", table)],

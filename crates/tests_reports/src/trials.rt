@@ -2,7 +2,6 @@ ghost use Rattle.std.specs.Prelude.{◌≤◌};
 
 use rp_run::trial_table;
 use std::alloc::Global;
-use std::process::Abort;
 use std::test::Fail;
 use tests_support::prints;
 
@@ -51,14 +50,9 @@ fn tables_of_the_greatest_seed(rt: HostRuntime) -> Result<(), Fail> {
 }
 
 /// What the trials of a seed print, each with its rows and goods.
-fn each_is_reported(
-    rt: &impl Abort,
-    alloc: Global,
-    seed: &str,
-    cases: &[(&str, &str, &str)],
-) -> Result<(), Fail> {
+fn each_is_reported(alloc: Global, seed: &str, cases: &[(&str, &str, &str)]) -> Result<(), Fail> {
     for (rows, goods, out) in cases {
-        prints(rt, alloc, &["rp", "trial", seed, rows, goods], &[], out)?;
+        prints(alloc, &["rp", "trial", seed, rows, goods], &[], out)?;
     }
     Ok(())
 }
@@ -79,12 +73,7 @@ const OF_THE_GREATEST_SEED: &[(&str, &str, &str)] = &[
 
 #[test]
 fn trials_of_the_greatest_seed(rt: HostRuntime) -> Result<(), Fail> {
-    each_is_reported(
-        &rt,
-        rt.alloc(),
-        "18446744073709551615",
-        OF_THE_GREATEST_SEED,
-    )
+    each_is_reported(rt.alloc(), "18446744073709551615", OF_THE_GREATEST_SEED)
 }
 
 const OF_THE_MOST_OBSERVATIONS: &[(&str, &str, &str)] = &[
@@ -102,5 +91,5 @@ const OF_THE_MOST_OBSERVATIONS: &[(&str, &str, &str)] = &[
 
 #[test]
 fn trials_of_the_most_observations(rt: HostRuntime) -> Result<(), Fail> {
-    each_is_reported(&rt, rt.alloc(), "7", OF_THE_MOST_OBSERVATIONS)
+    each_is_reported(rt.alloc(), "7", OF_THE_MOST_OBSERVATIONS)
 }

@@ -35,7 +35,6 @@ fn utility_of_bundles_follows_the_first_two_items(rt: HostRuntime) -> Result<(),
     for (table, bundles, report, lines) in UTILITIES {
         let text = format!(in rt.alloc(); "{report}{lines}")?;
         prints(
-            &rt,
             rt.alloc(),
             words,
             &[("t.csv", table), ("b.csv", bundles)],

@@ -1,7 +1,6 @@
 use crate::running::{is_ended, run_over};
 use rp_run::Status;
 use std::alloc::Global;
-use std::process::Abort;
 use std::test::Fail;
 
 /// The words of a check of `c.json` on `t.csv`.
@@ -9,7 +8,6 @@ pub const CHECK: &[&str] = &["rp", "check", "t.csv", "c.json"];
 
 /// The words over these files end with this status, this output and this text on standard error.
 pub fn ends(
-    rt: &impl Abort,
     alloc: Global,
     words: &[&str],
     files: &[(&str, &str)],
@@ -18,47 +16,44 @@ pub fn ends(
     err: &str,
 ) -> Result<(), Fail> {
     let got = run_over(alloc, words, files)?;
-    if !is_ended(&got, status, out, err) {
-        assert!(rt;
-            false,
-            "{words:?} over {files:?}: wanted {status:?} {out} {err}, got {:?} {} {}",
-            got.status, got.out, got.err
-        );
+    if is_ended(&got, status, out, err) {
+        return Ok(());
     }
-    Ok(())
+    let told = format!(in alloc;
+        "{words:?} over {files:?}: wanted {status:?} {out} {err}, got {:?} {} {}",
+        got.status, got.out, got.err
+    )?;
+    Err(told.into())
 }
 
 /// The words over these files are done with this output.
 pub fn prints(
-    rt: &impl Abort,
     alloc: Global,
     words: &[&str],
     files: &[(&str, &str)],
     out: &str,
 ) -> Result<(), Fail> {
-    ends(rt, alloc, words, files, Status::Done, out, "")
+    ends(alloc, words, files, Status::Done, out, "")
 }
 
 /// The words over these files reject a certificate with this output.
 pub fn rejects(
-    rt: &impl Abort,
     alloc: Global,
     words: &[&str],
     files: &[(&str, &str)],
     out: &str,
 ) -> Result<(), Fail> {
-    ends(rt, alloc, words, files, Status::Rejected, out, "")
+    ends(alloc, words, files, Status::Rejected, out, "")
 }
 
 /// The words over these files are refused with this line.
 pub fn refuses(
-    rt: &impl Abort,
     alloc: Global,
     words: &[&str],
     files: &[(&str, &str)],
     line: &str,
 ) -> Result<(), Fail> {
-    ends(rt, alloc, words, files, Status::Refused, "", line)
+    ends(alloc, words, files, Status::Refused, "", line)
 }
 
 /// The pieces after one another.

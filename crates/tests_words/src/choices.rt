@@ -52,7 +52,7 @@ const OF_RANDOM: &[(&[&str], &str)] = &[
 #[test]
 fn words_of_random_that_are_taken(rt: HostRuntime) -> Result<(), Fail> {
     for (words, text) in OF_RANDOM {
-        prints(&rt, rt.alloc(), words, FILES, text)?;
+        prints(rt.alloc(), words, FILES, text)?;
     }
     Ok(())
 }
@@ -93,13 +93,7 @@ const OF_CHECKRANDOM: &[&[&str]] = &[
 #[test]
 fn words_of_checkrandom_that_are_taken(rt: HostRuntime) -> Result<(), Fail> {
     for words in OF_CHECKRANDOM {
-        prints(
-            &rt,
-            rt.alloc(),
-            words,
-            FILES,
-            "accepted items 1 withheld 0\n",
-        )?;
+        prints(rt.alloc(), words, FILES, "accepted items 1 withheld 0\n")?;
     }
     Ok(())
 }
@@ -134,7 +128,7 @@ const REFUSED: &[&[&str]] = &[
 
 #[test]
 fn other_words_of_random_are_answered_by_the_usage(rt: HostRuntime) -> Result<(), Fail> {
-    each_is_answered_by_the_usage(&rt, rt.alloc(), REFUSED, FILES)
+    each_is_answered_by_the_usage(rt.alloc(), REFUSED, FILES)
 }
 
 /// So many units are a whole number from 1 to a thousand million.
@@ -166,7 +160,7 @@ fn units_out_of_range_are_answered_by_the_usage(rt: HostRuntime) -> Result<(), F
                 per,
             ],
         ];
-        each_is_answered_by_the_usage(&rt, rt.alloc(), lines, FILES)?;
+        each_is_answered_by_the_usage(rt.alloc(), lines, FILES)?;
     }
     Ok(())
 }

@@ -1,6 +1,5 @@
 use rp_run::Status;
 use std::alloc::Global;
-use std::process::Abort;
 use std::test::Fail;
 use tests_inputs::tables::{APART, CERTIFICATE, CONTRADICTION, MORE_AND_LESS};
 use tests_support::ends;
@@ -30,13 +29,12 @@ pub(crate) const FILES: &[(&str, &str)] = &[
 
 /// Each line of words over these files is answered by the usage.
 pub(crate) fn each_is_answered_by_the_usage(
-    rt: &impl Abort,
     alloc: Global,
     lines: &[&[&str]],
     files: &[(&str, &str)],
 ) -> Result<(), Fail> {
     for words in lines {
-        ends(rt, alloc, words, files, Status::Usage, "", USAGE)?;
+        ends(alloc, words, files, Status::Usage, "", USAGE)?;
     }
     Ok(())
 }

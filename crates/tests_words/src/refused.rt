@@ -51,7 +51,7 @@ const OTHER_WORDS: &[&[&str]] = &[
 
 #[test]
 fn other_words_are_answered_by_the_usage(rt: HostRuntime) -> Result<(), Fail> {
-    each_is_answered_by_the_usage(&rt, rt.alloc(), OTHER_WORDS, FILES)
+    each_is_answered_by_the_usage(rt.alloc(), OTHER_WORDS, FILES)
 }
 
 const OUT_OF_RANGE: &[&[&str]] = &[
@@ -73,7 +73,7 @@ const OUT_OF_RANGE: &[&[&str]] = &[
 
 #[test]
 fn numbers_out_of_range_are_answered_by_the_usage(rt: HostRuntime) -> Result<(), Fail> {
-    each_is_answered_by_the_usage(&rt, rt.alloc(), OUT_OF_RANGE, FILES)
+    each_is_answered_by_the_usage(rt.alloc(), OUT_OF_RANGE, FILES)
 }
 
 const TOO_FEW_OR_MANY: &[&[&str]] = &[
@@ -89,7 +89,7 @@ const TOO_FEW_OR_MANY: &[&[&str]] = &[
 
 #[test]
 fn too_few_or_too_many_words_are_answered_by_the_usage(rt: HostRuntime) -> Result<(), Fail> {
-    each_is_answered_by_the_usage(&rt, rt.alloc(), TOO_FEW_OR_MANY, FILES)
+    each_is_answered_by_the_usage(rt.alloc(), TOO_FEW_OR_MANY, FILES)
 }
 
 /// Two menus, chosen from so often that the least common multiple is too great a total.
@@ -104,5 +104,5 @@ const OF_MENUS: &[&[&str]] = &[
 
 #[test]
 fn other_words_of_menus_are_answered_by_the_usage(rt: HostRuntime) -> Result<(), Fail> {
-    each_is_answered_by_the_usage(&rt, rt.alloc(), OF_MENUS, &[("m.csv", COPRIME)])
+    each_is_answered_by_the_usage(rt.alloc(), OF_MENUS, &[("m.csv", COPRIME)])
 }

@@ -1,14 +1,13 @@
 use crate::over_files::FILES;
 use std::alloc::Global;
-use std::process::Abort;
 use std::test::Fail;
 use tests_inputs::tables::CERTIFICATE;
 use tests_support::prints;
 
 /// Each line of words over the files prints its text.
-fn each_prints(rt: &impl Abort, alloc: Global, lines: &[(&[&str], &str)]) -> Result<(), Fail> {
+fn each_prints(alloc: Global, lines: &[(&[&str], &str)]) -> Result<(), Fail> {
     for (words, out) in lines {
-        prints(rt, alloc, words, FILES, out)?;
+        prints(alloc, words, FILES, out)?;
     }
     Ok(())
 }
@@ -36,7 +35,7 @@ const SHAPES: &[(&[&str], &str)] = &[
 
 #[test]
 fn shapes_are_taken(rt: HostRuntime) -> Result<(), Fail> {
-    each_prints(&rt, rt.alloc(), SHAPES)
+    each_prints(rt.alloc(), SHAPES)
 }
 
 const OTHER_FORMS: &[(&[&str], &str)] = &[
@@ -62,7 +61,7 @@ const OTHER_FORMS: &[(&[&str], &str)] = &[
 
 #[test]
 fn other_words_are_taken_as_their_matches_say(rt: HostRuntime) -> Result<(), Fail> {
-    each_prints(&rt, rt.alloc(), OTHER_FORMS)
+    each_prints(rt.alloc(), OTHER_FORMS)
 }
 
 const DEMAND: &str =
@@ -87,5 +86,5 @@ const AS_JSON: &[(&[&str], &str)] = &[
 
 #[test]
 fn certificates_are_written_as_json(rt: HostRuntime) -> Result<(), Fail> {
-    each_prints(&rt, rt.alloc(), AS_JSON)
+    each_prints(rt.alloc(), AS_JSON)
 }
