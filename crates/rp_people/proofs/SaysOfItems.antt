@@ -1,6 +1,6 @@
 -- What is proved of an item says what that kind of verdict says of people.
 use Rattle.std.proofs.Common.{ℕ, ◌<◌, ◌≤◌, arith}
-use Rattle.std.specs.Prelude.{List, pos, slice_index_or}
+use Rattle.std.specs.Prelude.{List, pos, slice_index_or, All}
 use Rattle.rp_evidence.specs.AfriatEvidence.{ProvesOwnAfriat, multiplier_in, utility_in}
 use Rattle.rp_evidence.specs.DemandEvidence.{ProvesDemand, ProvesWelfare}
 use Rattle.rp_evidence.specs.Efficiency.{IsEfficiencyIndex, ProvesEfficiency}
@@ -103,3 +103,6 @@ module _ (input : TableInput) (full : IsFullInput input) where
   says (DemandItem prices m part) p = says_demand prices m part p
   says (WelfareItem prices of part) p = says_welfare prices of part p
   says (RandomItem total part) p = tt
+
+  pub all_say : (items : List Item) → All (Proves input) items → All (Says input) items
+  all_say items all k d below = says (slice_index_or items k d) (all k d below)

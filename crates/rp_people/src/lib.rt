@@ -16,8 +16,9 @@ pub use homothetic::{
     homothetic_test_gives_utility,
 };
 pub use quasilinear::{quasilinear_test_gives_worth, worths_meet_quasilinear_test};
-pub use says::proved_items_say;
+pub use says::{proved_certificates_say, proved_items_say};
 pub use tables::{
-    index_divides_levels, models_of_tables_give_utilities, rationalized_at_level,
-    rationalized_by_levels, tables_are_full,
+    contradicting_pairs_survive_no_preference, index_divides_levels,
+    models_of_tables_give_utilities, rationalized_at_level, rationalized_by_levels,
+    tables_are_full,
 };
