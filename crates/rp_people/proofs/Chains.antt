@@ -23,7 +23,7 @@ module _ (choices : Choices) (bundles : (s : ℕ) → s < choices.n → IsBundle
       let under = rationalizes s a r.more r.bundle r.costs in
       over.1 (preference.transitive (choices.bundle t) (choices.bundle s) r.more (bundles t b) (bundles s a) r.bundle back under)
 
-  never_worse : (s t : ℕ) (w : List ℕ) → LeadsTo choices.n (IsWeakChoice choices) s t w → IsAtLeastAsGood prefers (choices.bundle s) (choices.bundle t)
+  pub never_worse : (s t : ℕ) (w : List ℕ) → LeadsTo choices.n (IsWeakChoice choices) s t w → IsAtLeastAsGood prefers (choices.bundle s) (choices.bundle t)
   never_worse s t [] h = subst (λ v. IsAtLeastAsGood prefers (choices.bundle s) (choices.bundle v)) h.1 (as_good_as_itself (choices.bundle s) (bundles s h.0))
   never_worse s t (x ∷ w) h =
       let in_x = starts_below choices.n (IsWeakChoice choices) x t w h.2 in

@@ -7,8 +7,8 @@ use Rattle.rp_people.specs.Fractions.{SignedFraction}
 use Rattle.rp_people.specs.Preferences.{IsAtLeastAsGood, IsHomotheticPreference, IsPreference}
 use Rattle.rp_people.specs.Utilities.{IsConcaveUtility, IsHomogeneous, preference_of}
 
--- By the preference, the bundle that was chosen at s is the best of what s affords: at least as good as every bundle that
--- costs at most what the choice is held to.
+-- By the preference, the bundle that was chosen at s is the best of what s affords: at least as good as every bundle
+-- that costs at most what the choice is held to.
 abbrev pub IsBest : Choices → (FractionBundle → FractionBundle → Bool) → ℕ → Type 0
 IsBest choices prefers s = (x : FractionBundle) → IsBundle x → IsAffordable choices s x
     → IsAtLeastAsGood prefers (choices.bundle s) x

@@ -3,6 +3,7 @@
 #![tactic(auto)]
 
 mod axiom;
+mod bounds;
 mod homothetic;
 mod quasilinear;
 mod says;
@@ -11,6 +12,7 @@ mod tables;
 pub use axiom::{
     axiom_gives_utility, models_give_utilities, preferences_meet_axiom, utilities_are_preferences,
 };
+pub use bounds::{supporting_demands_are_bought, welfare_bounds_hold_for_people};
 pub use homothetic::{
     homogeneous_utilities_are_homothetic, homothetic_preferences_meet_test,
     homothetic_test_gives_utility,
