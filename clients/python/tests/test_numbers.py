@@ -93,7 +93,7 @@ class Tables(unittest.TestCase):
         for levels in ([799, 1000], ["799", "1000"], [Decimal(799), Fraction(1000)]):
             self.assertEqual(from_frame(d, levels=levels).csv(), made.csv())
         self.assertEqual(table([[1], [2]], [[3], [4]], levels=900).csv(), b"p_1,q_1,e\n1,3,900\n2,4,900\n")
-        self.assertEqual(table({"a": [1]}, {"a": [2]}, levels=[5], places=1).csv(), b"p_a,q_a,e\n1.0,2.0,5\n")
+        self.assertEqual(table({"a": [1]}, {"a": [2]}, levels=[5], places=1).csv(), b"p_a,q_a,e\n1,2,5\n")
         for call in (
             lambda: from_frame({**d, "e": [1, 2]}, levels=5),
             lambda: from_frame(d, levels=[5]),
@@ -141,7 +141,7 @@ class Tables(unittest.TestCase):
                 table([[1]], [[1]], places=places)
 
     def test_places_that_fit_seven_digits(self):
-        for values, places in [([12.5], 5), ([1250], 3), ([9999999], 0), ([9999999.5], None), ([10000000], None), ([0.05], 6), ([99.99999999], 5), ([9.9999996], 5), ([], 6)]:
+        for values, places in [([12.5], 5), ([1250], 3), ([9999999], 0), ([9999999.5], None), ([10000000], None), ([0.05], 6), ([99.99999999], 4), ([9.9999996], 5), ([], 6)]:
             self.assertEqual(advice.places_that_fit(values), places, values)
 
     def test_a_carriage_return_is_quoted(self):
