@@ -1,0 +1,80 @@
+"""A table of a panel for a paper, as plain text and as LaTeX: how many meet each test, and how the indices are distributed."""
+
+from __future__ import annotations
+
+from fractions import Fraction
+from math import floor, fsum
+from typing import Any, Callable, Sequence
+
+LEVELS = ("0.99", "0.95", "0.90", "0.80")
+
+
+def share(part: int, whole: int) -> str:
+    return f"{part} of {whole} ({100 * part / whole:.1f}%)" if whole else "none"
+
+
+def quantile(values: Sequence[Fraction], part: Fraction) -> Fraction:
+    """Returns a quantile, between the two values next to it in proportion."""
+    ordered = sorted(values)
+    place = part * (len(ordered) - 1)
+    low = floor(place)
+    high = min(low + 1, len(ordered) - 1)
+    return ordered[low] + (place - low) * (ordered[high] - ordered[low])
+
+
+def down(value: Fraction) -> str:
+    """Returns a number of 0 or more to 4 places, rounded down: only what is 1 reads 1.0000."""
+    whole = floor(value * 10**4)
+    return f"{whole // 10**4}.{whole % 10**4:04d}"
+
+
+def mean(values: Sequence[Fraction]) -> str:
+    """Returns the mean to 4 places; it reads 1.0000 only where all are 1."""
+    text = f"{fsum(map(float, values)) / len(values):.4f}"
+    return "0.9999" if text == "1.0000" and min(values) < 1 else text
+
+
+def distribution(name: str, values: Sequence[Fraction]) -> list[tuple[str, str]]:
+    """Returns the lines on an index."""
+    if not values:
+        return [(name, "none")]
+    parts = [("least", 0), ("first quartile", 1), ("median", 2), ("third quartile", 3), ("greatest", 4)]
+    return [(f"{name}, mean", mean(values)), *((f"{name}, {what}", down(quantile(values, Fraction(part, 4)))) for what, part in parts)]
+
+
+def lines_of(panel: Any) -> list[tuple[str, str]]:
+    """Returns the lines of the table: what is told, and its value. Households without a verdict are counted and left out of the
+    rest; of a test those are left out whose verdict is withheld."""
+    rows = [row for row in panel if row.verdict is not None]
+    lines = [("households", str(len(panel))), ("with a verdict", str(len(rows)))]
+    for name, title in (("garp", "GARP holds"), ("homothetic", "homothetic"), ("quasilinear", "quasilinear")):
+        told = [getattr(row.verdict, name) for row in rows]
+        known = [it for it in told if it is not None]
+        lines.append((title, share(sum(known), len(known)) + (f", {len(told) - len(known)} withheld" if len(known) < len(told) else "")))
+    index = [row.verdict.efficiency for row in rows]
+    lines += distribution("efficiency index (CCEI)", index)
+    lines += [(f"efficiency index at least {level}", share(sum(value >= Fraction(level) for value in index), len(index))) for level in LEVELS]
+    if "pump" in panel.asked:
+        lines += distribution("money pump ratio, greatest", [row.money_pump.ratio for row in rows if row.money_pump is not None])
+    if "power" in panel.asked:
+        lines += distribution("power of the test", [row.power.share for row in rows if row.power is not None])
+    return lines
+
+
+def text(panel: Any) -> str:
+    lines = lines_of(panel)
+    width = max(len(name) for name, _ in lines)
+    return "\n".join(f"{name.ljust(width)}  {value}" for name, value in lines) + "\n"
+
+
+def latex(panel: Any) -> str:
+    told = [f"{escaped(name)} & {escaped(value)} \\\\" for name, value in lines_of(panel)]
+    return "\n".join(["\\begin{tabular}{lr}", "\\toprule", *told[:2], "\\midrule", *told[2:], "\\bottomrule", "\\end{tabular}"]) + "\n"
+
+
+def escaped(text: str) -> str:
+    """Returns a text as LaTeX shows it."""
+    special: dict[str, str] = {"\\": "\\textbackslash{}", "~": "\\textasciitilde{}", "^": "\\textasciicircum{}"}
+    special.update((it, "\\" + it) for it in "&%$#_{}")
+    change: Callable[[str], str] = lambda it: special.get(it, it)
+    return "".join(map(change, text))

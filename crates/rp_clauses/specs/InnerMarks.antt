@@ -1,9 +1,0 @@
--- Words that only the crate's own functions and their proofs need, and no definition rests on: what steps lead to from
--- marked observations.
-use Rattle.std.specs.Prelude.{◌<◌, ℕ, Bool, List}
-use Rattle.rp_evidence.specs.Walk.{LeadsTo}
-use Rattle.rp_rounds.specs.Marks.{IsMarked}
-
--- Steps, or none, lead from a marked observation to t.
-abbrev pub IsReachedFromMarked : ℕ → (ℕ → ℕ → Type 0) → List Bool → ℕ → Type 0
-IsReachedFromMarked n step marks t = (s : ℕ) × (s < n) × IsMarked marks s × (walk : List ℕ) × LeadsTo n step s t walk

@@ -1,0 +1,49 @@
+-- When a preference or a utility rationalizes choices (Afriat 1967; Varian 1982, section 1).
+use Rattle.std.specs.Prelude.{ℕ, ◌<◌, Bool}
+use Rattle.rp_evidence.specs.Demand.{FractionBundle}
+use Rattle.rp_people.specs.Bundles.{IsBundle}
+use Rattle.rp_people.specs.Choices.{Choices, IsAffordable}
+use Rattle.rp_people.specs.Fractions.{SignedFraction}
+use Rattle.rp_people.specs.Preferences.{IsAtLeastAsGood, IsHomotheticPreference, IsPreference}
+use Rattle.rp_people.specs.Utilities.{IsConcaveUtility, IsHomogeneous, preference_of}
+
+-- By the preference, the bundle that was chosen at s is the best of what s affords: at least as good as every bundle
+-- that costs at most what the choice is held to.
+abbrev pub IsBest : Choices → (FractionBundle → FractionBundle → Bool) → ℕ → Type 0
+IsBest choices prefers s = (x : FractionBundle) → IsBundle x → IsAffordable choices s x
+    → IsAtLeastAsGood prefers (choices.bundle s) x
+
+-- A preference rationalizes choices where each chosen bundle is the best of what the choice affords.
+abbrev pub Rationalizes : Choices → (FractionBundle → FractionBundle → Bool) → Type 0
+Rationalizes choices prefers = (s : ℕ) → s < choices.n → IsBest choices prefers s
+
+-- Two choices contradict each other: by no preference are both the best of what they afford.
+abbrev pub NoneHasBoth : Choices → ℕ → ℕ → Type 0
+NoneHasBoth choices s t = (prefers : FractionBundle → FractionBundle → Bool) → IsPreference choices.goods prefers
+    → IsBest choices prefers s → ¬ IsBest choices prefers t
+
+-- Some preference rationalizes the choices.
+pub record HasPreference (choices : Choices) : Type 0 where
+  pub prefers : FractionBundle → FractionBundle → Bool
+  pub preference : IsPreference choices.goods prefers
+  pub rationalizes : Rationalizes choices prefers
+
+-- The preference of some monotone and concave utility rationalizes the choices.
+pub record HasConcaveUtility (choices : Choices) : Type 0 where
+  pub utility : FractionBundle → SignedFraction
+  pub concave_utility : IsConcaveUtility choices.goods utility
+  pub rationalizes : Rationalizes choices (preference_of utility)
+
+-- Some homothetic preference rationalizes the choices.
+pub record HasHomotheticPreference (choices : Choices) : Type 0 where
+  pub prefers : FractionBundle → FractionBundle → Bool
+  pub preference : IsPreference choices.goods prefers
+  pub homothetic : IsHomotheticPreference prefers
+  pub rationalizes : Rationalizes choices prefers
+
+-- The preference of some homogeneous, monotone and concave utility rationalizes the choices.
+pub record HasHomogeneousUtility (choices : Choices) : Type 0 where
+  pub utility : FractionBundle → SignedFraction
+  pub concave_utility : IsConcaveUtility choices.goods utility
+  pub homogeneous : IsHomogeneous utility
+  pub rationalizes : Rationalizes choices (preference_of utility)

@@ -1,0 +1,18 @@
+ghost use Rattle.std.specs.Prelude.{All, List};
+ghost use Rattle.rp_evidence.specs.Input.{TableInput};
+ghost use Rattle.rp_evidence.specs.Proves.{Proves};
+ghost use Rattle.rp_evidence.specs.declared.certificate.Item.{Item};
+ghost use Rattle.rp_people.specs.Says.{Says};
+ghost use Rattle.rp_people.specs.TableChoices.{IsFullInput};
+
+/// An item that proves its verdict on a table says of people what that kind of verdict says.
+pub fn proved_items_say()
+    ensures { (input : TableInput) (item : Item)
+        → IsFullInput input → Proves input item → Says input item }
+{}
+
+/// Of items that all prove their verdicts, each says so.
+pub fn proved_certificates_say()
+    ensures { (input : TableInput) (items : List Item) → IsFullInput input
+        → All (Proves input) items → All (Says input) items }
+{}
