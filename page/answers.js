@@ -1,5 +1,5 @@
 /** The answers on one table: each verdict in words, its evidence unfolded, the picture, the report and the certificate. */
-import { button, folded, keepFile, labelled, make, printed, tableOf } from "./dom.js";
+import { button, folded, keepFile, labelled, make, printed, say, tableOf } from "./dom.js";
 import { budgetPicture, fileOf } from "./pictures.js";
 import { asNumber, cycleSentences, numbersIn, parseReport } from "./reports.js";
 
@@ -7,8 +7,6 @@ function card(title, verdict, isGood, ...rest) {
   const looks = isGood === null ? "" : isGood ? " good" : " bad";
   return make("article", { className: "card" }, make("h3", { textContent: title }), make("p", { className: `verdict${looks}`, textContent: verdict }), ...rest);
 }
-
-const say = (text) => make("p", { textContent: text });
 
 function sentences(list, table) {
   return make("ol", {}, ...cycleSentences(numbersIn(list), table).map((it) => make("li", { textContent: it })));

@@ -58,3 +58,5 @@ export function tableOf(names, rows, caption) {
 export function printed(text, says = "the program's text") {
   return make("pre", { textContent: text, tabIndex: 0, attrs: { role: "region", "aria-label": says } });
 }
+
+export const say = (text) => make("p", { textContent: text });

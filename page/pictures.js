@@ -36,7 +36,7 @@ function ticks(most) {
   return Array.from({ length: Math.ceil(most / step - 1e-9) + 1 }, (_, at) => at * step);
 }
 
-const shown = (value) => String(Number(value.toPrecision(6)));
+const ticked = (value) => String(Number(value.toPrecision(6)));
 
 /** The frame of a picture: axes from 0 with round numbers, and the two functions from numbers to places. */
 function axes(svg, { left, top, width, height, mostX, mostY, nameX, nameY }) {
@@ -47,11 +47,11 @@ function axes(svg, { left, top, width, height, mostX, mostY, nameX, nameY }) {
   svg.append(element("path", { class: "axis", d: `M${left} ${top}V${top + height}H${left + width}` }));
   for (const it of ticksX) {
     svg.append(element("path", { class: "axis", d: `M${x(it)} ${top + height}v5` }));
-    svg.append(element("text", { x: x(it), y: top + height + 20, "text-anchor": "middle" }, shown(it)));
+    svg.append(element("text", { x: x(it), y: top + height + 20, "text-anchor": "middle" }, ticked(it)));
   }
   for (const it of ticksY) {
     svg.append(element("path", { class: "axis", d: `M${left} ${y(it)}h-5` }));
-    svg.append(element("text", { x: left - 9, y: y(it) + 4, "text-anchor": "end" }, shown(it)));
+    svg.append(element("text", { x: left - 9, y: y(it) + 4, "text-anchor": "end" }, ticked(it)));
   }
   svg.append(element("text", { x: left + width / 2, y: top + height + 40, "text-anchor": "middle" }, nameX));
   const across = { x: 14, y: top + height / 2, "text-anchor": "middle", transform: `rotate(-90 14 ${top + height / 2})` };

@@ -1,13 +1,12 @@
 /** Further questions: on a table, and of the other kinds of files. Each shows the program's own text, and says what it means. */
-import { button, folded, keepFile, labelled, make, printed } from "./dom.js";
+import { button, folded, keepFile, labelled, make, printed, say } from "./dom.js";
 import { fileOf, intervalPicture } from "./pictures.js";
 import { asNumber, decimal, parseFault } from "./reports.js";
 
 const bytesOf = (text) => new TextEncoder().encode(text);
-const say = (text) => make("p", { textContent: text });
 
 /** Shows an answer: the texts, or what is told where there is none. */
-function shown(place, { status, output, told }, ...before) {
+function showAnswer(place, { status, output, told }, ...before) {
   const fault = status === 4 ? parseFault(told) : null;
   const means = fault?.means ? [make("p", { className: "fault", textContent: fault.means })] : [];
   const text = output ? printed(output) : null;
@@ -55,7 +54,7 @@ function demandQuestion(client, file, table) {
       const svg = intervalPicture(bounds.slice(at, at + table.goods.length));
       pictures.push(make("figure", {}, svg, make("figcaption", { textContent: `Bounds on each good at budget ${at / table.goods.length + 1}, in the units of the table.` }), button("Keep the picture as SVG", () => keepFile("demand.svg", fileOf(svg), "image/svg+xml"))));
     }
-    shown(place, answer, ...pictures);
+    showAnswer(place, answer, ...pictures);
   });
 }
 
@@ -63,14 +62,14 @@ function welfareQuestion(client, file, table) {
   const prices = table.prices[0].map((it) => decimal(it, table.pricePlaces));
   const field = area(`${table.goods.map((it) => `p_${it}`).join(",")}\n${prices.join(",")}\n`);
   return question("New prices: what does it cost to be as well off?", "Prices of each good. For each observation: bounds on what it costs at these prices to be as well off as there, in scaled units.", [labelled("New prices as CSV", field)], async (place) => {
-    shown(place, await client.answer(["welfare", file.name, "new prices"], [file, { name: "new prices", bytes: bytesOf(field.value) }]));
+    showAnswer(place, await client.answer(["welfare", file.name, "new prices"], [file, { name: "new prices", bytes: bytesOf(field.value) }]));
   });
 }
 
 function utilityQuestion(client, file, table) {
   const field = area(`${table.goods.map((it) => `q_${it}`).join(",")}\n${table.quantities[0].map((it) => decimal(it, table.quantityPlaces)).join(",")}\n`);
   return question("Other bundles: their utility by Afriat's numbers", "Quantities of each good, a record for each bundle.", [labelled("Bundles as CSV", field)], async (place) => {
-    shown(place, await client.answer(["utility", file.name, "bundles"], [file, { name: "bundles", bytes: bytesOf(field.value) }]));
+    showAnswer(place, await client.answer(["utility", file.name, "bundles"], [file, { name: "bundles", bytes: bytesOf(field.value) }]));
   });
 }
 
@@ -81,7 +80,7 @@ function numberField(value, least, most) {
 function powerQuestion(client, file) {
   const [seed, draws] = [numberField(1, 0), numberField(1000, 1, 100000)];
   return question("Power: how often would random behaviour be found out?", "Random shares of what was spent at each observation (Bronars 1987). The count is exact for its seed.", [labelled("Seed", seed), labelled("Draws", draws)], async (place) => {
-    shown(place, await client.answer(["power", file.name, seed.value, draws.value], [file]));
+    showAnswer(place, await client.answer(["power", file.name, seed.value, draws.value], [file]));
   });
 }
 
@@ -90,7 +89,7 @@ function levelQuestion(client, file, onLevels) {
   return question("Own levels: hold every observation to a weaker test", "How many thousandths of each expenditure count. A column e in the file gives each observation a level of its own.", [labelled("Thousandths", level)], async (place) => {
     const text = new TextDecoder().decode(file.bytes).replace(/^\ufeff/, "").split(/\r?\n/).filter(Boolean);
     const bytes = bytesOf(text.map((line, at) => `${line},${at ? level.value : "e"}\n`).join(""));
-    shown(place, await client.answer(["analyse", file.name], [{ name: file.name, bytes }]), make("p", { className: "note", textContent: `With a column e of ${level.value} added to every record:` }));
+    showAnswer(place, await client.answer(["analyse", file.name], [{ name: file.name, bytes }]), make("p", { className: "note", textContent: `With a column e of ${level.value} added to every record:` }));
     onLevels?.();
   });
 }
@@ -100,14 +99,14 @@ function checkQuestion(client, says, files, words) {
   const pasted = area("", 3);
   return question(says, "The checker takes the data and the certificate alone, whoever made it, and says whether it proves its verdicts.", [labelled("Certificate", chooser), labelled("or its text", pasted)], async (place) => {
     const bytes = chooser.files[0] ? new Uint8Array(await chooser.files[0].arrayBuffer()) : bytesOf(pasted.value);
-    shown(place, await client.answer([...words, "certificate"], [...files, { name: "certificate", bytes }]));
+    showAnswer(place, await client.answer([...words, "certificate"], [...files, { name: "certificate", bytes }]));
   });
 }
 
 /** The questions on one table. */
 export function tableQuestions(client, file, table) {
-  const pair = question("The first two observations that contradict each other", "A quick look, with no evidence besides.", [], async (place) => shown(place, await client.answer(["pairs", file.name], [file])));
-  const pump = question("Money pump: what does a cycle give away at most?", "The greatest part of what is spent round a cycle that somebody could take by buying and selling back (Echenique, Lee and Shum 2011).", [], async (place) => shown(place, await client.answer(["pump", file.name], [file])));
+  const pair = question("The first two observations that contradict each other", "A quick look, with no evidence besides.", [], async (place) => showAnswer(place, await client.answer(["pairs", file.name], [file])));
+  const pump = question("Money pump: what does a cycle give away at most?", "The greatest part of what is spent round a cycle that somebody could take by buying and selling back (Echenique, Lee and Shum 2011).", [], async (place) => showAnswer(place, await client.answer(["pump", file.name], [file])));
   const levels = table.levels ? [] : [levelQuestion(client, file)];
   return [pair, pump, demandQuestion(client, file, table), welfareQuestion(client, file, table), utilityQuestion(client, file, table), powerQuestion(client, file), ...levels, checkQuestion(client, "Check a certificate on this table", [file], ["check", file.name])];
 }

@@ -1,5 +1,6 @@
 /** The worker: holds the module, and answers one call, or a panel household by household, so that the page stays alive. */
 
+let loading = null;
 let library = null;
 
 function answerOne({ words, files }) {
@@ -21,7 +22,8 @@ function answerPanel({ words, households }) {
 
 onmessage = async ({ data: { id, kind, given } }) => {
   try {
-    if (kind === "load") library = await load(given);
+    if (kind === "load") loading = load(given);
+    library = await loading;
     const answers = { load: () => null, one: answerOne, panel: answerPanel };
     postMessage({ id, answer: answers[kind](given) });
   } catch (error) {
