@@ -111,8 +111,8 @@ export class Sheet {
     const thousands = decimals.length > 0 && decimals.every(([, , it]) => THOUSANDS_COMMA.test(it));
     if (decimals.length) {
       const [row, , it] = decimals[0];
-      const says = `${decimals.length} numbers have a comma, the first in record ${row}: ${it}.`;
-      const doubt = thousands ? " Each has three digits behind it, so it may as well be a mark of thousands: say which it is." : "";
+      const says = `${decimals.length === 1 ? "One number has" : `${decimals.length} numbers have`} a comma, the first in record ${row}: ${it}.`;
+      const doubt = thousands ? " With three digits behind it, it may as well be a mark of thousands: say which it is." : "";
       found.push({ key: "decimals", says: says + doubt, change: `take the comma as the decimal mark: ${it} becomes ${it.replace(",", ".")}` });
       if (thousands) found.push({ key: "thousands", says: "", change: `take the comma as a mark of thousands: ${it} becomes ${it.replaceAll(",", "")}` });
     }

@@ -1,8 +1,9 @@
 /* The command `rp` where the program is not built by Rattle's own tools: it hands the words and the files to `rp_answer`,
    the library's one call, and writes what that answers.
 
-   The library tells which file it wants next: where one is not given it answers that its reading failed. So a file is
-   read when the command would read it, and not before. */
+   The library tells which file it wants next: where one is not given it answers that its reading failed. So the files are
+   read in the order of the words. The command refuses a file before it asks for the next; so where one cannot be read, an
+   earlier one may have to be refused all the same: it is asked once more, with nothing in the files from there on. */
 #include "system.h"
 
 #include <stdbool.h>
@@ -15,7 +16,7 @@ int32_t rp_answer(const uint8_t *words, size_t words_length, const uint8_t *name
                   const uint64_t *sizes, size_t files, const uint8_t *bytes, size_t bytes_length, uint8_t *output,
                   size_t output_room, uint8_t *told, size_t told_room, uint64_t *output_length, uint64_t *told_length);
 
-enum { READ_FAULT = 3, WRITE_FAULT = 5, NO_MEMORY = 6, NO_TEXT = 7 };
+enum { READ_FAULT = 3, REFUSED = 4, WRITE_FAULT = 5, NO_MEMORY = 6 };
 /* No command takes more of them. */
 enum { MOST_FILES = 8 };
 /* One more than the most bytes that a file may have. */
@@ -163,22 +164,45 @@ static FileRead read_into(Question *asked, const char *name) {
     return FILE_READ;
 }
 
+/* Takes a file as empty, in the place of one that cannot be read, or that the command would not ask for any more. */
+static bool take_empty(Question *asked, const char *name) {
+    asked->sizes[asked->files++] = 0;
+    return append(&asked->names, name, strlen(name) + 1);
+}
+
+/* Whether what is told is of the file of this name. */
+static bool is_of(const Answer *given, const char *name) {
+    size_t length = strlen(name);
+    const char *told = (const char *)given->told.at;
+    return given->told.length > length + 5 && memcmp(told + 4, name, length) == 0 && told[4 + length] == ':';
+}
+
+/* The end where a file cannot be read: an earlier one is refused before it is asked for; else that it failed is told. */
+static bool end_unread(Answer *given, const char *unread) {
+    if (given->status == REFUSED && !is_of(given, unread))
+        return true;
+    given->status = READ_FAULT;
+    given->output.length = given->told.length = 0;
+    return append(&given->told, "rp: ", 4) && append(&given->told, unread, strlen(unread))
+           && append(&given->told, ": read failed\n", 14);
+}
+
 /* Answers, and reads each file that is wanted. */
 static bool answer(Question *asked, Answer *given) {
+    char *unread = NULL;
     for (;;) {
         if (!ask_whole(asked, given))
             return false;
         char *name = wanted_file(given);
-        if (!name || asked->files == MOST_FILES || is_known(asked, name)) {
-            free(name);
-            return given->status != READ_FAULT || name || asked->files < MOST_FILES;
-        }
-        FileRead ended = read_into(asked, name);
-        free(name);
-        if (ended == FILE_NO_MEMORY)
+        if (!name || asked->files == MOST_FILES || is_known(asked, name))
+            return unread ? end_unread(given, unread) : given->status != READ_FAULT || name;
+        FileRead ended = unread ? FILE_FAILED : read_into(asked, name);
+        if (ended == FILE_NO_MEMORY || (ended == FILE_FAILED && !take_empty(asked, name)))
             return false;
-        if (ended == FILE_FAILED)
-            return true;
+        if (ended == FILE_FAILED && !unread)
+            unread = name;
+        else
+            free(name);
     }
 }
 

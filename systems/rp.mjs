@@ -3,7 +3,7 @@
 import { closeSync, openSync, readFileSync, readSync, writeSync } from "node:fs";
 import { MOST_READ, NoText, load } from "./rp.js";
 
-const [READ_FAULT, WRITE_FAULT, NO_MEMORY, NO_TEXT] = [3, 5, 6, 7];
+const [READ_FAULT, REFUSED, WRITE_FAULT, NO_MEMORY, NO_TEXT] = [3, 4, 5, 6, 7];
 const texts = new TextDecoder();
 
 /** Reads a file, or as much of it as shows that it is too long; nothing where the system fails. */
@@ -43,16 +43,26 @@ function writes(stream, bytes) {
   return true;
 }
 
-/** Answers, and reads each file when the library wants it: it tells that the reading of one that is not given failed. */
+const fileWanted = ({ status, told }) => (status === READ_FAULT ? /^rp: ([^]*): read failed\n$/.exec(texts.decode(told))?.[1] : undefined);
+
+/**
+ * Answers, and reads each file when the library wants it: it tells that the reading of one that is not given failed. The
+ * command refuses a file before it asks for the next; so where one cannot be read, an earlier one may have to be refused
+ * all the same: it is asked once more, with nothing in the files from there on.
+ */
 function answer(library, words) {
   const files = [];
+  let unread = null;
   for (;;) {
     const given = library.answer(words, files);
-    const wanted = given.status === READ_FAULT ? /^rp: ([^]*): read failed\n$/.exec(texts.decode(given.told))?.[1] : undefined;
-    if (wanted === undefined || files.some((it) => it.name === wanted)) return given;
-    const bytes = bytesOf(wanted);
-    if (!bytes) return given;
-    files.push({ name: wanted, bytes });
+    const wanted = fileWanted(given);
+    if (wanted === undefined || files.some((it) => it.name === wanted)) {
+      const isEarlier = given.status === REFUSED && !texts.decode(given.told).startsWith(`rp: ${unread?.name}:`);
+      return unread && !isEarlier ? unread.answer : given;
+    }
+    const bytes = unread ? null : bytesOf(wanted);
+    if (!bytes) unread ??= { name: wanted, answer: given };
+    files.push({ name: wanted, bytes: bytes ?? new Uint8Array() });
   }
 }
 
