@@ -11,12 +11,40 @@ The verdicts are the program's, each of which is proved; nothing of this package
 is, and what would have to be rounded is refused.
 """
 
+from . import plain
 from .answers import Answers, Certificate, Checked, Demand, Part, RandomVerdict, Verdict, Welfare
-from .commands import analyse, certify, check, demand, random, utility, verify, welfare
-from .faults import BadData, Failed, NoProgram, Problem, Refused
+from .commands import (
+    afriat_utility,
+    analyse,
+    certify,
+    check,
+    checkrandom,
+    cost,
+    cost_minimisation,
+    demand,
+    demand_bounds,
+    first_contradiction,
+    menu_choices,
+    menus,
+    money_pump,
+    pairs,
+    power,
+    power_of_test,
+    pump,
+    random,
+    random_trial,
+    random_utility,
+    trial,
+    utility,
+    verify,
+    welfare,
+    welfare_bounds,
+)
+from .faults import BadData, Failed, NoFile, NoProgram, Pooled, Problem, Refused, Unreadable, WrongColumns
+from .measures import CostBound, CostMinimisation, MenuVerdict, MoneyPump, OrderPart, Power, Trial
 from .panels import Panel, Row, panel
-from .tables import Choices, Table, from_frame, table
-from .verifier import Finding, Findings, NoCertificate, NoTable
+from .tables import Choices, MenuChoices, Table, Technology, from_frame, table
+from .verifier import Finding, Findings, NoCertificate, NoReport, NoTable
 
 __all__ = [
     "Answers",
@@ -24,32 +52,64 @@ __all__ = [
     "Certificate",
     "Checked",
     "Choices",
+    "CostBound",
+    "CostMinimisation",
     "Demand",
     "Failed",
     "Finding",
     "Findings",
+    "MenuChoices",
+    "MenuVerdict",
+    "MoneyPump",
     "NoCertificate",
+    "NoFile",
     "NoProgram",
+    "NoReport",
     "NoTable",
+    "OrderPart",
     "Panel",
     "Part",
+    "Pooled",
+    "Power",
     "Problem",
     "RandomVerdict",
     "Refused",
     "Row",
     "Table",
+    "Technology",
+    "Trial",
+    "Unreadable",
     "Verdict",
     "Welfare",
+    "WrongColumns",
+    "afriat_utility",
     "analyse",
     "certify",
     "check",
+    "checkrandom",
+    "cost",
+    "cost_minimisation",
     "demand",
+    "demand_bounds",
+    "first_contradiction",
     "from_frame",
+    "menu_choices",
+    "menus",
+    "money_pump",
+    "pairs",
     "panel",
+    "plain",
+    "power",
+    "power_of_test",
+    "pump",
     "random",
+    "random_trial",
+    "random_utility",
     "table",
+    "trial",
     "utility",
     "verify",
     "welfare",
+    "welfare_bounds",
 ]
-__version__ = "0.1.0"
+__version__ = "0.11.0"

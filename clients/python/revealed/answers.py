@@ -1,28 +1,60 @@
 """What the program answers, by the labels of the data and in their own units."""
 
+from __future__ import annotations
+
 import json
+import os
 from fractions import Fraction
+from typing import Any, Callable, Iterable, Iterator, Sequence
+
+from . import exact
+from .faults import Unreadable
+from .tables import Choices, Sheet, Table
 
 TESTS = ("garp", "afriat", "homothetic", "quasilinear")
+WORDS = {True: "holds", False: "violated", None: "withheld"}
 
 
 class Certificate:
     """A certificate as the program wrote it: `data` are its bytes, and `items` its items as they stand there."""
 
-    def __init__(self, data):
+    def __init__(self, data: bytes) -> None:
         self.data = data
-        self.items = json.loads(data)["items"]
+        try:
+            self.items: list[dict[str, Any]] = json.loads(data)["items"]
+            if not all(isinstance(item["item"], str) for item in self.items):
+                raise TypeError
+        except (ValueError, KeyError, TypeError, RecursionError):
+            raise Unreadable(data.decode("utf-8", "replace"), "no certificate") from None
 
-    def save(self, path):
+    def save(self, path: str | os.PathLike[str]) -> None:
         """Writes it to a file."""
         with open(path, "wb") as it:
             it.write(self.data)
 
-    def __bytes__(self):
+    def __bytes__(self) -> bytes:
         return self.data
 
-    def __repr__(self):
+    def __repr__(self) -> str:
         return f"<certificate: {', '.join(item['item'] for item in self.items)}>"
+
+
+def reading(data: bytes) -> _Reading:
+    return _Reading(data)
+
+
+class _Reading:
+    """While an answer is read, what it lacks becomes Unreadable."""
+
+    def __init__(self, data: bytes | str) -> None:
+        self.data = data if isinstance(data, str) else data.decode("utf-8", "replace")
+
+    def __enter__(self) -> None:
+        return None
+
+    def __exit__(self, kind: Any, wrong: Any, trace: Any) -> None:
+        if isinstance(wrong, (KeyError, IndexError, ValueError, TypeError, AttributeError, StopIteration)):
+            raise Unreadable(self.data, f"{type(wrong).__name__}: {wrong}") from wrong
 
 
 class Verdict:
@@ -30,56 +62,65 @@ class Verdict:
 
     `garp`, `afriat`, `homothetic` and `quasilinear` are True or False, and None where the verdict is withheld: then
     `reasons` says why. `efficiency` is the critical cost efficiency index, a Fraction, and `attained` whether the axiom
-    holds at it. `evidence` has, under the name of each test, what shows it: ranks, numbers and cycles by the labels of
-    the rows. `ranks`, `cycle`, `utility` and `multipliers` are those of the axiom and of Afriat's numbers, or None.
+    holds at it; `ccei` is the same index as a float, rounded down, so that it is 1 just where the index is. `evidence` has, under
+    the name of each test, what shows it: ranks, numbers and cycles by the labels of the rows. `ranks`, `cycle`, `utility` and
+    `multipliers` are those of the axiom and of Afriat's numbers, or None. Where the table has levels, the axiom and Afriat's
+    numbers are by these, and the rest by costs alone. `proved` says that the verdicts are the program's.
     """
 
-    def __init__(self, table, certificate):
+    proved = True
+
+    def __init__(self, table: Table, certificate: Certificate) -> None:
         self.table = table
         self.certificate = certificate
-        self.reasons = {}
-        self.evidence = {}
-        items = {item["item"]: item for item in certificate.items}
-        self.garp = self._axiom("garp", items["garp"])
-        self.afriat = self._afriat(items["afriat"])
-        self.efficiency, self.attained = self._efficiency(items["efficiency"])
-        self.homothetic = self._homothetic(items["homothetic"])
-        self.quasilinear = self._quasilinear(items["quasilinear"])
+        self.reasons: dict[str, str] = {}
+        self.evidence: dict[str, dict[str, Any]] = {}
+        with reading(certificate.data):
+            items = {item["item"]: item for item in certificate.items}
+            self.garp: bool = self._axiom("garp", items["garp"])
+            self.afriat: bool | None = self._afriat(items["afriat"])
+            self.efficiency, self.attained = self._efficiency(items["efficiency"])
+            self.homothetic: bool | None = self._homothetic(items["homothetic"])
+            self.quasilinear: bool = self._quasilinear(items["quasilinear"])
 
     @property
-    def labels(self):
+    def labels(self) -> list[Any]:
         return self.table.labels
 
     @property
-    def ranks(self):
+    def ccei(self) -> float:
+        return exact.rounded_down(self.efficiency)
+
+    @property
+    def ranks(self) -> dict[Any, int] | None:
         return self.evidence["garp"].get("ranks")
 
     @property
-    def cycle(self):
+    def cycle(self) -> list[Any] | None:
         return self.evidence["garp"].get("cycle")
 
     @property
-    def utility(self):
+    def utility(self) -> dict[Any, Fraction] | None:
         return self.evidence["afriat"].get("utility")
 
     @property
-    def multipliers(self):
+    def multipliers(self) -> dict[Any, int] | None:
         return self.evidence["afriat"].get("lambda")
 
-    def _by_label(self, values):
-        return dict(zip(self.labels, values))
+    def _by_label(self, values: Iterable[Any]) -> dict[Any, Any]:
+        return by_label(self.table, values)
 
-    def _walk(self, walk):
-        return [self.labels[number - 1] for number in walk]
+    def _walk(self, walk: list[int]) -> list[Any]:
+        return walk_of(self.table)(walk)
 
-    def _axiom(self, name, item):
+    def _axiom(self, name: str, item: dict[str, Any]) -> bool:
         if "cycle" in item:
             self.evidence[name] = {"cycle": self._walk(item["cycle"])}
             return False
         self.evidence[name] = {"ranks": self._by_label(item["ranks"])}
         return True
 
-    def _afriat(self, item):
+    def _afriat(self, item: dict[str, Any]) -> bool | None:
         if "cycle" in item:
             return self._axiom("afriat", item)
         if "withheld" in item:
@@ -87,23 +128,23 @@ class Verdict:
             self.reasons["afriat"] = f"the numbers get past their width at {label!r}; they exist where garp is True"
             self.evidence["afriat"] = {}
             return None
-        money = money_scale(self.table)
+        money = utility_scale(self.table)
         self.evidence["afriat"] = {
-            "utility": self._by_label(Fraction(int(u), money) for u in item["utility"]),
-            "lambda": self._by_label(int(multiplier) for multiplier in item["lambda"]),
+            "utility": self._by_label(Fraction(exact.whole_of(u), money) for u in item["utility"]),
+            "lambda": self._by_label(exact.whole_of(multiplier) for multiplier in item["lambda"]),
         }
         return True
 
-    def _efficiency(self, item):
+    def _efficiency(self, item: dict[str, Any]) -> tuple[Fraction, bool]:
         found = {"below": self._by_label(item["below"]), "above": self._walk(item["above"])}
         if "at_ranks" in item:
             found["at_ranks"] = self._by_label(item["at_ranks"])
         else:
             found["at_cycle"] = self._walk(item["at_cycle"])
         self.evidence["efficiency"] = found
-        return Fraction(item["level"]), "at_ranks" in item
+        return exact.fraction_read(item["level"]), "at_ranks" in item
 
-    def _homothetic(self, item):
+    def _homothetic(self, item: dict[str, Any]) -> bool | None:
         if "withheld" in item:
             steps, start, end = item["withheld"]
             start, end = self._walk([start, end])
@@ -111,46 +152,85 @@ class Verdict:
             self.evidence["homothetic"] = {}
             return None
         if "cycle" in item:
-            self.evidence["homothetic"] = {"start": Fraction(item["start"]), "cycle": self._walk(item["cycle"])}
+            self.evidence["homothetic"] = {"start": exact.fraction_read(item["start"]), "cycle": self._walk(item["cycle"])}
             return False
-        self.evidence["homothetic"] = {"values": self._by_label(map(Fraction, item["values"]))}
+        self.evidence["homothetic"] = {"values": self._by_label(map(exact.fraction_read, item["values"]))}
         return True
 
-    def _quasilinear(self, item):
+    def _quasilinear(self, item: dict[str, Any]) -> bool:
         if "cycle" in item:
             self.evidence["quasilinear"] = {"cycle": self._walk(item["cycle"])}
             return False
         money = money_scale(self.table)
-        self.evidence["quasilinear"] = {"values": self._by_label(Fraction(int(it), money) for it in item["values"])}
+        self.evidence["quasilinear"] = {"values": self._by_label(Fraction(exact.whole_of(it), money) for it in item["values"])}
         return True
 
-    def as_dict(self):
+    def as_dict(self) -> dict[str, Any]:
         """Returns the verdicts by name."""
-        found = {name: getattr(self, name) for name in ("garp", "afriat", "efficiency", "attained", "homothetic", "quasilinear")}
-        return {**found, "reasons": dict(self.reasons)}
+        names = ("garp", "afriat", "efficiency", "ccei", "attained", "homothetic", "quasilinear")
+        return {**{name: getattr(self, name) for name in names}, "reasons": dict(self.reasons)}
 
-    def __repr__(self):
-        words = {True: "holds", False: "violated", None: "withheld"}
-        lines = [f"{name} {words[getattr(self, name)]}" for name in TESTS]
-        lines.insert(2, f"efficiency {self.efficiency} attained {'yes' if self.attained else 'no'}")
+    def plot(self, ax: Any = None, **more: Any) -> Any:
+        """Draws the budget lines, the choices and the violating cycle of a table of two goods, with matplotlib; returns its axes."""
+        from . import pictures
+
+        return pictures.of_verdict(self, ax, **more)
+
+    def __repr__(self) -> str:
+        lines = [f"{name} {WORDS[getattr(self, name)]}" for name in TESTS]
+        lines.insert(2, f"efficiency {exact.written(self.efficiency)} attained {'yes' if self.attained else 'no'}")
         if self.cycle:
             lines.insert(1, "cycle " + " ".join(map(str, self.cycle)))
-        return "\n".join([*lines, *(f"{name}: {why}" for name, why in self.reasons.items())])
+        told = [*lines, *(f"{name}: {why}" for name, why in self.reasons.items())]
+        return "\n".join(told if self.proved else [*told, NO_PROOF])
 
 
-def money_scale(table):
+NO_PROOF = "by plain whole numbers: no proof stands behind this, and verify looks at its evidence"
+
+
+def by_label(table: Sheet, values: Iterable[Any]) -> dict[Any, Any]:
+    """Returns one value for each row of a sheet, under its label."""
+    found = list(values)
+    if len(found) != len(table.labels):
+        raise ValueError(f"{len(found)} values for {len(table.labels)} rows")
+    return dict(zip(table.labels, found))
+
+
+def walk_of(table: Sheet) -> Callable[[Sequence[int]], list[Any]]:
+    """Returns the function that gives the labels of observations, which count from 1."""
+
+    def walk(numbers: Sequence[int]) -> list[Any]:
+        if not all(1 <= number <= len(table.labels) for number in numbers):
+            raise ValueError("there is no such observation")
+        return [table.labels[number - 1] for number in numbers]
+
+    return walk
+
+
+def money_scale(table: Table) -> int:
     """How many units of the table's costs are one unit of money times one of quantity."""
     return table.price_scale * table.quantity_scale
+
+
+def utility_scale(table: Table) -> int:
+    """The same of utilities: where the table has levels, costs are compared in thousandths."""
+    return money_scale(table) * (1000 if table.levels is not None else 1)
 
 
 class Answers(list):
     """A list of answers, with the table they are on, the verdict on the axiom, and the certificate (None for `utility`)."""
 
-    def __init__(self, found, table, certificate=None, garp=None, ranks=None, cycle=None):
+    labels: list[Any]
+    reasons: dict[Any, str]
+
+    def __init__(self, found: Iterable[Any], table: Table, certificate: Certificate | None = None, garp: bool | None = None) -> None:
         super().__init__(found)
         self.table = table
         self.certificate = certificate
-        self.garp, self.ranks, self.cycle = garp, ranks, cycle
+        self.garp = garp
+        self.ranks: dict[Any, int] | None = None
+        self.cycle: list[Any] | None = None
+        self.proved = True
 
 
 class Demand:
@@ -161,12 +241,23 @@ class Demand:
     `inner` is one such bundle, and `below` and `strict` are the labels of the rows that the budget is preferred to.
     """
 
-    def __init__(self, label, prices, expenditure, garp, below=None, strict=None, inner=None, bounds=None, reasons=None):
+    def __init__(
+        self,
+        label: Any,
+        prices: dict[str, Fraction],
+        expenditure: Fraction,
+        garp: bool,
+        below: list[Any] | None = None,
+        strict: list[Any] | None = None,
+        inner: dict[str, Fraction] | None = None,
+        bounds: dict[str, tuple[Fraction | None, Fraction | None]] | None = None,
+        reasons: dict[tuple[str, str], str] | None = None,
+    ) -> None:
         self.label, self.prices, self.expenditure, self.garp = label, prices, expenditure, garp
         self.below, self.strict, self.inner, self.bounds, self.reasons = below, strict, inner, bounds, reasons or {}
 
-    def __repr__(self):
-        if not self.garp:
+    def __repr__(self) -> str:
+        if self.bounds is None:
             return f"<demand at {self.label!r}: none, the axiom fails>"
         told = ", ".join(f"{good} {low} to {high}" for good, (low, high) in self.bounds.items())
         return f"<demand at {self.label!r}: {told}>"
@@ -179,111 +270,138 @@ class Welfare:
     None, and `reasons` says why. Where the axiom fails, `garp` is False and the rest is None.
     """
 
-    def __init__(self, label, prices, garp, lower=None, upper=None, at=None, reasons=None):
+    def __init__(
+        self,
+        label: Any,
+        prices: dict[str, Fraction],
+        garp: bool,
+        lower: dict[Any, Fraction | None] | None = None,
+        upper: dict[Any, Fraction] | None = None,
+        at: dict[Any, Any] | None = None,
+        reasons: dict[Any, str] | None = None,
+    ) -> None:
         self.label, self.prices, self.garp = label, prices, garp
         self.lower, self.upper, self.at, self.reasons = lower, upper, at, reasons or {}
 
-    def __repr__(self):
-        if not self.garp:
+    def __repr__(self) -> str:
+        if self.lower is None or self.upper is None:
             return f"<welfare at {self.label!r}: none, the axiom fails>"
         told = ", ".join(f"{row} {low} to {self.upper[row]}" for row, low in self.lower.items())
         return f"<welfare at {self.label!r}: {told}>"
 
 
-def withheld(step):
+def withheld(step: int | str) -> str:
     return f"the run of its program gets past 2^63 - 1 at step {step}"
 
 
-def demands(table, new, certificate):
+def demands(table: Table, new: Sheet, certificate: Certificate) -> Answers:
     """Returns the demand of each record of new prices."""
-    first, *items = certificate.items
+    with reading(certificate.data):
+        first, *items = certificate.items
+        if len(items) != len(new.rows):
+            raise ValueError(f"{len(items)} answers for {len(new.rows)} budgets")
+        found = [_demand(table, new, label, item) for label, item in zip(new.labels, items)]
+        return answers(found, table, certificate, first)
+
+
+def _demand(table: Table, new: Sheet, label: Any, item: dict[str, Any]) -> Demand:
     walk, quantity, price = walk_of(table), table.quantity_scale, new.scale("p_")
-    found = []
-    for label, item in zip(new.labels, items):
-        prices = named_prices(table, item, price)
-        expenditure = Fraction(int(item["expenditure"]), price * quantity)
-        if "cycle" in item:
-            found.append(Demand(label, prices, expenditure, False))
-            continue
-        bounds, reasons = {}, {}
-        for good, pair in zip(table.goods, item["goods"]):
-            for name in ("lower", "upper"):
-                if "withheld" in pair[name]:
-                    reasons[good, name] = withheld(pair[name]["withheld"])
-            bounds[good] = tuple(bound_value(pair[name], quantity) for name in ("lower", "upper"))
-        den = int(item["inner"]["den"]) * quantity
-        inner = {good: Fraction(int(number), den) for good, number in zip(table.goods, item["inner"]["num"])}
-        below, strict = walk(item["below"]), walk(item["strict"])
-        found.append(Demand(label, prices, expenditure, True, below, strict, inner, bounds, reasons))
-    return answers(found, table, certificate, first)
+    prices = named_prices(table, item, price)
+    expenditure = Fraction(exact.whole_of(item["expenditure"]), price * quantity)
+    if "cycle" in item:
+        return Demand(label, prices, expenditure, False)
+    bounds, reasons = {}, {}
+    for good, pair in strictly(table.goods, item["goods"]):
+        for name in ("lower", "upper"):
+            if "withheld" in pair[name]:
+                reasons[good, name] = withheld(pair[name]["withheld"])
+        bounds[good] = (bound_value(pair["lower"], quantity), bound_value(pair["upper"], quantity))
+    den = exact.whole_of(item["inner"]["den"]) * quantity
+    inner = {good: Fraction(exact.whole_of(number), den) for good, number in strictly(table.goods, item["inner"]["num"])}
+    return Demand(label, prices, expenditure, True, walk(item["below"]), walk(item["strict"]), inner, bounds, reasons)
 
 
-def welfares(table, new, certificate):
+def welfares(table: Table, new: Sheet, certificate: Certificate) -> Answers:
     """Returns the welfare bounds of each record of new prices."""
-    first, *items = certificate.items
+    with reading(certificate.data):
+        first, *items = certificate.items
+        if len(items) != len(new.rows) * len(table):
+            raise ValueError(f"{len(items)} answers for {len(new.rows)} prices and {len(table)} observations")
+        by_new = [items[number * len(table) : (number + 1) * len(table)] for number in range(len(new.rows))]
+        found = [_welfare(table, new, label, own) for label, own in zip(new.labels, by_new)]
+        return answers(found, table, certificate, first)
+
+
+def _welfare(table: Table, new: Sheet, label: Any, own: list[dict[str, Any]]) -> Welfare:
     walk, price = walk_of(table), new.scale("p_")
     money = price * table.quantity_scale
-    found = []
-    for number, label in enumerate(new.labels):
-        own = items[number * len(table) : (number + 1) * len(table)]
-        prices = named_prices(table, own[0], price)
-        if any("cycle" in item for item in own):
-            found.append(Welfare(label, prices, False))
-            continue
-        rows = [walk([item["observation"]])[0] for item in own]
-        lower = {row: bound_value(item["lower"], money) for row, item in zip(rows, own)}
-        upper = {row: Fraction(int(item["upper"]), money) for row, item in zip(rows, own)}
-        at = {row: walk([item["at"]])[0] for row, item in zip(rows, own)}
-        reasons = {row: withheld(item["lower"]["withheld"]) for row, item in zip(rows, own) if "withheld" in item["lower"]}
-        found.append(Welfare(label, prices, True, lower, upper, at, reasons))
-    return answers(found, table, certificate, first)
+    prices = named_prices(table, own[0], price)
+    if any("cycle" in item for item in own):
+        return Welfare(label, prices, False)
+    rows = walk([item["observation"] for item in own])
+    lower = {row: bound_value(item["lower"], money) for row, item in zip(rows, own)}
+    upper = {row: Fraction(exact.whole_of(item["upper"]), money) for row, item in zip(rows, own)}
+    at = {row: walk([item["at"]])[0] for row, item in zip(rows, own)}
+    reasons = {row: withheld(item["lower"]["withheld"]) for row, item in zip(rows, own) if "withheld" in item["lower"]}
+    return Welfare(label, prices, True, lower, upper, at, reasons)
 
 
-def walk_of(table):
-    return lambda numbers: [table.labels[number - 1] for number in numbers]
+def strictly(first: Sequence[Any], second: Sequence[Any]) -> Iterator[tuple[Any, Any]]:
+    """Returns pairs of two lists of one length."""
+    if len(first) != len(second):
+        raise ValueError(f"{len(second)} numbers for {len(first)}")
+    return zip(first, second)
 
 
-def named_prices(table, item, scale):
-    return {good: Fraction(int(price), scale) for good, price in zip(table.goods, item["prices"])}
+def named_prices(table: Table, item: dict[str, Any], scale: int) -> dict[str, Fraction]:
+    return {good: Fraction(exact.whole_of(price), scale) for good, price in strictly(table.goods, item["prices"])}
 
 
-def bound_value(bound, scale):
-    return None if "withheld" in bound else Fraction(bound["value"]) / scale
+def bound_value(bound: dict[str, Any], scale: int) -> Fraction | None:
+    return None if "withheld" in bound else exact.fraction_read(bound["value"]) / scale
 
 
-def answers(found, table, certificate, first):
-    walk = walk_of(table)
-    ranks = dict(zip(table.labels, first["ranks"])) if "ranks" in first else None
-    cycle = walk(first["cycle"]) if "cycle" in first else None
-    return Answers(found, table, certificate, cycle is None, ranks, cycle)
+def answers(found: list[Any], table: Table, certificate: Certificate, first: dict[str, Any]) -> Answers:
+    made = Answers(found, table, certificate, "ranks" in first)
+    made.ranks = by_label(table, first["ranks"]) if "ranks" in first else None
+    made.cycle = walk_of(table)(first["cycle"]) if "cycle" in first else None
+    return made
 
 
-def utilities(table, bundles, text):
+def utilities(table: Table, bundles: Sheet, text: str) -> Answers:
     """Returns the utility of each bundle, by the lines of the report."""
-    lines = [line.split() for line in text.splitlines()]
-    garp = ["garp", "holds"] in lines
-    money, found, reasons = money_scale(table), [], {}
-    for line in lines:
-        if line[:1] == ["at"] and line[1].isdigit():
-            if line[2] == "value":
-                found.append(Fraction(line[3]) / money)
-            else:
-                label = bundles.labels[int(line[1]) - 1]
-                reasons[label] = "the axiom fails" if line[2] == "none" else "Afriat's numbers get past their width"
-                found.append(None)
-    answer = Answers(found, table, garp=garp)
-    answer.labels, answer.reasons = bundles.labels, reasons
-    return answer
+    with reading(text.encode()):
+        lines = [line.split() for line in text.splitlines()]
+        money = utility_scale(table)
+        found: list[Fraction | None] = []
+        reasons = {}
+        for line in lines:
+            if line[:1] == ["at"] and line[1].isdigit():
+                label = bundles.labels[len(found)]
+                if int(line[1]) != len(found) + 1:
+                    raise ValueError("the bundles are not in their order")
+                if line[2] == "value":
+                    found.append(exact.fraction_read(line[3]) / money)
+                else:
+                    reasons[label] = {"none": "the axiom fails", "withheld": "Afriat's numbers get past their width"}[line[2]]
+                    found.append(None)
+        if len(found) != len(bundles.labels):
+            raise ValueError(f"{len(found)} answers for {len(bundles.labels)} bundles")
+        if ["garp", "holds"] not in lines and ["garp", "violated"] not in lines:
+            raise ValueError("no verdict on the axiom")
+        made = Answers(found, table, garp=["garp", "holds"] in lines)
+        made.labels, made.reasons = bundles.labels, reasons
+        return made
 
 
 class Part:
     """A rational type: its patch of each budget, from 1, and its share of the population."""
 
-    def __init__(self, patches, share):
+    def __init__(self, patches: list[int], share: Fraction) -> None:
         self.patches = patches
         self.share = share
 
-    def __repr__(self):
+    def __repr__(self) -> str:
         return f"<patches {self.patches}: {self.share}>"
 
 
@@ -296,23 +414,28 @@ class RandomVerdict:
     type weighs 1 or more. `choices` and `certificate` are what `verify` and `check` take.
     """
 
-    def __init__(self, choices, certificate):
+    def __init__(self, choices: Choices, certificate: Certificate) -> None:
         self.choices = choices
         self.certificate = certificate
-        (item,) = certificate.items
-        self.total = int(item["total"])
-        self.rational = self.reason = self.share = self.parts = self.weights = None
-        if "withheld" in item:
-            self.reason = withheld(item["withheld"])
-            return
-        den = int(item["den"])
-        self.parts = [Part(patches, Fraction(int(weight), den * self.total)) for patches, weight in item["parts"]]
-        self.rational = "weights" not in item
-        self.share = sum((part.share for part in self.parts), Fraction(0))
-        if not self.rational:
-            self.weights = [Fraction(int(weight), den) for weight in item["weights"]]
+        self.rational: bool | None = None
+        self.reason: str | None = None
+        self.share: Fraction | None = None
+        self.parts: list[Part] | None = None
+        self.weights: list[Fraction] | None = None
+        with reading(certificate.data):
+            (item,) = certificate.items
+            self.total = exact.whole_of(item["total"])
+            if "withheld" in item:
+                self.reason = withheld(item["withheld"])
+                return
+            den = exact.whole_of(item["den"])
+            self.parts = [Part(patches, Fraction(exact.whole_of(weight), den * self.total)) for patches, weight in item["parts"]]
+            self.rational = "weights" not in item
+            self.share = sum((part.share for part in self.parts), Fraction(0))
+            if not self.rational:
+                self.weights = [Fraction(exact.whole_of(weight), den) for weight in item["weights"]]
 
-    def __repr__(self):
+    def __repr__(self) -> str:
         if self.rational is None:
             return f"random withheld: {self.reason}"
         return "random mixture" if self.rational else f"random violated share {self.share}"
@@ -321,18 +444,21 @@ class RandomVerdict:
 class Checked:
     """What the program's checker says. It is true where it accepts; else `item`, `reason` and `place` say what fails first."""
 
-    def __init__(self, line):
-        words = line.split()
+    def __init__(self, line: str) -> None:
         self.line = line.strip()
-        self.accepted = words[0] == "accepted"
-        self.items = int(words[2]) if self.accepted else None
-        self.withheld = int(words[4]) if self.accepted else None
-        self.item = None if self.accepted else int(words[2])
-        self.reason = None if self.accepted else words[3]
-        self.place = None if self.accepted else int(words[5])
+        words = line.split()
+        with reading(line.encode()):
+            self.accepted = words[0] == "accepted"
+            if not self.accepted and words[0] != "rejected":
+                raise ValueError("neither accepted nor rejected")
+            self.items = int(words[2]) if self.accepted else None
+            self.withheld = int(words[4]) if self.accepted else None
+            self.item = None if self.accepted else int(words[2])
+            self.reason = None if self.accepted else words[3]
+            self.place = None if self.accepted else int(words[5])
 
-    def __bool__(self):
+    def __bool__(self) -> bool:
         return self.accepted
 
-    def __repr__(self):
+    def __repr__(self) -> str:
         return self.line

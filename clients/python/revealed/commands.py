@@ -1,62 +1,130 @@
-"""A function for each command of the program.
+"""A function for each command of the program, by the field's words, with the command's own name as another name of it."""
 
-`menus`, `pump`, `cost` and `power` are not offered: what they answer has no JSON form, which the others are read from. A
-table with levels is taken as a file alone, by `check` and `verify`.
-"""
+from __future__ import annotations
 
 import json
 import os
+from typing import Any, Callable, Union
 
 from . import program, verifier
-from .answers import Certificate, Checked, RandomVerdict, Verdict, demands, utilities, welfares
-from .faults import BadData, Failed, Refused
-from .tables import Choices, Table, beside, table
+from .answers import Answers, Certificate, Checked, RandomVerdict, Verdict, demands, reading, utilities, walk_of, welfares
+from .faults import BadData, Failed, NoFile, Refused
+from .measures import CostMinimisation, MenuVerdict, MoneyPump, Power, Trial
+from .tables import Choices, MenuChoices, Sheet, Table, Technology, beside, table
+from .verifier import Findings, reports
 
 TABLE, NEW, BUDGETS, CHOICES, CERTIFICATE = "table.csv", "new.csv", "budgets.csv", "choices.csv", "certificate.json"
+MENUS, TECHNOLOGY, ASKED = "menus.csv", "technology.csv", "asked.csv"
+SEED, DRAWS = 2**64 - 1, 1000
+Explains = Callable[[Union[str, None], str, "dict[str, int]"], Exception]
 
 
-def analyse(p, q=None, *, places=None, exe=None):
+# ---- verdicts on a table
+
+
+def analyse(p: Any, q: Any = None, *, levels: Any = None, places: Any = None, exe: Any = None) -> Verdict:
     """Returns the Verdict on prices p and quantities q: two lists of rows, two arrays, or two frames; or on a table alone.
 
-    `places` rounds each number to so many decimal places; two numbers, those of prices and of quantities. Without it
-    nothing is rounded, and a float that has more than 6 places is refused.
+    `levels` gives each row its level, in whole thousandths of what was spent, where the frame has no column `e`. `places` rounds
+    each number to so many decimal places; two numbers, those of prices and of quantities. Without it nothing is rounded, and
+    a float that has more than 6 places is refused.
     """
-    own = table(p, q, places=places)
+    own = table(p, q, places=places, levels=levels)
     return Verdict(own, _certificate(own, exe))
 
 
-def certify(p, q=None, *, places=None, exe=None):
+def certify(p: Any, q: Any = None, *, levels: Any = None, places: Any = None, exe: Any = None) -> Certificate:
     """Returns the Certificate of these verdicts."""
-    return _certificate(table(p, q, places=places), exe)
+    return _certificate(table(p, q, places=places, levels=levels), exe)
 
 
-def demand(p, q=None, new=None, m=None, *, places=None, exe=None):
+def first_contradiction(p: Any, q: Any = None, *, levels: Any = None, places: Any = None, exe: Any = None) -> tuple[Any, Any] | None:
+    """Returns the labels of the first two rows that contradict each other, the one weakly preferred to the other and that strictly
+    to it; None where no two do. It is a quick look: longer cycles are seen by `analyse`."""
+    own = table(p, q, places=places, levels=levels)
+    told = program.answer(["pairs", TABLE], {TABLE: own.csv()}, exe, _explains(own))
+    with reading(told.encode()):
+        pair = reports.read_pairs(told)
+        if pair is None:
+            return None
+        first, second = walk_of(own)(pair)
+        return first, second
+
+
+def money_pump(p: Any, q: Any = None, *, levels: Any = None, places: Any = None, exe: Any = None) -> MoneyPump:
+    """Returns the greatest money pump ratio of a table, with a cycle that has it. It is refused on a table with levels."""
+    own = table(p, q, places=places, levels=levels)
+    return MoneyPump(own, program.answer(["pump", TABLE], {TABLE: own.csv()}, exe, _explains(own)).encode())
+
+
+def power_of_test(p: Any, q: Any = None, *, seed: Any = 1, draws: Any = 1000, levels: Any = None, places: Any = None, exe: Any = None) -> Power:
+    """Returns how many of so many random behaviours on the budgets of a table, 1 to 1,000, violate the axiom.
+
+    How they are drawn stands in docs/USING.md: nearer to equal division than uniformly on the budget line. It is refused on a
+    table with levels.
+    """
+    own = table(p, q, places=places, levels=levels)
+    seed, draws = program.whole(seed, "seed", 0, SEED), program.whole(draws, "draws", 1, DRAWS)
+    out = program.answer(["power", TABLE, str(seed), str(draws)], {TABLE: own.csv()}, exe, _explains(own))
+    return Power(own, out.encode(), seed, draws)
+
+
+def random_trial(seed: Any, rows: Any, goods: Any, *, exe: Any = None) -> Trial:
+    """Returns the verdicts on a table of pseudorandom numbers: 1 to 256 rows of 1 to 16 goods."""
+    words = [program.whole(seed, "seed", 0, SEED), program.whole(rows, "rows", 1, 256), program.whole(goods, "goods", 1, 16)]
+    return Trial(program.answer(["trial", *map(str, words)], {}, exe).encode())
+
+
+# ---- at new prices
+
+
+def demand_bounds(
+    p: Any, q: Any = None, new: Any = None, m: Any = None, *, levels: Any = None, places: Any = None, exe: Any = None
+) -> Answers:
     """Returns the Demand on each new budget: prices `new`, a row or a frame, and what is spent `m`, one number or one a row.
 
-    A frame of new prices may have the column `m` itself.
+    A frame of new prices may have the column `m` itself. It is refused on a table with levels.
     """
-    own = table(p, q, places=places)
-    new = _new(own, new, "p_", "m", m, places=places)
+    own = table(p, q, places=places, levels=levels)
+    sheet = _new(own, new, "p_", "m", m, places=places)
     words = ["demand", TABLE, NEW, "--json"]
-    return demands(own, new, Certificate(_asked(words, own, new, exe)))
+    return demands(own, sheet, Certificate(_asked(words, own, sheet, exe)))
 
 
-def welfare(p, q=None, new=None, *, places=None, exe=None):
-    """Returns the Welfare bounds at each row of new prices."""
-    own = table(p, q, places=places)
-    new = _new(own, new, "p_", places=places)
+def welfare_bounds(p: Any, q: Any = None, new: Any = None, *, levels: Any = None, places: Any = None, exe: Any = None) -> Answers:
+    """Returns the Welfare bounds at each row of new prices. It is refused on a table with levels."""
+    own = table(p, q, places=places, levels=levels)
+    sheet = _new(own, new, "p_", places=places)
     words = ["welfare", TABLE, NEW, "--json"]
-    return welfares(own, new, Certificate(_asked(words, own, new, exe)))
+    return welfares(own, sheet, Certificate(_asked(words, own, sheet, exe)))
 
 
-def utility(p, q=None, bundles=None, *, places=None, exe=None):
+def afriat_utility(p: Any, q: Any = None, bundles: Any = None, *, levels: Any = None, places: Any = None, exe: Any = None) -> Answers:
     """Returns the utility of each bundle under the Verdict's Afriat numbers, in their scale: money where lambda is 1."""
-    own = table(p, q, places=places)
-    new = _new(own, bundles, "q_", places=places)
-    return utilities(own, new, _asked(["utility", TABLE, NEW], own, new, exe).decode())
+    own = table(p, q, places=places, levels=levels)
+    sheet = _new(own, bundles, "q_", places=places)
+    return utilities(own, sheet, _asked(["utility", TABLE, NEW], own, sheet, exe).decode())
 
 
-def random(budgets, choices, per=None, *, places=None, exe=None):
+# ---- firms, and choices of many people
+
+
+def cost_minimisation(technology: Any, asked: Any = None, *, places: Any = None, exe: Any = None) -> CostMinimisation:
+    """Returns whether a firm minimises its cost and maximises its profit, and what outputs cost at new prices of the inputs.
+
+    The technology is a frame with `w_NAME` and `x_NAME` for each input, its price and how much of it was used, `y`, the output,
+    and perhaps `p`, its price. What is asked is a frame with `w_NAME` and `y`, or a mapping of these to one number each; without
+    it the verdicts alone are given.
+    """
+    own = technology if isinstance(technology, Technology) else Technology(technology, places)
+    first = dict(zip(own.names, own.rows[0])) if own.rows else {}
+    sheet = own.asked({name: first.get(name) for name in own.names if name.startswith("w_") or name == "y"} if asked is None else asked, places)
+    files = {TECHNOLOGY: own.csv(), ASKED: sheet.csv()}
+    out = program.answer(["cost", TECHNOLOGY, ASKED], files, exe, _explains(own, sheet))
+    return CostMinimisation(own, sheet, out.encode(), asked is not None)
+
+
+def random_utility(budgets: Any, choices: Any, per: Any = None, *, places: Any = None, exe: Any = None) -> RandomVerdict:
     """Returns the RandomVerdict on choices from budgets.
 
     Budgets are a frame with `p_NAME` for each good and `w`, the income, or rows of prices that end with the income. Choices
@@ -64,20 +132,37 @@ def random(budgets, choices, per=None, *, places=None, exe=None):
     its number, from 1; where the frame of budgets has `obs`, it is what stands there. `per` asks for so many units of each.
     """
     own = Choices(budgets, choices, per, places)
-    words = ["random", BUDGETS, CHOICES, "--json", *_units(per)]
+    words = ["random", BUDGETS, CHOICES, "--json", *_units(own.per)]
     out = program.answer(words, {BUDGETS: own.budgets.csv(), CHOICES: own.choices.csv()}, exe, _explains_choices(own))
     return RandomVerdict(own, Certificate(out.encode()))
 
 
-def check(data, certificate, *, per=None, exe=None):
+def menu_choices(choices: Any, per: Any = None, *, exe: Any = None) -> MenuVerdict:
+    """Returns the MenuVerdict on choices from menus: a frame with `menu`, `choice` and `n`, or rows of these.
+
+    A menu is a text of one to six of the letters a to f, each after the one before it; the choice is one of them, and `n` how
+    many times it was made. `per` asks for so many units of each menu.
+    """
+    own = choices if isinstance(choices, MenuChoices) and per is None else MenuChoices(choices, per)
+    out = program.answer(["menus", MENUS, *_units(own.per)], {MENUS: own.csv()}, exe, _explains(own))
+    return MenuVerdict(own, out.encode())
+
+
+# ---- certificates
+
+
+def check(data: Any, certificate: Any, *, per: Any = None, exe: Any = None) -> Checked:
     """Returns what the program's checker says of a certificate on a table or on choices.
 
-    The data are a Table, Choices or the Verdict on one; the two sides p and q in a tuple; or the name of a CSV file, or in a
-    tuple those of budgets and of choices. The certificate is a Certificate, its JSON as a text, bytes or a value, or the
-    name of its file.
+    The data are a Table, Choices or the Verdict on one; the two sides p and q in a tuple; or the name of a CSV file, its text or
+    its bytes, or in a tuple those of budgets and of choices. The certificate is a Certificate, its JSON as a text, bytes or a
+    value, or the name of its file.
     """
     files, per, explain = _files(data, per)
-    files[CERTIFICATE] = certificate_bytes(certificate)
+    claimed = certificate_bytes(certificate)
+    if TABLE not in files and BUDGETS not in files:
+        raise BadData("the program checks certificates alone; verify looks at reports of pump, menus and cost")
+    files[CERTIFICATE] = claimed
     words = ["check", TABLE] if TABLE in files else ["checkrandom", BUDGETS, CHOICES]
     ran = program.call([*words, CERTIFICATE, *_units(per)], files, exe)
     if ran.status in (0, 1):
@@ -87,50 +172,72 @@ def check(data, certificate, *, per=None, exe=None):
     raise explain(*ran.refusal)
 
 
-def verify(data, certificate, *, per=None):
-    """Returns the Findings of the second checker, which is plain Python and does not call the program. See `check`."""
+def verify(data: Any, certificate: Any = None, *, per: Any = None) -> Findings:
+    """Returns the Findings of the second checker, which is plain Python and does not call the program. See `check`.
+
+    It also looks at the reports of `pump`, `menus` and `cost`, as text, as bytes or as what `money_pump`, `menu_choices` and
+    `cost_minimisation` gave; data on a firm are a tuple of the technology and what was asked. An answer alone is looked at on its
+    own data.
+    """
     files, per, _ = _files(data, per)
-    claimed = certificate_bytes(certificate)
+    claimed = certificate_bytes(data if certificate is None else certificate)
+    if claimed.lstrip().startswith(b"technology "):
+        files = _as_firm(files)
+        return verifier.verify_cost(files[TECHNOLOGY], files[ASKED], claimed)
+    if claimed.lstrip().startswith(b"alternatives "):
+        return verifier.verify_menus(files.get(MENUS, files.get(TABLE, b"")), claimed, per)
     if TABLE in files:
-        return verifier.verify_table(files[TABLE], claimed)
-    return verifier.verify_choices(files[BUDGETS], files[CHOICES], claimed, per)
+        is_report = claimed.lstrip().startswith(b"observations ")
+        return verifier.verify_pump(files[TABLE], claimed) if is_report else verifier.verify_table(files[TABLE], claimed)
+    if BUDGETS in files:
+        return verifier.verify_choices(files[BUDGETS], files[CHOICES], claimed, per)
+    raise BadData("a certificate is on a table or on choices from budgets; on menus and on firms there are reports")
 
 
-def _certificate(own, exe):
+def _as_firm(files: dict[str, bytes]) -> dict[str, bytes]:
+    """Returns two files as those of a firm."""
+    if TECHNOLOGY in files:
+        return files
+    if BUDGETS not in files:
+        raise BadData("a report on production is on a technology and what was asked of it: a tuple of the two")
+    return {TECHNOLOGY: files[BUDGETS], ASKED: files[CHOICES]}
+
+
+def _certificate(own: Table, exe: Any) -> Certificate:
     out = program.answer(["certify", TABLE], {TABLE: own.csv()}, exe, _explains(own))
     return Certificate(out.encode())
 
 
-def _new(own, data, prefix, more=None, values=None, places=None):
+def _new(own: Table, data: Any, prefix: str, more: str | None = None, values: Any = None, places: Any = None) -> Sheet:
     if data is None:
         raise BadData("there are no new prices or bundles")
     return beside(own, data, prefix, more, values, places)
 
 
-def _asked(words, own, new, exe):
+def _asked(words: list[str], own: Table, new: Sheet, exe: Any) -> bytes:
     return program.answer(words, {TABLE: own.csv(), NEW: new.csv()}, exe, _explains(own, new)).encode()
 
 
-def _units(per):
-    return [] if per is None else ["--per", str(per)]
+def _units(per: Any) -> list[str]:
+    return [] if per is None else ["--per", str(program.whole(per, "per", 1, 1_000_000_000))]
 
 
-def _explains(*sheets):
+def _explains(*sheets: Sheet) -> Explains:
     """Returns a function that makes the refusal of one of these files."""
     by_file = {sheet.file: sheet for sheet in sheets}
 
-    def explain(file, fault, places):
+    def explain(file: str | None, fault: str, places: dict[str, int]) -> Refused:
         return by_file[file].refused(fault, places) if file in by_file else Refused(fault, file, **places)
 
     return explain
 
 
-def _explains_choices(own):
+def _explains_choices(own: Choices) -> Explains:
     explain = _explains(own.budgets, own.choices)
 
-    def with_budget(file, fault, places):
+    def with_budget(file: str | None, fault: str, places: dict[str, int]) -> Exception:
         refused = explain(file or "choices", fault, places)
-        if "budget" in places:
+        if "budget" in places and places["budget"] <= len(own.budgets.labels):
             label = own.budgets.labels[places["budget"] - 1]
             refused = Refused(fault, file or "choices", label=label, **places)
         return refused
@@ -138,39 +245,92 @@ def _explains_choices(own):
     return with_budget
 
 
-def _files(data, per):
+def _files(data: Any, per: Any) -> tuple[dict[str, bytes], Any, Explains]:
     """Returns the files of some data with their units, and what explains a refusal of one."""
-    if isinstance(data, (RandomVerdict, Verdict)):
-        data = data.choices if isinstance(data, RandomVerdict) else data.table
+    for attribute in ("table", "choices"):
+        if isinstance(data, (Verdict, RandomVerdict, MoneyPump, MenuVerdict, Answers)) and hasattr(data, attribute):
+            data = getattr(data, attribute)
+            break
+    if isinstance(data, CostMinimisation):
+        data = (data.technology, data.asked)
     if isinstance(data, Choices):
         files = {BUDGETS: data.budgets.csv(), CHOICES: data.choices.csv()}
         return files, data.per if per is None else per, _explains_choices(data)
-    if isinstance(data, (str, os.PathLike)):
-        return {TABLE: _read(data)}, per, _explains()
+    if isinstance(data, MenuChoices):
+        return {MENUS: data.csv()}, data.per if per is None else per, _explains(data)
+    if is_file(data):
+        return {TABLE: file_bytes(data)}, per, _explains()
     if isinstance(data, tuple) and len(data) == 2:
-        if all(isinstance(it, (str, os.PathLike)) for it in data):
-            return {BUDGETS: _read(data[0]), CHOICES: _read(data[1])}, per, _explains()
+        if all(map(is_file, data)):
+            return {BUDGETS: file_bytes(data[0]), CHOICES: file_bytes(data[1])}, per, _explains()
+        if isinstance(data[0], Technology):
+            sheet = data[1] if isinstance(data[1], Sheet) else data[0].asked(data[1])
+            return {TECHNOLOGY: data[0].csv(), ASKED: sheet.csv()}, per, _explains(*data)
         data = table(*data)
     if not isinstance(data, Table):
         data = table(data)
     return {TABLE: data.csv()}, per, _explains(data)
 
 
-def certificate_bytes(certificate):
-    """Returns the bytes of a certificate."""
+def is_file(data: Any) -> bool:
+    return isinstance(data, (str, bytes, bytearray, os.PathLike))
+
+
+def file_bytes(data: Any) -> bytes:
+    """Returns the bytes of a CSV file: of its name, its text or themselves. A text of more than one line is no name."""
+    if isinstance(data, (bytes, bytearray)):
+        return bytes(data)
+    return text_bytes(data) if isinstance(data, str) and "\n" in data else _read(data)
+
+
+def certificate_bytes(certificate: Any) -> bytes:
+    """Returns the bytes of a certificate, or of a report.
+
+    A text is the name of a file where there is one of that name, and else the text itself: so what is neither is refused as what
+    it is not, and never opened.
+    """
     if isinstance(certificate, Certificate):
         return certificate.data
-    if isinstance(certificate, (Verdict, RandomVerdict)):
+    if isinstance(certificate, (MoneyPump, MenuVerdict, CostMinimisation)):
+        return certificate.report
+    if isinstance(certificate, (Verdict, RandomVerdict, Answers)):
+        if certificate.certificate is None:
+            raise BadData("these utilities have no certificate: they are the Afriat numbers' of analyse, which has one")
         return certificate.certificate.data
     if isinstance(certificate, (bytes, bytearray)):
         return bytes(certificate)
-    if isinstance(certificate, str) and certificate.lstrip()[:1] in ("{", "["):
-        return certificate.encode("utf-8", "surrogatepass")
-    if isinstance(certificate, (str, os.PathLike)):
+    if isinstance(certificate, os.PathLike) or (isinstance(certificate, str) and is_name_of_file(certificate)):
         return _read(certificate)
-    return json.dumps(certificate).encode()
+    if isinstance(certificate, str):
+        return text_bytes(certificate)
+    try:
+        return json.dumps(certificate).encode()
+    except (TypeError, ValueError, RecursionError):
+        raise BadData(f"a certificate is a Certificate, a text, bytes, a value of JSON or the name of a file, and not {certificate!r}") from None
 
 
-def _read(path):
-    with open(path, "rb") as it:
-        return it.read()
+def is_name_of_file(text: str) -> bool:
+    """Whether a text that begins as no certificate and no report is the name of a file that there is."""
+    if text.lstrip().startswith(("{", "[")) or "\n" in text:
+        return False
+    try:
+        return os.path.isfile(text)
+    except ValueError:
+        return False
+
+
+def text_bytes(text: str) -> bytes:
+    return text.encode("utf-8", "surrogatepass")
+
+
+def _read(path: Any) -> bytes:
+    try:
+        with open(path, "rb") as it:
+            return it.read()
+    except (OSError, ValueError) as wrong:
+        raise NoFile(f"there is no file {path!r} that can be read: {wrong}") from wrong
+
+
+pairs, pump, power, trial = first_contradiction, money_pump, power_of_test, random_trial
+demand, welfare, utility = demand_bounds, welfare_bounds, afriat_utility
+cost, random, menus, checkrandom = cost_minimisation, random_utility, menu_choices, check

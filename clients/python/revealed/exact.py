@@ -5,10 +5,14 @@ float is a binary fraction: 0.5 is a half, and 3.18 is 3.18000000000000015987..,
 places. `places` asks for rounding.
 """
 
+from __future__ import annotations
+
+import math
 import re
 from decimal import Decimal
 from fractions import Fraction
 from math import isfinite
+from typing import Any
 
 MISSING = ""
 MOST_PLACES = 6
@@ -20,7 +24,7 @@ class NotFinite(ValueError):
     """A fraction such as 1/3, which no decimal is."""
 
 
-def text_of(value, places=None):
+def text_of(value: Any, places: int | None = None) -> str:
     """Returns the text of a number, and the text of what is no number as it stands, for the program to refuse.
 
     With `places` the number is rounded to so many, half to even.
@@ -49,12 +53,12 @@ def text_of(value, places=None):
     return decimal_text(number)
 
 
-def unsigned_zero(text):
+def unsigned_zero(text: str) -> str:
     """Returns the text of a number, without the sign of a zero."""
     return text if text.strip("-0.") else text.lstrip("-")
 
 
-def fraction_of(value):
+def fraction_of(value: Any) -> Fraction | None:
     """Returns the number that a value is, exactly, and None where it is none."""
     if type(value).__name__ in ("bool", "bool_"):
         return None
@@ -74,7 +78,7 @@ def fraction_of(value):
     return None
 
 
-def is_missing(value):
+def is_missing(value: Any) -> bool:
     """Whether this is how data say that there is no value: None, NaN, pandas' NA and NaT, or an empty text."""
     if value is None or (isinstance(value, str) and not value.strip()):
         return True
@@ -86,12 +90,12 @@ def is_missing(value):
         return False
 
 
-def rounded(number, places):
+def rounded(number: Fraction, places: int) -> Fraction:
     """Returns the nearest number of so many places; of two, the even one."""
     return Fraction(round(number * 10**places), 10**places)
 
 
-def places_of(number):
+def places_of(number: Fraction) -> int:
     """Returns how many decimal places a fraction has; raises NotFinite where no number of places is enough."""
     den, twos, fives = number.denominator, 0, 0
     while den % 2 == 0:
@@ -103,7 +107,7 @@ def places_of(number):
     return max(twos, fives)
 
 
-def decimal_text(number):
+def decimal_text(number: Fraction) -> str:
     """Returns a fraction as a plain decimal."""
     places = places_of(number)
     digits = str(abs(number.numerator) * 10**places // number.denominator).rjust(places + 1, "0")
@@ -111,12 +115,38 @@ def decimal_text(number):
     return ("-" if number < 0 else "") + whole + ("." + part if part else "")
 
 
-def places_needed(value):
-    """Returns how many places the shortest text of a float has, which is how many to ask for; None where that is no help."""
-    try:
-        if not isinstance(value, float) and not hasattr(value, "as_integer_ratio"):
-            return None
-        places = places_of(Fraction(repr(float(value)) if isinstance(value, float) else str(value)))
-    except (ValueError, OverflowError):
-        return None
-    return places if places <= MOST_PLACES else None
+def rounded_down(number: Fraction | None) -> float:
+    """Returns the greatest double that is not above a number of 0 or more, and NaN where there is none: so only 1 reads 1."""
+    if number is None:
+        return math.nan
+    near = number.numerator / number.denominator
+    return near if Fraction(near) <= number else math.nextafter(near, -math.inf)
+
+
+def whole_of(text: str) -> int:
+    """Returns the whole number that digits spell, however many there are: Python reads 4,300 of them at once."""
+    if text.startswith("-"):
+        return -whole_of(text[1:])
+    if len(text) <= 4000:
+        return int(text)
+    half = len(text) // 2
+    return whole_of(text[:-half]) * 10**half + whole_of(text[-half:])
+
+
+def fraction_read(text: str) -> Fraction:
+    """Returns the fraction of a text such as 4/5."""
+    num, slash, den = text.partition("/")
+    return Fraction(whole_of(num), whole_of(den) if slash else 1)
+
+
+def written(number: Fraction | int) -> str:
+    """Returns a whole number or a fraction as a text, however long."""
+    if isinstance(number, Fraction):
+        return written(number.numerator) + ("" if number.denominator == 1 else "/" + written(number.denominator))
+    if number < 0:
+        return "-" + written(-number)
+    if number < 10**4000:
+        return str(number)
+    places = int(number.bit_length() * 0.30103) // 2
+    left, right = divmod(number, 10**places)
+    return written(left) + written(right).rjust(places, "0")

@@ -1,48 +1,104 @@
 """What can go wrong."""
 
+from __future__ import annotations
+
+from typing import Any, Sequence
+
 
 class Problem(Exception):
     """Every exception of this package."""
 
 
 class BadData(Problem, ValueError):
-    """The data have not the shape that is asked for; the program was not run."""
+    """The data, or an argument, have not the shape that is asked for; the program was not run."""
+
+
+class WrongColumns(BadData):
+    """A column that is needed is not there: `wanted` are the columns that are asked for, and `found` those that there are."""
+
+    def __init__(self, wanted: Sequence[str], found: Sequence[Any], file: str = "table", hint: str | None = None) -> None:
+        self.wanted, self.found, self.file = list(wanted), [str(name) for name in found], file
+        there = ", ".join(map(repr, self.found)) or "none"
+        said = f"{file}: the columns that are wanted are {', '.join(self.wanted)}; those that were found are {there}"
+        super().__init__(said + (f": {hint}" if hint else ""))
+
+
+class Pooled(BadData):
+    """Two rows have one label, as where several households stand in one frame: `label` is the first that comes again."""
+
+    def __init__(self, label: Any, name: str = "obs", why: str | None = None) -> None:
+        self.label, self.name = label, name
+        super().__init__(
+            (why or f"the label {label!r} of {name} stands at more than one row")
+            + ", so these look like several households, and together they are no table: panel(d, by=..) takes each household apart by"
+            " the column that tells them apart; if they are one household, give each row a label of its own"
+        )
 
 
 class NoProgram(Problem, FileNotFoundError):
-    """The program `rp` is not there."""
+    """Neither the program `rp` nor its library is there."""
+
+
+class NoFile(Problem, FileNotFoundError):
+    """A file that is named cannot be read."""
 
 
 class Failed(Problem, RuntimeError):
     """The program ended without an answer, and not because of the data; `status` and `said` have its own words."""
 
-    def __init__(self, status, said):
+    def __init__(self, status: int, said: str) -> None:
         super().__init__(f"rp ended with status {status}" + (f": {said}" if said else ""))
         self.status = status
         self.said = said
+
+
+class Unreadable(Failed):
+    """The program ended as if it had answered, and what it said is no answer: it is not `rp`, or of another version."""
+
+    def __init__(self, said: str, why: str) -> None:
+        RuntimeError.__init__(
+            self, f"rp ended as with an answer, and this is none that can be read ({why}): {said[:60]!r}; is that program rp, of this version?"
+        )
+        self.status = 0
+        self.said = said
+        self.why = why
 
 
 class Refused(Problem, ValueError):
     """The data were refused.
 
     `fault` is the program's name for it, and `record` and `column` (from 1) the place in the file that the program was given,
-    which `file` names: a `table`, `new` (prices or bundles), `budgets`, `choices` or a `certificate`. `label` is the row's own
-    label in the data, `name` the column's name and `value` what stands there. `budget` and `item` are set where the fault has
-    one. Each is None where the fault has no such place.
+    which `file` names: a `table`, `new` (prices or bundles), `budgets`, `choices`, `menus`, a `technology`, `asked` (outputs) or
+    a `certificate`. `label` is the row's own label in the data, `name` the column's name and `value` what stands there.
+    `budget`, `menu` and `item` are set where the fault has one. Each is None where the fault has no such place. `hint` says what
+    to do.
     """
 
     status = 4
 
-    def __init__(self, fault, file="table", record=None, column=None, budget=None, item=None, label=None, name=None, value=None, hint=None):
+    def __init__(
+        self,
+        fault: str,
+        file: str | None = "table",
+        record: int | None = None,
+        column: int | None = None,
+        budget: int | None = None,
+        menu: int | None = None,
+        item: int | None = None,
+        label: Any = None,
+        name: str | None = None,
+        value: str | None = None,
+        hint: str | None = None,
+    ) -> None:
         self.fault, self.file = fault, file
         self.record, self.column = record, column
-        self.budget, self.item = budget, item
+        self.budget, self.menu, self.item = budget, menu, item
         self.label, self.name, self.value, self.hint = label, name, value, hint
         super().__init__(self._text())
 
-    def _text(self):
+    def _text(self) -> str:
         words = [self.fault]
-        for name in ("budget", "item", "record", "column"):
+        for name in ("budget", "menu", "item", "record", "column"):
             if getattr(self, name) is not None:
                 words += [name, str(getattr(self, name))]
         told = []
@@ -52,5 +108,5 @@ class Refused(Problem, ValueError):
             told.append(f"column {self.name!r}")
         if self.value is not None:
             told.append(f"value {self.value}")
-        place = f"{self.file}: " if self.file != "table" else ""
+        place = f"{self.file}: " if self.file and self.file != "table" else ""
         return place + " ".join(words) + (f" ({', '.join(told)})" if told else "") + (f": {self.hint}" if self.hint else "")

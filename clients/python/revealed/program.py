@@ -1,62 +1,86 @@
 """The program: where it is, and one call of it."""
 
-import csv
-import io
+from __future__ import annotations
+
 import os
 import re
 import shutil
 import subprocess
+import sys
 import tempfile
+from typing import Any, Callable, Iterable, Mapping, Sequence
 
-from .faults import Failed, NoProgram
+from .faults import BadData, Failed, NoProgram
 
 VARIABLE = "RP_EXEC"
-NAME = "rp"
+NAME = "rp.exe" if sys.platform == "win32" else "rp"
+# A name of a file that the program is given stands in a refusal as `rp: table.csv: BadNumber record 2 column 5`.
+REFUSAL = re.compile(r"rp: (?:([\w-]+)\.(?:csv|json): )?([A-Z]\w*(?: (?:record|column|budget|menu|item) \d+)*)")
+# What a field has to be quoted for.
+QUOTED = re.compile('[",\r\n]')
 
 
-def find(exe=None):
-    """Returns the program: the argument, else what the environment variable RP_EXEC names, else `rp` on the path."""
+def find(exe: Any = None) -> str:
+    """Returns the program: the argument, else what the environment variable RP_EXEC names, else what came with the package,
+    else `rp` on the path."""
     for named, where in ((exe, "the argument exe"), (os.environ.get(VARIABLE), f"the variable {VARIABLE}")):
-        if named:
-            found = shutil.which(os.fspath(named))
-            if found is None:
-                raise NoProgram(f"{where} names {os.fspath(named)!r}, which is no program")
-            return os.path.abspath(found)
-    found = shutil.which(NAME)
+        if named is not None and named != "":
+            return _named(named, where)
+    own = os.path.join(os.path.dirname(os.path.abspath(__file__)), NAME)
+    found = own if os.access(own, os.X_OK) and os.path.isfile(own) else shutil.which(NAME)
     if found is None:
-        raise NoProgram(f"there is no {NAME} on the path: say exe=, or set {VARIABLE}")
+        raise NoProgram(f"there is no {NAME} beside the package or on the path: say exe=, or set {VARIABLE}")
     return os.path.abspath(found)
 
 
-def csv_bytes(rows):
-    """Returns rows of texts as the bytes of a CSV file."""
-    out = io.StringIO(newline="")
-    csv.writer(out, lineterminator="\n").writerows(rows)
-    return out.getvalue().encode("utf-8", "surrogateescape")
+def _named(named: Any, where: str) -> str:
+    try:
+        path = os.fspath(named)
+        found = shutil.which(path) if isinstance(path, str) else shutil.which(os.fsdecode(path))
+    except (TypeError, ValueError):
+        raise BadData(f"{where} is the path of the program, and not {named!r}") from None
+    if found is None:
+        raise NoProgram(f"{where} names {path!r}, which is no program")
+    return os.path.abspath(found)
+
+
+def field(text: str) -> str:
+    """Returns a field of a CSV file: quoted where it has a comma, a quote or the end of a line in it."""
+    return '"' + text.replace('"', '""') + '"' if QUOTED.search(text) else text
+
+
+def csv_bytes(rows: Iterable[Sequence[str]]) -> bytes:
+    """Returns rows of texts as the bytes of a CSV file. A row of one empty text is quoted, since blank lines count for nothing."""
+    lines = [",".join(map(field, row)) if list(row) != [""] else '""' for row in rows]
+    try:
+        return "".join(f"{line}\n" for line in lines).encode("utf-8", "surrogateescape")
+    except UnicodeEncodeError as wrong:
+        raise BadData(f"a name or a value is no text: {wrong}") from None
 
 
 class Ran:
     """How a call ended: its status, its output, and its own words on standard error."""
 
-    def __init__(self, status, out, said):
+    def __init__(self, status: int, out: str, said: str) -> None:
         self.status = status
         self.out = out
         self.said = said
 
     @property
-    def refusal(self):
+    def refusal(self) -> tuple[str | None, str, dict[str, int]] | None:
         """Returns the file and the words of a refusal, as in `rp: table.csv: BadNumber record 2 column 5`."""
-        told = re.fullmatch(r"rp: (?:([\w-]+)\.(?:csv|json): )?([A-Z]\w*(?: (?:record|column|budget|item) \d+)*)", self.said)
+        told = REFUSAL.fullmatch(self.said)
         if self.status != 4 or told is None:
             return None
         fault, *places = told[2].split()
         return told[1], fault, {name: int(number) for name, number in zip(places[::2], places[1::2])}
 
 
-def call(words, files, exe=None):
+def call(words: Sequence[str], files: Mapping[str, bytes], exe: Any = None) -> Ran:
     """Runs the program over files that are given by name, in a folder of their own, and returns how it ended.
 
-    A word that is the name of a file stands for it. The folder is the program's own, so no name outside of it matters.
+    A word that is the name of a file stands for it. The folder is the program's own, so no name outside of it matters. The
+    words go to the program as they are: no shell reads them.
     """
     program = find(exe)
     with tempfile.TemporaryDirectory(prefix="revealed-") as folder:
@@ -71,11 +95,14 @@ def call(words, files, exe=None):
     return Ran(ran.returncode, _text(ran.stdout), "\n".join(said))
 
 
-def _text(data):
+def _text(data: bytes) -> str:
     return data.decode("utf-8", "replace")
 
 
-def answer(words, files, exe=None, explain=None):
+Explains = Callable[["str | None", str, "dict[str, int]"], Exception]
+
+
+def answer(words: Sequence[str], files: Mapping[str, bytes], exe: Any = None, explain: Explains | None = None) -> str:
     """Returns the output of a call that ends with status 0; raises what `explain` makes of a refusal, or Failed."""
     ran = call(words, files, exe)
     if ran.status == 0:
@@ -83,3 +110,12 @@ def answer(words, files, exe=None, explain=None):
     if ran.refusal is not None and explain is not None:
         raise explain(*ran.refusal)
     raise Failed(ran.status, ran.said)
+
+
+def whole(value: Any, name: str, least: int, greatest: int) -> int:
+    """Returns a whole number within its limits, before it becomes a word of the program; refuses everything else."""
+    if not isinstance(value, (bool, str, bytes, float)) and hasattr(value, "__index__"):
+        number = value.__index__()
+        if least <= number <= greatest and type(value).__name__ not in ("bool", "bool_"):
+            return int(number)
+    raise BadData(f"{name} is a whole number from {least:,} to {greatest:,}, and not {value!r}")

@@ -1,167 +1,109 @@
-"""Data as the program takes them: tables, new prices, bundles, budgets and choices, each with the labels of its rows.
-
-A frame is pandas' DataFrame or anything with `columns` and columns by name (polars, say), a mapping of names to columns, or
-a list of mappings. Rows are lists, tuples, or a numpy array of two dimensions. Nothing of pandas or numpy is imported.
+"""Data as the program takes them: tables, new prices, bundles, budgets and choices, menus, technologies, each with the labels of
+its rows. What is no number of the program's is refused by it, and the refusal is told by these labels.
 """
 
-from collections.abc import Mapping
+from __future__ import annotations
 
-from . import exact, program
-from .faults import BadData, Refused
+from typing import Any, Iterable, Iterator, Sequence
+
+from . import advice, exact, program
+from .advice import LEVELS, MONEY, PRICES, QUANTITIES, WHOLE
+from .faults import BadData, Refused, WrongColumns
+from .frames import Frame, is_frame, listed, near, need, no_panel, numbered, one_row, own_labels, pairs_of, rows_of, starting, values_of
+
+LEVEL_HINT = "levels are whole thousandths of what was spent, from 1 to 1000: 0.8 of it is 800"
 
 
 class Sheet:
-    """A file for the program: names of columns, rows of values, and a label for each row."""
+    """A file for the program: names of columns, rows of values, and a label for each row.
 
-    def __init__(self, file, names, rows, labels, places):
+    `kinds` says of each column what scales it; `places` how many places were asked for, or None; `wanted` which columns there
+    have to be.
+    """
+
+    def __init__(self, file: str, names: Iterable[Any], rows: list[list[Any]], labels: list[Any], kinds: list[str], places: Any, wanted: str = "") -> None:
         self.file = file
         self.names = [str(name) for name in names]
         self.rows = rows
-        self.labels = unique(labels)
-        self.places = places  # by column: how many places were asked for, or None
+        self.labels = labels
+        self.kinds = kinds
+        self.places = places
+        self.wanted = wanted
         self.texts = [self._texts(number, row) for number, row in enumerate(rows, 1)]
 
-    def _texts(self, record, row):
+    def _texts(self, record: int, row: list[Any]) -> list[str]:
         texts = []
         for place, value in enumerate(row):
             try:
                 texts.append(exact.text_of(value, self.places[place] if place < len(self.places) else None))
             except exact.NotFinite:
-                column = place + 1
-                raise self.refused("TooManyDecimals", {"record": record, "column": column}) from None
+                raise self.refused("TooManyDecimals", {"record": record, "column": place + 1}) from None
         return texts
 
-    def csv(self):
+    def csv(self) -> bytes:
         """Returns the bytes of the file."""
         return program.csv_bytes([self.names, *self.texts])
 
-    def scale(self, *prefixes):
+    def scale(self, *prefixes: str) -> int:
         """Returns the power of ten that makes the numbers whole of all columns whose names begin so."""
         own = [place for place, name in enumerate(self.names) if name.startswith(prefixes)]
-        parts = [row[place].partition(".")[2].rstrip("0") for row in self.texts for place in own]
-        return 10 ** max(map(len, parts), default=0)
+        return self.power(own)
 
-    def refused(self, fault, places):
+    def power(self, columns: Sequence[int]) -> int:
+        """Returns the power of ten that makes the numbers of these columns whole."""
+        parts = [row[place].partition(".")[2].rstrip("0") for row in self.texts for place in columns]
+        return int(10 ** max(map(len, parts), default=0))
+
+    def values(self) -> dict[str, Sequence[Any]]:
+        """Returns the values of each kind, and the names of what has a price."""
+        found: dict[str, list[Any]] = {}
+        for place, kind in enumerate(self.kinds):
+            found.setdefault(kind, []).extend(row[place] for row in self.rows if place < len(row))
+        return {**found, "goods": [name for name, kind in zip(self.names, self.kinds) if kind == PRICES]}
+
+    def refused(self, fault: str, places: dict[str, int]) -> Refused:
         """Returns the refusal of this file, with the row's label, the column's name, what stands there, and a hint."""
         record, column = places.get("record"), places.get("column")
         label = self.labels[record - 1] if record and record <= len(self.labels) else None
         name = self.names[column - 1] if column and column <= len(self.names) else None
         value = shown = None
-        if label is not None and name is not None and record and column <= len(self.rows[record - 1]):
+        kind = self.kinds[column - 1] if name is not None and column else ""
+        if label is not None and name is not None and record and column and column <= len(self.rows[record - 1]):
             value = self.rows[record - 1][column - 1]
             shown = "missing" if exact.is_missing(value) else repr(value) if isinstance(value, str) else str(value)
-        return Refused(fault, self.file, label=label, name=name, value=shown, hint=self._hint(fault, value), **places)
+        return Refused(fault, self.file, label=label, name=name, value=shown, hint=self._hint(fault, value, kind), **places)
 
-    def _hint(self, fault, value):
+    def _hint(self, fault: str, value: Any, kind: str) -> str | None:
+        if fault in ("BadNumber", "BadLevel") and kind == LEVELS:
+            return LEVEL_HINT
         if fault == "BadNumber" and exact.is_missing(value):
             return "leave the row out, or fill it in"
-        if fault == "BadNumber" and exact.fraction_of(value) is not None and exact.fraction_of(value) < 0:
-            return "prices and quantities have no sign"
-        if fault != "TooManyDecimals":
-            return None
         number = exact.fraction_of(value)
-        try:
-            written = exact.decimal_text(number)
-            what = f"this is {written[:24]}{'..' if len(written) > 24 else ''}, and at most {exact.MOST_PLACES} places are taken"
-        except exact.NotFinite:
-            what = f"{number} is no finite decimal"
-        wanted = [exact.places_needed(value) for row in self.rows for value in row]
-        wanted = [places for places in wanted if places is not None]
-        example = max(wanted, default=2) if exact.places_needed(value) is not None else 2
-        return f"{what}; nothing is rounded unasked: places={example} rounds to so many, and a text or a Decimal is taken as it is"
+        if fault == "BadNumber" and number is not None and number < 0:
+            return "prices and quantities have no sign"
+        if fault == "BadNumber" and kind == WHOLE and number is not None:
+            return "this is counted, so it is whole"
+        if fault == "TooManyDecimals" and number is not None:
+            return advice.too_many_places(value, kind, self.values())
+        if fault == "TooLarge" and number is not None:
+            return advice.too_large(value, kind, self.values())
+        if fault == "TooFine":
+            return "it has more places than the table's quantities have: round it to as many, or multiply the new prices and the money by 10"
+        if fault == "OwnLevels":
+            return "this is defined on a table without levels: leave the column 'e', or the argument levels, out"
+        if fault in ("BadHeader", "TwiceNamed"):
+            return "a name has 1 to 64 bytes, none of them a control character, and stands once"
+        if fault in ("Unpaired", "OtherGoods", "Empty"):
+            return f"the columns that are wanted are {self.wanted}; those that were found are {listed(self.names)}" if self.wanted else None
+        return {"NoRecords": "there are no rows", "TooManyGoods": "there are more than 16 goods"}.get(fault)
 
 
-def unique(labels):
-    """Returns the labels, and the numbers of the rows from 1 where two rows have one label or one has none."""
-    labels = list(labels)
-    try:
-        if len(set(labels)) == len(labels) and not any(exact.is_missing(label) for label in labels):
-            return labels
-    except TypeError:
-        pass
-    return list(range(1, len(labels) + 1))
-
-
-# ---- frames
-
-
-def is_frame(data):
-    return isinstance(data, Mapping) or hasattr(data, "columns") or is_records(data)
-
-
-def is_records(data):
-    return isinstance(data, (list, tuple)) and bool(data) and all(isinstance(row, Mapping) for row in data)
-
-
-class Frame:
-    """Columns by name, and the labels of the rows: the column `obs` if there is one, else the frame's index, else 1, 2 .."""
-
-    def __init__(self, data):
-        if is_records(data):
-            self.names = list(dict.fromkeys(name for row in data for name in row))
-            columns = [[row.get(name) for row in data] for name in self.names]
-        elif isinstance(data, Mapping):
-            self.names = list(data)
-            columns = [plain(data[name]) for name in self.names]
-        else:
-            self.names = list(data.columns)
-            if len(set(self.names)) != len(self.names):
-                raise BadData(f"two columns of the frame have one name: {sorted(map(str, self.names))}")
-            columns = [plain(data[name]) for name in self.names]
-        lengths = {len(column) for column in columns}
-        if len(lengths) > 1:
-            raise BadData("the columns of the frame are not all of one length")
-        self.columns = dict(zip(self.names, columns))
-        self.length = lengths.pop() if lengths else 0
-        if "obs" in self.columns:
-            self.labels = self.columns["obs"]
-        elif hasattr(data, "index") and not isinstance(data, (list, tuple)):
-            self.labels = plain(data.index)
-        else:
-            self.labels = list(range(1, self.length + 1))
-
-    def rows(self, names):
-        """Returns the rows of these columns."""
-        return [[self.columns[name][at] for name in names] for at in range(self.length)]
-
-
-def plain(values):
-    """Returns a column or an index as a list of its own values."""
-    return list(values)
-
-
-def starting(names, prefix):
-    """Returns the names that begin so, in their order; refuses one that is nearly so, lest a good be left out unsaid."""
-    found = []
-    for place, name in enumerate(names, 1):
-        if isinstance(name, str) and name.startswith(prefix):
-            found.append(name)
-        elif isinstance(name, str) and name.strip().lower().startswith(prefix):
-            raise Refused("BadHeader", column=place, name=name, hint=f"a column of prices or quantities begins with {prefix!r}")
-    return found
-
-
-# ---- rows without names
-
-
-def rows_of(data, what):
-    """Returns the rows of lists or of an array of two dimensions."""
-    if not hasattr(data, "__iter__"):
-        raise BadData(f"{what}: neither rows nor a frame")
-    rows = []
-    for row in data:
-        if isinstance(row, (str, bytes, Mapping)) or not hasattr(row, "__iter__"):
-            raise BadData(f"{what}: each row is a list with a number for each good")
-        rows.append(plain(row))
-    return rows
-
-
-def pair_of(places):
+def pair_of(places: Any) -> tuple[int | None, int | None]:
     """Returns the places of prices and of quantities: one number for both, or one for each."""
-    prices, quantities = places if isinstance(places, (tuple, list)) else (places, places)
-    for number in (prices, quantities):
-        if number is not None and (type(number) is not int or not 0 <= number <= exact.MOST_PLACES):
-            raise BadData(f"places is a whole number from 0 to {exact.MOST_PLACES}, or two of these")
+    pair = tuple(places) if isinstance(places, (tuple, list)) else (places, places)
+    if len(pair) != 2:
+        raise BadData(f"places is a whole number from 0 to {exact.MOST_PLACES}, or two of these, those of prices and of quantities: {places!r}")
+    prices, quantities = (None if number is None else program.whole(number, "places", 0, exact.MOST_PLACES) for number in pair)
     return prices, quantities
 
 
@@ -169,115 +111,151 @@ def pair_of(places):
 
 
 class Table(Sheet):
-    """Prices and quantities by observation. It is made by `table(p, q)` or `from_frame(d)`, and unpacks into the two."""
+    """Prices and quantities by observation, perhaps with levels. It is made by `table(p, q)` or `from_frame(d)`, and unpacks into
+    the two."""
 
-    def __init__(self, goods, prices, quantities, labels, places=None):
+    def __init__(
+        self,
+        goods: Iterable[Any],
+        prices: list[list[Any]],
+        quantities: list[list[Any]],
+        labels: list[Any],
+        places: Any = None,
+        levels: list[Any] | None = None,
+    ) -> None:
         self.goods = [str(good) for good in goods]
         self.prices = prices
         self.quantities = quantities
+        self.levels = levels
+        self.rounding = places
+        count = len(self.goods)
         names = [*(f"p_{good}" for good in self.goods), *(f"q_{good}" for good in self.goods)]
         rows = [[*p, *q] for p, q in zip(prices, quantities)]
+        kinds = [PRICES] * count + [QUANTITIES] * count
         price_places, quantity_places = pair_of(places)
-        super().__init__("table", names, rows, labels, [price_places] * len(goods) + [quantity_places] * len(goods))
+        asked = [price_places] * count + [quantity_places] * count
+        if levels is not None:
+            names, kinds, asked = [*names, "e"], [*kinds, LEVELS], [*asked, None]
+            rows = [[*row, level] for row, level in zip(rows, levels)]
+        super().__init__("table", names, rows, labels, kinds, asked, "p_NAME and q_NAME for each good")
 
-    def __len__(self):
+    def __len__(self) -> int:
         return len(self.rows)
 
-    def __iter__(self):
+    def __iter__(self) -> Iterator[Side]:
         return iter((Side(self, self.prices), Side(self, self.quantities)))
 
-    def rounded(self, places):
+    def rounded(self, places: Any) -> Table:
         """Returns the same table with so many places."""
-        return self if places is None else Table(self.goods, self.prices, self.quantities, self.labels, places)
+        return self if places is None else Table(self.goods, self.prices, self.quantities, self.labels, places, self.levels)
+
+    def levelled(self, levels: Any) -> Table:
+        """Returns the same table with these levels."""
+        if levels is None:
+            return self
+        if self.levels is not None:
+            raise BadData("levels are given twice: by the column 'e', and by the argument levels")
+        own = values_of(levels, len(self), "levels")
+        return Table(self.goods, self.prices, self.quantities, self.labels, self.rounding, own)
 
     @property
-    def price_scale(self):
+    def price_scale(self) -> int:
         return self.scale("p_")
 
     @property
-    def quantity_scale(self):
+    def quantity_scale(self) -> int:
         return self.scale("q_")
 
 
 class Side:
     """The prices or the quantities of a table, so that `analyse(*from_frame(d))` can be written."""
 
-    def __init__(self, table, rows):
+    def __init__(self, table: Table, rows: list[list[Any]]) -> None:
         self.table = table
         self.rows = rows
 
-    def __iter__(self):
+    def __iter__(self) -> Iterator[list[Any]]:
         return iter(self.rows)
 
-    def __len__(self):
+    def __len__(self) -> int:
         return len(self.rows)
 
 
-def from_frame(d, *, places=None):
-    """Returns the table of a frame with columns `p_NAME` and `q_NAME` for each good, and perhaps `obs`.
+def from_frame(d: Any, *, places: Any = None, levels: Any = None) -> Table:
+    """Returns the table of a frame with columns `p_NAME` and `q_NAME` for each good, and perhaps `obs` and `e`.
 
-    Other columns are left out. Where there is `obs`, it has the labels of the rows; else the frame's index has.
+    Other columns are left out. Where there is `obs`, it has the labels of the rows; else the frame's index has. `e` has a level
+    for each row, in whole thousandths; the argument `levels` gives these too. A label that comes again is refused, and so is a
+    column of households: those are a `panel`.
     """
     if isinstance(d, Table):
-        return d.rounded(places)
+        return d.rounded(places).levelled(levels)
     frame = Frame(d)
-    prices, quantities = starting(frame.names, "p_"), starting(frame.names, "q_")
-    goods = [name[2:] for name in prices]
-    for name, others, prefix in [*((it, quantities, "q_") for it in prices), *((it, prices, "p_") for it in quantities)]:
-        if prefix + name[2:] not in others:
-            raise Refused("Unpaired", column=frame.names.index(name) + 1, name=name, hint=f"there is no column {prefix + name[2:]!r}")
-    return Table(goods, frame.rows(prices), frame.rows([f"q_{good}" for good in goods]), frame.labels, places)
+    goods = pairs_of(frame, "p_", "q_", "table")
+    no_panel(frame, ["p_" + good for good in goods])
+    labels = own_labels(frame.labels, frame.label_name)
+    own = frame.columns["e"] if near(frame, "e", "levels") else None
+    prices, quantities = frame.rows(f"p_{good}" for good in goods), frame.rows(f"q_{good}" for good in goods)
+    return Table(goods, prices, quantities, labels, places, own).levelled(levels)
 
 
-def table(p, q=None, *, places=None):
+def table(p: Any, q: Any = None, *, places: Any = None, levels: Any = None) -> Table:
     """Returns the table of prices p and quantities q: nested lists or arrays, a row for each observation, or two frames.
 
     The columns of two frames are matched by name, where `p_` and `q_` in front do not count, and their rows by their
     labels, which have to be the same in the same order.
     """
     if q is None:
-        return from_frame(p, places=places)
+        if not isinstance(p, Table) and not is_frame(p):
+            rows_of(p, "prices")
+            raise BadData("there are no quantities: prices p and quantities q are two lists, arrays or frames, or a frame has both")
+        return from_frame(p, places=places, levels=levels)
     if isinstance(p, Side) and isinstance(q, Side) and p.table is q.table:
-        return p.table.rounded(places)
+        return p.table.rounded(places).levelled(levels)
     if is_frame(p) != is_frame(q):
         raise BadData("prices and quantities are two frames, or two lists or arrays")
     if is_frame(p):
-        return _of_frames(Frame(p), Frame(q), places)
+        return _of_frames(Frame(p, "prices"), Frame(q, "quantities"), places).levelled(levels)
     prices, quantities = rows_of(p, "prices"), rows_of(q, "quantities")
     if [len(row) for row in prices] != [len(row) for row in quantities]:
         raise BadData("prices and quantities have not the same shape")
     if len({len(row) for row in prices}) > 1:
         raise BadData("the rows of prices are not all of one length")
     goods = range(1, len(prices[0]) + 1) if prices else []
-    return Table(goods, prices, quantities, range(1, len(prices) + 1), places)
+    return Table(goods, prices, quantities, list(range(1, len(prices) + 1)), places).levelled(levels)
 
 
-def _of_frames(p, q, places):
+def _of_frames(p: Frame, q: Frame, places: Any) -> Table:
     price_of, quantity_of = _goods(p, "p_"), _goods(q, "q_")
     if set(price_of) != set(quantity_of):
-        raise BadData(f"prices and quantities are not of the same goods: {sorted(set(price_of) ^ set(quantity_of))}")
+        raise BadData(
+            f"prices and quantities are not of the same goods: {sorted(set(price_of) ^ set(quantity_of))}; "
+            f"the columns of prices are {listed(p.names)}, those of quantities {listed(q.names)}"
+        )
     if len(p.labels) != len(q.labels) or any(a != b for a, b in zip(p.labels, q.labels)):
         raise BadData("the rows of prices and quantities have not the same labels in the same order")
-    goods = list(price_of)
-    return Table(goods, p.rows(price_of.values()), q.rows([quantity_of[good] for good in goods]), p.labels, places)
+    goods, labels = list(price_of), own_labels(p.labels, p.label_name)
+    return Table(goods, p.rows(price_of.values()), q.rows(quantity_of[good] for good in goods), labels, places)
 
 
-def _goods(frame, prefix):
+def _goods(frame: Frame, prefix: str) -> dict[str, Any]:
     """Returns the name of each good's column."""
-    names = [name for name in frame.names if name != "obs"]
-    found = {}
-    for name in names:
-        good = str(name)[2:] if str(name).startswith(prefix) else str(name)
-        if good in found:
-            raise BadData(f"two columns are of the good {good!r}")
-        found[good] = name
+    found: dict[str, Any] = {}
+    if "e" in frame.columns and any(str(name).startswith(prefix) for name in frame.names):
+        raise BadData(f"a column 'e' among columns that begin with {prefix!r}: levels are given by the argument levels here")
+    for name in frame.names:
+        if name != "obs":
+            good = str(name)[2:] if str(name).startswith(prefix) else str(name)
+            if good in found:
+                raise BadData(f"two columns are of the good {good!r}")
+            found[good] = name
     return found
 
 
-# ---- what stands beside a table, and budgets with choices
+# ---- what stands beside a table
 
 
-def beside(table, data, prefix, more=None, values=None, places=None):
+def beside(table: Table, data: Any, prefix: str, more: str | None = None, values: Any = None, places: Any = None) -> Sheet:
     """Returns new prices (`p_`) or bundles (`q_`) of a table's goods, and where `more` names one a column more.
 
     The data are a frame, which may have that column too, or rows, or one row; else its values are one for each row or one
@@ -285,66 +263,139 @@ def beside(table, data, prefix, more=None, values=None, places=None):
     """
     own = pair_of(places)[0 if prefix == "p_" else 1]
     if is_frame(data):
-        frame = Frame(one_row(data))
+        frame = Frame(one_row(data), "new")
         columns = {good: name for good, name in _goods(frame, prefix).items() if name != more}
         header, rows, labels = [prefix + good for good in columns], frame.rows(columns.values()), frame.labels
         values = frame.columns.get(more) if values is None else values
     else:
         rows = rows_of(data if _has_rows(data) else [data], "new")
-        header, labels = [prefix + good for good in table.goods], range(1, len(rows) + 1)
+        header, labels = [prefix + good for good in table.goods], list(range(1, len(rows) + 1))
         if any(len(row) != len(header) for row in rows):
             raise BadData(f"each row has a number for each of the {len(header)} goods")
+    kinds, asked = [PRICES if prefix == "p_" else QUANTITIES] * len(header), [own] * len(header)
+    wanted = ", ".join([*(prefix + good for good in table.goods), *([more] if more else [])])
     if more is not None and values is not None:
-        values = plain(values) if hasattr(values, "__iter__") and not isinstance(values, str) else [values] * len(rows)
-        if len(values) != len(rows):
-            raise BadData(f"{more}: there is not one for each row")
+        values = values_of(values, len(rows), more)
         header, rows = [*header, more], [[*row, value] for row, value in zip(rows, values)]
-    return Sheet("new", header, rows, labels, [own] * len(header))
+        kinds, asked = [*kinds, MONEY], [*asked, own]
+    return Sheet("new", header, rows, numbered(labels), kinds, asked, wanted)
 
 
-def _has_rows(data):
+def _has_rows(data: Any) -> bool:
+    if isinstance(data, (str, bytes)) or not hasattr(data, "__iter__"):
+        raise BadData(f"new: neither a row, nor rows, nor a frame: {data!r}")
     return all(hasattr(row, "__iter__") and not isinstance(row, str) for row in data)
 
 
-def one_row(data):
-    """Returns a mapping of names to single numbers as one of names to columns."""
-    if isinstance(data, Mapping) and not any(hasattr(it, "__iter__") and not isinstance(it, str) for it in data.values()):
-        return {name: [value] for name, value in data.items()}
-    return data
+# ---- budgets with choices
 
 
 class Choices:
     """Budgets, the choices from them, and the units that were asked for."""
 
-    def __init__(self, budgets, choices, per, places=None):
+    def __init__(self, budgets: Any, choices: Any, per: int | None, places: Any = None) -> None:
         price_places, quantity_places = pair_of(places)
-        self.per = per
-        self.budgets = _sheet("budgets", budgets, "p_", ["w"], {"p_": price_places, "w": price_places})
-        self.choices = _sheet("choices", choices, "q_", ["budget", "n"], {"q_": quantity_places})
+        self.per = None if per is None else program.whole(per, "per", 1, 1_000_000_000)
+        self.budgets = _sheet("budgets", budgets, "p_", ["w"], {"p_": (PRICES, price_places), "w": (MONEY, price_places)})
+        others = {"q_": (QUANTITIES, quantity_places), "budget": (WHOLE, None), "n": (WHOLE, None)}
+        self.choices = _sheet("choices", choices, "q_", ["budget", "n"], others)
         if is_frame(budgets) and "obs" in Frame(budgets).columns:
             self._number_budgets()
 
-    def _number_budgets(self):
+    def _number_budgets(self) -> None:
         """Writes the number of each budget in place of its label."""
         numbers = {label: number for number, label in enumerate(self.budgets.labels, 1)}
         place = self.choices.names.index("budget")
         for record, row in enumerate(self.choices.rows, 1):
-            if row[place] not in numbers:
-                raise self.choices.refused("UnknownBudget", {"record": record, "column": place + 1})
-            self.choices.texts[record - 1][place] = str(numbers[row[place]])
+            try:
+                self.choices.texts[record - 1][place] = str(numbers[row[place]])
+            except (KeyError, TypeError):
+                raise self.choices.refused("UnknownBudget", {"record": record, "column": place + 1}) from None
 
 
-def _sheet(file, data, prefix, others, places):
+def _sheet(file: str, data: Any, prefix: str, others: list[str], kinds: dict[str, tuple[str, int | None]]) -> Sheet:
+    wanted = f"{prefix}NAME for each good, {', '.join(others)}"
+    labels: list[Any]
     if is_frame(data):
-        frame = Frame(data)
-        names = [*starting(frame.names, prefix), *(name for name in others if name in frame.columns)]
-        header, rows, labels = names, frame.rows(names), frame.labels
+        frame = Frame(data, file)
+        goods = starting(frame.names, prefix)
+        if not goods or any(name not in frame.columns for name in others):
+            raise WrongColumns(wanted.split(", "), frame.names, file)
+        names = [*goods, *others]
+        header, rows = names, frame.rows(names)
+        labels = own_labels(frame.labels, frame.label_name) if file == "budgets" and "obs" in frame.columns else numbered(frame.labels)
     else:
         rows = rows_of(data, file)
-        goods = range(1, (len(rows[0]) if rows else 0) - len(others) + 1)
-        header = [*(f"{prefix}{good}" for good in goods), *others]
+        numbers = range(1, (len(rows[0]) if rows else 0) - len(others) + 1)
+        header = [*(f"{prefix}{good}" for good in numbers), *others]
         if others[0] == "budget":
-            header = ["budget", *(f"{prefix}{good}" for good in goods), "n"]
-        labels = range(1, len(rows) + 1)
-    asked = [next((number for start, number in places.items() if name.startswith(start)), None) for name in header]
-    return Sheet(file, header, rows, labels, asked)
+            header = ["budget", *(f"{prefix}{good}" for good in numbers), "n"]
+        labels = list(range(1, len(rows) + 1))
+    of = [kinds.get(name, kinds.get(name[:2], (WHOLE, None))) for name in map(str, header)]
+    return Sheet(file, header, rows, labels, [kind for kind, _ in of], [asked for _, asked in of], wanted)
+
+
+# ---- menus, and firms
+
+
+class MenuChoices(Sheet):
+    """Choices from menus, and the units that were asked for: a frame with `menu`, `choice` and `n`, or rows of these three."""
+
+    def __init__(self, data: Any, per: int | None) -> None:
+        self.per = None if per is None else program.whole(per, "per", 1, 1_000_000_000)
+        names = ["menu", "choice", "n"]
+        labels: list[Any]
+        if is_frame(data):
+            frame = Frame(data, "menus")
+            need(frame, names, names, "menus")
+            rows, labels = frame.rows(names), numbered(frame.labels)
+        else:
+            rows = rows_of(data, "menus")
+            labels = list(range(1, len(rows) + 1))
+            if any(len(row) != 3 for row in rows):
+                raise BadData("menus: each row is a menu, the letter that was chosen, and how many times")
+        super().__init__("menus", names, rows, labels, ["letters", "letters", WHOLE], [None] * 3, ", ".join(names))
+
+    def _texts(self, record: int, row: list[Any]) -> list[str]:
+        # a menu and a letter stand as they are, with their blanks
+        return [*(it if isinstance(it, str) else str(it) for it in row[:2]), exact.text_of(row[2])]
+
+    def _hint(self, fault: str, value: Any, kind: str) -> str | None:
+        if fault == "BadMenu":
+            return "a menu is one to six of the letters a to f, each after the one before it, without blanks"
+        return "the letter that was chosen is one of its menu" if fault == "BadChoice" else super()._hint(fault, value, kind)
+
+
+class Technology(Sheet):
+    """What a firm was seen to do: for each input its price `w_NAME` and how much of it was used, `x_NAME`; the output `y`, and its
+    price `p` where this is known."""
+
+    def __init__(self, data: Any, places: Any = None) -> None:
+        frame = Frame(data, "technology")
+        others = ["y", "p (where the output has a price)"]
+        self.inputs = pairs_of(frame, "w_", "x_", "technology", others)
+        wanted = [*("w_" + name for name in self.inputs), *("x_" + name for name in self.inputs), *others]
+        need(frame, ["y"], wanted, "technology")
+        no_panel(frame, [])
+        self.priced = near(frame, "p", "prices of the output")
+        names = [*("w_" + name for name in self.inputs), *(["p"] if self.priced else []), *("x_" + name for name in self.inputs), "y"]
+        kinds = [PRICES if name.startswith("w_") or name == "p" else QUANTITIES for name in names]
+        prices, quantities = pair_of(places)
+        asked = [prices if kind == PRICES else quantities for kind in kinds]
+        super().__init__("technology", names, frame.rows(names), own_labels(frame.labels, frame.label_name), kinds, asked, ", ".join(wanted))
+
+    def __len__(self) -> int:
+        return len(self.rows)
+
+    @property
+    def quantity_scale(self) -> int:
+        return self.power([place for place, kind in enumerate(self.kinds) if kind == QUANTITIES])
+
+    def asked(self, data: Any, places: Any = None) -> Sheet:
+        """Returns the outputs that are asked of it at new prices of its inputs."""
+        frame = Frame(one_row(data), "asked")
+        names = [*("w_" + name for name in self.inputs), "y"]
+        need(frame, names, names, "asked")
+        prices, quantities = pair_of(places)
+        kinds, own = [PRICES] * len(self.inputs) + [QUANTITIES], [prices] * len(self.inputs) + [quantities]
+        return Sheet("asked", names, frame.rows(names), numbered(frame.labels), kinds, own, ", ".join(names))

@@ -110,7 +110,7 @@ multiplier_exists (suc b) cost own count u s positive =
 
 -- ---- the utility of a class
 
-least_of : (b : ℕ) (P : ℕ → Type 0) (f : ℕ → ℤ) → ((i : ℕ) → P i ⊎ ¬ P i) → ((i : ℕ) → i < b → ¬ P i) ⊎ ((i : ℕ) × (i < b) × P i × ((j : ℕ) → j < b → P j → f i ≤ℤ f j))
+pub least_of : (b : ℕ) (P : ℕ → Type 0) (f : ℕ → ℤ) → ((i : ℕ) → P i ⊎ ¬ P i) → ((i : ℕ) → i < b → ¬ P i) ⊎ ((i : ℕ) × (i < b) × P i × ((j : ℕ) → j < b → P j → f i ≤ℤ f j))
 least_of zero P f decide = inl (λ i l. absurd (omega arith))
 least_of (suc b) P f decide = go (least_of b P f decide) (decide b)
   where

@@ -36,6 +36,7 @@ pub mod SameItems
 pub mod SameProducts
 pub mod SameSums
 mod Examples
+pub mod Utilities
 pub mod Values
 pub mod Violations
 pub mod Walks

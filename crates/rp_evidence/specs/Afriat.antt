@@ -40,6 +40,10 @@ pub record IsUtilityBy (n : ℕ) (own : ℕ → ℕ) (utility : ℕ → ℤ) (mu
   pub reached : (s : ℕ) × (s < n) × (value ≡ allowed_for_by own utility multiplier den cost s)
   pub least : (s : ℕ) → s < n → value ≤ℤ allowed_for_by own utility multiplier den cost s
 
+-- Just one number has the property.
+abbrev pub HasJustOne : (ℤ → Type 0) → Type 0
+HasJustOne P = (x : ℤ) × P x × ((y : ℤ) → P y → y ≡ x)
+
 abbrev pub IsUtility : ℕ → (ℕ → ℕ → ℕ) → (ℕ → ℤ) → (ℕ → ℕ) → ℕ → (ℕ → ℕ) → ℤ → Type 0
 IsUtility n c = IsUtilityBy n (spent c)
 

@@ -1,5 +1,5 @@
 -- Bounds on the money metric: what it costs at new prices to be as well off as at an observation (after Varian 1982).
-use Rattle.std.specs.Prelude.{◌≡◌, ℕ, ◌*◌, ◌<◌, ◌≤◌, ℤ, pos, ◌*ℤ◌, ◌≤ℤ◌, List}
+use Rattle.std.specs.Prelude.{◌≡◌, ℕ, ◌*◌, ◌<◌, ◌≤◌, ℤ, pos, ◌*ℤ◌, ◌≤ℤ◌, ◌<ℤ◌, List}
 use Rattle.rp_evidence.specs.Afriat.{IsUtility}
 use Rattle.rp_evidence.specs.Demand.{FractionBundle, spending}
 use Rattle.rp_evidence.specs.Enumeration.{Enumerates}
@@ -39,11 +39,22 @@ ListsReached input t reached = Enumerates input.n (EqualsOrReaches input t) reac
 
 -- ---- as good as an observation, in an Afriat model
 
+-- The utility of a bundle of fractions by the numbers of the model, times its denominator.
+abbrev pub IsUtilityOf : TableInput → (ℕ → ℤ) → (ℕ → ℕ) → FractionBundle → ℤ → Type 0
+IsUtilityOf input utility multiplier bundle = IsUtility input.n input.cost utility multiplier bundle.den
+    (λ s. spending input.goods (input.price s) bundle.num)
+
 -- By the numbers of the model the bundle is as good as observation t or better: it has at least the utility of t.
 pub record IsAsGoodAs (input : TableInput) (utility : ℕ → ℤ) (multiplier : ℕ → ℕ) (bundle : FractionBundle)
     (t : ℕ) : Type 0 where
   pub fraction : 0 < bundle.den
   pub value : ℤ
-  pub value_is : IsUtility input.n input.cost utility multiplier bundle.den
-      (λ s. spending input.goods (input.price s) bundle.num) value
+  pub value_is : IsUtilityOf input utility multiplier bundle value
   pub at_least : (pos bundle.den *ℤ utility t) ≤ℤ value
+
+-- By the numbers of the model the bundle has less utility than observation t.
+pub record IsWorseThan (input : TableInput) (utility : ℕ → ℤ) (multiplier : ℕ → ℕ) (bundle : FractionBundle)
+    (t : ℕ) : Type 0 where
+  pub value : ℤ
+  pub value_is : IsUtilityOf input utility multiplier bundle value
+  pub less : value <ℤ (pos bundle.den *ℤ utility t)

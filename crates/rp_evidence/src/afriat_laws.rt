@@ -1,11 +1,16 @@
-ghost use Rattle.std.specs.Prelude.{◌≡◌, ◌↔◌, ◌<◌, ◌≤◌, ◌*◌, [], ℕ, ℤ, List, pos, ◌*ℤ◌, ◌≤ℤ◌};
+ghost use Rattle.std.specs.Prelude.{◌≡◌, ◌↔◌, ◌<◌, ◌≤◌, ◌*◌, ◌⊎◌, [], ℕ, ℤ, List, pos, ◌*ℤ◌};
+ghost use Rattle.std.specs.Prelude.{◌≤ℤ◌};
 ghost use Rattle.rp_table.specs.OwnLevels.{level_scale, own_by_level};
-ghost use Rattle.rp_evidence.specs.Afriat.{IsAfriatModel, IsOwnModel, IsOwnUtility, IsUtility};
+ghost use Rattle.rp_evidence.specs.Afriat.{HasJustOne, IsAfriatModel, IsOwnModel, IsOwnUtility};
+ghost use Rattle.rp_evidence.specs.Afriat.{IsUtility};
 ghost use Rattle.rp_evidence.specs.AfriatEvidence.{ProvesAfriat, ProvesOwnAfriat};
+ghost use Rattle.rp_evidence.specs.Demand.{FractionBundle};
 ghost use Rattle.rp_evidence.specs.Garp.{HasNoViolation, IsViolation};
+ghost use Rattle.rp_evidence.specs.Input.{TableInput};
 ghost use Rattle.rp_evidence.specs.Preference.{StrictByLevels, WeakByLevels};
 ghost use Rattle.rp_evidence.specs.StandardNumbers.{AllFit, AreOwnStandardNumbers};
 ghost use Rattle.rp_evidence.specs.StandardNumbers.{AreStandardNumbers, PassWidthFirstAt};
+ghost use Rattle.rp_evidence.specs.Welfare.{IsAsGoodAs, IsUtilityOf, IsWorseThan};
 ghost use Rattle.rp_evidence.specs.declared.afriat.AfriatPart.{AfriatPart};
 
 /// Where an Afriat model exists, no violation does.
@@ -24,8 +29,8 @@ pub fn models_exist()
         × IsOwnModel n levels c utility multiplier }
 {}
 
-/// Under every Afriat model the utility at the bundle of an observation is at least its number, and is its number where
-/// the observation is held to all that it spent.
+/// Under every Afriat model the utility at the bundle of an observation (`bundles_have_one_utility`) is at least its
+/// number, and is its number where the observation is held to all that it spent.
 pub fn observed_utilities()
     ensures at_least { (n t : ℕ) (levels : List ℕ) (c : ℕ → ℕ → ℕ)
         (utility : ℕ → ℤ) (multiplier : ℕ → ℕ) (value : ℤ)
@@ -39,8 +44,8 @@ pub fn observed_utilities()
         → IsOwnUtility n levels c utility multiplier 1 (λ s. c s t) (utility t) }
 {}
 
-/// A bundle that costs no more at the prices of an observation than what that is held to has at most its number as
-/// utility, under any numbers.
+/// A bundle that costs no more at the prices of an observation than what that is held to has at most its number as its
+/// utility (`bundles_have_one_utility`), under any numbers.
 pub fn affordable_utilities()
     ensures { (n den t : ℕ) (levels : List ℕ) (c : ℕ → ℕ → ℕ)
         (utility : ℕ → ℤ) (multiplier cost : ℕ → ℕ) (value : ℤ)
@@ -49,12 +54,19 @@ pub fn affordable_utilities()
         → value ≤ℤ (pos den *ℤ utility t) }
 {}
 
-/// A bundle has one utility.
-pub fn utilities_are_unique()
-    ensures { (n den : ℕ) (levels : List ℕ) (c : ℕ → ℕ → ℕ)
-        (utility : ℕ → ℤ) (multiplier cost : ℕ → ℕ) (x y : ℤ)
-        → IsOwnUtility n levels c utility multiplier den cost x
-        → IsOwnUtility n levels c utility multiplier den cost y → x ≡ y }
+/// Under any numbers every bundle has a utility, one of fractions too, and one only: the laws that take the utility of a
+/// bundle as given speak of this one. So by the numbers each bundle is as good as an observation or worse.
+pub fn bundles_have_one_utility()
+    ensures by_levels { (n den : ℕ) (levels : List ℕ) (c : ℕ → ℕ → ℕ)
+        (utility : ℕ → ℤ) (multiplier cost : ℕ → ℕ) → 1 ≤ n
+        → HasJustOne (IsOwnUtility n levels c utility multiplier den cost) }
+    ensures of_fractions { (input : TableInput) (utility : ℕ → ℤ) (multiplier : ℕ → ℕ)
+        (bundle : FractionBundle) → 1 ≤ input.n
+        → HasJustOne (IsUtilityOf input utility multiplier bundle) }
+    ensures as_good_or_worse { (input : TableInput) (utility : ℕ → ℤ) (multiplier : ℕ → ℕ)
+        (bundle : FractionBundle) (t : ℕ) → 1 ≤ input.n → 0 < bundle.den
+        → IsAsGoodAs input utility multiplier bundle t
+        ⊎ IsWorseThan input utility multiplier bundle t }
 {}
 
 /// The standard numbers exist, without any width.

@@ -21,9 +21,9 @@ mod welfare_laws;
 
 pub use afriat::{AfriatPart, MULTIPLIER_WIDTH, Numbers, UTILITY_WIDTH};
 pub use afriat_laws::{
-    affordable_utilities, afriat_without_levels, fitting_numbers_pass_nowhere,
-    models_exclude_violations, models_exist, observed_utilities, standard_numbers_are_a_model,
-    standard_numbers_are_unique, standard_numbers_exist, utilities_are_unique,
+    affordable_utilities, afriat_without_levels, bundles_have_one_utility,
+    fitting_numbers_pass_nowhere, models_exclude_violations, models_exist, observed_utilities,
+    standard_numbers_are_a_model, standard_numbers_are_unique, standard_numbers_exist,
     width_is_passed_first_once,
 };
 pub use certificate::{Certificate, Item, Kind, withheld};

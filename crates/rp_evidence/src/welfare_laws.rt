@@ -2,7 +2,7 @@
 ghost use Rattle.std.specs.Prelude.{◌<◌, ℕ, ℤ, List, pos, ◌*ℤ◌, ◌≤ℤ◌};
 ghost use Rattle.rp_farkas.specs.EqualPair.{IsEqualPair};
 ghost use Rattle.rp_farkas.specs.Ray.{IsRay};
-ghost use Rattle.rp_evidence.specs.Afriat.{IsAfriatModel, IsUtility};
+ghost use Rattle.rp_evidence.specs.Afriat.{IsAfriatModel};
 ghost use Rattle.rp_evidence.specs.BoundEvidence.{NoneWorthMore};
 ghost use Rattle.rp_evidence.specs.Demand.{FractionBundle, spending};
 ghost use Rattle.rp_evidence.specs.DemandEvidence.{ProvesWelfare};
@@ -10,7 +10,7 @@ ghost use Rattle.rp_evidence.specs.Garp.{MeetsGarp};
 ghost use Rattle.rp_evidence.specs.Input.{TableInput};
 ghost use Rattle.rp_evidence.specs.LeastCost.{least_cost_program};
 ghost use Rattle.rp_evidence.specs.Welfare.{EqualsOrReaches, IsInRegion, IsLowerWelfare};
-ghost use Rattle.rp_evidence.specs.Welfare.{ListsReached};
+ghost use Rattle.rp_evidence.specs.Welfare.{IsUtilityOf, ListsReached};
 ghost use Rattle.rp_evidence.specs.WelfareModels.{HoldsInEveryModel};
 ghost use Rattle.rp_evidence.specs.declared.demand.WelfarePart.{WelfarePart};
 
@@ -20,8 +20,7 @@ pub fn welfare_bounds_hold()
     ensures region { (input : TableInput) (utility : ℕ → ℤ) (multiplier : ℕ → ℕ) (t : ℕ)
         (bundle : FractionBundle) (value : ℤ)
         → IsAfriatModel input.n input.cost utility multiplier → 0 < bundle.den
-        → IsUtility input.n input.cost utility multiplier bundle.den
-        (λ s. spending input.goods (input.price s) bundle.num) value
+        → IsUtilityOf input utility multiplier bundle value
         → (pos bundle.den *ℤ utility t) ≤ℤ value → IsInRegion input t bundle }
     ensures reaching { (input : TableInput) (utility : ℕ → ℤ) (multiplier : ℕ → ℕ) (s t : ℕ)
         → IsAfriatModel input.n input.cost utility multiplier

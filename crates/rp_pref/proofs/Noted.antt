@@ -12,7 +12,7 @@ use Rattle.rp_rounds.proofs.Throughs.{through_ends_below}
 use Rattle.rp_pref.specs.InnerBits.{has_bit, HoldsBits}
 use Rattle.rp_pref.specs.Closure.{IsClosureOf, IsCountIn, reached_by, reaches_in}
 use Rattle.rp_pref.proofs.ClosureLemmas.{counted, equals_or_reaches_in}
-use Rattle.rp_pref.proofs.Tables.{reaches_in_by}
+use Rattle.rp_rounds.proofs.Tabulated.{reaches_in_by}
 use Rattle.rp_pref.proofs.BitCounts.{none_after, counted_with}
 
 -- ---- one row of steps

@@ -8,13 +8,13 @@ ghost use Rattle.rp_table.specs.Cost.{CostTable, cost_at};
 ghost use Rattle.rp_pref.specs.InnerBits.{has_bit};
 ghost use Rattle.rp_pref.specs.Closure.{AreCounted, EqualsOrReachesIn, IsClosureOf, IsCountIn};
 ghost use Rattle.rp_pref.specs.Closure.{IsWeakClosureOf, Reached, reaches_in};
-ghost use Rattle.rp_pref.specs.Steps.{IsStep, OwnWeak, StepOf};
+ghost use Rattle.rp_pref.specs.Steps.{IsStep, OwnStrict, OwnWeak, StepOf};
 ghost use Rattle.rp_pref.specs.declared.steps.Steps.{Steps};
 
 use crate::bits::{close, count_set, is_set, set, words_for};
 use crate::revealed::{AtLevel, OwnLevels, Revealed, has_step};
 use crate::steps::Steps;
-use rp_evidence::Level;
+use rp_evidence::{Level, Relation};
 use rp_grid::Grid;
 use rp_num::{NoMemory, Seq};
 use rp_table::Costs;
@@ -120,11 +120,18 @@ impl Closure {
     }
 }
 
-/// How many observations a closure reaches from `s`, with `s` itself among them, is the count of `s`.
-pub fn closures_count()
-    ensures { (reached : Reached) (costs : CostTable) (steps : Steps) (num den s k : ℕ)
+/// How many observations a closure reaches from `s`, with `s` itself among them, is the count of `s`, over every relation.
+/// So it is over the steps of either kind that costs reveal, at a level or where each observation is held to its own.
+pub fn closures_count<R: Relation>()
+    ensures of_a_relation { (reached : Reached) (n s k : ℕ) → IsClosureOf reached n R.step → s < n
+        → IsCountIn reached s k → IsCount n R.step s k }
+    ensures at_a_level { (reached : Reached) (costs : CostTable) (steps : Steps) (num den s k : ℕ)
         → IsClosureOf reached costs.n (IsStep steps (cost_at costs) num den) → s < costs.n
         → IsCountIn reached s k → IsCount costs.n (IsStep steps (cost_at costs) num den) s k }
+    ensures by_own_levels { (reached : Reached) (costs : CostTable) (steps : Steps) (s k : ℕ)
+        → IsClosureOf reached costs.n (StepOf steps (OwnWeak costs) (OwnStrict costs)) → s < costs.n
+        → IsCountIn reached s k
+        → IsCount costs.n (StepOf steps (OwnWeak costs) (OwnStrict costs)) s k }
 {}
 
 /// Notes the chosen steps from every observation.

@@ -1,3 +1,4 @@
 pub mod BitLemmas
 pub mod Rounds
+pub mod Tabulated
 pub mod Throughs

@@ -97,7 +97,7 @@ lex_asym n f g h k = elim (cases_lt h.place k.place) [
   ]
 ]
 
-lex_same : (n : ℕ) (f g f' g' : ℕ → ℤ) → ((j : ℕ) → j < n → f j ≡ f' j) → ((j : ℕ) → j < n → g j ≡ g' j) → IsLexLess n f g → IsLexLess n f' g'
+pub lex_same : (n : ℕ) (f g f' g' : ℕ → ℤ) → ((j : ℕ) → j < n → f j ≡ f' j) → ((j : ℕ) → j < n → g j ≡ g' j) → IsLexLess n f g → IsLexLess n f' g'
 lex_same n f g f' g' e k h = record {
   place = h.place;
   in_range = h.in_range;

@@ -21,6 +21,7 @@ pub mod Entries
 pub mod Runs
 pub mod OutcomeLemmas
 pub mod Determined
+pub mod Growing
 pub mod Same
 pub mod Outcomes
 pub mod Examples

@@ -1,6 +1,7 @@
 pub mod ExactTableau
 pub mod FirstTableau
 pub mod Lexicographic
+pub mod Growth
 pub mod Choice
 pub mod Width
 pub mod Pivot

@@ -19,7 +19,8 @@ mod tableau;
 mod width;
 
 pub use laws::{
-    outcomes_are_evidence, same_programs_have_the_same_outcomes, the_run_is_determined,
+    each_step_grows, outcomes_are_evidence, same_programs_have_the_same_outcomes,
+    the_run_is_determined,
 };
 pub use outcome::Outcome;
 pub use simplex::maximize;

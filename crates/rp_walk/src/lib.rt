@@ -3,6 +3,7 @@
 
 mod cycle;
 mod laws;
+mod limits;
 mod outcome;
 mod round;
 mod total;
@@ -10,6 +11,7 @@ mod total;
 pub use laws::{
     least_totals_leave_no_fall, long_walk_holds_closed_part, one_cycle_is_cut_from_rounds,
 };
+pub use limits::limits_in_numbers;
 pub use outcome::{Settled, settle};
 pub use total::Total;
 

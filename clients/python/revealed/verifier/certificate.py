@@ -168,9 +168,19 @@ def _text(value):
 
 
 def _digits(value):
-    if not re.fullmatch("0|[1-9][0-9]{0,999}", _text(value)):
+    if not re.fullmatch("0|[1-9][0-9]*", _text(value)):
         raise _Wrong
-    return int(value)
+    return whole_number(value)
+
+
+def whole_number(text):
+    """Returns the whole number that digits spell, however many there are: Python reads 4,300 of them at once."""
+    if text.startswith("-"):
+        return -whole_number(text[1:])
+    if len(text) <= 4000:
+        return int(text)
+    half = len(text) // 2
+    return whole_number(text[:-half]) * 10**half + whole_number(text[-half:])
 
 
 def read(data, kind):

@@ -1,0 +1,100 @@
+"""What to do about a refusal: how many places fit, and what is taken of a number."""
+
+from __future__ import annotations
+
+from fractions import Fraction
+from typing import Any, Iterable, Sequence
+
+from . import exact
+
+LARGEST = 9_999_999
+LARGEST_MONEY = 1_600_000_000_000_000
+# What is scaled by one power of ten, by the name that a column has in a sheet.
+PRICES, QUANTITIES, LEVELS, MONEY, WHOLE = "prices", "quantities", "levels", "money", "whole numbers"
+MEANT = "docs/USING.md, 'A table that keeps its verdict'"
+
+
+def numbers(values: Iterable[Any]) -> list[Fraction]:
+    """Returns those of the values that are numbers."""
+    found = (exact.fraction_of(value) for value in values)
+    return [number for number in found if number is not None]
+
+
+def places_that_fit(values: Iterable[Any]) -> int | None:
+    """Returns the most places to which all of them can be rounded so that none is too large made whole; None where there is none.
+
+    The numbers of a kind are made whole by one power of ten, and none may be above 9,999,999 then: 7 digits of the largest one.
+    """
+    largest = max(numbers(values), default=Fraction(0))
+    return next((places for places in range(exact.MOST_PLACES, -1, -1) if exact.rounded(largest, places) * 10**places <= LARGEST), None)
+
+
+def is_too_fine(value: Any) -> bool:
+    """Whether a number has more places than are taken."""
+    number = exact.fraction_of(value)
+    try:
+        return number is not None and exact.places_of(number) > exact.MOST_PLACES
+    except exact.NotFinite:
+        return True
+
+
+def asked_for(kinds: dict[str, Sequence[Any]], always: str | None = None) -> str | None:
+    """Returns the argument that rounds each kind which needs it, to the most places that fit; the other kind is left as it is."""
+    places: list[int | None] = []
+    for kind in (PRICES, QUANTITIES):
+        values = kinds.get(kind, ())
+        needs = kind == always or any(map(is_too_fine, values))
+        most = places_that_fit(values) if needs else None
+        if needs and most is None:
+            return None
+        places.append(most)
+    return f"places=({places[0]}, {places[1]})"
+
+
+def too_many_places(value: Any, kind: str, kinds: dict[str, Sequence[Any]]) -> str:
+    """Returns what to do about a number of too many places."""
+    number = exact.fraction_of(value)
+    assert number is not None
+    try:
+        written = exact.decimal_text(number)
+        what = f"this is {written[:24]}{'..' if len(written) > 24 else ''}, and at most {exact.MOST_PLACES} places are taken"
+    except exact.NotFinite:
+        what = f"{number} is no finite decimal"
+    if kind not in (PRICES, QUANTITIES):
+        return f"{what}; nothing is rounded unasked: give it as a text or a Decimal of at most {exact.MOST_PLACES} places"
+    argument = asked_for(kinds)
+    if argument is None:
+        return f"{what}; and {without_places(kind)}"
+    said = f"{what}; nothing is rounded unasked: {argument} rounds to the most places that fit, those of prices and those of quantities"
+    return f"{said}; a text or a Decimal is taken as it is{rounded_prices(kinds) if kind == PRICES else ''}"
+
+
+def rounded_prices(kinds: dict[str, Sequence[Any]]) -> str:
+    """Returns what is said of prices that are rounded."""
+    two = len(kinds.get("goods", ())) == 2
+    how = "; prices 1/a and 1/b of a budget line need no rounding: its intercepts exchanged are prices too, b of the first good and a of the second"
+    return f"{how if two else '; rounded prices can change a verdict'} ({MEANT})"
+
+
+def without_places(kind: str) -> str:
+    """Returns what to do about a number that does not fit without any place."""
+    unit = "a smaller unit of the good (its price less, its quantity more)" if kind == PRICES else "a larger unit of the good (its quantity less, its price more)"
+    return f"above {LARGEST:,} a number is not taken: take {unit}, which changes no verdict ({MEANT})"
+
+
+def too_large(value: Any, kind: str, kinds: dict[str, Sequence[Any]]) -> str:
+    """Returns the limit that a number is above, and the way out."""
+    if kind == MONEY:
+        return f"made whole by its places, and those of quantities, an amount of money is at most {LARGEST_MONEY:,}"
+    if kind not in (PRICES, QUANTITIES):
+        return f"it is at most {LARGEST:,}"
+    most = places_that_fit(kinds.get(kind, ()))
+    limit = f"all {kind} of a file are made whole by one power of ten, and none may be above {LARGEST:,} then"
+    if most is None:
+        return f"{limit}; {without_places(kind)}"
+    other = QUANTITIES if kind == PRICES else PRICES
+    own = f"{most} places fit"
+    argument = f"places=({most}, None)" if kind == PRICES else f"places=(None, {most})"
+    if any(map(is_too_fine, kinds.get(other, ()))):
+        argument = asked_for(kinds, kind) or argument
+    return f"{limit}: with the largest of them {own}, and {argument} rounds to so many{rounded_prices(kinds) if kind == PRICES else ''}"

@@ -1,0 +1,222 @@
+"""The answers that stand in a report's text alone: money pump, production, power, trial, menus; by the labels of the data and in
+their own units. Each keeps its `report`, which `verify` looks at where it has evidence.
+"""
+
+from __future__ import annotations
+
+from fractions import Fraction
+from typing import Any, Sequence
+
+from . import exact
+from .answers import WORDS, by_label, money_scale, reading, walk_of, withheld
+from .tables import MenuChoices, Sheet, Table, Technology
+from .verifier import reports
+
+
+class MoneyPump:
+    """The greatest money pump ratio of a table: which share of what was spent a cycle of purchases gives away at most.
+
+    `ratio` is a Fraction, 0 just where the axiom holds; `pump` is the same as a float, rounded down, so that it is 0 just where
+    the ratio is. `cycle` is a closed walk that has it, by the labels of the rows, and `values` show that none has more, in
+    money.
+    """
+
+    def __init__(self, table: Table, report: bytes) -> None:
+        self.table = table
+        self.report = report
+        with reading(report):
+            told = reports.read_pump(report)
+            self.ratio: Fraction = told["ratio"]
+            self.cycle: list[Any] = walk_of(table)(told["cycle"])
+            scale = self.ratio.denominator * money_scale(table)
+            self.values: dict[Any, Fraction] = by_label(table, [Fraction(value, scale) for value in told["values"]])
+
+    @property
+    def garp(self) -> bool:
+        return self.ratio == 0
+
+    @property
+    def pump(self) -> float:
+        return exact.rounded_down(self.ratio)
+
+    def __float__(self) -> float:
+        return self.pump
+
+    def __repr__(self) -> str:
+        return f"pump {self.ratio}\ncycle {' '.join(map(str, self.cycle))}"
+
+
+class Power:
+    """Of `draws` random behaviours on the budgets of a table, drawn by a `seed`, so many violate the axiom: `violations`.
+
+    `share` is that part of them, a Fraction, and `power` the same as a float. It is a count without evidence, and no probability.
+    """
+
+    def __init__(self, table: Table, report: bytes, seed: int, draws: int) -> None:
+        self.table = table
+        self.report = report
+        with reading(report):
+            told = reports.read_power(report)
+            self.seed, self.draws, self.violations = told["seed"], told["draws"], told["violations"]
+            if (self.seed, self.draws) != (seed, draws) or self.violations > draws:
+                raise ValueError("another seed or number of draws")
+
+    @property
+    def share(self) -> Fraction:
+        return Fraction(self.violations, self.draws)
+
+    @property
+    def power(self) -> float:
+        return self.violations / self.draws
+
+    def __float__(self) -> float:
+        return self.power
+
+    def __repr__(self) -> str:
+        return f"power {self.seed} draws {self.draws} violations {self.violations}"
+
+
+class Trial:
+    """The verdicts on a table of pseudorandom numbers, without their evidence. A verdict that is withheld is None."""
+
+    def __init__(self, report: bytes) -> None:
+        self.report = report
+        words = {"holds": True, "violated": False, "withheld": None}
+        with reading(report):
+            told = reports.read_trial(report)
+            self.seed, self.rows, self.goods = told["seed"], told["rows"], told["goods"]
+            self.garp, self.homothetic, self.quasilinear = (words[told[name]] for name in ("garp", "homothetic", "quasilinear"))
+            self.efficiency: Fraction = told["efficiency"]
+            self.attained: bool = told["attained"]
+
+    @property
+    def ccei(self) -> float:
+        return exact.rounded_down(self.efficiency)
+
+    def __repr__(self) -> str:
+        return self.report.decode().rstrip("\n")
+
+
+class CostBound:
+    """Bounds on what an output costs at new prices of the inputs, in money.
+
+    It costs at most `upper`, what the inputs of the row `at` cost, which made that much; None where no row made so much. It costs
+    at least `lower`; None where that is withheld, and `reason` says why. Where the cost axiom fails, `given` is False and both
+    are None.
+    """
+
+    def __init__(self, label: Any, prices: dict[str, Fraction], output: Fraction) -> None:
+        self.label, self.prices, self.output = label, prices, output
+        self.given = False
+        self.lower: Fraction | None = None
+        self.upper: Fraction | None = None
+        self.at: Any = None
+        self.reason: str | None = None
+
+    def __repr__(self) -> str:
+        return f"<cost of {self.output} at {self.label!r}: {f'{self.lower} to {self.upper}' if self.given else 'none, the cost axiom fails'}>"
+
+
+class CostMinimisation:
+    """Whether a firm minimises its cost, and with its output maximises its profit.
+
+    `cost` is True or False, and `profit` too; None where the output has no price. `cost_pair` and `profit_pair` are the labels
+    of the first two rows that break it: the first would have paid less with the inputs of the second, or had more profit.
+    `bounds` are those on each output that was asked.
+    """
+
+    def __init__(self, technology: Technology, asked: Sheet, report: bytes, is_asked: bool = True) -> None:
+        self.technology = technology
+        self.asked = asked
+        self.report = report
+        walk = walk_of(technology)
+        with reading(report):
+            told = reports.read_cost(report)
+            self.cost = told["cost"] == ()
+            self.profit = None if told["profit"] is None else told["profit"] == ()
+            self.cost_pair: tuple[Any, ...] | None = tuple(walk(told["cost"])) or None
+            self.profit_pair: tuple[Any, ...] | None = tuple(walk(told["profit"] or ())) or None
+            if len(told["bounds"]) != len(asked.rows) or (told["profit"] is None) == technology.priced:
+                raise ValueError("there are not the answers that were asked for")
+            self.bounds = [_cost_bound(technology, asked, *it) for it in zip(asked.labels, told["bounds"])] if is_asked else []
+
+    def __repr__(self) -> str:
+        lines = [f"cost {WORDS[self.cost]}", *([] if self.profit is None else [f"profit {WORDS[self.profit]}"])]
+        return "\n".join([*lines, *map(repr, self.bounds)])
+
+
+def _cost_bound(technology: Technology, asked: Sheet, label: Any, told: dict[str, Any]) -> CostBound:
+    price, quantity = asked.scale("w_"), technology.quantity_scale
+    prices = {name: Fraction(value, price) for name, value in zip(technology.inputs, told["prices"])}
+    found = CostBound(label, prices, Fraction(told["output"], quantity))
+    if "lower" in told:
+        money = price * quantity
+        found.given = True
+        if "withheld" in told["lower"]:
+            found.reason = withheld(told["lower"]["withheld"])
+        else:
+            found.lower = told["lower"]["value"] / money
+        if told["upper"] is not None:
+            found.upper, (found.at,) = Fraction(told["upper"]["cost"], money), walk_of(technology)([told["upper"]["at"]])
+    return found
+
+
+class OrderPart:
+    """A strict order of the letters, the best first, and its share of the population."""
+
+    def __init__(self, order: Sequence[str], share: Fraction) -> None:
+        self.order = "".join(order)
+        self.share = share
+
+    def __repr__(self) -> str:
+        return f"<{' '.join(self.order)}: {self.share}>"
+
+
+class MenuVerdict:
+    """Whether a population in which each has a strict order of the letters makes choices from menus.
+
+    `rational` is True, False, or None where the verdict is withheld: then `reason` says why. `share` is the greatest share of
+    the choices that strict orders make, 1 where `rational` is True, and `parts` are the orders that make it. `weights` are,
+    where `rational` is False, the weight of each cell which shows that no more is possible. `orders` counts the orders that pick
+    a cell from every menu. Where something was chosen from every menu, `least_sum` is the least of the sums that a mixture keeps
+    from falling below 0, as a share of the population, with its `sum_letter` and `sum_menu`.
+    """
+
+    def __init__(self, choices: MenuChoices, report: bytes) -> None:
+        self.choices = choices
+        self.report = report
+        self.rational: bool | None = None
+        self.reason: str | None = None
+        self.share: Fraction | None = None
+        self.parts: list[OrderPart] | None = None
+        self.weights: list[Fraction] | None = None
+        self.least_sum: Fraction | None = None
+        self.sum_letter: str | None = None
+        self.sum_menu: str | None = None
+        with reading(report):
+            told = reports.read_menus(report)
+            self.total, self.orders = told["total"], told["orders"]
+            if told["per"] != choices.per:
+                raise ValueError("another number of units")
+            if told["sums"] is not None:
+                self.least_sum = Fraction(told["sums"]["least"], self.total)
+                self.sum_letter, self.sum_menu = told["sums"]["letter"], told["sums"]["menu"]
+            self._evidence(told["item"])
+
+    def _evidence(self, item: dict[str, Any]) -> None:
+        if "withheld" in item:
+            self.reason = withheld(item["withheld"])
+            return
+        den = item["den"]
+        self.parts = [OrderPart(order, Fraction(weight, den * self.total)) for order, weight in item["parts"]]
+        self.rational = "weights" not in item
+        self.share = sum((part.share for part in self.parts), Fraction(0))
+        if not self.rational:
+            self.weights = [Fraction(weight, den) for weight in item["weights"]]
+            if self.share != item["share"]:
+                raise ValueError("the share is not that of the parts")
+
+    def __repr__(self) -> str:
+        if self.rational is None:
+            return f"menus withheld: {self.reason}"
+        return "menus mixture" if self.rational else f"menus violated share {self.share}"

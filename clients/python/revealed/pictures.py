@@ -1,0 +1,111 @@
+"""Pictures for a paper, with matplotlib, which is asked for when one is drawn and never before.
+
+Two of them: the budget lines and choices of a table of two goods, with the cycle that violates the axiom; and the distribution
+of the efficiency index over a panel, beside that of behaviour drawn uniformly on the same budgets (after Choi, Fisman, Gale and
+Kariv 2007, "Consistency and Heterogeneity of Individual Behavior under Uncertainty", American Economic Review).
+"""
+
+from __future__ import annotations
+
+from concurrent.futures import ThreadPoolExecutor
+from fractions import Fraction
+from typing import Any, Sequence
+
+from . import draws, exact
+from .answers import Verdict
+from .commands import analyse
+from .faults import BadData
+
+PLAIN, LIGHT, STRONG = "#3b6ea5", "#b9c4d0", "#c0392b"
+
+
+def axes_of(ax: Any) -> Any:
+    """Returns the axes, or new ones."""
+    if ax is not None:
+        return ax
+    try:
+        from matplotlib import pyplot
+    except ImportError as wrong:
+        raise BadData("a picture needs the package matplotlib") from wrong
+    return pyplot.subplots()[1]
+
+
+def of_verdict(verdict: Verdict, ax: Any = None, *, labels: bool = True) -> Any:
+    """Draws the budget lines of a table of two goods, the choices on them, and the cycle that violates the axiom."""
+    table = verdict.table
+    if len(table.goods) != 2:
+        raise BadData(f"a picture of budget lines has two goods, and this table {len(table.goods)}")
+    ax = axes_of(ax)
+    prices, bundles = sides(table)
+    cycle = verdict.cycle or []
+    place = {label: at for at, label in enumerate(table.labels)}
+    marked = {place[label] for label in cycle}
+    for at, (p, q) in enumerate(zip(prices, bundles)):
+        spent = p[0] * q[0] + p[1] * q[1]
+        strong = at in marked
+        ax.plot([0, spent / p[0]], [spent / p[1], 0], color=STRONG if strong else LIGHT, linewidth=1.4 if strong else 0.8, zorder=2 if strong else 1)
+    rest = [q for at, q in enumerate(bundles) if at not in marked]
+    if rest:
+        ax.scatter(*zip(*rest), s=18, color=PLAIN, zorder=3, label="choices")
+    if marked:
+        ax.scatter(*zip(*(bundles[at] for at in sorted(marked))), s=30, color=STRONG, zorder=4, label="choices of the cycle")
+    arrows(ax, [bundles[place[label]] for label in cycle])
+    if labels and (marked or len(bundles) <= 12):
+        for at in sorted(marked) if marked else range(len(bundles)):
+            ax.annotate(str(table.labels[at]), bundles[at], textcoords="offset points", xytext=(6, 5), fontsize=8, zorder=6)
+    ax.set_xlabel(table.goods[0])
+    ax.set_ylabel(table.goods[1])
+    ax.set_xlim(left=0)
+    ax.set_ylim(bottom=0)
+    index = f"efficiency index {exact.written(verdict.efficiency)}{'' if verdict.attained else ', not attained'}"
+    ax.set_title(f"GARP {'holds' if verdict.garp else 'is violated'}; {index}", fontsize=10)
+    if marked:
+        ax.legend(frameon=False, fontsize=8)
+    return ax
+
+
+def arrows(ax: Any, walk: Sequence[Any]) -> None:
+    """Draws the steps of a walk: from each bundle to one that it is revealed preferred to."""
+    for start, end in zip(walk, walk[1:]):
+        how = {"arrowstyle": "-|>", "color": STRONG, "linewidth": 1.2, "connectionstyle": "arc3,rad=0.15", "shrinkA": 5, "shrinkB": 5}
+        ax.annotate("", xy=end, xytext=start, arrowprops=how, zorder=5)
+
+
+def sides(table: Any) -> tuple[list[list[float]], list[list[float]]]:
+    """Returns the prices and the quantities of a table as they went to the program, as floats."""
+    count = len(table.goods)
+    rows = [list(map(float, texts[: 2 * count])) for texts in table.texts]
+    return [row[:count] for row in rows], [row[count:] for row in rows]
+
+
+def of_panel(panel: Any, ax: Any = None, *, random: int = 200, seed: Any = 1, bins: int = 20, exe: Any = None, workers: int | None = None) -> Any:
+    """Draws how many households have which efficiency index, beside `random` behaviours on the same budgets; 0 leaves these out.
+
+    A behaviour takes the budgets of one household, in turn, and on each a bundle drawn uniformly on the budget line. Its index is
+    the program's.
+    """
+    rows = [row for row in panel if row.verdict is not None]
+    if not rows:
+        raise BadData("no household of this panel has a verdict")
+    ax = axes_of(ax)
+    values = [row.verdict.ccei for row in rows]
+    drawn = [verdict.ccei for verdict in random_verdicts(rows, random, seed, exe, workers)] if random else []
+    low = min([*values, *drawn])
+    edges = [low + (1 - low) * place / bins for place in range(bins + 1)] if low < 1 else [0.95 + 0.05 * place / bins for place in range(bins + 1)]
+    for numbers, color, label in ((drawn, LIGHT, f"{len(drawn)} random behaviours"), (values, PLAIN, f"{len(values)} households")):
+        if numbers:
+            weights = [1 / len(numbers)] * len(numbers)
+            ax.hist(numbers, bins=edges, weights=weights, color=color, alpha=0.75, label=label, edgecolor="white", linewidth=0.5)
+    ax.set_xlabel("critical cost efficiency index")
+    ax.set_ylabel("share")
+    ax.legend(frameon=False, fontsize=8, loc="upper left")
+    return ax
+
+
+def random_verdicts(rows: Sequence[Any], count: int, seed: Any, exe: Any, workers: int | None) -> list[Verdict]:
+    """Returns the verdicts on behaviours drawn on the budgets of these households."""
+    tables = [draws.on_budget_lines(rows[number % len(rows)].verdict.table, f"{seed} {number}") for number in range(count)]
+    with ThreadPoolExecutor(workers) as pool:
+        return list(pool.map(lambda table: analyse(table, exe=exe), tables))
+
+

@@ -1,0 +1,15 @@
+pub mod Affine
+pub mod AfriatUtilities
+pub mod Chains
+pub mod Differences
+mod Examples
+pub mod FullTables
+pub mod HomotheticChains
+pub mod Minima
+pub mod MoneyLaws
+pub mod Orders
+pub mod Potentials
+pub mod Rooms
+pub mod SaysOfItems
+pub mod TableLaws
+pub mod Values

@@ -1,0 +1,8 @@
+use Rattle.rp_people.proofs.TableLaws.{by_levels}
+use Rattle.rp_people.proofs.tables.rationalized_by_levels.Goals as goal
+
+pub returns-clause-preference : goal.returns-clause-preference
+returns-clause-preference c input full = (by_levels input full).0
+
+pub returns-clause-utility : goal.returns-clause-utility
+returns-clause-utility c input full = (by_levels input full).1

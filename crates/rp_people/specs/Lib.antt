@@ -1,0 +1,11 @@
+pub mod AfriatUtility
+pub mod Bundles
+pub mod Choices
+pub mod DividedLevels
+pub mod Fractions
+pub mod Money
+pub mod Preferences
+pub mod Rationalizing
+pub mod Says
+pub mod TableChoices
+pub mod Utilities

@@ -1,0 +1,23 @@
+//! What the verdicts on a table say of people: of consumers, by their preferences and utilities over bundles of
+//! fractions. Laws alone, and no code.
+#![tactic(auto)]
+
+mod axiom;
+mod homothetic;
+mod quasilinear;
+mod says;
+mod tables;
+
+pub use axiom::{
+    axiom_gives_utility, models_give_utilities, preferences_meet_axiom, utilities_are_preferences,
+};
+pub use homothetic::{
+    homogeneous_utilities_are_homothetic, homothetic_preferences_meet_test,
+    homothetic_test_gives_utility,
+};
+pub use quasilinear::{quasilinear_test_gives_worth, worths_meet_quasilinear_test};
+pub use says::proved_items_say;
+pub use tables::{
+    index_divides_levels, models_of_tables_give_utilities, rationalized_at_level,
+    rationalized_by_levels, tables_are_full,
+};

@@ -1,0 +1,11 @@
+ghost use Rattle.rp_evidence.specs.Input.{TableInput};
+ghost use Rattle.rp_evidence.specs.Proves.{Proves};
+ghost use Rattle.rp_evidence.specs.declared.certificate.Item.{Item};
+ghost use Rattle.rp_people.specs.Says.{Says};
+ghost use Rattle.rp_people.specs.TableChoices.{IsFullInput};
+
+/// An item that proves its verdict on a table says of people what that kind of verdict says.
+pub fn proved_items_say()
+    ensures { (input : TableInput) (item : Item)
+        → IsFullInput input → Proves input item → Says input item }
+{}

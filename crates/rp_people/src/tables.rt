@@ -1,0 +1,52 @@
+//! Afriat's theorem at the choices that a table tells of: held by levels of the observations' own, and at a common
+//! level.
+ghost use Rattle.std.specs.Prelude.{◌↔◌, ℕ, ℤ};
+ghost use Rattle.rp_evidence.specs.Afriat.{IsOwnModel};
+ghost use Rattle.rp_evidence.specs.Efficiency.{IsEfficiencyIndex};
+ghost use Rattle.rp_evidence.specs.Garp.{HasNoViolation, MeetsGarp};
+ghost use Rattle.rp_evidence.specs.Input.{TableInput, input_of_table};
+ghost use Rattle.rp_evidence.specs.Preference.{IsLevel, StrictByLevels, WeakByLevels};
+ghost use Rattle.rp_people.specs.AfriatUtility.{HaveUtility};
+ghost use Rattle.rp_people.specs.DividedLevels.{DividesLevels};
+ghost use Rattle.rp_people.specs.Rationalizing.{HasConcaveUtility, HasPreference};
+ghost use Rattle.rp_people.specs.TableChoices.{IsFullInput, choices_at, choices_of};
+ghost use Rattle.rp_table.specs.Tables.{IsTable, Observations};
+
+/// A table within its limits has observations, goods and prices, and no empty bundle.
+pub fn tables_are_full()
+    ensures { (table : Observations) → IsTable table → IsFullInput (input_of_table table) }
+{}
+
+/// Held by their own levels, or to all that was spent, the choices of a table are rationalized by some preference, and
+/// by that of a monotone and concave utility, exactly where no violation exists.
+pub fn rationalized_by_levels()
+    ensures preference { (input : TableInput) → IsFullInput input
+        → HasPreference (choices_of input) ↔ HasNoViolation input.n
+        (WeakByLevels input.levels input.cost) (StrictByLevels input.levels input.cost) }
+    ensures utility { (input : TableInput) → IsFullInput input
+        → HasConcaveUtility (choices_of input) ↔ HasNoViolation input.n
+        (WeakByLevels input.levels input.cost) (StrictByLevels input.levels input.cost) }
+{}
+
+/// The same at a level that is common to all observations.
+pub fn rationalized_at_level()
+    ensures preference { (input : TableInput) (num den : ℕ) → IsFullInput input → IsLevel num den
+        → HasPreference (choices_at input num den) ↔ MeetsGarp input.n input.cost num den }
+    ensures utility { (input : TableInput) (num den : ℕ) → IsFullInput input → IsLevel num den
+        → HasConcaveUtility (choices_at input num den) ↔ MeetsGarp input.n input.cost num den }
+{}
+
+/// The utility of every Afriat model of a table, by the levels of the observations' own where they have them, is
+/// monotone and concave, and its preference rationalizes the choices.
+pub fn models_of_tables_give_utilities()
+    ensures { (input : TableInput) (number : ℕ → ℤ) (multiplier : ℕ → ℕ) → IsFullInput input
+        → IsOwnModel input.n input.levels input.cost number multiplier
+        → HaveUtility (choices_of input) number multiplier }
+{}
+
+/// The critical cost efficiency index divides the levels at which choices can be rationalized from those at which they
+/// cannot.
+pub fn index_divides_levels()
+    ensures { (input : TableInput) (num den : ℕ) → IsFullInput input
+        → IsEfficiencyIndex input.n input.cost num den → DividesLevels input num den }
+{}
