@@ -152,11 +152,11 @@ export function commandForm(client, examples) {
     id: "command-chooser",
     multiple: true,
     onchange: async () => {
-      for (const it of chooser.files) files.set(it.name, new Uint8Array(await it.arrayBuffer()));
+      for (const it of [...chooser.files]) files.set(it.name, new Uint8Array(await it.arrayBuffer()));
       drawn();
     },
   });
-  const line = make("input", { id: "command-line", size: 50, value: "analyse contradiction.csv", spellcheck: false });
+  const line = make("input", { id: "command-line", value: "analyse contradiction.csv", spellcheck: false });
   const result = make("div", { id: "command-result", attrs: { "aria-live": "polite" } });
   files.set("contradiction.csv", bytesOf(examples["contradiction.csv"]));
   drawn();

@@ -165,8 +165,8 @@ export const ROLES = [
 ];
 
 const GUESSES = [
-  [/^(?:p|price|prices)[_. -]?(.+)$/i, "price"],
-  [/^(?:q|x|qty|quantity|quantities)[_. -]?(.+)$/i, "quantity"],
+  [/^(?:prices?|p)(?:[_. -]+|(?=\d))(.+)$/i, "price"],
+  [/^(?:quantity|quantities|qty|q|x)(?:[_. -]+|(?=\d))(.+)$/i, "quantity"],
   [/^(.+?)[_. -](?:p|price)$/i, "price"],
   [/^(.+?)[_. -](?:q|x|qty|quantity)$/i, "quantity"],
 ];
