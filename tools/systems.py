@@ -57,7 +57,9 @@ def kit():
 
 
 def lacking(system):
-    """Returns the packages that a build lacks here."""
+    """Returns what a build lacks here: packages, or the library's crate."""
+    if not os.path.isdir(CRATE):
+        return ["the crate rp_c"]
     return sorted({package for it, package in NEEDS[system].items() if not (os.path.exists(it) if it.startswith("/") else shutil.which(it))})
 
 

@@ -1,36 +1,145 @@
-"""Builds the package's wheel with the standard library alone (PEP 517), so that pip needs no network and no other package."""
+"""Builds the package's wheels and its sdist with the standard library alone (PEP 517), so that pip needs no network and no other
+package. The same sources give the same bytes.
+
+usage: wheels.py FOLDER [FILE..]
+
+Without files it writes the wheel for every platform, and the sdist. With the library `librp.so` or `rp.dll`, or the program `rp`
+or `rp.exe`, it writes the wheel of that platform, which has them inside. pip gives them by
+`--config-settings=library=FILE` and `--config-settings=program=FILE`.
+"""
 
 import base64
+import gzip
 import hashlib
+import io
 import os
+import re
+import sys
+import tarfile
+import time
 import zipfile
 
-NAME, VERSION = "revealed", "0.1.0"
-INFO = f"{NAME}-{VERSION}.dist-info"
-METADATA = f"""Metadata-Version: 2.1
-Name: {NAME}
-Version: {VERSION}
+NAME = "revealed"
+HERE = os.path.dirname(os.path.abspath(__file__))
+OLDEST = (2, 17)  # of what needs no version of the C library: the oldest that installers have a name for
+MACHINES = {62: "x86_64", 183: "aarch64"}
+METADATA = """Metadata-Version: 2.1
+Name: {name}
+Version: {version}
 Summary: Revealed preference with proved verdicts: the program rp from Python, and a second checker
+License: MIT OR Apache-2.0
 Requires-Python: >=3.9
-"""
-WHEEL = "Wheel-Version: 1.0\nGenerator: wheels\nRoot-Is-Purelib: true\nTag: py3-none-any\n"
+Provides-Extra: frames
+Requires-Dist: pandas; extra == 'frames'
+Provides-Extra: pictures
+Requires-Dist: matplotlib; extra == 'pictures'
+Description-Content-Type: text/markdown
+
+{readme}"""
 
 
 def build_wheel(wheel_directory, config_settings=None, metadata_directory=None):
     """Writes the wheel into a folder, and returns its name."""
-    wheel = f"{NAME}-{VERSION}-py3-none-any.whl"
-    files = {f"{INFO}/METADATA": METADATA.encode(), f"{INFO}/WHEEL": WHEEL.encode()}
-    for folder, folders, names in os.walk(NAME):
-        folders[:] = sorted(it for it in folders if it != "__pycache__")
-        for name in sorted(names):
-            with open(os.path.join(folder, name), "rb") as it:
-                files[f"{folder}/{name}".replace(os.sep, "/")] = it.read()
-    record = "".join(f"{name},sha256={_digest(data)},{len(data)}\n" for name, data in files.items())
-    with zipfile.ZipFile(os.path.join(wheel_directory, wheel), "w", zipfile.ZIP_DEFLATED) as it:
-        for name, data in {**files, f"{INFO}/RECORD": f"{record}{INFO}/RECORD,,\n".encode()}.items():
-            it.writestr(name, data)
+    files = [it for name in ("library", "program") for it in listed((config_settings or {}).get(name))]
+    return write_wheel(wheel_directory, files)
+
+
+def build_sdist(sdist_directory, config_settings=None):
+    """Writes the sdist into a folder, and returns its name."""
+    top = f"{NAME}-{version()}"
+    files = {f"{top}/PKG-INFO": metadata()}
+    for name in ("README.md", "EXPERIMENT.md", "pyproject.toml", "wheels.py"):
+        files[f"{top}/{name}"] = bytes_of(os.path.join(HERE, name))
+    for folder in (NAME, "tests", "data"):
+        files.update({f"{top}/{name}": data for name, data in sources(folder)})
+    packed = io.BytesIO()
+    with tarfile.open(fileobj=packed, mode="w", format=tarfile.USTAR_FORMAT) as tar:
+        for name, data in sorted(files.items()):
+            head = tarfile.TarInfo(name)
+            head.size, head.mode, head.mtime = len(data), 0o644, when()
+            tar.addfile(head, io.BytesIO(data))
+    with open(os.path.join(sdist_directory, f"{top}.tar.gz"), "wb") as it:
+        with gzip.GzipFile(filename="", fileobj=it, mode="wb", compresslevel=9, mtime=0) as pressed:
+            pressed.write(packed.getvalue())
+    return f"{top}.tar.gz"
+
+
+def write_wheel(folder, extra=()):
+    """Writes the wheel with these libraries and programs inside, and returns its name."""
+    inside = {os.path.basename(it): bytes_of(it) for it in extra}
+    tags = {tag_of(name, data) for name, data in inside.items()} or {"any"}
+    if len(tags) > 1 and not all(it.startswith("manylinux") for it in tags):
+        raise SystemExit(f"wheels: these are of several platforms: {sorted(tags)}")
+    tag = max(tags, key=lambda it: tuple(map(int, re.findall(r"\d+", it))))
+    info = f"{NAME}-{version()}.dist-info"
+    files = dict(sources(NAME))
+    files.update({f"{NAME}/{name}": data for name, data in inside.items()})
+    files[f"{info}/METADATA"] = metadata()
+    files[f"{info}/WHEEL"] = f"Wheel-Version: 1.0\nGenerator: wheels\nRoot-Is-Purelib: {'false' if inside else 'true'}\nTag: py3-none-{tag}\n".encode()
+    record = "".join(f"{name},sha256={digest(data)},{len(data)}\n" for name, data in sorted(files.items()))
+    files[f"{info}/RECORD"] = f"{record}{info}/RECORD,,\n".encode()
+    wheel = f"{NAME}-{version()}-py3-none-{tag}.whl"
+    date = time.gmtime(max(when(), 315532800))[:6]
+    with zipfile.ZipFile(os.path.join(folder, wheel), "w", zipfile.ZIP_DEFLATED) as it:
+        for name, data in sorted(files.items()):
+            head = zipfile.ZipInfo(name, date)
+            runs = name in (f"{NAME}/rp", f"{NAME}/rp.exe")
+            head.external_attr, head.compress_type, head.create_system = (0o100755 if runs else 0o100644) << 16, zipfile.ZIP_DEFLATED, 3
+            it.writestr(head, data)
     return wheel
 
 
-def _digest(data):
+def tag_of(name, data):
+    """Returns the platform that a library or a program is of, as installers name it."""
+    if data.startswith(b"MZ"):
+        return "win_amd64"
+    machine = MACHINES.get(int.from_bytes(data[18:20], "little"))
+    if not data.startswith(b"\x7fELF") or machine is None:
+        raise SystemExit(f"wheels: {name} is neither of Linux nor of Windows")
+    needed = [tuple(map(int, it.split(b".")))[:2] for it in re.findall(rb"GLIBC_(\d+\.\d+)[\d.]*\0", data)]
+    return "manylinux_{}_{}_{}".format(*max([OLDEST, *needed]), machine)
+
+
+def version():
+    """Returns the version that the package says."""
+    return re.search(r'(?m)^__version__ = "(.*)"$', bytes_of(os.path.join(HERE, NAME, "__init__.py")).decode())[1]
+
+
+def metadata():
+    return METADATA.format(name=NAME, version=version(), readme=bytes_of(os.path.join(HERE, "README.md")).decode()).encode()
+
+
+def sources(top):
+    """Yields the files of a folder by their names there; what was made by running it is left out."""
+    for folder, folders, names in os.walk(os.path.join(HERE, top)):
+        folders[:] = sorted(it for it in folders if it != "__pycache__")
+        for name in sorted(names):
+            path = os.path.join(folder, name)
+            if not name.endswith((".pyc", ".so", ".dll")):
+                yield os.path.relpath(path, HERE).replace(os.sep, "/"), bytes_of(path)
+
+
+def listed(files):
+    return [files] if isinstance(files, str) else list(files or [])
+
+
+def bytes_of(path):
+    with open(path, "rb") as it:
+        return it.read()
+
+
+def when():
+    """Returns the time that files get: what SOURCE_DATE_EPOCH says, else the beginning of 2026."""
+    return int(os.environ.get("SOURCE_DATE_EPOCH", 1767225600))
+
+
+def digest(data):
     return base64.urlsafe_b64encode(hashlib.sha256(data).digest()).rstrip(b"=").decode()
+
+
+if __name__ == "__main__":
+    if len(sys.argv) < 2 or sys.argv[1].startswith("-"):
+        raise SystemExit(__doc__)
+    print(write_wheel(sys.argv[1], sys.argv[2:]))
+    if not sys.argv[2:]:
+        print(build_sdist(sys.argv[1]))

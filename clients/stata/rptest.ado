@@ -1,7 +1,7 @@
-*! rptest: revealed preference tests by the program rp
-program define rptest, rclass
+*! version 0.11.0  rptest: revealed preference tests by the program rp
+program define rptest, rclass sortpreserve
     version 13
-    syntax [if] [in], Prices(varlist numeric) Quantities(varlist numeric) [BY(varname) DIGITS(integer -1) EXE(string)]
+    syntax [if] [in], Prices(varlist numeric) Quantities(varlist numeric) [BY(varname) LEVels(varname numeric) OBS(varname) DIGITS(numlist integer max=2 >=0 <=6) EXE(string) GENerate(name) SAVing(string)]
     marksample touse, novarlist
     local goods : word count `prices'
     local others : word count `quantities'
@@ -9,18 +9,28 @@ program define rptest, rclass
         display as error "prices() and quantities() have not the same number of variables"
         exit 198
     }
-    if `digits' < -1 | `digits' > 6 {
-        display as error "digits() is a whole number from 0 to 6"
-        exit 198
+    local ofprices : word 1 of `digits'
+    local ofquantities : word 2 of `digits'
+    if "`ofquantities'" == "" {
+        local ofquantities "`ofprices'"
     }
-    if `"`exe'"' == "" {
-        local exe : environment RP_EXEC
+    local results "status garp afriat homothetic quasilinear attained ccei"
+    if "`generate'" != "" {
+        foreach name in `results' efficiency cycle message {
+            confirm new variable `generate'_`name'
+        }
     }
-    if `"`exe'"' == "" {
-        local exe "rp"
-    }
-    tempvar group
+    quietly findfile rptest.sh
+    local script `"`r(fn)'"'
+
+    * Groups in the order of their values, and within each the order of the data. The command leaves the data's order.
+    tempvar group order
     if "`by'" == "" {
+        local panel : char _dta[_TSpanel]
+        if "`panel'" != "" {
+            display as error "the data are a panel of `panel', and a table is one household: say by(`panel')"
+            exit 459
+        }
         quietly generate long `group' = 1 if `touse'
     }
     else {
@@ -31,160 +41,228 @@ program define rptest, rclass
         error 2000
     }
     local groups = r(max)
-
-    * The numbers have to be exact: with digits(), text of so many places; else doubles that end after six binary places.
-    foreach variable of varlist `prices' `quantities' {
-        forvalues row = 1/`=_N' {
-            if `touse'[`row'] {
-                if missing(`variable'[`row']) {
-                    display as error "`variable' is missing in observation `row'"
-                    exit 416
-                }
-                if `digits' == -1 & `variable'[`row'] * 64 != floor(`variable'[`row'] * 64) {
-                    display as error "`variable' in observation `row' has more than 6 places as a binary fraction;"
-                    display as error "nothing is rounded unasked: digits(#) rounds to so many"
-                    exit 459
-                }
-            }
+    quietly generate long `order' = _n
+    if "`obs'" != "" {
+        sort `group' `obs'
+        quietly count if `touse' & `group' == `group'[_n-1] & `obs' == `obs'[_n-1]
+        if r(N) > 0 {
+            display as error "two observations of one table have the same `obs': name the households by by()"
+            exit 459
         }
     }
-    local places = cond(`digits' == -1, 6, `digits')
+    sort `group' `order'
 
-    * A folder of files beside a temporary name: a table for each group, and a script that runs the program on each.
+    * A missing value refuses its own group. The other numbers have to be exact: with digits(), text of so many places;
+    * else doubles that end after six binary places.
+    tempvar lacks refused
+    quietly generate byte `lacks' = 0
+    local moved = 0
+    foreach kind in prices quantities {
+        local most = 0
+        foreach variable of varlist ``kind'' {
+            quietly replace `lacks' = 1 if missing(`variable') & `touse'
+            quietly summarize `variable' if `touse'
+            local most = max(`most', r(max))
+            quietly count if `touse' & !missing(`variable') & `variable' * 64 != floor(`variable' * 64)
+            local moved = `moved' + r(N)
+        }
+        local whole = cond(`most' >= 1, floor(log10(`most')) + 1, 0)
+        local fit = min(6, 7 - `whole')
+        if `fit' >= 0 {
+            local fit = cond(round(`most' * 10^`fit') > 9999999, `fit' - 1, `fit')
+        }
+        local fits "`fits' `fit'"
+    }
+    if "`levels'" != "" {
+        quietly replace `lacks' = 1 if missing(`levels') & `touse'
+        quietly count if `touse' & `levels' == 1
+        if r(N) > 0 {
+            display as text "note: a level of 1 is one thousandth, which excuses nearly everything; 1000 is the whole of what was spent"
+        }
+    }
+    if "`digits'" == "" & `moved' > 0 {
+        display as error "`moved' numbers have more than 6 places as binary fractions; nothing is rounded unasked"
+        display as error "digits(`fits') rounds prices and quantities to the most places that fit the seven digits that are taken;"
+        display as error "a place below 0 says that the largest is above 9999999: take a larger unit. Prices that are 1 over an"
+        display as error "intercept need no rounding: take the intercept of y as the price of x, and that of x as the price of y"
+        exit 459
+    }
+    local ofprices = cond("`digits'" == "", "6", "`ofprices'")
+    local ofquantities = cond("`digits'" == "", "6", "`ofquantities'")
+    quietly egen byte `refused' = max(`lacks'), by(`group')
+
+    * The records of all tables, as texts behind the numbers of their groups.
+    tempvar line
+    quietly generate strL `line' = trim(string(`group', "%12.0f")) if `touse'
+    foreach kind in prices quantities {
+        foreach variable of varlist ``kind'' {
+            quietly replace `line' = `line' + "," + trim(string(`variable' + 0, "%32.`of`kind''f")) if `touse'
+        }
+    }
+    if "`levels'" != "" {
+        quietly replace `line' = `line' + "," + trim(string(`levels' + 0, "%32.6f")) if `touse'
+    }
+
+    * A folder of files beside a temporary name, and one call of the script there.
     tempfile room
-    mkdir "`room'_rp"
-    local room "`room'_rp"
+    mkdir `"`macval(room)'_rp"'
+    local room `"`macval(room)'_rp"'
     tempname file
-    forvalues number = 1/`groups' {
-        file open `file' using "`room'/`number'.csv", write text replace
-        forvalues good = 1/`goods' {
-            file write `file' "p_`good',"
-        }
-        forvalues good = 1/`goods' {
-            local comma = cond(`good' == `goods', "", ",")
-            file write `file' "q_`good'`comma'"
-        }
-        file write `file' _n
-        forvalues row = 1/`=_N' {
-            if `group'[`row'] == `number' {
-                local line ""
-                foreach variable of varlist `prices' `quantities' {
-                    local cell = trim(string(`variable'[`row'] + 0, "%32.`places'f"))
-                    local line "`line',`cell'"
-                }
-                local line = substr("`line'", 2, .)
-                file write `file' "`line'" _n
-            }
-        }
-        file close `file'
+    file open `file' using `"`macval(room)'/header"', write text replace
+    forvalues good = 1/`goods' {
+        file write `file' "p_`good',"
     }
-    file open `file' using "`room'/job.sh", write text replace
-    file write `file' "cd '`room''" _n
-    file write `file' "seq 1 `groups' | xargs -P " (char(34)) (char(36)) "(nproc)" (char(34)) " -I{} sh -c '" (char(34))
-    file write `file' `"`exe'"'
-    file write `file' (char(34)) " analyse {}.csv >{}.out 2>{}.err; echo " (char(36)) "? >{}.status'" _n
+    forvalues good = 1/`goods' {
+        local comma = cond(`good' == `goods', "", ",")
+        file write `file' "q_`good'`comma'"
+    }
+    if "`levels'" != "" {
+        file write `file' ",e"
+    }
+    file write `file' _n
     file close `file'
-    shell sh "`room'/job.sh"
+    file open `file' using `"`macval(room)'/program"', write text replace
+    file write `file' `"`macval(exe)'"' _n
+    file close `file'
+    file open `file' using `"`macval(room)'/rows"', write text replace
+    local row = 1
+    while `row' <= _N {
+        if `touse'[`row'] & !`refused'[`row'] {
+            local cells = `line'[`row']
+            file write `file' "`cells'" _n
+        }
+        local row = `row' + 1
+    }
+    file close `file'
+    local quotedscript : subinstr local script "'" "'\''", all
+    local quotedroom : subinstr local room "'" "'\''", all
+    shell sh '`macval(quotedscript)'' '`macval(quotedroom)''
+    capture confirm file `"`macval(room)'/results"'
+    local failed = _rc
 
-    tempname verdicts
-    matrix `verdicts' = J(`groups', 6, .)
-    matrix colnames `verdicts' = status garp afriat homothetic quasilinear attained
-    forvalues number = 1/`groups' {
-        local status "."
-        local message ""
-        local efficiency ""
-        local cycle ""
-        capture confirm file "`room'/`number'.status"
-        if _rc == 0 {
-            file open `file' using "`room'/`number'.status", read text
-            file read `file' line
-            local status = trim("`line'")
-            file close `file'
-            file open `file' using "`room'/`number'.err", read text
-            file read `file' line
-            while r(eof) == 0 {
-                if substr(`"`line'"', 1, 6) != "note: " & `"`message'"' == "" {
-                    local message `"`line'"'
-                }
-                file read `file' line
-            }
-            file close `file'
+    * What comes back: in variables, in a dataset, and, where there are not too many groups, in r().
+    if "`generate'" != "" {
+        foreach name in `results' {
+            quietly generate double `generate'_`name' = .
         }
-        matrix `verdicts'[`number', 1] = `status'
-        if "`status'" == "0" {
-            file open `file' using "`room'/`number'.out", read text
-            file read `file' line
-            while r(eof) == 0 {
-                local first : word 1 of `line'
-                local second : word 2 of `line'
-                local third : word 3 of `line'
-                local fourth : word 4 of `line'
-                local value = .
-                if "`second'" == "holds" | "`second'" == "model" {
-                    local value = 1
-                }
-                if "`second'" == "violated" | "`second'" == "none" {
-                    local value = 0
-                }
-                if "`first'" == "garp" {
-                    matrix `verdicts'[`number', 2] = `value'
-                }
-                if "`first'" == "afriat" {
-                    matrix `verdicts'[`number', 3] = `value'
-                }
-                if "`first'" == "homothetic" {
-                    matrix `verdicts'[`number', 4] = `value'
-                }
-                if "`first'" == "quasilinear" {
-                    matrix `verdicts'[`number', 5] = `value'
-                }
-                if "`first'" == "efficiency" {
-                    local efficiency "`second'"
-                    matrix `verdicts'[`number', 6] = cond("`fourth'" == "yes", 1, 0)
-                }
-                if "`first'" == "cycle" & "`cycle'" == "" {
-                    local cycle = substr("`line'", 7, .)
-                }
-                if "`second'" == "withheld" {
-                    local message "`line'"
-                }
-                file read `file' line
-            }
-            file close `file'
+        foreach name in efficiency cycle message {
+            quietly generate strL `generate'_`name' = ""
         }
+    }
+    if `"`saving'"' != "" {
+        tempname posted
+        local of "double group"
         if "`by'" != "" {
-            local name ""
-            forvalues row = 1/`=_N' {
-                if `group'[`row'] == `number' {
-                    local name = `by'[`row']
-                }
+            capture confirm string variable `by'
+            local of = cond(_rc == 0, "str2045 `by'", "double `by'")
+        }
+        postfile `posted' `of' double(`results') str80 efficiency str2045 cycle str200 message using `saving'
+    }
+    tempname verdicts
+    local small = `groups' <= 800
+    if `small' {
+        matrix `verdicts' = J(`groups', 7, .)
+        matrix colnames `verdicts' = `results'
+    }
+    if `failed' == 0 {
+        file open `file' using `"`macval(room)'/results"', read text
+    }
+    local row = 1
+    local number = 1
+    local held = 0
+    local without = 0
+    while `number' <= `groups' {
+        local first = `row'
+        while `row' <= _N & `group'[`row'] == `number' {
+            local row = `row' + 1
+        }
+        local last = `row' - 1
+        foreach name in `results' {
+            local `name' "."
+        }
+        foreach name in efficiency cycle message {
+            local `name' ""
+        }
+        if `refused'[`first'] {
+            local status "416"
+            local message "a value is missing"
+        }
+        else if `failed' == 0 {
+            file read `file' answered
+            foreach name in `results' efficiency cycle message {
+                file read `file' `name'
             }
-            return local group`number' `"`name'"'
+            if "`answered'" != "`number'" {
+                display as error "the answers of the program are not whole"
+                exit 459
+            }
+        }
+        local held = `held' + ("`garp'" == "1")
+        local without = `without' + ("`garp'" == ".")
+        if `small' {
+            local column = 1
+            foreach name in `results' {
+                matrix `verdicts'[`number', `column'] = ``name''
+                local column = `column' + 1
+            }
+        }
+        if "`generate'" != "" {
+            foreach name in `results' {
+                quietly replace `generate'_`name' = ``name'' in `first'/`last'
+            }
+            foreach name in efficiency cycle message {
+                quietly replace `generate'_`name' = "``name''" in `first'/`last'
+            }
+        }
+        if `"`saving'"' != "" {
+            local key "(`number')"
+            if "`by'" != "" {
+                local key "(`by'[`first'])"
+            }
+            post `posted' `key' (`status') (`garp') (`afriat') (`homothetic') (`quasilinear') (`attained') (`ccei') ("`efficiency'") ("`cycle'") ("`message'")
+        }
+        if "`by'" != "" & `small' {
+            local name = `by'[`first']
+            return local group`number' `"`macval(name)'"'
             return local efficiency`number' "`efficiency'"
             return local cycle`number' "`cycle'"
-            return local message`number' `"`message'"'
+            return local message`number' "`message'"
         }
-        foreach ending in csv out err status {
-            capture erase "`room'/`number'.`ending'"
-        }
+        local number = `number' + 1
     }
-    capture erase "`room'/job.sh"
-    capture rmdir "`room'"
-    matrix list `verdicts', noheader
+    if `failed' == 0 {
+        file close `file'
+    }
+    if `"`saving'"' != "" {
+        postclose `posted'
+    }
+    foreach name in header program rows results {
+        capture erase `"`macval(room)'/`name'"'
+    }
+    capture rmdir `"`macval(room)'"'
+    display as text "`groups' tables: garp holds in `held', and `without' are without a verdict"
+    if `small' {
+        matrix list `verdicts', noheader
+    }
+    if `failed' {
+        display as error "the script rptest.sh gave no results"
+        exit 601
+    }
     if "`by'" == "" {
         return local efficiency "`efficiency'"
         return local cycle "`cycle'"
-        return local message `"`message'"'
-        return scalar status = `verdicts'[1, 1]
-        return scalar garp = `verdicts'[1, 2]
-        return scalar afriat = `verdicts'[1, 3]
-        return scalar homothetic = `verdicts'[1, 4]
-        return scalar quasilinear = `verdicts'[1, 5]
-        return scalar attained = `verdicts'[1, 6]
+        return local message "`message'"
+        foreach name in `results' {
+            return scalar `name' = ``name''
+        }
         if "`status'" != "0" {
-            display as error `"rp ended with status `status': `message'"'
+            display as error "rp ended with status `status': `message'"
         }
     }
     return scalar groups = `groups'
-    return matrix verdicts = `verdicts'
+    return scalar held = `held'
+    return scalar without = `without'
+    if `small' {
+        return matrix verdicts = `verdicts'
+    }
 end

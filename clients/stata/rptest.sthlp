@@ -6,7 +6,7 @@
 {title:Syntax}
 
 {p 8 16 2}{cmd:rptest} [{it:if}] [{it:in}]{cmd:,} {opt p:rices(varlist)} {opt q:uantities(varlist)}
-[{opt by(varname)} {opt digits(#)} {opt exe(filename)}]
+[{opt by(varname)} {opt lev:els(varname)} {opt obs(varname)} {opt digits(# [#])} {opt gen:erate(stub)} {opt sav:ing(filename[, replace])} {opt exe(filename)}]
 
 {title:Description}
 
@@ -18,24 +18,39 @@ of the program rp; nothing of this command is proved, and it was not run in Stat
 {title:Options}
 
 {phang}{opt by(varname)} tests each group by itself, on all processors. A group whose data are refused has its status, and
-the others go on.
+the others go on. A missing value refuses its own group (status 416). Data that are {cmd:xtset} as a panel need it.
 
-{phang}{opt digits(#)} rounds each number to so many decimal places, 0 to 6. Without it nothing is rounded, and a number
-that does not end after 6 places as a binary fraction, as 3.18, stops the command with r(459). A missing value stops it with
-r(416).
+{phang}{opt levels(varname)} has the level of each observation in whole thousandths from 1 to 1000: how much of what was spent
+there counts (Varian 1990). The verdicts on the axiom and on Afriat's numbers are then by these levels.
 
-{phang}{opt exe(filename)} is the program; else the environment variable RP_EXEC names it, else it is rp on the path.
+{phang}{opt obs(varname)} has the names of the observations, a year or a round. Where two of one table have the same, the
+command stops with r(459): the data are a panel then, and {opt by()} names its households.
+
+{phang}{opt digits(# [#])} rounds to so many decimal places, 0 to 6: prices and quantities alike, or each by its own number.
+Without it nothing is rounded, and a number that does not end after 6 places as a binary fraction, as 3.18, stops the command
+with r(459), which tells the places that fit the seven digits that the program takes.
+
+{phang}{opt generate(stub)} makes the variables {it:stub}{cmd:_garp} and so on, which have the results of its group in each
+observation.
+
+{phang}{opt saving(filename)} makes a dataset with an observation for each group.
+
+{phang}{opt exe(filename)} is the program; else the environment variable RP_EXEC names it, else it is rp on the path. The script
+rptest.sh, which lies beside this command, runs it.
 
 {title:Stored results}
 
 {pstd}Without {opt by()}: {cmd:r(status)}, {cmd:r(garp)}, {cmd:r(afriat)}, {cmd:r(homothetic)}, {cmd:r(quasilinear)} and
-{cmd:r(attained)} (1 where it holds, 0 where it is violated, missing where it is withheld or the data were refused), and the
-macros {cmd:r(efficiency)}, an exact fraction, {cmd:r(cycle)}, the numbers of observations within the table, and
+{cmd:r(attained)} (1 where it holds, 0 where it is violated, missing where it is withheld or the data were refused),
+{cmd:r(ccei)}, the index rounded down, so that it is 1 for an index of 1 alone, and the macros {cmd:r(efficiency)}, the exact
+fraction, {cmd:r(cycle)}, the numbers of observations within the table of a cycle that violates the axiom, and
 {cmd:r(message)}. With {opt by()}: {cmd:r(group}{it:#}{cmd:)}, {cmd:r(efficiency}{it:#}{cmd:)},
-{cmd:r(cycle}{it:#}{cmd:)} and {cmd:r(message}{it:#}{cmd:)}. Always {cmd:r(groups)} and the matrix {cmd:r(verdicts)}, a row
-for each group.
+{cmd:r(cycle}{it:#}{cmd:)} and {cmd:r(message}{it:#}{cmd:)}, and always {cmd:r(groups)}, {cmd:r(held)}, how many meet the axiom,
+{cmd:r(without)}, how many have no verdict, and the matrix {cmd:r(verdicts)}, a row for each group: status, garp, afriat,
+homothetic, quasilinear, attained and ccei. Past 800 groups there is no matrix and no macro of a group: say {opt generate()} or
+{opt saving()}.
 
 {title:Example}
 
-{phang2}{cmd:. rptest, prices(p_bread p_wine) quantities(q_bread q_wine) by(household) digits(2)}{p_end}
-{phang2}{cmd:. matrix list r(verdicts)}{p_end}
+{phang2}{cmd:. rptest, prices(p_bread p_wine) quantities(q_bread q_wine) by(household) digits(2) generate(v)}{p_end}
+{phang2}{cmd:. summarize v_garp v_ccei}{p_end}

@@ -227,9 +227,15 @@ def _explains(*sheets: Sheet) -> Explains:
     by_file = {sheet.file: sheet for sheet in sheets}
 
     def explain(file: str | None, fault: str, places: dict[str, int]) -> Refused:
-        return by_file[file].refused(fault, places) if file in by_file else Refused(fault, file, **places)
+        return by_file[file].refused(fault, places) if file in by_file else refusal(fault, file, places)
 
     return explain
+
+
+def refusal(fault: str, file: str | None, places: dict[str, int], label: Any = None) -> Refused:
+    """Returns a refusal at these places."""
+    record, column, budget, menu, item = map(places.get, ("record", "column", "budget", "menu", "item"))
+    return Refused(fault, file, record, column, budget, menu, item, label=label)
 
 
 def _explains_choices(own: Choices) -> Explains:
@@ -239,7 +245,7 @@ def _explains_choices(own: Choices) -> Explains:
         refused = explain(file or "choices", fault, places)
         if "budget" in places and places["budget"] <= len(own.budgets.labels):
             label = own.budgets.labels[places["budget"] - 1]
-            refused = Refused(fault, file or "choices", label=label, **places)
+            refused = refusal(fault, file or "choices", places, label)
         return refused
 
     return with_budget

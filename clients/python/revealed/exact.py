@@ -35,7 +35,7 @@ def text_of(value: Any, places: int | None = None) -> str:
             return cell
         if not _NUMBER.fullmatch(cell):
             return value
-        number = Fraction(cell)
+        number: Fraction | None = Fraction(cell)
     else:
         if type(value) is int and (places is None or value >= 0):
             return str(value)

@@ -135,14 +135,14 @@ def pairs_of(frame: Frame, first: str, second: str, file: str, others: Sequence[
     """Returns the names of the goods, or inputs, that have a column of each kind; refuses a frame that lacks one."""
     prices, quantities = starting(frame.names, first), starting(frame.names, second)
     if not prices and not quantities:
-        wanted = [f"{first}NAME and {second}NAME for each {'input' if first == 'w_' else 'good'}", *others]
-        raise WrongColumns(wanted, frame.names, file, renames(frame.names, first, second))
+        kinds = [f"{first}NAME and {second}NAME for each {'input' if first == 'w_' else 'good'}", *others]
+        raise WrongColumns(kinds, frame.names, file, renames(frame.names, first, second))
     goods = list(dict.fromkeys([*(name[2:] for name in prices), *(name[2:] for name in quantities)]))
-    for name, other in [*((it, second + it[2:]) for it in prices), *((it, first + it[2:]) for it in quantities)]:
+    for own, other in [*((it, second + it[2:]) for it in prices), *((it, first + it[2:]) for it in quantities)]:
         if other not in frame.columns:
             wanted = ", ".join([*(first + good for good in goods), *(second + good for good in goods), *others])
             hint = f"there is no column {other!r}; the columns that are wanted are {wanted}; those that were found are {listed(frame.names)}"
-            raise Refused("Unpaired", file, column=frame.names.index(name) + 1, name=name, hint=hint)
+            raise Refused("Unpaired", file, column=frame.names.index(own) + 1, name=own, hint=hint)
     return [name[2:] for name in prices]
 
 

@@ -3,16 +3,21 @@
 from __future__ import annotations
 
 import os
+import sys
 from concurrent.futures import ThreadPoolExecutor
 from typing import Any, Callable, Iterable, Iterator, Sequence
 
-from . import exact, program
+from . import exact, program, worker
 from .answers import Verdict
 from .commands import analyse, money_pump, power_of_test
 from .faults import BadData, Failed, Pooled, Refused, WrongColumns
 from .frames import Frame, near, own_labels, pairs_of, values_of
 from .measures import MoneyPump, Power
 from .tables import Table
+
+
+# Fewer households than this are done before other processes have begun.
+FEW = 50
 
 
 class Row:
@@ -90,7 +95,7 @@ class Panel(list):
         for name, values in columns.items():
             kind = KINDS.get(name)
             if name in self.by or kind is None:
-                made[name] = pandas.Series(values)
+                made[name] = pandas.Series(values, dtype=None if values else object)
             elif kind == "string":
                 made[name] = pandas.array([None if value is None else value if isinstance(value, str) else exact.written(value) for value in values], dtype=kind)
             else:
@@ -183,8 +188,29 @@ def panel(
                 row.missing[name] = str(wrong)
         return row
 
-    with ThreadPoolExecutor(workers or _processors()) as pool:
+    with Workers(workers or _processors(), len(groups)) as pool:
         return Panel(names, list(_bar(pool.map(run, groups), len(groups), progress)), list(more))
+
+
+class Workers:
+    """Threads, each with a process of its own that runs the program, where there are enough households for that to be worth it."""
+
+    def __init__(self, count: int, households: int) -> None:
+        self.others = [worker.Worker() for _ in range(count)] if count > 1 and households >= FEW and sys.executable else []
+        self.left = list(self.others)
+        self.pool = ThreadPoolExecutor(count, initializer=self._begin)
+
+    def _begin(self) -> None:
+        if self.left:
+            program.THREAD.run = self.left.pop().run
+
+    def __enter__(self) -> ThreadPoolExecutor:
+        return self.pool
+
+    def __exit__(self, *wrong: Any) -> None:
+        self.pool.shutdown()
+        for other in self.others:
+            other.close()
 
 
 def _groups(frame: Frame, names: Sequence[Any], levels: Any) -> list[tuple[Any, Callable[[Any], Table]]]:

@@ -2,38 +2,44 @@
 
 from __future__ import annotations
 
-from statistics import mean, median
+from fractions import Fraction
+from math import floor, fsum
 from typing import Any, Callable, Sequence
 
-LEVELS = (0.99, 0.95, 0.90, 0.80)
+LEVELS = ("0.99", "0.95", "0.90", "0.80")
 
 
 def share(part: int, whole: int) -> str:
     return f"{part} of {whole} ({100 * part / whole:.1f}%)" if whole else "none"
 
 
-def quantile(values: Sequence[float], part: float) -> float:
+def quantile(values: Sequence[Fraction], part: Fraction) -> Fraction:
     """Returns a quantile, between the two values next to it in proportion."""
     ordered = sorted(values)
     place = part * (len(ordered) - 1)
-    low = int(place)
+    low = floor(place)
     high = min(low + 1, len(ordered) - 1)
     return ordered[low] + (place - low) * (ordered[high] - ordered[low])
 
 
-def down(value: float) -> str:
-    """Returns a number to 4 places, rounded down: only what is 1 reads 1.0000."""
-    text = f"{value:.4f}"
-    return text if float(text) <= value else f"{float(text) - 0.0001:.4f}"
+def down(value: Fraction) -> str:
+    """Returns a number of 0 or more to 4 places, rounded down: only what is 1 reads 1.0000."""
+    whole = floor(value * 10**4)
+    return f"{whole // 10**4}.{whole % 10**4:04d}"
 
 
-def distribution(name: str, values: Sequence[float]) -> list[tuple[str, str]]:
+def mean(values: Sequence[Fraction]) -> str:
+    """Returns the mean to 4 places; it reads 1.0000 only where all are 1."""
+    text = f"{fsum(map(float, values)) / len(values):.4f}"
+    return "0.9999" if text == "1.0000" and min(values) < 1 else text
+
+
+def distribution(name: str, values: Sequence[Fraction]) -> list[tuple[str, str]]:
     """Returns the lines on an index."""
     if not values:
         return [(name, "none")]
-    lines = [("mean", mean(values)), ("least", min(values)), ("first quartile", quantile(values, 0.25)), ("median", median(values))]
-    lines += [("third quartile", quantile(values, 0.75)), ("greatest", max(values))]
-    return [(f"{name}, {what}", down(value)) for what, value in lines]
+    parts = [("least", 0), ("first quartile", 1), ("median", 2), ("third quartile", 3), ("greatest", 4)]
+    return [(f"{name}, mean", mean(values)), *((f"{name}, {what}", down(quantile(values, Fraction(part, 4)))) for what, part in parts)]
 
 
 def lines_of(panel: Any) -> list[tuple[str, str]]:
@@ -45,13 +51,13 @@ def lines_of(panel: Any) -> list[tuple[str, str]]:
         told = [getattr(row.verdict, name) for row in rows]
         known = [it for it in told if it is not None]
         lines.append((title, share(sum(known), len(known)) + (f", {len(told) - len(known)} withheld" if len(known) < len(told) else "")))
-    index = [row.verdict.ccei for row in rows]
+    index = [row.verdict.efficiency for row in rows]
     lines += distribution("efficiency index (CCEI)", index)
-    lines += [(f"efficiency index at least {level:.2f}", share(sum(value >= level for value in index), len(index))) for level in LEVELS]
+    lines += [(f"efficiency index at least {level}", share(sum(value >= Fraction(level) for value in index), len(index))) for level in LEVELS]
     if "pump" in panel.asked:
-        lines += distribution("money pump ratio, greatest", [row.money_pump.pump for row in rows if row.money_pump is not None])
+        lines += distribution("money pump ratio, greatest", [row.money_pump.ratio for row in rows if row.money_pump is not None])
     if "power" in panel.asked:
-        lines += distribution("power of the test", [row.power.power for row in rows if row.power is not None])
+        lines += distribution("power of the test", [row.power.share for row in rows if row.power is not None])
     return lines
 
 

@@ -11,7 +11,7 @@ from concurrent.futures import ThreadPoolExecutor
 from fractions import Fraction
 from typing import Any, Sequence
 
-from . import draws, exact
+from . import draws, papers
 from .answers import Verdict
 from .commands import analyse
 from .faults import BadData
@@ -57,7 +57,7 @@ def of_verdict(verdict: Verdict, ax: Any = None, *, labels: bool = True) -> Any:
     ax.set_ylabel(table.goods[1])
     ax.set_xlim(left=0)
     ax.set_ylim(bottom=0)
-    index = f"efficiency index {exact.written(verdict.efficiency)}{'' if verdict.attained else ', not attained'}"
+    index = f"efficiency index {papers.down(verdict.efficiency)}{'' if verdict.attained else ', not attained'}"
     ax.set_title(f"GARP {'holds' if verdict.garp else 'is violated'}; {index}", fontsize=10)
     if marked:
         ax.legend(frameon=False, fontsize=8)
@@ -92,10 +92,9 @@ def of_panel(panel: Any, ax: Any = None, *, random: int = 200, seed: Any = 1, bi
     drawn = [verdict.ccei for verdict in random_verdicts(rows, random, seed, exe, workers)] if random else []
     low = min([*values, *drawn])
     edges = [low + (1 - low) * place / bins for place in range(bins + 1)] if low < 1 else [0.95 + 0.05 * place / bins for place in range(bins + 1)]
-    for numbers, color, label in ((drawn, LIGHT, f"{len(drawn)} random behaviours"), (values, PLAIN, f"{len(values)} households")):
-        if numbers:
-            weights = [1 / len(numbers)] * len(numbers)
-            ax.hist(numbers, bins=edges, weights=weights, color=color, alpha=0.75, label=label, edgecolor="white", linewidth=0.5)
+    told = [(values, PLAIN, f"{len(values)} households"), *([(drawn, LIGHT, f"{len(drawn)} random behaviours")] if drawn else [])]
+    numbers, colors, names = zip(*told)
+    ax.hist(numbers, bins=edges, weights=[[1 / len(own)] * len(own) for own in numbers], color=colors, label=names, rwidth=0.9)
     ax.set_xlabel("critical cost efficiency index")
     ax.set_ylabel("share")
     ax.legend(frameon=False, fontsize=8, loc="upper left")

@@ -5,11 +5,11 @@ from __future__ import annotations
 import os
 import re
 import shutil
-import subprocess
 import sys
-import tempfile
+import threading
 from typing import Any, Callable, Iterable, Mapping, Sequence
 
+from . import worker
 from .faults import BadData, Failed, NoProgram
 
 VARIABLE = "RP_EXEC"
@@ -76,6 +76,10 @@ class Ran:
         return told[1], fault, {name: int(number) for name, number in zip(places[::2], places[1::2])}
 
 
+# What runs the program in this thread, where it is not this process: a panel's worker.
+THREAD = threading.local()
+
+
 def call(words: Sequence[str], files: Mapping[str, bytes], exe: Any = None) -> Ran:
     """Runs the program over files that are given by name, in a folder of their own, and returns how it ended.
 
@@ -83,16 +87,12 @@ def call(words: Sequence[str], files: Mapping[str, bytes], exe: Any = None) -> R
     words go to the program as they are: no shell reads them.
     """
     program = find(exe)
-    with tempfile.TemporaryDirectory(prefix="revealed-") as folder:
-        for name, data in files.items():
-            with open(os.path.join(folder, name), "wb") as it:
-                it.write(data)
-        try:
-            ran = subprocess.run([program, *words], cwd=folder, stdin=subprocess.DEVNULL, capture_output=True)
-        except OSError as wrong:
-            raise NoProgram(f"{program} cannot be run: {wrong}") from wrong
-    said = [line for line in _text(ran.stderr).splitlines() if not line.startswith("note: ")]
-    return Ran(ran.returncode, _text(ran.stdout), "\n".join(said))
+    try:
+        status, out, told = getattr(THREAD, "run", worker.run)(program, words, files)
+    except OSError as wrong:
+        raise NoProgram(f"{program} cannot be run: {wrong}") from wrong
+    said = [line for line in _text(told).splitlines() if not line.startswith("note: ")]
+    return Ran(status, _text(out), "\n".join(said))
 
 
 def _text(data: bytes) -> str:

@@ -4,7 +4,7 @@ import unittest
 from decimal import Decimal
 from fractions import Fraction
 
-from revealed import BadData, Refused, exact, from_frame, table
+from revealed import BadData, Pooled, Refused, WrongColumns, advice, exact, from_frame, table
 
 try:
     import numpy
@@ -51,7 +51,20 @@ class Numbers(unittest.TestCase):
             table([[Fraction(1, 3)]], [[1]])
         refused = caught.exception
         self.assertEqual((refused.fault, refused.record, refused.column, refused.label, refused.name), ("TooManyDecimals", 1, 1, 1, "p_1"))
-        self.assertIn("places=", str(refused))
+        self.assertIn("places=(6, None)", str(refused))
+
+    def test_doubles_are_rounded_down(self):
+        for number, double in [(Fraction(1), 1.0), (Fraction(4, 5), 0.8), (Fraction(0), 0.0), (Fraction(1, 3), 1 / 3)]:
+            self.assertLessEqual(Fraction(exact.rounded_down(number)), number)
+            self.assertAlmostEqual(exact.rounded_down(number), double, delta=1e-15)
+        for number in (1 - Fraction(1, 10**30), Fraction(2**60 - 1, 2**60)):
+            self.assertLess(exact.rounded_down(number), 1.0)
+        self.assertGreater(exact.rounded_down(Fraction(1, 2**60)), 0.0)
+
+    def test_numbers_of_any_length(self):
+        for number in (0, 7, -7, 10**4000, 10**4000 - 1, 3**20000, -(7**9000)):
+            self.assertEqual(exact.whole_of(exact.written(number)), number)
+        self.assertEqual(exact.fraction_read(exact.written(Fraction(3**20000, 2**20000))), Fraction(3**20000, 2**20000))
 
 
 class Tables(unittest.TestCase):
@@ -70,8 +83,72 @@ class Tables(unittest.TestCase):
         self.assertIs(table(*made), made)
 
     def test_labels_that_are_no_names(self):
-        self.assertEqual(from_frame({"obs": ["x", "x"], "p_a": [1, 1], "q_a": [2, 2]}).labels, [1, 2])
         self.assertEqual(from_frame({"obs": ["x", None], "p_a": [1, 1], "q_a": [2, 2]}).labels, [1, 2])
+        self.assertEqual(from_frame({"obs": [[1], [2]], "p_a": [1, 1], "q_a": [2, 2]}).labels, [1, 2])
+
+    def test_levels_are_a_column_or_an_argument(self):
+        d = {"p_a": [1, 2], "q_a": [3, 4]}
+        made = from_frame({**d, "e": [799, 1000.0]})
+        self.assertEqual((made.csv(), made.levels), (b"p_a,q_a,e\n1,3,799\n2,4,1000\n", [799, 1000.0]))
+        for levels in ([799, 1000], ["799", "1000"], [Decimal(799), Fraction(1000)]):
+            self.assertEqual(from_frame(d, levels=levels).csv(), made.csv())
+        self.assertEqual(table([[1], [2]], [[3], [4]], levels=900).csv(), b"p_1,q_1,e\n1,3,900\n2,4,900\n")
+        self.assertEqual(table({"a": [1]}, {"a": [2]}, levels=[5], places=1).csv(), b"p_a,q_a,e\n1,2,5\n")
+        for call in (
+            lambda: from_frame({**d, "e": [1, 2]}, levels=5),
+            lambda: from_frame(d, levels=[5]),
+            lambda: table({"p_a": [1], "e": [5]}, {"q_a": [1]}),
+        ):
+            with self.assertRaises(BadData):
+                call()
+        with self.assertRaises(Refused) as caught:
+            from_frame({**d, "E": [799, 1000]})
+        self.assertEqual((caught.exception.fault, caught.exception.name), ("BadHeader", "E"))
+
+    def test_several_households_are_no_table(self):
+        d = {"p_a": [1, 1, 2], "q_a": [2, 2, 3]}
+        for more, label in [({"obs": [1, 2, 1]}, 1), ({"obs": ["x", "x", None]}, "x"), ({"household": ["u", "v", "u"]}, None), ({"id": [1, 1, 2]}, None)]:
+            with self.assertRaises(Pooled) as caught:
+                from_frame({**d, **more})
+            self.assertEqual(caught.exception.label, label)
+            self.assertIn("panel(d, by=..)", str(caught.exception))
+        # a name of each row, and one household
+        self.assertEqual(len(from_frame({**d, "id": [1, 2, 3]})), 3)
+        self.assertEqual(len(from_frame({**d, "household": ["u", "u", "u"]})), 3)
+
+    def test_the_columns_that_are_wanted(self):
+        for d, wanted, found in [
+            ({"p1": [1], "p2": [1], "x1": [1], "x2": [1]}, "p_NAME and q_NAME for each good", ["p1", "p2", "x1", "x2"]),
+            ({"price": [1]}, "p_NAME and q_NAME for each good", ["price"]),
+            ({}, "p_NAME and q_NAME for each good", []),
+        ]:
+            with self.assertRaises(WrongColumns) as caught:
+                from_frame(d)
+            self.assertEqual((caught.exception.wanted, caught.exception.found), ([wanted], found))
+        with self.assertRaises(WrongColumns) as caught:
+            from_frame({"p1": [1], "x1": [1]})
+        self.assertIn("{'p1': 'p_1', 'x1': 'q_1'}", str(caught.exception))
+        with self.assertRaises(Refused) as caught:
+            from_frame({"p_a": [1], "p_b": [1], "q_a": [1]})
+        self.assertIn("wanted are p_a, p_b, q_a, q_b; those that were found are 'p_a', 'p_b', 'q_a'", str(caught.exception))
+
+    def test_what_is_no_data(self):
+        for p in (None, 5, "p_a,q_a", b"p_a", 1.5, object(), {"p_a": "12", "q_a": "34"}, {"p_a": 1, "q_a": 2}, {"p_a": [1], "q_a": [1, 2]}, [1, 2], []):
+            with self.assertRaises(BadData):
+                table(p)
+        for places in ("2", 2.5, -1, 7, (1, 2, 3), True, (2, "x")):
+            with self.assertRaises(BadData):
+                table([[1]], [[1]], places=places)
+
+    def test_places_that_fit_seven_digits(self):
+        for values, places in [([12.5], 5), ([1250], 3), ([9999999], 0), ([9999999.5], None), ([10000000], None), ([0.05], 6), ([99.99999999], 4), ([9.9999996], 5), ([], 6)]:
+            self.assertEqual(advice.places_that_fit(values), places, values)
+
+    def test_a_carriage_return_is_quoted(self):
+        made = from_frame({"p_a\rb": [1], 'q_a\rb': ["1\r2"]})
+        self.assertEqual(made.csv(), b'"p_a\rb","q_a\rb"\n1,"1\r2"\n')
+        with self.assertRaises(BadData):
+            from_frame({"p_\ud800": [1], "q_\ud800": [1]}).csv()
 
     def test_what_is_left_out_is_said(self):
         for columns, fault in [({"p_a": [1], "q_b": [1]}, "Unpaired"), ({"P_a": [1], "q_a": [1]}, "BadHeader")]:

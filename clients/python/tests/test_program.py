@@ -91,7 +91,7 @@ class Floats(unittest.TestCase):
             revealed.analyse(revealed.from_frame(d))
         refused = caught.exception
         self.assertEqual((refused.fault, refused.record, refused.label, refused.name, refused.status), ("TooManyDecimals", 1, 2024, "p_bread", 4))
-        self.assertIn("places=2", str(refused))
+        self.assertIn("places=(6, None)", str(refused))
         asked = revealed.analyse(revealed.from_frame(d, places=2))
         text = revealed.analyse(revealed.from_frame({**d, "p_bread": ["3.18", "2.5"]}))
         self.assertEqual(asked.certificate.data, text.certificate.data)

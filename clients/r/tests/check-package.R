@@ -1,10 +1,12 @@
 #!/usr/bin/env Rscript
 # Builds and checks the package `revealed` by R's own rules, runs its tests in the C and a UTF-8 locale in folders with
-# blanks and letters outside ASCII, and compares a panel of 1,000 households with examples/panel/panel.py.
+# blanks and letters outside ASCII, runs its vignette, compares a panel of 1,000 households with examples/panel/panel.py,
+# and looks at the sessions of clients/r/README.md.
 #
 # usage: RP_EXEC=PROGRAM Rscript check-package.R
 #
-# Ends with 0 where all is as it should be: no error and no warning. The time of the panel is told, and not judged.
+# Ends with 0 where all is as it should be: no error and no warning. The time of the panel is told, and not judged. The
+# vignette is run in any case; its pages are made where LaTeX is there with what they take.
 options(warn = 1)
 file <- sub("^--file=", "", grep("^--file=", commandArgs(), value = TRUE)[1])
 file <- gsub("~+~", " ", file, fixed = TRUE)
@@ -29,25 +31,52 @@ run <- function(what, words, at = room, env = character(), exe = R) {
   }
   invisible(said)
 }
+expect <- function(is_so, what) {
+  if (isTRUE(is_so)) return(invisible())
+  cat("not as it should be:", what, "\n")
+  good <<- FALSE
+}
 
-run("R CMD build", c("CMD", "build", shQuote(file.path(dirname(here), "revealed"))))
-# R CMD check itself takes no folder with blanks.
+# ---- R's own check
+# Whether LaTeX is here with what R's vignettes take of it.
+latex_works <- function() {
+  folder <- tempfile("latex")
+  dir.create(folder)
+  old <- setwd(folder)
+  on.exit(setwd(old))
+  writeLines(c("\\documentclass{article}", "\\usepackage{Sweave}", "\\begin{document}", "x", "\\end{document}"), "page.tex")
+  capture.output(try(suppressWarnings(tools::texi2pdf("page.tex", quiet = TRUE)), silent = TRUE), type = "message")
+  file.exists("page.pdf")
+}
+has_latex <- nzchar(Sys.which("pdflatex")) && latex_works()
+run("R CMD build", c("CMD", "build", if (!has_latex) "--no-build-vignettes", shQuote(file.path(dirname(here), "revealed"))))
+# R CMD check itself takes no folder with blanks, and asks CRAN for packages; a list of none answers in its place.
 plain <- tempfile("revealed")
-dir.create(plain)
+dir.create(file.path(plain, "web", "web", "packages"), recursive = TRUE)
+saveRDS(data.frame(Package = "none", Maintainer = "none"), file.path(plain, "web", "web", "packages", "packages.rds"))
 invisible(file.copy(Sys.glob(file.path(room, "revealed_*.tar.gz")), plain))
-said <- run("R CMD check", c("CMD", "check", "--no-manual", basename(Sys.glob(file.path(plain, "*.tar.gz")))), at = plain)
+tarball <- Sys.glob(file.path(plain, "*.tar.gz"))
+said <- run(
+  "R CMD check", c("CMD", "check", "--as-cran", "--no-manual", if (!has_latex) "--ignore-vignettes", basename(tarball)), at = plain,
+  env = c(
+    paste0("R_CRAN_WEB=file://", plain, "/web"), "_R_CHECK_CRAN_INCOMING_=false", "_R_CHECK_FORCE_SUGGESTS_=false",
+    "_R_CHECK_FUTURE_FILE_TIMESTAMPS_=false"
+  )
+)
 ended <- grep("^Status:", said, value = TRUE)
-cat("R CMD check --no-manual:", ended, "\n")
-if (length(ended) != 1 || grepl("WARNING|ERROR", ended)) good <- FALSE
+cat("R CMD check --as-cran --no-manual", if (!has_latex) "(without the vignette: there is no LaTeX for it)", ended, "\n")
+cat(grep("NOTE$", said, value = TRUE), sep = "\n")
+expect(length(ended) == 1 && !grepl("WARNING|ERROR", ended), "R CMD check")
 
+# ---- the tests in other folders and locales
 library <- file.path(room, "library")
 dir.create(library)
-run("R CMD INSTALL", c("CMD", "INSTALL", "-l", shQuote(library), shQuote(Sys.glob(file.path(plain, "*.tar.gz")))))
+run("R CMD INSTALL", c("CMD", "INSTALL", "-l", shQuote(library), shQuote(tarball)))
 # A folder of UTF-8 letters, made by the shell, whatever the locale of this session is.
 odd <- paste0(room, "/M\\303\\244rz und \\303\\251t\\303\\251")
 make <- paste0("d=$(printf '", odd, "') && mkdir \"$d\" && cp ", shQuote(Sys.getenv("RP_EXEC")), " \"$d/rp\"")
 if (system(make) != 0) good <- FALSE
-tests <- list.files(file.path(dirname(here), "revealed", "tests"), "[.]R$", full.names = TRUE)
+tests <- file.path(dirname(here), "revealed", "tests", c("program.R", "commands.R", "statuses.R"))
 for (locale in c("C", "C.UTF-8")) {
   for (test in tests) {
     words <- c("-c", shQuote(paste0(
@@ -58,8 +87,34 @@ for (locale in c("C", "C.UTF-8")) {
   }
 }
 
-# ---- a panel
+# ---- the vignette, from raw data to a picture and a table
 library("revealed", lib.loc = library, character.only = TRUE)
+vignette <- file.path(room, "vignette")
+dir.create(vignette)
+old <- setwd(vignette)
+made <- tryCatch(utils::Sweave(file.path(dirname(here), "revealed", "vignettes", "experiment.Rnw"), quiet = TRUE), error = identity)
+setwd(old)
+if (inherits(made, "error")) cat(conditionMessage(made), "\n")
+expect(identical(made, "experiment.tex"), "the vignette")
+page <- if (identical(made, "experiment.tex")) readLines(file.path(vignette, made)) else character()
+expect(all(file.exists(file.path(vignette, c("picture-one.pdf", "picture-panel.pdf")))), "the vignette's pictures")
+expect(any(grepl("^GARP holds & [0-9]+ ", page)) && any(grepl("^GARP holds +[0-9]+ ", page)), "the vignette's tables")
+
+# ---- citation, and the sessions of README.md
+cited <- format(utils::citation("revealed", lib.loc = library), style = "text")
+expect(any(grepl("2026", cited)) && any(grepl("0.11.0", cited)), "citation() has the year and the version")
+readme <- readLines(file.path(dirname(here), "README.md"))
+fences <- which(startsWith(readme, "```"))
+at <- which(readme[fences] == "```r")[1]
+session <- readme[(fences[at] + 1):(fences[at + 1] - 1)]
+wanted <- readme[(fences[at + 2] + 1):(fences[at + 3] - 1)]
+shown <- capture.output(for (it in as.list(parse(text = session))) {
+  found <- withVisible(eval(it, globalenv()))
+  if (found$visible) print(found$value)
+})
+expect(identical(shown, wanted), "the session of clients/r/README.md")
+
+# ---- a panel
 set.seed(2026)
 count <- 1000
 years <- 10
@@ -86,10 +141,7 @@ wanted <- read.csv(file.path(room, "verdicts.csv"))
 word <- function(x) ifelse(is.na(x), "", ifelse(x, "holds", "violated"))
 same <- identical(found$household, wanted$household) && identical(found$status, wanted$status) &&
   all(vapply(c("garp", "homothetic", "quasilinear"), function(name) identical(word(found[[name]]), wanted[[name]]), TRUE))
-if (!same) {
-  cat("the panel's verdicts differ from those of panel.py\n")
-  good <- FALSE
-}
+expect(same, "the panel's verdicts beside those of panel.py")
 cat(sprintf("a panel of %d households: %.2f of the time of examples/panel/panel.py\n", count, second / first))
 cat(if (good) "clients/r: as it should be\n" else "clients/r: not as it should be\n")
 quit("no", if (good) 0 else 1)

@@ -3,10 +3,11 @@
 
 usage: RP_EXEC=PROGRAM check-traffic.py
 
-The text of rptest.ado is run line by line over the examples: it writes its tables and its script, the script runs the
-program, and what it reads back is compared with the worked answers. That Stata takes the text in the same way is not shown.
+The text of rptest.ado is run line by line over the examples: it writes its files and calls rptest.sh, the script runs the
+program, and what comes back is compared with the worked answers. That Stata takes the text in the same way is not shown.
 """
 import csv
+import math
 import os
 import re
 import subprocess
@@ -15,93 +16,154 @@ import tempfile
 
 HERE = os.path.dirname(os.path.realpath(__file__))
 EXAMPLES = os.path.join(HERE, "..", "..", "..", "examples")
+SCRIPT = os.path.join(HERE, "..", "rptest.sh")
 with open(os.path.join(HERE, "..", "rptest.ado"), encoding="ascii") as it:
     TEXT = it.read().splitlines()
+# A missing number is greater than every other, as in Stata.
+MISSING = math.inf
+STRING = r"`\"(.*?)\"'|\"([^\"]*)\""
 
 
 class Stopped(Exception):
     """The command ended with a return code."""
 
 
+def parsed(lines, at=0):
+    """Returns the commands from a line to the end of its block, each a text or a block with its branches, and where that ends."""
+    found = []
+    while at < len(lines):
+        line = lines[at].strip()
+        at += 1
+        if line == "}":
+            return found, at
+        if line.endswith("{"):
+            body, at = parsed(lines, at)
+            head = line[:-1].strip()
+            if head.startswith("else"):
+                found[-1][1].append((head[4:].strip(), body))
+            else:
+                found.append(("block", [(head, body)]))
+        elif line and not line.startswith("*"):
+            found.append(("line", line))
+    return found, at
+
+
+def shown(value):
+    """Returns a number or a text as a macro has it."""
+    if isinstance(value, str):
+        return value
+    if value == MISSING:
+        return "."
+    return str(int(value)) if value == int(value) else repr(float(value))
+
+
 class Stata:
     """The data, the macros, the files and the results of one call."""
 
-    def __init__(self, data, room, options):
-        self.data, self.room = data, room
+    def __init__(self, data, room, options, panel):
+        self.data, self.room, self.panel = data, room, panel
         self.count = len(next(iter(data.values())))
-        self.locals = {"digits": "-1", "by": "", "exe": "", **options}
-        self.results, self.r, self.code, self.files = {}, {"eof": 0}, 0, {}
-        self.matrices, self.said, self.temporary = {}, [], 0
+        names = ("digits", "by", "levels", "obs", "exe", "generate", "saving")
+        self.locals = {**{name: "" for name in names}, **options}
+        self.results, self.r, self.code, self.files = {}, {}, 0, {}
+        self.matrices, self.posts, self.said, self.temporary, self.steps = {}, {}, [], 0, 0
+        self.kept = []
 
     # ---- macros and expressions
 
     def expand(self, text):
+        """Returns a text with its macros in place, again and again, but for those under macval()."""
+
+        def own(found):
+            name = found[2]
+            if found[1]:
+                return shown(self.value(name))
+            if name.startswith("r("):
+                return shown(self.r.get(name[2:-1], ""))
+            if name.startswith("macval("):
+                self.kept.append(self.locals.get(name[7:-1], ""))
+                return f"\ue000{len(self.kept) - 1}\ue001"
+            return self.locals.get(name, "")
+
         while True:
-            found = re.search(r"`(=?)([^`'\"]*)'", text)
-            if not found:
-                return text.replace("\\$", "$")
-            value = str(self.value(found[2])) if found[1] else self.locals.get(found[2], "")
-            text = text[: found.start()] + value + text[found.end() :]
+            changed = re.sub(r"`(=?)([^`'\"]*)'", own, text, count=1)
+            if changed == text:
+                # What is left of a global macro is expanded too; none is defined here.
+                return re.sub(r"\$\{[^}]*\}|\$\w+", "", text)
+            text = changed
 
-    def value(self, text):
-        """Returns the value of an expression whose macros are expanded."""
-        kept = []
+    def whole(self, text):
+        """Returns a text with what macval() kept in its place."""
+        return re.sub("\ue000(\\d+)\ue001", lambda it: self.kept[int(it[1])], text)
 
-        def keep(found):
-            kept.append(found[1] if found[1] is not None else found[2])
-            return f" S[{len(kept) - 1}] "
-
-        code = re.sub(r"`\"(.*?)\"'|\"([^\"]*)\"", keep, text)
-        code = re.sub(r"\br\((\w+)\)", r"R['\1']", code)
-        code = re.sub(r"(?<![\w\]'])([A-Za-z_]\w*)\[(\d+)\]", lambda it: f"V('{it[1]}',{it[2]})" if it[1] not in ("S", "R") else it[0], code)
-        code = re.sub(r"(?<![\w.])\.(?![\w])", " None ", code)
-        code = code.replace("&", " and ").replace("|", " or ")
+    def value(self, text, row=None):
+        """Returns the value of an expression whose macros are expanded, at a row of the data."""
+        strings, out, at = [], [], 0
+        form = re.compile(STRING + r"|(\d+\.?\d*|\.\d+)|r\((\w+)\)|([A-Za-z_]\w*)|(!=|<=|>=|==|.)", re.S)
+        closers = []
+        while at < len(text):
+            found = form.match(text, at)
+            at = found.end()
+            compound, simple, number, result, name, other = found.groups()
+            if compound is not None or simple is not None:
+                strings.append(self.whole(compound if compound is not None else simple))
+                out.append(f"S[{len(strings) - 1}]")
+            elif number:
+                out.append(number)
+            elif result:
+                out.append(f"R({result!r})")
+            elif name:
+                following = text[at : at + 1]
+                if following == "(":
+                    out.append(f"F_{name}")
+                elif following == "[":
+                    out.append(f"V({name!r}, ")
+                    closers.append(("[", ")"))
+                    at += 1
+                else:
+                    out.append({"_n": "n", "_N": "N", "_rc": "rc"}.get(name, f"V({name!r}, n)"))
+            elif other == "]":
+                out.append(closers.pop()[1])
+            else:
+                out.append({"&": " and ", "|": " or ", "!": " not ", "^": "**", ".": "M"}.get(other, other))
         names = {
-            "S": kept, "R": self.r, "V": self.cell, "_N": self.count, "_rc": self.code, "missing": lambda it: it is None or it == "",
-            "floor": lambda it: it // 1, "cond": lambda it, a, b: a if it else b, "trim": str.strip, "char": chr,
-            "substr": lambda it, at, n: it[at - 1 :] if n is None else it[at - 1 : at - 1 + n], "string": lambda it, form: form % it,
+            "S": strings, "R": lambda it: self.r.get(it, MISSING), "V": self.cell, "N": self.count, "n": row, "rc": self.code, "M": MISSING,
+            "F_missing": lambda it: it in (MISSING, ""), "F_floor": lambda it: it if it == MISSING else math.floor(it),
+            "F_cond": lambda it, a, b: a if it else b, "F_trim": str.strip, "F_round": round, "F_log10": math.log10,
+            "F_max": lambda *it: max([x for x in it if x != MISSING], default=MISSING), "F_min": min, "F_string": self.string,
         }
-        return eval(code, {"__builtins__": {}}, names)
+        found = eval("".join(out).strip(), {"__builtins__": {}}, names)
+        return int(found) if isinstance(found, bool) else found
+
+    @staticmethod
+    def string(number, form):
+        return "." if number == MISSING else form % number
 
     def cell(self, name, row):
         if name in self.matrices:
             return self.matrices[name][row - 1]
-        return self.data[name][row - 1]
+        return self.data[name][row - 1] if 1 <= row <= self.count else MISSING
 
     # ---- commands
 
-    def run(self, lines):
-        at = 0
-        while at < len(lines):
-            line = lines[at].strip()
-            if line.endswith("{"):
-                end, depth = at, 0
-                while True:
-                    depth += lines[end].count("{") - lines[end].count("}") if re.search(r"(\{|^\s*\})\s*$", lines[end]) else 0
-                    if depth == 0:
-                        break
-                    end += 1
-                body, otherwise = lines[at + 1 : end], None
-                if end + 1 < len(lines) and lines[end + 1].strip() == "else {":
-                    start = end + 1
-                    end = next(it for it in range(start, len(lines)) if lines[it].rstrip() == lines[start].split("else")[0] + "}")
-                    otherwise = lines[start + 1 : end]
-                self.block(line[:-1].strip(), body, otherwise)
-                at = end + 1
-                continue
-            if line and not line.startswith("*"):
-                self.command(line)
-            at += 1
+    def run(self, commands):
+        for kind, own in commands:
+            if kind == "line":
+                self.command(own)
+            else:
+                self.block(own)
 
-    def block(self, head, body, otherwise):
+    def block(self, branches):
+        head, body = branches[0]
         word = head.split()[0]
+        self.steps += 1
         if word == "if":
-            if self.value(self.expand(head[2:])):
-                self.run(body)
-            elif otherwise is not None:
-                self.run(otherwise)
+            for head, body in branches:
+                if not head or self.value(self.expand(head.split(" ", 1)[1])):
+                    return self.run(body)
         elif word == "while":
             while self.value(self.expand(head[5:])):
+                self.steps += 1
                 self.run(body)
         elif word == "forvalues":
             name, low, high = re.fullmatch(r"forvalues (\w+) = (\S+)/(\S+)", self.expand(head)).groups()
@@ -113,8 +175,10 @@ class Stata:
             for item in items.split():
                 self.locals[name] = item
                 self.run(body)
+        return None
 
     def command(self, line):
+        self.steps += 1
         if line.startswith("capture "):
             try:
                 self.code = 0
@@ -122,131 +186,215 @@ class Stata:
             except (OSError, Stopped):
                 self.code = 1
             return
+        line = line.removeprefix("quietly ")
         word, _, rest = line.partition(" ")
-        getattr(self, f"do_{word}")(self.expand(rest), rest)
+        getattr(self, f"do_{word}")(self.expand(rest))
 
-    def do_local(self, text, raw):
+    def do_local(self, text):
         name, _, value = text.partition(" ")
         value = value.strip()
         if value.startswith(":"):
-            words = value[1:].split()
-            if words[:2] == ["word", "count"]:
-                self.locals[name] = str(len(words) - 2)
-            elif words[0] == "word":
-                self.locals[name] = (words[3:] + [""] * 99)[int(words[1]) - 1]
-            else:
-                self.locals[name] = os.environ.get(words[1], "")
+            self.locals[name] = self.extended(value[1:].strip())
         elif value.startswith("="):
-            found = self.value(value[1:])
-            self.locals[name] = "." if found is None else str(found)
+            self.locals[name] = shown(self.value(value[1:]))
         else:
-            self.locals[name] = re.fullmatch(r"`\"(.*)\"'|\"(.*)\"", value)[1] or re.fullmatch(r"`\"(.*)\"'|\"(.*)\"", value)[2] or ""
+            found = re.fullmatch(STRING, value, re.S)
+            self.locals[name] = self.whole(found[1] if found[1] is not None else found[2])
 
-    def do_display(self, text, raw):
+    def extended(self, text):
+        words = text.split()
+        if words[:2] == ["word", "count"]:
+            return str(len(words) - 2)
+        if words[0] == "word":
+            return (words[3:] + [""] * 99)[int(words[1]) - 1]
+        if words[0] == "char":
+            return self.panel
+        assert words[:2] == ["subinstr", "local"], text
+        old, new = re.search(r'"([^"]*)" "([^"]*)", all', text).groups()
+        return self.locals[words[2]].replace(old, new)
+
+    def do_display(self, text):
         self.said.append(text)
 
-    def do_exit(self, text, raw):
+    def do_exit(self, text):
         raise Stopped(int(text))
 
     do_error = do_exit
 
-    def do_tempvar(self, text, raw):
-        self.temporary += 1
-        self.locals[text] = os.path.join(self.room, f"St{self.temporary:05}") if raw == "room" else f"__{self.temporary:06}"
+    def temporary_names(self, text, form):
+        for name in text.split():
+            self.temporary += 1
+            self.locals[name] = form(self.temporary)
 
-    do_tempname = do_tempfile = do_tempvar
+    def do_tempvar(self, text):
+        self.temporary_names(text, lambda number: f"__{number:06}")
 
-    def do_quietly(self, text, raw):
+    do_tempname = do_tempvar
+
+    def do_tempfile(self, text):
+        self.temporary_names(text, lambda number: os.path.join(self.room, f"St{number:05}"))
+
+    @staticmethod
+    def unquoted(text):
+        return re.sub(r"^`?\"|\"'?$", "", text.strip())
+
+    def path(self, text):
+        return self.whole(self.unquoted(text))
+
+    def parts(self, text):
+        """Returns the command of `command if CONDITION in A/B`, and the rows that it speaks of."""
+        own, _, within = text.partition(" in ") if re.search(r" in \d+/\d+$", text) else (text, "", "")
+        own, _, condition = own.partition(" if ")
+        first, last = (int(it) for it in within.split("/")) if within else (1, self.count)
+        rows = [it for it in range(first, last + 1) if not condition or self.value(condition.partition(",")[0], it) not in (0, False)]
+        return own, rows
+
+    def do_generate(self, text):
+        own, rows = self.parts(text)
+        name, value = re.fullmatch(r"(?:strL |long |byte |double )?(\w+) = (.*)", own).groups()
+        assert name not in self.data, name
+        self.data[name] = ["" if own.startswith("strL") else MISSING] * self.count
+        self.put(name, value, rows)
+
+    def do_replace(self, text):
+        own, rows = self.parts(text)
+        name, value = re.fullmatch(r"(\w+) = (.*)", own).groups()
+        self.put(name, value, rows)
+
+    def put(self, name, value, rows):
+        found = [self.value(value, row) for row in rows]
+        for row, it in zip(rows, found):
+            self.data[name][row - 1] = it
+
+    def do_egen(self, text):
+        grouped = re.fullmatch(r"long (\w+) = group\((\w+)\) if (\w+), missing", text)
+        if grouped:
+            name, own, touse = grouped.groups()
+            used = [value for value, is_used in zip(self.data[own], self.data[touse]) if is_used]
+            order = {value: at + 1 for at, value in enumerate(sorted(set(used)))}
+            self.data[name] = [order[value] if is_used else MISSING for value, is_used in zip(self.data[own], self.data[touse])]
+            return
+        name, own, by = re.fullmatch(r"byte (\w+) = max\((\w+)\), by\((\w+)\)", text).groups()
+        most = {}
+        for value, group in zip(self.data[own], self.data[by]):
+            most[group] = max(value, most.get(group, 0))
+        self.data[name] = [most[group] for group in self.data[by]]
+
+    def do_count(self, text):
+        self.r = {"N": len(self.parts(" " + text)[1])}
+
+    def do_summarize(self, text):
+        own, rows = self.parts(text)
+        found = [it for it in (self.data[own.strip()][row - 1] for row in rows) if it != MISSING]
+        self.r = {"N": len(found), "max": max(found, default=MISSING)}
+
+    def do_sort(self, text):
+        # Texts and numbers of one variable are of one kind.
+        order = sorted(range(self.count), key=lambda at: [self.data[name][at] for name in text.split()])
+        self.data = {name: [column[at] for at in order] for name, column in self.data.items()}
+
+    def do_findfile(self, text):
+        self.r = {"fn": os.path.join(os.path.dirname(SCRIPT), text)}
+
+    def do_mkdir(self, text):
+        os.mkdir(self.path(text))
+
+    def do_rmdir(self, text):
+        os.rmdir(self.path(text))
+
+    def do_erase(self, text):
+        os.remove(self.path(text))
+
+    def do_confirm(self, text):
         words = text.split()
-        touse = self.data[self.locals["touse"]]
-        if words[0] == "generate":
-            self.data[words[2]] = [1 if it else None for it in touse]
-        elif words[0] == "egen":
-            own = self.data[self.locals["by"]]
-            order = sorted({it for it, used in zip(own, touse) if used})
-            self.data[words[2]] = [order.index(it) + 1 if used else None for it, used in zip(own, touse)]
+        if words[0] == "file":
+            good = os.path.isfile(self.path(text.split(" ", 1)[1]))
+        elif words[0] == "new":
+            good = words[2] not in self.data
         else:
-            own = [it for it in self.data[words[1]] if it is not None]
-            self.r.update(N=len(own), max=max(own, default=None))
-
-    def do_mkdir(self, text, raw):
-        os.mkdir(text.strip('"'))
-
-    def do_rmdir(self, text, raw):
-        os.rmdir(text.strip('"'))
-
-    def do_erase(self, text, raw):
-        os.remove(text.strip('"'))
-
-    def do_confirm(self, text, raw):
-        if not os.path.isfile(text.split(" ", 1)[1].strip('"')):
+            good = isinstance(self.data[words[2]][0], str)
+        if not good:
             raise Stopped(601)
 
-    def do_shell(self, text, raw):
-        subprocess.run(text, shell=True, check=True)
+    def do_shell(self, text):
+        subprocess.run(["/bin/sh", "-c", self.whole(text)], check=True, stdin=subprocess.DEVNULL)
 
-    def do_file(self, text, raw):
+    def do_file(self, text):
         verb, _, rest = text.partition(" ")
         if verb == "open":
-            name, path, mode = re.fullmatch(r'(\S+) using "([^"]*)", (read|write) text(?: replace)?', rest).groups()
-            self.files[name] = open(path, mode[0], encoding="utf-8", newline="\n")
+            name, path, mode = re.fullmatch(r"(\S+) using (.*), (read|write) text(?: replace)?", rest).groups()
+            self.files[name] = open(self.path(path), mode[0], encoding="utf-8", newline="\n")
         elif verb == "close":
             self.files.pop(rest.strip()).close()
         elif verb == "write":
             name, _, rest = rest.partition(" ")
-            for part in re.findall(r"`\".*?\"'|\"[^\"]*\"|\(.*?\)(?= |$)|_n", rest):
-                self.files[name].write("\n" if part == "_n" else str(self.value(part)))
+            for compound, simple, end in re.findall(STRING + r"|(_n)", rest, re.S):
+                self.files[name].write("\n" if end else self.whole(compound or simple))
         else:
             name, macro = rest.split()
             line = self.files[name].readline()
-            self.r["eof"] = int(not line)
+            self.r = {"eof": int(not line)}
             self.locals[macro] = line.rstrip("\n")
 
-    def do_matrix(self, text, raw):
+    def do_matrix(self, text):
         if text.startswith(("colnames", "list")):
             return
         made = re.fullmatch(r"(\w+) = J\((\d+), (\d+), \.\)", text)
         if made:
-            self.matrices[made[1]] = [[None] * int(made[3]) for _ in range(int(made[2]))]
+            self.matrices[made[1]] = [[MISSING] * int(made[3]) for _ in range(int(made[2]))]
             return
         name, row, column, value = re.fullmatch(r"(\w+)\[(\d+), (\d+)\] = (.*)", text).groups()
         self.matrices[name][int(row) - 1][int(column) - 1] = self.value(value)
 
-    def do_return(self, text, raw):
+    def do_postfile(self, text):
+        name, rest = text.split(" ", 1)
+        declared, _, path = rest.partition(" using ")
+        names = re.sub(r"(?:double|str\d+)\(([^)]*)\)|(?:double|str\d+) (\w+)", lambda it: it[1] or it[2], declared).split()
+        self.posts[name] = (self.path(path), names, [])
+
+    def do_post(self, text):
+        name, rest = text.split(" ", 1)
+        values = [self.value(it) for it in re.findall(r"\(((?:[^()\"]|\"[^\"]*\")*)\)", rest)]
+        self.posts[name][2].append(dict(zip(self.posts[name][1], values, strict=True)))
+
+    def do_postclose(self, text):
+        path, _, rows = self.posts.pop(text.strip())
+        self.results[path] = rows
+
+    def do_return(self, text):
         kind, _, rest = text.partition(" ")
         if kind == "local":
             name, _, value = rest.partition(" ")
-            self.results[name] = re.sub(r"^`?\"|\"'?$", "", value)
+            self.results[name] = self.path(value)
         elif kind == "matrix":
             name, value = rest.split(" = ")
             self.results[name] = self.matrices[value]
         else:
             name, value = rest.split(" = ")
-            element = re.fullmatch(r"(\w+)\[(\d+), (\d+)\]", value)
-            self.results[name] = self.matrices[element[1]][int(element[2]) - 1][int(element[3]) - 1] if element else self.value(value)
+            self.results[name] = self.value(value)
 
-    def nothing(self, text, raw):
+    def do_version(self, text):
         pass
 
-    do_version = do_syntax = nothing
+    do_syntax = do_version
 
-    def do_marksample(self, text, raw):
+    def do_marksample(self, text):
         self.locals["touse"] = "__touse"
         self.data["__touse"] = [1] * self.count
 
 
-def call(data, **options):
-    """Runs the command, and returns its results, its return code and what it displayed."""
-    with tempfile.TemporaryDirectory(prefix="ein Ordner é ") as room:
-        stata = Stata({name: list(column) for name, column in data.items()}, room, options)
+def call(data, panel="", temporary="ein Ordner é ", **options):
+    """Runs the command; returns its results, its return code, what it displayed, and the machine as it was left."""
+    with tempfile.TemporaryDirectory(prefix=temporary) as room:
+        stata = Stata({name: [MISSING if it is None else it for it in column] for name, column in data.items()}, room, options, panel)
         start = next(at for at, line in enumerate(TEXT) if line.startswith("program define"))
         code = 0
         try:
-            stata.run(TEXT[start + 1 : TEXT.index("end")])
+            stata.run(parsed(TEXT[start + 1 : TEXT.index("end")])[0])
             assert os.listdir(room) == [], os.listdir(room)
         except Stopped as stopped:
             code = stopped.args[0]
-        return stata.results, code, stata.said
+        return stata.results, code, " ".join(stata.said), stata
 
 
 def example(name, text=()):
@@ -258,35 +406,135 @@ def example(name, text=()):
 BOTH = {"prices": "p_bread p_wine", "quantities": "q_bread q_wine"}
 
 
-def main():
-    found, code, _ = call(example("contradiction.csv"), **BOTH)
-    assert code == 0 and (found["status"], found["garp"], found["afriat"], found["homothetic"], found["quasilinear"]) == (0, 0, 0, 0, 0), found
+def check_verdicts():
+    found, code, _, _ = call(example("contradiction.csv"), **BOTH)
+    assert code == 0 and [found[it] for it in ("status", "garp", "afriat", "homothetic", "quasilinear")] == [0] * 5, found
     assert found["efficiency"] == "4/5" and found["attained"] == 1 and found["cycle"] in ("1 2 1", "2 1 2"), found
-    found, code, _ = call(example("decimals.csv"), **BOTH)
-    assert code == 0 and (found["garp"], found["afriat"], found["homothetic"], found["quasilinear"]) == (1, 1, 1, 1), found
-    found, code, _ = call(example("cycle_of_three.csv"), prices="p_bread p_wine p_rent", quantities="q_bread q_wine q_rent")
-    assert (found["garp"], found["efficiency"]) == (0, "1/2"), found
-    both = {"prices": "p_x p_y", "quantities": "q_x q_y"}
-    found, code, said = call(example("experiment.csv"), **both)
-    assert code == 459 and "p_x in observation 1" in said[0], (code, said)
-    found, code, _ = call(example("experiment.csv"), **both, digits="2")
-    assert (found["garp"], found["homothetic"], found["quasilinear"], found["efficiency"]) == (1, 0, 0, "1"), found
-    panel = example("panel/panel.csv", text=("household",))
-    found, code, _ = call(panel, **BOTH, by="household", digits="2")
-    rows = {found[f"group{at}"]: found["verdicts"][at - 1] for at in range(1, found["groups"] + 1)}
-    wanted = {"north": (0, 1, 1, 1), "south": (0, 0, 0, 0), "east, upper": (0, 1, 1, 1), "west": (4, None, None, None), "harbour": (0, 1, 0, 0)}
-    assert {name: (row[0], row[1], row[3], row[4]) for name, row in rows.items()} == wanted, rows
-    west = next(at for at in range(1, 6) if found[f"group{at}"] == "west")
-    assert "ZeroPrice record 2" in found[f"message{west}"], found
+    assert found["ccei"] == 0.7999999999999999 and found["verdicts"][0][6] == found["ccei"], found
+    found, code, _, _ = call(example("decimals.csv"), **BOTH)
+    assert code == 0 and (found["garp"], found["afriat"], found["homothetic"], found["quasilinear"], found["ccei"]) == (1, 1, 1, 1, 1), found
+    found, _, _, _ = call(example("cycle_of_three.csv"), prices="p_bread p_wine p_rent", quantities="q_bread q_wine q_rent")
+    assert (found["garp"], found["efficiency"], found["ccei"]) == (0, "1/2", 0.5), found
+    # An index of 1 that is not attained, and a table that meets GARP and breaks the other tests: its cycle is none.
+    found, _, _, _ = call(example("just_one.csv"), **BOTH)
+    assert (found["garp"], found["ccei"], found["attained"]) == (0, 1, 0), found
+    found, _, _, _ = call(example("experiment.csv"), prices="p_x p_y", quantities="q_x q_y", digits="2")
+    assert (found["garp"], found["homothetic"], found["quasilinear"], found["efficiency"], found["cycle"]) == (1, 0, 0, "1", ""), found
+    # Levels.
+    found, _, _, _ = call(example("levels.csv"), **BOTH, levels="e")
+    assert (found["garp"], found["afriat"], found["efficiency"], found["homothetic"]) == (1, 1, "4/5", 0), found
+    found, _, _, _ = call(example("levels.csv"), **BOTH)
+    assert found["garp"] == 0, found
+    data = example("levels.csv")
+    data["e"] = [0.0, 1000.0]
+    assert "BadLevel record 1" in call(data, **BOTH, levels="e")[0]["message"]
+
+
+def check_refusals():
+    _, code, said, _ = call(example("experiment.csv"), prices="p_x p_y", quantities="q_x q_y")
+    assert code == 459 and "digits( 6 5)" in said, (code, said)
     data = example("decimals.csv")
     data["q_wine"][1] = None
-    assert call(data, **BOTH)[1] == 416
+    found, code, _, _ = call(data, **BOTH)
+    assert code == 0 and found["status"] == 416 and found["garp"] == MISSING and "missing" in found["message"], found
     assert call(data, prices="p_bread", quantities="q_bread q_wine")[1] == 198
     data["q_wine"] = [-0.0, 1.0]
     assert call(data, **BOTH)[0]["status"] == 0
     data["q_wine"] = [-1.0, 1.0]
-    found, code, said = call(data, **BOTH)
-    assert found["status"] == 4 and "BadNumber record 1 column 4" in found["message"] and found["garp"] is None, found
+    found, code, _, _ = call(data, **BOTH)
+    assert found["status"] == 4 and "BadNumber record 1 column 4" in found["message"] and found["garp"] == MISSING, found
+    # A panel without its households.
+    panel = example("panel/panel.csv", text=("household",))
+    panel["year"] = [float(panel["household"][:at].count(own)) for at, own in enumerate(panel["household"])]
+    _, code, said, _ = call(panel, **BOTH, digits="2", obs="year")
+    assert code == 459 and "by()" in said, (code, said)
+    _, code, said, _ = call(panel, panel="household", **BOTH, digits="2")
+    assert code == 459 and "by(household)" in said, (code, said)
+    assert call(panel, **BOTH, digits="2", obs="year", by="household")[1] == 0
+
+
+def check_panel():
+    panel = example("panel/panel.csv", text=("household",))
+    found, code, _, stata = call(panel, **BOTH, by="household", digits="2", generate="v", saving="kept.dta")
+    rows = {found[f"group{at}"]: found["verdicts"][at - 1] for at in range(1, found["groups"] + 1)}
+    none = MISSING
+    wanted = {"north": (0, 1, 1, 1), "south": (0, 0, 0, 0), "east, upper": (0, 1, 1, 1), "west": (4, none, none, none), "harbour": (0, 1, 0, 0)}
+    assert {name: (row[0], row[1], row[3], row[4]) for name, row in rows.items()} == wanted, rows
+    west = next(at for at in range(1, 6) if found[f"group{at}"] == "west")
+    assert "ZeroPrice record 2" in found[f"message{west}"], found
+    harbour = next(at for at in range(1, 6) if found[f"group{at}"] == "harbour")
+    assert found[f"cycle{harbour}"] == "", found
+    assert {(name, garp) for name, garp in zip(stata.data["household"], stata.data["v_garp"])} == {(name, row[1]) for name, row in wanted.items()}
+    kept = {row["household"]: row for row in found["kept.dta"]}
+    assert kept["south"]["efficiency"] == "4/5" and kept["south"]["ccei"] < 0.8 and kept["west"]["status"] == 4, kept
+    # A missing value refuses its own group alone.
+    panel["q_wine"][0] = None
+    found, code, _, _ = call(panel, **BOTH, by="household", digits="2")
+    assert code == 0 and sorted(row[0] for row in found["verdicts"]) == [0, 0, 0, 4, 416], found
+    names = [found[f"group{at}"] for at in range(1, 6)]
+    assert names[[row[0] for row in found["verdicts"]].index(416)] == panel["household"][0], found
+
+
+def households(count):
+    """Returns a panel in no order; every third household contradicts itself."""
+    order = sorted(range(2 * count), key=lambda at: at * 7919 % (2 * count + 1))
+    rows = [(at // 2, at % 2) for at in order]
+    prices = [(1.0, 2.0), (2.0, 1.0)]
+    bought = lambda own, year: prices[year] if own % 3 == 0 else prices[1 - year]
+    return {
+        "id": [float(own) for own, _ in rows], "p_a": [prices[year][0] for _, year in rows], "p_b": [prices[year][1] for _, year in rows],
+        "q_a": [bought(own, year)[0] for own, year in rows], "q_b": [bought(own, year)[1] for own, year in rows],
+    }
+
+
+def check_many():
+    """Runs more households than a matrix holds; the number of commands grows as that of households."""
+    steps = []
+    for count in (450, 900):
+        found, code, _, stata = call(households(count), prices="p_a p_b", quantities="q_a q_b", by="id", generate="v", saving="kept.dta")
+        assert code == 0 and found["groups"] == count and found["held"] == count - (count + 2) // 3 and found["without"] == 0, found
+        assert ("verdicts" in found) == (count <= 800) and len(found["kept.dta"]) == count
+        assert all(row["garp"] == (row["id"] % 3 != 0) for row in found["kept.dta"])
+        assert all(garp == (own % 3 != 0) for own, garp in zip(stata.data["id"], stata.data["v_garp"]))
+        steps.append(stata.steps)
+    assert steps[1] < 2.1 * steps[0], steps
+
+
+def check_texts():
+    """Texts that a shell or Stata could take for more than a text: as the program's path, as a folder, as what is said."""
+    data, program = example("contradiction.csv"), os.environ["RP_EXEC"]
+    crafted = ["a'b", 'a"b', "$HOME", "${x}", "{a}", "$(touch X)", "; touch X;", "a b", "é", "-n", "%s", "\\"]
+    with tempfile.TemporaryDirectory() as room:
+        for text in crafted:
+            own = os.path.join(room, text)
+            os.mkdir(own)
+            os.symlink(program, os.path.join(own, "rp " + text))
+            path = os.path.join(own, "rp " + text)
+            found, code, _, _ = call(data, temporary=text, **BOTH, exe=path)
+            assert code == 0 and found["status"] == 0 and found["garp"] == 0, (text, found)
+            os.environ["RP_EXEC"] = path
+            assert call(data, **BOTH)[0]["garp"] == 0, text
+            os.environ["RP_EXEC"] = program
+            found, code, _, _ = call(data, **BOTH, exe=text)
+            assert found["garp"] == MISSING and found["status"] in (126, 127), (text, found)
+        # What an other program says is no answer, and is no command of Stata or the shell.
+        fake = os.path.join(room, "fake")
+        with open(fake, "w", encoding="utf-8") as it:
+            it.write("#!/bin/sh\necho 'garp `x` $(touch X) \"'\necho \"rp: \\`touch X\\` \\\"'\" >&2\n")
+        os.chmod(fake, 0o755)
+        found, code, _, _ = call(data, **BOTH, exe=fake)
+        assert found["garp"] == MISSING and found["status"] == MISSING and "no answer" in found["message"], found
+    assert not os.path.exists("X")
+
+
+def main():
+    old = os.getcwd()
+    os.environ["RP_EXEC"] = os.path.abspath(os.environ["RP_EXEC"])
+    with tempfile.TemporaryDirectory() as room:
+        os.chdir(room)
+        for check in (check_verdicts, check_refusals, check_panel, check_many, check_texts):
+            check()
+        os.chdir(old)
     print("clients/stata: the traffic is as it should be; it was not run in Stata")
     return 0
 

@@ -1,25 +1,14 @@
 -- What is given for Afriat's theorem: evidence for the axiom, or against it, or the place where a width is passed.
 use Rattle.std.specs.Prelude.{ℕ, List, ℤ}
 use Rattle.rp_evidence.specs.AfriatEvidence.{AreOneEach, multiplier_in, utility_in}
-use Rattle.rp_evidence.specs.Garp.{HasNoViolation, IsViolation, IsViolationAt, MeetsGarp}
+use Rattle.rp_evidence.specs.Garp.{HasNoViolation, IsViolation}
 use Rattle.rp_evidence.specs.Preference.{StrictByLevels, WeakByLevels}
-use Rattle.rp_evidence.specs.StandardNumbers.{AllFit, AreOwnStandardNumbers, AreStandardNumbers, PassWidthFirstAt}
+use Rattle.rp_evidence.specs.StandardNumbers.{AllFit, AreOwnStandardNumbers, PassWidthFirstAt}
 use Rattle.rp_evidence.specs.declared.afriat.AfriatPart.{AfriatPart}
 use Rattle.rp_evidence.specs.declared.afriat.AfriatPart.TheVariants.{Model, NoModel, Wide}
 
 -- Where the axiom holds and no standard number passes its width, the standard numbers; where it holds and one does,
--- the place of the first that does; where it fails, a violation.
-abbrev pub IsAfriatVerdict : ℕ → (ℕ → ℕ → ℕ) → AfriatPart → Type 0
-IsAfriatVerdict n c (Model numbers) =
-    MeetsGarp n c 1 1 × AreOneEach n numbers × AllFit n (utility_in numbers) (multiplier_in numbers)
-    × ((count : ℕ → ℕ) × AreStandardNumbers n c count (utility_in numbers) (multiplier_in numbers))
-IsAfriatVerdict n c (NoModel walk) = IsViolationAt n c 1 1 walk
-IsAfriatVerdict n c (Wide at) =
-    MeetsGarp n c 1 1
-    × ((count : ℕ → ℕ) × (utility : ℕ → ℤ) × (multiplier : ℕ → ℕ)
-    × AreStandardNumbers n c count utility multiplier × PassWidthFirstAt n count utility multiplier at)
-
--- The same where the observations have these levels, or none.
+-- the place of the first that does; where it fails, a violation. The observations have these levels, or none.
 abbrev pub IsOwnAfriatVerdict : ℕ → List ℕ → (ℕ → ℕ → ℕ) → AfriatPart → Type 0
 IsOwnAfriatVerdict n levels c (Model numbers) =
     HasNoViolation n (WeakByLevels levels c) (StrictByLevels levels c)

@@ -8,7 +8,7 @@ ghost use Rattle.rp_pref.specs.Steps.{OwnStrict, OwnWeak};
 ghost use Rattle.rp_table.specs.Cost.{cost_at, own_of};
 ghost use Rattle.rp_afriat.specs.InnerFilling.{AreFilledAbove, AreForEach, FitAbove};
 ghost use Rattle.rp_afriat.specs.InnerFilling.{StandardNumbersPassAt, scaled_at};
-ghost use Rattle.rp_afriat.specs.Verdict.{IsAfriatVerdict, IsOwnAfriatVerdict};
+ghost use Rattle.rp_afriat.specs.Verdict.{IsOwnAfriatVerdict};
 
 use crate::classes::{class_utility, first_of, set_utility};
 use crate::multipliers::set_multipliers;
@@ -30,8 +30,6 @@ pub fn afriat(alloc: Global, costs: &Costs, verdict: &Garp) -> Result<AfriatPart
         (IsOwnAfriatVerdict costs.now.n costs.now.levels (cost_at costs.now)) }
     ensures proves_without_levels { IfOk result (λ part. costs.now.levels ≡ []
         → ProvesAfriat costs.now.n (cost_at costs.now) part) }
-    ensures given_without_levels { IfOk result (λ part. costs.now.levels ≡ []
-        → IsAfriatVerdict costs.now.n (cost_at costs.now) part) }
 {
     let closure = Closure::own(alloc, costs)?;
     afriat_by_closure(alloc, costs, verdict, &closure)
@@ -53,8 +51,6 @@ pub fn afriat_by_closure(
         (IsOwnAfriatVerdict costs.now.n costs.now.levels (cost_at costs.now)) }
     ensures proves_without_levels { IfOk result (λ part. costs.now.levels ≡ []
         → ProvesAfriat costs.now.n (cost_at costs.now) part) }
-    ensures given_without_levels { IfOk result (λ part. costs.now.levels ≡ []
-        → IsAfriatVerdict costs.now.n (cost_at costs.now) part) }
 {
     match verdict {
         Garp::Ranks(_) => standard(alloc, costs, closure),

@@ -8,7 +8,7 @@ use Rattle.rp_evidence.specs.Preference.{IsWeak}
 use Rattle.rp_evidence.proofs.EqualOrReached.{leads_by, rest_of}
 use Rattle.rp_evidence.proofs.StrictStarts.{below_exactly, strictly_exactly}
 use Rattle.rp_rounds.specs.Marks.{AreMarked}
-use Rattle.rp_clauses.specs.InnerMarks.{IsReachedFromMarked}
+use Rattle.rp_clauses.specs.ReachedMarks.{IsReachedFromMarked}
 
 module _ (input : TableInput) (budget : BudgetInput) where
   pub marks_below : (starts marks : List Bool) → AreMarked input.n (Buys input budget) starts → AreMarked input.n (IsReachedFromMarked input.n (IsWeak input.cost 1 1) starts) marks

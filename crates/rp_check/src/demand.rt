@@ -3,7 +3,7 @@ ghost use Rattle.rp_check.specs.InnerSets.{AreFewOf, AreSets};
 ghost use Rattle.rp_evidence.specs.InnerBudget.{input_of, new_budget};
 ghost use Rattle.rp_check.specs.DemandFailure.{CostsEnoughAt, SetsFail};
 ghost use Rattle.rp_check.specs.DemandFailure.{DemandFails, GoodFails, GoodsFail, InnerFails};
-ghost use Rattle.rp_clauses.specs.InnerBits.{HoldsWeakClosure};
+ghost use Rattle.rp_rounds.specs.Reached.{IsWeakClosureOf};
 ghost use Rattle.rp_evidence.specs.BoundEvidence.{BoundHolds};
 ghost use Rattle.rp_evidence.specs.DemandEvidence.{bundle_of};
 ghost use Rattle.rp_evidence.specs.DemandPrograms.{lower_program, upper_program};
@@ -35,7 +35,7 @@ pub fn check_demand(
     m: u64,
     evidence: &DemandPart,
 ) -> Result<(), Failure>
-    requires closure { HoldsWeakClosure closure.now (input_of_table input.now.table.now) }
+    requires closure { IsWeakClosureOf closure.now (input_of_table input.now.table.now) }
     ensures { DemandFails (input_of_table input.now.table.now) garp_shown prices.now m
         evidence.now result }
 {

@@ -3,7 +3,7 @@ ghost use Rattle.rp_check.specs.DemandFailure.{DemandFails};
 ghost use Rattle.rp_check.specs.ItemFailure.{ItemFails, shows_garp};
 ghost use Rattle.rp_check.specs.LevelsFailure.{SomeLevelsFail};
 ghost use Rattle.rp_check.specs.WelfareFailure.{WelfareFails};
-ghost use Rattle.rp_clauses.specs.InnerBits.{HoldsWeakClosure};
+ghost use Rattle.rp_rounds.specs.Reached.{IsWeakClosureOf};
 ghost use Rattle.rp_evidence.specs.Input.{input_of_table};
 ghost use Rattle.rp_evidence.specs.Kinds.{IsOfKind};
 ghost use Rattle.rp_evidence.specs.declared.certificate.Kind.TheVariants.{Table};
@@ -36,7 +36,7 @@ pub fn check_item(
     garp_shown: bool,
     item: &Item,
 ) -> Result<(), Failure>
-    requires closure { HoldsWeakClosure closure.now (input_of_table input.now.table.now) }
+    requires closure { IsWeakClosureOf closure.now (input_of_table input.now.table.now) }
     requires kind { IsOfKind Table item.now }
     ensures { ItemFails (input_of_table input.now.table.now) garp_shown item.now result }
 {
@@ -65,7 +65,7 @@ fn check_demand_item(
     m: u64,
     part: &DemandPart,
 ) -> Result<(), Failure>
-    requires closure { HoldsWeakClosure closure.now (input_of_table input.now.table.now) }
+    requires closure { IsWeakClosureOf closure.now (input_of_table input.now.table.now) }
     ensures { InOrder (SomeLevelsFail input.now.table.now.levels
         ∷ DemandFails (input_of_table input.now.table.now) garp_shown prices.now m part.now
         ∷ []) result }
@@ -83,7 +83,7 @@ fn check_welfare_item(
     of: u32,
     part: &WelfarePart,
 ) -> Result<(), Failure>
-    requires closure { HoldsWeakClosure closure.now (input_of_table input.now.table.now) }
+    requires closure { IsWeakClosureOf closure.now (input_of_table input.now.table.now) }
     ensures { InOrder (SomeLevelsFail input.now.table.now.levels
         ∷ WelfareFails (input_of_table input.now.table.now) garp_shown prices.now of part.now
         ∷ []) result }

@@ -2,7 +2,7 @@ ghost use Rattle.std.specs.Prelude.{◌<◌, ◌≤◌, ◌↔◌, ℕ, IsTrue, 
 ghost use Rattle.rp_check.specs.InnerSets.{AreSets};
 ghost use Rattle.rp_evidence.specs.InnerBudget.{input_of, new_budget};
 ghost use Rattle.rp_check.specs.DemandFailure.{SetsFail};
-ghost use Rattle.rp_clauses.specs.InnerBits.{HoldsWeakClosure};
+ghost use Rattle.rp_rounds.specs.Reached.{IsWeakClosureOf};
 ghost use Rattle.rp_rounds.specs.Marks.{AreMarked, IsMarked};
 ghost use Rattle.rp_evidence.specs.Demand.{Buys, IsBelow, IsStrictStart};
 ghost use Rattle.rp_evidence.specs.Preference.{IsStrict};
@@ -27,7 +27,7 @@ pub struct Sets {
 impl Sets {
     /// The sets of the budget.
     pub fn of(budget: &NewBudget<'_>, closure: &Closure) -> Sets
-        requires { HoldsWeakClosure closure.now (input_of budget.now.at) }
+        requires { IsWeakClosureOf closure.now (input_of budget.now.at) }
         ensures { AreSets (input_of budget.now.at) (new_budget budget.now) result }
     {
         prove!(budget.at.n() as usize <= ROOM);

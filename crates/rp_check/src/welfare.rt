@@ -2,7 +2,7 @@ ghost use Rattle.std.specs.Prelude.{◌≤◌, ◌<◌, ◌↔◌, ◌∷◌, []
 ghost use Rattle.rp_check.specs.InnerSets.{AreFewOf};
 ghost use Rattle.rp_evidence.specs.InnerBudget.{input_of};
 ghost use Rattle.rp_patch.specs.Clauses.{FirstUnless, InOrder, Unless};
-ghost use Rattle.rp_clauses.specs.InnerBits.{HoldsWeakClosure};
+ghost use Rattle.rp_rounds.specs.Reached.{IsWeakClosureOf};
 ghost use Rattle.rp_rounds.specs.Marks.{AreMarked};
 ghost use Rattle.rp_clauses.specs.WalkFailure.{ViolationFails};
 ghost use Rattle.rp_check.specs.WelfareFailure.{IsNotAboveAt, LowerHolds};
@@ -41,7 +41,7 @@ pub fn check_welfare(
     t: u32,
     evidence: &WelfarePart,
 ) -> Result<(), Failure>
-    requires closure { HoldsWeakClosure closure.now (input_of_table input.now.table.now) }
+    requires closure { IsWeakClosureOf closure.now (input_of_table input.now.table.now) }
     ensures { WelfareFails (input_of_table input.now.table.now) garp_shown prices.now t
         evidence.now result }
 {
@@ -87,7 +87,7 @@ fn check_bounds(
     at: u32,
     lower: &Bound,
 ) -> Result<(), Failure>
-    requires closure { HoldsWeakClosure closure.now (input_of new_prices.now) }
+    requires closure { IsWeakClosureOf closure.now (input_of new_prices.now) }
     requires observed { t < records_of new_prices.now.table.now }
     requires at { at < records_of new_prices.now.table.now }
     ensures { WelfareBoundsFail (input_of new_prices.now) garp_shown
@@ -135,7 +135,7 @@ fn check_none_cheaper(
 
 /// Marks `t` and the observations that reach it.
 fn reaching(new_prices: &NewPrices<'_>, closure: &Closure, t: u32) -> [bool; ROOM]
-    requires closure { HoldsWeakClosure closure.now (input_of new_prices.now) }
+    requires closure { IsWeakClosureOf closure.now (input_of new_prices.now) }
     requires observed { t < records_of new_prices.now.table.now }
     ensures { AreMarked (records_of new_prices.now.table.now)
         (λ s. EqualsOrReaches (input_of new_prices.now) s t) result }
@@ -150,7 +150,7 @@ fn reaching(new_prices: &NewPrices<'_>, closure: &Closure, t: u32) -> [bool; ROO
 
 /// Marks `t` and the observations that it reaches.
 fn reached(new_prices: &NewPrices<'_>, closure: &Closure, t: u32) -> [bool; ROOM]
-    requires closure { HoldsWeakClosure closure.now (input_of new_prices.now) }
+    requires closure { IsWeakClosureOf closure.now (input_of new_prices.now) }
     requires observed { t < records_of new_prices.now.table.now }
     ensures { AreMarked (records_of new_prices.now.table.now)
         (EqualsOrReaches (input_of new_prices.now) t) result }
@@ -165,7 +165,7 @@ fn reached(new_prices: &NewPrices<'_>, closure: &Closure, t: u32) -> [bool; ROOM
 
 /// Whether a shown lower bound of `t` is that of its pair.
 fn lower_holds(new_prices: &NewPrices<'_>, closure: &Closure, t: u32, lower: &Bound) -> bool
-    requires closure { HoldsWeakClosure closure.now (input_of new_prices.now) }
+    requires closure { IsWeakClosureOf closure.now (input_of new_prices.now) }
     requires observed { t < records_of new_prices.now.table.now }
     ensures { IsTrue result
         ↔ LowerHolds (input_of new_prices.now) (slice_index new_prices.now.prices.now) t lower.now }

@@ -5,6 +5,7 @@ pub mod MarkLemmas
 pub mod MarkedLists
 pub mod OwnCosts
 pub mod SameFractions
+pub mod SeenClosures
 pub mod SoundTests
 pub mod TakenIn
 pub mod WalkProducts

@@ -2,12 +2,13 @@
 use Rattle.std.proofs.Common.{rules, ◌≡◌, ◌<◌, ◌≤◌, ◌+◌, ◌⊎◌, ◌↔◌, ◌||◌, inl, inr, ℕ, Bool, true, false, IsTrue, List, [], ◌∷◌, length, slice_index_or, refl, sym, subst, ◌∙◌, arith, set}
 use Rattle.std.proofs.lemmas.Bool.{cases_eq, false≢true}
 use Rattle.std.proofs.lemmas.List.{get_or-set_other, get_or-set_same}
-use Rattle.rp_evidence.specs.Walk.{LeadsTo, Reaches}
+use Rattle.rp_evidence.specs.Walk.{LeadsTo}
 use Rattle.rp_evidence.proofs.Walks.{reaches_by, rest_of_reach}
 use Rattle.rp_rounds.specs.Bits.{bit_in}
 use Rattle.rp_clauses.specs.InnerBits.{has_bit}
 use Rattle.rp_rounds.specs.Marks.{AreMarked, IsMarked}
-use Rattle.rp_clauses.specs.InnerMarks.{IsReachedFromMarked}
+use Rattle.rp_rounds.specs.Reached.{IsClosureOf, Reached, reaches_in}
+use Rattle.rp_clauses.specs.ReachedMarks.{IsReachedFromMarked}
 
 -- ---- what is told of one observation after another is marked, up to v
 
@@ -94,19 +95,19 @@ module _ (rows : List (List ℕ)) (marks : List Bool) where
 
 -- ---- marks spread by what is reached
 
-module _ (n : ℕ) (step : ℕ → ℕ → Type 0) (old marks : List Bool) (row : List ℕ) (rows : List (List ℕ))
-    (told : (s t : ℕ) → s < n → t < n → IsTrue (has_bit rows s t) ↔ Reaches n step s t)
-    (reached : (t : ℕ) → IsTrue (bit_in row t) ↔ ((s : ℕ) × (s < n) × IsMarked old s × IsTrue (has_bit rows s t)))
+module _ (n : ℕ) (step : ℕ → ℕ → Type 0) (old marks : List Bool) (row : List ℕ) (closure : Reached)
+    (closes : IsClosureOf closure n step)
+    (reached : (t : ℕ) → t < n → IsTrue (bit_in row t) ↔ ((s : ℕ) × (s < n) × IsMarked old s × IsTrue (reaches_in closure s t)))
     (marked : (t : ℕ) → t < n → IsMarked marks t ↔ (IsMarked old t ⊎ IsTrue (bit_in row t))) where
   pub spread_all : AreMarked n (IsReachedFromMarked n step old) marks
   spread_all t t_in = (
     (λ h. elim ((marked t t_in).0 h) [
       | inl k ↦ (t, t_in, k, [], (t_in, refl))
-      | inr k ↦ (let r = (reached t).0 k in let w = rest_of_reach n step r.0 t ((told r.0 t r.1 t_in).0 r.3) in (r.0, r.1, r.2, w.0 ∷ w.1, w.2))
+      | inr k ↦ (let r = (reached t t_in).0 k in let w = rest_of_reach n step r.0 t ((closes.exact r.0 t r.1 t_in).0 r.3) in (r.0, r.1, r.2, w.0 ∷ w.1, w.2))
     ]),
     (λ h. (marked t t_in).1 (along h.0 h.1 h.2 h.3 h.4)),
   )
     where
       along : (s : ℕ) → s < n → IsMarked old s → (w : List ℕ) → LeadsTo n step s t w → IsMarked old t ⊎ IsTrue (bit_in row t)
       along s s_in h [] l = inl (subst (λ z. IsMarked old z) l.1 h)
-      along s s_in h (x ∷ w) l = inr ((reached t).1 (s, s_in, h, (told s t s_in t_in).1 (reaches_by n step s t x w l)))
+      along s s_in h (x ∷ w) l = inr ((reached t t_in).1 (s, s_in, h, (closes.exact s t s_in t_in).1 (reaches_by n step s t x w l)))

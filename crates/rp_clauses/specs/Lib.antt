@@ -3,7 +3,7 @@ pub mod EfficiencyFailure
 pub mod GarpFailure
 pub mod HomotheticFailure
 pub mod InnerBits
-pub mod InnerMarks
+pub mod ReachedMarks
 pub mod PricesFailure
 pub mod QuasilinearFailure
 pub mod Standards

@@ -1,5 +1,4 @@
--- Words that only the crate's own functions and their proofs need, and no definition rests on: what steps lead to from
--- marked observations.
+-- What steps lead to from marked observations. No definition of evidence rests on this word.
 use Rattle.std.specs.Prelude.{◌<◌, ℕ, Bool, List}
 use Rattle.rp_evidence.specs.Walk.{LeadsTo}
 use Rattle.rp_rounds.specs.Marks.{IsMarked}

@@ -1,11 +1,12 @@
 //! Which observations of a table reach which by walks of weak steps, found once for all items.
 ghost use Rattle.std.specs.Prelude.{◌≡◌, ◌<◌, ◌≤◌, ◌&&◌, ◌||◌, ◌↔◌, ℕ, IsTrue, length};
-ghost use Rattle.rp_clauses.specs.InnerBits.{HoldsWeakClosure, has_bit};
+ghost use Rattle.rp_clauses.specs.InnerBits.{has_bit};
 ghost use Rattle.rp_rounds.specs.Marks.{IsMarked};
 ghost use Rattle.rp_evidence.specs.Input.{TableInput, input_of_table};
 ghost use Rattle.rp_evidence.specs.Preference.{IsWeak};
 ghost use Rattle.rp_evidence.specs.Welfare.{EqualsOrReaches};
 ghost use Rattle.rp_rounds.specs.Bits.{bit_in};
+ghost use Rattle.rp_rounds.specs.Reached.{IsWeakClosureOf, reaches_in};
 ghost use Rattle.rp_rounds.specs.Through.{ReachesThrough};
 ghost use Rattle.rp_table.specs.Cost.{cost_of};
 ghost use Rattle.rp_table.specs.Tables.{records_of};
@@ -15,49 +16,76 @@ use crate::bits::{WORDS, is_set, set, take_in};
 use crate::input::Input;
 use crate::reach::ROOM;
 use crate::standard::WHOLE;
+use std::marker::Model;
 
-/// A row of bits for each observation: those that it reaches. It stands in an array and takes no memory.
+/// Which observations reach which by walks of one or more weak steps: a row of bits for each, in an array. No memory is
+/// taken.
 #[derive(Drop)]
 pub struct Closure {
+    n: u32,
     rows: [[u64; WORDS]; ROOM],
+}
+
+impl Model for Closure {
+    ghost use Rattle.std.specs.Prelude.{◌≤◌};
+    ghost use Rattle.rp_clauses.specs.InnerBits.{has_bit};
+    ghost use Rattle.rp_rounds.specs.Reached.{Reached, reached_by};
+    ghost use Rattle.rp_table.specs.declared.TheConstants.{RECORDS};
+
+    ghost Value = { Reached };
+
+    ghost view = { λ c. reached_by c.n (has_bit c.rows) };
+
+    ghost invariant = { λ c. c.n ≤ RECORDS };
 }
 
 impl Closure {
     /// The closure of the weak steps of a table.
     pub fn of(input: &Input<'_>) -> Closure
-        ensures { HoldsWeakClosure result (input_of_table input.now.table.now) }
+        ensures { IsWeakClosureOf result (input_of_table input.now.table.now) }
     {
+        let n = input.n();
         let mut rows = [[0; WORDS]; ROOM];
         note_steps(input, &mut rows);
-        close(input.n(), &mut rows);
-        Closure { rows }
+        close(n, &mut rows);
+        Closure { n, rows }
     }
 
     /// Whether `s` is `t`, or some walk with at least one step leads from it to `t`.
     pub fn equals_or_reaches(&self, s: u32, t: u32) -> bool
         requires from { s < RECORDS }
         requires to { t < RECORDS }
-        ensures { (input : TableInput) → HoldsWeakClosure self.now input → s < input.n → t < input.n
+        ensures { (input : TableInput) → IsWeakClosureOf self.now input → s < input.n → t < input.n
             → IsTrue result ↔ EqualsOrReaches input s t }
     {
         s == t || is_set(&self.rows[s as usize], t)
     }
 
-    /// The row of what the marked ones of the first `n` observations reach.
-    pub fn reached_from(&self, n: u32, marks: &[bool]) -> [u64; WORDS]
-        requires few { n ≤ RECORDS }
-        requires marks { n ≤ length marks.now }
-        ensures { (t : ℕ) → IsTrue (bit_in result t)
-            ↔ ((s : ℕ) × (s < n) × IsMarked marks.now s × IsTrue (has_bit self.now.rows s t)) }
+    /// The row of what the marked observations reach.
+    pub fn reached_from(&self, marks: &[bool]) -> [u64; WORDS]
+        requires { self.now.n ≤ length marks.now }
+        ensures { (t : ℕ) → t < self.now.n → IsTrue (bit_in result t)
+            ↔ ((s : ℕ) × (s < self.now.n) × IsMarked marks.now s
+            × IsTrue (reaches_in self.now s t)) }
     {
-        let mut row = [0; WORDS];
-        for s in 0..n {
-            if marks[s as usize] {
-                take_in(&mut row, &self.rows[s as usize]);
-            }
-        }
-        row
+        united(self.n, &self.rows, marks)
     }
+}
+
+/// The union of the rows of the marked ones of the first `n` observations.
+fn united(n: u32, rows: &[[u64; WORDS]; ROOM], marks: &[bool]) -> [u64; WORDS]
+    requires few { n ≤ RECORDS }
+    requires marks { n ≤ length marks.now }
+    ensures { (t : ℕ) → IsTrue (bit_in result t)
+        ↔ ((s : ℕ) × (s < n) × IsMarked marks.now s × IsTrue (has_bit rows.now s t)) }
+{
+    let mut row = [0; WORDS];
+    for s in 0..n {
+        if marks[s as usize] {
+            take_in(&mut row, &rows[s as usize]);
+        }
+    }
+    row
 }
 
 /// Notes the weak steps from each observation in its row.

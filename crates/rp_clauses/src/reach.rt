@@ -2,10 +2,10 @@ ghost use Rattle.std.specs.Prelude.{◌<◌, ◌≤◌, ◌↔◌, ◌⊎◌, �
 ghost use Rattle.rp_evidence.specs.Enumeration.{Enumerates};
 ghost use Rattle.rp_evidence.specs.Input.{input_of_table};
 ghost use Rattle.rp_evidence.specs.Preference.{IsWeak};
-ghost use Rattle.rp_clauses.specs.InnerBits.{HoldsWeakClosure};
 ghost use Rattle.rp_rounds.specs.Marks.{AreMarked, IsMarked};
-ghost use Rattle.rp_clauses.specs.InnerMarks.{IsReachedFromMarked};
+ghost use Rattle.rp_clauses.specs.ReachedMarks.{IsReachedFromMarked};
 ghost use Rattle.rp_rounds.specs.Bits.{bit_in};
+ghost use Rattle.rp_rounds.specs.Reached.{IsWeakClosureOf};
 ghost use Rattle.rp_table.specs.Cost.{cost_of};
 ghost use Rattle.rp_table.specs.Tables.{records_of};
 ghost use Rattle.rp_table.specs.declared.TheConstants.{RECORDS};
@@ -22,7 +22,7 @@ const _: () = prove!(ROOM == RECORDS as usize);
 
 /// Marks each observation that weak steps, or none, lead to from one that is marked.
 pub fn spread(input: &Input<'_>, closure: &Closure, marks: &mut [bool])
-    requires closure { HoldsWeakClosure closure.now (input_of_table input.now.table.now) }
+    requires closure { IsWeakClosureOf closure.now (input_of_table input.now.table.now) }
     requires room { records_of input.now.table.now ≤ length marks.old }
     ensures { AreMarked (records_of input.now.table.now)
         (IsReachedFromMarked (records_of input.now.table.now)
@@ -30,7 +30,7 @@ pub fn spread(input: &Input<'_>, closure: &Closure, marks: &mut [bool])
         marks.old) marks.new }
 {
     let n = input.n();
-    let reached = closure.reached_from(n, marks);
+    let reached = closure.reached_from(marks);
     mark_bits(n, &reached, marks);
 }
 

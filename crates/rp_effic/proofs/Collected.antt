@@ -1,85 +1,129 @@
--- The ratios of all pairs, collected by place; sorted, and each number kept once.
-use Rattle.std.proofs.Common.{◌≡◌, ◌<◌, ◌≤◌, ◌+◌, ◌*◌, ◌/◌, ◌%◌, ◌++◌, ◌∷◌, [], inl, inr, ℕ, true, List, length-append, get_or, refl, sym, subst, ◌∙◌, arith}
-use Rattle.std.specs.Cmp.{Equal-is, IsTotalOrder, eq_by_cmp_equiv, ranked}
-use Rattle.std.specs.List.{Any, dedup}
-use Rattle.std.specs.List.Sorted.{IsPermutation, IsSorted, IsStrictlySortedBy}
-use Rattle.std.specs.Ordering.{eq_by_cmp}
-use Rattle.std.specs.declared.cmp.Ordering.TheVariants.{Less, Equal}
-use Rattle.std.proofs.lemmas.Bool.{cases_eq}
-use Rattle.std.proofs.lemmas.List.{get_or_append_left}
-use Rattle.std.proofs.lemmas.List.Kept.{Any-dedup, IsStrictlySortedBy-dedup}
+-- Ratios that are collected row by row, and sorted.
+use Rattle.std.proofs.Common.{◌≡◌, ◌<◌, ◌≤◌, ◌+◌, ◌*◌, ◌++◌, ◌∷◌, [], inl, inr, ℕ, false, List, length, length-append, get_or, refl, sym, ap, subst, ◌∙◌, arith, append_assoc}
+use Rattle.std.proofs.Math.Nat.{lt_of_mul-lt-mul_left, mul-le-mul_left}
+use Rattle.std.specs.Cmp.{IsTotalOrder, nat_cmp_is}
+use Rattle.std.specs.List.{Any}
+use Rattle.std.specs.List.Sorted.{IsPermutation, IsSorted}
+use Rattle.std.specs.Ordering.{is_lt, nat_cmp}
+use Rattle.std.specs.declared.cmp.Ordering.TheVariants.{Less}
+use Rattle.std.proofs.lemmas.Bool.{cases_eq, cases_lt, false≢true}
+use Rattle.std.proofs.lemmas.List.{append-nil, get_or_append_left, length_push}
 use Rattle.std.proofs.lemmas.List.Quantifiers.{Any-push}
-use Rattle.std.proofs.lemmas.List.Sorted.{Contains-permutation}
-use Rattle.std.proofs.lemmas.Map.Keys.{Less-from_sorted}
-use Rattle.std.proofs.lemmas.Nat.{div-mul-add, mod-mul-add, mul-add-lt}
+use Rattle.std.proofs.lemmas.List.Sorted.{Contains-permutation, ranks_by, sorted_far}
 use Rattle.rp_evidence.specs.Efficiency.{IsRatio}
-use Rattle.rp_evidence.proofs.Ratios.{ratio_same}
 use Rattle.rp_pref.proofs.LevelOrder.{cross_total, level_den}
+use Rattle.rp_effic.specs.InnerBracket.{AddsBetween, AreBetween, HasHighest, HaveBetween, IsBetween, IsSeen}
 use Rattle.rp_effic.specs.InnerRatioOrder.{cross_cmp}
-use Rattle.rp_effic.specs.InnerRatios.{HasRatios, Rise}
+use Rattle.rp_effic.specs.InnerRatios.{Rise}
+use Rattle.rp_effic.specs.InnerWeakSteps.{AreWeakSteps}
+use Rattle.rp_effic.specs.declared.bracket.Bracket.{Bracket}
 use Rattle.rp_effic.specs.declared.ratio.Ratio.{Ratio}
 
--- the ratio of the pair at this place is in the list, where it is at most 1
-abbrev pub IsSeen : ℕ → (ℕ → ℕ → ℕ) → List Ratio → ℕ → Type 0
-IsSeen n c ratios q = c (q / n) (q % n) ≤ c (q / n) (q / n) → Any (λ r. IsRatio c r.num r.den (q / n) (q % n)) ratios
-
--- those of the first pairs are
-abbrev pub AreSeen : ℕ → (ℕ → ℕ → ℕ) → List Ratio → ℕ → Type 0
-AreSeen n c ratios place = (q : ℕ) → q < place → IsSeen n c ratios q
-
-any_left : (P : Ratio → Type 0) (xs ys : List Ratio) → Any P xs → Any P (xs ++ ys)
+pub any_left : (P : Ratio → Type 0) (xs ys : List Ratio) → Any P xs → Any P (xs ++ ys)
 any_left P xs ys a =
     (a.0, a.1, omega (arith, a.2, length-append xs ys), get_or_append_left xs ys a.1 a.0 a.2 ∙ a.3, a.4)
 
-module _ (n : ℕ) (c : ℕ → ℕ → ℕ) (ratios : List Ratio) (place : ℕ) (seen : AreSeen n c ratios place) where
-  pub seen_with : (r : Ratio) → r.num ≡ c (place / n) (place % n) → r.den ≡ c (place / n) (place / n) → AreSeen n c (ratios ++ r ∷ []) (place + 1)
-  seen_with r num den q l small = elim (cases_eq q place) [
-    | inl e ↦ subst (λ x. Any (λ r. IsRatio c r.num r.den (x / n) (x % n)) (ratios ++ r ∷ [])) (sym e)
-        (Any-push (λ r. IsRatio c r.num r.den (place / n) (place % n)) ratios r (rw (num, den) (omega arith)))
-    | inr apart ↦ any_left (λ r. IsRatio c r.num r.den (q / n) (q % n)) ratios (r ∷ []) (seen q (omega arith) small)
-  ]
+-- ---- the steps of one observation
 
-  pub seen_without : c (place / n) (place / n) < c (place / n) (place % n) → AreSeen n c ratios (place + 1)
-  seen_without more q l small = elim (cases_eq q place) [
-    | inl e ↦ absurd (no_more (subst (λ x. c (x / n) (x % n) ≤ c (x / n) (x / n)) e small))
-    | inr apart ↦ seen q (omega arith) small
-  ]
+pub no_step_seen : (c : ℕ → ℕ → ℕ) (bracket : Bracket) (to : List ℕ) (s start : ℕ) (old : List Ratio) → AddsBetween c bracket to s start start old old
+no_step_seen c bracket to s start old = record {
+  longer = ([], sym (append-nil old));
+  few = omega arith;
+  seen = λ p a b. absurd (omega arith);
+}
+
+module _ (c : ℕ → ℕ → ℕ) (bracket : Bracket) (to : List ℕ) (s start place : ℕ) (old ratios : List Ratio) (so_far : AddsBetween c bracket to s start place old ratios) where
+  pub seen_with : (r : Ratio) → r.num ≡ c s (get_or to place 0) → r.den ≡ c s s → AddsBetween c bracket to s start (place + 1) old (ratios ++ r ∷ [])
+  seen_with r num den = record {
+    longer = (so_far.longer.0 ++ r ∷ [], ap (λ xs. xs ++ r ∷ []) so_far.longer.1 ∙ append_assoc old so_far.longer.0 (r ∷ []));
+    few = omega (arith, so_far.few, length_push ratios r);
+    seen = seen;
+  }
     where
-      no_more : c (place / n) (place % n) ≤ c (place / n) (place / n) → ⊥
-      no_more k = omega arith
+      seen : (p : ℕ) → start ≤ p → p < place + 1 → IsSeen c bracket (ratios ++ r ∷ []) s (get_or to p 0)
+      seen p a b between = elim (cases_eq p place) [
+        | inl e ↦ subst (λ x. Any (λ r. IsRatio c r.num r.den s (get_or to x 0)) (ratios ++ r ∷ [])) (sym e)
+            (Any-push (λ r. IsRatio c r.num r.den s (get_or to place 0)) ratios r (rw (num, den) (omega arith)))
+        | inr apart ↦ any_left (λ r. IsRatio c r.num r.den s (get_or to p 0)) ratios (r ∷ []) (so_far.seen p a (omega arith) between)
+      ]
 
-pub all_seen : (n m : ℕ) (c : ℕ → ℕ → ℕ) (ratios : List Ratio) (place : ℕ) → n ≡ m → n * n ≤ place → AreSeen n c ratios place → HasRatios m c ratios
-all_seen n m c ratios place same all seen s t s_in t_in small =
-    let row : (s * n + t) / n ≡ s = div-mul-add s n t (omega arith) in
-    let column : (s * n + t) % n ≡ t = mod-mul-add s n t (omega arith) in
-    let within : s * n + t < n * n = mul-add-lt s n t n (omega arith) (omega arith) in
-    let here = seen (s * n + t) (omega arith) in
-    at_pair ((s * n + t) / n) ((s * n + t) % n) s t row column here small
+  pub seen_without : ¬ IsBetween bracket (c s (get_or to place 0)) (c s s) → AddsBetween c bracket to s start (place + 1) old ratios
+  seen_without none = record {
+    longer = so_far.longer;
+    few = omega (arith, so_far.few);
+    seen = seen;
+  }
+    where
+      seen : (p : ℕ) → start ≤ p → p < place + 1 → IsSeen c bracket ratios s (get_or to p 0)
+      seen p a b between = elim (cases_eq p place) [
+        | inl e ↦ absurd (none (subst (λ x. IsBetween bracket (c s (get_or to x 0)) (c s s)) e between))
+        | inr apart ↦ so_far.seen p a (omega arith) between
+      ]
+
+pub ends_at : (c : ℕ → ℕ → ℕ) (bracket : Bracket) (to : List ℕ) (s start place end : ℕ) (old new : List Ratio) → AddsBetween c bracket to s start place old new → place ≡ end → AddsBetween c bracket to s start end old new
+ends_at c bracket to s start place end old new adds same = subst (λ p. AddsBetween c bracket to s start p old new) same adds
+
+-- ---- the steps of one observation after another
+
+pub highest_alone : (c : ℕ → ℕ → ℕ) (bracket : Bracket) (starts to : List ℕ) (ratios : List Ratio) → ratios ≡ [] ++ bracket.high ∷ [] → HaveBetween 0 c bracket starts to ratios
+highest_alone c bracket starts to ratios is = record {
+  seen = λ s p l a b. absurd (omega arith);
+  highest = subst (λ xs. HasHighest bracket xs) (sym is) (Any-push (λ (r : Ratio). (r.num ≡ bracket.high.num) × (r.den ≡ bracket.high.den)) [] bracket.high (refl, refl));
+  few = omega (arith, ap (λ xs. length xs) is, length_push [] bracket.high);
+}
+
+module _ (m : ℕ) (c : ℕ → ℕ → ℕ) (bracket : Bracket) (starts to : List ℕ) (old new : List Ratio) (so_far : HaveBetween m c bracket starts to old) (adds : AddsBetween c bracket to m (get_or starts m 0) (get_or starts (m + 1) 0) old new) where
+  on : (P : Ratio → Type 0) → Any P old → Any P new
+  on P a = subst (λ xs. Any P xs) (sym adds.longer.1) (any_left P old adds.longer.0 a)
+
+  pub row_seen : HaveBetween (m + 1) c bracket starts to new
+  row_seen = record {
+    seen = seen;
+    highest = on (λ r. (r.num ≡ bracket.high.num) × (r.den ≡ bracket.high.den)) so_far.highest;
+    few = omega (arith, adds.few, so_far.few);
+  }
+    where
+      seen : (s p : ℕ) → s < m + 1 → get_or starts s 0 ≤ p → p < get_or starts (s + 1) 0 → IsSeen c bracket new s (get_or to p 0)
+      seen s p l a b = elim (cases_eq s m) [
+        | inl e ↦ subst (λ x. IsSeen c bracket new x (get_or to p 0)) (sym e)
+            (adds.seen p (subst (λ x. get_or starts x 0 ≤ p) e a) (subst (λ x. p < get_or starts (x + 1) 0) e b))
+        | inr e ↦ λ between. on (λ r. IsRatio c r.num r.den s (get_or to p 0)) (so_far.seen s p (omega arith) a b between)
+      ]
+
+pub all_seen : (n : ℕ) (c : ℕ → ℕ → ℕ) (bracket : Bracket) (starts to : List ℕ) (ratios : List Ratio) → AreWeakSteps n n c starts to → HaveBetween n c bracket starts to ratios → AreBetween n c bracket ratios
+all_seen n c bracket starts to ratios steps have = record { complete = complete; highest = have.highest }
   where
-    at_pair : (u v s t : ℕ) → u ≡ s → v ≡ t → (c u v ≤ c u u → Any (λ r. IsRatio c r.num r.den u v) ratios) → c s t ≤ c s s → Any (λ r. IsRatio c r.num r.den s t) ratios
-    at_pair u v s t e f h =
-        subst (λ y. c s y ≤ c s s → Any (λ r. IsRatio c r.num r.den s y) ratios) f
-        (subst (λ x. c x v ≤ c x x → Any (λ r. IsRatio c r.num r.den x v) ratios) e h)
+    complete : (s t : ℕ) → s < n → t < n → IsBetween bracket (c s t) (c s s) → ¬ ¬ Any (λ r. IsRatio c r.num r.den s t) ratios
+    complete s t s_in t_in between none =
+        let top : c s s * bracket.high.num ≤ c s s * bracket.high.den = mul-le-mul_left (c s s) bracket.high.level.1 in
+        let small : c s t < c s s = lt_of_mul-lt-mul_left bracket.high.den (omega (arith, between.1, top)) in
+        steps.listed s t s_in t_in (omega arith) (λ p a b e.
+        none (subst (λ x. Any (λ r. IsRatio c r.num r.den s x) ratios) e
+        (have.seen s p s_in a b (subst (λ x. IsBetween bracket (c s x) (c s s)) (sym e) between))))
 
--- ---- sorted, and each number once
+-- ---- sorted
+
+pub any_moved : (P : Ratio → Type 0) (collected sorted : List Ratio) → IsPermutation collected sorted → Any P collected → Any P sorted
+any_moved P collected sorted moved a =
+    let found = Contains-permutation collected sorted a.1 moved (a.0, a.2, a.3) in
+    (found.0, a.1, found.1, found.2, a.4)
+
+pub between_moved : (n : ℕ) (c : ℕ → ℕ → ℕ) (bracket : Bracket) (collected sorted : List Ratio) → IsPermutation collected sorted → AreBetween n c bracket collected → AreBetween n c bracket sorted
+between_moved n c bracket collected sorted moved are = record {
+  complete = λ s t s_in t_in between none. are.complete s t s_in t_in between (λ a. none (any_moved (λ r. IsRatio c r.num r.den s t) collected sorted moved a));
+  highest = any_moved (λ r. (r.num ≡ bracket.high.num) × (r.den ≡ bracket.high.den)) collected sorted moved are.highest;
+}
 
 order_total : IsTotalOrder (cross_cmp (λ (r : Ratio). r.num) (λ r. r.den))
 order_total = cross_total (λ (r : Ratio). r.num) (λ r. r.den) (λ r. level_den r.num r.den r.level)
 
-module _ (n : ℕ) (c : ℕ → ℕ → ℕ) (collected sorted kept : List Ratio) where
-  pub kept_rise : IsSorted (cross_cmp (λ (r : Ratio). r.num) (λ r. r.den)) sorted → kept ≡ dedup (eq_by_cmp (cross_cmp (λ r. r.num) (λ r. r.den))) sorted → Rise kept
-  kept_rise in_order is i j d l within =
-      let strictly = subst (λ xs. IsStrictlySortedBy (cross_cmp (λ (r : Ratio). r.num) (λ r. r.den)) xs) (sym is) (IsStrictlySortedBy-dedup order_total (λ x y. refl) sorted in_order) in
-      ranked ((get_or kept i d).num * (get_or kept j d).den) ((get_or kept j d).num * (get_or kept i d).den) Less
-      (sym (Less-from_sorted (cross_cmp (λ (r : Ratio). r.num) (λ r. r.den)) kept i j d strictly l within))
+not_less : (a b : ℕ) → is_lt (nat_cmp a b) ≡ false → b ≤ a
+not_less a b h = elim (cases_lt a b) [
+  | inl less ↦ absurd (false≢true (sym h ∙ ap is_lt (sym (nat_cmp_is a b Less less))))
+  | inr most ↦ most
+]
 
-  pub kept_complete : HasRatios n c collected → IsPermutation collected sorted → kept ≡ dedup (eq_by_cmp (cross_cmp (λ r. r.num) (λ r. r.den))) sorted → HasRatios n c kept
-  kept_complete complete moved is s t s_in t_in small =
-      let a = complete s t s_in t_in small in
-      let found = Any-dedup (eq_by_cmp_equiv order_total) sorted a.1 (Contains-permutation collected sorted a.1 moved (a.0, a.2, a.3)) in
-      subst (λ xs. Any (λ r. IsRatio c r.num r.den s t) xs) (sym is) (found.0, found.1, found.2, found.3, same_number a.1 found.1 found.4 a.4)
-    where
-      same_number : (r y : Ratio) → eq_by_cmp (cross_cmp (λ (r : Ratio). r.num) (λ r. r.den)) r y ≡ true → IsRatio c r.num r.den s t → IsRatio c y.num y.den s t
-      same_number r y e h =
-          let equal = (Equal-is (cross_cmp (λ (r : Ratio). r.num) (λ r. r.den) r y)).0 e in
-          ratio_same c r.num r.den y.num y.den s t (level_den r.num r.den r.level) (ranked (r.num * y.den) (y.num * r.den) Equal (sym equal)) h
+pub sorted_rise : (sorted : List Ratio) → IsSorted (cross_cmp (λ (r : Ratio). r.num) (λ r. r.den)) sorted → Rise sorted
+sorted_rise sorted up i j d l within =
+    not_less ((get_or sorted j d).num * (get_or sorted i d).den) ((get_or sorted i d).num * (get_or sorted j d).den)
+    (sorted_far (λ (x y : Ratio). is_lt (cross_cmp (λ r. r.num) (λ r. r.den) x y)) (ranks_by order_total (λ (r : Ratio). r)) sorted up i j d (omega arith) within)

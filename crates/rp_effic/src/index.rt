@@ -3,15 +3,17 @@ ghost use Rattle.rp_evidence.specs.Efficiency.{IsEfficiencyIndex};
 ghost use Rattle.rp_table.specs.Cost.{cost_at};
 ghost use Rattle.rp_effic.specs.Verdict.{IsLowestLevel};
 
-use crate::ask::first_true;
-use crate::ratios::ratios;
-use crate::thresholds::Thresholds;
+use crate::bracket::sampled_bracket;
+use crate::ratios::ratios_between;
+use crate::thresholds::first_with_closed_walk;
+use crate::weak_steps::weak_steps;
 use rp_evidence::Level;
 use rp_num::{NoMemory, in_lowest_terms};
 use rp_table::Costs;
 use std::alloc::Global;
 
-/// The efficiency index in lowest terms: the least ratio at which a closed walk of weak steps exists.
+/// The efficiency index in lowest terms: the least ratio at which a closed walk of weak steps exists. It is sought among
+/// one ratio of each observation, and then among all those between the two that it lies between.
 pub fn efficiency_index(alloc: Global, costs: &Costs) -> Result<Level, NoMemory>
     ensures index { IfOk result
         (λ level. IsEfficiencyIndex costs.now.n (cost_at costs.now) level.num level.den) }
@@ -19,13 +21,10 @@ pub fn efficiency_index(alloc: Global, costs: &Costs) -> Result<Level, NoMemory>
 {
     let n = costs.n();
     prove!(n > 0);
-    let ratios = ratios(alloc, costs)?;
-    let mut thresholds = Thresholds {
-        costs,
-        ratios: &ratios,
-        asks: 0,
-    };
-    let place = first_true(alloc, &mut thresholds)?;
+    let steps = weak_steps(alloc, costs)?;
+    let bracket = sampled_bracket(alloc, costs, &steps)?;
+    let ratios = ratios_between(alloc, costs, &steps, &bracket)?;
+    let place = first_with_closed_walk(alloc, costs, &steps, &ratios)?;
     let ratio = ratios[place as usize];
     let (num, den) = in_lowest_terms(ratio.num, ratio.den);
     Ok(Level { num, den })

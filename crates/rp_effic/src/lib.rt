@@ -3,6 +3,8 @@
 
 mod above;
 mod ask;
+mod bracket;
+mod closed_walk;
 mod index;
 mod laws;
 mod ratio;
@@ -10,6 +12,7 @@ mod ratios;
 mod returning;
 mod thresholds;
 mod verdict;
+mod weak_steps;
 
 pub use ask::{Ask, first_true};
 pub use laws::given_evidence_depends_on_observed_costs;

@@ -1,8 +1,8 @@
-ghost use Rattle.std.specs.Prelude.{◌≡◌, [], ◌<◌};
+ghost use Rattle.std.specs.Prelude.{◌<◌};
 ghost use Rattle.rp_evidence.specs.First.{IsFirstOf};
 ghost use Rattle.rp_pref.specs.Steps.{OwnStrict, OwnWeak};
 ghost use Rattle.rp_table.specs.Cost.{cost_at};
-ghost use Rattle.rp_garp.specs.Pairs.{Contradict, IsOwnPairs, IsPairs};
+ghost use Rattle.rp_garp.specs.Pairs.{Contradict, IsOwnPairs};
 
 use rp_pref::{own_strict, own_weak};
 use rp_table::Costs;
@@ -10,9 +10,7 @@ use rp_table::Costs;
 /// The first two observations, by the first and then by the second, of which the first is weakly
 /// preferred to the second and the second strictly to the first (Varian 1982), each held to its own level.
 pub fn pairs(costs: &Costs) -> Option<(u32, u32)>
-    ensures own { IsOwnPairs costs.now.n costs.now.levels (cost_at costs.now) result }
-    ensures without_levels { costs.now.levels ≡ []
-        → IsPairs costs.now.n (cost_at costs.now) result }
+    ensures { IsOwnPairs costs.now.n costs.now.levels (cost_at costs.now) result }
 {
     for s in 0..costs.n() {
         if let Some(t) = first_contradicted(costs, s) {

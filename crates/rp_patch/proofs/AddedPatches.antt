@@ -20,7 +20,7 @@ abbrev weight_on : List Share → ℕ → ℕ
 weight_on parts i = sum_by (λ part. if uses part.patches i then part.weight else 0) parts
 
 on_cons : (part : Share) (parts : List Share) (i : ℕ) → weight_on (part ∷ parts) i ≡ (if uses part.patches i then part.weight else 0) + weight_on parts i
-on_cons part parts i = on_cons_of (types_on (record { budgets = 0; patches = []; total = 0; per = None })) part parts i
+on_cons part parts i = on_cons_of (types_on (record { budgets = 0; patches = []; total = 0; asked = None })) part parts i
 
 module _ (p q : PatchList) (place : ℕ → ℕ) (adds : AddsPatches p q place) where
   abbrev n : ℕ

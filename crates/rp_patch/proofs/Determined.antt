@@ -75,7 +75,7 @@ module _ (g : GroupedCounts) (inside : (i : ℕ) → i < g.places → g.group i 
   above_zero (suc t) m divides positive = omega arith
 
   -- one total
-  pub same_all : (per : Option ℕ) (all every : ℕ) (units others : ℕ → ℕ) → HasShares g per all units → HasShares g per every others → all ≡ every
+  pub same_all : (asked : Option ℕ) (all every : ℕ) (units others : ℕ → ℕ) → HasShares g asked all units → HasShares g asked every others → all ≡ every
   same_all None all every units others a b =
       let first : HasExactShares g all units = a in
       let second : HasExactShares g every others = b in
@@ -85,7 +85,7 @@ module _ (g : GroupedCounts) (inside : (i : ℕ) → i < g.places → g.group i 
       let second : HasApportionedShares g unit every others = b in
       first.total ∙ sym second.total
 
-  same_under : (per : Option ℕ) (all : ℕ) (units others : ℕ → ℕ) → HasShares g per all units → HasShares g per all others
+  same_under : (asked : Option ℕ) (all : ℕ) (units others : ℕ → ℕ) → HasShares g asked all units → HasShares g asked all others
       → (i : ℕ) → i < g.places → units i ≡ others i
   same_under None all units others a b i within =
       let first : HasExactShares g all units = a in
@@ -96,10 +96,10 @@ module _ (g : GroupedCounts) (inside : (i : ℕ) → i < g.places → g.group i 
       same_shares g.places g.group (whole_of g all) (rest_of g all) all units others (shared unit all units a) (shared unit all others b) i within
 
   -- one number of units of each place
-  pub same_units : (per : Option ℕ) (all every : ℕ) (units others : ℕ → ℕ) → HasShares g per all units → HasShares g per every others
+  pub same_units : (asked : Option ℕ) (all every : ℕ) (units others : ℕ → ℕ) → HasShares g asked all units → HasShares g asked every others
       → (i : ℕ) → i < g.places → units i ≡ others i
-  same_units per all every units others a b i within =
-      same_under per all units others a (subst (λ n. HasShares g per n others) (sym (same_all per all every units others a b)) b) i within
+  same_units asked all every units others a b i within =
+      same_under asked all units others a (subst (λ n. HasShares g asked n others) (sym (same_all asked all every units others a b)) b) i within
 
 module _ (input : RandomInput) where
   inside_chosen : (i : ℕ) → i < length (all_chosen input) → (chosen_at (all_chosen input) i).budget < input.budgets
@@ -108,19 +108,19 @@ module _ (input : RandomInput) where
   same_patch : (x y : Patch) → x.budget ≡ y.budget → x.signs ≡ y.signs → x.units ≡ y.units → x ≡ y
   same_patch x y budget signs units = λ k. record { budget = budget k; signs = signs k; units = units k }
 
-  same_patches : (per : Option ℕ) (p q : PatchList) → ArePatchesOf input per p → IsPatchList p → ArePatchesOf input per q → IsPatchList q
+  same_patches : (asked : Option ℕ) (p q : PatchList) → ArePatchesOf input asked p → IsPatchList p → ArePatchesOf input asked q → IsPatchList q
       → p.patches ≡ q.patches
-  same_patches per p q a valid b valid_q =
+  same_patches asked p q a valid b valid_q =
       ext_get_or no_patch p.patches q.patches (a.count ∙ sym b.count) (λ i l.
       let m : i < length q.patches = omega (arith, l, a.count, b.count) in
       same_patch (patch_at p i) (patch_at q i) (a.budget i l ∙ sym (b.budget i m)) (a.signs i l ∙ sym (b.signs i m))
-      (same_units (chosen_counts input) inside_chosen per p.total q.total (units_at p) (units_at q) a.units b.units i (omega (arith, l, a.count))))
+      (same_units (chosen_counts input) inside_chosen asked p.total q.total (units_at p) (units_at q) a.units b.units i (omega (arith, l, a.count))))
 
   -- all of the list
-  pub same_list : (per : Option ℕ) (p q : PatchList) → ArePatchesOf input per p → IsPatchList p → ArePatchesOf input per q → IsPatchList q → p ≡ q
-  same_list per p q a valid b valid_q = λ k. record {
+  pub same_list : (asked : Option ℕ) (p q : PatchList) → ArePatchesOf input asked p → IsPatchList p → ArePatchesOf input asked q → IsPatchList q → p ≡ q
+  same_list asked p q a valid b valid_q = λ k. record {
     budgets = (a.budgets ∙ sym b.budgets) k;
-    patches = same_patches per p q a valid b valid_q k;
-    total = same_all (chosen_counts input) inside_chosen per p.total q.total (units_at p) (units_at q) a.units b.units k;
-    per = (a.per_is ∙ sym b.per_is) k;
+    patches = same_patches asked p q a valid b valid_q k;
+    total = same_all (chosen_counts input) inside_chosen asked p.total q.total (units_at p) (units_at q) a.units b.units k;
+    asked = (a.asked_is ∙ sym b.asked_is) k;
   }

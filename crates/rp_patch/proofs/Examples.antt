@@ -49,7 +49,7 @@ their_patches = record {
       record { budget = 0; signs = pos 0 ∷ pos 1 ∷ []; units = 1 } ∷ record { budget = 0; signs = pos 0 ∷ negsuc 0 ∷ []; units = 3 }
       ∷ record { budget = 1; signs = pos 1 ∷ pos 0 ∷ []; units = 2 } ∷ record { budget = 1; signs = negsuc 0 ∷ pos 0 ∷ []; units = 2 } ∷ [];
   total = 4;
-  per = None;
+  asked = None;
 }
 
 four_combinations : combinations their_patches 2 ≡ 4

@@ -212,7 +212,7 @@ module _ (input : RandomInput) where
 
   -- ---- patches of them
 
-  module _ (per : Option ℕ) (p : PatchList) (are : ArePatchesOf input per p) where
+  module _ (asked : Option ℕ) (p : PatchList) (are : ArePatchesOf input asked p) where
     in_chosen : (i : ℕ) → i < length p.patches → i < length (all_chosen input)
     in_chosen i l = omega (arith, l, are.count)
 

@@ -8,6 +8,7 @@ pub mod ClauseLemmas
 pub mod Determined
 pub mod ExtendedWalks
 pub mod FirstChosen
+pub mod GreatestShares
 pub mod GroupFacts
 pub mod Multiples
 pub mod PartialTypeLaws

@@ -44,9 +44,9 @@ module _ (input : RandomInput) (total : ℕ) (units : List ℕ) (each : length u
     | inr g ↦ ap (λ (x : Patch). x.units) (get_or_past p.patches i no_patch (omega (arith, g, united.0))) ∙ sym (get_or_past units i 0 (omega (arith, g, each)))
   ]
 
-  has_units : (per : Option ℕ) → HasShares (chosen_counts input) per total (slice_index units) → HasUnits input per p
-  has_units per shares =
-      subst (λ (claim : Type 0). claim) (λ k. HasShares (chosen_counts input) per (sym total_is k) (λ i. sym (units_same i) k)) shares
+  has_units : (asked : Option ℕ) → HasShares (chosen_counts input) asked total (slice_index units) → HasUnits input asked p
+  has_units asked shares =
+      subst (λ (claim : Type 0). claim) (λ k. HasShares (chosen_counts input) asked (sym total_is k) (λ i. sym (units_same i) k)) shares
 
   given_on : AreFilled (chosen_counts input) total (slice_index units) → (j : ℕ) → j < p.budgets → units_on p j ≡ p.total
   given_on filled j below =
@@ -78,14 +78,14 @@ module _ (input : RandomInput) (total : ℕ) (units : List ℕ) (each : length u
     filled = given_on filled;
   }
 
-  pub are_patches : (per : Option ℕ) → HasShares (chosen_counts input) per total (slice_index units) → p.per ≡ per → ArePatchesOf input per p
-  are_patches per shares per_is = record {
+  pub are_patches : (asked : Option ℕ) → HasShares (chosen_counts input) asked total (slice_index units) → p.asked ≡ asked → ArePatchesOf input asked p
+  are_patches asked shares asked_is = record {
     budgets = budgets_is;
-    per_is = per_is;
+    asked_is = asked_is;
     count = united.0;
     budget = λ i within. patch_budget i (omega (arith, within, united.0));
     signs = λ i within. patch_signs i (omega (arith, within, united.0));
-    units = has_units per shares;
+    units = has_units asked shares;
   }
 
 -- the same facts of a list that was read
@@ -95,11 +95,11 @@ united_by input chosen units read patches is same united =
     subst (λ xs. AreUnited xs units (length xs) patches) is (subst (λ us. AreUnited chosen us (length chosen) patches) same united)
 
 -- why there are no patches, where there are not too many and they have no units
-pub refused_units : (input : RandomInput) (per : Option ℕ) (f : PatchFault) → length (all_chosen input) ≤ PATCHES
-    → SaysWhyNotShared (chosen_counts input) per f → SaysWhy input per f
-refused_units input per (TooManyPatches j) few why = absurd why
-refused_units input per (NeedUnit j) few why = (few, why.0, why.1)
-refused_units input per NoMemory few why = why
+pub refused_units : (input : RandomInput) (asked : Option ℕ) (f : PatchFault) → length (all_chosen input) ≤ PATCHES
+    → SaysWhyNotShared (chosen_counts input) asked f → SaysWhy input asked f
+refused_units input asked (TooManyPatches j) few why = absurd why
+refused_units input asked (NeedUnit j) few why = (few, why.0, why.1)
+refused_units input asked NoMemory few why = why
 
 -- a fault that `?` passes on
 pub passed_on : {A E : Type 0} (r : Result A E) (e : E) (P : E → Type 0) → IsErr r × IsErrAnd r (λ x. x ≡ e) → P e → IfErr r P

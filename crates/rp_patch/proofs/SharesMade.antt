@@ -198,6 +198,6 @@ module _ (g : GroupedCounts) (inside : (i : ℕ) → i < g.places → g.group i 
           let is : slice_index units i ≡ (portion_at portions i).whole = unit_at i within ∙ not_rounded_up i within ∙ all.same.whole i in
           (λ k. is k * counts_in g (g.group i)) ∙ omega (arith, split i within, no_rest i within)
 
-    pub has_shares : (per : Option ℕ) → IsSharedTotal g per total → HasShares g per total (slice_index units)
+    pub has_shares : (asked : Option ℕ) → IsSharedTotal g asked total → HasShares g asked total (slice_index units)
     has_shares None is = record { total = is; each = exact_units (λ j below. is.0.1 j below) }
     has_shares (Some unit) is = apportioned unit is

@@ -78,8 +78,8 @@ PassesTotalAt g j =
 
 -- What each fault says. Want of memory says nothing.
 abbrev pub SaysWhyNoUnits : GroupedCounts → Option ℕ → ApportionFault → Type 0
-SaysWhyNoUnits g per (NeedUnit j) = (per ≡ None) × PassesTotalAt g j
-SaysWhyNoUnits g per NoMemory = Unit {0}
+SaysWhyNoUnits g asked (NeedUnit j) = (asked ≡ None) × PassesTotalAt g j
+SaysWhyNoUnits g asked NoMemory = Unit {0}
 
 -- ---- groups and counts in lists
 

@@ -30,6 +30,6 @@ AreUnited chosen units n patches = (length patches ≡ n) × ((i : ℕ) → i < 
 
 -- What a fault says of the units. Want of memory says nothing, and no other fault comes.
 abbrev pub SaysWhyNotShared : GroupedCounts → Option ℕ → PatchFault → Type 0
-SaysWhyNotShared g per (TooManyPatches j) = ⊥
-SaysWhyNotShared g per (NeedUnit j) = (per ≡ None) × PassesTotalAt g j
-SaysWhyNotShared g per NoMemory = Unit {0}
+SaysWhyNotShared g asked (TooManyPatches j) = ⊥
+SaysWhyNotShared g asked (NeedUnit j) = (asked ≡ None) × PassesTotalAt g j
+SaysWhyNotShared g asked NoMemory = Unit {0}

@@ -10,7 +10,7 @@ pub record PatchList : Type 0 where
   pub budgets : ℕ
   pub patches : List Patch
   pub total : ℕ
-  pub per : Option ℕ
+  pub asked : Option ℕ
 
 abbrev pub no_patch : Patch
 no_patch = record { budget = 0; signs = []; units = 0 }

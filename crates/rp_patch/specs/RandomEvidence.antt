@@ -1,6 +1,6 @@
 -- What evidence on random choices has to be to prove its verdict (McFadden and Richter 1990; the weights of the
 -- patches are the dual side of the program of random utility).
-use Rattle.std.specs.Prelude.{◌≡◌, ℕ, List}
+use Rattle.std.specs.Prelude.{◌≡◌, ◌*◌, ℕ, List}
 use Rattle.rp_evidence.specs.declared.certificate.Item.{Item}
 use Rattle.rp_evidence.specs.declared.certificate.Item.TheVariants.{Garp as GarpItem, Afriat as AfriatItem}
 use Rattle.rp_evidence.specs.declared.certificate.Item.TheVariants.{Efficiency as EfficiencyItem}
@@ -10,8 +10,8 @@ use Rattle.rp_evidence.specs.declared.certificate.Item.TheVariants.{Random as Ra
 use Rattle.rp_evidence.specs.declared.random.RandomPart.{RandomPart}
 use Rattle.rp_evidence.specs.declared.random.RandomPart.TheVariants.{Mixture, Violated, Wide}
 use Rattle.rp_evidence.specs.declared.random.Share.{Share}
-use Rattle.rp_patch.specs.Kinds.{ProvesNoMixtureOf}
-use Rattle.rp_patch.specs.Mixtures.{IsMixture, types_on}
+use Rattle.rp_patch.specs.Kinds.{ProvesNoMixtureOf, weight_of}
+use Rattle.rp_patch.specs.Mixtures.{IsGreatestShare, IsMixture, types_on}
 use Rattle.rp_patch.specs.Patches.{PatchList}
 
 -- The evidence of a violation: no mixture makes the choices; the parts are a partial mixture, and none has a greater
@@ -25,6 +25,13 @@ abbrev pub ProvesRandom : PatchList → ℕ → RandomPart → Type 0
 ProvesRandom p total (Mixture den parts) = (total ≡ p.total) × IsMixture p den parts
 ProvesRandom p total (Violated den parts weights) = (total ≡ p.total) × ProvesNoMixture p den parts weights
 ProvesRandom p total (Wide step) = Unit {0}
+
+-- The share that evidence shows is the greatest rational share: all of the total, or what the parts have of it. What is
+-- withheld shows none.
+abbrev pub ShowsShare : PatchList → RandomPart → Type 0
+ShowsShare p (Mixture den parts) = IsGreatestShare p 1 1
+ShowsShare p (Violated den parts weights) = IsGreatestShare p (weight_of parts) (den * p.total)
+ShowsShare p (Wide step) = Unit {0}
 
 -- An item proves its verdict on random choices. An item on a table proves nothing of them.
 abbrev pub ProvesOnPatches : PatchList → Item → Type 0

@@ -58,16 +58,16 @@ chosen_counts input = record {
 
 -- Units of patches: those of these counts.
 abbrev pub HasUnits : RandomInput → Option ℕ → PatchList → Type 0
-HasUnits input per p = HasShares (chosen_counts input) per p.total (units_at p)
+HasUnits input asked p = HasShares (chosen_counts input) asked p.total (units_at p)
 
 -- These are the patches that were chosen, with the units that stand for the choices.
-pub record ArePatchesOf (input : RandomInput) (per : Option ℕ) (p : PatchList) : Type 0 where
+pub record ArePatchesOf (input : RandomInput) (asked : Option ℕ) (p : PatchList) : Type 0 where
   pub budgets : p.budgets ≡ input.budgets
-  pub per_is : p.per ≡ per
+  pub asked_is : p.asked ≡ asked
   pub count : length p.patches ≡ length (all_chosen input)
   pub budget : (i : ℕ) → i < length p.patches → budget_at p i ≡ (chosen_at (all_chosen input) i).budget
   pub signs : (i : ℕ) → i < length p.patches → (patch_at p i).signs ≡ (chosen_at (all_chosen input) i).signs
-  pub units : HasUnits input per p
+  pub units : HasUnits input asked p
 
 -- The number of patches passes its limit first at budget j.
 abbrev pub PassesPatchesAt : RandomInput → ℕ → Type 0
@@ -80,6 +80,6 @@ PassesUnitsAt input j = PassesTotalAt (chosen_counts input) j
 
 -- What each fault says. Want of memory says nothing.
 abbrev pub SaysWhy : RandomInput → Option ℕ → PatchFault → Type 0
-SaysWhy input per (TooManyPatches j) = PassesPatchesAt input j
-SaysWhy input per (NeedUnit j) = (length (all_chosen input) ≤ PATCHES) × (per ≡ None) × PassesUnitsAt input j
-SaysWhy input per NoMemory = Unit {0}
+SaysWhy input asked (TooManyPatches j) = PassesPatchesAt input j
+SaysWhy input asked (NeedUnit j) = (length (all_chosen input) ≤ PATCHES) × (asked ≡ None) × PassesUnitsAt input j
+SaysWhy input asked NoMemory = Unit {0}

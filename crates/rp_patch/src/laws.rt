@@ -20,18 +20,18 @@ pub fn patches_without_units_change_nothing()
 /// and on a budget by the first such choice; and what counts of a patch is how many times the choices were made that
 /// fall in it. On a budget that is together how many times choices were made there.
 pub fn patches_are_numbered_by_first_choice()
-    ensures numbered { (input : RandomInput) (per : Option ℕ) (p : PatchList)
-        → ArePatchesOf input per p → AreNumberedByFirstChoice input p }
-    ensures times { (input : RandomInput) (per : Option ℕ) (p : PatchList)
-        → ArePatchesOf input per p → (i : ℕ) → i < length p.patches
+    ensures numbered { (input : RandomInput) (asked : Option ℕ) (p : PatchList)
+        → ArePatchesOf input asked p → AreNumberedByFirstChoice input p }
+    ensures times { (input : RandomInput) (asked : Option ℕ) (p : PatchList)
+        → ArePatchesOf input asked p → (i : ℕ) → i < length p.patches
         → (chosen_at (all_chosen input) i).times ≡ times_in input p i }
     ensures together { (input : RandomInput) (j : ℕ) → j < input.budgets
         → counts_in (chosen_counts input) j ≡ times_on input j }
 {}
 
-/// Choices have one list of patches: its total, its patches and their units are those of every other.
+/// Choices have at most one list of patches: its total, its patches and their units are those of every other.
 pub fn patches_are_determined()
-    ensures { (input : RandomInput) (per : Option ℕ) (one other : PatchList)
-        → ArePatchesOf input per one → IsPatchList one
-        → ArePatchesOf input per other → IsPatchList other → one ≡ other }
+    ensures { (input : RandomInput) (asked : Option ℕ) (one other : PatchList)
+        → ArePatchesOf input asked one → IsPatchList one
+        → ArePatchesOf input asked other → IsPatchList other → one ≡ other }
 {}

@@ -21,7 +21,7 @@ pub struct Patches {
     budgets: u32,
     patches: Vec<Patch>,
     total: u64,
-    per: Option<u32>,
+    asked: Option<u32>,
 }
 
 impl Model for Patches {
@@ -30,30 +30,30 @@ impl Model for Patches {
     ghost Value = { PatchList };
 
     ghost view = { λ p. record
-        { budgets = p.budgets; patches = p.patches.items; total = p.total; per = p.per } };
+        { budgets = p.budgets; patches = p.patches.items; total = p.total; asked = p.asked } };
 
     ghost invariant = { λ p. IsPatchList
         (record {
           budgets = p.budgets;
           patches = p.patches.items;
           total = p.total;
-          per = p.per;
+          asked = p.asked;
         }) };
 }
 
 impl Patches {
     /// The patches of so many budgets, each with its units, under a total that may have been asked for.
-    pub(crate) fn make(budgets: u32, patches: Vec<Patch>, total: u64, per: Option<u32>) -> Patches
+    pub(crate) fn make(budgets: u32, patches: Vec<Patch>, total: u64, asked: Option<u32>) -> Patches
         requires { IsPatchList (record
-            { budgets = budgets; patches = patches.items; total = total; per = per }) }
+            { budgets = budgets; patches = patches.items; total = total; asked = asked }) }
         ensures { result ≡ record
-            { budgets = budgets; patches = patches.items; total = total; per = per } }
+            { budgets = budgets; patches = patches.items; total = total; asked = asked } }
     {
         Patches {
             budgets,
             patches,
             total,
-            per,
+            asked,
         }
     }
 
@@ -109,9 +109,9 @@ impl Patches {
     }
 
     /// The unit that was asked for.
-    pub fn per(&self) -> Option<u32>
-        ensures { result ≡ self.now.per }
+    pub fn asked(&self) -> Option<u32>
+        ensures { result ≡ self.now.asked }
     {
-        self.per
+        self.asked
     }
 }

@@ -62,7 +62,7 @@ module _ (choices : Choices) (are : AreChoices choices) (u : ℕ → ℤ) (m : �
         subst (λ v. (pos (choices.bundle s).den *ℤ u s) ≤ℤ v) (sym r.2) (model.none_above r.0 s r.1 l)
 
     pub numbers_rationalize : (utility : FractionBundle → SignedFraction) → IsUtilityOfNumbers choices u m utility → Rationalizes choices (preference_of utility)
-    numbers_rationalize utility is s x l ix affordable =
+    numbers_rationalize utility is s l x ix affordable =
         let y = choices.bundle s in
         let below = at_most_times (utility x).num (pos x.den *ℤ u s) y.den (affords_at_most utility is s x l ix affordable) in
         let above = at_most_times (pos y.den *ℤ u s) (utility y).num x.den (chosen_at_least utility is s l) in

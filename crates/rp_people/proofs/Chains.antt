@@ -8,7 +8,7 @@ use Rattle.rp_evidence.proofs.Walks.{ends_below, starts_below}
 use Rattle.rp_people.specs.Bundles.{IsBundle}
 use Rattle.rp_people.specs.Choices.{Choices, IsStrictChoice, IsWeakChoice, MeetAxiom}
 use Rattle.rp_people.specs.Preferences.{IsAtLeastAsGood, IsPreference}
-use Rattle.rp_people.specs.Rationalizing.{Rationalizes}
+use Rattle.rp_people.specs.Rationalizing.{NoneHasBoth, Rationalizes}
 use Rattle.rp_people.proofs.Rooms.{room}
 
 module _ (choices : Choices) (bundles : (s : ℕ) → s < choices.n → IsBundle (choices.bundle s)) (prefers : FractionBundle → FractionBundle → Bool) (preference : IsPreference choices.goods prefers) (rationalizes : Rationalizes choices prefers) where
@@ -20,16 +20,16 @@ module _ (choices : Choices) (bundles : (s : ℕ) → s < choices.n → IsBundle
   strict_is_better s t a b strict back =
       let r = room choices.goods (choices.price s) (choices.bundle t) (choices.own s) choices.scale (bundles t b) strict in
       let over = preference.monotone r.more (choices.bundle t) r.bundle (bundles t b) r.has_more in
-      let under = rationalizes s r.more a r.bundle r.costs in
+      let under = rationalizes s a r.more r.bundle r.costs in
       over.1 (preference.transitive (choices.bundle t) (choices.bundle s) r.more (bundles t b) (bundles s a) r.bundle back under)
 
-  never_worse : (s t : ℕ) (w : List ℕ) → LeadsTo choices.n (IsWeakChoice choices) s t w → IsAtLeastAsGood prefers (choices.bundle s) (choices.bundle t)
+  pub never_worse : (s t : ℕ) (w : List ℕ) → LeadsTo choices.n (IsWeakChoice choices) s t w → IsAtLeastAsGood prefers (choices.bundle s) (choices.bundle t)
   never_worse s t [] h = subst (λ v. IsAtLeastAsGood prefers (choices.bundle s) (choices.bundle v)) h.1 (as_good_as_itself (choices.bundle s) (bundles s h.0))
   never_worse s t (x ∷ w) h =
       let in_x = starts_below choices.n (IsWeakChoice choices) x t w h.2 in
       let in_t = ends_below choices.n (IsWeakChoice choices) x t w h.2 in
       preference.transitive (choices.bundle s) (choices.bundle x) (choices.bundle t) (bundles s h.0) (bundles x in_x) (bundles t in_t)
-      (rationalizes s (choices.bundle x) h.0 (bundles x in_x) h.1) (never_worse x t w h.2)
+      (rationalizes s h.0 (choices.bundle x) (bundles x in_x) h.1) (never_worse x t w h.2)
 
   no_way_back : (s t : ℕ) (w : List ℕ) → LeadsTo choices.n (IsWeakChoice choices) s t w → HasStepFrom (IsStrictChoice choices) s w → ¬ IsAtLeastAsGood prefers (choices.bundle t) (choices.bundle s)
   no_way_back s t [] h k back = k
@@ -43,10 +43,17 @@ module _ (choices : Choices) (bundles : (s : ℕ) → s < choices.n → IsBundle
       let in_t = ends_below choices.n (IsWeakChoice choices) x t w h.2 in
       no_way_back x t w h.2 k
       (preference.transitive (choices.bundle t) (choices.bundle s) (choices.bundle x) (bundles t in_t) (bundles s h.0) (bundles x in_x) back
-      (rationalizes s (choices.bundle x) h.0 (bundles x in_x) h.1))
+      (rationalizes s h.0 (choices.bundle x) (bundles x in_x) h.1))
 
   pub meets_axiom : MeetAxiom choices
   meets_axiom [] v = absurd v.1
   meets_axiom (x ∷ w) v =
       let l = subst (λ z. LeadsTo choices.n (IsWeakChoice choices) x z w) (sym v.0.1.0) v.0.1.1 in
       no_way_back x x w l v.1 (as_good_as_itself (choices.bundle x) (bundles x (starts_below choices.n (IsWeakChoice choices) x x w l)))
+
+-- two choices, the first weakly preferred to the second and the second strictly to the first
+pub none_has_both : (choices : Choices) (s t : ℕ) → IsBundle (choices.bundle s) → IsBundle (choices.bundle t) → IsWeakChoice choices s t → IsStrictChoice choices t s → NoneHasBoth choices s t
+none_has_both choices s t is_s is_t weak strict prefers preference best_s best_t =
+    let r = room choices.goods (choices.price t) (choices.bundle s) (choices.own t) choices.scale is_s strict in
+    (preference.monotone r.more (choices.bundle s) r.bundle is_s r.has_more).1
+    (preference.transitive (choices.bundle s) (choices.bundle t) r.more is_s is_t r.bundle (best_s (choices.bundle t) is_t weak) (best_t r.more r.bundle r.costs))

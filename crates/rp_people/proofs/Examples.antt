@@ -77,9 +77,9 @@ by_size_is_preference = record {
         le_of_mul-le-mul_left {k = e} (omega arith) some
 
 by_size_rationalizes : Rationalizes either by_size
-by_size_rationalizes zero x l ix h = (by_size_orders _ _).1 (omega (arith, h))
-by_size_rationalizes (suc zero) x l ix h = (by_size_orders _ _).1 (omega (arith, h))
-by_size_rationalizes (suc (suc s)) x l ix h = absurd (omega arith)
+by_size_rationalizes zero l x ix h = (by_size_orders _ _).1 (omega (arith, h))
+by_size_rationalizes (suc zero) l x ix h = (by_size_orders _ _).1 (omega (arith, h))
+by_size_rationalizes (suc (suc s)) l x ix h = absurd (omega arith)
 
 some_preference : HasPreference either
 some_preference = record { prefers = by_size; preference = by_size_is_preference; rationalizes = by_size_rationalizes }

@@ -42,7 +42,7 @@ module _ (input : TableInput) (full : IsFullInput input) (prefers : FractionBund
       record {
         worse = r.more;
         bundle = r.bundle;
-        at_least = rationalizes s r.more a r.bundle r.costs;
+        at_least = rationalizes s a r.more r.bundle r.costs;
         has_more = λ g l. let m = r.has_more g l in omega arith;
       }
 
@@ -61,7 +61,7 @@ module _ (input : TableInput) (full : IsFullInput input) (prefers : FractionBund
         bundle = below_is;
         at_least =
             preference.transitive (bundle_at input s) part below (whole s) part_is below_is
-            (rationalizes s part a part_is affordable)
+            (rationalizes s a part part_is affordable)
             (homothetic (input.cost s s) (input.cost s r) (bundle_at input r) is.worse (full.positive_costs s s a a) (full.positive_costs s r a b) (whole r) is.bundle is.at_least);
         has_more = λ g l. let m = is.has_more g l in omega arith;
       }

@@ -1,5 +1,6 @@
 pub mod Affine
 pub mod AfriatUtilities
+pub mod Bought
 pub mod Chains
 pub mod Differences
 mod Examples
@@ -13,3 +14,4 @@ pub mod Rooms
 pub mod SaysOfItems
 pub mod TableLaws
 pub mod Values
+pub mod WelfareBounds

@@ -1,8 +1,11 @@
 -- What is proved of an item says what that kind of verdict says of people.
 use Rattle.std.proofs.Common.{ℕ, ◌<◌, ◌≤◌, arith}
-use Rattle.std.specs.Prelude.{List, pos, slice_index_or}
+use Rattle.std.specs.Prelude.{List, pos, slice_index_or, All, slice_index}
 use Rattle.rp_evidence.specs.AfriatEvidence.{ProvesOwnAfriat, multiplier_in, utility_in}
-use Rattle.rp_evidence.specs.DemandEvidence.{ProvesDemand, ProvesWelfare}
+use Rattle.rp_evidence.specs.Demand.{BudgetInput}
+use Rattle.rp_evidence.specs.DemandEvidence.{ProvesDemand, ProvesLower, ProvesUpper, ProvesWelfare, budget_of, bundle_of}
+use Rattle.rp_evidence.specs.declared.demand.Bound.{Bound}
+use Rattle.rp_evidence.specs.declared.demand.Bound.TheVariants.{Shown, Wide as BoundWide}
 use Rattle.rp_evidence.specs.Efficiency.{IsEfficiencyIndex, ProvesEfficiency}
 use Rattle.rp_evidence.specs.Garp.{ProvesOfPreference, ProvesOwnGarp}
 use Rattle.rp_evidence.specs.Homothetic.{MeetsHomotheticTest, ProvesHomothetic, value_at}
@@ -32,12 +35,14 @@ use Rattle.rp_evidence.specs.declared.quasilinear.Quasi.TheVariants.{Cycle as Ne
 use Rattle.rp_people.specs.DividedLevels.{DividesLevels}
 use Rattle.rp_people.specs.Money.{HasWorth}
 use Rattle.rp_people.specs.Rationalizing.{HasHomotheticPreference}
-use Rattle.rp_people.specs.Says.{Says, SaysAfriat, SaysDemand, SaysEfficiency, SaysHomothetic, SaysOfChoices, SaysQuasilinear, SaysWelfare}
+use Rattle.rp_people.specs.Says.{Says, SaysAfriat, SaysDemand, SaysEfficiency, SaysHomothetic, SaysLower, SaysOfChoices, SaysQuasilinear, SaysUpper, SaysWelfare}
 use Rattle.rp_people.specs.TableChoices.{IsFullInput, choices_at, choices_of}
+use Rattle.rp_people.proofs.Bought.{infimum_bought, supporting_is_bought, supremum_bought}
 use Rattle.rp_people.proofs.HomotheticChains.{meets_test}
 use Rattle.rp_people.proofs.MoneyLaws.{numbers_give_worth, worth_meets_test}
 use Rattle.rp_people.proofs.TableLaws.{at_level, by_levels, own_model_utility}
 use Rattle.rp_people.proofs.Values.{values_give_utility}
+use Rattle.rp_people.proofs.WelfareBounds.{bounds_hold}
 
 pub homothetic_meets : (input : TableInput) → IsFullInput input → HasHomotheticPreference (choices_at input 1 1) → MeetsHomotheticTest input.n input.cost
 homothetic_meets input full has = meets_test input full has.prefers has.preference has.homothetic has.rationalizes
@@ -86,12 +91,30 @@ module _ (input : TableInput) (full : IsFullInput input) where
   at_one : IsLevel 1 1
   at_one = (omega arith, omega arith)
 
-  says_demand : (prices : List ℕ) (m : ℕ) (part : DemandPart) → ProvesDemand input prices m part → SaysDemand input part
-  says_demand prices m (Bounds below strict inner goods) p = (at_level input full 1 1 at_one).1.1 p.1.sound
+  module _ (budget : BudgetInput) (positive : (g : ℕ) → g < input.goods → 1 ≤ budget.prices g) where
+    says_lower : (g : ℕ) (bound : Bound) → ProvesLower input budget g bound → SaysLower input budget g bound
+    says_lower g (Shown value pair) p = infimum_bought input budget full positive g value.num value.den p
+    says_lower g (BoundWide step) p = tt
+
+    says_upper : (g : ℕ) (bound : Bound) → ProvesUpper input budget g bound → SaysUpper input budget g bound
+    says_upper g (Shown value pair) p = supremum_bought input budget full positive g value.num value.den p
+    says_upper g (BoundWide step) p = tt
+
+  says_demand : (prices : List ℕ) (m : ℕ) (part : DemandPart) → ProvesDemand input prices m part → SaysDemand input prices m part
+  says_demand prices m (Bounds below strict inner goods) p = (
+    (at_level input full 1 1 at_one).1.1 p.1.sound,
+    λ positive. record {
+      inner_bought = supporting_is_bought input (budget_of prices m) (bundle_of inner) full positive p.1.inner_supports;
+      each = λ g d l. let b = p.1.each g d l in (
+        says_lower (budget_of prices m) positive g (slice_index_or goods g d).lower b.0,
+        says_upper (budget_of prices m) positive g (slice_index_or goods g d).upper b.1,
+      );
+    },
+  )
   says_demand prices m (NoDemand walk) p = λ has. (at_level input full 1 1 at_one).0.0 has walk p
 
-  says_welfare : (prices : List ℕ) (of : ℕ) (part : WelfarePart) → ProvesWelfare input prices of part → SaysWelfare input part
-  says_welfare prices of (WelfareBounds upper at lower) p = (at_level input full 1 1 at_one).1.1 p.1.sound
+  says_welfare : (prices : List ℕ) (of : ℕ) (part : WelfarePart) → ProvesWelfare input prices of part → SaysWelfare input prices of part
+  says_welfare prices of (WelfareBounds upper at lower) p = ((at_level input full 1 1 at_one).1.1 p.1.sound, bounds_hold input (slice_index prices) of upper at lower p.1)
   says_welfare prices of (NoWelfare walk) p = λ has. (at_level input full 1 1 at_one).0.0 has walk p
 
   pub says : (item : Item) → Proves input item → Says input item
@@ -103,3 +126,6 @@ module _ (input : TableInput) (full : IsFullInput input) where
   says (DemandItem prices m part) p = says_demand prices m part p
   says (WelfareItem prices of part) p = says_welfare prices of part p
   says (RandomItem total part) p = tt
+
+  pub all_say : (items : List Item) → All (Proves input) items → All (Says input) items
+  all_say items all k d below = says (slice_index_or items k d) (all k d below)

@@ -12,10 +12,10 @@ use Rattle.rp_evidence.proofs.AfriatSums.{once}
 use Rattle.rp_evidence.proofs.SameCosts.{no_violation_same}
 use Rattle.rp_people.specs.AfriatUtility.{HaveUtility, IsModelOfChoices}
 use Rattle.rp_people.specs.Choices.{AreChoices, IsStrictChoice, IsWeakChoice, MeetAxiom}
-use Rattle.rp_people.specs.Rationalizing.{HasConcaveUtility, HasPreference}
+use Rattle.rp_people.specs.Rationalizing.{HasConcaveUtility, HasPreference, NoneHasBoth}
 use Rattle.rp_people.specs.TableChoices.{IsFullInput, choices_at, choices_held_to, choices_of}
 use Rattle.rp_people.proofs.AfriatUtilities.{concave_utility_exists, have_utility}
-use Rattle.rp_people.proofs.Chains.{meets_axiom}
+use Rattle.rp_people.proofs.Chains.{meets_axiom, none_has_both}
 use Rattle.rp_people.proofs.Orders.{preference_of_concave}
 
 module _ (input : TableInput) (full : IsFullInput input) (scale : ℕ) (own : ℕ → ℕ) (some_scale : 1 ≤ scale) where
@@ -88,3 +88,11 @@ module _ (input : TableInput) (full : IsFullInput input) where
 
   pub own_model_utility : (u : ℕ → ℤ) (m : ℕ → ℕ) → IsOwnModel input.n input.levels input.cost u m → HaveUtility (choices_of input) u m
   own_model_utility = held_model_utility input full (level_scale input.levels) (own_by_level input.levels input.cost) (scale_positive input.levels)
+
+  -- two observations that contradict each other by their levels, or by all that was spent
+  pub pair_contradicts : (s t : ℕ) → s < input.n → t < input.n → WeakByLevels input.levels input.cost s t → StrictByLevels input.levels input.cost t s → NoneHasBoth (choices_of input) s t
+  pair_contradicts s t a b weak strict =
+      let some = scale_positive input.levels in
+      let w = held_weak input full (level_scale input.levels) (own_by_level input.levels input.cost) some s t a b in
+      let z = held_strict input full (level_scale input.levels) (own_by_level input.levels input.cost) some t s b a in
+      none_has_both (choices_of input) s t (omega arith) (omega arith) (w.0 weak) (z.0 strict)

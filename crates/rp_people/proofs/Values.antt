@@ -81,7 +81,7 @@ module _ (input : TableInput) (full : IsFullInput input) (v w : ℕ → ℕ) (ar
           no_more a b h = omega (arith, ints)
 
       values_rationalize : Rationalizes (choices_at input 1 1) (preference_of utility)
-      values_rationalize s x l ix affordable =
+      values_rationalize s l x ix affordable =
           let y = bundle_at input s in
           let below = at_most_times (utility x).num (pos (((v s * times s) * input.cost s s) * x.den)) 1 (affords_at_most s x l ix affordable) in
           let above = at_most_times (pos ((v s * times s) * input.cost s s)) (utility y).num x.den (chosen_at_least s l) in

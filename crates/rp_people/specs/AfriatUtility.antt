@@ -1,5 +1,5 @@
--- The utility of Afriat's numbers (Afriat 1967; Varian 1982, Afriat's theorem), over bundles of fractions: the least that
--- the numbers of a choice allow a bundle.
+-- The utility of Afriat's numbers (Afriat 1967; Varian 1982, Afriat's theorem), over bundles of fractions: the least
+-- that the numbers of a choice allow a bundle.
 use Rattle.std.specs.Prelude.{◌≡◌, ℕ, ◌*◌, ◌<◌, ◌≤◌, ℤ, pos, ◌*ℤ◌, ◌≤ℤ◌}
 use Rattle.rp_table.specs.Spending.{spending}
 use Rattle.rp_evidence.specs.Afriat.{IsUtilityBy, allowed_for_by}
@@ -14,8 +14,8 @@ use Rattle.rp_people.specs.Utilities.{IsConcaveUtility, preference_of}
 abbrev pub scaled_cost : Choices → FractionBundle → ℕ → ℕ
 scaled_cost choices x s = choices.scale * spending choices.goods (choices.price s) x.num
 
--- An Afriat model of the choices: whole numbers U_t, and λ_t from 1 on, such that no choice s allows the bundle of t less
--- than U_t. Over the denominator of that bundle: den U_t ≤ den U_s + λ_s (cost(s,t) - den own(s)).
+-- An Afriat model of the choices: whole numbers U_t, and λ_t from 1 on, such that no choice s allows the bundle of t
+-- less than U_t. Over the denominator of that bundle: den U_t ≤ den U_s + λ_s (cost(s,t) - den own(s)).
 pub record IsModelOfChoices (choices : Choices) (number : ℕ → ℤ) (multiplier : ℕ → ℕ) : Type 0 where
   pub at_least_one : (s : ℕ) → s < choices.n → 1 ≤ multiplier s
   pub none_above : (s t : ℕ) → s < choices.n → t < choices.n

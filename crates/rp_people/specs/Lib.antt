@@ -1,4 +1,5 @@
 pub mod AfriatUtility
+pub mod BoughtBundles
 pub mod Bundles
 pub mod Choices
 pub mod DividedLevels
@@ -9,3 +10,4 @@ pub mod Rationalizing
 pub mod Says
 pub mod TableChoices
 pub mod Utilities
+pub mod WelfareOfPeople

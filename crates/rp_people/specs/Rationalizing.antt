@@ -7,11 +7,20 @@ use Rattle.rp_people.specs.Fractions.{SignedFraction}
 use Rattle.rp_people.specs.Preferences.{IsAtLeastAsGood, IsHomotheticPreference, IsPreference}
 use Rattle.rp_people.specs.Utilities.{IsConcaveUtility, IsHomogeneous, preference_of}
 
--- A preference rationalizes choices where each chosen bundle is at least as good as every bundle that costs at most what
--- the choice is held to.
-abbrev pub Rationalizes : Choices → (FractionBundle → FractionBundle → Bool) → Type 0
-Rationalizes choices prefers = (s : ℕ) (x : FractionBundle) → s < choices.n → IsBundle x → IsAffordable choices s x
+-- By the preference, the bundle that was chosen at s is the best of what s affords: at least as good as every bundle
+-- that costs at most what the choice is held to.
+abbrev pub IsBest : Choices → (FractionBundle → FractionBundle → Bool) → ℕ → Type 0
+IsBest choices prefers s = (x : FractionBundle) → IsBundle x → IsAffordable choices s x
     → IsAtLeastAsGood prefers (choices.bundle s) x
+
+-- A preference rationalizes choices where each chosen bundle is the best of what the choice affords.
+abbrev pub Rationalizes : Choices → (FractionBundle → FractionBundle → Bool) → Type 0
+Rationalizes choices prefers = (s : ℕ) → s < choices.n → IsBest choices prefers s
+
+-- Two choices contradict each other: by no preference are both the best of what they afford.
+abbrev pub NoneHasBoth : Choices → ℕ → ℕ → Type 0
+NoneHasBoth choices s t = (prefers : FractionBundle → FractionBundle → Bool) → IsPreference choices.goods prefers
+    → IsBest choices prefers s → ¬ IsBest choices prefers t
 
 -- Some preference rationalizes the choices.
 pub record HasPreference (choices : Choices) : Type 0 where

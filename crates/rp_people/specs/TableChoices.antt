@@ -1,5 +1,5 @@
--- The choices that a table tells of: the bundles in whole numbers, held to what was spent, to a part of it that is common
--- to all, or to that of each observation's own level (Varian 1982; Afriat 1973; Varian 1990).
+-- The choices that a table tells of: the bundles in whole numbers, held to what was spent, to a part of it that is
+-- common to all, or to that of each observation's own level (Varian 1982; Afriat 1973; Varian 1990).
 use Rattle.std.specs.Prelude.{ℕ, ◌*◌, ◌<◌, ◌≤◌}
 use Rattle.rp_table.specs.OwnLevels.{level_scale, own_by_level}
 use Rattle.rp_evidence.specs.Input.{TableInput}

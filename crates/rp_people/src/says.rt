@@ -1,3 +1,4 @@
+ghost use Rattle.std.specs.Prelude.{All, List};
 ghost use Rattle.rp_evidence.specs.Input.{TableInput};
 ghost use Rattle.rp_evidence.specs.Proves.{Proves};
 ghost use Rattle.rp_evidence.specs.declared.certificate.Item.{Item};
@@ -8,4 +9,10 @@ ghost use Rattle.rp_people.specs.TableChoices.{IsFullInput};
 pub fn proved_items_say()
     ensures { (input : TableInput) (item : Item)
         → IsFullInput input → Proves input item → Says input item }
+{}
+
+/// Of items that all prove their verdicts, each says so.
+pub fn proved_certificates_say()
+    ensures { (input : TableInput) (items : List Item) → IsFullInput input
+        → All (Proves input) items → All (Says input) items }
 {}

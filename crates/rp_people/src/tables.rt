@@ -1,6 +1,6 @@
 //! Afriat's theorem at the choices that a table tells of: held by levels of the observations' own, and at a common
 //! level.
-ghost use Rattle.std.specs.Prelude.{◌↔◌, ℕ, ℤ};
+ghost use Rattle.std.specs.Prelude.{◌↔◌, ◌<◌, ℕ, ℤ};
 ghost use Rattle.rp_evidence.specs.Afriat.{IsOwnModel};
 ghost use Rattle.rp_evidence.specs.Efficiency.{IsEfficiencyIndex};
 ghost use Rattle.rp_evidence.specs.Garp.{HasNoViolation, MeetsGarp};
@@ -8,7 +8,7 @@ ghost use Rattle.rp_evidence.specs.Input.{TableInput, input_of_table};
 ghost use Rattle.rp_evidence.specs.Preference.{IsLevel, StrictByLevels, WeakByLevels};
 ghost use Rattle.rp_people.specs.AfriatUtility.{HaveUtility};
 ghost use Rattle.rp_people.specs.DividedLevels.{DividesLevels};
-ghost use Rattle.rp_people.specs.Rationalizing.{HasConcaveUtility, HasPreference};
+ghost use Rattle.rp_people.specs.Rationalizing.{HasConcaveUtility, HasPreference, NoneHasBoth};
 ghost use Rattle.rp_people.specs.TableChoices.{IsFullInput, choices_at, choices_of};
 ghost use Rattle.rp_table.specs.Tables.{IsTable, Observations};
 
@@ -49,4 +49,12 @@ pub fn models_of_tables_give_utilities()
 pub fn index_divides_levels()
     ensures { (input : TableInput) (num den : ℕ) → IsFullInput input
         → IsEfficiencyIndex input.n input.cost num den → DividesLevels input num den }
+{}
+
+/// By no preference are two observations of a table both the best of what they afford, where one is weakly preferred
+/// to the other and the other strictly to it.
+pub fn contradicting_pairs_survive_no_preference()
+    ensures { (input : TableInput) (s t : ℕ) → IsFullInput input → s < input.n → t < input.n
+        → WeakByLevels input.levels input.cost s t → StrictByLevels input.levels input.cost t s
+        → NoneHasBoth (choices_of input) s t }
 {}

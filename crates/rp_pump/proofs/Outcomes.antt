@@ -1,5 +1,5 @@
 -- What the rounds come to, for a table of costs.
-use Rattle.std.proofs.Common.{◌*◌, ◌^◌, ℕ, ◌<◌, ◌≤◌, arith, List, slice_index_or}
+use Rattle.std.proofs.Common.{◌*◌, ◌^◌, ℕ, zero, suc, ◌<◌, ◌≤◌, arith, List, slice_index_or}
 use Rattle.std.proofs.Math.Nat.{mul-le-mul_right}
 use Rattle.std.specs.Prelude.{ℤ, pos}
 use Rattle.rp_walk.specs.ExactTotal.{ExactTotal}
@@ -38,6 +38,15 @@ module _ (costs : CostTable) (valid : IsCostTable costs) (num den : ℕ) (walk :
   comes_nearer start next p q h after =
       left_falls num den p q best.positive after.positive best.den_fits after.den_fits after.at_most_one
       (rises costs.n (cost_at costs) num den p q next (is_greater start next h) after.positive after.ratio)
+
+  -- what is found gives something away
+  pub gives_away : (start : ExactTotal) (next : List ℕ) (p q : ℕ) → SettlesInCycle (sums costs.n (added (cost_at costs) num den)) FitsI128 start next
+      → IsBest costs.n (cost_at costs) p q next → 0 < p
+  gives_away start next p q h after = some p (rises costs.n (cost_at costs) num den p q next (is_greater start next h) after.positive after.ratio)
+    where
+      some : (p : ℕ) → num * q < p * den → 0 < p
+      some zero less = absurd (omega (arith, less))
+      some (suc p) less = omega arith
 
   module _ (values : List ℤ) (settled : SettlesInValues (sums costs.n (added (cost_at costs) num den)) FitsI128 whole_total values) where
     pub has_least : HasLeastPumpTotals costs.n (cost_at costs) (record { num = num; den = den; cycle = walk; values = values })

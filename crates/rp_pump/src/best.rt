@@ -1,4 +1,4 @@
-ghost use Rattle.std.specs.Prelude.{◌≡◌, IfOk};
+ghost use Rattle.std.specs.Prelude.{◌≡◌, ◌∷◌, [], IfOk};
 ghost use Rattle.rp_pump.specs.InnerBest.{IsBest};
 ghost use Rattle.rp_pump.specs.PumpEvidence.{IsWeakCycle};
 ghost use Rattle.rp_table.specs.Cost.{cost_at};
@@ -19,8 +19,9 @@ pub(crate) struct Best {
 impl Best {
     /// The step from the first observation to itself, which gains nothing.
     pub(crate) fn resting(alloc: Global, costs: &Costs) -> Result<Best, NoMemory>
-        ensures { IfOk result (λ best. IsBest costs.now.n (cost_at costs.now)
+        ensures best { IfOk result (λ best. IsBest costs.now.n (cost_at costs.now)
             best.num best.den best.cycle) }
+        ensures resting { IfOk result (λ best. best.cycle ≡ 0 ∷ 0 ∷ []) }
     {
         prove!(costs.n() > 0);
         let cycle = vec![in alloc; 0, 0]?;

@@ -10,7 +10,7 @@ use Rattle.rp_report.specs.RandomText.{random_report_text}
 
 -- two budgets that cross, with these units of the patches on the one and on the other
 abbrev crossed : ℕ → ℕ → ℕ → ℕ → ℕ → Option ℕ → PatchList
-crossed first second third fourth total per = record {
+crossed first second third fourth total asked = record {
   budgets = 2;
   patches = record { budget = 0; signs = pos 0 ∷ pos 1 ∷ []; units = first }
       ∷ record { budget = 0; signs = pos 0 ∷ negsuc 0 ∷ []; units = second }
@@ -18,7 +18,7 @@ crossed first second third fourth total per = record {
       ∷ record { budget = 1; signs = negsuc 0 ∷ pos 0 ∷ []; units = fourth }
       ∷ [];
   total = total;
-  per = per;
+  asked = asked;
 }
 
 abbrev part : ℕ → ℕ → ℕ → Share

@@ -48,4 +48,4 @@ random_item_text p (RandomItem total evidence) = random_text p evidence
 -- the report of these items on patches of which so many types are rational
 abbrev pub random_report_text : PatchList → ℕ → List Item → List ℕ
 random_report_text p types items =
-    counts_text p types ++ apportioned_text p.per ++ flat_map (random_item_text p) items
+    counts_text p types ++ apportioned_text p.asked ++ flat_map (random_item_text p) items

@@ -27,7 +27,7 @@ pub fn report_random(
 {
     let mut text = Vec::new(alloc);
     push_counts(alloc, &mut text, patches, types)?;
-    push_apportioned(alloc, &mut text, patches.per())?;
+    push_apportioned(alloc, &mut text, patches.asked())?;
     push_items(alloc, &mut text, patches, certificate.items.as_slice())?;
     Ok(text)
 }

@@ -82,13 +82,13 @@ class Findings:
 
 def verify_table(table: bytes, data: bytes) -> Findings:
     """Looks at each item of a certificate on a table; both are bytes. Item 0 fails where the levels are not the table's."""
-    table = tables.read_table(table)
+    own = tables.read_table(table)
     levels, items = certificate.read(data, "table")
     found, axiom_is_shown = [], False
-    if levels != table.levels:
-        found.append(Finding(0, "levels", False, other_levels(table.levels, levels), [], 0))
+    if levels != own.levels:
+        found.append(Finding(0, "levels", False, other_levels(own.levels, levels), [], 0))
     for number, (item, remarks) in enumerate(items, 1):
-        why, more, withheld = look_at(table, item, axiom_is_shown)
+        why, more, withheld = look_at(own, item, axiom_is_shown)
         found.append(finding(number, item, why, remarks + more, withheld))
         if item["item"] == "garp" and "ranks" in item and why is None:
             axiom_is_shown = True
@@ -107,12 +107,12 @@ def verify_choices(budgets: bytes, choices: bytes, data: bytes, per: int | None 
 
 def verify_pump(table: bytes, report: bytes) -> Findings:
     """Looks at a report on the greatest money pump ratio of a table. Item 0 fails where its first line is of another table."""
-    table, told = tables.read_table(table), reports.read_pump(report)
-    found = other_head(told["head"], len(table.prices), table)
-    if table.levels:
+    own, told = tables.read_table(table), reports.read_pump(report)
+    found = other_head(told["head"], len(own.prices), own)
+    if own.levels:
         return Findings([*found, Finding(1, "pump", False, "a money pump is defined on a table without levels", [], 0)])
-    why = pump.look(table, told)
-    return Findings([*found, finding(1, told, why, pump.remarks(table, told), 0)])
+    why = pump.look(own, told)
+    return Findings([*found, finding(1, told, why, pump.remarks(own, told), 0)])
 
 
 def verify_menus(data: bytes, report: bytes, per: int | None = None) -> Findings:
@@ -120,8 +120,8 @@ def verify_menus(data: bytes, report: bytes, per: int | None = None) -> Findings
     told = reports.read_menus(report)
     seen = tables.read_menus(data, per)
     orders = sum(1 for _ in menus.orders_of(seen))
-    counts = {"alternatives": len(seen.letters), "menus": len(seen.menus), "cells": len(seen.cells), "orders": orders}
-    counts.update(total=seen.total, per=per)
+    sizes = {"alternatives": len(seen.letters), "menus": len(seen.menus), "cells": len(seen.cells)}
+    counts: dict[str, int | None] = {**sizes, "orders": orders, "total": seen.total, "per": per}
     other = [name for name, count in counts.items() if told[name] != count]
     found = [Finding(0, "menus", False, f"{other[0]} is {counts[other[0]]} on these menus", [], 0)] if other else []
     item = told["item"]

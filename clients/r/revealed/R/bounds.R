@@ -1,7 +1,7 @@
-# Demand at new budgets, and welfare at new prices.
+# Demand at new budgets, welfare at new prices, and the utility of other bundles.
 
 bound_text <- function(bound, places) {
-  if (is.null(bound$value)) NA_character_ else over_ten(bound$value, places)
+  if (case_of(bound, c("value", "withheld")) == "withheld") NA_character_ else over_ten(bound$value, places)
 }
 
 bound_reason <- function(bound) if (is.null(bound$withheld)) NA_character_ else withheld_at(bound$withheld)
@@ -9,47 +9,55 @@ bound_reason <- function(bound) if (is.null(bound$withheld)) NA_character_ else 
 withheld_at <- function(step) paste("the run of its program gets past 2^63 - 1 at step", step)
 
 # Asks for an item on the axiom and then others, and returns them with what the axiom says of the table.
-asked_of <- function(command, table, new, exe) {
-  words <- c(command, "table.csv", "new.csv", "--json")
+asked_of <- function(command, table, new, engine) {
   files <- list(table.csv = csv_lines(table), new.csv = csv_lines(new))
-  text <- answer(words, files, rp_program(exe), list(table, new))
-  items <- read_certificate(text)
-  axiom <- read_axiom(table, items[[1]])
-  list(
-    items = items[-1], garp = axiom$verdict, ranks = axiom$ranks, cycle = axiom$cycle, certificate = text, table = table, new = new
-  )
+  text <- ask(c(command, "table.csv", "new.csv", "--json"), files, engine, list(table, new))
+  reading(text, {
+    items <- items_of(text, "table")
+    axiom <- read_axiom(table, items[[1]])
+    stopifnot(vapply(items, function(it) it$item, "") == c("garp", rep(command, length(items) - 1)), length(items) > 1)
+    list(
+      items = items[-1], garp = axiom$verdict, ranks = axiom$ranks, cycle = axiom$cycle, certificate = text, table = table, new = new
+    )
+  })
 }
 
-# Puts the frames of some answers under one another.
+# Puts the columns of some frames under one another.
 stacked <- function(frames) {
   found <- lapply(named(names(frames[[1]]), names(frames[[1]])), function(name) do.call(c, lapply(frames, `[[`, name)))
-  structure(found, class = "data.frame", row.names = seq_along(found[[1]]))
+  frame_of(found)
 }
 
 # ---- demand
 
 rp_demand <- function(p, q = NULL, new, m = NULL, digits = NULL, exe = NULL) {
-  if (missing(new)) bad_data("there are no new prices")
+  if (missing(new)) bad_data("there are no new prices: give the argument new")
   table <- table_of(p, q, digits)
-  found <- asked_of("demand", table, new_prices(table, new, m, wants_m = TRUE, digits), exe)
-  found$bounds <- stacked(Map(demand_frame, found$items, found$new$labels, MoreArgs = list(table = table)))
-  read_walk <- function(name) lapply(found$items, function(item) walk_of(table, item[[name]]))
-  if (found$garp) {
-    found$below <- named(read_walk("below"), as.character(found$new$labels))
-    found$strict <- named(read_walk("strict"), as.character(found$new$labels))
-  }
-  found$items <- NULL
-  structure(found, class = "rp_demand")
+  found <- asked_of("demand", table, new_prices(table, new, m, wants_m = TRUE, digits), engine_of(exe))
+  reading(found$certificate, {
+    stopifnot(length(found$items) == length(found$new$labels))
+    found$bounds <- stacked(Map(demand_frame, found$items, found$new$labels, MoreArgs = list(table = table)))
+    read_walk <- function(name) lapply(found$items, function(item) walk_of(table, item[[name]]))
+    if (found$garp) {
+      found$below <- named(read_walk("below"), as.character(found$new$labels))
+      found$strict <- named(read_walk("strict"), as.character(found$new$labels))
+    }
+    found$items <- NULL
+    structure(found, class = "rp_demand")
+  })
 }
+
+rp_demand_bounds <- rp_demand
 
 demand_frame <- function(item, label, table) {
   count <- length(table$goods)
   found <- list(budget = rep(label, count), good = table$goods)
-  if (!is.null(item$cycle)) {
+  if (case_of(item, c("cycle", "goods")) == "cycle") {
     nothing <- exact(rep(NA, count))
     return(c(found, list(lower = nothing, upper = nothing, inner = nothing, reason = rep("the axiom fails", count))))
   }
-  places <- places_of(table, "q_")
+  stopifnot(length(item$goods) == count, length(item$inner$num) == count)
+  places <- places_of(table, "quantity")
   side <- function(name) exact(vapply(item$goods, function(it) bound_text(it[[name]], places), ""))
   why <- function(name) vapply(item$goods, function(it) bound_reason(it[[name]]), "")
   inner <- over_ten(vapply(item$inner$num, fraction, "", den = item$inner$den, USE.NAMES = FALSE), places)
@@ -57,13 +65,21 @@ demand_frame <- function(item, label, table) {
   c(found, list(lower = side("lower"), upper = side("upper"), inner = exact(inner), reason = reason))
 }
 
-as.data.frame.rp_demand <- function(x, row.names = NULL, optional = FALSE, ...) x$bounds
+# Doubles: lower bounds are rounded down and upper ones up, so that what lies between is not cut.
+as.data.frame.rp_demand <- function(x, row.names = NULL, optional = FALSE, ...) {
+  own <- x$bounds
+  frame_of(c(
+    own[c("budget", "good")], beside("lower", own$lower), beside("upper", own$upper, up = TRUE), beside("inner", own$inner), own["reason"]
+  ))
+}
 
 print.rp_demand <- function(x, ...) {
-  cat("demand,", if (x$garp) "garp holds" else paste("garp violated: cycle", paste(x$cycle, collapse = " ")), "\n")
+  cat(table_lines(x$table), axiom_line("demand", x), sep = "\n")
   print(x$bounds[c("budget", "good", "lower", "upper", "inner")], row.names = FALSE)
   invisible(x)
 }
+
+axiom_line <- function(what, x) paste0(what, ", ", if (x$garp) "garp holds" else paste("garp violated: cycle", paste(x$cycle, collapse = " ")))
 
 summary.rp_demand <- function(object, ...) {
   frame <- object$bounds
@@ -78,32 +94,42 @@ counted <- function(frame) {
 # ---- welfare
 
 rp_welfare <- function(p, q = NULL, new, digits = NULL, exe = NULL) {
-  if (missing(new)) bad_data("there are no new prices")
+  if (missing(new)) bad_data("there are no new prices: give the argument new")
   table <- table_of(p, q, digits)
-  found <- asked_of("welfare", table, new_prices(table, new, digits = digits), exe)
-  number <- length(table$labels)
-  labels <- rep(found$new$labels, each = number)
-  places <- places_of(found$new, "p_") + places_of(table, "q_")
-  found$bounds <- welfare_frame(found$items, labels, table, places)
-  found$items <- NULL
-  structure(found, class = "rp_welfare")
+  found <- asked_of("welfare", table, new_prices(table, new, digits = digits), engine_of(exe))
+  reading(found$certificate, {
+    number <- length(table$labels)
+    labels <- rep(found$new$labels, each = number)
+    stopifnot(length(labels) == length(found$items))
+    found$bounds <- welfare_frame(found$items, labels, table, places_of(found$new, "price") + places_of(table, "quantity"))
+    found$items <- NULL
+    structure(found, class = "rp_welfare")
+  })
 }
 
+rp_welfare_bounds <- rp_welfare
+
 welfare_frame <- function(items, labels, table, places) {
-  text <- function(it, name) if (is.null(it[[name]])) NA_character_ else over_ten(it[[name]], places)
-  fails <- vapply(items, function(it) !is.null(it$cycle), TRUE)
+  fails <- vapply(items, function(it) case_of(it, c("cycle", "lower")) == "cycle", TRUE)
+  upper <- function(it) if (is.null(it$upper)) NA_character_ else over_ten(it$upper, places)
+  lower <- function(it) if (is.null(it$lower)) NA_character_ else bound_text(it$lower, places)
   found <- data.frame(prices = labels, observation = walk_of(table, vapply(items, function(it) it$observation, "")))
-  found$lower <- exact(vapply(items, function(it) bound_text(it$lower, places), ""))
-  found$upper <- exact(vapply(items, text, "", name = "upper"))
+  found$lower <- exact(vapply(items, lower, ""))
+  found$upper <- exact(vapply(items, upper, ""))
   found$at <- walk_of(table, vapply(items, function(it) if (is.null(it$at)) NA_character_ else it$at, ""))
   found$reason <- ifelse(fails, "the axiom fails", vapply(items, function(it) bound_reason(it$lower), ""))
   found
 }
 
-as.data.frame.rp_welfare <- function(x, row.names = NULL, optional = FALSE, ...) x$bounds
+as.data.frame.rp_welfare <- function(x, row.names = NULL, optional = FALSE, ...) {
+  own <- x$bounds
+  frame_of(c(
+    own[c("prices", "observation")], beside("lower", own$lower), beside("upper", own$upper, up = TRUE), own[c("at", "reason")]
+  ))
+}
 
 print.rp_welfare <- function(x, ...) {
-  cat("welfare,", if (x$garp) "garp holds" else paste("garp violated: cycle", paste(x$cycle, collapse = " ")), "\n")
+  cat(table_lines(x$table), axiom_line("welfare", x), sep = "\n")
   print(x$bounds[c("prices", "observation", "lower", "upper", "at")], row.names = FALSE)
   invisible(x)
 }
@@ -111,4 +137,45 @@ print.rp_welfare <- function(x, ...) {
 summary.rp_welfare <- function(object, ...) {
   title <- paste0(length(object$new$labels), " rows of new prices, ", counted(object$bounds))
   summary_of(object$bounds, title)
+}
+
+# ---- utility
+
+rp_utility <- function(p, q = NULL, bundles, digits = NULL, levels = NULL, exe = NULL) {
+  if (missing(bundles)) bad_data("there are no bundles: give the argument bundles")
+  table <- table_of(p, q, digits, levels)
+  asked <- bundles_of(table, bundles, digits)
+  text <- ask(c("utility", "table.csv", "bundles.csv"), list(table.csv = csv_lines(table), bundles.csv = csv_lines(asked)), engine_of(exe), list(table, asked))
+  reading(text, utility_from(table, asked, report_of(text)))
+}
+
+rp_afriat_utility <- rp_utility
+
+utility_from <- function(table, asked, report) {
+  values <- report$lines[startsWith(report$lines, "at ")]
+  stopifnot(length(values) == length(asked$labels), grepl(sprintf("^at [0-9]+ (value -?[0-9]+|none|withheld)$"), values))
+  garp <- holds_in(report, "garp", c("holds", "violated"))
+  afriat <- second_word(report, "afriat")
+  stopifnot(afriat %in% c("model", "none", "withheld"), (afriat == "none") == !garp)
+  value <- as.character(ifelse(grepl(" value ", values), sub("^.* value ", "", values), NA))
+  stopifnot((afriat == "model") == !is.na(value))
+  reason <- switch(afriat, model = NA_character_, none = "the axiom fails", withheld = afriat_reason(table, sub("^.* at ", "", line_of(report, "afriat"))))
+  found <- list(garp = garp, cycle = NULL, utility = NULL, lambda = NULL, reason = reason, report = report$lines, table = table, bundles = asked)
+  if (!garp) found$cycle <- walk_of(table, words_of(report, "cycle"))
+  if (afriat == "model") {
+    found$utility <- exact_by_label(table, over_ten(words_of(report, "utility"), utility_places(table)))
+    found$lambda <- exact_by_label(table, words_of(report, "lambda"))
+  }
+  found$values <- exact(over_ten(value, utility_places(table)), as.character(asked$labels))
+  structure(found, class = "rp_utility")
+}
+
+as.data.frame.rp_utility <- function(x, row.names = NULL, optional = FALSE, ...) {
+  frame_of(c(list(bundle = x$bundles$labels), beside("utility", x$values), list(reason = rep(x$reason, length(x$bundles$labels)))))
+}
+
+print.rp_utility <- function(x, ...) {
+  cat(table_lines(x$table), axiom_line("utility", x), sep = "\n")
+  print(as.data.frame(x)[c("bundle", "utility_exact", "reason")], row.names = FALSE)
+  invisible(x)
 }

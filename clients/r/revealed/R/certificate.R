@@ -1,6 +1,24 @@
 # Certificates: their JSON as lists. Each number stays a text.
 
-read_certificate <- function(text) read_json(text)$items
+# Returns the items of a certificate of a kind.
+items_of <- function(text, kind) {
+  found <- read_json(text)
+  stopifnot(is.list(found), identical(found$kind, kind), found$version %in% c("1", "2"), is.list(found$items), length(found$items) > 0)
+  found$items
+}
+
+# Returns which of some members an item has, of which it has just one.
+case_of <- function(item, cases) {
+  found <- intersect(cases, names(item))
+  stopifnot(length(found) == 1)
+  found
+}
+
+# Returns an exact number of a text that is a whole number or a fraction.
+one_exact <- function(text) {
+  stopifnot(length(text) == 1, grepl("^-?[0-9]+(/[0-9]+)?$", text))
+  exact(text)
+}
 
 read_json <- function(text) {
   tokens <- regmatches(text, gregexpr("\"[^\"]*\"|[][{}:,]|[^][{}:,\"[:space:]]+", text, useBytes = TRUE))[[1]]

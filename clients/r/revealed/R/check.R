@@ -1,16 +1,24 @@
 # The program's checker of certificates.
 
-rp_check <- function(data, certificate, per = NULL, exe = NULL) {
-  of <- files_of(data, per)
+rp_check <- function(data, certificate, per = NULL, levels = NULL, exe = NULL) {
+  of <- files_of(data, per, levels)
   words <- c(of$command, names(of$files), "certificate.json", units_of(of$per))
   of$files$certificate.json <- certificate_bytes(certificate)
-  text <- answer(words, of$files, rp_program(exe), of$sheets, good = 0:1)
-  words <- strsplit(trimws(text), " ", fixed = TRUE)[[1]]
-  accepted <- words[1] == "accepted"
+  text <- ask(words, of$files, engine_of(exe), of$sheets, good = 0:1)
+  reading(text, checked_from(text))
+}
+
+rp_checkrandom <- function(budgets, choices, certificate, per = NULL, exe = NULL) {
+  rp_check(list(budgets = budgets, choices = choices), certificate, per, exe = exe)
+}
+
+checked_from <- function(text) {
+  said <- numbers_of(sub("\n$", "", text), "^(accepted items ([0-9]+) withheld ([0-9]+)|rejected item ([0-9]+) ([A-Za-z]+) place ([0-9]+))$")
+  accepted <- startsWith(text, "accepted")
+  number <- function(at) if (nzchar(said[at])) as.integer(said[at]) else NA_integer_
   structure(class = "rp_checked", list(
-    accepted = accepted, items = if (accepted) as.integer(words[3]) else NA_integer_,
-    withheld = if (accepted) as.integer(words[5]) else NA_integer_, item = if (accepted) NA_integer_ else as.integer(words[3]),
-    reason = if (accepted) NA_character_ else words[4], place = if (accepted) NA_integer_ else as.integer(words[6]), line = trimws(text)
+    accepted = accepted, items = number(2), withheld = number(3), item = number(4), reason = if (accepted) NA_character_ else said[5],
+    place = number(6), line = said[1]
   ))
 }
 
@@ -20,41 +28,48 @@ print.rp_checked <- function(x, ...) {
 }
 
 # Returns the files of some data: an answer, a table, or the names of files; or budgets and choices.
-files_of <- function(data, per) {
+files_of <- function(data, per, levels) {
   if (inherits(data, "rp_random")) data <- data$choices
   if (inherits(data, c("rp_test", "rp_demand", "rp_welfare"))) data <- data$table
-  if (is.character(data) && is.null(dim(data)) && length(data) %in% 1:2) return(named_files(data, per))
+  if (is.character(data) && is.null(dim(data)) && length(data) %in% 1:2) return(named_files(data, per, levels))
   if (is.list(data) && !is.data.frame(data) && !inherits(data, c("rp_table", "rp_choices"))) {
     if (length(data) != 2) bad_data("data: a list has prices and quantities, or budgets and choices")
     second <- data[[2]]
     is_choices <- all(c("budget", "n") %in% names(second)) || identical(names(data), c("budgets", "choices"))
-    data <- if (is_choices) choices_of(data[[1]], second, per, NULL) else table_of(data[[1]], second)
+    data <- if (is_choices) choices_of(data[[1]], second, per, NULL) else table_of(data[[1]], second, levels = levels)
+    levels <- NULL
   }
   if (inherits(data, "rp_choices")) {
-    units <- if (is.null(per)) data$per else number_texts(per)
+    units <- if (is.null(per)) data$per else per_word(per)
     return(list(command = "checkrandom", files = choice_files(data), per = units, sheets = list(data$budgets, data$choices)))
   }
-  table <- table_of(data)
+  if (!is.null(per)) bad_data("per is asked of budgets and choices, and not of a table")
+  table <- table_of(data, levels = levels)
   list(command = "check", files = list(table.csv = csv_lines(table)), per = NULL, sheets = list(table))
 }
 
-named_files <- function(paths, per) {
+named_files <- function(paths, per, levels) {
+  if (!is.null(levels)) bad_data("a file has its levels in its column e")
   bytes <- lapply(paths, file_bytes)
   if (length(paths) == 1) return(list(command = "check", files = list(table.csv = bytes[[1]]), sheets = list()))
-  units <- if (!is.null(per)) number_texts(per)
-  list(command = "checkrandom", files = named(bytes, c("budgets.csv", "choices.csv")), per = units, sheets = list())
+  list(command = "checkrandom", files = named(bytes, c("budgets.csv", "choices.csv")), per = per_word(per), sheets = list())
 }
 
 file_bytes <- function(path) {
-  if (!file.exists(path)) bad_data("there is no file ", quoted(path))
+  if (!file.exists(path) || dir.exists(path)) bad_data("there is no file ", quoted(path))
   read_bytes(path)
 }
 
-# Returns the bytes of a certificate: an answer's own, a text that begins with a brace, or those of a file.
+# Returns the bytes of a certificate: an answer's own, a text, or those of a file. A text of one line that is the name of
+# a file is taken as that, unless it begins with a brace or a bracket.
 certificate_bytes <- function(certificate) {
   if (inherits(certificate, c("rp_test", "rp_demand", "rp_welfare", "rp_random"))) certificate <- certificate$certificate
   if (is.raw(certificate)) return(certificate)
-  if (!is.character(certificate) || !length(certificate)) bad_data("a certificate is an answer, a text, or the name of a file")
+  if (!is.character(certificate) || !length(certificate) || anyNA(certificate)) bad_data("a certificate is an answer, a text, or the name of a file")
   text <- paste(certificate, collapse = "\n")
-  if (grepl("^[[:space:]]*[[{]", text, useBytes = TRUE)) charToRaw(text) else file_bytes(certificate[1])
+  if (grepl("^[[:space:]]*[[{]", text, useBytes = TRUE) || grepl("\n", text, fixed = TRUE)) return(charToRaw(text))
+  if (!file.exists(text) || dir.exists(text)) {
+    bad_data("the certificate is neither a text that begins with a brace, nor the name of a file: ", quoted(substr(text, 1, 60)))
+  }
+  read_bytes(text)
 }

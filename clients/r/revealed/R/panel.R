@@ -1,31 +1,68 @@
-# A panel: the verdict on each household of one long frame, on all processors.
+# A panel: what is asked of each household of one long frame, on all processors.
 
-rp_panel <- function(data, id, digits = NULL, workers = NULL, progress = interactive(), exe = NULL) {
-  if (!is.data.frame(data)) bad_data("a panel is a data frame")
-  absent <- setdiff(id, names(data))
-  if (!is.character(id) || !length(id) || length(absent)) bad_data("there is no column ", quoted(c(absent, "")[1]))
-  exe <- rp_program(exe)
-  rest <- as.data.frame(unclass(as.list(data)[!names(data) %in% id]), optional = TRUE, stringsAsFactors = FALSE)
-  sides <- sides_of(rest)
+asked_of_panels <- list(
+  test = list(class = "rp_test", words = function(more) c("certify", "table.csv"), read = function(table, words, text) read_verdict(table, text)),
+  pump = list(class = "rp_pump", words = function(more) c("pump", "table.csv"), read = function(table, words, text) read_pump(table, text)),
+  power = list(
+    class = "rp_power", words = function(more) c("power", "table.csv", power_words(more$seed, more$draws)),
+    read = function(table, words, text) read_power(table, words[3:4], text)
+  )
+)
+
+rp_panel <- function(data, id, ask = c("test", "pump", "power"), digits = NULL, levels = NULL, seed = NULL, draws = 1000, workers = NULL,
+                     progress = interactive(), exe = NULL) {
+  kind <- chosen(ask, c("test", "pump", "power"), "ask")
+  if (!is_switch(progress)) bad_data("progress is TRUE or FALSE")
+  workers <- if (is.null(workers)) processors() else as.integer(whole_word(workers, "workers", "1", "4096"))
+  sides <- panel_sides(data, id, levels)
   digits_pair(digits)
-  # A column that has no numbers is told at once, and not for each household.
-  for (column in c(sides$prices, sides$quantities)) number_texts(column[0])
-  sides$labels <- frame_labels(if ("obs" %in% names(data)) rest else data)
+  if (kind == "power" && is.null(seed)) bad_data("there is no seed: give the argument seed, a whole number")
+  if (kind != "test" && !is.null(sides$levels)) {
+    stop(refused("OwnLevels", hint = "this is defined without levels of observations: leave the column e, or the argument levels, out"))
+  }
+  how <- asked_of_panels[[kind]]
+  words <- how$words(list(seed = seed, draws = draws))
+  engine <- engine_of(exe)
   group <- group_of(data, id)
   rows <- split(seq_len(nrow(data)), group)
-  room <- tempfile("revealed-")
-  dir.create(room)
-  on.exit(unlink(room, recursive = TRUE))
+  # What fits is told by all households, which are rounded alike.
+  fit <- if (is.null(digits)) fit_of(whole_sheet(sides))
   some <- function(numbers) {
-    tables <- lapply(rows[numbers], part_of, sides = sides, digits = digits)
-    verdicts_on(tables, exe, file.path(room, numbers))
+    tables <- lapply(rows[numbers], household_of, sides = sides, digits = digits, id = id, fit = fit)
+    answers_on(tables, words, how$read, engine)
   }
-  found <- in_parallel(length(rows), some, if (is.null(workers)) processors() else workers, progress)
-  lost <- which(!vapply(found, inherits, TRUE, c("rp_test", "rp_error")))
+  found <- in_parallel(length(rows), some, workers, progress)
+  lost <- which(!vapply(found, inherits, TRUE, c(how$class, "rp_error")))
   found[lost] <- rep(list(failed(NA_integer_, "a process of R ended before its answer")), length(lost))
   keys <- data[vapply(rows, `[`, 1L, 1), id, drop = FALSE]
   keys <- as.data.frame(keys, row.names = seq_along(rows))
-  structure(list(keys = keys, answers = unname(found)), class = "rp_panel")
+  of <- list(keys = keys, answers = unname(found), ask = kind, data = data, id = id, digits = digits, levels = sides$levels)
+  structure(of, class = "rp_panel")
+}
+
+# Returns the sides of a long frame as those of one table.
+panel_sides <- function(data, id, levels = NULL) {
+  if (!is.data.frame(data)) bad_data("a panel is a data frame")
+  if (missing(id) || !is.character(id) || !length(id)) bad_data("id names the column, or the columns, that tell the households apart")
+  absent <- setdiff(id, names(data))
+  if (length(absent)) bad_data("id: there is no column ", quoted(absent[1]), "; found: ", listed(names(data)))
+  rest <- as.data.frame(unclass(as.list(data)[!names(data) %in% id]), optional = TRUE, stringsAsFactors = FALSE)
+  sides <- sides_of(rest)
+  # A column that has no numbers is told at once, and not for each household.
+  for (column in c(sides$prices, sides$quantities)) number_texts(column[0])
+  sides$labels <- frame_labels(if ("obs" %in% names(data)) rest else data)
+  if (!is.null(levels)) {
+    if (!is.null(sides$levels)) bad_data("levels are given twice: by the column e and by the argument")
+    sides$levels <- levels_for(levels, nrow(data))
+  }
+  if (!is.null(sides$levels)) warn_of_levels(number_texts(sides$levels))
+  sides
+}
+
+# Returns all that a panel has as one sheet, by which it is told what fits.
+whole_sheet <- function(sides) {
+  count <- length(sides$goods)
+  list(kinds = rep(c("price", "quantity"), each = count), columns = c(sides$prices, sides$quantities))
 }
 
 # Returns the number of each row's household, in the order in which they first come.
@@ -35,32 +72,33 @@ group_of <- function(data, id) {
   match(all, unique(all))
 }
 
-part_of <- function(at, sides, digits) {
-  frame <- c(
-    named(lapply(sides$prices, `[`, at), paste0("p_", sides$goods)[seq_along(sides$goods)]),
-    named(lapply(sides$quantities, `[`, at), paste0("q_", sides$goods)[seq_along(sides$goods)])
+# Returns the table of one household, or the condition in its place.
+household_of <- function(at, sides, digits, id, fit) {
+  part <- list(
+    goods = sides$goods, prices = lapply(sides$prices, `[`, at), quantities = lapply(sides$quantities, `[`, at),
+    labels = sides$labels[at], levels = if (!is.null(sides$levels)) sides$levels[at], left_out = sides$left_out
   )
-  frame <- structure(c(frame, list(obs = sides$labels[at])), class = "data.frame", row.names = seq_along(at))
-  table_of(frame, digits = digits)
+  tryCatch({
+    table <- suppressWarnings(table_of_sides(part, digits, id_advice(id)))
+    table$fit <- fit
+    table
+  }, rp_error = function(wrong) wrong)
 }
 
-# Returns the verdict on each table, or the condition in its place, by one shell that runs the program on each in turn.
-verdicts_on <- function(tables, exe, paths) {
-  for (at in seq_along(tables)) write_lines(csv_lines(tables[[at]]), paste0(paths[at], ".csv"))
-  loop <- paste(
-    "{ cd", shQuote(dirname(paths[1])), "&& for n in", paste(basename(paths), collapse = " "), "; do", shQuote(exe),
-    "certify $n.csv >$n.out 2>$n.err </dev/null; echo $? >$n.status; done; } 2>/dev/null"
-  )
-  system(loop)
-  Map(function(table, path) {
-    status <- as.integer(read_text(paste0(path, ".status")))
-    ran <- ended(status, read_text(paste0(path, ".out")), read_text(paste0(path, ".err")))
-    ran$said <- sub(paste0("rp: ", basename(path), ".csv: "), "rp: table.csv: ", ran$said, fixed = TRUE)
-    tryCatch(read_verdict(table, answer_of(ran, list(table))), rp_error = function(wrong) wrong)
-  }, tables, paths)
+# Returns the answer on each table, or the condition in its place.
+answers_on <- function(tables, words, read, engine) {
+  found <- tables
+  own <- which(vapply(tables, inherits, TRUE, "rp_table"))
+  ran <- answers(words, lapply(tables[own], function(table) list(table.csv = csv_lines(table))), engine)
+  found[own] <- Map(function(table, ran) {
+    tryCatch(read(table, words, text_of(ran, list(table))), rp_error = function(wrong) wrong)
+  }, tables[own], ran)
+  found
 }
 
+# Returns how many processes run at once: as many as there are processors, or two where R's checks ask for that.
 processors <- function() {
+  if (!tolower(Sys.getenv("_R_CHECK_LIMIT_CORES_")) %in% c("", "false")) return(2L)
   own <- mcaffinity()
   if (length(own)) length(own) else max(1L, detectCores(), na.rm = TRUE)
 }
@@ -83,21 +121,30 @@ in_parallel <- function(count, some, workers, progress) {
   found
 }
 
+# ---- its methods
+
+# Returns what is told of an answer: its class is that of the panel, or it is a condition.
+answered <- function(x) vapply(x$answers, inherits, TRUE, asked_of_panels[[x$ask]]$class)
+
 as.data.frame.rp_panel <- function(x, row.names = NULL, optional = FALSE, ...) {
-  is_verdict <- vapply(x$answers, inherits, TRUE, "rp_test")
-  verdict <- function(name) {
-    vapply(seq_along(is_verdict), function(at) if (is_verdict[at]) x$answers[[at]][[name]] else NA, NA)
+  is_answer <- answered(x)
+  told <- function(name, none) {
+    vapply(seq_along(is_answer), function(at) if (is_answer[at]) x$answers[[at]][[name]] else none, none)
   }
-  found <- x$keys
-  found$status <- vapply(x$answers, function(it) if (inherits(it, "rp_test")) 0L else c(it$status, NA_integer_)[1], 0L)
-  found$garp <- verdict("garp")
-  found$afriat <- verdict("afriat")
-  found$efficiency <- exact(vapply(x$answers, function(it) if (inherits(it, "rp_test")) bare(it$efficiency) else NA_character_, ""))
-  for (name in c("attained", "homothetic", "quasilinear")) found[[name]] <- verdict(name)
-  found$message <- vapply(x$answers, function(it) {
-    if (inherits(it, "rp_test")) paste(reason_lines(it$reasons), collapse = "; ") else conditionMessage(it)
+  index <- function(name) vapply(seq_along(is_answer), function(at) if (is_answer[at]) bare(x$answers[[at]][[name]]) else NA_character_, "")
+  status <- vapply(x$answers, function(it) if (inherits(it, "rp_error")) c(it$status, NA_integer_)[1] else 0L, 0L)
+  message <- vapply(x$answers, function(it) {
+    if (inherits(it, "rp_error")) conditionMessage(it) else paste(reason_lines(it$reasons), collapse = "; ")
   }, "")
-  found
+  own <- switch(x$ask,
+    test = c(
+      list(garp = told("garp", NA), afriat = told("afriat", NA)), beside("ccei", index("efficiency"), exact_name = "efficiency"),
+      lapply(named(c("attained", "homothetic", "quasilinear"), c("attained", "homothetic", "quasilinear")), told, none = NA)
+    ),
+    pump = c(list(garp = told("garp", NA)), beside("pump", index("ratio"), exact_name = "pump_ratio")),
+    power = list(power = told("power", NA_real_), violations = told("violations", NA_integer_), draws = told("draws", NA_integer_))
+  )
+  frame_of(c(as.list(x$keys), list(status = status), own, list(message = message)))
 }
 
 print.rp_panel <- function(x, ...) {
@@ -107,11 +154,13 @@ print.rp_panel <- function(x, ...) {
 
 summary.rp_panel <- function(object, ...) {
   frame <- as.data.frame(object)
-  answered <- frame$status %in% 0L
-  counts <- vapply(frame[tests], function(it) {
-    it <- it[answered]
+  own <- frame[frame$status %in% 0L, ]
+  title <- paste0(nrow(frame), " households, ", nrow(frame) - nrow(own), " of them without an answer")
+  if (object$ask != "test") {
+    return(summary_of(as.data.frame(t(as.matrix(summary(own[[object$ask]])))), title))
+  }
+  counts <- vapply(own[tests], function(it) {
     c(holds = sum(it %in% TRUE), violated = sum(it %in% FALSE), withheld = sum(is.na(it)))
   }, c(holds = 0L, violated = 0L, withheld = 0L))
-  title <- paste0(nrow(frame), " households, ", sum(!answered), " of them without a verdict")
   summary_of(as.data.frame(t(counts)), title)
 }

@@ -1,21 +1,43 @@
-# The program: where it is, and one call of it.
+# What answers: the program, where it is, and its calls. The other files ask by `ask` and `answers` alone.
+
+# Returns what answers: a list with the path of the program.
+engine_of <- function(exe = NULL) list(program = rp_program(exe))
 
 rp_program <- function(exe = NULL, must = TRUE) {
   variable <- Sys.getenv("RP_EXEC")
-  where <- "there is no rp on the path: say exe =, or set RP_EXEC"
   if (!is.null(exe)) {
-    named <- exe
-    where <- paste0("the argument exe names ", quoted(as.character(exe)), ", which is no program")
+    found <- on_path(exe)
+    where <- paste0("the argument exe names ", quoted(paste(as.character(exe), collapse = " ")), ", which is no program")
   } else if (nzchar(variable)) {
-    named <- variable
+    found <- on_path(variable)
     where <- paste0("the variable RP_EXEC names ", quoted(variable), ", which is no program")
   } else {
-    named <- "rp"
+    places <- usual_places()
+    found <- c(on_path("rp"), Filter(is_program, places))[1]
+    if (is.na(found)) found <- NULL
+    where <- paste0(
+      "there is no program rp: the argument exe is not given, the variable RP_EXEC is not set, no rp is on the path (",
+      Sys.getenv("PATH"), "), and there is none of ", listed(places), "; unpack a release of rp, and name its program by exe = or RP_EXEC"
+    )
   }
-  found <- on_path(named)
   if (is.null(found) && must) no_program(where)
   found
 }
+
+# Returns where a release or a package puts the program, a later version first.
+usual_places <- function() {
+  home <- Sys.getenv("HOME")
+  own <- c(if (nzchar(home)) file.path(home, c(".local/bin", "bin")), "/usr/local/bin", "/usr/bin")
+  roots <- c(if (nzchar(home)) c(home, file.path(home, c(".local", "Downloads"))), "/opt", "/usr/local")
+  unpacked <- lapply(roots, function(root) {
+    found <- list.files(root, "^rp-[0-9]+([.][0-9]+)*-[A-Za-z0-9_]+-linux$")
+    version <- numeric_version(sub("^rp-([0-9.]*[0-9])-.*", "\\1", found))
+    file.path(root, found[order(version, decreasing = TRUE)])
+  })
+  c(file.path(own, "rp"), file.path(c(unlist(unpacked), "/opt/rp"), "rp"))
+}
+
+is_program <- function(place) file.access(place, 1) == 0 && !dir.exists(place)
 
 # Returns where a program is: the file that its name has a slash for, else the one of that name on the path.
 on_path <- function(named) {
@@ -25,30 +47,40 @@ on_path <- function(named) {
     folders <- strsplit(Sys.getenv("PATH"), ":", fixed = TRUE)[[1]]
     places <- file.path(ifelse(nzchar(folders), folders, "."), named)
   }
-  for (place in places) {
-    if (file.access(place, 1) == 0 && !dir.exists(place)) return(absolute(place))
-  }
+  for (place in places) if (is_program(place)) return(absolute(place))
   NULL
 }
 
 absolute <- function(place) if (startsWith(place, "/")) place else file.path(getwd(), place)
 
-# Runs the program over files that are given by name, as lines or as bytes, in a folder of their own, and returns how it
-# ended. No name outside of that folder is told to it.
-call_program <- function(words, files, exe) {
+# ---- calls
+
+# Returns how a call ended, of words over files that are given by name, as lines or as bytes.
+answer <- function(words, files, engine = engine_of()) answers(words, list(files), engine)[[1]]
+
+# The same of the words over one list of files after another.
+answers <- function(words, batch, engine = engine_of()) by_program(words, batch, engine$program)
+
+# Runs the program over each list of files in a folder of its own, by one shell. No name outside of these folders is told
+# to it, and each word is quoted.
+by_program <- function(words, batch, exe) {
   room <- tempfile("revealed-")
   dir.create(room)
   on.exit(unlink(room, recursive = TRUE))
-  for (name in names(files)) {
-    data <- files[[name]]
-    if (is.raw(data)) writeBin(data, file.path(room, name)) else write_lines(data, file.path(room, name))
+  folders <- file.path(room, seq_along(batch))
+  for (at in seq_along(batch)) {
+    dir.create(folders[at])
+    for (name in names(batch[[at]])) write_file(batch[[at]][[name]], file.path(folders[at], name))
   }
-  # The words are names of ours, numbers, and words of the program: only the two paths have to be quoted.
   line <- paste(
-    "{ cd", shQuote(room), "&&", shQuote(exe), paste(words, collapse = " "), ">out 2>err </dev/null; exit $?; } 2>/dev/null"
+    "{ cd", shQuote(room), "&& n=0 && while [ $n -lt", length(batch), "]; do n=$((n + 1)); cd $n || exit;", shQuote(exe),
+    paste(shQuote(words), collapse = " "), ">out 2>err </dev/null; echo $? >status; cd ..; done; } 2>/dev/null"
   )
-  status <- system(line)
-  ended(status, read_text(file.path(room, "out")), read_text(file.path(room, "err")))
+  system(line)
+  lapply(folders, function(folder) {
+    status <- suppressWarnings(as.integer(read_text(file.path(folder, "status"))))
+    ended(status, read_text(file.path(folder, "out")), read_text(file.path(folder, "err")))
+  })
 }
 
 # Returns how a call ended: its status, its output, and its own words on standard error.
@@ -57,10 +89,10 @@ ended <- function(status, out, said) {
   list(status = status, out = out, said = paste(said[!startsWith(said, "note: ")], collapse = "\n"))
 }
 
-write_lines <- function(lines, path) {
+write_file <- function(data, path) {
   to <- file(path, "wb")
   on.exit(close(to))
-  writeLines(lines, to, useBytes = TRUE)
+  if (is.raw(data)) writeBin(data, to) else writeLines(data, to, useBytes = TRUE)
 }
 
 read_bytes <- function(path) readBin(path, "raw", file.size(path))
@@ -73,9 +105,9 @@ read_text <- function(path) {
 
 # Returns the file, the fault and its places of a refusal, as in `rp: table.csv: BadNumber record 2 column 5`; else NULL.
 told_refusal <- function(ran) {
-  form <- "^rp: (([A-Za-z_-]+)\\.(csv|json): )?([A-Z][A-Za-z]*)(( (record|column|budget|item) [0-9]+)*)$"
+  form <- "^rp: (([A-Za-z_-]+)\\.(csv|json): )?([A-Z][A-Za-z]*)(( (record|column|budget|menu|item) [0-9]+)*)$"
   parts <- regmatches(ran$said, regexec(form, ran$said))[[1]]
-  if (ran$status != 4 || !length(parts)) return(NULL)
+  if (!ran$status %in% 4L || !length(parts)) return(NULL)
   words <- strsplit(trimws(parts[6]), " ", fixed = TRUE)[[1]]
   odd <- seq_along(words) %% 2 == 1
   list(file = parts[3], fault = parts[5], places = named(as.list(as.integer(words[!odd])), words[odd]))
@@ -83,11 +115,9 @@ told_refusal <- function(ran) {
 
 # Returns the output of a call that ends with a status of `good`; else stops with a refusal of one of the sheets, or with
 # rp_failed.
-answer <- function(words, files, exe, sheets = list(), good = 0) {
-  answer_of(call_program(words, files, exe), sheets, good)
-}
+ask <- function(words, files, engine, sheets = list(), good = 0) text_of(answer(words, files, engine), sheets, good)
 
-answer_of <- function(ran, sheets, good = 0) {
+text_of <- function(ran, sheets, good = 0) {
   if (ran$status %in% good) return(ran$out)
   told <- told_refusal(ran)
   if (is.null(told)) stop(failed(ran$status, ran$said))
@@ -98,6 +128,10 @@ answer_of <- function(ran, sheets, good = 0) {
   if (!is.null(told$places$budget)) {
     for (own in sheets) if (own$file == "budgets") label <- own$labels[told$places$budget]
   }
-  file <- if (nzchar(told$file)) told$file else "choices"
-  stop(refused(told$fault, file, told$places, label))
+  file <- if (nzchar(told$file)) told$file else if (length(sheets)) sheets[[length(sheets)]]$file else "choices"
+  stop(refused(told$fault, file, told$places, label, hint = hint_of_whole(told$fault)))
+}
+
+hint_of_whole <- function(fault) {
+  if (fault == "NeedUnit") "the counts have no common multiple up to 1000000000: per = 1000 takes the shares in thousandths, rounded" else NA
 }

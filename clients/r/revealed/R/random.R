@@ -3,20 +3,28 @@
 rp_random <- function(budgets, choices, per = NULL, digits = NULL, exe = NULL) {
   own <- choices_of(budgets, choices, per, digits)
   words <- c("random", "budgets.csv", "choices.csv", "--json", units_of(own$per))
-  text <- answer(words, choice_files(own), rp_program(exe), list(own$budgets, own$choices))
+  text <- ask(words, choice_files(own), engine_of(exe), list(own$budgets, own$choices))
   read_random(own, text)
 }
 
+rp_random_utility <- rp_random
+
+# Returns the words of units that are asked for, a number that `per_word` gave.
 units_of <- function(per) if (!is.null(per)) c("--per", per)
 
 choice_files <- function(own) list(budgets.csv = csv_lines(own$budgets), choices.csv = csv_lines(own$choices))
 
-read_random <- function(own, text) {
-  item <- read_certificate(text)[[1]]
+read_random <- function(own, text) reading(text, {
+  items <- items_of(text, "random")
+  stopifnot(length(items) == 1, identical(items[[1]]$item, "random"))
+  random_from(own, items[[1]], text)
+})
+
+random_from <- function(own, item, text) {
   found <- list(
     rational = NA, share = exact(NA), reason = NULL, parts = NULL, weights = NULL, total = item$total, certificate = text, choices = own
   )
-  if (!is.null(item$withheld)) {
+  if (case_of(item, c("withheld", "parts")) == "withheld") {
     found$reason <- withheld_at(item$withheld)
     return(structure(found, class = "rp_random"))
   }
@@ -28,14 +36,14 @@ read_random <- function(own, text) {
     share = exact(vapply(weights, fraction, "", den = den, USE.NAMES = FALSE))
   )
   found$share <- exact(fraction(digits_of(Reduce(plus, lapply(weights, limbs), 0)), den))
+  stopifnot(found$rational == (bare(found$share) == "1"))
   if (!found$rational) found$weights <- exact(vapply(item$weights, fraction, "", den = item$den, USE.NAMES = FALSE))
   structure(found, class = "rp_random")
 }
 
 as.data.frame.rp_random <- function(x, row.names = NULL, optional = FALSE, ...) {
-  found <- data.frame(patches = vapply(x$parts$patches, paste, "", collapse = " "))
-  found$share <- if (is.null(x$parts)) exact(character()) else x$parts$share
-  found
+  share <- if (is.null(x$parts)) exact(character()) else x$parts$share
+  frame_of(c(list(patches = vapply(x$parts$patches, paste, "", collapse = " ")), beside("share", share)))
 }
 
 print.rp_random <- function(x, ...) {
@@ -43,7 +51,7 @@ print.rp_random <- function(x, ...) {
     cat("random withheld:", x$reason, "\n")
   } else {
     cat(if (x$rational) "random mixture" else paste("random violated share", bare(x$share)), "\n")
-    print(as.data.frame(x), row.names = FALSE)
+    print(as.data.frame(x)[c("patches", "share_exact")], row.names = FALSE)
   }
   invisible(x)
 }

@@ -2,17 +2,27 @@
 
 tests <- c("garp", "afriat", "homothetic", "quasilinear")
 
-rp_test <- function(p, q = NULL, digits = NULL, exe = NULL) {
-  verdict_on(table_of(p, q, digits), rp_program(exe))
+rp_test <- function(p, q = NULL, digits = NULL, levels = NULL, exe = NULL) {
+  verdict_on(table_of(p, q, digits, levels), engine_of(exe))
 }
 
-verdict_on <- function(table, exe) {
-  text <- answer(c("certify", "table.csv"), list(table.csv = csv_lines(table)), exe, list(table))
+rp_analyse <- rp_test
+
+# Returns the certificate itself: the verdicts with their evidence, as JSON.
+rp_certify <- function(p, q = NULL, digits = NULL, levels = NULL, exe = NULL) {
+  rp_test(p, q, digits, levels, exe)$certificate
+}
+
+verdict_on <- function(table, engine) {
+  text <- ask(c("certify", "table.csv"), list(table.csv = csv_lines(table)), engine, list(table))
   read_verdict(table, text)
 }
 
-read_verdict <- function(table, text) {
-  items <- by_item(read_certificate(text))
+read_verdict <- function(table, text) reading(text, verdict_from(table, text))
+
+verdict_from <- function(table, text) {
+  items <- by_item(items_of(text, "table"))
+  stopifnot(identical(names(items), c("garp", "afriat", "efficiency", "homothetic", "quasilinear")))
   garp <- read_axiom(table, items$garp)
   afriat <- read_afriat(table, items$afriat)
   efficiency <- read_efficiency(table, items$efficiency)
@@ -20,56 +30,78 @@ read_verdict <- function(table, text) {
   quasilinear <- read_quasilinear(table, items$quasilinear)
   found <- list(garp = garp, afriat = afriat, homothetic = homothetic, quasilinear = quasilinear)
   structure(class = "rp_test", list(
-    garp = garp$verdict, afriat = afriat$verdict, efficiency = efficiency$level, attained = efficiency$attained,
-    homothetic = homothetic$verdict, quasilinear = quasilinear$verdict, reasons = unlist(lapply(found, `[[`, "reason")),
+    garp = garp$verdict, afriat = afriat$verdict, efficiency = efficiency$level, ccei = double_below(efficiency$level),
+    attained = efficiency$attained, homothetic = homothetic$verdict, quasilinear = quasilinear$verdict,
+    reasons = unlist(lapply(found, `[[`, "reason")),
     ranks = garp$ranks, cycle = garp$cycle, utility = afriat$utility, lambda = afriat$lambda,
     evidence = lapply(c(found, list(efficiency = efficiency)), function(it) it[!names(it) %in% c("verdict", "reason", "level", "attained")]),
     certificate = text, table = table
   ))
 }
 
-by_label <- function(table, values) named(values, as.character(table$labels))
-walk_of <- function(table, walk) table$labels[as.integer(walk)]
+by_label <- function(table, values) {
+  stopifnot(length(values) == length(table$labels))
+  named(values, as.character(table$labels))
+}
+
+walk_of <- function(table, walk) {
+  at <- as.integer(walk)
+  stopifnot(all(is.na(at) | (at >= 1 & at <= length(table$labels))))
+  table$labels[at]
+}
+
 ranks_of <- function(table, ranks) by_label(table, as.integer(ranks))
-exact_by_label <- function(table, texts) exact(texts, as.character(table$labels))
-money_places <- function(table) places_of(table, "p_") + places_of(table, "q_")
+
+exact_by_label <- function(table, texts) {
+  stopifnot(length(texts) == length(table$labels))
+  exact(texts, as.character(table$labels))
+}
+
+money_places <- function(table) places_of(table, "price") + places_of(table, "quantity")
+
+# Utilities of a table with levels are in thousandths beside.
+utility_places <- function(table) money_places(table) + if (is.null(table$levels)) 0 else 3
 
 read_axiom <- function(table, item) {
-  if (!is.null(item$cycle)) return(list(verdict = FALSE, cycle = walk_of(table, item$cycle)))
+  if (case_of(item, c("cycle", "ranks")) == "cycle") return(list(verdict = FALSE, cycle = walk_of(table, item$cycle)))
   list(verdict = TRUE, ranks = ranks_of(table, item$ranks))
 }
 
 read_afriat <- function(table, item) {
-  if (!is.null(item$cycle)) return(read_axiom(table, item))
-  if (!is.null(item$withheld)) {
-    reason <- paste0("the numbers get past their width at ", quoted(walk_of(table, item$withheld)), "; they exist where garp is TRUE")
-    return(list(verdict = NA, reason = reason))
-  }
-  utility <- over_ten(item$utility, money_places(table))
-  list(verdict = TRUE, utility = exact_by_label(table, utility), lambda = exact_by_label(table, item$lambda))
+  switch(case_of(item, c("cycle", "withheld", "utility")),
+    cycle = read_axiom(table, item),
+    withheld = list(verdict = NA, reason = afriat_reason(table, item$withheld)),
+    utility = list(
+      verdict = TRUE, utility = exact_by_label(table, over_ten(item$utility, utility_places(table))),
+      lambda = exact_by_label(table, item$lambda)
+    )
+  )
 }
 
+afriat_reason <- function(table, at) paste0("the numbers get past their width at ", quoted(walk_of(table, at)), "; they exist where garp is TRUE")
+
 read_efficiency <- function(table, item) {
+  attained <- case_of(item, c("at_ranks", "at_cycle")) == "at_ranks"
   c(
-    list(level = exact(item$level), attained = !is.null(item$at_ranks), below = ranks_of(table, item$below)),
+    list(level = one_exact(item$level), attained = attained, below = ranks_of(table, item$below)),
     list(above = walk_of(table, item$above)),
-    if (is.null(item$at_ranks)) list(at_cycle = walk_of(table, item$at_cycle)) else list(at_ranks = ranks_of(table, item$at_ranks))
+    if (attained) list(at_ranks = ranks_of(table, item$at_ranks)) else list(at_cycle = walk_of(table, item$at_cycle))
   )
 }
 
 read_homothetic <- function(table, item) {
-  if (!is.null(item$withheld)) {
-    ends <- quoted(walk_of(table, item$withheld[2:3]))
-    return(list(verdict = NA, reason = paste0(
-      "after ", item$withheld[1], " steps the product from ", ends[1], " to ", ends[2], " gets past its width"
-    )))
-  }
-  if (!is.null(item$cycle)) return(list(verdict = FALSE, start = exact(item$start), cycle = walk_of(table, item$cycle)))
-  list(verdict = TRUE, values = exact_by_label(table, item$values))
+  switch(case_of(item, c("cycle", "withheld", "values")),
+    cycle = list(verdict = FALSE, start = one_exact(item$start), cycle = walk_of(table, item$cycle)),
+    withheld = {
+      ends <- quoted(walk_of(table, item$withheld[2:3]))
+      list(verdict = NA, reason = paste0("after ", item$withheld[1], " steps the product from ", ends[1], " to ", ends[2], " gets past its width"))
+    },
+    values = list(verdict = TRUE, values = exact_by_label(table, item$values))
+  )
 }
 
 read_quasilinear <- function(table, item) {
-  if (!is.null(item$cycle)) return(list(verdict = FALSE, cycle = walk_of(table, item$cycle)))
+  if (case_of(item, c("cycle", "values")) == "cycle") return(list(verdict = FALSE, cycle = walk_of(table, item$cycle)))
   list(verdict = TRUE, values = exact_by_label(table, over_ten(item$values, money_places(table))))
 }
 
@@ -78,9 +110,17 @@ read_quasilinear <- function(table, item) {
 verdict_word <- function(x) ifelse(is.na(x), "withheld", ifelse(x, "holds", "violated"))
 
 print.rp_test <- function(x, ...) {
-  cat("observations", length(x$table$labels), "goods", length(x$table$goods), "\n")
-  cat(verdict_lines(x), sep = "\n")
+  cat(table_lines(x$table), verdict_lines(x), sep = "\n")
   invisible(x)
+}
+
+# Returns what stands above an answer on a table: its size, its levels, and the columns that were left out.
+table_lines <- function(table) {
+  c(
+    paste("observations", length(table$labels), "goods", length(table$goods)),
+    if (!is.null(table$levels)) paste(c("levels", table$levels), collapse = " "),
+    if (length(table$left_out)) paste("columns left out:", listed(table$left_out))
+  )
 }
 
 verdict_lines <- function(x) {
@@ -93,28 +133,29 @@ verdict_lines <- function(x) {
 reason_lines <- function(reasons) if (length(reasons)) paste0(names(reasons), ": ", reasons)
 
 as.data.frame.rp_test <- function(x, row.names = NULL, optional = FALSE, what = c("verdicts", "observations"), ...) {
-  if (match.arg(what) == "verdicts") return(verdict_row(x))
+  if (chosen(what, c("verdicts", "observations"), "what") == "verdicts") return(verdict_row(x))
   number <- length(x$table$labels)
-  column <- function(values, none) if (is.null(values)) rep(none, number) else unname_exact(values)
-  found <- data.frame(observation = x$table$labels, rank = column(x$ranks, NA_integer_))
-  found$utility <- column(x$utility, exact(NA))
-  found$lambda <- column(x$lambda, exact(NA))
-  found$homothetic <- column(x$evidence$homothetic$values, exact(NA))
-  found$quasilinear <- column(x$evidence$quasilinear$values, exact(NA))
-  found$below <- column(x$evidence$efficiency$below, NA_integer_)
-  found
+  column <- function(values) if (is.null(values)) rep(NA_character_, number) else bare(values)
+  whole <- function(values) if (is.null(values)) rep(NA_integer_, number) else unname(values)
+  evidence <- x$evidence
+  frame_of(c(
+    list(observation = x$table$labels, rank = whole(x$ranks)), beside("utility", column(x$utility)), beside("lambda", column(x$lambda)),
+    beside("homothetic", column(evidence$homothetic$values)), beside("quasilinear", column(evidence$quasilinear$values)),
+    list(below = whole(evidence$efficiency$below))
+  ))
 }
 
-unname_exact <- function(x) if (inherits(x, "rp_exact")) exact(bare(x)) else unname(x)
+# Returns a data frame of columns of one length, some of them exact.
+frame_of <- function(columns) structure(columns, class = "data.frame", row.names = seq_along(columns[[1]]))
 
 verdict_row <- function(x) {
-  found <- data.frame(garp = x$garp, afriat = x$afriat)
-  found$efficiency <- x$efficiency
-  found$attained <- x$attained
-  found$homothetic <- x$homothetic
-  found$quasilinear <- x$quasilinear
-  found$reasons <- paste(reason_lines(x$reasons), collapse = "; ")
-  found
+  frame_of(c(
+    list(garp = x$garp, afriat = x$afriat), beside("ccei", x$efficiency, exact_name = "efficiency"),
+    list(
+      attained = x$attained, homothetic = x$homothetic, quasilinear = x$quasilinear,
+      reasons = paste(reason_lines(x$reasons), collapse = "; ")
+    )
+  ))
 }
 
 summary.rp_test <- function(object, ...) {
@@ -124,16 +165,14 @@ summary.rp_test <- function(object, ...) {
     paste("cycle", paste(found$cycle, collapse = " "))
   }
   index <- paste(bare(object$efficiency), if (object$attained) "(attained)" else "(not attained)")
+  above <- object$evidence$efficiency$above
   frame <- data.frame(
     verdict = c(verdict_word(unlist(object[tests])), index),
-    evidence = c(vapply(tests, shows, ""), if (length(object$evidence$efficiency$above)) {
-      paste("cycle", paste(object$evidence$efficiency$above, collapse = " "))
-    } else {
-      "below"
-    }),
+    evidence = c(vapply(tests, shows, ""), if (length(above)) paste("cycle", paste(above, collapse = " ")) else "below"),
     row.names = c(tests, "efficiency")
   )
-  summary_of(frame, paste(length(object$table$labels), "observations of", length(object$table$goods), "goods"))
+  title <- paste(length(object$table$labels), "observations of", length(object$table$goods), "goods")
+  summary_of(frame, paste(c(title, table_lines(object$table)[-1]), collapse = "; "))
 }
 
 # A summary is a frame with a line above it.

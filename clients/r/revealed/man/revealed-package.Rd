@@ -12,20 +12,34 @@ this package is}.
 Integers, texts, numbers of \pkg{gmp} and doubles go to the program exactly as they are. A double is a binary fraction:
 \code{1.25} ends after two decimal places, and \code{3.18} is 3.18000000000000015987.., of which the program does not take so
 many places. So it is refused, unless \code{digits} asks for rounding: one number of decimal places, or two, of prices and
-of quantities. It rounds to the nearest, half to even. A missing value is refused.
+of quantities. It rounds to the nearest, half to even. The refusal says which \code{digits} fit: the program takes seven
+digits of the largest price and of the largest quantity, and at most six places. A missing value is refused.
 
-What comes back is exact too: a text such as \code{4/5} or \code{-884241/1000} of the class \code{rp_exact}. With \pkg{gmp}
-such numbers are compared, ordered and calculated with exactly, and without it that is refused; \code{as.numeric(x)} gives
-doubles near them.
+What comes back is exact too: a text such as \code{4/5} or \code{-884241/1000} of the class \code{\link{rp_exact}}. In the
+data frames of \code{as.data.frame} a column of doubles stands beside each column of exact numbers, rounded down (upper bounds
+are rounded up), so that \code{ccei} is 1 for an index of 1 alone.
+}
+\section{Levels}{
+A column \code{e} of a data frame, or the argument \code{levels}, gives each observation a level of its own, in whole
+thousandths from 1 to 1000: how much of what was spent there counts (Varian 1990). \code{\link{rp_test}},
+\code{\link{rp_pairs}}, \code{\link{rp_utility}}, \code{\link{rp_check}} and \code{\link{rp_panel}} take them; the other calls
+refuse a table that has them (\code{OwnLevels}), because what they answer is not defined with levels.
+}
+\section{Names}{
+Each call has a name in the words of the field and one of the program's command: \code{rp_money_pump} and \code{rp_pump} are
+one call. Goods and rows may have any names; the program is given numbers in their place.
 }
 \section{What can go wrong}{
 Each condition is an \code{rp_error}: \code{rp_refused} where the data were refused, with \code{fault}, \code{file},
-\code{record}, \code{column}, \code{budget}, \code{item} (places in what the program was given, from 1), the row's own
+\code{record}, \code{column}, \code{budget}, \code{menu}, \code{item} (places in what the program was given, from 1), the row's own
 \code{label}, the column's \code{name}, the \code{value} there and a \code{hint}, each \code{NA} where there is none;
 \code{rp_bad_data} where the data have no shape of a table, and the program was not run; \code{rp_failed} where the program
 ended with another \code{status}, with what it \code{said}; and \code{rp_no_program}.
 }
 \references{
+Varian, H. (1990) Goodness-of-fit in optimizing models. \emph{Journal of Econometrics} 46, 125--140.
+
+
 Varian, H. (1982) The nonparametric approach to demand analysis. \emph{Econometrica} 50, 945--973.
 }
 \keyword{package}

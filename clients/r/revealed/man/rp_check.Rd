@@ -1,19 +1,23 @@
 \name{rp_check}
 \alias{rp_check}
+\alias{rp_checkrandom}
 \alias{print.rp_checked}
 \title{Check a Certificate}
 \description{
 Asks the program's checker whether a certificate, whoever made it, proves its verdicts on a table or on choices.
 }
 \usage{
-rp_check(data, certificate, per = NULL, exe = NULL)
+rp_check(data, certificate, per = NULL, levels = NULL, exe = NULL)
+rp_checkrandom(budgets, choices, certificate, per = NULL, exe = NULL)
 }
 \arguments{
 \item{data}{an answer of \code{\link{rp_test}}, \code{\link{rp_demand}}, \code{\link{rp_welfare}} or \code{\link{rp_random}};
 a data frame as for \code{rp_test}; a list of prices and quantities, or \code{list(budgets =, choices =)}; or the name of a
 CSV file, or two, of budgets and of choices.}
+\item{budgets, choices}{as for \code{\link{rp_random}}.}
 \item{certificate}{an answer, its JSON as a text, or the name of its file.}
 \item{per}{the units that were asked for, for choices.}
+\item{levels}{levels of the observations, as for \code{\link{rp_test}}; a file has them in its column \code{e}.}
 \item{exe}{the program, as for \code{\link{rp_test}}.}
 }
 \value{

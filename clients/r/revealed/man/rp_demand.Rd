@@ -1,5 +1,6 @@
 \name{rp_demand}
 \alias{rp_demand}
+\alias{rp_demand_bounds}
 \alias{print.rp_demand}
 \alias{summary.rp_demand}
 \alias{as.data.frame.rp_demand}
@@ -10,6 +11,7 @@ still meets the axiom.
 }
 \usage{
 rp_demand(p, q = NULL, new, m = NULL, digits = NULL, exe = NULL)
+rp_demand_bounds(p, q = NULL, new, m = NULL, digits = NULL, exe = NULL)
 }
 \arguments{
 \item{p, q, digits, exe}{as for \code{\link{rp_test}}.}
@@ -22,11 +24,14 @@ is rounded as prices are.}
 An \code{rp_demand}: \code{garp}, and \code{bounds}, a data frame with a row for each budget and good: \code{lower},
 \code{upper}, and \code{inner}, the amount in one bundle that keeps the axiom. A bound that is withheld is \code{NA}, and
 \code{reason} says why. \code{below} and \code{strict} have the rows of the table that each budget is revealed preferred to.
-Where the axiom fails no bundle keeps it, and all bounds are \code{NA}. \code{certificate} is for \code{\link{rp_check}}.
+Where the axiom fails no bundle keeps it, and all bounds are \code{NA}. The numbers of \code{bounds} are exact;
+\code{as.data.frame} has doubles beside them. \code{certificate} is for \code{\link{rp_check}}.
 }
 \examples{
 if (!is.null(rp_program(must = FALSE))) {
-  years <- data.frame(obs = 2024:2025, p_bread = c(1.25, 2.5), p_wine = c(2.5, 1.25), q_bread = 2:1, q_wine = 1:2)
+  years <- data.frame(
+    obs = 2024:2025, p_bread = c(1.25, 2.5), p_wine = c(2.5, 1.25), q_bread = 2:1, q_wine = 1:2
+  )
   print(rp_demand(years, new = c(bread = 2, wine = 2), m = 6))
 }
 }

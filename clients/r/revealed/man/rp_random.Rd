@@ -1,5 +1,6 @@
 \name{rp_random}
 \alias{rp_random}
+\alias{rp_random_utility}
 \alias{print.rp_random}
 \alias{summary.rp_random}
 \alias{as.data.frame.rp_random}
@@ -10,6 +11,7 @@ share of them that one makes.
 }
 \usage{
 rp_random(budgets, choices, per = NULL, digits = NULL, exe = NULL)
+rp_random_utility(budgets, choices, per = NULL, digits = NULL, exe = NULL)
 }
 \arguments{
 \item{budgets}{a data frame with \code{p_NAME} for each good and \code{w}, the income; or a matrix of prices that ends with
@@ -31,7 +33,9 @@ Kitamura, Y. and Stoye, J. (2018) Nonparametric analysis of random utility model
 \examples{
 if (!is.null(rp_program(must = FALSE))) {
   budgets <- data.frame(p_bread = 1:2, p_wine = 2:1, w = 4)
-  choices <- data.frame(budget = c(1, 1, 2, 2), q_bread = c(2, 0, 1, 2), q_wine = c(1, 2, 2, 0), n = c(1, 3, 2, 2))
+  choices <- data.frame(
+    budget = c(1, 1, 2, 2), q_bread = c(2, 0, 1, 2), q_wine = c(1, 2, 2, 0), n = c(1, 3, 2, 2)
+  )
   print(rp_random(budgets, choices))
 }
 }

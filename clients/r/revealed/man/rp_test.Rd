@@ -1,5 +1,7 @@
 \name{rp_test}
 \alias{rp_test}
+\alias{rp_analyse}
+\alias{rp_certify}
 \alias{print.rp_test}
 \alias{summary.rp_test}
 \alias{as.data.frame.rp_test}
@@ -9,30 +11,39 @@ Tests the generalized axiom of revealed preference and Afriat's inequalities, gi
 tests whether a homothetic utility, or one that is linear in money, rationalizes the data.
 }
 \usage{
-rp_test(p, q = NULL, digits = NULL, exe = NULL)
+rp_test(p, q = NULL, digits = NULL, levels = NULL, exe = NULL)
+rp_analyse(p, q = NULL, digits = NULL, levels = NULL, exe = NULL)
+rp_certify(p, q = NULL, digits = NULL, levels = NULL, exe = NULL)
 
 \method{as.data.frame}{rp_test}(x, row.names = NULL, optional = FALSE,
   what = c("verdicts", "observations"), ...)
 }
 \arguments{
 \item{p}{prices: a matrix or data frame with a row for each observation and a column for each good; or, without \code{q}, a
-data frame with columns \code{p_NAME} and \code{q_NAME} for each good, of which other columns are left out. A column
-\code{obs} has the labels of the rows, else the row names have.}
+data frame with columns \code{p_NAME} and \code{q_NAME} for each good, and perhaps \code{e}, of which other columns are left
+out, which the printed answer tells. A column \code{obs} has the labels of the rows, else the row names have. A label that
+stands twice is an error: such a table is most likely a panel (\code{\link{rp_panel}}).}
 \item{q}{quantities in the same shape. Where both have column names of the same goods (\code{p_} and \code{q_} in front do
 not count), they are put together by these, and matrices else by place.}
 \item{digits}{to how many decimal places numbers are rounded, one number or two, of prices and of quantities; without it
 nothing is rounded, and a double with more than 6 places is refused.}
-\item{exe}{the program; else the variable \code{RP_EXEC} names it, else it is \code{rp} on the path.}
+\item{levels}{the level of each observation in whole thousandths from 1 to 1000, one number or one for each; a data frame may
+have them as its column \code{e}.}
+\item{exe}{the program; else it is looked for as \code{\link{rp_program}} says.}
 \item{x}{an answer.}
 \item{what}{a row of verdicts, or a row for each observation.}
 \item{row.names, optional, ...}{not used.}
 }
 \value{
 An \code{rp_test} with \code{garp}, \code{afriat}, \code{homothetic} and \code{quasilinear}, each \code{TRUE} or
-\code{FALSE}, and \code{NA} where the verdict is withheld: then \code{reasons} says why. \code{efficiency} is the index, and
+\code{FALSE}, and \code{NA} where the verdict is withheld: then \code{reasons} says why. \code{efficiency} is the critical cost
+efficiency index, \code{ccei} the same as a double that is rounded down, and
 \code{attained} tells whether the axiom holds at it. \code{ranks}, \code{utility} and \code{lambda} are there where the axiom
 holds, by the labels of the rows, and \code{cycle} where it fails. \code{evidence} has the rest of what shows each verdict,
-\code{certificate} all of it as JSON, and \code{table} what was asked about, for \code{\link{rp_check}}.
+\code{certificate} all of it as JSON, and \code{table} what was asked about, for \code{\link{rp_check}}. \code{rp_analyse} is
+another name of the call, and \code{rp_certify} gives the certificate alone.
+
+With levels \code{garp} and \code{afriat} are by these, and the others by costs alone.
 
 Utilities and quasilinear values are in units of price times quantity, ranks are integers, and the other numbers exact
 texts (see \link{revealed-package}).
@@ -40,12 +51,14 @@ texts (see \link{revealed-package}).
 \references{
 Afriat, S. (1967) The construction of utility functions from expenditure data. \emph{International Economic Review} 8, 67--77.
 }
-\seealso{\code{\link{rp_panel}}, \code{\link{rp_check}}}
+\seealso{\code{\link{rp_panel}}, \code{\link{rp_check}}, \code{\link{plot.rp_test}}}
 \examples{
 if (!is.null(rp_program(must = FALSE))) {
   p <- rbind(c(1, 2), c(2, 1))
   print(rp_test(p, q = p))
-  years <- data.frame(obs = 2024:2025, p_bread = c(1.25, 2.5), p_wine = c(2.5, 1.25), q_bread = 2:1, q_wine = 1:2)
+  years <- data.frame(
+    obs = 2024:2025, p_bread = c(1.25, 2.5), p_wine = c(2.5, 1.25), q_bread = 2:1, q_wine = 1:2
+  )
   print(as.data.frame(rp_test(years), what = "observations"))
 }
 }

@@ -1,5 +1,6 @@
 \name{rp_welfare}
 \alias{rp_welfare}
+\alias{rp_welfare_bounds}
 \alias{print.rp_welfare}
 \alias{summary.rp_welfare}
 \alias{as.data.frame.rp_welfare}
@@ -9,6 +10,7 @@ Gives for each row of new prices and each observation bounds on what it costs at
 }
 \usage{
 rp_welfare(p, q = NULL, new, digits = NULL, exe = NULL)
+rp_welfare_bounds(p, q = NULL, new, digits = NULL, exe = NULL)
 }
 \arguments{
 \item{p, q, digits, exe}{as for \code{\link{rp_test}}.}
@@ -21,7 +23,9 @@ is withheld is \code{NA}, and \code{reason} says why. Where the axiom fails all 
 }
 \examples{
 if (!is.null(rp_program(must = FALSE))) {
-  years <- data.frame(obs = 2024:2025, p_bread = c(1.25, 2.5), p_wine = c(2.5, 1.25), q_bread = 2:1, q_wine = 1:2)
+  years <- data.frame(
+    obs = 2024:2025, p_bread = c(1.25, 2.5), p_wine = c(2.5, 1.25), q_bread = 2:1, q_wine = 1:2
+  )
   print(rp_welfare(years, new = c(bread = 2, wine = 2)))
 }
 }

@@ -28,7 +28,7 @@ stopifnot(texts(v$evidence$homothetic$values) == "1", texts(v$evidence$quasiline
 three <- rp_test(rbind(c(2, 1, 3), c(3, 2, 1), c(1, 3, 2)), diag(3))
 stopifnot(!three$garp, length(three$cycle) == 4, texts(three$efficiency) == "1/2")
 frame <- as.data.frame(v)
-stopifnot(nrow(frame) == 1, frame$garp, inherits(frame$efficiency, "rp_exact"))
+stopifnot(nrow(frame) == 1, frame$garp, frame$ccei == 1, inherits(frame$efficiency, "rp_exact"))
 stopifnot(identical(as.data.frame(v, what = "observations")$observation, 2024:2025))
 stopifnot(any(grepl("garp holds", capture.output(print(v)))), any(grepl("2 observations", capture.output(print(summary(v))))))
 
@@ -53,7 +53,8 @@ if (requireNamespace("gmp", quietly = TRUE)) same <- c(same, list(gmp::as.bigq(m
 certificates <- vapply(same, function(p) rp_test(if (is.data.frame(p)) unname(as.matrix(p)) else p, P)$certificate, "")
 stopifnot(length(unique(certificates)) == 1)
 wrong <- caught(rp_test(rbind(c(3.18, 1), c(1, 1)), P), "rp_refused")
-stopifnot(wrong$fault == "TooManyDecimals", wrong$record == 1, wrong$column == 1, grepl("digits = 2", conditionMessage(wrong)))
+stopifnot(wrong$fault == "TooManyDecimals", wrong$record == 1, wrong$column == 1)
+stopifnot(grepl("digits = c(6, 6)", conditionMessage(wrong), fixed = TRUE), grepl("gives every number back", conditionMessage(wrong)))
 stopifnot(identical(rp_test(rbind(c(3.18, 1), c(1, 1)), P, digits = 2)$certificate, rp_test(rbind(c("3.18", 1), c(1, 1)), P)$certificate))
 stopifnot(identical(rp_test(rbind(c(3.18, 1), c(1, 1)), P, digits = c(2, 0))$certificate, rp_test(rbind(c("3.18", 1), c(1, 1)), P)$certificate))
 stopifnot(identical(rp_test(P, replace(P, 1, -0.0))$certificate, rp_test(P, replace(P, 1, 0))$certificate))
@@ -93,9 +94,26 @@ if (requireNamespace("gmp", quietly = TRUE)) {
     stopifnot(revealed:::digits_of(revealed:::product(revealed:::limbs(a), revealed:::limbs(b))) == texts(gmp::as.bigz(a) * gmp::as.bigz(b)))
     stopifnot(revealed:::over_ten(a, 6) == texts(gmp::as.bigq(a) / 1000000))
   }
-  some <- revealed:::exact(c("10", "9", "-1/3", NA, "9"))
-  stopifnot(identical(order(some), c(3L, 2L, 5L, 1L, 4L)), identical(texts(sort(some)), c("-1/3", "9", "9", "10")))
-  stopifnot(some[1] > some[2], some[3] < 0, max(some[1:3]) == 10, some[1] + some[2] == 19)
+  stopifnot(revealed:::exact("10") + revealed:::exact("9") == 19)
+}
+some <- revealed:::exact(c("10", "9", "-1/3", NA, "9"))
+stopifnot(identical(order(some), c(3L, 2L, 5L, 1L, 4L)), identical(texts(sort(some)), c("-1/3", "9", "9", "10")))
+stopifnot(some[1] > some[2], some[3] < 0, max(some[1:3]) == 10, texts(min(some[1:3])) == "-1/3", identical(some == 9, c(FALSE, TRUE, FALSE, NA, TRUE)))
+stopifnot(revealed:::exact("1/2") == 0.5, revealed:::exact("4/5") != 0.8, mean(revealed:::exact(c("1/2", "1"))) == 0.75)
+near <- revealed:::exact(c("9007199254740992/9007199254740993", "1", "9007199254740991/9007199254740992"))
+stopifnot(identical(order(near), c(3L, 1L, 2L)))
+
+# doubles beside: rounded down or up, and 1 for 1 alone
+below <- revealed:::double_below
+above <- revealed:::double_above
+stopifnot(identical(below(revealed:::exact(c("1", "1/2", "0", NA))), c(1, 0.5, 0, NA)), below(near[1]) < 1, above(near[1]) == 1)
+stopifnot(identical(below(revealed:::exact(c("-1/3", "1/3"))), c(-above(revealed:::exact("1/3")), below(revealed:::exact("1/3")))))
+for (turn in 1:200) {
+  num <- floor(runif(1, 1, 2^50))
+  den <- floor(runif(1, 1, 2^50))
+  for (up in c(FALSE, TRUE)) {
+    stopifnot(identical(revealed:::short_double(num, den, up), revealed:::long_double(sprintf("%.0f", num), sprintf("%.0f", den), up)))
+  }
 }
 stopifnot(all.equal(as.numeric(revealed:::exact(c("-1/4", "1208925819614629174706176"))), c(-0.25, 2^80)))
 
@@ -186,6 +204,7 @@ frame <- as.data.frame(found)
 stopifnot(identical(frame$household, c("b", "a", "c")), identical(frame$status, c(0L, 0L, 4L)), identical(frame$garp, c(FALSE, TRUE, NA)))
 stopifnot(grepl("row 2024", frame$message[3]), found$answers[[3]]$fault == "ZeroPrice", setequal(found$answers[[1]]$cycle, 2024:2025))
 stopifnot(grepl("3 households, 1", summary(found)$title), summary(found)$table["garp", "violated"] == 1)
+stopifnot(identical(frame$ccei, c(0.8, 1, NA) - c(2^-53, 0, 0)), identical(texts(frame$efficiency), c("4/5", "1", NA)))
 two <- as.data.frame(rp_panel(long, c("household", "obs"), workers = 2))
 stopifnot(nrow(two) == 5, identical(two$obs, c(2024, 2024, 2025, 2025, 2024)))
 caught(rp_panel(long, "family"), "rp_bad_data")
@@ -194,7 +213,7 @@ many$q_x[many$id %% 2 == 0] <- 5
 bar <- tempfile()
 to <- file(bar, "w")
 sink(to, type = "message")
-found <- as.data.frame(rp_panel(many, "id", progress = TRUE))
+found <- as.data.frame(rp_panel(many, "id", workers = 2, progress = TRUE))
 sink(type = "message")
 close(to)
 stopifnot(identical(found$id, 1:50), identical(found$garp, rep(c(FALSE, TRUE), 25)))

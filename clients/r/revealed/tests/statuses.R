@@ -41,6 +41,28 @@ certificate <- paste0(
 good <- fake("exit 0", "note: answered by the same source", certificate, "rp good")
 stopifnot(rp_test(one, one, exe = good)$garp)
 
+# a program that ends with 0 and says what is no answer of rp
+other <- c(
+  "", "hello", "{}", "[", "{\"items\":[],\"kind\":\"table\",\"version\":1}", sub("ranks", "rank", certificate), sub("\\[1\\]", "[1,1]", certificate),
+  sub("\"level\":\"1\"", "\"level\":\"x\"", certificate), "pair", "pair x", "pump x", "power 1 draws 9 violations 1", "garp holds", "trial 1"
+)
+plain <- data.frame(p_a = 1, q_a = 1)
+for (said in other) {
+  exe <- fake("exit 0", out = said, name = "rp other")
+  for (call in list(
+    function() rp_test(one, one, exe = exe), function() rp_pairs(one, one, exe = exe), function() rp_pump(one, one, exe = exe),
+    function() rp_power(one, one, seed = 1, draws = 1, exe = exe), function() rp_trial(2, 1, 1, exe = exe), function() rp_check(plain, "{}", exe = exe),
+    function() rp_demand(plain, new = 1, m = 1, exe = exe), function() rp_welfare(plain, new = 1, exe = exe), function() rp_utility(plain, bundles = 1, exe = exe),
+    function() rp_random(budgets, choices, exe = exe), function() rp_menus(data.frame(menu = "a", choice = "a", n = 1), exe = exe),
+    function() rp_cost(data.frame(y = 1, w_a = 1, x_a = 1), data.frame(y = 1, w_a = 1), exe = exe)
+  )) {
+    wrong <- caught(call(), "rp_failed")
+    stopifnot(wrong$status == 0, grepl("no answer of rp", conditionMessage(wrong)))
+  }
+}
+failing <- as.data.frame(rp_panel(cbind(id = 1, plain), "id", exe = fake("exit 0", out = "hello")))
+stopifnot(is.na(failing$garp), grepl("no answer", failing$message))
+
 # by argument, then by the variable, then by the path
 bad <- fake("exit 6")
 old <- Sys.getenv(c("RP_EXEC", "PATH"), names = TRUE)
@@ -54,7 +76,23 @@ caught(rp_test(one, one), "rp_no_program")
 Sys.unsetenv("RP_EXEC")
 stopifnot(identical(rp_program(), bad))
 Sys.setenv(PATH = file.path(folder, "nothing"))
-caught(rp_test(one, one), "rp_no_program")
-stopifnot(is.null(rp_program(must = FALSE)))
+# in the usual places, a later version before an earlier one
+home <- Sys.getenv("HOME")
+Sys.setenv(HOME = file.path(folder, "home"))
+elsewhere <- rp_program(must = FALSE)
+if (is.null(elsewhere)) {
+  said <- conditionMessage(caught(rp_test(one, one), "rp_no_program"))
+  stopifnot(grepl("RP_EXEC is not set", said), grepl("home/.local/bin/rp", said), grepl("nothing", said))
+}
+for (version in c("0.9.0", "0.11.0", "0.10.0")) {
+  own <- file.path(folder, "home", paste0("rp-", version, "-x86_64-linux"))
+  dir.create(own, recursive = TRUE)
+  file.copy(good, file.path(own, "rp"))
+}
+if (is.null(elsewhere)) stopifnot(identical(rp_program(), file.path(folder, "home", "rp-0.11.0-x86_64-linux", "rp")), rp_test(one, one)$garp)
+dir.create(file.path(folder, "home", ".local", "bin"), recursive = TRUE)
+file.copy(good, file.path(folder, "home", ".local", "bin", "rp"))
+stopifnot(identical(rp_program(), file.path(folder, "home", ".local", "bin", "rp")))
+Sys.setenv(HOME = home)
 Sys.setenv(PATH = old[["PATH"]])
 if (nzchar(old[["RP_EXEC"]])) Sys.setenv(RP_EXEC = old[["RP_EXEC"]])

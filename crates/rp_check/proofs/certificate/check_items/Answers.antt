@@ -1,6 +1,8 @@
 use Rattle.std.proofs.Common.{◌<◌, ◌||◌, ◌∙◌, Ok, Err, length, arith, ap, below_more, sym}
 use Rattle.rp_evidence.specs.Input.{input_of_table}
 use Rattle.rp_check.specs.CheckVerdict.{ItemFailsAt}
+use Rattle.rp_people.proofs.FullTables.{table_is_full}
+use Rattle.rp_people.proofs.SaysOfItems.{all_say}
 use Rattle.rp_check.proofs.SoundItems.{all_prove, at_place, shown_more}
 use Rattle.rp_check.proofs.certificate.check_items.Goals as goal
 
@@ -34,3 +36,11 @@ returns-clause-accepted_proves c = λ is k d within.
     (all_prove (input_of_table c.args.table.now) c.new-input.ensures.positive c.args.items.now c.requires.kinds
     (length c.args.items.now) (omega arith)
     (λ j below. c.loop-k.invariant.1 j (omega arith))).0 k d within
+
+pub returns-clause-accepted_says : goal.returns-clause-accepted_says
+returns-clause-accepted_says c = λ is.
+    all_say (input_of_table c.args.table.now) (table_is_full c.args.table.now c.n.ensures.valid) c.args.items.now
+    (λ k d within.
+    (all_prove (input_of_table c.args.table.now) c.new-input.ensures.positive c.args.items.now c.requires.kinds
+    (length c.args.items.now) (omega arith)
+    (λ j below. c.loop-k.invariant.1 j (omega arith))).0 k d within)

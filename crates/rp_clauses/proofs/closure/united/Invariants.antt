@@ -1,5 +1,5 @@
 use Rattle.rp_clauses.proofs.MarkLemmas.{IsReachedFromFirst}
-use Rattle.rp_clauses.proofs.closure.Closure.reached_from.Given as goal
+use Rattle.rp_clauses.proofs.closure.united.Given as goal
 
 abbrev pub invariant-loop-s : goal.invariant-loop-s
-invariant-loop-s l = IsReachedFromFirst l.self.rows l.marks l.row l.s
+invariant-loop-s l = IsReachedFromFirst l.rows l.marks l.row l.s

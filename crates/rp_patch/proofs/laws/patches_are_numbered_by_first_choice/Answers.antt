@@ -4,7 +4,7 @@ use Rattle.rp_patch.proofs.laws.patches_are_numbered_by_first_choice.Goals as go
 
 pub returns : goal.returns
 returns c = record {
-  numbered = λ input per p are. numbered input per p are;
-  times = λ input per p are i within. times_together input per p are i within;
+  numbered = λ input asked p are. numbered input asked p are;
+  times = λ input asked p are i within. times_together input asked p are i within;
   together = λ input j below. chosen_total input j below;
 }

@@ -1,0 +1,33 @@
+#!/usr/bin/env python3
+"""Writes experiment.csv beside this file: a simulated experiment in the design of Choi, Fisman, Gale and Kariv (2007).
+
+Twenty subjects choose on 25 budget lines over two accounts. A line is kept by its two intercepts, between 10 and 100 tokens, one
+of them 50 or more; the choice is kept with two places. Subjects maximize a utility of constant elasticity of substitution and
+miss its choice by errors of three sizes; the last three choose at random.
+"""
+import csv
+import os
+import random
+
+
+def main():
+    draw = random.Random("experiment")
+    rows = [["subject", "round", "x_max", "y_max", "x", "y"]]
+    for subject in range(1, 21):
+        weight, power = draw.uniform(0.35, 0.65), draw.uniform(-1.0, 0.6)
+        error = (0.0, 0.05, 0.15)[subject % 3]
+        for number in range(1, 26):
+            x_max, y_max = 0, 0
+            while max(x_max, y_max) < 50:
+                x_max, y_max = draw.randint(100, 1000) / 10, draw.randint(100, 1000) / 10
+            ratio = (weight / (1 - weight) * x_max / y_max) ** (1 / (1 - power))
+            share = ratio * y_max / (ratio * y_max + x_max)
+            share = draw.random() if subject > 17 else min(1.0, max(0.0, share + draw.gauss(0, error)))
+            x = round(share * x_max, 2)
+            rows.append([subject, number, x_max, y_max, f"{x:.2f}", f"{max(0.0, (1 - x / x_max) * y_max):.2f}"])
+    with open(os.path.join(os.path.dirname(os.path.abspath(__file__)), "experiment.csv"), "w", newline="", encoding="utf-8") as it:
+        csv.writer(it, lineterminator="\n").writerows(rows)
+
+
+if __name__ == "__main__":
+    main()

@@ -1,0 +1,168 @@
+"""Frames, tables and pictures of a panel. What needs pandas or matplotlib is left out where they are not there."""
+
+import io
+import math
+import os
+import pathlib
+import subprocess
+import sys
+import tempfile
+import unittest
+from fractions import Fraction
+
+import revealed
+from revealed import BadData, draws, papers
+
+try:
+    import matplotlib
+    import pandas
+
+    matplotlib.use("Agg")
+except ImportError:
+    matplotlib = pandas = None
+
+# Three households: a contradiction with the index 4/5, a rational one, and one without a price.
+D = {
+    "id": [1, 1, 2, 2, 3, 3],
+    "p_a": [1, 2, 1, 2, 0, 1],
+    "p_b": [2, 1, 2, 1, 1, 1],
+    "q_a": [1, 2, 2, 1, 1, 1],
+    "q_b": [2, 1, 1, 2, 1, 1],
+}
+
+
+def made(**more):
+    return revealed.panel(D, "id", progress=False, **more)
+
+
+class Texts(unittest.TestCase):
+    def test_a_table(self):
+        text = made(pump=True, power=10).text()
+        for line in ("households +3", "with a verdict +2", r"GARP holds +1 of 2 \(50\.0%\)", r"efficiency index \(CCEI\), mean +0\.9000", r"efficiency index at least 0\.80 +2 of 2", r"money pump ratio, greatest, greatest +0\.2000"):
+            self.assertRegex(text, f"(?m)^({line})")
+        self.assertEqual(len({len(line.rstrip()) > 0 for line in text.splitlines()}), 1)
+
+    def test_latex(self):
+        text = made().latex()
+        self.assertTrue(text.startswith("\\begin{tabular}{lr}\n\\toprule\nhouseholds & 3 \\\\\n"))
+        self.assertIn("1 of 2 (50.0\\%)", text)
+        self.assertTrue(text.endswith("\\bottomrule\n\\end{tabular}\n"))
+        self.assertEqual(papers.escaped("a_b & 5% $x$ {~^\\}#"), "a\\_b \\& 5\\% \\$x\\$ \\{\\textasciitilde{}\\textasciicircum{}\\textbackslash{}\\}\\#")
+
+    def test_only_what_is_1_reads_1(self):
+        self.assertEqual([papers.down(it) for it in (Fraction(1), 1 - Fraction(1, 10**9), Fraction(4, 5), Fraction(0))], ["1.0000", "0.9999", "0.8000", "0.0000"])
+        self.assertEqual([papers.mean(it) for it in ([Fraction(1)], [Fraction(1), 1 - Fraction(1, 10**9)], [Fraction(4, 5), Fraction(1)])], ["1.0000", "0.9999", "0.9000"])
+        self.assertEqual(papers.quantile([Fraction(1), Fraction(0)], Fraction(1, 4)), Fraction(1, 4))
+
+    def test_a_panel_without_verdicts(self):
+        found = revealed.panel({"id": [1], "p_a": [0], "q_a": [1]}, "id", progress=False)
+        self.assertIn("GARP holds", found.text())
+        self.assertIsInstance(found.latex(), str)
+
+    def test_records(self):
+        first, second, third = made(pump=True).records()
+        self.assertEqual((first["efficiency"], second["efficiency"], third["efficiency"]), (Fraction(4, 5), 1, None))
+        self.assertEqual((second["ccei"], third["ccei"], second["pump"], first["pump_ratio"]), (1.0, None, 0.0, Fraction(1, 5)))
+        self.assertLessEqual(Fraction(first["ccei"]), Fraction(4, 5))
+
+
+class Draws(unittest.TestCase):
+    def test_on_the_budget_line(self):
+        table = revealed.from_frame({"p_a": ["1.25", 3], "p_b": [2, "0.5"], "q_a": [10, 20], "q_b": [30, "4.5"]})
+        first, again, other = (draws.on_budget_lines(table, seed) for seed in (1, 1, 2))
+        self.assertEqual(first.csv(), again.csv())
+        self.assertNotEqual(first.csv(), other.csv())
+        for drawn, own in zip(first.texts, table.texts):
+            p, q, of = ([Fraction(it) for it in row] for row in (own[:2], drawn[2:], own[2:]))
+            self.assertEqual([Fraction(it) for it in drawn[:2]], p)
+            spent, money = (sum(map(Fraction.__mul__, p, it)) for it in (q, of))
+            self.assertTrue(0 <= money - spent <= sum(p) / 10**4)
+
+    def test_shares_are_uniform(self):
+        import random
+
+        draw = random.Random(1)
+        many = [draws.shares(draw, 3) for _ in range(20_000)]
+        for good in range(3):
+            self.assertAlmostEqual(sum(it[good] for it in many) / len(many), 1 / 3, delta=0.01)
+            # on the simplex over three goods a share is below a half with the chance 3/4
+            self.assertAlmostEqual(sum(it[good] < 0.5 for it in many) / len(many), 3 / 4, delta=0.02)
+
+
+class Import(unittest.TestCase):
+    def test_nothing_is_imported_with_the_package(self):
+        code = "import sys, revealed; sys.exit(any(name in sys.modules for name in ('pandas', 'numpy', 'matplotlib')))"
+        self.assertEqual(subprocess.run([sys.executable, "-c", code], env={**os.environ, "PYTHONPATH": str(pathlib.Path(revealed.__file__).parents[1])}).returncode, 0)
+
+
+@unittest.skipIf(pandas is None, "pandas or matplotlib is not there")
+class Frames(unittest.TestCase):
+    def test_types(self):
+        f = made(pump=True, power=10).frame()
+        types = {name: str(kind) for name, kind in f.dtypes.items()}
+        for name in ("garp", "afriat", "attained", "homothetic", "quasilinear"):
+            self.assertEqual(types[name], "boolean")
+        for name in ("ccei", "pump", "power"):
+            self.assertEqual(types[name], "Float64")
+        self.assertEqual((types["efficiency"], types["message"], types["status"], types["id"]), ("string", "string", "Int64", "int64"))
+        self.assertEqual(list(f["efficiency"].fillna("")), ["4/5", "1", ""])
+
+    def test_they_behave(self):
+        f = made(pump=True, power=10).frame()
+        self.assertEqual(list((~f.garp).fillna(False)), [True, False, False])
+        self.assertEqual(list(f[f.garp.fillna(False)].id), [2])
+        self.assertEqual((f.garp.sum(), f.garp.isna().sum()), (1, 1))
+        self.assertEqual((f.ccei.describe()["count"], f.describe().shape[0]), (2, 8))
+        self.assertAlmostEqual(float(f.ccei.mean()), 0.9)
+        self.assertIsNotNone(f.ccei.hist())
+        self.assertEqual(f.groupby("garp").ccei.mean().size, 2)
+        self.assertEqual(list(f.sort_values("ccei", na_position="last").id), [1, 2, 3])
+
+    def test_stata(self):
+        with tempfile.TemporaryDirectory() as folder:
+            found = made(pump=True)
+            found.to_stata(f"{folder}/a.dta")
+            back = pandas.read_stata(f"{folder}/a.dta")
+            self.assertEqual(list(back["id"]), [1, 2, 3])
+            self.assertEqual(list(back["garp"])[:2], [0, 1])
+            self.assertTrue(math.isnan(list(back["garp"])[2]))
+            self.assertEqual(list(back["efficiency"]), ["4/5", "1", ""])
+            self.assertEqual(back["ccei"][1], 1.0)
+
+    def test_keys_that_are_texts(self):
+        f = revealed.panel({"town": ["x", "x", None], "p_a": [1, 1, 1], "q_a": [1, 2, 3]}, "town", progress=False).frame()
+        self.assertEqual(len(f), 2)
+
+    def test_an_empty_panel(self):
+        self.assertEqual(len(revealed.panel(pandas.DataFrame({"id": [], "p_a": [], "q_a": []}), "id", progress=False).frame()), 0)
+
+
+@unittest.skipIf(pandas is None, "pandas or matplotlib is not there")
+class Pictures(unittest.TestCase):
+    def saved(self, axes):
+        out = io.BytesIO()
+        axes.figure.savefig(out)
+        matplotlib.pyplot.close(axes.figure)
+        self.assertTrue(out.getvalue().startswith(b"\x89PNG"))
+
+    def test_a_verdict(self):
+        for verdict in (revealed.analyse([[1, 2], [2, 1]], [[1, 2], [2, 1]]), revealed.analyse([[1, 2], [2, 1]], [[2, 1], [1, 2]])):
+            axes = verdict.plot()
+            self.assertEqual(len(axes.lines), 2)
+            self.assertIn("GARP", axes.get_title())
+            self.saved(axes)
+        with self.assertRaises(BadData):
+            revealed.analyse([[1]], [[1]]).plot()
+
+    def test_a_panel(self):
+        axes = made().plot(random=5)
+        self.assertEqual([it.get_text() for it in axes.get_legend().get_texts()], ["2 households", "5 random behaviours"])
+        self.saved(axes)
+        self.saved(made().plot(random=0))
+        own = matplotlib.pyplot.subplots()[1]
+        self.assertIs(made().plot(own, random=0), own)
+        matplotlib.pyplot.close(own.figure)
+
+
+if __name__ == "__main__":
+    unittest.main()

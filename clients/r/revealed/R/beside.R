@@ -1,0 +1,171 @@
+# What stands beside a table: new prices, bundles; and data of other shapes: budgets and choices, technologies, menus.
+
+# Returns new prices of a table's goods, with what is spent where `m` is wanted.
+new_prices <- function(table, new, m = NULL, wants_m = FALSE, digits = NULL) {
+  if (is.null(dim(new))) new <- one_row(new, "new prices are")
+  if (wants_m && is.data.frame(new) && "m" %in% names(new) && !"m" %in% table$goods) {
+    if (is.null(m)) m <- new[["m"]]
+    new <- new[names(new) != "m"]
+  }
+  side <- of_goods(side_of(new, "p_", "new prices"), table$goods, "new prices")
+  columns <- side$columns
+  numbers <- seq_along(columns)
+  header <- sprintf("p_%d", numbers)
+  names <- paste0("p_", table$goods)
+  kinds <- rep("price", length(columns))
+  if (wants_m) {
+    if (is.null(m)) bad_data("there is no m, what is spent: give the argument m, or a column m beside the new prices")
+    if (length(m) == 1) m <- rep(m, side$count)
+    if (length(m) != side$count) bad_data("m: there is not one for each row of new prices")
+    columns <- c(columns, list(m))
+    header <- c(header, "m")
+    names <- c(names, "m")
+    kinds <- c(kinds, "money")
+  }
+  sheet("new", header, kinds, names, columns, row_labels(labels_or_numbers(side)), digits)
+}
+
+# Returns bundles of a table's goods.
+bundles_of <- function(table, bundles, digits = NULL) {
+  if (is.null(dim(bundles))) bundles <- one_row(bundles, "bundles are")
+  side <- of_goods(side_of(bundles, "q_", "bundles"), table$goods, "bundles")
+  numbers <- seq_along(side$columns)
+  kinds <- rep("quantity", length(numbers))
+  sheet("bundles", sprintf("q_%d", numbers), kinds, paste0("q_", table$goods), side$columns, row_labels(labels_or_numbers(side)), digits)
+}
+
+labels_or_numbers <- function(side) if (is.null(side$labels)) seq_len(side$count) else side$labels
+
+# Puts the columns in the order of the goods: by their names where they have any.
+of_goods <- function(side, goods, what) {
+  if (is.null(side$goods)) {
+    if (length(side$columns) != length(goods)) bad_data(what, ": each row has a number for each of the ", length(goods), " goods, and not ", length(side$columns))
+    return(side)
+  }
+  if (!setequal(side$goods, goods)) bad_data(what, ": the table's goods are ", listed(goods), ", and these are of ", listed(side$goods))
+  side$columns <- side$columns[match(goods, side$goods)]
+  side
+}
+
+# Returns one row of numbers as a matrix.
+one_row <- function(new, what) {
+  if (is.list(new) || is.null(new)) bad_data(what, " a matrix, a data frame or one row of numbers")
+  if (inherits(new, c("bigz", "bigq"))) new <- number_texts(new)
+  matrix(new, 1, dimnames = if (!is.null(names(new))) list(NULL, names(new)))
+}
+
+# ---- budgets and choices
+
+# Returns the sheets of budgets and of choices from them.
+choices_of <- function(budgets, choices, per, digits) {
+  if (inherits(budgets, "rp_choices")) return(budgets)
+  first <- loose_sheet("budgets", budgets, "p_", "price", character(), c(w = "money"), digits)
+  labels <- if (is.data.frame(budgets) && "obs" %in% names(budgets)) first$labels
+  second <- loose_sheet("choices", choices, "q_", "quantity", c(budget = ""), c(n = ""), digits)
+  if (!is.null(labels)) second <- by_budget(second, labels)
+  goods <- substring(first$names[startsWith(first$header, "p_")], 3)
+  theirs <- substring(second$names[startsWith(second$header, "q_")], 3)
+  if (!setequal(goods, theirs)) bad_data("budgets are of the goods ", listed(goods), ", and choices of ", listed(theirs))
+  second$header[startsWith(second$header, "q_")] <- sprintf("q_%d", match(theirs, goods))
+  structure(list(budgets = first, choices = second, per = per_word(per)), class = "rp_choices")
+}
+
+per_word <- function(per) if (!is.null(per)) whole_word(per, "per", "1", "1000000000")
+
+# Puts the numbers of budgets where their labels stand.
+by_budget <- function(choices, labels) {
+  at <- match("budget", choices$names)
+  number <- match(as.character(choices$columns[[at]]), as.character(labels))
+  if (anyNA(number)) stop(refusal(choices, "UnknownBudget", list(record = which(is.na(number))[1], column = at)))
+  choices$texts[[at]] <- as.character(number)
+  choices
+}
+
+# Returns a sheet of a frame that has other columns beside those of goods: a matrix begins with those of `before` and ends
+# with those of `after`.
+loose_sheet <- function(file, data, prefix, kind, before, after, digits) {
+  others <- c(before, after)
+  wanted <- paste0(file, " have a column ", prefix, "NAME for each good NAME, and ", paste(names(others), collapse = " and "))
+  if (is.data.frame(data)) {
+    own <- starting(names(data), prefix)
+    missing <- setdiff(names(others), names(data))
+    if (length(missing)) bad_data(file, ": there is no column ", quoted(missing[1]), "; ", wanted, "; found: ", listed(names(data)))
+    if (!length(own)) bad_data(wanted, "; found: ", listed(names(data)))
+    if ("e" %in% names(data)) bad_data(file, ": a column e of levels belongs to a table of prices and purchases, and not here")
+    names <- c(own, names(others))
+    columns <- columns_of(data, names)
+    labels <- frame_labels(data)
+  } else {
+    if (length(dim(data)) != 2) bad_data(file, ": neither a matrix nor a data frame")
+    goods <- seq_len(max(0, ncol(data) - length(others)))
+    if (!length(goods)) bad_data("too few columns: ", wanted, "; there are ", ncol(data))
+    names <- c(names(before), paste0(prefix, goods), names(after))
+    columns <- lapply(seq_len(ncol(data)), function(at) data[, at])
+    labels <- if (is.null(rownames(data))) seq_len(nrow(data)) else rownames(data)
+  }
+  is_good <- startsWith(names, prefix)
+  header <- names
+  header[is_good] <- sprintf("%s%d", prefix, seq_len(sum(is_good)))
+  kinds <- ifelse(is_good, kind, unname(others[names]))
+  sheet(file, header, kinds, names, columns, row_labels(labels), digits)
+}
+
+# ---- technologies and asked outputs
+
+# Returns the sheet of what a firm was seen to do: a frame with w_NAME and x_NAME for each input, y and perhaps p.
+technology_of <- function(data, digits) {
+  if (!is.data.frame(data)) bad_data("a technology is a data frame with w_NAME and x_NAME for each input NAME, y and perhaps p")
+  prices <- starting(names(data), "w_")
+  used <- starting(names(data), "x_")
+  wanted <- "a technology has a column w_NAME, the price, and x_NAME, how much was used, for each input NAME, the output y, and perhaps its price p"
+  inputs <- substring(prices, 3)
+  whole <- length(inputs) && setequal(inputs, substring(used, 3)) && "y" %in% names(data)
+  if (!whole) bad_data(wanted, "; found: ", listed(names(data)))
+  if ("e" %in% names(data)) bad_data("technology: a column e of levels belongs to a table of prices and purchases, and not here")
+  numbers <- seq_along(inputs)
+  has_price <- "p" %in% names(data)
+  names <- c(prices, paste0("x_", inputs), "y", "p"[has_price])
+  header <- c(sprintf("w_%d", numbers), sprintf("x_%d", numbers), "y", "p"[has_price])
+  kinds <- c(rep(c("price", "quantity"), each = length(numbers)), "quantity", "price"[has_price])
+  found <- sheet("technology", header, kinds, names, columns_of(data, names), row_labels(frame_labels(data)), digits)
+  c(found, list(inputs = inputs, has_price = has_price))
+}
+
+# Returns the sheet of outputs that are asked for at new prices of a technology's inputs.
+outputs_of <- function(technology, new, digits) {
+  inputs <- technology$inputs
+  wanted <- paste0("new has a column w_NAME for each input NAME, which are ", listed(inputs), ", and y, the output that is asked for")
+  if (!is.data.frame(new)) bad_data(wanted, "; it is a data frame")
+  own <- starting(names(new), "w_")
+  if (!setequal(substring(own, 3), inputs) || !"y" %in% names(new)) bad_data(wanted, "; found: ", listed(names(new)))
+  names <- c(paste0("w_", inputs), "y")
+  header <- c(sprintf("w_%d", seq_along(inputs)), "y")
+  kinds <- c(rep("price", length(inputs)), "quantity")
+  sheet("new", header, kinds, names, columns_of(new, names), row_labels(frame_labels(new)), digits)
+}
+
+# ---- menus
+
+# Returns the sheet of choices from menus: letters from a to f, and how often.
+menus_of <- function(data) {
+  wanted <- c("menu", "choice", "n")
+  absent <- if (is.data.frame(data)) setdiff(wanted, names(data)) else wanted
+  if (length(absent)) {
+    bad_data(
+      "choices from menus are a data frame with the columns menu (letters from a to f, in order), choice (one of them) and n",
+      if (is.data.frame(data)) paste0("; found: ", listed(names(data)))
+    )
+  }
+  if (anyDuplicated(names(data))) bad_data("two columns have the name ", quoted(names(data)[anyDuplicated(names(data))]))
+  if ("e" %in% names(data)) bad_data("menus: a column e of levels belongs to a table of prices and purchases, and not here")
+  letters <- lapply(data[c("menu", "choice")], function(column) {
+    texts <- if (is.factor(column)) as.character(column) else column
+    if (!is.character(texts)) bad_data("menus: menu and choice are texts of the letters a to f")
+    ifelse(is.na(texts), "", texts)
+  })
+  found <- list(
+    file = "menus", header = wanted, kinds = rep("", 3), names = wanted, columns = unname(as.list(data[wanted])),
+    texts = c(unname(letters), list(number_texts(data$n))), labels = row_labels(frame_labels(data)), words = 1:2
+  )
+  found
+}

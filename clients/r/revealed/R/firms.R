@@ -1,0 +1,69 @@
+# What firms do: cost minimisation, profit maximisation, and bounds on what an output costs.
+
+rp_cost <- function(technology, new, digits = NULL, exe = NULL) {
+  own <- technology_of(technology, digits)
+  asked <- outputs_of(own, if (missing(new)) NULL else new, digits)
+  text <- ask(c("cost", "technology.csv", "new.csv"), list(technology.csv = csv_lines(own), new.csv = csv_lines(asked)), engine_of(exe), list(own, asked))
+  reading(text, cost_from(own, asked, report_of(text)))
+}
+
+rp_cost_minimisation <- rp_cost
+
+cost_from <- function(own, asked, report) {
+  lines <- report$lines
+  verdict <- function(word) {
+    at <- which(startsWith(lines, paste0(word, " ")))
+    if (!length(at)) return(list(holds = NULL, pair = NULL))
+    holds <- holds_in(report, word)
+    list(holds = holds, pair = if (!holds) walk_of(own, numbers_of(lines[at + 1], "^pair ([0-9]+) ([0-9]+)$")))
+  }
+  cost <- verdict("cost")
+  profit <- verdict("profit")
+  stopifnot(!is.null(cost$holds), is.null(profit$holds) != own$has_price)
+  bounds <- lines[startsWith(lines, "bounds ")]
+  stopifnot(length(bounds) == length(asked$labels))
+  frames <- Map(cost_frame, bounds, asked$labels, MoreArgs = list(own = own, asked = asked))
+  found <- list(
+    cost = cost$holds, cost_pair = cost$pair, profit = profit$holds, profit_pair = profit$pair, bounds = stacked(unname(frames)),
+    report = lines, technology = own, new = asked
+  )
+  structure(found, class = "rp_cost")
+}
+
+# Returns the row of a line such as `bounds prices 1 1 output 3 lower 10/3 upper 4 at 2`.
+cost_frame <- function(line, label, own, asked) {
+  money <- places_of(asked, "price") + places_of(own, "quantity")
+  said <- numbers_of(line, "^bounds prices [0-9 ]+ output ([0-9]+) (none|lower (withheld )?([0-9]+(?:/[0-9]+)?) upper (none|([0-9]+(?:/[0-9]+)?) at ([0-9]+)))$")
+  output <- exact(over_ten(said[1], places_of(own, "quantity")))
+  nothing <- exact(NA)
+  if (said[2] == "none") {
+    return(list(new = label, output = output, lower = nothing, upper = nothing, at = own$labels[NA_integer_], reason = "cost is not minimised"))
+  }
+  withheld <- nzchar(said[3])
+  is_made <- said[5] != "none"
+  list(
+    new = label, output = output, lower = if (withheld) nothing else exact(over_ten(said[4], money)),
+    upper = if (is_made) exact(over_ten(said[6], money)) else nothing,
+    at = if (is_made) walk_of(own, said[7]) else own$labels[NA_integer_],
+    reason = if (withheld) withheld_at(said[4]) else if (is_made) NA_character_ else "no observation made so much, so there is no upper bound"
+  )
+}
+
+as.data.frame.rp_cost <- function(x, row.names = NULL, optional = FALSE, ...) {
+  own <- x$bounds
+  frame_of(c(
+    own["new"], beside("output", own$output), beside("lower", own$lower), beside("upper", own$upper, up = TRUE), own[c("at", "reason")]
+  ))
+}
+
+print.rp_cost <- function(x, ...) {
+  said <- function(word, pair) paste0(word, " ", verdict_word(x[[word]]), if (!is.null(pair)) paste(": pair", paste(pair, collapse = " ")))
+  cat(
+    paste("technology records", length(x$technology$labels), "inputs", length(x$technology$inputs)), said("cost", x$cost_pair),
+    if (!is.null(x$profit)) said("profit", x$profit_pair), sep = "\n"
+  )
+  print(x$bounds[c("new", "output", "lower", "upper", "at")], row.names = FALSE)
+  invisible(x)
+}
+
+summary.rp_cost <- function(object, ...) summary_of(object$bounds, paste0("cost ", verdict_word(object$cost), ", ", counted(object$bounds)))

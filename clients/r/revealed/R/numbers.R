@@ -1,0 +1,146 @@
+# Numbers as text, without rounding, on their way to the program.
+
+# At most so many places of a number are taken, and so many digits of the largest of its kind.
+most_places <- 6L
+digits_taken <- 7L
+plain <- "^[0-9]+(\\.[0-9]+)?$"
+number <- "^([+-]?)([0-9]+\\.?[0-9]*|\\.[0-9]+)([eE][+-]?[0-9]{1,3})?$"
+
+# Returns the text of each number, exactly, or rounded to so many decimal places, half to even; an empty text where the
+# value is missing, and the text of what is no number as it stands, for the program to refuse.
+number_texts <- function(x, digits = NULL) {
+  if (inherits(x, c("bigz", "bigq"))) return(big_texts(x, digits))
+  if (inherits(x, "integer64")) {
+    if (!"bit64" %in% loadedNamespaces()) bad_data("whole numbers of bit64 need that package loaded")
+    x <- as.character(x)
+  }
+  if (inherits(x, c("Date", "POSIXt", "difftime"))) bad_data("a date or a time is no price and no quantity")
+  if (is.factor(x) || is.logical(x) || inherits(x, "rp_exact")) x <- as.character(x)
+  if (is.list(x)) bad_data("a column is a list")
+  if (is.integer(x)) return(ifelse(is.na(x), "", sprintf("%d", x)))
+  if (is.double(x)) return(double_texts(as.vector(unclass(x)), digits))
+  if (!is.character(x)) bad_data("a column has no numbers but ", class(x)[1])
+  cells <- unname(as.vector(x))
+  cells[is.na(cells)] <- ""
+  trimmed <- gsub("^[ \t]+|[ \t]+$", "", cells, useBytes = TRUE)
+  plainly <- grepl(plain, trimmed, useBytes = TRUE)
+  cells[plainly] <- trimmed[plainly]
+  other <- which((!plainly | !is.null(digits)) & grepl(number, trimmed, useBytes = TRUE))
+  cells[other] <- vapply(trimmed[other], plain_decimal, "", digits = digits)
+  cells
+}
+
+double_texts <- function(x, digits) {
+  text <- ifelse(is.na(x), "", as.character(x))
+  own <- which(is.finite(x))
+  places <- if (is.null(digits)) binary_places(x[own]) else rep(as.integer(digits), length(own))
+  # Without `digits` so many places are all that the double has. With it, they are the nearest to the double itself.
+  text[own] <- unsigned_zero(sprintf("%.*f", places, x[own]))
+  text
+}
+
+# Returns the least number of places after which each double ends, in base 2 as in base 10.
+binary_places <- function(x) {
+  places <- integer(length(x))
+  left <- which(x != floor(x))
+  while (length(left)) {
+    x[left] <- x[left] * 2
+    places[left] <- places[left] + 1L
+    left <- left[x[left] != floor(x[left])]
+  }
+  places
+}
+
+unsigned_zero <- function(text) sub("^-(0+(\\.0*)?)$", "\\1", text)
+
+# Returns a number such as +1.5e3 without its exponent, and rounded where digits are asked for.
+plain_decimal <- function(text, digits = NULL) {
+  parts <- regmatches(text, regexec("^([+-]?)([0-9]*)\\.?([0-9]*)(?:[eE]([+-]?[0-9]+))?$", text, perl = TRUE))[[1]]
+  power <- if (nzchar(parts[5])) as.integer(parts[5]) else 0L
+  all <- paste0(parts[3], parts[4])
+  point <- nchar(parts[3]) + power
+  if (point < 1) {
+    all <- paste0(strrep("0", 1 - point), all)
+    point <- 1
+  }
+  if (point > nchar(all)) all <- paste0(all, strrep("0", point - nchar(all)))
+  whole <- substring(all, 1, point)
+  part <- substring(all, point + 1)
+  if (!is.null(digits) && nchar(part) > digits) {
+    kept <- paste0(whole, substring(part, 1, digits))
+    rest <- substring(part, digits + 1)
+    half <- paste0("5", strrep("0", nchar(rest) - 1))
+    is_odd <- grepl("[13579]$", kept)
+    # texts of one length, so their order is that of the numbers
+    more <- order_of(rest, half)
+    if (more > 0 || (more == 0 && is_odd)) kept <- digits_of(plus(limbs(kept), 1))
+    kept <- paste0(strrep("0", max(0, digits + 1 - nchar(kept))), kept)
+    whole <- substring(kept, 1, nchar(kept) - digits)
+    part <- substring(kept, nchar(kept) - digits + 1)
+  }
+  sign <- if (parts[2] == "-") "-" else ""
+  unsigned_zero(paste0(sign, whole, if (nzchar(part)) paste0(".", part)))
+}
+
+order_of <- function(a, b) {
+  left <- utf8ToInt(a) - utf8ToInt(b)
+  first <- left[left != 0]
+  if (length(first)) sign(first[1]) else 0
+}
+
+# Returns the texts of numbers of gmp.
+big_texts <- function(x, digits) {
+  if (!requireNamespace("gmp", quietly = TRUE)) bad_data("numbers of gmp need that package")
+  texts <- as.character(x)
+  texts[is.na(texts) | texts == "NA"] <- ""
+  are_fractions <- grepl("/", texts, fixed = TRUE)
+  texts[are_fractions] <- vapply(strsplit(texts[are_fractions], "/", fixed = TRUE), function(it) {
+    # Twenty places: those past the sixth are either all 0, or they are refused, as a third is.
+    decimal <- decimal_of(sub("^-", "", it[1]), it[2], if (is.null(digits)) 20L else digits + 20L)
+    if (!is.null(digits)) decimal <- plain_decimal(decimal, digits)
+    unsigned_zero(paste0(if (startsWith(it[1], "-")) "-", decimal))
+  }, "")
+  texts
+}
+
+# Returns num over den with so many places; the last one is 1 where it would be 0 and the number goes on.
+decimal_of <- function(num, den, places) {
+  parts <- divided(limbs(paste0(num, strrep("0", places))), limbs(den))
+  text <- digits_of(parts$quotient)
+  text <- paste0(strrep("0", max(0, places + 1 - nchar(text))), text)
+  if (any(parts$rest != 0)) text <- sub("0$", "1", text)
+  text <- paste0(substring(text, 1, nchar(text) - places), ".", substring(text, nchar(text) - places + 1))
+  sub("\\.?0+$", "", text)
+}
+
+# ---- what rounding does
+
+# Returns the most decimal places with which every number of a kind has at most seven digits, by the largest of them; -1
+# where the largest has more than seven before its point.
+places_that_fit <- function(texts) {
+  texts <- unique(texts[grepl(plain, texts, useBytes = TRUE)])
+  whole <- nchar(sub("^0+", "", sub("\\..*$", "", texts)))
+  most <- max(whole, 0L)
+  places <- min(most_places, digits_taken - most)
+  if (places < 0) return(-1L)
+  largest <- vapply(texts[whole == most], plain_decimal, "", digits = places)
+  # Rounding may carry the largest into one digit more.
+  figures <- nchar(sub("^0+", "", gsub(".", "", largest, fixed = TRUE)))
+  as.integer(if (any(figures > digits_taken)) places - 1 else places)
+}
+
+# Returns how many numbers of a column are others once they are rounded to so many places: of doubles, those that do not
+# read back as themselves.
+moved_by <- function(column, places) {
+  if (is.double(column) && !inherits(column, c("bigz", "bigq", "integer64"))) {
+    x <- as.vector(unclass(column))
+    x <- x[is.finite(x)]
+    return(sum(as.numeric(sprintf("%.*f", as.integer(places), x)) != x))
+  }
+  texts <- number_texts(column)
+  texts <- texts[grepl(plain, texts, useBytes = TRUE)]
+  sum(nchar(places_in(texts)) > places)
+}
+
+# Returns what stands behind the point of each text, without the zeros at its end.
+places_in <- function(texts) sub("0+$", "", ifelse(grepl(".", texts, fixed = TRUE), sub("^[^.]*\\.", "", texts), ""))

@@ -1,0 +1,155 @@
+# Pictures in base graphics: a table of two goods, and the distribution of an index over a panel.
+
+ink <- c(own = "#0072B2", other = "#999999", violation = "#D55E00", faint = "#C8C8C8")
+
+# Draws the budget lines of a table of two goods, what was chosen, and a cycle that violates the axiom.
+plot.rp_test <- function(x, labels = NULL, main = NULL, xlab = NULL, ylab = NULL, legend = TRUE, ...) {
+  table <- x$table
+  if (length(table$goods) != 2) bad_data("a picture of budget lines has two goods, and this table has ", length(table$goods))
+  p <- lapply(1:2, function(at) as.numeric(table$texts[[at]]))
+  q <- lapply(3:4, function(at) as.numeric(table$texts[[at]]))
+  spent <- p[[1]] * q[[1]] + p[[2]] * q[[2]]
+  ends <- list(spent / p[[1]], spent / p[[2]])
+  graphics::plot.new()
+  graphics::plot.window(c(0, max(ends[[1]])) * 1.04, c(0, max(ends[[2]])) * 1.04, xaxs = "i", yaxs = "i", ...)
+  graphics::axis(1)
+  graphics::axis(2, las = 1)
+  graphics::box(bty = "l")
+  walk <- match(x$cycle, table$labels)
+  plain_rows <- setdiff(seq_along(spent), walk)
+  draw_lines(plain_rows, ends, col = ink[["faint"]])
+  graphics::points(q[[1]][plain_rows], q[[2]][plain_rows], pch = 16, cex = 0.8, col = ink[["own"]], xpd = NA)
+  draw_cycle(walk, q, ends)
+  draw_labels(if (is.null(labels)) length(spent) <= 12 else labels, walk, q, table$labels)
+  if (is.null(main)) main <- paste0(if (x$garp) "GARP holds" else "GARP violated", ", CCEI ", shown_index(x$efficiency))
+  graphics::title(main = main, xlab = if (is.null(xlab)) table$goods[1] else xlab, ylab = if (is.null(ylab)) table$goods[2] else ylab)
+  if (legend) draw_key(c(length(plain_rows) > 0, length(plain_rows) > 0, length(walk) > 0, length(walk) > 0))
+  invisible(x)
+}
+
+# Draws some budget lines from axis to axis.
+draw_lines <- function(rows, ends, ...) {
+  none <- numeric(length(rows))
+  if (length(rows)) graphics::segments(ends[[1]][rows], none, none, ends[[2]][rows], xpd = NA, ...)
+}
+
+# Draws a cycle: its budget lines, its choices, and an arrow from each to the one that it is revealed preferred to.
+draw_cycle <- function(walk, q, ends) {
+  if (!length(walk)) return(invisible())
+  own <- unique(walk)
+  draw_lines(own, ends, col = ink[["violation"]], lwd = 2)
+  from <- walk[-length(walk)]
+  to <- walk[-1]
+  for (at in which(from != to)) draw_arrow(c(q[[1]][from[at]], q[[2]][from[at]]), c(q[[1]][to[at]], q[[2]][to[at]]))
+  graphics::points(q[[1]][own], q[[2]][own], pch = 21, bg = ink[["violation"]], cex = 1.2, xpd = NA)
+}
+
+# Draws an arrow beside the line from one point to another, so that two that go to and fro stand apart, and ends it a little
+# before the point.
+draw_arrow <- function(from, to) {
+  per_inch <- diff(graphics::par("usr"))[c(1, 3)] / graphics::par("pin")
+  along <- (to - from) / per_inch
+  size <- sqrt(sum(along^2))
+  # Two choices at one place have no arrow between them.
+  if (size < 0.02) return(invisible())
+  along <- along / size
+  aside <- c(-along[2], along[1]) * 0.05
+  gap <- min(0.1, size / 4)
+  start <- from + (aside + along * gap) * per_inch
+  end <- from + (aside + along * (size - gap)) * per_inch
+  graphics::segments(start[1], start[2], end[1], end[2], lwd = 1.3, xpd = NA)
+  # The head alone, so that its sides are whole.
+  near <- end - along * 0.02 * per_inch
+  graphics::arrows(near[1], near[2], end[1], end[2], length = 0.08, lwd = 1.3, xpd = NA)
+}
+
+draw_labels <- function(labels, walk, q, names) {
+  if (isFALSE(labels) && !length(walk)) return(invisible())
+  at <- if (isFALSE(labels)) unique(walk) else seq_along(names)
+  per_inch <- diff(graphics::par("usr"))[c(1, 3)] / graphics::par("pin")
+  put <- function(aside, colour) {
+    graphics::text(q[[1]][at] + aside[1] * per_inch[1], q[[2]][at] + aside[2] * per_inch[2], names[at], pos = 3, offset = 0.5, cex = 0.8, col = colour, xpd = NA)
+  }
+  # A white rim keeps a label apart from the lines behind it.
+  for (angle in seq(0, 7) * pi / 4) put(0.015 * c(cos(angle), sin(angle)), "white")
+  put(c(0, 0), "black")
+}
+
+draw_key <- function(own) {
+  words <- c("budget line", "choice", "cycle: budget and choice", "revealed preferred to")
+  graphics::legend(
+    "topright", words[own], bty = "n", cex = 0.85, col = c("#A8A8A8", ink[["own"]], ink[["violation"]], "black")[own],
+    lty = c(1, NA, 1, 1)[own], lwd = c(1, NA, 2, 1.3)[own], pch = c(NA, 16, 16, 62)[own]
+  )
+}
+
+# Returns an index with so many places: nearest, but nothing below 1 reads 1, and nothing above 0 reads 0.
+shown_index <- function(x, digits = 3) {
+  number <- as.double(x)
+  text <- sprintf("%.*f", digits, number)
+  ten <- 10^digits
+  is_one <- if (inherits(x, "rp_exact")) bare(x) == "1" else number >= 1
+  is_zero <- if (inherits(x, "rp_exact")) bare(x) == "0" else number <= 0
+  text <- ifelse(!is_one & as.numeric(text) >= 1, sprintf("%.*f", digits, (ten - 1) / ten), text)
+  ifelse(!is_zero & as.numeric(text) <= 0, sprintf("<%.*f", digits, 1 / ten), text)
+}
+
+# Draws the distribution of the index over the households of a panel, and beside it that of another, such as random
+# behaviour on the same budgets (after Choi, Fisman, Gale and Kariv 2007).
+plot.rp_panel <- function(x, random = NULL, type = c("histogram", "cumulative"), breaks = seq(0, 1, 0.05), main = NULL, xlab = NULL, ylab = NULL,
+                          names = c("households", "random behaviour"), ...) {
+  type <- chosen(type, c("histogram", "cumulative"), "type")
+  own <- list(index_of(x))
+  if (!is.null(random)) {
+    if (!inherits(random, "rp_panel") || random$ask != x$ask) bad_data("random is a panel of the same kind, as rp_random_panel makes it")
+    own[[2]] <- index_of(random)
+  }
+  if (!all(lengths(own))) bad_data("no household has an answer, so there is no picture")
+  if (is.null(xlab)) xlab <- c(test = "critical cost efficiency index (CCEI)", pump = "money pump ratio", power = "power")[[x$ask]]
+  if (is.null(ylab)) ylab <- if (type == "histogram") "share of each" else "share at or below"
+  if (type == "histogram") draw_histogram(own, breaks, xlab, ylab, main, ...) else draw_cumulative(own, xlab, ylab, main, ...)
+  words <- paste0(names[seq_along(own)], " (", lengths(own), ")")
+  graphics::legend(if (x$ask == "test") "topleft" else "topright", words, fill = ink[c("own", "other")][seq_along(own)], border = NA, bty = "n", cex = 0.9)
+  invisible(x)
+}
+
+# Returns the index of each household that has one, as doubles that only a whole 1 lets read 1.
+index_of <- function(x) {
+  frame <- as.data.frame(x)
+  found <- frame[[c(test = "ccei", pump = "pump", power = "power")[[x$ask]]]]
+  found[!is.na(found)]
+}
+
+draw_histogram <- function(own, breaks, xlab, ylab, main, ...) {
+  breaks <- sort(unique(as.numeric(breaks)))
+  if (length(breaks) < 2 || min(unlist(own)) < breaks[1] || max(unlist(own)) > breaks[length(breaks)]) bad_data("the breaks do not hold every index")
+  # The index is rounded down, so a bin has its right end and not its left one.
+  shares <- lapply(own, function(it) tabulate(findInterval(it, breaks, left.open = TRUE, rightmost.closed = TRUE), length(breaks) - 1) / length(it))
+  used <- range(which(Reduce(`+`, shares) > 0))
+  bins <- seq(max(1, used[1] - 1), min(length(breaks) - 1, used[2] + 1))
+  graphics::plot.new()
+  graphics::plot.window(range(breaks[c(bins, bins + 1)]), c(0, max(unlist(shares)) * 1.15), yaxs = "i", ...)
+  for (side in seq_along(own)) {
+    left <- breaks[bins]
+    width <- breaks[bins + 1] - left
+    from <- left + width * (0.08 + 0.84 * (side - 1) / length(own))
+    graphics::rect(from, 0, from + 0.84 * width / length(own), shares[[side]][bins], col = ink[c("own", "other")][side], border = NA)
+  }
+  graphics::axis(1)
+  graphics::axis(2, las = 1)
+  graphics::title(main = main, xlab = xlab, ylab = ylab)
+}
+
+draw_cumulative <- function(own, xlab, ylab, main, ...) {
+  graphics::plot.new()
+  graphics::plot.window(c(min(unlist(own)), max(1, unlist(own))), c(0, 1), ...)
+  for (side in rev(seq_along(own))) {
+    it <- stats::ecdf(own[[side]])
+    at <- sort(unique(c(graphics::par("usr")[1], own[[side]], graphics::par("usr")[2])))
+    graphics::lines(at, it(at), type = "s", lwd = 2, col = ink[c("own", "other")][side])
+  }
+  graphics::axis(1)
+  graphics::axis(2, las = 1)
+  graphics::box(bty = "l")
+  graphics::title(main = main, xlab = xlab, ylab = ylab)
+}

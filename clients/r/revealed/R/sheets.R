@@ -1,0 +1,144 @@
+# Data as the files that the program is given.
+#
+# A sheet is such a file: `header` has the names of the file's columns, which are numbers of goods, so that no name of the
+# data has to be one that the program takes; `kinds` says of each column whether it has prices, quantities, money or none
+# of these; `names` has the data's own names of them, `columns` what stands there, `texts` the same as the program gets it,
+# and `labels` what the rows are called.
+
+sheet <- function(file, header, kinds, names, columns, labels, digits) {
+  asked <- digits_pair(digits)
+  of_kind <- list(price = asked[[1]], money = asked[[1]], quantity = asked[[2]])
+  texts <- Map(function(column, kind) number_texts(column, of_kind[[kind]]), columns, ifelse(nzchar(kinds), kinds, "none"))
+  list(file = file, header = header, kinds = kinds, names = names, columns = columns, texts = unname(texts), labels = labels)
+}
+
+digits_pair <- function(digits) {
+  if (is.null(digits)) return(list(NULL, NULL))
+  good <- is.numeric(digits) && length(digits) %in% 1:2 && all(is.na(digits) | digits %in% 0:most_places)
+  if (!good) bad_data("digits is a whole number from 0 to ", most_places, ", or two of these: of prices and of quantities")
+  lapply(rep(digits, length.out = 2), function(it) if (is.na(it)) NULL else it)
+}
+
+csv_lines <- function(sheet) {
+  # What is no plain number is refused by the program, however it is written; so it is not.
+  cells <- lapply(sheet$texts, function(it) ifelse(grepl(plain, it, useBytes = TRUE), it, "?"))
+  if (!is.null(sheet$words)) cells[sheet$words] <- lapply(sheet$texts[sheet$words], function(it) ifelse(grepl("^[a-z]+$", it, useBytes = TRUE), it, "?"))
+  c(paste(sheet$header, collapse = ","), if (length(cells) && length(cells[[1]])) do.call(paste, c(unname(cells), sep = ",")))
+}
+
+# Returns how many decimal places the columns of a kind have.
+places_of <- function(sheet, kind) max(nchar(places_in(texts_of(sheet, kind))), 0L)
+
+texts_of <- function(sheet, kind) as.character(unlist(sheet$texts[sheet$kinds == kind], use.names = FALSE))
+
+# ---- labels
+
+# Returns the labels as they are told; the rows' numbers where one has none or, unless they have to be told apart, where
+# two have one.
+row_labels <- function(labels, apart = FALSE, advice = "") {
+  if (is.factor(labels)) labels <- as.character(labels)
+  labels <- as.vector(labels)
+  if (is.double(labels) && all(is.finite(labels)) && all(labels == floor(labels)) && all(abs(labels) < 2^31)) {
+    labels <- as.integer(labels)
+  }
+  twice <- anyDuplicated(labels)
+  if (twice && apart) {
+    bad_data(
+      "rows ", match(labels[twice], labels), " and ", twice, " are both called ", if (is.na(labels[twice])) "NA" else quoted(labels[twice]),
+      ", and a table is one household: ", advice
+    )
+  }
+  if (twice || anyNA(labels)) seq_along(labels) else labels
+}
+
+# ---- refusals
+
+# Returns the refusal of a sheet, with the row's label, the column's name, what stands there and a hint.
+refusal <- function(sheet, fault, places) {
+  record <- places$record
+  column <- places$column
+  label <- if (is.null(record) || record > length(sheet$labels)) NA else sheet$labels[record]
+  name <- if (is.null(column) || column < 1 || column > length(sheet$names)) NA else sheet$names[column]
+  value <- NULL
+  if (!is.na(label) && !is.na(name)) value <- sheet$columns[[column]][record]
+  refused(fault, sheet$file, places, label, name, shown(value), hint_of(sheet, fault, column, value))
+}
+
+shown <- function(value) {
+  if (is.null(value)) return(NA)
+  if (is_missing(value)) return("missing")
+  if (is.character(value)) return(quoted(value))
+  if (is.factor(value)) quoted(as.character(value)) else format(if (is.double(value)) as.vector(unclass(value)) else value, digits = 15)
+}
+
+is_missing <- function(value) identical(number_texts(value), "")
+
+# Returns what to do about a fault, or NA.
+hint_of <- function(sheet, fault, column, value) {
+  text <- if (is.null(value)) "" else number_texts(value)
+  if (fault == "BadNumber" && !is.null(value)) {
+    if (text == "") return("leave the row out, or fill it in")
+    if (grepl("^-[0-9]", text)) return("prices and quantities have no sign")
+    if (sheet$names[column] == "e") return("a level is a whole number of thousandths from 1 to 1000: 950 is 0.95")
+    return(NA)
+  }
+  switch(fault,
+    BadLevel = "a level is a whole number of thousandths from 1 to 1000: 950 is 0.95",
+    OwnLevels = "this is defined without levels of observations: leave the column e, or the argument levels, out",
+    TooManyDecimals = paste0(
+      "this is ", substr(text, 1, 24), if (nchar(text) > 24) "..", ", and at most ", most_places,
+      " places are taken; nothing is rounded unasked: ", rounding_advice(sheet), "; a text is taken as it is"
+    ),
+    TooLarge = too_large_hint(sheet, sheet$kinds[column]),
+    TooFine = too_fine_hint(sheet$kinds[column]),
+    TooManyRecords = "a table has at most 512 rows; many households are a panel: rp_panel(data, id = ..)",
+    NeedUnit = , TooManyTypes = , TooManyCombinations = hint_of_whole(fault),
+    NA
+  )
+}
+
+too_fine_hint <- function(kind) {
+  if (kind == "money") return("it has more places than prices and quantities have together: write it, and the prices beside it, in a smaller unit of money")
+  "it has more places than the table's quantities have: write it with fewer"
+}
+
+too_large_hint <- function(sheet, kind) {
+  if (!nzchar(kind) || kind == "money") return("9999999 is the most that is taken, and 1600000000000000 of money")
+  places <- places_of(sheet, kind)
+  what <- if (kind == "price") "prices" else "quantities"
+  paste0(
+    what, " are counted in units of their last place, here the ", if (places) paste0(places, ". behind the point") else "whole number",
+    ", of which 9999999 are the most that is taken: the largest may have ", digits_taken, " digits with the places of all; ", rounding_advice(sheet),
+    "; or take another unit of the good, by which its price and its quantity are both short, as a price per ton with a quantity in tons"
+  )
+}
+
+# Returns how to round: each kind by the seven digits that are taken of the largest number of it, and what that does.
+rounding_advice <- function(sheet) {
+  fit <- if (is.null(sheet$fit)) fit_of(sheet) else sheet$fit
+  if (any(fit$places %in% -1L)) {
+    large <- c("prices", "quantities")[match(-1L, fit$places)]
+    return(paste("the largest of the", large, "has more than 7 digits before its point, so no rounding helps: take a larger unit"))
+  }
+  asked <- ifelse(is.na(fit$places), 0L, fit$places)
+  paste0(
+    "digits = c(", asked[1], ", ", asked[2], ") rounds prices and quantities each to the most places that fit 7 digits, ",
+    if (fit$moved == 0) "which gives every number back as it was written" else paste0(
+      "which moves ", fit$moved, " of ", fit$count, " numbers and can change a verdict: look at the index beside it. ",
+      "Prices that are 1 over an intercept need no rounding: exchange the intercepts, ",
+      "so that p_x is the intercept of y and p_y that of x (docs/USING.md of rp has a table of what rounding does)"
+    )
+  )
+}
+
+# Returns how many places fit, of prices and of quantities, NA where there are none, and how many numbers these move.
+fit_of <- function(sheet) {
+  kinds <- c("price", "quantity")
+  places <- vapply(kinds, function(kind) {
+    own <- lapply(sheet$columns[sheet$kinds == kind], number_texts)
+    if (length(own)) places_that_fit(unlist(own, use.names = FALSE)) else NA_integer_
+  }, 0L, USE.NAMES = FALSE)
+  own <- which(sheet$kinds %in% kinds)
+  moved <- vapply(own, function(at) moved_by(sheet$columns[[at]], max(places[match(sheet$kinds[at], kinds)], 0L)), 0L)
+  list(places = places, moved = sum(moved), count = sum(lengths(sheet$columns[own])))
+}

@@ -1,0 +1,26 @@
+\name{rp_pairs}
+\alias{rp_pairs}
+\alias{rp_first_contradiction}
+\alias{print.rp_pairs}
+\alias{as.data.frame.rp_pairs}
+\title{Two Observations That Contradict Each Other}
+\description{
+Gives the first two observations of which one is revealed preferred to the other, and the other strictly to it: a quick look, which
+always answers and has no further evidence. None does not say that the axiom holds: a longer cycle may break it.
+}
+\usage{
+rp_pairs(p, q = NULL, digits = NULL, levels = NULL, exe = NULL)
+rp_first_contradiction(p, q = NULL, digits = NULL, levels = NULL, exe = NULL)
+}
+\arguments{
+\item{p, q, digits, levels, exe}{as for \code{\link{rp_test}}.}
+}
+\value{
+An \code{rp_pairs}: \code{contradiction}, \code{TRUE} or \code{FALSE}, and \code{pair}, the labels of the two.
+}
+\examples{
+if (!is.null(rp_program(must = FALSE))) {
+  p <- rbind(c(1, 2), c(2, 1))
+  print(rp_pairs(p, q = p))
+}
+}

@@ -1,0 +1,37 @@
+\name{rp_random_panel}
+\alias{rp_random_panel}
+\title{Random Behaviour on the Budgets of a Panel}
+\description{
+Draws behaviour at random on the budgets of each household and gives the answers on it, so that the distribution of an index can stand
+beside that of the households.
+}
+\usage{
+rp_random_panel(panel, times = 10, seed, digits = NULL, workers = NULL,
+  progress = FALSE, exe = NULL)
+}
+\arguments{
+\item{panel}{what \code{\link{rp_panel}} gave, of tests or of money pumps.}
+\item{times}{how many behaviours are drawn for each household.}
+\item{seed}{a whole number from 0 to 2147483647, of R's own generator (Mersenne-Twister), which is left as it was.}
+\item{digits}{to how many places the drawn quantities are rounded down; else to the most that fit.}
+\item{workers, progress, exe}{as for \code{\link{rp_panel}}.}
+}
+\value{
+An \code{rp_panel} with the column \code{draw} beside those of the households. In each row a bundle is drawn on the budget line (with
+more goods, on the budget plane), each point as likely as any other; prices are those that the households were asked with. Its
+\code{data} has what was drawn. A household without an answer has no draws.
+}
+\references{
+Choi, S., Fisman, R., Gale, D. and Kariv, S. (2007) Consistency and heterogeneity of individual behavior under uncertainty.
+\emph{American Economic Review} 97, 1921--1938.
+}
+\examples{
+if (!is.null(rp_program(must = FALSE))) {
+  long <- data.frame(
+    id = c("a", "a", "b", "b"), p_x = c(1, 2, 1, 2), p_y = c(2, 1, 2, 1),
+    q_x = c(2, 1, 1, 2), q_y = c(1, 2, 2, 1)
+  )
+  people <- rp_panel(long, "id", workers = 2)
+  print(rp_random_panel(people, times = 2, seed = 1, workers = 2))
+}
+}

@@ -1,0 +1,37 @@
+\name{rp_table}
+\alias{rp_table}
+\alias{print.rp_lines}
+\alias{as.character.rp_lines}
+\title{A Table of a Panel, as Text and as LaTeX}
+\description{
+Makes the table that a paper has of a panel: how many meet each test, and the distribution of the index; or a row for each household.
+}
+\usage{
+rp_table(panel, random = NULL, what = c("summary", "households"),
+  format = c("text", "latex"), digits = 3, names = c("Households", "Random"),
+  tests = c("garp", "homothetic", "quasilinear"))
+}
+\arguments{
+\item{panel}{what \code{\link{rp_panel}} gave.}
+\item{random}{another of the same kind, such as \code{\link{rp_random_panel}} gives, for a column beside.}
+\item{what}{a summary, or a row for each household.}
+\item{format}{text, or a \code{tabular} of LaTeX that needs no package.}
+\item{digits}{how many places an index has. Nothing below 1 is shown as 1, and nothing above 0 as 0.}
+\item{names}{what stands above the columns.}
+\item{tests}{which tests the table has. The quasilinear test asks for prices in one unit of money, so leave it out where prices
+were multiplied row by row, as exchanged intercepts are.}
+}
+\value{
+The lines, which \code{print} writes out and \code{writeLines} writes to a file. Letters that LaTeX reads as more are written out.
+}
+\examples{
+if (!is.null(rp_program(must = FALSE))) {
+  long <- data.frame(
+    id = c("a", "a", "b", "b"), p_x = c(1, 2, 1, 2), p_y = c(2, 1, 2, 1),
+    q_x = c(2, 1, 1, 2), q_y = c(1, 2, 2, 1)
+  )
+  people <- rp_panel(long, "id", workers = 2)
+  rp_table(people)
+  rp_table(people, what = "households", format = "latex")
+}
+}

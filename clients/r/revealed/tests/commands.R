@@ -1,0 +1,210 @@
+# Levels of observations, and the commands that have no certificate. Expected values are those of the worked examples of
+# the repository's documents, or were computed by hand.
+library(revealed)
+if (is.null(rp_program(must = FALSE))) {
+  cat("there is no program, so nothing is tried\n")
+  quit("no", 0)
+}
+caught <- function(call, class) {
+  wrong <- tryCatch({
+    call
+    NULL
+  }, rp_error = identity)
+  stopifnot(inherits(wrong, class))
+  invisible(wrong)
+}
+texts <- as.character
+P <- rbind(c(1, 2), c(2, 1))
+years <- data.frame(obs = 2024:2025, p_bread = c(1.25, 2.5), p_wine = c(2.5, 1.25), q_bread = 2:1, q_wine = 1:2)
+leveled <- data.frame(p_bread = c(1, 2), q_bread = c(1, 2), p_wine = c(2, 1), q_wine = c(2, 1), e = c(799, 1000))
+
+# ---- levels: by the column, by the argument, and refused where the command refuses them
+for (v in list(rp_test(leveled), rp_test(P, P, levels = c(799, 1000)), rp_test(leveled[-5], levels = c("799", "1000.0")))) {
+  stopifnot(v$garp, v$afriat, texts(v$efficiency) == "4/5", !v$homothetic, identical(unname(v$ranks), 1:2))
+  # Utilities are -1000 and 0 in a scale 1,000 times that of money here.
+  stopifnot(identical(texts(v$utility), c("-1", "0")), identical(texts(v$lambda), c("200", "1")))
+  stopifnot(rp_check(v, v)$accepted, any(grepl("levels 799 1000", capture.output(print(v)))))
+}
+stopifnot(!rp_test(leveled[-5])$garp, !rp_test(leveled[-5], levels = c(800, 1000))$garp, rp_test(leveled[-5], levels = 800)$garp, rp_test(leveled[-5], levels = 799)$garp)
+stopifnot(!rp_pairs(leveled)$contradiction, identical(rp_pairs(leveled[-5])$pair, 1:2), !rp_pairs(P, P, levels = c(799, 1000))$contradiction)
+u <- rp_utility(leveled, bundles = c(bread = 1, wine = 2))
+stopifnot(u$garp, texts(u$values) == "-1")
+stopifnot(rp_check(leveled, rp_certify(leveled))$accepted, rp_check(leveled[-5], rp_certify(leveled), levels = c(799, 1000))$accepted)
+said <- rp_check(leveled[-5], rp_certify(leveled))
+stopifnot(!said$accepted, said$item == 0, said$reason == "Levels")
+for (wrong in list(
+  caught(rp_demand(leveled, new = c(1, 1), m = 2), "rp_refused"), caught(rp_welfare(leveled, new = c(1, 1)), "rp_refused"),
+  caught(rp_pump(leveled), "rp_refused"), caught(rp_power(leveled, seed = 7), "rp_refused"),
+  caught(rp_panel(cbind(id = 1, leveled), "id", ask = "pump", workers = 1), "rp_refused")
+)) stopifnot(wrong$fault == "OwnLevels", grepl("leave the column e", conditionMessage(wrong)))
+caught(rp_test(leveled, levels = 1000), "rp_bad_data")
+caught(rp_test(P, P, levels = 1:3), "rp_bad_data")
+caught(rp_test(data.frame(p_a = 1, p_b = 1, e = 1000), data.frame(q_a = 1, q_b = 1)), "rp_bad_data")
+stopifnot(caught(rp_test(P, P, levels = c(0.8, 1)), "rp_refused")$fault == "BadNumber")
+stopifnot(caught(rp_test(P, P, levels = c(1001, 1000)), "rp_refused")$fault == "BadLevel")
+stopifnot(caught(rp_test(P, P, levels = c(NA, 1000)), "rp_refused")$name == "e")
+stopifnot(inherits(tryCatch(rp_test(P, P, levels = 1), rp_warning = identity), "rp_warning"))
+stopifnot(caught(rp_test(cbind(leveled[-5], E = 1)), "rp_refused")$fault == "BadHeader")
+half <- rp_panel(data.frame(id = c("a", "a", "b", "b"), rbind(leveled, transform(leveled, e = 1000))), "id", workers = 1)
+stopifnot(identical(as.data.frame(half)$garp, c(TRUE, FALSE)))
+stopifnot(identical(as.data.frame(rp_panel(data.frame(id = 1, leveled[-5]), "id", levels = 799, workers = 1))$garp, TRUE))
+
+# ---- what is left out is told
+stopifnot(any(grepl("left out: 'income'", capture.output(print(rp_test(cbind(years, income = 1:2)))))))
+
+# ---- money pump
+m <- rp_money_pump(P, P)
+stopifnot(texts(m$ratio) == "1/5", m$pump <= 0.2, m$pump > 0.2 - 1e-15, length(m$cycle) == 3, identical(texts(m$values), c("0", "0")), !m$garp)
+stopifnot(rp_pump(years)$pump == 0, rp_pump(years)$garp, identical(as.data.frame(m)$pump, m$pump), identical(rp_pump, rp_money_pump))
+
+# ---- power
+w <- rp_power(P, P, seed = 7, draws = 1000)
+stopifnot(w$violations == 69, w$power == 0.069, as.data.frame(w)$draws == 1000, w$seed == "7", identical(rp_test_power, rp_power))
+stopifnot(rp_power(P, P, seed = "18446744073709551615", draws = 1)$draws == 1)
+caught(rp_power(P, P), "rp_bad_data")
+caught(rp_power(P, P, seed = "18446744073709551616"), "rp_bad_data")
+caught(rp_power(P, P, seed = 7, draws = 1001), "rp_bad_data")
+
+# ---- trials
+t <- rp_trial(7, 256, 16)
+stopifnot(!t$garp, texts(t$efficiency) == "631/867", !t$attained, !t$homothetic, !t$quasilinear, as.data.frame(t)$rows == 256)
+caught(rp_trial(7, 257, 16), "rp_bad_data")
+caught(rp_trial(-1, 2, 2), "rp_bad_data")
+
+# ---- pairs
+stopifnot(identical(rp_pairs(P, P)$pair, 1:2), !rp_first_contradiction(years)$contradiction, is.na(as.data.frame(rp_pairs(years))$first))
+
+# ---- utility: of the bundle of the first year, and of three of each good, which cost 6.25 more there
+u <- rp_utility(years, bundles = data.frame(q_wine = c(1, 3), q_bread = c(2, 3)))
+stopifnot(identical(texts(u$values), c("0", "25/4")), identical(as.data.frame(u)$utility, c(0, 6.25)), identical(texts(u$lambda), c("1", "1")))
+u <- rp_afriat_utility(P, P, bundles = c(1, 1))
+stopifnot(!u$garp, is.na(texts(u$values)), u$reason == "the axiom fails", length(u$cycle) == 3)
+stopifnot(caught(rp_utility(years, bundles = c(bread = "1.5", wine = 1)), "rp_refused")$fault == "TooFine")
+caught(rp_utility(years, bundles = c(bread = 1, cheese = 1)), "rp_bad_data")
+caught(rp_utility(years), "rp_bad_data")
+
+# ---- firms
+firm <- data.frame(y = 1:2, p = 5:4, w_labour = 1:2, w_coal = 2:1, x_labour = c(2, 2), x_coal = 1:2)
+asked <- data.frame(w_coal = c(1, 1), w_labour = c(1, 1), y = c(1, 3))
+found <- rp_cost(firm, asked)
+stopifnot(found$cost, identical(found$profit, FALSE), identical(found$profit_pair, 1:2), is.null(found$cost_pair))
+stopifnot(identical(texts(found$bounds$lower), c("2", "10/3")), identical(texts(found$bounds$upper), c("3", NA)), identical(found$bounds$at, c(1L, NA)))
+frame <- as.data.frame(found)
+stopifnot(frame$lower[2] <= 10 / 3, frame$lower[2] > 3.33, frame$upper[1] == 3, is.na(frame$upper[2]))
+tenth <- transform(firm, w_labour = c("0.1", "0.2"), w_coal = c("0.2", "0.1"), p = c("0.5", "0.4"))
+stopifnot(texts(rp_cost_minimisation(tenth, asked)$bounds$lower) == c("2", "10/3"))
+stopifnot(texts(rp_cost(firm, transform(asked, w_coal = "0.1", w_labour = "0.1"))$bounds$lower) == c("1/5", "1/3"))
+stopifnot(is.null(rp_cost(firm[-2], asked)$profit))
+wrong <- caught(rp_cost(firm[-1], asked), "rp_bad_data")
+stopifnot(grepl("the output y", conditionMessage(wrong)), grepl("found: 'p'", conditionMessage(wrong)))
+caught(rp_cost(firm, asked[-1]), "rp_bad_data")
+stopifnot(caught(rp_cost(transform(firm, w_coal = c(0, 1)), asked), "rp_refused")$name == "w_coal")
+wasteful <- data.frame(y = c(1, 1), w_a = c(1, 1), x_a = c(1, 2))
+found <- rp_cost(wasteful, data.frame(w_a = 1, y = 1))
+stopifnot(!found$cost, identical(found$cost_pair, c(2L, 1L)), is.na(texts(found$bounds$lower)), found$bounds$reason == "cost is not minimised")
+
+# ---- menus
+menus <- data.frame(menu = c("abc", "abc", "ab"), choice = c("a", "b", "b"), n = c(1, 1, 2))
+found <- rp_menus(menus)
+stopifnot(identical(found$consistent, FALSE), texts(found$share) == "1/2", identical(texts(found$weights), c("0", "1", "0")))
+stopifnot(found$parts$order == "b a c", texts(found$parts$share) == "1/2", as.data.frame(found)$share == 0.5, is.null(found$least_sum))
+whole <- rp_menu_choices(data.frame(menu = "ab", choice = c("a", "b"), n = c(1, 3)))
+stopifnot(whole$consistent, texts(whole$share) == "1", setequal(texts(whole$parts$share), c("1/4", "3/4")), texts(whole$least_sum$value) == "1/4")
+stopifnot(identical(texts(rp_menus(menus, per = 4)$share), "1/2"))
+for (it in list(list("ba", "BadMenu"), list("a b", "BadMenu"), list(NA, "BadMenu"), list("\"a\nb\"", "BadMenu"))) {
+  stopifnot(caught(rp_menus(transform(menus, menu = c(it[[1]], "abc", "ab"))), "rp_refused")$fault == it[[2]])
+}
+wrong <- caught(rp_menus(transform(menus, choice = c("a", "b", "c"))), "rp_refused")
+stopifnot(wrong$fault == "BadChoice", wrong$record == 3, wrong$file == "menus")
+caught(rp_menus(menus[-2]), "rp_bad_data")
+caught(rp_menus(transform(menus, menu = 1:3)), "rp_bad_data")
+
+# ---- rounding: each kind by its seven digits
+message_of <- function(call) conditionMessage(caught(call, "rp_refused"))
+inverse <- data.frame(p_x = 1 / c(87.13, 45.5), p_y = 1 / c(33.61, 62.04), q_x = c(43.2, 20.1), q_y = c(16.95, 34.63))
+said <- message_of(rp_test(inverse))
+stopifnot(grepl("digits = c(6, 5)", said, fixed = TRUE), grepl("moves 4 of 8 numbers", said), grepl("exchange the intercepts", said))
+stopifnot(inherits(rp_test(inverse, digits = c(6, 5)), "rp_test"))
+said <- message_of(rp_test(transform(inverse, q_x = c(1234.567891, 1)), digits = 6))
+stopifnot(grepl("TooLarge", said), grepl("9999999", said), grepl("digits = c(6, 3)", said, fixed = TRUE), grepl("another unit", said))
+stopifnot(grepl("take a larger unit", message_of(rp_test(transform(inverse, q_x = c(12345678, 1)), digits = c(6, 0)))))
+stopifnot(grepl("digits = c(6, 4)", message_of(rp_test(transform(inverse, q_x = c(99.999999, 1)))), fixed = TRUE))
+panel <- rbind(cbind(id = "a", inverse), cbind(id = "b", transform(inverse, q_x = c(1234.5, 1))))
+stopifnot(all(grepl("digits = c(6, 3)", as.data.frame(rp_panel(panel, "id", workers = 1))$message, fixed = TRUE)))
+stopifnot(all(as.data.frame(rp_panel(panel, "id", digits = c(6, 3), workers = 1))$status == 0))
+
+# ---- a panel that is taken for one household, and names that are none
+long <- data.frame(household = c("a", "a", "b", "b"), obs = c(1, 2, 1, 2), p_x = 1, q_x = 1)
+wrong <- caught(rp_test(long), "rp_bad_data")
+stopifnot(grepl("rp_panel(data, id", conditionMessage(wrong), fixed = TRUE), grepl("rows 1 and 3", conditionMessage(wrong)))
+caught(rp_test(rbind(a = 1, a = 2), rbind(a = 1, a = 2)), "rp_bad_data")
+caught(rp_test(transform(long, obs = c(NA, NA, 1, 2))), "rp_bad_data")
+twice <- as.data.frame(rp_panel(transform(long, household = c("a", "a", "b", "b"), obs = c(1, 2, 1, 1)), "household", workers = 1))
+stopifnot(identical(twice$garp, c(TRUE, NA)), grepl("tell the households apart", twice$message[2]))
+other <- data.frame(p1 = 1, p2 = 2, x1 = 1, x2 = 1)
+said <- conditionMessage(caught(rp_test(other), "rp_bad_data"))
+stopifnot(grepl("p_NAME", said), grepl("q_NAME", said), grepl("found: 'p1', 'p2', 'x1', 'x2'", said))
+said <- conditionMessage(caught(rp_test(data.frame(p_a = 1, x_a = 1)), "rp_refused"))
+stopifnot(grepl("there is no column 'q_a'", said), grepl("found: 'p_a', 'x_a'", said))
+said <- conditionMessage(caught(rp_panel(long, "family"), "rp_bad_data"))
+stopifnot(grepl("found: 'household'", said))
+said <- conditionMessage(caught(rp_random(data.frame(p_a = 1), data.frame(q_a = 1)), "rp_bad_data"))
+stopifnot(grepl("no column 'w'", said), grepl("found: 'p_a'", said))
+said <- conditionMessage(caught(rp_demand(years, new = data.frame(p_bread = 1), m = 1), "rp_bad_data"))
+stopifnot(grepl("goods are 'bread', 'wine'", said))
+
+# ---- frames that behave as frames
+d <- as.data.frame(rp_demand(years, new = c(bread = 2, wine = 2), m = 6))
+stopifnot(identical(names(d), c("budget", "good", "lower", "lower_exact", "upper", "upper_exact", "inner", "inner_exact", "reason")))
+stopifnot(is.numeric(d$lower), mean(d$upper) == 2, identical(order(d$lower), 1:2), inherits(d$lower_exact, "rp_exact"))
+set.seed(3)
+many <- data.frame(id = rep(1:30, each = 5))
+for (name in c("p_x", "p_y")) many[[name]] <- sample(1:9, 150, TRUE)
+for (name in c("q_x", "q_y")) many[[name]] <- sample(1:9, 150, TRUE)
+people <- rp_panel(many, "id", workers = 2)
+frame <- as.data.frame(people)
+frame$age <- 20 + frame$id
+stopifnot(is.logical(frame$garp), is.double(frame$ccei), identical(frame$ccei == 1, texts(frame$efficiency) == "1"))
+stopifnot(all(diff(frame$ccei[order(frame$efficiency)]) >= 0), is.finite(coef(lm(ccei ~ age, frame))), mean(frame$garp) < 1)
+stopifnot(sum(hist(frame$ccei, plot = FALSE)$counts) == 30, nrow(rbind(frame, frame)) == 60, nrow(merge(frame, frame["id"])) == 30)
+path <- tempfile()
+write.csv(frame, path, row.names = FALSE)
+stopifnot(identical(read.csv(path, colClasses = c(efficiency = "character"))$efficiency, texts(frame$efficiency)))
+capture.output(summary(frame), str(frame), print(frame))
+
+# ---- panels of the money pump and of power
+pumps <- as.data.frame(rp_panel(many, "id", ask = "pump", workers = 2))
+stopifnot(identical(pumps$garp, frame$garp), identical(pumps$pump == 0, frame$garp), all(pumps$pump < 1))
+one <- as.data.frame(rp_panel(many[many$id <= 3, ], "id", ask = "power", seed = 5, draws = 100, workers = 2))
+stopifnot(one$power[2] == rp_power(many[many$id == 2, -1], seed = 5, draws = 100)$power, one$draws == 100)
+caught(rp_panel(many, "id", ask = "power"), "rp_bad_data")
+
+# ---- random behaviour on the same budgets
+random <- rp_random_panel(people, times = 2, seed = 11, workers = 2)
+stopifnot(length(random$answers) == 60, identical(random$data, rp_random_panel(people, times = 2, seed = 11, workers = 2)$data))
+spent <- function(d) with(d, as.numeric(p_x) * as.numeric(q_x) + as.numeric(p_y) * as.numeric(q_y))
+first <- random$data[random$data$draw == 1, ]
+stopifnot(all(spent(first) <= spent(many) + 1e-9), all(spent(first) > spent(many) - 1e-3), identical(first$p_x, as.character(many$p_x)))
+caught(rp_random_panel(people), "rp_bad_data")
+
+# ---- pictures and tables
+grDevices::pdf(NULL)
+plot(rp_test(P, P))
+plot(rp_test(years), labels = FALSE, legend = FALSE)
+plot(people)
+plot(people, random)
+plot(people, random, type = "cumulative", names = c("subjects", "drawn"))
+plot(rp_panel(many, "id", ask = "pump", workers = 2))
+caught(plot(rp_test(matrix(1), matrix(1))), "rp_bad_data")
+caught(plot(people, P), "rp_bad_data")
+grDevices::dev.off()
+lines <- texts(rp_table(people, random))
+stopifnot(any(grepl("^GARP holds +[0-9]+ \\([0-9.]+%\\) +[0-9]+ \\([0-9.]+%\\)$", lines)), any(grepl("^Number +30 +60$", lines)))
+lines <- texts(rp_table(people, random, format = "latex"))
+stopifnot(lines[1] == "\\begin{tabular}{lrr}", lines[length(lines)] == "\\end{tabular}", any(grepl("^GARP holds & [0-9]+ \\([0-9.]+\\\\%\\) & ", lines)))
+odd <- many[many$id <= 2, ]
+odd$id <- ifelse(odd$id == 1, "50% of A&B_{1}$", "\\end~^#")
+lines <- texts(rp_table(rp_panel(odd, "id", workers = 1), what = "households", format = "latex"))
+stopifnot(grepl("50\\% of A\\&B\\_\\{1\\}\\$", lines[5], fixed = TRUE), grepl("\\textbackslash{}end\\textasciitilde{}\\textasciicircum{}\\#", lines[6], fixed = TRUE))
+shown <- revealed:::shown_index
+stopifnot(shown(revealed:::exact(c("1", "9999/10000", "0", "1/10000", "4/5"))) == c("1.000", "0.999", "0.000", "<0.001", "0.800"))

@@ -1,0 +1,11 @@
+use Rattle.rp_people.proofs.Bought.{bought_is_supporting, infimum_bought, supporting_is_bought, supremum_bought}
+use Rattle.rp_people.proofs.bounds.supporting_demands_are_bought.Goals as goal
+
+pub returns-clause-bought : goal.returns-clause-bought
+returns-clause-bought c input budget x full positive = (supporting_is_bought input budget x full positive, bought_is_supporting input budget x full positive)
+
+pub returns-clause-infimum : goal.returns-clause-infimum
+returns-clause-infimum c input budget g num den full positive = infimum_bought input budget full positive g num den
+
+pub returns-clause-supremum : goal.returns-clause-supremum
+returns-clause-supremum c input budget g num den full positive = supremum_bought input budget full positive g num den
