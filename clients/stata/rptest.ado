@@ -28,8 +28,11 @@ program define rptest, rclass sortpreserve
     if "`by'" == "" {
         local panel : char _dta[_TSpanel]
         if "`panel'" != "" {
-            display as error "the data are a panel of `panel', and a table is one household: say by(`panel')"
-            exit 459
+            quietly summarize `panel' if `touse'
+            if r(min) < r(max) {
+                display as error "the data are a panel of `panel', and a table is one household: say by(`panel')"
+                exit 459
+            }
         }
         quietly generate long `group' = 1 if `touse'
     }

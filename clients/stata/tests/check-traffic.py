@@ -286,7 +286,7 @@ class Stata:
     def do_summarize(self, text):
         own, rows = self.parts(text)
         found = [it for it in (self.data[own.strip()][row - 1] for row in rows) if it != MISSING]
-        self.r = {"N": len(found), "max": max(found, default=MISSING)}
+        self.r = {"N": len(found), "min": min(found, default=MISSING), "max": max(found, default=MISSING)}
 
     def do_sort(self, text):
         # Texts and numbers of one variable are of one kind.
@@ -448,8 +448,10 @@ def check_refusals():
     panel["year"] = [float(panel["household"][:at].count(own)) for at, own in enumerate(panel["household"])]
     _, code, said, _ = call(panel, **BOTH, digits="2", obs="year")
     assert code == 459 and "by()" in said, (code, said)
-    _, code, said, _ = call(panel, panel="household", **BOTH, digits="2")
-    assert code == 459 and "by(household)" in said, (code, said)
+    own = {"prices": "p_a p_b", "quantities": "q_a q_b"}
+    _, code, said, _ = call(households(2), panel="id", **own)
+    assert code == 459 and "by(id)" in said, (code, said)
+    assert call(households(1), panel="id", **own)[0]["garp"] == 0
     assert call(panel, **BOTH, digits="2", obs="year", by="household")[1] == 0
 
 

@@ -101,7 +101,8 @@ summary_cells <- function(panel, digits, tests) {
   switch(panel$ask,
     test = c(
       common, "GARP holds" = share(own$garp), index(own$efficiency, "CCEI"),
-      named(vapply(c("9/10", "19/20", "99/100"), function(it) share(own$efficiency >= exact(it)), ""), paste("CCEI of at least", c("0.90", "0.95", "0.99"))),
+      "CCEI of at least 0.90" = share(own$efficiency >= exact("9/10")), "CCEI of at least 0.95" = share(own$efficiency >= exact("19/20")),
+      "CCEI of at least 0.99" = share(own$efficiency >= exact("99/100")),
       if ("homothetic" %in% tests) c("Homothetic holds" = share(own$homothetic), "Homothetic withheld" = share(is.na(own$homothetic))),
       if ("quasilinear" %in% tests) c("Quasilinear holds" = share(own$quasilinear))
     ),
@@ -114,13 +115,14 @@ household_cells <- function(panel, digits, tests) {
   frame <- as.data.frame(panel)
   word <- function(x) ifelse(frame$status %in% 0L, verdict_word(x), "")
   index <- function(x) ifelse(is.na(x), "", shown_index(x, digits))
+  told <- function(x) ifelse(is.na(x), "", as.character(x))
   own <- switch(panel$ask,
     test = c(
-      list(GARP = word(frame$garp), CCEI = index(frame$efficiency), exactly = ifelse(is.na(bare(frame$efficiency)), "", bare(frame$efficiency))),
+      list(GARP = word(frame$garp), CCEI = index(frame$efficiency), exactly = told(bare(frame$efficiency))),
       lapply(frame[intersect(c("homothetic", "quasilinear"), tests)], word)
     ),
-    pump = list(GARP = word(frame$garp), `money pump` = index(frame$pump_ratio), exactly = ifelse(is.na(bare(frame$pump_ratio)), "", bare(frame$pump_ratio))),
-    power = list(violations = ifelse(is.na(frame$violations), "", frame$violations), draws = ifelse(is.na(frame$draws), "", frame$draws), power = index(frame$power))
+    pump = list(GARP = word(frame$garp), `money pump` = index(frame$pump_ratio), exactly = told(bare(frame$pump_ratio))),
+    power = list(violations = told(frame$violations), draws = told(frame$draws), power = index(frame$power))
   )
   keys <- lapply(panel$keys, function(it) as.character(it))
   refused <- if (any(!frame$status %in% 0L)) list(refused = ifelse(frame$status %in% 0L, "", sub(":.*", "", frame$message)))
@@ -128,7 +130,8 @@ household_cells <- function(panel, digits, tests) {
 }
 
 text_lines <- function(cells) {
-  columns <- Map(function(name, column, at) format(c(name, as.character(column)), justify = if (at == 1) "left" else "right"), names(cells), cells, seq_along(cells))
+  sides <- c("left", rep("right", length(cells) - 1))
+  columns <- Map(function(name, column, side) format(c(name, as.character(column)), justify = side), names(cells), cells, sides)
   lines <- sub(" +$", "", do.call(paste, c(unname(columns), sep = "  ")))
   c(lines[1], strrep("-", max(nchar(lines))), lines[-1])
 }

@@ -39,8 +39,8 @@ labels_or_numbers <- function(side) if (is.null(side$labels)) seq_len(side$count
 # Puts the columns in the order of the goods: by their names where they have any.
 of_goods <- function(side, goods, what) {
   if (is.null(side$goods)) {
-    if (length(side$columns) != length(goods)) bad_data(what, ": each row has a number for each of the ", length(goods), " goods, and not ", length(side$columns))
-    return(side)
+    if (length(side$columns) == length(goods)) return(side)
+    bad_data(what, ": each row has a number for each of the ", length(goods), " goods, and not ", length(side$columns))
   }
   if (!setequal(side$goods, goods)) bad_data(what, ": the table's goods are ", listed(goods), ", and these are of ", listed(side$goods))
   side$columns <- side$columns[match(goods, side$goods)]

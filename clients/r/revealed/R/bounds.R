@@ -145,7 +145,8 @@ rp_utility <- function(p, q = NULL, bundles, digits = NULL, levels = NULL, exe =
   if (missing(bundles)) bad_data("there are no bundles: give the argument bundles")
   table <- table_of(p, q, digits, levels)
   asked <- bundles_of(table, bundles, digits)
-  text <- ask(c("utility", "table.csv", "bundles.csv"), list(table.csv = csv_lines(table), bundles.csv = csv_lines(asked)), engine_of(exe), list(table, asked))
+  files <- list(table.csv = csv_lines(table), bundles.csv = csv_lines(asked))
+  text <- ask(c("utility", "table.csv", "bundles.csv"), files, engine_of(exe), list(table, asked))
   reading(text, utility_from(table, asked, report_of(text)))
 }
 
@@ -159,7 +160,8 @@ utility_from <- function(table, asked, report) {
   stopifnot(afriat %in% c("model", "none", "withheld"), (afriat == "none") == !garp)
   value <- as.character(ifelse(grepl(" value ", values), sub("^.* value ", "", values), NA))
   stopifnot((afriat == "model") == !is.na(value))
-  reason <- switch(afriat, model = NA_character_, none = "the axiom fails", withheld = afriat_reason(table, sub("^.* at ", "", line_of(report, "afriat"))))
+  at <- sub("^.* at ", "", line_of(report, "afriat"))
+  reason <- switch(afriat, model = NA_character_, none = "the axiom fails", withheld = afriat_reason(table, at))
   found <- list(garp = garp, cycle = NULL, utility = NULL, lambda = NULL, reason = reason, report = report$lines, table = table, bundles = asked)
   if (!garp) found$cycle <- walk_of(table, words_of(report, "cycle"))
   if (afriat == "model") {

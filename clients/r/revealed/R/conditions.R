@@ -18,7 +18,9 @@ failed <- function(status, said) {
 # The program ended well, and what it said is no answer of rp: most likely it is another program of that name.
 no_answer <- function(text) {
   said <- gsub("[[:cntrl:]]+", " ", substr(text, 1, 60), useBytes = TRUE)
-  message <- paste0("what was called as rp ended with status 0, and what it said is no answer of rp: ", quoted(said), "; rp_program() tells what is called")
+  message <- paste0(
+    "what was called as rp ended with status 0, and what it said is no answer of rp: ", quoted(said), "; rp_program() tells what is called"
+  )
   problem("rp_failed", message, status = 0L, said = said)
 }
 

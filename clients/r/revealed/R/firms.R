@@ -3,7 +3,8 @@
 rp_cost <- function(technology, new, digits = NULL, exe = NULL) {
   own <- technology_of(technology, digits)
   asked <- outputs_of(own, if (missing(new)) NULL else new, digits)
-  text <- ask(c("cost", "technology.csv", "new.csv"), list(technology.csv = csv_lines(own), new.csv = csv_lines(asked)), engine_of(exe), list(own, asked))
+  files <- list(technology.csv = csv_lines(own), new.csv = csv_lines(asked))
+  text <- ask(c("cost", "technology.csv", "new.csv"), files, engine_of(exe), list(own, asked))
   reading(text, cost_from(own, asked, report_of(text)))
 }
 
@@ -33,7 +34,9 @@ cost_from <- function(own, asked, report) {
 # Returns the row of a line such as `bounds prices 1 1 output 3 lower 10/3 upper 4 at 2`.
 cost_frame <- function(line, label, own, asked) {
   money <- places_of(asked, "price") + places_of(own, "quantity")
-  said <- numbers_of(line, "^bounds prices [0-9 ]+ output ([0-9]+) (none|lower (withheld )?([0-9]+(?:/[0-9]+)?) upper (none|([0-9]+(?:/[0-9]+)?) at ([0-9]+)))$")
+  number <- "([0-9]+(?:/[0-9]+)?)"
+  bounds <- paste0("(none|lower (withheld )?", number, " upper (none|", number, " at ([0-9]+)))")
+  said <- numbers_of(line, paste0("^bounds prices [0-9 ]+ output ([0-9]+) ", bounds, "$"))
   output <- exact(over_ten(said[1], places_of(own, "quantity")))
   nothing <- exact(NA)
   if (said[2] == "none") {

@@ -68,7 +68,9 @@ draw_labels <- function(labels, walk, q, names) {
   at <- if (isFALSE(labels)) unique(walk) else seq_along(names)
   per_inch <- diff(graphics::par("usr"))[c(1, 3)] / graphics::par("pin")
   put <- function(aside, colour) {
-    graphics::text(q[[1]][at] + aside[1] * per_inch[1], q[[2]][at] + aside[2] * per_inch[2], names[at], pos = 3, offset = 0.5, cex = 0.8, col = colour, xpd = NA)
+    x <- q[[1]][at] + aside[1] * per_inch[1]
+    y <- q[[2]][at] + aside[2] * per_inch[2]
+    graphics::text(x, y, names[at], pos = 3, offset = 0.5, cex = 0.8, col = colour, xpd = NA)
   }
   # A white rim keeps a label apart from the lines behind it.
   for (angle in seq(0, 7) * pi / 4) put(0.015 * c(cos(angle), sin(angle)), "white")
@@ -109,7 +111,8 @@ plot.rp_panel <- function(x, random = NULL, type = c("histogram", "cumulative"),
   if (is.null(ylab)) ylab <- if (type == "histogram") "share of each" else "share at or below"
   if (type == "histogram") draw_histogram(own, breaks, xlab, ylab, main, ...) else draw_cumulative(own, xlab, ylab, main, ...)
   words <- paste0(names[seq_along(own)], " (", lengths(own), ")")
-  graphics::legend(if (x$ask == "test") "topleft" else "topright", words, fill = ink[c("own", "other")][seq_along(own)], border = NA, bty = "n", cex = 0.9)
+  corner <- if (x$ask == "test") "topleft" else "topright"
+  graphics::legend(corner, words, fill = ink[c("own", "other")][seq_along(own)], border = NA, bty = "n", cex = 0.9)
   invisible(x)
 }
 

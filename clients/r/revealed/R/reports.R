@@ -117,7 +117,8 @@ read_power <- function(table, words, text) reading(text, {
 })
 
 print.rp_power <- function(x, ...) {
-  cat(table_lines(x$table), paste("of", x$draws, "random behaviours on these budgets,", x$violations, "violate garp (seed", paste0(x$seed, ")")), sep = "\n")
+  said <- paste0("of ", x$draws, " random behaviours on these budgets, ", x$violations, " violate garp (seed ", x$seed, ")")
+  cat(table_lines(x$table), said, sep = "\n")
   invisible(x)
 }
 

@@ -22,7 +22,8 @@ digits_pair <- function(digits) {
 csv_lines <- function(sheet) {
   # What is no plain number is refused by the program, however it is written; so it is not.
   cells <- lapply(sheet$texts, function(it) ifelse(grepl(plain, it, useBytes = TRUE), it, "?"))
-  if (!is.null(sheet$words)) cells[sheet$words] <- lapply(sheet$texts[sheet$words], function(it) ifelse(grepl("^[a-z]+$", it, useBytes = TRUE), it, "?"))
+  # So are words that have more than letters.
+  cells[sheet$words] <- lapply(sheet$texts[sheet$words], function(it) ifelse(grepl("^[a-z]+$", it, useBytes = TRUE), it, "?"))
   c(paste(sheet$header, collapse = ","), if (length(cells) && length(cells[[1]])) do.call(paste, c(unname(cells), sep = ",")))
 }
 
@@ -98,7 +99,9 @@ hint_of <- function(sheet, fault, column, value) {
 }
 
 too_fine_hint <- function(kind) {
-  if (kind == "money") return("it has more places than prices and quantities have together: write it, and the prices beside it, in a smaller unit of money")
+  if (kind == "money") {
+    return("it has more places than the new prices and the table's quantities have together: multiply the new prices and it by 10 until it fits")
+  }
   "it has more places than the table's quantities have: write it with fewer"
 }
 
@@ -120,7 +123,8 @@ rounding_advice <- function(sheet) {
     large <- c("prices", "quantities")[match(-1L, fit$places)]
     return(paste("the largest of the", large, "has more than 7 digits before its point, so no rounding helps: take a larger unit"))
   }
-  asked <- ifelse(is.na(fit$places), 0L, fit$places)
+  # NA leaves a kind as it is that this file has not.
+  asked <- ifelse(is.na(fit$places), "NA", fit$places)
   paste0(
     "digits = c(", asked[1], ", ", asked[2], ") rounds prices and quantities each to the most places that fit 7 digits, ",
     if (fit$moved == 0) "which gives every number back as it was written" else paste0(
@@ -138,7 +142,9 @@ fit_of <- function(sheet) {
     own <- lapply(sheet$columns[sheet$kinds == kind], number_texts)
     if (length(own)) places_that_fit(unlist(own, use.names = FALSE)) else NA_integer_
   }, 0L, USE.NAMES = FALSE)
-  own <- which(sheet$kinds %in% kinds)
-  moved <- vapply(own, function(at) moved_by(sheet$columns[[at]], max(places[match(sheet$kinds[at], kinds)], 0L)), 0L)
+  # Money is rounded as prices are.
+  of <- c(price = places[1], quantity = places[2], money = places[1])
+  own <- which(sheet$kinds %in% names(of))
+  moved <- vapply(own, function(at) moved_by(sheet$columns[[at]], max(of[[sheet$kinds[at]]], 0L, na.rm = TRUE)), 0L)
   list(places = places, moved = sum(moved), count = sum(lengths(sheet$columns[own])))
 }
