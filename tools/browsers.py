@@ -79,7 +79,11 @@ class Driven(Browser):
                 break
             except OSError:
                 time.sleep(0.1)
-        answer = self.ask("POST", "/session", {"capabilities": {"alwaysMatch": capabilities}})
+        try:
+            answer = self.ask("POST", "/session", {"capabilities": {"alwaysMatch": capabilities}})
+        except BaseException:
+            self.close()
+            raise
         self.session = f"/session/{answer['sessionId']}"
         self.ask("POST", f"{self.session}/timeouts", {"script": 1000 * PATIENCE, "pageLoad": 1000 * PATIENCE})
 
@@ -169,6 +173,7 @@ class Firefox(Browser):
             except OSError:
                 time.sleep(0.2)
         if not self.stream:
+            self.close()
             raise Failed("firefox does not answer")
         self.read()
         self.ask("WebDriver:NewSession", {"capabilities": {}})
