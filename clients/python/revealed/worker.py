@@ -14,6 +14,10 @@ import tempfile
 from typing import IO, Any, Mapping, Sequence
 
 
+# After so many processes that were gone none is begun again.
+MOST_GONE = 3
+
+
 def run(program: str, words: Sequence[str], files: Mapping[str, bytes]) -> tuple[int, bytes, bytes]:
     """Returns the status of a call, and what it wrote to standard output and standard error. The folder is its own."""
     with tempfile.TemporaryDirectory(prefix="revealed-") as folder:
@@ -47,12 +51,15 @@ def read(source: IO[bytes]) -> tuple[dict[str, Any], list[bytes]]:
 
 
 class Worker:
-    """A process that runs the program. Where it is gone, a call is made here, and the next one has a new process."""
+    """A process that runs the program. Where it is gone, a call is made here, and the next one has a new process, a few times."""
 
     def __init__(self) -> None:
         self.process: subprocess.Popen[bytes] | None = None
+        self.gone = 0
 
     def run(self, program: str, words: Sequence[str], files: Mapping[str, bytes]) -> tuple[int, bytes, bytes]:
+        if self.gone > MOST_GONE:
+            return run(program, words, files)
         try:
             if self.process is None:
                 words_of_it = [sys.executable, "-I", "-S", os.path.abspath(__file__)]
@@ -60,10 +67,12 @@ class Worker:
             assert self.process.stdin is not None and self.process.stdout is not None
             write(self.process.stdin, {"program": program, "words": list(words), "files": list(files)}, *files.values())
             head, (out, said) = read(self.process.stdout)
-            return int(head["status"]), out, said
-        except (OSError, EOFError, ValueError):
+            if head["status"] is not None:
+                return int(head["status"]), out, said
+        except (OSError, EOFError, ValueError, KeyError, TypeError):
+            self.gone += 1
             self.close()
-            return run(program, words, files)
+        return run(program, words, files)
 
     def close(self) -> None:
         """Ends the process."""
@@ -86,8 +95,12 @@ def main() -> None:
                 head, parts = read(sys.stdin.buffer)
             except EOFError:
                 return
-            status, out, said = run_in(folder, head["program"], head["words"], dict(zip(head["files"], parts)))
-            write(sys.stdout.buffer, {"status": status}, out, said)
+            try:
+                status, out, said = run_in(folder, head["program"], head["words"], dict(zip(head["files"], parts)))
+            except OSError:
+                write(sys.stdout.buffer, {"status": None}, b"", b"")
+            else:
+                write(sys.stdout.buffer, {"status": status}, out, said)
 
 
 if __name__ == "__main__":

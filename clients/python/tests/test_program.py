@@ -309,6 +309,42 @@ class Panels(unittest.TestCase):
         self.assertIn("row 'w'", found["message"][0])
 
 
+class Workers(unittest.TestCase):
+    """Processes beside the panel that run the program."""
+
+    def test_one_that_is_killed(self):
+        files = {"table.csv": revealed.table(P, Q).csv()}
+        words, program = ["certify", "table.csv"], os.environ["RP_EXEC"]
+        wanted = revealed.worker.run(program, words, files)
+        worker = revealed.worker.Worker()
+        for _ in range(revealed.worker.MOST_GONE + 2):
+            self.assertEqual(worker.run(program, words, files), wanted)
+            if worker.process is not None:
+                self.assertEqual(worker.run(program, words, files), wanted)
+                worker.process.kill()
+                worker.process.wait()
+            self.assertEqual(worker.run(program, words, files), wanted)
+        worker.close()
+
+    def test_a_program_that_is_not_there(self):
+        worker = revealed.worker.Worker()
+        for _ in range(2):
+            with self.assertRaises(OSError):
+                worker.run("/nowhere/rp", [], {})
+        worker.close()
+
+    def test_many_households(self):
+        count = 3 * revealed.panels.FEW
+        d = {"id": [], "p_a": [], "p_b": [], "q_a": [], "q_b": []}
+        for number in range(count):
+            for row in ((1, 2, 1 + number % 3, 2), (2, 1, 2, number % 2)):
+                for name, value in zip(d, (number, *row)):
+                    d[name].append(value)
+        found = [revealed.panel(d, "id", workers=workers, progress=False).records() for workers in (1, 3)]
+        self.assertEqual(found[0], found[1])
+        self.assertEqual(len(found[0]), count)
+
+
 class Programs(unittest.TestCase):
     def fake(self, folder, status, said="", out=""):
         path = pathlib.Path(folder) / "a program of our own é"

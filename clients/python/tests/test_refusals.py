@@ -121,9 +121,7 @@ class Levels(unittest.TestCase):
             self.assertEqual((caught.exception.fault, caught.exception.status), ("OwnLevels", 4))
             self.assertIn("leave the column 'e'", caught.exception.hint)
         with self.assertRaises(BadData):
-            revealed.plain.demand(P, Q, [1, 1], 3 if False else None, places=None) if False else revealed.plain.welfare(
-                revealed.from_frame({"p_a": [1], "q_a": [1], "e": [5]}), new=[1]
-            )
+            revealed.plain.welfare(revealed.from_frame({"p_a": [1], "q_a": [1], "e": [5]}), new=[1])
         d = {"id": [1, 1], "p_a": [1, 2], "p_b": [2, 1], "q_a": [1, 2], "q_b": [2, 1], "e": LEVELS}
         (row,) = revealed.panel(d, "id", pump=True, power=10, progress=False)
         self.assertTrue(row.verdict.garp)

@@ -15,15 +15,18 @@ pub record IsBracket (n : ℕ) (c : ℕ → ℕ → ℕ) (bracket : Bracket) : T
 -- num/den is above the lower end and below the upper one.
 abbrev pub IsBetween : Bracket → ℕ → ℕ → Type 0
 IsBetween bracket num den =
-    (bracket.low.num * den < num * bracket.low.den) × (num * bracket.high.den < bracket.high.num * den)
+    (bracket.low.num * den < num * bracket.low.den)
+    × (num * bracket.high.den < bracket.high.num * den)
 
 -- The upper end is in the list.
 abbrev pub HasHighest : Bracket → List Ratio → Type 0
-HasHighest bracket ratios = Any (λ r. (r.num ≡ bracket.high.num) × (r.den ≡ bracket.high.den)) ratios
+HasHighest bracket ratios =
+    Any (λ r. (r.num ≡ bracket.high.num) × (r.den ≡ bracket.high.den)) ratios
 
 -- If the ratio of s and t is between the ends, it is in the list, as a number.
 abbrev pub IsSeen : (ℕ → ℕ → ℕ) → Bracket → List Ratio → ℕ → ℕ → Type 0
-IsSeen c bracket ratios s t = IsBetween bracket (c s t) (c s s) → Any (λ r. IsRatio c r.num r.den s t) ratios
+IsSeen c bracket ratios s t =
+    IsBetween bracket (c s t) (c s s) → Any (λ r. IsRatio c r.num r.den s t) ratios
 
 -- To a list were added those of some steps from s whose ratios are between the ends.
 pub record AddsBetween (c : ℕ → ℕ → ℕ) (bracket : Bracket) (to : List ℕ) (s start end : ℕ)
@@ -34,14 +37,16 @@ pub record AddsBetween (c : ℕ → ℕ → ℕ) (bracket : Bracket) (to : List 
 
 -- Of the first observations each ratio between the ends of a step that is listed is in the list, and with them the
 -- upper end.
-pub record HaveBetween (m : ℕ) (c : ℕ → ℕ → ℕ) (bracket : Bracket) (starts to : List ℕ) (ratios : List Ratio) : Type 0 where
+pub record HaveBetween (m : ℕ) (c : ℕ → ℕ → ℕ) (bracket : Bracket) (starts to : List ℕ)
+    (ratios : List Ratio) : Type 0 where
   pub seen : (s p : ℕ) → s < m → slice_index starts s ≤ p → p < slice_index starts (s + 1)
       → IsSeen c bracket ratios s (slice_index to p)
   pub highest : HasHighest bracket ratios
   pub few : length ratios ≤ slice_index starts m + 1
 
 -- No ratio between the ends is missing in the list, and the upper end is in it.
-pub record AreBetween (n : ℕ) (c : ℕ → ℕ → ℕ) (bracket : Bracket) (ratios : List Ratio) : Type 0 where
+pub record AreBetween (n : ℕ) (c : ℕ → ℕ → ℕ) (bracket : Bracket)
+    (ratios : List Ratio) : Type 0 where
   pub complete : (s t : ℕ) → s < n → t < n → IsBetween bracket (c s t) (c s s)
       → ¬ ¬ Any (λ r. IsRatio c r.num r.den s t) ratios
   pub highest : HasHighest bracket ratios

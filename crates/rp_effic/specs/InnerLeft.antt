@@ -38,7 +38,8 @@ pub record AreLeft (n : ℕ) (step : ℕ → ℕ → Type 0) (starts to : List �
       → IsLeft left (slice_index to p) → ¬ step s (slice_index to p)
 
 -- The first observations were looked at once: where none was taken away, each that is left leads to one that is left.
-pub record HasLooked (n : ℕ) (step : ℕ → ℕ → Type 0) (end : ℕ) (old new : List Bool) (fewer : Bool) : Type 0 where
+pub record HasLooked (n : ℕ) (step : ℕ → ℕ → Type 0) (end : ℕ) (old new : List Bool)
+    (fewer : Bool) : Type 0 where
   pub less : fewer ≡ true → left_of new < left_of old
   pub same : fewer ≡ false → new ≡ old
   pub lead : fewer ≡ false → (s : ℕ) → s < end → IsLeft new s → LeadsToLeft n step new s

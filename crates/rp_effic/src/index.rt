@@ -12,8 +12,8 @@ use rp_num::{NoMemory, in_lowest_terms};
 use rp_table::Costs;
 use std::alloc::Global;
 
-/// The efficiency index in lowest terms: the least ratio at which a closed walk of weak steps exists. It is sought among
-/// one ratio of each observation, and then among all those between the two that it lies between.
+/// The efficiency index in lowest terms: the least ratio at which a closed walk of weak steps exists. It is sought
+/// among one ratio of each observation, and then among all those between the two that it lies between.
 pub fn efficiency_index(alloc: Global, costs: &Costs) -> Result<Level, NoMemory>
     ensures index { IfOk result
         (λ level. IsEfficiencyIndex costs.now.n (cost_at costs.now) level.num level.den) }

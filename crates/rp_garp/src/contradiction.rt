@@ -10,7 +10,7 @@ use rp_table::Costs;
 /// The first two observations, by the first and then by the second, of which the first is weakly
 /// preferred to the second and the second strictly to the first (Varian 1982), each held to its own level.
 pub fn pairs(costs: &Costs) -> Option<(u32, u32)>
-    ensures { IsOwnPairs costs.now.n costs.now.levels (cost_at costs.now) result }
+    ensures own { IsOwnPairs costs.now.n costs.now.levels (cost_at costs.now) result }
 {
     for s in 0..costs.n() {
         if let Some(t) = first_contradicted(costs, s) {

@@ -11,8 +11,7 @@ use Rattle.rp_table.specs.Sums.{sum_below}
 use Rattle.rp_menu.specs.MenuLists.{IsMenuList, MenuList, has_letter}
 use Rattle.rp_menu.proofs.MenuLetters.{letter_within}
 use Rattle.rp_evidence.specs.declared.random.RandomPart.{RandomPart}
-use Rattle.rp_evidence.specs.declared.random.RandomPart.TheVariants.{Mixture, Violated, Wide}
-use Rattle.rp_orders.specs.MenuEvidence.{ProvesMenus, ShowsSums}
+use Rattle.rp_orders.specs.MenuEvidence.{ShowsSums}
 use Rattle.rp_orders.specs.MenuSums.{AreComplete, holds, signed, size_of, sum_at, units_on}
 use Rattle.rp_orders.specs.OrderKinds.{orders_over}
 use Rattle.rp_orders.specs.OrderMixtures.{AreUnitsOf, IsOrderMixture, menu_at, units_of, weight_picking}
@@ -139,8 +138,7 @@ module _ (list : MenuList) (is : IsMenuList list) (units : Units) (are : AreUnit
             ap (signed (even a b)) (made b l has) ∙ signed_times (even a b) (units_on list units b x) den
         one b l false is_held = none_times den
 
-pub shows_sums : (list : MenuList) → IsMenuList list → (units : Units) → AreUnitsOf list units → (part : RandomPart) → ProvesMenus list units part → ShowsSums list units part
-shows_sums list is units are (Mixture den parts) mixture =
-    λ complete x a small there. sum_made list is units are complete den parts mixture x (letter_within a list.letters x small there) a small there
-shows_sums list is units are (Violated den parts weights) proves = tt
-shows_sums list is units are (Wide step) proves = tt
+pub shows_sums : (list : MenuList) → IsMenuList list → (units : Units) → AreUnitsOf list units → (part : RandomPart) → ShowsSums list units part
+shows_sums list is units are part = record {
+  none_negative = λ complete m x a small there. sum_made list is units are complete m.0 m.1 m.2 x (letter_within a list.letters x small there) a small there;
+}

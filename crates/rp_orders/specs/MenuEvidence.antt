@@ -30,11 +30,10 @@ ProvesMenus list units (Mixture den parts) = IsOrderMixture list units den parts
 ProvesMenus list units (Violated den parts weights) = ProvesNoOrderMixture list units den parts weights
 ProvesMenus list units (Wide step) = Unit {0}
 
--- Where the data are complete, a mixture shows that no sum is negative (Block and Marschak 1960).
-abbrev pub ShowsSums : MenuList → Units → RandomPart → Type 0
-ShowsSums list units (Mixture den parts) = AreComplete list → HasNoNegativeSum list units
-ShowsSums list units (Violated den parts weights) = Unit {0}
-ShowsSums list units (Wide step) = Unit {0}
+-- Beside a part, whatever it is and also where it is withheld: where the data are complete and some mixture of strict
+-- orders makes the choices, no sum is negative (Block and Marschak 1960).
+pub record ShowsSums (list : MenuList) (units : Units) (part : RandomPart) : Type 0 where
+  pub none_negative : AreComplete list → HasOrderMixture list units → HasNoNegativeSum list units
 
 -- The verdict is made from the outcome of the run of the program of mixtures over all orders that pick a cell from
 -- every menu, in lexicographic order.

@@ -9,4 +9,6 @@ pub mod OneFault
 pub mod PatchesApart
 pub mod Pigeons
 pub mod RunLemmas
+pub mod SomeAnswer
+pub mod SomeCertificate
 pub mod TurnLemmas

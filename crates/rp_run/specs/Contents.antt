@@ -1,6 +1,6 @@
 -- What the files of a line denote: the contents of its set of files, or the first refusal, which is a whole line for
 -- standard error (this program's own order and texts). Nothing is both.
-use Rattle.std.specs.Prelude.{ℕ, Bool, true, false, Option, Some, List, Ok}
+use Rattle.std.specs.Prelude.{ℕ, ⊤, Bool, true, false, Option, Some, List, Ok}
 use Rattle.rp_text.specs.Denotation.{bundles_beside, prices_beside}
 use Rattle.rp_cost.specs.Denotation.{asked_beside, tech_in}
 use Rattle.rp_evidence.specs.declared.certificate.Kind.TheVariants.{Table as TableKind, Random as RandomKind}
@@ -51,6 +51,19 @@ ContentsIn takes files.TechnologyAndAsked arguments known =
     AndThen (FileIn arguments known 0 (λ name. NumbersIn name tech_in)) (λ tech.
     AndThen (FileIn arguments known 1 (λ name. NumbersIn name (asked_beside tech)))
     (λ asked. Just (Ok (contents.TechnologyAndAsked tech asked))))
+
+-- files that hold numbers alone: tables, new prices, bundles and technologies
+abbrev pub HasNumbersAlone : FileSet → Type 0
+HasNumbersAlone files.Nothing = ⊤
+HasNumbersAlone files.Table = ⊤
+HasNumbersAlone files.TableAndCertificate = ⊥
+HasNumbersAlone files.TableAndPricesWithExpenditure = ⊤
+HasNumbersAlone files.TableAndPrices = ⊤
+HasNumbersAlone files.TableAndBundles = ⊤
+HasNumbersAlone files.Choices = ⊥
+HasNumbersAlone files.ChoicesAndCertificate = ⊥
+HasNumbersAlone files.Menus = ⊥
+HasNumbersAlone files.TechnologyAndAsked = ⊤
 
 -- the contents of a line's files, or its first refusal, from the bytes of all of them. A file that is named twice and
 -- keeps its bytes to itself may differ from itself

@@ -51,4 +51,4 @@ returns-clause-sums c =
     (subst (λ (m : MenuList). IfOk r (ProvesMixture (orders_over m c.make.result.units.now))) c.make.ensures.seen c.mixture.ensures.proves) in
     let is = c.letters.ensures.valid in
     IfOk-weaker r (ProvesMixture (orders_over list units)) (ShowsSums list units)
-    (λ part h. shows_sums list is units c.requires part (proves_menus list is units c.requires part h)) proves
+    (λ part h. shows_sums list is units c.requires part) proves
