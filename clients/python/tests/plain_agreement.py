@@ -1,10 +1,10 @@
 #!/usr/bin/env python3
 """Compares the answers by plain whole numbers with the program's, on tables that are drawn by a fixed seed.
 
-usage: plain_agreement.py PROGRAM [COUNT]
+usage: plain_agreement.py PROGRAM [COUNT [FIRST]]
        plain_agreement.py --times
 
-Of COUNT (10,000) tables each answer of the program has to be that of `revealed.plain`: verdicts, the index, Afriat's numbers,
+Of COUNT (10,000) tables from number FIRST (0) on each answer of the program has to be that of `revealed.plain`: verdicts, the index, Afriat's numbers,
 the least products and sums, ranks, bounds of demand and of welfare. Where the program withholds one, `verify` looks at the other.
 With --times it tells how long `revealed.plain` takes on consistent tables of 50 rounds of 2 goods and of 256 of 8.
 """
@@ -113,10 +113,11 @@ def main(words):
     if words == ["--times"]:
         times()
         return 0
-    os.environ["RP_EXEC"], count = os.path.abspath(words[0]), int(words[1]) if len(words) > 1 else 10_000
+    os.environ["RP_EXEC"] = os.path.abspath(words[0])
+    count, first = (int(words[place]) if len(words) > place else other for place, other in ((1, 10_000), (2, 0)))
     processors = len(os.sched_getaffinity(0)) if hasattr(os, "sched_getaffinity") else os.cpu_count()
     with Pool(processors) as pool:
-        found = pool.map(case, range(count), chunksize=16)
+        found = pool.map(case, range(first, first + count), chunksize=16)
     wrong = [it for differences, _ in found for it in differences]
     for it in wrong[:5]:
         print(it)
