@@ -5,6 +5,7 @@ one LLVM module for x86-64 (of any processor of that kind), and the toolchain fo
 module. Here its text gets the layout and the name of the other system, without the attributes that only Linux has, and
 the kit's own clang compiles it. For ARM Rattle's compiler has a target of its own. No proof covers what is done here.
 """
+import hashlib
 import importlib.machinery
 import importlib.util
 import os
@@ -99,18 +100,48 @@ def toolchain(room):
     return folder, kept
 
 
+def sources_sum():
+    """Returns a checksum of all that a build of the library reads: the crates, their list, and the kit."""
+    found = hashlib.sha256()
+    for at, folders, names in os.walk(f"{TOP}/crates"):
+        folders[:] = sorted(it for it in folders if it not in ("out", "must-fail", "data"))
+        for name in sorted(it for it in names if it.endswith((".rt", ".antt"))):
+            with open(f"{at}/{name}", "rb") as it:
+                found.update(f"{os.path.relpath(at, TOP)}/{name}\0".encode() + it.read() + b"\0")
+    for file in (f"{TOP}/crates.txt", f"{kit()}/KIT-ID", os.path.realpath(__file__)):
+        if os.path.exists(file):
+            with open(file, "rb") as it:
+                found.update(it.read())
+    return found.hexdigest()
+
+
+def kept_build(name, room, make):
+    """Gives a file of the room that takes minutes to make: the one that was kept of the same sources, or a new one."""
+    kept = f"{CRATE}/out/systems-{sources_sum()[:32]}-{name}"
+    if os.path.exists(kept):
+        shutil.copy(kept, f"{room}/{name}")
+    else:
+        make()
+        os.makedirs(os.path.dirname(kept), exist_ok=True)
+        shutil.copy(f"{room}/{name}", f"{kept}.{os.getpid()}")
+        os.replace(f"{kept}.{os.getpid()}", kept)
+
+
 def module_text(room):
-    """Returns the LLVM module of the library as text, for a processor of any kind of x86-64, made once for a folder."""
-    if os.path.exists(f"{room}/module.ll"):
-        with open(f"{room}/module.ll", encoding="utf-8") as it:
-            return it.read()
+    """Returns the LLVM module of the library as text, for a processor of any kind of x86-64."""
+    if not os.path.exists(f"{room}/module.ll"):
+        kept_build("module.ll", room, lambda: make_module(room))
+    with open(f"{room}/module.ll", encoding="utf-8") as it:
+        return it.read()
+
+
+def make_module(room):
+    """Makes the module's text in the room."""
     folder, kept = toolchain(room)
     rattle, words = crate_words()
     ran([rattle, "build", *words, "--cpu", "x86-64", "--toolchain", folder, "-o", f"{room}/librp_c.a"], CRATE)
     print_as_text = ["--target=x86_64-unknown-linux-gnu", "-S", "-emit-llvm", "-x", "ir", "-Xclang", "-disable-llvm-passes"]
     ran([f"{kit()}/toolchain/bin/clang", *print_as_text, kept, "-o", f"{room}/module.ll"], room)
-    with open(f"{room}/module.ll", encoding="utf-8") as it:
-        return it.read()
 
 
 def text_for(system, text):
@@ -186,8 +217,9 @@ def arm(room):
     """Returns the program for Linux on ARM, linked statically, and what it is linked from, so that anyone can do it again."""
     rattle, words = crate_words()
     os.makedirs(f"{room}/link", exist_ok=True)
-    built = ["--target", "aarch64-unknown-linux-gnu", "--toolchain", f"{kit()}/toolchain", "-o", f"{room}/link/librp_c.a"]
-    ran([rattle, "build", *words, *built], CRATE)
+    built = ["--target", "aarch64-unknown-linux-gnu", "--toolchain", f"{kit()}/toolchain", "-o", f"{room}/arm.a"]
+    kept_build("arm.a", room, lambda: ran([rattle, "build", *words, *built], CRATE))
+    os.replace(f"{room}/arm.a", f"{room}/link/librp_c.a")
     gcc = ["aarch64-linux-gnu-gcc", "-O2", "-std=c11", "-D_POSIX_C_SOURCE=200809L", "-Wall", "-Wextra", "-Werror"]
     objects = []
     for it in ("program", "posix", "heap"):
