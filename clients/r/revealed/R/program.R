@@ -34,7 +34,7 @@ usual_places <- function() {
     version <- numeric_version(sub("^rp-([0-9.]*[0-9])-.*", "\\1", found))
     file.path(root, found[order(version, decreasing = TRUE)])
   })
-  c(file.path(own, "rp"), file.path(c(unlist(unpacked), "/opt/rp"), "rp"))
+  c(file.path(own, "rp"), file.path(c(unlist(unpacked), "/usr/local/lib/rp"), "rp"))
 }
 
 is_program <- function(place) file.access(place, 1) == 0 && !dir.exists(place)
