@@ -84,8 +84,10 @@ program define rptest, rclass sortpreserve
         }
     }
     if "`digits'" == "" & `moved' > 0 {
+        local fitprices : word 1 of `fits'
+        local fitquantities : word 2 of `fits'
         display as error "`moved' numbers have more than 6 places as binary fractions; nothing is rounded unasked"
-        display as error "digits(`fits') rounds prices and quantities to the most places that fit the seven digits that are taken;"
+        display as error "digits(`fitprices' `fitquantities') rounds prices and quantities to the most places that fit the seven digits that are taken;"
         display as error "a place below 0 says that the largest is above 9999999: take a larger unit. Prices that are 1 over an"
         display as error "intercept need no rounding: take the intercept of y as the price of x, and that of x as the price of y"
         exit 459

@@ -15,6 +15,7 @@ cd -- "$1" || exit 1
 room=$PWD
 IFS= read -r rp <program || :
 [ -n "$rp" ] || rp=${RP_EXEC:-rp}
+# shellcheck disable=SC2088
 case $rp in
   /*) ;;
   "~/"*) rp=$HOME/${rp#"~/"} ;;
@@ -29,13 +30,14 @@ awk -F, '
   { print substr($0, length($1) + 2) > file }
 ' header rows || exit 1
 cd tables || exit 1
-# Twenty-five tables are one shell's, so that thousands do not wait for as many shells.
-# shellcheck disable=SC2016
+# Twenty-five tables are one shell's, so that thousands do not wait for as many shells. Their names are numbers.
+# shellcheck disable=SC2012,SC2016
 ls | sed 's/[.]csv$//' | sort -n | xargs -P "$(nproc 2>/dev/null || echo 2)" -n 25 sh -c '
   for n do
     "$rp" analyse "$n.csv" >"$n.out" 2>"$n.err" </dev/null
     echo $? >"$n.status"
   done' sh 2>/dev/null
+# shellcheck disable=SC2012
 ls | sed -n 's/[.]csv$//p' | sort -n | awk '
   function value(word) { return word == "holds" || word == "model" ? 1 : word == "violated" || word == "none" ? 0 : "." }
   # The greatest multiple of 2^-53 that is no greater than num/den, whole numbers below 2^51 of which num is the lesser.

@@ -432,7 +432,7 @@ def check_verdicts():
 
 def check_refusals():
     _, code, said, _ = call(example("experiment.csv"), prices="p_x p_y", quantities="q_x q_y")
-    assert code == 459 and "digits( 6 5)" in said, (code, said)
+    assert code == 459 and "digits(6 5)" in said, (code, said)
     data = example("decimals.csv")
     data["q_wine"][1] = None
     found, code, _, _ = call(data, **BOTH)
@@ -492,14 +492,14 @@ def households(count):
 def check_many():
     """Runs more households than a matrix holds; the number of commands grows as that of households."""
     steps = []
-    for count in (450, 900):
+    for count in (150, 900):
         found, code, _, stata = call(households(count), prices="p_a p_b", quantities="q_a q_b", by="id", generate="v", saving="kept.dta")
         assert code == 0 and found["groups"] == count and found["held"] == count - (count + 2) // 3 and found["without"] == 0, found
         assert ("verdicts" in found) == (count <= 800) and len(found["kept.dta"]) == count
         assert all(row["garp"] == (row["id"] % 3 != 0) for row in found["kept.dta"])
         assert all(garp == (own % 3 != 0) for own, garp in zip(stata.data["id"], stata.data["v_garp"]))
         steps.append(stata.steps)
-    assert steps[1] < 2.1 * steps[0], steps
+    assert steps[1] < 6.3 * steps[0], steps
 
 
 def check_texts():

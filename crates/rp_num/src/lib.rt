@@ -20,7 +20,8 @@ pub use print::{print_frac, print_i128, print_u128};
 pub use read::{read_frac, read_i128, read_u128};
 use std::alloc::{AllocError, AllocFailed};
 
-/// Memory ran out. Nothing else is ever reported as this.
+/// Memory ran out. No clause says when, so contracts leave this answer free; tests call what takes memory with memory
+/// to spare, and there it does not come.
 #[derive(Clone, Copy, Debug, PartialEq, Eq)]
 pub struct NoMemory;
 

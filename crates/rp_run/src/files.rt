@@ -26,10 +26,10 @@ use rp_text::TableFault;
 use std::alloc::Global;
 
 /// The most bytes of a file of numbers.
-pub(crate) const MOST_BYTES: u64 = 4_194_304;
+pub const MOST_BYTES: u64 = 4_194_304;
 
 /// The most bytes of a certificate.
-pub(crate) const MOST_CERTIFICATE_BYTES: u64 = 16_777_216;
+pub const MOST_CERTIFICATE_BYTES: u64 = 16_777_216;
 
 /// Why a line has no input.
 #[derive(Drop)]

@@ -6,6 +6,7 @@ mod contents;
 mod fault_text;
 mod files;
 mod laws;
+mod limits;
 mod menus;
 mod number_files;
 mod patches;
@@ -14,7 +15,9 @@ mod sure;
 mod telling;
 
 pub use contents::Contents;
+pub use files::{MOST_BYTES, MOST_CERTIFICATE_BYTES};
 pub use laws::bytes_denote_one_input_or_refusal;
+pub use limits::limits_in_numbers;
 pub use rp_answers::{Status, trial_table};
 pub use running::run;
 pub use sure::run_surely;

@@ -103,10 +103,10 @@ pub(crate) struct Form {
 }
 
 /// The most observations of a trial table.
-pub(crate) const MOST_ROWS: u64 = 256;
+pub const MOST_ROWS: u64 = 256;
 
 /// The most random behaviours that are drawn.
-pub(crate) const MOST_DRAWS: u64 = 1_000;
+pub const MOST_DRAWS: u64 = 1_000;
 
 /// How many units there are on each budget or menu.
 pub(crate) const UNITS: Number = Number {

@@ -2,7 +2,7 @@
 
 # Returns new prices of a table's goods, with what is spent where `m` is wanted.
 new_prices <- function(table, new, m = NULL, wants_m = FALSE, digits = NULL) {
-  if (is.null(dim(new))) new <- one_row(new, "new prices are")
+  new <- plain_frame(if (is.null(dim(new))) one_row(new, "new prices are") else new)
   if (wants_m && is.data.frame(new) && "m" %in% names(new) && !"m" %in% table$goods) {
     if (is.null(m)) m <- new[["m"]]
     new <- new[names(new) != "m"]
@@ -148,6 +148,7 @@ outputs_of <- function(technology, new, digits) {
 
 # Returns the sheet of choices from menus: letters from a to f, and how often.
 menus_of <- function(data) {
+  data <- plain_frame(data)
   wanted <- c("menu", "choice", "n")
   absent <- if (is.data.frame(data)) setdiff(wanted, names(data)) else wanted
   if (length(absent)) {

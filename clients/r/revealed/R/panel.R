@@ -12,6 +12,7 @@ asked_of_panels <- list(
 rp_panel <- function(data, id, ask = c("test", "pump", "power"), digits = NULL, levels = NULL, seed = NULL, draws = 1000, workers = NULL,
                      progress = interactive(), exe = NULL) {
   kind <- chosen(ask, c("test", "pump", "power"), "ask")
+  data <- plain_frame(data)
   if (!is_switch(progress)) bad_data("progress is TRUE or FALSE")
   workers <- if (is.null(workers)) processors() else as.integer(whole_word(workers, "workers", "1", "4096"))
   sides <- panel_sides(data, id, levels)
@@ -46,8 +47,10 @@ panel_sides <- function(data, id, levels = NULL) {
   if (missing(id) || !is.character(id) || !length(id)) bad_data("id names the column, or the columns, that tell the households apart")
   absent <- setdiff(id, names(data))
   if (length(absent)) bad_data("id: there is no column ", quoted(absent[1]), "; found: ", listed(names(data)))
+  taken <- intersect(id, answer_names)
+  if (length(taken)) bad_data("id: the answer has a column ", quoted(taken[1]), " of its own; give the column another name")
   rest <- as.data.frame(unclass(as.list(data)[!names(data) %in% id]), optional = TRUE, stringsAsFactors = FALSE)
-  sides <- sides_of(rest)
+  sides <- sides_of(rest, in_panel = TRUE)
   # A column that has no numbers is told at once, and not for each household.
   for (column in c(sides$prices, sides$quantities)) number_texts(column[0])
   sides$labels <- frame_labels(if ("obs" %in% names(data)) rest else data)
@@ -58,6 +61,12 @@ panel_sides <- function(data, id, levels = NULL) {
   if (!is.null(sides$levels)) warn_of_levels(number_texts(sides$levels))
   sides
 }
+
+# The names that a panel's frame has beside those of the households.
+answer_names <- c(
+  "status", "garp", "afriat", "ccei", "efficiency", "attained", "homothetic", "quasilinear", "pump", "pump_ratio", "power", "violations", "draws",
+  "message"
+)
 
 # Returns all that a panel has as one sheet, by which it is told what fits.
 whole_sheet <- function(sides) {

@@ -58,7 +58,7 @@ with_levels <- function(table, levels) {
 
 # Returns the two sides of one frame. Columns other than p_NAME, q_NAME, e and obs are left out, and told where the answer
 # is printed.
-sides_of <- function(d) {
+sides_of <- function(d, in_panel = FALSE) {
   if (!is.data.frame(d)) bad_data("there are no quantities; a data frame alone has columns p_NAME and q_NAME for each good")
   prices <- starting(names(d), "p_")
   quantities <- starting(names(d), "q_")
@@ -71,11 +71,31 @@ sides_of <- function(d) {
   near <- names(d)[!names(d) %in% "e" & trimws(tolower(names(d))) == "e"]
   if (length(near)) unpaired(d, near[1], "levels of observations stand in a column e", "BadHeader")
   goods <- substring(prices, 3)
+  left_out <- setdiff(names(d), c(prices, quantities, "e", "obs"))
+  if (!in_panel) no_panel(d, left_out)
   list(
     goods = goods, prices = columns_of(d, prices), quantities = columns_of(d, paste0("q_", goods)),
-    labels = frame_labels(d), levels = if ("e" %in% names(d)) d[["e"]],
-    left_out = setdiff(names(d), c(prices, quantities, "e", "obs"))
+    labels = frame_labels(d), levels = if ("e" %in% names(d)) d[["e"]], left_out = left_out
   )
+}
+
+# The names by which a column of households is known.
+households <- c(
+  "household", "household_id", "householdid", "hh", "hhid", "hh_id", "subject", "subject_id", "subjectid", "participant", "participant_id",
+  "participantid", "respondent", "respondent_id", "consumer", "consumer_id", "person", "person_id", "individual", "id", "pid", "uid"
+)
+
+# Refuses a frame with a column of households: one with such a name whose values come again.
+no_panel <- function(d, left_out) {
+  for (name in left_out[trimws(tolower(left_out)) %in% households]) {
+    values <- length(unique(d[[name]]))
+    if (values > 1 && values < nrow(d)) {
+      bad_data(
+        "the column ", quoted(name), " has ", values, " values for ", nrow(d), " rows, and a table is one household: say rp_panel(data, id = ",
+        quoted(name), "); if these rows are one household, leave the column out"
+      )
+    }
+  }
 }
 
 unpaired <- function(d, name, hint, fault = "Unpaired") {
@@ -94,6 +114,9 @@ starting <- function(names, prefix) {
   names[own]
 }
 
+# Returns a frame as R's own, whose brackets are those of no package.
+plain_frame <- function(data) if (is.data.frame(data)) as.data.frame(data) else data
+
 columns_of <- function(d, names) lapply(names, function(name) d[[name]])
 
 frame_labels <- function(d) {
@@ -103,6 +126,7 @@ frame_labels <- function(d) {
 
 # Returns the columns of a matrix or a frame, with the names of their goods and of the rows where there are any.
 side_of <- function(data, prefix, what) {
+  data <- plain_frame(data)
   if (is.data.frame(data)) {
     names <- setdiff(names(data), "obs")
     goods <- ifelse(startsWith(names, prefix), substring(names, 3), names)

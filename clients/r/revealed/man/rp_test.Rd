@@ -22,7 +22,8 @@ rp_certify(p, q = NULL, digits = NULL, levels = NULL, exe = NULL)
 \item{p}{prices: a matrix or data frame with a row for each observation and a column for each good; or, without \code{q}, a
 data frame with columns \code{p_NAME} and \code{q_NAME} for each good, and perhaps \code{e}, of which other columns are left
 out, which the printed answer tells. A column \code{obs} has the labels of the rows, else the row names have. A label that
-stands twice is an error: such a table is most likely a panel (\code{\link{rp_panel}}).}
+stands twice is an error, and so is a column with a name such as \code{household} or \code{id} whose values come again: such a
+table is most likely a panel (\code{\link{rp_panel}}).}
 \item{q}{quantities in the same shape. Where both have column names of the same goods (\code{p_} and \code{q_} in front do
 not count), they are put together by these, and matrices else by place.}
 \item{digits}{to how many decimal places numbers are rounded, one number or two, of prices and of quantities; without it

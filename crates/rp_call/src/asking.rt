@@ -1,0 +1,76 @@
+//! What the words and files that were handed over end with.
+
+use crate::ending::Ending;
+use crate::files::first_missing;
+use crate::running::run_over;
+use rp_frame::Handed;
+use rp_num::NoMemory;
+use rp_outside::MemFile;
+use rp_run::Status;
+use rp_words::{Line, read_line};
+use std::alloc::Global;
+
+/// How a call ended, with what is written and what is told.
+#[derive(Drop)]
+pub(crate) struct Texts {
+    pub(crate) ending: Ending,
+    pub(crate) output: Vec<u8>,
+    pub(crate) told: Vec<u8>,
+}
+
+/// An ending that nothing is written or told of.
+pub(crate) fn silent(alloc: Global, ending: Ending) -> Texts {
+    Texts {
+        ending,
+        output: Vec::new(alloc),
+        told: Vec::new(alloc),
+    }
+}
+
+/// The answer to words over files, or why there is none.
+pub(crate) fn answer_handed(alloc: Global, handed: Handed) -> Result<Texts, NoMemory> {
+    let Handed { words, files } = handed;
+    match read_line(alloc, words.as_slice())? {
+        Some(line) => answer_line(alloc, &words, &line, files),
+        None => run_files(alloc, &words, files),
+    }
+}
+
+/// The answer to a line over files. One that it names and that is not given is told before any file is looked at.
+fn answer_line(
+    alloc: Global,
+    words: &Vec<String>,
+    line: &Line<'_>,
+    files: Vec<MemFile>,
+) -> Result<Texts, NoMemory> {
+    let names = line.arguments.files.as_slice();
+    if files.len() > names.len() {
+        return Ok(silent(alloc, Ending::Malformed));
+    }
+    match first_missing(names, files.as_slice()) {
+        Some(place) => unread(alloc, names[place]),
+        None => run_files(alloc, words, files),
+    }
+}
+
+/// The answer of a run over files.
+fn run_files(alloc: Global, words: &Vec<String>, files: Vec<MemFile>) -> Result<Texts, NoMemory> {
+    let texts = run_over(alloc, words, files)?;
+    Ok(Texts {
+        ending: Ending::Ran(texts.status),
+        output: texts.output,
+        told: texts.told,
+    })
+}
+
+/// The ending where a file is not given.
+fn unread(alloc: Global, name: &str) -> Result<Texts, NoMemory> {
+    let mut told = Vec::from_slice(alloc, b"rp: ")?;
+    told.extend_from_slice(name.as_bytes())?;
+    told.extend_from_slice(b": read failed\n")?;
+    Ok(Texts {
+        ending: Ending::Ran(Status::ReadFault),
+        output: Vec::new(alloc),
+        told,
+    })
+}

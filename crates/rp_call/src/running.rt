@@ -1,0 +1,35 @@
+//! A run over files that are all given.
+
+use rp_frame::TextSink;
+use rp_num::NoMemory;
+use rp_outside::{MemFile, SureDesk};
+use rp_run::{Status, run};
+use std::alloc::Global;
+
+/// What a run wrote and told, and its status.
+#[derive(Drop)]
+pub(crate) struct RunTexts {
+    pub(crate) status: Status,
+    pub(crate) output: Vec<u8>,
+    pub(crate) told: Vec<u8>,
+}
+
+/// Runs words over files, of which none is missing that they name.
+pub(crate) fn run_over(
+    alloc: Global,
+    words: &Vec<String>,
+    files: Vec<MemFile>,
+) -> Result<RunTexts, NoMemory> {
+    let mut desk = SureDesk::new(files);
+    let mut out = TextSink::new(alloc);
+    let mut err = TextSink::new(alloc);
+    let status = run(alloc, words, &mut desk, &mut out, &mut err);
+    if status == Status::NoMemory || out.faults() > 0 || err.faults() > 0 {
+        return Err(NoMemory);
+    }
+    Ok(RunTexts {
+        status,
+        output: out.into_bytes(),
+        told: err.into_bytes(),
+    })
+}

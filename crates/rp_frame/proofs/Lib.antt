@@ -1,0 +1,6 @@
+mod Examples
+mod FileLemmas
+mod HandedLemmas
+mod PartLemmas
+mod PieceLemmas
+mod TextLemmas

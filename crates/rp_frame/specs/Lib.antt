@@ -1,0 +1,4 @@
+pub mod Frames
+pub mod Handed
+pub mod Rooms
+pub mod TextSink

@@ -1,0 +1,13 @@
+//! A call from a program that has bytes alone: how it hands over words and files, and where texts go in its room.
+#![tactic(auto)]
+
+mod handed;
+mod parts;
+mod pieces;
+mod rooms;
+mod text_sink;
+mod texts;
+
+pub use handed::{FrameFault, Handed, read_frame};
+pub use rooms::fill;
+pub use text_sink::TextSink;

@@ -1,0 +1,69 @@
+/** Calls of the worker. Work is stopped by ending the worker; the next call begins a new one. */
+
+function bytesOfBase64(text) {
+  return Uint8Array.from(atob(text), (it) => it.charCodeAt(0));
+}
+
+export class Stopped extends Error {}
+
+export class Client {
+  constructor(moduleText, workerText) {
+    this.module = bytesOfBase64(moduleText);
+    this.address = URL.createObjectURL(new Blob([workerText], { type: "text/javascript" }));
+    this.worker = null;
+    this.waiting = new Map();
+    this.number = 0;
+  }
+
+  #begin() {
+    this.worker = new Worker(this.address);
+    this.worker.onmessage = ({ data }) => this.#take(data);
+    this.worker.onerror = (event) => this.#fail(new Error(event.message || "the worker ended"));
+    this.#send("load", this.module).catch(() => {});
+  }
+
+  #take(data) {
+    if (data.part) {
+      this.onPart?.(data.part, data.done);
+      return;
+    }
+    const { resolve, reject } = this.waiting.get(data.id);
+    this.waiting.delete(data.id);
+    if (data.error) reject(new Error(data.error));
+    else resolve(data.answer);
+  }
+
+  #fail(error) {
+    for (const { reject } of this.waiting.values()) reject(error);
+    this.waiting.clear();
+    this.worker?.terminate();
+    this.worker = null;
+  }
+
+  #send(kind, given) {
+    const id = ++this.number;
+    const answer = new Promise((resolve, reject) => this.waiting.set(id, { resolve, reject }));
+    this.worker.postMessage({ id, kind, given });
+    return answer;
+  }
+
+  #ask(kind, given) {
+    if (!this.worker) this.#begin();
+    return this.#send(kind, given);
+  }
+
+  /** The status, what is written and what is told, for the words of a command over files. */
+  answer(words, files) {
+    return this.#ask("one", { words, files });
+  }
+
+  /** Answers each household; `onPart` takes what came since it was called last, and how many are done. */
+  panel(words, households, onPart) {
+    this.onPart = onPart;
+    return this.#ask("panel", { words, households });
+  }
+
+  stop() {
+    this.#fail(new Stopped("stopped"));
+  }
+}

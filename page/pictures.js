@@ -1,0 +1,160 @@
+/** Pictures as SVG, to keep as files. They are drawn with floating point from the exact answers, and decide nothing. */
+
+const SVG = "http://www.w3.org/2000/svg";
+// The looks of a picture that stands alone as a file; on the page the style sheet decides.
+const ALONE = `text{font:13px sans-serif;fill:#1b1b1f}.axis{stroke:#1b1b1f;fill:none}.budget{stroke:#55555f;fill:none}
+.cycle{stroke:#96261d;stroke-width:3;fill:none}.arrow{fill:#96261d}.chosen{fill:#3d3a8c;stroke:#fff}
+.curve{stroke:#1c5d33;stroke-width:2.5;stroke-dasharray:7 4;fill:none}.people{stroke:#3d3a8c;stroke-width:2.5;fill:none}
+.random{stroke:#96261d;stroke-width:2.5;stroke-dasharray:3 4;fill:none}.bar{stroke:#3d3a8c;stroke-width:8;fill:none}`;
+
+function element(name, attributes, ...children) {
+  const it = document.createElementNS(SVG, name);
+  for (const [key, value] of Object.entries(attributes)) it.setAttribute(key, String(value));
+  it.append(...children);
+  return it;
+}
+
+function picture(width, height, title, description) {
+  const it = element("svg", { viewBox: `0 0 ${width} ${height}`, role: "img", "aria-label": `${title}. ${description}`, xmlns: SVG });
+  it.append(element("title", {}, title), element("desc", {}, description));
+  return it;
+}
+
+/** The text of a picture as a file. */
+export function fileOf(svg) {
+  const copy = svg.cloneNode(true);
+  copy.prepend(element("rect", { width: "100%", height: "100%", fill: "#fff" }));
+  copy.prepend(element("style", {}, ALONE));
+  return `<?xml version="1.0" encoding="UTF-8"?>\n${new XMLSerializer().serializeToString(copy)}\n`;
+}
+
+/** Round numbers from 0 to at least the greatest, some five of them. */
+function ticks(most) {
+  const rough = most / 5;
+  const power = 10 ** Math.floor(Math.log10(rough));
+  const step = [1, 2, 5, 10].map((it) => it * power).find((it) => it >= rough);
+  return Array.from({ length: Math.ceil(most / step - 1e-9) + 1 }, (_, at) => at * step);
+}
+
+const ticked = (value) => String(Number(value.toPrecision(6)));
+
+/** The frame of a picture: axes from 0 with round numbers, and the two functions from numbers to places. */
+function axes(svg, { left, top, width, height, mostX, mostY, nameX, nameY }) {
+  const [ticksX, ticksY] = [ticks(mostX), ticks(mostY)];
+  const [endX, endY] = [ticksX.at(-1), ticksY.at(-1)];
+  const x = (value) => left + (value / endX) * width;
+  const y = (value) => top + height - (value / endY) * height;
+  svg.append(element("path", { class: "axis", d: `M${left} ${top}V${top + height}H${left + width}` }));
+  for (const it of ticksX) {
+    svg.append(element("path", { class: "axis", d: `M${x(it)} ${top + height}v5` }));
+    svg.append(element("text", { x: x(it), y: top + height + 20, "text-anchor": "middle" }, ticked(it)));
+  }
+  for (const it of ticksY) {
+    svg.append(element("path", { class: "axis", d: `M${left} ${y(it)}h-5` }));
+    svg.append(element("text", { x: left - 9, y: y(it) + 4, "text-anchor": "end" }, ticked(it)));
+  }
+  svg.append(element("text", { x: left + width / 2, y: top + height + 40, "text-anchor": "middle" }, nameX));
+  const across = { x: 14, y: top + height / 2, "text-anchor": "middle", transform: `rotate(-90 14 ${top + height / 2})` };
+  svg.append(element("text", across, nameY));
+  return { x, y, endX, endY };
+}
+
+const pathOf = (points) => points.map(([x, y], at) => `${at ? "L" : "M"}${x.toFixed(2)} ${y.toFixed(2)}`).join("");
+
+/** An arrow from one place to another that stops short of both. */
+function arrow(svg, [x1, y1], [x2, y2], bend) {
+  const length = Math.hypot(x2 - x1, y2 - y1) || 1;
+  const [dx, dy] = [(x2 - x1) / length, (y2 - y1) / length];
+  const [midX, midY] = [(x1 + x2) / 2 - dy * bend, (y1 + y2) / 2 + dx * bend];
+  const [toX, toY] = [x2 - dx * 9, y2 - dy * 9];
+  const turn = Math.hypot(toX - midX, toY - midY) || 1;
+  const [ux, uy] = [(toX - midX) / turn, (toY - midY) / turn];
+  svg.append(element("path", { class: "cycle", d: `M${x1 + dx * 8} ${y1 + dy * 8}Q${midX} ${midY} ${toX - ux * 8} ${toY - uy * 8}` }));
+  const [baseX, baseY] = [toX - ux * 11, toY - uy * 11];
+  svg.append(element("path", { class: "arrow", d: `M${toX} ${toY}L${baseX - uy * 5} ${baseY + ux * 5}L${baseX + uy * 5} ${baseY - ux * 5}Z` }));
+}
+
+/** The places where a curve of equal utility by Afriat's numbers turns: the bundles that cost as much as each choice says. */
+function curveOf(table, model, through, x, y, endX, endY) {
+  const costs = (s, t) => Number(table.cost(s, t));
+  const prices = (s) => table.prices[s].map(Number);
+  const scale = 10 ** table.quantityPlaces;
+  const level = model.utility[through];
+  const lines = table.prices.map((_, s) => ({ p: prices(s), least: costs(s, s) + (level - model.utility[s]) / model.lambda[s] }));
+  const points = [];
+  const steps = 300;
+  for (let at = 0; at <= steps; at++) {
+    const first = ((endX * scale) / steps) * at;
+    const second = Math.max(...lines.map(({ p, least }) => (least - p[0] * first) / p[1]));
+    if (second >= 0 && second <= endY * scale) points.push([x(first / scale), y(second / scale)]);
+  }
+  return points;
+}
+
+/** Budget lines of a table of two goods with the choices, a violating cycle, and a curve of equal utility where there is one. */
+export function budgetPicture(table, cycle, model) {
+  const scale = 10 ** table.quantityPlaces;
+  const ends = table.prices.map((p, s) => p.map((price) => Number(table.cost(s, s)) / Number(price) / scale));
+  const chosen = table.quantities.map((it) => it.map((q) => Number(q) / scale));
+  const what = cycle.length ? `The arrows are the cycle ${cycle.join(", ")}: each leads to a bundle that could have been bought.` : "";
+  const curve = model ? `The dashed curve joins bundles as good as that of observation ${model.through + 1} by Afriat's numbers.` : "";
+  const svg = picture(640, 480, "Budget lines and choices", `${table.count} observations of ${table.goods.join(" and ")}. ${what}${curve}`);
+  const frame = { left: 64, top: 16, width: 556, height: 408, nameX: table.goods[0], nameY: table.goods[1] };
+  const { x, y, endX, endY } = axes(svg, { ...frame, mostX: Math.max(...ends.map((it) => it[0])), mostY: Math.max(...ends.map((it) => it[1])) });
+  const inCycle = new Set(cycle.map((it) => it - 1));
+  const few = table.count <= 60;
+  ends.forEach(([a, b], s) => {
+    if (few || inCycle.has(s)) svg.append(element("path", { class: "budget", "stroke-width": inCycle.has(s) ? 2.5 : 1, d: pathOf([[x(a), y(0)], [x(0), y(b)]]) }));
+  });
+  if (model) svg.append(element("path", { class: "curve", d: pathOf(curveOf(table, model, model.through, x, y, endX, endY)) }));
+  cycle.slice(1).forEach((to, at) => {
+    const [from, there] = [chosen[cycle[at] - 1], chosen[to - 1]];
+    arrow(svg, [x(from[0]), y(from[1])], [x(there[0]), y(there[1])], 26);
+  });
+  chosen.forEach(([a, b], s) => {
+    svg.append(element("circle", { class: "chosen", cx: x(a), cy: y(b), r: inCycle.has(s) ? 6 : 4 }));
+    if (table.count <= 12 || inCycle.has(s)) svg.append(element("text", { x: x(a) + 9, y: y(b) - 8 }, String(s + 1)));
+  });
+  return svg;
+}
+
+/** Bounds of each good as intervals. A bound that is withheld has no end. */
+export function intervalPicture(goods) {
+  const most = Math.max(...goods.flatMap((it) => [it.lower ?? 0, it.upper ?? 0]), 0) || 1;
+  const describes = goods.map((it) => `${it.name}: from ${it.lower ?? "withheld"} to ${it.upper ?? "withheld"}`).join("; ");
+  const height = 70 + 34 * goods.length;
+  const svg = picture(640, height, "Bounds on demand", describes);
+  const { x } = axes(svg, { left: 130, top: 10, width: 480, height: height - 66, mostX: most, mostY: 1, nameX: "quantity", nameY: "" });
+  svg.querySelectorAll("text[text-anchor=end]").forEach((it) => it.remove());
+  goods.forEach((it, at) => {
+    const row = 28 + 34 * at;
+    svg.append(element("text", { x: 122, y: row + 4, "text-anchor": "end" }, it.name));
+    const [from, to] = [x(it.lower ?? 0), x(it.upper ?? most)];
+    svg.append(element("path", { class: "bar", d: `M${from} ${row}H${Math.max(to, from + 1)}` }));
+  });
+  return svg;
+}
+
+/** The cumulative curve of numbers from 0 to 1. */
+function cumulative(values, x, y) {
+  const sorted = [...values].sort((a, b) => a - b);
+  const points = [[x(0), y(0)]];
+  sorted.forEach((it, at) => points.push([x(it), y(at / sorted.length)], [x(it), y((at + 1) / sorted.length)]));
+  points.push([x(1), y(1)]);
+  return pathOf(points);
+}
+
+/** The share of households with at most each index, beside that of random behaviour on the same budgets. */
+export function indexPicture(people, random) {
+  const beside = random.length ? `, beside ${random.length} tables of random behaviour on the same budgets` : "";
+  const svg = picture(640, 480, "Efficiency indices", `The share of ${people.length} households with at most each index${beside}.`);
+  const frame = { left: 64, top: 34, width: 556, height: 390, mostX: 1, mostY: 1, nameX: "efficiency index", nameY: "share with at most this index" };
+  const { x, y } = axes(svg, frame);
+  if (random.length) svg.append(element("path", { class: "random", d: cumulative(random, x, y) }));
+  svg.append(element("path", { class: "people", d: cumulative(people, x, y) }));
+  const key = [["people", "households", 64], ...(random.length ? [["random", "random behaviour", 220]] : [])];
+  for (const [name, says, at] of key) {
+    svg.append(element("path", { class: name, d: `M${at} 16h34` }), element("text", { x: at + 42, y: 20 }, says));
+  }
+  return svg;
+}

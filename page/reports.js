@@ -1,0 +1,128 @@
+/** The program's texts read back, and what they say in words. Costs are exact: whole numbers in the table's own scale. */
+
+/** Gives the items of a report on a table by the first words of its lines. */
+export function parseReport(text) {
+  const report = { lines: text.split("\n").filter(Boolean), items: {} };
+  let item = null;
+  for (const line of report.lines) {
+    const [first, ...rest] = line.split(" ");
+    if (first === "observations") report.size = { observations: +rest[0], goods: +rest[2], prices: +rest[4], quantities: +rest[5] };
+    else if (first === "levels") report.levels = rest.map(Number);
+    else if (["garp", "afriat", "efficiency", "homothetic", "quasilinear", "pump"].includes(first)) {
+      item = { verdict: rest.join(" ") };
+      report.items[first] = item;
+    } else if (item) {
+      const key = first === "at" ? `at ${rest[0]}` : first;
+      item[key] = (first === "at" ? rest.slice(1) : rest).join(" ");
+    }
+  }
+  return report;
+}
+
+/** Gives the numbers of a list of the program's. */
+export function numbersIn(list) {
+  return !list || list === "none" ? [] : list.split(" ").map(Number);
+}
+
+/** Gives a fraction of the program's as a number that floating point has, for pictures and for sorting. */
+export function asNumber(fraction) {
+  const [num, den = "1"] = fraction.split("/");
+  const [a, b] = [BigInt(num), BigInt(den)];
+  return Number((a * 10n ** 15n) / b) / 1e15;
+}
+
+/** Gives a decimal text as a whole number at so many places. */
+function scaled(text, places) {
+  const [whole, part = ""] = text.trim().split(".");
+  return BigInt(whole + part.slice(0, places).padEnd(places, "0"));
+}
+
+const placesOf = (text) => (text.trim().split(".")[1] ?? "").replace(/0+$/, "").length;
+
+/** Prices and quantities of a table, as whole numbers, and what each bundle costs at each observation's prices. */
+export class Purchases {
+  constructor(records) {
+    const header = records[0].map((it) => it.trim());
+    const column = (name) => header.indexOf(name);
+    this.goods = header.filter((it) => it.startsWith("p_")).map((it) => it.slice(2));
+    const rows = records.slice(1);
+    const all = (mark) => this.goods.map((it) => column(`${mark}_${it}`));
+    const places = (columns) => Math.max(0, ...rows.flatMap((row) => columns.map((at) => placesOf(row[at] ?? ""))));
+    [this.pricePlaces, this.quantityPlaces] = [places(all("p")), places(all("q"))];
+    this.prices = rows.map((row) => all("p").map((at) => scaled(row[at], this.pricePlaces)));
+    this.quantities = rows.map((row) => all("q").map((at) => scaled(row[at], this.quantityPlaces)));
+    this.labels = rows.map((row, at) => (column("obs") < 0 ? "" : row[column("obs")].trim()) || String(at + 1));
+    this.levels = column("e") < 0 ? null : rows.map((row) => Number(row[column("e")]));
+  }
+
+  get count() {
+    return this.prices.length;
+  }
+
+  cost(at, bundle) {
+    return this.prices[at].reduce((sum, price, good) => sum + price * this.quantities[bundle][good], 0n);
+  }
+
+  /** An amount of money as a decimal text. */
+  money(amount) {
+    return decimal(amount, this.pricePlaces + this.quantityPlaces);
+  }
+}
+
+/** Writes a whole number at so many places as a decimal. */
+export function decimal(amount, places) {
+  const sign = amount < 0n ? "−" : "";
+  const digits = (amount < 0n ? -amount : amount).toString().padStart(places + 1, "0");
+  const [whole, part] = [digits.slice(0, digits.length - places), digits.slice(digits.length - places).replace(/0+$/, "")];
+  return sign + whole + (part ? `.${part}` : "");
+}
+
+/** The steps of a closed walk as sentences. */
+export function cycleSentences(cycle, table) {
+  const name = (at) => (table.labels[at - 1] === String(at) ? `observation ${at}` : `observation ${at} (${table.labels[at - 1]})`);
+  return cycle.slice(1).map((to, at) => {
+    const from = cycle[at];
+    const [paid, other] = [table.cost(from - 1, from - 1), table.cost(from - 1, to - 1)];
+    const held = table.levels ? `, of which ${table.levels[from - 1]} thousandths count` : "";
+    return `In ${name(from)} you could have had the bundle of ${to} for ${table.money(other)}, and paid ${table.money(paid)}${held}.`;
+  });
+}
+
+/** What each fault of a file means, and what to do. */
+const FAULTS = {
+  Empty: "The file has no line at all.",
+  BadHeader: "A column has a name that no column of this kind of file has. A table has p_NAME and q_NAME for each good, and may have e and obs: assign the columns above, or leave this one out.",
+  TwiceNamed: "Two columns have one name.",
+  Unpaired: "A column is missing, or a price stands without its quantity. Each good wants p_NAME and q_NAME.",
+  TooManyGoods: "There are more than 16 goods: put goods together, or leave some out.",
+  NoRecords: "There are column names and no records.",
+  TooManyRecords: "There are more records than this kind of file may have. A table has at most 512: is this a panel that wants a column of households?",
+  Ragged: "This record has more or fewer fields than there are column names.",
+  BadNumber: "This is no number as the program takes it: digits, and possibly a point with digits on both sides; no sign, no blank, no exponent, no mark of thousands.",
+  TooManyDecimals: "This number has more than 6 places. Round it yourself, knowing that a verdict can hang on the rounding.",
+  ZeroPrice: "A price is 0; prices are above 0.",
+  BadLevel: "A level is from 1 to 1000 thousandths.",
+  ZeroBundle: "Nothing was bought in this record, or nothing is spent.",
+  TooLarge: "With the places of the longest number of its kind this number is above 9,999,999. Count in a greater unit, or give fewer places to all.",
+  OtherGoods: "These are not the goods of the table.",
+  TooFine: "This number has more places than those of the table.",
+  OwnLevels: "This command is defined without levels of the observations' own: leave the column e out for it.",
+  TooLong: "The file is longer than the program takes.",
+  BadMenu: "This is no menu: letters from a to f, each after the one before it.",
+  BadChoice: "This is not one letter of the menu.",
+  NoMenus: "Every n is 0.",
+  TooManyCells: "There are more than 64 pairs of a menu and a choice.",
+  TooManyPatches: "The budgets have more than 48 patches.",
+  TooManyCombinations: "A patch of each budget can be taken in more than 2^20 ways.",
+  TooManyTypes: "There are more than 4,096 rational types.",
+  NeedUnit: "The numbers of choices have no common unit that is small enough: give a number of units.",
+  NoChoice: "On some budget nothing was chosen.",
+};
+
+/** What is told of a refused file: its name, fault, record, column, and what it means. */
+export function parseFault(told) {
+  const it = /^rp: (?:([^]*?): )?([A-Z]\w+)((?: [a-z]+ \d+)*)\n$/.exec(told);
+  if (!it) return null;
+  const place = (word) => Number(new RegExp(`${word} (\\d+)`).exec(it[3])?.[1] ?? 0);
+  return { file: it[1] ?? "", fault: it[2], record: place("record"), column: place("column"), means: FAULTS[it[2]] ?? "" };
+}

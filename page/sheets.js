@@ -1,0 +1,254 @@
+/**
+ * Files of numbers as people have them: what of their form the program does not take is found and named, with the exact
+ * change that is offered. Nothing is changed before it is asked for.
+ */
+
+/** Gives the records of a text with this mark between fields, a quoted field taken as one; each with its line's number. */
+export function parseRecords(text, mark) {
+  const records = [];
+  let [fields, field, quoted, started] = [[], "", false, false];
+  const endField = () => {
+    fields.push(field);
+    [field, started] = ["", false];
+  };
+  const endRecord = () => {
+    endField();
+    if (fields.length > 1 || fields[0] !== "") records.push(fields);
+    fields = [];
+  };
+  for (let at = 0; at < text.length; at++) {
+    const it = text[at];
+    if (quoted) {
+      if (it !== '"') field += it;
+      else if (text[at + 1] === '"') field += text[at++];
+      else quoted = false;
+    } else if (it === '"' && !started && field === "") {
+      [quoted, started] = [true, true];
+    } else if (it === mark) {
+      endField();
+    } else if (it === "\n" || it === "\r") {
+      if (it === "\r" && text[at + 1] === "\n") at += 1;
+      endRecord();
+    } else {
+      field += it;
+    }
+  }
+  if (field !== "" || fields.length || started) endRecord();
+  return records;
+}
+
+/** Writes records as the program reads them. */
+export function writeRecords(records) {
+  const written = (it) => (/[",\n\r]/.test(it) ? `"${it.replaceAll('"', '""')}"` : it);
+  return records.map((fields) => `${fields.map(written).join(",")}\n`).join("");
+}
+
+/** The mark between fields that the line of names suggests. */
+function markOf(text) {
+  const head = text.split(/\r?\n|\r/, 1)[0];
+  const counts = [",", ";", "\t"].map((it) => [head.split(it).length - 1, it]);
+  counts.sort((a, b) => b[0] - a[0]);
+  return counts[0][0] ? counts[0][1] : ",";
+}
+
+const MARK_NAMES = { ";": "semicolons", "\t": "tabs" };
+const DECIMAL_COMMA = /^\s*\d+,\d+\s*$/;
+const THOUSANDS_COMMA = /^\s*\d{1,3}(,\d{3})+\s*$/;
+const DATE = /^\s*(\d{4}-\d{1,2}-\d{1,2}|\d{1,2}[./]\d{1,2}[./]\d{2,4}|\d{1,2}[- ](jan|feb|mar|apr|may|jun|jul|aug|sep|oct|nov|dec)[a-z]*)\s*$/i;
+
+/** Gives the text of a file, and how its bytes were read where that is not as UTF-8. */
+export function decodeFile(bytes) {
+  if (bytes[0] === 0xff && bytes[1] === 0xfe) return { text: new TextDecoder("utf-16le").decode(bytes), coding: "UTF-16" };
+  if (bytes[0] === 0xfe && bytes[1] === 0xff) return { text: new TextDecoder("utf-16be").decode(bytes), coding: "UTF-16" };
+  try {
+    return { text: new TextDecoder("utf-8", { fatal: true }).decode(bytes), coding: null };
+  } catch {
+    return { text: new TextDecoder("windows-1252").decode(bytes), coding: "Windows-1252" };
+  }
+}
+
+/** A file with what was found of its form, and which of the offered changes are made. */
+export class Sheet {
+  constructor(name, bytes) {
+    this.name = name;
+    this.bytes = bytes;
+    const { text, coding } = decodeFile(bytes);
+    this.text = text;
+    this.coding = coding;
+    this.made = new Set();
+    this.mark = markOf(text);
+    this.hasMark = bytes[0] === 0xef && bytes[1] === 0xbb && bytes[2] === 0xbf;
+  }
+
+  /** The records as they stand, before any change but that of the mark between fields, which only tells fields apart. */
+  get records() {
+    this.parsed ??= parseRecords(this.text, this.mark);
+    return this.parsed;
+  }
+
+  get header() {
+    return (this.records[0] ?? []).map((it) => it.trim());
+  }
+
+  /** The cells of numbers that match a pattern: the record, the column and the text of each, records counted from 1. */
+  cells(pattern) {
+    const found = [];
+    this.records.slice(1).forEach((fields, row) => fields.forEach((it, column) => pattern.test(it) && found.push([row + 1, column, it.trim()])));
+    return found;
+  }
+
+  /** What was found: `{ key, says, change }`; with a change it is offered, without one only told. */
+  findings() {
+    const found = [];
+    if (this.hasMark) found.push({ key: "mark", says: "A byte-order mark stands at the beginning. The program skips it." });
+    if (this.coding) {
+      found.push({ key: "coding", says: `The bytes are no UTF-8; as ${this.coding} they are text.`, change: `write the file in UTF-8, read as ${this.coding}` });
+    }
+    if (this.mark !== ",") {
+      found.push({ key: "separator", says: `The fields are separated by ${MARK_NAMES[this.mark]}.`, change: "write commas between the fields" });
+    }
+    const decimals = this.cells(DECIMAL_COMMA);
+    const thousands = decimals.length > 0 && decimals.every(([, , it]) => THOUSANDS_COMMA.test(it));
+    if (decimals.length) {
+      const [row, , it] = decimals[0];
+      const says = `${decimals.length === 1 ? "One number has" : `${decimals.length} numbers have`} a comma, the first in record ${row}: ${it}.`;
+      const doubt = thousands ? " With three digits behind it, it may as well be a mark of thousands: say which it is." : "";
+      found.push({ key: "decimals", says: says + doubt, change: `take the comma as the decimal mark: ${it} becomes ${it.replace(",", ".")}` });
+      if (thousands) found.push({ key: "thousands", says: "", change: `take the comma as a mark of thousands: ${it} becomes ${it.replaceAll(",", "")}` });
+    }
+    const dates = this.cells(DATE);
+    if (dates.length) {
+      const [row, column, it] = dates[0];
+      const how = "Where that column has numbers, a spreadsheet may have made dates of them; go back to the numbers. As a label it does no harm.";
+      found.push({ key: "dates", says: `Dates stand in the column ${this.header[column] ?? column + 1}, the first in record ${row}: ${it}. ${how}` });
+    }
+    return found;
+  }
+
+  /** Makes or takes back a change. Of the two readings of a comma only one holds. */
+  toggle(key, isOn) {
+    if (isOn) this.made.add(key);
+    else this.made.delete(key);
+    if (isOn && key === "decimals") this.made.delete("thousands");
+    if (isOn && key === "thousands") this.made.delete("decimals");
+  }
+
+  /** The records with the changes that were asked for. */
+  changed() {
+    const change = (it) => {
+      if (this.made.has("decimals") && DECIMAL_COMMA.test(it)) return it.replace(",", ".");
+      if (this.made.has("thousands") && THOUSANDS_COMMA.test(it)) return it.replaceAll(",", "");
+      return it;
+    };
+    return this.records.map((fields, row) => (row ? fields.map(change) : fields));
+  }
+
+  /** The bytes for the program: those of the file where nothing was changed. */
+  bytesFor(mapping) {
+    const isKept = this.made.size === 0 && (!mapping || mapping.isIdentity(this.header));
+    if (isKept) return this.bytes;
+    const separated = this.mark === "," || this.made.has("separator") ? this.changed() : null;
+    if (!separated) return this.bytes;
+    return new TextEncoder().encode(writeRecords(mapping ? mapping.apply(separated) : separated));
+  }
+}
+
+/** What a column may be. `good` says that it wants a name of a good. */
+export const ROLES = [
+  { key: "price", says: "price of the good", good: true },
+  { key: "quantity", says: "quantity of the good", good: true },
+  { key: "level", says: "own level, in thousandths (e)" },
+  { key: "label", says: "label of the observation (obs)" },
+  { key: "household", says: "household or subject: one table each" },
+  { key: "out", says: "leave it out" },
+  { key: "same", says: "as it stands" },
+];
+
+const GUESSES = [
+  [/^(?:prices?|p)(?:[_. -]+|(?=\d))(.+)$/i, "price"],
+  [/^(?:quantity|quantities|qty|q|x)(?:[_. -]+|(?=\d))(.+)$/i, "quantity"],
+  [/^(.+?)[_. -](?:p|price)$/i, "price"],
+  [/^(.+?)[_. -](?:q|x|qty|quantity)$/i, "quantity"],
+];
+const HOUSEHOLD = /^(id|hh|hhid|household|household_id|subject|subject_id|person|participant|respondent|panel_id)$/i;
+
+/** Which role each column has, and for which good. */
+export class Mapping {
+  constructor(roles) {
+    this.roles = roles;
+  }
+
+  /** What the names suggest; a name that the program knows stands as it is. */
+  static suggested(header) {
+    return new Mapping(
+      header.map((name) => {
+        if (/^[pq]_./.test(name) || name === "e" || name === "obs") return { role: "same", good: "" };
+        if (HOUSEHOLD.test(name)) return { role: "household", good: "" };
+        const guess = GUESSES.map(([pattern, role]) => ({ role, good: pattern.exec(name)?.[1] })).find((it) => it.good);
+        return guess ?? { role: "out", good: "" };
+      }),
+    );
+  }
+
+  static read(text, header) {
+    const saved = JSON.parse(text);
+    if (!Array.isArray(saved.columns)) throw new Error("no columns");
+    const by = new Map(saved.columns.map((it) => [it.column, it]));
+    return new Mapping(header.map((name) => ({ role: by.get(name)?.role ?? "out", good: by.get(name)?.good ?? "" })));
+  }
+
+  write(header) {
+    return JSON.stringify({ columns: header.map((column, at) => ({ column, ...this.roles[at] })) }, null, 2);
+  }
+
+  isIdentity(header) {
+    return this.roles.length === header.length && this.roles.every((it) => it.role === "same");
+  }
+
+  get household() {
+    return this.roles.findIndex((it) => it.role === "household");
+  }
+
+  /** The names of the columns for the program, none for a column that is left out. */
+  names(header) {
+    const name = { price: (good) => `p_${good}`, quantity: (good) => `q_${good}`, level: () => "e", label: () => "obs" };
+    return this.roles.map(({ role, good }, at) => (role === "same" ? header[at] : name[role]?.(good)));
+  }
+
+  /** The columns that go to the program, by their places in the file. */
+  get kept() {
+    return this.roles.flatMap((it, at) => (it.role === "out" || it.role === "household" ? [] : [at]));
+  }
+
+  apply(records) {
+    const names = this.names(records[0].map((it) => it.trim()));
+    const kept = this.kept;
+    return [kept.map((at) => names[at]), ...records.slice(1).map((fields) => (fields.length === records[0].length ? kept.map((at) => fields[at]) : fields))];
+  }
+}
+
+/** Tells what of a mapping keeps it from being a table: words, or nothing. */
+export function lacksOf(mapping, header) {
+  const names = mapping.names(header).filter(Boolean);
+  const twice = names.find((it, at) => names.indexOf(it) !== at);
+  if (twice) return `Two columns are ${twice}.`;
+  const goods = new Set(names.filter((it) => /^[pq]_/.test(it)).map((it) => it.slice(2)));
+  if (!goods.size) return "No column is a price or a quantity yet.";
+  for (const it of goods) {
+    if (!names.includes(`p_${it}`)) return `The good ${it} has a quantity and no price.`;
+    if (!names.includes(`q_${it}`)) return `The good ${it} has a price and no quantity.`;
+  }
+  return "";
+}
+
+/** Gives the tables of a long file, one for each household in the order of first appearance. */
+export function splitHouseholds(records, mapping) {
+  const column = mapping.household;
+  const parts = new Map();
+  for (const fields of records.slice(1)) {
+    const household = (fields[column] ?? "").trim();
+    if (!parts.has(household)) parts.set(household, [records[0]]);
+    parts.get(household).push(fields);
+  }
+  return [...parts].map(([household, own]) => ({ household, bytes: new TextEncoder().encode(writeRecords(mapping.apply(own))) }));
+}

@@ -1,0 +1,78 @@
+// The module's memory, in Node: many calls do not make it grow, and memory that is refused ends a call with the status for it.
+// usage: node check.mjs FOLDER CALLS, where FOLDER has rp.wasm and rp.js, and CALLS is JSON: words and files of each call.
+import { readFileSync } from "node:fs";
+import { pathToFileURL } from "node:url";
+
+const [folder, file] = process.argv.slice(2);
+const { load } = await import(pathToFileURL(`${folder}/rp.js`));
+const bytes = readFileSync(`${folder}/rp.wasm`);
+const decoded = ([words, files]) => [words, Object.entries(files).map(([name, data]) => ({ name, bytes: Buffer.from(data, "base64") }))];
+const calls = JSON.parse(readFileSync(file)).map(decoded);
+const small = calls.filter(([, files]) => files.every((it) => it.bytes.length < 10000));
+const [ROUNDS, NO_MEMORY] = [10000, 6];
+let wrong = 0;
+
+function expect(isSo, what) {
+  if (!isSo) {
+    wrong += 1;
+    console.log(`wrong: ${what}`);
+  }
+}
+
+const pages = (library) => library.instance.exports.memory.buffer.byteLength / 65536;
+
+/** Gives the place and the value of a number of a module in its format (LEB128). */
+function numberAt(data, at) {
+  let [value, shift, end] = [0, 0, at];
+  for (;;) {
+    value += (data[end] & 127) * 2 ** shift;
+    if (data[end++] < 128) return [value, end];
+    shift += 7;
+  }
+}
+
+/** Gives a module whose memory may not grow past what it begins with and so many pages. */
+function limited(data, more) {
+  let at = 8;
+  for (;;) {
+    const id = data[at];
+    const [length, start] = numberAt(data, at + 1);
+    if (id === 5) {
+      const [least] = numberAt(data, start + 2);
+      const number = (value) => [value & 127 | 128, value >> 7 & 127 | 128, value >> 14];
+      const section = [1, 1, ...number(least), ...number(least + more)];
+      return Buffer.concat([data.subarray(0, at), Buffer.from([5, section.length, ...section]), data.subarray(start + length)]);
+    }
+    at = start + length;
+  }
+}
+
+const library = await load(bytes);
+for (const [words, files] of calls) library.answer(words, files);
+const most = pages(library);
+const fresh = await load(bytes);
+for (const [words, files] of small) fresh.answer(words, files);
+const before = pages(fresh);
+const began = performance.now();
+for (let at = 0; at < ROUNDS; at++) fresh.answer(...small[at % small.length]);
+const took = performance.now() - began;
+expect(pages(fresh) === before, `memory grew from ${before} to ${pages(fresh)} pages over ${ROUNDS} calls`);
+console.log(`${ROUNDS} calls took ${Math.round(took)} ms and left the memory at ${before} pages of 64 KB; the largest inputs want ${most}`);
+
+let refused = 0;
+for (const more of [0, 1, 2, 4, 8, 16, 32]) {
+  const tight = await load(limited(bytes, more));
+  for (const [words, files] of calls.slice(0, 60).concat(calls.slice(-12))) {
+    const wide = library.texts(words, files);
+    const given = tight.texts(words, files);
+    if (given.status === NO_MEMORY) {
+      refused += 1;
+      expect(given.output === "" && given.told === "rp: out of memory\n", `refused memory: ${words}: ${JSON.stringify(given)}`);
+    } else {
+      expect(JSON.stringify(given) === JSON.stringify(wide), `refused memory: ${words}: another answer`);
+    }
+  }
+}
+expect(refused > 0, "no call was refused memory");
+console.log(`memory that may not grow: ${refused} calls end with status ${NO_MEMORY}, all others answer as ever`);
+process.exitCode = wrong ? 1 : 0;

@@ -1,0 +1,143 @@
+/**
+ * The library as a module that a page and Node share: `load` takes the bytes of rp.wasm, and what it gives answers the
+ * words of a command over files in memory. Nothing is kept between calls, and nothing is read or written besides.
+ */
+
+/** One more than the most bytes that a file of any kind may have: a longer one is refused by its length alone. */
+export const MOST_READ = 16777217;
+
+/** A file whose name or a word that is no text: it has a half of a pair of surrogates, or a zero byte. */
+export class NoText extends Error {}
+
+/** The module stopped in the middle of a call, which no input is known to do. The next call begins anew. */
+export class Stopped extends Error {}
+
+const texts = new TextDecoder();
+const bytesOf = new TextEncoder();
+
+/** Gives the UTF-8 of a text, ended by a zero byte. */
+function ended(text) {
+  if (!text.isWellFormed?.() && /[\uD800-\uDBFF](?![\uDC00-\uDFFF])|(?<![\uD800-\uDBFF])[\uDC00-\uDFFF]/.test(text)) {
+    throw new NoText("a word or a name is no text");
+  }
+  if (text.includes("\0")) throw new NoText("a word or a name has a zero byte");
+  return bytesOf.encode(`${text}\0`);
+}
+
+function joined(parts) {
+  const all = new Uint8Array(parts.reduce((sum, it) => sum + it.length, 0));
+  let at = 0;
+  for (const it of parts) {
+    all.set(it, at);
+    at += it.length;
+  }
+  return all;
+}
+
+/** Memory of the module that one call takes and gives back. */
+class Room {
+  constructor(exports) {
+    this.exports = exports;
+    this.taken = [];
+  }
+
+  /** Takes so many bytes; their place, or 0 where there is no memory. */
+  take(count) {
+    const at = this.exports.malloc(BigInt(Math.max(count, 1)));
+    if (at !== 0n) this.taken.push(at);
+    return Number(at);
+  }
+
+  /** Takes room for these bytes and puts them there. */
+  put(bytes) {
+    const at = this.take(bytes.length);
+    if (at) new Uint8Array(this.exports.memory.buffer, at, bytes.length).set(bytes);
+    return at;
+  }
+
+  copy(at, count) {
+    return new Uint8Array(this.exports.memory.buffer, at, count).slice();
+  }
+
+  number(at) {
+    return Number(new DataView(this.exports.memory.buffer).getBigUint64(at, true));
+  }
+
+  giveBack() {
+    for (const at of this.taken.reverse()) this.exports.free(at);
+    this.taken = [];
+  }
+}
+
+const NO_MEMORY = { status: 6, output: new Uint8Array(), told: bytesOf.encode("rp: out of memory\n") };
+
+/** Asks once, with this much room for the output and for what is told. */
+function ask(room, frame, outputRoom, toldRoom) {
+  const { words, names, sizes, bytes, files } = frame;
+  const places = [words, names, sizes, bytes].map((it) => room.put(it));
+  const [output, told, lengths] = [room.take(outputRoom), room.take(toldRoom), room.take(16)];
+  if (![...places, output, told, lengths].every(Boolean)) return null;
+  const given = [places[0], words.length, places[1], names.length, places[2], files, places[3], bytes.length];
+  const numbers = [...given, output, outputRoom, told, toldRoom, lengths, lengths + 8].map(BigInt);
+  const status = room.exports.rp_answer(...numbers);
+  const [outputLength, toldLength] = [room.number(lengths), room.number(lengths + 8)];
+  const isWhole = outputLength <= outputRoom && toldLength <= toldRoom;
+  const texts = isWhole ? [room.copy(output, outputLength), room.copy(told, toldLength)] : [];
+  return { status, outputLength, toldLength, isWhole, texts };
+}
+
+class Library {
+  constructor(module) {
+    this.module = module;
+    this.instance = null;
+  }
+
+  /**
+   * Answers the words after the program's name over files, each `{ name, bytes }` with a `Uint8Array`, of which no more
+   * are given than the command names. Gives `{ status, output, told }`, the last two as bytes.
+   */
+  answer(words, files = []) {
+    const sizes = new DataView(new ArrayBuffer(8 * files.length));
+    const bytes = files.map((it) => it.bytes.subarray(0, MOST_READ));
+    bytes.forEach((it, at) => sizes.setBigUint64(8 * at, BigInt(it.length), true));
+    const frame = {
+      words: joined(words.map(ended)),
+      names: joined(files.map((it) => ended(it.name))),
+      sizes: new Uint8Array(sizes.buffer),
+      bytes: joined(bytes),
+      files: files.length,
+    };
+    let [outputRoom, toldRoom] = [65536, 4096];
+    for (;;) {
+      const given = this.#call(frame, outputRoom, toldRoom);
+      if (!given) return NO_MEMORY;
+      if (given.isWhole) return { status: given.status, output: given.texts[0], told: given.texts[1] };
+      outputRoom = Math.max(outputRoom, given.outputLength);
+      toldRoom = Math.max(toldRoom, given.toldLength);
+    }
+  }
+
+  /** The same with the texts as strings. */
+  texts(words, files = []) {
+    const { status, output, told } = this.answer(words, files);
+    return { status, output: texts.decode(output), told: texts.decode(told) };
+  }
+
+  #call(frame, outputRoom, toldRoom) {
+    this.instance ??= new WebAssembly.Instance(this.module, {});
+    const room = new Room(this.instance.exports);
+    try {
+      const given = ask(room, frame, outputRoom, toldRoom);
+      room.giveBack();
+      return given;
+    } catch (error) {
+      this.instance = null;
+      throw new Stopped(`the module stopped: ${error.message}`, { cause: error });
+    }
+  }
+}
+
+/** Makes the library of the bytes of rp.wasm, or of a module that is compiled already. */
+export async function load(source) {
+  return new Library(source instanceof WebAssembly.Module ? source : await WebAssembly.compile(source));
+}

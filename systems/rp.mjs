@@ -1,0 +1,91 @@
+#!/usr/bin/env node
+// The command `rp` for Node on any system: the words, files, streams and statuses of the program, over rp.wasm.
+import { closeSync, openSync, readFileSync, readSync, writeSync } from "node:fs";
+import { MOST_READ, NoText, load } from "./rp.js";
+
+const [READ_FAULT, REFUSED, WRITE_FAULT, NO_MEMORY, NO_TEXT] = [3, 4, 5, 6, 7];
+const texts = new TextDecoder();
+
+/** Reads a file, or as much of it as shows that it is too long; nothing where the system fails. */
+function bytesOf(name) {
+  let file;
+  try {
+    file = openSync(name, "r");
+    const parts = [];
+    let length = 0;
+    while (length < MOST_READ) {
+      const part = new Uint8Array(Math.min(65536, MOST_READ - length));
+      const count = readSync(file, part);
+      if (count === 0) break;
+      parts.push(part.subarray(0, count));
+      length += count;
+    }
+    return Buffer.concat(parts);
+  } catch (error) {
+    if (error.code === "ENOMEM") throw error;
+    return null;
+  } finally {
+    if (file !== undefined) closeSync(file);
+  }
+}
+
+/** Writes all bytes to a stream, waiting where it is full; whether the system took them. */
+function writes(stream, bytes) {
+  let at = 0;
+  while (at < bytes.length) {
+    try {
+      at += writeSync(stream, bytes, at);
+    } catch (error) {
+      if (error.code !== "EAGAIN") return false;
+      Atomics.wait(new Int32Array(new SharedArrayBuffer(4)), 0, 0, 5);
+    }
+  }
+  return true;
+}
+
+const fileWanted = ({ status, told }) => (status === READ_FAULT ? /^rp: ([^]*): read failed\n$/.exec(texts.decode(told))?.[1] : undefined);
+
+/**
+ * Answers, and reads each file when the library wants it: it tells that the reading of one that is not given failed. The
+ * command refuses a file before it asks for the next; so where one cannot be read, an earlier one may have to be refused
+ * all the same: it is asked once more, with nothing in the files from there on.
+ */
+function answer(library, words) {
+  const files = [];
+  let unread = null;
+  for (;;) {
+    const given = library.answer(words, files);
+    const wanted = fileWanted(given);
+    if (wanted === undefined || files.some((it) => it.name === wanted)) {
+      const isEarlier = given.status === REFUSED && !texts.decode(given.told).startsWith(`rp: ${unread?.name}:`);
+      return unread && !isEarlier ? unread.answer : given;
+    }
+    const bytes = unread ? null : bytesOf(wanted);
+    if (!bytes) unread ??= { name: wanted, answer: given };
+    files.push({ name: wanted, bytes: bytes ?? new Uint8Array() });
+  }
+}
+
+async function main() {
+  const library = await load(readFileSync(new URL("rp.wasm", import.meta.url)));
+  const { status, output, told } = answer(library, process.argv.slice(2));
+  if (!writes(1, output)) {
+    writes(2, Buffer.from("rp: write failed\n"));
+    return WRITE_FAULT;
+  }
+  writes(2, told);
+  return status;
+}
+
+try {
+  process.exitCode = await main();
+} catch (error) {
+  if (error instanceof NoText) {
+    process.exitCode = NO_TEXT;
+  } else if (error instanceof RangeError || error.code === "ENOMEM") {
+    writes(2, Buffer.from("rp: out of memory\n"));
+    process.exitCode = NO_MEMORY;
+  } else {
+    throw error;
+  }
+}

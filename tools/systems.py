@@ -1,0 +1,229 @@
+"""Builds the library for other systems than Linux on x86-64: WebAssembly, Windows, and Linux on ARM.
+
+The library is one call, `rp_answer`, of the crate rp_c, whose functions are proved as ever. Rattle's compiler lowers it to
+one LLVM module for x86-64 (of any processor of that kind), and the toolchain folder that it is given here keeps that
+module. Here its text gets the layout and the name of the other system, without the attributes that only Linux has, and
+the kit's own clang compiles it. For ARM Rattle's compiler has a target of its own. No proof covers what is done here.
+"""
+import hashlib
+import importlib.machinery
+import importlib.util
+import os
+import re
+import shutil
+import subprocess
+import sys
+
+TOP = os.path.dirname(os.path.dirname(os.path.realpath(__file__)))
+SOURCES = f"{TOP}/systems"
+CRATE = f"{TOP}/crates/rp_c"
+# The layout and the name of each system that the module's text is given, and the attributes that it has not.
+LAYOUTS = {
+    "wasm": ("e-m:e-p:64:64-p10:8:8-p20:8:8-i64:64-i128:128-n32:64-S128-ni:1:10:20", "wasm64-unknown-unknown"),
+    "windows": ("e-m:w-p270:32:32-p271:32:32-p272:64:64-i64:64-i128:128-f80:128-n8:16:32:64-S128", "x86_64-pc-windows-gnu"),
+}
+DROPPED = re.compile(r' "(?:probe-stack|stack-probe-size|target-cpu)"="[^"]*"')
+# How much the module's stack on WebAssembly holds, in bytes; the program needs 128 KB.
+STACK = 1 << 20
+WASM = ["-mcpu=lime1", "-mbulk-memory"]
+# The compiler's functions on whole numbers of 128 bits, of the system's package.
+BUILTINS = "/usr/lib/llvm-14/lib/clang/14.0.6/lib/wasi/libclang_rt.builtins-wasm64.a"
+# What each build needs beside the kit: the command or file, and the package that has it.
+NEEDS = {
+    "web": {"gcc": "gcc", "wasm-opt": "binaryen", BUILTINS: "libclang-rt-14-dev-wasm64"},
+    "windows": {"gcc": "gcc", "x86_64-w64-mingw32-gcc": "gcc-mingw-w64-x86-64"},
+    "arm": {"aarch64-linux-gnu-gcc": "gcc-aarch64-linux-gnu", "aarch64-linux-gnu-strip": "binutils-aarch64-linux-gnu"},
+}
+
+
+NOT_PROVED = "no proof covers the compiler for this system, the link and the code around the call; tools/check-systems tries them"
+# What stands behind each file, for PROVED.
+ORIGINS = {
+    "arm": f"the proved functions of the library's call, compiled for aarch64 by rattle build, linked statically with systems/program.c and posix.c; {NOT_PROVED}",
+    "windows": f"the proved functions of the library's call, their LLVM module compiled for x86_64-pc-windows-gnu, linked with systems/program.c and windows.c; {NOT_PROVED}",
+    "web": f"the proved functions of the library's call, their LLVM module compiled for WebAssembly, and JavaScript around it; {NOT_PROVED}",
+}
+
+
+class Stopped(Exception):
+    """Why something cannot be built here, in one line."""
+
+
+def kit():
+    """Returns the folder of the kit."""
+    rt = shutil.which("rt")
+    if not rt:
+        raise Stopped("the command rt of the kit is not on the path")
+    return os.path.dirname(os.path.dirname(os.path.realpath(rt)))
+
+
+def lacking(system):
+    """Returns what a build lacks here: packages, or the library's crate."""
+    if not os.path.isdir(CRATE):
+        return ["the crate rp_c"]
+    return sorted({package for it, package in NEEDS[system].items() if not (os.path.exists(it) if it.startswith("/") else shutil.which(it))})
+
+
+def ran(words, folder):
+    """Runs a command, and stops with its last line where it fails."""
+    how = {"stdin": subprocess.DEVNULL, "stdout": subprocess.PIPE, "stderr": subprocess.STDOUT, "text": True, "errors": "replace"}
+    try:
+        it = subprocess.run(words, cwd=folder, **how)
+    except OSError as error:
+        raise Stopped(f"{words[0]}: {error.strerror}") from None
+    if it.returncode:
+        raise Stopped(f"{os.path.basename(words[0])}: {(it.stdout.strip().splitlines() or ['no message'])[-1]}")
+
+
+def crate_words():
+    """Returns rattle, and its words for the crate, as `rt` gives them."""
+    loader = importlib.machinery.SourceFileLoader("rt_of_kit", f"{kit()}/bin/rt")
+    rt = importlib.util.module_from_spec(importlib.util.spec_from_loader("rt_of_kit", loader))
+    sys.dont_write_bytecode = True
+    loader.exec_module(rt)
+    crate = rt.rtlib.Crate(CRATE, TOP, {})
+    return rt.rtlib.RATTLE, crate.words(["--jobs", "1"], keeps=False)
+
+
+def toolchain(room):
+    """Makes a folder of the toolchain whose tools keep the LLVM module, and returns it with where that is kept."""
+    real, kept, folder = f"{kit()}/toolchain", f"{room}/module.bc", f"{room}/toolchain"
+    os.makedirs(f"{folder}/bin")
+    os.symlink(f"{real}/lib", f"{folder}/lib")
+    words = ["gcc", "-O1", f'-DREAL="{real}/bin"', f'-DKEPT="{kept}"', f"{SOURCES}/keep_module.c", "-o", f"{folder}/bin/clang"]
+    ran(words, room)
+    for it in os.listdir(f"{real}/bin"):
+        if it == "rattle-x64":
+            os.symlink(f"{real}/bin/{it}", f"{folder}/bin/{it}")
+        elif it != "clang":
+            shutil.copy(f"{folder}/bin/clang", f"{folder}/bin/{it}")
+    return folder, kept
+
+
+def sources_sum():
+    """Returns a checksum of all that a build of the library reads: the crates, their list, and the kit."""
+    found = hashlib.sha256()
+    for at, folders, names in os.walk(f"{TOP}/crates"):
+        folders[:] = sorted(it for it in folders if it not in ("out", "must-fail", "data"))
+        for name in sorted(it for it in names if it.endswith((".rt", ".antt"))):
+            with open(f"{at}/{name}", "rb") as it:
+                found.update(f"{os.path.relpath(at, TOP)}/{name}\0".encode() + it.read() + b"\0")
+    for file in (f"{TOP}/crates.txt", f"{kit()}/KIT-ID", os.path.realpath(__file__)):
+        if os.path.exists(file):
+            with open(file, "rb") as it:
+                found.update(it.read())
+    return found.hexdigest()
+
+
+def kept_build(name, room, make):
+    """Gives a file of the room that takes minutes to make: the one that was kept of the same sources, or a new one."""
+    kept = f"{CRATE}/out/systems-{sources_sum()[:32]}-{name}"
+    if os.path.exists(kept):
+        shutil.copy(kept, f"{room}/{name}")
+    else:
+        make()
+        os.makedirs(os.path.dirname(kept), exist_ok=True)
+        shutil.copy(f"{room}/{name}", f"{kept}.{os.getpid()}")
+        os.replace(f"{kept}.{os.getpid()}", kept)
+
+
+def module_text(room):
+    """Returns the LLVM module of the library as text, for a processor of any kind of x86-64."""
+    if not os.path.exists(f"{room}/module.ll"):
+        kept_build("module.ll", room, lambda: make_module(room))
+    with open(f"{room}/module.ll", encoding="utf-8") as it:
+        return it.read()
+
+
+def make_module(room):
+    """Makes the module's text in the room."""
+    folder, kept = toolchain(room)
+    rattle, words = crate_words()
+    ran([rattle, "build", *words, "--cpu", "x86-64", "--toolchain", folder, "-o", f"{room}/librp_c.a"], CRATE)
+    print_as_text = ["--target=x86_64-unknown-linux-gnu", "-S", "-emit-llvm", "-x", "ir", "-Xclang", "-disable-llvm-passes"]
+    ran([f"{kit()}/toolchain/bin/clang", *print_as_text, kept, "-o", f"{room}/module.ll"], room)
+
+
+def text_for(system, text):
+    """Returns the module's text for another system."""
+    layout, triple = LAYOUTS[system]
+    text, layouts = re.subn(r'(?m)^target datalayout = ".*"$', f'target datalayout = "{layout}"', text)
+    text, triples = re.subn(r'(?m)^target triple = ".*"$', f'target triple = "{triple}"', text)
+    if (layouts, triples) != (1, 1):
+        raise Stopped("the module does not name its layout and its system once each")
+    intrinsics = sorted(set(re.findall(r"@llvm\.(?:x86|aarch64)\.[\w.]+", text)))
+    if intrinsics:
+        raise Stopped(f"the module calls {' '.join(intrinsics)}")
+    return DROPPED.sub("", text)
+
+
+def compiled(system, text, sources, room):
+    """Compiles the module's text and further sources with the kit's clang, and returns the objects."""
+    with open(f"{room}/{system}.ll", "w", encoding="utf-8") as it:
+        it.write(text_for(system, text))
+    flags = [f"--target={LAYOUTS[system][1]}", "-O3", "-c", "-ffunction-sections", "-fdata-sections", "-Wno-override-module"]
+    flags += WASM if system == "wasm" else []
+    objects = []
+    for source in [f"{room}/{system}.ll", *(f"{SOURCES}/{it}" for it in sources)]:
+        made = f"{room}/{system}-{os.path.basename(source)}.o"
+        language = ["-x", "ir"] if source.endswith(".ll") else ["-ffreestanding", "-Wall", "-Wextra", "-Werror"]
+        ran([f"{kit()}/toolchain/bin/clang", *flags, *language, source, "-o", made], room)
+        objects.append(made)
+    return objects
+
+
+def linked_wasm(objects, exports, made, room):
+    """Links a WebAssembly module whose memory is an ordinary one: addresses of 64 bits are taken away."""
+    if not os.path.exists(f"{room}/wasm-ld"):
+        os.symlink(f"{kit()}/toolchain/bin/clang", f"{room}/wasm-ld")
+    exported = [f"--export={it}" for it in exports]
+    link = ["-mwasm64", "--no-entry", "--gc-sections", "--strip-all", "--stack-first", "-z", f"stack-size={STACK}", *exported]
+    ran([f"{room}/wasm-ld", *link, *objects, BUILTINS, "-o", f"{made}64"], room)
+    lowered = ["--enable-memory64", "--enable-bulk-memory", "--enable-sign-ext", "--enable-mutable-globals", "--memory64-lowering"]
+    ran(["wasm-opt", *lowered, f"{made}64", "-o", made], room)
+    return made
+
+
+def web(room):
+    """Returns the files of WebAssembly: the module, the JavaScript that a page and Node share, and the command for Node."""
+    objects = compiled("wasm", module_text(room), ["heap.ll", "wasm_heap.c", "wasm_guard.c"], room)
+    module = linked_wasm(objects, ("rp_answer", "malloc", "free"), f"{room}/rp.wasm", room)
+    return {"rp.wasm": module, "rp.js": f"{SOURCES}/rp.js", "rp.mjs": f"{SOURCES}/rp.mjs", "rp": f"{SOURCES}/rp.sh"}
+
+
+def wide(room):
+    """Returns a module and a program of this system, each with the same digest of whole numbers of 128 bits."""
+    objects = []
+    for source in ("wide.c", "wasm_guard.c"):
+        flags = [f"--target={LAYOUTS['wasm'][1]}", "-O3", "-c", *WASM, "-ffreestanding", "-Wall", "-Wextra", "-Werror"]
+        ran([f"{kit()}/toolchain/bin/clang", *flags, f"{SOURCES}/{source}", "-o", f"{room}/{source}.o"], room)
+        objects.append(f"{room}/{source}.o")
+    ran(["gcc", "-O2", f"{SOURCES}/wide.c", f"{SOURCES}/wide_main.c", "-o", f"{room}/wide"], room)
+    return linked_wasm(objects, ("wide_digest",), f"{room}/wide.wasm", room), f"{room}/wide"
+
+
+def windows(room):
+    """Returns the program and the library for Windows, which need no other file, and the library's import library."""
+    objects = compiled("windows", module_text(room), ["heap.ll"], room)
+    gcc = ["x86_64-w64-mingw32-gcc", "-O2", "-std=c11", "-Wall", "-Wextra", "-Werror", "-static", "-s", "-Wl,--gc-sections,--no-insert-timestamp"]
+    sources = [f"{SOURCES}/{it}" for it in ("program.c", "windows.c")]
+    ran([*gcc, *sources, *objects, "-lshell32", "-o", f"{room}/rp.exe"], room)
+    exported = [f"{SOURCES}/rp.def", f"-Wl,--out-implib,{room}/librp.dll.a"]
+    ran([*gcc, "-shared", *objects, *exported, "-o", f"{room}/rp.dll"], room)
+    return {it: f"{room}/{it}" for it in ("rp.exe", "rp.dll", "librp.dll.a")} | {"rp.h": f"{TOP}/library/rp.h"}
+
+
+def arm(room):
+    """Returns the program for Linux on ARM, linked statically, and what it is linked from, so that anyone can do it again."""
+    rattle, words = crate_words()
+    os.makedirs(f"{room}/link", exist_ok=True)
+    built = ["--target", "aarch64-unknown-linux-gnu", "--toolchain", f"{kit()}/toolchain", "-o", f"{room}/arm.a"]
+    kept_build("arm.a", room, lambda: ran([rattle, "build", *words, *built], CRATE))
+    os.replace(f"{room}/arm.a", f"{room}/link/librp_c.a")
+    gcc = ["aarch64-linux-gnu-gcc", "-O2", "-std=c11", "-D_POSIX_C_SOURCE=200809L", "-Wall", "-Wextra", "-Werror"]
+    objects = []
+    for it in ("program", "posix", "heap"):
+        ran([*gcc, "-c", f"{SOURCES}/{it}.c", "-o", f"link/{it}.o"], room)
+        objects.append(f"link/{it}.o")
+    ran([gcc[0], "-static", "-s", "-Wl,--gc-sections", *objects, "link/librp_c.a", "-o", "rp"], room)
+    return {it: f"{room}/{it}" for it in ("rp", *objects, "link/librp_c.a")}
