@@ -159,7 +159,7 @@ def panel(
     them, one for each row or one for all. It runs on all processors, or on so many `workers`, and shows a bar where the package
     `tqdm` is there and `progress` is left on. The rows of a household need not stand together.
     """
-    program.find(exe)
+    by_library = program.way(exe)[0] is not None
     names = [by] if isinstance(by, str) or not isinstance(by, (list, tuple)) else list(by)
     if power is not None:
         power, seed = program.whole(power, "power", 1, 1000), program.whole(seed, "seed", 0, 2**64 - 1)
@@ -188,12 +188,13 @@ def panel(
                 row.missing[name] = str(wrong)
         return row
 
-    with Workers(workers or _processors(), len(groups)) as pool:
+    with Workers(workers or _processors(), 0 if by_library else len(groups)) as pool:
         return Panel(names, list(_bar(pool.map(run, groups), len(groups), progress)), list(more))
 
 
 class Workers:
-    """Threads, each with a process of its own that runs the program, where there are enough households for that to be worth it."""
+    """Threads, each with a process of its own that runs the program where that is no library, and where there are enough households
+    for that to be worth it."""
 
     def __init__(self, count: int, households: int) -> None:
         self.others = [worker.Worker() for _ in range(count)] if count > 1 and households >= FEW and sys.executable else []

@@ -1,4 +1,4 @@
-"""The program: where it is, and one call of it."""
+"""The program: where it is, and one call of it, by its library where that is found, and else by a process."""
 
 from __future__ import annotations
 
@@ -9,7 +9,7 @@ import sys
 import threading
 from typing import Any, Callable, Iterable, Mapping, Sequence
 
-from . import worker
+from . import library, worker
 from .faults import BadData, Failed, NoProgram
 
 VARIABLE = "RP_EXEC"
@@ -26,11 +26,28 @@ def find(exe: Any = None) -> str:
     for named, where in ((exe, "the argument exe"), (os.environ.get(VARIABLE), f"the variable {VARIABLE}")):
         if named is not None and named != "":
             return _named(named, where)
-    own = os.path.join(os.path.dirname(os.path.abspath(__file__)), NAME)
-    found = own if os.access(own, os.X_OK) and os.path.isfile(own) else shutil.which(NAME)
+    found = inside() or shutil.which(NAME)
     if found is None:
-        raise NoProgram(f"there is no {NAME} beside the package or on the path: say exe=, or set {VARIABLE}")
+        where = f"neither a program {NAME} nor a library {library.NAME} is inside the package, and no {NAME} is on the path"
+        raise NoProgram(f"{where}: say exe=, or set {VARIABLE} or {library.VARIABLE}")
     return os.path.abspath(found)
+
+
+def inside() -> str | None:
+    """Returns the program that came with the package, if one did."""
+    own = os.path.join(os.path.dirname(os.path.abspath(__file__)), NAME)
+    return own if os.path.isfile(own) and os.access(own, os.X_OK) else None
+
+
+Runs = Callable[[str, Sequence[str], Mapping[str, bytes]], "tuple[int, bytes, bytes]"]
+
+
+def way(exe: Any = None) -> tuple[Runs | None, str]:
+    """Returns how an answer is got: by a library, or by the program of this path; raises NoProgram where neither is found."""
+    found = library.find(exe)
+    if found is None and (exe is None or exe == "") and not os.environ.get(VARIABLE) and inside() is None:
+        found = library.of_loader()
+    return (found.run, found.path) if found is not None else (None, find(exe))
 
 
 def _named(named: Any, where: str) -> str:
@@ -86,9 +103,10 @@ def call(words: Sequence[str], files: Mapping[str, bytes], exe: Any = None) -> R
     A word that is the name of a file stands for it. The folder is the program's own, so no name outside of it matters. The
     words go to the program as they are: no shell reads them.
     """
-    program = find(exe)
+    by_library, program = way(exe)
+    run: Runs = by_library if by_library is not None else getattr(THREAD, "run", worker.run)
     try:
-        status, out, told = getattr(THREAD, "run", worker.run)(program, words, files)
+        status, out, told = run(program, words, files)
     except OSError as wrong:
         raise NoProgram(f"{program} cannot be run: {wrong}") from wrong
     said = [line for line in _text(told).splitlines() if not line.startswith("note: ")]

@@ -1,0 +1,110 @@
+"""The program as a library in memory: one call over the bytes of files (`rp.h`), without a process and without a file.
+
+It is taken where it is found: the argument `exe` where that names one, the environment variable RP_LIBRARY, inside the package
+(`librp.so`, `rp.dll`), or where the system's loader looks. Any number of threads may call at once, and other threads of Python
+run meanwhile.
+"""
+
+from __future__ import annotations
+
+import ctypes
+import os
+import sys
+import threading
+from typing import Any, Mapping, Sequence
+
+from .faults import NoProgram
+
+VARIABLE = "RP_LIBRARY"
+NAME = "rp.dll" if sys.platform == "win32" else "librp.so"
+# What the system's loader is asked for.
+LOADED = [NAME] if sys.platform == "win32" else [NAME, "librp.so.0"]
+ROOM = 65_536
+MALFORMED = 8
+
+
+class Library:
+    """A library that was loaded from a path."""
+
+    def __init__(self, path: str) -> None:
+        self.path = path
+        try:
+            self.answer = ctypes.CDLL(path).rp_answer
+        except (OSError, AttributeError, ValueError) as wrong:
+            raise NoProgram(f"{path} is no library of rp: {wrong}") from wrong
+        text, size, number = ctypes.c_char_p, ctypes.c_size_t, ctypes.POINTER(ctypes.c_uint64)
+        room = ctypes.POINTER(ctypes.c_char)
+        self.answer.argtypes = [text, size, text, size, number, size, text, size, room, size, room, size, number, number]
+        self.answer.restype = ctypes.c_int32
+        self.rooms = threading.local()
+
+    def run(self, program: str, words: Sequence[str], files: Mapping[str, bytes]) -> tuple[int, bytes, bytes]:
+        """Returns the status of a call, and what it wrote to standard output and standard error, as a process would."""
+        said = b"".join(word.encode() + b"\0" for word in words)
+        names = b"".join(name.encode() + b"\0" for name in files)
+        sizes = (ctypes.c_uint64 * max(len(files), 1))(*map(len, files.values()))
+        data = b"".join(files.values())
+        rooms = [getattr(self.rooms, name, None) or ctypes.create_string_buffer(ROOM) for name in ("output", "told")]
+        while True:
+            self.rooms.output, self.rooms.told = rooms
+            lengths = [ctypes.c_uint64(), ctypes.c_uint64()]
+            ends = [it for room in rooms for it in (room, len(room))]
+            status = self.answer(said, len(said), names, len(names), sizes, len(files), data, len(data), *ends, *map(ctypes.byref, lengths))
+            if status == MALFORMED:
+                return status, b"", b"the arguments of rp_answer do not fit together"
+            if all(length.value <= len(room) for length, room in zip(lengths, rooms)):
+                output, told = (ctypes.string_at(room, length.value) for length, room in zip(lengths, rooms))
+                return status, output, told
+            rooms = [ctypes.create_string_buffer(max(len(room), length.value)) for length, room in zip(lengths, rooms)]
+
+
+KNOWN: dict[str, Library] = {}
+LOCK = threading.Lock()
+
+
+def known(path: str) -> Library:
+    """Returns the library of a path, which is loaded once."""
+    with LOCK:
+        if path not in KNOWN:
+            KNOWN[path] = Library(path)
+        return KNOWN[path]
+
+
+def is_library(named: Any) -> bool:
+    """Whether this is the name of a library, and not of a program."""
+    try:
+        name = os.path.basename(os.fsdecode(os.fspath(named))).lower()
+    except (TypeError, ValueError):
+        return False
+    return name.endswith((".so", ".dll", ".dylib")) or ".so." in name
+
+
+def find(exe: Any = None) -> Library | None:
+    """Returns the library that is asked for by the argument or by RP_LIBRARY, or that is inside the package; None where the
+    program is to be taken."""
+    if exe is not None and exe != "":
+        return known(os.path.abspath(os.fsdecode(os.fspath(exe)))) if is_library(exe) else None
+    named = os.environ.get(VARIABLE)
+    if named:
+        return known(os.path.abspath(named))
+    if os.environ.get("RP_EXEC"):
+        return None
+    own = os.path.join(os.path.dirname(os.path.abspath(__file__)), NAME)
+    return known(own) if os.path.isfile(own) else None
+
+
+SOUGHT: list[Library | None] = []
+
+
+def of_loader() -> Library | None:
+    """Returns the library that the system's loader finds, if there is one. It is asked once."""
+    if not SOUGHT:
+        found = None
+        for name in LOADED:
+            try:
+                found = known(name)
+                break
+            except NoProgram:
+                continue
+        SOUGHT.append(found)
+    return SOUGHT[0]
