@@ -17,7 +17,8 @@ rp_program <- function(exe = NULL, must = TRUE) {
     if (is.na(found)) found <- NULL
     where <- paste0(
       "there is no program rp: the argument exe is not given, the variable RP_EXEC is not set, no rp is on the path (",
-      Sys.getenv("PATH"), "), and there is none of ", listed(places), "; unpack a release of rp, and name its program by exe = or RP_EXEC"
+      Sys.getenv("PATH"), "), and there is none of ", listed(places),
+      " and no rp-VERSION-x86_64-linux/rp in ", listed(usual_roots()), "; unpack a release of rp, and name its program by exe = or RP_EXEC"
     )
   }
   if (is.null(found) && must) no_program(where)
@@ -27,14 +28,19 @@ rp_program <- function(exe = NULL, must = TRUE) {
 # Returns where a release or a package puts the program, a later version first.
 usual_places <- function() {
   home <- Sys.getenv("HOME")
-  own <- c(if (nzchar(home)) file.path(home, c(".local/bin", "bin")), "/usr/local/bin", "/usr/bin")
-  roots <- c(if (nzchar(home)) c(home, file.path(home, c(".local", "Downloads"))), "/opt", "/usr/local")
-  unpacked <- lapply(roots, function(root) {
+  own <- c(if (nzchar(home)) file.path(home, c(".local/bin", "bin")), "/usr/local/bin", "/usr/bin", "/usr/local/lib/rp")
+  unpacked <- lapply(usual_roots(), function(root) {
     found <- list.files(root, "^rp-[0-9]+([.][0-9]+)*-[A-Za-z0-9_]+-linux$")
     version <- numeric_version(sub("^rp-([0-9.]*[0-9])-.*", "\\1", found))
     file.path(root, found[order(version, decreasing = TRUE)])
   })
-  c(file.path(own, "rp"), file.path(c(unlist(unpacked), "/opt/rp"), "rp"))
+  file.path(c(own, unlist(unpacked)), "rp")
+}
+
+# Returns where a release is unpacked, in a folder such as rp-0.11.0-x86_64-linux.
+usual_roots <- function() {
+  home <- Sys.getenv("HOME")
+  c(if (nzchar(home)) c(home, file.path(home, c(".local", "Downloads"))), "/opt", "/usr/local")
 }
 
 is_program <- function(place) file.access(place, 1) == 0 && !dir.exists(place)
