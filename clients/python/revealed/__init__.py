@@ -11,7 +11,7 @@ The verdicts are the program's, each of which is proved; nothing of this package
 is, and what would have to be rounded is refused.
 """
 
-from . import plain
+from . import draws, plain
 from .answers import Answers, Certificate, Checked, Demand, Part, RandomVerdict, Verdict, Welfare
 from .commands import (
     afriat_utility,
@@ -91,6 +91,7 @@ __all__ = [
     "cost_minimisation",
     "demand",
     "demand_bounds",
+    "draws",
     "first_contradiction",
     "from_frame",
     "menu_choices",

@@ -18,11 +18,16 @@ OTHER_NAMES = re.compile(r"([pqxw])[ ._-]?(\d+)", re.I)
 
 
 def is_frame(data: Any) -> bool:
-    return isinstance(data, Mapping) or hasattr(data, "columns") or hasattr(data, "column_names") or is_records(data)
+    return isinstance(data, Mapping) or hasattr(data, "columns") or is_records(data)
 
 
 def is_records(data: Any) -> bool:
     return isinstance(data, (list, tuple)) and bool(data) and all(isinstance(row, Mapping) for row in data)
+
+
+def is_arrow(data: Any) -> bool:
+    """Whether this is a table of pyarrow, whose columns are no names."""
+    return hasattr(type(data), "column_names")
 
 
 class Frame:
@@ -36,7 +41,7 @@ class Frame:
             self.names = list(dict.fromkeys(name for row in data for name in row))
             columns = [[row.get(name) for row in data] for name in self.names]
         else:
-            self.names = list(data) if isinstance(data, Mapping) else list(getattr(data, "column_names", None) or data.columns)
+            self.names = list(data if isinstance(data, Mapping) else data.column_names if is_arrow(data) else data.columns)
             if len(set(self.names)) != len(self.names):
                 raise BadData(f"{what}: two columns have one name: {sorted(map(str, self.names))}")
             columns = [column_of(data, name, what) for name in self.names]

@@ -78,6 +78,31 @@ class Tables(unittest.TestCase):
         made = from_frame([{"p_a": 1, "q_a": 2}, {"p_a": 3, "q_a": 4}])
         self.assertEqual(made.csv(), b"p_a,q_a\n1,2\n3,4\n")
 
+    def test_a_table_of_columns_that_are_no_names(self):
+        class Column:
+            def __init__(self, values):
+                self.values = values
+
+            def to_pylist(self):
+                return self.values
+
+        class Arrow:
+            def __init__(self, columns):
+                self.own = columns
+
+            @property
+            def column_names(self):
+                return list(self.own)
+
+            @property
+            def columns(self):
+                return [Column(it) for it in self.own.values()]
+
+            def __getitem__(self, name):
+                return Column(self.own[name])
+
+        self.assertEqual(from_frame(Arrow({"p_a": [1, 2], "q_a": [3, 4]})).csv(), b"p_a,q_a\n1,3\n2,4\n")
+
     def test_it_unpacks(self):
         made = from_frame({"obs": ["x"], "p_a": [1], "q_a": [2]})
         self.assertIs(table(*made), made)
@@ -191,6 +216,10 @@ class Frames(unittest.TestCase):
     def test_a_frame(self):
         d = pandas.DataFrame({"p_a": [1, 2], "q_a": [3, 4.5], "home": ["u", "v"]}, index=["Jänner", "Mai"])
         self.assertEqual((from_frame(d).csv(), from_frame(d).labels), (b"p_a,q_a\n1,3\n2,4.5\n", ["Jänner", "Mai"]))
+
+    def test_a_column_of_an_odd_name(self):
+        d = pandas.DataFrame({"p_a": [1], "q_a": [2], "column_names": ["x"], "columns": ["y"]})
+        self.assertEqual(from_frame(d).csv(), b"p_a,q_a\n1,2\n")
 
     def test_two_frames(self):
         p, q = pandas.DataFrame({"a": [1, 2], "b": [3, 4]}), pandas.DataFrame({"b": [5, 6], "a": [7, 8]})

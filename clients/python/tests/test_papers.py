@@ -4,6 +4,7 @@ import io
 import math
 import os
 import pathlib
+import random
 import subprocess
 import sys
 import tempfile
@@ -79,8 +80,6 @@ class Draws(unittest.TestCase):
             self.assertTrue(0 <= money - spent <= sum(p) / 10**4)
 
     def test_shares_are_uniform(self):
-        import random
-
         draw = random.Random(1)
         many = [draws.shares(draw, 3) for _ in range(20_000)]
         for good in range(3):
