@@ -26,7 +26,7 @@ COLUMNS = ("status", "garp", "efficiency", "efficiency_floor", "attained", "homo
 PLACES = 10**6
 TABLE = "table.csv"
 # What one household comes to: the checksum of its table, its record as a line, its status, its message, and what is kept of it.
-Answer = "tuple[bytes, bytes, int, str, list[tuple[str, bytes]]]"
+Answer = tuple[bytes, bytes, int, str, "list[tuple[str, bytes]]"]
 Run = Callable[[Sequence[str], dict[str, bytes]], "tuple[int, bytes, bytes]"]
 # A block is tried so often where the process that has it ends.
 TRIES = 3

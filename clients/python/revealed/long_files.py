@@ -138,7 +138,8 @@ def first_columns(file: str, name: str) -> Columns:
 
 def grouped(records: Iterator[tuple[str, Any]]) -> Iterator[Household]:
     """Yields the households of records that stand together: number, name, records, and why there are no records to answer."""
-    number, last, rows, fault = 0, None, [], ""
+    number, last, fault = 0, None, ""
+    rows: list[Any] = []
     for name, row in records:
         if name != last:
             if last is not None:

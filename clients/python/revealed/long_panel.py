@@ -224,7 +224,7 @@ class Run:
         self.asked.update(certificates=words.certificates, **new)
         sums = {name: hashlib.blake2b(it or b"").hexdigest() for name, it in new.items()}
         self.head = {"layout": LAYOUT, "columns": [words.id, *file.header], "part": self.part and list(self.part), "program": sum_of(path)}
-        self.head["questions"] = [words.pump, power, words.certificates, *sorted(sums.items()), bool(self.archive)]
+        self.head["questions"] = [words.pump, power, words.certificates, sums["demand"], sums["welfare"]]
         self.apart = apart
         self.households = self.count = 0
         self.results: Optional[Results] = None

@@ -48,8 +48,8 @@ class Results:
             self.files.append(os.open(file, os.O_RDWR | os.O_CREAT | getattr(os, "O_BINARY", 0), 0o666))
         self._alone()
         if not (goes_on and self._stand(first)):
-            for file in self.files:
-                os.ftruncate(file, 0)
+            for place in self.files:
+                os.ftruncate(place, 0)
             put(self.files[0], self.head)
             put(self.files[1], first)
             self.end = len(first)
@@ -85,9 +85,9 @@ class Results:
                 if end <= self.end or tar_end > tar_size or small(part.read(end - self.end)) != record:
                     break
                 self.count, self.end, self.tar_end = self.count + 1, end, tar_end
-        for file, end in zip(self.files, [len(head) + self.count * ENTRY.size, self.end, self.tar_end]):
-            os.ftruncate(file, end)
-            os.lseek(file, 0, os.SEEK_END)
+        for place, length in zip(self.files, [len(head) + self.count * ENTRY.size, self.end, self.tar_end]):
+            os.ftruncate(place, length)
+            os.lseek(place, 0, os.SEEK_END)
         self.standing = open(self.sums, "rb")
         self.standing.seek(len(head))
         return True
@@ -130,9 +130,9 @@ class Results:
             os.remove(file)
 
     def close(self) -> None:
-        for file in self.files:
+        for place in self.files:
             try:
-                os.close(file)
+                os.close(place)
             except OSError:
                 pass
         self.files = []
@@ -143,8 +143,8 @@ class Results:
         """Gives the files their names; of a part, with what `gather` has to know of it beside it."""
         if self.archive:
             put(self.files[2], b"\0" * (1024 + -(self.tar_end + 1024) % 10240))
-        for file in self.files:
-            os.fsync(file)
+        for place in self.files:
+            os.fsync(place)
         self.close()
         if done is not None:
             told = {**json.loads(self.head), **done, "sum": sum_of(self.part)}
