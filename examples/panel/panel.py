@@ -85,9 +85,27 @@ def households_of(file, name):
     return header[:place] + header[place + 1 :], households
 
 
+def refuse_used(folder):
+    """Stops where a folder has something in it, which would be taken for this panel's."""
+    if os.path.isdir(folder) and os.listdir(folder):
+        raise Stopped(f"{folder}: this folder is not empty, and what it has could be taken for this panel's: name a new one")
+
+
+def refuse_same(long, verdicts):
+    """Stops where the verdicts would stand in the place of the data, or of what is no file."""
+    if os.path.exists(verdicts) and os.path.exists(long) and os.path.samefile(long, verdicts):
+        raise Stopped(f"{verdicts}: the verdicts would stand in the place of the data: name another file")
+    if os.path.lexists(verdicts) and not os.path.isfile(verdicts):
+        raise Stopped(f"{verdicts}: this is no file, and nothing is put in its place")
+    with open(f"{verdicts}.part", "ab"):
+        pass
+    os.remove(f"{verdicts}.part")
+
+
 def split(file, name, folder):
     """Writes a table for each household, and returns how many there are."""
     header, households = households_of(file, name)
+    refuse_used(folder)
     os.makedirs(folder, exist_ok=True)
     write(f"{folder}/households.csv", [["number", name], *enumerate(households, 1)])
     for number, table in enumerate(households.values(), 1):
@@ -189,7 +207,9 @@ def gather(folder, verdicts):
         found = found_in(text(f"{folder}/{number}.out"))
         found |= {"status": text(f"{folder}/{number}.status").strip(), "message": " ".join(said)}
         rows.append([household, *(found.get(it, "") for it in COLUMNS)])
-    write(verdicts, [[name, *COLUMNS], *rows])
+    # The verdicts get their name when all of them stand there.
+    write(f"{verdicts}.part", [[name, *COLUMNS], *rows])
+    os.replace(f"{verdicts}.part", verdicts)
     return [row[1] for row in rows]
 
 
@@ -222,6 +242,9 @@ def whole_panel(words, name, rp, certificates):
     if len(words) == 3 and not (words[2].isdecimal() and int(words[2])):
         raise Stopped(f"{words[2]}: the number of processes is a whole number, 1 or more")
     processes = int(words[2]) if len(words) == 3 else len(os.sched_getaffinity(0))
+    refuse_same(words[0], words[1])
+    if certificates is not None:
+        refuse_used(certificates)
     with tempfile.TemporaryDirectory(prefix="rp-panel-") as folder:
         count = split(words[0], name, folder)
         analyse_all(program(rp), folder, count, processes, certificates is not None)

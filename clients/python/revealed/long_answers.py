@@ -1,0 +1,323 @@
+"""The record of one household of a long file, and a process that makes many of them, block by block."""
+
+from __future__ import annotations
+
+import csv
+import hashlib
+import io
+import marshal
+import os
+import queue
+import shutil
+import signal
+import subprocess
+import sys
+import tempfile
+import threading
+from typing import IO, Any, Callable, Optional, Sequence
+
+from . import worker
+from .exact import whole_of
+from .long_files import Household, Stopped
+
+TESTS = ("garp", "homothetic", "quasilinear")
+COLUMNS = ("status", "garp", "efficiency", "efficiency_floor", "attained", "homothetic", "quasilinear", "cycle")
+# A million, for 6 places.
+PLACES = 10**6
+TABLE = "table.csv"
+# What one household comes to: the checksum of its table, its record as a line, its status, its message, and what is kept of it.
+Answer = tuple[bytes, bytes, int, str, "list[tuple[str, bytes]]"]
+Run = Callable[[Sequence[str], dict[str, bytes]], "tuple[int, bytes, bytes]"]
+# A block is tried so often where the process that has it ends.
+TRIES = 3
+# The signals that ask for an end.
+ENDS = [int(getattr(signal, name)) for name in ("SIGINT", "SIGTERM", "SIGHUP") if hasattr(signal, name)]
+STARTS = "import sys; sys.path.insert(0, sys.argv[1]); from revealed.long_answers import work; work()"
+
+
+def is_plain(text: str, rows: int, commas: int) -> bool:
+    """Whether lines of fields that were joined have no field that has to be quoted."""
+    return '"' not in text and "\r" not in text and text.count("\n") == rows - 1 and text.count(",") == commas
+
+
+def table(header: Sequence[str], rows: Sequence[Sequence[str]]) -> bytes:
+    """Returns the bytes of a table as a CSV file."""
+    whole = [header, *rows]
+    text = "\n".join(map(",".join, whole))
+    if not is_plain(text, len(whole), sum(map(len, whole)) - len(whole)):
+        text = lines_of(whole)[:-1]
+    return text.encode() + b"\n"
+
+
+def lines_of(records: Sequence[Sequence[Any]]) -> str:
+    written = io.StringIO()
+    csv.writer(written, lineterminator="\n").writerows(records)
+    return written.getvalue()
+
+
+def found_in(report: str) -> dict[str, str]:
+    """Returns the verdicts, the index and the cycle that a report of `analyse` tells."""
+    found: dict[str, str] = {}
+    item = ""
+    for line in report.splitlines():
+        word, _, rest = line.partition(" ")
+        if word in TESTS or word in ("efficiency", "afriat"):
+            item = word
+        if word in TESTS:
+            found[word] = rest.split()[0]
+        elif word == "efficiency":
+            level, _, attained = rest.split()
+            over, _, under = level.partition("/")
+            floor = PLACES * whole_of(over) // whole_of(under or "1")
+            found.update(efficiency=level, attained=attained, efficiency_floor=f"{floor // PLACES}.{floor % PLACES:06}")
+        elif word == "cycle" and item == "garp":
+            found["cycle"] = rest
+    return found
+
+
+def more_of(asked: dict[str, Any]) -> dict[str, tuple[list[str], dict[str, bytes], str]]:
+    """Returns what is asked beside the verdicts: words, files beside the table, and the name under which the answer is kept."""
+    more: dict[str, tuple[list[str], dict[str, bytes], str]] = {}
+    if asked["pump"]:
+        more["pump"] = (["pump", TABLE], {}, "")
+    if asked["power"]:
+        more["power"] = (["power", TABLE, *map(str, asked["power"])], {}, "")
+    for name in ("demand", "welfare"):
+        if asked[name] is not None:
+            more[name] = ([name, TABLE, "new.csv", "--json"], {"new.csv": asked[name]}, f"{name}.json")
+    if asked["certificates"]:
+        more["certificate"] = (["certify", TABLE], {}, "certificate.json")
+    return more
+
+
+def value_of(name: str, report: bytes) -> str:
+    """Returns what a column has of an answer: the money pump as it is told, the power as a fraction, of a kept one that it is there."""
+    words = dict(line.partition(" ")[::2] for line in report.decode("utf-8", "replace").splitlines()[:2])
+    if name == "pump":
+        return words["pump"]
+    if name == "power":
+        told = words["power"].split()
+        return f"{told[4]}/{told[2]}"
+    return "kept"
+
+
+def said(told: bytes) -> str:
+    """Returns the program's own words, without the name of its table."""
+    lines = [it for it in told.decode("utf-8", "replace").splitlines() if not it.startswith("note: ")]
+    return " ".join(it.removeprefix("rp: ").removeprefix(f"{TABLE}: ") for it in lines)
+
+
+def columns(asked: dict[str, Any]) -> list[str]:
+    return [asked["name"], *COLUMNS, *(it for it in more_of(asked) if it != "certificate"), "message"]
+
+
+def answer(household: Household, run: Run, asked: dict[str, Any], known: Optional[bytes]) -> Optional[Answer]:
+    """Returns the record of a household; None where its table has the checksum that is known, so that its record stands."""
+    _, name, rows, fault = household
+    data = table(asked["header"], rows)
+    found: dict[str, str] = {}
+    kept: list[tuple[str, bytes]] = []
+    summed = hashlib.blake2b(repr((name, fault)).encode() + b"\0" + data, digest_size=16).digest()
+    if summed == known:
+        return None
+    status, out, told = (4, b"", fault.encode()) if fault else run(["analyse", TABLE], {TABLE: data})
+    messages = [said(told)] if status or said(told) else []
+    if status == 0:
+        found = found_in(out.decode("utf-8", "replace"))
+        for part, (words, files, file) in more_of(asked).items():
+            ended, out, told = run(words, {TABLE: data, **files})
+            if ended == 0:
+                found[part] = value_of(part, out)
+                kept += [(file, out)] if file else []
+            else:
+                messages.append(f"{part}: {said(told) or f'status {ended}'}")
+                status = ended if ended != 4 else status
+    if kept:
+        kept.insert(0, (TABLE, data))
+    found.update(status=str(status), message="; ".join(messages))
+    line = lines_of([[name, *(found.get(it, "") for it in columns(asked)[1:])]])
+    return summed, line.encode(), status, found["message"], kept
+
+
+def way(asked: dict[str, Any]) -> Run:
+    """Returns what runs the program: its library in this process, or a process for each call, in the folder that is asked."""
+    path, folder = asked["rp"], asked["folder"]
+    if asked["library"]:
+        from . import library
+
+        loaded = library.known(path)
+        return lambda words, files: loaded.run(path, words, files)
+
+    def run(words: Sequence[str], files: dict[str, bytes]) -> tuple[int, bytes, bytes]:
+        status, out, told = worker.run_in(folder, path, words, files)
+        if -status in ENDS:
+            # What was stopped from outside is no answer, and no refusal.
+            raise Stopped("the program was stopped by a signal")
+        return status, out, told
+
+    return run
+
+
+# ---- processes
+
+
+def send(to: IO[bytes], what: Any) -> None:
+    data = marshal.dumps(what)
+    to.write(len(data).to_bytes(8, "little") + data)
+    to.flush()
+
+
+def receive(source: IO[bytes]) -> Any:
+    """Returns what was sent; raises EOFError where the other end is gone."""
+    length = source.read(8)
+    data = source.read(int.from_bytes(length, "little")) if len(length) == 8 else b""
+    if len(length) < 8 or len(data) < int.from_bytes(length, "little"):
+        raise EOFError
+    return marshal.loads(data)
+
+
+def work() -> None:
+    """Answers blocks that come on standard input, until it ends."""
+    for number in ENDS:
+        signal.signal(number, signal.SIG_IGN)
+    to = os.fdopen(os.dup(1), "wb")
+    os.dup2(2, 1)
+    asked = {}
+    try:
+        asked = receive(sys.stdin.buffer)
+        run = way(asked)
+        while True:
+            jobs = receive(sys.stdin.buffer)
+            try:
+                send(to, [answer(job, run, asked, known) for job, known in jobs])
+            except (OSError, Stopped) as wrong:
+                send(to, f"{asked['rp']}: {wrong}")
+    except (EOFError, BrokenPipeError):
+        shutil.rmtree(asked.get("folder", ""), ignore_errors=True)
+    # What another reader of the pipe did not take is no fault of this process.
+    os._exit(0)
+
+
+class Process:
+    """A process that answers blocks. It has a session of its own: a signal from a terminal is for the first process alone."""
+
+    def __init__(self, asked: dict[str, Any], folder: str) -> None:
+        above = os.path.dirname(os.path.dirname(os.path.abspath(__file__)))
+        words = [sys.executable, "-I", "-S", "-c", STARTS, above]
+        self.process = subprocess.Popen(words, stdin=subprocess.PIPE, stdout=subprocess.PIPE, start_new_session=True)
+        assert self.process.stdin is not None and self.process.stdout is not None
+        self.to, self.source = self.process.stdin, self.process.stdout
+        send(self.to, {**asked, "folder": tempfile.mkdtemp(dir=folder)})
+
+    def answers(self, jobs: Any) -> Any:
+        send(self.to, jobs)
+        return receive(self.source)
+
+    def kill(self) -> None:
+        """Ends the process, and a program that it runs, in the middle of what they do."""
+        try:
+            if hasattr(os, "killpg"):
+                os.killpg(self.process.pid, signal.SIGKILL)
+            else:
+                self.process.kill()
+        except OSError:
+            pass
+
+    def close(self) -> None:
+        for stream in (self.to, self.source):
+            try:
+                stream.close()
+            except OSError:
+                pass
+        self.process.wait()
+
+
+class Pool:
+    """Processes, each with a thread that hands it blocks; the answers are taken in the order of the blocks."""
+
+    def __init__(self, count: int, asked: dict[str, Any]) -> None:
+        self.asked, self.most = asked, 4 * count
+        self.jobs: queue.Queue[Any] = queue.Queue()
+        self.done: dict[int, Any] = {}
+        self.changed = threading.Condition()
+        self.given = self.taken = 0
+        self.restarts = 0
+        self.ending = False
+        self.processes: list[Process] = []
+        self.folder = tempfile.TemporaryDirectory(prefix="rp-panel-")
+        self.threads = [threading.Thread(target=self._serve, daemon=True) for _ in range(count)]
+        for thread in self.threads:
+            thread.start()
+
+    def give(self, jobs: Any) -> None:
+        self.jobs.put((self.given, jobs))
+        self.given += 1
+
+    def is_full(self) -> bool:
+        return self.given - self.taken >= self.most
+
+    def take(self) -> Any:
+        """Returns the answers of the next block that was given."""
+        with self.changed:
+            while self.taken not in self.done:
+                self.changed.wait(1.0)
+            found = self.done.pop(self.taken)
+        self.taken += 1
+        if isinstance(found, str):
+            raise Stopped(found)
+        return found
+
+    def _serve(self) -> None:
+        process = None
+        while True:
+            job = self.jobs.get()
+            if job is None:
+                break
+            number, jobs = job
+            found: Any = f"a process that answers ended {TRIES} times, at the households {jobs[0][0][1]!r} to {jobs[-1][0][1]!r}"
+            for _ in range(TRIES):
+                try:
+                    process = process or self._begin()
+                    found = process.answers(jobs)
+                    break
+                except (EOFError, ValueError, BrokenPipeError):
+                    if self.ending:
+                        break
+                    self.restarts += 1
+                    if process is not None:
+                        process.close()
+                    process = None
+                except OSError as wrong:
+                    found = f"no process can be started: {wrong}"
+                    break
+            with self.changed:
+                self.done[number] = found
+                self.changed.notify_all()
+        if process is not None:
+            process.close()
+
+    def _begin(self) -> Process:
+        process = Process(self.asked, self.folder.name)
+        with self.changed:
+            self.processes.append(process)
+            if self.ending:
+                process.kill()
+        return process
+
+    def close(self) -> None:
+        """Ends the processes, in the middle of what they do, and removes their folders."""
+        with self.changed:
+            self.ending = True
+            for process in self.processes:
+                if process.process.poll() is None:
+                    process.kill()
+        try:
+            while True:
+                self.jobs.get_nowait()
+        except queue.Empty:
+            pass
+        for _ in self.threads:
+            self.jobs.put(None)
+        for thread in self.threads:
+            thread.join()
+        self.folder.cleanup()
