@@ -1,0 +1,66 @@
+/*
+ * Each allocation of a call fails in turn, alone and with all that follow it: the status is RP_NO_MEMORY with its line, or
+ * the answer is what it is with memory. To be linked with -Wl,--wrap=malloc,--wrap=realloc and the static library. Ends with
+ * 0, or with 1 and a line for each call that ends otherwise.
+ */
+#include <stdio.h>
+#include <stdlib.h>
+#include <string.h>
+#include "rp.h"
+
+/* Allocations before the one that fails, and whether those after it fail too. */
+static long before = -1;
+static int for_good;
+
+void *__real_malloc(size_t);
+void *__real_realloc(void *, size_t);
+void *__wrap_malloc(size_t);
+void *__wrap_realloc(void *, size_t);
+
+static int fails(void) {
+    if (before < 0 || (before == 0 && for_good)) return before == 0;
+    return before-- == 0;
+}
+
+void *__wrap_malloc(size_t size) {
+    return fails() ? NULL : __real_malloc(size);
+}
+
+void *__wrap_realloc(void *at, size_t size) {
+    return fails() ? NULL : __real_realloc(at, size);
+}
+
+static const char words[] = "analyse\0t.csv", names[] = "t.csv";
+static const char table[] = "p_a,q_a,p_b,q_b\n1,1,2,2\n2,2,1,1\n";
+static const char line[] = "rp: out of memory\n";
+
+static int32_t call(uint8_t *output, size_t room, uint64_t *length, uint8_t *told, uint64_t *told_length) {
+    uint64_t size = sizeof table - 1;
+    return rp_answer(
+        (const uint8_t *)words, sizeof words, (const uint8_t *)names, sizeof names, &size, 1,
+        (const uint8_t *)table, size, output, room, told, 64, length, told_length);
+}
+
+int main(void) {
+    static uint8_t wanted[4096], output[4096], told[64];
+    uint64_t wanted_length = 0, length = 0, told_length = 0;
+    int wrong = call(wanted, sizeof wanted, &wanted_length, told, &told_length) != RP_DONE;
+    long place = 0, refused = 0;
+    for (for_good = 0; for_good < 2; for_good++) {
+        for (place = 0;; place++) {
+            before = place;
+            int32_t status = call(output, sizeof output, &length, told, &told_length);
+            int was_reached = before < 0 || (for_good && before == 0);
+            before = -1;
+            int is_refused = status == RP_NO_MEMORY && length == 0 && told_length == sizeof line - 1
+                && memcmp(told, line, sizeof line - 1) == 0;
+            int is_answered = status == RP_DONE && length == wanted_length && told_length == 0
+                && memcmp(output, wanted, length) == 0;
+            if (!is_refused && !is_answered) wrong |= printf("allocation %ld: status %d\n", place, (int)status) > 0;
+            refused += is_refused;
+            if (!was_reached) break;
+        }
+    }
+    printf("%ld allocations of a call; refused %ld of %ld times\n", place, refused, 2 * place);
+    return wrong || refused == 0;
+}

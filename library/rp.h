@@ -1,0 +1,71 @@
+/*
+ * rp.h - revealed preference, as one call over files in memory.
+ *
+ * The call answers what the command `rp` answers: to the same words, over files of the same bytes, with the same text. It
+ * reads no file, prints nothing, starts no thread and keeps nothing between calls. What each command takes and writes is
+ * told in docs/FORMATS.md; `rp` below is the command's name in its own texts.
+ *
+ *   cc program.c -lrp                 with the shared library
+ *   cc program.c librp.a              with the static one: it needs nothing but the C library
+ */
+#ifndef RP_H
+#define RP_H
+
+#include <stddef.h>
+#include <stdint.h>
+
+#ifdef __cplusplus
+extern "C" {
+#endif
+
+/* The statuses. 0 to 6 are those of the command. */
+enum rp_status {
+    RP_DONE = 0,         /* the answer is in the output */
+    RP_REJECTED = 1,     /* so is a certificate's rejection */
+    RP_USAGE = 2,        /* the words are no command line; the usage is told */
+    RP_READ_FAULT = 3,   /* a file that the words name was not given; a line tells which */
+    RP_REFUSED = 4,      /* a file is refused; a line tells what is wrong with it, and where */
+    RP_WRITE_FAULT = 5,  /* never comes: what has no room is counted */
+    RP_NO_MEMORY = 6,    /* memory ran out; the output is empty */
+    RP_NO_TEXT = 7,      /* a word, or a name of a file, is not UTF-8; nothing is told */
+    RP_MALFORMED = 8     /* the arguments do not fit together, or more files are given than the words name */
+};
+
+/*
+ * Answers the words of a command line.
+ *
+ * Framing. `words` are the words after the program's name, each ended by a zero byte: "analyse\0t.csv\0" are two, and
+ * `words_length` counts the zero bytes too. `names` are the names of the files, as the words have them, in the same form.
+ * `sizes` has one number for each name, in their order: how many bytes the file has. `files` is how many sizes there are.
+ * `bytes` are the bytes of the files, one after the other, with nothing between them; `bytes_length` is their sum.
+ * All files that the words name are given, and no others. One that is not given is told first (RP_READ_FAULT), before any
+ * other is looked at. A name that is given twice counts as it is given first.
+ *
+ * The texts. What the command would write to standard output goes to `output`, and what it would tell on standard error
+ * to `told`, each as far as there is room; the rest of the room stays as it was. No zero byte is added. `output_length`
+ * and `told_length` take how long the texts are, also where they did not fit: where one is greater than the room, call
+ * again with that much. The answer to the same arguments is the same text again.
+ *
+ * Ownership. All memory is the caller's. The call only reads the first five, and writes only within the room and the two
+ * numbers. No pointer is null, not even where its length is 0, and no memory that is written overlaps another argument.
+ * Of its own the call takes memory by malloc and gives all of it back before it returns.
+ *
+ * Threads. Any number of threads may call at once, each with rooms of its own; they share nothing. Do not call from a
+ * signal handler, nor in the child of a fork of a process that has threads.
+ *
+ * Returns the status.
+ */
+int32_t rp_answer(
+    const uint8_t *words, size_t words_length,
+    const uint8_t *names, size_t names_length,
+    const uint64_t *sizes, size_t files,
+    const uint8_t *bytes, size_t bytes_length,
+    uint8_t *output, size_t output_room,
+    uint8_t *told, size_t told_room,
+    uint64_t *output_length, uint64_t *told_length);
+
+#ifdef __cplusplus
+}
+#endif
+
+#endif
