@@ -23,11 +23,14 @@ def small(data: bytes) -> bytes:
     return hashlib.blake2b(data, digest_size=16).digest()
 
 
-def put(file: int, data: bytes) -> None:
-    """Writes all of some bytes, and raises OSError where they cannot be."""
+def put(file: int, data: bytes, name: str) -> None:
+    """Writes all of some bytes, and raises OSError with the file's name where they cannot be."""
     view = memoryview(data)
-    while view:
-        view = view[os.write(file, view) :]
+    try:
+        while view:
+            view = view[os.write(file, view) :]
+    except OSError as wrong:
+        raise OSError(wrong.errno, wrong.strerror, name) from None
 
 
 class Results:
@@ -50,8 +53,8 @@ class Results:
         if not (goes_on and self._stand(first)):
             for place in self.files:
                 os.ftruncate(place, 0)
-            put(self.files[0], self.head)
-            put(self.files[1], first)
+            put(self.files[0], self.head, self.sums)
+            put(self.files[1], first, self.part)
             self.end = len(first)
 
     def _alone(self) -> None:
@@ -113,15 +116,15 @@ class Results:
         """Writes what is kept of a household, and returns its entry; the record is written with others by `write`."""
         if self.archive:
             data = b"".join(member(f"{number:07}/{name}", it) for name, it in kept)
-            put(self.files[2], data)
+            put(self.files[2], data, f"{self.archive}.part")
             self.tar_end += len(data)
         self.end += len(record)
-        self.count += 1
         return ENTRY.pack(table, small(record), self.end, self.tar_end)
 
     def write(self, records: bytes, entries: bytes) -> None:
-        put(self.files[1], records)
-        put(self.files[0], entries)
+        put(self.files[1], records, self.part)
+        put(self.files[0], entries, self.sums)
+        self.count += len(entries) // ENTRY.size
 
     def drop(self) -> None:
         """Removes everything, as where nothing of it is of use."""
@@ -142,7 +145,7 @@ class Results:
     def finish(self, done: Optional[dict[str, Any]]) -> None:
         """Gives the files their names; of a part, with what `gather` has to know of it beside it."""
         if self.archive:
-            put(self.files[2], b"\0" * (1024 + -(self.tar_end + 1024) % 10240))
+            put(self.files[2], b"\0" * (1024 + -(self.tar_end + 1024) % 10240), f"{self.archive}.part")
         for place in self.files:
             os.fsync(place)
         self.close()
