@@ -17,7 +17,6 @@ ghost use Rattle.rp_evidence.specs.Efficiency.{ProvesEfficiency};
 ghost use Rattle.rp_evidence.specs.Garp.{ProvesGarp, ProvesOwnGarp};
 ghost use Rattle.rp_evidence.specs.Homothetic.{ProvesHomothetic};
 ghost use Rattle.rp_evidence.specs.Input.{TableInput, input_of_table};
-ghost use Rattle.rp_evidence.specs.Input.{TableInput};
 ghost use Rattle.rp_evidence.specs.Preference.{StrictByLevels, WeakByLevels};
 ghost use Rattle.rp_evidence.specs.Quasilinear.{ProvesQuasilinear};
 ghost use Rattle.rp_evidence.specs.declared.afriat.AfriatPart.{AfriatPart};

@@ -4,7 +4,7 @@ ghost use Rattle.rp_table.specs.Tables.{goods_of};
 ghost use Rattle.rp_answers.specs.CostText.{AreBoundsOfEach, AreBoundsUnder, IsCostText};
 
 use rp_cost::{Asked, Axiom, CostBounds, Tech, cost_axiom, cost_bounds, report_cost};
-use rp_num::NoMemory;
+use rp_num::{NoMemory, Seq};
 use std::alloc::Global;
 
 /// The report of the axioms of production on a technology, and of what each asked output costs at its prices.
@@ -12,8 +12,8 @@ pub fn cost_text(alloc: Global, tech: &Tech, asked: &Asked) -> Result<Vec<u8>, N
     requires { asked.now.prices.goods ≡ goods_of tech.now.table }
     ensures { IfOk result (λ text. IsCostText tech.now asked.now text.items) }
 {
-    let bounds = bounds_under(alloc, tech, asked)?;
-    let text = report_cost(alloc, tech, asked, bounds.as_slice())?;
+    let bounds = Seq::from_vec(bounds_under(alloc, tech, asked)?);
+    let text = report_cost(alloc, tech, asked, &bounds)?;
     Ok(text)
 }
 

@@ -10,7 +10,7 @@ use crate::asked::Asked;
 use crate::axioms::{Axiom, cost_axiom, profit_axiom};
 use crate::bounds::CostBounds;
 use crate::tech::Tech;
-use rp_num::NoMemory;
+use rp_num::{NoMemory, Seq};
 use rp_print::{
     Number, Ordinal, push_after, push_bound, push_bounds, push_line, push_list, push_pair_line,
 };
@@ -22,7 +22,7 @@ pub fn report_cost(
     alloc: Global,
     tech: &Tech,
     asked: &Asked,
-    bounds: &[CostBounds],
+    bounds: &Seq<CostBounds>,
 ) -> Result<Vec<u8>, NoMemory>
     requires bounded { MeetsCost tech.now → length bounds.now
         ≡ rows_count asked.now.prices.prices asked.now.prices.goods }
@@ -32,7 +32,7 @@ pub fn report_cost(
 {
     let cost = cost_axiom(tech);
     let profit = profit_axiom(tech);
-    let text = report_of(alloc, tech, asked, cost, profit, bounds)?;
+    let text = report_of(alloc, tech, asked, cost, profit, bounds.as_slice())?;
     Ok(text)
 }
 

@@ -1,7 +1,6 @@
 -- The critical cost efficiency index (Afriat 1973, "On a System of Inequalities in Demand Analysis").
 use Rattle.std.specs.Prelude.{◌≡◌, ◌≢◌, ℕ, ◌*◌, ◌<◌, ◌≤◌, List, []}
 use Rattle.rp_evidence.specs.Garp.{IsViolationAt, MeetsGarp, ProvesOfPreference}
-use Rattle.rp_evidence.specs.Garp.{ProvesOfPreference}
 use Rattle.rp_evidence.specs.Preference.{IsLevel, IsStrict, IsWeak}
 use Rattle.rp_evidence.specs.Ranks.{OrderStrictSteps}
 use Rattle.rp_evidence.specs.Walk.{IsClosedWalk, HasStep}

@@ -1,6 +1,7 @@
 use rp_cost::{
     Asked, Axiom, Tech, check_cost, cost_axiom, cost_bounds, read_asked, read_tech, report_cost,
 };
+use rp_num::Seq;
 use std::alloc::Global;
 use std::process::Abort;
 use std::test::Fail;
@@ -18,9 +19,9 @@ fn report<R: Abort>(rt: &R, alloc: Global, tech: &Tech, asked: &Asked) -> Result
                 all.push(bounds)?;
             }
             assert!(rt; all.len() == asked.count() as usize);
-            report_cost(alloc, tech, asked, all.as_slice())?
+            report_cost(alloc, tech, asked, &Seq::from_vec(all))?
         }
-        Axiom::Pair { .. } => report_cost(alloc, tech, asked, &[])?,
+        Axiom::Pair { .. } => report_cost(alloc, tech, asked, &Seq::from_vec(all))?,
     };
     Ok(String::from_utf8_lossy(alloc, text.as_slice())?)
 }

@@ -110,6 +110,10 @@ const COMMANDS: &[Case<'static>] = &[
     TRIAL,
 ];
 
+/// Commands over each kind of file on a table: the table itself, a certificate, new prices with and without what is
+/// spent, and bundles.
+const KINDS_OF_FILES: &[Case<'static>] = &[PAIRS, CHECK, DEMAND, WELFARE, UTILITY];
+
 #[test]
 fn each_read_of_each_command_fails_in_turn(rt: HostRuntime) -> Result<(), Fail> {
     for case in COMMANDS {
@@ -128,8 +132,10 @@ fn each_write_of_each_command_fails_in_turn(rt: HostRuntime) -> Result<(), Fail>
 
 #[test]
 fn each_read_of_a_byte_fails_in_turn(rt: HostRuntime) -> Result<(), Fail> {
-    each_read_fails(&rt, rt.alloc(), &PAIRS, 1)?;
-    each_read_fails(&rt, rt.alloc(), &CHECK, 1)
+    for case in KINDS_OF_FILES {
+        each_read_fails(&rt, rt.alloc(), case, 1)?;
+    }
+    Ok(())
 }
 
 #[test]

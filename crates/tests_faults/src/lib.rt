@@ -11,4 +11,6 @@ mod failures;
 #[cfg(test)]
 mod fronts;
 #[cfg(test)]
+mod measures;
+#[cfg(test)]
 mod sure;

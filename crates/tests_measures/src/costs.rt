@@ -1,7 +1,7 @@
 use rp_run::Status;
 use std::alloc::Global;
 use std::test::Fail;
-use tests_support::{Ended, gives, run_over};
+use tests_support::{Ended, filled, gives, refuses, run_over};
 
 /// Inputs that cost 4 and 6 where they were used, and an output that the second price values more.
 const FIRM: &str = "y,p,w_a,w_b,x_a,x_b\n1,5,1,2,2,1\n2,4,2,1,2,2\n";
@@ -41,6 +41,22 @@ fn cost_reports_the_axioms_and_bounds(rt: HostRuntime) -> Result<(), Fail> {
     ] {
         let got = cost(rt.alloc(), tech, new)?;
         assert!(rt; gives(&got, Status::Done, out), "{new} {}", got.out);
+    }
+    Ok(())
+}
+
+/// Line feeds alone are no record; with a byte past the limit the file is not looked at, and a technology of the most
+/// bytes is refused before the file that follows it.
+#[test]
+fn files_of_the_most_bytes_and_of_one_more(rt: HostRuntime) -> Result<(), Fail> {
+    let words = &["rp", "cost", "t.csv", "n.csv"];
+    for (size, fault) in [(4_194_304, "Empty"), (4_194_305, "TooLong")] {
+        let file = filled(rt.alloc(), b'\n', size)?;
+        for (name, tech) in [("t.csv", file.as_str()), ("n.csv", FIRM)] {
+            let files = [("t.csv", tech), ("n.csv", file.as_str())];
+            let line = format!(in rt.alloc(); "rp: {name}: {fault}\n")?;
+            refuses(rt.alloc(), words, &files, line.as_str())?;
+        }
     }
     Ok(())
 }
