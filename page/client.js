@@ -57,10 +57,10 @@ export class Client {
     return this.#ask("one", { words, files });
   }
 
-  /** Answers each household; `onPart` takes what came since it was called last, and how many are done. */
-  panel(words, households, onPart) {
+  /** Answers each household, of which all have the further files; `onPart` takes what came since it was called last. */
+  panel(words, households, onPart, more = []) {
     this.onPart = onPart;
-    return this.#ask("panel", { words, households });
+    return this.#ask("panel", { words, households, more });
   }
 
   stop() {

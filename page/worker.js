@@ -8,10 +8,10 @@ function answerOne({ words, files }) {
 }
 
 /** Answers a panel; after each some households it tells what came, so that all that was done stays when it is stopped. */
-function answerPanel({ words, households }) {
+function answerPanel({ words, households, more }) {
   let [batch, told] = [[], performance.now()];
   households.forEach(({ household, bytes }, at) => {
-    batch.push({ household, ...library.texts(words, [{ name: "table.csv", bytes }]) });
+    batch.push({ household, ...library.texts(words, [{ name: "table.csv", bytes }, ...more]) });
     if (performance.now() - told > 100 || at + 1 === households.length) {
       postMessage({ part: batch, done: at + 1 });
       [batch, told] = [[], performance.now()];
