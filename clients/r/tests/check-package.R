@@ -108,7 +108,8 @@ expect(any(grepl("^GARP holds & [0-9]+ ", page)) && any(grepl("^GARP holds +[0-9
 
 # ---- citation, and the sessions of README.md
 cited <- format(utils::citation("revealed", lib.loc = library), style = "text")
-expect(any(grepl("2026", cited)) && any(grepl("0.11.0", cited)), "citation() has the year and the version")
+version <- read.dcf(file.path(dirname(here), "revealed", "DESCRIPTION"))[, "Version"]
+expect(any(grepl("2026", cited)) && any(grepl(version, cited, fixed = TRUE)), "citation() has the year and the version")
 readme <- readLines(file.path(dirname(here), "README.md"))
 fences <- which(startsWith(readme, "```"))
 at <- which(readme[fences] == "```r")[1]
