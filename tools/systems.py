@@ -98,13 +98,13 @@ def ran(words, folder):
 
 @functools.lru_cache(maxsize=None)
 def crate_words():
-    """Returns rattle, and its words for the crate, as `rt` gives them."""
+    """Returns rattle, and its words for the crate, as `rt` gives them. What a check of the crate kept is taken, as `rt lib` does."""
     loader = importlib.machinery.SourceFileLoader("rt_of_kit", f"{kit()}/bin/rt")
     rt = importlib.util.module_from_spec(importlib.util.spec_from_loader("rt_of_kit", loader))
     sys.dont_write_bytecode = True
     loader.exec_module(rt)
     crate = rt.rtlib.Crate(CRATE, TOP, {})
-    return rt.rtlib.RATTLE, crate.words(["--jobs", "1"], keeps=False)
+    return rt.rtlib.RATTLE, [*crate.words(["--jobs", "1"], keeps=False), *rt.rtlib.KEPT]
 
 
 def toolchain(room):
@@ -179,19 +179,26 @@ def text_for(system, text):
     return DROPPED.sub("", text)
 
 
-def compiled(system, text, sources, room):
-    """Compiles the module's text and further sources with the kit's clang, and returns the objects."""
-    with open(f"{room}/{system}.ll", "w", encoding="utf-8") as it:
-        it.write(text_for(system, text))
+def compile_one(system, source, made, room):
+    """Compiles one source with the kit's clang: LLVM's text, or C."""
     flags = [f"--target={LAYOUTS[system][1]}", "-O3", "-c", "-ffunction-sections", "-fdata-sections", "-Wno-override-module"]
     flags += WASM if system == "wasm" else []
-    objects = []
-    for source in [f"{room}/{system}.ll", *(f"{SOURCES}/{it}" for it in sources)]:
-        made = f"{room}/{system}-{os.path.basename(source)}.o"
-        language = ["-x", "ir"] if source.endswith(".ll") else ["-ffreestanding", "-Wall", "-Wextra", "-Werror"]
-        ran([f"{kit()}/toolchain/bin/clang", *flags, *language, source, "-o", made], room)
-        objects.append(made)
-    return objects
+    language = ["-x", "ir"] if source.endswith(".ll") else ["-ffreestanding", "-Wall", "-Wextra", "-Werror"]
+    ran([f"{kit()}/toolchain/bin/clang", *flags, *language, source, "-o", made], room)
+    return made
+
+
+def compiled(system, sources, room):
+    """Compiles the module's text and further sources with the kit's clang, and returns the objects."""
+
+    def make():
+        with open(f"{room}/{system}.ll", "w", encoding="utf-8") as it:
+            it.write(text_for(system, module_text(room)))
+        compile_one(system, f"{room}/{system}.ll", f"{room}/{system}.o", room)
+
+    if not os.path.exists(f"{room}/{system}.o"):
+        kept_build(f"{system}.o", room, make)
+    return [f"{room}/{system}.o", *(compile_one(system, f"{SOURCES}/{it}", f"{room}/{system}-{it}.o", room) for it in sources)]
 
 
 def linked_wasm(objects, exports, made, room):
@@ -208,7 +215,7 @@ def linked_wasm(objects, exports, made, room):
 
 def web(room):
     """Returns the files of WebAssembly: the module, the JavaScript that a page and Node share, and the command for Node."""
-    objects = compiled("wasm", module_text(room), ["heap.ll", "wasm_heap.c", "wasm_guard.c"], room)
+    objects = compiled("wasm", ["heap.ll", "wasm_heap.c", "wasm_guard.c"], room)
     module = linked_wasm(objects, ("rp_answer", "malloc", "free"), f"{room}/rp.wasm", room)
     return {"rp.wasm": module, "rp.js": f"{SOURCES}/rp.js", "rp.mjs": f"{SOURCES}/rp.mjs", "rp": f"{SOURCES}/rp.sh"}
 
@@ -226,7 +233,7 @@ def wide(room):
 
 def windows(room):
     """Returns the program and the library for Windows, which need no other file, and the library's import library."""
-    objects = compiled("windows", module_text(room), ["heap.ll"], room)
+    objects = compiled("windows", ["heap.ll"], room)
     gcc = ["x86_64-w64-mingw32-gcc", "-O2", "-std=c11", "-Wall", "-Wextra", "-Werror", "-static", "-s", "-Wl,--gc-sections,--no-insert-timestamp"]
     sources = [f"{SOURCES}/{it}" for it in ("program.c", "windows.c")]
     ran([*gcc, *sources, *objects, "-lshell32", "-o", f"{room}/rp.exe"], room)
