@@ -16,6 +16,7 @@ use Rattle.rp_evidence.specs.declared.failure.Reason.{Reason}
 use Rattle.rp_evidence.specs.declared.failure.Reason.TheVariants as reason
 use Rattle.rp_patch.specs.Patches.{PatchList}
 use Rattle.rp_patch.specs.RandomEvidence.{ProvesOnPatches}
+use Rattle.rp_persons.specs.SaysRandom.{SaysOnPatches}
 use Rattle.rp_print.specs.ListText.{line_of}
 use Rattle.rp_answers.specs.declared.status.Status.{Status}
 use Rattle.rp_answers.specs.declared.status.Status.TheVariants as status
@@ -74,10 +75,11 @@ pub record IsTableCheck (table : Observations) (certificate : Certificate) (s : 
   pub ends : s ≡ check_status verdict
   pub tells : text ≡ check_line certificate.items verdict
 
--- the same on choices from budgets
+-- the same on choices from budgets, whose items say so of persons
 pub record IsRandomCheck (p : PatchList) (certificate : Certificate) (s : Status) (text : List ℕ) : Type 0 where
   pub verdict : Verdict
   pub found : IsRandomCheckVerdict p certificate.items verdict
   pub proves : verdict ≡ Accepted → All (ProvesOnPatches p) certificate.items
+  pub says : verdict ≡ Accepted → All (SaysOnPatches p) certificate.items
   pub ends : s ≡ check_status verdict
   pub tells : text ≡ check_line certificate.items verdict
