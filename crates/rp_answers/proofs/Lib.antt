@@ -5,3 +5,4 @@ pub mod GarpTestLemmas
 pub mod ReadBackLemmas
 pub mod TrialLemmas
 pub mod UtilityLemmas
+pub mod SaysLemmas
