@@ -6,3 +6,4 @@ pub mod GarpTestLemmas
 pub mod ReadBackLemmas
 pub mod TrialLemmas
 pub mod UtilityLemmas
+pub mod SaysLemmas
