@@ -1,5 +1,6 @@
 pub mod AcceptedLemmas
 pub mod BoundItems
+pub mod ChosenBundles
 pub mod GarpFirstLemmas
 pub mod GarpTestLemmas
 pub mod ReadBackLemmas
