@@ -7,7 +7,7 @@ use Rattle.rp_table.specs.Tables.{goods_of}
 use Rattle.rp_cost.specs.AskedOutputs.{AskedOutputs}
 use Rattle.rp_cost.specs.Axioms.{MeetsCost}
 use Rattle.rp_cost.specs.CostBounds.{AreCostBounds, BoundsHold, IsAtMost, ProvesCostBounds, ShowsNothing}
-use Rattle.rp_cost.specs.OuterSet.{AllMakeMore, MadeIsOuter}
+use Rattle.rp_producers.specs.OuterSet.{AllMakeMore, MadeIsOuter}
 use Rattle.rp_cost.specs.Report.{IsProductionReport}
 use Rattle.rp_cost.specs.Technology.{Technology}
 use Rattle.rp_cost.specs.declared.bounds.CostBounds.{CostBounds}

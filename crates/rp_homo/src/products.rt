@@ -1,4 +1,5 @@
-ghost use Rattle.std.specs.Prelude.{◌≡◌, ◌<◌, ◌*◌, ◌^◌, IfSome};
+ghost use Rattle.std.specs.Prelude.{◌≡◌, ◌<◌, ◌≤◌, ◌↔◌, ◌*◌, ◌^◌, IfSome, IsTrue};
+ghost use Rattle.std.specs.Ordering.{nat_cmp};
 ghost use Rattle.rp_num.specs.Fraction.{FitsTerm};
 
 use rp_num::{FRACTION_WIDTH, Frac, Wide, cmp_products};
@@ -47,6 +48,11 @@ impl Total for Products<'_> {
     fn improves_nothing(&self, v: Frac, t: u32, s: u32, best: Frac) -> bool {
         let across = self.costs.cost(t, s);
         let own = self.costs.cost(t, t);
+        if in_words(v) && in_words(best) {
+            let num = word_product(v.num(), across);
+            let den = word_product(v.den(), own);
+            return cmp_by_words(num, best.den(), best.num(), den) != Ordering::Less;
+        }
         let Some(num) = unreduced(v.num(), across) else {
             return false;
         };
@@ -70,6 +76,35 @@ impl Total for Products<'_> {
     ghost stays = { λ a. products_stay a.costs.now.n (cost_at a.costs.now) };
 
     ghost fits_alike = { products_fit_alike };
+}
+
+/// The greatest number of one word.
+const MOST_WORD: u128 = (1 << 64) - 1;
+
+/// Whether both parts of a fraction are of one word, as most are.
+fn in_words(v: Frac) -> bool
+    ensures { IsTrue result ↔ ((v.num ≤ MOST_WORD) × (v.den ≤ MOST_WORD)) }
+{
+    v.num() <= MOST_WORD && v.den() <= MOST_WORD
+}
+
+/// A part of one word times a cost.
+fn word_product(part: u128, cost: u64) -> u128
+    requires word { part ≤ MOST_WORD }
+    requires below { cost < 2 ^ 51 }
+    ensures value { result ≡ part * cost }
+    ensures fits { FitsTerm result }
+{
+    u128::from(part as u64) * u128::from(cost)
+}
+
+/// The order of `a * b` and `c * d`, where the two in the middle are of one word.
+fn cmp_by_words(a: u128, b: u128, c: u128, d: u128) -> Ordering
+    requires second { b ≤ MOST_WORD }
+    requires third { c ≤ MOST_WORD }
+    ensures { result ≡ nat_cmp (a * b) (c * d) }
+{
+    cmp_products(a, u128::from(b as u64), u128::from(c as u64), d)
 }
 
 /// A part of a fraction times a cost, where that is within the width.
