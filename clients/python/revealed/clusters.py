@@ -65,8 +65,9 @@ def of_dask(d: Any, names: Sequence[Any], levels: Any, more: dict[str, Any]) -> 
     if hasattr(levels, "__iter__"):
         raise BadData("levels of a frame of Dask are one number for all, or its column 'e'")
     more = {**more, "levels": levels}
-    rows = d._meta.assign(**{PLACE: numpy.zeros(0, "int64")})
     # What is wrong with the columns is told now, and not by each partition.
+    records_of(d._meta, list(names), more)
+    rows = d._meta.assign(**{PLACE: numpy.zeros(0, "int64")})
     empty = _answered(rows, list(names), more)
     empty = empty.astype({name: pandas.Series(list(d._meta_nonempty[name])).dtype for name in names})
     whole = d.map_partitions(_placed, meta=rows).shuffle(list(names))

@@ -37,7 +37,7 @@ ASKED: dict[str, Any] = {"verdicts": "analyse", "header": None, "pump": False, "
 ASKED.update(demand=None, welfare=None)
 # A block is tried so often where the process that has it ends.
 TRIES = 3
-STARTS = "import sys; sys.path.insert(0, sys.argv[1]); from revealed.long_answers import work; work()"
+STARTS = "import sys; sys.path.insert(0, sys.argv[1]); from revealed.long_answers import work; work(sys.argv[2])"
 
 
 def is_plain(text: str, rows: int, commas: int) -> bool:
@@ -195,15 +195,14 @@ def receive(source: IO[bytes]) -> Any:
     return marshal.loads(data)
 
 
-def work() -> None:
-    """Answers blocks that come on standard input, until it ends."""
+def work(folder: str) -> None:
+    """Answers blocks that come on standard input, until it ends, in this folder where the program runs in one."""
     for number in ENDS:
         signal.signal(number, signal.SIG_IGN)
     to = os.fdopen(os.dup(1), "wb")
     os.dup2(2, 1)
-    folder = ""
     try:
-        asked, folder = receive(sys.stdin.buffer)
+        asked = receive(sys.stdin.buffer)
         run = way(asked, folder)
         while True:
             jobs = receive(sys.stdin.buffer)
@@ -238,11 +237,11 @@ class Process:
     def __init__(self, asked: dict[str, Any], folder: str) -> None:
         above = os.path.dirname(os.path.dirname(os.path.abspath(__file__)))
         own = tempfile.mkdtemp(dir=folder) if folder else ""
-        words = [sys.executable, "-I", "-S", "-c", STARTS, above]
+        words = [sys.executable, "-I", "-S", "-c", STARTS, above, own]
         self.process = subprocess.Popen(words, stdin=subprocess.PIPE, stdout=subprocess.PIPE, start_new_session=True)
         assert self.process.stdin is not None and self.process.stdout is not None
         self.to, self.source = self.process.stdin, self.process.stdout
-        send(self.to, (asked, own))
+        send(self.to, asked)
 
     def answers(self, jobs: Any) -> Any:
         send(self.to, jobs)
