@@ -19,7 +19,7 @@ from typing import Any, Callable, Iterator, Optional
 from .exact import text_of
 
 # So many households make a block: what is handed to a processor at once, and what the parts of a cluster take in turn.
-BLOCK = 100
+BLOCK = 20
 # How a file of Parquet begins, and how many of its records are taken at once.
 PARQUET = b"PAR1"
 RECORDS = 20_000

@@ -53,8 +53,12 @@ class Results:
         if not (goes_on and self._stand(first)):
             for place in self.files:
                 os.ftruncate(place, 0)
-            put(self.files[0], self.head, self.sums)
-            put(self.files[1], first, self.part)
+            try:
+                put(self.files[0], self.head, self.sums)
+                put(self.files[1], first, self.part)
+            except OSError:
+                self.drop()
+                raise
             self.end = len(first)
 
     def _alone(self) -> None:
