@@ -12,7 +12,7 @@ ghost use Rattle.rp_pref.specs.Steps.{IsStep, OwnStrict, OwnWeak, StepOf};
 ghost use Rattle.rp_pref.specs.declared.steps.Steps.{Steps};
 
 use crate::bits::{close, count_set, is_set, set_word, words_for};
-use crate::revealed::{AtLevel, OwnLevels, Revealed, has_step};
+use crate::revealed::{AtLevel, OwnLevels, Revealed};
 use crate::steps::Steps;
 use rp_evidence::{Level, Relation};
 use rp_grid::Grid;
@@ -176,12 +176,40 @@ fn steps_in_word<P: Revealed>(preference: &P, steps: Steps, s: u32, place: u32) 
     ensures { IsWordOf place (P.count preference.now)
         (StepOf steps (P.weak preference.now) (P.strict preference.now) s) result }
 {
+    match steps {
+        Steps::Weak => weak_in_word(preference, s, place),
+        Steps::Strict => strict_in_word(preference, s, place),
+    }
+}
+
+/// The weak ones.
+fn weak_in_word<P: Revealed>(preference: &P, s: u32, place: u32) -> u64
+    requires from { s < P.count preference.now }
+    requires place { place * 64 < P.count preference.now }
+    ensures { IsWordOf place (P.count preference.now) (P.weak preference.now s) result }
+{
     let n = preference.n();
     let start = place * 64;
     let end = n.min(start + 64);
     let mut word = 0;
     for t in start..end {
-        word |= u64::from(has_step(preference, steps, s, t)) << (t % 64);
+        word |= u64::from(preference.is_weak(s, t)) << (t % 64);
+    }
+    word
+}
+
+/// The strict ones.
+fn strict_in_word<P: Revealed>(preference: &P, s: u32, place: u32) -> u64
+    requires from { s < P.count preference.now }
+    requires place { place * 64 < P.count preference.now }
+    ensures { IsWordOf place (P.count preference.now) (P.strict preference.now s) result }
+{
+    let n = preference.n();
+    let start = place * 64;
+    let end = n.min(start + 64);
+    let mut word = 0;
+    for t in start..end {
+        word |= u64::from(preference.is_strict(s, t)) << (t % 64);
     }
     word
 }

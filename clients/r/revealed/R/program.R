@@ -22,9 +22,9 @@ rp_program <- function(exe = NULL, must = TRUE) {
     program <- c(on_path("rp"), Filter(is_program, places))
     found <- if (length(program)) c(library_of(program[1]), program)[1] else Find(is_there, library_places())
     where <- paste0(
-      "there is no program rp: the argument exe is not given, the variables RP_LIBRARY and RP_EXEC are not set, no rp is on the path (",
-      Sys.getenv("PATH"), "), and there is none of ", listed(places), ", no rp-VERSION-x86_64-linux/rp in ", listed(usual_roots()),
-      " and no library of ", listed(library_places()), "; unpack a release of rp, and name its program or its library by exe ="
+      "there is no program rp: unpack a release of it, and name its program or its library by exe =. Now the argument exe is not given, the ",
+      "variables RP_LIBRARY and RP_EXEC are not set, there is none of ", listed(places), ", no rp-VERSION-x86_64-linux/rp in ",
+      listed(usual_roots()), ", no librp.so in ", listed(unique(dirname(library_places()))), ", and no rp on the path: ", Sys.getenv("PATH")
     )
   }
   if (is.null(found) && must) no_program(where)

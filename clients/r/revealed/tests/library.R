@@ -62,7 +62,7 @@ unlink(beside)
 elsewhere <- rp_program(must = FALSE)
 if (is.null(elsewhere)) {
   said <- conditionMessage(caught(rp_test(one, one), "rp_no_program"))
-  stopifnot(grepl("RP_LIBRARY and RP_EXEC are not set", said), grepl("/usr/lib/librp.so.0", said, fixed = TRUE))
+  stopifnot(grepl("RP_LIBRARY and RP_EXEC are not set", said), grepl("no librp.so in .*'/usr/lib'", said))
 }
 back()
 

@@ -1,6 +1,6 @@
 use Rattle.std.proofs.Common.{◌*◌, ◌≤◌, ◌∙◌, subst}
 use Rattle.rp_homo.proofs.Unreduced.{fits_unreduced}
-use Rattle.rp_homo.proofs.products.ProductsTotal.improves_nothing.Goals as goal
+use Rattle.rp_homo.proofs.products.improves_nothing.Goals as goal
 
 pub returns-then-in_words-2-clause-fits : goal.returns-then-in_words-2-clause-fits
 returns-then-in_words-2-clause-fits c is_no_less =
