@@ -121,7 +121,7 @@ for (files in list(list(table.csv = table), list(table.csv = c("p_a,q_a", rep("1
 }
 stopifnot(nchar(found$out) > 65536)
 # more files than the words name, and a file that is not there
-stopifnot(revealed:::by_library("analyse", list(list(a = "1", b = "2", c = "3", d = "4")), call)[[1]]$status == 8)
+stopifnot(revealed:::by_library(c("analyse", "a"), list(list(a = "1", b = "2")), call)[[1]]$status == 8)
 stopifnot(revealed:::by_library(c("analyse", "a"), list(list()), call)[[1]]$status == 3)
 stopifnot(revealed:::by_library(c("analyse", "a"), list(list(a = raw())), call)[[1]]$status == 4)
 
