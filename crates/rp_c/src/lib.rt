@@ -2,8 +2,10 @@
 //! library crate of the same call, and states that contract again.
 #![tactic(auto)]
 
-ghost use Rattle.std.specs.Prelude.{ℕ, List};
-ghost use Rattle.rp_call.specs.Endings.{IsHandedOut};
+ghost use Rattle.std.specs.Prelude.{◌≡◌, pos};
+ghost use Rattle.rp_frame.specs.Frames.{frame_of};
+ghost use Rattle.rp_call.specs.CallEndings.{EndsSo, IsDecided, ending_number};
+ghost use Rattle.rp_call.specs.declared.ending.Ending.{Ending};
 
 use rp_call::answer;
 use std::alloc::Global;
@@ -21,8 +23,10 @@ pub extern "C" fn rp_answer(
     output_length: &mut u64,
     told_length: &mut u64,
 ) -> i32
-    ensures output { (text : List ℕ) × IsHandedOut output.old output.new output_length.new text }
-    ensures told { (text : List ℕ) × IsHandedOut told.old told.new told_length.new text }
+    ensures { (ending : Ending) × (result ≡ pos (ending_number ending))
+        × EndsSo (frame_of words.now names.now sizes.now bytes.now) ending
+        output.old output.new output_length.new told.old told.new told_length.new
+        × IsDecided (frame_of words.now names.now sizes.now bytes.now) ending }
 {
     answer(
         alloc,

@@ -1,4 +1,9 @@
 //! What the words and files that were handed over end with.
+ghost use Rattle.std.specs.Prelude.{◌≡◌, [], Some, IfOk, map, string_bytes};
+ghost use Rattle.rp_outside.specs.NamedFile.{named_bytes};
+ghost use Rattle.rp_words.specs.Named.{named_line};
+ghost use Rattle.rp_words.specs.Words.{line_in};
+ghost use Rattle.rp_call.specs.RunEndings.{EndsAsRun, EndsFor, TellsUnread, known_in};
 
 use crate::ending::Ending;
 use crate::files::first_missing;
@@ -19,7 +24,11 @@ pub(crate) struct Texts {
 }
 
 /// An ending that nothing is written or told of.
-pub(crate) fn silent(alloc: Global, ending: Ending) -> Texts {
+pub(crate) fn silent(alloc: Global, ending: Ending) -> Texts
+    ensures ending { result.ending ≡ ending }
+    ensures output { result.output.items ≡ [] }
+    ensures told { result.told.items ≡ [] }
+{
     Texts {
         ending,
         output: Vec::new(alloc),
@@ -28,7 +37,11 @@ pub(crate) fn silent(alloc: Global, ending: Ending) -> Texts {
 }
 
 /// The answer to words over files, or why there is none.
-pub(crate) fn answer_handed(alloc: Global, handed: Handed) -> Result<Texts, NoMemory> {
+pub(crate) fn answer_handed(alloc: Global, handed: Handed) -> Result<Texts, NoMemory>
+    ensures { IfOk result (λ texts. EndsFor
+        (map string_bytes handed.words.items) (map named_bytes handed.files.items)
+        texts.ending texts.output.items texts.told.items) }
+{
     let Handed { words, files } = handed;
     match read_line(alloc, words.as_slice())? {
         Some(line) => answer_line(alloc, &words, &line, files),
@@ -42,7 +55,12 @@ fn answer_line(
     words: &Vec<String>,
     line: &Line<'_>,
     files: Vec<MemFile>,
-) -> Result<Texts, NoMemory> {
+) -> Result<Texts, NoMemory>
+    requires { line_in words.now.items ≡ Some (named_line line.now) }
+    ensures { IfOk result (λ texts. EndsFor
+        (map string_bytes words.now.items) (map named_bytes files.items)
+        texts.ending texts.output.items texts.told.items) }
+{
     let names = line.arguments.files.as_slice();
     if files.len() > names.len() {
         return Ok(silent(alloc, Ending::Malformed));
@@ -54,7 +72,11 @@ fn answer_line(
 }
 
 /// The answer of a run over files.
-fn run_files(alloc: Global, words: &Vec<String>, files: Vec<MemFile>) -> Result<Texts, NoMemory> {
+fn run_files(alloc: Global, words: &Vec<String>, files: Vec<MemFile>) -> Result<Texts, NoMemory>
+    ensures { IfOk result (λ texts. EndsAsRun
+        (known_in (map named_bytes files.items)) (line_in words.now.items)
+        texts.ending texts.output.items texts.told.items) }
+{
     let texts = run_over(alloc, words, files)?;
     Ok(Texts {
         ending: Ending::Ran(texts.status),
@@ -64,7 +86,10 @@ fn run_files(alloc: Global, words: &Vec<String>, files: Vec<MemFile>) -> Result<
 }
 
 /// The ending where a file is not given.
-fn unread(alloc: Global, name: &str) -> Result<Texts, NoMemory> {
+fn unread(alloc: Global, name: &str) -> Result<Texts, NoMemory>
+    ensures { IfOk result (λ texts. TellsUnread name.now
+        texts.ending texts.output.items texts.told.items) }
+{
     let mut told = Vec::from_slice(alloc, b"rp: ")?;
     told.extend_from_slice(name.as_bytes())?;
     told.extend_from_slice(b": read failed\n")?;

@@ -1,7 +1,7 @@
 //! The call.
-
-ghost use Rattle.std.specs.Prelude.{ℕ, List};
-ghost use Rattle.rp_call.specs.Endings.{IsHandedOut};
+ghost use Rattle.std.specs.Prelude.{IfOk};
+ghost use Rattle.rp_frame.specs.Frames.{frame_of};
+ghost use Rattle.rp_call.specs.CallEndings.{EndsSo, IsDecided, IsEndingOf};
 
 use crate::asking::{Texts, answer_handed, silent};
 use crate::ending::Ending;
@@ -26,8 +26,9 @@ pub fn answer(
     output_length: &mut u64,
     told_length: &mut u64,
 ) -> Ending
-    ensures output { (text : List ℕ) × IsHandedOut output.old output.new output_length.new text }
-    ensures told { (text : List ℕ) × IsHandedOut told.old told.new told_length.new text }
+    ensures ends { EndsSo (frame_of words.now names.now sizes.now bytes.now) result
+        output.old output.new output_length.new told.old told.new told_length.new }
+    ensures decided { IsDecided (frame_of words.now names.now sizes.now bytes.now) result }
 {
     match answer_frame(alloc, words, names, sizes, bytes) {
         Ok(texts) => {
@@ -50,7 +51,11 @@ fn answer_frame(
     names: &[u8],
     sizes: &[u64],
     bytes: &[u8],
-) -> Result<Texts, NoMemory> {
+) -> Result<Texts, NoMemory>
+    ensures { IfOk result (λ texts.
+        IsEndingOf (frame_of words.now names.now sizes.now bytes.now)
+        texts.ending texts.output.items texts.told.items) }
+{
     match read_frame(alloc, words, names, sizes, bytes) {
         Ok(handed) => answer_handed(alloc, handed),
         Err(FrameFault::Malformed) => Ok(silent(alloc, Ending::Malformed)),

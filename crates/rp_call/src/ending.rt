@@ -1,5 +1,5 @@
 ghost use Rattle.std.specs.Prelude.{◌≡◌, pos};
-ghost use Rattle.rp_call.specs.Endings.{ending_number};
+ghost use Rattle.rp_call.specs.CallEndings.{ending_number};
 
 use rp_run::Status;
 

@@ -1,4 +1,8 @@
 //! A run over files that are all given.
+ghost use Rattle.std.specs.Prelude.{IfOk, map};
+ghost use Rattle.rp_outside.specs.NamedFile.{named_bytes};
+ghost use Rattle.rp_words.specs.Words.{line_in};
+ghost use Rattle.rp_call.specs.RunEndings.{IsRun, known_in};
 
 use rp_frame::TextSink;
 use rp_num::NoMemory;
@@ -19,7 +23,11 @@ pub(crate) fn run_over(
     alloc: Global,
     words: &Vec<String>,
     files: Vec<MemFile>,
-) -> Result<RunTexts, NoMemory> {
+) -> Result<RunTexts, NoMemory>
+    ensures { IfOk result (λ texts.
+        IsRun (known_in (map named_bytes files.items)) (line_in words.now.items)
+        texts.status texts.output.items texts.told.items) }
+{
     let mut desk = SureDesk::new(files);
     let mut out = TextSink::new(alloc);
     let mut err = TextSink::new(alloc);

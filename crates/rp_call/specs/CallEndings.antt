@@ -1,0 +1,170 @@
+-- How a call over files in memory ends. Its frame alone decides, but for want of memory (this program's own statuses).
+use Rattle.std.specs.Prelude.{◌≡◌, ◌≢◌, ◌⊎◌, ◌<◌, ◌≤◌, ℕ, List, [], ◌∷◌, Option, Some, None, codes, length}
+use Rattle.std.specs.Prelude.{slice_index_or}
+use Rattle.rp_frame.specs.Frames.{Frame, Request, request_in}
+use Rattle.rp_frame.specs.Handed.{IsText}
+use Rattle.rp_frame.specs.Rooms.{filled}
+use Rattle.rp_outside.specs.Files.{bytes_under}
+use Rattle.rp_words.specs.CommandLine.{Line, file_at, files_of}
+use Rattle.rp_words.specs.Words.{denoted_line}
+use Rattle.rp_words.specs.Usage.{usage_text}
+use Rattle.rp_run.specs.Answers.{AnswersLine, Files, IsAccepted, IsRefused, RefusesWith}
+use Rattle.rp_run.specs.Endings.{IsEnd}
+use Rattle.rp_run.specs.FaultLines.{memory_line, read_line}
+use Rattle.rp_answers.specs.StatusNumbers.{status_number}
+use Rattle.rp_answers.specs.declared.status.Status.{Status}
+use Rattle.rp_answers.specs.declared.status.Status.TheVariants.{Done, Rejected, Usage, ReadFault, Refused, WriteFault}
+use Rattle.rp_answers.specs.declared.status.Status.TheVariants.{NoMemory}
+use Rattle.rp_call.specs.declared.ending.Ending.{Ending}
+use Rattle.rp_call.specs.declared.ending.Ending.TheVariants.{Ran, NoText, Malformed}
+
+-- the line that the words of a request denote, after the program's name
+abbrev pub asked_of : Request → Option Line
+asked_of request = denoted_line (codes "rp" ∷ request.words)
+
+-- the bytes of each file that is given
+abbrev pub given_files : Request → Files
+given_files request = bytes_under request.files
+
+-- a file is given for each of these names
+abbrev pub AreGiven : List (List ℕ × List ℕ) → List (List ℕ) → Type 0
+AreGiven files names = (k : ℕ) → k < length names → bytes_under files (slice_index_or names k []) ≢ None
+
+-- the k-th of these names, from 0, is the first of which no file is given
+pub record IsFirstMissing (files : List (List ℕ × List ℕ)) (names : List (List ℕ)) (k : ℕ) : Type 0 where
+  pub within : k < length names
+  pub missing : bytes_under files (slice_index_or names k []) ≡ None
+  pub before : (j : ℕ) → j < k → bytes_under files (slice_index_or names j []) ≢ None
+
+-- the line of a request, of which no more files are given than it names
+pub record Asks (request : Request) (line : Line) : Type 0 where
+  pub asked : asked_of request ≡ Some line
+  pub few : length request.files ≤ length (files_of line)
+
+-- the line of a request is answered: the whole text is written, and nothing is told
+pub record IsAnswered (request : Request) (status : Status) (text told : List ℕ) : Type 0 where
+  pub line : Line
+  pub asks : Asks request line
+  pub given : AreGiven request.files (files_of line)
+  pub answers : AnswersLine (given_files request) line status text
+  pub quiet : told ≡ []
+
+-- the words of a request are no line
+pub record IsUsage (request : Request) (text told : List ℕ) : Type 0 where
+  pub no_line : asked_of request ≡ None
+  pub silent : text ≡ []
+  pub tells : told ≡ usage_text
+
+-- a file of the line is not given, and the first such one is told
+pub record IsUnread (request : Request) (text told : List ℕ) : Type 0 where
+  pub line : Line
+  pub asks : Asks request line
+  pub place : ℕ
+  pub first : IsFirstMissing request.files (files_of line) place
+  pub silent : text ≡ []
+  pub tells : told ≡ read_line (file_at line place)
+
+-- what the files hold is refused with the line that is told
+pub record IsRefusal (request : Request) (text told : List ℕ) : Type 0 where
+  pub line : Line
+  pub asks : Asks request line
+  pub given : AreGiven request.files (files_of line)
+  pub silent : text ≡ []
+  pub refuses : RefusesWith (given_files request) line told
+
+-- a status of a request, with what is written and what is told: its cause holds
+abbrev pub IsStatusOf : Request → Status → List ℕ → List ℕ → Type 0
+IsStatusOf request Done text told = IsAnswered request Done text told
+IsStatusOf request Rejected text told = IsAnswered request Rejected text told
+IsStatusOf request Usage text told = IsUsage request text told
+IsStatusOf request ReadFault text told = IsUnread request text told
+IsStatusOf request Refused text told = IsRefusal request text told
+IsStatusOf request WriteFault text told = ⊥
+IsStatusOf request NoMemory text told = ⊥
+
+-- more files are given than the line of the words names
+pub record HasTooMany (request : Request) : Type 0 where
+  pub line : Line
+  pub asked : asked_of request ≡ Some line
+  pub many : length (files_of line) < length request.files
+
+-- a frame holds a request whose words and names are text
+pub record Requests (frame : Frame) (request : Request) : Type 0 where
+  pub held : request_in frame ≡ Some request
+  pub text : IsText request
+
+-- memory ran out
+pub record IsOutOfMemory (text told : List ℕ) : Type 0 where
+  pub silent : text ≡ []
+  pub tells : told ≡ memory_line
+
+-- the status of a call that was run: memory ran out, or it is that of the frame's request
+abbrev pub IsRunOf : Frame → Status → List ℕ → List ℕ → Type 0
+IsRunOf frame NoMemory text told = IsOutOfMemory text told
+IsRunOf frame status text told = (request : Request) × Requests frame request × IsStatusOf request status text told
+
+-- a word of the frame's request, or a name of a file, is no text
+pub record HasNoText (frame : Frame) : Type 0 where
+  pub request : Request
+  pub held : request_in frame ≡ Some request
+  pub no_text : ¬ IsText request
+
+-- the parts of a frame do not fit together, or it has more files than its words name
+abbrev pub IsMalformed : Frame → Type 0
+IsMalformed frame =
+    (request_in frame ≡ None) ⊎ ((request : Request) × Requests frame request × HasTooMany request)
+
+-- how a call ends, with what is written and what is told
+abbrev pub IsEndingOf : Frame → Ending → List ℕ → List ℕ → Type 0
+IsEndingOf frame (Ran status) text told = IsRunOf frame status text told
+IsEndingOf frame NoText text told = HasNoText frame × (text ≡ []) × (told ≡ [])
+IsEndingOf frame Malformed text told = IsMalformed frame × (text ≡ []) × (told ≡ [])
+
+-- an ending of words and files that were read, with what is written and what is told
+abbrev pub IsEnded : Request → Ending → List ℕ → List ℕ → Type 0
+IsEnded request (Ran status) text told = IsStatusOf request status text told
+IsEnded request NoText text told = ⊥
+IsEnded request Malformed text told = HasTooMany request × (text ≡ []) × (told ≡ [])
+
+-- a call ends so: the texts of its ending stand at the front of the caller's rooms, as much of each as has place, and the
+-- two numbers tell how long the texts are
+pub record EndsSo (frame : Frame) (ending : Ending) (output_old output_new : List ℕ) (output_length : ℕ)
+    (told_old told_new : List ℕ) (told_length : ℕ) : Type 0 where
+  pub text : List ℕ
+  pub told : List ℕ
+  pub ends : IsEndingOf frame ending text told
+  pub output_kept : output_new ≡ filled output_old text
+  pub output_counted : output_length ≡ length text
+  pub told_kept : told_new ≡ filled told_old told
+  pub told_counted : told_length ≡ length told
+
+-- an ending, or want of memory
+abbrev pub OrNoMemory : Ending → Ending → Type 0
+OrNoMemory wanted ending = (ending ≡ wanted) ⊎ (ending ≡ Ran NoMemory)
+
+-- there is an answer, or memory ran out
+abbrev pub HasAnswer : Ending → Type 0
+HasAnswer (Ran status) = IsEnd status ⊎ (status ≡ NoMemory)
+HasAnswer NoText = ⊥
+HasAnswer Malformed = ⊥
+
+-- which ending comes, but for want of memory
+pub record IsDecided (frame : Frame) (ending : Ending) : Type 0 where
+  pub malformed : request_in frame ≡ None → OrNoMemory Malformed ending
+  pub no_text : (request : Request) → request_in frame ≡ Some request → ¬ IsText request → OrNoMemory NoText ending
+  pub no_line : (request : Request) → Requests frame request → asked_of request ≡ None
+      → OrNoMemory (Ran Usage) ending
+  pub too_many : (request : Request) (line : Line) → Requests frame request → asked_of request ≡ Some line
+      → length (files_of line) < length request.files → OrNoMemory Malformed ending
+  pub missing : (request : Request) (line : Line) (k : ℕ) → Requests frame request → Asks request line
+      → IsFirstMissing request.files (files_of line) k → OrNoMemory (Ran ReadFault) ending
+  pub refused : (request : Request) (line : Line) → Requests frame request → Asks request line
+      → AreGiven request.files (files_of line) → IsRefused (given_files request) line → OrNoMemory (Ran Refused) ending
+  pub accepted : (request : Request) (line : Line) → Requests frame request → Asks request line
+      → AreGiven request.files (files_of line) → IsAccepted (given_files request) line → HasAnswer ending
+
+-- the number of each ending
+abbrev pub ending_number : Ending → ℕ
+ending_number (Ran status) = status_number status
+ending_number NoText = 7
+ending_number Malformed = 8

@@ -1,0 +1,66 @@
+-- How a run over files in memory ends, in the shape that a call takes it on (for the functions between).
+use Rattle.std.specs.Prelude.{◌≡◌, List, [], ◌∷◌, ℕ, Option, Some, None, codes, unwrap_or}
+use Rattle.rp_outside.specs.Files.{bytes_under}
+use Rattle.rp_words.specs.CommandLine.{Line}
+use Rattle.rp_words.specs.Usage.{usage_text}
+use Rattle.rp_run.specs.Answers.{AnswersLine, Files, RefusesWith}
+use Rattle.rp_run.specs.FaultLines.{read_line}
+use Rattle.rp_frame.specs.Frames.{Request}
+use Rattle.rp_call.specs.CallEndings.{IsEnded}
+use Rattle.rp_call.specs.declared.ending.Ending.{Ending}
+use Rattle.rp_call.specs.declared.ending.Ending.TheVariants.{Ran, NoText, Malformed}
+use Rattle.rp_answers.specs.declared.status.Status.{Status}
+use Rattle.rp_answers.specs.declared.status.Status.TheVariants.{Done, Rejected, Usage, ReadFault, Refused, WriteFault}
+use Rattle.rp_answers.specs.declared.status.Status.TheVariants.{NoMemory}
+
+-- each of these files, and one that is not among them as empty
+abbrev pub known_in : List (List ℕ × List ℕ) → Files
+known_in files name = Some (unwrap_or (bytes_under files name) [])
+
+-- a line is answered, and nothing is told
+pub record RunAnswers (files : Files) (denoted : Option Line) (status : Status) (text told : List ℕ) : Type 0 where
+  pub line : Line
+  pub asked : denoted ≡ Some line
+  pub answers : AnswersLine files line status text
+  pub quiet : told ≡ []
+
+-- words that are no line
+pub record RunTellsUsage (denoted : Option Line) (text told : List ℕ) : Type 0 where
+  pub no_line : denoted ≡ None
+  pub silent : text ≡ []
+  pub tells : told ≡ usage_text
+
+-- a line is refused
+pub record RunRefuses (files : Files) (denoted : Option Line) (text told : List ℕ) : Type 0 where
+  pub line : Line
+  pub asked : denoted ≡ Some line
+  pub silent : text ≡ []
+  pub refuses : RefusesWith files line told
+
+-- what a run wrote and told, by its status; memory did not run out
+abbrev pub IsRun : Files → Option Line → Status → List ℕ → List ℕ → Type 0
+IsRun files denoted Done text told = RunAnswers files denoted Done text told
+IsRun files denoted Rejected text told = RunAnswers files denoted Rejected text told
+IsRun files denoted Usage text told = RunTellsUsage denoted text told
+IsRun files denoted ReadFault text told = ⊥
+IsRun files denoted Refused text told = RunRefuses files denoted text told
+IsRun files denoted WriteFault text told = ⊥
+IsRun files denoted NoMemory text told = ⊥
+
+-- a call ends as a run
+abbrev pub EndsAsRun : Files → Option Line → Ending → List ℕ → List ℕ → Type 0
+EndsAsRun files denoted (Ran status) text told = IsRun files denoted status text told
+EndsAsRun files denoted NoText text told = ⊥
+EndsAsRun files denoted Malformed text told = ⊥
+
+-- a file is told not to be given
+pub record TellsUnread (file : List ℕ) (ending : Ending) (text told : List ℕ) : Type 0 where
+  pub ends : ending ≡ Ran ReadFault
+  pub silent : text ≡ []
+  pub tells : told ≡ read_line file
+
+-- an ending of these words and files, where a request has them
+pub record EndsFor (words : List (List ℕ)) (files : List (List ℕ × List ℕ)) (ending : Ending) (text told : List ℕ) : Type 0
+  where
+    pub ended : (request : Request) → words ≡ codes "rp" ∷ request.words → files ≡ request.files
+        → IsEnded request ending text told
