@@ -1,4 +1,4 @@
-ghost use Rattle.std.specs.Prelude.{◌≡◌, ◌<◌, ◌*◌, ◌↔◌, All, List, ℕ, Option};
+ghost use Rattle.std.specs.Prelude.{◌≡◌, ◌*◌, ◌↔◌, All, List, ℕ, Option};
 ghost use Rattle.rp_evidence.specs.declared.certificate.Item.{Item};
 ghost use Rattle.rp_evidence.specs.declared.random.RandomPart.{RandomPart};
 ghost use Rattle.rp_patch.specs.Choices.{RandomInput};

@@ -39,12 +39,16 @@ library_call <- function(path) {
   loaded[[path]]
 }
 
+# The status of a call whose arguments do not fit together.
+malformed <- 8
+
 # Asks a library over each list of files.
 by_library <- function(words, batch, call) {
   lapply(batch, function(files) {
     of_files <- if (length(files)) names(files) else character()
     found <- .Call(C_revealed_answer, call, words, of_files, unname(files))
-    ended(found[[1]], text_of_bytes(found[[2]]), text_of_bytes(found[[3]]))
+    told <- if (found[[1]] == malformed) "the arguments of rp_answer do not fit together" else text_of_bytes(found[[3]])
+    ended(found[[1]], text_of_bytes(found[[2]]), told)
   })
 }
 

@@ -73,7 +73,7 @@ if (!nzchar(library) || !nzchar(Sys.getenv("RP_EXEC"))) {
   quit("no", 0)
 }
 program <- Sys.getenv("RP_EXEC")
-bare <- function(it) if (inherits(it, "rp_error")) list(class(it), conditionMessage(it), it$status) else it
+bare <- function(it) if (inherits(it, "rp_error")) structure(list(class(it), conditionMessage(it), it$status), class = "told") else it
 both <- function(call) {
   found <- lapply(c(library, program), function(exe) bare(tryCatch(call(exe), rp_error = identity)))
   stopifnot(identical(found[[1]], found[[2]]))
@@ -93,13 +93,13 @@ for (call in list(
   function(exe) rp_menus(data.frame(menu = "ab", choice = c("a", "b"), n = 1:2), exe = exe),
   function(exe) rp_cost(firm, data.frame(w_a = 1, w_b = 1, y = 3), exe = exe), function(exe) rp_check(rp_test(P, P), rp_test(P, P), exe = exe),
   function(exe) rp_check(list(P, Q), sub("4/5", "9/10", rp_test(P, P)$certificate), exe = exe)
-)) stopifnot(!is.character(both(call)[[1]]))
+)) stopifnot(!inherits(both(call), "told"))
 for (it in list(
   list(function(exe) rp_test(rbind(0:1), rbind(1:2), exe = exe), "ZeroPrice"), list(function(exe) rp_demand(P, Q, new = c(1, 0), m = 3, exe = exe), "ZeroPrice"),
   list(function(exe) rp_random(budgets, choices[1:2, ], exe = exe), "NoChoices"), list(function(exe) rp_check(list(P, P), "{", exe = exe), "NotJson")
 )) {
   said <- both(it[[1]])
-  stopifnot(said[[1]][1] == "rp_refused", grepl(it[[2]], said[[2]]))
+  stopifnot(inherits(said, "told"), said[[1]][1] == "rp_refused", grepl(it[[2]], said[[2]]))
 }
 
 # by the variable, and where the program is one that gives no answer
@@ -121,7 +121,7 @@ for (files in list(list(table.csv = table), list(table.csv = c("p_a,q_a", rep("1
 }
 stopifnot(nchar(found$out) > 65536)
 # more files than the words name, and a file that is not there
-stopifnot(revealed:::by_library("analyse", list(list(a = "1", b = "2", c = "3", d = "4")), call)[[1]]$status == 8)
+stopifnot(revealed:::by_library(c("analyse", "a"), list(list(a = "1", b = "2")), call)[[1]]$status == 8)
 stopifnot(revealed:::by_library(c("analyse", "a"), list(list()), call)[[1]]$status == 3)
 stopifnot(revealed:::by_library(c("analyse", "a"), list(list(a = raw())), call)[[1]]$status == 4)
 
