@@ -13,6 +13,7 @@ is, and what would have to be rounded is refused.
 
 from . import draws, plain
 from .answers import Answers, Certificate, Checked, Demand, Part, RandomVerdict, Verdict, Welfare
+from .clusters import panel_task
 from .commands import (
     afriat_utility,
     analyse,
@@ -99,6 +100,7 @@ __all__ = [
     "money_pump",
     "pairs",
     "panel",
+    "panel_task",
     "plain",
     "power",
     "power_of_test",

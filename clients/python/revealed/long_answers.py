@@ -1,4 +1,4 @@
-"""The record of one household of a long file, and a process that makes many of them, block by block."""
+"""What the program says of one household, and processes that ask it of many, block by block: for long files and for frames."""
 
 from __future__ import annotations
 
@@ -8,16 +8,18 @@ import io
 import marshal
 import os
 import queue
+import secrets
 import shutil
 import signal
 import subprocess
 import sys
 import tempfile
 import threading
-from typing import IO, Any, Callable, Optional, Sequence
+from typing import IO, Any, Callable, Iterable, Iterator, Optional, Sequence
 
 from . import worker
 from .exact import whole_of
+from .long_ends import ENDS
 from .long_files import Household, Stopped
 
 TESTS = ("garp", "homothetic", "quasilinear")
@@ -25,14 +27,17 @@ COLUMNS = ("status", "garp", "efficiency", "efficiency_floor", "attained", "homo
 # A million, for 6 places.
 PLACES = 10**6
 TABLE = "table.csv"
-# What one household comes to: the checksum of its table, its record as a line, its status, its message, and what is kept of it.
-Answer = tuple[bytes, bytes, int, str, "list[tuple[str, bytes]]"]
-Run = Callable[[Sequence[str], dict[str, bytes]], "tuple[int, bytes, bytes]"]
+# How a call ended: its status, and what it wrote to standard output and standard error.
+Ended = tuple[int, bytes, bytes]
+# What one household comes to: the checksum of its table, its record as a line, and what is kept of it.
+Answer = tuple[bytes, bytes, "list[tuple[str, bytes]]"]
+Run = Callable[[Sequence[str], dict[str, bytes]], Ended]
+# What may be asked of each household. `verdicts` is the call that gives these, and `header` the columns of long files.
+ASKED: dict[str, Any] = {"verdicts": "analyse", "header": None, "pump": False, "power": None, "certificates": False}
+ASKED.update(demand=None, welfare=None)
 # A block is tried so often where the process that has it ends.
 TRIES = 3
-# The signals that ask for an end.
-ENDS = [int(getattr(signal, name)) for name in ("SIGINT", "SIGTERM", "SIGHUP") if hasattr(signal, name)]
-STARTS = "import sys; sys.path.insert(0, sys.argv[1]); from revealed.long_answers import work; work()"
+STARTS = "import sys; sys.path.insert(0, sys.argv[1]); from revealed.long_answers import work; work(sys.argv[2])"
 
 
 def is_plain(text: str, rows: int, commas: int) -> bool:
@@ -111,37 +116,51 @@ def columns(asked: dict[str, Any]) -> list[str]:
     return [asked["name"], *COLUMNS, *(it for it in more_of(asked) if it != "certificate"), "message"]
 
 
-def answer(household: Household, run: Run, asked: dict[str, Any], known: Optional[bytes]) -> Optional[Answer]:
+def ended(data: bytes, run: Run, asked: dict[str, Any]) -> dict[str, Ended]:
+    """Returns how each call over a table ended: that for the verdicts, and where it gave them those for what is asked beside them."""
+    found = {"verdicts": run([asked["verdicts"], TABLE], {TABLE: data})}
+    if found["verdicts"][0] == 0:
+        for part, (words, files, _) in more_of(asked).items():
+            found[part] = run(words, {TABLE: data, **files})
+    return found
+
+
+def answer(job: "tuple[Household, Optional[bytes]]", run: Run, asked: dict[str, Any]) -> Optional[Answer]:
     """Returns the record of a household; None where its table has the checksum that is known, so that its record stands."""
-    _, name, rows, fault = household
+    (_, name, rows, fault), known = job
     data = table(asked["header"], rows)
-    found: dict[str, str] = {}
-    kept: list[tuple[str, bytes]] = []
     summed = hashlib.blake2b(repr((name, fault)).encode() + b"\0" + data, digest_size=16).digest()
     if summed == known:
         return None
-    status, out, told = (4, b"", fault.encode()) if fault else run(["analyse", TABLE], {TABLE: data})
+    calls = {"verdicts": (4, b"", fault.encode())} if fault else ended(data, run, asked)
+    status, out, told = calls.pop("verdicts")
     messages = [said(told)] if status or said(told) else []
-    if status == 0:
-        found = found_in(out.decode("utf-8", "replace"))
-        for part, (words, files, file) in more_of(asked).items():
-            ended, out, told = run(words, {TABLE: data, **files})
-            if ended == 0:
-                found[part] = value_of(part, out)
-                kept += [(file, out)] if file else []
-            else:
-                messages.append(f"{part}: {said(told) or f'status {ended}'}")
-                status = ended if ended != 4 else status
+    found = found_in(out.decode("utf-8", "replace")) if status == 0 else {}
+    kept: list[tuple[str, bytes]] = []
+    for part, (end, out, told) in calls.items():
+        file = more_of(asked)[part][2]
+        if end == 0:
+            found[part] = value_of(part, out)
+            kept += [(file, out)] if file else []
+        else:
+            messages.append(f"{part}: {said(told) or f'status {end}'}")
+            status = end if end != 4 else status
     if kept:
         kept.insert(0, (TABLE, data))
     found.update(status=str(status), message="; ".join(messages))
     line = lines_of([[name, *(found.get(it, "") for it in columns(asked)[1:])]])
-    return summed, line.encode(), status, found["message"], kept
+    return summed, line.encode(), kept
 
 
-def way(asked: dict[str, Any]) -> Run:
-    """Returns what runs the program: its library in this process, or a process for each call, in the folder that is asked."""
-    path, folder = asked["rp"], asked["folder"]
+def each(jobs: Iterable[Any], run: Run, asked: dict[str, Any]) -> list[Any]:
+    """Returns the answers of some jobs: households of a long file, or the tables of a frame."""
+    make: Callable[[Any, Run, dict[str, Any]], Any] = ended if asked["header"] is None else answer
+    return [make(job, run, asked) for job in jobs]
+
+
+def way(asked: dict[str, Any], folder: str = "") -> Run:
+    """Returns what runs the program: its library in this process, or a process for each call, in this folder or in one of its own."""
+    path = asked["rp"]
     if asked["library"]:
         from . import library
 
@@ -149,7 +168,7 @@ def way(asked: dict[str, Any]) -> Run:
         return lambda words, files: loaded.run(path, words, files)
 
     def run(words: Sequence[str], files: dict[str, bytes]) -> tuple[int, bytes, bytes]:
-        status, out, told = worker.run_in(folder, path, words, files)
+        status, out, told = worker.run_in(folder, path, words, files) if folder else worker.run(path, words, files)
         if -status in ENDS:
             # What was stopped from outside is no answer, and no refusal.
             raise Stopped("the program was stopped by a signal")
@@ -176,26 +195,40 @@ def receive(source: IO[bytes]) -> Any:
     return marshal.loads(data)
 
 
-def work() -> None:
-    """Answers blocks that come on standard input, until it ends."""
+def work(folder: str) -> None:
+    """Answers blocks that come on standard input, until it ends, in this folder where the program runs in one."""
     for number in ENDS:
         signal.signal(number, signal.SIG_IGN)
     to = os.fdopen(os.dup(1), "wb")
     os.dup2(2, 1)
-    asked = {}
     try:
         asked = receive(sys.stdin.buffer)
-        run = way(asked)
+        run = way(asked, folder)
         while True:
             jobs = receive(sys.stdin.buffer)
             try:
-                send(to, [answer(job, run, asked, known) for job, known in jobs])
+                send(to, each(jobs, run, asked))
             except (OSError, Stopped) as wrong:
                 send(to, f"{asked['rp']}: {wrong}")
     except (EOFError, BrokenPipeError):
-        shutil.rmtree(asked.get("folder", ""), ignore_errors=True)
+        if folder:
+            remove(folder)
     # What another reader of the pipe did not take is no fault of this process.
     os._exit(0)
+
+
+def remove(folder: str) -> None:
+    """Removes a process's folder, and that of all where this was the last: the first process may have been killed."""
+    shutil.rmtree(folder, ignore_errors=True)
+    try:
+        os.rmdir(os.path.dirname(folder))
+    except OSError:
+        pass
+
+
+def named(jobs: Any) -> str:
+    """Returns where some jobs stand in a long file."""
+    return "" if not jobs or isinstance(jobs[0], bytes) else f", at the households {jobs[0][0][1]!r} to {jobs[-1][0][1]!r}"
 
 
 class Process:
@@ -203,11 +236,12 @@ class Process:
 
     def __init__(self, asked: dict[str, Any], folder: str) -> None:
         above = os.path.dirname(os.path.dirname(os.path.abspath(__file__)))
-        words = [sys.executable, "-I", "-S", "-c", STARTS, above]
+        own = tempfile.mkdtemp(dir=folder) if folder else ""
+        words = [sys.executable, "-I", "-S", "-c", STARTS, above, own]
         self.process = subprocess.Popen(words, stdin=subprocess.PIPE, stdout=subprocess.PIPE, start_new_session=True)
         assert self.process.stdin is not None and self.process.stdout is not None
         self.to, self.source = self.process.stdin, self.process.stdout
-        send(self.to, {**asked, "folder": tempfile.mkdtemp(dir=folder)})
+        send(self.to, asked)
 
     def answers(self, jobs: Any) -> Any:
         send(self.to, jobs)
@@ -232,8 +266,26 @@ class Process:
         self.process.wait()
 
 
+class Here:
+    """What answers blocks in this process, by the words of a Pool."""
+
+    def __init__(self, asked: dict[str, Any]) -> None:
+        self.asked = asked
+
+    def begin(self) -> None:
+        self.run = way(self.asked)
+
+    def each(self, blocks: Iterable[Any]) -> Iterator[tuple[Any, Any]]:
+        for block in blocks:
+            yield block, each(block, self.run, self.asked)
+
+    def close(self) -> None:
+        """Nothing was begun."""
+
+
 class Pool:
-    """Processes, each with a thread that hands it blocks; the answers are taken in the order of the blocks."""
+    """Processes, each with a thread that hands it blocks; the answers are taken in the order of the blocks. Its folder, which the
+    program needs and its library does not, has a name before it is made."""
 
     def __init__(self, count: int, asked: dict[str, Any]) -> None:
         self.asked, self.most = asked, 4 * count
@@ -244,19 +296,28 @@ class Pool:
         self.restarts = 0
         self.ending = False
         self.processes: list[Process] = []
-        self.folder = tempfile.TemporaryDirectory(prefix="rp-panel-")
+        self.folder = "" if asked["library"] else os.path.join(tempfile.gettempdir(), f"rp-panel-{secrets.token_hex(8)}")
         self.threads = [threading.Thread(target=self._serve, daemon=True) for _ in range(count)]
+
+    def begin(self) -> None:
+        if self.folder:
+            os.mkdir(self.folder, 0o700)
         for thread in self.threads:
             thread.start()
 
-    def give(self, jobs: Any) -> None:
-        self.jobs.put((self.given, jobs))
-        self.given += 1
+    def each(self, blocks: Iterable[Any]) -> Iterator[tuple[Any, Any]]:
+        """Yields each block of jobs with its answers."""
+        waiting = []
+        for block in blocks:
+            waiting.append(block)
+            self.jobs.put((self.given, block))
+            self.given += 1
+            if len(waiting) >= self.most:
+                yield waiting.pop(0), self._take()
+        while waiting:
+            yield waiting.pop(0), self._take()
 
-    def is_full(self) -> bool:
-        return self.given - self.taken >= self.most
-
-    def take(self) -> Any:
+    def _take(self) -> Any:
         """Returns the answers of the next block that was given."""
         with self.changed:
             while self.taken not in self.done:
@@ -274,7 +335,7 @@ class Pool:
             if job is None:
                 break
             number, jobs = job
-            found: Any = f"a process that answers ended {TRIES} times, at the households {jobs[0][0][1]!r} to {jobs[-1][0][1]!r}"
+            found: Any = f"a process that answers ended {TRIES} times{named(jobs)}"
             for _ in range(TRIES):
                 try:
                     process = process or self._begin()
@@ -297,7 +358,7 @@ class Pool:
             process.close()
 
     def _begin(self) -> Process:
-        process = Process(self.asked, self.folder.name)
+        process = Process(self.asked, self.folder)
         with self.changed:
             self.processes.append(process)
             if self.ending:
@@ -319,5 +380,7 @@ class Pool:
         for _ in self.threads:
             self.jobs.put(None)
         for thread in self.threads:
-            thread.join()
-        self.folder.cleanup()
+            if thread.ident is not None:
+                thread.join()
+        if self.folder:
+            shutil.rmtree(self.folder, ignore_errors=True)

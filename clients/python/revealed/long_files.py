@@ -1,4 +1,5 @@
-"""A long CSV of many households, read once: the records of each household, with memory that does not grow with the file.
+"""A long file of many households, CSV or Parquet, read once: the records of each household, with memory that does not grow with
+the file.
 
 Where the records of each household stand together, a household is handed on when the next one begins. The names that have come
 are kept in a temporary database of the system's disk, so that one that comes again is seen. Then all records go through such a
@@ -13,10 +14,15 @@ import io
 import marshal
 import sqlite3
 from operator import itemgetter
-from typing import Any, Iterator, Optional
+from typing import Any, Callable, Iterator, Optional
+
+from .exact import text_of
 
 # So many households make a block: what is handed to a processor at once, and what the parts of a cluster take in turn.
-BLOCK = 100
+BLOCK = 20
+# How a file of Parquet begins, and how many of its records are taken at once.
+PARQUET = b"PAR1"
+RECORDS = 20_000
 # A household with more records than this is refused here; the program refuses it far earlier.
 MOST_RECORDS = 100_000
 SIDES = {"p_": "q_", "q_": "p_"}
@@ -46,6 +52,15 @@ class Summed(io.RawIOBase):
         self.sum.update(memoryview(room)[:count])
         self.taken += count
         return int(count)
+
+
+def sum_of(file: str) -> str:
+    """Returns the checksum of a file."""
+    summed = hashlib.blake2b(digest_size=16)
+    with open(file, "rb") as it:
+        for piece in iter(lambda: it.read(1 << 20), b""):
+            summed.update(piece)
+    return summed.hexdigest()
 
 
 class Columns:
@@ -86,24 +101,25 @@ class LongFile:
 
     def __init__(self, file: str, name: str) -> None:
         self.file, self.name = file, name
-        self.summed: Optional[Summed] = None
         self.columns: Optional[Columns] = None
-
-    @property
-    def sum(self) -> str:
-        return self.summed.sum.hexdigest() if self.summed is not None else ""
-
-    @property
-    def taken(self) -> int:
-        return self.summed.taken if self.summed is not None else 0
+        # What says how much of it was read; and when all was, its checksum.
+        self.read: Callable[[], float] = float
+        self.sum = ""
 
     def records(self) -> Iterator[tuple[str, Any]]:
         """Yields the household's name and the fields of each record."""
         with open(self.file, "rb", buffering=0) as raw:
-            self.summed = Summed(raw)
-            lines = csv.reader(io.TextIOWrapper(io.BufferedReader(self.summed, 1 << 18), "utf-8-sig", newline=""), strict=True)
+            if raw.read(len(PARQUET)) == PARQUET:
+                yield from self._of_parquet()
+                return
+            size = max(raw.seek(0, io.SEEK_END), 1)
+            raw.seek(0)
+            summed = Summed(raw)
+            lines = csv.reader(io.TextIOWrapper(io.BufferedReader(summed, 1 << 18), "utf-8-sig", newline=""), strict=True)
             try:
+                self.read = lambda: summed.taken / size
                 yield from self._of(lines)
+                self.sum = summed.sum.hexdigest()
             except UnicodeDecodeError:
                 raise Stopped(f"{self.file}: this is no text in UTF-8; save it as CSV in UTF-8") from None
             except csv.Error as error:
@@ -124,6 +140,31 @@ class LongFile:
             yield record[place], columns.row(record)
         if not any_yet:
             raise Stopped(f"{self.file}: there is no record under the column names")
+
+    def _of_parquet(self) -> Iterator[tuple[str, Any]]:
+        """Yields the same of a file of Parquet, whose numbers become texts without rounding."""
+        try:
+            from pyarrow.parquet import ParquetFile
+        except ImportError:
+            raise Stopped(f"{self.file}: this is Parquet, which is read where pyarrow is there: install it, or write the file as CSV") from None
+        file = ParquetFile(self.file)
+        columns = self.columns = Columns(self.file, list(file.schema_arrow.names), self.name)
+        own, done = {it.strip(): it for it in file.schema_arrow.names}, 0
+        names = [own[it] for it in (self.name, *columns.header)]
+        self.read = lambda: done / max(file.metadata.num_rows, 1)
+        for batch in file.iter_batches(batch_size=RECORDS, columns=names):
+            lists = batch.to_pydict()
+            done += len(lists[names[0]])
+            for household, *fields in zip(*(lists[name] for name in names)):
+                yield text(household), list(map(text, fields))
+        if not done:
+            raise Stopped(f"{self.file}: there is no record under the column names")
+        self.sum = sum_of(self.file)
+
+
+def text(value: Any) -> str:
+    """Returns the text of a value, without rounding; that of a missing one is empty."""
+    return value if isinstance(value, str) else text_of(value)
 
 
 def first_columns(file: str, name: str) -> Columns:

@@ -1,10 +1,10 @@
-"""The command `rp-panel`: verdicts on each household of a long CSV, on all processors, in a file that a later start goes on from.
+"""The command `rp-panel`: verdicts on each household of a long file, on all processors, in a file that a later start goes on from.
 
 usage: rp-panel [OPTIONS] LONG VERDICTS
        rp-panel --gather N VERDICTS        puts together what the N tasks of --part 1/N to N/N have made
 
-LONG has a column of names, `household` or the NAME of --id, and the columns of a table: obs, p_NAME, q_NAME, e. Other columns
-are left out, with a word. VERDICTS gets a record for each household, in the order in which they first come.
+LONG is a CSV, or Parquet where pyarrow is there. It has a column of names, `household` or the NAME of --id, and the columns of a
+table: obs, p_NAME, q_NAME, e. Other columns are left out, with a word. VERDICTS gets a record for each household, in the order in which they first come.
 
   --id NAME                the column that tells households apart
   --processes N            so many processes; all processors if it is left out
@@ -29,24 +29,21 @@ import csv
 import hashlib
 import os
 import re
-import signal
 import subprocess
 import sys
 import time
 from typing import Any, Iterator, Optional, Sequence
 
-from .long_answers import Pool, columns, lines_of
-from .long_files import BLOCK, Apart, Columns, Gathered, Household, LongFile, Stopped, blocks, first_columns, together
-from .long_results import Results, begun, done_of, interleaved, is_apart, part_name, sum_of
+from .long_answers import ASKED, Pool, columns, lines_of
+from .long_ends import Ends, Signalled
+from .long_files import BLOCK, Apart, Columns, Gathered, Household, LongFile, Stopped, blocks, first_columns, sum_of, together
+from .long_results import Results, begun, done_of, interleaved, is_apart, part_name
 
 # The sources or the release that this file came with.
 TOP = os.path.dirname(os.path.dirname(os.path.dirname(os.path.dirname(os.path.realpath(__file__)))))
 # Another layout of the files gets another number.
 LAYOUT = 1
-
-
-class Signalled(Exception):
-    """A signal asked for the end."""
+ENDS = Ends()
 
 
 def tell(line: str) -> None:
@@ -220,7 +217,7 @@ class Run:
         path, library = program(words.rp)
         power = [words.seed, words.power] if words.power else None
         new = {name: bytes_of(getattr(words, name)) for name in ("demand", "welfare")}
-        self.asked = {"name": words.id, "header": file.header, "rp": path, "library": library, "pump": words.pump, "power": power}
+        self.asked = {**ASKED, "name": words.id, "header": file.header, "rp": path, "library": library, "pump": words.pump, "power": power}
         self.asked.update(certificates=words.certificates, **new)
         sums = {name: hashlib.blake2b(it or b"").hexdigest() for name, it in new.items()}
         self.head = {"layout": LAYOUT, "columns": [words.id, *file.header], "part": self.part and list(self.part), "program": sum_of(path)}
@@ -258,18 +255,13 @@ class Run:
         progress = Progress(self.words.quiet)
         standing = results.count
         pool = Pool(self.words.processes or processors(), self.asked)
-        waiting: list[list[Any]] = []
         try:
-            for block in self.own():
-                jobs = [(household, results.known()) for household in block]
-                waiting.append(jobs)
-                pool.give(jobs)
-                if pool.is_full():
-                    self.keep(results, waiting.pop(0), pool.take())
-                progress.step(results.count - standing, self.share())
-            while waiting:
-                self.keep(results, waiting.pop(0), pool.take())
-                progress.step(results.count - standing, self.share())
+            pool.begin()
+            with ENDS:
+                jobs = ([(household, results.known()) for household in block] for block in self.own())
+                for block, answers in pool.each(jobs):
+                    self.keep(results, block, answers)
+                    progress.step(results.count - standing, self.share())
         finally:
             progress.clear()
             pool.close()
@@ -278,11 +270,12 @@ class Run:
         if results.known() is not None:
             raise Stopped(f"{results.part}: it has more households than {self.words.files[0]}: the data were changed; remove it to begin again")
         results.finish({"long": self.long.sum, "households": self.households} if self.part else None)
+        self.results = None
         return tally_of(self.target).end()
 
     def share(self) -> float:
         """Returns how much of the file has been handed on."""
-        return self.households / self.count if self.count else self.long.taken / max(os.path.getsize(self.long.file), 1)
+        return self.households / self.count if self.count else self.long.read()
 
     def drop(self) -> None:
         if self.results is not None:
@@ -300,8 +293,6 @@ class Run:
 
     def keep(self, results: Results, jobs: list[Any], answers: Any) -> None:
         """Writes the records of a block."""
-        if isinstance(answers, str):
-            raise Stopped(answers)
         records, entries = [], []
         for (household, known), answer in zip(jobs, answers):
             if known is not None and answer is None:
@@ -309,7 +300,7 @@ class Run:
             if known is not None:
                 said = f"{results.part}: the household {household[1]!r} had other data when this was begun"
                 raise Stopped(f"{said}: remove it and {results.sums} to begin again")
-            summed, record, _, _, kept = answer
+            summed, record, kept = answer
             entries.append(results.add(household[0], summed, record, kept))
             records.append(record)
         results.write(b"".join(records), b"".join(entries))
@@ -323,15 +314,17 @@ def processors() -> int:
 
 def analyse(words: argparse.Namespace) -> int:
     refuse_words(words)
-    columns_of = first_columns(words.files[0], words.id)
+    with ENDS:
+        columns_of = first_columns(words.files[0], words.id)
     if columns_of.left_out:
         tell(f"{words.files[0]}: left out, since they are no prices or quantities: {', '.join(columns_of.left_out)}")
     apart = is_apart(part_name(words.files[1], part_of(words.part)))
     while True:
         run = Run(words, columns_of, apart)
-        if run.finished():
-            tell(f"{run.target}: this part is done already")
-            return tally_of(run.target).end()
+        with ENDS:
+            if run.finished():
+                tell(f"{run.target}: this part is done already")
+                return tally_of(run.target).end()
         try:
             return run.all()
         except Apart as household:
@@ -369,31 +362,37 @@ def gather(count: int, target: str) -> int:
         other = next((part for part, it in zip(names, whole) if it[name] != whole[0][name]), None)
         if other is not None:
             raise Stopped(f"{other}: this part is of another {'file' if name in ('long', 'households', 'columns') else name} than {names[0]}")
-    rows = interleaved([records_of(name) for name in names], BLOCK)
-    tally, number = Tally(), 0
     with open(names[0], "rb") as one:
         first = one.readline()
-    with open(f"{target}.part", "w", newline="", encoding="utf-8") as it:
-        it.write(first.decode())
-        writer = csv.writer(it, lineterminator="\n")
-        for row in rows:
-            number += 1
-            tally.add(row[0], row[1], row[-1])
-            writer.writerow(row)
-    if number != whole[0]["households"]:
-        os.remove(f"{target}.part")
-        raise Stopped(f"{target}: the parts have {number} households, and the file has {whole[0]['households']}")
-    os.replace(f"{target}.part", target)
+    if os.path.exists(f"{target}.part.sums"):
+        raise Stopped(f"{target}.part: a run over the whole file left this: go on with it, or remove it and {target}.part.sums")
+    try:
+        with ENDS:
+            tally = put_together(names, first, f"{target}.part")
+        number = tally.answered + tally.refused + tally.failed
+        if number != whole[0]["households"]:
+            raise Stopped(f"{target}: the parts have {number} households, and the file has {whole[0]['households']}")
+        os.replace(f"{target}.part", target)
+    finally:
+        if os.path.exists(f"{target}.part"):
+            os.remove(f"{target}.part")
     return tally.end()
 
 
-def main(given: Optional[Sequence[str]] = None) -> int:
-    def end(number: int, frame: Any) -> None:
-        raise Signalled(number)
+def put_together(names: Sequence[str], first: bytes, file: str) -> Tally:
+    """Writes the records of the parts in their order."""
+    tally = Tally()
+    with open(file, "w", newline="", encoding="utf-8") as it:
+        it.write(first.decode())
+        writer = csv.writer(it, lineterminator="\n")
+        for row in interleaved([records_of(name) for name in names], BLOCK):
+            tally.add(row[0], row[1], row[-1])
+            writer.writerow(row)
+    return tally
 
-    for name in ("SIGINT", "SIGTERM", "SIGHUP"):
-        if hasattr(signal, name):
-            signal.signal(getattr(signal, name), end)
+
+def main(given: Optional[Sequence[str]] = None) -> int:
+    ENDS.listen()
     try:
         words = parser().parse_intermixed_args(given)
         if words.gather is not None and len(words.files) == 1 and 1 <= words.gather < 1_000_000:

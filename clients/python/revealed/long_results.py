@@ -13,7 +13,7 @@ import struct
 import tarfile
 from typing import IO, Any, Iterator, Optional
 
-from .long_files import Stopped
+from .long_files import Stopped, sum_of
 
 # The checksum of the table, that of the record, and where the record and the archive's part of it end.
 ENTRY = struct.Struct("<16s16sQQ")
@@ -53,8 +53,12 @@ class Results:
         if not (goes_on and self._stand(first)):
             for place in self.files:
                 os.ftruncate(place, 0)
-            put(self.files[0], self.head, self.sums)
-            put(self.files[1], first, self.part)
+            try:
+                put(self.files[0], self.head, self.sums)
+                put(self.files[1], first, self.part)
+            except OSError:
+                self.drop()
+                raise
             self.end = len(first)
 
     def _alone(self) -> None:
@@ -165,15 +169,6 @@ def member(name: str, data: bytes) -> bytes:
     info = tarfile.TarInfo(name)
     info.size, info.mode = len(data), 0o644
     return info.tobuf(tarfile.USTAR_FORMAT) + data + b"\0" * (-len(data) % 512)
-
-
-def sum_of(file: str) -> str:
-    """Returns the checksum of a file."""
-    summed = hashlib.blake2b(digest_size=16)
-    with open(file, "rb") as it:
-        for piece in iter(lambda: it.read(1 << 20), b""):
-            summed.update(piece)
-    return summed.hexdigest()
 
 
 def part_name(target: str, part: Optional[tuple[int, int]]) -> str:

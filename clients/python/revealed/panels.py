@@ -1,23 +1,29 @@
-"""A panel: the verdict on each household, subject or region of one long frame, on all processors."""
+"""A panel: the verdict on each household, subject or region of one long frame, on all processors, or on those of a cluster.
+
+The calls are those of long files (`long_answers.py`), by the same processes; here their answers become objects.
+"""
 
 from __future__ import annotations
 
 import os
 import sys
-from concurrent.futures import ThreadPoolExecutor
+from collections import deque
 from typing import Any, Callable, Iterable, Iterator, Sequence
 
-from . import exact, program, worker
-from .answers import Verdict
-from .commands import analyse, money_pump, power_of_test
-from .faults import BadData, Failed, Pooled, Refused, WrongColumns
+from . import clusters, exact, program
+from .answers import Certificate, Verdict
+from .commands import refusal
+from .faults import BadData, Failed, NoProgram, Pooled, Problem, Refused, WrongColumns
 from .frames import Frame, near, own_labels, pairs_of, values_of
+from .long_answers import ASKED, Ended, Here, Pool
+from .long_files import BLOCK, Stopped
 from .measures import MoneyPump, Power
 from .tables import Table
 
 
-# Fewer households than this are done before other processes have begun.
-FEW = 50
+# Fewer households than this are done before other processes have begun: by the program, and by its library.
+FEW, FEW_CALLS = 50, 500
+VERDICTS = ("garp", "afriat", "efficiency", "ccei", "attained", "homothetic", "quasilinear")
 
 
 class Row:
@@ -70,8 +76,7 @@ class Panel(list):
         found = []
         for row in self:
             key = dict(zip(self.by, row.key if len(self.by) > 1 else [row.key]))
-            names = ("garp", "afriat", "efficiency", "ccei", "attained", "homothetic", "quasilinear")
-            verdicts = {name: getattr(row.verdict, name, None) for name in names}
+            verdicts = {name: getattr(row.verdict, name, None) for name in VERDICTS}
             record = {**key, "status": row.status, **verdicts}
             if "pump" in self.asked:
                 record["pump_ratio"] = getattr(row.money_pump, "ratio", None)
@@ -80,6 +85,11 @@ class Panel(list):
                 record["power"] = getattr(row.power, "power", None)
             found.append({**record, "message": row.message})
         return found
+
+    def names(self) -> list[str]:
+        """Returns the names of what a record has."""
+        more = {"pump": ["pump_ratio", "pump"], "power": ["power"]}
+        return [*self.by, "status", *VERDICTS, *(it for name in self.asked for it in more[name]), "message"]
 
     def frame(self) -> Any:
         """Returns the records as a frame of pandas, which has to be there.
@@ -90,7 +100,7 @@ class Panel(list):
         import pandas
 
         records = self.records()
-        columns = {name: [record[name] for record in records] for name in (records[0] if records else [*self.by, "status", "garp", "message"])}
+        columns = {name: [record[name] for record in records] for name in self.names()}
         made = {}
         for name, values in columns.items():
             kind = KINDS.get(name)
@@ -152,66 +162,93 @@ def panel(
     exe: Any = None,
     progress: bool = True,
 ) -> Panel:
-    """Returns the verdict on each household of a frame, whose column (or columns) `by` tells them apart.
+    """Returns the verdict on each household of a frame, whose column (or columns) `by` tells them apart, as a Panel.
 
     A household whose data are refused gets its refusal, and the others go on. `pump` asks for the money pump of each too, and
     `power` for that of the test on each one's budgets, by so many draws with `seed`. A column `e` has levels, or `levels` gives
     them, one for each row or one for all. It runs on all processors, or on so many `workers`, and shows a bar where the package
     `tqdm` is there and `progress` is left on. The rows of a household need not stand together.
+
+    Of a frame of Dask it returns one of Dask, by partitions: the records of `Panel.frame()`, under the place of each household's
+    first row, so that `.compute().sort_index()` has them in the order of the frame. `exe` is a path on each worker.
     """
-    by_library = program.way(exe)[0] is not None
-    names = [by] if isinstance(by, str) or not isinstance(by, (list, tuple)) else list(by)
+    names = [by] if not isinstance(by, (list, tuple)) else list(by)
     if power is not None:
         power, seed = program.whole(power, "power", 1, 1000), program.whole(seed, "seed", 0, 2**64 - 1)
     if workers is not None:
         workers = program.whole(workers, "workers", 1, 1024)
+    if clusters.is_dask(d):
+        of_dask: Panel = clusters.of_dask(d, names, levels, {"pump": pump, "power": power, "seed": seed, "places": places, "exe": exe})
+        return of_dask
+    library, path = program.way(exe)
+    asked = {**ASKED, "verdicts": "certify", "pump": bool(pump), "power": None if power is None else [seed, power]}
+    asked.update(rp=path, library=library is not None)
     groups = _groups(Frame(d), names, levels)
-    more: dict[str, Callable[[Table], Any]] = {}
-    if pump:
-        more["pump"] = lambda own: money_pump(own, exe=exe)
-    if power is not None:
-        more["power"] = lambda own: power_of_test(own, seed=seed, draws=power, exe=exe)
+    rows = _bar(_rows(groups, places, asked, workers or _processors()), len(groups), progress)
+    return Panel(names, list(rows), [it for it in ("pump", "power") if asked[it]])
 
-    def run(group: tuple[Any, Callable[[Any], Table]]) -> Row:
-        key, own = group
+
+def _rows(groups: Sequence[tuple[Any, Callable[[Any], Table]]], places: Any, asked: dict[str, Any], workers: int) -> Iterator[Row]:
+    """Yields the row of each household: by processes, where there are enough households for that to be worth it, or here."""
+    here = workers == 1 or len(groups) < (FEW_CALLS if asked["library"] else FEW) or not sys.executable
+    size = 1 if here else BLOCK
+    begun: deque[list[tuple[Row, Table | None]]] = deque()
+
+    def blocks() -> Iterator[list[bytes]]:
+        for at in range(0, len(groups), size):
+            begun.append([_begin(key, own, places) for key, own in groups[at : at + size]])
+            yield [made.csv() for _, made in begun[-1] if made is not None]
+
+    pool = Here(asked) if here else Pool(workers, asked)
+    try:
+        pool.begin()
+        for _, answers in pool.each(blocks()):
+            left = iter(answers)
+            for row, made in begun.popleft():
+                if made is not None:
+                    _end(row, made, next(left), asked)
+                yield row
+    except OSError as wrong:
+        raise NoProgram(f"{asked['rp']} cannot be run: {wrong}") from wrong
+    except Stopped as stopped:
+        raise Problem(f"the panel did not come to its end: {stopped}") from None
+    finally:
+        pool.close()
+
+
+def _begin(key: Any, own: Callable[[Any], Table], places: Any) -> tuple[Row, Table | None]:
+    """Returns the row of a household, and its table where there is one to be answered."""
+    try:
+        return Row(key), own(places)
+    except (Refused, Pooled) as wrong:
+        return Row(key, refusal=wrong), None
+
+
+def _end(row: Row, made: Table, calls: dict[str, Ended], asked: dict[str, Any]) -> None:
+    """Puts into a row what the program said of its table."""
+
+    def explain(file: str | None, fault: str, places: dict[str, int]) -> Refused:
+        return made.refused(fault, places) if file == made.file else refusal(fault, file, places)
+
+    def told(part: str) -> bytes:
+        return program.output(program.ran_of(*calls[part]), explain).encode()
+
+    try:
+        row.verdict = Verdict(made, Certificate(told("verdicts")))
+    except Refused as wrong:
+        row.refusal = wrong
+    except Failed as wrong:
+        row.failure = wrong
+    makes: dict[str, Callable[[], Any]] = {
+        "pump": lambda: MoneyPump(made, told("pump")),
+        "power": lambda: Power(made, told("power"), *asked["power"]),
+    }
+    for name, make in makes.items() if row.verdict is not None else ():
         try:
-            made = own(places)
-            row = Row(key, analyse(made, exe=exe))
-        except (Refused, Pooled) as refusal:
-            return Row(key, refusal=refusal)
-        except Failed as failure:
-            return Row(key, failure=failure)
-        for name, ask in more.items():
-            try:
-                setattr(row, {"pump": "money_pump"}.get(name, name), ask(made))
-            except (Refused, Failed) as wrong:
-                row.missing[name] = str(wrong)
-        return row
-
-    with Workers(workers or _processors(), 0 if by_library else len(groups)) as pool:
-        return Panel(names, list(_bar(pool.map(run, groups), len(groups), progress)), list(more))
-
-
-class Workers:
-    """Threads, each with a process of its own that runs the program where that is no library, and where there are enough households
-    for that to be worth it."""
-
-    def __init__(self, count: int, households: int) -> None:
-        self.others = [worker.Worker() for _ in range(count)] if count > 1 and households >= FEW and sys.executable else []
-        self.left = list(self.others)
-        self.pool = ThreadPoolExecutor(count, initializer=self._begin)
-
-    def _begin(self) -> None:
-        if self.left:
-            program.THREAD.run = self.left.pop().run
-
-    def __enter__(self) -> ThreadPoolExecutor:
-        return self.pool
-
-    def __exit__(self, *wrong: Any) -> None:
-        self.pool.shutdown()
-        for other in self.others:
-            other.close()
+            if asked[name]:
+                setattr(row, {"pump": "money_pump"}.get(name, name), make())
+        except (Refused, Failed) as wrong:
+            row.missing[name] = str(wrong)
 
 
 def _groups(frame: Frame, names: Sequence[Any], levels: Any) -> list[tuple[Any, Callable[[Any], Table]]]:

@@ -6,7 +6,6 @@ import os
 import re
 import shutil
 import sys
-import threading
 from typing import Any, Callable, Iterable, Mapping, Sequence
 
 from . import library, worker
@@ -93,10 +92,6 @@ class Ran:
         return told[1], fault, {name: int(number) for name, number in zip(places[::2], places[1::2])}
 
 
-# What runs the program in this thread, where it is not this process: a panel's worker.
-THREAD = threading.local()
-
-
 def call(words: Sequence[str], files: Mapping[str, bytes], exe: Any = None) -> Ran:
     """Runs the program over files that are given by name, in a folder of their own, and returns how it ended.
 
@@ -104,11 +99,14 @@ def call(words: Sequence[str], files: Mapping[str, bytes], exe: Any = None) -> R
     words go to the program as they are: no shell reads them.
     """
     by_library, program = way(exe)
-    run: Runs = by_library if by_library is not None else getattr(THREAD, "run", worker.run)
+    run: Runs = by_library if by_library is not None else worker.run
     try:
-        status, out, told = run(program, words, files)
+        return ran_of(*run(program, words, files))
     except OSError as wrong:
         raise NoProgram(f"{program} cannot be run: {wrong}") from wrong
+
+
+def ran_of(status: int, out: bytes, told: bytes) -> Ran:
     said = [line for line in _text(told).splitlines() if not line.startswith("note: ")]
     return Ran(status, _text(out), "\n".join(said))
 
@@ -122,7 +120,10 @@ Explains = Callable[["str | None", str, "dict[str, int]"], Exception]
 
 def answer(words: Sequence[str], files: Mapping[str, bytes], exe: Any = None, explain: Explains | None = None) -> str:
     """Returns the output of a call that ends with status 0; raises what `explain` makes of a refusal, or Failed."""
-    ran = call(words, files, exe)
+    return output(call(words, files, exe), explain)
+
+
+def output(ran: Ran, explain: Explains | None = None) -> str:
     if ran.status == 0:
         return ran.out
     if ran.refusal is not None and explain is not None:

@@ -13,7 +13,7 @@ from decimal import Decimal
 from fractions import Fraction
 
 import revealed
-from revealed import Failed, NoProgram, Refused
+from revealed import Failed, NoProgram, Problem, Refused
 
 HERE = pathlib.Path(__file__).resolve().parent
 EXAMPLES = HERE.parents[2] / "examples"
@@ -309,40 +309,49 @@ class Panels(unittest.TestCase):
         self.assertIn("row 'w'", found["message"][0])
 
 
-class Workers(unittest.TestCase):
+def many(count):
+    """Returns a long frame of so many households of two records, of which every ninth is refused."""
+    d = {"id": [], "p_a": [], "p_b": [], "q_a": [], "q_b": []}
+    for number in range(count):
+        for row in ((1, 2, 1 + number % 3, 2), (2, number % 9 and 1, 2, number % 2)):
+            for name, value in zip(d, (number, *row)):
+                d[name].append(value)
+    return d
+
+
+class Processes(unittest.TestCase):
     """Processes beside the panel that run the program."""
-
-    def test_one_that_is_killed(self):
-        files = {"table.csv": revealed.table(P, Q).csv()}
-        words, program = ["certify", "table.csv"], os.environ["RP_EXEC"]
-        wanted = revealed.worker.run(program, words, files)
-        worker = revealed.worker.Worker()
-        for _ in range(revealed.worker.MOST_GONE + 2):
-            self.assertEqual(worker.run(program, words, files), wanted)
-            if worker.process is not None:
-                self.assertEqual(worker.run(program, words, files), wanted)
-                worker.process.kill()
-                worker.process.wait()
-            self.assertEqual(worker.run(program, words, files), wanted)
-        worker.close()
-
-    def test_a_program_that_is_not_there(self):
-        worker = revealed.worker.Worker()
-        for _ in range(2):
-            with self.assertRaises(OSError):
-                worker.run("/nowhere/rp", [], {})
-        worker.close()
 
     def test_many_households(self):
         count = 3 * revealed.panels.FEW
-        d = {"id": [], "p_a": [], "p_b": [], "q_a": [], "q_b": []}
-        for number in range(count):
-            for row in ((1, 2, 1 + number % 3, 2), (2, 1, 2, number % 2)):
-                for name, value in zip(d, (number, *row)):
-                    d[name].append(value)
-        found = [revealed.panel(d, "id", workers=workers, progress=False).records() for workers in (1, 3)]
+        found = [revealed.panel(many(count), "id", workers=workers, pump=True, progress=False).records() for workers in (1, 3)]
         self.assertEqual(found[0], found[1])
-        self.assertEqual(len(found[0]), count)
+        self.assertEqual([row["status"] for row in found[0]], [4 if number % 9 == 0 else 0 for number in range(count)])
+
+    def test_one_that_is_killed(self):
+        tables = [revealed.table(P, sides) for sides in (Q, [[2, 1], [1, 2]])]
+        asked = {**revealed.long_answers.ASKED, "verdicts": "certify", "rp": os.environ["RP_EXEC"], "library": False}
+        wanted = [{"verdicts": (0, revealed.certify(own).data, b"")} for own in tables]
+        pool = revealed.long_answers.Pool(2, asked)
+        try:
+            pool.begin()
+            for number, (_, answers) in enumerate(pool.each([[own.csv() for own in tables]] * 40)):
+                self.assertEqual(answers, wanted)
+                if number in (3, 9):
+                    pool.processes[-1].process.kill()
+        finally:
+            pool.close()
+        self.assertGreaterEqual(pool.restarts, 1)
+        self.assertFalse(os.path.exists(pool.folder))
+
+    def test_a_program_that_cannot_be_run(self):
+        with tempfile.TemporaryDirectory() as folder:
+            exe = pathlib.Path(folder) / "rp"
+            exe.write_bytes(b"\x7fELF no program")
+            exe.chmod(0o755)
+            for count in (1, 2 * revealed.panels.FEW):
+                with self.assertRaises(Problem):
+                    revealed.panel(many(count), "id", workers=2, exe=exe, progress=False)
 
 
 class Programs(unittest.TestCase):

@@ -1,10 +1,11 @@
 #!/usr/bin/env Rscript
 # Builds and checks the package `revealed` by R's own rules, runs its tests in the C and a UTF-8 locale in folders with
-# blanks and letters outside ASCII, runs its vignette, compares a panel of 1,000 households with examples/panel/panel.py,
+# blanks and letters outside ASCII, runs its vignette, compares a panel of 1,000 households with examples/panel/rp-panel,
 # and looks at the sessions of clients/r/README.md.
 #
-# usage: RP_EXEC=PROGRAM Rscript check-package.R
+# usage: RP_EXEC=PROGRAM [RP_TEST_LIBRARY=LIBRARY] Rscript check-package.R
 #
+# With a library its answers are compared with the program's, and the panel is taken by it as well.
 # Ends with 0 where all is as it should be: no error and no warning. The time of the panel is told, and not judged. The
 # vignette is run in any case; its pages are made where LaTeX is there with what they take.
 options(warn = 1)
@@ -15,6 +16,8 @@ top <- dirname(dirname(dirname(here)))
 program <- Sys.getenv("RP_EXEC")
 if (!nzchar(program)) stop("RP_EXEC has to name the program")
 Sys.setenv(RP_EXEC = normalizePath(program))
+shared <- Sys.getenv("RP_TEST_LIBRARY")
+if (nzchar(shared)) Sys.setenv(RP_TEST_LIBRARY = normalizePath(shared))
 
 room <- tempfile("ein Ordner ")
 dir.create(room)
@@ -61,7 +64,7 @@ said <- run(
   "R CMD check", c("CMD", "check", "--as-cran", "--no-manual", if (has_latex) "--no-vignettes" else "--ignore-vignettes", basename(tarball)), at = plain,
   env = c(
     paste0("R_CRAN_WEB=file://", plain, "/web"), "_R_CHECK_CRAN_INCOMING_=false", "_R_CHECK_FORCE_SUGGESTS_=false",
-    "_R_CHECK_FUTURE_FILE_TIMESTAMPS_=false"
+    "_R_CHECK_FUTURE_FILE_TIMESTAMPS_=false", "_R_CHECK_SYSTEM_CLOCK_=false"
   )
 )
 ended <- grep("^Status:", said, value = TRUE)
@@ -76,14 +79,15 @@ run("R CMD INSTALL", c("CMD", "INSTALL", "-l", shQuote(library), shQuote(tarball
 # A folder of UTF-8 letters, made by the shell, whatever the locale of this session is.
 odd <- paste0(room, "/M\\303\\244rz und \\303\\251t\\303\\251")
 make <- paste0("d=$(printf '", odd, "') && mkdir \"$d\" && cp ", shQuote(Sys.getenv("RP_EXEC")), " \"$d/rp\"")
+if (nzchar(shared)) make <- paste0(make, " && cp ", shQuote(Sys.getenv("RP_TEST_LIBRARY")), " \"$d/librp.so\"")
 if (system(make) != 0) good <- FALSE
 # R's check ran all of them in a folder of plain letters, in the locale of this session.
-tests <- file.path(dirname(here), "revealed", "tests", c("program.R", "commands.R", "statuses.R"))
+tests <- file.path(dirname(here), "revealed", "tests", c("program.R", "commands.R", "statuses.R", "library.R"))
 for (locale in c("C", "C.UTF-8")) {
-  for (test in tests[if (locale == "C") 1:3 else 1]) {
+  for (test in tests[if (locale == "C") 1:4 else 1]) {
     words <- c("-c", shQuote(paste0(
-      "d=$(printf '", odd, "') && cd \"$d\" && LC_ALL=", locale, " TMPDIR=\"$d\" RP_EXEC=\"$d/rp\" R_LIBS=", shQuote(library), " ",
-      shQuote(R), " --vanilla -s -f ", shQuote(test)
+      "d=$(printf '", odd, "') && cd \"$d\" && LC_ALL=", locale, " TMPDIR=\"$d\" RP_EXEC=\"$d/rp\" ",
+      if (nzchar(shared)) "RP_TEST_LIBRARY=\"$d/librp.so\" ", "R_LIBS=", shQuote(library), " ", shQuote(R), " --vanilla -s -f ", shQuote(test)
     )))
     run(paste(basename(test), "in the locale", locale), words, exe = "/bin/sh")
   }
@@ -104,7 +108,8 @@ expect(any(grepl("^GARP holds & [0-9]+ ", page)) && any(grepl("^GARP holds +[0-9
 
 # ---- citation, and the sessions of README.md
 cited <- format(utils::citation("revealed", lib.loc = library), style = "text")
-expect(any(grepl("2026", cited)) && any(grepl("0.11.0", cited)), "citation() has the year and the version")
+version <- read.dcf(file.path(dirname(here), "revealed", "DESCRIPTION"))[, "Version"]
+expect(any(grepl("2026", cited)) && any(grepl(version, cited, fixed = TRUE)), "citation() has the year and the version")
 readme <- readLines(file.path(dirname(here), "README.md"))
 fences <- which(startsWith(readme, "```"))
 at <- which(readme[fences] == "```r")[1]
@@ -129,21 +134,21 @@ long$q_rent <- long$q_rent + 1L
 long$p_wine[long$household %% 100 == 0 & long$obs == 5] <- "0"
 path <- file.path(room, "long.csv")
 write.csv(long, path, row.names = FALSE, quote = FALSE)
-panel <- file.path(top, "examples", "panel", "panel.py")
-# panel.py takes the program beside it: a tree of links puts ours there.
-tree <- file.path(room, "tree")
-dir.create(file.path(tree, "examples", "panel"), recursive = TRUE)
-invisible(file.copy(panel, file.path(tree, "examples", "panel")))
-invisible(file.symlink(Sys.getenv("RP_EXEC"), file.path(tree, "rp")))
+panel <- file.path(top, "examples", "panel", "rp-panel")
 first <- system.time(
-  run("panel.py", c(shQuote(file.path(tree, "examples/panel/panel.py")), shQuote(path), "verdicts.csv"), exe = "python3")
+  run("rp-panel", c(shQuote(panel), "--rp", shQuote(Sys.getenv("RP_EXEC")), shQuote(path), "verdicts.csv"), exe = "python3")
 )[["elapsed"]]
 second <- system.time(found <- as.data.frame(rp_panel(long, "household", progress = FALSE)))[["elapsed"]]
 wanted <- read.csv(file.path(room, "verdicts.csv"))
 word <- function(x) ifelse(is.na(x), "", ifelse(x, "holds", "violated"))
 same <- identical(found$household, wanted$household) && identical(found$status, wanted$status) &&
   all(vapply(c("garp", "homothetic", "quasilinear"), function(name) identical(word(found[[name]]), wanted[[name]]), TRUE))
-expect(same, "the panel's verdicts beside those of panel.py")
-cat(sprintf("a panel of %d households: %.2f of the time of examples/panel/panel.py\n", count, second / first))
+expect(same, "the panel's verdicts beside those of rp-panel")
+cat(sprintf("a panel of %d households: %.2f of the time of examples/panel/rp-panel\n", count, second / first))
+if (nzchar(shared)) {
+  third <- system.time(again <- as.data.frame(rp_panel(long, "household", progress = FALSE, exe = normalizePath(shared))))[["elapsed"]]
+  expect(identical(again, found), "the panel by the library beside that by the program")
+  cat(sprintf("the same by the library: %.2f of the time by the program\n", third / second))
+}
 cat(if (good) "clients/r: as it should be\n" else "clients/r: not as it should be\n")
 quit("no", if (good) 0 else 1)

@@ -1,5 +1,5 @@
 -- Items on demand and on welfare, from what the calls that give them say.
-use Rattle.std.proofs.Common.{◌≡◌, ◌<◌, ◌≤◌, ℕ, List, [], length, refl, sym, subst}
+use Rattle.std.proofs.Common.{◌≡◌, ◌<◌, ◌≤◌, ℕ, List, [], arith, length, refl, sym, subst}
 use Rattle.std.specs.List.{All}
 use Rattle.rp_evidence.specs.DemandEvidence.{ProvesDemand, ProvesWelfare, budget_of}
 use Rattle.rp_evidence.specs.Garp.{ProvesGarp}
@@ -8,6 +8,8 @@ use Rattle.rp_evidence.specs.declared.certificate.Item.TheVariants.{Demand, Welf
 use Rattle.rp_evidence.specs.declared.demand.DemandPart.{DemandPart}
 use Rattle.rp_evidence.specs.declared.demand.WelfarePart.{WelfarePart}
 use Rattle.rp_evidence.specs.declared.garp.Garp.{Garp}
+use Rattle.rp_people.specs.TableChoices.{IsFullInput}
+use Rattle.rp_people.proofs.SaysOfItems.{says}
 use Rattle.rp_support.specs.Verdict.{IsDemandVerdict}
 use Rattle.rp_table.specs.Limits.{IsPrice}
 use Rattle.rp_table.specs.declared.TheConstants.{LARGEST_EXPENDITURE}
@@ -19,7 +21,7 @@ use Rattle.rp_table.specs.NewPrices.{AreNewPrices}
 use Rattle.rp_agreement.specs.Limited.{IsLimited}
 use Rattle.rp_agreement.proofs.BoundsFit.{demand_fits, welfare_fits}
 
-module _ (input : TableInput) (none : input.levels ≡ []) (limited : IsLimited input) (garp : Garp) (prices kept : List ℕ) (same : kept ≡ prices) (one_each : length prices ≡ input.goods) (limits : All IsPrice prices) where
+module _ (input : TableInput) (none : input.levels ≡ []) (limited : IsLimited input) (full : IsFullInput input) (garp : Garp) (prices kept : List ℕ) (same : kept ≡ prices) (one_each : length prices ≡ input.goods) (limits : All IsPrice prices) where
   new : AreNewPrices input.goods prices
   new = record { one_each = one_each; fit = limits }
 
@@ -30,6 +32,8 @@ module _ (input : TableInput) (none : input.levels ≡ []) (limited : IsLimited 
         evidence = evidence;
         on_budget = refl;
         proves = proves;
+        says = says input full (Demand prices m evidence) proves;
+        priced = λ g g_in. (limits g 0 (omega (arith, one_each))).0;
         given = given;
         passes = λ by_ranks before. (none, (demand_passes input by_ranks garp prices m evidence before new (least, most) proves given, tt));
         readable = (tt, demand_fits input limited prices new m (least, most) garp evidence proves given);
@@ -42,6 +46,7 @@ module _ (input : TableInput) (none : input.levels ≡ []) (limited : IsLimited 
         evidence = evidence;
         of_observation = refl;
         proves = proves;
+        says = says input full (Welfare prices t evidence) proves;
         given = given;
         passes = λ by_ranks before. (none, (welfare_passes input by_ranks garp prices t evidence before new t_in verdict proves given, tt));
         readable = (tt, welfare_fits input limited prices new t t_in garp evidence proves given);

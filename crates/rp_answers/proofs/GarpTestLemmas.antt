@@ -15,6 +15,8 @@ use Rattle.rp_garp.specs.Verdict.{IsGarpVerdict}
 use Rattle.rp_garp.proofs.SameVerdicts.{given_at_one, proves_at_one}
 use Rattle.rp_json.specs.Denoted.{FitsKind}
 use Rattle.rp_pref.specs.Closure.{IsClosureOf, Reached}
+use Rattle.rp_people.proofs.FullTables.{table_is_full}
+use Rattle.rp_people.proofs.SaysOfItems.{says}
 use Rattle.rp_table.specs.Cost.{cost_at}
 use Rattle.rp_table.specs.Tables.{Observations}
 use Rattle.rp_agreement.specs.ReadBack.{IsReadBack, certificate_from}
@@ -67,6 +69,7 @@ module _ (table : Observations) (none : table.levels ≡ []) (tested : GarpTest)
         others = items;
         items = first;
         garp_proves = proves;
+        garp_says = says input (table_is_full table is.valid) (GarpItem garp) proves;
         garp_given = given;
         answered = answered;
         accepted = subst (IsAcceptedOn input) (sym first) (garp_first_accepted input none garp proves count (IsAnswer garp) items answered passes);

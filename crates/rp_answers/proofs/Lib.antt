@@ -1,7 +1,9 @@
 pub mod AcceptedLemmas
 pub mod BoundItems
+pub mod ChosenBundles
 pub mod GarpFirstLemmas
 pub mod GarpTestLemmas
 pub mod ReadBackLemmas
 pub mod TrialLemmas
 pub mod UtilityLemmas
+pub mod SaysLemmas

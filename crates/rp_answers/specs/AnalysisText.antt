@@ -1,6 +1,6 @@
 -- What `analyse` and `certify` print: the report, or the JSON, of a certificate that has one item for each test, in a
 -- fixed order, each with evidence that proves its verdict.
-use Rattle.std.specs.Prelude.{◌≡◌, ℕ, Bool, List, [], ◌∷◌}
+use Rattle.std.specs.Prelude.{◌≡◌, ℕ, All, Bool, List, [], ◌∷◌}
 use Rattle.rp_table.specs.Tables.{Observations}
 use Rattle.rp_evidence.specs.Input.{TableInput, input_of_table}
 use Rattle.rp_evidence.specs.Proves.{Proves}
@@ -20,6 +20,7 @@ use Rattle.rp_effic.specs.Verdict.{IsEfficiencyVerdict}
 use Rattle.rp_garp.specs.Verdict.{IsOwnGarpVerdict}
 use Rattle.rp_homo.specs.Verdict.{IsHomotheticVerdict}
 use Rattle.rp_quasi.specs.Verdict.{IsQuasilinearVerdict}
+use Rattle.rp_people.specs.Says.{Says}
 use Rattle.rp_agreement.specs.ReadBack.{IsReadBack, table_certificate}
 use Rattle.rp_answers.specs.Accepted.{IsAcceptedOn}
 use Rattle.rp_answers.specs.ReportOrJson.{report_or_json}
@@ -38,7 +39,7 @@ certificate_of levels garp afriat efficiency homothetic quasilinear =
 -- the certificate of what a table says: the verdicts on the generalized axiom of revealed preference (Varian 1982), by
 -- Afriat's theorem (Afriat 1967), on the efficiency index (Afriat 1973), of the homothetic test (Varian 1983) and of
 -- the quasilinear test, as they are given, the first two by the levels of the observations' own, where they have them;
--- the checker accepts it, and its JSON is read back as it
+-- the checker accepts it, its JSON is read back as it, and each item says of people what such a verdict says
 pub record IsAnalysis (input : TableInput) (certificate : Certificate) : Type 0 where
   pub garp : Garp
   pub afriat : AfriatPart
@@ -56,6 +57,7 @@ pub record IsAnalysis (input : TableInput) (certificate : Certificate) : Type 0 
   pub homothetic_given : IsHomotheticVerdict input.n input.cost homothetic
   pub quasilinear_proves : Proves input (QuasiItem quasilinear)
   pub quasilinear_given : IsQuasilinearVerdict input.n input.cost quasilinear
+  pub says : All (Says input) (five_items garp afriat efficiency homothetic quasilinear)
   pub accepted : IsAcceptedOn input certificate
   pub read_back : IsReadBack Table certificate
 

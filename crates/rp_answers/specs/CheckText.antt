@@ -16,6 +16,8 @@ use Rattle.rp_evidence.specs.declared.failure.Reason.{Reason}
 use Rattle.rp_evidence.specs.declared.failure.Reason.TheVariants as reason
 use Rattle.rp_patch.specs.Patches.{PatchList}
 use Rattle.rp_patch.specs.RandomEvidence.{ProvesOnPatches}
+use Rattle.rp_people.specs.Says.{HasPricesAboveZero, Says}
+use Rattle.rp_persons.specs.SaysRandom.{SaysOnPatches}
 use Rattle.rp_print.specs.ListText.{line_of}
 use Rattle.rp_answers.specs.declared.status.Status.{Status}
 use Rattle.rp_answers.specs.declared.status.Status.TheVariants as status
@@ -66,18 +68,21 @@ check_status Accepted = status.Done
 check_status (Rejected item reason place) = status.Rejected
 
 -- the status and the text are those of what the checker says of a certificate on a table; where it is accepted, each of
--- its items proves its verdict
+-- its items proves its verdict, and says of people what such a verdict says, and no new price of it is 0
 pub record IsTableCheck (table : Observations) (certificate : Certificate) (s : Status) (text : List ℕ) : Type 0 where
   pub verdict : Verdict
   pub found : IsCheckVerdict (input_of_table table) certificate.levels certificate.items verdict
   pub proves : verdict ≡ Accepted → All (Proves (input_of_table table)) certificate.items
+  pub says : verdict ≡ Accepted → All (Says (input_of_table table)) certificate.items
+  pub priced : verdict ≡ Accepted → All (HasPricesAboveZero (input_of_table table)) certificate.items
   pub ends : s ≡ check_status verdict
   pub tells : text ≡ check_line certificate.items verdict
 
--- the same on choices from budgets
+-- the same on choices from budgets, whose items say so of persons
 pub record IsRandomCheck (p : PatchList) (certificate : Certificate) (s : Status) (text : List ℕ) : Type 0 where
   pub verdict : Verdict
   pub found : IsRandomCheckVerdict p certificate.items verdict
   pub proves : verdict ≡ Accepted → All (ProvesOnPatches p) certificate.items
+  pub says : verdict ≡ Accepted → All (SaysOnPatches p) certificate.items
   pub ends : s ≡ check_status verdict
   pub tells : text ≡ check_line certificate.items verdict

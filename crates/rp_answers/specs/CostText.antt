@@ -6,15 +6,17 @@ use Rattle.rp_table.specs.Rows.{row_of, rows_count}
 use Rattle.rp_table.specs.Tables.{goods_of}
 use Rattle.rp_cost.specs.AskedOutputs.{AskedOutputs}
 use Rattle.rp_cost.specs.Axioms.{MeetsCost}
-use Rattle.rp_cost.specs.CostBounds.{AreCostBounds, BoundsHold, IsAtMost, ProvesCostBounds, ShowsNothing}
-use Rattle.rp_cost.specs.OuterSet.{AllMakeMore, MadeIsOuter}
+use Rattle.rp_cost.specs.CostBounds.{AreCostBounds, BoundProducers, BoundsHold, IsAtMost, ProvesCostBounds}
+use Rattle.rp_cost.specs.CostBounds.{ShowsNothing}
+use Rattle.rp_producers.specs.OuterSet.{AllMakeMore, MadeIsOuter}
 use Rattle.rp_cost.specs.Report.{IsProductionReport}
 use Rattle.rp_cost.specs.Technology.{Technology}
 use Rattle.rp_cost.specs.declared.bounds.CostBounds.{CostBounds}
 
 -- the bounds on what the output y costs at new prices: they are true and as they are given, the check accepts them, and
 -- the one from below is at most the one from above; what made y or more lies in the outer set, and where every
--- observation made more, nothing has to be spent
+-- observation made more, nothing has to be spent; and both bound every producer by whose requirement sets each observation
+-- was one of least cost
 pub record IsCostAnswer (tech : Technology) (prices : List ℕ) (y : ℕ) (bounds : CostBounds) : Type 0 where
   pub proves : ProvesCostBounds (input_of_table tech.table) (slice_index tech.y) y (slice_index prices) bounds
   pub given : AreCostBounds (input_of_table tech.table) (slice_index tech.y) y (slice_index prices) bounds
@@ -23,6 +25,7 @@ pub record IsCostAnswer (tech : Technology) (prices : List ℕ) (y : ℕ) (bound
   pub lower_at_most_upper : IsAtMost bounds.lower bounds.upper
   pub nothing_below : AllMakeMore (input_of_table tech.table) (slice_index tech.y) y
       → ShowsNothing (goods_of tech.table) bounds.lower
+  pub producers : BoundProducers (input_of_table tech.table) (slice_index tech.y) y (slice_index prices) bounds
 
 -- bounds of each of the first so many asked records, in their order
 pub record AreBoundsOfFirst (tech : Technology) (asked : AskedOutputs) (count : ℕ) (bounds : List CostBounds)

@@ -13,18 +13,21 @@ use Rattle.rp_evidence.specs.declared.certificate.Kind.TheVariants.{Table}
 use Rattle.rp_evidence.specs.declared.certificate.Item.TheVariants.{Demand}
 use Rattle.rp_evidence.specs.declared.demand.DemandPart.{DemandPart}
 use Rattle.rp_evidence.specs.declared.garp.Garp.{Garp}
+use Rattle.rp_people.specs.Says.{HasPricesAboveZero, Says}
 use Rattle.rp_support.specs.Verdict.{IsDemandVerdict}
 use Rattle.rp_json.specs.Denoted.{FitsKind}
 use Rattle.rp_answers.specs.Accepted.{PassesAfter}
 use Rattle.rp_answers.specs.GarpFirst.{IsGarpFirst}
 use Rattle.rp_answers.specs.ReportOrJson.{report_or_json}
 
--- the item on the budget at these prices with m: it proves its verdict, is as it is given under the verdict on the
--- axiom, passes the checker, and can be read back
+-- the item on the budget at these prices, of which none is 0, with m: it proves its verdict, says of people what such a
+-- verdict says, is as it is given under the verdict on the axiom, passes the checker, and can be read back
 pub record IsDemandItem (input : TableInput) (garp : Garp) (prices : List ℕ) (m : ℕ) (item : Item) : Type 0 where
   pub evidence : DemandPart
   pub on_budget : item ≡ Demand prices m evidence
   pub proves : Proves input item
+  pub says : Says input item
+  pub priced : HasPricesAboveZero input item
   pub given : IsDemandVerdict input (budget_of prices m) garp evidence
   pub passes : PassesAfter input garp item
   pub readable : FitsKind Table item

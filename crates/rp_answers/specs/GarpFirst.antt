@@ -9,6 +9,7 @@ use Rattle.rp_evidence.specs.declared.certificate.Item.TheVariants.{Garp as Garp
 use Rattle.rp_evidence.specs.declared.certificate.Kind.TheVariants.{Table}
 use Rattle.rp_evidence.specs.declared.garp.Garp.{Garp}
 use Rattle.rp_garp.specs.Verdict.{IsGarpVerdict}
+use Rattle.rp_people.specs.Says.{Says}
 use Rattle.rp_agreement.specs.ReadBack.{IsReadBack, certificate_from}
 use Rattle.rp_answers.specs.Accepted.{IsAcceptedOn}
 
@@ -17,14 +18,15 @@ pub record AreAnswered (count : ℕ) (IsAnswer : ℕ → Item → Type 0) (items
   pub one_each : length items ≡ count
   pub each : (k : ℕ) (d : Item) → k < count → IsAnswer k (slice_index_or items k d)
 
--- the verdict on the axiom is true and as it is given, the items after it answer so many questions under it, the
--- checker accepts them all, and the JSON of the certificate is read back as it
+-- the verdict on the axiom is true, says of people what such a verdict says, and is as it is given; the items after it
+-- answer so many questions under it, the checker accepts them all, and the JSON of the certificate is read back as it
 pub record IsGarpFirst (input : TableInput) (count : ℕ) (IsAnswer : Garp → ℕ → Item → Type 0)
     (certificate : Certificate) : Type 0 where
   pub garp : Garp
   pub others : List Item
   pub items : certificate ≡ certificate_from [] garp others
   pub garp_proves : Proves input (GarpItem garp)
+  pub garp_says : Says input (GarpItem garp)
   pub garp_given : IsGarpVerdict input.n input.cost garp
   pub answered : AreAnswered count (IsAnswer garp) others
   pub accepted : IsAcceptedOn input certificate

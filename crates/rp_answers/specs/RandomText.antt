@@ -8,17 +8,19 @@ use Rattle.rp_evidence.specs.declared.certificate.Kind.TheVariants.{Random as Ra
 use Rattle.rp_evidence.specs.declared.random.RandomPart.{RandomPart}
 use Rattle.rp_json.specs.CertificateValue.{certificate_text}
 use Rattle.rp_patch.specs.RandomEvidence.{ProvesRandom}
+use Rattle.rp_persons.specs.SaysRandom.{SaysOfChoices}
 use Rattle.rp_random.specs.Verdict.{IsRandomVerdict}
 use Rattle.rp_agreement.specs.ReadBack.{IsReadBack, random_certificate}
 use Rattle.rp_report.specs.RandomText.{random_report_text}
 use Rattle.rp_answers.specs.Typed.{TypedPatches}
 
--- the one item proves its verdict and is as it is given, the checker accepts it, and the text of the certificate is
--- read back as the same
+-- the one item proves its verdict, says so of persons and is as it is given, the checker accepts it, and the text of the
+-- certificate is read back as the same
 pub record IsRandomAnswer (choices : TypedPatches) (certificate : Certificate) : Type 0 where
   pub evidence : RandomPart
   pub item : certificate ≡ random_certificate choices.patches.total evidence
   pub proves : ProvesRandom choices.patches choices.patches.total evidence
+  pub says : SaysOfChoices choices.patches evidence
   pub given : IsRandomVerdict choices.patches choices.types evidence
   pub accepted : IsRandomCheckVerdict choices.patches certificate.items Accepted
   pub read_back : IsReadBack RandomKind certificate

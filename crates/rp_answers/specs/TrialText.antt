@@ -1,7 +1,7 @@
 -- What `trial` prints: the verdicts on the trial table of a seed, without their evidence (this program's own text).
 -- They are those on the generalized axiom of revealed preference (Varian 1982), on the efficiency index (Afriat
 -- 1973), of the homothetic test (Varian 1983) and of the quasilinear test.
-use Rattle.std.specs.Prelude.{◌≡◌, ℕ, List, ◌++◌, codes}
+use Rattle.std.specs.Prelude.{◌≡◌, ℕ, All, List, [], ◌∷◌, ◌++◌, codes}
 use Rattle.std.specs.Fmt.{decimal}
 use Rattle.rp_evidence.specs.Input.{input_of_table}
 use Rattle.rp_evidence.specs.Proves.{Proves}
@@ -20,6 +20,7 @@ use Rattle.rp_effic.specs.Verdict.{IsEfficiencyVerdict}
 use Rattle.rp_garp.specs.Verdict.{IsGarpVerdict}
 use Rattle.rp_homo.specs.Verdict.{IsHomotheticVerdict}
 use Rattle.rp_quasi.specs.Verdict.{IsQuasilinearVerdict}
+use Rattle.rp_people.specs.Says.{Says}
 use Rattle.rp_report.specs.EfficiencyText.{index_text}
 use Rattle.rp_print.specs.ListText.{line_of}
 use Rattle.rp_table.specs.Cost.{cost_of}
@@ -50,7 +51,8 @@ verdict_lines garp efficiency homothetic quasilinear =
     ++ line_of (codes "homothetic " ++ homothetic_word homothetic)
     ++ line_of (codes "quasilinear " ++ quasilinear_word quasilinear)
 
--- the verdicts of a table without Afriat's numbers: each is true, and as it is given
+-- the verdicts of a table without Afriat's numbers: each is true, as it is given, and says of people what such a
+-- verdict says
 pub record AreVerdicts (table : Observations) (garp : Garp) (efficiency : Efficiency) (homothetic : Homothetic)
     (quasilinear : Quasi) : Type 0 where
   pub garp_proves : Proves (input_of_table table) (GarpItem garp)
@@ -61,6 +63,8 @@ pub record AreVerdicts (table : Observations) (garp : Garp) (efficiency : Effici
   pub homothetic_given : IsHomotheticVerdict (records_of table) (cost_of table) homothetic
   pub quasilinear_proves : Proves (input_of_table table) (QuasiItem quasilinear)
   pub quasilinear_given : IsQuasilinearVerdict (records_of table) (cost_of table) quasilinear
+  pub says : All (Says (input_of_table table))
+      (GarpItem garp ∷ EfficiencyItem efficiency ∷ HomotheticItem homothetic ∷ QuasiItem quasilinear ∷ [])
 
 -- the text of a trial: each verdict is true of its table and as it is given
 pub record IsTrialText (seed rows goods : ℕ) (text : List ℕ) : Type 0 where

@@ -1,6 +1,6 @@
 -- What `utility` prints: the report of the verdicts on the generalized axiom (Varian 1982) and by Afriat's theorem
 -- (Afriat 1967), and then for each bundle its utility under the numbers of that model.
-use Rattle.std.specs.Prelude.{◌≡◌, ℕ, zero, suc, ℤ, List, [], ◌∷◌, ◌++◌, codes}
+use Rattle.std.specs.Prelude.{◌≡◌, ℕ, zero, suc, ℤ, All, List, [], ◌∷◌, ◌++◌, codes}
 use Rattle.std.specs.Fmt.{signed_decimal}
 use Rattle.rp_table.specs.BundleLists.{BundleList}
 use Rattle.rp_table.specs.Cost.{cost_of}
@@ -19,6 +19,7 @@ use Rattle.rp_afriat.specs.Bundle.{bundle_cost}
 use Rattle.rp_afriat.specs.Verdict.{IsOwnAfriatVerdict}
 use Rattle.rp_garp.specs.Verdict.{IsOwnGarpVerdict}
 use Rattle.rp_agreement.specs.ReadBack.{table_certificate}
+use Rattle.rp_people.specs.Says.{Says}
 use Rattle.rp_print.specs.ListText.{line_of, ordinal_text}
 use Rattle.rp_report.specs.ReportText.{report_text}
 use Rattle.rp_answers.specs.Accepted.{IsAcceptedOn}
@@ -50,7 +51,7 @@ AreUtilityLines table evidence bundles (suc k) text =
     × IsUtilityLine table evidence k (row_of bundles.quantities bundles.goods k) line × (text ≡ before ++ line)
 
 -- the text of a table and bundles: both verdicts are true and as they are given, the checker accepts their certificate,
--- and each bundle has its line
+-- each says of people what such a verdict says, and each bundle has its line
 pub record IsUtilityText (table : Observations) (bundles : BundleList) (text : List ℕ) : Type 0 where
   pub garp : Garp
   pub afriat : AfriatPart
@@ -60,5 +61,6 @@ pub record IsUtilityText (table : Observations) (bundles : BundleList) (text : L
   pub afriat_proves : Proves (input_of_table table) (AfriatItem afriat)
   pub afriat_given : IsOwnAfriatVerdict (records_of table) table.levels (cost_of table) afriat
   pub accepted : IsAcceptedOn (input_of_table table) (first_items table.levels garp afriat)
+  pub says : All (Says (input_of_table table)) (first_items table.levels garp afriat).items
   pub all_lines : AreUtilityLines table afriat bundles (rows_count bundles.quantities bundles.goods) lines
   pub text_is : text ≡ report_text table (first_items table.levels garp afriat).items ++ lines

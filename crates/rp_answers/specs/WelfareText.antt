@@ -13,18 +13,20 @@ use Rattle.rp_evidence.specs.declared.certificate.Kind.TheVariants.{Table}
 use Rattle.rp_evidence.specs.declared.certificate.Item.TheVariants.{Welfare}
 use Rattle.rp_evidence.specs.declared.demand.WelfarePart.{WelfarePart}
 use Rattle.rp_evidence.specs.declared.garp.Garp.{Garp}
+use Rattle.rp_people.specs.Says.{Says}
 use Rattle.rp_welfare.specs.Verdict.{IsWelfareVerdict}
 use Rattle.rp_json.specs.Denoted.{FitsKind}
 use Rattle.rp_answers.specs.Accepted.{PassesAfter}
 use Rattle.rp_answers.specs.GarpFirst.{IsGarpFirst}
 use Rattle.rp_answers.specs.ReportOrJson.{report_or_json}
 
--- the item on observation t at these prices: it proves its verdict, is as it is given under the verdict on the axiom,
--- passes the checker, and can be read back
+-- the item on observation t at these prices: it proves its verdict, says of people what such a verdict says, is as it
+-- is given under the verdict on the axiom, passes the checker, and can be read back
 pub record IsWelfareItem (input : TableInput) (garp : Garp) (prices : List ℕ) (t : ℕ) (item : Item) : Type 0 where
   pub evidence : WelfarePart
   pub of_observation : item ≡ Welfare prices t evidence
   pub proves : Proves input item
+  pub says : Says input item
   pub given : IsWelfareVerdict input prices t garp evidence
   pub passes : PassesAfter input garp item
   pub readable : FitsKind Table item

@@ -11,6 +11,7 @@ use std::alloc::Global;
 pub fn pairs_text(alloc: Global, table: &Table) -> Result<Vec<u8>, NoMemory>
     ensures { IfOk result (λ text. IsPairsText table.now text.items) }
 {
+    prove!(table.n() >= 1);
     let costs = Costs::of(alloc, table)?;
     let text = line_of_pair(alloc, pairs(&costs))?;
     Ok(text)

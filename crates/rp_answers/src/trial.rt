@@ -47,6 +47,7 @@ fn verdicts_on(alloc: Global, table: &Table) -> Result<Verdicts, NoMemory>
     ensures { IfOk result (λ v.
         AreVerdicts table.now v.garp v.efficiency v.homothetic v.quasilinear) }
 {
+    prove!(table.n() >= 1);
     let costs = Costs::of(alloc, table)?;
     let garp = garp(alloc, &costs)?;
     let efficiency = efficiency(alloc, &costs)?;

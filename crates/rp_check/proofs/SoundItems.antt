@@ -14,6 +14,7 @@ use Rattle.rp_evidence.specs.declared.certificate.Item.TheVariants.{Garp as Garp
 use Rattle.rp_evidence.specs.declared.certificate.Kind.TheVariants.{Table as TableKind}
 use Rattle.rp_evidence.specs.declared.failure.Failure.{Failure}
 use Rattle.rp_evidence.specs.declared.garp.Garp.TheVariants.{Ranks, Cycle}
+use Rattle.rp_people.specs.Says.{HasPricesAboveZero}
 use Rattle.rp_check.specs.CheckVerdict.{ItemFailsAt}
 use Rattle.rp_check.specs.ItemFailure.{ItemFails, one_shows_garp, shows_garp}
 use Rattle.rp_clauses.proofs.SoundTests.{afriat_proves, efficiency_proves, garp_proves, homothetic_proves, quasilinear_proves}
@@ -47,6 +48,12 @@ meets_without input none meets =
     no_violation_same input.n (WeakByLevels [] input.cost) (StrictByLevels [] input.cost) (IsWeak input.cost 1 1) (IsStrict input.cost 1 1)
     (λ s t a b. weak_without_levels input.cost s t) (λ s t a b. strict_without_levels input.cost s t)
     (subst (λ levels. HasNoViolation input.n (WeakByLevels levels input.cost) (StrictByLevels levels input.cost)) none meets)
+
+-- an item that nothing is found wrong with has new prices above 0, where it has some
+pub item_priced : (input : TableInput) (garp_shown : Bool) (item : Item) → ItemFails input garp_shown item (Ok tt) → HasPricesAboveZero input item
+item_priced input garp_shown (DemandItem prices m evidence) found = λ g g_in. (found.1.0.0.1.0 g g_in).0
+item_priced input garp_shown (WelfareItem prices of evidence) found = λ g g_in. (found.1.0.0.1.0 g g_in).0
+item_priced input garp_shown _ found = tt
 
 module _ (input : TableInput) (positive : (s : ℕ) → s < input.n → 0 < input.cost s s) where
   pub item_proves : (garp_shown : Bool) → (IsTrue garp_shown → MeetsByLevels input) → (item : Item) → IsOfKind TableKind item → ItemFails input garp_shown item (Ok tt) → Proves input item

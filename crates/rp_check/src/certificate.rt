@@ -5,7 +5,7 @@ ghost use Rattle.rp_evidence.specs.Input.{input_of_table};
 ghost use Rattle.rp_evidence.specs.Kinds.{IsCertificateOf, IsOfKind};
 ghost use Rattle.rp_evidence.specs.Proves.{Proves};
 ghost use Rattle.rp_evidence.specs.declared.certificate.Kind.TheVariants.{Table as TableKind};
-ghost use Rattle.rp_people.specs.Says.{Says};
+ghost use Rattle.rp_people.specs.Says.{HasPricesAboveZero, Says};
 ghost use Rattle.rp_table.specs.Cost.{IsCostsOf};
 
 use crate::Verdict;
@@ -28,6 +28,8 @@ pub fn check(table: &Table, costs: &Costs, certificate: &Certificate) -> Verdict
         → All (Proves (input_of_table table.now)) certificate.now.items }
     ensures accepted_says { result ≡ Accepted
         → All (Says (input_of_table table.now)) certificate.now.items }
+    ensures accepted_prices { result ≡ Accepted
+        → All (HasPricesAboveZero (input_of_table table.now)) certificate.now.items }
 {
     match check_levels(table, certificate.levels.as_slice()) {
         Ok(()) => check_items(table, costs, certificate.items.as_slice()),
@@ -48,6 +50,8 @@ fn check_items(table: &Table, costs: &Costs, items: &[Item]) -> Verdict
         → All (Proves (input_of_table table.now)) items.now }
     ensures accepted_says { result ≡ Accepted
         → All (Says (input_of_table table.now)) items.now }
+    ensures accepted_prices { result ≡ Accepted
+        → All (HasPricesAboveZero (input_of_table table.now)) items.now }
 {
     prove!(table.n() > 0);
     let input = Input::new(table, costs);

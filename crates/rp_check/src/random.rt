@@ -5,6 +5,7 @@ ghost use Rattle.rp_evidence.specs.Kinds.{IsCertificateOf};
 ghost use Rattle.rp_evidence.specs.declared.certificate.Kind.TheVariants.{Random as RandomKind};
 ghost use Rattle.rp_patch.specs.RandomEvidence.{ProvesOnPatches};
 ghost use Rattle.rp_patch.specs.RandomFailure.{ItemFailsOnPatches};
+ghost use Rattle.rp_persons.specs.SaysRandom.{SaysOnPatches};
 
 use crate::Verdict;
 use rp_evidence::{Certificate, Failure, Item};
@@ -22,12 +23,14 @@ fn check_random_item(patches: &Patches, item: &Item) -> Result<(), Failure>
 }
 
 /// The verdict on a certificate on random choices: its first item that fails, by the first of its clauses that fails.
-/// What is withheld claims nothing and is passed over.
+/// What is withheld claims nothing and is passed over. Where all items pass, each also says so of persons.
 pub fn check_random(patches: &Patches, certificate: &Certificate) -> Verdict
     requires { IsCertificateOf RandomKind certificate.now }
     ensures first_failure { IsRandomCheckVerdict patches.now certificate.now.items result }
     ensures accepted_proves { result ≡ Accepted
         → All (ProvesOnPatches patches.now) certificate.now.items }
+    ensures accepted_says { result ≡ Accepted
+        → All (SaysOnPatches patches.now) certificate.now.items }
 {
     prove!(patches.budgets() <= 48);
     for (k, item) in certificate.items.as_slice().iter().enumerate() {

@@ -3,9 +3,9 @@ use Rattle.std.proofs.Common.{◌≤◌, ◌*◌, ℕ, Option, Some, None, subst
 use Rattle.rp_evidence.specs.Input.{TableInput}
 use Rattle.rp_evidence.specs.declared.demand.Bound.{Bound}
 use Rattle.rp_evidence.specs.declared.demand.Bound.TheVariants.{Shown, Wide}
-use Rattle.rp_cost.specs.CostAxiom.{MeetsCostAxiom}
+use Rattle.rp_producers.specs.CostAxiom.{MeetsCostAxiom}
 use Rattle.rp_cost.specs.CostBounds.{IsAtMost, IsUpperCostBound, ProvesLowerCost}
-use Rattle.rp_cost.specs.OuterSet.{MadeIsOuter}
+use Rattle.rp_producers.specs.OuterSet.{MadeIsOuter}
 use Rattle.rp_cost.specs.declared.bounds.Upper.{Upper}
 
 module _ (input : TableInput) (y : ℕ → ℕ) (y0 : ℕ) (minimises : MeetsCostAxiom input.n input.cost y) where

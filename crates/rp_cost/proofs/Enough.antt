@@ -12,7 +12,7 @@ use Rattle.rp_table.specs.Sums.{sum_below}
 use Rattle.rp_table.specs.Tables.{IsTable, Observations, goods_of, price_of, quantity_of, records_of}
 use Rattle.rp_table.specs.declared.TheConstants.{LARGEST}
 use Rattle.rp_table.proofs.SumsBelow.{sum_below-mono}
-use Rattle.rp_cost.specs.OuterSet.{IsInOuterSet, ListsNotAbove}
+use Rattle.rp_producers.specs.OuterSet.{IsInOuterSet, ListsNotAbove}
 use Rattle.rp_cost.proofs.OuterLaws.{outer_is_feasible}
 
 pub sum_at_most : (k m : ℕ) (f : ℕ → ℕ) → ((i : ℕ) → i < k → f i ≤ m) → sum_below k f ≤ k * m

@@ -6,9 +6,9 @@ use Rattle.rp_evidence.specs.Input.{input_of_table}
 use Rattle.rp_table.specs.Cost.{cost_of}
 use Rattle.rp_table.specs.Spending.{spending}
 use Rattle.rp_table.specs.Tables.{Observations, price_of}
-use Rattle.rp_cost.specs.CostAxiom.{BreaksCostAxiom, MeetsCostAxiom}
-use Rattle.rp_cost.specs.OuterSet.{IsInOuterSet}
-use Rattle.rp_cost.specs.ProfitAxiom.{BreaksProfitAxiom, profit}
+use Rattle.rp_producers.specs.CostAxiom.{BreaksCostAxiom, MeetsCostAxiom}
+use Rattle.rp_producers.specs.OuterSet.{IsInOuterSet}
+use Rattle.rp_producers.specs.ProfitAxiom.{BreaksProfitAxiom, profit}
 use Rattle.rp_cost.specs.Technology.{Technology}
 
 abbrev two : Technology

@@ -5,5 +5,6 @@ pub mod Listings
 pub mod NothingBelow
 pub mod OuterLaws
 pub mod OutputFacts
+pub mod ProducerBounds
 pub mod TechFacts
 mod Examples

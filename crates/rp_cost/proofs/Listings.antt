@@ -7,7 +7,7 @@ use Rattle.rp_evidence.specs.LeastCost.{least_cost_program}
 use Rattle.rp_evidence.specs.declared.demand.Bound.{Bound}
 use Rattle.rp_evidence.proofs.Enumerations.{enumeration_is_one}
 use Rattle.rp_cost.specs.CostBounds.{LowerHolds}
-use Rattle.rp_cost.specs.OuterSet.{ListsNotAbove}
+use Rattle.rp_producers.specs.OuterSet.{ListsNotAbove}
 
 module _ (input : TableInput) (y : ℕ → ℕ) (y0 : ℕ) (prices : ℕ → ℕ) (lower : Bound) (list : List ℕ) (lists : ListsNotAbove input y y0 list) (b : Bool) where
   pub lower_told : IsTrue b ↔ BoundHolds (least_cost_program input prices list) (spending input.goods prices) lower → IsTrue b ↔ LowerHolds input y y0 prices lower

@@ -29,7 +29,7 @@ use Rattle.rp_simplex.proofs.Linear.{delta-other}
 use Rattle.rp_simplex.proofs.Sound.{first-right, first-slack}
 use Rattle.rp_table.specs.declared.TheConstants.{LARGEST}
 use Rattle.rp_cost.specs.CostBounds.{IsLowerCostBound, ShowsNothing}
-use Rattle.rp_cost.specs.OuterSet.{AllMakeMore, ListsNotAbove}
+use Rattle.rp_producers.specs.OuterSet.{AllMakeMore, ListsNotAbove}
 use Rattle.rp_cost.proofs.Enough.{sum_at_most}
 
 fits_delta : (i k : ℕ) → FitsEvidence (unsigned_abs (delta i k))

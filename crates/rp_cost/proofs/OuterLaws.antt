@@ -22,7 +22,7 @@ use Rattle.rp_num.specs.Fraction.{IsLowestTerms}
 use Rattle.rp_clauses.proofs.BoundMeasures.{holds_alike}
 use Rattle.rp_programs.proofs.LeastCosts.{cost_is, measure_is}
 use Rattle.rp_cost.specs.CostBounds.{LowerHolds, ProvesLowerCost}
-use Rattle.rp_cost.specs.OuterSet.{IsInOuterSet, IsLowerCost, ListsNotAbove}
+use Rattle.rp_producers.specs.OuterSet.{IsInOuterSet, IsLowerCost, ListsNotAbove}
 
 -- ---- what the price side costs is what it costs at the new prices
 

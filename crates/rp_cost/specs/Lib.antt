@@ -1,10 +1,7 @@
 pub mod AskedOutputs
 pub mod Axioms
-pub mod CostAxiom
 pub mod CostBounds
 pub mod Denotation
 pub mod InnerCheapest
-pub mod OuterSet
-pub mod ProfitAxiom
 pub mod Report
 pub mod Technology

@@ -1,11 +1,14 @@
 ghost use Rattle.std.specs.Prelude.{◌≡◌, ◌<◌, ◌*◌, ◌↔◌, IsTrue, IfSome, IsNone};
 ghost use Rattle.std.specs.Prelude.{length, slice_index};
 ghost use Rattle.rp_evidence.specs.First.{IsFirstOf};
+ghost use Rattle.rp_evidence.specs.Input.{input_of_table};
 ghost use Rattle.rp_table.specs.Cost.{cost_of};
 ghost use Rattle.rp_table.specs.Tables.{records_of};
 ghost use Rattle.rp_cost.specs.Axioms.{AreFirstBroken, Breaks, MeetsCost, MeetsProfit};
-ghost use Rattle.rp_cost.specs.CostAxiom.{BreaksCostAxiom};
-ghost use Rattle.rp_cost.specs.ProfitAxiom.{BreaksProfitAxiom, profit};
+ghost use Rattle.rp_producers.specs.CostAxiom.{BreaksCostAxiom};
+ghost use Rattle.rp_producers.specs.ProductionSets.{HasProductionSet};
+ghost use Rattle.rp_producers.specs.ProfitAxiom.{BreaksProfitAxiom, profit};
+ghost use Rattle.rp_producers.specs.RequirementSets.{HasRequirementSets};
 ghost use Rattle.rp_cost.specs.declared.axioms.Axiom.TheVariants.{Holds};
 ghost use Rattle.rp_cost.specs.declared.axioms.Test.TheVariants.{Profit};
 
@@ -26,21 +29,27 @@ pub(crate) enum Test {
     Profit,
 }
 
-/// Whether the inputs minimise cost: the first observation of a pair spent more than it had to.
+/// Whether the inputs minimise cost: the first observation of a pair spent more than it had to. The axiom holds exactly
+/// where some nested and disposable requirement sets make each observation one of least cost (Varian 1984).
 pub fn cost_axiom(tech: &Tech) -> Axiom
     ensures first { AreFirstBroken (records_of tech.now.table)
         (BreaksCostAxiom (cost_of tech.now.table) (slice_index tech.now.y)) result }
     ensures holds { (result ≡ Holds) ↔ MeetsCost tech.now }
+    ensures sets { (result ≡ Holds) ↔ HasRequirementSets (input_of_table tech.now.table)
+        (slice_index tech.now.y) }
 {
     first_pair(tech, Test::Cost)
 }
 
-/// Whether inputs and output maximise profit; none where the output has no price.
+/// Whether inputs and output maximise profit; none where the output has no price. The axiom holds exactly where in some
+/// production set each observation makes the most profit at its prices (Varian 1984).
 pub fn profit_axiom(tech: &Tech) -> Option<Axiom>
     ensures priced { IsNone result ↔ (length tech.now.p ≡ 0) }
     ensures first { IfSome result (AreFirstBroken (records_of tech.now.table) (BreaksProfitAxiom
         (cost_of tech.now.table) (slice_index tech.now.y) (slice_index tech.now.p))) }
     ensures holds { IfSome result (λ found. (found ≡ Holds) ↔ MeetsProfit tech.now) }
+    ensures sets { IfSome result (λ found. (found ≡ Holds) ↔ HasProductionSet
+        (input_of_table tech.now.table) (slice_index tech.now.y) (slice_index tech.now.p)) }
 {
     prove!(tech.count() > 0);
     tech.p(0)?;

@@ -4,9 +4,9 @@ ghost use Rattle.rp_table.specs.NewPrices.{AreNewPrices};
 ghost use Rattle.rp_table.specs.Tables.{goods_of};
 ghost use Rattle.rp_table.specs.declared.TheConstants.{LARGEST};
 ghost use Rattle.rp_cost.specs.Axioms.{MeetsCost};
-ghost use Rattle.rp_cost.specs.CostBounds.{AreCostBounds, BoundsHold, IsAtMost, ProvesCostBounds};
-ghost use Rattle.rp_cost.specs.CostBounds.{ShowsNothing};
-ghost use Rattle.rp_cost.specs.OuterSet.{AllMakeMore, MadeIsOuter};
+ghost use Rattle.rp_cost.specs.CostBounds.{AreCostBounds, BoundProducers, BoundsHold, IsAtMost};
+ghost use Rattle.rp_cost.specs.CostBounds.{ProvesCostBounds, ShowsNothing};
+ghost use Rattle.rp_producers.specs.OuterSet.{AllMakeMore, MadeIsOuter};
 
 use crate::lower::lower_bound;
 use crate::question::Question;
@@ -32,7 +32,7 @@ pub struct CostBounds {
 
 /// The bounds of the output `y` at the new prices. The one from below is the value of a program with a row for each
 /// input and a column for each observation that made `y` or less, in their order; it is withheld where its run passes
-/// its width.
+/// its width. Both bound every producer whose requirement sets the technology does not rule out (Varian 1984).
 pub fn cost_bounds(
     alloc: Global,
     tech: &Tech,
@@ -53,6 +53,8 @@ pub fn cost_bounds(
         (λ bounds. IsAtMost bounds.lower bounds.upper) }
     ensures nothing_below { AllMakeMore (input_of_table tech.now.table) (slice_index tech.now.y) y
         → IfOk result (λ bounds. ShowsNothing (goods_of tech.now.table) bounds.lower) }
+    ensures producers { IfOk result (BoundProducers (input_of_table tech.now.table)
+        (slice_index tech.now.y) y (slice_index prices.now)) }
 {
     let question = Question { tech, prices, y };
     let upper = first_cheapest(&question);

@@ -8,7 +8,7 @@ ghost use Rattle.rp_table.specs.Tables.{goods_of, records_of};
 ghost use Rattle.rp_table.specs.declared.TheConstants.{LARGEST, RECORDS};
 ghost use Rattle.rp_cost.specs.CostBounds.{BoundsHold, LowerHolds, ProvesCostBounds, UpperHolds};
 ghost use Rattle.rp_cost.specs.InnerCheapest.{NoneCheaper};
-ghost use Rattle.rp_cost.specs.OuterSet.{NoneMakes};
+ghost use Rattle.rp_producers.specs.OuterSet.{NoneMakes};
 
 use crate::bounds::{CostBounds, Upper};
 use crate::listed::write_not_above;

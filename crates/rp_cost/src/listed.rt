@@ -1,7 +1,7 @@
 ghost use Rattle.std.specs.Prelude.{◌≡◌, ◌<◌, ◌≤◌, All, length, slice_index, take};
 ghost use Rattle.rp_evidence.specs.Input.{input_of_table};
 ghost use Rattle.rp_table.specs.Tables.{records_of};
-ghost use Rattle.rp_cost.specs.OuterSet.{ListsNotAbove};
+ghost use Rattle.rp_producers.specs.OuterSet.{ListsNotAbove};
 
 use crate::tech::Tech;
 

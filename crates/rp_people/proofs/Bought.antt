@@ -1,6 +1,6 @@
 -- A bundle on a new budget is a supporting demand exactly where it is bought: both are Afriat's theorem on the table with
 -- one choice more.
-use Rattle.std.proofs.Common.{◌≡◌, ℕ, zero, suc, ◌+◌, ◌*◌, ◌<◌, ◌≤◌, ◌⊎◌, ◌↔◌, inl, inr, ap, refl, sym, subst, ◌∙◌, cond, ltb, arith}
+use Rattle.std.proofs.Common.{◌≡◌, ℕ, ◌+◌, ◌*◌, ◌<◌, ◌≤◌, ◌⊎◌, ◌↔◌, inl, inr, ap, sym, subst, ◌∙◌, cond, ltb, arith}
 use Rattle.std.proofs.Math.Nat.{le_of_mul-le-mul_left, lt_of_mul-lt-mul_left, mul-le-mul_left, mul-lt-mul_of_pos_left}
 use Rattle.std.proofs.lemmas.Bool.{cases_lt, le-ltb, lt-ltb}
 use Rattle.std.specs.Prelude.{Bool, if◌then◌else◌, nat_lt}
@@ -13,8 +13,8 @@ use Rattle.rp_evidence.proofs.DemandLaws.{is_enlarged}
 use Rattle.rp_evidence.proofs.SameCosts.{no_violation_same}
 use Rattle.rp_people.specs.Bundles.{CostsAtMost, IsBundle}
 use Rattle.rp_people.specs.Choices.{AreChoices, Choices, IsStrictChoice, IsWeakChoice, MeetAxiom}
-use Rattle.rp_people.specs.Preferences.{IsAtLeastAsGood, IsPreference}
-use Rattle.rp_people.specs.Rationalizing.{HasPreference, IsBest, Rationalizes}
+use Rattle.rp_people.specs.Preferences.{IsAtLeastAsGood}
+use Rattle.rp_people.specs.Rationalizing.{IsBest}
 use Rattle.rp_people.specs.TableChoices.{IsFullInput, choices_at}
 use Rattle.rp_people.proofs.AfriatUtilities.{concave_utility_exists}
 use Rattle.rp_people.proofs.Chains.{meets_axiom}

@@ -1,6 +1,6 @@
 -- What is at least as good as the bundle of an observation lies in its region: at an observation that it reaches a bundle
 -- that cost less would leave room for a better one.
-use Rattle.std.proofs.Common.{◌≡◌, ℕ, ◌+◌, ◌*◌, ◌<◌, ◌≤◌, ◌⊎◌, inl, inr, List, [], ◌∷◌, sym, subst, arith}
+use Rattle.std.proofs.Common.{ℕ, ◌*◌, ◌<◌, ◌≤◌, inl, inr, List, [], ◌∷◌, subst, arith}
 use Rattle.std.proofs.lemmas.Bool.{cases_lt}
 use Rattle.std.specs.Prelude.{Bool}
 use Rattle.rp_evidence.specs.Demand.{FractionBundle, spending}
@@ -12,7 +12,7 @@ use Rattle.rp_evidence.specs.Welfare.{EqualsOrReaches, IsInRegion}
 use Rattle.rp_evidence.specs.WelfareModels.{CostsAtLeast, bundle_at}
 use Rattle.rp_evidence.specs.declared.demand.Bound.{Bound}
 use Rattle.rp_evidence.specs.declared.demand.Bound.TheVariants.{Shown, Wide}
-use Rattle.rp_evidence.proofs.Walks.{ends_below, leads_by_weaker, starts_below}
+use Rattle.rp_evidence.proofs.Walks.{ends_below, leads_by_weaker}
 use Rattle.rp_people.specs.Bundles.{CostsLess, IsBundle}
 use Rattle.rp_people.specs.Choices.{IsWeakChoice}
 use Rattle.rp_people.specs.Preferences.{IsAtLeastAsGood, IsPreference}

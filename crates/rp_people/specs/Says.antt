@@ -83,11 +83,15 @@ pub record SaysDemandBounds (input : TableInput) (budget : BudgetInput) (inner :
   pub each : (g : ℕ) (d : GoodBounds) → g < input.goods
       → SaysLower input budget g (slice_index_or goods g d).lower × SaysUpper input budget g (slice_index_or goods g d).upper
 
+-- None of these new prices is 0.
+abbrev pub AreAboveZero : ℕ → List ℕ → Type 0
+AreAboveZero goods prices = (g : ℕ) → g < goods → 1 ≤ slice_index prices g
+
 -- Bounds: a monotone and concave utility rationalizes the table, and, where no new price is 0, the bounds are those of
 -- what such people buy. No model: no preference rationalizes it.
 abbrev pub SaysDemand : TableInput → List ℕ → ℕ → DemandPart → Type 0
 SaysDemand input prices m (Bounds below strict inner goods) = HasConcaveUtility (choices_at input 1 1)
-    × (((g : ℕ) → g < input.goods → 1 ≤ slice_index prices g) → SaysDemandBounds input (budget_of prices m) inner goods)
+    × (AreAboveZero input.goods prices → SaysDemandBounds input (budget_of prices m) inner goods)
 SaysDemand input prices m (NoDemand walk) = ¬ HasPreference (choices_at input 1 1)
 
 -- Bounds: a monotone and concave utility rationalizes the table, and the bounds hold for every such person. No model: no
@@ -108,3 +112,9 @@ Says input (QuasiItem verdict) = SaysQuasilinear input verdict
 Says input (DemandItem prices m part) = SaysDemand input prices m part
 Says input (WelfareItem prices of part) = SaysWelfare input prices of part
 Says input (RandomItem total part) = Unit {0}
+
+-- An item that is about new prices has none that is 0, so that an item on demand says what its bounds are.
+abbrev pub HasPricesAboveZero : TableInput → Item → Type 0
+HasPricesAboveZero input (DemandItem prices m part) = AreAboveZero input.goods prices
+HasPricesAboveZero input (WelfareItem prices of part) = AreAboveZero input.goods prices
+HasPricesAboveZero input _ = Unit {0}

@@ -1,5 +1,5 @@
 //! Afriat's theorem (Afriat 1967; Diewert 1973; Varian 1982) on choices of bundles of fractions.
-ghost use Rattle.std.specs.Prelude.{Bool, ℕ, ℤ};
+ghost use Rattle.std.specs.Prelude.{ℕ, ℤ};
 ghost use Rattle.rp_evidence.specs.Demand.{FractionBundle};
 ghost use Rattle.rp_people.specs.AfriatUtility.{HaveUtility, IsModelOfChoices};
 ghost use Rattle.rp_people.specs.Choices.{AreChoices, Choices, MeetAxiom};

@@ -1,28 +1,102 @@
 -- Steps are noted as bits, and what the rounds make of them is the closure.
-use Rattle.std.proofs.Common.{◌≡◌, ℕ, ◌+◌, ◌*◌, ◌-◌, ◌<◌, ◌≤◌, ◌↔◌, Bool, true, false, not, cond, IsTrue, length, replicate, count_by, refl, sym, ap, ◌∙◌, subst, arith}
+use Rattle.std.proofs.Common.{◌≡◌, ◌≢◌, ℕ, ◌+◌, ◌*◌, ◌-◌, ◌/◌, ◌%◌, ◌^◌, ◌<◌, ◌≤◌, ◌↔◌, ◌||◌, Bool, true, false, not, cond, eqb, IsTrue, length, replicate, count_by, bit_or, inl, inr, refl, sym, ap, ◌∙◌, subst, arith, mod-lt, shl_exact}
 use mir.Val.{bool_byte}
+use Rattle.std.specs.Int.{bit_at}
 use Rattle.std.specs.List.{range_with_len}
+use Rattle.std.proofs.lemmas.Bool.{both_ways, cases_eq, cases_lt, false_from_ne_true}
+use Rattle.std.proofs.lemmas.Nat.Bits.{bit_at-zero, bit_at-pow_same, bit_at-pow_other}
 use Rattle.std.proofs.lemmas.List.{length-replicate}
 use Rattle.rp_evidence.specs.Walk.{Reaches}
 use Rattle.rp_grid.specs.Rows.{Rows, row_of, filled}
 use Rattle.rp_rounds.specs.Bits.{bit_in}
 use Rattle.rp_rounds.specs.Through.{ReachesThrough}
+use Rattle.rp_rounds.proofs.BitLemmas.{bit_of_or, or_false}
 use Rattle.rp_rounds.proofs.Rounds.{HasClosed, closed_all}
 use Rattle.rp_rounds.proofs.Throughs.{through_ends_below}
-use Rattle.rp_pref.specs.InnerBits.{has_bit, HoldsBits}
+use Rattle.rp_pref.specs.InnerBits.{bit_of, has_bit, HoldsBits, IsWordOf}
 use Rattle.rp_pref.specs.Closure.{IsClosureOf, IsCountIn, reached_by, reaches_in}
 use Rattle.rp_pref.proofs.ClosureLemmas.{counted, equals_or_reaches_in}
 use Rattle.rp_rounds.proofs.Tabulated.{reaches_in_by}
 use Rattle.rp_pref.proofs.BitCounts.{none_after, counted_with}
 
+-- ---- one word of steps
+
+no_bit : (t : ℕ) → eqb (bit_at 0 (t % 64)) 1 ≡ false
+no_bit t = ap (λ v. eqb v 1) (bit_at-zero (t % 64))
+
+-- the word with this bit alone, or with none
+shifted : (b : Bool) (j : ℕ) → j < 64 → bool_byte b * 2 ^ j % 18446744073709551616 ≡ cond b (2 ^ j) 0
+shifted true j l = shl_exact {a = 1} 1 j 64 (omega arith) (omega arith) ∙ one_times (2 ^ j)
+  where
+    one_times : (a : ℕ) → 1 * a ≡ a
+    one_times a = omega arith
+shifted false j l = ap (λ x. x % 18446744073709551616) (none_times (2 ^ j))
+  where
+    none_times : (a : ℕ) → 0 * a ≡ 0
+    none_times a = omega arith
+
+same_bit : (b : Bool) (j : ℕ) → eqb (bit_at (cond b (2 ^ j) 0) j) 1 ≡ b
+same_bit true j = ap (λ v. eqb v 1) (bit_at-pow_same j)
+same_bit false j = ap (λ v. eqb v 1) (bit_at-zero j)
+
+other_bit : (b : Bool) (j i : ℕ) → i ≢ j → eqb (bit_at (cond b (2 ^ j) 0) i) 1 ≡ false
+other_bit true j i apart = ap (λ v. eqb v 1) (bit_at-pow_other j i apart)
+other_bit false j i apart = ap (λ v. eqb v 1) (bit_at-zero i)
+
+pub word_begun : (place : ℕ) (step : ℕ → Type 0) → IsWordOf place (place * 64) step 0
+word_begun place step t same = (
+  λ h. absurd (both_ways (bit_of 0 t) (no_bit t) h),
+  λ h. absurd (let l = h.0 in omega (arith, same, l)),
+)
+
+pub word_noted : (place end word byte : ℕ) (is_step : Bool) (step : ℕ → Type 0) → end / 64 ≡ place → IsWordOf place end step word → IsTrue is_step ↔ step end → byte ≡ bool_byte is_step
+    → IsWordOf place (end + 1) step (bit_or word (byte * 2 ^ (end % 64) % 18446744073709551616))
+word_noted place end word byte is_step step here so_far tested of_step t same =
+    let j = end % 64 in
+    let x = cond is_step (2 ^ j) 0 in
+    let shift : byte * 2 ^ j % 18446744073709551616 ≡ x = ap (λ b. b * 2 ^ j % 18446744073709551616) of_step ∙ shifted is_step j (mod-lt end (omega arith)) in
+    let now : bit_of (bit_or word (byte * 2 ^ j % 18446744073709551616)) t ≡ (bit_of word t || eqb (bit_at x (t % 64)) 1) = ap (λ v. bit_of (bit_or word v) t) shift ∙ bit_of_or word x (t % 64) in
+    elim (cases_eq t end) [
+      | inl e ↦
+          let none : bit_of word t ≡ false = false_from_ne_true (bit_of word t) (λ h. let l = ((so_far t same).0 h).0 in omega (arith, l, e)) in
+          let is : bit_of (bit_or word (byte * 2 ^ j % 18446744073709551616)) t ≡ is_step = now ∙ (λ i. none i || eqb (bit_at x (e i % 64)) 1) ∙ same_bit is_step j in
+          (λ h. (omega (arith, e), subst step (sym e) (tested.0 (sym is ∙ h))), λ p. is ∙ tested.1 (subst step e p.1))
+      | inr apart ↦
+          let other : t % 64 ≢ j = λ m. apart (omega (arith, same, here, m)) in
+          let is : bit_of (bit_or word (byte * 2 ^ j % 18446744073709551616)) t ≡ bit_of word t = now ∙ ap (λ b. bit_of word t || b) (other_bit is_step j (t % 64) other) ∙ or_false (bit_of word t) in (
+            λ h. let p = (so_far t same).0 (sym is ∙ h) in let l = p.0 in (omega (arith, l), p.1),
+            λ p. let l = p.0 in is ∙ (so_far t same).1 (elim (cases_lt t end) [ inl less ↦ less | inr more ↦ absurd (apart (omega (arith, l, more))) ], p.1),
+          )
+    ]
+
 -- ---- one row of steps
 
--- Of row s the bits below end are set where there is a step.
-pub record HasNoted (old now : Rows ℕ) (s end : ℕ) (step : ℕ → Type 0) : Type 0 where
+-- Of row s the bits of the first words are set where there is a step to one of n observations.
+pub record HasNoted (old now : Rows ℕ) (s words n : ℕ) (step : ℕ → Type 0) : Type 0 where
   pub count : length now.rows ≡ length old.rows
   pub cols : now.cols ≡ old.cols
-  pub row : (t : ℕ) → IsTrue (has_bit now s t) ↔ ((t < end) × step t)
+  pub row : (t : ℕ) → IsTrue (has_bit now s t) ↔ ((t < words * 64) × (t < n) × step t)
   pub others : (a t : ℕ) → (a ≡ s → ⊥) → has_bit now a t ≡ has_bit old a t
+
+pub row_noted : (old now new : Rows ℕ) (s place n word : ℕ) (step : ℕ → Type 0) → HasNoted old now s place n step → IsWordOf place n step word
+    → length new.rows ≡ length now.rows → new.cols ≡ now.cols
+    → ((t : ℕ) → t / 64 ≡ place → has_bit new s t ≡ bit_of word t) → ((t : ℕ) → t / 64 ≢ place → has_bit new s t ≡ has_bit now s t)
+    → ((a t : ℕ) → a ≢ s → has_bit new a t ≡ has_bit now a t) → HasNoted old new s (place + 1) n step
+row_noted old now new s place n word step so_far is count cols written kept others = record {
+  count = count ∙ so_far.count;
+  cols = cols ∙ so_far.cols;
+  row = λ t. elim (cases_eq (t / 64) place) [
+    | inl e ↦ (
+      λ h. let p = (is t e).0 (sym (written t e) ∙ h) in (omega (arith, e), p.0, p.1),
+      λ p. written t e ∙ (is t e).1 (p.1, p.2),
+    )
+    | inr apart ↦ (
+      λ h. let p = (so_far.row t).0 (sym (kept t apart) ∙ h) in let l = p.0 in (omega (arith, l), p.1, p.2),
+      λ p. let l = p.0 in kept t apart ∙ (so_far.row t).1 (elim (cases_lt t (place * 64)) [ inl less ↦ less | inr more ↦ absurd (apart (omega (arith, l, more))) ], p.1, p.2),
+    )
+  ];
+  others = λ a t apart. others a t apart ∙ so_far.others a t apart;
+}
 
 -- ---- all rows of steps
 
@@ -86,14 +160,10 @@ pub counted_by_bits : (n : ℕ) (bits : Rows ℕ) (holds : HoldsBits n bits) (s 
     → IsCountIn (reached_by n (has_bit bits)) s k
 counted_by_bits n bits holds s k total below long all is =
     let p = has_bit bits s in let reached = reached_by n (has_bit bits) in let end = bits.cols * 64 in
-    let past : (t : ℕ) → n ≤ t → p t ≡ false = λ t l. not_true (p t) (λ h. omega (arith, l, holds.none_past s t below h)) in
+    let past : (t : ℕ) → n ≤ t → p t ≡ false = λ t l. false_from_ne_true (p t) (λ h. omega (arith, l, holds.none_past s t below h)) in
     let some : total ≡ count_by p (range_with_len 0 n) =
     all ∙ ap (λ m. count_by p (range_with_len 0 (m * 64))) long
     ∙ ap (λ m. count_by p (range_with_len 0 m)) (let e : end ≡ n + (end - n) = omega (arith, holds.enough) in e) ∙ none_after p n (end - n) past in
     let with_itself : count_by (equals_or_reaches_in reached s) (range_with_len 0 n) ≡ count_by p (range_with_len 0 n) + cond (p s) 0 1 =
     counted_with p (reaches_in reached s) n s (λ t l. reaches_in_by n (has_bit bits) s t below l) below in
     subst (IsCountIn reached s) (with_itself ∙ ap (λ m. m + cond (p s) 0 1) (sym some) ∙ ap (λ m. total + m) (sym (unset (p s))) ∙ sym is) (counted reached s)
-  where
-    not_true : (b : Bool) → (IsTrue b → ⊥) → b ≡ false
-    not_true true h = absurd (h refl)
-    not_true false h = refl

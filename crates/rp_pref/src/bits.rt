@@ -1,10 +1,10 @@
 //! Rows of bits, one for each observation, and what they reach by the steps that are noted in them.
-ghost use Rattle.std.specs.Prelude.{◌≡◌, ◌≢◌, ◌<◌, ◌≤◌, ◌+◌, ◌*◌, ◌↔◌, ◌&&◌, ◌||◌, ◌==◌, ℕ, IsTrue};
+ghost use Rattle.std.specs.Prelude.{◌≡◌, ◌≢◌, ◌<◌, ◌≤◌, ◌+◌, ◌*◌, ◌/◌, ◌↔◌, ◌&&◌, ◌||◌, ℕ, IsTrue};
 ghost use Rattle.std.specs.Prelude.{count_by, length};
 ghost use Rattle.std.specs.List.{range_with_len};
 ghost use Rattle.rp_rounds.specs.Bits.{bit_in};
 ghost use Rattle.rp_rounds.specs.Through.{ReachesThrough};
-ghost use Rattle.rp_pref.specs.InnerBits.{has_bit};
+ghost use Rattle.rp_pref.specs.InnerBits.{bit_of, has_bit};
 
 use rp_grid::Grid;
 
@@ -26,17 +26,17 @@ pub fn is_set(bits: &Grid<u64>, s: u32, t: u32) -> bool
     (bits.row(s)[(t / 64) as usize] >> (t % 64)) & 1 == 1
 }
 
-/// Sets bit `t` of row `s`.
-pub fn set(bits: &mut Grid<u64>, s: u32, t: u32)
+/// Writes word `place` of row `s`.
+pub fn set_word(bits: &mut Grid<u64>, s: u32, place: u32, word: u64)
     requires row { s < length bits.old.rows }
-    requires bit { t < bits.old.cols * 64 }
+    requires place { place < bits.old.cols }
     ensures count { length bits.new.rows ≡ length bits.old.rows }
     ensures cols { bits.new.cols ≡ bits.old.cols }
-    ensures row { (b : ℕ) → has_bit bits.new s b ≡ (has_bit bits.old s b || (b == t)) }
-    ensures others { (a b : ℕ) → a ≢ s → has_bit bits.new a b ≡ has_bit bits.old a b }
+    ensures word { (t : ℕ) → t / 64 ≡ place → has_bit bits.new s t ≡ bit_of word t }
+    ensures row { (t : ℕ) → t / 64 ≢ place → has_bit bits.new s t ≡ has_bit bits.old s t }
+    ensures others { (a t : ℕ) → a ≢ s → has_bit bits.new a t ≡ has_bit bits.old a t }
 {
-    let word = bits.row(s)[(t / 64) as usize];
-    bits.row_mut(s)[(t / 64) as usize] = word | 1 << (t % 64);
+    bits.row_mut(s)[place as usize] = word;
 }
 
 /// Row `s` takes in row `k`, a word at a time.

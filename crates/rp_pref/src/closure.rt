@@ -5,14 +5,14 @@ ghost use Rattle.rp_evidence.specs.Input.{TableInput};
 ghost use Rattle.rp_evidence.specs.Preference.{IsLevel};
 ghost use Rattle.rp_evidence.specs.Welfare.{EqualsOrReaches};
 ghost use Rattle.rp_table.specs.Cost.{CostTable, cost_at};
-ghost use Rattle.rp_pref.specs.InnerBits.{has_bit};
+ghost use Rattle.rp_pref.specs.InnerBits.{IsWordOf, has_bit};
 ghost use Rattle.rp_pref.specs.Closure.{AreCounted, EqualsOrReachesIn, IsClosureOf, IsCountIn};
 ghost use Rattle.rp_pref.specs.Closure.{IsWeakClosureOf, Reached, reaches_in};
 ghost use Rattle.rp_pref.specs.Steps.{IsStep, OwnStrict, OwnWeak, StepOf};
 ghost use Rattle.rp_pref.specs.declared.steps.Steps.{Steps};
 
-use crate::bits::{close, count_set, is_set, set, words_for};
-use crate::revealed::{AtLevel, OwnLevels, Revealed, has_step};
+use crate::bits::{close, count_set, is_set, set_word, words_for};
+use crate::revealed::{AtLevel, OwnLevels, Revealed};
 use crate::steps::Steps;
 use rp_evidence::{Level, Relation};
 use rp_grid::Grid;
@@ -150,7 +150,7 @@ fn note_steps<P: Revealed>(bits: &mut Grid<u64>, preference: &P, steps: Steps)
     }
 }
 
-/// Notes the chosen steps from `s`.
+/// Notes the chosen steps from `s`, a word at a time.
 fn note_steps_from<P: Revealed>(bits: &mut Grid<u64>, preference: &P, steps: Steps, s: u32)
     requires rows { length bits.old.rows ≡ P.count preference.now }
     requires enough { P.count preference.now ≤ bits.old.cols * 64 }
@@ -163,9 +163,53 @@ fn note_steps_from<P: Revealed>(bits: &mut Grid<u64>, preference: &P, steps: Ste
         × StepOf steps (P.weak preference.now) (P.strict preference.now) s t) }
     ensures others { (a t : ℕ) → a ≢ s → has_bit bits.new a t ≡ has_bit bits.old a t }
 {
-    for t in 0..preference.n() {
-        if has_step(preference, steps, s, t) {
-            set(bits, s, t);
-        }
+    for place in 0..words_for(preference.n()) {
+        let word = steps_in_word(preference, steps, s, place);
+        set_word(bits, s, place, word);
     }
+}
+
+/// The chosen steps from `s` to the observations whose bits are in word `place`.
+fn steps_in_word<P: Revealed>(preference: &P, steps: Steps, s: u32, place: u32) -> u64
+    requires from { s < P.count preference.now }
+    requires place { place * 64 < P.count preference.now }
+    ensures { IsWordOf place (P.count preference.now)
+        (StepOf steps (P.weak preference.now) (P.strict preference.now) s) result }
+{
+    match steps {
+        Steps::Weak => weak_in_word(preference, s, place),
+        Steps::Strict => strict_in_word(preference, s, place),
+    }
+}
+
+/// The weak ones.
+fn weak_in_word<P: Revealed>(preference: &P, s: u32, place: u32) -> u64
+    requires from { s < P.count preference.now }
+    requires place { place * 64 < P.count preference.now }
+    ensures { IsWordOf place (P.count preference.now) (P.weak preference.now s) result }
+{
+    let n = preference.n();
+    let start = place * 64;
+    let end = n.min(start + 64);
+    let mut word = 0;
+    for t in start..end {
+        word |= u64::from(preference.is_weak(s, t)) << (t % 64);
+    }
+    word
+}
+
+/// The strict ones.
+fn strict_in_word<P: Revealed>(preference: &P, s: u32, place: u32) -> u64
+    requires from { s < P.count preference.now }
+    requires place { place * 64 < P.count preference.now }
+    ensures { IsWordOf place (P.count preference.now) (P.strict preference.now s) result }
+{
+    let n = preference.n();
+    let start = place * 64;
+    let end = n.min(start + 64);
+    let mut word = 0;
+    for t in start..end {
+        word |= u64::from(preference.is_strict(s, t)) << (t % 64);
+    }
+    word
 }

@@ -4,6 +4,7 @@ ghost use Rattle.rp_patch.specs.Mixtures.{HasMixture, IsGreatestShare};
 ghost use Rattle.rp_patch.specs.Patches.{PatchList};
 ghost use Rattle.rp_patch.specs.RandomEvidence.{ProvesRandom, ShowsShare};
 ghost use Rattle.rp_patch.specs.Types.{AreRationalTypes};
+ghost use Rattle.rp_persons.specs.SaysRandom.{SaysOfChoices};
 ghost use Rattle.rp_random.specs.Verdict.{IsRandomVerdict};
 ghost use Rattle.rp_types.specs.Listed.{types_of};
 ghost use Rattle.rp_types.specs.declared.TheConstants.{TYPES};
@@ -19,7 +20,8 @@ use std::alloc::Global;
 /// Whether some mixture of these types makes the choices, by the run of the program of random utility: a mixture; a
 /// partial one of the greatest share with weights of the patches; or the step at which the run passes its width. Patches
 /// without units change nothing of it: with any of them added, a mixture exists just where it did, and the greatest
-/// rational share is the same.
+/// rational share is the same. A mixture says that finitely many persons make the choices, each with a preference over
+/// bundles; weights say that no persons do.
 pub fn random(
     alloc: Global,
     patches: &Patches,
@@ -35,6 +37,7 @@ pub fn random(
     ensures share_with_added { (more : PatchList) (place : ℕ → ℕ)
         → AddsPatches patches.now more place → (num den : ℕ)
         → IsGreatestShare patches.now num den ↔ IsGreatestShare more num den }
+    ensures says { IfOk result (SaysOfChoices patches.now) }
 {
     prove!(patches.budgets() >= 1);
     patches_without_units_change_nothing();

@@ -1,3 +1,4 @@
+pub mod ChosenInFiles
 pub mod FileLemmas
 pub mod GainsLemmas
 pub mod LineLemmas

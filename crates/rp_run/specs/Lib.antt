@@ -2,6 +2,7 @@ pub mod FaultTexts
 pub mod FaultLines
 pub mod Readings
 pub mod ChoiceContents
+pub mod ChosenInFiles
 pub mod MenuContents
 pub mod Contents
 pub mod Answers

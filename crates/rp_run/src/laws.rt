@@ -1,9 +1,16 @@
-//! A law of what files denote. The function is empty: its contract is the law.
-ghost use Rattle.std.specs.Prelude.{◌≡◌, ℕ, List, Result};
-ghost use Rattle.rp_words.specs.CommandLine.{Line as Asked, file_set};
+//! Laws of what files denote. Each function is empty: its contract is the law.
+ghost use Rattle.std.specs.Prelude.{◌≡◌, ℕ, Bool, List, Ok, Option, Result};
+ghost use Rattle.rp_evidence.specs.declared.certificate.Certificate.{Certificate};
+ghost use Rattle.rp_patch.specs.Patches.{PatchList};
+ghost use Rattle.rp_types.specs.declared.types.Rational.{Rational};
+ghost use Rattle.rp_words.specs.CommandLine.{Arguments, Line as Asked, file_set};
+ghost use Rattle.rp_words.specs.declared.commands.FileSet.TheVariants.{Choices};
+ghost use Rattle.rp_words.specs.declared.commands.FileSet.TheVariants.{ChoicesAndCertificate};
 ghost use Rattle.rp_words.specs.declared.commands.FileSet.TheVariants.{TableAndCertificate};
-ghost use Rattle.rp_run.specs.Contents.{Denotes, HasNumbersAlone};
+ghost use Rattle.rp_run.specs.ChosenInFiles.{AreOfChoicesIn};
+ghost use Rattle.rp_run.specs.Contents.{ContentsIn, Denotes, HasNumbersAlone};
 ghost use Rattle.rp_run.specs.declared.contents.Contents.{Contents};
+ghost use Rattle.rp_run.specs.declared.contents.Contents.TheVariants as contents;
 
 /// The bytes of a line's files denote at most one content or one refusal: no two contents, no two lines of a refusal, and
 /// never both. So what is answered over known files is decided by them. Where the files hold numbers alone (tables, new
@@ -18,4 +25,18 @@ pub fn bytes_denote_one_input_or_refusal()
     ensures certificates_never_denote_nothing { (line : Asked) (bytes : ℕ → List ℕ)
         → file_set line ≡ TableAndCertificate
         → ¬ ((one : Result Contents (List ℕ)) → ¬ Denotes line bytes one) }
+{}
+
+/// Patches that files denote are those of choices in these files, of which no bundle is empty: so what an item says of all
+/// choices that have the patches (`SaysOfChoices`) it says of the choices in the files.
+pub fn patches_are_of_choices_in_files()
+    ensures choices { (takes : Bool) (arguments : Arguments) (known : ℕ → Option (List ℕ))
+        (p : PatchList) (types : List Rational)
+        → ContentsIn takes Choices arguments known (Ok (contents.Choices p types))
+        → AreOfChoicesIn arguments known p }
+    ensures with_certificate { (takes : Bool) (arguments : Arguments) (known : ℕ → Option (List ℕ))
+        (p : PatchList) (types : List Rational) (certificate : Certificate)
+        → ContentsIn takes ChoicesAndCertificate arguments known
+        (Ok (contents.ChoicesAndCertificate p types certificate))
+        → AreOfChoicesIn arguments known p }
 {}

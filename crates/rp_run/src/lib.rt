@@ -16,7 +16,7 @@ mod telling;
 
 pub use contents::Contents;
 pub use files::{MOST_BYTES, MOST_CERTIFICATE_BYTES};
-pub use laws::bytes_denote_one_input_or_refusal;
+pub use laws::{bytes_denote_one_input_or_refusal, patches_are_of_choices_in_files};
 pub use limits::limits_in_numbers;
 pub use rp_answers::{Status, trial_table};
 pub use running::run;

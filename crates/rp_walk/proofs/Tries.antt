@@ -2,6 +2,7 @@
 -- for their exact totals, by a function on places.
 use Rattle.std.proofs.Common.{◌≡◌, ℕ, zero, suc, ◌+◌, ◌<◌, ◌≤◌, arith, ◌⊎◌, inl, inr, ap, sym, ◌∙◌, refl, subst, List, [], ◌∷◌, length, get_or, set, get_or-set_same, get_or-set_other, length-set}
 use Rattle.std.proofs.lemmas.Bool.{cases_lt}
+use Rattle.std.proofs.lemmas.List.{get_or_default}
 use Rattle.rp_walk.specs.ExactTotal.{ExactTotal, IsLess, SameTotal}
 use Rattle.rp_walk.specs.Walk.{TotalRule}
 use Rattle.rp_walk.specs.InnerRounds.{totals_of, IsTried, StepsFit}
@@ -113,3 +114,41 @@ StepsFit-more w fits x t n h fit s below = by_cases (cases_lt s n)
     by_cases (inr b) =
         let e : n ≡ s = omega arith in
         subst (λ m. ¬ (¬ (fits (w.after x t m)))) e fit
+
+pub IsTried-none : {V : Type 0} (w : TotalRule) (exact : V → ExactTotal) (x : ExactTotal) (t : ℕ) (old : List V) (old_from : List ℕ) → IsTried w exact x t old old_from 0 old old_from
+IsTried-none w exact x t old old_from = record {
+  values_len = refl;
+  from_len = refl;
+  kept = λ s below above. absurd (omega (arith, below));
+  taken = λ s below less. absurd (omega (arith, below));
+  rest = λ s from. (refl, refl);
+}
+
+-- steps that are no less leave what stood there, one after the other
+pub IsTried-until : {V : Type 0} (w : TotalRule) (exact : V → ExactTotal) (x : ExactTotal) (t : ℕ) (old : List V) (old_from : List ℕ) (n m : ℕ) (new : List V) (new_from : List ℕ) (d : V) → IsTried w exact x t old old_from n new new_from → n ≤ m → m ≤ length new
+    → ((i : ℕ) (b : V) → n ≤ i → i < m → b ≡ get_or new i b → ¬ (IsLess (w.after x t i) (exact b))) → IsTried w exact x t old old_from m new new_from
+IsTried-until w exact x t old old_from n m new new_from d h above within idle = record {
+  values_len = h.values_len;
+  from_len = h.from_len;
+  kept = λ s below above_s. kept s (cases_lt s n) above_s;
+  taken = λ s below less. taken s below (cases_lt s n) less;
+  rest = λ s from. h.rest s (omega (arith, above, from));
+}
+  where
+    kept : (s : ℕ) → (s < n) ⊎ (n ≤ s) → ¬ (IsLess (w.after x t s) (totals_of exact w.empty old s)) → (totals_of exact w.empty new s ≡ totals_of exact w.empty old s) × (get_or new_from s 0 ≡ get_or old_from s 0)
+    kept s (inl b) above_s = h.kept s b above_s
+    kept s (inr b) above_s = h.rest s b
+
+    taken : (s : ℕ) → s < m → (s < n) ⊎ (n ≤ s) → IsLess (w.after x t s) (totals_of exact w.empty old s) → SameTotal (totals_of exact w.empty new s) (w.after x t s) × (get_or new_from s 0 ≡ t)
+    taken s below (inl b) less = h.taken s b less
+    taken s below (inr b) less =
+        let there : s < length new = omega (arith, below, within) in
+        let e : totals_of exact w.empty old s ≡ exact (get_or new s d) = sym (h.rest s b).0 ∙ totals_of-at exact w.empty new s d there in
+        absurd (idle s (get_or new s d) b below (get_or_default new s d (get_or new s d) there) (subst (λ (y : ExactTotal). IsLess (w.after x t s) y) e less))
+
+pub StepsFit-until : (w : TotalRule) (fits : ExactTotal → Type 0) (x : ExactTotal) (t n m : ℕ) → StepsFit w fits x t n → ((i : ℕ) → n ≤ i → i < m → fits (w.after x t i)) → StepsFit w fits x t m
+StepsFit-until w fits x t n m h fit s below = by_cases (cases_lt s n)
+  where
+    by_cases : (s < n) ⊎ (n ≤ s) → ¬ (¬ (fits (w.after x t s)))
+    by_cases (inl b) = h s b
+    by_cases (inr b) = λ no_fit. no_fit (fit s b below)

@@ -93,19 +93,20 @@ fn try_steps<T: Total>(
     ensures wide { IfSome result (λ to. ¬ (T.fits ((T.rule total.now).after (T.exact v) from to))) }
     ensures fit_before { IfSome result (StepsFit (T.rule total.now) T.fits (T.exact v) from) }
 {
-    for to in 0..total.n() {
+    let n = total.n();
+    let mut to = total.first_to_try(v, from, 0, next.values.as_slice());
+    while to < n {
         let best = next.values[to as usize];
-        if !total.improves_nothing(v, from, to, best) {
-            match total.step(v, from, to) {
-                Ok(found) => {
-                    if total.less(found, best) {
-                        next.values[to as usize] = found;
-                        next.from[to as usize] = from;
-                    }
+        match total.step(v, from, to) {
+            Ok(found) => {
+                if total.less(found, best) {
+                    next.values[to as usize] = found;
+                    next.from[to as usize] = from;
                 }
-                Err(_) => return Some(to),
             }
+            Err(_) => return Some(to),
         }
+        to = total.first_to_try(v, from, to + 1, next.values.as_slice());
     }
     None
 }

@@ -1,4 +1,5 @@
-ghost use Rattle.std.specs.Prelude.{◌≡◌, ℕ, ◌<◌, ◌≤◌, ◌↔◌, IsTrue, IfOk, IsErr};
+ghost use Rattle.std.specs.Prelude.{◌≡◌, ℕ, ◌<◌, ◌≤◌, ◌↔◌, IsTrue, IfOk, IsErr, length};
+ghost use Rattle.std.specs.Prelude.{slice_index_or};
 ghost use Rattle.rp_walk.specs.ExactTotal.{ExactTotal, IsLess, SameTotal};
 ghost use Rattle.rp_walk.specs.Walk.{KeepsOrder, TotalRule};
 ghost use Rattle.rp_walk.specs.LeastTotals.{FitsAlike};
@@ -45,16 +46,21 @@ pub trait Total {
     fn less(&self, a: Self::Value, b: Self::Value) -> bool
         ensures { IsTrue result ↔ IsLess (exact a) (exact b) };
 
-    /// Whether a cheap look shows that a further step from `t` to `s` takes the total `v` to no less
-    /// than `best`, and fits. A step of which this is false may do so too.
-    fn improves_nothing(&self, v: Self::Value, t: u32, s: u32, best: Self::Value) -> bool
+    /// The first observation from `s` on of which no cheap look shows that a further step from `t` to it
+    /// takes the total `v` to no less than its best, and fits. Such a step may do so too.
+    fn first_to_try(&self, v: Self::Value, t: u32, s: u32, best: &[Self::Value]) -> u32
         requires from { t < (rule self.now).count }
-        requires to { s < (rule self.now).count }
-        ensures not_less { IsTrue result
-            → ¬ (IsLess ((rule self.now).after (exact v) t s) (exact best)) }
-        ensures fits { IsTrue result → fits ((rule self.now).after (exact v) t s) }
+        requires to { s ≤ (rule self.now).count }
+        requires each { length best.now ≡ (rule self.now).count }
+        ensures at_least { s ≤ result }
+        ensures at_most { result ≤ (rule self.now).count }
+        ensures not_less { (i : ℕ) (b : Self.Value) → s ≤ i → i < result
+            → b ≡ slice_index_or best.now i b
+            → ¬ (IsLess ((rule self.now).after (exact v) t i) (exact b)) }
+        ensures fits { (i : ℕ) → s ≤ i → i < result
+            → fits ((rule self.now).after (exact v) t i) }
     {
-        false
+        s
     }
 
     /// Whether going on from `s` to `t` and back to `s` lowers every total that a walk reaches at `s`.

@@ -1,24 +1,30 @@
-# What answers: the program, where it is, and its calls. The other files ask by `ask` and `answers` alone.
+# What answers: the program or its library, where they are, and their calls. The other files ask by `ask` and `answers` alone.
 
-# Returns what answers: a list with the path of the program.
-engine_of <- function(exe = NULL) list(program = rp_program(exe))
+# Returns what answers: a list with the call of a library, or with the path of the program.
+engine_of <- function(exe = NULL) {
+  path <- rp_program(exe)
+  if (is_library(path)) list(call = library_call(path)) else list(program = path)
+}
 
 rp_program <- function(exe = NULL, must = TRUE) {
-  variable <- Sys.getenv("RP_EXEC")
+  variables <- Sys.getenv(c("RP_LIBRARY", "RP_EXEC"))
+  variable <- names(variables)[nzchar(variables)][1]
   if (!is.null(exe)) {
     found <- on_path(exe)
-    where <- paste0("the argument exe names ", quoted(paste(as.character(exe), collapse = " ")), ", which is no program")
-  } else if (nzchar(variable)) {
-    found <- on_path(variable)
-    where <- paste0("the variable RP_EXEC names ", quoted(variable), ", which is no program")
+    where <- paste0("the argument exe names ", quoted(paste(as.character(exe), collapse = " ")), ", which is no program and no library")
+  } else if (!is.na(variable)) {
+    found <- on_path(variables[[variable]])
+    if (variable == "RP_LIBRARY" && !is.null(found) && !is_library(found)) found <- NULL
+    what <- if (variable == "RP_EXEC") "program" else paste("library, such as", library_name)
+    where <- paste0("the variable ", variable, " names ", quoted(variables[[variable]]), ", which is no ", what)
   } else {
     places <- usual_places()
-    found <- c(on_path("rp"), Filter(is_program, places))[1]
-    if (is.na(found)) found <- NULL
+    program <- c(on_path("rp"), Filter(is_program, places))
+    found <- if (length(program)) c(library_of(program[1]), program)[1] else Find(is_there, library_places())
     where <- paste0(
-      "there is no program rp: the argument exe is not given, the variable RP_EXEC is not set, no rp is on the path (",
-      Sys.getenv("PATH"), "), and there is none of ", listed(places),
-      " and no rp-VERSION-x86_64-linux/rp in ", listed(usual_roots()), "; unpack a release of rp, and name its program by exe = or RP_EXEC"
+      "there is no program rp: unpack a release of it, and name its program or its library by exe =. Now the argument exe is not given, the ",
+      "variables RP_LIBRARY and RP_EXEC are not set, there is none of ", listed(places), ", no rp-VERSION-x86_64-linux/rp in ",
+      listed(usual_roots()), ", no librp.so in ", listed(unique(dirname(library_places()))), ", and no rp on the path: ", Sys.getenv("PATH")
     )
   }
   if (is.null(found) && must) no_program(where)
@@ -45,7 +51,7 @@ usual_roots <- function() {
 
 is_program <- function(place) file.access(place, 1) == 0 && !dir.exists(place)
 
-# Returns where a program is: the file that its name has a slash for, else the one of that name on the path.
+# Returns where a program or a library is: the file that its name has a slash for, else the one of that name on the path.
 on_path <- function(named) {
   if (!is.character(named) || length(named) != 1 || is.na(named) || !nzchar(named)) return(NULL)
   places <- path.expand(named)
@@ -53,7 +59,7 @@ on_path <- function(named) {
     folders <- strsplit(Sys.getenv("PATH"), ":", fixed = TRUE)[[1]]
     places <- file.path(ifelse(nzchar(folders), folders, "."), named)
   }
-  for (place in places) if (is_program(place)) return(absolute(place))
+  for (place in places) if (is_program(place) || is_library(place) && is_there(place)) return(absolute(place))
   NULL
 }
 
@@ -65,7 +71,9 @@ absolute <- function(place) if (startsWith(place, "/")) place else file.path(get
 answer <- function(words, files, engine = engine_of()) answers(words, list(files), engine)[[1]]
 
 # The same of the words over one list of files after another.
-answers <- function(words, batch, engine = engine_of()) by_program(words, batch, engine$program)
+answers <- function(words, batch, engine = engine_of()) {
+  if (is.null(engine$call)) by_program(words, batch, engine$program) else by_library(words, batch, engine$call)
+}
 
 # Runs the program over each list of files in a folder of its own, by one shell. No name outside of these folders is told
 # to it, and each word is quoted.
@@ -105,8 +113,7 @@ read_bytes <- function(path) readBin(path, "raw", file.size(path))
 
 read_text <- function(path) {
   if (!file.exists(path)) return("")
-  bytes <- read_bytes(path)
-  rawToChar(bytes[bytes != 0])
+  text_of_bytes(read_bytes(path))
 }
 
 # Returns the file, the fault and its places of a refusal, as in `rp: table.csv: BadNumber record 2 column 5`; else NULL.

@@ -1,20 +1,28 @@
 \name{rp_program}
 \alias{rp_program}
-\title{Where the Program Is}
+\title{Where the Program or Its Library Is}
 \description{
-Finds the program \code{rp}: by the argument, else by the environment variable \code{RP_EXEC}, else on the path, else where a
-release or a package of it is put: \file{~/.local/bin}, \file{~/bin}, \file{/usr/local/bin}, \file{/usr/bin}, a folder such as
-\file{rp-0.11.0-x86_64-linux} in the home folder, its \file{.local} or \file{Downloads}, \file{/opt} or \file{/usr/local} (the
-last version that is there), and \file{/usr/local/lib/rp}. Where there is none, the error says where it was looked for.
+Finds what answers: the program \code{rp}, or its library \code{librp}, which answers in memory, without a process and without
+files. The argument decides, then the environment variable \code{RP_LIBRARY}, which names a library, then \code{RP_EXEC}, which
+names a program. Else the program is looked for on the path, and then where a release or a package of it is put:
+\file{~/.local/bin}, \file{~/bin}, \file{/usr/local/bin}, \file{/usr/bin}, \file{/usr/local/lib/rp}, and a folder such as
+\file{rp-0.11.0-x86_64-linux} in the home folder, its \file{.local} or \file{Downloads}, \file{/opt} or \file{/usr/local} (the last
+version that is there). The library that stands with it is taken in its place: in the folder \file{lib} of a release, or in the
+\file{lib} beside its \file{bin}. A library without a program is found in \file{~/.local/lib}, \file{/usr/local/lib} and
+\file{/usr/lib}. Where there is none of all these, the error says where it was looked for.
 }
 \usage{
 rp_program(exe = NULL, must = TRUE)
 }
 \arguments{
-\item{exe}{the file of the program, or its name on the path.}
+\item{exe}{the file of the program or of the library (a name such as \file{librp.so}), or its name on the path.}
 \item{must}{whether it is an error (\code{rp_no_program}) that there is none.}
 }
 \value{Its path, or \code{NULL}.}
+\section{Processes}{
+\code{\link{rp_panel}} asks the library from copies of R's own process (\code{\link[parallel]{mclapply}}). Where R has threads, as
+with some graphical interfaces, \code{workers = 1} keeps to this process.
+}
 \examples{
 rp_program(must = FALSE)
 }

@@ -30,7 +30,7 @@ not count), they are put together by these, and matrices else by place.}
 nothing is rounded, and a double with more than 6 places is refused.}
 \item{levels}{the level of each observation in whole thousandths from 1 to 1000, one number or one for each; a data frame may
 have them as its column \code{e}.}
-\item{exe}{the program; else it is looked for as \code{\link{rp_program}} says.}
+\item{exe}{the program or its library; else one is looked for as \code{\link{rp_program}} says.}
 \item{x}{an answer.}
 \item{what}{a row of verdicts, or a row for each observation.}
 \item{row.names, optional, ...}{not used.}

@@ -82,7 +82,7 @@ Sys.setenv(HOME = file.path(folder, "home"))
 elsewhere <- rp_program(must = FALSE)
 if (is.null(elsewhere)) {
   said <- conditionMessage(caught(rp_test(one, one), "rp_no_program"))
-  stopifnot(grepl("RP_EXEC is not set", said), grepl("home/.local/bin/rp", said), grepl("nothing", said))
+  stopifnot(grepl("RP_LIBRARY and RP_EXEC are not set", said), grepl("home/.local/bin/rp", said), grepl("nothing", said))
 }
 for (version in c("0.9.0", "0.11.0", "0.10.0")) {
   own <- file.path(folder, "home", paste0("rp-", version, "-x86_64-linux"))

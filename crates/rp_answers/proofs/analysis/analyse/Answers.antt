@@ -1,4 +1,4 @@
-use Rattle.std.proofs.Common.{◌∙◌, ap, subst, sym}
+use Rattle.std.proofs.Common.{◌∙◌, ap, subst, sym, [], ◌∷◌}
 use Rattle.rp_afriat.specs.Verdict.{IsOwnAfriatVerdict}
 use Rattle.rp_effic.specs.Verdict.{IsEfficiencyVerdict}
 use Rattle.rp_evidence.specs.Input.{input_of_table}
@@ -23,6 +23,7 @@ use Rattle.rp_agreement.specs.ReadBack.{IsReadBack, table_certificate}
 use Rattle.rp_agreement.proofs.ItemsFit.{analysis_readable, table_limited}
 use Rattle.rp_agreement.proofs.SameValues.{text_read_back}
 use Rattle.rp_answers.specs.AnalysisText.{certificate_of}
+use Rattle.rp_answers.proofs.SaysLemmas.{none_says, says_too}
 use Rattle.rp_answers.proofs.analysis.analyse.Goals as goal
 
 pub returns : goal.returns
@@ -69,6 +70,12 @@ returns c =
       homothetic_given = homothetic_given;
       quasilinear_proves = quasilinear_proves;
       quasilinear_given = quasilinear_given;
+      says =
+          says_too table is_test.valid (GarpItem garp) (AfriatItem afriat ∷ EfficiencyItem efficiency ∷ HomotheticItem homothetic ∷ QuasiItem quasilinear ∷ []) garp_proves
+          (says_too table is_test.valid (AfriatItem afriat) (EfficiencyItem efficiency ∷ HomotheticItem homothetic ∷ QuasiItem quasilinear ∷ []) afriat_proves
+          (says_too table is_test.valid (EfficiencyItem efficiency) (HomotheticItem homothetic ∷ QuasiItem quasilinear ∷ []) efficiency_proves
+          (says_too table is_test.valid (HomotheticItem homothetic) (QuasiItem quasilinear ∷ []) homothetic_proves
+          (says_too table is_test.valid (QuasiItem quasilinear) [] quasilinear_proves (none_says table is_test.valid)))));
       accepted = subst (IsAcceptedOn input) (sym made)
           (analysis_accepted input garp garp_proves afriat afriat_proves afriat_given efficiency homothetic quasilinear efficiency_proves efficiency_given homothetic_proves homothetic_given quasilinear_proves quasilinear_given);
       read_back = subst (IsReadBack Table) (sym made)

@@ -22,5 +22,6 @@ loop-i-preserved c =
         made_is_outer = last.made_is_outer;
         lower_at_most_upper = last.lower_at_most_upper;
         nothing_below = last.nothing_below;
+        producers = last.producers;
       }) c.push.new.self.items c.in_ok-push.ensures.items;
     }

@@ -20,6 +20,7 @@ returns c =
       evidence = evidence;
       item = item;
       proves = c.in_ok-evidence.ensures.proves;
+      says = c.in_ok-evidence.ensures.says;
       given = c.in_ok-evidence.ensures.run;
       accepted = subst (λ (made : Certificate). IsRandomCheckVerdict p made.items Accepted) (sym item)
           (random_certificate_passes p c.budgets.ensures.valid types c.requires.few c.requires.all evidence c.in_ok-evidence.ensures.run);

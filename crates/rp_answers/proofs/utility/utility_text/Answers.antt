@@ -4,8 +4,9 @@ use Rattle.rp_evidence.specs.Proves.{Proves}
 use Rattle.rp_evidence.specs.declared.certificate.Item.TheVariants.{Garp as GarpItem, Afriat as AfriatItem}
 use Rattle.rp_answers.proofs.AcceptedLemmas.{first_accepted}
 use Rattle.rp_answers.proofs.GarpFirstLemmas.{afriat_given_there, afriat_there, garp_given_there, garp_there}
-use Rattle.std.proofs.Common.{◌++◌, ◌∙◌, ap}
+use Rattle.std.proofs.Common.{◌++◌, ◌∙◌, ap, [], ◌∷◌}
 use Rattle.rp_report.specs.ReportText.{report_text}
+use Rattle.rp_answers.proofs.SaysLemmas.{none_says, says_too}
 use Rattle.rp_answers.proofs.utility.utility_text.Goals as goal
 
 pub returns : goal.returns
@@ -29,6 +30,9 @@ returns c =
       afriat_proves = afriat_proves;
       afriat_given = afriat_given;
       accepted = first_accepted input garp garp_proves afriat afriat_proves afriat_given;
+      says =
+          says_too table is_test.valid (GarpItem garp) (AfriatItem afriat ∷ []) garp_proves
+          (says_too table is_test.valid (AfriatItem afriat) [] afriat_proves (none_says table is_test.valid));
       all_lines = c.in_ok-lines.ensures;
       text_is =
           c.in_ok-extend_from_slice.ensures.items

@@ -1,9 +1,10 @@
-use Rattle.std.proofs.Common.{◌<◌, ◌||◌, ◌∙◌, Ok, Err, length, arith, ap, below_more, sym}
+use Rattle.std.proofs.Common.{◌<◌, ◌||◌, ◌∙◌, Ok, Err, length, arith, ap, below_more, slice_index_or, sym, take}
 use Rattle.rp_evidence.specs.Input.{input_of_table}
 use Rattle.rp_check.specs.CheckVerdict.{ItemFailsAt}
+use Rattle.rp_check.specs.ItemFailure.{one_shows_garp}
 use Rattle.rp_people.proofs.FullTables.{table_is_full}
 use Rattle.rp_people.proofs.SaysOfItems.{all_say}
-use Rattle.rp_check.proofs.SoundItems.{all_prove, at_place, shown_more}
+use Rattle.rp_check.proofs.SoundItems.{all_prove, at_place, item_priced, shown_more}
 use Rattle.rp_check.proofs.certificate.check_items.Goals as goal
 
 pub returns-in-Err-clause-first_failure : goal.returns-in-Err-clause-first_failure
@@ -44,3 +45,8 @@ returns-clause-accepted_says c = λ is.
     (all_prove (input_of_table c.args.table.now) c.new-input.ensures.positive c.args.items.now c.requires.kinds
     (length c.args.items.now) (omega arith)
     (λ j below. c.loop-k.invariant.1 j (omega arith))).0 k d within)
+
+pub returns-clause-accepted_prices : goal.returns-clause-accepted_prices
+returns-clause-accepted_prices c = λ is k d within.
+    item_priced (input_of_table c.args.table.now) (one_shows_garp (take k c.args.items.now)) (slice_index_or c.args.items.now k d)
+    (c.loop-k.invariant.1 k (omega arith) d)

@@ -1,0 +1,55 @@
+# The program as a library in memory: one call over the bytes of files, without a process and without a file.
+
+# What the file of a library is called.
+library_name <- "librp.so"
+
+# Whether a path is that of a library, and not of a program.
+is_library <- function(place) grepl("[.](so|dylib)([.][0-9.]*)?$", basename(place))
+
+# Returns the library that a release or a package puts with a program, if it does.
+library_of <- function(program) {
+  folder <- dirname(program)
+  Find(is_there, if (basename(folder) == "bin") libraries_below(dirname(folder)) else file.path(folder, "lib", library_name))
+}
+
+# Returns where the folder `lib` of a place may have the library: as programs find it, and as compilers do.
+libraries_below <- function(root) {
+  folders <- file.path(root, c("lib", file.path("lib", paste0(R.version$arch, "-linux-gnu"))))
+  as.vector(outer(folders, c("librp.so.0", library_name), file.path))
+}
+
+is_there <- function(place) file.exists(place) && !dir.exists(place)
+
+# Returns where a library may stand alone.
+library_places <- function() {
+  home <- Sys.getenv("HOME")
+  unlist(lapply(c(if (nzchar(home)) file.path(home, ".local"), "/usr/local", "/usr"), libraries_below))
+}
+
+# The calls of the libraries that were loaded, by their paths.
+loaded <- new.env(parent = emptyenv())
+
+# Returns the call of a library, which is loaded once.
+library_call <- function(path) {
+  if (is.null(loaded[[path]])) {
+    found <- tryCatch(getNativeSymbolInfo("rp_answer", dyn.load(path), withRegistrationInfo = FALSE)$address, error = identity)
+    if (inherits(found, "error")) no_program(path, " is no library of rp: ", conditionMessage(found))
+    assign(path, found, envir = loaded)
+  }
+  loaded[[path]]
+}
+
+# The status of a call whose arguments do not fit together.
+malformed <- 8
+
+# Asks a library over each list of files.
+by_library <- function(words, batch, call) {
+  lapply(batch, function(files) {
+    of_files <- if (length(files)) names(files) else character()
+    found <- .Call(C_revealed_answer, call, words, of_files, unname(files))
+    told <- if (found[[1]] == malformed) "the arguments of rp_answer do not fit together" else text_of_bytes(found[[3]])
+    ended(found[[1]], text_of_bytes(found[[2]]), told)
+  })
+}
+
+text_of_bytes <- function(bytes) rawToChar(bytes[bytes != 0])

@@ -1,0 +1,3 @@
+pub mod PersonMixtures
+pub mod Persons
+pub mod SaysRandom

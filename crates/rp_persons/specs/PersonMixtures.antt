@@ -1,0 +1,42 @@
+-- Choices that a population of persons makes (McFadden and Richter 1990; Kitamura and Stoye 2018, section 2; Smeulders,
+-- Cherchye and De Rock 2021).
+use Rattle.std.specs.Prelude.{◌≡◌, ℕ, ◌*◌, ◌<◌, ◌≤◌, IsTrue, List, Contains, length, sum_by, if◌then◌else◌}
+use Rattle.rp_patch.specs.Choices.{RandomInput}
+use Rattle.rp_patch.specs.Patches.{PatchList, budget_at, units_at}
+use Rattle.rp_patch.specs.Signs.{cost_on}
+use Rattle.rp_persons.specs.Persons.{IsPersonOn, Person, uses_patch}
+
+-- A person, and how much of the population is like that.
+pub record PersonShare : Type 0 where
+  pub person : Person
+  pub weight : ℕ
+
+-- How much of the population uses patch i.
+abbrev pub weight_of_users : RandomInput → PatchList → List PersonShare → ℕ → ℕ
+weight_of_users input p persons i =
+    sum_by (λ share. if uses_patch input p share.person i then share.weight else 0) persons
+
+-- On every budget the person uses a listed patch.
+abbrev pub UsesListedPatches : RandomInput → PatchList → Person → Type 0
+UsesListedPatches input p person = (j : ℕ) → j < input.budgets
+    → (i : ℕ) × (i < length p.patches) × (budget_at p i ≡ j) × IsTrue (uses_patch input p person i)
+
+-- These persons, with weights over the denominator, make the choices: each uses a listed patch on every budget, and
+-- just the units of each patch are of those who use it.
+pub record MakeChoices (input : RandomInput) (p : PatchList) (den : ℕ) (persons : List PersonShare) : Type 0 where
+  pub fraction : 0 < den
+  pub choose_best : (share : PersonShare) → Contains persons share → IsPersonOn input share.person
+  pub use_listed : (share : PersonShare) → Contains persons share → UsesListedPatches input p share.person
+  pub exact : (i : ℕ) → i < length p.patches → weight_of_users input p persons i ≡ den * units_at p i
+
+-- Some finitely many persons make the choices.
+abbrev pub SomePersonsMakeChoices : RandomInput → PatchList → Type 0
+SomePersonsMakeChoices input p = (den : ℕ) × (persons : List PersonShare) × MakeChoices input p den persons
+
+-- There are goods, no price is 0, and each bundle that was chosen from a budget costs something there, as it does where
+-- it is not empty.
+pub record IsFullRandomInput (input : RandomInput) : Type 0 where
+  pub some_goods : 1 ≤ input.goods
+  pub positive_prices : (j g : ℕ) → j < input.budgets → g < input.goods → 1 ≤ input.price j g
+  pub positive_costs : (c : ℕ) → c < input.choices → input.budget c < input.budgets → 0 < input.times c
+      → 1 ≤ cost_on input (input.budget c) c

@@ -1,0 +1,40 @@
+ghost use Rattle.std.specs.Prelude.{◌≡◌, ◌*◌, ◌↔◌, All, List, ℕ, Option};
+ghost use Rattle.rp_evidence.specs.declared.certificate.Item.{Item};
+ghost use Rattle.rp_evidence.specs.declared.random.RandomPart.{RandomPart};
+ghost use Rattle.rp_patch.specs.Choices.{RandomInput};
+ghost use Rattle.rp_patch.specs.Mixtures.{HasMixture};
+ghost use Rattle.rp_patch.specs.Patches.{IsPatchList, PatchList};
+ghost use Rattle.rp_patch.specs.RandomEvidence.{ProvesOnPatches, ProvesRandom};
+ghost use Rattle.rp_patch.specs.Signs.{cost_on, signs_of};
+ghost use Rattle.rp_patch.specs.Units.{ArePatchesOf};
+ghost use Rattle.rp_persons.specs.PersonMixtures.{IsFullRandomInput, SomePersonsMakeChoices};
+ghost use Rattle.rp_persons.specs.Persons.{scaled_choice, signs_of_bundle};
+ghost use Rattle.rp_persons.specs.SaysRandom.{SaysOfChoices, SaysOnPatches};
+ghost use Rattle.rp_table.specs.Spending.{spending};
+
+/// A chosen bundle, scaled to cost the income of the budget that it was chosen from, costs just that, and lies on the
+/// same side of every budget as its patch.
+pub fn chosen_bundles_scale()
+    ensures spent { (input : RandomInput) (c : ℕ)
+        → spending input.goods (input.price (input.budget c))
+        (scaled_choice input (input.budget c) c).num
+        ≡ cost_on input (input.budget c) c * input.income (input.budget c) }
+    ensures signs { (input : RandomInput) (c : ℕ)
+        → signs_of_bundle input (scaled_choice input (input.budget c) c) ≡ signs_of input c }
+{}
+
+/// A mixture of rational types makes the choices exactly where finitely many persons do, each of whom takes from every
+/// budget a best bundle by a preference of the person's own, and uses a listed patch there.
+pub fn mixtures_are_of_persons()
+    ensures { (input : RandomInput) (asked : Option ℕ) (p : PatchList) → IsFullRandomInput input
+        → ArePatchesOf input asked p → IsPatchList p
+        → HasMixture p ↔ SomePersonsMakeChoices input p }
+{}
+
+/// Evidence that proves its verdict on patches, and items, say of people what that kind of verdict says.
+pub fn proved_random_items_say()
+    ensures evidence { (p : PatchList) (total : ℕ) (part : RandomPart) → IsPatchList p
+        → ProvesRandom p total part → SaysOfChoices p part }
+    ensures items { (p : PatchList) (items : List Item) → IsPatchList p
+        → All (ProvesOnPatches p) items → All (SaysOnPatches p) items }
+{}

@@ -1,0 +1,2 @@
+pub mod Producers
+mod Examples

@@ -1,0 +1,5 @@
+pub mod CostAxiom
+pub mod OuterSet
+pub mod ProductionSets
+pub mod ProfitAxiom
+pub mod RequirementSets

@@ -1,0 +1,37 @@
+ghost use Rattle.std.specs.Prelude.{◌↔◌, ◌*◌, ◌≤◌, Bool, IsTrue, ℕ};
+ghost use Rattle.rp_evidence.specs.Demand.{FractionBundle, spending};
+ghost use Rattle.rp_evidence.specs.Input.{TableInput};
+ghost use Rattle.rp_evidence.specs.WelfareModels.{bundle_at};
+ghost use Rattle.rp_people.specs.Bundles.{IsBundle};
+ghost use Rattle.rp_producers.specs.CostAxiom.{MeetsCostAxiom};
+ghost use Rattle.rp_producers.specs.OuterSet.{IsLowerCost, IsUpperCost};
+ghost use Rattle.rp_producers.specs.ProfitAxiom.{MeetsProfitAxiom};
+ghost use Rattle.rp_producers.specs.ProductionSets.{HasProductionSet};
+ghost use Rattle.rp_producers.specs.RequirementSets.{AreRequirementSets, HasRequirementSets};
+ghost use Rattle.rp_producers.specs.RequirementSets.{RationalizeCost};
+
+/// The cost axiom holds exactly where some nested and disposable requirement sets rationalize what was seen.
+pub fn cost_axiom_is_of_requirement_sets()
+    ensures { (input : TableInput) (y : ℕ → ℕ)
+        → HasRequirementSets input y ↔ MeetsCostAxiom input.n input.cost y }
+{}
+
+/// Under each such family, whatever suffices for an output costs at least the lower bound at the new prices, and the
+/// inputs of the upper bound's observation suffice for it.
+pub fn cost_bounds_hold_for_requirement_sets()
+    ensures lower { (input : TableInput) (y : ℕ → ℕ) (suffices : ℕ → FractionBundle → Bool)
+        (y0 num den : ℕ) (prices : ℕ → ℕ) (x : FractionBundle)
+        → AreRequirementSets input.goods suffices → RationalizeCost input y suffices
+        → IsLowerCost input y y0 prices num den → IsBundle x → IsTrue (suffices y0 x)
+        → num * x.den ≤ spending input.goods prices x.num * den }
+    ensures upper { (input : TableInput) (y : ℕ → ℕ) (suffices : ℕ → FractionBundle → Bool)
+        (y0 at cost : ℕ) (prices : ℕ → ℕ)
+        → AreRequirementSets input.goods suffices → RationalizeCost input y suffices
+        → IsUpperCost input y y0 prices at cost → IsTrue (suffices y0 (bundle_at input at)) }
+{}
+
+/// The profit axiom holds exactly where some production set rationalizes what was seen.
+pub fn profit_axiom_is_of_production_sets()
+    ensures { (input : TableInput) (y p : ℕ → ℕ)
+        → HasProductionSet input y p ↔ MeetsProfitAxiom input.n input.cost y p }
+{}

@@ -1,0 +1,78 @@
+-- Patches that files denote are those of choices in the files, and none of the chosen bundles is empty.
+use Rattle.std.proofs.Common.{◌≡◌, ℕ, Bool, true, false, if◌then◌else◌, length, List, Option, Some, None, Result, Ok, Err, refl, sym, ap, subst}
+use Rattle.std.specs.Prelude.{nat_lt}
+use Rattle.std.specs.Result.{result_unwrap_or}
+use Rattle.rp_table.specs.BudgetLists.{BudgetList}
+use Rattle.rp_table.specs.ChoiceLists.{ChoiceList}
+use Rattle.rp_text.specs.Denotation.{budgets_in, choices_on}
+use Rattle.rp_sheet.specs.declared.fault.TableFault.{TableFault}
+use Rattle.rp_evidence.specs.declared.certificate.Certificate.{Certificate}
+use Rattle.rp_answers.proofs.ChosenBundles.{full_files}
+use Rattle.rp_patch.specs.Choices.{random_input_of}
+use Rattle.rp_patch.specs.Patches.{IsPatchList, PatchList}
+use Rattle.rp_patch.specs.Units.{ArePatchesOf}
+use Rattle.rp_types.specs.declared.types.Rational.{Rational}
+use Rattle.rp_words.specs.CommandLine.{Arguments, file}
+use Rattle.rp_words.specs.declared.commands.FileSet.TheVariants as files
+use Rattle.rp_run.specs.ChoiceContents.{BudgetsIn, ChoicesIn, TypedPatchesOf}
+use Rattle.rp_run.specs.ChosenInFiles.{AreOfChoicesIn}
+use Rattle.rp_run.specs.Contents.{ContentsIn}
+use Rattle.rp_run.specs.FaultLines.{file_line}
+use Rattle.rp_run.specs.Readings.{NumbersIn, WhereKnown, or_line}
+use Rattle.rp_run.specs.declared.contents.Contents.{Contents}
+use Rattle.rp_run.specs.declared.contents.Contents.TheVariants as contents
+
+-- a value that was read from a file of numbers is what its bytes denote
+value_there : {A : Type 0} (long : Bool) (line name : List ℕ) (r : Result A TableFault) (x : A) → (if long then Err line else or_line name r) ≡ Ok x → r ≡ Ok x
+value_there true line name r x h = cc h
+value_there false line name (Ok v) x h = ap (λ s. Ok (result_unwrap_or s x)) h
+value_there false line name (Err fault) x h = cc h
+
+read_there : {A : Type 0} (name : List ℕ) (reading : List ℕ → Result A TableFault) (known : Option (List ℕ)) (x : A) → WhereKnown (NumbersIn name reading) known (Ok x) → (bytes : List ℕ) × (reading bytes ≡ Ok x)
+read_there name reading None x h = absurd h
+read_there name reading (Some bytes) x h = (bytes, value_there _ _ name (reading bytes) x h)
+
+patches_of_contents : Contents → PatchList → PatchList
+patches_of_contents (contents.Choices p types) other = p
+patches_of_contents (contents.ChoicesAndCertificate p types certificate) other = p
+patches_of_contents _ other = other
+
+module _ (arguments : Arguments) (known : ℕ → Option (List ℕ)) where
+  made_of : (b : BudgetList) (c : ChoiceList) (made : PatchList × List Rational) → BudgetsIn arguments known (Ok b) → ChoicesIn b arguments known (Ok c)
+      → TypedPatchesOf b c arguments.per (Ok made) → AreOfChoicesIn arguments known made.0
+  made_of b c made in_first in_second (p, is, (types, are, same)) =
+      let first = read_there (file arguments 0) budgets_in (known 0) b in_first in
+      let second = read_there (file arguments 1) (choices_on b) (known 1) c in_second in
+      let full = full_files first.0 second.0 b c first.1 second.1 in
+      let these : p ≡ made.0 = ap (λ (r : Result (PatchList × List Rational) (List ℕ)). (result_unwrap_or r made).0) same in
+      let patches = subst (λ (q : PatchList). ArePatchesOf (random_input_of b c) arguments.per q) these is.0 in
+      record {
+        budgets = b;
+        choices = c;
+        budgets_in_first = in_first;
+        choices_in_second = in_second;
+        patches = patches;
+        full = full;
+        says = λ part says. says (random_input_of b c) arguments.per full patches;
+      }
+
+  pub of_choices : (takes : Bool) (p : PatchList) (types : List Rational) → ContentsIn takes files.Choices arguments known (Ok (contents.Choices p types)) → AreOfChoicesIn arguments known p
+  unfolding patches_of_contents
+  of_choices takes p types (b, in_first, (c, in_second, (made, typed, same))) =
+      let these : made.0 ≡ p = ap (λ (r : Result Contents (List ℕ)). patches_of_contents (result_unwrap_or r (contents.Choices p types)) p) same in
+      subst (AreOfChoicesIn arguments known) these (made_of b c made in_first in_second typed)
+
+  pub of_choices_with_certificate : (takes : Bool) (p : PatchList) (types : List Rational) (certificate : Certificate)
+      → ContentsIn takes files.ChoicesAndCertificate arguments known (Ok (contents.ChoicesAndCertificate p types certificate)) → AreOfChoicesIn arguments known p
+  unfolding patches_of_contents
+  of_choices_with_certificate takes p types certificate (b, in_first, (c, in_second, (read, certified, (made, typed, same)))) =
+      let these : made.0 ≡ p = ap (λ (r : Result Contents (List ℕ)). patches_of_contents (result_unwrap_or r (contents.Choices p types)) p) same in
+      subst (AreOfChoicesIn arguments known) these (made_of b c made in_first in_second typed)
+
+pub behind_patches : (takes : Bool) (arguments : Arguments) (known : ℕ → Option (List ℕ)) (p : PatchList) (types : List Rational)
+    → ContentsIn takes files.Choices arguments known (Ok (contents.Choices p types)) → AreOfChoicesIn arguments known p
+behind_patches takes arguments known p types = of_choices arguments known takes p types
+
+pub behind_patches_with_certificate : (takes : Bool) (arguments : Arguments) (known : ℕ → Option (List ℕ)) (p : PatchList) (types : List Rational) (certificate : Certificate)
+    → ContentsIn takes files.ChoicesAndCertificate arguments known (Ok (contents.ChoicesAndCertificate p types certificate)) → AreOfChoicesIn arguments known p
+behind_patches_with_certificate takes arguments known p types certificate = of_choices_with_certificate arguments known takes p types certificate
