@@ -270,8 +270,8 @@ class Run:
         if results.known() is not None:
             raise Stopped(f"{results.part}: it has more households than {self.words.files[0]}: the data were changed; remove it to begin again")
         results.finish({"long": self.long.sum, "households": self.households} if self.part else None)
-        with ENDS:
-            return tally_of(self.target).end()
+        self.results = None
+        return tally_of(self.target).end()
 
     def share(self) -> float:
         """Returns how much of the file has been handed on."""

@@ -161,7 +161,7 @@ def panel(
     places: Any = None,
     exe: Any = None,
     progress: bool = True,
-) -> Any:
+) -> Panel:
     """Returns the verdict on each household of a frame, whose column (or columns) `by` tells them apart, as a Panel.
 
     A household whose data are refused gets its refusal, and the others go on. `pump` asks for the money pump of each too, and
@@ -178,12 +178,14 @@ def panel(
     if workers is not None:
         workers = program.whole(workers, "workers", 1, 1024)
     if clusters.is_dask(d):
-        return clusters.of_dask(d, names, levels, {"pump": pump, "power": power, "seed": seed, "places": places, "exe": exe})
+        of_dask: Panel = clusters.of_dask(d, names, levels, {"pump": pump, "power": power, "seed": seed, "places": places, "exe": exe})
+        return of_dask
     library, path = program.way(exe)
     asked = {**ASKED, "verdicts": "certify", "pump": bool(pump), "power": None if power is None else [seed, power]}
     asked.update(rp=path, library=library is not None)
     groups = _groups(Frame(d), names, levels)
-    return Panel(names, list(_bar(_rows(groups, places, asked, workers or _processors()), len(groups), progress)), [it for it in ("pump", "power") if asked[it]])
+    rows = _bar(_rows(groups, places, asked, workers or _processors()), len(groups), progress)
+    return Panel(names, list(rows), [it for it in ("pump", "power") if asked[it]])
 
 
 def _rows(groups: Sequence[tuple[Any, Callable[[Any], Table]]], places: Any, asked: dict[str, Any], workers: int) -> Iterator[Row]:

@@ -3,6 +3,7 @@ ghost use Rattle.rp_evidence.specs.DemandEvidence.{ProvesDemand, budget_of};
 ghost use Rattle.rp_evidence.specs.Garp.{MeetsGarp, ProvesGarp};
 ghost use Rattle.rp_evidence.specs.Input.{input_of_table};
 ghost use Rattle.rp_evidence.specs.Preference.{IsWeak};
+ghost use Rattle.rp_people.specs.Says.{SaysDemand};
 ghost use Rattle.rp_pref.specs.Closure.{IsClosureOf, IsWeakClosureOf};
 ghost use Rattle.rp_table.specs.Cost.{IsCostsOf, cost_at, cost_of};
 ghost use Rattle.rp_table.specs.Limits.{IsExpenditure};
@@ -37,6 +38,8 @@ pub fn demand(
     requires spent { IsExpenditure m }
     ensures proves { IfOk result (λ part.
         ProvesDemand (input_of_table table.now) prices.now m part) }
+    ensures says { IfOk result (λ part.
+        SaysDemand (input_of_table table.now) prices.now m part) }
     ensures given { IfOk result (λ part.
         IsDemandVerdict (input_of_table table.now) (budget_of prices.now m) verdict.now part) }
     ensures mixtures { IfOk result (λ part.
@@ -64,11 +67,14 @@ pub fn demand_by_closure(
     requires spent { IsExpenditure m }
     ensures proves { IfOk result (λ part.
         ProvesDemand (input_of_table table.now) prices.now m part) }
+    ensures says { IfOk result (λ part.
+        SaysDemand (input_of_table table.now) prices.now m part) }
     ensures given { IfOk result (λ part.
         IsDemandVerdict (input_of_table table.now) (budget_of prices.now m) verdict.now part) }
     ensures mixtures { IfOk result (λ part.
         HasMixtures (input_of_table table.now) (budget_of prices.now m) part) }
 {
+    prove!(table.goods() > 0);
     match verdict {
         Garp::Ranks(_) => {
             let at = NewPrices {
@@ -92,6 +98,8 @@ fn bounds(alloc: Global, budget: &NewBudget, closure: &Closure) -> Result<Demand
     requires closes { IsWeakClosureOf closure.now (input_of budget.now.at) }
     ensures proves { IfOk result (λ part.
         ProvesDemand (input_of budget.now.at) budget.now.at.prices.now budget.now.m part) }
+    ensures says { IfOk result (λ part.
+        SaysDemand (input_of budget.now.at) budget.now.at.prices.now budget.now.m part) }
     ensures given { IfOk result (λ part. AreDemandBounds (input_of budget.now.at)
         (new_budget budget.now) part) }
     ensures mixtures { IfOk result (λ part. HasMixtures (input_of budget.now.at)

@@ -4,6 +4,7 @@ ghost use Rattle.rp_evidence.specs.Garp.{ProvesGarp};
 ghost use Rattle.rp_evidence.specs.Input.{input_of_table};
 ghost use Rattle.rp_evidence.specs.Preference.{IsWeak};
 ghost use Rattle.rp_evidence.specs.WelfareModels.{HoldsInEveryModel};
+ghost use Rattle.rp_people.specs.Says.{SaysWelfare};
 ghost use Rattle.rp_pref.specs.Closure.{IsClosureOf};
 ghost use Rattle.rp_table.specs.Cost.{IsCostsOf, cost_at};
 ghost use Rattle.rp_table.specs.NewPrices.{AreNewPrices};
@@ -42,6 +43,8 @@ pub fn welfare(
     ensures lower_at_most_upper { IfOk result HasLowerAtMostUpper }
     ensures in_every_model { IfOk result
         (λ part. HoldsInEveryModel (input_of_table table.now) prices.now t part) }
+    ensures says { IfOk result
+        (λ part. SaysWelfare (input_of_table table.now) prices.now t part) }
     ensures bounded { IfOk result
         (λ part. HasBoundedProgram (input_of_table table.now) prices.now t part) }
 {
@@ -72,9 +75,12 @@ pub fn welfare_by_closure(
     ensures lower_at_most_upper { IfOk result HasLowerAtMostUpper }
     ensures in_every_model { IfOk result
         (λ part. HoldsInEveryModel (input_of_table table.now) prices.now t part) }
+    ensures says { IfOk result
+        (λ part. SaysWelfare (input_of_table table.now) prices.now t part) }
     ensures bounded { IfOk result
         (λ part. HasBoundedProgram (input_of_table table.now) prices.now t part) }
 {
+    prove!(table.goods() > 0);
     match verdict {
         Garp::Cycle(walk) => {
             let walk = Vec::from_slice(alloc, walk.as_slice())?;

@@ -1,5 +1,9 @@
 use Rattle.rp_evidence.specs.DemandEvidence.{budget_of, bundle_of}
 use Rattle.rp_evidence.specs.Input.{input_of_table}
+use Rattle.rp_evidence.specs.declared.certificate.Item.TheVariants.{Demand}
+use Rattle.rp_evidence.specs.declared.demand.DemandPart.TheVariants.{Bounds}
+use Rattle.rp_people.proofs.FullTables.{table_is_full}
+use Rattle.rp_people.proofs.SaysOfItems.{says}
 use Rattle.rp_support.proofs.DemandLemmas.{are_mixed, inner_supports, proves_lower, proves_upper}
 use Rattle.rp_support.proofs.verdict.bounds.Goals as goal
 
@@ -30,6 +34,11 @@ returns-clause-proves c =
         );
       }),
     )
+
+pub returns-clause-says : goal.returns-clause-says
+returns-clause-says c =
+    let b = c.args.budget.now in
+    says (input_of_table b.at.table.now) (table_is_full b.at.table.now c.goods.ensures.valid) (Demand b.at.prices.now b.m (Bounds c.from_vec.result c.from_vec-2.result c.in_ok-inner.inner c.from_vec-3.result)) (returns-clause-proves c)
 
 pub returns-clause-mixtures : goal.returns-clause-mixtures
 returns-clause-mixtures c =

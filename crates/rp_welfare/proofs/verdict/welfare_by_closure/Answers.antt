@@ -2,6 +2,10 @@ use Rattle.std.proofs.Common.{List, ℕ, slice_index, sym, subst, ◌∙◌, ari
 use Rattle.rp_evidence.specs.Garp.{IsViolationAt}
 use Rattle.rp_evidence.specs.Input.{TableInput, input_of_table}
 use Rattle.rp_evidence.specs.BoundEvidence.{NoneWorthMore}
+use Rattle.rp_evidence.specs.declared.certificate.Item.TheVariants.{Welfare}
+use Rattle.rp_evidence.specs.declared.demand.WelfarePart.TheVariants.{Bounds, NoModel}
+use Rattle.rp_people.proofs.FullTables.{table_is_full}
+use Rattle.rp_people.proofs.SaysOfItems.{says}
 use Rattle.rp_evidence.specs.LeastCost.{least_cost_program}
 use Rattle.rp_evidence.proofs.AfriatModels.{model_meets_garp}
 use Rattle.rp_evidence.proofs.WelfareModels.{bounds_hold}
@@ -75,3 +79,11 @@ returns-in_ok-lower-in-Ranks-clause-bounded c = λ reached lists.
     (none_worth_more input (slice_index c.args.prices.now) c.args.t reached lists
     (meets_by_ranks c.args.table.now c.args.costs.now c.requires.costs c.args.verdict.now _ c.requires.verdict c.in-Ranks.is)
     c.first_cheapest-upper.result.at upper.leads)
+
+pub returns-in_ok-walk-in-Cycle-clause-says : goal.returns-in_ok-walk-in-Cycle-clause-says
+returns-in_ok-walk-in-Cycle-clause-says c =
+    says (input_of_table c.args.table.now) (table_is_full c.args.table.now c.goods.ensures.valid) (Welfare c.args.prices.now c.args.t (NoModel c.from_vec.result)) (returns-in_ok-walk-in-Cycle-clause-proves c)
+
+pub returns-in_ok-lower-in-Ranks-clause-says : goal.returns-in_ok-lower-in-Ranks-clause-says
+returns-in_ok-lower-in-Ranks-clause-says c =
+    says (input_of_table c.args.table.now) (table_is_full c.args.table.now c.goods.ensures.valid) (Welfare c.args.prices.now c.args.t (Bounds c.first_cheapest-upper.result.cost c.first_cheapest-upper.result.at c.in_ok-lower-in-Ranks.lower)) (returns-in_ok-lower-in-Ranks-clause-proves c)
