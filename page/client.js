@@ -23,14 +23,15 @@ export class Client {
   }
 
   #take(data) {
+    const asked = this.waiting.get(data.id);
+    if (!asked) return;
     if (data.part) {
-      this.onPart?.(data.part, data.done);
+      asked.onPart(data.part);
       return;
     }
-    const { resolve, reject } = this.waiting.get(data.id);
     this.waiting.delete(data.id);
-    if (data.error) reject(new Error(data.error));
-    else resolve(data.answer);
+    if (data.error) asked.reject(new Error(data.error));
+    else asked.resolve(data.answer);
   }
 
   #fail(error) {
@@ -40,16 +41,16 @@ export class Client {
     this.worker = null;
   }
 
-  #send(kind, given) {
+  #send(kind, given, onPart) {
     const id = ++this.number;
-    const answer = new Promise((resolve, reject) => this.waiting.set(id, { resolve, reject }));
+    const answer = new Promise((resolve, reject) => this.waiting.set(id, { resolve, reject, onPart }));
     this.worker.postMessage({ id, kind, given });
     return answer;
   }
 
-  #ask(kind, given) {
+  #ask(kind, given, onPart) {
     if (!this.worker) this.#begin();
-    return this.#send(kind, given);
+    return this.#send(kind, given, onPart);
   }
 
   /** The status, what is written and what is told, for the words of a command over files. */
@@ -57,10 +58,9 @@ export class Client {
     return this.#ask("one", { words, files });
   }
 
-  /** Answers each household; `onPart` takes what came since it was called last, and how many are done. */
-  panel(words, households, onPart) {
-    this.onPart = onPart;
-    return this.#ask("panel", { words, households });
+  /** Answers each household, of which all have the further files; `onPart` takes what came since it was called last. */
+  panel(words, households, onPart, more = []) {
+    return this.#ask("panel", { words, households, more }, onPart);
   }
 
   stop() {

@@ -3,7 +3,7 @@ import { tableAnswers } from "./answers.js";
 import { Client, Stopped } from "./client.js";
 import { labelled, make, textOf } from "./dom.js";
 import { Panel } from "./panels.js";
-import { commandForm, otherAnswers, tableQuestions } from "./questions.js";
+import { commandForm, otherAnswers, panelQuestions, tableQuestions } from "./questions.js";
 import { Purchases, parseFault } from "./reports.js";
 import { parseRecords, splitHouseholds } from "./sheets.js";
 import { Slot } from "./slots.js";
@@ -105,6 +105,8 @@ async function answerPanel(slot) {
     tell(`${households.length} households: answered.`);
   });
   panel.show(true);
+  at("questions").replaceChildren(...panelQuestions(client, households, { working, progress, tell }));
+  at("more").hidden = false;
 }
 
 async function answerOthers(kind) {

@@ -1,7 +1,8 @@
 /** Further questions: on a table, and of the other kinds of files. Each shows the program's own text, and says what it means. */
 import { button, folded, keepFile, labelled, make, printed, say } from "./dom.js";
 import { fileOf, intervalPicture } from "./pictures.js";
-import { asNumber, decimal, parseFault } from "./reports.js";
+import { Purchases, asNumber, decimal, inUnits, parseFault, parseReport, placesOf } from "./reports.js";
+import { parseRecords, writeRecords } from "./sheets.js";
 
 const bytesOf = (text) => new TextEncoder().encode(text);
 
@@ -111,6 +112,61 @@ export function tableQuestions(client, file, table) {
   return [pair, pump, demandQuestion(client, file, table), welfareQuestion(client, file, table), utilityQuestion(client, file, table), powerQuestion(client, file), ...levels, checkQuestion(client, "Check a certificate on this table", [file], ["check", file.name])];
 }
 
+const BOUND_COLUMNS = ["household", "status", "record", "of", "lower", "upper", "told"];
+
+/** What a household is answered at new prices, a row for each bound, in the units of the file: `of` is a good, or an observation. */
+export function boundRows(kind, { household, status, output, told }, goods, pricePlaces) {
+  if (status !== 0) return [[household, String(status), "", "", "", "", told.trim()]];
+  const places = parseReport(output).size.quantities + (kind === "welfare" ? pricePlaces : 0);
+  const units = (text) => (text.startsWith("withheld") ? "withheld" : inUnits(text, places));
+  const rows = [];
+  let record = 0;
+  for (const line of output.split("\n")) {
+    if (line.startsWith("demand ") || /^welfare .* observation 1 /.test(line)) record += 1;
+    const bound = /^(?:good|welfare prices .* observation) (\d+) lower (\S+|withheld \d+) upper (\S+|withheld \d+)(?: at \d+)?$/.exec(line);
+    if (bound) rows.push([household, "0", String(record), kind === "demand" ? goods[Number(bound[1]) - 1] : bound[1], units(bound[2]), units(bound[3]), ""]);
+  }
+  return rows.length ? rows : [[household, "0", "", "", "", "", "the axiom is violated, so there are no bounds"]];
+}
+
+/** A question on every household at new prices, whose answers are kept as CSV. */
+function panelQuestion(client, households, kind, says, field, { working, progress, tell }) {
+  const about = "The same new prices for every household. Bounds are exact, in the units of the file; where the axiom fails there are none.";
+  return question(says, about, [labelled("New prices as CSV", field)], async (place) => {
+    const [rows, began] = [[], performance.now()];
+    const records = parseRecords(field.value, ",");
+    const priced = (records[0] ?? []).flatMap((name, at) => (name.trim().startsWith("p_") ? [at] : []));
+    const pricePlaces = Math.max(0, ...records.slice(1).flatMap((row) => priced.map((at) => placesOf(row[at] ?? ""))));
+    const goods = new Purchases(parseRecords(new TextDecoder().decode(households[0].bytes), ",")).goods;
+    let done = 0;
+    const told = (parts) => {
+      done += parts.length;
+      rows.push(...parts.flatMap((it) => boundRows(kind, it, goods, pricePlaces)));
+      progress(done, households.length, began, "households");
+    };
+    await working(async () => {
+      await client.panel([kind, "table.csv", "new prices"], households, told, [{ name: "new prices", bytes: bytesOf(field.value) }]);
+      tell(`${households.length} households at new prices: answered.`);
+    });
+    const [bounded, refused] = [new Set(rows.filter((row) => row[3]).map((row) => row[0])), rows.find((row) => row[1] !== "0")];
+    const first = refused ? ` The first that was refused is ${refused[0]}: ${refused[6]}` : "";
+    const keep = button("Keep the bounds as CSV", () => keepFile(`${kind}.csv`, writeRecords([BOUND_COLUMNS, ...rows]), "text/csv"));
+    place.replaceChildren(make("p", { textContent: `${done} of ${households.length} households done; ${bounded.size} of them have bounds.${first}` }), keep);
+  });
+}
+
+/** The questions on a panel. `shows` has what tells of long work: `working`, `progress` and `tell`. */
+export function panelQuestions(client, households, shows) {
+  const [names, ...rows] = parseRecords(new TextDecoder().decode(households[0].bytes), ",");
+  const priced = names.flatMap((name, at) => (name.startsWith("p_") ? [at] : []));
+  const of = (row) => priced.map((at) => row?.[at] ?? "");
+  const [head, first] = [of(names).join(","), of(rows[0]).join(",")];
+  return [
+    panelQuestion(client, households, "demand", "New prices: what would each household buy?", area(`${head},m\n${first},100\n`), shows),
+    panelQuestion(client, households, "welfare", "New prices: what does it cost each household to be as well off?", area(`${head}\n${first}\n`), shows),
+  ];
+}
+
 const COUNTED = /^(random|menus) (mixture|violated|withheld)/m;
 
 /** What the verdict of `random` or `menus` says. */
@@ -132,7 +188,7 @@ export async function otherAnswers(client, kind, files, per) {
   const parts = [make("p", { className: "verdict", textContent: says() }), printed(answer.output)];
   if (kind === "budgets") {
     const keep = async () => keepFile("certificate.json", (await client.answer(["random", ...names, ...units, "--json"], files)).output, "application/json");
-    parts.push(make("div", { className: "row" }, button("Make a certificate and keep it", keep)), checkQuestion(client, "Check a certificate on these choices", files, ["checkrandom", ...names, ...units].filter((it) => !units.includes(it))));
+    parts.push(make("div", { className: "row" }, button("Make a certificate and keep it", keep)), checkQuestion(client, "Check a certificate on these choices", files, ["checkrandom", ...names, ...units]));
   }
   return { answer, parts };
 }

@@ -37,7 +37,7 @@ function scaled(text, places) {
   return BigInt(whole + part.slice(0, places).padEnd(places, "0"));
 }
 
-const placesOf = (text) => (text.trim().split(".")[1] ?? "").replace(/0+$/, "").length;
+export const placesOf = (text) => (text.trim().split(".")[1] ?? "").replace(/0+$/, "").length;
 
 /** Prices and quantities of a table, as whole numbers, and what each bundle costs at each observation's prices. */
 export class Purchases {
@@ -75,6 +75,15 @@ export function decimal(amount, places) {
   const digits = (amount < 0n ? -amount : amount).toString().padStart(places + 1, "0");
   const [whole, part] = [digits.slice(0, digits.length - places), digits.slice(digits.length - places).replace(/0+$/, "")];
   return sign + whole + (part ? `.${part}` : "");
+}
+
+/** Writes a fraction of the program's, in units of so many places, as one in whole units, in lowest terms. */
+export function inUnits(fraction, places) {
+  const [num, den = "1"] = fraction.split("/");
+  const [a, b] = [BigInt(num), BigInt(den) * 10n ** BigInt(places)];
+  let [common, rest] = [a, b];
+  while (rest !== 0n) [common, rest] = [rest, common % rest];
+  return b === common ? String(a / b) : `${a / common}/${b / common}`;
 }
 
 /** The steps of a closed walk as sentences. */

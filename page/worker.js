@@ -8,12 +8,12 @@ function answerOne({ words, files }) {
 }
 
 /** Answers a panel; after each some households it tells what came, so that all that was done stays when it is stopped. */
-function answerPanel({ words, households }) {
+function answerPanel({ words, households, more }, id) {
   let [batch, told] = [[], performance.now()];
   households.forEach(({ household, bytes }, at) => {
-    batch.push({ household, ...library.texts(words, [{ name: "table.csv", bytes }]) });
+    batch.push({ household, ...library.texts(words, [{ name: "table.csv", bytes }, ...more]) });
     if (performance.now() - told > 100 || at + 1 === households.length) {
-      postMessage({ part: batch, done: at + 1 });
+      postMessage({ id, part: batch });
       [batch, told] = [[], performance.now()];
     }
   });
@@ -25,7 +25,7 @@ onmessage = async ({ data: { id, kind, given } }) => {
     if (kind === "load") loading = load(given);
     library = await loading;
     const answers = { load: () => null, one: answerOne, panel: answerPanel };
-    postMessage({ id, answer: answers[kind](given) });
+    postMessage({ id, answer: answers[kind](given, id) });
   } catch (error) {
     postMessage({ id, error: error.message });
   }

@@ -8,7 +8,6 @@
 
 #include <stdbool.h>
 #include <stdint.h>
-#include <stdio.h>
 #include <stdlib.h>
 #include <string.h>
 
@@ -64,7 +63,7 @@ static bool append(Bytes *it, const void *from, size_t count) {
 
 /* Tells a line on standard error, whose failures change no status. */
 static void tell(const char *line) {
-    fputs(line, stderr);
+    write_told((const uint8_t *)line, strlen(line));
 }
 
 static int without_memory(void) {

@@ -172,7 +172,9 @@ def drawn(draw, count, native):
 
 
 def largest():
-    """Gives calls on the largest inputs of each limit: observations, goods, numbers, levels, seeds and draws."""
+    """Gives calls on the largest inputs of each limit: observations, goods, numbers, levels, new records, cells of menus, seeds
+    and draws."""
+    import itertools
     import random
 
     draw = random.Random(7)
@@ -192,3 +194,20 @@ def largest():
     few = ("\n".join([",".join(names[:8]), *(",".join(it[:8]) for it in rows[:40])]) + "\n").encode()
     new = ",".join(names[:8:2]) + ",m\n" + "\n".join(",".join(it[1:9:2]) + ",9999999" for it in rows[:16]) + "\n"
     yield ["demand", "t.csv", "new.csv"], {"t.csv": few, "new.csv": new.encode()}
+    levels = "\n".join([",".join([*names, "e"]), *(",".join([*it, str(draw.randint(1, 1000))]) for it in rows)]) + "\n"
+    yield ["certify", "t.csv"], {"t.csv": levels.encode()}
+    # Of a consumer who spends as much on each good, so the axiom holds.
+    prices = [[draw.choice([1, 2, 3, 4, 5, 6, 7, 8, 9, 10, 11, 12, 13, 14, 15, 16]) for _ in range(4)] for _ in range(512)]
+    bought = [[str(it) for price in row for it in (price, 720720 // price)] for row in prices]
+    met = ("\n".join([",".join(names[:8]), *map(",".join, bought)]) + "\n").encode()
+    lines = {mark: [[str(draw.randint(1, 99)) for _ in range(4)] for _ in range(16)] for mark in "pq"}
+    heads = {mark: ",".join(f"{mark}_{it}" for it in goods[:4]) for mark in "pq"}
+    files = {mark: "\n".join([heads[mark], *map(",".join, lines[mark])]) + "\n" for mark in "pq"}
+    budgets = files["p"].replace("\n", ",9999\n").replace(",9999", ",m", 1)
+    yield ["demand", "t.csv", "new.csv", "--json"], {"t.csv": met, "new.csv": budgets.encode()}
+    yield ["welfare", "t.csv", "new.csv"], {"t.csv": met, "new.csv": files["p"].encode()}
+    yield ["utility", "t.csv", "bundles.csv"], {"t.csv": met, "bundles.csv": files["q"].encode()}
+    menus_ = [it for size in (2, 3, 4) for it in itertools.combinations("abcdef", size)]
+    cells = [(menu, letter) for menu in menus_ for letter in menu][:64]
+    counted = "menu,choice,n\n" + "".join(f"{''.join(menu)},{letter},{draw.randint(1, 9)}\n" for menu, letter in cells)
+    yield ["menus", "menus.csv", "--per", "1000000"], {"menus.csv": counted.encode()}

@@ -5,6 +5,7 @@ one LLVM module for x86-64 (of any processor of that kind), and the toolchain fo
 module. Here its text gets the layout and the name of the other system, without the attributes that only Linux has, and
 the kit's own clang compiles it. For ARM Rattle's compiler has a target of its own. No proof covers what is done here.
 """
+import functools
 import hashlib
 import importlib.machinery
 import importlib.util
@@ -13,10 +14,13 @@ import re
 import shutil
 import subprocess
 import sys
+from concurrent.futures import ThreadPoolExecutor
 
 TOP = os.path.dirname(os.path.dirname(os.path.realpath(__file__)))
 SOURCES = f"{TOP}/systems"
 CRATE = f"{TOP}/crates/rp_c"
+# Where that is kept whose making takes minutes, by the checksum of what it was made from.
+KEPT = f"{TOP}/out/systems"
 # The layout and the name of each system that the module's text is given, and the attributes that it has not.
 LAYOUTS = {
     "wasm": ("e-m:e-p:64:64-p10:8:8-p20:8:8-i64:64-i128:128-n32:64-S128-ni:1:10:20", "wasm64-unknown-unknown"),
@@ -36,12 +40,29 @@ NEEDS = {
 }
 
 
+CALL = "the proved functions of the library's call"
 NOT_PROVED = "no proof covers the compiler for this system, the link and the code around the call; tools/check-systems tries them"
+# How the program for ARM is linked of what stands beside it, under link/ in its archive.
+ARM_PARTS = ["link/program.o", "link/posix.o", "link/heap.o", "link/librp_c.a"]
+ARM_LINK = ["aarch64-linux-gnu-gcc", "-static", "-s", "-Wl,--gc-sections", "-o", "rp", *ARM_PARTS]
 # What stands behind each file, for PROVED.
 ORIGINS = {
-    "arm": f"the proved functions of the library's call, compiled for aarch64 by rattle build, linked statically with systems/program.c and posix.c; {NOT_PROVED}",
-    "windows": f"the proved functions of the library's call, their LLVM module compiled for x86_64-pc-windows-gnu, linked with systems/program.c and windows.c; {NOT_PROVED}",
-    "web": f"the proved functions of the library's call, their LLVM module compiled for WebAssembly, and JavaScript around it; {NOT_PROVED}",
+    "arm": {
+        "rp": f"{CALL}, compiled for aarch64 by rattle build, linked statically with systems/program.c and posix.c; {NOT_PROVED}: {' '.join(ARM_LINK)}",
+        **{it: "what rp is linked from" for it in ARM_PARTS},
+    },
+    "windows": {
+        "rp.exe": f"{CALL}, their LLVM module compiled for x86_64-pc-windows-gnu, linked with systems/program.c and windows.c; {NOT_PROVED}",
+        "rp.dll": f"the same call as a library; {NOT_PROVED}",
+        "librp.dll.a": "what a program is linked with that takes rp.dll",
+        "rp.h": "the call in C",
+    },
+    "web": {
+        "rp.wasm": f"{CALL}, their LLVM module compiled for WebAssembly; {NOT_PROVED}",
+        "rp.js": "JavaScript around the module, for a page and for Node; no proof covers it",
+        "rp.mjs": "the command for Node over rp.js; no proof covers it",
+        "rp": "a script of the shell that starts rp.mjs by Node",
+    },
 }
 
 
@@ -75,14 +96,15 @@ def ran(words, folder):
         raise Stopped(f"{os.path.basename(words[0])}: {(it.stdout.strip().splitlines() or ['no message'])[-1]}")
 
 
+@functools.lru_cache(maxsize=None)
 def crate_words():
-    """Returns rattle, and its words for the crate, as `rt` gives them."""
+    """Returns rattle, and its words for the crate, as `rt` gives them. What a check of the crate kept is taken, as `rt lib` does."""
     loader = importlib.machinery.SourceFileLoader("rt_of_kit", f"{kit()}/bin/rt")
     rt = importlib.util.module_from_spec(importlib.util.spec_from_loader("rt_of_kit", loader))
     sys.dont_write_bytecode = True
     loader.exec_module(rt)
     crate = rt.rtlib.Crate(CRATE, TOP, {})
-    return rt.rtlib.RATTLE, crate.words(["--jobs", "1"], keeps=False)
+    return rt.rtlib.RATTLE, [*crate.words(["--jobs", "1"], keeps=False), *rt.rtlib.KEPT]
 
 
 def toolchain(room):
@@ -117,12 +139,12 @@ def sources_sum():
 
 def kept_build(name, room, make):
     """Gives a file of the room that takes minutes to make: the one that was kept of the same sources, or a new one."""
-    kept = f"{CRATE}/out/systems-{sources_sum()[:32]}-{name}"
+    kept = f"{KEPT}/{sources_sum()[:32]}-{name}"
     if os.path.exists(kept):
         shutil.copy(kept, f"{room}/{name}")
     else:
         make()
-        os.makedirs(os.path.dirname(kept), exist_ok=True)
+        os.makedirs(KEPT, exist_ok=True)
         shutil.copy(f"{room}/{name}", f"{kept}.{os.getpid()}")
         os.replace(f"{kept}.{os.getpid()}", kept)
 
@@ -157,19 +179,26 @@ def text_for(system, text):
     return DROPPED.sub("", text)
 
 
-def compiled(system, text, sources, room):
-    """Compiles the module's text and further sources with the kit's clang, and returns the objects."""
-    with open(f"{room}/{system}.ll", "w", encoding="utf-8") as it:
-        it.write(text_for(system, text))
+def compile_one(system, source, made, room):
+    """Compiles one source with the kit's clang: LLVM's text, or C."""
     flags = [f"--target={LAYOUTS[system][1]}", "-O3", "-c", "-ffunction-sections", "-fdata-sections", "-Wno-override-module"]
     flags += WASM if system == "wasm" else []
-    objects = []
-    for source in [f"{room}/{system}.ll", *(f"{SOURCES}/{it}" for it in sources)]:
-        made = f"{room}/{system}-{os.path.basename(source)}.o"
-        language = ["-x", "ir"] if source.endswith(".ll") else ["-ffreestanding", "-Wall", "-Wextra", "-Werror"]
-        ran([f"{kit()}/toolchain/bin/clang", *flags, *language, source, "-o", made], room)
-        objects.append(made)
-    return objects
+    language = ["-x", "ir"] if source.endswith(".ll") else ["-ffreestanding", "-Wall", "-Wextra", "-Werror"]
+    ran([f"{kit()}/toolchain/bin/clang", *flags, *language, source, "-o", made], room)
+    return made
+
+
+def compiled(system, sources, room):
+    """Compiles the module's text and further sources with the kit's clang, and returns the objects."""
+
+    def make():
+        with open(f"{room}/{system}.ll", "w", encoding="utf-8") as it:
+            it.write(text_for(system, module_text(room)))
+        compile_one(system, f"{room}/{system}.ll", f"{room}/{system}.o", room)
+
+    if not os.path.exists(f"{room}/{system}.o"):
+        kept_build(f"{system}.o", room, make)
+    return [f"{room}/{system}.o", *(compile_one(system, f"{SOURCES}/{it}", f"{room}/{system}-{it}.o", room) for it in sources)]
 
 
 def linked_wasm(objects, exports, made, room):
@@ -186,7 +215,7 @@ def linked_wasm(objects, exports, made, room):
 
 def web(room):
     """Returns the files of WebAssembly: the module, the JavaScript that a page and Node share, and the command for Node."""
-    objects = compiled("wasm", module_text(room), ["heap.ll", "wasm_heap.c", "wasm_guard.c"], room)
+    objects = compiled("wasm", ["heap.ll", "wasm_heap.c", "wasm_guard.c"], room)
     module = linked_wasm(objects, ("rp_answer", "malloc", "free"), f"{room}/rp.wasm", room)
     return {"rp.wasm": module, "rp.js": f"{SOURCES}/rp.js", "rp.mjs": f"{SOURCES}/rp.mjs", "rp": f"{SOURCES}/rp.sh"}
 
@@ -204,7 +233,7 @@ def wide(room):
 
 def windows(room):
     """Returns the program and the library for Windows, which need no other file, and the library's import library."""
-    objects = compiled("windows", module_text(room), ["heap.ll"], room)
+    objects = compiled("windows", ["heap.ll"], room)
     gcc = ["x86_64-w64-mingw32-gcc", "-O2", "-std=c11", "-Wall", "-Wextra", "-Werror", "-static", "-s", "-Wl,--gc-sections,--no-insert-timestamp"]
     sources = [f"{SOURCES}/{it}" for it in ("program.c", "windows.c")]
     ran([*gcc, *sources, *objects, "-lshell32", "-o", f"{room}/rp.exe"], room)
@@ -213,17 +242,31 @@ def windows(room):
     return {it: f"{room}/{it}" for it in ("rp.exe", "rp.dll", "librp.dll.a")} | {"rp.h": f"{TOP}/library/rp.h"}
 
 
+def arm_library(room):
+    """Makes the library for Linux on ARM in the room."""
+    rattle, words = crate_words()
+    built = ["--target", "aarch64-unknown-linux-gnu", "--toolchain", f"{kit()}/toolchain", "-o", f"{room}/arm.a"]
+    if not os.path.exists(f"{room}/arm.a"):
+        kept_build("arm.a", room, lambda: ran([rattle, "build", *words, *built], CRATE))
+
+
+def prepare(wanted, room):
+    """Makes at once what takes minutes of the builds that are wanted."""
+    crate_words()
+    makes = [module_text] if {"windows", "web"} & set(wanted) else []
+    makes += [arm_library] if "arm" in wanted else []
+    with ThreadPoolExecutor(2) as pool:
+        for it in [pool.submit(make, room) for make in makes]:
+            it.result()
+
+
 def arm(room):
     """Returns the program for Linux on ARM, linked statically, and what it is linked from, so that anyone can do it again."""
-    rattle, words = crate_words()
+    arm_library(room)
     os.makedirs(f"{room}/link", exist_ok=True)
-    built = ["--target", "aarch64-unknown-linux-gnu", "--toolchain", f"{kit()}/toolchain", "-o", f"{room}/arm.a"]
-    kept_build("arm.a", room, lambda: ran([rattle, "build", *words, *built], CRATE))
-    os.replace(f"{room}/arm.a", f"{room}/link/librp_c.a")
+    shutil.copy(f"{room}/arm.a", f"{room}/link/librp_c.a")
     gcc = ["aarch64-linux-gnu-gcc", "-O2", "-std=c11", "-D_POSIX_C_SOURCE=200809L", "-Wall", "-Wextra", "-Werror"]
-    objects = []
     for it in ("program", "posix", "heap"):
         ran([*gcc, "-c", f"{SOURCES}/{it}.c", "-o", f"link/{it}.o"], room)
-        objects.append(f"link/{it}.o")
-    ran([gcc[0], "-static", "-s", "-Wl,--gc-sections", *objects, "link/librp_c.a", "-o", "rp"], room)
-    return {it: f"{room}/{it}" for it in ("rp", *objects, "link/librp_c.a")}
+    ran(ARM_LINK, room)
+    return {it: f"{room}/{it}" for it in ("rp", *ARM_PARTS)}
