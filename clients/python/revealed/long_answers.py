@@ -154,7 +154,9 @@ def answer(job: "tuple[Household, Optional[bytes]]", run: Run, asked: dict[str, 
 
 def each(jobs: Iterable[Any], run: Run, asked: dict[str, Any]) -> list[Any]:
     """Returns the answers of some jobs: households of a long file, or the tables of a frame."""
-    make: Callable[[Any, Run, dict[str, Any]], Any] = ended if asked["header"] is None else answer
+    make: Callable[[Any, Run, dict[str, Any]], Any] = answer
+    if asked["header"] is None:
+        make = ended
     return [make(job, run, asked) for job in jobs]
 
 

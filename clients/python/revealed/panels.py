@@ -199,7 +199,7 @@ def _rows(groups: Sequence[tuple[Any, Callable[[Any], Table]]], places: Any, ask
             begun.append([_begin(key, own, places) for key, own in groups[at : at + size]])
             yield [made.csv() for _, made in begun[-1] if made is not None]
 
-    pool = Here(asked) if here else Pool(workers, asked)
+    pool: Here | Pool = Here(asked) if here else Pool(workers, asked)
     try:
         pool.begin()
         for _, answers in pool.each(blocks()):

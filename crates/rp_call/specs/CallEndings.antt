@@ -126,8 +126,8 @@ IsEnded request (Ran status) text told = IsStatusOf request status text told
 IsEnded request NoText text told = ⊥
 IsEnded request Malformed text told = HasTooMany request × (text ≡ []) × (told ≡ [])
 
--- a call ends so: the texts of its ending stand at the front of the caller's rooms, as much of each as has place, and the
--- two numbers tell how long the texts are
+-- a call ends so: the texts of its ending stand at the front of the caller's rooms, as much of each as has place, and
+-- the two numbers tell how long the texts are
 pub record EndsSo (frame : Frame) (ending : Ending) (output_old output_new : List ℕ) (output_length : ℕ)
     (told_old told_new : List ℕ) (told_length : ℕ) : Type 0 where
   pub text : List ℕ

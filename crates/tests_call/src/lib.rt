@@ -1,0 +1,9 @@
+//! Tests of the call over files in memory: its frame, its statuses, and the room for its texts.
+#![tactic(auto)]
+
+#[cfg(test)]
+mod calls;
+#[cfg(test)]
+mod endings;
+#[cfg(test)]
+mod rooms;
