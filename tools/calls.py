@@ -165,8 +165,8 @@ def drawn(draw, count, native):
         is_certificate = answer[0] == 0 and answer[1].startswith(b"{")
         if is_certificate and given < count:
             data = answer[1] if draw.random() < 0.5 else altered(draw, answer[1])
-            told = {**files, "made.json": data}
             words = ["checkrandom", "b.csv", "c.csv", "made.json", *words[words.index("--per") : words.index("--per") + 2]] if words[0] == "random" and "--per" in words else ["checkrandom", "b.csv", "c.csv", "made.json"] if words[0] == "random" else ["check", "t.csv", "made.json"]
+            told = {name: it for name, it in {**files, "made.json": data}.items() if name in words}
             yield words, told, native.answer(words, told)
             given += 1
 
