@@ -53,6 +53,12 @@ def text_of(value: Any, places: int | None = None) -> str:
     return decimal_text(number)
 
 
+def are_plain(row: list[Any]) -> bool:
+    """Whether values are whole numbers, or texts of digits and perhaps a point, which are the texts of numbers as they stand."""
+    kinds = set(map(type, row))
+    return kinds == {int} or (kinds == {str} and all(map(_PLAIN.fullmatch, row)))
+
+
 def unsigned_zero(text: str) -> str:
     """Returns the text of a number, without the sign of a zero."""
     return text if text.strip("-0.") else text.lstrip("-")
@@ -125,10 +131,10 @@ def rounded_down(number: Fraction | None) -> float:
 
 def whole_of(text: str) -> int:
     """Returns the whole number that digits spell, however many there are: Python reads 4,300 of them at once."""
-    if text.startswith("-"):
-        return -whole_of(text[1:])
     if len(text) <= 4000:
         return int(text)
+    if text.startswith("-"):
+        return -whole_of(text[1:])
     half = len(text) // 2
     return whole_of(text[:-half]) * 10**half + whole_of(text[-half:])
 

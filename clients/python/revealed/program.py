@@ -17,6 +17,7 @@ NAME = "rp.exe" if sys.platform == "win32" else "rp"
 REFUSAL = re.compile(r"rp: (?:([\w-]+)\.(?:csv|json): )?([A-Z]\w*(?: (?:record|column|budget|menu|item) \d+)*)")
 # What a field has to be quoted for.
 QUOTED = re.compile('[",\r\n]')
+QUOTED_ALSO = re.compile('["\r\n]')
 
 
 def find(exe: Any = None) -> str:
@@ -65,9 +66,17 @@ def field(text: str) -> str:
     return '"' + text.replace('"', '""') + '"' if QUOTED.search(text) else text
 
 
+def _line(row: Sequence[str]) -> str:
+    line = ",".join(row)
+    # Where nothing is to be quoted, there are no other commas than those between the fields.
+    if line.count(",") == len(row) - 1 and line and not QUOTED_ALSO.search(line):
+        return line
+    return ",".join(map(field, row)) if list(row) != [""] else '""'
+
+
 def csv_bytes(rows: Iterable[Sequence[str]]) -> bytes:
     """Returns rows of texts as the bytes of a CSV file. A row of one empty text is quoted, since blank lines count for nothing."""
-    lines = [",".join(map(field, row)) if list(row) != [""] else '""' for row in rows]
+    lines = [_line(row) for row in rows]
     try:
         return "".join(f"{line}\n" for line in lines).encode("utf-8", "surrogateescape")
     except UnicodeEncodeError as wrong:

@@ -29,10 +29,13 @@ class Sheet:
         self.kinds = kinds
         self.places = places
         self.wanted = wanted
+        self.asks_places = any(it is not None for it in places)
         self.texts = [self._texts(number, row) for number, row in enumerate(rows, 1)]
 
     def _texts(self, record: int, row: list[Any]) -> list[str]:
         texts = []
+        if not self.asks_places and exact.are_plain(row):
+            return list(map(str, row))
         for place, value in enumerate(row):
             try:
                 texts.append(exact.text_of(value, self.places[place] if place < len(self.places) else None))
