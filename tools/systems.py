@@ -163,7 +163,8 @@ def make_module(room):
     rattle, words = crate_words()
     ran([rattle, "build", *words, "--cpu", "x86-64", "--toolchain", folder, "-o", f"{room}/librp_c.a"], CRATE)
     print_as_text = ["--target=x86_64-unknown-linux-gnu", "-S", "-emit-llvm", "-x", "ir", "-Xclang", "-disable-llvm-passes"]
-    ran([f"{kit()}/toolchain/bin/clang", *print_as_text, kept, "-o", f"{room}/module.ll"], room)
+    # Its first line has the name as it is given here.
+    ran([f"{kit()}/toolchain/bin/clang", *print_as_text, os.path.basename(kept), "-o", "module.ll"], room)
 
 
 def text_for(system, text):
