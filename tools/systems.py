@@ -239,7 +239,8 @@ def windows(room):
     sources = [f"{SOURCES}/{it}" for it in ("program.c", "windows.c")]
     ran([*gcc, *sources, *objects, "-lshell32", "-o", f"{room}/rp.exe"], room)
     exported = [f"{SOURCES}/rp.def", f"-Wl,--out-implib,{room}/librp.dll.a"]
-    ran([*gcc, "-shared", *objects, *exported, "-o", f"{room}/rp.dll"], room)
+    # Else its base is drawn from the name of its file, with the folder.
+    ran([*gcc, "-shared", "-Wl,--disable-auto-image-base", *objects, *exported, "-o", f"{room}/rp.dll"], room)
     return {it: f"{room}/{it}" for it in ("rp.exe", "rp.dll", "librp.dll.a")} | {"rp.h": f"{TOP}/library/rp.h"}
 
 
