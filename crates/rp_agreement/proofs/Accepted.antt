@@ -13,7 +13,7 @@ use Rattle.rp_evidence.specs.AfriatEvidence.{ProvesOwnAfriat}
 use Rattle.rp_evidence.specs.Efficiency.{BoundsFromAbove, ProvesEfficiency}
 use Rattle.rp_evidence.specs.Garp.{ProvesOfPreference}
 use Rattle.rp_evidence.specs.Homothetic.{ProvesHomothetic, next_product, spent_product}
-use Rattle.rp_evidence.specs.Preference.{IsStrict, IsWeak, StrictByLevels, WeakByLevels}
+use Rattle.rp_evidence.specs.Preference.{IsStrictAt, IsWeakAt, StrictByLevels, WeakByLevels}
 use Rattle.rp_evidence.specs.Quasilinear.{ProvesQuasilinear}
 use Rattle.rp_evidence.specs.Walk.{AnyStep}
 use Rattle.rp_evidence.specs.declared.afriat.AfriatPart.{AfriatPart}
@@ -55,7 +55,7 @@ module _ (n : ℕ) (c : ℕ → ℕ → ℕ) where
   above_passes num den walk bounds (inl one) = inl (one, ap length (bounds.none_at_one one))
   above_passes num den walk bounds (inr other) =
       let closed = bounds.closed_below_one other in
-      inr (other, (closed_passes n (IsWeak c num den) walk closed, (weak_passes n (IsWeak c num den) walk closed, tt)))
+      inr (other, (closed_passes n (IsWeakAt c num den) walk closed, (weak_passes n (IsWeakAt c num den) walk closed, tt)))
 
   pub efficiency_passes : (evidence : Efficiency) → ProvesEfficiency n c evidence → IsEfficiencyVerdict n c evidence → EfficiencyFails n c evidence (Ok tt)
   efficiency_passes evidence proves given =
@@ -67,7 +67,7 @@ module _ (n : ℕ) (c : ℕ → ℕ → ℕ) where
             (proves.below.one_each, ((λ s s_in t t_in. proves.below.step_falls s t s_in t_in), tt)),
             (
               above_passes num den evidence.above proves.above (cases_eq num den),
-              (garp_passes n (IsWeak c num den) (IsStrict c num den) evidence.at proves.at, tt),
+              (garp_passes n (IsWeakAt c num den) (IsStrictAt c num den) evidence.at proves.at, tt),
             ),
           ),
           tt,

@@ -77,7 +77,7 @@ module _ (input : TableInput) (shown : Bool) where
   demand_passes (Cycle cycle) prices m (Bounds below strict inner goods) is_shown new spent proves given = absurd given
   demand_passes (Cycle cycle) prices m (NoModel walk) is_shown new spent proves given = (
     prices_pass input.goods prices new,
-    (spent, (violation_passes input.n (IsWeak input.cost 1 1) (IsStrict input.cost 1 1) walk proves, tt)),
+    (spent, (violation_passes input.n (IsWeak input.cost) (IsStrict input.cost) walk proves, tt)),
   )
 
   lower_holds : (prices : ℕ → ℕ) (t : ℕ) (lower : Bound) → IsLowerBound input prices t lower → LowerHolds input prices t lower
@@ -85,7 +85,7 @@ module _ (input : TableInput) (shown : Bool) where
   lower_holds prices t (Wide step) is = (is.reached, is.listed, tt)
 
   -- where the axiom holds a verdict on it that proves itself shows it
-  shows_it : (verdict : Garp) → ProvesGarp input.n input.cost verdict → MeetsGarp input.n input.cost 1 1 → IsTrue (shows_garp (GarpItem verdict))
+  shows_it : (verdict : Garp) → ProvesGarp input.n input.cost verdict → MeetsGarp input.n input.cost → IsTrue (shows_garp (GarpItem verdict))
   shows_it (Ranks ranks) proves meets = refl
   shows_it (Cycle walk) proves meets = absurd (meets walk proves)
 
@@ -111,5 +111,5 @@ module _ (input : TableInput) (shown : Bool) where
       )
   welfare_passes verdict prices t (NoWelfare walk) is_shown new t_in garp proves given = (
     prices_pass input.goods prices new,
-    ((t_in, (violation_passes input.n (IsWeak input.cost 1 1) (IsStrict input.cost 1 1) walk proves, tt)), tt),
+    ((t_in, (violation_passes input.n (IsWeak input.cost) (IsStrict input.cost) walk proves, tt)), tt),
   )

@@ -27,15 +27,15 @@ use Rattle.rp_farkas.specs.Listing.{IsListing}
 use Rattle.rp_farkas.specs.PairCheck.{IsShownPair}
 use Rattle.rp_farkas.specs.declared.entry.Entry.{Entry}
 use Rattle.rp_farkas.specs.declared.entry.Pair.{Pair}
-use Rattle.rp_program_items.specs.Limits.{FitsBound, FitsDemand, FitsEntry, FitsGood, FitsPoint, FitsWelfare}
-use Rattle.rp_notation.specs.Reading.{FitsCount, FitsLong}
-use Rattle.rp_notation.proofs.ListLemmas.{all_rest}
+use Rattle.rp_json_programs.specs.Limits.{FitsBound, FitsDemand, FitsEntry, FitsGood, FitsPoint, FitsWelfare}
+use Rattle.rp_json_entries.specs.Reading.{FitsCount, FitsLong}
+use Rattle.rp_json_entries.proofs.ListLemmas.{all_rest}
 use Rattle.rp_num.specs.Fraction.{Fraction, FitsTerm, FitsWidth, IsLowestTerms}
 use Rattle.rp_num.specs.Spelled.{IsReduced}
 use Rattle.rp_num.proofs.Coprime.{IsGcd-exists}
 use Rattle.rp_num.proofs.Lowest.{FitsWidth-divided, IsLowestTerms-divided, IsLowestTerms-itself, same_IsLowestTerms}
 use Rattle.rp_simplex.specs.Outcome.{EndsPastWidth}
-use Rattle.rp_bound.specs.ProgramBound.{IsBoundOf}
+use Rattle.rp_simplex.specs.ProgramBound.{IsBoundOf}
 use Rattle.rp_support.specs.Bounds.{AreBoundsOf}
 use Rattle.rp_support.specs.Verdict.{IsDemandVerdict}
 use Rattle.rp_table.specs.Sums.{sum_below}
@@ -158,7 +158,7 @@ module _ (input : TableInput) (limited : IsLimited input) (prices : List ℕ) (n
     demand_fits (Ranks ranks) (NoModel walk) proves given = absurd given
     demand_fits (Cycle cycle) (Bounds below strict inner goods) proves given = absurd given
     demand_fits (Cycle cycle) (NoModel walk) proves given =
-        (walk_fits input.n few (IsWeak input.cost 1 1) walk proves.0, omega (arith, spends.1), prices_fit input.goods prices new)
+        (walk_fits input.n few (IsWeak input.cost) walk proves.0, omega (arith, spends.1), prices_fit input.goods prices new)
 
   -- ---- welfare
 
@@ -190,4 +190,4 @@ module _ (input : TableInput) (limited : IsLimited input) (prices : List ℕ) (n
     upper_fits t at upper given.cheapest.upper,
   )
   welfare_fits t t_in verdict (NoWelfare walk) proves given =
-      (walk_fits input.n few (IsWeak input.cost 1 1) walk proves.0, omega (arith, few, t_in), prices_fit input.goods prices new)
+      (walk_fits input.n few (IsWeak input.cost) walk proves.0, omega (arith, few, t_in), prices_fit input.goods prices new)

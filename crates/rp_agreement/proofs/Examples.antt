@@ -16,9 +16,9 @@ crossed_cycle = (
   inl (omega arith),
 )
 
-crossed_passes : GarpFails 2 (IsWeak crossed 1 1) (IsStrict crossed 1 1) (Cycle (0 ∷ 1 ∷ 0 ∷ [])) (Ok tt)
-crossed_passes = garp_passes 2 (IsWeak crossed 1 1) (IsStrict crossed 1 1) (Cycle (0 ∷ 1 ∷ 0 ∷ [])) crossed_cycle
+crossed_passes : GarpFails 2 (IsWeak crossed) (IsStrict crossed) (Cycle (0 ∷ 1 ∷ 0 ∷ [])) (Ok tt)
+crossed_passes = garp_passes 2 (IsWeak crossed) (IsStrict crossed) (Cycle (0 ∷ 1 ∷ 0 ∷ [])) crossed_cycle
 
 -- where both cost the same everywhere, the walk is weak and closed, but no step is strict
-level_fails : GarpFails 2 (IsWeak (λ s t. 1) 1 1) (IsStrict (λ s t. 1) 1 1) (Cycle (0 ∷ 1 ∷ 0 ∷ [])) (Ok tt) → ⊥
+level_fails : GarpFails 2 (IsWeak (λ s t. 1)) (IsStrict (λ s t. 1)) (Cycle (0 ∷ 1 ∷ 0 ∷ [])) (Ok tt) → ⊥
 level_fails (closed, (weak, ((k, within, strict), done))) = absurd (omega (arith, strict))

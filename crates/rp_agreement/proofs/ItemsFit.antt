@@ -14,7 +14,7 @@ use Rattle.rp_evidence.specs.declared.homothetic.Homothetic.{Homothetic}
 use Rattle.rp_evidence.specs.declared.quasilinear.Quasi.{Quasi}
 use Rattle.rp_evidence.specs.declared.random.RandomPart.{RandomPart}
 use Rattle.rp_json.specs.Denoted.{FitLevels, FitsKind, IsReadable}
-use Rattle.rp_notation.proofs.ListLemmas.{all_more, all_none}
+use Rattle.rp_json_entries.proofs.ListLemmas.{all_more, all_none}
 use Rattle.rp_patch.specs.Patches.{IsPatchList, PatchList}
 use Rattle.rp_patch.specs.RandomEvidence.{ProvesRandom}
 use Rattle.rp_random.specs.Verdict.{IsRandomVerdict}

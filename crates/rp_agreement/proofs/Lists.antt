@@ -8,7 +8,7 @@ use Rattle.rp_evidence.specs.Count.{AreCounts, IsNumberOf}
 use Rattle.rp_evidence.specs.Walk.{IsClosedWalk}
 use Rattle.rp_evidence.proofs.Enumerations.{enumerates_few}
 use Rattle.rp_evidence.proofs.Places.{below_at}
-use Rattle.rp_notation.specs.Reading.{FitObservations, FitsCount}
+use Rattle.rp_json_entries.specs.Reading.{FitObservations, FitsCount}
 use Rattle.rp_table.specs.declared.TheConstants.{RECORDS}
 
 module _ (n : ℕ) (few : n ≤ RECORDS) where

@@ -17,7 +17,7 @@ use Rattle.rp_check.specs.declared.verdict.Verdict.TheVariants.{Accepted, Reject
 use Rattle.rp_evidence.specs.Demand.{BudgetInput}
 use Rattle.rp_evidence.specs.DemandEvidence.{budget_of}
 use Rattle.rp_evidence.specs.Input.{TableInput}
-use Rattle.rp_evidence.specs.Preference.{IsStrict, IsWeak, StrictByLevels, WeakByLevels}
+use Rattle.rp_evidence.specs.Preference.{IsStrict, IsStrictAt, IsWeak, IsWeakAt, StrictByLevels, WeakByLevels}
 use Rattle.rp_evidence.specs.declared.afriat.AfriatPart.{AfriatPart}
 use Rattle.rp_evidence.specs.declared.afriat.AfriatPart.TheVariants.{Model, NoModel, Wide}
 use Rattle.rp_evidence.specs.declared.certificate.Item.{Item}
@@ -95,9 +95,9 @@ module _ (e : Failure) where
     above_excludes num den walk (inr (other, (closed, (weak, done)))) (inr (same, inr (h, inr none))) = none.1
 
     parts_exclude : (num den : ℕ) (below above : List ℕ) (at : Garp) → LevelFails n c num den below above at (Ok tt) → LevelFails n c num den below above at (Err e) → ⊥
-    parts_exclude num den below above at (orders, (bounds, (is_at, done))) (inl found) = ordering_excludes n (IsWeak c num den) (IsStrict c num den) below orders found
+    parts_exclude num den below above at (orders, (bounds, (is_at, done))) (inl found) = ordering_excludes n (IsWeakAt c num den) (IsStrictAt c num den) below orders found
     parts_exclude num den below above at (orders, (bounds, (is_at, done))) (inr (h, inl found)) = above_excludes num den above bounds found
-    parts_exclude num den below above at (orders, (bounds, (is_at, done))) (inr (h, inr (i, inl found))) = garp_excludes n (IsWeak c num den) (IsStrict c num den) at is_at found
+    parts_exclude num den below above at (orders, (bounds, (is_at, done))) (inr (h, inr (i, inl found))) = garp_excludes n (IsWeakAt c num den) (IsStrictAt c num den) at is_at found
     parts_exclude num den below above at (orders, (bounds, (is_at, done))) (inr (h, inr (i, inr none))) = none.1
 
     efficiency_excludes : (evidence : Efficiency) → EfficiencyFails n c evidence (Ok tt) → EfficiencyFails n c evidence (Err e) → ⊥
@@ -183,7 +183,7 @@ module _ (e : Failure) where
     demand_excludes shown prices m part (priced, (spent, (holds, done))) (inr (h, inl (not, is))) = not spent
     demand_excludes shown prices m (DemandBounds below strict inner goods) (priced, (spent, (holds, done))) (inr (h, inr (i, inl found))) =
         demand_bounds_exclude (budget_of prices m) shown below strict inner goods holds found
-    demand_excludes shown prices m (NoDemand walk) (priced, (spent, (holds, done))) (inr (h, inr (i, inl found))) = violation_excludes input.n (IsWeak input.cost 1 1) (IsStrict input.cost 1 1) walk holds found
+    demand_excludes shown prices m (NoDemand walk) (priced, (spent, (holds, done))) (inr (h, inr (i, inl found))) = violation_excludes input.n (IsWeak input.cost) (IsStrict input.cost) walk holds found
     demand_excludes shown prices m part (priced, (spent, (holds, done))) (inr (h, inr (i, inr none))) = none.1
 
     welfare_bounds_exclude : (shown : Bool) (prices : ℕ → ℕ) (t upper at : ℕ) (lower : Bound) → WelfareBoundsFail input shown prices t upper at lower (Ok tt)
@@ -200,7 +200,7 @@ module _ (e : Failure) where
     welfare_part_excludes shown prices t (WelfareBounds upper at lower) (observed, (bounds, done)) (inr (h, inl found)) = welfare_bounds_exclude shown prices t upper at lower bounds found
     welfare_part_excludes shown prices t (WelfareBounds upper at lower) (observed, (bounds, done)) (inr (h, inr none)) = none.1
     welfare_part_excludes shown prices t (NoWelfare walk) (observed, (violation, done)) (inl (not, is)) = not observed
-    welfare_part_excludes shown prices t (NoWelfare walk) (observed, (violation, done)) (inr (h, inl found)) = violation_excludes input.n (IsWeak input.cost 1 1) (IsStrict input.cost 1 1) walk violation found
+    welfare_part_excludes shown prices t (NoWelfare walk) (observed, (violation, done)) (inr (h, inl found)) = violation_excludes input.n (IsWeak input.cost) (IsStrict input.cost) walk violation found
     welfare_part_excludes shown prices t (NoWelfare walk) (observed, (violation, done)) (inr (h, inr none)) = none.1
 
     welfare_excludes : (shown : Bool) (prices : List ℕ) (t : ℕ) (part : WelfarePart) → WelfareFails input shown prices t part (Ok tt) → WelfareFails input shown prices t part (Err e) → ⊥

@@ -8,7 +8,7 @@ use Rattle.rp_evidence.specs.declared.certificate.Item.TheVariants.{Garp as Garp
 use Rattle.rp_evidence.specs.declared.failure.Failure.{Failure}
 use Rattle.rp_evidence.specs.declared.random.RandomPart.{RandomPart}
 use Rattle.rp_evidence.specs.declared.random.RandomPart.TheVariants.{Wide}
-use Rattle.rp_kinds.proofs.OneFinding.{evidence_excludes}
+use Rattle.rp_check_mixture.proofs.OneFinding.{evidence_excludes}
 use Rattle.rp_patch.specs.Mixtures.{types_on}
 use Rattle.rp_patch.specs.Patches.{PatchList}
 use Rattle.rp_patch.specs.RandomFailure.{ItemFailsOnPatches, RandomFails}

@@ -3,7 +3,7 @@ use Rattle.std.proofs.Common.{◌≡◌, ◌<◌, ◌^◌, ℕ, zero, suc, ℤ, 
 use Rattle.std.proofs.lemmas.List.{get_or_default}
 use Rattle.std.proofs.lemmas.List.Elements.{Contains-get_or}
 use Rattle.std.specs.Int.RustNames.{unsigned_abs}
-use Rattle.rp_mixture_program.specs.Verdict.{IsOutcomeVerdict, shares_of}
+use Rattle.rp_find_mixture.specs.Verdict.{IsOutcomeVerdict, shares_of}
 use Rattle.rp_evidence.specs.declared.random.RandomPart.{RandomPart}
 use Rattle.rp_evidence.specs.declared.random.RandomPart.TheVariants.{Mixture, Violated, Wide}
 use Rattle.rp_evidence.specs.declared.random.Share.{Share}
@@ -11,9 +11,9 @@ use Rattle.rp_farkas.specs.Limits.{FitsEvidence}
 use Rattle.rp_farkas.specs.LinearProgram.{LinearProgram}
 use Rattle.rp_farkas.specs.declared.entry.Entry.{Entry}
 use Rattle.rp_farkas.specs.declared.entry.Pair.{Pair}
-use Rattle.rp_notation.specs.Reading.{FitObservations, FitsLong}
-use Rattle.rp_program_items.specs.Limits.{FitsRandom, FitsShare}
-use Rattle.rp_notation.proofs.ListLemmas.{all_rest}
+use Rattle.rp_json_entries.specs.Reading.{FitObservations, FitsLong}
+use Rattle.rp_json_programs.specs.Limits.{FitsRandom, FitsShare}
+use Rattle.rp_json_entries.proofs.ListLemmas.{all_rest}
 use Rattle.rp_patch.specs.Mixtures.{random_program, types_on}
 use Rattle.rp_patch.specs.Patches.{IsPatchList, PatchList}
 use Rattle.rp_patch.specs.RandomEvidence.{ProvesRandom}

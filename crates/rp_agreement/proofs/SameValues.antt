@@ -19,28 +19,28 @@ use Rattle.rp_evidence.specs.declared.random.RandomPart.TheVariants.{Mixture, Vi
 use Rattle.rp_num.specs.Fraction.{Fraction}
 use Rattle.rp_num.specs.Spelled.{FitsSum, IsReduced}
 use Rattle.serde_json.specs.Data.{Data, Items, Members, array, item, member, no_items, no_members, null, number, object, string, unsigned}
-use Rattle.rp_test_items.specs.AfriatValue.{afriat_value}
-use Rattle.rp_program_items.specs.BoundValue.{bound_value, entry_value, good_value, point_value}
+use Rattle.rp_json_tests.specs.AfriatValue.{afriat_value}
+use Rattle.rp_json_programs.specs.BoundValue.{bound_value, entry_value, good_value, point_value}
 use Rattle.rp_json.specs.CertificateValue.{certificate_text, certificate_value, item_value, top_value}
 use Rattle.rp_json.specs.Denoted.{FitsKind, IsDenoted, IsDenotedBy, IsReadable}
-use Rattle.rp_test_items.specs.EfficiencyValue.{efficiency_value}
-use Rattle.rp_test_items.specs.GarpValue.{garp_value}
-use Rattle.rp_test_items.specs.HomotheticValue.{homothetic_value}
-use Rattle.rp_notation.specs.Reading.{FitObservations, FitsCount, FitsLong, FitsObservation}
-use Rattle.rp_test_items.specs.Limits.{FitsAfriat, FitsEfficiency, FitsGarp, FitsHomothetic, FitsQuasilinear}
-use Rattle.rp_program_items.specs.Limits.{FitsBound, FitsEntry, FitsGood, FitsPoint, FitsShare}
-use Rattle.rp_test_items.specs.QuasilinearValue.{quasilinear_value}
-use Rattle.rp_program_items.specs.RandomValue.{share_value}
-use Rattle.rp_notation.specs.Values.{count_value, counts_value, fraction_value, list_value, natural_value, naturals_value, observation_value, observations_value, signed_value}
-use Rattle.rp_notation.proofs.ShapeDifferences.{differ, first_letter, late_letter, members_count, second_letter}
-use Rattle.rp_program_items.proofs.DemandReads.{FitsDemandOf, demand_of}
-use Rattle.rp_notation.proofs.FractionTexts.{one_fraction}
+use Rattle.rp_json_tests.specs.EfficiencyValue.{efficiency_value}
+use Rattle.rp_json_tests.specs.GarpValue.{garp_value}
+use Rattle.rp_json_tests.specs.HomotheticValue.{homothetic_value}
+use Rattle.rp_json_entries.specs.Reading.{FitObservations, FitsCount, FitsLong, FitsObservation}
+use Rattle.rp_json_tests.specs.Limits.{FitsAfriat, FitsEfficiency, FitsGarp, FitsHomothetic, FitsQuasilinear}
+use Rattle.rp_json_programs.specs.Limits.{FitsBound, FitsEntry, FitsGood, FitsPoint, FitsShare}
+use Rattle.rp_json_tests.specs.QuasilinearValue.{quasilinear_value}
+use Rattle.rp_json_programs.specs.RandomValue.{share_value}
+use Rattle.rp_json_entries.specs.Values.{count_value, counts_value, fraction_value, list_value, natural_value, naturals_value, observation_value, observations_value, signed_value}
+use Rattle.rp_json_entries.proofs.ShapeDifferences.{differ, first_letter, late_letter, members_count, second_letter}
+use Rattle.rp_json_programs.proofs.DemandReads.{FitsDemandOf, demand_of}
+use Rattle.rp_json_entries.proofs.FractionTexts.{one_fraction}
 use Rattle.rp_json.proofs.ItemListLemmas.{all_items, certificate_found, read_back, text_spells}
 use Rattle.rp_json.proofs.ItemReads.{found_afriat, found_demand, found_efficiency, found_garp, found_homothetic, found_quasilinear, found_random, found_welfare}
-use Rattle.rp_notation.proofs.ListLemmas.{all_first, all_rest, same_array, same_items}
-use Rattle.rp_notation.proofs.NumberLemmas.{one_sum, one_whole}
-use Rattle.rp_program_items.proofs.RandomReads.{FitsRandomOf, random_of}
-use Rattle.rp_program_items.proofs.WelfareReads.{FitsWelfareOf, welfare_of}
+use Rattle.rp_json_entries.proofs.ListLemmas.{all_first, all_rest, same_array, same_items}
+use Rattle.rp_json_entries.proofs.NumberLemmas.{one_sum, one_whole}
+use Rattle.rp_json_programs.proofs.RandomReads.{FitsRandomOf, random_of}
+use Rattle.rp_json_programs.proofs.WelfareReads.{FitsWelfareOf, welfare_of}
 use Rattle.rp_agreement.specs.ReadBack.{IsReadBack}
 
 -- no two entries within the limits are shown alike

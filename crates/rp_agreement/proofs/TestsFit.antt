@@ -11,7 +11,7 @@ use Rattle.rp_evidence.specs.AfriatEvidence.{ProvesOwnAfriat}
 use Rattle.rp_evidence.specs.Efficiency.{BoundsFromAbove, ProvesEfficiency}
 use Rattle.rp_evidence.specs.Garp.{ProvesOfPreference}
 use Rattle.rp_evidence.specs.Homothetic.{ProvesHomothetic}
-use Rattle.rp_evidence.specs.Preference.{IsStrict, IsWeak, WeakByLevels}
+use Rattle.rp_evidence.specs.Preference.{IsStrictAt, IsWeakAt, WeakByLevels}
 use Rattle.rp_evidence.specs.Quasilinear.{ProvesQuasilinear}
 use Rattle.rp_evidence.specs.StandardNumbers.{FitsUtility}
 use Rattle.rp_evidence.specs.Walk.{AnyStep}
@@ -25,8 +25,8 @@ use Rattle.rp_evidence.specs.declared.homothetic.Homothetic.TheVariants.{Values 
 use Rattle.rp_evidence.specs.declared.quasilinear.Quasi.{Quasi}
 use Rattle.rp_evidence.specs.declared.quasilinear.Quasi.TheVariants.{Values as Sums, Cycle as Negative}
 use Rattle.rp_homo.specs.Verdict.{IsHomotheticVerdict}
-use Rattle.rp_notation.specs.Reading.{FitObservations}
-use Rattle.rp_test_items.specs.Limits.{FitsAfriat, FitsEfficiency, FitsGarp, FitsHomothetic, FitsQuasilinear}
+use Rattle.rp_json_entries.specs.Reading.{FitObservations}
+use Rattle.rp_json_tests.specs.Limits.{FitsAfriat, FitsEfficiency, FitsGarp, FitsHomothetic, FitsQuasilinear}
 use Rattle.rp_quasi.specs.Verdict.{IsLimitedSum, IsQuasilinearVerdict}
 use Rattle.rp_table.specs.declared.TheConstants.{RECORDS}
 use Rattle.rp_agreement.proofs.Lists.{counts_fit, walk_fits}
@@ -59,7 +59,7 @@ module _ (n : ℕ) (few : n ≤ RECORDS) where
 module _ (n : ℕ) (c : ℕ → ℕ → ℕ) (few : n ≤ RECORDS) where
   above_fits : (num den : ℕ) (walk : List ℕ) → BoundsFromAbove n c num den walk → (num ≡ den) ⊎ (num ≢ den) → FitObservations walk
   above_fits num den walk bounds (inl one) = subst FitObservations (sym (bounds.none_at_one one)) (λ k d within. absurd (omega (arith, within)))
-  above_fits num den walk bounds (inr other) = walk_fits n few (IsWeak c num den) walk (bounds.closed_below_one other)
+  above_fits num den walk bounds (inr other) = walk_fits n few (IsWeakAt c num den) walk (bounds.closed_below_one other)
 
   pub efficiency_fits : (evidence : Efficiency) → ProvesEfficiency n c evidence → IsEfficiencyVerdict n c evidence → FitsEfficiency evidence
   efficiency_fits evidence proves given =
@@ -68,8 +68,8 @@ module _ (n : ℕ) (c : ℕ → ℕ → ℕ) (few : n ≤ RECORDS) where
       let small = given.level.small in
       let at_most = proves.index.level.1 in (
         above_fits num den evidence.above proves.above (cases_eq num den),
-        garp_fits n few (IsWeak c num den) (IsStrict c num den) evidence.at proves.at given.at,
-        counts_fit n few (IsStrict c num den) evidence.below given.below,
+        garp_fits n few (IsWeakAt c num den) (IsStrictAt c num den) evidence.at proves.at given.at,
+        counts_fit n few (IsStrictAt c num den) evidence.below given.below,
         (
           (given.level.lowest, record { num_fits = omega (arith, small, at_most); den_fits = omega (arith, small) }),
           omega (arith, small, at_most),

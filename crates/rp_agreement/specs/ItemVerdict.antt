@@ -2,7 +2,7 @@
 -- found wrong with it.
 use Rattle.std.specs.Prelude.{◌≡◌, ◌<◌, Ok, []}
 use Rattle.rp_afriat.specs.Verdict.{IsOwnAfriatVerdict}
-use Rattle.rp_patch.specs.Clauses.{Finding}
+use Rattle.rp_evidence.specs.Clauses.{Finding}
 use Rattle.rp_effic.specs.Verdict.{IsEfficiencyVerdict}
 use Rattle.rp_evidence.specs.DemandEvidence.{budget_of}
 use Rattle.rp_evidence.specs.Input.{TableInput}

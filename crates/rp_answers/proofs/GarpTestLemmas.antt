@@ -29,14 +29,14 @@ use Rattle.rp_answers.proofs.GarpFirstLemmas.{garp_at_one_there, garp_given_at_o
 use Rattle.rp_answers.proofs.ReadBackLemmas.{garp_first_read_back}
 
 -- without levels, the closure by the observations' own levels is that where all that was spent counts
-closure_at_one : (n : ℕ) (levels : List ℕ) (c : ℕ → ℕ → ℕ) → levels ≡ [] → (reached : Reached) → IsClosureOf reached n (WeakByLevels levels c) → IsClosureOf reached n (IsWeak c 1 1)
+closure_at_one : (n : ℕ) (levels : List ℕ) (c : ℕ → ℕ → ℕ) → levels ≡ [] → (reached : Reached) → IsClosureOf reached n (WeakByLevels levels c) → IsClosureOf reached n (IsWeak c)
 closure_at_one n levels c none reached closes =
     let own : IsClosureOf reached n (WeakByLevels [] c) = subst (λ (l : List ℕ). IsClosureOf reached n (WeakByLevels l c)) none closes in
     record {
       size = own.size;
       exact = λ s t s_in t_in.
           let is = own.exact s t s_in t_in in
-          let same = reach_same n (WeakByLevels [] c) (IsWeak c 1 1) (λ a b a_in b_in. weak_without_levels c a b) s t in
+          let same = reach_same n (WeakByLevels [] c) (IsWeak c) (λ a b a_in b_in. weak_without_levels c a b) s t in
           (λ told. same.0 (is.0 told), λ reaches. is.1 (same.1 reaches));
     }
 
@@ -44,7 +44,7 @@ module _ (table : Observations) (none : table.levels ≡ []) (tested : GarpTest)
   no_levels : tested.costs.levels ≡ []
   no_levels = is.of_table.levels ∙ none
 
-  pub closes_at_one : IsClosureOf tested.closure tested.costs.n (IsWeak (cost_at tested.costs) 1 1)
+  pub closes_at_one : IsClosureOf tested.closure tested.costs.n (IsWeak (cost_at tested.costs))
   closes_at_one = closure_at_one tested.costs.n tested.costs.levels (cost_at tested.costs) no_levels tested.closure is.closes
 
   pub judged_at_one : ProvesGarp tested.costs.n (cost_at tested.costs) tested.garp

@@ -8,7 +8,7 @@ use Rattle.rp_evidence.specs.declared.certificate.Kind.TheVariants.{Table}
 use Rattle.rp_evidence.specs.declared.garp.Garp.{Garp}
 use Rattle.rp_garp.specs.Verdict.{IsGarpVerdict}
 use Rattle.rp_json.specs.Denoted.{FitsKind}
-use Rattle.rp_notation.proofs.ListLemmas.{all_more}
+use Rattle.rp_json_entries.proofs.ListLemmas.{all_more}
 use Rattle.rp_table.specs.Tables.{IsTable, Observations, records_of}
 use Rattle.rp_table.specs.Cost.{cost_of}
 use Rattle.rp_agreement.specs.ReadBack.{IsReadBack, certificate_from}
@@ -24,6 +24,6 @@ module _ (table : Observations) (valid : IsTable table) (garp : Garp) (proves : 
       text_read_back Table (certificate_from [] garp others) (record {
         of_kind = refl;
         levels = inl (refl, refl);
-        items = all_more (FitsKind Table) (GarpItem garp) others (tt, garp_fits (records_of table) valid.few_records (IsWeak (cost_of table) 1 1) (IsStrict (cost_of table) 1 1) garp proves given)
+        items = all_more (FitsKind Table) (GarpItem garp) others (tt, garp_fits (records_of table) valid.few_records (IsWeak (cost_of table)) (IsStrict (cost_of table)) garp proves given)
             (λ k d k_in. fit k (slice_index_or others k d) (answered.each k d (omega (arith, k_in, answered.one_each))));
       })

@@ -10,7 +10,7 @@ use Rattle.std.specs.Fmt.{decimal}
 use Rattle.std.proofs.lemmas.Fmt.{decimal_injective, decimal-digits_of, length-decimal-le}
 use Rattle.rand_pcg.specs.Lcg.{Lcg}
 use Rattle.rp_num.specs.Below.{listed, rows_below}
-use Rattle.rp_draws.proofs.WordLemmas.{word_later, words_later}
+use Rattle.rp_power.proofs.WordLemmas.{word_later, words_later}
 use Rattle.rp_num.proofs.BelowLemmas.{length-listed, get-listed}
 use Rattle.rp_table.specs.Names.{IsName}
 use Rattle.rp_table.specs.declared.TheConstants.{RECORDS, GOODS}
@@ -19,7 +19,7 @@ use Rattle.rp_sheet.proofs.RowLemmas.{length-rows, row_number, all_rows}
 use Rattle.rp_power.specs.Shares.{not_all_zero}
 use Rattle.rp_power.proofs.DrawnLemmas.{not_all_zero_sum, not_all_zero_within}
 use Rattle.rp_answers.specs.TrialTable.{drawn_price, drawn_quantity, record_generator, good_name, trial_of}
-use Rattle.rp_draws.specs.Words.{after_words, generator_of, word_after}
+use Rattle.rp_power.specs.Words.{after_words, generator_of, word_after}
 
 -- one more price
 pub prices_more : (g here : Lcg) (k word price : ℕ) (row more : List ℕ) → row ≡ listed k (drawn_price g) → here ≡ after_words g k → word ≡ word_after here 0 → price ≡ 1 + word % 99 → more ≡ row ++ price ∷ [] → more ≡ listed (k + 1) (drawn_price g)

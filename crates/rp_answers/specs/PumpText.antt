@@ -17,7 +17,7 @@ pub record IsPumpAnswer (n : ℕ) (c : ℕ → ℕ → ℕ) (part : PumpPart) : 
   pub lowest_terms : IsCoprime part.num part.den
   pub least : HasLeastPumpTotals n c part
   pub accepted : PumpHolds n c part
-  pub garp : (0 < part.num) ↔ FailsGarp n c 1 1
+  pub garp : (0 < part.num) ↔ FailsGarp n c
 
 -- the text is the report of that
 abbrev pub IsPumpText : Observations → List ℕ → Type 0

@@ -2,7 +2,7 @@
 -- quantities is this project's own.
 use Rattle.std.specs.Prelude.{ℕ, ◌+◌, ◌*◌, ◌%◌, List, [], ◌++◌, codes}
 use Rattle.std.specs.Fmt.{decimal}
-use Rattle.rp_draws.specs.Words.{after_words, generator_of, word_after}
+use Rattle.rp_power.specs.Words.{after_words, generator_of, word_after}
 use Rattle.rand_pcg.specs.Lcg.{Lcg}
 use Rattle.rp_num.specs.Below.{listed, rows_below}
 use Rattle.rp_power.specs.Shares.{not_all_zero}

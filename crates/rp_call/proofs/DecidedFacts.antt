@@ -1,6 +1,6 @@
 -- The causes of the endings exclude one another, so the frame decides which ending comes.
 use Rattle.std.proofs.Common.{◌≡◌, ◌<◌, ℕ, List, Some, None, Ok, Err, inl, inr, refl, subst, ap, arith, length}
-use Rattle.rp_words.specs.CommandLine.{Line, files_of}
+use Rattle.rp_command_line.specs.CommandLine.{Line, files_of}
 use Rattle.rp_answers.specs.declared.status.Status.{Status}
 use Rattle.rp_answers.specs.declared.status.Status.TheVariants.{Done, Rejected, Usage, ReadFault, Refused, WriteFault, NoMemory}
 use Rattle.rp_patch.proofs.Determined.{same_list}

@@ -2,8 +2,8 @@
 use Rattle.std.proofs.Common.{◌≡◌, ◌∙◌, ◌<◌, ◌≤◌, ℕ, List, [], Option, Some, None, Result, Ok, Err, IfOk, length, refl, sym, subst, ap, unwrap_or, map, string_bytes, inr}
 use Rattle.rp_outside.specs.Files.{bytes_under}
 use Rattle.rp_outside.specs.Known.{AreAll}
-use Rattle.rp_words.specs.CommandLine.{Line, file_at, files_of}
-use Rattle.rp_words.specs.Words.{denoted_line}
+use Rattle.rp_command_line.specs.CommandLine.{Line, file_at, files_of}
+use Rattle.rp_command_line.specs.Words.{denoted_line}
 use Rattle.rp_answers.specs.declared.status.Status.{Status}
 use Rattle.rp_answers.specs.declared.status.Status.TheVariants.{Done, Rejected, Usage, ReadFault, Refused, WriteFault, NoMemory}
 use Rattle.rp_run.specs.Answers.{AnswersLine, AreContents, RefusesWith}

@@ -2,7 +2,7 @@
 use Rattle.std.proofs.Common.{◌≡◌, ◌∙◌, ℕ, List, [], Option, Some, ⊎_elim, refl, sym, subst, arith}
 use Rattle.rp_outside.specs.Faults.{HasRisen}
 use Rattle.rp_outside.specs.Known.{Grows, Stays}
-use Rattle.rp_words.specs.CommandLine.{Line, file_at}
+use Rattle.rp_command_line.specs.CommandLine.{Line, file_at}
 use Rattle.rp_answers.specs.declared.status.Status.{Status}
 use Rattle.rp_answers.specs.declared.status.Status.TheVariants.{Done, Rejected, Usage, ReadFault, Refused, WriteFault, NoMemory}
 use Rattle.rp_outside.specs.SureDesk.{SureState}

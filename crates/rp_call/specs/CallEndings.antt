@@ -5,9 +5,9 @@ use Rattle.rp_frame.specs.Frames.{Frame, Request, request_in}
 use Rattle.rp_frame.specs.Handed.{IsText}
 use Rattle.rp_frame.specs.Rooms.{filled}
 use Rattle.rp_outside.specs.Files.{bytes_under}
-use Rattle.rp_words.specs.CommandLine.{Line, file_at, files_of}
-use Rattle.rp_words.specs.Words.{denoted_line}
-use Rattle.rp_words.specs.Usage.{usage_text}
+use Rattle.rp_command_line.specs.CommandLine.{Line, file_at, files_of}
+use Rattle.rp_command_line.specs.Words.{denoted_line}
+use Rattle.rp_command_line.specs.Usage.{usage_text}
 use Rattle.rp_run.specs.Answers.{AnswersLine, Files, IsAccepted, IsRefused, RefusesWith}
 use Rattle.rp_run.specs.Endings.{IsEnd}
 use Rattle.rp_run.specs.FaultLines.{memory_line, read_line}

@@ -1,8 +1,8 @@
 -- How a run over files in memory ends, in the shape that a call takes it on (for the functions between).
 use Rattle.std.specs.Prelude.{◌≡◌, List, [], ◌∷◌, ℕ, Option, Some, None, codes, unwrap_or}
 use Rattle.rp_outside.specs.Files.{bytes_under}
-use Rattle.rp_words.specs.CommandLine.{Line}
-use Rattle.rp_words.specs.Usage.{usage_text}
+use Rattle.rp_command_line.specs.CommandLine.{Line}
+use Rattle.rp_command_line.specs.Usage.{usage_text}
 use Rattle.rp_run.specs.Answers.{AnswersLine, Files, RefusesWith}
 use Rattle.rp_run.specs.FaultLines.{read_line}
 use Rattle.rp_frame.specs.Frames.{Request}

@@ -1,18 +1,18 @@
 //! What the words and files that were handed over end with.
 ghost use Rattle.std.specs.Prelude.{◌≡◌, [], Some, IfOk, map, string_bytes};
 ghost use Rattle.rp_outside.specs.NamedFile.{named_bytes};
-ghost use Rattle.rp_words.specs.Named.{named_line};
-ghost use Rattle.rp_words.specs.Words.{line_in};
+ghost use Rattle.rp_command_line.specs.Named.{named_line};
+ghost use Rattle.rp_command_line.specs.Words.{line_in};
 ghost use Rattle.rp_call.specs.RunEndings.{EndsAsRun, EndsFor, TellsUnread, known_in};
 
 use crate::ending::Ending;
 use crate::files::first_missing;
 use crate::running::run_over;
+use rp_command_line::{Line, read_line};
 use rp_frame::Handed;
 use rp_num::NoMemory;
 use rp_outside::MemFile;
 use rp_run::Status;
-use rp_words::{Line, read_line};
 use std::alloc::Global;
 
 /// How a call ended, with what is written and what is told.

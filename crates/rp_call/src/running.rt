@@ -1,7 +1,7 @@
 //! A run over files that are all given.
 ghost use Rattle.std.specs.Prelude.{IfOk, map};
 ghost use Rattle.rp_outside.specs.NamedFile.{named_bytes};
-ghost use Rattle.rp_words.specs.Words.{line_in};
+ghost use Rattle.rp_command_line.specs.Words.{line_in};
 ghost use Rattle.rp_call.specs.RunEndings.{IsRun, known_in};
 
 use rp_frame::TextSink;

@@ -10,7 +10,7 @@ use Rattle.rp_evidence.specs.declared.demand.GoodBounds.{GoodBounds}
 use Rattle.rp_evidence.specs.declared.demand.Point.{Point as InnerPoint}
 use Rattle.rp_evidence.specs.declared.failure.Failure.{Failure}
 use Rattle.rp_evidence.specs.declared.failure.Reason.TheVariants.{NoGarp, Point}
-use Rattle.rp_patch.specs.Clauses.{InOrder, Unless, failure}
+use Rattle.rp_evidence.specs.Clauses.{InOrder, Unless, failure}
 use Rattle.rp_check.specs.DemandFailure.{CostsEnoughAt, DemandBoundsFail, DemandFails, DemandPartFails, GoodsFail, InnerFails, SetsFail}
 use Rattle.rp_clauses.specs.PricesFailure.{ExpenditureFails, PricesFail}
 use Rattle.rp_clauses.specs.WalkFailure.{ViolationFails}
@@ -51,6 +51,6 @@ module _ (input : TableInput) (garp_shown : Bool) (budget : BudgetInput) (eviden
   from_none_shown none below strict inner goods is e =
       from_bounds below strict below strict inner goods goods is refl refl refl (rw e (inl (none, refl)))
 
-  pub from_violation : (walk walk' : List ℕ) → evidence ≡ NoModel walk → walk' ≡ walk → ViolationFails input.n (IsWeak input.cost 1 1) (IsStrict input.cost 1 1) walk' r → DemandPartFails input garp_shown budget evidence r
+  pub from_violation : (walk walk' : List ℕ) → evidence ≡ NoModel walk → walk' ≡ walk → ViolationFails input.n (IsWeak input.cost) (IsStrict input.cost) walk' r → DemandPartFails input garp_shown budget evidence r
   from_violation walk walk' is a h =
-      subst (λ (p : DemandPart). DemandPartFails input garp_shown budget p r) (sym is) (subst (λ (w : List ℕ). ViolationFails input.n (IsWeak input.cost 1 1) (IsStrict input.cost 1 1) w r) a h)
+      subst (λ (p : DemandPart). DemandPartFails input garp_shown budget p r) (sym is) (subst (λ (w : List ℕ). ViolationFails input.n (IsWeak input.cost) (IsStrict input.cost) w r) a h)

@@ -7,11 +7,11 @@ use Rattle.rp_evidence.specs.Input.{TableInput}
 use Rattle.rp_evidence.specs.Preference.{IsWeak}
 use Rattle.rp_evidence.proofs.EqualOrReached.{leads_by, rest_of}
 use Rattle.rp_evidence.proofs.StrictStarts.{below_exactly, strictly_exactly}
-use Rattle.rp_rounds.specs.Marks.{AreMarked}
+use Rattle.rp_evidence.specs.Marks.{AreMarked}
 use Rattle.rp_clauses.specs.ReachedMarks.{IsReachedFromMarked}
 
 module _ (input : TableInput) (budget : BudgetInput) where
-  pub marks_below : (starts marks : List Bool) → AreMarked input.n (Buys input budget) starts → AreMarked input.n (IsReachedFromMarked input.n (IsWeak input.cost 1 1) starts) marks
+  pub marks_below : (starts marks : List Bool) → AreMarked input.n (Buys input budget) starts → AreMarked input.n (IsReachedFromMarked input.n (IsWeak input.cost) starts) marks
       → AreMarked input.n (IsBelow input budget) marks
   marks_below starts marks told led t t_in = (
     (λ h. let k = (led t t_in).0 h in (below_exactly input budget t).0 (k.0, k.1, (told k.0 k.1).0 k.2, leads_by input k.0 t k.3 k.4)),
@@ -21,7 +21,7 @@ module _ (input : TableInput) (budget : BudgetInput) where
         (led t t_in).1 (k.0, k.1, (told k.0 k.1).1 k.2, w.0, w.1)),
   )
 
-  pub marks_strictly : (starts marks : List Bool) → AreMarked input.n (IsStrictStart input budget) starts → AreMarked input.n (IsReachedFromMarked input.n (IsWeak input.cost 1 1) starts) marks
+  pub marks_strictly : (starts marks : List Bool) → AreMarked input.n (IsStrictStart input budget) starts → AreMarked input.n (IsReachedFromMarked input.n (IsWeak input.cost) starts) marks
       → AreMarked input.n (IsStrictlyBelow input budget) marks
   marks_strictly starts marks told led t t_in = (
     (λ h. let k = (led t t_in).0 h in (strictly_exactly input budget t).0 (k.0, k.1, (told k.0 k.1).0 k.2, leads_by input k.0 t k.3 k.4)),

@@ -6,10 +6,10 @@ use Rattle.rp_evidence.specs.Input.{TableInput}
 use Rattle.rp_evidence.specs.declared.failure.Failure.{Failure}
 use Rattle.rp_evidence.specs.declared.failure.Reason.TheVariants.{Set}
 use Rattle.rp_check.specs.InnerSets.{AreFewOf, AreSets}
-use Rattle.rp_patch.specs.Clauses.{failure}
+use Rattle.rp_evidence.specs.Clauses.{failure}
 use Rattle.rp_check.specs.DemandFailure.{SetsFail}
 use Rattle.rp_evidence.specs.Enumeration.{Enumerates}
-use Rattle.rp_rounds.specs.Marks.{IsMarked}
+use Rattle.rp_evidence.specs.Marks.{IsMarked}
 use Rattle.rp_check.specs.declared.sets.Sets.{Sets}
 use Rattle.rp_table.specs.declared.TheConstants.{RECORDS}
 use Rattle.rp_evidence.proofs.Enumerations.{enumerates_few, enumerates_observed, enumerates_same}

@@ -85,10 +85,10 @@ module _ (input : TableInput) (num den : ℕ) (value : Fraction) (lowest : IsLow
     );
   }
 
-module _ (input : TableInput) (garp_shown : Bool) (sound : IsTrue garp_shown → MeetsGarp input.n input.cost 1 1) where
+module _ (input : TableInput) (garp_shown : Bool) (sound : IsTrue garp_shown → MeetsGarp input.n input.cost) where
   -- ---- demand
 
-  module _ (budget : BudgetInput) (below : List ℕ) (lists : ListsBelow input budget below) (meets : MeetsGarp input.n input.cost 1 1) (inner : FractionBundle) (kept : IsSupportingDemand input budget inner) (g : ℕ) (g_in : g < input.goods) (some : 0 < budget.prices g) where
+  module _ (budget : BudgetInput) (below : List ℕ) (lists : ListsBelow input budget below) (meets : MeetsGarp input.n input.cost) (inner : FractionBundle) (kept : IsSupportingDemand input budget inner) (g : ℕ) (g_in : g < input.goods) (some : 0 < budget.prices g) where
     proves_lower : (bound : Bound) → BoundHolds (lower_program input budget below g) (λ x. x g) bound → ProvesLower input budget g bound
     proves_lower (Shown value pair) (equal, lowest) =
         infimum_reduced input (slice_index pair.x g) pair.den value lowest budget g
@@ -123,7 +123,7 @@ module _ (input : TableInput) (garp_shown : Bool) (sound : IsTrue garp_shown →
   pub demand_proves : (prices : List ℕ) (m : ℕ) (evidence : DemandPart) → DemandFails input garp_shown prices m evidence (Ok tt) → ProvesDemand input prices m evidence
   demand_proves prices m (Bounds below strict inner goods) ((one_each, (fit, priced)), (spent, (bounds, done))) =
       (one_each, demand_bounds_prove (budget_of prices m) below strict inner goods (λ g g_in. (fit g g_in).0) bounds)
-  demand_proves prices m (NoModel walk) (priced, (spent, (violation, done))) = garp_proves input.n (IsWeak input.cost 1 1) (IsStrict input.cost 1 1) (Cycle walk) violation
+  demand_proves prices m (NoModel walk) (priced, (spent, (violation, done))) = garp_proves input.n (IsWeak input.cost) (IsStrict input.cost) (Cycle walk) violation
 
   -- ---- welfare
 
@@ -148,4 +148,4 @@ module _ (input : TableInput) (garp_shown : Bool) (sound : IsTrue garp_shown →
       lower_is = lower_proves (slice_index prices) t lower low;
     },
   )
-  welfare_proves prices t (NoWelfare walk) (priced, ((t_in, (violation, one)), done)) = garp_proves input.n (IsWeak input.cost 1 1) (IsStrict input.cost 1 1) (Cycle walk) violation
+  welfare_proves prices t (NoWelfare walk) (priced, ((t_in, (violation, one)), done)) = garp_proves input.n (IsWeak input.cost) (IsStrict input.cost) (Cycle walk) violation

@@ -43,9 +43,9 @@ shows_at_end (x ∷ items) item = ap (λ b. shows_garp x || b) (shows_at_end ite
 abbrev pub MeetsByLevels : TableInput → Type 0
 MeetsByLevels input = HasNoViolation input.n (WeakByLevels input.levels input.cost) (StrictByLevels input.levels input.cost)
 
-meets_without : (input : TableInput) → input.levels ≡ [] → MeetsByLevels input → MeetsGarp input.n input.cost 1 1
+meets_without : (input : TableInput) → input.levels ≡ [] → MeetsByLevels input → MeetsGarp input.n input.cost
 meets_without input none meets =
-    no_violation_same input.n (WeakByLevels [] input.cost) (StrictByLevels [] input.cost) (IsWeak input.cost 1 1) (IsStrict input.cost 1 1)
+    no_violation_same input.n (WeakByLevels [] input.cost) (StrictByLevels [] input.cost) (IsWeak input.cost) (IsStrict input.cost)
     (λ s t a b. weak_without_levels input.cost s t) (λ s t a b. strict_without_levels input.cost s t)
     (subst (λ levels. HasNoViolation input.n (WeakByLevels levels input.cost) (StrictByLevels levels input.cost)) none meets)
 

@@ -11,10 +11,10 @@ use Rattle.rp_evidence.specs.declared.demand.WelfarePart.{WelfarePart}
 use Rattle.rp_evidence.specs.declared.demand.WelfarePart.TheVariants.{Bounds, NoModel}
 use Rattle.rp_evidence.specs.declared.failure.Failure.{Failure}
 use Rattle.rp_evidence.specs.declared.failure.Reason.TheVariants.{Number}
-use Rattle.rp_patch.specs.Clauses.{InOrder, Unless}
+use Rattle.rp_evidence.specs.Clauses.{InOrder, Unless}
 use Rattle.rp_clauses.specs.PricesFailure.{PricesFail}
 use Rattle.rp_evidence.specs.Enumeration.{Enumerates}
-use Rattle.rp_rounds.specs.Marks.{AreMarked, IsMarked}
+use Rattle.rp_evidence.specs.Marks.{AreMarked, IsMarked}
 use Rattle.rp_clauses.specs.WalkFailure.{ViolationFails}
 use Rattle.rp_check.specs.WelfareFailure.{LowerHolds, WelfareBoundsFail, WelfareFails, WelfarePartFails}
 use Rattle.rp_evidence.proofs.Enumerations.{enumerates_same, enumeration_is_one}
@@ -22,7 +22,7 @@ use Rattle.rp_farkas.specs.Measure.{measured}
 use Rattle.rp_farkas.specs.declared.measure.Measure.TheVariants.{Cost}
 use Rattle.rp_clauses.proofs.BoundMeasures.{holds_alike}
 use Rattle.rp_programs.proofs.LeastCosts.{measure_is}
-use Rattle.rp_patch.proofs.ClauseLemmas.{then_last}
+use Rattle.rp_evidence.proofs.ClauseLemmas.{then_last}
 
 module _ (input : TableInput) (t : ℕ) where
   pub lists_reached : (marks : List Bool) (list : List ℕ) → AreMarked input.n (EqualsOrReaches input t) marks → Enumerates input.n (IsMarked marks) list → ListsReached input t list
@@ -59,7 +59,7 @@ module _ (input : TableInput) (garp_shown : Bool) (prices : List ℕ) (t : ℕ) 
       from_part (Bounds upper at lower) is
       (then_last (Unless ((t < input.n) × (at < input.n)) Number 0) (WelfareBoundsFail input garp_shown (slice_index prices) t upper at lower) r (t_in, at_in) h)
 
-  pub from_violation : (walk walk' : List ℕ) → evidence ≡ NoModel walk → walk' ≡ walk → InOrder (Unless (t < input.n) Number 0 ∷ ViolationFails input.n (IsWeak input.cost 1 1) (IsStrict input.cost 1 1) walk' ∷ []) r
+  pub from_violation : (walk walk' : List ℕ) → evidence ≡ NoModel walk → walk' ≡ walk → InOrder (Unless (t < input.n) Number 0 ∷ ViolationFails input.n (IsWeak input.cost) (IsStrict input.cost) walk' ∷ []) r
       → WelfareFails input garp_shown prices t evidence r
   from_violation walk walk' is same h =
-      from_part (NoModel walk) is (subst (λ (w : List ℕ). InOrder (Unless (t < input.n) Number 0 ∷ ViolationFails input.n (IsWeak input.cost 1 1) (IsStrict input.cost 1 1) w ∷ []) r) same h)
+      from_part (NoModel walk) is (subst (λ (w : List ℕ). InOrder (Unless (t < input.n) Number 0 ∷ ViolationFails input.n (IsWeak input.cost) (IsStrict input.cost) w ∷ []) r) same h)

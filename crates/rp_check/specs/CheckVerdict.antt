@@ -1,7 +1,7 @@
 -- What is answered of a certificate on a table: it is accepted where its levels are those of the table and no item
 -- fails, else the levels are named, or the first item that does (this program's own).
 use Rattle.std.specs.Prelude.{◌≡◌, ◌⊎◌, ◌+◌, ◌<◌, ℕ, List, length, take, slice_index_or, Ok, Err}
-use Rattle.rp_patch.specs.Clauses.{Finding, capped}
+use Rattle.rp_evidence.specs.Clauses.{Finding, cap}
 use Rattle.rp_check.specs.ItemFailure.{ItemFails, one_shows_garp}
 use Rattle.rp_check.specs.LevelsFailure.{LevelsFail}
 use Rattle.rp_check.specs.declared.verdict.Verdict.{Verdict}
@@ -18,7 +18,7 @@ ItemFailsAt input items k found =
 abbrev pub IsCheckVerdictOnItems : TableInput → List Item → Verdict → Type 0
 IsCheckVerdictOnItems input items Accepted = (k : ℕ) → k < length items → ItemFailsAt input items k (Ok tt)
 IsCheckVerdictOnItems input items (Rejected item reason place) =
-    (k : ℕ) × (k < length items) × (item ≡ capped (k + 1))
+    (k : ℕ) × (k < length items) × (item ≡ cap (k + 1))
     × ItemFailsAt input items k (Err (record { reason = reason; place = place }))
     × ((j : ℕ) → j < k → ItemFailsAt input items j (Ok tt))
 

@@ -1,7 +1,7 @@
 -- When evidence on demand at new prices fails (this program's own order of clauses; Varian 1982).
 use Rattle.std.specs.Prelude.{◌≡◌, ◌+◌, ◌*◌, ◌<◌, ◌≤◌, ℕ, Bool, IsTrue, List, [], ◌∷◌, length, slice_index}
 use Rattle.std.specs.Prelude.{slice_index_or}
-use Rattle.rp_patch.specs.Clauses.{Finding, Unless, InOrder, FirstBelow, FirstUnless}
+use Rattle.rp_evidence.specs.Clauses.{Finding, Unless, InOrder, FirstBelow, FirstUnless}
 use Rattle.rp_clauses.specs.PricesFailure.{ExpenditureFails, PricesFail}
 use Rattle.rp_clauses.specs.WalkFailure.{ViolationFails}
 use Rattle.rp_evidence.specs.BoundEvidence.{BoundHolds}
@@ -71,7 +71,7 @@ abbrev pub DemandPartFails : TableInput → Bool → BudgetInput → DemandPart 
 DemandPartFails input garp_shown budget (Bounds below strict inner goods) =
     DemandBoundsFail input garp_shown budget below strict inner goods
 DemandPartFails input garp_shown budget (NoModel walk) =
-    ViolationFails input.n (IsWeak input.cost 1 1) (IsStrict input.cost 1 1) walk
+    ViolationFails input.n (IsWeak input.cost) (IsStrict input.cost) walk
 
 -- An item on demand: the new prices, what is spent at them, and then its part.
 abbrev pub DemandFails : TableInput → Bool → List ℕ → ℕ → DemandPart → Finding

@@ -1,7 +1,7 @@
 -- What marks the sets of observations below a budget, and what lists of them are; words that only the crate's own
 -- functions and their proofs need.
 use Rattle.std.specs.Prelude.{◌<◌, ◌≤◌, ℕ, All, List, length}
-use Rattle.rp_rounds.specs.Marks.{AreMarked}
+use Rattle.rp_evidence.specs.Marks.{AreMarked}
 use Rattle.rp_check.specs.declared.sets.Sets.{Sets}
 use Rattle.rp_evidence.specs.Demand.{BudgetInput, IsBelow, IsStrictlyBelow}
 use Rattle.rp_evidence.specs.Input.{TableInput}

@@ -2,7 +2,7 @@
 -- evidence).
 use Rattle.std.specs.Prelude.{◌||◌, Bool, true, false, List, [], ◌∷◌}
 use Rattle.rp_clauses.specs.AfriatFailure.{AfriatFails}
-use Rattle.rp_patch.specs.Clauses.{Finding, InOrder}
+use Rattle.rp_evidence.specs.Clauses.{Finding, InOrder}
 use Rattle.rp_check.specs.DemandFailure.{DemandFails}
 use Rattle.rp_clauses.specs.EfficiencyFailure.{EfficiencyFails}
 use Rattle.rp_clauses.specs.GarpFailure.{GarpFails}

@@ -1,7 +1,7 @@
 -- When the levels of a certificate are not those of the table (this program's own order of clauses).
 use Rattle.std.specs.Prelude.{◌≡◌, ℕ, List, [], ◌∷◌, length, slice_index}
 use Rattle.rp_evidence.specs.declared.failure.Reason.TheVariants.{Levels}
-use Rattle.rp_patch.specs.Clauses.{Finding, FirstUnless, InOrder, Unless}
+use Rattle.rp_evidence.specs.Clauses.{Finding, FirstUnless, InOrder, Unless}
 
 -- The levels of an observation are the same.
 abbrev pub AreLevelsAlike : List ℕ → List ℕ → ℕ → Type 0

@@ -4,7 +4,7 @@ use Rattle.std.specs.Prelude.{◌≡◌, ◌+◌, ◌<◌, ℕ, List, length, sl
 use Rattle.rp_check.specs.declared.verdict.Verdict.{Verdict}
 use Rattle.rp_check.specs.declared.verdict.Verdict.TheVariants.{Accepted, Rejected}
 use Rattle.rp_evidence.specs.declared.certificate.Item.{Item}
-use Rattle.rp_patch.specs.Clauses.{Finding, capped}
+use Rattle.rp_evidence.specs.Clauses.{Finding, cap}
 use Rattle.rp_patch.specs.Patches.{PatchList}
 use Rattle.rp_patch.specs.RandomFailure.{ItemFailsOnPatches}
 
@@ -16,6 +16,6 @@ RandomItemFailsAt p items k found = (other : Item) → ItemFailsOnPatches p (sli
 abbrev pub IsRandomCheckVerdict : PatchList → List Item → Verdict → Type 0
 IsRandomCheckVerdict p items Accepted = (k : ℕ) → k < length items → RandomItemFailsAt p items k (Ok tt)
 IsRandomCheckVerdict p items (Rejected item reason place) =
-    (k : ℕ) × (k < length items) × (item ≡ capped (k + 1))
+    (k : ℕ) × (k < length items) × (item ≡ cap (k + 1))
     × RandomItemFailsAt p items k (Err (record { reason = reason; place = place }))
     × ((j : ℕ) → j < k → RandomItemFailsAt p items j (Ok tt))

@@ -1,6 +1,6 @@
 -- When evidence on the money metric fails (this program's own order of clauses; after Varian 1982).
 use Rattle.std.specs.Prelude.{◌≡◌, ◌<◌, ◌≤◌, ℕ, Bool, IsTrue, List, [], ◌∷◌, slice_index}
-use Rattle.rp_patch.specs.Clauses.{Finding, Unless, InOrder, FirstUnless}
+use Rattle.rp_evidence.specs.Clauses.{Finding, Unless, InOrder, FirstUnless}
 use Rattle.rp_clauses.specs.PricesFailure.{PricesFail}
 use Rattle.rp_clauses.specs.WalkFailure.{ViolationFails}
 use Rattle.rp_evidence.specs.BoundEvidence.{BoundHolds}
@@ -43,7 +43,7 @@ WelfarePartFails input garp_shown prices t (Bounds upper at lower) = InOrder (
     ∷ WelfareBoundsFail input garp_shown prices t upper at lower
     ∷ [])
 WelfarePartFails input garp_shown prices t (NoModel walk) = InOrder (
-    Unless (t < input.n) Number 0 ∷ ViolationFails input.n (IsWeak input.cost 1 1) (IsStrict input.cost 1 1) walk ∷ [])
+    Unless (t < input.n) Number 0 ∷ ViolationFails input.n (IsWeak input.cost) (IsStrict input.cost) walk ∷ [])
 
 -- An item on welfare: the new prices, and then its part.
 abbrev pub WelfareFails : TableInput → Bool → List ℕ → ℕ → WelfarePart → Finding

@@ -13,8 +13,7 @@ use crate::item::{check_item, shows_garp};
 use crate::levels::check_levels;
 use rp_clauses::closure::Closure;
 use rp_clauses::input::Input;
-use rp_evidence::{Certificate, Item};
-use rp_patch::capped;
+use rp_evidence::{Certificate, Item, cap};
 use rp_table::{Costs, Table};
 
 /// The verdict on a certificate on a table: its levels, where they are not those of the table, with item 0; else its
@@ -60,7 +59,7 @@ fn check_items(table: &Table, costs: &Costs, items: &[Item]) -> Verdict
     for (k, item) in items.iter().enumerate() {
         if let Err(found) = check_item(&input, &closure, garp_shown, item) {
             return Verdict::Rejected {
-                item: capped(k + 1),
+                item: cap(k + 1),
                 reason: found.reason,
                 place: found.place,
             };

@@ -3,12 +3,12 @@ ghost use Rattle.rp_check.specs.InnerSets.{AreFewOf, AreSets};
 ghost use Rattle.rp_evidence.specs.InnerBudget.{input_of, new_budget};
 ghost use Rattle.rp_check.specs.DemandFailure.{CostsEnoughAt, SetsFail};
 ghost use Rattle.rp_check.specs.DemandFailure.{DemandFails, GoodFails, GoodsFail, InnerFails};
-ghost use Rattle.rp_rounds.specs.Reached.{IsWeakClosureOf};
+ghost use Rattle.rp_evidence.specs.Reached.{IsWeakClosureOf};
 ghost use Rattle.rp_evidence.specs.BoundEvidence.{BoundHolds};
 ghost use Rattle.rp_evidence.specs.DemandEvidence.{bundle_of};
 ghost use Rattle.rp_evidence.specs.DemandPrograms.{lower_program, upper_program};
 ghost use Rattle.rp_evidence.specs.Input.{input_of_table};
-ghost use Rattle.rp_patch.specs.Clauses.{InOrder};
+ghost use Rattle.rp_evidence.specs.Clauses.{InOrder};
 ghost use Rattle.rp_table.specs.Tables.{goods_of, records_of};
 
 use crate::sets::{Sets, check_lists};
@@ -19,9 +19,8 @@ use rp_clauses::prices::{check_expenditure, check_prices};
 use rp_clauses::reach::ROOM;
 use rp_clauses::standard::WHOLE;
 use rp_clauses::walk::check_violation;
-use rp_evidence::{Bound, DemandPart, Failure, GoodBounds, Point, Reason};
+use rp_evidence::{Bound, DemandPart, Failure, GoodBounds, Point, Reason, fails};
 use rp_farkas::Measure;
-use rp_patch::fails;
 use rp_programs::{LowerProgram, UpperProgram};
 use rp_table::{NewBudget, NewPrices};
 

@@ -3,11 +3,11 @@ ghost use Rattle.rp_check.specs.DemandFailure.{DemandFails};
 ghost use Rattle.rp_check.specs.ItemFailure.{ItemFails, shows_garp};
 ghost use Rattle.rp_check.specs.LevelsFailure.{SomeLevelsFail};
 ghost use Rattle.rp_check.specs.WelfareFailure.{WelfareFails};
-ghost use Rattle.rp_rounds.specs.Reached.{IsWeakClosureOf};
+ghost use Rattle.rp_evidence.specs.Reached.{IsWeakClosureOf};
 ghost use Rattle.rp_evidence.specs.Input.{input_of_table};
 ghost use Rattle.rp_evidence.specs.Kinds.{IsOfKind};
 ghost use Rattle.rp_evidence.specs.declared.certificate.Kind.TheVariants.{Table};
-ghost use Rattle.rp_patch.specs.Clauses.{InOrder};
+ghost use Rattle.rp_evidence.specs.Clauses.{InOrder};
 
 use crate::demand::check_demand;
 use crate::levels::check_no_levels;

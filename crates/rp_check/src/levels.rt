@@ -1,7 +1,6 @@
 ghost use Rattle.rp_check.specs.LevelsFailure.{LevelsFail, SomeLevelsFail};
 
-use rp_evidence::{Failure, Reason};
-use rp_patch::fails;
+use rp_evidence::{Failure, Reason, fails};
 use rp_table::Table;
 
 /// Checks that these are the levels of the table's observations, or that neither has any.

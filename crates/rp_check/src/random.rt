@@ -8,9 +8,9 @@ ghost use Rattle.rp_patch.specs.RandomFailure.{ItemFailsOnPatches};
 ghost use Rattle.rp_persons.specs.SaysRandom.{SaysOnPatches};
 
 use crate::Verdict;
-use rp_evidence::{Certificate, Failure, Item};
-use rp_mixture::check_choices;
-use rp_patch::{Patches, capped};
+use rp_check_mixture::check_choices;
+use rp_evidence::{Certificate, Failure, Item, cap};
+use rp_patch::Patches;
 
 /// Checks an item. One on a table is none on random choices.
 fn check_random_item(patches: &Patches, item: &Item) -> Result<(), Failure>
@@ -36,7 +36,7 @@ pub fn check_random(patches: &Patches, certificate: &Certificate) -> Verdict
     for (k, item) in certificate.items.as_slice().iter().enumerate() {
         if let Err(found) = check_random_item(patches, item) {
             return Verdict::Rejected {
-                item: capped(k + 1),
+                item: cap(k + 1),
                 reason: found.reason,
                 place: found.place,
             };

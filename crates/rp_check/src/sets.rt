@@ -2,8 +2,8 @@ ghost use Rattle.std.specs.Prelude.{◌<◌, ◌≤◌, ◌↔◌, ℕ, IsTrue, 
 ghost use Rattle.rp_check.specs.InnerSets.{AreSets};
 ghost use Rattle.rp_evidence.specs.InnerBudget.{input_of, new_budget};
 ghost use Rattle.rp_check.specs.DemandFailure.{SetsFail};
-ghost use Rattle.rp_rounds.specs.Reached.{IsWeakClosureOf};
-ghost use Rattle.rp_rounds.specs.Marks.{AreMarked, IsMarked};
+ghost use Rattle.rp_evidence.specs.Reached.{IsWeakClosureOf};
+ghost use Rattle.rp_evidence.specs.Marks.{AreMarked, IsMarked};
 ghost use Rattle.rp_evidence.specs.Demand.{Buys, IsBelow, IsStrictStart};
 ghost use Rattle.rp_evidence.specs.Preference.{IsStrict};
 ghost use Rattle.rp_table.specs.Cost.{cost_of};
@@ -13,8 +13,7 @@ use rp_clauses::closure::Closure;
 use rp_clauses::input::Input;
 use rp_clauses::reach::{ROOM, is_marked_list, spread};
 use rp_clauses::standard::WHOLE;
-use rp_evidence::{Failure, Reason};
-use rp_patch::fails;
+use rp_evidence::{Failure, Reason, fails};
 use rp_table::NewBudget;
 
 /// Which observations are below a new budget, and which strictly below.
@@ -97,7 +96,7 @@ fn some_strict(input: &Input<'_>, marks: &[bool], v: u32) -> bool
     requires some { records_of input.now.table.now ≤ length marks.now }
     requires observed { v < records_of input.now.table.now }
     ensures { IsTrue result ↔ ((u : ℕ) × (u < records_of input.now.table.now)
-        × IsMarked marks.now u × IsStrict (cost_of input.now.table.now) 1 1 u v) }
+        × IsMarked marks.now u × IsStrict (cost_of input.now.table.now) u v) }
 {
     for u in 0..input.n() {
         if marks[u as usize] && input.is_strict(WHOLE, u, v) {

@@ -1,9 +1,9 @@
 ghost use Rattle.std.specs.Prelude.{◌≤◌, ◌<◌, ◌↔◌, ◌∷◌, [], IsTrue, length, slice_index};
 ghost use Rattle.rp_check.specs.InnerSets.{AreFewOf};
 ghost use Rattle.rp_evidence.specs.InnerBudget.{input_of};
-ghost use Rattle.rp_patch.specs.Clauses.{FirstUnless, InOrder, Unless};
-ghost use Rattle.rp_rounds.specs.Reached.{IsWeakClosureOf};
-ghost use Rattle.rp_rounds.specs.Marks.{AreMarked};
+ghost use Rattle.rp_evidence.specs.Clauses.{FirstUnless, InOrder, Unless};
+ghost use Rattle.rp_evidence.specs.Reached.{IsWeakClosureOf};
+ghost use Rattle.rp_evidence.specs.Marks.{AreMarked};
 ghost use Rattle.rp_clauses.specs.WalkFailure.{ViolationFails};
 ghost use Rattle.rp_check.specs.WelfareFailure.{IsNotAboveAt, LowerHolds};
 ghost use Rattle.rp_check.specs.WelfareFailure.{WelfareBoundsFail, WelfareFails};
@@ -25,9 +25,8 @@ use rp_clauses::prices::check_prices;
 use rp_clauses::reach::{ROOM, write_marked};
 use rp_clauses::standard::WHOLE;
 use rp_clauses::walk::check_violation;
-use rp_evidence::{Bound, Failure, Reason, WelfarePart};
+use rp_evidence::{Bound, Failure, Reason, WelfarePart, fails};
 use rp_farkas::Measure;
-use rp_patch::fails;
 use rp_programs::LeastCostProgram;
 use rp_table::NewPrices;
 
@@ -67,8 +66,8 @@ fn check_no_model(input: &Input<'_>, t: u32, walk: &[u32]) -> Result<(), Failure
     ensures { InOrder (
         Unless (t < records_of input.now.table.now) Number 0
         ∷ ViolationFails (records_of input.now.table.now)
-        (IsWeak (cost_of input.now.table.now) 1 1)
-        (IsStrict (cost_of input.now.table.now) 1 1) walk.now
+        (IsWeak (cost_of input.now.table.now))
+        (IsStrict (cost_of input.now.table.now)) walk.now
         ∷ []) result }
 {
     if t >= input.n() {

@@ -1,8 +1,8 @@
 -- Rows of bits in a list: a row is set, steps are noted in the rows, and a row takes in another.
 use Rattle.std.proofs.Common.{◌≡◌, ◌≢◌, ℕ, ◌+◌, ◌<◌, ◌≤◌, ◌↔◌, ◌||◌, true, false, IsTrue, List, [], length, set, inl, inr, sym, ap, ◌∙◌, subst, arith, length-set, get_or-set_same, get_or-set_other}
 use Rattle.std.proofs.lemmas.Bool.{cases_eq}
-use Rattle.rp_rounds.specs.Bits.{bit_in}
-use Rattle.rp_rounds.proofs.Rounds.{HasGone, reached_gone}
+use Rattle.rp_evidence.specs.Bits.{bit_in}
+use Rattle.rp_evidence.proofs.Rounds.{HasGone, reached_gone}
 use Rattle.rp_clauses.specs.InnerBits.{has_bit}
 
 -- ---- a row is set

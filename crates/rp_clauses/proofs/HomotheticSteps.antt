@@ -6,7 +6,7 @@ use Rattle.rp_num.proofs.Products.{below_cross}
 use Rattle.rp_evidence.specs.Homothetic.{value_at}
 use Rattle.rp_evidence.specs.declared.failure.Failure.{Failure}
 use Rattle.rp_evidence.specs.declared.failure.Reason.TheVariants.{Order, Wide}
-use Rattle.rp_patch.specs.Clauses.{failure}
+use Rattle.rp_evidence.specs.Clauses.{failure}
 use Rattle.rp_clauses.specs.HomotheticFailure.{StepFails}
 
 not_lt : {a b : ℕ} → ¬ (a < b) → b ≤ a

@@ -4,10 +4,10 @@ use Rattle.std.proofs.lemmas.Bool.{cases_eq, false≢true}
 use Rattle.std.proofs.lemmas.List.{get_or-set_other, get_or-set_same}
 use Rattle.rp_evidence.specs.Walk.{LeadsTo}
 use Rattle.rp_evidence.proofs.Walks.{reaches_by, rest_of_reach}
-use Rattle.rp_rounds.specs.Bits.{bit_in}
+use Rattle.rp_evidence.specs.Bits.{bit_in}
 use Rattle.rp_clauses.specs.InnerBits.{has_bit}
-use Rattle.rp_rounds.specs.Marks.{AreMarked, IsMarked}
-use Rattle.rp_rounds.specs.Reached.{IsClosureOf, Reached, reaches_in}
+use Rattle.rp_evidence.specs.Marks.{AreMarked, IsMarked}
+use Rattle.rp_evidence.specs.Reached.{IsClosureOf, Reached, reaches_in}
 use Rattle.rp_clauses.specs.ReachedMarks.{IsReachedFromMarked}
 
 -- ---- what is told of one observation after another is marked, up to v

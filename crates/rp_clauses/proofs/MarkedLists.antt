@@ -4,7 +4,7 @@ use Rattle.std.proofs.lemmas.Bool.{cases_eq, cases_lt, eq-eqb, eqb-true}
 use Rattle.std.proofs.lemmas.List.{get_or_default}
 use Rattle.rp_evidence.specs.Enumeration.{Enumerates}
 use Rattle.rp_evidence.proofs.Enumerations.{rises}
-use Rattle.rp_rounds.specs.Marks.{IsMarked}
+use Rattle.rp_evidence.specs.Marks.{IsMarked}
 
 -- The first entries are the marked observations below t.
 pub record ListsUpTo (marks : List Bool) (list : List ℕ) (at t : ℕ) : Type 0 where

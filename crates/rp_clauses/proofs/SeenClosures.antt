@@ -1,10 +1,10 @@
 -- Rows of bits as the closure that callers see.
 use Rattle.std.proofs.Common.{◌≡◌, ◌<◌, ◌↔◌, ℕ, IsTrue, List, sym, ap, subst, ◌∙◌}
 use Rattle.rp_evidence.specs.Walk.{Reaches}
-use Rattle.rp_rounds.specs.Bits.{bit_in}
-use Rattle.rp_rounds.specs.Marks.{IsMarked}
-use Rattle.rp_rounds.specs.Reached.{IsClosureOf, Reached, reached_by, reaches_in}
-use Rattle.rp_rounds.proofs.Tabulated.{reaches_in_by}
+use Rattle.rp_evidence.specs.Bits.{bit_in}
+use Rattle.rp_evidence.specs.Marks.{IsMarked}
+use Rattle.rp_evidence.specs.Reached.{IsClosureOf, Reached, reached_by, reaches_in}
+use Rattle.rp_evidence.proofs.Tabulated.{reaches_in_by}
 use Rattle.rp_clauses.specs.InnerBits.{has_bit}
 
 pub is_closure : (n size : ℕ) (step : ℕ → ℕ → Type 0) (rows : List (List ℕ)) → size ≡ n

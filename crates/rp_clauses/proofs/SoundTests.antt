@@ -2,10 +2,10 @@
 use Rattle.std.proofs.Common.{◌≡◌, ◌*◌, ◌-◌, ◌<◌, ◌≤◌, ℕ, [], ◌∷◌, List, length, Ok, arith, inl, inr, refl}
 use Rattle.std.proofs.Math.Nat.{lt_of_mul-lt-mul_right, mul-le-mul_left}
 use Rattle.rp_evidence.specs.AfriatEvidence.{ProvesOwnAfriat}
-use Rattle.rp_evidence.specs.Efficiency.{BoundsFromAbove, FailsGarp, IsEfficiencyIndex, ProvesEfficiency}
+use Rattle.rp_evidence.specs.Efficiency.{BoundsFromAbove, FailsGarpAt, IsEfficiencyIndex, ProvesEfficiency}
 use Rattle.rp_evidence.specs.Garp.{ProvesOfPreference, ViolatesByPlaces}
 use Rattle.rp_evidence.specs.Homothetic.{BoundProducts, EndsBelow, ProvesHomothetic, next_product, spent_product}
-use Rattle.rp_evidence.specs.Preference.{IsLevel, IsStrict, IsWeak, StrictByLevels, WeakByLevels}
+use Rattle.rp_evidence.specs.Preference.{IsLevel, IsStrictAt, IsWeakAt, StrictByLevels, WeakByLevels}
 use Rattle.rp_evidence.specs.Quasilinear.{BoundSteps, ProvesQuasilinear}
 use Rattle.rp_evidence.specs.Ranks.{OrderStrictSteps, RespectPreference}
 use Rattle.rp_evidence.specs.Walk.{AnyStep, IsClosedWalk}
@@ -97,7 +97,7 @@ module _ (n : ℕ) (c : ℕ → ℕ → ℕ) where
   homothetic_proves (Withheld steps from to) found = tt
 
   module _ (positive : (s : ℕ) → s < n → 0 < c s s) (num den : ℕ) (level : IsLevel num den) where
-    ordered : (ranks : List ℕ) → OrderingFails n (IsStrict c num den) ranks (Ok tt) → OrderStrictSteps n c num den ranks
+    ordered : (ranks : List ℕ) → OrderingFails n (IsStrictAt c num den) ranks (Ok tt) → OrderStrictSteps n c num den ranks
     ordered ranks (one_each, (orders, done)) = record {
       one_each = one_each;
       step_falls = λ s t s_in t_in. orders s s_in t t_in;
@@ -114,18 +114,18 @@ module _ (n : ℕ) (c : ℕ → ℕ → ℕ) where
         no_entry (x ∷ w) e = absurd (omega (arith, e))
     bounded walk (inr (other, (closed, (weak, done)))) = record {
       none_at_one = λ one. absurd (other one);
-      closed_below_one = λ e. is_closed_walk n (IsWeak c num den) walk closed weak;
+      closed_below_one = λ e. is_closed_walk n (IsWeakAt c num den) walk closed weak;
     }
 
-    above_fails : (walk : List ℕ) → AboveFails n c num den walk (Ok tt) → (p q : ℕ) → IsLevel p q → num * q < p * den → FailsGarp n c p q
+    above_fails : (walk : List ℕ) → AboveFails n c num den walk (Ok tt) → (p q : ℕ) → IsLevel p q → num * q < p * den → FailsGarpAt n c p q
     above_fails walk (inl (one, empty)) p q high more = absurd (none_above p q num den one high.1 more)
       where
         none_above : (p q num den : ℕ) → num ≡ den → p ≤ q → num * q < p * den → ⊥
         none_above p q num den one h more = absurd (omega (arith, rw one at more, mul-le-mul_left den h))
     above_fails walk (inr (other, (closed, (weak, done)))) p q high more =
-        (walk, weak_cycle_violates n num den p q c walk positive more (is_closed_walk n (IsWeak c num den) walk closed weak))
+        (walk, weak_cycle_violates n num den p q c walk positive more (is_closed_walk n (IsWeakAt c num den) walk closed weak))
 
-    is_index : (below above : List ℕ) → OrderingFails n (IsStrict c num den) below (Ok tt) → AboveFails n c num den above (Ok tt) → IsEfficiencyIndex n c num den
+    is_index : (below above : List ℕ) → OrderingFails n (IsStrictAt c num den) below (Ok tt) → AboveFails n c num den above (Ok tt) → IsEfficiencyIndex n c num den
     is_index below above orders bounds = record {
       level = level;
       holds_below = λ p q lower less walk. ordering_ranks_exclude n num den p q c below walk positive less (ordered below orders);
@@ -137,5 +137,5 @@ module _ (n : ℕ) (c : ℕ → ℕ → ℕ) where
     index = is_index positive evidence.level.num evidence.level.den level evidence.below evidence.above orders bounds;
     below = ordered positive evidence.level.num evidence.level.den level evidence.below orders;
     above = bounded positive evidence.level.num evidence.level.den level evidence.above bounds;
-    at = garp_proves n (IsWeak c evidence.level.num evidence.level.den) (IsStrict c evidence.level.num evidence.level.den) evidence.at at;
+    at = garp_proves n (IsWeakAt c evidence.level.num evidence.level.den) (IsStrictAt c evidence.level.num evidence.level.den) evidence.at at;
   }

@@ -3,8 +3,8 @@ use Rattle.std.proofs.Common.{◌≡◌, ℕ, ◌/◌, ◌%◌, ◌<◌, ◌≤�
 use Rattle.std.specs.Int.{bit_at}
 use Rattle.std.proofs.lemmas.Bool.{cases_lt}
 use Rattle.std.proofs.lemmas.List.{get_or_past}
-use Rattle.rp_rounds.specs.Bits.{bit_in}
-use Rattle.rp_rounds.proofs.BitLemmas.{bit_of_or}
+use Rattle.rp_evidence.specs.Bits.{bit_in}
+use Rattle.rp_evidence.proofs.BitLemmas.{bit_of_or}
 
 -- The row has taken in the first w words.
 pub record IsTakenIn (old now from : List ℕ) (w : ℕ) : Type 0 where

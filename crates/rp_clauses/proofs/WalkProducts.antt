@@ -6,7 +6,7 @@ use Rattle.rp_num.specs.Fraction.{Fraction, IsLowestTerms, PassesWidth}
 use Rattle.rp_evidence.specs.Homothetic.{EndsBelow, next_product, spent_product, product_from, walk_product}
 use Rattle.rp_evidence.specs.declared.failure.Failure.{Failure}
 use Rattle.rp_evidence.specs.declared.failure.Reason.TheVariants.{NotLess, Wide}
-use Rattle.rp_patch.specs.Clauses.{failure}
+use Rattle.rp_evidence.specs.Clauses.{failure}
 use Rattle.rp_num.proofs.Products.{below_cross, taken_lowest, taken_wide}
 use Rattle.rp_clauses.specs.HomotheticFailure.{IsWideAfter, ProductsFail}
 

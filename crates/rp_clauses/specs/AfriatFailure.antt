@@ -1,6 +1,6 @@
 -- When evidence by Afriat's theorem fails (this program's own order of clauses; Afriat 1967).
 use Rattle.std.specs.Prelude.{◌<◌, ◌≤◌, ◌*◌, ◌≤ℤ◌, ◌-ℤ◌, pos, ℕ, ℤ, List, [], ◌∷◌}
-use Rattle.rp_patch.specs.Clauses.{Finding, Unless, InOrder, FirstUnless}
+use Rattle.rp_evidence.specs.Clauses.{Finding, Unless, InOrder, FirstUnless}
 use Rattle.rp_clauses.specs.WalkFailure.{ViolationFails}
 use Rattle.rp_evidence.specs.Afriat.{allowed_by, in_scale}
 use Rattle.rp_evidence.specs.Preference.{StrictByLevels, WeakByLevels}

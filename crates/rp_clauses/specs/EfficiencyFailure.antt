@@ -1,9 +1,9 @@
 -- When evidence for the critical cost efficiency index fails (this program's own order of clauses; Afriat 1973).
 use Rattle.std.specs.Prelude.{◌≡◌, ◌≢◌, ◌^◌, ◌<◌, ◌⊎◌, ℕ, List, [], ◌∷◌, length}
-use Rattle.rp_patch.specs.Clauses.{Finding, Unless, InOrder}
+use Rattle.rp_evidence.specs.Clauses.{Finding, Unless, InOrder}
 use Rattle.rp_clauses.specs.GarpFailure.{GarpFails, OrderingFails}
 use Rattle.rp_clauses.specs.WalkFailure.{ClosedWalkFails, WeakStepsFail}
-use Rattle.rp_evidence.specs.Preference.{IsLevel, IsStrict, IsWeak}
+use Rattle.rp_evidence.specs.Preference.{IsLevel, IsStrictAt, IsWeakAt}
 use Rattle.rp_evidence.specs.declared.efficiency.Efficiency.{Efficiency}
 use Rattle.rp_evidence.specs.declared.garp.Garp.{Garp}
 use Rattle.rp_evidence.specs.declared.failure.Reason.TheVariants.{Shape, Level}
@@ -12,13 +12,13 @@ use Rattle.rp_evidence.specs.declared.failure.Reason.TheVariants.{Shape, Level}
 abbrev pub AboveFails : ℕ → (ℕ → ℕ → ℕ) → ℕ → ℕ → List ℕ → Finding
 AboveFails n c num den walk found =
     ((num ≡ den) × Unless (length walk ≡ 0) Shape 1 found)
-    ⊎ ((num ≢ den) × InOrder (ClosedWalkFails n walk ∷ WeakStepsFail (IsWeak c num den) walk ∷ []) found)
+    ⊎ ((num ≢ den) × InOrder (ClosedWalkFails n walk ∷ WeakStepsFail (IsWeakAt c num den) walk ∷ []) found)
 
 -- The ranks below the level, the walk above it, and the evidence at it.
 abbrev pub LevelFails : ℕ → (ℕ → ℕ → ℕ) → ℕ → ℕ → List ℕ → List ℕ → Garp → Finding
 LevelFails n c num den below above at = InOrder (
-    OrderingFails n (IsStrict c num den) below ∷ AboveFails n c num den above
-    ∷ GarpFails n (IsWeak c num den) (IsStrict c num den) at ∷ [])
+    OrderingFails n (IsStrictAt c num den) below ∷ AboveFails n c num den above
+    ∷ GarpFails n (IsWeakAt c num den) (IsStrictAt c num den) at ∷ [])
 
 -- The level, which is taken as it is written, in lowest terms or not; then each part of the evidence.
 abbrev pub EfficiencyFails : ℕ → (ℕ → ℕ → ℕ) → Efficiency → Finding

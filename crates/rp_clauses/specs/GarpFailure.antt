@@ -1,7 +1,7 @@
 -- When evidence for the generalized axiom fails, by a preference (this program's own order of clauses; ranks: after
 -- Varian 1982).
 use Rattle.std.specs.Prelude.{◌≡◌, ◌<◌, ◌≤◌, ℕ, List, [], ◌∷◌, length, slice_index}
-use Rattle.rp_patch.specs.Clauses.{Finding, Unless, InOrder, FirstUnless}
+use Rattle.rp_evidence.specs.Clauses.{Finding, Unless, InOrder, FirstUnless}
 use Rattle.rp_clauses.specs.WalkFailure.{ViolationFails}
 use Rattle.rp_evidence.specs.declared.failure.Reason.TheVariants.{Shape, Order}
 use Rattle.rp_evidence.specs.declared.garp.Garp.{Garp}

@@ -1,6 +1,6 @@
 -- When evidence for the homothetic test fails (this program's own order of clauses; Varian 1983).
 use Rattle.std.specs.Prelude.{◌≡◌, ◌≢◌, ◌+◌, ◌*◌, ◌-◌, ◌≤◌, ℕ, List, [], ◌∷◌, length, take}
-use Rattle.rp_patch.specs.Clauses.{Finding, Unless, InOrder, FirstBelow, FirstUnless}
+use Rattle.rp_evidence.specs.Clauses.{Finding, Unless, InOrder, FirstBelow, FirstUnless}
 use Rattle.rp_clauses.specs.WalkFailure.{ClosedWalkFails}
 use Rattle.rp_num.specs.Fraction.{Fraction, PassesWidth}
 use Rattle.rp_evidence.specs.Homothetic.{EndsBelow, next_product, spent_product, value_at}

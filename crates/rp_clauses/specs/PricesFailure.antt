@@ -1,6 +1,6 @@
 -- When new prices, and what is spent at them, fail (this program's own order of clauses).
 use Rattle.std.specs.Prelude.{◌≡◌, ℕ, List, [], ◌∷◌, length, slice_index}
-use Rattle.rp_patch.specs.Clauses.{Finding, Unless, InOrder, FirstUnless}
+use Rattle.rp_evidence.specs.Clauses.{Finding, Unless, InOrder, FirstUnless}
 use Rattle.rp_evidence.specs.declared.failure.Reason.TheVariants.{Shape, Number}
 use Rattle.rp_table.specs.Limits.{IsExpenditure, IsPrice}
 

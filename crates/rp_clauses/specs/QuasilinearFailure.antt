@@ -1,6 +1,6 @@
 -- When evidence for the quasilinear test fails (this program's own order of clauses; Brown and Calsamiglia 2007).
 use Rattle.std.specs.Prelude.{◌≡◌, ◌^◌, ◌<◌, ◌+ℤ◌, ◌≤ℤ◌, ◌<ℤ◌, ℕ, ℤ, pos, neg_ℤ, List, [], ◌∷◌, length, slice_index_or}
-use Rattle.rp_patch.specs.Clauses.{Finding, Unless, InOrder, FirstUnless}
+use Rattle.rp_evidence.specs.Clauses.{Finding, Unless, InOrder, FirstUnless}
 use Rattle.rp_clauses.specs.WalkFailure.{ClosedWalkFails}
 use Rattle.rp_evidence.specs.Quasilinear.{step_sum, walk_sum}
 use Rattle.rp_evidence.specs.declared.quasilinear.Quasi.{Quasi}

@@ -1,7 +1,7 @@
 -- When a list of observations fails as a closed walk, and as a violation (this program's own order of clauses;
 -- violations: Varian 1982).
 use Rattle.std.specs.Prelude.{◌≡◌, ◌+◌, ◌-◌, ◌<◌, ℕ, List, [], ◌∷◌, length, slice_index}
-use Rattle.rp_patch.specs.Clauses.{Finding, Unless, InOrder, FirstUnless}
+use Rattle.rp_evidence.specs.Clauses.{Finding, Unless, InOrder, FirstUnless}
 use Rattle.rp_evidence.specs.declared.failure.Reason.TheVariants.{Shape, Number, NotClosed, NotWeak, NoStrict}
 
 -- The k-th step of a walk, from 0, stands in a relation.

@@ -11,8 +11,7 @@ ghost use Rattle.rp_table.specs.Tables.{records_of};
 use crate::input::Input;
 use crate::standard::Standard;
 use crate::walk::check_violation;
-use rp_evidence::{AfriatPart, Failure, MULTIPLIER_WIDTH, Numbers, Reason, UTILITY_WIDTH};
-use rp_patch::fails;
+use rp_evidence::{AfriatPart, Failure, MULTIPLIER_WIDTH, Numbers, Reason, UTILITY_WIDTH, fails};
 
 /// A utility and a product of a multiplier, all within their widths: they stay within 128 bits.
 fn plus_product(utility: i128, added: i128, multiplier: u64) -> i128

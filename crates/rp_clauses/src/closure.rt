@@ -1,13 +1,13 @@
 //! Which observations of a table reach which by walks of weak steps, found once for all items.
 ghost use Rattle.std.specs.Prelude.{◌≡◌, ◌<◌, ◌≤◌, ◌&&◌, ◌||◌, ◌↔◌, ℕ, IsTrue, length};
 ghost use Rattle.rp_clauses.specs.InnerBits.{has_bit};
-ghost use Rattle.rp_rounds.specs.Marks.{IsMarked};
+ghost use Rattle.rp_evidence.specs.Marks.{IsMarked};
 ghost use Rattle.rp_evidence.specs.Input.{TableInput, input_of_table};
 ghost use Rattle.rp_evidence.specs.Preference.{IsWeak};
 ghost use Rattle.rp_evidence.specs.Welfare.{EqualsOrReaches};
-ghost use Rattle.rp_rounds.specs.Bits.{bit_in};
-ghost use Rattle.rp_rounds.specs.Reached.{IsWeakClosureOf, reaches_in};
-ghost use Rattle.rp_rounds.specs.Through.{ReachesThrough};
+ghost use Rattle.rp_evidence.specs.Bits.{bit_in};
+ghost use Rattle.rp_evidence.specs.Reached.{IsWeakClosureOf, reaches_in};
+ghost use Rattle.rp_evidence.specs.Through.{ReachesThrough};
 ghost use Rattle.rp_table.specs.Cost.{cost_of};
 ghost use Rattle.rp_table.specs.Tables.{records_of};
 ghost use Rattle.rp_table.specs.declared.TheConstants.{RECORDS};
@@ -29,7 +29,7 @@ pub struct Closure {
 impl Model for Closure {
     ghost use Rattle.std.specs.Prelude.{◌≤◌};
     ghost use Rattle.rp_clauses.specs.InnerBits.{has_bit};
-    ghost use Rattle.rp_rounds.specs.Reached.{Reached, reached_by};
+    ghost use Rattle.rp_evidence.specs.Reached.{Reached, reached_by};
     ghost use Rattle.rp_table.specs.declared.TheConstants.{RECORDS};
 
     ghost Value = { Reached };
@@ -91,7 +91,7 @@ fn united(n: u32, rows: &[[u64; WORDS]; ROOM], marks: &[bool]) -> [u64; WORDS]
 /// Notes the weak steps from each observation in its row.
 fn note_steps(input: &Input<'_>, rows: &mut [[u64; WORDS]; ROOM])
     ensures { (s t : ℕ) → s < records_of input.now.table.now → t < records_of input.now.table.now
-        → IsTrue (has_bit rows.new s t) ↔ IsWeak (cost_of input.now.table.now) 1 1 s t }
+        → IsTrue (has_bit rows.new s t) ↔ IsWeak (cost_of input.now.table.now) s t }
 {
     for s in 0..input.n() {
         rows[s as usize] = steps_from(input, s);
@@ -102,7 +102,7 @@ fn note_steps(input: &Input<'_>, rows: &mut [[u64; WORDS]; ROOM])
 fn steps_from(input: &Input<'_>, s: u32) -> [u64; WORDS]
     requires { s < records_of input.now.table.now }
     ensures { (t : ℕ) → t < records_of input.now.table.now
-        → IsTrue (bit_in result t) ↔ IsWeak (cost_of input.now.table.now) 1 1 s t }
+        → IsTrue (bit_in result t) ↔ IsWeak (cost_of input.now.table.now) s t }
 {
     let mut row = [0; WORDS];
     for t in 0..input.n() {

@@ -7,8 +7,7 @@ use crate::garp::{check_garp, check_ordering_ranks};
 use crate::input::Input;
 use crate::standard::Standard;
 use crate::walk::{check_closed_walk, check_weak_steps};
-use rp_evidence::{Efficiency, Failure, Garp, Level, Reason};
-use rp_patch::fails;
+use rp_evidence::{Efficiency, Failure, Garp, Level, Reason, fails};
 
 /// The denominator of a level is below this.
 const LEVEL_LIMIT: u64 = 1 << 51;

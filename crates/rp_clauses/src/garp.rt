@@ -8,8 +8,7 @@ ghost use Rattle.rp_table.specs.Tables.{records_of};
 use crate::input::Input;
 use crate::standard::Standard;
 use crate::walk::check_violation;
-use rp_evidence::{Failure, Garp, Reason};
-use rp_patch::fails;
+use rp_evidence::{Failure, Garp, Reason, fails};
 
 /// Whether no weak step from `s` rises in rank and each strict one falls.
 fn respects(input: &Input<'_>, standard: Standard, ranks: &[u32], s: u32) -> bool

@@ -11,9 +11,8 @@ ghost use Rattle.rp_table.specs.Tables.{records_of};
 
 use crate::input::Input;
 use crate::walk::check_closed_walk;
-use rp_evidence::{Failure, Homothetic, Reason};
+use rp_evidence::{Failure, Homothetic, Reason, fails};
 use rp_num::{Frac, Wide};
-use rp_patch::fails;
 use std::cmp::Ordering;
 
 /// A fraction taken on from `t` to `s`: times c(t,s)/c(t,t).

@@ -2,8 +2,7 @@ ghost use Rattle.rp_clauses.specs.PricesFailure.{ExpenditureFails, PricesFail};
 ghost use Rattle.rp_table.specs.Tables.{goods_of};
 
 use crate::input::Input;
-use rp_evidence::{Failure, Reason};
-use rp_patch::fails;
+use rp_evidence::{Failure, Reason, fails};
 use rp_table::{LARGEST, LARGEST_EXPENDITURE};
 
 /// Checks that there is a price for each good, within its limit.

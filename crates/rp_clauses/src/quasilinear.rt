@@ -11,8 +11,7 @@ ghost use Rattle.rp_table.specs.Tables.{records_of};
 
 use crate::input::Input;
 use crate::walk::check_closed_walk;
-use rp_evidence::{Failure, Quasi, Reason};
-use rp_patch::fails;
+use rp_evidence::{Failure, Quasi, Reason, fails};
 
 /// The greatest value in absolute value.
 const VALUE_WIDTH: i128 = 1 << 100;

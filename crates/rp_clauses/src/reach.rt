@@ -2,10 +2,10 @@ ghost use Rattle.std.specs.Prelude.{◌<◌, ◌≤◌, ◌↔◌, ◌⊎◌, �
 ghost use Rattle.rp_evidence.specs.Enumeration.{Enumerates};
 ghost use Rattle.rp_evidence.specs.Input.{input_of_table};
 ghost use Rattle.rp_evidence.specs.Preference.{IsWeak};
-ghost use Rattle.rp_rounds.specs.Marks.{AreMarked, IsMarked};
+ghost use Rattle.rp_evidence.specs.Marks.{AreMarked, IsMarked};
 ghost use Rattle.rp_clauses.specs.ReachedMarks.{IsReachedFromMarked};
-ghost use Rattle.rp_rounds.specs.Bits.{bit_in};
-ghost use Rattle.rp_rounds.specs.Reached.{IsWeakClosureOf};
+ghost use Rattle.rp_evidence.specs.Bits.{bit_in};
+ghost use Rattle.rp_evidence.specs.Reached.{IsWeakClosureOf};
 ghost use Rattle.rp_table.specs.Cost.{cost_of};
 ghost use Rattle.rp_table.specs.Tables.{records_of};
 ghost use Rattle.rp_table.specs.declared.TheConstants.{RECORDS};
@@ -26,7 +26,7 @@ pub fn spread(input: &Input<'_>, closure: &Closure, marks: &mut [bool])
     requires room { records_of input.now.table.now ≤ length marks.old }
     ensures { AreMarked (records_of input.now.table.now)
         (IsReachedFromMarked (records_of input.now.table.now)
-        (IsWeak (cost_of input.now.table.now) 1 1)
+        (IsWeak (cost_of input.now.table.now))
         marks.old) marks.new }
 {
     let n = input.n();

@@ -7,8 +7,7 @@ ghost use Rattle.rp_table.specs.Tables.{records_of};
 
 use crate::input::Input;
 use crate::standard::Standard;
-use rp_evidence::{Failure, Reason};
-use rp_patch::fails;
+use rp_evidence::{Failure, Reason, fails};
 
 /// Checks that there is a step, that each entry is an observation and that the last is the first.
 pub fn check_closed_walk(input: &Input<'_>, walk: &[u32]) -> Result<(), Failure>

@@ -3,8 +3,8 @@ use Rattle.std.proofs.Common.{◌≡◌, ◌<◌, ◌≤◌, ◌↔◌, ◌*◌,
 use Rattle.std.proofs.lemmas.Int.{ints}
 use Rattle.std.proofs.lemmas.List.{get_or_default}
 use Rattle.std.specs.Int.RustNames.{unsigned_abs}
-use Rattle.rp_bound.specs.ProgramBound.{IsBoundOf, ShowsLeastCost}
-use Rattle.rp_bound.proofs.RunBounds.{least_in_lowest_terms, same_measure}
+use Rattle.rp_simplex.specs.ProgramBound.{IsBoundOf, ShowsLeastCost}
+use Rattle.rp_simplex.proofs.RunBounds.{least_in_lowest_terms, same_measure}
 use Rattle.rp_evidence.specs.BoundEvidence.{BoundHolds}
 use Rattle.rp_evidence.specs.Demand.{FractionBundle, spending}
 use Rattle.rp_evidence.specs.Input.{TableInput}

@@ -1,7 +1,7 @@
 -- Bounds on what an output costs at new prices (Varian 1984): when evidence on them holds, what it proves, and what is
 -- given.
 use Rattle.std.specs.Prelude.{◌≡◌, ℕ, ◌*◌, ◌<◌, ◌≤◌, Bool, IsTrue, List, [], Option, Some, None, length, slice_index}
-use Rattle.rp_bound.specs.ProgramBound.{IsBoundOf}
+use Rattle.rp_simplex.specs.ProgramBound.{IsBoundOf}
 use Rattle.rp_evidence.specs.BoundEvidence.{BoundHolds}
 use Rattle.rp_evidence.specs.Demand.{FractionBundle, spending}
 use Rattle.rp_evidence.specs.Input.{TableInput}

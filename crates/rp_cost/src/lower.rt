@@ -1,5 +1,5 @@
 ghost use Rattle.std.specs.Prelude.{◌<◌, ◌≤◌, All, IfOk, length, slice_index};
-ghost use Rattle.rp_bound.specs.ProgramBound.{IsBoundOf, ShowsLeastCost};
+ghost use Rattle.rp_simplex.specs.ProgramBound.{IsBoundOf, ShowsLeastCost};
 ghost use Rattle.rp_evidence.specs.Input.{input_of_table};
 ghost use Rattle.rp_evidence.specs.LeastCost.{least_cost_program};
 ghost use Rattle.rp_farkas.specs.Prices.{HasFeasiblePrices};
@@ -11,11 +11,11 @@ ghost use Rattle.rp_cost.specs.CostBounds.{IsLowerCostBound, ProvesLowerCost};
 use crate::listed::write_not_above;
 use crate::program::OuterProgram;
 use crate::question::Question;
-use rp_bound::bound_of;
 use rp_clauses::reach::ROOM;
 use rp_evidence::Bound;
 use rp_farkas::Measure;
 use rp_num::NoMemory;
+use rp_simplex::bound_of;
 use std::alloc::Global;
 
 /// The bound from below. Enough of every input is in the outer set, so its program has feasible prices.

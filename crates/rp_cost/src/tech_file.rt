@@ -13,7 +13,7 @@ ghost use Rattle.rp_cost.specs.Technology.{IsTechnology};
 use crate::tech::Tech;
 use rp_forms::Form;
 use rp_num::{Decimal, NoMemory, Seq};
-use rp_sheet::{Columns, Records, TableFault, column_numbers, narrowed, read_names, read_sheet};
+use rp_sheet::{Columns, Records, TableFault, column_numbers, narrow, read_names, read_sheet};
 use rp_table::{Name, RECORDS};
 use rp_text::priced_table;
 use std::alloc::Global;
@@ -76,7 +76,7 @@ pub(crate) fn outputs(
     ensures { IfOk result (λ y. y.items
         ≡ Sheets.column_numbers (codes "y") columns.now.headers sizes.now) }
 {
-    narrowed(
+    narrow(
         alloc,
         column_numbers(alloc, columns, b"y", sizes)?.as_slice(),
     )
@@ -95,7 +95,7 @@ fn output_prices(
     if columns.find(b"p").is_none() {
         return Ok(Vec::new(alloc));
     }
-    narrowed(
+    narrow(
         alloc,
         column_numbers(alloc, columns, b"p", sizes)?.as_slice(),
     )

@@ -8,7 +8,7 @@ use Rattle.std.specs.List.{Any}
 use Rattle.rp_num.specs.Fraction.{IsLowestTerms}
 use Rattle.rp_evidence.specs.Efficiency.{IsEfficiencyIndex, IsRatio}
 use Rattle.rp_evidence.specs.Walk.{LeadsTo}
-use Rattle.rp_evidence.specs.Preference.{IsWeak}
+use Rattle.rp_evidence.specs.Preference.{IsWeakAt}
 use Rattle.rp_evidence.proofs.Index.{NoLowerCycle, closed_rises, index_by_cycle, index_same}
 use Rattle.rp_evidence.proofs.Walks.{rest_of_reach, starts_below}
 use Rattle.rp_table.specs.Cost.{CostTable, IsCostTable, cost_at}
@@ -24,12 +24,12 @@ use Rattle.rp_effic.specs.declared.ratio.Ratio.{Ratio}
 -- there is no closed walk of weak steps at 0
 pub none_at_zero : (costs : CostTable) → IsCostTable costs → ¬ HasCycle costs.n (cost_at costs) 0 1
 none_at_zero costs valid h =
-    let k = rest_of_reach costs.n (IsWeak (cost_at costs) 0 1) h.1.0 h.1.0 (h.0, h.1.1, h.1.2) in
+    let k = rest_of_reach costs.n (IsWeakAt (cost_at costs) 0 1) h.1.0 h.1.0 (h.0, h.1.1, h.1.2) in
     go h.1.0 h.1.0 k.0 k.1 k.2
   where
-    go : (s t x : ℕ) (w : List ℕ) → LeadsTo costs.n (IsWeak (cost_at costs) 0 1) s t (x ∷ w) → ⊥
+    go : (s t x : ℕ) (w : List ℕ) → LeadsTo costs.n (IsWeakAt (cost_at costs) 0 1) s t (x ∷ w) → ⊥
     go s t x w l =
-        let positive = cost_positive costs valid s x l.0 (starts_below costs.n (IsWeak (cost_at costs) 0 1) x t w l.2) in
+        let positive = cost_positive costs valid s x l.0 (starts_below costs.n (IsWeakAt (cost_at costs) 0 1) x t w l.2) in
         absurd (omega (arith, positive, l.1))
 
 module _ (costs : CostTable) (valid : IsCostTable costs) (ratios : List Ratio) (place : ℕ) (first : IsFirstTrue (length ratios) (HasCycleFrom costs ratios) place) where

@@ -4,12 +4,12 @@ use Rattle.std.proofs.Math.Nat.{le_of_mul-le-mul_left, mul-le-mul_left}
 use Rattle.std.proofs.Math.Seq.{get_or-append_seam}
 use Rattle.std.proofs.lemmas.Bool.{cases_eq, cases_lt}
 use Rattle.std.proofs.lemmas.List.{get_or_append_left, length_push}
-use Rattle.rp_evidence.specs.Preference.{IsLevel, IsWeak}
+use Rattle.rp_evidence.specs.Preference.{IsLevel, IsWeakAt}
 use Rattle.rp_pref.proofs.LevelOrder.{level_den}
 use Rattle.rp_effic.specs.InnerWeakSteps.{AddsRow, AreWeakSteps, IsListed}
 
 -- a step that is weak at some level is weak at 1
-pub weak_at_one : (c : ℕ → ℕ → ℕ) (num den s t : ℕ) → IsLevel num den → IsWeak c num den s t → c s t ≤ c s s
+pub weak_at_one : (c : ℕ → ℕ → ℕ) (num den s t : ℕ) → IsLevel num den → IsWeakAt c num den s t → c s t ≤ c s s
 weak_at_one c num den s t level h =
     let top : c s s * num ≤ c s s * den = mul-le-mul_left (c s s) level.1 in
     le_of_mul-le-mul_left {k = den} (omega (arith, h, top)) (level_den num den level)

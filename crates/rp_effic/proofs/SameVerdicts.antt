@@ -1,17 +1,17 @@
 -- What is given for some costs is given for all that are the same between the observations.
 use Rattle.std.proofs.Common.{ℕ, List}
-use Rattle.rp_evidence.specs.Preference.{AgreeBelow, IsStrict, IsWeak}
+use Rattle.rp_evidence.specs.Preference.{AgreeBelow, IsStrictAt, IsWeakAt}
 use Rattle.rp_evidence.specs.declared.efficiency.Efficiency.{Efficiency}
 use Rattle.rp_evidence.proofs.SameCosts.{counts_same, reach_same, shortest_same, strict_same, weak_same}
 use Rattle.rp_pref.proofs.SameVerdicts.{verdict_on_same}
 use Rattle.rp_effic.specs.Verdict.{IsAbove, IsEfficiencyVerdict, IsFirstReturn}
 
 module _ (n : ℕ) (c d : ℕ → ℕ → ℕ) (num den : ℕ) (same : AgreeBelow n c d) where
-  return_there : (s : ℕ) (walk : List ℕ) → IsFirstReturn n (IsWeak c num den) s walk → IsFirstReturn n (IsWeak d num den) s walk
+  return_there : (s : ℕ) (walk : List ℕ) → IsFirstReturn n (IsWeakAt c num den) s walk → IsFirstReturn n (IsWeakAt d num den) s walk
   return_there s walk h = record {
     observation = h.observation;
-    none_earlier = λ j l r. h.none_earlier j l ((reach_same n (IsWeak c num den) (IsWeak d num den) (weak_same n c d num den same) j j).1 r);
-    shortest = shortest_same n (IsWeak c num den) (IsWeak d num den) (weak_same n c d num den same) s s walk h.shortest;
+    none_earlier = λ j l r. h.none_earlier j l ((reach_same n (IsWeakAt c num den) (IsWeakAt d num den) (weak_same n c d num den same) j j).1 r);
+    shortest = shortest_same n (IsWeakAt c num den) (IsWeakAt d num den) (weak_same n c d num den same) s s walk h.shortest;
   }
 
   pub above_there : (walk : List ℕ) → IsAbove n c num den walk → IsAbove n d num den walk
@@ -23,8 +23,8 @@ module _ (n : ℕ) (c d : ℕ → ℕ → ℕ) (num den : ℕ) (same : AgreeBelo
 pub verdict_same : (n : ℕ) (c d : ℕ → ℕ → ℕ) (evidence : Efficiency) → AgreeBelow n c d → IsEfficiencyVerdict n c evidence → IsEfficiencyVerdict n d evidence
 verdict_same n c d e same h = record {
   level = h.level;
-  below = counts_same n (IsStrict c e.level.num e.level.den) (IsStrict d e.level.num e.level.den) (strict_same n c d e.level.num e.level.den same) e.below h.below;
+  below = counts_same n (IsStrictAt c e.level.num e.level.den) (IsStrictAt d e.level.num e.level.den) (strict_same n c d e.level.num e.level.den same) e.below h.below;
   above = above_there n c d e.level.num e.level.den same e.above h.above;
-  at = verdict_on_same n (IsWeak c e.level.num e.level.den) (IsStrict c e.level.num e.level.den) (IsWeak d e.level.num e.level.den) (IsStrict d e.level.num e.level.den)
+  at = verdict_on_same n (IsWeakAt c e.level.num e.level.den) (IsStrictAt c e.level.num e.level.den) (IsWeakAt d e.level.num e.level.den) (IsStrictAt d e.level.num e.level.den)
       (weak_same n c d e.level.num e.level.den same) (strict_same n c d e.level.num e.level.den same) e.at h.at;
 }

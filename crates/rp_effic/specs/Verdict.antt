@@ -2,7 +2,7 @@
 use Rattle.std.specs.Prelude.{◌≡◌, ◌≢◌, ◌<◌, ◌^◌, [], ℕ, List}
 use Rattle.rp_num.specs.Fraction.{IsLowestTerms}
 use Rattle.rp_evidence.specs.Count.{AreCounts}
-use Rattle.rp_evidence.specs.Preference.{IsStrict, IsWeak}
+use Rattle.rp_evidence.specs.Preference.{IsStrictAt, IsWeakAt}
 use Rattle.rp_evidence.specs.Walk.{IsShortestWalk, Reaches}
 use Rattle.rp_evidence.specs.declared.level.Level.{Level}
 use Rattle.rp_evidence.specs.declared.efficiency.Efficiency.{Efficiency}
@@ -22,13 +22,13 @@ pub record IsFirstReturn (n : ℕ) (step : ℕ → ℕ → Type 0) (s : ℕ) (wa
 -- Empty at the level 1; else a shortest walk of weak steps from an observation back to it, the first that has one.
 pub record IsAbove (n : ℕ) (c : ℕ → ℕ → ℕ) (num den : ℕ) (walk : List ℕ) : Type 0 where
   pub none_at_one : num ≡ den → walk ≡ []
-  pub return_below_one : num ≢ den → (s : ℕ) × IsFirstReturn n (IsWeak c num den) s walk
+  pub return_below_one : num ≢ den → (s : ℕ) × IsFirstReturn n (IsWeakAt c num den) s walk
 
 -- What is given: the index in lowest terms, the counts over the strict steps at it, and over the weak ones where it is
 -- attained.
 pub record IsEfficiencyVerdict (n : ℕ) (c : ℕ → ℕ → ℕ) (evidence : Efficiency) : Type 0 where
   pub level : IsLowestLevel evidence.level
-  pub below : AreCounts n (IsStrict c evidence.level.num evidence.level.den) evidence.below
+  pub below : AreCounts n (IsStrictAt c evidence.level.num evidence.level.den) evidence.below
   pub above : IsAbove n c evidence.level.num evidence.level.den evidence.above
-  pub at : IsVerdictOfPreference n (IsWeak c evidence.level.num evidence.level.den)
-      (IsStrict c evidence.level.num evidence.level.den) evidence.at
+  pub at : IsVerdictOfPreference n (IsWeakAt c evidence.level.num evidence.level.den)
+      (IsStrictAt c evidence.level.num evidence.level.den) evidence.at

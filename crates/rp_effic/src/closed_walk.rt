@@ -1,5 +1,5 @@
 ghost use Rattle.std.specs.Prelude.{◌≡◌, ◌<◌, ◌↔◌, IsTrue, MatchBool, length};
-ghost use Rattle.rp_evidence.specs.Preference.{IsLevel, IsWeak};
+ghost use Rattle.rp_evidence.specs.Preference.{IsLevel, IsWeakAt};
 ghost use Rattle.rp_table.specs.Cost.{cost_at};
 ghost use Rattle.rp_effic.specs.InnerCycles.{HasCycle};
 ghost use Rattle.rp_effic.specs.InnerLeft.{AreLeft, HasLooked, LeadsToLeft, LeadsToNoneLeft};
@@ -39,7 +39,7 @@ fn begin(costs: &Costs, steps: &WeakSteps, level: Level, left: &mut [bool], at: 
         steps.now.starts.items steps.now.to.items }
     requires left { length left.old ≡ costs.now.n }
     requires at { length at.old ≡ costs.now.n }
-    ensures { AreLeft costs.now.n (IsWeak (cost_at costs.now) level.num level.den)
+    ensures { AreLeft costs.now.n (IsWeakAt (cost_at costs.now) level.num level.den)
         steps.now.starts.items steps.now.to.items left.new at.new }
 {
     for s in 0..left.len() {
@@ -60,11 +60,11 @@ fn take_away(
     requires level { IsLevel level.num level.den }
     requires steps { AreWeakSteps costs.now.n costs.now.n (cost_at costs.now)
         steps.now.starts.items steps.now.to.items }
-    requires left { AreLeft costs.now.n (IsWeak (cost_at costs.now) level.num level.den)
+    requires left { AreLeft costs.now.n (IsWeakAt (cost_at costs.now) level.num level.den)
         steps.now.starts.items steps.now.to.items left.old at.old }
-    ensures left { AreLeft costs.now.n (IsWeak (cost_at costs.now) level.num level.den)
+    ensures left { AreLeft costs.now.n (IsWeakAt (cost_at costs.now) level.num level.den)
         steps.now.starts.items steps.now.to.items left.new at.new }
-    ensures looked { HasLooked costs.now.n (IsWeak (cost_at costs.now) level.num level.den)
+    ensures looked { HasLooked costs.now.n (IsWeakAt (cost_at costs.now) level.num level.den)
         costs.now.n left.old left.new result }
 {
     let mut fewer = false;
@@ -89,14 +89,14 @@ fn leads_on(
     requires level { IsLevel level.num level.den }
     requires steps { AreWeakSteps costs.now.n costs.now.n (cost_at costs.now)
         steps.now.starts.items steps.now.to.items }
-    requires left { AreLeft costs.now.n (IsWeak (cost_at costs.now) level.num level.den)
+    requires left { AreLeft costs.now.n (IsWeakAt (cost_at costs.now) level.num level.den)
         steps.now.starts.items steps.now.to.items left.now at.old }
     requires from { s < costs.now.n }
-    ensures left { AreLeft costs.now.n (IsWeak (cost_at costs.now) level.num level.den)
+    ensures left { AreLeft costs.now.n (IsWeakAt (cost_at costs.now) level.num level.den)
         steps.now.starts.items steps.now.to.items left.now at.new }
     ensures leads { MatchBool result
-        (LeadsToLeft costs.now.n (IsWeak (cost_at costs.now) level.num level.den) left.now s)
-        (LeadsToNoneLeft costs.now.n (IsWeak (cost_at costs.now) level.num level.den) left.now s) }
+        (LeadsToLeft costs.now.n (IsWeakAt (cost_at costs.now) level.num level.den) left.now s)
+        (LeadsToNoneLeft costs.now.n (IsWeakAt (cost_at costs.now) level.num level.den) left.now s) }
 {
     let end = steps.starts[s as usize + 1];
     for place in at[s as usize]..end {

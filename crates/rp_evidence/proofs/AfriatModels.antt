@@ -46,8 +46,8 @@ pub own_model_has_no_violation : (n : ℕ) (levels : List ℕ) (c : ℕ → ℕ 
 own_model_has_no_violation n levels c =
     model_has_no_violation n (WeakByLevels levels c) (StrictByLevels levels c) (in_scale (level_scale levels) c) (own_by_level levels c) (λ s t h. h) (λ s t h. h)
 
-pub model_meets_garp : (n : ℕ) (c : ℕ → ℕ → ℕ) (utility : ℕ → ℤ) (multiplier : ℕ → ℕ) → IsAfriatModel n c utility multiplier → MeetsGarp n c 1 1
-model_meets_garp n c = model_has_no_violation n (IsWeak c 1 1) (IsStrict c 1 1) c (spent c) (λ s t h. omega (arith, h)) (λ s t h. omega (arith, h))
+pub model_meets_garp : (n : ℕ) (c : ℕ → ℕ → ℕ) (utility : ℕ → ℤ) (multiplier : ℕ → ℕ) → IsAfriatModel n c utility multiplier → MeetsGarp n c
+model_meets_garp n c = model_has_no_violation n (IsWeak c) (IsStrict c) c (spent c) (λ s t h. omega (arith, h)) (λ s t h. omega (arith, h))
 
 -- ---- the utility of a bundle that was bought, and of one that costs no more than an observation is held to
 

@@ -152,7 +152,7 @@ module _ (input : TableInput) (budget : BudgetInput) (below : List ℕ) (right :
 
 -- ---- the bounds
 
-module _ (input : TableInput) (budget : BudgetInput) (below : List ℕ) (lists : ListsBelow input budget below) (sound : MeetsGarp input.n input.cost 1 1)
+module _ (input : TableInput) (budget : BudgetInput) (below : List ℕ) (lists : ListsBelow input budget below) (sound : MeetsGarp input.n input.cost)
     (inner : FractionBundle) (kept : IsSupportingDemand input budget inner) where
   module _ (right : ℕ → ℤ) (den : ℕ) (x : ℕ → ℕ) (p : IsPriced input budget below right den x) where
     priced_on_budget : IsOnBudget input budget (record { den = den; num = x })

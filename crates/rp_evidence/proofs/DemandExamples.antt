@@ -34,11 +34,11 @@ wide = enlarged consistent (budget_of 4) (whole 3 1)
 inner_supports : IsSupportingDemand consistent (budget_of 4) (whole 3 1)
 inner_supports = record {
   on_budget = record { fraction = omega arith; spent = refl };
-  meets = no_violation_under_ranks 3 (IsWeak wide 1 1) (IsStrict wide 1 1) (1 ∷ 1 ∷ 2 ∷ [])
+  meets = no_violation_under_ranks 3 (IsWeak wide) (IsStrict wide) (1 ∷ 1 ∷ 2 ∷ [])
       (record { one_each = refl; weak_never_rises = weak; strict_falls = strict });
 }
   where
-    weak : (s t : ℕ) → s < 3 → t < 3 → IsWeak wide 1 1 s t → slice_index (1 ∷ 1 ∷ 2 ∷ []) t ≤ slice_index (1 ∷ 1 ∷ 2 ∷ []) s
+    weak : (s t : ℕ) → s < 3 → t < 3 → IsWeak wide s t → slice_index (1 ∷ 1 ∷ 2 ∷ []) t ≤ slice_index (1 ∷ 1 ∷ 2 ∷ []) s
     weak zero zero a b h = omega arith
     weak zero (suc zero) a b h = omega arith
     weak zero (suc (suc zero)) a b h = absurd (omega arith)
@@ -51,7 +51,7 @@ inner_supports = record {
     weak s (suc (suc (suc t))) a b h = absurd (omega arith)
     weak (suc (suc (suc s))) t a b h = absurd (omega arith)
 
-    strict : (s t : ℕ) → s < 3 → t < 3 → IsStrict wide 1 1 s t → slice_index (1 ∷ 1 ∷ 2 ∷ []) t < slice_index (1 ∷ 1 ∷ 2 ∷ []) s
+    strict : (s t : ℕ) → s < 3 → t < 3 → IsStrict wide s t → slice_index (1 ∷ 1 ∷ 2 ∷ []) t < slice_index (1 ∷ 1 ∷ 2 ∷ []) s
     strict zero zero a b h = absurd (omega arith)
     strict zero (suc zero) a b h = absurd (omega arith)
     strict zero (suc (suc zero)) a b h = absurd (omega arith)

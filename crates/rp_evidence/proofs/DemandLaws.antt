@@ -24,9 +24,9 @@ module _ (input : TableInput) (budget : BudgetInput) (bundle : FractionBundle) w
   leads : (t : ℕ) → IsBelow input budget t → Leads input.n budget.expenditure input.cost (λ s. spending input.goods budget.prices (input.quantity s)) t
   leads t b = go b.walk b.leads
     where
-      go : (w : List ℕ) → IsWalk input.n (IsWeak input.cost 1 1) b.from t w → Leads input.n budget.expenditure input.cost (λ s. spending input.goods budget.prices (input.quantity s)) t
+      go : (w : List ℕ) → IsWalk input.n (IsWeak input.cost) b.from t w → Leads input.n budget.expenditure input.cost (λ s. spending input.goods budget.prices (input.quantity s)) t
       go [] l = absurd l
-      go (x ∷ w) l = record { from = b.from; walk = w; bought = b.bought; leads = subst (λ z. LeadsTo input.n (IsWeak input.cost 1 1) z t w) l.0 l.1 }
+      go (x ∷ w) l = record { from = b.from; walk = w; bought = b.bought; leads = subst (λ z. LeadsTo input.n (IsWeak input.cost) z t w) l.0 l.1 }
 
   is_below : (t : ℕ) → Leads input.n budget.expenditure input.cost (λ s. spending input.goods budget.prices (input.quantity s)) t → IsBelow input budget t
   is_below t l = record { from = l.from; walk = l.from ∷ l.walk; bought = l.bought; leads = (refl, l.leads) }
@@ -34,15 +34,15 @@ module _ (input : TableInput) (budget : BudgetInput) (bundle : FractionBundle) w
   leads_strictly : (t : ℕ) → IsStrictlyBelow input budget t → LeadsStrictly input.n budget.expenditure input.cost (λ s. spending input.goods budget.prices (input.quantity s)) t
   leads_strictly t b = go b.walk b.leads b.strict
     where
-      go : (w : List ℕ) → IsWalk input.n (IsWeak input.cost 1 1) b.from t w → BuysWithRest input budget b.from ⊎ HasStep (IsStrict input.cost 1 1) w
+      go : (w : List ℕ) → IsWalk input.n (IsWeak input.cost) b.from t w → BuysWithRest input budget b.from ⊎ HasStep (IsStrict input.cost) w
           → LeadsStrictly input.n budget.expenditure input.cost (λ s. spending input.goods budget.prices (input.quantity s)) t
       go [] l h = absurd l
       go (x ∷ w) l h = record {
         from = b.from;
         walk = w;
         bought = b.bought;
-        leads = subst (λ z. LeadsTo input.n (IsWeak input.cost 1 1) z t w) l.0 l.1;
-        strict = elim h [ inl k ↦ inl k | inr k ↦ inr (subst (λ z. HasStepFrom (IsStrict input.cost 1 1) z w) l.0 k) ];
+        leads = subst (λ z. LeadsTo input.n (IsWeak input.cost) z t w) l.0 l.1;
+        strict = elim h [ inl k ↦ inl k | inr k ↦ inr (subst (λ z. HasStepFrom (IsStrict input.cost) z w) l.0 k) ];
       }
 
   is_strictly_below : (t : ℕ) → LeadsStrictly input.n budget.expenditure input.cost (λ s. spending input.goods budget.prices (input.quantity s)) t → IsStrictlyBelow input budget t
@@ -50,7 +50,7 @@ module _ (input : TableInput) (budget : BudgetInput) (bundle : FractionBundle) w
 
   -- ---- a bundle on the budget keeps the axiom exactly where it costs enough
 
-  pub keeps : MeetsGarp input.n input.cost 1 1 → IsOnBudget input budget bundle → CostsEnough input budget bundle → CostsMore input budget bundle → IsSupportingDemand input budget bundle
+  pub keeps : MeetsGarp input.n input.cost → IsOnBudget input budget bundle → CostsEnough input budget bundle → CostsMore input budget bundle → IsSupportingDemand input budget bundle
   keeps sound on enough more = record {
     on_budget = on;
     meets = only_in_table input.n bundle.den budget.expenditure input.cost (enlarged input budget bundle) (λ t. spending input.goods (input.price t) bundle.num) (λ t. spending input.goods budget.prices (input.quantity t)) (is_enlarged on.fraction)
@@ -69,7 +69,7 @@ module _ (input : TableInput) (budget : BudgetInput) (bundle : FractionBundle) w
       costs_more input.n bundle.den budget.expenditure input.cost (enlarged input budget bundle) (λ t. spending input.goods (input.price t) bundle.num) (λ t. spending input.goods budget.prices (input.quantity t)) (is_enlarged kept.on_budget.fraction)
       kept.meets t a (leads_strictly t b)
 
-pub supporting_exactly : (input : TableInput) (budget : BudgetInput) (bundle : FractionBundle) → MeetsGarp input.n input.cost 1 1 → IsOnBudget input budget bundle
+pub supporting_exactly : (input : TableInput) (budget : BudgetInput) (bundle : FractionBundle) → MeetsGarp input.n input.cost → IsOnBudget input budget bundle
     → IsSupportingDemand input budget bundle ↔ (CostsEnough input budget bundle × CostsMore input budget bundle)
 supporting_exactly input budget bundle sound on = (
   (λ kept. (enough_where_kept input budget bundle kept, more_where_kept input budget bundle kept)),

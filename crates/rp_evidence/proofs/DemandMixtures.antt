@@ -58,7 +58,7 @@ module _ (input : TableInput) (budget : BudgetInput) (x z : FractionBundle) (k :
       let b : x.den * (z.den * input.cost t t) < x.den * spending input.goods (input.price t) z.num = mul-lt-mul_of_pos_left (of_z t t_in below) x_some in
       omega arith
 
-  pub mixture_supports : MeetsGarp input.n input.cost 1 1 → IsOnBudget input budget x → CostsEnough input budget x → IsSupportingDemand input budget z → IsSupportingDemand input budget (mixed k x z)
+  pub mixture_supports : MeetsGarp input.n input.cost → IsOnBudget input budget x → CostsEnough input budget x → IsSupportingDemand input budget z → IsSupportingDemand input budget (mixed k x z)
   mixture_supports sound on_x of_x kept =
       keeps input budget (mixed k x z) sound (mixed_on_budget on_x kept.on_budget)
       (mixed_costs_enough of_x (enough_where_kept input budget z kept))

@@ -1,8 +1,8 @@
 -- The efficiency index, tried at small tables. A table stands as its costs: a row for each observation's prices.
 use Rattle.std.proofs.Common.{◌<◌, ◌*◌, ℕ, zero, suc, List, [], ◌∷◌, refl, inl, inr, arith, slice_index, slice_index_or}
 use Rattle.rp_evidence.specs.Efficiency.{HasGreatestRatio, IsEfficiencyIndex}
-use Rattle.rp_evidence.specs.Garp.{MeetsGarp}
-use Rattle.rp_evidence.specs.Preference.{IsStrict, IsWeak}
+use Rattle.rp_evidence.specs.Garp.{MeetsGarpAt}
+use Rattle.rp_evidence.specs.Preference.{IsStrictAt, IsWeakAt}
 use Rattle.rp_evidence.specs.Ranks.{OrderStrictSteps}
 use Rattle.rp_evidence.specs.Walk.{IsClosedWalk}
 use Rattle.rp_evidence.proofs.Index.{NoLowerCycle, index_by_cycle, index_is_one}
@@ -16,7 +16,7 @@ costs rows s t = slice_index (slice_index_or rows s []) t
 abbrev four_fifths : ℕ → ℕ → ℕ
 four_fifths = costs ((5 ∷ 4 ∷ []) ∷ (4 ∷ 5 ∷ []) ∷ [])
 
-four_fifths_cycle : IsClosedWalk 2 (IsWeak four_fifths 4 5) (0 ∷ 1 ∷ 0 ∷ [])
+four_fifths_cycle : IsClosedWalk 2 (IsWeakAt four_fifths 4 5) (0 ∷ 1 ∷ 0 ∷ [])
 four_fifths_cycle = (0, (refl, (omega arith, omega arith, (omega arith, omega arith, (omega arith, refl)))), omega arith)
 
 four_fifths_is_index : IsEfficiencyIndex 2 four_fifths 4 5
@@ -53,7 +53,7 @@ nine_tenths_positive (suc (suc s)) l = absurd (omega arith)
 nine_tenths_order : OrderStrictSteps 2 nine_tenths 9 10 (2 ∷ 1 ∷ [])
 nine_tenths_order = record { one_each = refl; step_falls = strict }
   where
-    strict : (s t : ℕ) → s < 2 → t < 2 → IsStrict nine_tenths 9 10 s t → slice_index (2 ∷ 1 ∷ []) t < slice_index (2 ∷ 1 ∷ []) s
+    strict : (s t : ℕ) → s < 2 → t < 2 → IsStrictAt nine_tenths 9 10 s t → slice_index (2 ∷ 1 ∷ []) t < slice_index (2 ∷ 1 ∷ []) s
     strict zero zero a b h = absurd (omega arith)
     strict zero (suc zero) a b h = omega arith
     strict (suc zero) zero a b h = absurd (omega arith)
@@ -62,10 +62,10 @@ nine_tenths_order = record { one_each = refl; step_falls = strict }
     strict zero (suc (suc t)) a b h = absurd (omega arith)
     strict (suc zero) (suc (suc t)) a b h = absurd (omega arith)
 
-nine_tenths_cycle : IsClosedWalk 2 (IsWeak nine_tenths 9 10) (0 ∷ 1 ∷ 0 ∷ [])
+nine_tenths_cycle : IsClosedWalk 2 (IsWeakAt nine_tenths 9 10) (0 ∷ 1 ∷ 0 ∷ [])
 nine_tenths_cycle = (0, (refl, (omega arith, omega arith, (omega arith, omega arith, (omega arith, refl)))), omega arith)
 
-nine_tenths_meets_below : (p q : ℕ) → p * 10 < 9 * q → MeetsGarp 2 nine_tenths p q
+nine_tenths_meets_below : (p q : ℕ) → p * 10 < 9 * q → MeetsGarpAt 2 nine_tenths p q
 nine_tenths_meets_below p q less walk = ordering_ranks_exclude 2 9 10 p q nine_tenths (2 ∷ 1 ∷ []) walk nine_tenths_positive less nine_tenths_order
 
 nine_tenths_is_index : IsEfficiencyIndex 2 nine_tenths 9 10
@@ -75,7 +75,7 @@ nine_tenths_is_index = record {
   fails_above = λ p q level more. (0 ∷ 1 ∷ 0 ∷ [], weak_cycle_violates 2 9 10 p q nine_tenths (0 ∷ 1 ∷ 0 ∷ []) nine_tenths_positive more nine_tenths_cycle);
 }
 
-nine_tenths_not_attained : ¬ MeetsGarp 2 nine_tenths 9 10
+nine_tenths_not_attained : ¬ MeetsGarpAt 2 nine_tenths 9 10
 nine_tenths_not_attained meets = meets (1 ∷ 0 ∷ 1 ∷ [])
     ((1, (refl, (omega arith, omega arith, (omega arith, omega arith, (omega arith, refl)))), omega arith), inr (inl (omega arith)))
 

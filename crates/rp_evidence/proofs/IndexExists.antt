@@ -7,13 +7,13 @@ use Rattle.std.proofs.lemmas.Bool.{cases_eq, cases_lt}
 use Rattle.rp_num.specs.Fraction.{Fraction, IsLowestTerms}
 use Rattle.rp_num.proofs.Lowest.{IsLowestTerms-exists, IsLowestTerms-itself}
 use Rattle.rp_evidence.specs.Efficiency.{IsEfficiencyIndex}
-use Rattle.rp_evidence.specs.Preference.{IsWeak}
+use Rattle.rp_evidence.specs.Preference.{IsWeakAt}
 use Rattle.rp_evidence.specs.Walk.{IsClosedWalk}
 use Rattle.rp_evidence.proofs.Index.{NoLowerCycle, closed_rises, index_by_cycle, index_same}
 use Rattle.rp_evidence.proofs.ClosedWalks.{closed_walk_decided}
 use Rattle.rp_evidence.proofs.Walks.{starts_below}
 
-pub weak_decided : (c : ℕ → ℕ → ℕ) (num den s t : ℕ) → IsWeak c num den s t ⊎ (¬ IsWeak c num den s t)
+pub weak_decided : (c : ℕ → ℕ → ℕ) (num den s t : ℕ) → IsWeakAt c num den s t ⊎ (¬ IsWeakAt c num den s t)
 weak_decided c num den s t = elim (cases_lt (num * c s s) (den * c s t)) [ inl more ↦ inr (λ h. absurd (omega arith)) | inr most ↦ inl most ]
 
 -- the least number that meets P, up to one that does
@@ -52,11 +52,11 @@ module _ (n : ℕ) (c : ℕ → ℕ → ℕ) (positive : (s t : ℕ) → s < n �
   -- the least number of parts of the product at which a closed walk of weak steps exists
   module _ (some : 1 ≤ n) (whole : ℕ) (whole_positive : 0 < whole) (divided : (s : ℕ) → s < n → (m : ℕ) × (m * c s s ≡ whole)) where
     HasCycle : ℕ → Type 0
-    HasCycle k = (walk : List ℕ) × IsClosedWalk n (IsWeak c k whole) walk
+    HasCycle k = (walk : List ℕ) × IsClosedWalk n (IsWeakAt c k whole) walk
 
     has_cycle_decided : (k : ℕ) → HasCycle k ⊎ (¬ HasCycle k)
     unfolding HasCycle
-    has_cycle_decided k = elim (closed_walk_decided n (IsWeak c k whole) (λ s t. weak_decided c k whole s t)) [
+    has_cycle_decided k = elim (closed_walk_decided n (IsWeakAt c k whole) (λ s t. weak_decided c k whole s t)) [
       | inl r ↦ inl r
       | inr none ↦ inr (λ h. none h.0 h.1)
     ]
@@ -69,15 +69,15 @@ module _ (n : ℕ) (c : ℕ → ℕ → ℕ) (positive : (s t : ℕ) → s < n �
     unfolding HasCycle
     none_at_zero h = no_step h.0 h.1
       where
-        no_step : (walk : List ℕ) → ¬ IsClosedWalk n (IsWeak c 0 whole) walk
+        no_step : (walk : List ℕ) → ¬ IsClosedWalk n (IsWeakAt c 0 whole) walk
         no_step [] k = absurd k.1
         no_step (x ∷ []) k = absurd (omega (arith, k.2))
         no_step (x ∷ y ∷ w) k =
-            let costs : whole * 0 < whole * c x y = mul-lt-mul_of_pos_left (positive x y k.1.1.0 (starts_below n (IsWeak c 0 whole) y k.0 w k.1.1.2)) whole_positive in
+            let costs : whole * 0 < whole * c x y = mul-lt-mul_of_pos_left (positive x y k.1.1.0 (starts_below n (IsWeakAt c 0 whole) y k.0 w k.1.1.2)) whole_positive in
             let step : whole * c x y ≤ 0 * c x x = k.1.1.1 in
             absurd (omega arith)
 
-    pub found : (m : ℕ) × (walk : List ℕ) × IsClosedWalk n (IsWeak c m whole) walk × IsEfficiencyIndex n c m whole
+    pub found : (m : ℕ) × (walk : List ℕ) × IsClosedWalk n (IsWeakAt c m whole) walk × IsEfficiencyIndex n c m whole
     unfolding HasCycle
     found = elim (least_number HasCycle has_cycle_decided whole) [
       | inr none ↦ absurd (none whole (omega arith) whole_has)
@@ -102,7 +102,7 @@ module _ (n : ℕ) (c : ℕ → ℕ → ℕ) (positive : (s t : ℕ) → s < n �
             (walk, closed_rises n (c u v) (c u u) (k.0 * c u v) whole c walk (positive u u u_in u_in) (omega (arith, same)) closed)
 
 -- an index with a closed walk of weak steps at it
-pub index_exists : (n : ℕ) (c : ℕ → ℕ → ℕ) → 1 ≤ n → ((s t : ℕ) → s < n → t < n → 0 < c s t) → (num : ℕ) × (den : ℕ) × (walk : List ℕ) × IsClosedWalk n (IsWeak c num den) walk × IsEfficiencyIndex n c num den
+pub index_exists : (n : ℕ) (c : ℕ → ℕ → ℕ) → 1 ≤ n → ((s t : ℕ) → s < n → t < n → 0 < c s t) → (num : ℕ) × (den : ℕ) × (walk : List ℕ) × IsClosedWalk n (IsWeakAt c num den) walk × IsEfficiencyIndex n c num den
 index_exists n c some positive =
     let whole = own_product c n in
     let r = found n c positive some whole (product_positive n c positive n (omega arith)) (λ s s_in. product_divided n c positive n s s_in) in

@@ -2,7 +2,7 @@
 use Rattle.std.proofs.Common.{◌≡◌, ◌<◌, ◌≤◌, ◌*◌, ◌↔◌, inl, inr, ℕ, List, [], ◌∷◌, refl, arith}
 use Rattle.std.proofs.Math.Nat.{lt_of_mul-lt-mul_left, mul-lt-mul_of_pos_left}
 use Rattle.rp_evidence.specs.Efficiency.{HasGreatestRatio, IsEfficiencyIndex, IsLeastGreatestRatio, IsRatio}
-use Rattle.rp_evidence.specs.Preference.{IsWeak}
+use Rattle.rp_evidence.specs.Preference.{IsWeakAt}
 use Rattle.rp_evidence.specs.Walk.{IsClosedWalk, HasStep, HasStepFrom, LeadsTo}
 use Rattle.rp_evidence.proofs.Index.{NoLowerCycle, closed_rises, index_at_most, index_by_cycle, index_is_one}
 use Rattle.rp_evidence.proofs.IndexExists.{index_exists}
@@ -13,13 +13,13 @@ module _ (n : ℕ) (c : ℕ → ℕ → ℕ) (some : 1 ≤ n) (positive : (s t :
   own : (s : ℕ) → s < n → 0 < c s s
   own s s_in = positive s s s_in s_in
 
-  ratios_same : (a b num den : ℕ) (walk : List ℕ) → 0 < b → a * den ≡ num * b → IsClosedWalk n (IsWeak c num den) walk → HasStep (IsRatio c a b) walk → HasStep (IsRatio c num den) walk
+  ratios_same : (a b num den : ℕ) (walk : List ℕ) → 0 < b → a * den ≡ num * b → IsClosedWalk n (IsWeakAt c num den) walk → HasStep (IsRatio c a b) walk → HasStep (IsRatio c num den) walk
   ratios_same a b num den [] pos same l h = absurd h
   ratios_same a b num den (x ∷ w) pos same l h =
-      has_weaker_step n (IsWeak c num den) (IsRatio c a b) (IsRatio c num den) (λ s t s_in t_in e. ratio_same c a b num den s t pos same e) x l.0 w l.1.1 h
+      has_weaker_step n (IsWeakAt c num den) (IsRatio c a b) (IsRatio c num den) (λ s t s_in t_in e. ratio_same c a b num den s t pos same e) x l.0 w l.1.1 h
 
   -- the index has a closed walk of weak steps at it
-  pub walk_at_index : (num den : ℕ) → IsEfficiencyIndex n c num den → (walk : List ℕ) × IsClosedWalk n (IsWeak c num den) walk
+  pub walk_at_index : (num den : ℕ) → IsEfficiencyIndex n c num den → (walk : List ℕ) × IsClosedWalk n (IsWeakAt c num den) walk
   walk_at_index num den index =
       let r = index_exists n c some positive in
       let same = index_is_one n r.0 r.1 num den c r.4 index in
@@ -28,7 +28,7 @@ module _ (n : ℕ) (c : ℕ → ℕ → ℕ) (some : 1 ≤ n) (positive : (s t :
   index_to_least : (num den : ℕ) → IsEfficiencyIndex n c num den → IsLeastGreatestRatio n c num den
   index_to_least num den index =
       let w = walk_at_index num den index in
-      let g = greatest_ratio n c own (IsWeak c num den) w.0 w.1 in
+      let g = greatest_ratio n c own (IsWeakAt c num den) w.0 w.1 in
       let within = greatest_within n c own (c g.0 g.1) (c g.0 g.0) num den w.0 w.1 g.4.one_equal in
       let least = index_at_most n num den (c g.0 g.1) (c g.0 g.0) c w.0 own index (own g.0 g.2) g.4.none_more in
       record {
@@ -42,10 +42,10 @@ module _ (n : ℕ) (c : ℕ → ℕ → ℕ) (some : 1 ≤ n) (positive : (s t :
   above_zero num den [] pos h = absurd h.one_equal
   above_zero num den (x ∷ w) pos h = go x h.none_more.0 w h.none_more.1.1 h.one_equal
     where
-      go : (s t : ℕ) (w : List ℕ) → LeadsTo n (IsWeak c num den) s t w → HasStepFrom (IsRatio c num den) s w → 0 < num
+      go : (s t : ℕ) (w : List ℕ) → LeadsTo n (IsWeakAt c num den) s t w → HasStepFrom (IsRatio c num den) s w → 0 < num
       go s t [] l h = absurd h
       go s t (y ∷ w) l (inl e) =
-          let costs : den * 0 < den * c s y = mul-lt-mul_of_pos_left (positive s y l.0 (starts_below n (IsWeak c num den) y t w l.2)) pos in
+          let costs : den * 0 < den * c s y = mul-lt-mul_of_pos_left (positive s y l.0 (starts_below n (IsWeakAt c num den) y t w l.2)) pos in
           let some : c s s * 0 < c s s * num = omega (arith, e) in
           lt_of_mul-lt-mul_left (c s s) some
       go s t (y ∷ w) l (inr h) = go y t w l.2 h
@@ -63,7 +63,7 @@ module _ (n : ℕ) (c : ℕ → ℕ → ℕ) (some : 1 ≤ n) (positive : (s t :
 
       none_lower : NoLowerCycle n c num den
       none_lower u v u_in v_in less walk closed =
-          let g = greatest_ratio n c own (IsWeak c (c u v) (c u u)) walk closed in
+          let g = greatest_ratio n c own (IsWeakAt c (c u v) (c u u)) walk closed in
           let within = greatest_within n c own (c g.0 g.1) (c g.0 g.0) (c u v) (c u u) walk closed g.4.one_equal in
           let least = h.least (c g.0 g.1) (c g.0 g.0) walk (own g.0 g.2) g.4 in
           let less_still = ratio_then_less (c g.0 g.1) (c g.0 g.0) (c u v) (c u u) num den (own g.0 g.2) within less in

@@ -29,11 +29,11 @@ spending_first (suc (suc j)) prices k some =
     let p : prices (suc j) * cond (eqb (suc j) 0) k 0 ≡ prices (suc j) * 0 = ap (λ v. prices (suc j) * v) z in
     omega arith
 
-module _ (input : TableInput) (budget : BudgetInput) (sound : MeetsGarp input.n input.cost 1 1) (some_goods : 0 < input.goods)
+module _ (input : TableInput) (budget : BudgetInput) (sound : MeetsGarp input.n input.cost) (some_goods : 0 < input.goods)
     (new_prices : 0 < budget.prices 0) (old_prices : (t : ℕ) → t < input.n → 0 < input.price t 0) where
   -- ---- from a bundle of the table, with the rest on good 0
 
-  module _ (s : ℕ) (counts : List ℕ) (are : AreCounts input.n (IsWeak input.cost 1 1) counts) (start : IsInnerStart input budget counts s)
+  module _ (s : ℕ) (counts : List ℕ) (are : AreCounts input.n (IsWeak input.cost) counts) (start : IsInnerStart input budget counts s)
       (bundle : FractionBundle) (over : bundle.den ≡ budget.prices 0)
       (parts : (g : ℕ) → g < input.goods → bundle.num g ≡ with_rest_on_first input budget s g) where
     spent_there : (prices : ℕ → ℕ) → spending input.goods prices bundle.num
@@ -45,27 +45,27 @@ module _ (input : TableInput) (budget : BudgetInput) (sound : MeetsGarp input.n 
         let d = spending_first input.goods prices rest some_goods in
         omega arith
 
-    respect : RespectPreference input.n (IsWeak input.cost 1 1) (IsStrict input.cost 1 1) counts
-    respect = counts_respect_preference input.n (IsWeak input.cost 1 1) (IsStrict input.cost 1 1) (λ a b a_in b_in. strict_to_weak input.cost 1 1 a b) counts are sound
+    respect : RespectPreference input.n (IsWeak input.cost) (IsStrict input.cost) counts
+    respect = counts_respect_preference input.n (IsWeak input.cost) (IsStrict input.cost) (λ a b a_in b_in. strict_to_weak input.cost 1 1 a b) counts are sound
 
     -- what leads to t has at least its count, and more where a step is strict
     led : (t : ℕ) (below : IsBelow input budget t) → (below.from < input.n) × (slice_index counts t ≤ slice_index counts below.from)
     led t below = go below.walk below.leads
       where
-        go : (w : List ℕ) → IsWalk input.n (IsWeak input.cost 1 1) below.from t w → (below.from < input.n) × (slice_index counts t ≤ slice_index counts below.from)
+        go : (w : List ℕ) → IsWalk input.n (IsWeak input.cost) below.from t w → (below.from < input.n) × (slice_index counts t ≤ slice_index counts below.from)
         go [] l = absurd l
         go (x ∷ w) l =
-            let l' = subst (λ z. LeadsTo input.n (IsWeak input.cost 1 1) z t w) l.0 l.1 in
-            (starts_below input.n (IsWeak input.cost 1 1) below.from t w l', never_rises input.n (IsWeak input.cost 1 1) (IsStrict input.cost 1 1) counts respect below.from t w l')
+            let l' = subst (λ z. LeadsTo input.n (IsWeak input.cost) z t w) l.0 l.1 in
+            (starts_below input.n (IsWeak input.cost) below.from t w l', never_rises input.n (IsWeak input.cost) (IsStrict input.cost) counts respect below.from t w l')
 
-    fallen : (t : ℕ) (below : IsStrictlyBelow input budget t) → HasStep (IsStrict input.cost 1 1) below.walk → slice_index counts t < slice_index counts below.from
+    fallen : (t : ℕ) (below : IsStrictlyBelow input budget t) → HasStep (IsStrict input.cost) below.walk → slice_index counts t < slice_index counts below.from
     fallen t below h = go below.walk below.leads h
       where
-        go : (w : List ℕ) → IsWalk input.n (IsWeak input.cost 1 1) below.from t w → HasStep (IsStrict input.cost 1 1) w → slice_index counts t < slice_index counts below.from
+        go : (w : List ℕ) → IsWalk input.n (IsWeak input.cost) below.from t w → HasStep (IsStrict input.cost) w → slice_index counts t < slice_index counts below.from
         go [] l k = absurd l
         go (x ∷ w) l k =
-            falls input.n (IsWeak input.cost 1 1) (IsStrict input.cost 1 1) counts respect below.from t w
-            (subst (λ z. LeadsTo input.n (IsWeak input.cost 1 1) z t w) l.0 l.1) (subst (λ z. HasStepFrom (IsStrict input.cost 1 1) z w) l.0 k)
+            falls input.n (IsWeak input.cost) (IsStrict input.cost) counts respect below.from t w
+            (subst (λ z. LeadsTo input.n (IsWeak input.cost) z t w) l.0 l.1) (subst (λ z. HasStepFrom (IsStrict input.cost) z w) l.0 k)
 
     start_is_dear : (t : ℕ) → t < input.n → IsBelow input budget t → input.cost t t ≤ input.cost t s
     start_is_dear t t_in below = elim (cases_lt (input.cost t s) (input.cost t t)) [
@@ -142,9 +142,9 @@ module _ (input : TableInput) (budget : BudgetInput) (sound : MeetsGarp input.n 
       (λ t t_in below. absurd (nothing t below.from below.walk below.leads below.bought))
       (λ t t_in below. absurd (nothing t below.from below.walk below.leads below.bought))
     where
-      nothing : (t s : ℕ) (w : List ℕ) → IsWalk input.n (IsWeak input.cost 1 1) s t w → Buys input budget s → ⊥
+      nothing : (t s : ℕ) (w : List ℕ) → IsWalk input.n (IsWeak input.cost) s t w → Buys input budget s → ⊥
       nothing t s [] l b = absurd l
-      nothing t s (x ∷ w) l b = none s (subst (λ z. z < input.n) l.0 (starts_below input.n (IsWeak input.cost 1 1) x t w l.1)) b
+      nothing t s (x ∷ w) l b = none s (subst (λ z. z < input.n) l.0 (starts_below input.n (IsWeak input.cost) x t w l.1)) b
 
       on : IsOnBudget input budget bundle
       on = record {

@@ -142,14 +142,14 @@ module _ (input : TableInput) (budget : BudgetInput) where
     | inr l ↦ inl l
   ]
 
-  counts_exist : (counts : List ℕ) × AreCounts input.n (IsWeak input.cost 1 1) counts
+  counts_exist : (counts : List ℕ) × AreCounts input.n (IsWeak input.cost) counts
   counts_exist =
-      let count = count_of input.n (IsWeak input.cost 1 1) (weak_decided input.cost 1 1) in
+      let count = count_of input.n (IsWeak input.cost) (weak_decided input.cost 1 1) in
       let r = listed count input.n in (
         r.0,
         record {
           one_each = r.1;
-          each = λ s l. subst (λ k. IsCount input.n (IsWeak input.cost 1 1) s k) (sym (r.2 s l)) (count_of-counts input.n (IsWeak input.cost 1 1) (weak_decided input.cost 1 1) s l);
+          each = λ s l. subst (λ k. IsCount input.n (IsWeak input.cost) s k) (sym (r.2 s l)) (count_of-counts input.n (IsWeak input.cost) (weak_decided input.cost 1 1) s l);
         },
       )
 
@@ -190,13 +190,13 @@ module _ (input : TableInput) (budget : BudgetInput) where
         | inr none ↦ (record { den = budget.prices 0; num = all_on_first budget }, record { over = refl; parts = inr (none, λ g l. refl) })
       ]
 
-  pub has_inner_support : MeetsGarp input.n input.cost 1 1 → 0 < input.goods → 0 < budget.prices 0 → ((t : ℕ) → t < input.n → 0 < input.price t 0) → HasInnerSupport input budget
+  pub has_inner_support : MeetsGarp input.n input.cost → 0 < input.goods → 0 < budget.prices 0 → ((t : ℕ) → t < input.n → 0 < input.price t 0) → HasInnerSupport input budget
   has_inner_support sound goods new old =
       let r = inner_demand_exists in (r.0, r.1, inner_demand_supports input budget sound goods new old r.0 r.1)
 
 -- of a table within the limits
 pub table_has_inner_support : (table : Observations) (prices : List ℕ) (m : ℕ) → IsTable table → length prices ≡ goods_of table → All (λ p. 1 ≤ p) prices
-    → MeetsGarp (records_of table) (cost_of table) 1 1 → HasInnerSupport (input_of_table table) (budget_of prices m)
+    → MeetsGarp (records_of table) (cost_of table) → HasInnerSupport (input_of_table table) (budget_of prices m)
 table_has_inner_support table prices m valid each positive sound =
     has_inner_support (input_of_table table) (budget_of prices m) sound (omega (arith, valid.some_goods)) first old
   where

@@ -20,6 +20,7 @@ pub mod IndexExists
 pub mod IndexThreshold
 mod IndexExamples
 pub mod Levels
+pub mod ClauseLemmas
 pub mod ClosedWalks
 pub mod OwnAfriat
 pub mod OwnLevels
@@ -43,3 +44,7 @@ pub mod Walks
 pub mod WelfareLaws
 pub mod WelfareModels
 pub mod WelfarePrograms
+pub mod BitLemmas
+pub mod Rounds
+pub mod Tabulated
+pub mod Throughs

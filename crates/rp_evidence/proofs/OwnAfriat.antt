@@ -67,23 +67,23 @@ model_without_levels n c u m = (subst (λ d. IsModelBy n d (spent c) u m) (scale
 pub standard_without_levels : (n : ℕ) (c : ℕ → ℕ → ℕ) (count : ℕ → ℕ) (u : ℕ → ℤ) (m : ℕ → ℕ) → AreOwnStandardNumbers n [] c count u m ↔ AreStandardNumbers n c count u m
 standard_without_levels n c count u m = (
   standard_by_same n (in_scale 1 c) c (spent c) (spent c) (λ s t a b. one_times (c s t)) (λ s a. λ i. c s s)
-      (WeakByLevels [] c) (IsWeak c 1 1) (λ s t a b. weak_without_levels c s t) count u m,
+      (WeakByLevels [] c) (IsWeak c) (λ s t a b. weak_without_levels c s t) count u m,
   standard_by_same n c (in_scale 1 c) (spent c) (spent c) (λ s t a b. sym (one_times (c s t))) (λ s a. λ i. c s s)
-      (IsWeak c 1 1) (WeakByLevels [] c) (λ s t a b. let w = weak_without_levels c s t in (w.1, w.0)) count u m,
+      (IsWeak c) (WeakByLevels [] c) (λ s t a b. let w = weak_without_levels c s t in (w.1, w.0)) count u m,
 )
 
 pub utility_without_levels : (n den : ℕ) (c : ℕ → ℕ → ℕ) (u : ℕ → ℤ) (m cost : ℕ → ℕ) (value : ℤ) → IsOwnUtility n [] c u m den cost value ↔ IsUtility n c u m den cost value
 utility_without_levels n den c u m cost value =
     (subst (λ d. IsUtilityBy n (spent c) u m den d value) (cost_once cost), subst (λ d. IsUtilityBy n (spent c) u m den d value) (sym (cost_once cost)))
 
-pub violation_there : (n : ℕ) (c : ℕ → ℕ → ℕ) (walk : List ℕ) → IsViolation n (WeakByLevels [] c) (StrictByLevels [] c) walk → IsViolation n (IsWeak c 1 1) (IsStrict c 1 1) walk
+pub violation_there : (n : ℕ) (c : ℕ → ℕ → ℕ) (walk : List ℕ) → IsViolation n (WeakByLevels [] c) (StrictByLevels [] c) walk → IsViolation n (IsWeak c) (IsStrict c) walk
 violation_there n c =
-    preference_violation_same n (WeakByLevels [] c) (StrictByLevels [] c) (IsWeak c 1 1) (IsStrict c 1 1)
+    preference_violation_same n (WeakByLevels [] c) (StrictByLevels [] c) (IsWeak c) (IsStrict c)
     (λ s t a b. weak_without_levels c s t) (λ s t a b. strict_without_levels c s t)
 
-violation_back : (n : ℕ) (c : ℕ → ℕ → ℕ) (walk : List ℕ) → IsViolation n (IsWeak c 1 1) (IsStrict c 1 1) walk → IsViolation n (WeakByLevels [] c) (StrictByLevels [] c) walk
+violation_back : (n : ℕ) (c : ℕ → ℕ → ℕ) (walk : List ℕ) → IsViolation n (IsWeak c) (IsStrict c) walk → IsViolation n (WeakByLevels [] c) (StrictByLevels [] c) walk
 violation_back n c =
-    preference_violation_same n (IsWeak c 1 1) (IsStrict c 1 1) (WeakByLevels [] c) (StrictByLevels [] c)
+    preference_violation_same n (IsWeak c) (IsStrict c) (WeakByLevels [] c) (StrictByLevels [] c)
     (λ s t a b. let w = weak_without_levels c s t in (w.1, w.0)) (λ s t a b. let w = strict_without_levels c s t in (w.1, w.0))
 
 pub evidence_without_levels : (n : ℕ) (c : ℕ → ℕ → ℕ) (part : AfriatPart) → ProvesOwnAfriat n [] c part ↔ ProvesAfriat n c part

@@ -8,10 +8,10 @@ use Rattle.rp_evidence.proofs.SameCosts.{agree_back, proves_of_preference_same}
 
 -- ---- without levels: the level 1
 
-pub weak_without_levels : (c : ℕ → ℕ → ℕ) (s t : ℕ) → WeakByLevels [] c s t ↔ IsWeak c 1 1 s t
+pub weak_without_levels : (c : ℕ → ℕ → ℕ) (s t : ℕ) → WeakByLevels [] c s t ↔ IsWeak c s t
 weak_without_levels c s t = (λ h. omega (arith, h), λ h. omega (arith, h))
 
-pub strict_without_levels : (c : ℕ → ℕ → ℕ) (s t : ℕ) → StrictByLevels [] c s t ↔ IsStrict c 1 1 s t
+pub strict_without_levels : (c : ℕ → ℕ → ℕ) (s t : ℕ) → StrictByLevels [] c s t ↔ IsStrict c s t
 strict_without_levels c s t = (λ h. omega (arith, h), λ h. omega (arith, h))
 
 back : {A B : Type 0} → A ↔ B → B ↔ A
@@ -20,9 +20,9 @@ back h = (h.1, h.0)
 pub garp_without_levels : (n : ℕ) (c : ℕ → ℕ → ℕ) (verdict : Garp)
     → ProvesOfPreference n (WeakByLevels [] c) (StrictByLevels [] c) verdict ↔ ProvesGarp n c verdict
 garp_without_levels n c verdict = (
-  proves_of_preference_same n (WeakByLevels [] c) (StrictByLevels [] c) (IsWeak c 1 1) (IsStrict c 1 1)
+  proves_of_preference_same n (WeakByLevels [] c) (StrictByLevels [] c) (IsWeak c) (IsStrict c)
       (λ s t a b. weak_without_levels c s t) (λ s t a b. strict_without_levels c s t) verdict,
-  proves_of_preference_same n (IsWeak c 1 1) (IsStrict c 1 1) (WeakByLevels [] c) (StrictByLevels [] c)
+  proves_of_preference_same n (IsWeak c) (IsStrict c) (WeakByLevels [] c) (StrictByLevels [] c)
       (λ s t a b. back (weak_without_levels c s t)) (λ s t a b. back (strict_without_levels c s t)) verdict,
 )
 

@@ -3,7 +3,7 @@ use Rattle.std.proofs.Common.{◌≡◌, ◌<◌, ◌≤◌, ◌*◌, inl, inr, 
 use Rattle.std.proofs.Math.Nat.{le_of_mul-le-mul_left, lt_of_mul-lt-mul_left, mul-le-mul_left, mul-lt-mul_of_pos_left, eq_of_mul-eq-mul_right}
 use Rattle.std.proofs.lemmas.Bool.{cases_lt}
 use Rattle.rp_evidence.specs.Efficiency.{HasGreatestRatio, IsRatio}
-use Rattle.rp_evidence.specs.Preference.{IsWeak}
+use Rattle.rp_evidence.specs.Preference.{IsWeakAt}
 use Rattle.rp_evidence.specs.Walk.{LeadsTo, IsClosedWalk, HasStep, HasStepFrom}
 use Rattle.rp_evidence.proofs.Levels.{weak_rises}
 use Rattle.rp_evidence.proofs.Walks.{leads_by_weaker, starts_below}
@@ -24,12 +24,12 @@ ratio_same c a b num den s t pos same e =
 
 module _ (n : ℕ) (c : ℕ → ℕ → ℕ) (positive : (s : ℕ) → s < n → 0 < c s s) where
   -- a step whose ratio is the greatest
-  greatest_from : (step : ℕ → ℕ → Type 0) (s t x : ℕ) (w : List ℕ) → LeadsTo n step s t (x ∷ w) → (u : ℕ) × (v : ℕ) × (u < n) × (v < n) × LeadsTo n (IsWeak c (c u v) (c u u)) s t (x ∷ w) × HasStepFrom (IsRatio c (c u v) (c u u)) s (x ∷ w)
+  greatest_from : (step : ℕ → ℕ → Type 0) (s t x : ℕ) (w : List ℕ) → LeadsTo n step s t (x ∷ w) → (u : ℕ) × (v : ℕ) × (u < n) × (v < n) × LeadsTo n (IsWeakAt c (c u v) (c u u)) s t (x ∷ w) × HasStepFrom (IsRatio c (c u v) (c u u)) s (x ∷ w)
   greatest_from step s t x [] h = (s, x, h.0, h.2.0, (h.0, omega arith, h.2), inl (omega arith))
   greatest_from step s t x (y ∷ w) h = go (greatest_from step x t y w h.2)
     where
-      go : (u : ℕ) × (v : ℕ) × (u < n) × (v < n) × LeadsTo n (IsWeak c (c u v) (c u u)) x t (y ∷ w) × HasStepFrom (IsRatio c (c u v) (c u u)) x (y ∷ w)
-          → (u : ℕ) × (v : ℕ) × (u < n) × (v < n) × LeadsTo n (IsWeak c (c u v) (c u u)) s t (x ∷ y ∷ w) × HasStepFrom (IsRatio c (c u v) (c u u)) s (x ∷ y ∷ w)
+      go : (u : ℕ) × (v : ℕ) × (u < n) × (v < n) × LeadsTo n (IsWeakAt c (c u v) (c u u)) x t (y ∷ w) × HasStepFrom (IsRatio c (c u v) (c u u)) x (y ∷ w)
+          → (u : ℕ) × (v : ℕ) × (u < n) × (v < n) × LeadsTo n (IsWeakAt c (c u v) (c u u)) s t (x ∷ y ∷ w) × HasStepFrom (IsRatio c (c u v) (c u u)) s (x ∷ y ∷ w)
       go r = elim (cases_lt (c r.0 r.1 * c s s) (c s x * c r.0 r.0)) [
         | inl more ↦ (
           s,
@@ -39,7 +39,7 @@ module _ (n : ℕ) (c : ℕ → ℕ → ℕ) (positive : (s : ℕ) → s < n →
           (
             h.0,
             omega arith,
-            leads_by_weaker n (IsWeak c (c r.0 r.1) (c r.0 r.0)) (IsWeak c (c s x) (c s s))
+            leads_by_weaker n (IsWeakAt c (c r.0 r.1) (c r.0 r.0)) (IsWeakAt c (c s x) (c s s))
                 (λ a b a_in b_in k. weak_rises (c r.0 r.1) (c r.0 r.0) (c s x) (c s s) (c a b) (c a a) (positive r.0 r.2) (omega arith) k) x t (y ∷ w) r.4,
           ),
           inl (omega arith),
@@ -56,7 +56,7 @@ module _ (n : ℕ) (c : ℕ → ℕ → ℕ) (positive : (s : ℕ) → s < n →
       (r.0, r.1, r.2, r.3, record { none_more = (h.0, (h.1.0, r.4), h.2); one_equal = r.5 })
 
   -- on a walk of weak steps no ratio is above the level
-  within_from : (num den p q s t : ℕ) (w : List ℕ) → LeadsTo n (IsWeak c p q) s t w → HasStepFrom (IsRatio c num den) s w → num * q ≤ p * den
+  within_from : (num den p q s t : ℕ) (w : List ℕ) → LeadsTo n (IsWeakAt c p q) s t w → HasStepFrom (IsRatio c num den) s w → num * q ≤ p * den
   within_from num den p q s t [] l h = absurd h
   within_from num den p q s t (x ∷ w) l (inl e) =
       let k : den * (q * c s x) ≤ den * (p * c s s) = mul-le-mul_left den l.1 in
@@ -64,6 +64,6 @@ module _ (n : ℕ) (c : ℕ → ℕ → ℕ) (positive : (s : ℕ) → s < n →
       le_of_mul-le-mul_left {k = c s s} (omega arith) (positive s l.0)
   within_from num den p q s t (x ∷ w) l (inr h) = within_from num den p q x t w l.2 h
 
-  pub greatest_within : (num den p q : ℕ) (walk : List ℕ) → IsClosedWalk n (IsWeak c p q) walk → HasStep (IsRatio c num den) walk → num * q ≤ p * den
+  pub greatest_within : (num den p q : ℕ) (walk : List ℕ) → IsClosedWalk n (IsWeakAt c p q) walk → HasStep (IsRatio c num den) walk → num * q ≤ p * den
   greatest_within num den p q [] l h = absurd h
   greatest_within num den p q (x ∷ w) l h = within_from num den p q x l.0 w l.1.1 h

@@ -1,8 +1,8 @@
 -- What holds for some steps or costs holds for all that are the same between the observations.
 use Rattle.std.proofs.Common.{◌≡◌, ◌<◌, ◌≤◌, ◌*◌, ◌⊎◌, ◌↔◌, ℕ, List, inl, inr, sym, subst}
 use Rattle.rp_evidence.specs.Count.{AreCounts, IsCount}
-use Rattle.rp_evidence.specs.Garp.{HasNoViolation, IsViolation, IsViolationAt, MeetsGarp, ProvesGarp, ProvesOfPreference}
-use Rattle.rp_evidence.specs.Preference.{AgreeBelow, IsStrict, IsWeak}
+use Rattle.rp_evidence.specs.Garp.{HasNoViolation, IsViolation, IsViolationAt, MeetsGarpAt, ProvesGarp, ProvesOfPreference}
+use Rattle.rp_evidence.specs.Preference.{AgreeBelow, IsStrict, IsStrictAt, IsWeak, IsWeakAt}
 use Rattle.rp_evidence.specs.Ranks.{OrderSteps, OrderStrictSteps, RespectPreference}
 use Rattle.rp_evidence.specs.Walk.{IsShortestWalk, IsWalk, Reaches}
 use Rattle.rp_evidence.specs.declared.garp.Garp.{Garp}
@@ -75,35 +75,35 @@ module _ (n : ℕ) (weak strict weak' strict' : ℕ → ℕ → Type 0) (weak_is
 -- ---- costs that are the same
 
 module _ (n : ℕ) (c d : ℕ → ℕ → ℕ) (num den : ℕ) (same : AgreeBelow n c d) where
-  weak_there : (s t : ℕ) → s < n → t < n → IsWeak c num den s t → IsWeak d num den s t
+  weak_there : (s t : ℕ) → s < n → t < n → IsWeakAt c num den s t → IsWeakAt d num den s t
   weak_there s t a b h =
       subst (λ y. den * d s t ≤ num * y) (same s s a a) (subst (λ x. den * x ≤ num * c s s) (same s t a b) h)
 
-  strict_there : (s t : ℕ) → s < n → t < n → IsStrict c num den s t → IsStrict d num den s t
+  strict_there : (s t : ℕ) → s < n → t < n → IsStrictAt c num den s t → IsStrictAt d num den s t
   strict_there s t a b h =
       subst (λ y. den * d s t < num * y) (same s s a a) (subst (λ x. den * x < num * c s s) (same s t a b) h)
 
 module _ (n : ℕ) (c d : ℕ → ℕ → ℕ) (num den : ℕ) (same : AgreeBelow n c d) where
-  pub weak_same : (s t : ℕ) → s < n → t < n → IsWeak c num den s t ↔ IsWeak d num den s t
+  pub weak_same : (s t : ℕ) → s < n → t < n → IsWeakAt c num den s t ↔ IsWeakAt d num den s t
   weak_same s t a b = (weak_there n c d num den same s t a b, weak_there n d c num den (agree_back n c d same) s t a b)
 
-  pub strict_same : (s t : ℕ) → s < n → t < n → IsStrict c num den s t ↔ IsStrict d num den s t
+  pub strict_same : (s t : ℕ) → s < n → t < n → IsStrictAt c num den s t ↔ IsStrictAt d num den s t
   strict_same s t a b = (strict_there n c d num den same s t a b, strict_there n d c num den (agree_back n c d same) s t a b)
 
   pub violation_same : (walk : List ℕ) → IsViolationAt n c num den walk → IsViolationAt n d num den walk
-  violation_same = preference_violation_same n (IsWeak c num den) (IsStrict c num den) (IsWeak d num den) (IsStrict d num den) weak_same strict_same
+  violation_same = preference_violation_same n (IsWeakAt c num den) (IsStrictAt c num den) (IsWeakAt d num den) (IsStrictAt d num den) weak_same strict_same
 
-  pub meets_same : MeetsGarp n c num den → MeetsGarp n d num den
-  meets_same = no_violation_same n (IsWeak c num den) (IsStrict c num den) (IsWeak d num den) (IsStrict d num den) weak_same strict_same
+  pub meets_same : MeetsGarpAt n c num den → MeetsGarpAt n d num den
+  meets_same = no_violation_same n (IsWeakAt c num den) (IsStrictAt c num den) (IsWeakAt d num den) (IsStrictAt d num den) weak_same strict_same
 
-  pub respect_same : (ranks : List ℕ) → RespectPreference n (IsWeak c num den) (IsStrict c num den) ranks → RespectPreference n (IsWeak d num den) (IsStrict d num den) ranks
-  respect_same = respect_preference_same n (IsWeak c num den) (IsStrict c num den) (IsWeak d num den) (IsStrict d num den) weak_same strict_same
+  pub respect_same : (ranks : List ℕ) → RespectPreference n (IsWeakAt c num den) (IsStrictAt c num den) ranks → RespectPreference n (IsWeakAt d num den) (IsStrictAt d num den) ranks
+  respect_same = respect_preference_same n (IsWeakAt c num den) (IsStrictAt c num den) (IsWeakAt d num den) (IsStrictAt d num den) weak_same strict_same
 
   pub order_same : (ranks : List ℕ) → OrderStrictSteps n c num den ranks → OrderStrictSteps n d num den ranks
-  order_same = order_steps_same n (IsStrict c num den) (IsStrict d num den) strict_same
+  order_same = order_steps_same n (IsStrictAt c num den) (IsStrictAt d num den) strict_same
 
 -- ---- evidence
 
 pub garp_same : (n : ℕ) (c d : ℕ → ℕ → ℕ) (verdict : Garp) → AgreeBelow n c d → ProvesGarp n c verdict → ProvesGarp n d verdict
 garp_same n c d verdict same =
-    proves_of_preference_same n (IsWeak c 1 1) (IsStrict c 1 1) (IsWeak d 1 1) (IsStrict d 1 1) (weak_same n c d 1 1 same) (strict_same n c d 1 1 same) verdict
+    proves_of_preference_same n (IsWeak c) (IsStrict c) (IsWeak d) (IsStrict d) (weak_same n c d 1 1 same) (strict_same n c d 1 1 same) verdict

@@ -88,24 +88,24 @@ module _ (n goods : ℕ) (levels levels' : List ℕ) (p p' q q' c c' : ℕ → �
     meets = meets_same (n + 1) (enlarged here b x) (enlarged there b x) 1 1 (enlarged_same b x kept.on_budget.fraction) kept.meets;
   }
 
-  pub led_there : (s t : ℕ) (w : List ℕ) → IsWalk n (IsWeak c 1 1) s t w → IsWalk n (IsWeak c' 1 1) s t w
-  led_there = walk_same n (IsWeak c 1 1) (IsWeak c' 1 1) (weak_same n c c' 1 1 costs_same)
+  pub led_there : (s t : ℕ) (w : List ℕ) → IsWalk n (IsWeak c) s t w → IsWalk n (IsWeak c') s t w
+  led_there = walk_same n (IsWeak c) (IsWeak c') (weak_same n c c' 1 1 costs_same)
 
   pub below_there : (b : BudgetInput) (t : ℕ) → IsBelow here b t → IsBelow there b t
   below_there b t below = record {
     from = below.from;
     walk = below.walk;
-    bought = subst (λ v. v ≤ b.expenditure) (spend_on b.prices below.from (walk_starts n (IsWeak c 1 1) below.from t below.walk below.leads)) below.bought;
+    bought = subst (λ v. v ≤ b.expenditure) (spend_on b.prices below.from (walk_starts n (IsWeak c) below.from t below.walk below.leads)) below.bought;
     leads = led_there below.from t below.walk below.leads;
   }
 
-  has_strict : (s t : ℕ) (w : List ℕ) → IsWalk n (IsWeak c 1 1) s t w → HasStep (IsStrict c 1 1) w → HasStep (IsStrict c' 1 1) w
+  has_strict : (s t : ℕ) (w : List ℕ) → IsWalk n (IsWeak c) s t w → HasStep (IsStrict c) w → HasStep (IsStrict c') w
   has_strict s t [] l h = absurd l
-  has_strict s t (x ∷ w) l h = has_weaker_step n (IsWeak c 1 1) (IsStrict c 1 1) (IsStrict c' 1 1) (λ u v a d. (strict_same n c c' 1 1 costs_same u v a d).0) x t w l.1 h
+  has_strict s t (x ∷ w) l h = has_weaker_step n (IsWeak c) (IsStrict c) (IsStrict c') (λ u v a d. (strict_same n c c' 1 1 costs_same u v a d).0) x t w l.1 h
 
   pub strictly_there : (b : BudgetInput) (t : ℕ) → IsStrictlyBelow here b t → IsStrictlyBelow there b t
   strictly_there b t below =
-      let starts = walk_starts n (IsWeak c 1 1) below.from t below.walk below.leads in
+      let starts = walk_starts n (IsWeak c) below.from t below.walk below.leads in
       record {
         from = below.from;
         walk = below.walk;
@@ -204,7 +204,7 @@ module _ (n goods : ℕ) (levels levels' : List ℕ) (p p' q q' c c' : ℕ → �
       dear : (s : ℕ) → EqualsOrReaches one t s → x.den * c s s ≤ spending goods (p s) x.num
       dear s reach =
           let there = reaches_there n goods levels levels' p p' q q' c c' sums sums' pe qe t s reach in
-          let s_in = walk_ends n (IsWeak c 1 1) t s reach.0 reach.1 in
+          let s_in = walk_ends n (IsWeak c) t s reach.0 reach.1 in
           let e = costs_same n goods levels levels' p p' q q' c c' sums sums' pe qe s s s_in s_in in
           let f = spend_at n goods levels levels' p p' q q' c c' sums sums' pe qe s x.num s_in in
           subst (λ v. x.den * c s s ≤ v) (sym f) (subst (λ v. x.den * v ≤ spending goods (p' s) x.num) (sym e) (r.dear s there))
@@ -215,7 +215,7 @@ module _ (n goods : ℕ) (levels levels' : List ℕ) (p p' q q' c c' : ℕ → �
       dear : (s : ℕ) → EqualsOrReaches two t s → x.den * c' s s ≤ spending goods (p' s) x.num
       dear s reach =
           let there = reaches_there n goods levels' levels p' p q' q c' c sums' sums pe' qe' t s reach in
-          let s_in = walk_ends n (IsWeak c' 1 1) t s reach.0 reach.1 in
+          let s_in = walk_ends n (IsWeak c') t s reach.0 reach.1 in
           let e = costs_same n goods levels levels' p p' q q' c c' sums sums' pe qe s s s_in s_in in
           let f = spend_at n goods levels levels' p p' q q' c c' sums sums' pe qe s x.num s_in in
           subst (λ v. x.den * c' s s ≤ v) f (subst (λ v. x.den * v ≤ spending goods (p s) x.num) e (r.dear s there))
@@ -235,7 +235,7 @@ module _ (n goods : ℕ) (levels levels' : List ℕ) (p p' q q' c c' : ℕ → �
     costs = sym (spend_on n goods levels levels' p p' q q' c c' sums sums' pe qe prices s is.observed) ∙ is.costs;
     least = λ r reach.
         let back = reaches_there n goods levels' levels p' p q' q c' c sums' sums pe' qe' r t reach in
-        let r_in = walk_starts n (IsWeak c' 1 1) r t reach.0 reach.1 in
+        let r_in = walk_starts n (IsWeak c') r t reach.0 reach.1 in
         subst (λ v. cost ≤ v) (spend_on n goods levels levels' p p' q q' c c' sums sums' pe qe prices r r_in) (is.least r back);
   }
 

@@ -2,7 +2,7 @@
 use Rattle.std.proofs.Common.{ℕ, List}
 use Rattle.rp_evidence.specs.Efficiency.{BoundsFromAbove, IsEfficiencyIndex, ProvesEfficiency}
 use Rattle.rp_evidence.specs.Garp.{ProvesOfPreference}
-use Rattle.rp_evidence.specs.Preference.{AgreeBelow, IsStrict, IsWeak}
+use Rattle.rp_evidence.specs.Preference.{AgreeBelow, IsStrictAt, IsWeakAt}
 use Rattle.rp_evidence.specs.declared.garp.Garp.{Garp}
 use Rattle.rp_evidence.specs.declared.garp.Garp.TheVariants.{Ranks, Cycle}
 use Rattle.rp_evidence.specs.declared.efficiency.Efficiency.{Efficiency}
@@ -19,10 +19,10 @@ module _ (n : ℕ) (c d : ℕ → ℕ → ℕ) (same : AgreeBelow n c d) where
   bounds_there : (num den : ℕ) (walk : List ℕ) → BoundsFromAbove n c num den walk → BoundsFromAbove n d num den walk
   bounds_there num den walk h = record {
     none_at_one = h.none_at_one;
-    closed_below_one = λ apart. let w = h.closed_below_one apart in (w.0, walk_same n (IsWeak c num den) (IsWeak d num den) (weak_same n c d num den same) w.0 w.0 walk w.1, w.2);
+    closed_below_one = λ apart. let w = h.closed_below_one apart in (w.0, walk_same n (IsWeakAt c num den) (IsWeakAt d num den) (weak_same n c d num den same) w.0 w.0 walk w.1, w.2);
   }
 
-  preference_there : (num den : ℕ) (verdict : Garp) → ProvesOfPreference n (IsWeak c num den) (IsStrict c num den) verdict → ProvesOfPreference n (IsWeak d num den) (IsStrict d num den) verdict
+  preference_there : (num den : ℕ) (verdict : Garp) → ProvesOfPreference n (IsWeakAt c num den) (IsStrictAt c num den) verdict → ProvesOfPreference n (IsWeakAt d num den) (IsStrictAt d num den) verdict
   preference_there num den (Ranks ranks) p = (respect_same n c d num den same ranks p.0, meets_same n c d num den same p.1)
   preference_there num den (Cycle walk) p = violation_same n c d num den same walk p
 

@@ -25,27 +25,27 @@ pub record Leads (n m : ℕ) (costs : ℕ → ℕ → ℕ) (into : ℕ → ℕ) 
   pub from : ℕ
   pub walk : List ℕ
   pub bought : into from ≤ m
-  pub leads : LeadsTo n (IsWeak costs 1 1) from t walk
+  pub leads : LeadsTo n (IsWeak costs) from t walk
 
 pub record LeadsStrictly (n m : ℕ) (costs : ℕ → ℕ → ℕ) (into : ℕ → ℕ) (t : ℕ) : Type 0 where
   pub from : ℕ
   pub walk : List ℕ
   pub bought : into from ≤ m
-  pub leads : LeadsTo n (IsWeak costs 1 1) from t walk
-  pub strict : (into from < m) ⊎ HasStepFrom (IsStrict costs 1 1) from walk
+  pub leads : LeadsTo n (IsWeak costs) from t walk
+  pub strict : (into from < m) ⊎ HasStepFrom (IsStrict costs) from walk
 
 module _ (n den m : ℕ) (costs wide : ℕ → ℕ → ℕ) (out into : ℕ → ℕ) (e : IsEnlarged n den m costs wide out into) where
   abbrev Weak : ℕ → ℕ → Type 0
-  Weak = IsWeak costs 1 1
+  Weak = IsWeak costs
 
   abbrev Strict : ℕ → ℕ → Type 0
-  Strict = IsStrict costs 1 1
+  Strict = IsStrict costs
 
   abbrev WeakWide : ℕ → ℕ → Type 0
-  WeakWide = IsWeak wide 1 1
+  WeakWide = IsWeak wide
 
   abbrev StrictWide : ℕ → ℕ → Type 0
-  StrictWide = IsStrict wide 1 1
+  StrictWide = IsStrict wide
 
   widen : (s t : ℕ) → s < n → t < n → Weak s t → WeakWide s t
   widen s t a b h =

@@ -23,19 +23,19 @@ use Rattle.rp_evidence.proofs.Walks.{ends_below, leads_on, starts_below}
 
 module _ (n : ℕ) (c : ℕ → ℕ → ℕ) (utility : ℕ → ℤ) (multiplier : ℕ → ℕ) (model : IsAfriatModel n c utility multiplier) where
   -- what a weak step leads to has no greater number
-  step_falls : (s t : ℕ) → s < n → t < n → IsWeak c 1 1 s t → utility t ≤ℤ utility s
+  step_falls : (s t : ℕ) → s < n → t < n → IsWeak c s t → utility t ≤ℤ utility s
   step_falls s t a b h = not_above (utility s) (utility t) (multiplier s) (c s t) (c s s) (omega arith) (model.none_above s t a b)
 
-  led_falls : (s t : ℕ) (w : List ℕ) → LeadsTo n (IsWeak c 1 1) s t w → utility t ≤ℤ utility s
+  led_falls : (s t : ℕ) (w : List ℕ) → LeadsTo n (IsWeak c) s t w → utility t ≤ℤ utility s
   led_falls s t [] l = subst (λ z. utility z ≤ℤ utility s) l.1 (omega (arith, ints))
   led_falls s t (x ∷ w) l =
-      let a = step_falls s x l.0 (starts_below n (IsWeak c 1 1) x t w l.2) l.1 in
+      let a = step_falls s x l.0 (starts_below n (IsWeak c) x t w l.2) l.1 in
       let b = led_falls x t w l.2 in
       omega (arith, ints, a, b)
 
-  pub walk_falls : (s t : ℕ) (w : List ℕ) → IsWalk n (IsWeak c 1 1) s t w → utility t ≤ℤ utility s
+  pub walk_falls : (s t : ℕ) (w : List ℕ) → IsWalk n (IsWeak c) s t w → utility t ≤ℤ utility s
   walk_falls s t [] l = absurd l
-  walk_falls s t (x ∷ w) l = led_falls s t w (subst (λ z. LeadsTo n (IsWeak c 1 1) z t w) l.0 l.1)
+  walk_falls s t (x ∷ w) l = led_falls s t w (subst (λ z. LeadsTo n (IsWeak c) z t w) l.0 l.1)
 
 -- a multiplier of at least 1 times a difference that is not negative
 enough_from : (u v value : ℤ) (den m x y : ℕ) → 1 ≤ m → u ≤ℤ v → (pos den *ℤ v) ≤ℤ value
@@ -57,9 +57,9 @@ enough_from u v value den m x y some l h k =
         omega (arith, ints, e, f, g)
 
 module _ (input : TableInput) (utility : ℕ → ℤ) (multiplier : ℕ → ℕ) (model : IsAfriatModel input.n input.cost utility multiplier) where
-  ends_in : (s t : ℕ) (w : List ℕ) → IsWalk input.n (IsWeak input.cost 1 1) s t w → t < input.n
+  ends_in : (s t : ℕ) (w : List ℕ) → IsWalk input.n (IsWeak input.cost) s t w → t < input.n
   ends_in s t [] l = absurd l
-  ends_in s t (x ∷ w) l = ends_below input.n (IsWeak input.cost 1 1) x t w l.1
+  ends_in s t (x ∷ w) l = ends_below input.n (IsWeak input.cost) x t w l.1
 
   -- a bundle whose utility is at least that of t lies in the region of t
   pub as_well_off_in_region : (t : ℕ) (bundle : FractionBundle) (value : ℤ) → 0 < bundle.den
@@ -93,9 +93,9 @@ module _ (input : TableInput) (prices : ℕ → ℕ) (t : ℕ) (reached : List �
           let h = rw (column_is there.0 x) at (f.columns_hold there.0 there.1) in
           subst (λ q. den * input.cost q q ≤ spending input.goods (input.price q) x) at (omega (arith, ints, h))
         where
-          ends : (q : ℕ) (w : List ℕ) → IsWalk input.n (IsWeak input.cost 1 1) t q w → q < input.n
+          ends : (q : ℕ) (w : List ℕ) → IsWalk input.n (IsWeak input.cost) t q w → q < input.n
           ends q [] l = absurd l
-          ends q (y ∷ w) l = ends_below input.n (IsWeak input.cost 1 1) y q w l.1
+          ends q (y ∷ w) l = ends_below input.n (IsWeak input.cost) y q w l.1
 
   -- a bundle of the region is a feasible price vector
   pub region_is_feasible : (bundle : FractionBundle) → IsInRegion input t bundle → IsFeasiblePrices (least_cost_program input prices reached) bundle.den bundle.num
@@ -123,19 +123,19 @@ module _ (input : TableInput) (prices : ℕ → ℕ) (t : ℕ) (reached : List �
 
 -- ---- the lower bound is at most the upper one
 
-pub reaching_in_region : (input : TableInput) (s t : ℕ) → MeetsGarp input.n input.cost 1 1 → EqualsOrReaches input s t → IsInRegion input t (record { den = 1; num = input.quantity s })
+pub reaching_in_region : (input : TableInput) (s t : ℕ) → MeetsGarp input.n input.cost → EqualsOrReaches input s t → IsInRegion input t (record { den = 1; num = input.quantity s })
 reaching_in_region input s t sound from_s = record { fraction = omega arith; dear = dear }
   where
-    joined : (r : ℕ) (v w : List ℕ) → IsWalk input.n (IsWeak input.cost 1 1) s t v → IsWalk input.n (IsWeak input.cost 1 1) t r w
-        → (s < input.n) × (r < input.n) × ((walk : List ℕ) × IsWalk input.n (IsWeak input.cost 1 1) s r walk)
+    joined : (r : ℕ) (v w : List ℕ) → IsWalk input.n (IsWeak input.cost) s t v → IsWalk input.n (IsWeak input.cost) t r w
+        → (s < input.n) × (r < input.n) × ((walk : List ℕ) × IsWalk input.n (IsWeak input.cost) s r walk)
     joined r [] w k l = absurd k
     joined r (x ∷ v) [] k l = absurd l
     joined r (x ∷ v) (y ∷ w) k l =
-        let a = subst (λ z. LeadsTo input.n (IsWeak input.cost 1 1) z t v) k.0 k.1 in
-        let b = subst (λ z. LeadsTo input.n (IsWeak input.cost 1 1) z r w) l.0 l.1 in (
-          starts_below input.n (IsWeak input.cost 1 1) s t v a,
-          ends_below input.n (IsWeak input.cost 1 1) t r w b,
-          (s ∷ (v ++ w), (refl, leads_on input.n (IsWeak input.cost 1 1) s t r v w a b)),
+        let a = subst (λ z. LeadsTo input.n (IsWeak input.cost) z t v) k.0 k.1 in
+        let b = subst (λ z. LeadsTo input.n (IsWeak input.cost) z r w) l.0 l.1 in (
+          starts_below input.n (IsWeak input.cost) s t v a,
+          ends_below input.n (IsWeak input.cost) t r w b,
+          (s ∷ (v ++ w), (refl, leads_on input.n (IsWeak input.cost) s t r v w a b)),
         )
 
     dear : (r : ℕ) → EqualsOrReaches input t r → 1 * input.cost r r ≤ spending input.goods (input.price r) (input.quantity s)
@@ -143,6 +143,6 @@ reaching_in_region input s t sound from_s = record { fraction = omega arith; dea
         let j = joined r from_s.0 to_r.0 from_s.1 to_r.1 in
         let e = input.sums r s j.1 j.0 in
         elim (cases_lt (input.cost r s) (input.cost r r)) [
-          | inl less ↦ absurd (sound (j.2.0 ++ s ∷ []) (reach_and_strict input.n (IsWeak input.cost 1 1) (IsStrict input.cost 1 1) s r j.2.0 j.2.1 (omega arith) (omega arith)))
+          | inl less ↦ absurd (sound (j.2.0 ++ s ∷ []) (reach_and_strict input.n (IsWeak input.cost) (IsStrict input.cost) s r j.2.0 j.2.1 (omega arith) (omega arith)))
           | inr enough ↦ omega (arith, e, enough)
         ]

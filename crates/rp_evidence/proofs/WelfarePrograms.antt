@@ -15,7 +15,7 @@ use Rattle.rp_evidence.specs.Welfare.{EqualsOrReaches, ListsReached}
 use Rattle.rp_evidence.proofs.DemandBounds.{total_of_sum}
 use Rattle.rp_evidence.proofs.WelfareLaws.{reaching_in_region, region_is_feasible}
 
-module _ (input : TableInput) (prices : ℕ → ℕ) (t : ℕ) (reached : List ℕ) (lists : ListsReached input t reached) (sound : MeetsGarp input.n input.cost 1 1) where
+module _ (input : TableInput) (prices : ℕ → ℕ) (t : ℕ) (reached : List ℕ) (lists : ListsReached input t reached) (sound : MeetsGarp input.n input.cost) where
   pub none_worth_more : (s : ℕ) → EqualsOrReaches input s t → NoneWorthMore (least_cost_program input prices reached) (spending input.goods prices (input.quantity s))
   none_worth_more s leads den y point =
       let feasible = region_is_feasible input prices t reached lists (record { den = 1; num = input.quantity s }) (reaching_in_region input s t sound leads) in

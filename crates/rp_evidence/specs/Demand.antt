@@ -36,7 +36,7 @@ pub record IsOnBudget (input : TableInput) (budget : BudgetInput) (bundle : Frac
 -- A supporting demand: the table with this bundle added, bought with the new budget, meets the axiom.
 pub record IsSupportingDemand (input : TableInput) (budget : BudgetInput) (bundle : FractionBundle) : Type 0 where
   pub on_budget : IsOnBudget input budget bundle
-  pub meets : MeetsGarp (input.n + 1) (enlarged input budget bundle) 1 1
+  pub meets : MeetsGarp (input.n + 1) (enlarged input budget bundle)
 
 -- ---- which observations the new budget is preferred to
 
@@ -53,21 +53,21 @@ pub record IsBelow (input : TableInput) (budget : BudgetInput) (t : ℕ) : Type 
   pub from : ℕ
   pub walk : List ℕ
   pub bought : Buys input budget from
-  pub leads : IsWalk input.n (IsWeak input.cost 1 1) from t walk
+  pub leads : IsWalk input.n (IsWeak input.cost) from t walk
 
 -- It is strictly below: moreover money is left for that bundle, or the walk has a strict step.
 pub record IsStrictlyBelow (input : TableInput) (budget : BudgetInput) (t : ℕ) : Type 0 where
   pub from : ℕ
   pub walk : List ℕ
   pub bought : Buys input budget from
-  pub leads : IsWalk input.n (IsWeak input.cost 1 1) from t walk
-  pub strict : BuysWithRest input budget from ⊎ HasStep (IsStrict input.cost 1 1) walk
+  pub leads : IsWalk input.n (IsWeak input.cost) from t walk
+  pub strict : BuysWithRest input budget from ⊎ HasStep (IsStrict input.cost) walk
 
 -- A walk from v on makes what it leads to strictly below: money is left for the bundle of v, or an observation below is
 -- strictly preferred to v.
 abbrev pub IsStrictStart : TableInput → BudgetInput → ℕ → Type 0
 IsStrictStart input budget v =
-    BuysWithRest input budget v ⊎ ((u : ℕ) × (u < input.n) × IsBelow input budget u × IsStrict input.cost 1 1 u v)
+    BuysWithRest input budget v ⊎ ((u : ℕ) × (u < input.n) × IsBelow input budget u × IsStrict input.cost u v)
 
 -- The bundle costs at least what was spent at each observation below.
 abbrev pub CostsEnough : TableInput → BudgetInput → FractionBundle → Type 0
@@ -106,7 +106,7 @@ all_on_first budget g = if g == 0 then budget.expenditure else 0
 pub record IsInnerDemand (input : TableInput) (budget : BudgetInput) (bundle : FractionBundle) : Type 0 where
   pub over : bundle.den ≡ budget.prices 0
   pub parts :
-      ((s : ℕ) × (counts : List ℕ) × AreCounts input.n (IsWeak input.cost 1 1) counts
+      ((s : ℕ) × (counts : List ℕ) × AreCounts input.n (IsWeak input.cost) counts
       × IsInnerStart input budget counts s
       × ((g : ℕ) → g < input.goods → bundle.num g ≡ with_rest_on_first input budget s g))
       ⊎ (((s : ℕ) → s < input.n → ¬ Buys input budget s)

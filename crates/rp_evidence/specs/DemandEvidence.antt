@@ -40,7 +40,7 @@ ProvesGood input budget g bounds = ProvesLower input budget g bounds.lower × Pr
 -- demand, and each shown bound is the infimum or the supremum over supporting demands.
 pub record ProvesDemandBounds (input : TableInput) (budget : BudgetInput) (below strict : List ℕ) (inner : Point)
     (goods : List GoodBounds) : Type 0 where
-  pub sound : MeetsGarp input.n input.cost 1 1
+  pub sound : MeetsGarp input.n input.cost
   pub below_listed : ListsBelow input budget below
   pub strict_listed : ListsStrictlyBelow input budget strict
   pub inner_goods : length inner.num ≡ input.goods
@@ -61,7 +61,7 @@ ProvesLowerWelfare input prices t (Wide step) = Unit {0}
 
 -- The axiom holds, the upper bound is that of welfare and stands at `at`, and a shown lower bound is that of welfare.
 pub record ProvesWelfareBounds (input : TableInput) (prices : ℕ → ℕ) (t upper at : ℕ) (lower : Bound) : Type 0 where
-  pub sound : MeetsGarp input.n input.cost 1 1
+  pub sound : MeetsGarp input.n input.cost
   pub observed : t < input.n
   pub upper_is : IsUpperWelfare input prices t at upper
   pub lower_is : ProvesLowerWelfare input prices t lower

@@ -1,6 +1,6 @@
 -- The generalized axiom of revealed preference (Varian 1982), at a level (after Afriat).
 use Rattle.std.specs.Prelude.{◌≡◌, ◌<◌, ◌+◌, ◌-◌, ℕ, List, length, slice_index}
-use Rattle.rp_evidence.specs.Preference.{IsWeak, IsStrict, StrictByLevels, WeakByLevels}
+use Rattle.rp_evidence.specs.Preference.{IsStrict, IsStrictAt, IsWeak, IsWeakAt, StrictByLevels, WeakByLevels}
 use Rattle.rp_evidence.specs.Ranks.{RespectPreference}
 use Rattle.rp_evidence.specs.Walk.{IsClosedWalk, HasStep}
 use Rattle.rp_evidence.specs.declared.garp.Garp.{Garp}
@@ -14,13 +14,21 @@ IsViolation n weak strict walk = IsClosedWalk n weak walk × HasStep strict walk
 abbrev pub HasNoViolation : ℕ → (ℕ → ℕ → Type 0) → (ℕ → ℕ → Type 0) → Type 0
 HasNoViolation n weak strict = (walk : List ℕ) → ¬ IsViolation n weak strict walk
 
+-- Some walk over the n observations, however long, is a violation.
+abbrev pub HasSomeViolation : ℕ → (ℕ → ℕ → Type 0) → (ℕ → ℕ → Type 0) → Type 0
+HasSomeViolation n weak strict = (walk : List ℕ) × IsViolation n weak strict walk
+
 -- A violation by the preference at the level num/den.
 abbrev pub IsViolationAt : ℕ → (ℕ → ℕ → ℕ) → ℕ → ℕ → List ℕ → Type 0
-IsViolationAt n c num den walk = IsViolation n (IsWeak c num den) (IsStrict c num den) walk
+IsViolationAt n c num den walk = IsViolation n (IsWeakAt c num den) (IsStrictAt c num den) walk
 
 -- The n observations meet the axiom at the level num/den.
-abbrev pub MeetsGarp : ℕ → (ℕ → ℕ → ℕ) → ℕ → ℕ → Type 0
-MeetsGarp n c num den = HasNoViolation n (IsWeak c num den) (IsStrict c num den)
+abbrev pub MeetsGarpAt : ℕ → (ℕ → ℕ → ℕ) → ℕ → ℕ → Type 0
+MeetsGarpAt n c num den = HasNoViolation n (IsWeakAt c num den) (IsStrictAt c num den)
+
+-- The n observations meet the axiom.
+abbrev pub MeetsGarp : ℕ → (ℕ → ℕ → ℕ) → Type 0
+MeetsGarp n c = MeetsGarpAt n c 1 1
 
 -- A violation by places: two entries or more, each an observation, the last equal to the first, a weak step from each
 -- to the next, and one of these steps strict.
@@ -42,4 +50,4 @@ ProvesOwnGarp n levels c verdict = ProvesOfPreference n (WeakByLevels levels c) 
 
 -- The generalized axiom is about the preference at the level 1 (Varian 1982).
 abbrev pub ProvesGarp : ℕ → (ℕ → ℕ → ℕ) → Garp → Type 0
-ProvesGarp n c verdict = ProvesOfPreference n (IsWeak c 1 1) (IsStrict c 1 1) verdict
+ProvesGarp n c verdict = ProvesOfPreference n (IsWeak c) (IsStrict c) verdict

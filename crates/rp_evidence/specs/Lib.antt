@@ -1,6 +1,7 @@
 pub mod Afriat
 pub mod AfriatEvidence
 pub mod BoundEvidence
+pub mod Clauses
 pub mod Count
 pub mod First
 pub mod Efficiency
@@ -24,3 +25,7 @@ pub mod Walk
 pub mod Welfare
 pub mod WelfareModels
 pub mod Withheld
+pub mod Bits
+pub mod Marks
+pub mod Reached
+pub mod Through

@@ -26,13 +26,21 @@ IsLevel num den = (0 < num) × (num ≤ den)
 
 -- At the level num/den, s is weakly preferred to t: at the prices of s, t costs no more than that part of what was
 -- spent at s.
-abbrev pub IsWeak : (ℕ → ℕ → ℕ) → ℕ → ℕ → ℕ → ℕ → Type 0
-IsWeak c num den s t = IsOwnWeak den (λ i. num * c i i) c s t
+abbrev pub IsWeakAt : (ℕ → ℕ → ℕ) → ℕ → ℕ → ℕ → ℕ → Type 0
+IsWeakAt c num den s t = IsOwnWeak den (λ i. num * c i i) c s t
 
 -- At the level num/den, s is strictly preferred to t: at the prices of s, t costs less than that part of what was
 -- spent at s.
-abbrev pub IsStrict : (ℕ → ℕ → ℕ) → ℕ → ℕ → ℕ → ℕ → Type 0
-IsStrict c num den s t = IsOwnStrict den (λ i. num * c i i) c s t
+abbrev pub IsStrictAt : (ℕ → ℕ → ℕ) → ℕ → ℕ → ℕ → ℕ → Type 0
+IsStrictAt c num den s t = IsOwnStrict den (λ i. num * c i i) c s t
+
+-- s is directly revealed preferred to t: at the prices of s, t costs no more than what was spent at s.
+abbrev pub IsWeak : (ℕ → ℕ → ℕ) → ℕ → ℕ → Type 0
+IsWeak c = IsWeakAt c 1 1
+
+-- s is strictly directly revealed preferred to t: at the prices of s, t costs less than what was spent at s.
+abbrev pub IsStrict : (ℕ → ℕ → ℕ) → ℕ → ℕ → Type 0
+IsStrict c = IsStrictAt c 1 1
 
 -- Two tables of costs are the same between the n observations.
 abbrev pub AgreeBelow : ℕ → (ℕ → ℕ → ℕ) → (ℕ → ℕ → ℕ) → Type 0

@@ -1,6 +1,6 @@
 -- Ranks of observations, which show that no violation exists (ranks by preference, Varian 1982).
 use Rattle.std.specs.Prelude.{◌≡◌, ℕ, ◌<◌, ◌≤◌, List, length, slice_index}
-use Rattle.rp_evidence.specs.Preference.{IsStrict}
+use Rattle.rp_evidence.specs.Preference.{IsStrictAt}
 
 -- The ranks respect a preference: one for each observation, no weak step rises and each strict step falls.
 pub record RespectPreference (n : ℕ) (weak strict : ℕ → ℕ → Type 0) (ranks : List ℕ) : Type 0 where
@@ -15,4 +15,4 @@ pub record OrderSteps (n : ℕ) (step : ℕ → ℕ → Type 0) (ranks : List �
 
 -- The ranks order the strict steps of the level num/den.
 abbrev pub OrderStrictSteps : ℕ → (ℕ → ℕ → ℕ) → ℕ → ℕ → List ℕ → Type 0
-OrderStrictSteps n c num den ranks = OrderSteps n (IsStrict c num den) ranks
+OrderStrictSteps n c num den ranks = OrderSteps n (IsStrictAt c num den) ranks

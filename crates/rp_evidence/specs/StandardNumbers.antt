@@ -45,7 +45,7 @@ pub record AreStandardBy (n : ℕ) (weak : ℕ → ℕ → Type 0) (cost : ℕ �
 
 -- Those at the level 1.
 abbrev pub AreStandardNumbers : ℕ → (ℕ → ℕ → ℕ) → (ℕ → ℕ) → (ℕ → ℤ) → (ℕ → ℕ) → Type 0
-AreStandardNumbers n c = AreStandardBy n (IsWeak c 1 1) c (spent c)
+AreStandardNumbers n c = AreStandardBy n (IsWeak c) c (spent c)
 
 -- Those where the observations have these levels, or none.
 abbrev pub AreOwnStandardNumbers : ℕ → List ℕ → (ℕ → ℕ → ℕ) → (ℕ → ℕ) → (ℕ → ℤ) → (ℕ → ℕ) → Type 0

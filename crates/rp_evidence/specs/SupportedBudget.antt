@@ -11,6 +11,6 @@ pub record SupportedBudget : Type 0 where
   pub budget : BudgetInput
   pub below : List ℕ
   pub demand : FractionBundle
-  pub sound : MeetsGarp input.n input.cost 1 1
+  pub sound : MeetsGarp input.n input.cost
   pub listed : ListsBelow input budget below
   pub supports : IsSupportingDemand input budget demand

@@ -9,7 +9,7 @@ use Rattle.rp_evidence.specs.Walk.{IsWalk}
 
 -- A walk of weak steps, or of no step, leads from s to t: s equals or reaches t.
 abbrev pub EqualsOrReaches : TableInput → ℕ → ℕ → Type 0
-EqualsOrReaches input s t = (walk : List ℕ) × IsWalk input.n (IsWeak input.cost 1 1) s t walk
+EqualsOrReaches input s t = (walk : List ℕ) × IsWalk input.n (IsWeak input.cost) s t walk
 
 -- The region of t: bundles that cost at least what was spent at t and at every observation that t reaches.
 pub record IsInRegion (input : TableInput) (t : ℕ) (bundle : FractionBundle) : Type 0 where

@@ -26,7 +26,7 @@ pub fn strictly_below_from_strict_starts()
 /// what was spent at every observation below, and more at every one strictly below.
 pub fn supporting_demands_cost_enough()
     ensures { (input : TableInput) (budget : BudgetInput) (bundle : FractionBundle)
-        → MeetsGarp input.n input.cost 1 1 → IsOnBudget input budget bundle
+        → MeetsGarp input.n input.cost → IsOnBudget input budget bundle
         → IsSupportingDemand input budget bundle
         ↔ (CostsEnough input budget bundle × CostsMore input budget bundle) }
 {}
@@ -34,7 +34,7 @@ pub fn supporting_demands_cost_enough()
 /// Where the table meets the axiom, the inner demand is a supporting demand.
 pub fn inner_demands_support()
     ensures { (input : TableInput) (budget : BudgetInput) (bundle : FractionBundle)
-        → MeetsGarp input.n input.cost 1 1 → 0 < input.goods → 0 < budget.prices 0
+        → MeetsGarp input.n input.cost → 0 < input.goods → 0 < budget.prices 0
         → ((t : ℕ) → t < input.n → 0 < input.price t 0)
         → IsInnerDemand input budget bundle → IsSupportingDemand input budget bundle }
 {}
@@ -43,14 +43,14 @@ pub fn inner_demands_support()
 /// their size, and it is a supporting demand; so the set of supporting demands is never empty.
 pub fn inner_demands_exist()
     ensures inner { (input : TableInput) (budget : BudgetInput)
-        → MeetsGarp input.n input.cost 1 1 → 0 < input.goods → 0 < budget.prices 0
+        → MeetsGarp input.n input.cost → 0 < input.goods → 0 < budget.prices 0
         → ((t : ℕ) → t < input.n → 0 < input.price t 0) → HasInnerSupport input budget }
     ensures of_tables { (table : Observations) (prices : List ℕ) (m : ℕ)
-        → IsTable table → MeetsGarp (records_of table) (cost_of table) 1 1
+        → IsTable table → MeetsGarp (records_of table) (cost_of table)
         → length prices ≡ goods_of table → All (λ p. 1 ≤ p) prices
         → HasInnerSupport (input_of_table table) (budget_of prices m) }
     ensures never_empty { (table : Observations) (prices : List ℕ) (m : ℕ)
-        → IsTable table → MeetsGarp (records_of table) (cost_of table) 1 1
+        → IsTable table → MeetsGarp (records_of table) (cost_of table)
         → length prices ≡ goods_of table → All (λ p. 1 ≤ p) prices
         → HasSupport (input_of_table table) (budget_of prices m) }
 {}
@@ -59,7 +59,7 @@ pub fn inner_demands_exist()
 /// is a supporting demand, however little of the latter it has.
 pub fn mixtures_support()
     ensures { (input : TableInput) (budget : BudgetInput) (bundle inner : FractionBundle) (k : ℕ)
-        → MeetsGarp input.n input.cost 1 1 → 0 < k
+        → MeetsGarp input.n input.cost → 0 < k
         → IsOnBudget input budget bundle → CostsEnough input budget bundle
         → IsSupportingDemand input budget inner
         → IsSupportingDemand input budget (mixed k bundle inner) }

@@ -7,7 +7,7 @@ ghost use Rattle.rp_evidence.specs.Garp.{HasNoViolation, IsViolation, IsViolatio
 ghost use Rattle.rp_evidence.specs.Garp.{ProvesOfPreference, ProvesOwnGarp, ViolatesByPlaces};
 ghost use Rattle.rp_evidence.specs.Homothetic.{ProvesHomothetic};
 ghost use Rattle.rp_evidence.specs.Input.{AgreeInputs, TableInput};
-ghost use Rattle.rp_evidence.specs.Preference.{AgreeBelow, IsStrict, IsWeak, StrictByLevels};
+ghost use Rattle.rp_evidence.specs.Preference.{AgreeBelow, IsStrict, IsStrictAt, IsWeak, IsWeakAt, StrictByLevels};
 ghost use Rattle.rp_evidence.specs.Preference.{WeakByLevels};
 ghost use Rattle.rp_evidence.specs.Proves.{Proves};
 ghost use Rattle.rp_evidence.specs.Quasilinear.{ProvesQuasilinear};
@@ -46,7 +46,7 @@ pub fn violations_last_above()
 pub fn weak_cycles_violate_above()
     ensures { (n num den num' den' : ℕ) (c : ℕ → ℕ → ℕ) (walk : List ℕ)
         → ((s : ℕ) → s < n → 0 < c s s) → num * den' < num' * den
-        → IsClosedWalk n (IsWeak c num den) walk → IsViolationAt n c num' den' walk }
+        → IsClosedWalk n (IsWeakAt c num den) walk → IsViolationAt n c num' den' walk }
 {}
 
 /// A walk is a violation exactly where it is one by places.
@@ -65,15 +65,15 @@ pub fn violations_turn<P: Preference>()
 
 /// At the level 1 each observation is weakly preferred to itself.
 pub fn weak_to_itself()
-    ensures { (c : ℕ → ℕ → ℕ) (s : ℕ) → IsWeak c 1 1 s s }
+    ensures { (c : ℕ → ℕ → ℕ) (s : ℕ) → IsWeak c s s }
 {}
 
 /// Where the observations have no levels of their own, the preference is that at the level 1.
 pub fn no_levels_are_level_one()
     ensures weak { (c : ℕ → ℕ → ℕ) (s t : ℕ)
-        → WeakByLevels [] c s t ↔ IsWeak c 1 1 s t }
+        → WeakByLevels [] c s t ↔ IsWeak c s t }
     ensures strict { (c : ℕ → ℕ → ℕ) (s t : ℕ)
-        → StrictByLevels [] c s t ↔ IsStrict c 1 1 s t }
+        → StrictByLevels [] c s t ↔ IsStrict c s t }
     ensures garp { (n : ℕ) (c : ℕ → ℕ → ℕ) (verdict : Garp)
         → ProvesOfPreference n (WeakByLevels [] c) (StrictByLevels [] c) verdict
         ↔ ProvesGarp n c verdict }
@@ -82,7 +82,7 @@ pub fn no_levels_are_level_one()
 /// What is strictly preferred at a level is weakly preferred at it.
 pub fn strict_is_weak()
     ensures { (num den s t : ℕ) (c : ℕ → ℕ → ℕ)
-        → IsStrict c num den s t → IsWeak c num den s t }
+        → IsStrictAt c num den s t → IsWeakAt c num den s t }
 {}
 
 /// A walk of weak steps and a strict step, which is a weak one too, from its end back to its beginning make a

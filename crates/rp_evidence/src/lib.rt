@@ -9,6 +9,7 @@ mod demand_laws;
 mod efficiency;
 mod efficiency_laws;
 mod failure;
+mod finding;
 mod garp;
 mod homothetic;
 mod laws;
@@ -16,6 +17,7 @@ mod level;
 mod quasilinear;
 mod random;
 mod relations;
+mod round_laws;
 mod value_laws;
 mod welfare_laws;
 
@@ -35,6 +37,7 @@ pub use demand_laws::{
 pub use efficiency::Efficiency;
 pub use efficiency_laws::{efficiency_index_is_threshold, efficiency_index_is_unique};
 pub use failure::{Failure, Reason};
+pub use finding::{cap, fails};
 pub use garp::Garp;
 pub use homothetic::Homothetic;
 pub use laws::{
@@ -49,6 +52,7 @@ pub use level::Level;
 pub use quasilinear::Quasi;
 pub use random::{RandomPart, Share};
 pub use relations::{Preference, Relation};
+pub use round_laws::{rounds_find_what_is_reached, unions_have_bits_of_both};
 pub use value_laws::{bound_products_meet_homothetic_test, bound_steps_meet_quasilinear_test};
 pub use welfare_laws::{
     equal_pairs_bound_welfare, reaching_bundles_are_in_region, welfare_bounds_hold,

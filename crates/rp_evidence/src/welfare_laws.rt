@@ -38,7 +38,7 @@ pub fn equal_pairs_bound_welfare()
 /// Where the table meets the axiom, a bundle that equals or reaches an observation lies in its region: no lower bound
 /// is above an upper one.
 pub fn reaching_bundles_are_in_region()
-    ensures { (input : TableInput) (s t : ℕ) → MeetsGarp input.n input.cost 1 1
+    ensures { (input : TableInput) (s t : ℕ) → MeetsGarp input.n input.cost
         → EqualsOrReaches input s t
         → IsInRegion input t (record { den = 1; num = input.quantity s }) }
 {}
@@ -55,11 +55,11 @@ pub fn welfare_evidence_holds_in_every_model()
 /// than the bundle of an observation that equals or reaches the one asked for, and it has no ray.
 pub fn welfare_programs_are_bounded()
     ensures value { (input : TableInput) (prices : ℕ → ℕ) (s t : ℕ) (reached : List ℕ)
-        → MeetsGarp input.n input.cost 1 1 → EqualsOrReaches input s t
+        → MeetsGarp input.n input.cost → EqualsOrReaches input s t
         → ListsReached input t reached
         → NoneWorthMore (least_cost_program input prices reached)
         (spending input.goods prices (input.quantity s)) }
     ensures no_ray { (input : TableInput) (prices ray : ℕ → ℕ) (t : ℕ) (reached : List ℕ)
-        → MeetsGarp input.n input.cost 1 1 → t < input.n → ListsReached input t reached
+        → MeetsGarp input.n input.cost → t < input.n → ListsReached input t reached
         → ¬ IsRay (least_cost_program input prices reached) ray }
 {}

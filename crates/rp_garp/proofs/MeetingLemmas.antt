@@ -8,7 +8,7 @@ use Rattle.rp_evidence.proofs.OwnLevels.{strict_without_levels, weak_without_lev
 use Rattle.rp_evidence.proofs.SameCosts.{no_violation_same}
 use Rattle.rp_evidence.proofs.Violations.{has_reach_and_strict, reach_and_strict}
 use Rattle.rp_evidence.proofs.Walks.{reach_ends_below, reach_starts_below}
-use Rattle.rp_garp.specs.Meeting.{HasSomeViolation}
+use Rattle.rp_evidence.specs.Garp.{HasSomeViolation}
 use Rattle.rp_garp.specs.InnerMeeting.{SomeViolate}
 
 module _ (n : ℕ) (weak strict : ℕ → ℕ → Type 0) (is_weak : (s t : ℕ) → s < n → t < n → strict s t → weak s t) where
@@ -35,17 +35,17 @@ module _ (n : ℕ) (weak strict : ℕ → ℕ → Type 0) (is_weak : (s t : ℕ)
   violated_where_told false is = (λ h. absurd (false≢true (sym h)), λ v. absurd (false≢true (is.1 (some_violate v))))
 
 module _ (n : ℕ) (c : ℕ → ℕ → ℕ) where
-  here : HasNoViolation n (WeakByLevels [] c) (StrictByLevels [] c) → MeetsGarp n c 1 1
+  here : HasNoViolation n (WeakByLevels [] c) (StrictByLevels [] c) → MeetsGarp n c
   here =
-      no_violation_same n (WeakByLevels [] c) (StrictByLevels [] c) (IsWeak c 1 1) (IsStrict c 1 1)
+      no_violation_same n (WeakByLevels [] c) (StrictByLevels [] c) (IsWeak c) (IsStrict c)
       (λ s t a b. weak_without_levels c s t) (λ s t a b. strict_without_levels c s t)
 
-  there : MeetsGarp n c 1 1 → HasNoViolation n (WeakByLevels [] c) (StrictByLevels [] c)
+  there : MeetsGarp n c → HasNoViolation n (WeakByLevels [] c) (StrictByLevels [] c)
   there =
-      no_violation_same n (IsWeak c 1 1) (IsStrict c 1 1) (WeakByLevels [] c) (StrictByLevels [] c)
+      no_violation_same n (IsWeak c) (IsStrict c) (WeakByLevels [] c) (StrictByLevels [] c)
       (λ s t a b. (let h = weak_without_levels c s t in (h.1, h.0))) (λ s t a b. (let h = strict_without_levels c s t in (h.1, h.0)))
 
-  pub meets_at_one : (levels : List ℕ) → levels ≡ [] → HasNoViolation n (WeakByLevels levels c) (StrictByLevels levels c) ↔ MeetsGarp n c 1 1
+  pub meets_at_one : (levels : List ℕ) → levels ≡ [] → HasNoViolation n (WeakByLevels levels c) (StrictByLevels levels c) ↔ MeetsGarp n c
   meets_at_one levels none = rw none (here, there)
 
 -- what follows of an answer, under a condition

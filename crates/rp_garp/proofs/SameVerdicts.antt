@@ -23,7 +23,7 @@ module _ (n : ℕ) (weak strict weak' strict' : ℕ → ℕ → Type 0) (weak_is
 module _ (n : ℕ) (c d : ℕ → ℕ → ℕ) (same : AgreeBelow n c d) where
   pub garp_verdict_same : (verdict : Garp) → IsGarpVerdict n c verdict → IsGarpVerdict n d verdict
   garp_verdict_same =
-      verdict_on_same n (IsWeak c 1 1) (IsStrict c 1 1) (IsWeak d 1 1) (IsStrict d 1 1) (weak_same n c d 1 1 same) (strict_same n c d 1 1 same)
+      verdict_on_same n (IsWeak c) (IsStrict c) (IsWeak d) (IsStrict d) (weak_same n c d 1 1 same) (strict_same n c d 1 1 same)
 
   pub own_garp_verdict_same : (levels : List ℕ) (verdict : Garp) → IsOwnGarpVerdict n levels c verdict → IsOwnGarpVerdict n levels d verdict
   own_garp_verdict_same levels =
@@ -45,6 +45,6 @@ module _ (n : ℕ) (levels : List ℕ) (c : ℕ → ℕ → ℕ) (none : levels 
 
   pub given_at_one : (verdict : Garp) → IsVerdictOfPreference n (WeakByLevels levels c) (StrictByLevels levels c) verdict → IsGarpVerdict n c verdict
   given_at_one verdict given =
-      verdict_on_same n (WeakByLevels [] c) (StrictByLevels [] c) (IsWeak c 1 1) (IsStrict c 1 1)
+      verdict_on_same n (WeakByLevels [] c) (StrictByLevels [] c) (IsWeak c) (IsStrict c)
       (λ s t a b. weak_without_levels c s t) (λ s t a b. strict_without_levels c s t)
       verdict (subst (λ l. IsVerdictOfPreference n (WeakByLevels l c) (StrictByLevels l c) verdict) none given)

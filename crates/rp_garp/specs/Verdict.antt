@@ -7,7 +7,7 @@ use Rattle.rp_pref.specs.Violation.{IsVerdictOfPreference}
 -- The ranks are the counts over the preference at the level 1; a cycle is that of the first two observations that
 -- violate the axiom.
 abbrev pub IsGarpVerdict : ℕ → (ℕ → ℕ → ℕ) → Garp → Type 0
-IsGarpVerdict n c verdict = IsVerdictOfPreference n (IsWeak c 1 1) (IsStrict c 1 1) verdict
+IsGarpVerdict n c verdict = IsVerdictOfPreference n (IsWeak c) (IsStrict c) verdict
 
 -- The same where the observations have these levels, or none.
 abbrev pub IsOwnGarpVerdict : ℕ → List ℕ → (ℕ → ℕ → ℕ) → Garp → Type 0

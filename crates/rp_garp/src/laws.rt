@@ -1,5 +1,5 @@
 ghost use Rattle.std.specs.Prelude.{◌<◌, ◌↔◌, ℕ, List};
-ghost use Rattle.rp_evidence.specs.Preference.{AgreeBelow, IsStrict, IsWeak};
+ghost use Rattle.rp_evidence.specs.Preference.{AgreeBelow, IsStrictAt, IsWeakAt};
 ghost use Rattle.rp_evidence.specs.declared.garp.Garp.{Garp};
 ghost use Rattle.rp_garp.specs.Verdict.{IsOwnGarpVerdict};
 ghost use Rattle.rp_pref.specs.Violation.{IsVerdictOfPreference};
@@ -15,8 +15,8 @@ pub fn given_evidence_depends_on_observed_costs<P: Preference, Q: Preference>()
         → IsVerdictOfPreference n P.weak P.strict verdict
         → IsVerdictOfPreference n Q.weak Q.strict verdict }
     ensures at_a_level { (n num den : ℕ) (c d : ℕ → ℕ → ℕ) (verdict : Garp) → AgreeBelow n c d
-        → IsVerdictOfPreference n (IsWeak c num den) (IsStrict c num den) verdict
-        → IsVerdictOfPreference n (IsWeak d num den) (IsStrict d num den) verdict }
+        → IsVerdictOfPreference n (IsWeakAt c num den) (IsStrictAt c num den) verdict
+        → IsVerdictOfPreference n (IsWeakAt d num den) (IsStrictAt d num den) verdict }
     ensures by_own_levels { (n : ℕ) (levels : List ℕ) (c d : ℕ → ℕ → ℕ) (verdict : Garp)
         → AgreeBelow n c d → IsOwnGarpVerdict n levels c verdict
         → IsOwnGarpVerdict n levels d verdict }

@@ -3,7 +3,7 @@ ghost use Rattle.rp_evidence.specs.Garp.{HasNoViolation, MeetsGarp};
 ghost use Rattle.rp_pref.specs.Closure.{IsClosureOf};
 ghost use Rattle.rp_pref.specs.Steps.{OwnStrict, OwnWeak};
 ghost use Rattle.rp_table.specs.Cost.{cost_at};
-ghost use Rattle.rp_garp.specs.Meeting.{HasSomeViolation};
+ghost use Rattle.rp_evidence.specs.Garp.{HasSomeViolation};
 ghost use Rattle.rp_garp.specs.InnerMeeting.{SomeViolate, SomeViolateAt};
 
 use rp_num::NoMemory;
@@ -19,7 +19,7 @@ pub fn meets_garp(alloc: Global, costs: &Costs) -> Result<bool, NoMemory>
     ensures own_violated { IfOk result (λ holds. IsFalse holds
         ↔ HasSomeViolation costs.now.n (OwnWeak costs.now) (OwnStrict costs.now)) }
     ensures without_levels { IfOk result (λ holds. costs.now.levels ≡ []
-        → IsTrue holds ↔ MeetsGarp costs.now.n (cost_at costs.now) 1 1) }
+        → IsTrue holds ↔ MeetsGarp costs.now.n (cost_at costs.now)) }
 {
     meets_garp_over(alloc, &OwnLevels { costs })
 }

@@ -18,8 +18,8 @@ use Rattle.serde_json.specs.Written.{outline, items_outline, members_outline, co
 use Rattle.serde_json.proofs.Numbers.{number_of-decimal}
 use Rattle.serde_json.proofs.Texts.{print-outline}
 use Rattle.rp_json.proofs.LineFeed.{tokens_of_line}
-use Rattle.rp_notation.proofs.ListLemmas.{all_first, all_rest}
-use Rattle.rp_notation.specs.Values.{list_value}
+use Rattle.rp_json_entries.proofs.ListLemmas.{all_first, all_rest}
+use Rattle.rp_json_entries.specs.Values.{list_value}
 
 -- The text of the value is UTF-8, and the grammar reads it as the value, which nests at most k deep.
 pub record ReadsBack (k : ℕ) (d : Data) : Type 0 where

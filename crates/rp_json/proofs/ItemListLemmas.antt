@@ -12,7 +12,7 @@ use Rattle.rp_json.specs.InnerItems.{AreItems}
 use Rattle.rp_json.specs.Limits.{FitsItem}
 use Rattle.rp_json.specs.declared.fault.JsonFault.{JsonFault}
 use Rattle.rp_json.specs.declared.fault.JsonFault.TheVariants.{BadShape, BadVersion, NoMemory, NotJson}
-use Rattle.rp_notation.proofs.ListLemmas.{AreSoFar}
+use Rattle.rp_json_entries.proofs.ListLemmas.{AreSoFar}
 use Rattle.rp_json.proofs.TopLemmas.{no_other_version, same_top}
 use Rattle.rp_json.proofs.ReadsBack.{certificate_text_read, certificate_text_utf8}
 

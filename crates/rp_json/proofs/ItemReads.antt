@@ -19,18 +19,18 @@ use Rattle.rp_evidence.specs.declared.quasilinear.Quasi.TheVariants.{Values as S
 use Rattle.rp_evidence.specs.declared.random.RandomPart.{RandomPart}
 use Rattle.rp_evidence.specs.declared.random.RandomPart.TheVariants.{Mixture, Violated, Wide as WideRandom}
 use Rattle.serde_json.specs.Data.{Data, Members, member, no_members, object, string}
-use Rattle.rp_test_items.specs.AfriatValue.{afriat_value}
+use Rattle.rp_json_tests.specs.AfriatValue.{afriat_value}
 use Rattle.rp_json.specs.CertificateValue.{item_value}
 use Rattle.rp_json.specs.Denoted.{FitsKind}
-use Rattle.rp_test_items.specs.EfficiencyValue.{efficiency_value}
-use Rattle.rp_test_items.specs.GarpValue.{garp_value}
-use Rattle.rp_test_items.specs.HomotheticValue.{homothetic_value}
-use Rattle.rp_test_items.specs.Limits.{FitsAfriat, FitsEfficiency, FitsGarp, FitsHomothetic, FitsQuasilinear}
-use Rattle.rp_test_items.specs.QuasilinearValue.{quasilinear_value}
-use Rattle.rp_notation.specs.Reading.{IsFound}
-use Rattle.rp_program_items.proofs.DemandReads.{FitsDemandOf, demand_of}
-use Rattle.rp_program_items.proofs.RandomReads.{FitsRandomOf, random_of}
-use Rattle.rp_program_items.proofs.WelfareReads.{FitsWelfareOf, welfare_of}
+use Rattle.rp_json_tests.specs.EfficiencyValue.{efficiency_value}
+use Rattle.rp_json_tests.specs.GarpValue.{garp_value}
+use Rattle.rp_json_tests.specs.HomotheticValue.{homothetic_value}
+use Rattle.rp_json_tests.specs.Limits.{FitsAfriat, FitsEfficiency, FitsGarp, FitsHomothetic, FitsQuasilinear}
+use Rattle.rp_json_tests.specs.QuasilinearValue.{quasilinear_value}
+use Rattle.rp_json_entries.specs.Reading.{IsFound}
+use Rattle.rp_json_programs.proofs.DemandReads.{FitsDemandOf, demand_of}
+use Rattle.rp_json_programs.proofs.RandomReads.{FitsRandomOf, random_of}
+use Rattle.rp_json_programs.proofs.WelfareReads.{FitsWelfareOf, welfare_of}
 
 -- the first letter of the name in the member `item`, which is the only name that begins with i
 abbrev first_letter_or : ℕ → Data → ℕ

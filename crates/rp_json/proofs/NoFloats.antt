@@ -24,16 +24,16 @@ use Rattle.rp_evidence.specs.declared.quasilinear.Quasi.{Quasi}
 use Rattle.rp_evidence.specs.declared.quasilinear.Quasi.TheVariants.{Values as Sums, Cycle as Negative}
 use Rattle.serde_json.specs.Data.{Data, Members, member, no_members}
 use Rattle.serde_json.specs.Written.{has_float, members_have_float}
-use Rattle.rp_test_items.specs.AfriatValue.{afriat_value}
-use Rattle.rp_program_items.specs.BoundValue.{bound_value, entry_value, good_value}
+use Rattle.rp_json_tests.specs.AfriatValue.{afriat_value}
+use Rattle.rp_json_programs.specs.BoundValue.{bound_value, entry_value, good_value}
 use Rattle.rp_json.specs.CertificateValue.{certificate_value, item_value}
-use Rattle.rp_program_items.specs.DemandValue.{demand_value, welfare_value}
-use Rattle.rp_test_items.specs.EfficiencyValue.{at_members, below_members, efficiency_value}
-use Rattle.rp_test_items.specs.GarpValue.{garp_value}
-use Rattle.rp_test_items.specs.HomotheticValue.{homothetic_value}
-use Rattle.rp_test_items.specs.QuasilinearValue.{quasilinear_value}
-use Rattle.rp_program_items.specs.RandomValue.{random_value, share_value}
-use Rattle.rp_notation.specs.Values.{count_value, counts_value, fraction_value, list_value, natural_value, observation_value, signed_value}
+use Rattle.rp_json_programs.specs.DemandValue.{demand_value, welfare_value}
+use Rattle.rp_json_tests.specs.EfficiencyValue.{at_members, below_members, efficiency_value}
+use Rattle.rp_json_tests.specs.GarpValue.{garp_value}
+use Rattle.rp_json_tests.specs.HomotheticValue.{homothetic_value}
+use Rattle.rp_json_tests.specs.QuasilinearValue.{quasilinear_value}
+use Rattle.rp_json_programs.specs.RandomValue.{random_value, share_value}
+use Rattle.rp_json_entries.specs.Values.{count_value, counts_value, fraction_value, list_value, natural_value, observation_value, signed_value}
 
 -- nor has a list of values without one
 no_list : {X : Type 0} (value_of : X → Data) → ((x : X) → has_float (value_of x) ≡ false) → (xs : List X) → has_float (list_value value_of xs) ≡ false

@@ -35,22 +35,22 @@ use Rattle.rp_evidence.specs.declared.random.Share.{Share}
 use Rattle.rp_farkas.specs.declared.entry.Entry.{Entry}
 use Rattle.serde_json.specs.Data.{object, member}
 use Rattle.serde_json.specs.Read.{read}
-use Rattle.rp_test_items.specs.AfriatValue.{afriat_value}
-use Rattle.rp_program_items.specs.BoundValue.{bound_value, entry_value, good_value, point_value}
+use Rattle.rp_json_tests.specs.AfriatValue.{afriat_value}
+use Rattle.rp_json_programs.specs.BoundValue.{bound_value, entry_value, good_value, point_value}
 use Rattle.rp_json.specs.CertificateValue.{certificate_text, certificate_value, item_value, kind_name, top_value}
 use Rattle.rp_json.specs.Denoted.{FitLevels}
 use Rattle.rp_table.specs.OwnLevels.{IsOwnLevel}
-use Rattle.rp_program_items.specs.DemandValue.{demand_value, welfare_value}
-use Rattle.rp_test_items.specs.EfficiencyValue.{at_members, below_members, efficiency_value}
-use Rattle.rp_test_items.specs.GarpValue.{garp_value}
-use Rattle.rp_test_items.specs.HomotheticValue.{homothetic_value}
-use Rattle.rp_notation.specs.Reading.{FitObservations, FitsCount, FitsLong, FitsObservation}
-use Rattle.rp_test_items.specs.Limits.{FitsAfriat, FitsEfficiency, FitsGarp, FitsHomothetic, FitsQuasilinear}
-use Rattle.rp_program_items.specs.Limits.{FitsBound, FitsDemand, FitsEntry, FitsGood, FitsPoint, FitsRandom, FitsShare, FitsWelfare}
+use Rattle.rp_json_programs.specs.DemandValue.{demand_value, welfare_value}
+use Rattle.rp_json_tests.specs.EfficiencyValue.{at_members, below_members, efficiency_value}
+use Rattle.rp_json_tests.specs.GarpValue.{garp_value}
+use Rattle.rp_json_tests.specs.HomotheticValue.{homothetic_value}
+use Rattle.rp_json_entries.specs.Reading.{FitObservations, FitsCount, FitsLong, FitsObservation}
+use Rattle.rp_json_tests.specs.Limits.{FitsAfriat, FitsEfficiency, FitsGarp, FitsHomothetic, FitsQuasilinear}
+use Rattle.rp_json_programs.specs.Limits.{FitsBound, FitsDemand, FitsEntry, FitsGood, FitsPoint, FitsRandom, FitsShare, FitsWelfare}
 use Rattle.rp_json.specs.Limits.{FitsItem}
-use Rattle.rp_test_items.specs.QuasilinearValue.{quasilinear_value}
-use Rattle.rp_program_items.specs.RandomValue.{random_value, share_value}
-use Rattle.rp_notation.specs.Values.{count_value, counts_value, fraction_value, natural_value, naturals_value, observation_value, observations_value, signed_value}
+use Rattle.rp_json_tests.specs.QuasilinearValue.{quasilinear_value}
+use Rattle.rp_json_programs.specs.RandomValue.{random_value, share_value}
+use Rattle.rp_json_entries.specs.Values.{count_value, counts_value, fraction_value, natural_value, naturals_value, observation_value, observations_value, signed_value}
 use Rattle.rp_json.proofs.DataReadBack.{ReadsBack, text_reads, number_reads, array_reads, list_reads, object_reads, line_utf8, line_reads}
 
 -- ---- numbers

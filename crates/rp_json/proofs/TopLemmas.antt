@@ -9,11 +9,11 @@ use Rattle.serde_json.specs.declared.value.Value.{Value}
 use Rattle.rp_json.specs.CertificateValue.{kind_name, top_value}
 use Rattle.rp_json.specs.Denoted.{AreSomeLevels, FitLevels, HasNoShape, HasOtherVersion, IsTop}
 use Rattle.rp_json.specs.InnerItems.{AreLevelsBy, AreThirdBy}
-use Rattle.rp_notation.specs.InnerMembers.{AreNamed, named, views}
-use Rattle.rp_notation.specs.Values.{count_value, counts_value}
-use Rattle.rp_notation.proofs.ListLemmas.{same_array, same_items}
-use Rattle.rp_notation.proofs.MemberLemmas.{is_object, same_object}
-use Rattle.rp_notation.specs.Reading.{IsFound}
+use Rattle.rp_json_entries.specs.InnerMembers.{AreNamed, named, views}
+use Rattle.rp_json_entries.specs.Values.{count_value, counts_value}
+use Rattle.rp_json_entries.proofs.ListLemmas.{same_array, same_items}
+use Rattle.rp_json_entries.proofs.MemberLemmas.{is_object, same_object}
+use Rattle.rp_json_entries.specs.Reading.{IsFound}
 
 some_same : {A : Type 0} (a b : A) → Some a ≡ Some b → a ≡ b
 some_same a b e = search

@@ -12,14 +12,14 @@ use Rattle.rp_evidence.specs.declared.certificate.Kind.TheVariants.{Table, Rando
 use Rattle.serde_json.specs.Data.{Data, Members, array, object, string, member, no_members}
 use Rattle.serde_json.specs.View.{items_of}
 use Rattle.serde_json.specs.Written.{compact_text}
-use Rattle.rp_test_items.specs.AfriatValue.{afriat_value}
-use Rattle.rp_program_items.specs.DemandValue.{demand_value, welfare_value}
-use Rattle.rp_test_items.specs.EfficiencyValue.{efficiency_value}
-use Rattle.rp_test_items.specs.GarpValue.{garp_value}
-use Rattle.rp_test_items.specs.HomotheticValue.{homothetic_value}
-use Rattle.rp_test_items.specs.QuasilinearValue.{quasilinear_value}
-use Rattle.rp_program_items.specs.RandomValue.{random_value}
-use Rattle.rp_notation.specs.Values.{count_value, counts_value}
+use Rattle.rp_json_tests.specs.AfriatValue.{afriat_value}
+use Rattle.rp_json_programs.specs.DemandValue.{demand_value, welfare_value}
+use Rattle.rp_json_tests.specs.EfficiencyValue.{efficiency_value}
+use Rattle.rp_json_tests.specs.GarpValue.{garp_value}
+use Rattle.rp_json_tests.specs.HomotheticValue.{homothetic_value}
+use Rattle.rp_json_tests.specs.QuasilinearValue.{quasilinear_value}
+use Rattle.rp_json_programs.specs.RandomValue.{random_value}
+use Rattle.rp_json_entries.specs.Values.{count_value, counts_value}
 
 -- an item
 abbrev pub item_value : Item → Data

@@ -4,7 +4,7 @@ use Rattle.std.specs.Prelude.{Result, Ok, Err, Vec}
 use Rattle.std.specs.declared.alloc.Global.{Global}
 use Rattle.rp_evidence.specs.declared.certificate.Item.{Item}
 use Rattle.rp_evidence.specs.declared.certificate.Kind.{Kind}
-use Rattle.rp_notation.specs.Values.{counts_value}
+use Rattle.rp_json_entries.specs.Values.{counts_value}
 use Rattle.serde_json.specs.Data.{Data}
 use Rattle.rp_json.specs.CertificateValue.{item_value, top_value}
 use Rattle.rp_json.specs.Denoted.{AreSomeLevels, FitLevels, FitsKind, IsFirstNoItem, IsTop}

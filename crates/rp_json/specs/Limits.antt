@@ -5,8 +5,8 @@ use Rattle.rp_evidence.specs.declared.certificate.Item.TheVariants.{Efficiency a
 use Rattle.rp_evidence.specs.declared.certificate.Item.TheVariants.{Homothetic as HomotheticItem, Quasi as QuasiItem}
 use Rattle.rp_evidence.specs.declared.certificate.Item.TheVariants.{Demand as DemandItem, Welfare as WelfareItem}
 use Rattle.rp_evidence.specs.declared.certificate.Item.TheVariants.{Random as RandomItem}
-use Rattle.rp_test_items.specs.Limits.{FitsGarp, FitsAfriat, FitsEfficiency, FitsHomothetic, FitsQuasilinear}
-use Rattle.rp_program_items.specs.Limits.{FitsDemand, FitsWelfare, FitsRandom}
+use Rattle.rp_json_tests.specs.Limits.{FitsGarp, FitsAfriat, FitsEfficiency, FitsHomothetic, FitsQuasilinear}
+use Rattle.rp_json_programs.specs.Limits.{FitsDemand, FitsWelfare, FitsRandom}
 
 abbrev pub FitsItem : Item → Type 0
 FitsItem (GarpItem evidence) = FitsGarp evidence

@@ -2,18 +2,18 @@ ghost use Rattle.std.specs.Prelude.{◌≡◌, IfOk};
 ghost use Rattle.serde_json.specs.View.{view};
 ghost use Rattle.rp_json.specs.CertificateValue.{item_value};
 ghost use Rattle.rp_json.specs.Denoted.{FitsKind};
-ghost use Rattle.rp_notation.specs.Reading.{IsRead};
+ghost use Rattle.rp_json_entries.specs.Reading.{IsRead};
 
 use rp_evidence::{Item, Kind};
+use rp_json_programs::demand::{Demand, read_demand};
+use rp_json_programs::random::{Random, read_random};
+use rp_json_programs::welfare::{Welfare, read_welfare};
+use rp_json_tests::afriat::read_afriat;
+use rp_json_tests::efficiency::read_efficiency;
+use rp_json_tests::garp::read_garp;
+use rp_json_tests::homothetic::read_homothetic;
+use rp_json_tests::quasilinear::read_quasilinear;
 use rp_num::NoMemory;
-use rp_program_items::demand::{Demand, read_demand};
-use rp_program_items::random::{Random, read_random};
-use rp_program_items::welfare::{Welfare, read_welfare};
-use rp_test_items::afriat::read_afriat;
-use rp_test_items::efficiency::read_efficiency;
-use rp_test_items::garp::read_garp;
-use rp_test_items::homothetic::read_homothetic;
-use rp_test_items::quasilinear::read_quasilinear;
 use serde_json::Value;
 use std::alloc::Global;
 

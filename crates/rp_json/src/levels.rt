@@ -2,10 +2,10 @@ ghost use Rattle.std.specs.Prelude.{IfOk};
 ghost use Rattle.serde_json.specs.View.{view};
 ghost use Rattle.rp_table.specs.OwnLevels.{IsOwnLevel};
 ghost use Rattle.rp_json.specs.Denoted.{AreSomeLevels};
-ghost use Rattle.rp_notation.specs.Reading.{IsRead};
-ghost use Rattle.rp_notation.specs.Values.{count_value, counts_value};
+ghost use Rattle.rp_json_entries.specs.Reading.{IsRead};
+ghost use Rattle.rp_json_entries.specs.Values.{count_value, counts_value};
 
-use rp_notation::notation::Notation;
+use rp_json_entries::notation::Notation;
 use rp_num::{NoMemory, Seq};
 use rp_table::LEVEL_SCALE;
 use serde_json::Value;

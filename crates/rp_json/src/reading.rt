@@ -5,14 +5,14 @@ ghost use Rattle.serde_json.specs.Find.{get};
 ghost use Rattle.serde_json.specs.View.{items_of, members_view, view};
 ghost use Rattle.rp_json.specs.Denoted.{IsDenoted, IsDenotedBy, IsTop};
 ghost use Rattle.rp_json.specs.InnerItems.{AreItemsBy, AreLevelsBy, AreThirdBy};
-ghost use Rattle.rp_notation.specs.InnerMembers.{views};
+ghost use Rattle.rp_json_entries.specs.InnerMembers.{views};
 
 use crate::certificate::kind_name;
 use crate::fault::JsonFault;
 use crate::items::read_item;
 use crate::levels::read_some_levels;
 use rp_evidence::{Certificate, Item, Kind};
-use rp_notation::objects::values_of;
+use rp_json_entries::objects::values_of;
 use rp_num::{NoMemory, Seq};
 use serde_json::{Map, Value};
 use std::alloc::Global;

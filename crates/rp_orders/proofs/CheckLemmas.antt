@@ -1,11 +1,11 @@
 -- A check that answers whether nothing is found wrong.
 use Rattle.std.proofs.Common.{◌≡◌, true, Result, Ok, Err, refl}
 use Rattle.std.specs.Result.{is_ok}
-use Rattle.rp_mixture_program.specs.Verdict.{ProvesMixture}
+use Rattle.rp_find_mixture.specs.Verdict.{ProvesMixture}
 use Rattle.rp_evidence.specs.declared.failure.Failure.{Failure}
 use Rattle.rp_evidence.specs.declared.random.RandomPart.{RandomPart}
 use Rattle.rp_evidence.specs.declared.random.RandomPart.TheVariants.{Mixture, Violated, Wide}
-use Rattle.rp_kinds.proofs.OneFinding.{evidence_excludes}
+use Rattle.rp_check_mixture.proofs.OneFinding.{evidence_excludes}
 use Rattle.rp_patch.specs.KindFailure.{EvidenceFailsOf}
 use Rattle.rp_patch.specs.Kinds.{AreWhole, Kinds}
 use Rattle.rp_patch.proofs.KindSound.{mixture_sound, violation_sound}

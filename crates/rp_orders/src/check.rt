@@ -3,8 +3,8 @@ ghost use Rattle.rp_orders.specs.MenuEvidence.{PassesMenus, ProvesMenus};
 ghost use Rattle.rp_orders.specs.OrderMixtures.{AreUnitsOf};
 
 use crate::choosers::OrdersOver;
+use rp_check_mixture::check_evidence;
 use rp_evidence::RandomPart;
-use rp_kinds::check_evidence;
 use rp_menu::Menus;
 use rp_patch::apportionment::Units;
 

@@ -6,7 +6,7 @@ ghost use Rattle.rp_patch.specs.Kinds.{cells_weight};
 
 use crate::lists::{is_order, list_at, lists};
 use crate::picks::{picks, picks_cells, weight_picked};
-use rp_kinds::Choosers;
+use rp_check_mixture::Choosers;
 use rp_menu::Menus;
 use rp_patch::apportionment::Units;
 

@@ -8,8 +8,8 @@ ghost use Rattle.rp_patch.specs.Kinds.{mixture_program};
 
 use crate::orders::Order;
 use crate::picks::picks;
+use rp_find_mixture::Listed;
 use rp_menu::Menus;
-use rp_mixture_program::Listed;
 use rp_patch::apportionment::Units;
 
 /// Orders over menus with units of their cells.

@@ -4,7 +4,6 @@ pub mod RoundedUpPortions
 pub mod ChosenFacts
 pub mod ChosenGroups
 pub mod ChosenLaws
-pub mod ClauseLemmas
 pub mod Determined
 pub mod ExtendedWalks
 pub mod FirstChosen

@@ -10,7 +10,7 @@ use Rattle.rp_evidence.specs.declared.random.RandomPart.{RandomPart}
 use Rattle.rp_evidence.specs.declared.random.RandomPart.TheVariants.{Mixture, Violated, Wide}
 use Rattle.rp_evidence.specs.declared.random.Share.{Share}
 use Rattle.rp_farkas.specs.Limits.{FitsEvidence}
-use Rattle.rp_patch.specs.Clauses.{Finding, FirstBelow, FirstUnless, InOrder, Unless}
+use Rattle.rp_evidence.specs.Clauses.{Finding, FirstBelow, FirstUnless, InOrder, Unless}
 use Rattle.rp_patch.specs.Kinds.{Kinds, all_units_weight, cells_weight, weight_of, weight_using}
 
 -- The denominator and all weights are numbers that a program may give.

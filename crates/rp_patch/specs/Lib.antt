@@ -2,7 +2,6 @@ pub mod Added
 pub mod Apportionment
 pub mod InnerPortions
 pub mod Choices
-pub mod Clauses
 pub mod FirstChoices
 pub mod InnerJoined
 pub mod Kinds

@@ -9,7 +9,7 @@ use Rattle.rp_evidence.specs.declared.certificate.Item.TheVariants.{Demand as De
 use Rattle.rp_evidence.specs.declared.certificate.Item.TheVariants.{Random as RandomItem}
 use Rattle.rp_evidence.specs.declared.failure.Reason.TheVariants.{Units}
 use Rattle.rp_evidence.specs.declared.random.RandomPart.{RandomPart}
-use Rattle.rp_patch.specs.Clauses.{Finding, InOrder, Unless}
+use Rattle.rp_evidence.specs.Clauses.{Finding, InOrder, Unless}
 use Rattle.rp_patch.specs.KindFailure.{EvidenceFailsOf}
 use Rattle.rp_patch.specs.Mixtures.{types_on}
 use Rattle.rp_patch.specs.Patches.{PatchList}

@@ -4,7 +4,6 @@
 
 pub mod apportionment;
 mod chosen;
-mod failure;
 mod fault;
 mod laws;
 mod limits;
@@ -18,7 +17,6 @@ mod tally;
 mod totals;
 
 pub use apportionment::apportion;
-pub use failure::{capped, fails};
 pub use fault::{ApportionFault, PatchFault};
 pub use laws::{
     patches_are_determined, patches_are_numbered_by_first_choice,

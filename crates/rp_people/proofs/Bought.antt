@@ -125,12 +125,12 @@ module _ (input : TableInput) (budget : BudgetInput) (x : FractionBundle) where
         go (inr h) (inl k) = alike_in s t (omega arith) k
         go (inr h) (inr k) = alike_itself s t (omega arith) (omega arith)
 
-    meets_where : MeetsGarp (input.n + 1) wide 1 1 ↔ MeetAxiom (widened input budget x)
+    meets_where : MeetsGarp (input.n + 1) wide ↔ MeetAxiom (widened input budget x)
     meets_where = (
-      no_violation_same (input.n + 1) (IsWeak wide 1 1) (IsStrict wide 1 1) (IsWeakChoice (widened input budget x)) (IsStrictChoice (widened input budget x))
+      no_violation_same (input.n + 1) (IsWeak wide) (IsStrict wide) (IsWeakChoice (widened input budget x)) (IsStrictChoice (widened input budget x))
           (λ s t a b. alike_weak (wide s t) (wide s s) (left s t) (right s t) (alike s t a b))
           (λ s t a b. alike_strict (wide s t) (wide s s) (left s t) (right s t) (alike s t a b)),
-      no_violation_same (input.n + 1) (IsWeakChoice (widened input budget x)) (IsStrictChoice (widened input budget x)) (IsWeak wide 1 1) (IsStrict wide 1 1)
+      no_violation_same (input.n + 1) (IsWeakChoice (widened input budget x)) (IsStrictChoice (widened input budget x)) (IsWeak wide) (IsStrict wide)
           (λ s t a b. let w = alike_weak (wide s t) (wide s s) (left s t) (right s t) (alike s t a b) in (w.1, w.0))
           (λ s t a b. let w = alike_strict (wide s t) (wide s s) (left s t) (right s t) (alike s t a b) in (w.1, w.0)),
     )

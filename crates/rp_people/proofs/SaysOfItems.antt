@@ -10,7 +10,7 @@ use Rattle.rp_evidence.specs.Efficiency.{IsEfficiencyIndex, ProvesEfficiency}
 use Rattle.rp_evidence.specs.Garp.{ProvesOfPreference, ProvesOwnGarp}
 use Rattle.rp_evidence.specs.Homothetic.{MeetsHomotheticTest, ProvesHomothetic, value_at}
 use Rattle.rp_evidence.specs.Input.{TableInput}
-use Rattle.rp_evidence.specs.Preference.{IsLevel, IsStrict, IsWeak}
+use Rattle.rp_evidence.specs.Preference.{IsLevel, IsStrictAt, IsWeakAt}
 use Rattle.rp_evidence.specs.Proves.{Proves}
 use Rattle.rp_evidence.specs.Quasilinear.{MeetsQuasilinearTest, ProvesQuasilinear}
 use Rattle.rp_evidence.specs.declared.afriat.AfriatPart.{AfriatPart}
@@ -68,7 +68,7 @@ module _ (input : TableInput) (full : IsFullInput input) where
     utility_where_attained = (at_level input full num den index.level).1;
   }
 
-  says_at : (num den : ℕ) → IsLevel num den → (verdict : Garp) → ProvesOfPreference input.n (IsWeak input.cost num den) (IsStrict input.cost num den) verdict → SaysOfChoices (choices_at input num den) verdict
+  says_at : (num den : ℕ) → IsLevel num den → (verdict : Garp) → ProvesOfPreference input.n (IsWeakAt input.cost num den) (IsStrictAt input.cost num den) verdict → SaysOfChoices (choices_at input num den) verdict
   says_at num den level (Ranks ranks) p = (at_level input full num den level).1.1 p.1
   says_at num den level (Cycle walk) p = λ has. (at_level input full num den level).0.0 has walk p
 

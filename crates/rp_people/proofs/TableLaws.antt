@@ -5,7 +5,7 @@ use Rattle.std.specs.Prelude.{ℤ, pos, ◌+ℤ◌, ◌-ℤ◌, ◌*ℤ◌, ◌�
 use Rattle.rp_table.specs.OwnLevels.{level_scale, own_by_level}
 use Rattle.rp_table.specs.Spending.{spending}
 use Rattle.rp_evidence.specs.Afriat.{IsModelBy, IsOwnModel, in_scale}
-use Rattle.rp_evidence.specs.Garp.{HasNoViolation, MeetsGarp}
+use Rattle.rp_evidence.specs.Garp.{HasNoViolation, MeetsGarpAt}
 use Rattle.rp_evidence.specs.Input.{TableInput}
 use Rattle.rp_evidence.specs.Preference.{IsLevel, IsOwnStrict, IsOwnWeak, StrictByLevels, WeakByLevels}
 use Rattle.rp_evidence.proofs.AfriatSums.{once}
@@ -78,8 +78,8 @@ module _ (input : TableInput) (full : IsFullInput input) where
       let from = held_utility input full (level_scale input.levels) (own_by_level input.levels input.cost) some in
       ((to, λ none. preference_of_concave (choices_of input) (from none)), (λ has. to (preference_of_concave (choices_of input) has), from))
 
-  pub at_level : (num den : ℕ) → IsLevel num den → (HasPreference (choices_at input num den) ↔ MeetsGarp input.n input.cost num den)
-      × (HasConcaveUtility (choices_at input num den) ↔ MeetsGarp input.n input.cost num den)
+  pub at_level : (num den : ℕ) → IsLevel num den → (HasPreference (choices_at input num den) ↔ MeetsGarpAt input.n input.cost num den)
+      × (HasConcaveUtility (choices_at input num den) ↔ MeetsGarpAt input.n input.cost num den)
   at_level num den level =
       let some : 1 ≤ den = omega (arith, level.0, level.1) in
       let to = held_preferences input full den (λ s. num * input.cost s s) some in

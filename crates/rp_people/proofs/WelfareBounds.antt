@@ -23,24 +23,24 @@ use Rattle.rp_people.proofs.Rooms.{room}
 use Rattle.rp_people.specs.WelfareOfPeople.{BoundWelfareOfPeople}
 
 module _ (input : TableInput) (prefers : FractionBundle → FractionBundle → Bool) (preference : IsPreference input.goods prefers) (rationalizes : Rationalizes (choices_at input 1 1) prefers) where
-  weaker : (s t : ℕ) → s < input.n → t < input.n → IsWeak input.cost 1 1 s t → IsWeakChoice (choices_at input 1 1) s t
+  weaker : (s t : ℕ) → s < input.n → t < input.n → IsWeak input.cost s t → IsWeakChoice (choices_at input 1 1) s t
   weaker s t a b h = let e = input.sums s t a b in omega arith
 
   pub reached_not_better : (s t : ℕ) → EqualsOrReaches input s t → IsAtLeastAsGood prefers (bundle_at input s) (bundle_at input t)
   reached_not_better s t r = go r.0 r.1
     where
-      go : (w : List ℕ) → IsWalk input.n (IsWeak input.cost 1 1) s t w → IsAtLeastAsGood prefers (bundle_at input s) (bundle_at input t)
+      go : (w : List ℕ) → IsWalk input.n (IsWeak input.cost) s t w → IsAtLeastAsGood prefers (bundle_at input s) (bundle_at input t)
       go [] l = absurd l
       go (x ∷ w) l =
           never_worse (choices_at input 1 1) (λ k b. omega arith) prefers preference rationalizes s t w
-          (leads_by_weaker input.n (IsWeak input.cost 1 1) (IsWeakChoice (choices_at input 1 1)) weaker s t w (subst (λ z. LeadsTo input.n (IsWeak input.cost 1 1) z t w) l.0 l.1))
+          (leads_by_weaker input.n (IsWeak input.cost) (IsWeakChoice (choices_at input 1 1)) weaker s t w (subst (λ z. LeadsTo input.n (IsWeak input.cost) z t w) l.0 l.1))
 
   ends_in : (s t : ℕ) → EqualsOrReaches input s t → t < input.n
   ends_in s t r = go r.0 r.1
     where
-      go : (w : List ℕ) → IsWalk input.n (IsWeak input.cost 1 1) s t w → t < input.n
+      go : (w : List ℕ) → IsWalk input.n (IsWeak input.cost) s t w → t < input.n
       go [] l = absurd l
-      go (x ∷ w) l = ends_below input.n (IsWeak input.cost 1 1) x t w l.1
+      go (x ∷ w) l = ends_below input.n (IsWeak input.cost) x t w l.1
 
   pub as_good_in_region : (t : ℕ) (x : FractionBundle) → IsBundle x → IsAtLeastAsGood prefers x (bundle_at input t) → IsInRegion input t x
   as_good_in_region t x ix good = record { fraction = ix; dear = dear }

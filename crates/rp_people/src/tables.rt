@@ -3,7 +3,7 @@
 ghost use Rattle.std.specs.Prelude.{◌↔◌, ◌<◌, ℕ, ℤ};
 ghost use Rattle.rp_evidence.specs.Afriat.{IsOwnModel};
 ghost use Rattle.rp_evidence.specs.Efficiency.{IsEfficiencyIndex};
-ghost use Rattle.rp_evidence.specs.Garp.{HasNoViolation, MeetsGarp};
+ghost use Rattle.rp_evidence.specs.Garp.{HasNoViolation, MeetsGarpAt};
 ghost use Rattle.rp_evidence.specs.Input.{TableInput, input_of_table};
 ghost use Rattle.rp_evidence.specs.Preference.{IsLevel, StrictByLevels, WeakByLevels};
 ghost use Rattle.rp_people.specs.AfriatUtility.{HaveUtility};
@@ -31,9 +31,9 @@ pub fn rationalized_by_levels()
 /// The same at a level that is common to all observations.
 pub fn rationalized_at_level()
     ensures preference { (input : TableInput) (num den : ℕ) → IsFullInput input → IsLevel num den
-        → HasPreference (choices_at input num den) ↔ MeetsGarp input.n input.cost num den }
+        → HasPreference (choices_at input num den) ↔ MeetsGarpAt input.n input.cost num den }
     ensures utility { (input : TableInput) (num den : ℕ) → IsFullInput input → IsLevel num den
-        → HasConcaveUtility (choices_at input num den) ↔ MeetsGarp input.n input.cost num den }
+        → HasConcaveUtility (choices_at input num den) ↔ MeetsGarpAt input.n input.cost num den }
 {}
 
 /// The utility of every Afriat model of a table, by the levels of the observations' own where they have them, is

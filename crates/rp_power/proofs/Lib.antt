@@ -3,3 +3,4 @@ pub mod CountMore
 pub mod DrawnLemmas
 pub mod SpentLemmas
 pub mod WordBlocks
+pub mod WordLemmas

@@ -5,7 +5,7 @@ use Rattle.std.proofs.lemmas.Bool.{false≢true}
 use Rattle.std.specs.List.{All}
 use Rattle.rp_evidence.specs.Preference.{AgreeBelow, IsStrict, IsWeak}
 use Rattle.rp_evidence.proofs.SameCosts.{agree_back, violation_same}
-use Rattle.rp_garp.specs.Meeting.{HasSomeViolation}
+use Rattle.rp_evidence.specs.Garp.{HasSomeViolation}
 use Rattle.rp_num.specs.Below.{listed, rows_below}
 use Rattle.rp_num.proofs.BelowLemmas.{listed-more}
 use Rattle.rp_sheet.proofs.RowLemmas.{length-rows, row_number}
@@ -21,12 +21,12 @@ pub both : {A B C : Type 0} → A ↔ B → B ↔ C → A ↔ C
 both one other = (λ a. other.0 (one.0 a), λ c. one.1 (other.1 c))
 
 -- a test of whether costs violate the axiom nowhere
-pub fails_where_told : (m n : ℕ) (costs : List ℕ) (holds : Bool) → m ≡ n → IsFalse holds ↔ HasSomeViolation m (IsWeak (cost_in m costs) 1 1) (IsStrict (cost_in m costs) 1 1)
-    → IsTrue (not holds) ↔ HasSomeViolation n (IsWeak (cost_in n costs) 1 1) (IsStrict (cost_in n costs) 1 1)
+pub fails_where_told : (m n : ℕ) (costs : List ℕ) (holds : Bool) → m ≡ n → IsFalse holds ↔ HasSomeViolation m (IsWeak (cost_in m costs)) (IsStrict (cost_in m costs))
+    → IsTrue (not holds) ↔ HasSomeViolation n (IsWeak (cost_in n costs)) (IsStrict (cost_in n costs))
 fails_where_told m n costs true same told =
-    (λ h. absurd (false≢true h), λ some. absurd (false≢true (sym (told.1 (subst (λ k. HasSomeViolation k (IsWeak (cost_in k costs) 1 1) (IsStrict (cost_in k costs) 1 1)) (sym same) some)))))
+    (λ h. absurd (false≢true h), λ some. absurd (false≢true (sym (told.1 (subst (λ k. HasSomeViolation k (IsWeak (cost_in k costs)) (IsStrict (cost_in k costs))) (sym same) some)))))
 fails_where_told m n costs false same told =
-    (λ h. subst (λ k. HasSomeViolation k (IsWeak (cost_in k costs) 1 1) (IsStrict (cost_in k costs) 1 1)) same (told.0 refl), λ some. refl)
+    (λ h. subst (λ k. HasSomeViolation k (IsWeak (cost_in k costs)) (IsStrict (cost_in k costs))) same (told.0 refl), λ some. refl)
 
 -- one more of the listed numbers after others
 pub appended_more : (f : ℕ → ℕ) (n x : ℕ) (old here more : List ℕ) → here ≡ old ++ listed n f → x ≡ f n → more ≡ here ++ x ∷ [] → more ≡ old ++ listed (n + 1) f
@@ -49,7 +49,7 @@ module _ (table : Observations) (words quantities costs : List ℕ) (drawn : qua
       ∙ ap (λ (q : List ℕ). cost_among table q s t) drawn
 
   -- what the costs violate, the drawn table does
-  pub some_drawn : HasSomeViolation (records_of table) (IsWeak (cost_in (records_of table) costs) 1 1) (IsStrict (cost_in (records_of table) costs) 1 1) ↔ FailsAxiom (drawn_table table words)
+  pub some_drawn : HasSomeViolation (records_of table) (IsWeak (cost_in (records_of table) costs)) (IsStrict (cost_in (records_of table) costs)) ↔ FailsAxiom (drawn_table table words)
   some_drawn =
       let n = records_of table in
       let c = cost_in n costs in

@@ -1,8 +1,8 @@
 -- Blocks of the successive words of a generator.
 use Rattle.std.proofs.Common.{◌≡◌, ℕ, ◌+◌, ◌*◌, List, [], ◌∷◌, ◌++◌, refl, ap, ◌∙◌, arith, add-one}
 use Rattle.rand_pcg.specs.Lcg.{Lcg}
-use Rattle.rp_draws.specs.Words.{after_words, generator_of, word_after}
-use Rattle.rp_draws.proofs.WordLemmas.{word_later, words_later, none_yet}
+use Rattle.rp_power.specs.Words.{after_words, generator_of, word_after}
+use Rattle.rp_power.proofs.WordLemmas.{word_later, words_later, none_yet}
 use Rattle.rp_num.specs.Below.{listed}
 
 -- one more word

@@ -3,3 +3,4 @@ pub mod DrawnTable
 pub mod InnerSpent
 pub mod PowerCount
 pub mod PowerText
+pub mod Words

@@ -1,7 +1,7 @@
 -- The power of the test: how many random behaviours on the budgets of a table the generalized axiom of revealed
 -- preference rejects (after Bronars 1987; the words of a behaviour are this project's own).
 use Rattle.std.specs.Prelude.{ℕ, ◌+◌, ◌*◌, List}
-use Rattle.rp_draws.specs.Words.{generator_of, word_after}
+use Rattle.rp_power.specs.Words.{generator_of, word_after}
 use Rattle.rp_evidence.specs.Count.{IsNumberOf}
 use Rattle.rp_evidence.specs.Efficiency.{FailsGarp}
 use Rattle.rp_num.specs.Below.{listed}
@@ -23,7 +23,7 @@ behaviour table seed i = drawn_table table (behaviour_words table seed i)
 
 -- what the table says fails the axiom, where all that was spent counts
 abbrev pub FailsAxiom : Observations → Type 0
-FailsAxiom table = FailsGarp (records_of table) (cost_of table) 1 1
+FailsAxiom table = FailsGarp (records_of table) (cost_of table)
 
 -- of the first so many behaviours, so many fail the axiom
 abbrev pub IsPowerCount : Observations → ℕ → ℕ → ℕ → Type 0

@@ -1,7 +1,7 @@
 ghost use Rattle.std.specs.Prelude.{◌≡◌, ◌↔◌, ◌*◌, [], IfOk, IsTrue, OnOk, length};
-ghost use Rattle.rp_draws.specs.Words.{after_words, word_after};
+ghost use Rattle.rp_power.specs.Words.{after_words, word_after};
 ghost use Rattle.rp_evidence.specs.Preference.{IsStrict, IsWeak};
-ghost use Rattle.rp_garp.specs.Meeting.{HasSomeViolation};
+ghost use Rattle.rp_evidence.specs.Garp.{HasSomeViolation};
 ghost use Rattle.rp_num.specs.Below.{listed};
 ghost use Rattle.rp_power.specs.PowerCount.{IsPowerCount};
 ghost use Rattle.rp_power.specs.InnerSpent.{cost_in};
@@ -10,8 +10,8 @@ ghost use Rattle.rp_table.specs.Tables.{records_of};
 
 use crate::behaviour::draw_quantities;
 use crate::spending::{Spending, fill_costs};
+use crate::words::{draw, generator};
 use rand_pcg::Lcg64Xsh32;
-use rp_draws::{draw, generator};
 use rp_garp::meets_garp_over;
 use rp_num::NoMemory;
 use rp_table::{Costs, Table};
@@ -72,8 +72,8 @@ fn draw_words(generator: &mut Lcg64Xsh32, count: u32, words: &mut Vec<u32>) -> R
 fn fails(alloc: Global, table: &Table, costs: &[u64]) -> Result<bool, NoMemory>
     requires { length costs.now ≡ records_of table.now * records_of table.now }
     ensures { IfOk result (λ failed. IsTrue failed ↔ HasSomeViolation (records_of table.now)
-        (IsWeak (cost_in (records_of table.now) costs.now) 1 1)
-        (IsStrict (cost_in (records_of table.now) costs.now) 1 1)) }
+        (IsWeak (cost_in (records_of table.now) costs.now))
+        (IsStrict (cost_in (records_of table.now) costs.now))) }
 {
     let n = table.n();
     let holds = meets_garp_over(alloc, &Spending { n, costs })?;

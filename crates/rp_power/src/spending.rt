@@ -37,9 +37,9 @@ impl Revealed for Spending<'_> {
 
     ghost count = { λ b. b.n };
 
-    ghost weak = { λ b. IsWeak (cost_in b.n b.costs.now) 1 1 };
+    ghost weak = { λ b. IsWeak (cost_in b.n b.costs.now) };
 
-    ghost strict = { λ b. IsStrict (cost_in b.n b.costs.now) 1 1 };
+    ghost strict = { λ b. IsStrict (cost_in b.n b.costs.now) };
 
     fn n(&self) -> u32 {
         self.n

@@ -6,7 +6,7 @@ use lib.Count.{ones_step}
 use Rattle.std.proofs.lemmas.Bool.{eq-eqb, ne_eqb}
 use Rattle.std.proofs.lemmas.Nat.{div-mul-add, mod-mul-add, ones_le_self}
 use Rattle.std.proofs.lemmas.Nat.Bits.{bit_at-suc, bit_at_lowest}
-use Rattle.rp_rounds.specs.Bits.{bit_in}
+use Rattle.rp_evidence.specs.Bits.{bit_in}
 use Rattle.rp_pref.proofs.ClosureLemmas.{count_more}
 
 -- The sum of the first k values.

@@ -8,15 +8,15 @@ use Rattle.std.proofs.lemmas.Nat.Bits.{bit_at-zero, bit_at-pow_same, bit_at-pow_
 use Rattle.std.proofs.lemmas.List.{length-replicate}
 use Rattle.rp_evidence.specs.Walk.{Reaches}
 use Rattle.rp_grid.specs.Rows.{Rows, row_of, filled}
-use Rattle.rp_rounds.specs.Bits.{bit_in}
-use Rattle.rp_rounds.specs.Through.{ReachesThrough}
-use Rattle.rp_rounds.proofs.BitLemmas.{bit_of_or, or_false}
-use Rattle.rp_rounds.proofs.Rounds.{HasClosed, closed_all}
-use Rattle.rp_rounds.proofs.Throughs.{through_ends_below}
+use Rattle.rp_evidence.specs.Bits.{bit_in}
+use Rattle.rp_evidence.specs.Through.{ReachesThrough}
+use Rattle.rp_evidence.proofs.BitLemmas.{bit_of_or, or_false}
+use Rattle.rp_evidence.proofs.Rounds.{HasClosed, closed_all}
+use Rattle.rp_evidence.proofs.Throughs.{through_ends_below}
 use Rattle.rp_pref.specs.InnerBits.{bit_of, has_bit, HoldsBits, IsWordOf}
 use Rattle.rp_pref.specs.Closure.{IsClosureOf, IsCountIn, reached_by, reaches_in}
 use Rattle.rp_pref.proofs.ClosureLemmas.{counted, equals_or_reaches_in}
-use Rattle.rp_rounds.proofs.Tabulated.{reaches_in_by}
+use Rattle.rp_evidence.proofs.Tabulated.{reaches_in_by}
 use Rattle.rp_pref.proofs.BitCounts.{none_after, counted_with}
 
 -- ---- one word of steps

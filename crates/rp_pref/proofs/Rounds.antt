@@ -4,9 +4,9 @@ use Rattle.std.specs.Int.{bit_at}
 use Rattle.std.proofs.lemmas.Bool.{cases_lt}
 use Rattle.std.proofs.lemmas.List.{get_or_past}
 use Rattle.rp_grid.specs.Rows.{Rows, row_of, AreEqual}
-use Rattle.rp_rounds.specs.Bits.{bit_in}
-use Rattle.rp_rounds.proofs.BitLemmas.{bit_of_or}
-use Rattle.rp_rounds.proofs.Rounds.{HasClosed, HasGone, itself_gone, reached_gone, unreached_gone}
+use Rattle.rp_evidence.specs.Bits.{bit_in}
+use Rattle.rp_evidence.proofs.BitLemmas.{bit_of_or}
+use Rattle.rp_evidence.proofs.Rounds.{HasClosed, HasGone, itself_gone, reached_gone, unreached_gone}
 use Rattle.rp_pref.specs.InnerBits.{has_bit}
 
 -- ---- one row takes in another

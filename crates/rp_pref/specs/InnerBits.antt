@@ -3,7 +3,7 @@
 use Rattle.std.specs.Prelude.{◌≡◌, ℕ, ◌*◌, ◌/◌, ◌%◌, ◌<◌, ◌≤◌, ◌↔◌, ◌==◌, Bool, IsTrue, length}
 use Rattle.std.specs.Int.{bit_at}
 use Rattle.rp_grid.specs.Rows.{Rows, row_of}
-use Rattle.rp_rounds.specs.Bits.{bit_in}
+use Rattle.rp_evidence.specs.Bits.{bit_in}
 
 -- Bit t of row s.
 abbrev pub has_bit : Rows ℕ → ℕ → ℕ → Bool

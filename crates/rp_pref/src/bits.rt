@@ -2,8 +2,8 @@
 ghost use Rattle.std.specs.Prelude.{◌≡◌, ◌≢◌, ◌<◌, ◌≤◌, ◌+◌, ◌*◌, ◌/◌, ◌↔◌, ◌&&◌, ◌||◌, ℕ, IsTrue};
 ghost use Rattle.std.specs.Prelude.{count_by, length};
 ghost use Rattle.std.specs.List.{range_with_len};
-ghost use Rattle.rp_rounds.specs.Bits.{bit_in};
-ghost use Rattle.rp_rounds.specs.Through.{ReachesThrough};
+ghost use Rattle.rp_evidence.specs.Bits.{bit_in};
+ghost use Rattle.rp_evidence.specs.Through.{ReachesThrough};
 ghost use Rattle.rp_pref.specs.InnerBits.{bit_of, has_bit};
 
 use rp_grid::Grid;

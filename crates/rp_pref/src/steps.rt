@@ -1,5 +1,5 @@
 ghost use Rattle.std.specs.Prelude.{◌≡◌, ◌<◌, ◌*◌, ◌↔◌, IsTrue};
-ghost use Rattle.rp_evidence.specs.Preference.{IsLevel, IsStrict, IsWeak};
+ghost use Rattle.rp_evidence.specs.Preference.{IsLevel, IsStrictAt, IsWeakAt};
 ghost use Rattle.rp_table.specs.Cost.{cost_at};
 ghost use Rattle.rp_pref.specs.Steps.{OwnStrict, OwnWeak};
 
@@ -19,7 +19,7 @@ pub fn weak(costs: &Costs, level: Level, s: u32, t: u32) -> bool
     requires level { IsLevel level.num level.den }
     requires from { s < costs.now.n }
     requires to { t < costs.now.n }
-    ensures { IsTrue result ↔ IsWeak (cost_at costs.now) level.num level.den s t }
+    ensures { IsTrue result ↔ IsWeakAt (cost_at costs.now) level.num level.den s t }
 {
     part(level.den, costs.cost(s, t)) <= part(level.num, costs.cost(s, s))
 }
@@ -30,7 +30,7 @@ pub fn strict(costs: &Costs, level: Level, s: u32, t: u32) -> bool
     requires level { IsLevel level.num level.den }
     requires from { s < costs.now.n }
     requires to { t < costs.now.n }
-    ensures { IsTrue result ↔ IsStrict (cost_at costs.now) level.num level.den s t }
+    ensures { IsTrue result ↔ IsStrictAt (cost_at costs.now) level.num level.den s t }
 {
     part(level.den, costs.cost(s, t)) < part(level.num, costs.cost(s, s))
 }

@@ -11,30 +11,30 @@ use Rattle.rp_pump.proofs.Soundness.{gain_split, ratio_from, ratio_to, swapped_a
 
 -- ---- closed walks
 
-pub closed_by_places : (n : ℕ) (c : ℕ → ℕ → ℕ) (walk : List ℕ) → 1 < length walk → AreObserved n walk → StepsAreWeak c walk → slice_index walk 0 ≡ slice_index walk (length walk - 1) → IsClosedWalk n (IsWeak c 1 1) walk
+pub closed_by_places : (n : ℕ) (c : ℕ → ℕ → ℕ) (walk : List ℕ) → 1 < length walk → AreObserved n walk → StepsAreWeak c walk → slice_index walk 0 ≡ slice_index walk (length walk - 1) → IsClosedWalk n (IsWeak c) walk
 closed_by_places n c [] some observed weak closed = absurd (omega arith)
 closed_by_places n c (x ∷ rest) some observed weak closed =
     let p : suc (length rest) - 1 ≡ length rest = omega arith in
     let e : slice_index (x ∷ rest) (length rest) ≡ x = sym (subst (λ k. x ≡ slice_index (x ∷ rest) k) p closed) in
-    let l = leads_by_places n (IsWeak c 1 1) x rest observed (λ k h. rw add-one at (weak k (omega arith))) in
-    (x, (refl, subst (λ z. LeadsTo n (IsWeak c 1 1) x z rest) e l), some)
+    let l = leads_by_places n (IsWeak c) x rest observed (λ k h. rw add-one at (weak k (omega arith))) in
+    (x, (refl, subst (λ z. LeadsTo n (IsWeak c) x z rest) e l), some)
 
-pub leads_closed : (n : ℕ) (c : ℕ → ℕ → ℕ) (x : ℕ) (rest : List ℕ) → IsClosedWalk n (IsWeak c 1 1) (x ∷ rest) → LeadsTo n (IsWeak c 1 1) x x rest
-leads_closed n c x rest w = subst (λ s. LeadsTo n (IsWeak c 1 1) x s rest) (sym w.1.0) w.1.1
+pub leads_closed : (n : ℕ) (c : ℕ → ℕ → ℕ) (x : ℕ) (rest : List ℕ) → IsClosedWalk n (IsWeak c) (x ∷ rest) → LeadsTo n (IsWeak c) x x rest
+leads_closed n c x rest w = subst (λ s. LeadsTo n (IsWeak c) x s rest) (sym w.1.0) w.1.1
 
-pub closed_observed : (n : ℕ) (c : ℕ → ℕ → ℕ) (walk : List ℕ) → IsClosedWalk n (IsWeak c 1 1) walk → AreObserved n walk
+pub closed_observed : (n : ℕ) (c : ℕ → ℕ → ℕ) (walk : List ℕ) → IsClosedWalk n (IsWeak c) walk → AreObserved n walk
 closed_observed n c [] w = absurd w.1
-closed_observed n c (x ∷ rest) w = below_at n (IsWeak c 1 1) x x rest (leads_closed n c x rest w)
+closed_observed n c (x ∷ rest) w = below_at n (IsWeak c) x x rest (leads_closed n c x rest w)
 
-pub closed_weak : (n : ℕ) (c : ℕ → ℕ → ℕ) (walk : List ℕ) → IsClosedWalk n (IsWeak c 1 1) walk → StepsAreWeak c walk
+pub closed_weak : (n : ℕ) (c : ℕ → ℕ → ℕ) (walk : List ℕ) → IsClosedWalk n (IsWeak c) walk → StepsAreWeak c walk
 closed_weak n c [] w = absurd w.1
-closed_weak n c (x ∷ rest) w = λ k h. rw add-one (step_at n (IsWeak c 1 1) x x rest (leads_closed n c x rest w) k (omega arith))
+closed_weak n c (x ∷ rest) w = λ k h. rw add-one (step_at n (IsWeak c) x x rest (leads_closed n c x rest w) k (omega arith))
 
-pub closed_ends : (n : ℕ) (c : ℕ → ℕ → ℕ) (walk : List ℕ) → IsClosedWalk n (IsWeak c 1 1) walk → slice_index walk 0 ≡ slice_index walk (length walk - 1)
+pub closed_ends : (n : ℕ) (c : ℕ → ℕ → ℕ) (walk : List ℕ) → IsClosedWalk n (IsWeak c) walk → slice_index walk 0 ≡ slice_index walk (length walk - 1)
 closed_ends n c [] w = absurd w.1
 closed_ends n c (x ∷ rest) w =
     let p : length rest ≡ suc (length rest) - 1 = omega arith in
-    subst (λ k. x ≡ slice_index (x ∷ rest) k) p (sym (ends_at n (IsWeak c 1 1) x x rest (leads_closed n c x rest w)))
+    subst (λ k. x ≡ slice_index (x ∷ rest) k) p (sym (ends_at n (IsWeak c) x x rest (leads_closed n c x rest w)))
 
 pub weak_cycle_by_places : (n : ℕ) (c : ℕ → ℕ → ℕ) (walk : List ℕ) → ClosesByPlaces n c walk → IsWeakCycle n c walk
 weak_cycle_by_places n c walk h = record { few = h.few; closed = closed_by_places n c walk (omega (arith, h.some)) h.observed h.weak h.ends }
@@ -97,11 +97,11 @@ one_entry_swapped c (s ∷ rest) = refl
 
 -- ---- the ratio of a closed walk, from the two sums
 
-pub swapped_within : (n : ℕ) (c : ℕ → ℕ → ℕ) (walk : List ℕ) → IsClosedWalk n (IsWeak c 1 1) walk → walk_swapped c walk ≤ walk_spent c walk
+pub swapped_within : (n : ℕ) (c : ℕ → ℕ → ℕ) (walk : List ℕ) → IsClosedWalk n (IsWeak c) walk → walk_swapped c walk ≤ walk_spent c walk
 swapped_within n c [] w = absurd w.1
 swapped_within n c (x ∷ rest) w = swapped_at_most n c x w.0 rest w.1.1
 
-pub ratio_by_sums : (n : ℕ) (c : ℕ → ℕ → ℕ) (walk : List ℕ) (num den spent swapped gained : ℕ) → IsClosedWalk n (IsWeak c 1 1) walk
+pub ratio_by_sums : (n : ℕ) (c : ℕ → ℕ → ℕ) (walk : List ℕ) (num den spent swapped gained : ℕ) → IsClosedWalk n (IsWeak c) walk
     → spent ≡ walk_spent c walk → swapped ≡ walk_swapped c walk → gained + swapped ≡ spent → (gained * den ≡ num * spent) ↔ HasPumpRatio c num den walk
 ratio_by_sums n c [] num den spent swapped gained w e f g = absurd w.1
 ratio_by_sums n c (x ∷ rest) num den spent swapped gained w e f g = (λ h. from h, λ h. to h)

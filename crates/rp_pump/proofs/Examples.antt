@@ -47,11 +47,11 @@ round_has_a_half : HasPumpRatio round_of_three 1 2 (0 ∷ 1 ∷ 2 ∷ 0 ∷ [])
 unfolding round_of_three
 round_has_a_half = refl
 
-round_is_closed : IsClosedWalk 3 (IsWeak round_of_three 1 1) (0 ∷ 1 ∷ 2 ∷ 0 ∷ [])
+round_is_closed : IsClosedWalk 3 (IsWeak round_of_three) (0 ∷ 1 ∷ 2 ∷ 0 ∷ [])
 unfolding round_of_three
 round_is_closed = (0, (refl, (omega arith, omega arith, (omega arith, omega arith, (omega arith, omega arith, (omega arith, refl))))), omega arith)
 
-no_way_back : ¬ (IsWeak round_of_three 1 1 1 0)
+no_way_back : ¬ (IsWeak round_of_three 1 0)
 unfolding round_of_three
 no_way_back h = absurd (omega arith)
 
@@ -66,7 +66,7 @@ round_index = record {
   greatest = none_greater 3 round_of_three 1 2 no_value bounds;
 }
   where
-    bounds : (s t : ℕ) → s < 3 → t < 3 → s ≢ t → IsWeak round_of_three 1 1 s t → no_value t ≤ℤ (no_value s +ℤ excess round_of_three 1 2 s t)
+    bounds : (s t : ℕ) → s < 3 → t < 3 → s ≢ t → IsWeak round_of_three s t → no_value t ≤ℤ (no_value s +ℤ excess round_of_three 1 2 s t)
     bounds zero zero hs ht d weak = absurd (d refl)
     bounds zero (suc zero) hs ht d weak = omega (arith, ints)
     bounds zero (suc (suc zero)) hs ht d weak = omega (arith, ints)
@@ -106,7 +106,7 @@ mixed_index = record {
   greatest = none_greater 2 mixed 1 6 mixed_value bounds;
 }
   where
-    bounds : (s t : ℕ) → s < 2 → t < 2 → s ≢ t → IsWeak mixed 1 1 s t → mixed_value t ≤ℤ (mixed_value s +ℤ excess mixed 1 6 s t)
+    bounds : (s t : ℕ) → s < 2 → t < 2 → s ≢ t → IsWeak mixed s t → mixed_value t ≤ℤ (mixed_value s +ℤ excess mixed 1 6 s t)
     bounds zero zero hs ht d weak = absurd (d refl)
     bounds zero (suc zero) hs ht d weak = omega (arith, ints)
     bounds (suc zero) zero hs ht d weak = omega (arith, ints)

@@ -72,7 +72,7 @@ at_most_zero z h = omega (arith, ints)
 -- a closed walk of weak steps whose ratio is above num/den
 pub record IsGreater (n : ℕ) (c : ℕ → ℕ → ℕ) (num den : ℕ) (walk : List ℕ) : Type 0 where
   pub few : length walk ≤ n + 1
-  pub closed : IsClosedWalk n (IsWeak c 1 1) walk
+  pub closed : IsClosedWalk n (IsWeak c) walk
   pub greater : num * walk_spent c walk + walk_swapped c walk * den < walk_spent c walk * den
 
 module _ (n : ℕ) (c : ℕ → ℕ → ℕ) (num den : ℕ) (small : (s t : ℕ) → IsSmall (added c num den s t)) (few : n * bound < 2 ^ 121) where
@@ -87,7 +87,7 @@ module _ (n : ℕ) (c : ℕ → ℕ → ℕ) (num den : ℕ) (small : (s t : ℕ
   greater_by first (t ∷ u ∷ rest) within simple some closed negative =
       let rows = mul-le-mul_right {m = length (t ∷ u ∷ rest)} {n = n} bound (omega (arith, simple.few)) in
       let leads = low_is_weak n c num den small first (t ∷ u ∷ rest) within.begins_within within.goes_within (omega (arith, rows, few)) (at_most_zero (added_along (added c num den) first (t ∷ u ∷ rest)) negative) in
-      let round = subst (λ e. LeadsTo n (IsWeak c 1 1) first e (t ∷ u ∷ rest)) closed leads in
+      let round = subst (λ e. LeadsTo n (IsWeak c) first e (t ∷ u ∷ rest)) closed leads in
       let differ : StepsDiffer first (t ∷ u ∷ rest) = (
         simple.distinct 0 1 (omega arith) (omega arith),
         differ_from first t u rest (λ i j l h. simple.distinct (suc i) (suc j) (omega arith) (omega arith)) (λ i h p. simple.distinct 0 (suc i) (omega arith) (omega arith) (sym p)) closed,
@@ -163,7 +163,7 @@ at_most_den p q spent gained some few is = go (cases_lt q p)
         let b = mul-le-mul_right {m = gained} {n = spent} q few in
         absurd (omega (arith, a, b, is))
 
-pub some_walk_spent : (n : ℕ) (c : ℕ → ℕ → ℕ) (walk : List ℕ) → ((s : ℕ) → s < n → 0 < c s s) → IsClosedWalk n (IsWeak c 1 1) walk → 0 < walk_spent c walk
+pub some_walk_spent : (n : ℕ) (c : ℕ → ℕ → ℕ) (walk : List ℕ) → ((s : ℕ) → s < n → 0 < c s s) → IsClosedWalk n (IsWeak c) walk → 0 < walk_spent c walk
 some_walk_spent n c [] costs w = absurd w.1
 some_walk_spent n c (x ∷ rest) costs w = some_spent n c costs x w.0 rest w.1.1 (omega (arith, w.2))
 

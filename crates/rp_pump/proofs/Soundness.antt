@@ -50,7 +50,7 @@ at_most_to g spent swapped num den split h =
 -- ---- weak steps
 
 abbrev pub Weak : (ℕ → ℕ → ℕ) → ℕ → ℕ → Type 0
-Weak c = IsWeak c 1 1
+Weak c = IsWeak c
 
 pub swapped_at_most : (n : ℕ) (c : ℕ → ℕ → ℕ) (s t : ℕ) (rest : List ℕ) → LeadsTo n (Weak c) s t rest → swapped_from c s rest ≤ spent_from c s rest
 swapped_at_most n c s t [] h = omega arith
@@ -86,8 +86,8 @@ to_itself u num den spent =
 nothing_more : (u : ℤ) (num den : ℕ) → u ≤ℤ (u +ℤ (pos (num * 0) -ℤ (pos 0 *ℤ pos den)))
 nothing_more u num den = omega (arith, ints)
 
-module _ (n : ℕ) (c : ℕ → ℕ → ℕ) (num den : ℕ) (value : ℕ → ℤ) (bounds : (s t : ℕ) → s < n → t < n → s ≢ t → IsWeak c 1 1 s t → value t ≤ℤ (value s +ℤ excess c num den s t)) where
-  one_bound : (s t : ℕ) → s < n → t < n → IsWeak c 1 1 s t → value t ≤ℤ (value s +ℤ excess c num den s t)
+module _ (n : ℕ) (c : ℕ → ℕ → ℕ) (num den : ℕ) (value : ℕ → ℤ) (bounds : (s t : ℕ) → s < n → t < n → s ≢ t → IsWeak c s t → value t ≤ℤ (value s +ℤ excess c num den s t)) where
+  one_bound : (s t : ℕ) → s < n → t < n → IsWeak c s t → value t ≤ℤ (value s +ℤ excess c num den s t)
   one_bound s t hs ht weak = go (cases_eq s t)
     where
       go : (s ≡ t) ⊎ (¬ (s ≡ t)) → value t ≤ℤ (value s +ℤ excess c num den s t)
@@ -100,7 +100,7 @@ module _ (n : ℕ) (c : ℕ → ℕ → ℕ) (num den : ℕ) (value : ℕ → �
       joined (value s) (value x) (value t) (gain c s x) (gain_from c x rest) num den (c s s) (spent_from c x rest)
       (one_bound s x h.0 (starts_below n (Weak c) x t rest h.2) h.1) (bound_along x t rest h.2)
 
-  pub none_greater : (walk : List ℕ) → IsClosedWalk n (IsWeak c 1 1) walk → PumpsAtMost c num den walk
+  pub none_greater : (walk : List ℕ) → IsClosedWalk n (IsWeak c) walk → PumpsAtMost c num den walk
   none_greater [] w = absurd w.1
   none_greater (x ∷ rest) w =
       let leads = subst (λ s. LeadsTo n (Weak c) x s rest) (sym w.1.0) w.1.1 in
@@ -118,15 +118,15 @@ index_of n c part h = record {
 
 -- ---- above 0 exactly where the axiom fails
 
-strict_step : (n : ℕ) (c : ℕ → ℕ → ℕ) (s t : ℕ) (rest : List ℕ) → LeadsTo n (Weak c) s t rest → swapped_from c s rest < spent_from c s rest → HasStepFrom (IsStrict c 1 1) s rest
+strict_step : (n : ℕ) (c : ℕ → ℕ → ℕ) (s t : ℕ) (rest : List ℕ) → LeadsTo n (Weak c) s t rest → swapped_from c s rest < spent_from c s rest → HasStepFrom (IsStrict c) s rest
 strict_step n c s t [] h less = absurd (omega arith)
 strict_step n c s t (x ∷ rest) h less = go (strict_step n c x t rest h.2) (cases_lt (c s x) (c s s))
   where
-    go : (swapped_from c x rest < spent_from c x rest → HasStepFrom (IsStrict c 1 1) x rest) → (c s x < c s s) ⊎ (c s s ≤ c s x) → HasStepFrom (IsStrict c 1 1) s (x ∷ rest)
+    go : (swapped_from c x rest < spent_from c x rest → HasStepFrom (IsStrict c) x rest) → (c s x < c s s) ⊎ (c s s ≤ c s x) → HasStepFrom (IsStrict c) s (x ∷ rest)
     go further (inl l) = inl (omega arith)
     go further (inr l) = inr (further (omega (arith, less, l)))
 
-less_swapped : (n : ℕ) (c : ℕ → ℕ → ℕ) (s t : ℕ) (rest : List ℕ) → LeadsTo n (Weak c) s t rest → HasStepFrom (IsStrict c 1 1) s rest → swapped_from c s rest < spent_from c s rest
+less_swapped : (n : ℕ) (c : ℕ → ℕ → ℕ) (s t : ℕ) (rest : List ℕ) → LeadsTo n (Weak c) s t rest → HasStepFrom (IsStrict c) s rest → swapped_from c s rest < spent_from c s rest
 less_swapped n c s t [] h strict = absurd strict
 less_swapped n c s t (x ∷ rest) h (inl l) =
     let more = swapped_at_most n c x t rest h.2 in
@@ -146,18 +146,18 @@ some_gain num spent swapped den positive some h =
     let product : 1 ≤ num * spent = one-le-mul positive some in
     lt_of_mul-lt-mul_right den (omega (arith, product, h))
 
-pub pumps_where_garp_fails : (n : ℕ) (c : ℕ → ℕ → ℕ) (num den : ℕ) → ((s : ℕ) → s < n → 0 < c s s) → IsPumpIndex n c num den → (0 < num) ↔ FailsGarp n c 1 1
+pub pumps_where_garp_fails : (n : ℕ) (c : ℕ → ℕ → ℕ) (num den : ℕ) → ((s : ℕ) → s < n → 0 < c s s) → IsPumpIndex n c num den → (0 < num) ↔ FailsGarp n c
 pumps_where_garp_fails n c num den costs index =
     (λ some. fails index.reached.0 some index.reached.1 index.reached.2, λ v. above v.0 v.1.0 v.1.1 (index.greatest v.0 v.1.0))
   where
-    fails : (walk : List ℕ) → 0 < num → IsClosedWalk n (IsWeak c 1 1) walk → HasPumpRatio c num den walk → FailsGarp n c 1 1
+    fails : (walk : List ℕ) → 0 < num → IsClosedWalk n (IsWeak c) walk → HasPumpRatio c num den walk → FailsGarp n c
     fails [] some w ratio = absurd w.1
     fails (x ∷ rest) some w ratio =
         let spent = some_spent n c costs x w.0 rest w.1.1 (omega (arith, w.2)) in
         let r = ratio_to (gain_from c x rest) (spent_from c x rest) (swapped_from c x rest) num den (gain_split c x rest) ratio in
         (x ∷ rest, (w, strict_step n c x w.0 rest w.1.1 (some_gain num (spent_from c x rest) (swapped_from c x rest) den some spent r)))
 
-    above : (walk : List ℕ) → (w : IsClosedWalk n (IsWeak c 1 1) walk) → HasStep (IsStrict c 1 1) walk → PumpsAtMost c num den walk → 0 < num
+    above : (walk : List ℕ) → (w : IsClosedWalk n (IsWeak c) walk) → HasStep (IsStrict c) walk → PumpsAtMost c num den walk → 0 < num
     above [] w strict most = absurd w.1
     above (x ∷ rest) w strict most =
         some_num num (spent_from c x rest) (swapped_from c x rest) den index.positive (less_swapped n c x w.0 rest w.1.1 strict)

@@ -161,20 +161,20 @@ great_here k z m j is_j is low = omega (arith, ints)
 
 module _ (n : ℕ) (c : ℕ → ℕ → ℕ) (num den : ℕ) (small : (s t : ℕ) → IsSmall (added c num den s t)) where
   pub weak_or_great : (s : ℕ) (rest : List ℕ) → s < n → All (λ t. t < n) rest
-      → LeadsTo n (IsWeak c 1 1) s (end_of s rest) rest ⊎ (pos (2 ^ 121) ≤ℤ (added_along (added c num den) s rest +ℤ pos (length rest * bound)))
+      → LeadsTo n (IsWeak c) s (end_of s rest) rest ⊎ (pos (2 ^ 121) ≤ℤ (added_along (added c num den) s rest +ℤ pos (length rest * bound)))
   weak_or_great s [] hs within = inl (hs, refl)
   weak_or_great s (t ∷ rest) hs within =
       go (weak_or_great t rest (within 0 t (omega arith)) (λ k d below. within (suc k) d (omega arith))) (cases_lt (c s s) (c s t))
     where
-      go : LeadsTo n (IsWeak c 1 1) t (end_of t rest) rest ⊎ (pos (2 ^ 121) ≤ℤ (added_along (added c num den) t rest +ℤ pos (length rest * bound)))
+      go : LeadsTo n (IsWeak c) t (end_of t rest) rest ⊎ (pos (2 ^ 121) ≤ℤ (added_along (added c num den) t rest +ℤ pos (length rest * bound)))
           → (c s s < c s t) ⊎ (c s t ≤ c s s)
-          → LeadsTo n (IsWeak c 1 1) s (end_of t rest) (t ∷ rest) ⊎ (pos (2 ^ 121) ≤ℤ ((added c num den s t +ℤ added_along (added c num den) t rest) +ℤ pos (suc (length rest) * bound)))
+          → LeadsTo n (IsWeak c) s (end_of t rest) (t ∷ rest) ⊎ (pos (2 ^ 121) ≤ℤ ((added c num den s t +ℤ added_along (added c num den) t rest) +ℤ pos (suc (length rest) * bound)))
       go (inl further) (inr l) = inl (hs, omega arith, further)
       go (inr great) (inr l) = inr (great_more (added c num den s t) (added_along (added c num den) t rest) (length rest * bound) (suc (length rest) * bound) (omega arith) (small s t).0 great)
       go any (inl l) = inr (great_here (added c num den s t) (added_along (added c num den) t rest) (length rest * bound) (suc (length rest) * bound) (omega arith) (added_great c num den s t l) (along_above n (added c num den) small t rest))
 
   -- weak steps add what the definition says
-  pub along_weak : (s t : ℕ) (rest : List ℕ) → LeadsTo n (IsWeak c 1 1) s t rest → added_along (added c num den) s rest ≡ total_from c num den s rest
+  pub along_weak : (s t : ℕ) (rest : List ℕ) → LeadsTo n (IsWeak c) s t rest → added_along (added c num den) s rest ≡ total_from c num den s rest
   along_weak s t [] h = refl
   along_weak s t (x ∷ rest) h =
       λ i. added_weak c num den s x (omega (arith, h.1)) i +ℤ along_weak x t rest h.2 i
@@ -183,9 +183,9 @@ not_great : (z : ℤ) (m : ℕ) → m < 2 ^ 121 → z ≤ℤ pos 0 → ¬ (pos (
 not_great z m few high great = absurd (omega (arith, ints))
 
 pub low_is_weak : (n : ℕ) (c : ℕ → ℕ → ℕ) (num den : ℕ) (small : (s t : ℕ) → IsSmall (added c num den s t)) (s : ℕ) (rest : List ℕ) → s < n → All (λ t. t < n) rest
-    → length rest * bound < 2 ^ 121 → added_along (added c num den) s rest ≤ℤ pos 0 → LeadsTo n (IsWeak c 1 1) s (end_of s rest) rest
+    → length rest * bound < 2 ^ 121 → added_along (added c num den) s rest ≤ℤ pos 0 → LeadsTo n (IsWeak c) s (end_of s rest) rest
 low_is_weak n c num den small s rest hs within few high = go (weak_or_great n c num den small s rest hs within)
   where
-    go : LeadsTo n (IsWeak c 1 1) s (end_of s rest) rest ⊎ (pos (2 ^ 121) ≤ℤ (added_along (added c num den) s rest +ℤ pos (length rest * bound))) → LeadsTo n (IsWeak c 1 1) s (end_of s rest) rest
+    go : LeadsTo n (IsWeak c) s (end_of s rest) rest ⊎ (pos (2 ^ 121) ≤ℤ (added_along (added c num den) s rest +ℤ pos (length rest * bound))) → LeadsTo n (IsWeak c) s (end_of s rest) rest
     go (inl leads) = leads
     go (inr great) = absurd (not_great (added_along (added c num den) s rest) (length rest * bound) few high great)

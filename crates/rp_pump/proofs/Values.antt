@@ -49,24 +49,24 @@ module _ (n : ℕ) (c : ℕ → ℕ → ℕ) (num den : ℕ) (small : (s t : ℕ
   pub least_pump_total : (s : ℕ) (z : ℤ) → s < n → IsLeast (sums n (added c num den)) s (whole_total z) → IsLeastPumpTotal n c num den s z
   least_pump_total s z hs least = record { reached = reached; lowest = λ t walk h. lowest t walk h }
     where
-      reached : (t : ℕ) × (walk : List ℕ) × IsWalk n (IsWeak c 1 1) t s walk × (walk_total c num den walk ≡ z)
+      reached : (t : ℕ) × (walk : List ℕ) × IsWalk n (IsWeak c) t s walk × (walk_total c num den walk ≡ z)
       reached =
           let r = short s z least in
           let t = r.3 in
           let e : added_along (added c num den) t.first t.rest ≡ z = sum_is n (added c num den) z r.1 t r.4 in
           let leads = low_is_weak n c num den small t.first t.rest t.walk.begins_within t.walk.goes_within (rows (length t.rest) (omega (arith, t.steps, r.2)))
           (subst (λ v. v ≤ℤ pos 0) (sym e) (at_most_zero s z hs least)) in
-          let to_s = subst (λ x. LeadsTo n (IsWeak c 1 1) t.first x t.rest) t.ends leads in
+          let to_s = subst (λ x. LeadsTo n (IsWeak c) t.first x t.rest) t.ends leads in
           (t.first, t.first ∷ t.rest, (refl, to_s), sym (along_weak n c num den small t.first s t.rest to_s) ∙ e)
 
-      lowest : (t : ℕ) (walk : List ℕ) → IsWalk n (IsWeak c 1 1) t s walk → z ≤ℤ walk_total c num den walk
+      lowest : (t : ℕ) (walk : List ℕ) → IsWalk n (IsWeak c) t s walk → z ≤ℤ walk_total c num den walk
       lowest t [] h = absurd h
       lowest t (x ∷ rest) h =
-          let any = leads_by_weaker n (IsWeak c 1 1) AnyStep (λ i j hi hj weak. tt) x s rest h.1 in
+          let any = leads_by_weaker n (IsWeak c) AnyStep (λ i j hi hj weak. tt) x s rest h.1 in
           let way = leads_to (sums n (added c num den)) x s rest any in
           subst (λ v. z ≤ℤ v) (along_weak n c num den small x s rest h.1) (sum_lowest n (added c num den) s z least x rest way.0 way.1)
 
-  pub step_bounds : (s t : ℕ) (zs zt : ℤ) → s < n → t < n → ¬ (s ≡ t) → IsWeak c 1 1 s t → IsLeast (sums n (added c num den)) s (whole_total zs)
+  pub step_bounds : (s t : ℕ) (zs zt : ℤ) → s < n → t < n → ¬ (s ≡ t) → IsWeak c s t → IsLeast (sums n (added c num den)) s (whole_total zs)
       → IsLeast (sums n (added c num den)) t (whole_total zt) → zt ≤ℤ (zs +ℤ excess c num den s t)
   step_bounds s t zs zt hs ht d weak at_s at_t =
       subst (λ k. zt ≤ℤ (zs +ℤ k)) (added_other c num den s t d ∙ other_weak c num den s t (omega (arith, weak)))

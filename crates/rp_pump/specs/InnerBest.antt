@@ -8,7 +8,7 @@ use Rattle.rp_pump.specs.MoneyPump.{HasPumpRatio}
 -- A closed walk of weak steps and its ratio in lowest terms.
 pub record IsBest (n : ℕ) (c : ℕ → ℕ → ℕ) (num den : ℕ) (walk : List ℕ) : Type 0 where
   pub few : length walk ≤ n + 1
-  pub closed : IsClosedWalk n (IsWeak c 1 1) walk
+  pub closed : IsClosedWalk n (IsWeak c) walk
   pub ratio : HasPumpRatio c num den walk
   pub positive : 1 ≤ den
   pub at_most_one : num ≤ den

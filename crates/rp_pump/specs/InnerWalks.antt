@@ -19,7 +19,7 @@ AreObserved n walk = (k : ℕ) → k < length walk → slice_index walk k < n
 
 -- Each step is weak.
 abbrev pub StepsAreWeak : (ℕ → ℕ → ℕ) → List ℕ → Type 0
-StepsAreWeak c walk = (k : ℕ) → k < length walk - 1 → IsWeak c 1 1 (slice_index walk k) (slice_index walk (k + 1))
+StepsAreWeak c walk = (k : ℕ) → k < length walk - 1 → IsWeak c (slice_index walk k) (slice_index walk (k + 1))
 
 -- A closed walk of weak steps, as many as there are observations at most, by its places.
 pub record ClosesByPlaces (n : ℕ) (c : ℕ → ℕ → ℕ) (walk : List ℕ) : Type 0 where

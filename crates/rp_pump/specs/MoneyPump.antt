@@ -39,5 +39,5 @@ PumpsAtMost c num den walk = (walk_gain c walk *ℤ pos den) ≤ℤ pos (num * w
 -- num/den is the greatest ratio of all closed walks of weak steps, however long: one has it, and none has more.
 pub record IsPumpIndex (n : ℕ) (c : ℕ → ℕ → ℕ) (num den : ℕ) : Type 0 where
   pub positive : 1 ≤ den
-  pub reached : (walk : List ℕ) × IsClosedWalk n (IsWeak c 1 1) walk × HasPumpRatio c num den walk
-  pub greatest : (walk : List ℕ) → IsClosedWalk n (IsWeak c 1 1) walk → PumpsAtMost c num den walk
+  pub reached : (walk : List ℕ) × IsClosedWalk n (IsWeak c) walk × HasPumpRatio c num den walk
+  pub greatest : (walk : List ℕ) → IsClosedWalk n (IsWeak c) walk → PumpsAtMost c num den walk

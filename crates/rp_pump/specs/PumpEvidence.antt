@@ -17,7 +17,7 @@ FitsPumpValue x = (neg_ℤ (pos (2 ^ 121)) ≤ℤ x) × (x ≤ℤ pos (2 ^ 121))
 -- The value of s bounds the step to t, where this is another observation and the step is weak.
 abbrev pub BoundsStep : (ℕ → ℕ → ℕ) → ℕ → ℕ → List ℤ → ℕ → ℕ → Type 0
 BoundsStep c num den values s t =
-    s ≢ t → IsWeak c 1 1 s t → value_at values t ≤ℤ (value_at values s +ℤ excess c num den s t)
+    s ≢ t → IsWeak c s t → value_at values t ≤ℤ (value_at values s +ℤ excess c num den s t)
 
 -- The value of s bounds every step from it.
 abbrev pub BoundsFrom : ℕ → (ℕ → ℕ → ℕ) → ℕ → ℕ → List ℤ → ℕ → Type 0
@@ -26,7 +26,7 @@ BoundsFrom n c num den values s = (t : ℕ) → t < n → BoundsStep c num den v
 -- A cycle as evidence: a closed walk of weak steps, as many as there are observations at most.
 pub record IsWeakCycle (n : ℕ) (c : ℕ → ℕ → ℕ) (walk : List ℕ) : Type 0 where
   pub few : length walk ≤ n + 1
-  pub closed : IsClosedWalk n (IsWeak c 1 1) walk
+  pub closed : IsClosedWalk n (IsWeak c) walk
 
 -- Values as evidence: one of each observation, within its width.
 pub record AreValues (n : ℕ) (values : List ℤ) : Type 0 where

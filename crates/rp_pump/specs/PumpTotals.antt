@@ -25,5 +25,5 @@ walk_total c num den (s ∷ rest) = total_from c num den s rest
 
 -- The number x is the least total of all walks of weak steps that end at s.
 pub record IsLeastPumpTotal (n : ℕ) (c : ℕ → ℕ → ℕ) (num den s : ℕ) (x : ℤ) : Type 0 where
-  pub reached : (t : ℕ) × (walk : List ℕ) × IsWalk n (IsWeak c 1 1) t s walk × (walk_total c num den walk ≡ x)
-  pub lowest : (t : ℕ) (walk : List ℕ) → IsWalk n (IsWeak c 1 1) t s walk → x ≤ℤ walk_total c num den walk
+  pub reached : (t : ℕ) × (walk : List ℕ) × IsWalk n (IsWeak c) t s walk × (walk_total c num den walk ≡ x)
+  pub lowest : (t : ℕ) (walk : List ℕ) → IsWalk n (IsWeak c) t s walk → x ≤ℤ walk_total c num den walk

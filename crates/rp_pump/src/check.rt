@@ -27,7 +27,7 @@ pub fn check_pump(costs: &Costs, part: &PumpPart) -> bool
     ensures index { IsTrue result
         → IsPumpIndex costs.now.n (cost_at costs.now) part.now.num part.now.den }
     ensures garp { IsTrue result
-        → (0 < part.now.num) ↔ FailsGarp costs.now.n (cost_at costs.now) 1 1 }
+        → (0 < part.now.num) ↔ FailsGarp costs.now.n (cost_at costs.now) }
 {
     let n = costs.n();
     prove!(n <= RECORDS);

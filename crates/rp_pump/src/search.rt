@@ -26,7 +26,7 @@ pub fn pump(alloc: Global, costs: &Costs) -> Result<PumpPart, NoMemory>
     ensures accepted { IfOk result (PumpHolds costs.now.n (cost_at costs.now)) }
     ensures resting { IfOk result (λ part. part.num ≡ 0 → part.cycle ≡ 0 ∷ 0 ∷ []) }
     ensures garp { IfOk result (λ part.
-        (0 < part.num) ↔ FailsGarp costs.now.n (cost_at costs.now) 1 1) }
+        (0 < part.num) ↔ FailsGarp costs.now.n (cost_at costs.now)) }
 {
     let n = costs.n();
     prove!(n <= RECORDS);

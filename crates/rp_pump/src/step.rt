@@ -10,7 +10,7 @@ use rp_table::Costs;
 pub(crate) fn is_weak(costs: &Costs, s: u32, t: u32) -> bool
     requires from { s < costs.now.n }
     requires to { t < costs.now.n }
-    ensures { IsTrue result ↔ IsWeak (cost_at costs.now) 1 1 s t }
+    ensures { IsTrue result ↔ IsWeak (cost_at costs.now) s t }
 {
     costs.cost(s, t) <= costs.cost(s, s)
 }

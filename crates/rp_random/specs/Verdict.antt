@@ -1,7 +1,7 @@
 -- What is given for random choices: by the run of the program of random utility (McFadden and Richter 1990; this
 -- program's own run).
 use Rattle.std.specs.Prelude.{ℕ, List}
-use Rattle.rp_mixture_program.specs.Verdict.{IsRunVerdict}
+use Rattle.rp_find_mixture.specs.Verdict.{IsRunVerdict}
 use Rattle.rp_evidence.specs.declared.random.RandomPart.{RandomPart}
 use Rattle.rp_patch.specs.Mixtures.{types_on}
 use Rattle.rp_patch.specs.Patches.{PatchList}

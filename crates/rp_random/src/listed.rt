@@ -5,7 +5,7 @@ ghost use Rattle.rp_patch.specs.Mixtures.{random_program};
 ghost use Rattle.rp_types.specs.Listed.{types_of};
 ghost use Rattle.rp_types.specs.declared.TheConstants.{TYPES};
 
-use rp_mixture_program::Listed;
+use rp_find_mixture::Listed;
 use rp_patch::Patches;
 use rp_types::Rational;
 

@@ -11,7 +11,7 @@ ghost use Rattle.rp_types.specs.declared.TheConstants.{TYPES};
 
 use crate::listed::ListedTypes;
 use rp_evidence::RandomPart;
-use rp_mixture_program::mixture;
+use rp_find_mixture::mixture;
 use rp_num::{NoMemory, Seq};
 use rp_patch::{Patches, patches_without_units_change_nothing};
 use rp_types::Rational;

@@ -12,8 +12,8 @@ use Rattle.rp_patch.specs.Choices.{random_input_of}
 use Rattle.rp_patch.specs.Patches.{IsPatchList, PatchList}
 use Rattle.rp_patch.specs.Units.{ArePatchesOf}
 use Rattle.rp_types.specs.declared.types.Rational.{Rational}
-use Rattle.rp_words.specs.CommandLine.{Arguments, file}
-use Rattle.rp_words.specs.declared.commands.FileSet.TheVariants as files
+use Rattle.rp_command_line.specs.CommandLine.{Arguments, file}
+use Rattle.rp_command_line.specs.declared.commands.FileSet.TheVariants as files
 use Rattle.rp_run.specs.ChoiceContents.{BudgetsIn, ChoicesIn, TypedPatchesOf}
 use Rattle.rp_run.specs.ChosenInFiles.{AreOfChoicesIn}
 use Rattle.rp_run.specs.Contents.{ContentsIn}

@@ -8,7 +8,7 @@ use Rattle.std.specs.Prelude.{unwrap_or}
 use Rattle.rp_evidence.specs.declared.certificate.Kind.{Kind}
 use Rattle.rp_table.specs.Tables.{Observations}
 use Rattle.rp_text.specs.Denotation.{table_in}
-use Rattle.rp_words.specs.CommandLine.{Line, files_of}
+use Rattle.rp_command_line.specs.CommandLine.{Line, files_of}
 use Rattle.rp_outside.specs.Known.{AreAll}
 use Rattle.rp_run.specs.Answers.{Files, AreContents, HasContents}
 use Rattle.rp_run.specs.Contents.{Denotes}

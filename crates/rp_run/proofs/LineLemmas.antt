@@ -1,9 +1,9 @@
 -- The files of a line by its set of files, the calls to read them through, and that its unit is in range.
 use Rattle.std.proofs.Common.{◌≡◌, ◌∙◌, ℕ, List, [], ◌∷◌, length, refl, ap, slice_index_or}
-use Rattle.rp_words.specs.CommandLine.{Line, file_at, file_set, files_of}
-use Rattle.rp_words.specs.CommandLine.{file_names, files_in}
-use Rattle.rp_words.specs.Ranges.{IsSized}
-use Rattle.rp_words.specs.declared.commands.FileSet.{FileSet}
+use Rattle.rp_command_line.specs.CommandLine.{Line, file_at, file_set, files_of}
+use Rattle.rp_command_line.specs.CommandLine.{file_names, files_in}
+use Rattle.rp_command_line.specs.Ranges.{IsSized}
+use Rattle.rp_command_line.specs.declared.commands.FileSet.{FileSet}
 use Rattle.rp_run.specs.Answers.{Files}
 use Rattle.rp_run.specs.Turns.{calls_of_each, calls_of_files}
 

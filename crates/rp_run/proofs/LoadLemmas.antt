@@ -4,9 +4,9 @@ use Rattle.std.proofs.Common.{◌≡◌, ◌⊎◌, ◌≤◌, ◌+◌, ◌∙�
 use Rattle.std.specs.Result.{IsErr, IsErrAnd}
 use Rattle.rp_outside.specs.Faults.{EachStays, NoneFalls}
 use Rattle.rp_outside.specs.Reads.{calls_through}
-use Rattle.rp_words.specs.CommandLine.{Line, file_at, file_names, file_set, files_in, files_of, takes_levels}
-use Rattle.rp_words.specs.Ranges.{IsSized}
-use Rattle.rp_words.specs.declared.commands.FileSet.{FileSet}
+use Rattle.rp_command_line.specs.CommandLine.{Line, file_at, file_names, file_set, files_in, files_of, takes_levels}
+use Rattle.rp_command_line.specs.Ranges.{IsSized}
+use Rattle.rp_command_line.specs.declared.commands.FileSet.{FileSet}
 use Rattle.rp_run.specs.Answers.{Files}
 use Rattle.rp_run.specs.InnerCauses.{HoldsValue, IsReadingCause}
 use Rattle.rp_run.specs.Contents.{ContentsIn, Denotes}

@@ -21,9 +21,9 @@ use Rattle.rp_run.specs.FaultLines.{file_line, patch_line, types_line}
 use Rattle.rp_run.specs.FaultTexts.{json_fault_text}
 use Rattle.rp_types.specs.Listed.{types_of}
 use Rattle.rp_types.specs.declared.types.Rational.{Rational}
-use Rattle.rp_words.specs.CommandLine.{Arguments, Line, file, file_set, takes_levels}
-use Rattle.rp_words.specs.declared.commands.FileSet.{FileSet}
-use Rattle.rp_words.specs.declared.commands.FileSet.TheVariants as files
+use Rattle.rp_command_line.specs.CommandLine.{Arguments, Line, file, file_set, takes_levels}
+use Rattle.rp_command_line.specs.declared.commands.FileSet.{FileSet}
+use Rattle.rp_command_line.specs.declared.commands.FileSet.TheVariants as files
 use Rattle.rp_run.specs.declared.contents.Contents.{Contents}
 use Rattle.rp_run.specs.declared.contents.Contents.TheVariants as contents
 use Rattle.rp_run.specs.ChoiceContents.{PatchesOf, TypedPatchesOf, TypesOf}

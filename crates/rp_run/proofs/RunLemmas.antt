@@ -2,10 +2,10 @@
 use Rattle.std.proofs.Common.{◌≡◌, ◌⊎◌, ◌<◌, inl, inr, List, [], length, ℕ, Option, Some, Ok, Err, sym, subst, refl}
 use Rattle.std.specs.List.{Contains}
 use Rattle.std.proofs.lemmas.List.Elements.{Contains-get_or}
-use Rattle.rp_words.specs.CommandLine.{Line, file_at, files_of}
-use Rattle.rp_words.specs.CommandLine.{Arguments}
-use Rattle.rp_words.specs.declared.commands.Command.{Command}
-use Rattle.rp_words.specs.declared.commands.Command.TheVariants.{Check, CheckRandom}
+use Rattle.rp_command_line.specs.CommandLine.{Line, file_at, files_of}
+use Rattle.rp_command_line.specs.CommandLine.{Arguments}
+use Rattle.rp_command_line.specs.declared.commands.Command.{Command}
+use Rattle.rp_command_line.specs.declared.commands.Command.TheVariants.{Check, CheckRandom}
 use Rattle.rp_run.specs.declared.contents.Contents.{Contents}
 use Rattle.rp_run.specs.declared.contents.Contents.TheVariants as contents
 use Rattle.rp_patch.proofs.Determined.{same_list}

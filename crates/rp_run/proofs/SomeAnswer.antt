@@ -6,9 +6,9 @@ use Rattle.rp_evidence.specs.declared.certificate.Kind.TheVariants.{Table as Tab
 use Rattle.rp_table.specs.Tables.{Observations}
 use Rattle.rp_cost.specs.Denotation.{asked_beside, tech_in}
 use Rattle.rp_text.specs.Denotation.{bundles_beside, prices_beside}
-use Rattle.rp_words.specs.CommandLine.{Arguments, Line, file, file_set, takes_levels}
-use Rattle.rp_words.specs.declared.commands.FileSet.{FileSet}
-use Rattle.rp_words.specs.declared.commands.FileSet.TheVariants as files
+use Rattle.rp_command_line.specs.CommandLine.{Arguments, Line, file, file_set, takes_levels}
+use Rattle.rp_command_line.specs.declared.commands.FileSet.{FileSet}
+use Rattle.rp_command_line.specs.declared.commands.FileSet.TheVariants as files
 use Rattle.rp_run.specs.declared.contents.Contents.{Contents}
 use Rattle.rp_run.specs.declared.contents.Contents.TheVariants as contents
 use Rattle.rp_run.specs.Contents.{ContentsIn, Denotes, HasNumbersAlone}

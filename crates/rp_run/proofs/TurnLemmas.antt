@@ -2,9 +2,9 @@
 use Rattle.std.proofs.Common.{◌≡◌, ◌⊎◌, ◌≤◌, ◌+◌, ℕ, zero, suc, Bool, List, [], ◌∷◌, Some, None, Option, Result, Ok, Err, inl, inr, length, sum, take, subst, arith, refl}
 use Rattle.std.specs.List.{fold}
 use Rattle.rp_outside.specs.Reads.{calls_through}
-use Rattle.rp_words.specs.CommandLine.{Arguments, Line, file_set, files_of, takes_levels}
-use Rattle.rp_words.specs.declared.commands.FileSet.{FileSet}
-use Rattle.rp_words.specs.declared.commands.FileSet.TheVariants.{Nothing}
+use Rattle.rp_command_line.specs.CommandLine.{Arguments, Line, file_set, files_of, takes_levels}
+use Rattle.rp_command_line.specs.declared.commands.FileSet.{FileSet}
+use Rattle.rp_command_line.specs.declared.commands.FileSet.TheVariants.{Nothing}
 use Rattle.rp_run.specs.declared.contents.Contents.{Contents}
 use Rattle.rp_run.specs.Answers.{Files}
 use Rattle.rp_run.specs.InnerCauses.{HoldsValue}

@@ -21,11 +21,11 @@ use Rattle.rp_answers.specs.PumpText.{IsPumpText}
 use Rattle.rp_answers.specs.CostText.{IsCostText}
 use Rattle.rp_answers.specs.PowerText.{IsPowerText}
 use Rattle.rp_answers.specs.Typed.{typed}
-use Rattle.rp_words.specs.CommandLine.{Arguments, Line, files_of, file_at, number}
-use Rattle.rp_words.specs.declared.commands.Command.{Command}
-use Rattle.rp_words.specs.declared.commands.Command.TheVariants.{Pairs, Analyse, Certify, Check, Demand, Welfare}
-use Rattle.rp_words.specs.declared.commands.Command.TheVariants.{Utility}
-use Rattle.rp_words.specs.declared.commands.Command.TheVariants.{Random, CheckRandom, Trial, Menus, Pump, Cost, Power}
+use Rattle.rp_command_line.specs.CommandLine.{Arguments, Line, files_of, file_at, number}
+use Rattle.rp_command_line.specs.declared.commands.Command.{Command}
+use Rattle.rp_command_line.specs.declared.commands.Command.TheVariants.{Pairs, Analyse, Certify, Check, Demand, Welfare}
+use Rattle.rp_command_line.specs.declared.commands.Command.TheVariants.{Utility}
+use Rattle.rp_command_line.specs.declared.commands.Command.TheVariants.{Random, CheckRandom, Trial, Menus, Pump, Cost, Power}
 use Rattle.rp_run.specs.declared.contents.Contents.{Contents}
 use Rattle.rp_run.specs.declared.contents.Contents.TheVariants as contents
 use Rattle.rp_run.specs.Contents.{Denotes}

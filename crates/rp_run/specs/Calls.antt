@@ -3,7 +3,7 @@
 use Rattle.std.specs.Prelude.{◌≡◌, ◌⊎◌, ◌≤◌, ℕ, List, Option, Some, None}
 use Rattle.rp_outside.specs.Faults.{EachStays, HasRisen, NoneFalls}
 use Rattle.rp_outside.specs.Known.{Stays, Grows, GrowsByPrefix}
-use Rattle.rp_words.specs.CommandLine.{Line}
+use Rattle.rp_command_line.specs.CommandLine.{Line}
 use Rattle.rp_answers.specs.declared.status.Status.{Status}
 use Rattle.rp_answers.specs.declared.status.Status.TheVariants.{Done, Rejected, Usage, WriteFault, NoMemory}
 use Rattle.rp_run.specs.Answers.{AnswersDenoted, Files, IsAcceptedOver, IsRejectedOver, MayBe, MustBe}

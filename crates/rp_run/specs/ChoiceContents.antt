@@ -15,7 +15,7 @@ use Rattle.rp_types.specs.declared.TheConstants.{COMBINATIONS, TYPES}
 use Rattle.rp_types.specs.declared.fault.TypesFault.{TypesFault}
 use Rattle.rp_types.specs.declared.fault.TypesFault.TheVariants as types_fault
 use Rattle.rp_types.specs.declared.types.Rational.{Rational}
-use Rattle.rp_words.specs.CommandLine.{Arguments}
+use Rattle.rp_command_line.specs.CommandLine.{Arguments}
 use Rattle.rp_run.specs.FaultLines.{patch_line, types_line}
 use Rattle.rp_run.specs.Readings.{AndThen, FileIn, Just, NumbersIn, Reading}
 

@@ -9,7 +9,7 @@ use Rattle.rp_patch.specs.Patches.{PatchList}
 use Rattle.rp_patch.specs.Units.{ArePatchesOf}
 use Rattle.rp_persons.specs.PersonMixtures.{IsFullRandomInput}
 use Rattle.rp_persons.specs.SaysRandom.{SaysOfChoices, SaysRandom}
-use Rattle.rp_words.specs.CommandLine.{Arguments}
+use Rattle.rp_command_line.specs.CommandLine.{Arguments}
 use Rattle.rp_run.specs.ChoiceContents.{BudgetsIn, ChoicesIn}
 
 -- The first file denotes budgets, the second choices from them, and the patches are theirs; no chosen bundle is empty; and

@@ -2,9 +2,9 @@
 -- on standard error with its cause.
 use Rattle.std.specs.Prelude.{◌≡◌, ◌<◌, ℕ, suc, List, Option, Some, Contains, length}
 use Rattle.rp_outside.specs.Faults.{HasRisen}
-use Rattle.rp_words.specs.CommandLine.{Line, file_at, files_of}
+use Rattle.rp_command_line.specs.CommandLine.{Line, file_at, files_of}
 use Rattle.rp_run.specs.Answers.{Files, RefusesWith}
-use Rattle.rp_words.specs.Usage.{usage_text}
+use Rattle.rp_command_line.specs.Usage.{usage_text}
 use Rattle.rp_run.specs.FaultLines.{read_line, write_line, memory_line}
 use Rattle.rp_answers.specs.declared.status.Status.{Status}
 use Rattle.rp_answers.specs.declared.status.Status.TheVariants.{Done, Rejected, Usage, ReadFault, Refused, WriteFault}

@@ -6,7 +6,7 @@ use Rattle.rp_json.specs.declared.fault.JsonFault.{JsonFault}
 use Rattle.rp_json.specs.declared.fault.JsonFault.TheVariants as json_fault
 use Rattle.rp_run.specs.FaultTexts.{fault_text, json_fault_text}
 use Rattle.rp_run.specs.MenuContents.{menu_fault_text}
-use Rattle.rp_words.specs.CommandLine.{Line, file_at, files_of}
+use Rattle.rp_command_line.specs.CommandLine.{Line, file_at, files_of}
 use Rattle.rp_run.specs.Readings.{Reading}
 use Rattle.rp_outside.specs.Known.{AreAll}
 use Rattle.rp_run.specs.Answers.{Files, RefusesWith}

@@ -6,8 +6,8 @@ use Rattle.rp_orders.specs.OrderMixtures.{AreUnitsOf}
 use Rattle.rp_evidence.specs.declared.certificate.Kind.TheVariants.{Table as TableKind, Random as RandomKind}
 use Rattle.rp_answers.specs.DemandText.{IsSpentOn}
 use Rattle.rp_answers.specs.Typed.{AreTyped, typed}
-use Rattle.rp_words.specs.declared.commands.FileSet.{FileSet}
-use Rattle.rp_words.specs.declared.commands.FileSet.TheVariants as files
+use Rattle.rp_command_line.specs.declared.commands.FileSet.{FileSet}
+use Rattle.rp_command_line.specs.declared.commands.FileSet.TheVariants as files
 use Rattle.rp_run.specs.declared.contents.Contents.{Contents}
 use Rattle.rp_run.specs.declared.contents.Contents.TheVariants as contents
 

@@ -4,7 +4,7 @@
 use Rattle.std.specs.Prelude.{◌≤◌, ℕ, ◌+◌, List, Result, IfOk, IfErr}
 use Rattle.rp_outside.specs.Faults.{EachStays, NoneFalls}
 use Rattle.rp_outside.specs.Reads.{calls_through}
-use Rattle.rp_words.specs.CommandLine.{Line, file_set, takes_levels}
+use Rattle.rp_command_line.specs.CommandLine.{Line, file_set, takes_levels}
 use Rattle.rp_run.specs.Answers.{Files, HasContents}
 use Rattle.rp_run.specs.InnerCauses.{IsCause, IsLoaded}
 use Rattle.rp_run.specs.InnerContents.{AreOf}

@@ -10,7 +10,7 @@ use Rattle.rp_evidence.specs.declared.certificate.Kind.{Kind}
 use Rattle.rp_json.specs.Denoted.{IsDenoted}
 use Rattle.rp_json.specs.declared.fault.JsonFault.{JsonFault}
 use Rattle.rp_json.specs.declared.fault.JsonFault.TheVariants as json_fault
-use Rattle.rp_words.specs.CommandLine.{Arguments, file}
+use Rattle.rp_command_line.specs.CommandLine.{Arguments, file}
 use Rattle.rp_run.specs.FaultTexts.{fault_text, json_fault_text}
 use Rattle.rp_run.specs.FaultLines.{file_line}
 use Rattle.rp_run.specs.declared.files.TheConstants.{MOST_BYTES, MOST_CERTIFICATE_BYTES}

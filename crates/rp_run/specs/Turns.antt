@@ -2,8 +2,8 @@
 -- and for no further one once a file was refused or could not be read (this program's own order).
 use Rattle.std.specs.Prelude.{◌≤◌, ℕ, ◌+◌, nat_lt, if◌then◌else◌, List, [], ◌∷◌, Option, None, Err, length, sum, take}
 use Rattle.rp_outside.specs.Reads.{calls_through}
-use Rattle.rp_words.specs.CommandLine.{Line, file_at, file_set, files_of, takes_levels}
-use Rattle.rp_words.specs.CommandLine.{Certificate, File, Numbers, files_in}
+use Rattle.rp_command_line.specs.CommandLine.{Line, file_at, file_set, files_of, takes_levels}
+use Rattle.rp_command_line.specs.CommandLine.{Certificate, File, Numbers, files_in}
 use Rattle.rp_run.specs.Answers.{Files}
 use Rattle.rp_run.specs.Contents.{ContentsIn}
 use Rattle.rp_run.specs.declared.files.TheConstants.{MOST_BYTES, MOST_CERTIFICATE_BYTES}

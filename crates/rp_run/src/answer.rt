@@ -4,11 +4,11 @@ ghost use Rattle.rp_run.specs.Answers.{Answers, AnswersLine, IsText};
 ghost use Rattle.rp_run.specs.InnerContents.{AreOf};
 ghost use Rattle.rp_run.specs.InnerLoadings.{LoadsLine};
 ghost use Rattle.rp_run.specs.declared.contents.Contents.TheVariants as contents;
-ghost use Rattle.rp_words.specs.CommandLine.{Arguments, file_set, takes_levels};
-ghost use Rattle.rp_words.specs.declared.commands.Command.TheVariants as commands;
-ghost use Rattle.rp_words.specs.declared.commands.FileSet.TheVariants as files;
-ghost use Rattle.rp_words.specs.Named.{named_arguments, named_line};
-ghost use Rattle.rp_words.specs.Ranges.{IsSized};
+ghost use Rattle.rp_command_line.specs.CommandLine.{Arguments, file_set, takes_levels};
+ghost use Rattle.rp_command_line.specs.declared.commands.Command.TheVariants as commands;
+ghost use Rattle.rp_command_line.specs.declared.commands.FileSet.TheVariants as files;
+ghost use Rattle.rp_command_line.specs.Named.{named_arguments, named_line};
+ghost use Rattle.rp_command_line.specs.Ranges.{IsSized};
 
 use crate::contents::{Contents, read_contents};
 use crate::files::Cause;
@@ -17,10 +17,10 @@ use rp_answers::{
     menus_text, pairs_text, power_text, pump_text, random_text, trial_text, utility_text,
     welfare_text,
 };
+use rp_command_line::{Command, Line};
 use rp_num::NoMemory;
 use rp_outside::Desk;
 use rp_table::Table;
-use rp_words::{Command, Line};
 use std::alloc::Global;
 
 /// The answer to a line over its files.

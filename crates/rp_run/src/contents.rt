@@ -7,10 +7,10 @@ ghost use Rattle.rp_evidence.specs.declared.certificate.Kind.TheVariants.{Table 
 ghost use Rattle.rp_evidence.specs.declared.certificate.Kind.TheVariants.{Random as RandomKind};
 ghost use Rattle.rp_orders.specs.OrderMixtures.{AreUnitsOf};
 ghost use Rattle.rp_table.specs.Tables.{goods_of};
-ghost use Rattle.rp_words.specs.CommandLine.{file_set};
-ghost use Rattle.rp_words.specs.Named.{named_line};
-ghost use Rattle.rp_words.specs.Ranges.{IsSized};
-ghost use Rattle.rp_words.specs.declared.commands.FileSet.TheVariants as files;
+ghost use Rattle.rp_command_line.specs.CommandLine.{file_set};
+ghost use Rattle.rp_command_line.specs.Named.{named_line};
+ghost use Rattle.rp_command_line.specs.Ranges.{IsSized};
+ghost use Rattle.rp_command_line.specs.declared.commands.FileSet.TheVariants as files;
 ghost use Rattle.rp_run.specs.InnerContents.{AreOf};
 ghost use Rattle.rp_run.specs.InnerLoadings.{AreContentsOf, LoadsLine};
 ghost use Rattle.rp_run.specs.declared.contents.Contents.TheVariants as contents;
@@ -23,6 +23,7 @@ use crate::number_files::{
     TechnologyFile, load_numbers,
 };
 use crate::patches::patches_of;
+use rp_command_line::{FileSet, Line};
 use rp_cost::{Asked, Tech};
 use rp_evidence::{Certificate, Kind};
 use rp_menu::Menus;
@@ -32,7 +33,6 @@ use rp_patch::Patches;
 use rp_patch::apportionment::Units;
 use rp_table::{Bundles, Prices, Table};
 use rp_types::Rational;
-use rp_words::{FileSet, Line};
 use std::alloc::Global;
 
 /// What the files of a line hold, by the set of files of its command.

@@ -3,10 +3,10 @@ ghost use Rattle.std.specs.Prelude.{◌≡◌, ℕ, Bool, List, Ok, Option, Resu
 ghost use Rattle.rp_evidence.specs.declared.certificate.Certificate.{Certificate};
 ghost use Rattle.rp_patch.specs.Patches.{PatchList};
 ghost use Rattle.rp_types.specs.declared.types.Rational.{Rational};
-ghost use Rattle.rp_words.specs.CommandLine.{Arguments, Line as Asked, file_set};
-ghost use Rattle.rp_words.specs.declared.commands.FileSet.TheVariants.{Choices};
-ghost use Rattle.rp_words.specs.declared.commands.FileSet.TheVariants.{ChoicesAndCertificate};
-ghost use Rattle.rp_words.specs.declared.commands.FileSet.TheVariants.{TableAndCertificate};
+ghost use Rattle.rp_command_line.specs.CommandLine.{Arguments, Line as Asked, file_set};
+ghost use Rattle.rp_command_line.specs.declared.commands.FileSet.TheVariants.{Choices};
+ghost use Rattle.rp_command_line.specs.declared.commands.FileSet.TheVariants.{ChoicesAndCertificate};
+ghost use Rattle.rp_command_line.specs.declared.commands.FileSet.TheVariants.{TableAndCertificate};
 ghost use Rattle.rp_run.specs.ChosenInFiles.{AreOfChoicesIn};
 ghost use Rattle.rp_run.specs.Contents.{ContentsIn, Denotes, HasNumbersAlone};
 ghost use Rattle.rp_run.specs.declared.contents.Contents.{Contents};

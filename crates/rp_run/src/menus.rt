@@ -1,9 +1,9 @@
 //! Choices from menus in a file, with the units of their cells.
 ghost use Rattle.std.specs.Prelude.{◌≡◌, ◌++◌, IfErr, IfOk, Ok, OnOk};
-ghost use Rattle.rp_words.specs.CommandLine.{file_set};
-ghost use Rattle.rp_words.specs.Named.{named_line};
-ghost use Rattle.rp_words.specs.Ranges.{IsSized, IsUnit};
-ghost use Rattle.rp_words.specs.declared.commands.FileSet.TheVariants as files;
+ghost use Rattle.rp_command_line.specs.CommandLine.{file_set};
+ghost use Rattle.rp_command_line.specs.Named.{named_line};
+ghost use Rattle.rp_command_line.specs.Ranges.{IsSized, IsUnit};
+ghost use Rattle.rp_command_line.specs.declared.commands.FileSet.TheVariants as files;
 ghost use Rattle.rp_run.specs.InnerCauses.{IsMenuRefusalOf, IsReadingCause, IsRefusal};
 ghost use Rattle.rp_run.specs.InnerLoadings.{AreContentsOf, LoadsFile, LoadsLine};
 ghost use Rattle.rp_run.specs.MenuContents as text;
@@ -13,12 +13,12 @@ ghost use Rattle.rp_run.specs.declared.files.TheConstants.{MOST_BYTES};
 use crate::contents::Contents;
 use crate::fault_text::{ordinal_line, push_cell, push_column, push_record};
 use crate::files::{Cause, load_bytes, refused};
+use rp_command_line::Line;
 use rp_menu::{MenuFault, Menus, read_menus};
 use rp_num::NoMemory;
 use rp_outside::Desk;
 use rp_patch::ApportionFault;
 use rp_patch::apportionment::{Units, apportion};
-use rp_words::Line;
 use std::alloc::Global;
 
 /// The choices from menus in one file, with the units of their cells.

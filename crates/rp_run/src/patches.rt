@@ -5,7 +5,7 @@ ghost use Rattle.rp_run.specs.InnerCauses.{IsPatchRefusal, IsReadingCause, IsTyp
 ghost use Rattle.rp_answers.specs.Typed.{AreTyped};
 ghost use Rattle.rp_answers.specs.Typed.{typed};
 ghost use Rattle.rp_run.specs.ChoiceContents.{TypedPatchesOf};
-ghost use Rattle.rp_words.specs.Ranges.{IsUnit};
+ghost use Rattle.rp_command_line.specs.Ranges.{IsUnit};
 
 use crate::fault_text::ordinal_line;
 use crate::files::Cause;

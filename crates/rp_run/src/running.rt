@@ -3,10 +3,10 @@ ghost use Rattle.std.specs.Prelude.{◌≡◌, ◌⊎◌, ◌≤◌, ℕ, List, 
 ghost use Rattle.clap.specs.Faults.{fault_of};
 ghost use Rattle.rp_outside.specs.Faults.{HasRisen};
 ghost use Rattle.rp_outside.specs.Known.{Stays, Grows, GrowsByPrefix};
-ghost use Rattle.rp_words.specs.CommandLine.{Line as Asked};
-ghost use Rattle.rp_words.specs.Words.{line_in};
-ghost use Rattle.rp_words.specs.Commands.{program};
-ghost use Rattle.rp_words.specs.Shapes.{HasShape, shape_of};
+ghost use Rattle.rp_command_line.specs.CommandLine.{Line as Asked};
+ghost use Rattle.rp_command_line.specs.Words.{line_in};
+ghost use Rattle.rp_command_line.specs.Commands.{program};
+ghost use Rattle.rp_command_line.specs.Shapes.{HasShape, shape_of};
 ghost use Rattle.rp_run.specs.Answers.{IsAccepted, IsRefused};
 ghost use Rattle.rp_run.specs.Calls.{AnswersUsage, AsksInTurn, GivesCheckVerdict, IsWritten};
 ghost use Rattle.rp_run.specs.Calls.{LeavesTheRest, TellsWhy};
@@ -20,8 +20,8 @@ use crate::answer::answer_line;
 use crate::files::Cause;
 use crate::telling::tell;
 use rp_answers::{Answer, Status};
+use rp_command_line::{read_line, usage};
 use rp_outside::{Desk, Sink, pour};
-use rp_words::{read_line, usage};
 use std::alloc::Global;
 
 /// Answers the words of a command line over the files of a desk. The answer goes to `out`, and the reason

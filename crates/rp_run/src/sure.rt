@@ -1,7 +1,7 @@
 //! A call of the program over an outside that never fails.
 ghost use Rattle.std.specs.Prelude.{◌≡◌, ◌⊎◌, Some};
-ghost use Rattle.rp_words.specs.CommandLine.{Line as Asked};
-ghost use Rattle.rp_words.specs.Words.{line_in};
+ghost use Rattle.rp_command_line.specs.CommandLine.{Line as Asked};
+ghost use Rattle.rp_command_line.specs.Words.{line_in};
 ghost use Rattle.rp_run.specs.Answers.{IsAccepted, IsRefused, all_known};
 ghost use Rattle.rp_run.specs.Calls.{AnswersUsage, AsksInTurn, GivesCheckVerdict, LeavesTheRest};
 ghost use Rattle.rp_run.specs.Endings.{IsEnd};

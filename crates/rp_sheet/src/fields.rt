@@ -36,9 +36,9 @@ pub fn read_field(
             units: 0,
             places: 0,
         }),
-        Role::Price | Role::OutputPrice => priced(measured(text, row, column), row, column),
-        Role::Quantity | Role::Output => measured(text, row, column),
-        Role::Expenditure | Role::Income => measured(text, row, column),
+        Role::Price | Role::OutputPrice => check_price(measure(text, row, column), row, column),
+        Role::Quantity | Role::Output => measure(text, row, column),
+        Role::Expenditure | Role::Income => measure(text, row, column),
         Role::Budget => from_one(
             budgets,
             TableFault::UnknownBudget { row },
@@ -54,7 +54,7 @@ pub fn read_field(
 }
 
 /// A number with at most six places.
-fn measured(text: &[u8], row: u32, column: u32) -> Result<Decimal, TableFault>
+fn measure(text: &[u8], row: u32, column: u32) -> Result<Decimal, TableFault>
     ensures { result ≡ Fields.measured (decimal_of text.now) row column }
 {
     match read_decimal(text) {
@@ -65,7 +65,11 @@ fn measured(text: &[u8], row: u32, column: u32) -> Result<Decimal, TableFault>
 }
 
 /// A price: a number that is not 0.
-fn priced(number: Result<Decimal, TableFault>, row: u32, column: u32) -> Result<Decimal, TableFault>
+fn check_price(
+    number: Result<Decimal, TableFault>,
+    row: u32,
+    column: u32,
+) -> Result<Decimal, TableFault>
     ensures { result ≡ Fields.priced number row column }
 {
     match number {

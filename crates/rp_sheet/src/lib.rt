@@ -18,7 +18,7 @@ pub use fields::read_field;
 pub use fixed_goods::check_goods;
 pub use goods::read_names;
 pub use headers::read_columns;
-pub use numbers::{column_numbers, narrowed, numbers_under};
+pub use numbers::{column_numbers, narrow, numbers_under};
 pub use records::Records;
 pub use sheet::{Sheet, check_count, read_sheet};
 pub use sizes::{places_of, read_sizes};

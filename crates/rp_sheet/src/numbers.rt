@@ -67,7 +67,7 @@ pub fn column_numbers(
 }
 
 /// The same numbers in fewer bits.
-pub fn narrowed(alloc: Global, numbers: &[u64]) -> Result<Vec<u32>, NoMemory>
+pub fn narrow(alloc: Global, numbers: &[u64]) -> Result<Vec<u32>, NoMemory>
     requires { All (λ n. n ≤ LARGEST) numbers.now }
     ensures { IfOk result (λ narrow. narrow.items ≡ numbers.now) }
 {

@@ -25,3 +25,4 @@ pub mod Growing
 pub mod Same
 pub mod Outcomes
 pub mod Examples
+pub mod RunBounds

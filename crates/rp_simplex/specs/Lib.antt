@@ -18,3 +18,4 @@ pub mod ReadProgram
 pub mod InnerReady
 pub mod InnerRows
 pub mod InnerPivot
+pub mod ProgramBound

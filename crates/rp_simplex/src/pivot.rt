@@ -22,7 +22,7 @@ fn cleared_denominator(t: &Stage, r: usize, c: usize) -> u128
 }
 
 /// The tableau after the pivot at row r and column c, or none where it passes the width.
-pub fn pivoted(t: Stage, r: usize, c: usize) -> Option<Stage>
+pub fn pivot_at(t: Stage, r: usize, c: usize) -> Option<Stage>
     requires pivot_row { r < t.rows }
     requires pivot_column { c < t.width }
     requires pivot_entry { pos 0 <ℤ (exact t).at r c }

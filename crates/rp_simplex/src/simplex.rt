@@ -7,7 +7,7 @@ ghost use Rattle.rp_simplex.specs.InnerReady.{IsReady};
 
 use crate::choice::leaving_row;
 use crate::outcome::Outcome;
-use crate::pivot::pivoted;
+use crate::pivot::pivot_at;
 use crate::pricing::entering_column;
 use crate::readout::{point, prices, ray};
 use crate::room::Room;
@@ -57,7 +57,7 @@ pub fn run(first: Stage, room: Room) -> Outcome
             };
         };
         step = step.saturating_add(1);
-        let Some(next) = pivoted(t, row, column) else {
+        let Some(next) = pivot_at(t, row, column) else {
             return Outcome::Wide { step };
         };
         t = next;

@@ -15,7 +15,7 @@ use Rattle.rp_support.specs.InnerMarks.{MarksEach, IsReachedFrom}
 module _ (input : TableInput) (budget : BudgetInput) where
   -- ---- what the closure tells
 
-  module _ (reached : Reached) (closed : IsClosureOf reached input.n (IsWeak input.cost 1 1)) (P : ℕ → Type 0) (starts : List Bool) (marks : MarksEach input.n P starts) where
+  module _ (reached : Reached) (closed : IsClosureOf reached input.n (IsWeak input.cost)) (P : ℕ → Type 0) (starts : List Bool) (marks : MarksEach input.n P starts) where
     reached_exactly : (t : ℕ) → t < input.n → IsReachedFrom reached starts t ↔ ((s : ℕ) × (s < input.n) × P s × EqualsOrReaches input s t)
     reached_exactly t t_in = (
       (λ h. let s_in : h.0 < input.n = omega (arith, h.1, closed.size) in (h.0, s_in, (marks.each h.0 s_in).0 h.2, there h.0 s_in h.3)),
@@ -34,18 +34,18 @@ module _ (input : TableInput) (budget : BudgetInput) where
     enumerates_reached Q same list lists =
         enumerates_same input.n (IsReachedFrom reached starts) Q (λ t t_in. ((λ h. (same t).0 ((reached_exactly t t_in).0 h)), (λ q. (reached_exactly t t_in).1 ((same t).1 q)))) list lists
 
-  pub lists_below : (reached : Reached) → IsClosureOf reached input.n (IsWeak input.cost 1 1) → (starts : List Bool) → MarksEach input.n (Buys input budget) starts
+  pub lists_below : (reached : Reached) → IsClosureOf reached input.n (IsWeak input.cost) → (starts : List Bool) → MarksEach input.n (Buys input budget) starts
       → (those : List ℕ) → Enumerates input.n (IsReachedFrom reached starts) those → ListsBelow input budget those
   lists_below reached closed starts marks those lists =
       enumerates_reached reached closed (Buys input budget) starts marks (IsBelow input budget) (below_exactly input budget) those lists
 
-  pub lists_strictly_below : (reached : Reached) → IsClosureOf reached input.n (IsWeak input.cost 1 1) → (starts : List Bool) → MarksEach input.n (IsStrictStart input budget) starts
+  pub lists_strictly_below : (reached : Reached) → IsClosureOf reached input.n (IsWeak input.cost) → (starts : List Bool) → MarksEach input.n (IsStrictStart input budget) starts
       → (those : List ℕ) → Enumerates input.n (IsReachedFrom reached starts) those → ListsStrictlyBelow input budget those
   lists_strictly_below reached closed starts marks those lists =
       enumerates_reached reached closed (IsStrictStart input budget) starts marks (IsStrictlyBelow input budget) (strictly_exactly input budget) those lists
 
   pub strict_start_decided : (below : List ℕ) → ListsBelow input budget below → (v : ℕ) (b : Bool) → ¬ BuysWithRest input budget v
-      → IsTrue b ↔ ((u : ℕ) × Contains below u × IsStrict input.cost 1 1 u v) → IsTrue b ↔ IsStrictStart input budget v
+      → IsTrue b ↔ ((u : ℕ) × Contains below u × IsStrict input.cost u v) → IsTrue b ↔ IsStrictStart input budget v
   strict_start_decided below lists v b none marks = (
     (λ h. let u = marks.0 h in let l = (lists.just_these u.0).0 u.1 in inr (u.0, l.0, l.1, u.2)),
     (λ h. elim h [

@@ -19,7 +19,7 @@ use Rattle.rp_farkas.specs.Listing.{numerator_at}
 use Rattle.rp_table.specs.Cost.{CostTable, IsCostsOf, cost_at, cost_of}
 use Rattle.rp_table.specs.NewPrices.{AreNewPrices}
 use Rattle.rp_table.specs.Tables.{IsTable, Observations, goods_of, price_of, records_of}
-use Rattle.rp_bound.specs.ProgramBound.{IsBoundOf}
+use Rattle.rp_simplex.specs.ProgramBound.{IsBoundOf}
 use Rattle.rp_support.specs.Bounds.{AreBoundsOf, AreMixed, Mixes}
 use Rattle.rp_support.proofs.SupportPrices.{support_bounds}
 
@@ -68,7 +68,7 @@ module _ (input : TableInput) (budget : BudgetInput) (g num den : ℕ) (value : 
 -- ---- the inner demand
 
 module _ (table : Observations) (prices : List ℕ) (m : ℕ) (valid : IsTable table) (new : AreNewPrices (goods_of table) prices)
-    (sound : MeetsGarp (records_of table) (cost_of table) 1 1) where
+    (sound : MeetsGarp (records_of table) (cost_of table)) where
   some_price : (t : ℕ) → t < records_of table → 0 < price_of table t 0
   some_price t t_in =
       let h = (valid.price_limits (t * goods_of table + 0) 0 (omega (arith, mul-add-lt t (goods_of table) 0 (records_of table) t_in (omega (arith, valid.some_goods)), valid.all_prices))).0 in
@@ -99,7 +99,7 @@ module _ (table : Observations) (prices : List ℕ) (m : ℕ) (valid : IsTable t
 
 -- ---- mixtures, and bounded programs
 
-module _ (input : TableInput) (budget : BudgetInput) (below : List ℕ) (lists : ListsBelow input budget below) (sound : MeetsGarp input.n input.cost 1 1)
+module _ (input : TableInput) (budget : BudgetInput) (below : List ℕ) (lists : ListsBelow input budget below) (sound : MeetsGarp input.n input.cost)
     (inner : FractionBundle) (kept : IsSupportingDemand input budget inner) where
   pub mixes : (right : ℕ → ℤ) (measure : (ℕ → ℕ) → ℕ) (bound : Bound) → IsBoundOf (demand_program input budget below right) measure bound → Mixes input budget inner bound
   mixes right measure (Shown value pair) is = λ k some.

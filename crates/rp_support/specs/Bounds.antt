@@ -1,7 +1,7 @@
 -- What is given as the bounds of goods: the price of each good that the runs of its two programs show (duality of
 -- linear programming as in Gale, Kuhn and Tucker 1951).
 use Rattle.std.specs.Prelude.{◌≡◌, ◌<◌, ℕ, List, length, slice_index, slice_index_or}
-use Rattle.rp_bound.specs.ProgramBound.{IsBoundOf}
+use Rattle.rp_simplex.specs.ProgramBound.{IsBoundOf}
 use Rattle.rp_evidence.specs.Demand.{BudgetInput, FractionBundle, IsSupportingDemand, mixed}
 use Rattle.rp_evidence.specs.DemandPrograms.{lower_program, upper_program}
 use Rattle.rp_evidence.specs.Input.{TableInput}

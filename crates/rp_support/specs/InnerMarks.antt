@@ -2,7 +2,7 @@
 -- (after Varian 1982). No definition and no public clause rests on these words.
 use Rattle.std.specs.Prelude.{◌≡◌, ◌<◌, ℕ, Bool, List, length}
 use Rattle.rp_pref.specs.Closure.{EqualsOrReachesIn, Reached}
-use Rattle.rp_rounds.specs.Marks.{AreMarked, IsMarked}
+use Rattle.rp_evidence.specs.Marks.{AreMarked, IsMarked}
 
 -- One truth value for each of n observations, and no more: whether P holds of it.
 pub record MarksEach (n : ℕ) (P : ℕ → Type 0) (marks : List Bool) : Type 0 where

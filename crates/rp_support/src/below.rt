@@ -80,7 +80,7 @@ fn some_strict(budget: &NewBudget, list: &[u32], v: u32) -> bool
     requires listed { All (λ u. u < records_of budget.now.at.table.now) list.now }
     requires observed { v < records_of budget.now.at.table.now }
     ensures { IsTrue result
-        ↔ ((u : ℕ) × Contains list.now u × IsStrict (cost_of budget.now.at.table.now) 1 1 u v) }
+        ↔ ((u : ℕ) × Contains list.now u × IsStrict (cost_of budget.now.at.table.now) u v) }
 {
     for u in list {
         if budget.at.cost(*u, v) < budget.at.cost(*u, *u) {

@@ -3,14 +3,14 @@ ghost use Rattle.rp_evidence.specs.Demand.{HasSupport};
 ghost use Rattle.rp_evidence.specs.DemandPrograms.{ListsBelow, lower_program, upper_program};
 ghost use Rattle.rp_table.specs.Tables.{goods_of};
 ghost use Rattle.rp_evidence.specs.InnerBudget.{input_of, new_budget};
-ghost use Rattle.rp_bound.specs.ProgramBound.{IsBoundOf};
+ghost use Rattle.rp_simplex.specs.ProgramBound.{IsBoundOf};
 ghost use Rattle.rp_support.specs.Bounds.{AreBoundsOf};
 
-use rp_bound::bound_of;
 use rp_evidence::{Bound, GoodBounds};
 use rp_farkas::Measure;
 use rp_num::NoMemory;
 use rp_programs::{LowerProgram, UpperProgram};
+use rp_simplex::bound_of;
 use rp_table::NewBudget;
 use std::alloc::Global;
 

@@ -2,7 +2,7 @@ ghost use Rattle.std.specs.Prelude.{◌≡◌, ◌<◌, ◌↔◌, ℕ, IfOk, If
 ghost use Rattle.rp_evidence.specs.Count.{AreCounts};
 ghost use Rattle.rp_evidence.specs.Demand.{Buys, IsInnerDemand};
 ghost use Rattle.rp_evidence.specs.DemandEvidence.{bundle_of};
-ghost use Rattle.rp_evidence.specs.Preference.{IsWeak};
+ghost use Rattle.rp_evidence.specs.Preference.{IsWeakAt};
 ghost use Rattle.rp_table.specs.Tables.{goods_of, records_of};
 ghost use Rattle.rp_evidence.specs.InnerBudget.{input_of, new_budget};
 ghost use Rattle.rp_support.specs.InnerStart.{IsBetter, IsStart, inner_numerator};
@@ -35,7 +35,7 @@ pub fn inner(alloc: Global, budget: &NewBudget, closure: &Closure) -> Result<Poi
 fn counts(alloc: Global, budget: &NewBudget, closure: &Closure) -> Result<Vec<u32>, NoMemory>
     requires { IsWeakClosureOf closure.now (input_of budget.now.at) }
     ensures { IfOk result (λ counts.
-        AreCounts (input_of budget.now.at).n (IsWeak (input_of budget.now.at).cost 1 1)
+        AreCounts (input_of budget.now.at).n (IsWeakAt (input_of budget.now.at).cost 1 1)
         counts.items) }
 {
     let mut counts = Vec::new(alloc);

@@ -62,7 +62,7 @@ pub fn demand_by_closure(
     requires costs { IsCostsOf costs.now table.now }
     requires no_levels { table.now.levels ≡ [] }
     requires verdict { ProvesGarp costs.now.n (cost_at costs.now) verdict.now }
-    requires closes { IsClosureOf closure.now costs.now.n (IsWeak (cost_at costs.now) 1 1) }
+    requires closes { IsClosureOf closure.now costs.now.n (IsWeak (cost_at costs.now)) }
     requires prices { AreNewPrices (goods_of table.now) prices.now }
     requires spent { IsExpenditure m }
     ensures proves { IfOk result (λ part.
@@ -94,7 +94,7 @@ pub fn demand_by_closure(
 /// What is given where the table meets the axiom.
 fn bounds(alloc: Global, budget: &NewBudget, closure: &Closure) -> Result<DemandPart, NoMemory>
     requires sound { MeetsGarp (records_of budget.now.at.table.now)
-        (cost_of budget.now.at.table.now) 1 1 }
+        (cost_of budget.now.at.table.now) }
     requires closes { IsWeakClosureOf closure.now (input_of budget.now.at) }
     ensures proves { IfOk result (λ part.
         ProvesDemand (input_of budget.now.at) budget.now.at.prices.now budget.now.m part) }

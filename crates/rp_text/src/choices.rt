@@ -6,7 +6,7 @@ ghost use Rattle.rp_sheet.specs.Refusals.{RefusedAs};
 
 use rp_forms::Form;
 use rp_num::{NoMemory, Seq};
-use rp_sheet::{Columns, Records, TableFault, column_numbers, narrowed, numbers_under, read_sheet};
+use rp_sheet::{Columns, Records, TableFault, column_numbers, narrow, numbers_under, read_sheet};
 use rp_table::{BUDGETS, Budgets, CHOICES, Choices, Name};
 use std::alloc::Global;
 
@@ -65,7 +65,7 @@ fn fill_choices(
     let counts = column_numbers(alloc, columns, b"n", sizes)?;
     let budget = from_zero(alloc, numbers.as_slice())?;
     let quantities = numbers_under(alloc, columns, b"q_", goods, sizes)?;
-    let times = narrowed(alloc, counts.as_slice())?;
+    let times = narrow(alloc, counts.as_slice())?;
     Ok(Choices::make(goods.len() as u32, budget, quantities, times))
 }
 

@@ -12,7 +12,7 @@ ghost use Rattle.rp_sheet.specs.Refusals.{RefusedAs};
 use crate::priced::priced_table;
 use rp_forms::Form;
 use rp_num::{Decimal, NoMemory, Seq};
-use rp_sheet::{Columns, Records, TableFault, column_numbers, narrowed, read_names, read_sheet};
+use rp_sheet::{Columns, Records, TableFault, column_numbers, narrow, read_names, read_sheet};
 use rp_table::{Name, RECORDS, Table};
 use std::alloc::Global;
 
@@ -78,5 +78,5 @@ fn own_levels(
         return Ok(None);
     }
     let numbers = column_numbers(alloc, columns, b"e", sizes)?;
-    Ok(Some(narrowed(alloc, numbers.as_slice())?))
+    Ok(Some(narrow(alloc, numbers.as_slice())?))
 }

@@ -1,8 +1,8 @@
 -- The lower bound from the bound of its program.
 use Rattle.std.proofs.Common.{◌≡◌, ◌<◌, ◌≤◌, ◌*◌, ℕ, ℤ, pos, ◌*ℤ◌, ◌≤ℤ◌, List, refl, subst, arith}
 use Rattle.std.proofs.lemmas.Int.{ints}
-use Rattle.rp_bound.specs.ProgramBound.{IsBoundOf, ShowsLeastCost}
-use Rattle.rp_bound.proofs.RunBounds.{same_measure}
+use Rattle.rp_simplex.specs.ProgramBound.{IsBoundOf, ShowsLeastCost}
+use Rattle.rp_simplex.proofs.RunBounds.{same_measure}
 use Rattle.rp_evidence.specs.Demand.{FractionBundle, spending}
 use Rattle.rp_evidence.specs.DemandEvidence.{ProvesLowerWelfare}
 use Rattle.rp_evidence.specs.Garp.{MeetsGarp}
@@ -29,7 +29,7 @@ cost_bound input prices reached bound is =
 
 module _ (input : TableInput) (prices : ℕ → ℕ) (t : ℕ) (reached : List ℕ) (lists : ListsReached input t reached) where
   -- the bundle of t is a feasible price vector
-  pub own_prices : t < input.n → MeetsGarp input.n input.cost 1 1 → HasFeasiblePrices (least_cost_program input prices reached)
+  pub own_prices : t < input.n → MeetsGarp input.n input.cost → HasFeasiblePrices (least_cost_program input prices reached)
   own_prices t_in sound =
       (1, input.quantity t, region_is_feasible input prices t reached lists (record { den = 1; num = input.quantity t }) (reaching_in_region input t t sound (equals input t t t_in refl)))
 
@@ -57,7 +57,7 @@ module _ (input : TableInput) (prices : ℕ → ℕ) (t : ℕ) (reached : List �
   least_proves (Wide step) least = tt
 
 -- the lower bound is at most the upper one: the bundle of the upper one lies in the region
-pub lower_at_most : (input : TableInput) (prices : ℕ → ℕ) (t s cost : ℕ) (bound : Bound) → MeetsGarp input.n input.cost 1 1 → IsUpperWelfare input prices t s cost → ProvesLowerWelfare input prices t bound → IsAtMost bound cost
+pub lower_at_most : (input : TableInput) (prices : ℕ → ℕ) (t s cost : ℕ) (bound : Bound) → MeetsGarp input.n input.cost → IsUpperWelfare input prices t s cost → ProvesLowerWelfare input prices t bound → IsAtMost bound cost
 lower_at_most input prices t s cost (Shown value pair) sound upper lower =
     let h = lower.none_less (record { den = 1; num = input.quantity s }) (reaching_in_region input s t sound upper.leads) in
     subst (λ (c : ℕ). value.num ≤ c * value.den) upper.costs (omega (arith, h))

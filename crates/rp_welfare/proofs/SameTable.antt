@@ -17,7 +17,7 @@ module _ (table : Observations) (costs : CostTable) (of : IsCostsOf costs table)
       garp_same (records_of table) (cost_at costs) (cost_of table) verdict agree
       (subst (λ n. ProvesGarp n (cost_at costs) verdict) of.size h)
 
-  pub meets_by_ranks : (verdict : Garp) (ranks : List ℕ) → ProvesGarp costs.n (cost_at costs) verdict → verdict ≡ Ranks ranks → MeetsGarp (records_of table) (cost_of table) 1 1
+  pub meets_by_ranks : (verdict : Garp) (ranks : List ℕ) → ProvesGarp costs.n (cost_at costs) verdict → verdict ≡ Ranks ranks → MeetsGarp (records_of table) (cost_of table)
   meets_by_ranks verdict ranks h e = (subst (λ (v : Garp). ProvesGarp (records_of table) (cost_of table) v) e (verdict_of_table verdict h)).1
 
   pub violates_by_cycle : (verdict : Garp) (walk : List ℕ) → ProvesGarp costs.n (cost_at costs) verdict → verdict ≡ Cycle walk → IsViolationAt (records_of table) (cost_of table) 1 1 walk

@@ -1,7 +1,7 @@
 -- What is given for the welfare bounds (after Varian 1982): the upper one where it is found first, and the lower one
 -- by the run of its program.
 use Rattle.std.specs.Prelude.{◌≡◌, ℕ, ◌*◌, ◌<◌, ◌≤◌, List, slice_index}
-use Rattle.rp_bound.specs.ProgramBound.{IsBoundOf}
+use Rattle.rp_simplex.specs.ProgramBound.{IsBoundOf}
 use Rattle.rp_evidence.specs.Demand.{spending}
 use Rattle.rp_evidence.specs.Garp.{MeetsGarp}
 use Rattle.rp_evidence.specs.Input.{TableInput}
@@ -29,7 +29,7 @@ pub record IsLowerBound (input : TableInput) (prices : ℕ → ℕ) (t : ℕ) (b
 
 -- Bounds, which are given where the axiom holds.
 pub record AreWelfareBounds (input : TableInput) (prices : ℕ → ℕ) (t upper at : ℕ) (lower : Bound) : Type 0 where
-  pub sound : MeetsGarp input.n input.cost 1 1
+  pub sound : MeetsGarp input.n input.cost
   pub cheapest : IsFirstCheapest input prices t at upper
   pub lower_is : IsLowerBound input prices t lower
 

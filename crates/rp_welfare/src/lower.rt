@@ -1,5 +1,5 @@
 ghost use Rattle.std.specs.Prelude.{◌<◌, ◌≤◌, All, IfOk, length, slice_index};
-ghost use Rattle.rp_bound.specs.ProgramBound.{IsBoundOf, ShowsLeastCost};
+ghost use Rattle.rp_simplex.specs.ProgramBound.{IsBoundOf, ShowsLeastCost};
 ghost use Rattle.rp_evidence.specs.DemandEvidence.{ProvesLowerWelfare};
 ghost use Rattle.rp_evidence.specs.Garp.{MeetsGarp};
 ghost use Rattle.rp_evidence.specs.Input.{input_of_table};
@@ -13,12 +13,12 @@ ghost use Rattle.rp_pref.specs.Closure.{IsWeakClosureOf};
 ghost use Rattle.rp_welfare.specs.Verdict.{IsLowerBound};
 
 use crate::reached::reached_from;
-use rp_bound::bound_of;
 use rp_evidence::Bound;
 use rp_farkas::Measure;
 use rp_num::NoMemory;
 use rp_pref::Closure;
 use rp_programs::LeastCostProgram;
+use rp_simplex::bound_of;
 use rp_table::NewPrices;
 use std::alloc::Global;
 
@@ -29,7 +29,7 @@ pub(crate) fn lower_bound(
     closure: &Closure,
     t: u32,
 ) -> Result<Bound, NoMemory>
-    requires sound { MeetsGarp (records_of new.now.table.now) (cost_of new.now.table.now) 1 1 }
+    requires sound { MeetsGarp (records_of new.now.table.now) (cost_of new.now.table.now) }
     requires closes { IsWeakClosureOf closure.now (input_of_table new.now.table.now) }
     requires observed { t < records_of new.now.table.now }
     ensures proves { IfOk result (λ bound. ProvesLowerWelfare (input_of_table new.now.table.now)

@@ -65,7 +65,7 @@ pub fn welfare_by_closure(
     requires costs { IsCostsOf costs.now table.now }
     requires no_levels { table.now.levels ≡ [] }
     requires verdict { ProvesGarp costs.now.n (cost_at costs.now) verdict.now }
-    requires closes { IsClosureOf closure.now costs.now.n (IsWeak (cost_at costs.now) 1 1) }
+    requires closes { IsClosureOf closure.now costs.now.n (IsWeak (cost_at costs.now)) }
     requires prices { AreNewPrices (goods_of table.now) prices.now }
     requires observed { t < costs.now.n }
     ensures proves { IfOk result

@@ -2,10 +2,9 @@ ghost use Rattle.std.specs.Prelude.{◌≡◌, []};
 ghost use Rattle.rp_table.specs.Cost.{IsCostsOf};
 
 use crate::powers::table_in;
-use rp_draws::{draw, generator};
 use rp_evidence::Garp;
 use rp_garp::garp;
-use rp_power::{drawn, power};
+use rp_power::{draw, drawn, generator, power};
 use rp_table::{Costs, Table};
 use rp_text::read_table;
 use std::alloc::Global;

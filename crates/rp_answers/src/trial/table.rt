@@ -2,14 +2,13 @@ ghost use Rattle.std.specs.Prelude.{◌≡◌, ◌+◌, ◌%◌, ◌≤◌, IfOk
 ghost use Rattle.rp_num.specs.Below.{listed};
 ghost use Rattle.rp_table.specs.declared.TheConstants.{RECORDS, GOODS};
 ghost use Rattle.rp_answers.specs.TrialTable.{trial_of, good_name};
-ghost use Rattle.rp_draws.specs.Words.{after_words, word_after};
+ghost use Rattle.rp_power.specs.Words.{after_words, word_after};
 ghost use Rattle.rp_answers.specs.TrialTable.{drawn_price};
 ghost use Rattle.rp_power.specs.Shares.{not_all_zero};
 
 use rand_pcg::Lcg64Xsh32;
-use rp_draws::{draw, generator};
 use rp_num::{NoMemory, print_u128};
-use rp_power::leave_not_all_zero;
+use rp_power::{draw, generator, leave_not_all_zero};
 use rp_table::{Name, Table};
 use std::alloc::Global;
 

@@ -70,20 +70,20 @@ module _ (n : ℕ) (c d : ℕ → ℕ → ℕ) (same : AgreeBelow n c d) where
 
   -- ---- over all walks
 
-  weak_is : (s t : ℕ) → s < n → t < n → IsWeak c 1 1 s t ↔ IsWeak d 1 1 s t
+  weak_is : (s t : ℕ) → s < n → t < n → IsWeak c s t ↔ IsWeak d s t
   weak_is = weak_same n c d 1 1 same
 
-  closed_same : (walk : List ℕ) → IsClosedWalk n (IsWeak c 1 1) walk → IsClosedWalk n (IsWeak d 1 1) walk
-  closed_same walk closed = (closed.0, walk_same n (IsWeak c 1 1) (IsWeak d 1 1) weak_is closed.0 closed.0 walk closed.1, closed.2)
+  closed_same : (walk : List ℕ) → IsClosedWalk n (IsWeak c) walk → IsClosedWalk n (IsWeak d) walk
+  closed_same walk closed = (closed.0, walk_same n (IsWeak c) (IsWeak d) weak_is closed.0 closed.0 walk closed.1, closed.2)
 
-  closed_back : (walk : List ℕ) → IsClosedWalk n (IsWeak d 1 1) walk → IsClosedWalk n (IsWeak c 1 1) walk
-  closed_back walk closed = (closed.0, walk_same_back n (IsWeak c 1 1) (IsWeak d 1 1) weak_is closed.0 closed.0 walk closed.1, closed.2)
+  closed_back : (walk : List ℕ) → IsClosedWalk n (IsWeak d) walk → IsClosedWalk n (IsWeak c) walk
+  closed_back walk closed = (closed.0, walk_same_back n (IsWeak c) (IsWeak d) weak_is closed.0 closed.0 walk closed.1, closed.2)
 
   index_same : (num den : ℕ) → IsPumpIndex n c num den → IsPumpIndex n d num den
   index_same num den index = record {
     positive = index.positive;
-    reached = (index.reached.0, closed_same index.reached.0 index.reached.1, ratio_same (IsWeak c 1 1) num den index.reached.0 index.reached.1 index.reached.2);
-    greatest = λ walk closed. at_most_same (IsWeak d 1 1) num den walk closed (index.greatest walk (closed_back walk closed));
+    reached = (index.reached.0, closed_same index.reached.0 index.reached.1, ratio_same (IsWeak c) num den index.reached.0 index.reached.1 index.reached.2);
+    greatest = λ walk closed. at_most_same (IsWeak d) num den walk closed (index.greatest walk (closed_back walk closed));
   }
 
   least_total_same : (num den s : ℕ) (x : ℤ) → IsLeastPumpTotal n c num den s x → IsLeastPumpTotal n d num den s x
@@ -91,12 +91,12 @@ module _ (n : ℕ) (c d : ℕ → ℕ → ℕ) (same : AgreeBelow n c d) where
     reached = (
       least.reached.0,
       least.reached.1,
-      walk_same n (IsWeak c 1 1) (IsWeak d 1 1) weak_is least.reached.0 s least.reached.1 least.reached.2,
-      sym (walk_total_same (IsWeak c 1 1) num den least.reached.0 s least.reached.1 least.reached.2) ∙ least.reached.3,
+      walk_same n (IsWeak c) (IsWeak d) weak_is least.reached.0 s least.reached.1 least.reached.2,
+      sym (walk_total_same (IsWeak c) num den least.reached.0 s least.reached.1 least.reached.2) ∙ least.reached.3,
     );
     lowest = λ t walk is.
-        subst (λ y. x ≤ℤ y) (walk_total_same (IsWeak d 1 1) num den t s walk is)
-        (least.lowest t walk (walk_same_back n (IsWeak c 1 1) (IsWeak d 1 1) weak_is t s walk is));
+        subst (λ y. x ≤ℤ y) (walk_total_same (IsWeak d) num den t s walk is)
+        (least.lowest t walk (walk_same_back n (IsWeak c) (IsWeak d) weak_is t s walk is));
   }
 
   totals_same : (part : PumpPart) → HasLeastPumpTotals n c part → HasLeastPumpTotals n d part
@@ -115,12 +115,12 @@ module _ (n : ℕ) (c d : ℕ → ℕ → ℕ) (same : AgreeBelow n c d) where
     num_fits = holds.num_fits;
     den_fits = holds.den_fits;
     cycle = record { few = holds.cycle.few; closed = closed_same part.cycle holds.cycle.closed };
-    ratio = ratio_same (IsWeak c 1 1) part.num part.den part.cycle holds.cycle.closed holds.ratio;
+    ratio = ratio_same (IsWeak c) part.num part.den part.cycle holds.cycle.closed holds.ratio;
     values = holds.values;
     bounds = λ s s_in. bounds_same part.num part.den part.values s s_in (holds.bounds s s_in);
   }
 
-fails_same : (n : ℕ) (c d : ℕ → ℕ → ℕ) → AgreeBelow n c d → FailsGarp n c 1 1 → FailsGarp n d 1 1
+fails_same : (n : ℕ) (c d : ℕ → ℕ → ℕ) → AgreeBelow n c d → FailsGarp n c → FailsGarp n d
 fails_same n c d same fails = (fails.0, violation_same n c d 1 1 same fails.0 fails.1)
 
 pump_answer_same : (n : ℕ) (c d : ℕ → ℕ → ℕ) (part : PumpPart) → AgreeBelow n c d → IsPumpAnswer n c part → IsPumpAnswer n d part

@@ -2,8 +2,8 @@ use Rattle.std.proofs.Common.{ℕ, ◌≡◌, ◌∙◌, ◌<◌, ◌≤◌, Lis
 use Rattle.std.proofs.lemmas.List.{get_or-map, length-map}
 use Rattle.std.specs.Borrow.{Bor}
 use Rattle.rp_outside.specs.NamedFile.{named_bytes}
-use Rattle.rp_words.specs.CommandLine.{file_at, files_of}
-use Rattle.rp_words.specs.Named.{named_line}
+use Rattle.rp_command_line.specs.CommandLine.{file_at, files_of}
+use Rattle.rp_command_line.specs.Named.{named_line}
 use Rattle.rp_call.specs.CallEndings.{AreGiven, IsFirstMissing}
 use Rattle.rp_call.specs.RunEndings.{TellsUnread}
 use Rattle.rp_call.proofs.GivenFacts.{line_ends, many_ends, no_name, unread_ends}

@@ -1,6 +1,6 @@
 use Rattle.std.proofs.Common.{◌≡◌, map, arith}
 use Rattle.rp_answers.specs.declared.status.Status.TheVariants.{NoMemory}
-use Rattle.rp_words.specs.Words.{line_in}
+use Rattle.rp_command_line.specs.Words.{line_in}
 use Rattle.rp_outside.specs.NamedFile.{named_bytes}
 use Rattle.rp_call.proofs.RunFacts.{ended_run}
 use Rattle.rp_call.proofs.running.run_over.Goals as goal

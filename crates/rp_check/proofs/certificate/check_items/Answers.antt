@@ -11,7 +11,7 @@ pub returns-in-Err-clause-first_failure : goal.returns-in-Err-clause-first_failu
 returns-in-Err-clause-first_failure c = (
   c.loop-k.k,
   omega arith,
-  c.capped.ensures,
+  c.cap.ensures,
   at_place (input_of_table c.args.table.now) c.args.items.now c.loop-k.k c.index-items-k.result c.loop-k.garp_shown
       (omega arith) c.index-items-k.is c.loop-k.invariant.0
       (Err c.in-Err.found) (rw c.new-input.ensures.of at c.in-Err.ensures),

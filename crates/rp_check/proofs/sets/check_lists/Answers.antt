@@ -2,7 +2,7 @@ use Rattle.std.proofs.Common.{ℕ, subst, sym, ◌∙◌}
 use Rattle.std.proofs.lemmas.Bool.{false≢true}
 use Rattle.rp_evidence.specs.InnerBudget.{input_of, new_budget}
 use Rattle.rp_evidence.specs.Enumeration.{Enumerates}
-use Rattle.rp_rounds.specs.Marks.{IsMarked}
+use Rattle.rp_evidence.specs.Marks.{IsMarked}
 use Rattle.rp_check.proofs.SetLists.{below_fails, lists_below, lists_strictly, strict_fails}
 use Rattle.rp_check.proofs.sets.check_lists.Goals as goal
 

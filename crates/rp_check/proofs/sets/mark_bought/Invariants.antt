@@ -1,7 +1,7 @@
 use Rattle.rp_evidence.specs.Demand.{Buys}
 use Rattle.rp_evidence.specs.DemandEvidence.{budget_of}
 use Rattle.rp_evidence.specs.Input.{input_of_table}
-use Rattle.rp_rounds.specs.Marks.{AreMarked}
+use Rattle.rp_evidence.specs.Marks.{AreMarked}
 use Rattle.rp_check.proofs.sets.mark_bought.Given as goal
 
 abbrev pub invariant-loop-s : goal.invariant-loop-s

@@ -2,7 +2,7 @@ use Rattle.std.proofs.Common.{arith, slice_index}
 use Rattle.rp_evidence.specs.declared.failure.Reason.TheVariants.{Least}
 use Rattle.rp_evidence.specs.InnerBudget.{input_of}
 use Rattle.rp_check.specs.WelfareFailure.{IsNotAboveAt}
-use Rattle.rp_patch.proofs.ClauseLemmas.{first_not}
+use Rattle.rp_evidence.proofs.ClauseLemmas.{first_not}
 use Rattle.rp_check.proofs.welfare.check_none_cheaper.Goals as goal
 
 pub returns-then-spending-upper : goal.returns-then-spending-upper

@@ -1,7 +1,7 @@
 use Rattle.std.proofs.Common.{ℕ, subst, take, arith, slice_index}
 use Rattle.rp_evidence.specs.InnerBudget.{input_of}
 use Rattle.rp_evidence.specs.Enumeration.{Enumerates}
-use Rattle.rp_rounds.specs.Marks.{IsMarked}
+use Rattle.rp_evidence.specs.Marks.{IsMarked}
 use Rattle.rp_check.proofs.SetLists.{few_of}
 use Rattle.rp_check.proofs.WelfareClauses.{lists_reached, lower_told}
 use Rattle.rp_check.proofs.welfare.lower_holds.Goals as goal

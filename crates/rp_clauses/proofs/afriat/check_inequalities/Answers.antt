@@ -3,7 +3,7 @@ use Rattle.rp_evidence.specs.declared.failure.Reason.TheVariants.{Order}
 use Rattle.rp_table.specs.Cost.{cost_of}
 use Rattle.rp_table.specs.Tables.{records_of}
 use Rattle.rp_clauses.specs.AfriatFailure.{AllowsAt}
-use Rattle.rp_patch.proofs.ClauseLemmas.{first_not}
+use Rattle.rp_evidence.proofs.ClauseLemmas.{first_not}
 use Rattle.rp_clauses.proofs.afriat.check_inequalities.Goals as goal
 
 pub returns-then-not-allows : goal.returns-then-not-allows

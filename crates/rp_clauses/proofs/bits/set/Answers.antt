@@ -1,5 +1,5 @@
 use Rattle.std.proofs.Common.{◌<◌, ◌/◌, arith, length, refl, get_or}
-use Rattle.rp_rounds.proofs.BitLemmas.{bit_set}
+use Rattle.rp_evidence.proofs.BitLemmas.{bit_set}
 use Rattle.rp_clauses.proofs.bits.set.Goals as goal
 
 pub returns : goal.returns

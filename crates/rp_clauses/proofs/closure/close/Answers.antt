@@ -1,5 +1,5 @@
 use Rattle.std.proofs.Common.{ℕ, ◌≡◌, arith, subst}
-use Rattle.rp_rounds.proofs.Rounds.{HasClosed, closed_more, closed_none}
+use Rattle.rp_evidence.proofs.Rounds.{HasClosed, closed_more, closed_none}
 use Rattle.rp_clauses.specs.InnerBits.{has_bit}
 use Rattle.rp_clauses.proofs.closure.close.Goals as goal
 

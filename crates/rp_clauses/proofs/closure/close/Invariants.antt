@@ -1,4 +1,4 @@
-use Rattle.rp_rounds.proofs.Rounds.{HasClosed}
+use Rattle.rp_evidence.proofs.Rounds.{HasClosed}
 use Rattle.rp_clauses.specs.InnerBits.{has_bit}
 use Rattle.rp_clauses.proofs.closure.close.Given as goal
 

@@ -1,5 +1,5 @@
 use Rattle.std.proofs.Common.{arith, length-set, sym, ◌∙◌, refl}
-use Rattle.rp_rounds.proofs.Rounds.{unreached_gone}
+use Rattle.rp_evidence.proofs.Rounds.{unreached_gone}
 use Rattle.rp_clauses.specs.InnerBits.{has_bit}
 use Rattle.rp_clauses.proofs.BitRows.{row_gone}
 use Rattle.rp_clauses.proofs.closure.go_through.Goals as goal

@@ -1,5 +1,5 @@
 use Rattle.std.proofs.Common.{◌≡◌, length}
-use Rattle.rp_rounds.proofs.Rounds.{HasGone}
+use Rattle.rp_evidence.proofs.Rounds.{HasGone}
 use Rattle.rp_clauses.specs.InnerBits.{has_bit}
 use Rattle.rp_clauses.proofs.closure.go_through.Given as goal
 

@@ -8,5 +8,5 @@ use Rattle.rp_clauses.proofs.closure.note_steps.Goals as goal
 pub loop-s-preserved : goal.loop-s-preserved
 loop-s-preserved c =
     let table = c.args.input.now.table.now in
-    noted_row 512 (records_of table) (IsWeak (cost_of table) 1 1) c.loop-s.rows c.loop-s.s c.loop-s.invariant
+    noted_row 512 (records_of table) (IsWeak (cost_of table)) c.loop-s.rows c.loop-s.s c.loop-s.invariant
     (omega (arith, c.loop-s-test.true, c.loop-s.auto.s-end, c.n-s-end.ensures.few)) c.steps_from.result c.steps_from.ensures

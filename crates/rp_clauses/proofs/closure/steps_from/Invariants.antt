@@ -4,4 +4,4 @@ use Rattle.rp_clauses.proofs.BitRows.{HasNoted}
 use Rattle.rp_clauses.proofs.closure.steps_from.Given as goal
 
 abbrev pub invariant-loop-t : goal.invariant-loop-t
-invariant-loop-t l = HasNoted (IsWeak (cost_of l.input.table.now) 1 1 l.s) l.row l.t
+invariant-loop-t l = HasNoted (IsWeak (cost_of l.input.table.now) l.s) l.row l.t

@@ -3,9 +3,9 @@ use Rattle.rp_evidence.specs.Preference.{IsLevel}
 use Rattle.rp_evidence.specs.declared.failure.Reason.TheVariants.{Level}
 use Rattle.rp_table.specs.Cost.{cost_of}
 use Rattle.rp_table.specs.Tables.{records_of}
-use Rattle.rp_patch.specs.Clauses.{Unless}
+use Rattle.rp_evidence.specs.Clauses.{Unless}
 use Rattle.rp_clauses.specs.EfficiencyFailure.{LevelFails}
-use Rattle.rp_patch.proofs.ClauseLemmas.{then_last}
+use Rattle.rp_evidence.proofs.ClauseLemmas.{then_last}
 use Rattle.rp_clauses.proofs.efficiency.check_efficiency.Goals as goal
 
 pub returns : goal.returns

@@ -2,8 +2,8 @@ use Rattle.std.proofs.Common.{◌≡◌, arith, length}
 use Rattle.rp_clauses.specs.GarpFailure.{RespectsAt}
 use Rattle.rp_clauses.specs.Standards.{StrictUnder, WeakUnder}
 use Rattle.rp_evidence.specs.declared.failure.Reason.TheVariants.{Order, Shape}
-use Rattle.rp_patch.specs.Clauses.{FirstUnless, Unless}
-use Rattle.rp_patch.proofs.ClauseLemmas.{first_not, then_last}
+use Rattle.rp_evidence.specs.Clauses.{FirstUnless, Unless}
+use Rattle.rp_evidence.proofs.ClauseLemmas.{first_not, then_last}
 use Rattle.rp_table.specs.Cost.{cost_of}
 use Rattle.rp_table.specs.Tables.{records_of}
 use Rattle.rp_clauses.proofs.garp.check_respecting_ranks.Goals as goal

@@ -2,7 +2,7 @@ use Rattle.std.proofs.Common.{arith}
 use Rattle.rp_table.specs.Cost.{cost_of}
 use Rattle.rp_table.specs.Tables.{records_of}
 use Rattle.rp_clauses.specs.HomotheticFailure.{StepsFail}
-use Rattle.rp_patch.proofs.ClauseLemmas.{first_found}
+use Rattle.rp_evidence.proofs.ClauseLemmas.{first_found}
 use Rattle.rp_clauses.proofs.homothetic.check_all_steps.Goals as goal
 
 pub returns-in_err-check_steps_from : goal.returns-in_err-check_steps_from

@@ -1,5 +1,5 @@
 use Rattle.std.proofs.Common.{IsTrue}
-use Rattle.rp_rounds.specs.Bits.{bit_in}
+use Rattle.rp_evidence.specs.Bits.{bit_in}
 use Rattle.rp_clauses.proofs.MarkLemmas.{IsTakenTo}
 use Rattle.rp_clauses.proofs.reach.mark_bits.Given as goal
 

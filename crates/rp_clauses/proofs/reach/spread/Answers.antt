@@ -11,5 +11,5 @@ reached_from-reached-requires c = omega (arith, c.requires.closure.size, c.requi
 pub returns : goal.returns
 returns c =
     let table = c.args.input.now.table.now in
-    spread_all (records_of table) (IsWeak (cost_of table) 1 1) c.args.marks.now c.mark_bits.new.marks c.reached_from-reached.result c.args.closure.now
+    spread_all (records_of table) (IsWeak (cost_of table)) c.args.marks.now c.mark_bits.new.marks c.reached_from-reached.result c.args.closure.now
     c.requires.closure (rw c.requires.closure.size at c.reached_from-reached.ensures) (rw c.n-n.ensures.count at c.mark_bits.ensures)

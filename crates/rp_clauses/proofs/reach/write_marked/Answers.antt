@@ -1,6 +1,6 @@
 use Rattle.std.proofs.Common.{refl, sym, ◌∙◌, arith}
 use Rattle.std.proofs.lemmas.Bool.{false≢true}
-use Rattle.rp_rounds.specs.Marks.{IsMarked}
+use Rattle.rp_evidence.specs.Marks.{IsMarked}
 use Rattle.rp_evidence.proofs.Enumerations.{enumerates_without, enumerates_written}
 use Rattle.rp_clauses.proofs.reach.write_marked.Goals as goal
 use Rattle.rp_clauses.proofs.reach.write_marked.Goals.{then-marks-t, else-marks-t}

@@ -1,6 +1,6 @@
 use Rattle.std.proofs.Common.{IfOk, ◌≡◌, slice_index, sym, subst, refl}
 use Rattle.std.proofs.lemmas.Result.{IfOk-weaker}
-use Rattle.rp_bound.specs.ProgramBound.{IsBoundOf, ShowsLeastCost}
+use Rattle.rp_simplex.specs.ProgramBound.{IsBoundOf, ShowsLeastCost}
 use Rattle.rp_evidence.specs.Input.{input_of_table}
 use Rattle.rp_farkas.specs.LinearProgram.{LinearProgram}
 use Rattle.rp_farkas.specs.Measure.{measured}

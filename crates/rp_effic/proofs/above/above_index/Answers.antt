@@ -1,6 +1,6 @@
 use Rattle.std.proofs.Common.{ℕ, List}
 use Rattle.std.proofs.lemmas.Result.{IfOk-weaker}
-use Rattle.rp_evidence.specs.Preference.{IsWeak}
+use Rattle.rp_evidence.specs.Preference.{IsWeakAt}
 use Rattle.rp_evidence.specs.Walk.{IsShortestWalk}
 use Rattle.rp_table.specs.Cost.{cost_at}
 use Rattle.rp_effic.specs.Verdict.{IsAbove}
@@ -19,5 +19,5 @@ returns c =
     let den = c.args.level.den in
     let s = c.in-Some.s in
     let first = c.in-Some.ensures in
-    IfOk-weaker c.shortest_weak_walk.result (λ (walk : List ℕ). IsShortestWalk n (IsWeak costs num den) s s walk) (λ walk. IsAbove n costs num den walk)
+    IfOk-weaker c.shortest_weak_walk.result (λ (walk : List ℕ). IsShortestWalk n (IsWeakAt costs num den) s s walk) (λ walk. IsAbove n costs num den walk)
     (λ walk h. above_one c.args.closure.now n costs num den c.requires.closed s walk c.if-level.false first.0 first.2 h) c.shortest_weak_walk.ensures

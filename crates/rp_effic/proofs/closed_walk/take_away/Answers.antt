@@ -1,6 +1,6 @@
 use Rattle.std.proofs.Common.{◌<◌, sym, ◌∙◌, arith}
 use Rattle.std.proofs.lemmas.Bool.{false≢true}
-use Rattle.rp_evidence.specs.Preference.{IsWeak}
+use Rattle.rp_evidence.specs.Preference.{IsWeakAt}
 use Rattle.rp_table.specs.Cost.{cost_at}
 use Rattle.rp_effic.proofs.LeftLemmas.{looked_past, looked_taken, taken}
 use Rattle.rp_effic.proofs.closed_walk.take_away.Goals as goal
@@ -11,7 +11,7 @@ loop-s-preserved c =
     let a = c.args in
     let l = c.loop-s in
     let n = a.costs.now.n in
-    let weak = IsWeak (cost_at a.costs.now) a.level.num a.level.den in
+    let weak = IsWeakAt (cost_at a.costs.now) a.level.num a.level.den in
     let starts = a.steps.now.starts.items in
     let to = a.steps.now.to.items in
     let inside : l.s < n = omega (arith, c.loop-s-test.true, c.n-s-end.ensures.count) in

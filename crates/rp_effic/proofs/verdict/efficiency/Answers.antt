@@ -1,5 +1,5 @@
 use Rattle.rp_evidence.specs.Count.{AreCounts}
-use Rattle.rp_evidence.specs.Preference.{IsStrict}
+use Rattle.rp_evidence.specs.Preference.{IsStrictAt}
 use Rattle.rp_evidence.proofs.Counts.{counts_order_steps}
 use Rattle.rp_evidence.proofs.Index.{no_strict_cycle}
 use Rattle.rp_evidence.proofs.IndexThreshold.{index_is_least, walk_at_index}
@@ -20,7 +20,7 @@ returns-clause-proves c =
     let costs = c.args.costs.now in
     let level = c.in_ok-level.level in
     let index = c.in_ok-level.ensures.index in
-    let strict = IsStrict (cost_at costs) level.num level.den in
+    let strict = IsStrictAt (cost_at costs) level.num level.den in
     let counts : AreCounts costs.n strict c.in_ok-below.below = counts_of c.in_ok-strict.strict costs.n strict c.in_ok-below.below c.in_ok-strict.ensures c.in_ok-below.ensures in
     record {
       index = index;
@@ -36,7 +36,7 @@ returns-clause-given c =
     let level = c.in_ok-level.level in
     record {
       level = c.in_ok-level.ensures.lowest;
-      below = counts_of c.in_ok-strict.strict costs.n (IsStrict (cost_at costs) level.num level.den) c.in_ok-below.below c.in_ok-strict.ensures c.in_ok-below.ensures;
+      below = counts_of c.in_ok-strict.strict costs.n (IsStrictAt (cost_at costs) level.num level.den) c.in_ok-below.below c.in_ok-strict.ensures c.in_ok-below.ensures;
       above = c.in_ok-above.ensures;
       at = c.in_ok-at.ensures.given;
     }

@@ -1,4 +1,4 @@
-use Rattle.rp_evidence.specs.Preference.{IsStrict, IsWeak}
+use Rattle.rp_evidence.specs.Preference.{IsStrictAt, IsWeakAt}
 use Rattle.rp_evidence.proofs.SameCosts.{strict_same, weak_same}
 use Rattle.rp_pref.proofs.SameVerdicts.{verdict_on_same}
 use Rattle.rp_garp.proofs.SameVerdicts.{own_garp_verdict_same}
@@ -10,7 +10,7 @@ returns-clause-of_a_preference g c = λ n verdict weak_is strict_is given.
 
 pub returns-clause-at_a_level : goal.returns-clause-at_a_level
 returns-clause-at_a_level g c = λ n num den costs other verdict same given.
-    verdict_on_same n (IsWeak costs num den) (IsStrict costs num den) (IsWeak other num den) (IsStrict other num den)
+    verdict_on_same n (IsWeakAt costs num den) (IsStrictAt costs num den) (IsWeakAt other num den) (IsStrictAt other num den)
     (weak_same n costs other num den same) (strict_same n costs other num den same) verdict given
 
 pub returns-clause-by_own_levels : goal.returns-clause-by_own_levels

@@ -8,6 +8,6 @@ use Rattle.rp_garp.proofs.meeting.meets_garp.Goals as goal
 pub returns-clause-without_levels : goal.returns-clause-without_levels
 returns-clause-without_levels c =
     let k = c.args.costs.now in
-    if_ok (λ holds. IsTrue holds ↔ HasNoViolation k.n (OwnWeak k) (OwnStrict k)) (λ holds. IsTrue holds ↔ MeetsGarp k.n (cost_at k) 1 1) (k.levels ≡ [])
+    if_ok (λ holds. IsTrue holds ↔ HasNoViolation k.n (OwnWeak k) (OwnStrict k)) (λ holds. IsTrue holds ↔ MeetsGarp k.n (cost_at k)) (k.levels ≡ [])
     (λ none holds told. let same = meets_at_one k.n (cost_at k) k.levels none in (λ h. same.0 (told.0 h), λ h. told.1 (same.1 h)))
     c.meets_garp_over.result c.meets_garp_over.ensures.holds

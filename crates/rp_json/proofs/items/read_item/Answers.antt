@@ -1,8 +1,8 @@
 use Rattle.std.proofs.Common.{subst}
 use Rattle.serde_json.specs.View.{view}
-use Rattle.rp_notation.specs.Reading.{IsFound}
+use Rattle.rp_json_entries.specs.Reading.{IsFound}
 use Rattle.rp_json.proofs.ItemReads.{found_random, no_random}
-use Rattle.rp_program_items.proofs.RandomReads.{FitsRandomOf, random_of}
+use Rattle.rp_json_programs.proofs.RandomReads.{FitsRandomOf, random_of}
 use Rattle.rp_json.proofs.items.read_item.Goals as goal
 
 pub returns-in-Some : goal.returns-in-Some

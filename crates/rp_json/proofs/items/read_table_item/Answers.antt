@@ -1,14 +1,14 @@
 use Rattle.std.proofs.Common.{subst}
 use Rattle.serde_json.specs.View.{view}
-use Rattle.rp_test_items.specs.AfriatValue.{afriat_value}
-use Rattle.rp_test_items.specs.EfficiencyValue.{efficiency_value}
-use Rattle.rp_test_items.specs.GarpValue.{garp_value}
-use Rattle.rp_test_items.specs.HomotheticValue.{homothetic_value}
-use Rattle.rp_test_items.specs.Limits.{FitsAfriat, FitsEfficiency, FitsGarp, FitsHomothetic, FitsQuasilinear}
-use Rattle.rp_test_items.specs.QuasilinearValue.{quasilinear_value}
-use Rattle.rp_notation.specs.Reading.{IsFound}
-use Rattle.rp_program_items.proofs.DemandReads.{FitsDemandOf, demand_of}
-use Rattle.rp_program_items.proofs.WelfareReads.{FitsWelfareOf, welfare_of}
+use Rattle.rp_json_tests.specs.AfriatValue.{afriat_value}
+use Rattle.rp_json_tests.specs.EfficiencyValue.{efficiency_value}
+use Rattle.rp_json_tests.specs.GarpValue.{garp_value}
+use Rattle.rp_json_tests.specs.HomotheticValue.{homothetic_value}
+use Rattle.rp_json_tests.specs.Limits.{FitsAfriat, FitsEfficiency, FitsGarp, FitsHomothetic, FitsQuasilinear}
+use Rattle.rp_json_tests.specs.QuasilinearValue.{quasilinear_value}
+use Rattle.rp_json_entries.specs.Reading.{IsFound}
+use Rattle.rp_json_programs.proofs.DemandReads.{FitsDemandOf, demand_of}
+use Rattle.rp_json_programs.proofs.WelfareReads.{FitsWelfareOf, welfare_of}
 use Rattle.rp_json.proofs.ItemReads.{found_afriat, found_demand, found_efficiency, found_garp, found_homothetic, found_quasilinear, found_welfare, no_table_item}
 use Rattle.rp_json.proofs.items.read_table_item.Goals as goal
 

@@ -3,9 +3,9 @@ use Rattle.std.proofs.lemmas.List.{take_all}
 use Rattle.serde_json.specs.View.{view}
 use Rattle.rp_json.specs.CertificateValue.{item_value}
 use Rattle.rp_json.specs.Denoted.{FitsKind}
-use Rattle.rp_notation.specs.Reading.{IsFound}
+use Rattle.rp_json_entries.specs.Reading.{IsFound}
 use Rattle.rp_json.proofs.ItemListLemmas.{all_items, first_no_item}
-use Rattle.rp_notation.proofs.ListLemmas.{AreSoFar, none_yet, one_read}
+use Rattle.rp_json_entries.proofs.ListLemmas.{AreSoFar, none_yet, one_read}
 use Rattle.rp_json.proofs.reading.read_items.Goals as goal
 
 pub loop-value-init : goal.loop-value-init

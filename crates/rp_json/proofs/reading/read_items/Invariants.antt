@@ -2,7 +2,7 @@ use Rattle.std.proofs.Common.{◌≡◌, ◌-◌, ◌^◌, min, map, take}
 use Rattle.serde_json.specs.View.{view}
 use Rattle.rp_json.specs.CertificateValue.{item_value}
 use Rattle.rp_json.specs.Denoted.{FitsKind}
-use Rattle.rp_notation.proofs.ListLemmas.{AreSoFar}
+use Rattle.rp_json_entries.proofs.ListLemmas.{AreSoFar}
 use Rattle.rp_json.proofs.reading.read_items.Given as goal
 
 abbrev pub invariant-loop-value : goal.invariant-loop-value

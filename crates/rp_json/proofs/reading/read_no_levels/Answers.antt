@@ -1,6 +1,6 @@
 use Rattle.std.proofs.Common.{IfSome, subst}
 use Rattle.serde_json.specs.View.{members_view}
-use Rattle.rp_notation.specs.InnerMembers.{AreNamed, views}
+use Rattle.rp_json_entries.specs.InnerMembers.{AreNamed, views}
 use Rattle.rp_json.proofs.TopLemmas.{not_without_levels, three_names, without_levels}
 use Rattle.rp_json.proofs.reading.read_no_levels.Goals.{in-Some, in-None}
 use Rattle.rp_json.proofs.reading.read_no_levels.Goals as goal

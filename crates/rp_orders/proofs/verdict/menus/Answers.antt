@@ -1,6 +1,6 @@
 use Rattle.std.proofs.Common.{List, ℕ, IfOk, ap, subst, sym, ◌∙◌}
 use Rattle.std.proofs.lemmas.Result.{IfOk-weaker}
-use Rattle.rp_mixture_program.specs.Verdict.{IsRunVerdict, ProvesMixture}
+use Rattle.rp_find_mixture.specs.Verdict.{IsRunVerdict, ProvesMixture}
 use Rattle.rp_menu.specs.MenuLists.{MenuList}
 use Rattle.rp_orders.specs.InnerOrders.{orders_of}
 use Rattle.rp_orders.specs.MenuEvidence.{IsMenuVerdict, ProvesMenus, ShowsSums}

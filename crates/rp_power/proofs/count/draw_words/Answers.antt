@@ -1,4 +1,4 @@
-use Rattle.rp_draws.proofs.WordLemmas.{none_yet, one_word_more}
+use Rattle.rp_power.proofs.WordLemmas.{none_yet, one_word_more}
 use Rattle.rp_power.proofs.WordBlocks.{words_more}
 use Rattle.rp_power.proofs.count.draw_words.Goals as goal
 

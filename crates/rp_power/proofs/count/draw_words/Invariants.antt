@@ -1,6 +1,6 @@
 use Rattle.std.proofs.Common.{◌≡◌}
 use Rattle.rp_num.specs.Below.{listed}
-use Rattle.rp_draws.specs.Words.{after_words, word_after}
+use Rattle.rp_power.specs.Words.{after_words, word_after}
 use Rattle.rp_power.proofs.count.draw_words.Given as goal
 
 abbrev pub invariant-loop : goal.invariant-loop

@@ -1,5 +1,5 @@
 use Rattle.std.proofs.Common.{◌≡◌, ◌↔◌, ◌*◌, IsTrue, length, subst, ap, ◌∙◌, arith}
-use Rattle.rp_draws.specs.Words.{word_after}
+use Rattle.rp_power.specs.Words.{word_after}
 use Rattle.rp_power.specs.DrawnTable.{drawn_table}
 use Rattle.rp_power.specs.PowerCount.{FailsAxiom, behaviour, behaviour_words, words_of}
 use Rattle.rp_power.proofs.CountMore.{none_of_none, number_told, one_at_most}

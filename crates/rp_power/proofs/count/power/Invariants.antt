@@ -1,5 +1,5 @@
 use Rattle.std.proofs.Common.{◌≡◌, ◌*◌, ◌≤◌}
-use Rattle.rp_draws.specs.Words.{after_words, generator_of}
+use Rattle.rp_power.specs.Words.{after_words, generator_of}
 use Rattle.rp_power.specs.PowerCount.{IsPowerCount, words_of}
 use Rattle.rp_power.proofs.count.power.Given as goal
 

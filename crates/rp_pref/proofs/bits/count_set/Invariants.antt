@@ -1,6 +1,6 @@
 use Rattle.std.proofs.Common.{◌≡◌, ◌*◌, ◌≤◌, count_by}
 use Rattle.std.specs.List.{range_with_len}
-use Rattle.rp_rounds.specs.Bits.{bit_in}
+use Rattle.rp_evidence.specs.Bits.{bit_in}
 use Rattle.rp_pref.proofs.bits.count_set.Given as goal
 
 abbrev pub invariant-loop-word : goal.invariant-loop-word

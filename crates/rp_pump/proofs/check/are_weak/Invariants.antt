@@ -4,4 +4,4 @@ use Rattle.rp_table.specs.Cost.{cost_at}
 use Rattle.rp_pump.proofs.check.are_weak.Given as goal
 
 abbrev pub invariant-loop-k : goal.invariant-loop-k
-invariant-loop-k l = (k : ℕ) → k < l.k → IsWeak (cost_at l.costs) 1 1 (slice_index l.walk k) (slice_index l.walk (k + 1))
+invariant-loop-k l = (k : ℕ) → k < l.k → IsWeak (cost_at l.costs) (slice_index l.walk k) (slice_index l.walk (k + 1))

@@ -2,7 +2,7 @@ use Rattle.std.proofs.Common.{IfOk, refl, subst, sym}
 use Rattle.std.proofs.lemmas.Result.{IfOk-weaker}
 use Rattle.rp_evidence.specs.declared.random.RandomPart.{RandomPart}
 use Rattle.rp_evidence.specs.declared.random.RandomPart.TheVariants.{Mixture, Violated, Wide}
-use Rattle.rp_mixture_program.specs.Verdict.{ProvesMixture}
+use Rattle.rp_find_mixture.specs.Verdict.{ProvesMixture}
 use Rattle.rp_patch.specs.Kinds.{AreWhole}
 use Rattle.rp_patch.specs.Mixtures.{types_on}
 use Rattle.rp_patch.specs.Patches.{IsPatchList, PatchList}

@@ -1,5 +1,5 @@
 use Rattle.std.proofs.Common.{refl}
-use Rattle.rp_words.specs.Named.{named_arguments}
+use Rattle.rp_command_line.specs.Named.{named_arguments}
 use Rattle.rp_run.proofs.answer.answer_over.Goals as goal
 
 pub returns-in-Check : goal.returns-in-Check

@@ -1,10 +1,10 @@
 use Rattle.std.proofs.Common.{◌≡◌, Ok, refl}
 use Rattle.rp_evidence.specs.declared.certificate.Kind.TheVariants.{Random as RandomKind}
 use Rattle.rp_text.specs.Denotation.{budgets_in, choices_on}
-use Rattle.rp_words.specs.CommandLine.{Line, file_at, file_set}
-use Rattle.rp_words.specs.Named.{named_line}
-use Rattle.rp_words.specs.Ranges.{IsSized}
-use Rattle.rp_words.specs.declared.commands.FileSet.TheVariants.{ChoicesAndCertificate}
+use Rattle.rp_command_line.specs.CommandLine.{Line, file_at, file_set}
+use Rattle.rp_command_line.specs.Named.{named_line}
+use Rattle.rp_command_line.specs.Ranges.{IsSized}
+use Rattle.rp_command_line.specs.declared.commands.FileSet.TheVariants.{ChoicesAndCertificate}
 use Rattle.rp_run.specs.ChoiceContents.{TypedPatchesOf}
 use Rattle.rp_run.specs.InnerLoadings.{AreContentsOf, LoadsLine}
 use Rattle.rp_run.specs.Readings.{AndThen, CertificateIn, Just, numbers_in}

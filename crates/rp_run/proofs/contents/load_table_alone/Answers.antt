@@ -1,8 +1,8 @@
 use Rattle.std.proofs.Common.{◌≡◌, refl}
-use Rattle.rp_words.specs.CommandLine.{Line, file_at, file_set, takes_levels}
-use Rattle.rp_words.specs.Named.{named_line}
-use Rattle.rp_words.specs.Ranges.{IsSized}
-use Rattle.rp_words.specs.declared.commands.FileSet.TheVariants.{Table}
+use Rattle.rp_command_line.specs.CommandLine.{Line, file_at, file_set, takes_levels}
+use Rattle.rp_command_line.specs.Named.{named_line}
+use Rattle.rp_command_line.specs.Ranges.{IsSized}
+use Rattle.rp_command_line.specs.declared.commands.FileSet.TheVariants.{Table}
 use Rattle.rp_run.specs.InnerLoadings.{AreContentsOf, LoadsLine}
 use Rattle.rp_run.specs.Readings.{TakenTable}
 use Rattle.rp_run.specs.declared.files.TheConstants.{MOST_BYTES}

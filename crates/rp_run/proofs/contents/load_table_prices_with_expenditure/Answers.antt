@@ -1,10 +1,10 @@
 use Rattle.std.proofs.Common.{◌≡◌, Ok, refl}
 use Rattle.std.specs.Prelude.{true}
 use Rattle.rp_text.specs.Denotation.{prices_beside}
-use Rattle.rp_words.specs.CommandLine.{Line, file_at, file_set, takes_levels}
-use Rattle.rp_words.specs.Named.{named_line}
-use Rattle.rp_words.specs.Ranges.{IsSized}
-use Rattle.rp_words.specs.declared.commands.FileSet.TheVariants.{TableAndPricesWithExpenditure}
+use Rattle.rp_command_line.specs.CommandLine.{Line, file_at, file_set, takes_levels}
+use Rattle.rp_command_line.specs.Named.{named_line}
+use Rattle.rp_command_line.specs.Ranges.{IsSized}
+use Rattle.rp_command_line.specs.declared.commands.FileSet.TheVariants.{TableAndPricesWithExpenditure}
 use Rattle.rp_run.specs.InnerLoadings.{AreContentsOf, LoadsLine}
 use Rattle.rp_run.specs.Readings.{Just, NumbersIn, taken_table}
 use Rattle.rp_run.specs.declared.files.TheConstants.{MOST_BYTES}

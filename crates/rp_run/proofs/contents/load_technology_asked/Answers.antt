@@ -1,9 +1,9 @@
 use Rattle.std.proofs.Common.{◌≡◌, Ok, refl}
 use Rattle.rp_cost.specs.Denotation.{asked_beside, tech_in}
-use Rattle.rp_words.specs.CommandLine.{Line, file_at, file_set}
-use Rattle.rp_words.specs.Named.{named_line}
-use Rattle.rp_words.specs.Ranges.{IsSized}
-use Rattle.rp_words.specs.declared.commands.FileSet.TheVariants.{TechnologyAndAsked}
+use Rattle.rp_command_line.specs.CommandLine.{Line, file_at, file_set}
+use Rattle.rp_command_line.specs.Named.{named_line}
+use Rattle.rp_command_line.specs.Ranges.{IsSized}
+use Rattle.rp_command_line.specs.declared.commands.FileSet.TheVariants.{TechnologyAndAsked}
 use Rattle.rp_run.specs.InnerLoadings.{AreContentsOf, LoadsLine}
 use Rattle.rp_run.specs.Readings.{Just, NumbersIn, numbers_in}
 use Rattle.rp_run.specs.declared.files.TheConstants.{MOST_BYTES}

@@ -1,7 +1,7 @@
 use Rattle.std.proofs.Common.{◌≡◌, ◌∙◌, Some, Ok, refl, sym, subst, arith}
-use Rattle.rp_words.specs.CommandLine.{file_set, takes_levels}
-use Rattle.rp_words.specs.Named.{named_line}
-use Rattle.rp_words.specs.declared.commands.FileSet.TheVariants.{Nothing}
+use Rattle.rp_command_line.specs.CommandLine.{file_set, takes_levels}
+use Rattle.rp_command_line.specs.Named.{named_line}
+use Rattle.rp_command_line.specs.declared.commands.FileSet.TheVariants.{Nothing}
 use Rattle.rp_run.specs.Contents.{ContentsIn}
 use Rattle.rp_run.specs.InnerContents.{AreOf}
 use Rattle.rp_run.specs.declared.contents.Contents.TheVariants as contents

@@ -1,13 +1,13 @@
 use Rattle.std.proofs.Common.{◌≡◌, ◌∙◌, Some, None, map, string_bytes, refl, sym, subst, inl, inr}
-use Rattle.rp_words.specs.Words.{line_in}
-use Rattle.rp_words.specs.Named.{named_line}
+use Rattle.rp_command_line.specs.Words.{line_in}
+use Rattle.rp_command_line.specs.Named.{named_line}
 use Rattle.rp_run.specs.Endings.{IsEnd, IsFaultLine, Rose}
 use Rattle.rp_run.specs.FaultLines.{write_line}
 use Rattle.rp_run.specs.Turns.{AreReadInTurn, AsksForFirst}
 use Rattle.rp_run.proofs.TurnLemmas.{unread}
-use Rattle.rp_words.proofs.MatchesNameALine.{refused_where_no_line}
+use Rattle.rp_command_line.proofs.MatchesNameALine.{refused_where_no_line}
 use Rattle.rp_run.proofs.RunLemmas.{answer_written, cause_of_accepted, cause_of_calm, done_line_apart, line_ends, line_rejected, not_both, rejected_line_apart}
-use Rattle.rp_words.proofs.ShapeLemmas.{shape_given}
+use Rattle.rp_command_line.proofs.ShapeLemmas.{shape_given}
 use Rattle.rp_run.proofs.running.run.Goals as goal
 
 pub returns-in_default-clause-shapes : goal.returns-in_default-clause-shapes

@@ -37,20 +37,20 @@ pub returns-in_default-leaving_row : goal.returns-in_default-leaving_row
 returns-in_default-leaving_row c = whole (program_in c.args.first.columns) (Unbounded _ _ _) c.requires.limits (ends_unbounded (program_in c.args.first.columns) c.requires.limits c.loop-column.t c.loop-column.step _ c.loop-column.invariant (cols_of c.args.first c.requires.shape)
     c.in-Some.column c.point-point.result c.ray-ray.result c.in-Some.ensures c.in_default-leaving_row.ensures c.point-point.ensures.listed c.point-point.ensures.read c.ray-ray.ensures.listed c.ray-ray.ensures.read)
 
-pub returns-in_default-pivoted : goal.returns-in_default-pivoted
-returns-in_default-pivoted c =
+pub returns-in_default-pivot_at : goal.returns-in_default-pivot_at
+returns-in_default-pivot_at c =
     whole (program_in c.args.first.columns) (Wide _) c.requires.limits (passes_width (program_in c.args.first.columns) c.requires.limits c.loop-column.t c.loop-column.step c.saturating_add-step.result c.in-Some.column c.in-Some-leaving_row.row c.loop-column.invariant
-    c.in-Some.ensures c.in-Some-leaving_row.ensures c.in_default-pivoted.ensures.next (next_count c.loop-column.step c.loop-column.invariant.steps c.saturating_add-step.result c.loop-column.invariant.counted c.saturating_add-step.ensures))
+    c.in-Some.ensures c.in-Some-leaving_row.ensures c.in_default-pivot_at.ensures.next (next_count c.loop-column.step c.loop-column.invariant.steps c.saturating_add-step.result c.loop-column.invariant.counted c.saturating_add-step.ensures))
 
 pub loop-column-smaller : goal.loop-column-smaller
 loop-column-smaller c =
-    let made = c.in-Some-pivoted.ensures in
-    nearer (program_in c.args.first.columns) c.requires.limits c.loop-column.t c.loop-column.step c.loop-column.invariant c.in-Some.column c.in-Some-leaving_row.row c.in-Some-pivoted.next
+    let made = c.in-Some-pivot_at.ensures in
+    nearer (program_in c.args.first.columns) c.requires.limits c.loop-column.t c.loop-column.step c.loop-column.invariant c.in-Some.column c.in-Some-leaving_row.row c.in-Some-pivot_at.next
     c.in-Some.ensures c.in-Some-leaving_row.ensures made.next made.shape.0 made.shape.1
 
 pub loop-column-preserved : goal.loop-column-preserved
 loop-column-preserved c =
-    let made = c.in-Some-pivoted.ensures in
-    moves (program_in c.args.first.columns) c.requires.limits c.loop-column.t c.loop-column.step c.loop-column.invariant c.in-Some.column c.in-Some-leaving_row.row c.in-Some-pivoted.next
+    let made = c.in-Some-pivot_at.ensures in
+    moves (program_in c.args.first.columns) c.requires.limits c.loop-column.t c.loop-column.step c.loop-column.invariant c.in-Some.column c.in-Some-leaving_row.row c.in-Some-pivot_at.next
     c.in-Some.ensures c.in-Some-leaving_row.ensures c.saturating_add-step.result made.next made.shape.0 made.shape.1
     (next_count c.loop-column.step c.loop-column.invariant.steps c.saturating_add-step.result c.loop-column.invariant.counted c.saturating_add-step.ensures)

@@ -2,7 +2,7 @@ use Rattle.std.proofs.Common.{◌≡◌, vec_len}
 use Rattle.rp_evidence.specs.Demand.{Buys}
 use Rattle.rp_evidence.specs.DemandEvidence.{budget_of}
 use Rattle.rp_evidence.specs.Input.{input_of_table}
-use Rattle.rp_rounds.specs.Marks.{AreMarked}
+use Rattle.rp_evidence.specs.Marks.{AreMarked}
 use Rattle.rp_support.proofs.below.bought.Given as goal
 
 abbrev pub invariant-loop-s : goal.invariant-loop-s

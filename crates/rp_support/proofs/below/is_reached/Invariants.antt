@@ -1,6 +1,6 @@
 use Rattle.std.proofs.Common.{◌<◌, ℕ}
 use Rattle.rp_pref.specs.Closure.{EqualsOrReachesIn}
-use Rattle.rp_rounds.specs.Marks.{IsMarked}
+use Rattle.rp_evidence.specs.Marks.{IsMarked}
 use Rattle.rp_support.proofs.below.is_reached.Given as goal
 
 abbrev pub invariant-loop-s : goal.invariant-loop-s

@@ -2,7 +2,7 @@ use Rattle.std.proofs.Common.{◌≡◌, vec_len}
 use Rattle.rp_evidence.specs.DemandEvidence.{budget_of}
 use Rattle.rp_evidence.specs.Input.{input_of_table}
 use Rattle.rp_evidence.specs.Demand.{IsStrictStart}
-use Rattle.rp_rounds.specs.Marks.{AreMarked}
+use Rattle.rp_evidence.specs.Marks.{AreMarked}
 use Rattle.rp_support.proofs.below.strict_starts.Given as goal
 
 abbrev pub invariant-loop-v : goal.invariant-loop-v

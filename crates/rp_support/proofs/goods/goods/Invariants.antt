@@ -3,7 +3,7 @@ use Rattle.rp_evidence.specs.DemandEvidence.{budget_of}
 use Rattle.rp_evidence.specs.DemandPrograms.{lower_program, upper_program}
 use Rattle.rp_evidence.specs.Input.{input_of_table}
 use Rattle.rp_evidence.specs.declared.demand.GoodBounds.{GoodBounds}
-use Rattle.rp_bound.specs.ProgramBound.{IsBoundOf}
+use Rattle.rp_simplex.specs.ProgramBound.{IsBoundOf}
 use Rattle.rp_support.proofs.goods.goods.Given as goal
 
 abbrev pub invariant-loop-g : goal.invariant-loop-g

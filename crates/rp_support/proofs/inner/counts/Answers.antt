@@ -11,7 +11,7 @@ pub loop-s-preserved : goal.loop-s-preserved
 loop-s-preserved c =
     let table = c.args.budget.now.at.table.now in
     let n = records_of table in
-    let step = IsWeak (cost_of table) 1 1 in
+    let step = IsWeak (cost_of table) in
     let l = c.loop-s in
     let below : l.s < n = omega (arith, c.loop-s-test.true, c.n-s-end.ensures.count) in
     let last = count_by_closure c.args.closure.now n step l.s c.count.result c.requires below c.count.ensures in

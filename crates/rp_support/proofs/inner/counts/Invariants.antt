@@ -8,5 +8,5 @@ use Rattle.rp_support.proofs.inner.counts.Given as goal
 abbrev pub invariant-loop-s : goal.invariant-loop-s
 invariant-loop-s l = record {
   one_each : length l.counts.items ≡ l.s;
-  each : (t : ℕ) → t < l.s → IsCount (records_of l.budget.at.table.now) (IsWeak (cost_of l.budget.at.table.now) 1 1) t (slice_index l.counts.items t);
+  each : (t : ℕ) → t < l.s → IsCount (records_of l.budget.at.table.now) (IsWeak (cost_of l.budget.at.table.now)) t (slice_index l.counts.items t);
 }

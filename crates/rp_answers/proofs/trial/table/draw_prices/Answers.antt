@@ -1,6 +1,6 @@
 use Rattle.std.proofs.Common.{◌+◌, ◌%◌, refl}
 use Rattle.rp_answers.proofs.TrialLemmas.{prices_more}
-use Rattle.rp_draws.proofs.WordLemmas.{one_word_more, none_yet}
+use Rattle.rp_power.proofs.WordLemmas.{one_word_more, none_yet}
 use Rattle.rp_answers.proofs.trial.table.draw_prices.Goals as goal
 
 pub loop-init : goal.loop-init

@@ -1,7 +1,7 @@
 use Rattle.std.proofs.Common.{◌≡◌}
 use Rattle.rp_num.specs.Below.{listed}
 use Rattle.rp_answers.specs.TrialTable.{drawn_price}
-use Rattle.rp_draws.specs.Words.{after_words}
+use Rattle.rp_power.specs.Words.{after_words}
 use Rattle.rp_answers.proofs.trial.table.draw_prices.Given as goal
 
 abbrev pub invariant-loop : goal.invariant-loop

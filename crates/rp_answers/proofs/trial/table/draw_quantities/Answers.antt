@@ -1,8 +1,8 @@
 use Rattle.std.proofs.Common.{◌≡◌, ◌%◌, ◌≤◌, refl, sym, subst, arith, lit≤}
 use Rattle.std.proofs.lemmas.Nat.{mod_below}
 use Rattle.std.specs.List.{All}
-use Rattle.rp_draws.specs.Words.{word_after}
-use Rattle.rp_draws.proofs.WordLemmas.{one_word_more, none_yet}
+use Rattle.rp_power.specs.Words.{word_after}
+use Rattle.rp_power.proofs.WordLemmas.{one_word_more, none_yet}
 use Rattle.rp_power.proofs.DrawnLemmas.{count_of, left}
 use Rattle.rp_sheet.proofs.RowLemmas.{all_listed}
 use Rattle.rp_answers.proofs.TrialLemmas.{quantities_more, quantity_at}

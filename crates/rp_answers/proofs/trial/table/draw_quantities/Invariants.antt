@@ -1,6 +1,6 @@
 use Rattle.std.proofs.Common.{◌≡◌}
 use Rattle.rp_num.specs.Below.{listed}
-use Rattle.rp_draws.specs.Words.{after_words}
+use Rattle.rp_power.specs.Words.{after_words}
 use Rattle.rp_answers.proofs.TrialLemmas.{quantity_at}
 use Rattle.rp_answers.proofs.trial.table.draw_quantities.Given as goal
 

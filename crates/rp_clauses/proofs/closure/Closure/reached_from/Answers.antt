@@ -1,6 +1,6 @@
 use Rattle.std.proofs.Common.{◌≤◌, length, sym, subst, arith}
-use Rattle.rp_rounds.specs.Marks.{IsMarked}
-use Rattle.rp_rounds.specs.Reached.{Reached}
+use Rattle.rp_evidence.specs.Marks.{IsMarked}
+use Rattle.rp_evidence.specs.Reached.{Reached}
 use Rattle.rp_clauses.proofs.SeenClosures.{seen_from}
 use Rattle.rp_clauses.proofs.closure.Closure.reached_from.Goals as goal
 

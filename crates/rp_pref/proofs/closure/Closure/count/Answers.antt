@@ -1,7 +1,7 @@
 use Rattle.std.proofs.Common.{◌<◌, ◌+◌, ◌*◌, not, length, sym, ap, ◌∙◌, subst, arith, count_by}
 use Rattle.std.specs.List.{range_with_len}
 use mir.Val.{bool_byte}
-use Rattle.rp_rounds.specs.Bits.{bit_in}
+use Rattle.rp_evidence.specs.Bits.{bit_in}
 use Rattle.rp_pref.proofs.Noted.{byte_below, counted_by_bits}
 use Rattle.rp_pref.proofs.closure.Closure.count.Goals as goal
 

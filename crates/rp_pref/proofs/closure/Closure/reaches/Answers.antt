@@ -1,6 +1,6 @@
 use Rattle.std.proofs.Common.{◌<◌, sym, ◌∙◌, subst}
 use Rattle.rp_pref.specs.InnerBits.{has_bit}
-use Rattle.rp_rounds.proofs.Tabulated.{reaches_in_by}
+use Rattle.rp_evidence.proofs.Tabulated.{reaches_in_by}
 use Rattle.rp_pref.proofs.closure.Closure.reaches.Goals as goal
 
 pub returns : goal.returns

@@ -1,0 +1,4 @@
+pub mod ShareLemmas
+pub mod OneFinding
+pub mod TypeLemmas
+pub mod TypeSearch

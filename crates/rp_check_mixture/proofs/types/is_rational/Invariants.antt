@@ -1,0 +1,7 @@
+use Rattle.std.proofs.Common.{◌≡◌, take}
+use Rattle.rp_patch.specs.PartialTypes.{IsPartialType, taken_in}
+use Rattle.rp_check_mixture.proofs.types.is_rational.Given as goal
+
+abbrev pub invariant-loop-i : goal.invariant-loop-i
+invariant-loop-i l =
+    IsPartialType l.patches l.part × (l.part.taken ≡ l.i-index) × (taken_in l.part ≡ take l.i-index l.numbers)

@@ -1,6 +1,0 @@
-use Rattle.rp_draws.specs.Words.{generator_of}
-use Rattle.rp_draws.proofs.words.generator.Goals as goal
-
-pub returns : goal.returns
-unfolding generator_of
-returns c = c.new.ensures

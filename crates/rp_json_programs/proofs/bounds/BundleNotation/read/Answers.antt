@@ -1,0 +1,13 @@
+use Rattle.std.proofs.Common.{subst}
+use Rattle.serde_json.specs.View.{view}
+use Rattle.rp_json_entries.specs.Reading.{IsFound}
+use Rattle.rp_json_programs.proofs.PointReads.{Fits_point, found_none, found_point, value_point}
+use Rattle.rp_json_programs.proofs.bounds.BundleNotation.read.Goals as goal
+
+pub returns-in-Some : goal.returns-in-Some
+returns-in-Some c =
+    rw c.point.ensures (found_point (view c.args.value.now) _ (subst (IsFound value_point Fits_point (view c.args.value.now)) c.in-Some.is c.in_ok-found.ensures))
+
+pub returns-in-None : goal.returns-in-None
+returns-in-None c =
+    found_none (view c.args.value.now) (subst (IsFound value_point Fits_point (view c.args.value.now)) c.in-None.is c.in_ok-found.ensures)

@@ -1,0 +1,198 @@
+ghost use Rattle.std.specs.Prelude.{◌≡◌, IfOk, codes};
+ghost use Rattle.serde_json.specs.Data.{object, member, no_members};
+ghost use Rattle.serde_json.specs.View.{view};
+ghost use Rattle.rp_json_programs.specs.BoundValue.{bound_value, entry_value, good_value};
+ghost use Rattle.rp_json_programs.specs.BoundValue.{point_value};
+ghost use Rattle.rp_json_programs.specs.Limits.{FitsBound, FitsEntry, FitsGood, FitsPoint};
+ghost use Rattle.rp_json_entries.specs.Values.{list_value};
+
+use rp_evidence::{Bound, GoodBounds, Point};
+use rp_farkas::{Entry, Pair};
+use rp_json_entries::lists::list_value;
+use rp_json_entries::notation::Notation;
+use rp_json_entries::numbers::{Fraction, Natural, Observation};
+use rp_json_entries::objects::{read_array, read_object};
+use rp_num::{Frac, NoMemory, Seq};
+use serde_json::{Map, Value, json, put};
+use std::alloc::Global;
+
+/// A positive entry of a point, with its column counted from 1.
+pub struct PointEntry;
+
+impl Notation for PointEntry {
+    type Entry = Entry;
+
+    ghost value_of = { entry_value };
+
+    ghost fits = { FitsEntry };
+
+    fn value(alloc: Global, entry: &Entry) -> Result<Value, NoMemory> {
+        let at = Observation::value(alloc, &entry.at)?;
+        let value = Natural::value(alloc, &entry.value)?;
+        let mut values = Vec::with_capacity(alloc, 2)?;
+        values.push(at)?;
+        values.push(value)?;
+        Ok(Value::Array(values))
+    }
+
+    fn read(alloc: Global, value: &Value) -> Result<Option<Entry>, NoMemory> {
+        match read_array::<(Observation, (Natural, ()))>(alloc, value)? {
+            Some((at, (value, ()))) => Ok(Some(Entry { at, value })),
+            None => Ok(None),
+        }
+    }
+}
+
+/// The bounds of a good.
+pub struct Good;
+
+impl Notation for Good {
+    type Entry = GoodBounds;
+
+    ghost value_of = { good_value };
+
+    ghost fits = { FitsGood };
+
+    fn value(alloc: Global, entry: &GoodBounds) -> Result<Value, NoMemory> {
+        let lower = bound_value(alloc, &entry.lower)?;
+        let upper = bound_value(alloc, &entry.upper)?;
+        Ok(json!(in alloc; {"lower": lower, "upper": upper})?)
+    }
+
+    fn read(alloc: Global, value: &Value) -> Result<Option<GoodBounds>, NoMemory> {
+        match read_object::<(AnyBound, (AnyBound, ()))>(alloc, &["lower", "upper"], value)? {
+            Some(found) => Ok(Some(both(found))),
+            None => Ok(None),
+        }
+    }
+}
+
+/// A bound, shown or withheld.
+pub struct AnyBound;
+
+impl Notation for AnyBound {
+    type Entry = Bound;
+
+    ghost value_of = { bound_value };
+
+    ghost fits = { FitsBound };
+
+    fn value(alloc: Global, entry: &Bound) -> Result<Value, NoMemory> {
+        bound_value(alloc, entry)
+    }
+
+    fn read(alloc: Global, value: &Value) -> Result<Option<Bound>, NoMemory> {
+        match read_object::<PairFields>(alloc, &["den", "value", "x", "y"], value)? {
+            Some(found) => return Ok(Some(bound_with_pair(found))),
+            None => {}
+        }
+        match read_object::<(Natural, ())>(alloc, &["withheld"], value)? {
+            Some((step, ())) => Ok(Some(Bound::Wide { step })),
+            None => Ok(None),
+        }
+    }
+}
+
+/// The denominator of a pair, the value that it shows, its prices and its point.
+type PairFields = (Natural, (Fraction, (Seq<Natural>, (Seq<PointEntry>, ()))));
+
+/// Makes the value of a bound.
+pub fn bound_value(alloc: Global, bound: &Bound) -> Result<Value, NoMemory>
+    ensures { IfOk result (λ v. view v ≡ bound_value bound.now) }
+{
+    match bound {
+        Bound::Shown { value, pair } => pair_value(alloc, value, pair),
+        Bound::Wide { step } => {
+            let step = Natural::value(alloc, step)?;
+            Ok(json!(in alloc; {"withheld": step})?)
+        }
+    }
+}
+
+/// Makes the value of a bound that is shown by a pair.
+fn pair_value(alloc: Global, value: &Frac, pair: &Pair) -> Result<Value, NoMemory>
+    ensures { IfOk result (λ v. view v ≡ bound_value (Bound.Shown value.now pair.now)) }
+{
+    let den = Natural::value(alloc, &pair.den)?;
+    let value = Fraction::value(alloc, value)?;
+    let x = list_value::<Natural>(alloc, pair.x.as_slice())?;
+    let y = list_value::<PointEntry>(alloc, pair.y.as_slice())?;
+    pair_object(alloc, den, value, x, y)
+}
+
+/// Makes the object of a pair and the value that it shows.
+fn pair_object(
+    alloc: Global,
+    den: Value,
+    value: Value,
+    x: Value,
+    y: Value,
+) -> Result<Value, NoMemory>
+    ensures { IfOk result (λ v. view v ≡ object
+        (member (codes "den") (view den) (member (codes "value") (view value)
+        (member (codes "x") (view x) (member (codes "y") (view y) no_members))))) }
+{
+    let mut members = Map::new(alloc);
+    put(&mut members, alloc, "den", den)?;
+    put(&mut members, alloc, "value", value)?;
+    put(&mut members, alloc, "x", x)?;
+    put(&mut members, alloc, "y", y)?;
+    Ok(Value::Object(members))
+}
+
+/// A bundle over a denominator.
+pub struct Bundle;
+
+impl Notation for Bundle {
+    type Entry = Point;
+
+    ghost value_of = { point_value };
+
+    ghost fits = { FitsPoint };
+
+    fn value(alloc: Global, entry: &Point) -> Result<Value, NoMemory> {
+        point_value(alloc, entry)
+    }
+
+    fn read(alloc: Global, value: &Value) -> Result<Option<Point>, NoMemory> {
+        match read_object::<(Natural, (Seq<Natural>, ()))>(alloc, &["den", "num"], value)? {
+            Some(found) => Ok(Some(point(found))),
+            None => Ok(None),
+        }
+    }
+}
+
+/// Makes the value of a point.
+pub fn point_value(alloc: Global, point: &Point) -> Result<Value, NoMemory>
+    ensures { IfOk result (λ v. view v ≡ point_value point.now) }
+{
+    let den = Natural::value(alloc, &point.den)?;
+    let num = list_value::<Natural>(alloc, point.num.as_slice())?;
+    Ok(json!(in alloc; {"den": den, "num": num})?)
+}
+
+/// The bound that was found with its pair.
+fn bound_with_pair(found: (u64, (Frac, (Seq<u64>, (Seq<Entry>, ()))))) -> Bound
+    ensures { result ≡ Bound.Shown found.1.0
+        (record { den = found.0; y = found.1.1.1.0; x = found.1.1.0 }) }
+{
+    let (den, (value, (x, (y, ())))) = found;
+    let pair = Pair { den, y, x };
+    Bound::Shown { value, pair }
+}
+
+/// Both bounds that were found.
+fn both(found: (Bound, (Bound, ()))) -> GoodBounds
+    ensures { result ≡ record { lower = found.0; upper = found.1.0 } }
+{
+    let (lower, (upper, ())) = found;
+    GoodBounds { lower, upper }
+}
+
+/// The point that was found.
+fn point(found: (u64, (Seq<u64>, ()))) -> Point
+    ensures { result ≡ record { den = found.0; num = found.1.0 } }
+{
+    let (den, (num, ())) = found;
+    Point { den, num }
+}

@@ -1,0 +1,174 @@
+ghost use Rattle.std.specs.Prelude.{◌≡◌, IfOk, codes};
+ghost use Rattle.serde_json.specs.Data.{object, string, member, no_members};
+ghost use Rattle.serde_json.specs.View.{view, members_view};
+ghost use Rattle.rp_json_programs.specs.Limits.{FitsRandom, FitsShare};
+ghost use Rattle.rp_json_entries.specs.Reading.{IsRead};
+ghost use Rattle.rp_json_programs.specs.RandomValue.{random_value, share_value};
+
+use crate::tags::RandomTag;
+use rp_evidence::{RandomPart, Share};
+use rp_json_entries::lists::list_value;
+use rp_json_entries::named::Named;
+use rp_json_entries::notation::Notation;
+use rp_json_entries::numbers::{Natural, Observation};
+use rp_json_entries::objects::{read_array, read_object};
+use rp_num::{NoMemory, Seq};
+use serde_json::{Map, Value, json, put};
+use std::alloc::Global;
+
+/// A rational type with its weight; its patches are counted from 1.
+pub struct TypeShare;
+
+impl Notation for TypeShare {
+    type Entry = Share;
+
+    ghost value_of = { share_value };
+
+    ghost fits = { FitsShare };
+
+    fn value(alloc: Global, entry: &Share) -> Result<Value, NoMemory> {
+        let patches = list_value::<Observation>(alloc, entry.patches.as_slice())?;
+        let weight = Natural::value(alloc, &entry.weight)?;
+        let mut values = Vec::with_capacity(alloc, 2)?;
+        values.push(patches)?;
+        values.push(weight)?;
+        Ok(Value::Array(values))
+    }
+
+    fn read(alloc: Global, value: &Value) -> Result<Option<Share>, NoMemory> {
+        match read_array::<(Seq<Observation>, (Natural, ()))>(alloc, value)? {
+            Some(found) => Ok(Some(share(found))),
+            None => Ok(None),
+        }
+    }
+}
+
+/// Makes the value of a verdict on random choices.
+pub fn random_value(alloc: Global, total: u64, evidence: &RandomPart) -> Result<Value, NoMemory>
+    ensures { IfOk result (λ v. view v ≡ random_value total evidence.now) }
+{
+    let total = Natural::value(alloc, &total)?;
+    match evidence {
+        RandomPart::Mixture { den, parts } => {
+            let den = Natural::value(alloc, den)?;
+            let parts = list_value::<TypeShare>(alloc, parts.as_slice())?;
+            Ok(Value::Object(mixture_members(alloc, den, parts, total)?))
+        }
+        RandomPart::Violated {
+            den,
+            parts,
+            weights,
+        } => {
+            let den = Natural::value(alloc, den)?;
+            let parts = list_value::<TypeShare>(alloc, parts.as_slice())?;
+            let weights = list_value::<Natural>(alloc, weights.as_slice())?;
+            let mut members = mixture_members(alloc, den, parts, total)?;
+            put(&mut members, alloc, "weights", weights)?;
+            Ok(Value::Object(members))
+        }
+        RandomPart::Wide { step } => {
+            let step = Natural::value(alloc, step)?;
+            withheld_object(alloc, total, step)
+        }
+    }
+}
+
+/// The members of a mixture, which a violation has too.
+fn mixture_members(
+    alloc: Global,
+    den: Value,
+    parts: Value,
+    total: Value,
+) -> Result<Map<String, Value>, NoMemory>
+    ensures { IfOk result (λ m. members_view m.entries ≡ member (codes "den") (view den)
+        (member (codes "item") (string (codes "random")) (member (codes "parts") (view parts)
+        (member (codes "total") (view total) no_members)))) }
+{
+    let mut members = Map::new(alloc);
+    let name = Value::try_from_str(alloc, "random")?;
+    put(&mut members, alloc, "den", den)?;
+    put(&mut members, alloc, "item", name)?;
+    put(&mut members, alloc, "parts", parts)?;
+    put(&mut members, alloc, "total", total)?;
+    Ok(members)
+}
+
+/// Makes the object of a verdict that is withheld.
+fn withheld_object(alloc: Global, total: Value, step: Value) -> Result<Value, NoMemory>
+    ensures { IfOk result (λ v. view v ≡ object (member (codes "item") (string (codes "random"))
+        (member (codes "total") (view total) (member (codes "withheld") (view step) no_members)))) }
+{
+    Ok(json!(in alloc; {"item": "random", "total": total, "withheld": step})?)
+}
+
+/// A verdict on random choices: the total and the evidence.
+pub type Random = (u64, RandomPart);
+
+/// The verdict on random choices that has this value.
+pub fn read_random(alloc: Global, value: &Value) -> Result<Option<Random>, NoMemory>
+    ensures { IfOk result (λ o. IsRead (λ r. random_value r.0 r.1) (λ r. FitsRandom r.0 r.1)
+        (view value.now) o) }
+{
+    match read_object::<MixtureFields>(alloc, &["den", "item", "parts", "total"], value)? {
+        Some(found) => return Ok(Some(mixture(found))),
+        None => {}
+    }
+    match read_object::<ViolatedFields>(
+        alloc,
+        &["den", "item", "parts", "total", "weights"],
+        value,
+    )? {
+        Some(found) => return Ok(Some(violated(found))),
+        None => {}
+    }
+    match read_object::<WideFields>(alloc, &["item", "total", "withheld"], value)? {
+        Some(((), (total, (step, ())))) => Ok(Some((total, RandomPart::Wide { step }))),
+        None => Ok(None),
+    }
+}
+
+/// The denominator, the item's name, the parts and the total.
+type MixtureFields = (Natural, (Named<RandomTag>, (Seq<TypeShare>, (Natural, ()))));
+
+/// The same, with the weights of the patches.
+type ViolatedFields = (
+    Natural,
+    (
+        Named<RandomTag>,
+        (Seq<TypeShare>, (Natural, (Seq<Natural>, ()))),
+    ),
+);
+
+/// The item's name, the total and the step.
+type WideFields = (Named<RandomTag>, (Natural, (Natural, ())));
+
+/// The part that was found.
+fn share(found: (Seq<u32>, (u64, ()))) -> Share
+    ensures { result ≡ record { patches = found.0; weight = found.1.0 } }
+{
+    let (patches, (weight, ())) = found;
+    Share { patches, weight }
+}
+
+/// The mixture that was found.
+fn mixture(found: (u64, ((), (Seq<Share>, (u64, ()))))) -> Random
+    ensures { result ≡ (found.1.1.1.0, RandomPart.Mixture found.0 found.1.1.0) }
+{
+    let (den, ((), (parts, (total, ())))) = found;
+    (total, RandomPart::Mixture { den, parts })
+}
+
+/// The partial mixture that was found, with the weights of the patches.
+fn violated(found: (u64, ((), (Seq<Share>, (u64, (Seq<u64>, ())))))) -> Random
+    ensures { result ≡ (found.1.1.1.0, RandomPart.Violated found.0 found.1.1.0 found.1.1.1.1.0) }
+{
+    let (den, ((), (parts, (total, (weights, ()))))) = found;
+    (
+        total,
+        RandomPart::Violated {
+            den,
+            parts,
+            weights,
+        },
+    )
+}

@@ -1,0 +1,21 @@
+use Rattle.std.proofs.Common.{subst}
+use Rattle.serde_json.specs.View.{view}
+use Rattle.rp_json_entries.specs.Reading.{IsFound}
+use Rattle.rp_json_tests.proofs.AfriatReads.{Fits_cycle, Fits_model, Fits_wide, found_cycle, found_model, found_none, found_wide, value_cycle, value_model, value_wide}
+use Rattle.rp_json_tests.proofs.afriat.read_afriat.Goals as goal
+
+pub returns-in-Some : goal.returns-in-Some
+returns-in-Some c =
+    rw c.model.ensures (found_model (view c.args.value.now) _ (subst (IsFound value_model Fits_model (view c.args.value.now)) c.in-Some.is c.in_ok-found.ensures))
+
+pub returns-in-Some-2 : goal.returns-in-Some-2
+returns-in-Some-2 c =
+    found_cycle (view c.args.value.now) _ (subst (IsFound value_model Fits_model (view c.args.value.now)) c.in-None.is c.in_ok-found.ensures) (subst (IsFound value_cycle Fits_cycle (view c.args.value.now)) c.in-Some-2.is c.in_ok-cycle.ensures)
+
+pub returns-in-Some-3 : goal.returns-in-Some-3
+returns-in-Some-3 c =
+    found_wide (view c.args.value.now) _ (subst (IsFound value_model Fits_model (view c.args.value.now)) c.in-None.is c.in_ok-found.ensures) (subst (IsFound value_cycle Fits_cycle (view c.args.value.now)) c.in-None-2.is c.in_ok-cycle.ensures) (subst (IsFound value_wide Fits_wide (view c.args.value.now)) c.in-Some-3.is c.in_ok-at.ensures)
+
+pub returns-in-None-3 : goal.returns-in-None-3
+returns-in-None-3 c =
+    found_none (view c.args.value.now) (subst (IsFound value_model Fits_model (view c.args.value.now)) c.in-None.is c.in_ok-found.ensures) (subst (IsFound value_cycle Fits_cycle (view c.args.value.now)) c.in-None-2.is c.in_ok-cycle.ensures) (subst (IsFound value_wide Fits_wide (view c.args.value.now)) c.in-None-3.is c.in_ok-at.ensures)

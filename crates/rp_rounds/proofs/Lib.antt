@@ -1,4 +1,0 @@
-pub mod BitLemmas
-pub mod Rounds
-pub mod Tabulated
-pub mod Throughs

@@ -1,4 +1,0 @@
-pub mod Bits
-pub mod Marks
-pub mod Reached
-pub mod Through

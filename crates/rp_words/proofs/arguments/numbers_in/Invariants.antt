@@ -1,8 +1,0 @@
-use Rattle.std.proofs.Common.{◌≡◌, Some, map, take}
-use Rattle.clap.specs.Words.{found_of, rows_of}
-use Rattle.rp_words.specs.Named.{named_number}
-use Rattle.rp_words.specs.Words.{all_in, number_of}
-use Rattle.rp_words.proofs.arguments.numbers_in.Given as goal
-
-abbrev pub invariant-loop-number : goal.invariant-loop-number
-invariant-loop-number l = all_in number_of (map named_number (take l.number-index l.numbers)) (rows_of (found_of l.matches)) ≡ Some l.all.items
