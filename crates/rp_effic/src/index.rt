@@ -3,8 +3,8 @@ ghost use Rattle.rp_evidence.specs.Efficiency.{IsEfficiencyIndex};
 ghost use Rattle.rp_table.specs.Cost.{cost_at};
 ghost use Rattle.rp_effic.specs.Verdict.{IsLowestLevel};
 
-use crate::bracket::sampled_bracket;
 use crate::ratios::ratios_between;
+use crate::sampling::sampled_bracket;
 use crate::thresholds::first_with_closed_walk;
 use crate::weak_steps::weak_steps;
 use rp_evidence::Level;

@@ -10,6 +10,7 @@ mod laws;
 mod ratio;
 mod ratios;
 mod returning;
+mod sampling;
 mod thresholds;
 mod verdict;
 mod weak_steps;

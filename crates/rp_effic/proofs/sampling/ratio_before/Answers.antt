@@ -1,6 +1,6 @@
 use Rattle.std.proofs.Common.{◌-◌, sym, arith}
 use Rattle.rp_effic.proofs.Indexed.{none_at_zero, none_before_place}
-use Rattle.rp_effic.proofs.bracket.ratio_before.Goals as goal
+use Rattle.rp_effic.proofs.sampling.ratio_before.Goals as goal
 
 pub returns-then-place-eq0-clause-none : goal.returns-then-place-eq0-clause-none
 returns-then-place-eq0-clause-none c = none_at_zero c.args.costs.now c.n-n.ensures.valid

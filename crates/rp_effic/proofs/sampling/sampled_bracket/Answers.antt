@@ -1,6 +1,6 @@
 use Rattle.std.proofs.Common.{sym, arith}
 use Rattle.rp_effic.proofs.Indexed.{cycle_there, place_by_one}
-use Rattle.rp_effic.proofs.bracket.sampled_bracket.Goals as goal
+use Rattle.rp_effic.proofs.sampling.sampled_bracket.Goals as goal
 
 pub ratio_before-requires-clause-place : goal.ratio_before-requires-clause-place
 ratio_before-requires-clause-place c =
