@@ -74,11 +74,7 @@ impl Certificate {
     }
 
     /// The certificate of random choices from budgets, whose total of units is the same in each.
-    pub fn of_random(
-        alloc: Global,
-        total: u64,
-        part: RandomPart,
-    ) -> Result<Certificate, NoMemory>
+    pub fn of_random(alloc: Global, total: u64, part: RandomPart) -> Result<Certificate, NoMemory>
         ensures { IfOk result (λ made. made ≡ random_certificate total part) }
     {
         let mut items = Vec::new(alloc);
