@@ -1,6 +1,7 @@
 -- What a table of prices and purchases is certified to say.
 use Rattle.std.specs.Prelude.{◌≡◌, ℕ, All, List, [], ◌∷◌}
 use Rattle.rp_table.specs.Tables.{Observations}
+use Rattle.rp_evidence.specs.Certificates.{table_certificate}
 use Rattle.rp_evidence.specs.Input.{input_of_table}
 use Rattle.rp_evidence.specs.Proves.{Proves}
 use Rattle.rp_evidence.specs.declared.afriat.AfriatPart.{AfriatPart}
@@ -9,7 +10,6 @@ use Rattle.rp_evidence.specs.declared.certificate.Item.TheVariants.{Garp as Garp
 use Rattle.rp_evidence.specs.declared.certificate.Item.TheVariants.{Efficiency as EfficiencyItem}
 use Rattle.rp_evidence.specs.declared.efficiency.Efficiency.{Efficiency}
 use Rattle.rp_evidence.specs.declared.garp.Garp.{Garp}
-use Rattle.rp_agreement.specs.ReadBack.{table_certificate}
 
 -- The certificate of a table with these levels, or none: a verdict on the generalized axiom of revealed preference
 -- (Varian 1982), one by Afriat's theorem (Afriat 1967) and one on the efficiency index (Afriat 1973).

@@ -13,7 +13,6 @@ use example::purchases;
 use rp_check::Verdict;
 use rp_num::NoMemory;
 use rp_report::report;
-use rp_table::Costs;
 use std::alloc::Global;
 use std::process::ExitCode;
 
@@ -32,8 +31,7 @@ fn answer(alloc: Global) -> Result<Vec<u8>, NoMemory>
     ensures { IfOk result (λ text. IsAnswerOn purchases text.items) }
 {
     let table = purchases(alloc)?;
-    let costs = Costs::of(alloc, &table)?;
-    let made = certify(alloc, &table, &costs)?;
+    let made = certify(alloc, &table)?;
     let mut text = report(alloc, &made.certificate, &table)?;
     text.extend_from_slice(check_line(made.outcome))?;
     Ok(text)

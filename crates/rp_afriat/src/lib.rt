@@ -8,4 +8,4 @@ mod utility;
 mod verdict;
 
 pub use utility::utility_at;
-pub use verdict::{afriat, afriat_by_closure};
+pub use verdict::afriat;

@@ -1,8 +1,9 @@
 ghost use Rattle.std.specs.Prelude.{◌≡◌, ◌<◌, ◌-◌, ◌↔◌, [], IsTrue, IfNone, IfOk, IfSome};
 ghost use Rattle.rp_evidence.specs.AfriatEvidence.{ProvesAfriat, ProvesOwnAfriat};
 ghost use Rattle.rp_evidence.specs.Count.{AreCounts};
-ghost use Rattle.rp_evidence.specs.Garp.{HasNoViolation, ProvesOfPreference};
+ghost use Rattle.rp_evidence.specs.Garp.{HasNoViolation};
 ghost use Rattle.rp_evidence.specs.StandardNumbers.{FitsUtility};
+ghost use Rattle.rp_garp.specs.Test.{IsTest};
 ghost use Rattle.rp_pref.specs.Closure.{IsClosureOf};
 ghost use Rattle.rp_pref.specs.Steps.{OwnStrict, OwnWeak};
 ghost use Rattle.rp_table.specs.Cost.{cost_at, own_of};
@@ -13,47 +14,26 @@ ghost use Rattle.rp_afriat.specs.Verdict.{IsOwnAfriatVerdict};
 use crate::classes::{class_utility, first_of, set_utility};
 use crate::multipliers::set_multipliers;
 use rp_evidence::{AfriatPart, Garp, Numbers, UTILITY_WIDTH};
+use rp_garp::GarpTest;
 use rp_num::{NoMemory, Seq};
 use rp_pref::Closure;
 use rp_table::Costs;
 use std::alloc::Global;
 
-/// Evidence by Afriat's theorem, each observation held to its own level, or to all that it spent, from a true verdict
-/// on the generalized axiom: whole numbers of an Afriat model where it holds, class by class of the counts, unless one
-/// passes its width; else the violation. With levels the utilities are in a scale 1,000 times that without.
-pub fn afriat(alloc: Global, costs: &Costs, verdict: &Garp) -> Result<AfriatPart, NoMemory>
-    requires { ProvesOfPreference costs.now.n (OwnWeak costs.now) (OwnStrict costs.now)
-        verdict.now }
-    ensures proves { IfOk result
-        (ProvesOwnAfriat costs.now.n costs.now.levels (cost_at costs.now)) }
-    ensures given { IfOk result
-        (IsOwnAfriatVerdict costs.now.n costs.now.levels (cost_at costs.now)) }
-    ensures proves_without_levels { IfOk result (λ part. costs.now.levels ≡ []
-        → ProvesAfriat costs.now.n (cost_at costs.now) part) }
+/// Evidence by Afriat's theorem, each observation held to its own level, or to all that it spent, from the test of a
+/// table: whole numbers of an Afriat model where the axiom holds, class by class of the counts, unless one passes its
+/// width; else the violation. With levels the utilities are in a scale 1,000 times that without.
+pub fn afriat(alloc: Global, tested: &GarpTest) -> Result<AfriatPart, NoMemory>
+    requires { IsTest tested.now }
+    ensures proves { IfOk result (ProvesOwnAfriat tested.now.costs.n
+        tested.now.costs.levels (cost_at tested.now.costs)) }
+    ensures given { IfOk result (IsOwnAfriatVerdict tested.now.costs.n
+        tested.now.costs.levels (cost_at tested.now.costs)) }
+    ensures proves_without_levels { IfOk result (λ part. tested.now.costs.levels ≡ []
+        → ProvesAfriat tested.now.costs.n (cost_at tested.now.costs) part) }
 {
-    let closure = Closure::own(alloc, costs)?;
-    afriat_by_closure(alloc, costs, verdict, &closure)
-}
-
-/// `afriat` by a closure of the weak steps that is there already, each observation held to its own level.
-pub fn afriat_by_closure(
-    alloc: Global,
-    costs: &Costs,
-    verdict: &Garp,
-    closure: &Closure,
-) -> Result<AfriatPart, NoMemory>
-    requires verdict { ProvesOfPreference costs.now.n
-        (OwnWeak costs.now) (OwnStrict costs.now) verdict.now }
-    requires closes { IsClosureOf closure.now costs.now.n (OwnWeak costs.now) }
-    ensures proves { IfOk result
-        (ProvesOwnAfriat costs.now.n costs.now.levels (cost_at costs.now)) }
-    ensures given { IfOk result
-        (IsOwnAfriatVerdict costs.now.n costs.now.levels (cost_at costs.now)) }
-    ensures proves_without_levels { IfOk result (λ part. costs.now.levels ≡ []
-        → ProvesAfriat costs.now.n (cost_at costs.now) part) }
-{
-    match verdict {
-        Garp::Ranks(_) => standard(alloc, costs, closure),
+    match &tested.garp {
+        Garp::Ranks(_) => standard(alloc, &tested.costs, &tested.closure),
         Garp::Cycle(walk) => {
             let walk = Vec::from_slice(alloc, walk.as_slice())?;
             Ok(AfriatPart::NoModel(Seq::from_vec(walk)))

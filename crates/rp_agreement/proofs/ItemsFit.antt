@@ -2,6 +2,7 @@
 use Rattle.std.proofs.Common.{◌≢◌, ◌+◌, ◌*◌, ℕ, List, [], ◌∷◌, length, All, ap, arith, inl, inr, refl}
 use Rattle.std.proofs.lemmas.Nat.{mul-add-lt}
 use Rattle.rp_agreement.specs.ItemVerdict.{ProvesVerdict}
+use Rattle.rp_evidence.specs.Certificates.{random_certificate, version_of}
 use Rattle.rp_evidence.specs.Input.{TableInput, input_of_table}
 use Rattle.rp_evidence.specs.Preference.{StrictByLevels, WeakByLevels}
 use Rattle.rp_evidence.specs.declared.afriat.AfriatPart.{AfriatPart}
@@ -21,7 +22,7 @@ use Rattle.rp_random.specs.Verdict.{IsRandomVerdict}
 use Rattle.rp_table.specs.OwnLevels.{AreOwnLevels}
 use Rattle.rp_table.specs.Tables.{IsTable, Observations, goods_of, records_of}
 use Rattle.rp_agreement.specs.Limited.{IsLimited}
-use Rattle.rp_agreement.specs.ReadBack.{certificate_from, random_certificate, version_of}
+use Rattle.rp_agreement.specs.ReadBack.{certificate_from}
 use Rattle.rp_agreement.proofs.BoundsFit.{demand_fits, welfare_fits}
 use Rattle.rp_agreement.proofs.RandomFits.{random_fits}
 use Rattle.rp_agreement.proofs.TestsFit.{afriat_fits, efficiency_fits, garp_fits, homothetic_fits, quasilinear_fits}

@@ -1,11 +1,12 @@
 ghost use Rattle.std.specs.Prelude.{◌≡◌, ◌≤◌, ◌∷◌, [], All, List, length, ℕ};
 ghost use Rattle.rp_agreement.specs.ItemVerdict.{ProvesVerdict};
 ghost use Rattle.rp_agreement.specs.Limited.{IsLimited};
-ghost use Rattle.rp_agreement.specs.ReadBack.{IsReadBack, certificate_from, random_certificate};
+ghost use Rattle.rp_agreement.specs.ReadBack.{IsReadBack, certificate_from};
 ghost use Rattle.rp_check.specs.CheckVerdict.{IsCheckVerdict};
 ghost use Rattle.rp_check.specs.RandomCheckVerdict.{IsRandomCheckVerdict};
 ghost use Rattle.rp_check.specs.declared.verdict.Verdict.{Verdict};
 ghost use Rattle.rp_check.specs.declared.verdict.Verdict.TheVariants.{Accepted};
+ghost use Rattle.rp_evidence.specs.Certificates.{random_certificate};
 ghost use Rattle.rp_evidence.specs.Garp.{ProvesOwnGarp};
 ghost use Rattle.rp_evidence.specs.Input.{TableInput};
 ghost use Rattle.rp_evidence.specs.declared.certificate.Certificate.{Certificate};

@@ -2,7 +2,7 @@
 use Rattle.std.proofs.Common.{◌<◌, ℕ, List, refl, sym, subst}
 use Rattle.std.proofs.lemmas.List.Elements.{All-cons}
 use Rattle.rp_evidence.specs.AfriatEvidence.{ProvesOwnAfriat}
-use Rattle.rp_evidence.specs.Garp.{ProvesGarp, ProvesOwnGarp}
+use Rattle.rp_evidence.specs.Garp.{ProvesOwnGarp}
 use Rattle.rp_evidence.specs.Input.{TableInput, input_of_table}
 use Rattle.rp_evidence.specs.Kinds.{IsCertificateOf, IsOfKind}
 use Rattle.rp_evidence.specs.Preference.{AgreeBelow}
@@ -15,11 +15,10 @@ use Rattle.rp_evidence.specs.declared.certificate.Kind.TheVariants.{Table}
 use Rattle.rp_evidence.specs.declared.garp.Garp.{Garp}
 use Rattle.rp_evidence.proofs.OwnLevels.{own_garp_same}
 use Rattle.rp_evidence.proofs.SameAfriat.{own_afriat_same}
-use Rattle.rp_evidence.proofs.SameCosts.{garp_same}
 use Rattle.rp_afriat.specs.Verdict.{IsOwnAfriatVerdict}
 use Rattle.rp_afriat.proofs.SameVerdicts.{own_verdict_same}
-use Rattle.rp_garp.specs.Verdict.{IsGarpVerdict, IsOwnGarpVerdict}
-use Rattle.rp_garp.proofs.SameVerdicts.{garp_verdict_same, own_garp_verdict_same}
+use Rattle.rp_garp.specs.Verdict.{IsOwnGarpVerdict}
+use Rattle.rp_garp.proofs.SameVerdicts.{own_garp_verdict_same}
 use Rattle.rp_table.specs.Cost.{CostTable, IsCostsOf, cost_at, cost_of}
 use Rattle.rp_table.specs.Tables.{Observations, records_of}
 use Rattle.rp_answers.specs.GarpFirst.{IsGarpFirst}
@@ -48,13 +47,6 @@ module _ (costs : CostTable) (table : Observations) (is : IsCostsOf costs table)
   pub afriat_given_there : (part : AfriatPart) → IsOwnAfriatVerdict costs.n costs.levels (cost_at costs) part → IsOwnAfriatVerdict (records_of table) table.levels (cost_of table) part
   afriat_given_there part given =
       on_table (λ n levels. IsOwnAfriatVerdict n levels (cost_of table) part) (own_verdict_same costs.n costs.levels (cost_at costs) (cost_of table) same part given)
-
-  -- the same where all that was spent counts
-  pub garp_at_one_there : (verdict : Garp) → ProvesGarp costs.n (cost_at costs) verdict → ProvesGarp (records_of table) (cost_of table) verdict
-  garp_at_one_there verdict proves = rw (← is.size) (garp_same costs.n (cost_at costs) (cost_of table) verdict same proves)
-
-  pub garp_given_at_one_there : (verdict : Garp) → IsGarpVerdict costs.n (cost_at costs) verdict → IsGarpVerdict (records_of table) (cost_of table) verdict
-  garp_given_at_one_there verdict given = rw (← is.size) (garp_verdict_same costs.n (cost_at costs) (cost_of table) same verdict given)
 
 -- an item that proves its verdict on a table may stand in a certificate on one
 proved_of_table : (input : TableInput) (item : Item) → Proves input item → IsOfKind Table item

@@ -2,6 +2,7 @@
 -- fixed order, each with evidence that proves its verdict.
 use Rattle.std.specs.Prelude.{◌≡◌, ℕ, All, Bool, List, [], ◌∷◌}
 use Rattle.rp_table.specs.Tables.{Observations}
+use Rattle.rp_evidence.specs.Certificates.{table_certificate}
 use Rattle.rp_evidence.specs.Input.{TableInput, input_of_table}
 use Rattle.rp_evidence.specs.Proves.{Proves}
 use Rattle.rp_evidence.specs.declared.certificate.Certificate.{Certificate}
@@ -21,7 +22,7 @@ use Rattle.rp_garp.specs.Verdict.{IsOwnGarpVerdict}
 use Rattle.rp_homo.specs.Verdict.{IsHomotheticVerdict}
 use Rattle.rp_quasi.specs.Verdict.{IsQuasilinearVerdict}
 use Rattle.rp_people.specs.Says.{Says}
-use Rattle.rp_agreement.specs.ReadBack.{IsReadBack, table_certificate}
+use Rattle.rp_agreement.specs.ReadBack.{IsReadBack}
 use Rattle.rp_answers.specs.Accepted.{IsAcceptedOn}
 use Rattle.rp_answers.specs.ReportOrJson.{report_or_json}
 

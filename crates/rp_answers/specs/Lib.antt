@@ -4,7 +4,6 @@ pub mod CheckText
 pub mod CostText
 pub mod DemandText
 pub mod GarpFirst
-pub mod InnerGarpTest
 pub mod MenusText
 pub mod PairsText
 pub mod PowerText

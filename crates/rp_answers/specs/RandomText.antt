@@ -3,6 +3,7 @@
 use Rattle.std.specs.Prelude.{◌≡◌, ℕ, Bool, List, if◌then◌else◌, length}
 use Rattle.rp_check.specs.RandomCheckVerdict.{IsRandomCheckVerdict}
 use Rattle.rp_check.specs.declared.verdict.Verdict.TheVariants.{Accepted}
+use Rattle.rp_evidence.specs.Certificates.{random_certificate}
 use Rattle.rp_evidence.specs.declared.certificate.Certificate.{Certificate}
 use Rattle.rp_evidence.specs.declared.certificate.Kind.TheVariants.{Random as RandomKind}
 use Rattle.rp_evidence.specs.declared.random.RandomPart.{RandomPart}
@@ -10,7 +11,7 @@ use Rattle.rp_json.specs.CertificateValue.{certificate_text}
 use Rattle.rp_patch.specs.RandomEvidence.{ProvesRandom}
 use Rattle.rp_persons.specs.SaysRandom.{SaysOfChoices}
 use Rattle.rp_random.specs.Verdict.{IsRandomVerdict}
-use Rattle.rp_agreement.specs.ReadBack.{IsReadBack, random_certificate}
+use Rattle.rp_agreement.specs.ReadBack.{IsReadBack}
 use Rattle.rp_report.specs.RandomText.{random_report_text}
 use Rattle.rp_answers.specs.Typed.{TypedPatches}
 

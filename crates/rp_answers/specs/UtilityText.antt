@@ -6,6 +6,7 @@ use Rattle.rp_table.specs.BundleLists.{BundleList}
 use Rattle.rp_table.specs.Cost.{cost_of}
 use Rattle.rp_table.specs.Rows.{row_of, rows_count}
 use Rattle.rp_table.specs.Tables.{Observations, records_of}
+use Rattle.rp_evidence.specs.Certificates.{table_certificate}
 use Rattle.rp_evidence.specs.Afriat.{IsOwnUtility}
 use Rattle.rp_evidence.specs.AfriatEvidence.{multiplier_in, utility_in}
 use Rattle.rp_evidence.specs.Input.{input_of_table}
@@ -18,7 +19,6 @@ use Rattle.rp_evidence.specs.declared.garp.Garp.{Garp}
 use Rattle.rp_afriat.specs.Bundle.{bundle_cost}
 use Rattle.rp_afriat.specs.Verdict.{IsOwnAfriatVerdict}
 use Rattle.rp_garp.specs.Verdict.{IsOwnGarpVerdict}
-use Rattle.rp_agreement.specs.ReadBack.{table_certificate}
 use Rattle.rp_people.specs.Says.{Says}
 use Rattle.rp_print.specs.ListText.{line_of, ordinal_text}
 use Rattle.rp_report.specs.ReportText.{report_text}

@@ -2,10 +2,11 @@ ghost use Rattle.std.specs.Prelude.{◌≡◌, IfOk};
 ghost use Rattle.rp_evidence.specs.Input.{input_of_table};
 ghost use Rattle.rp_answers.specs.AnalysisText.{IsAnalysis, IsAnalysisText, five_items};
 
-use crate::shared::{report_or_json, table_certificate, test_garp};
-use rp_afriat::afriat_by_closure;
+use crate::shared::report_or_json;
+use rp_afriat::afriat;
 use rp_effic::efficiency;
 use rp_evidence::{AfriatPart, Certificate, Efficiency, Garp, Homothetic, Item, Quasi};
+use rp_garp::GarpTest;
 use rp_homo::homothetic;
 use rp_num::NoMemory;
 use rp_quasi::quasilinear;
@@ -25,9 +26,9 @@ pub fn analysis_text(alloc: Global, table: &Table, json: bool) -> Result<Vec<u8>
 fn analyse(alloc: Global, table: &Table) -> Result<Certificate, NoMemory>
     ensures { IfOk result (IsAnalysis (input_of_table table.now)) }
 {
-    let tested = test_garp(alloc, table)?;
+    let tested = GarpTest::of(alloc, table)?;
+    let afriat = afriat(alloc, &tested)?;
     let costs = &tested.costs;
-    let afriat = afriat_by_closure(alloc, costs, &tested.garp, &tested.closure)?;
     let efficiency = efficiency(alloc, costs)?;
     let homothetic = homothetic(alloc, costs)?;
     let quasilinear = quasilinear(alloc, costs)?;
@@ -39,7 +40,7 @@ fn analyse(alloc: Global, table: &Table) -> Result<Certificate, NoMemory>
         homothetic,
         quasilinear,
     )?;
-    let certificate = table_certificate(alloc, table, items)?;
+    let certificate = Certificate::of_table(alloc, table.levels(), items)?;
     Ok(certificate)
 }
 

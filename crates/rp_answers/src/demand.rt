@@ -1,5 +1,6 @@
 ghost use Rattle.std.specs.Prelude.{◌≡◌, [], IfOk, slice_index};
 ghost use Rattle.rp_evidence.specs.Input.{input_of_table};
+ghost use Rattle.rp_garp.specs.Test.{IsTestOf};
 ghost use Rattle.rp_table.specs.Limits.{IsExpenditure};
 ghost use Rattle.rp_table.specs.NewPrices.{AreNewPrices};
 ghost use Rattle.rp_table.specs.Rows.{row_of, rows_count};
@@ -7,12 +8,12 @@ ghost use Rattle.rp_table.specs.Tables.{goods_of};
 ghost use Rattle.rp_answers.specs.DemandText.{IsDemandCertificate, IsDemandItem, IsDemandText};
 ghost use Rattle.rp_answers.specs.DemandText.{IsSpentOn};
 ghost use Rattle.rp_answers.specs.GarpFirst.{AreAnswered};
-ghost use Rattle.rp_answers.specs.InnerGarpTest.{IsTestOf};
 
-use crate::shared::{GarpTest, certificate_from, report_or_json, test_garp};
+use crate::shared::{certificate_from, report_or_json};
 use rp_evidence::{Certificate, Item};
+use rp_garp::GarpTest;
 use rp_num::{NoMemory, Seq};
-use rp_support::demand_by_closure;
+use rp_support::demand;
 use rp_table::{Prices, Table};
 use std::alloc::Global;
 
@@ -38,10 +39,10 @@ fn demand_certificate(alloc: Global, table: &Table, new: &Prices) -> Result<Cert
     requires spent { IsSpentOn table.now new.now }
     ensures { IfOk result (IsDemandCertificate (input_of_table table.now) new.now) }
 {
-    let tested = test_garp(alloc, table)?;
+    let tested = GarpTest::of(alloc, table)?;
     let items = demand_items(alloc, table, &tested, new)?;
-    let made = certificate_from(alloc, table, tested.garp, items)?;
-    Ok(made)
+    let certificate = certificate_from(alloc, table, tested.garp, items)?;
+    Ok(certificate)
 }
 
 /// An item for each record of new prices.
@@ -81,19 +82,11 @@ fn demand_item(
     ensures { IfOk result
         (IsDemandItem (input_of_table table.now) tested.now.garp prices.now m) }
 {
-    let evidence = demand_by_closure(
-        alloc,
-        table,
-        &tested.costs,
-        &tested.garp,
-        &tested.closure,
-        prices,
-        m,
-    )?;
+    let demand = demand(alloc, table, tested, prices, m)?;
     let prices = Vec::from_slice(alloc, prices)?;
     Ok(Item::Demand {
         prices: Seq::from_vec(prices),
         m,
-        part: evidence,
+        part: demand,
     })
 }

@@ -18,11 +18,11 @@ pub fn pairs_text(alloc: Global, table: &Table) -> Result<Vec<u8>, NoMemory>
 }
 
 /// `pair S T`, with the observations counted from 1, or `pair none`.
-fn line_of_pair(alloc: Global, found: Option<(u32, u32)>) -> Result<Vec<u8>, NoMemory>
-    ensures { IfOk result (λ text. text.items ≡ pairs_line found) }
+fn line_of_pair(alloc: Global, pair: Option<(u32, u32)>) -> Result<Vec<u8>, NoMemory>
+    ensures { IfOk result (λ text. text.items ≡ pairs_line pair) }
 {
     let mut text = Vec::new(alloc);
-    match found {
+    match pair {
         None => push_line(&mut text, b"pair none")?,
         Some((s, t)) => push_ordinals(alloc, &mut text, b"pair ", &[s, t])?,
     }

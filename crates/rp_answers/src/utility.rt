@@ -9,9 +9,9 @@ ghost use Rattle.rp_answers.specs.UtilityText.{AreUtilityLines, IsUtilityLine, I
 ghost use Rattle.rp_answers.specs.UtilityText.{at_line};
 ghost use Rattle.rp_answers.specs.UtilityText.{first_items};
 
-use crate::shared::{table_certificate, test_garp};
-use rp_afriat::{afriat_by_closure, utility_at};
+use rp_afriat::{afriat, utility_at};
 use rp_evidence::{AfriatPart, Certificate, Garp, Item};
+use rp_garp::GarpTest;
 use rp_num::NoMemory;
 use rp_print::{Ordinal, Signed, push_after, push_line};
 use rp_report::report;
@@ -23,10 +23,9 @@ pub fn utility_text(alloc: Global, table: &Table, bundles: &Bundles) -> Result<V
     requires { bundles.now.goods ≡ goods_of table.now }
     ensures { IfOk result (λ text. IsUtilityText table.now bundles.now text.items) }
 {
-    let tested = test_garp(alloc, table)?;
-    let costs = &tested.costs;
-    let afriat = afriat_by_closure(alloc, costs, &tested.garp, &tested.closure)?;
-    let lines = utility_lines(alloc, table, costs, &afriat, bundles)?;
+    let tested = GarpTest::of(alloc, table)?;
+    let afriat = afriat(alloc, &tested)?;
+    let lines = utility_lines(alloc, table, &tested.costs, &afriat, bundles)?;
     let certificate = certificate(alloc, table, tested.garp, afriat)?;
     let mut text = report(alloc, &certificate, table)?;
     text.extend_from_slice(lines.as_slice())?;
@@ -45,8 +44,7 @@ fn certificate(
     let mut items = Vec::new(alloc);
     items.push(Item::Garp(garp))?;
     items.push(Item::Afriat(afriat))?;
-    let made = table_certificate(alloc, table, items)?;
-    Ok(made)
+    Certificate::of_table(alloc, table.levels(), items)
 }
 
 /// A line for each bundle.
@@ -54,19 +52,19 @@ fn utility_lines(
     alloc: Global,
     table: &Table,
     costs: &Costs,
-    evidence: &AfriatPart,
+    afriat: &AfriatPart,
     bundles: &Bundles,
 ) -> Result<Vec<u8>, NoMemory>
     requires of_table { IsCostsOf costs.now table.now }
     requires goods { bundles.now.goods ≡ goods_of table.now }
     requires given { IsOwnAfriatVerdict costs.now.n costs.now.levels (cost_at costs.now)
-        evidence.now }
-    ensures { IfOk result (λ text. AreUtilityLines table.now evidence.now bundles.now
+        afriat.now }
+    ensures { IfOk result (λ text. AreUtilityLines table.now afriat.now bundles.now
         (rows_count bundles.now.quantities bundles.now.goods) text.items) }
 {
     let mut text = Vec::new(alloc);
     for k in 0..bundles.count() {
-        let line = utility_line(alloc, table, costs, evidence, k, bundles.row(k))?;
+        let line = utility_line(alloc, table, costs, afriat, k, bundles.row(k))?;
         text.extend_from_slice(line.as_slice())?;
     }
     Ok(text)
@@ -77,18 +75,18 @@ fn utility_line(
     alloc: Global,
     table: &Table,
     costs: &Costs,
-    evidence: &AfriatPart,
+    afriat: &AfriatPart,
     k: u32,
     bundle: &[u32],
 ) -> Result<Vec<u8>, NoMemory>
     requires of_table { IsCostsOf costs.now table.now }
     requires given { IsOwnAfriatVerdict costs.now.n costs.now.levels (cost_at costs.now)
-        evidence.now }
+        afriat.now }
     requires goods { length bundle.now ≡ goods_of table.now }
     requires limits { All IsQuantity bundle.now }
-    ensures { IfOk result (λ line. IsUtilityLine table.now evidence.now k bundle.now line.items) }
+    ensures { IfOk result (λ line. IsUtilityLine table.now afriat.now k bundle.now line.items) }
 {
-    match evidence {
+    match afriat {
         AfriatPart::Model(numbers) => {
             let value = utility_at(table, costs, numbers, bundle);
             let line = value_line(alloc, k, value)?;

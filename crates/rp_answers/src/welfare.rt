@@ -1,17 +1,18 @@
 ghost use Rattle.std.specs.Prelude.{◌≡◌, [], ◌<◌, ◌*◌, ◌/◌, ◌%◌, IfOk};
 ghost use Rattle.rp_evidence.specs.Input.{input_of_table};
+ghost use Rattle.rp_garp.specs.Test.{IsTestOf};
 ghost use Rattle.rp_table.specs.NewPrices.{AreNewPrices};
 ghost use Rattle.rp_table.specs.Rows.{row_of, rows_count};
 ghost use Rattle.rp_table.specs.Tables.{goods_of, records_of};
 ghost use Rattle.rp_answers.specs.GarpFirst.{AreAnswered};
-ghost use Rattle.rp_answers.specs.InnerGarpTest.{IsTestOf};
 ghost use Rattle.rp_answers.specs.WelfareText.{IsWelfareCertificate, IsWelfareItem, IsWelfareText};
 
-use crate::shared::{GarpTest, certificate_from, report_or_json, test_garp};
+use crate::shared::{certificate_from, report_or_json};
 use rp_evidence::{Certificate, Item};
+use rp_garp::GarpTest;
 use rp_num::{NoMemory, Seq};
 use rp_table::{Prices, Table};
-use rp_welfare::welfare_by_closure;
+use rp_welfare::welfare;
 use std::alloc::Global;
 
 /// The report of the bounds of each observation at each record of new prices.
@@ -36,10 +37,10 @@ fn welfare_certificate(alloc: Global, table: &Table, new: &Prices) -> Result<Cer
     requires goods { new.now.goods ≡ goods_of table.now }
     ensures { IfOk result (IsWelfareCertificate (input_of_table table.now) new.now) }
 {
-    let tested = test_garp(alloc, table)?;
+    let tested = GarpTest::of(alloc, table)?;
     let items = welfare_items(alloc, table, &tested, new)?;
-    let made = certificate_from(alloc, table, tested.garp, items)?;
-    Ok(made)
+    let certificate = certificate_from(alloc, table, tested.garp, items)?;
+    Ok(certificate)
 }
 
 /// For each record of new prices an item for each observation.
@@ -82,19 +83,11 @@ fn welfare_item(
     ensures { IfOk result
         (IsWelfareItem (input_of_table table.now) tested.now.garp prices.now t) }
 {
-    let evidence = welfare_by_closure(
-        alloc,
-        table,
-        &tested.costs,
-        &tested.garp,
-        &tested.closure,
-        prices,
-        t,
-    )?;
+    let welfare = welfare(alloc, table, tested, prices, t)?;
     let prices = Vec::from_slice(alloc, prices)?;
     Ok(Item::Welfare {
         prices: Seq::from_vec(prices),
         of: t,
-        part: evidence,
+        part: welfare,
     })
 }

@@ -1,6 +1,7 @@
 pub mod Afriat
 pub mod AfriatEvidence
 pub mod BoundEvidence
+pub mod Certificates
 pub mod Clauses
 pub mod Count
 pub mod First

@@ -1,4 +1,6 @@
-ghost use Rattle.std.specs.Prelude.{◌≡◌, ◌-◌, ◌^◌, min, sum_by};
+ghost use Rattle.std.specs.Prelude.{◌≡◌, ◌-◌, ◌^◌, IfOk, min, sum_by};
+ghost use Rattle.rp_evidence.specs.Certificates.{random_certificate, table_certificate};
+ghost use Rattle.rp_evidence.specs.Certificates.{version_of};
 ghost use Rattle.rp_evidence.specs.Withheld.{withheld_in};
 
 use crate::afriat::AfriatPart;
@@ -8,7 +10,8 @@ use crate::garp::Garp;
 use crate::homothetic::Homothetic;
 use crate::quasilinear::Quasi;
 use crate::random::RandomPart;
-use rp_num::Seq;
+use rp_num::{NoMemory, Seq};
+use std::alloc::Global;
 
 /// One verdict with its evidence.
 #[derive(Debug, Drop)]
@@ -49,6 +52,47 @@ pub struct Certificate {
     pub version: u32,
     pub levels: Seq<u32>,
     pub items: Seq<Item>,
+}
+
+impl Certificate {
+    /// The certificate of a table, whose levels are in thousandths, by observation, or none.
+    pub fn of_table(
+        alloc: Global,
+        levels: &[u32],
+        items: Vec<Item>,
+    ) -> Result<Certificate, NoMemory>
+        ensures { IfOk result (λ made. made ≡ table_certificate levels.now items.items) }
+    {
+        let version = version_of(levels);
+        let levels = Vec::from_slice(alloc, levels)?;
+        Ok(Certificate {
+            kind: Kind::Table,
+            version,
+            levels: Seq::from_vec(levels),
+            items: Seq::from_vec(items),
+        })
+    }
+
+    /// The certificate of random choices from budgets, whose total of units is the same in each.
+    pub fn of_random(alloc: Global, total: u64, part: RandomPart) -> Result<Certificate, NoMemory>
+        ensures { IfOk result (λ made. made ≡ random_certificate total part) }
+    {
+        let mut items = Vec::new(alloc);
+        items.push(Item::Random { total, part })?;
+        Ok(Certificate {
+            kind: Kind::Random,
+            version: 1,
+            levels: Seq::from_vec(Vec::new(alloc)),
+            items: Seq::from_vec(items),
+        })
+    }
+}
+
+/// The version of a certificate with these levels.
+fn version_of(levels: &[u32]) -> u32
+    ensures { result ≡ version_of levels.now }
+{
+    if levels.is_empty() { 1 } else { 2 }
 }
 
 /// How many values an item leaves out because their computation passed its width, up to 2^32 - 1.

@@ -1,2 +1,3 @@
 pub mod MeetingLemmas
 pub mod SameVerdicts
+pub mod TestLemmas

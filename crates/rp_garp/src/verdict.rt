@@ -1,6 +1,5 @@
 ghost use Rattle.std.specs.Prelude.{◌≡◌, [], IfOk};
 ghost use Rattle.rp_evidence.specs.Garp.{ProvesGarp, ProvesOfPreference};
-ghost use Rattle.rp_pref.specs.Closure.{IsClosureOf};
 ghost use Rattle.rp_pref.specs.Steps.{OwnStrict, OwnWeak};
 ghost use Rattle.rp_pref.specs.Violation.{IsVerdictOfPreference};
 ghost use Rattle.rp_table.specs.Cost.{cost_at};
@@ -26,20 +25,5 @@ pub fn garp(alloc: Global, costs: &Costs) -> Result<Garp, NoMemory>
         → IsGarpVerdict costs.now.n (cost_at costs.now) verdict) }
 {
     let closure = Closure::own(alloc, costs)?;
-    garp_by_closure(alloc, costs, &closure)
-}
-
-/// `garp` by a closure of the weak steps that is there already, each observation held to its own level.
-pub fn garp_by_closure(alloc: Global, costs: &Costs, closure: &Closure) -> Result<Garp, NoMemory>
-    requires closes { IsClosureOf closure.now costs.now.n (OwnWeak costs.now) }
-    ensures proves { IfOk result (ProvesOfPreference costs.now.n
-        (OwnWeak costs.now) (OwnStrict costs.now)) }
-    ensures given { IfOk result (IsVerdictOfPreference costs.now.n
-        (OwnWeak costs.now) (OwnStrict costs.now)) }
-    ensures proves_without_levels { IfOk result (λ verdict. costs.now.levels ≡ []
-        → ProvesGarp costs.now.n (cost_at costs.now) verdict) }
-    ensures given_without_levels { IfOk result (λ verdict. costs.now.levels ≡ []
-        → IsGarpVerdict costs.now.n (cost_at costs.now) verdict) }
-{
-    own_verdict(alloc, costs, closure)
+    own_verdict(alloc, costs, &closure)
 }

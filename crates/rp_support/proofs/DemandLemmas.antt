@@ -1,34 +1,25 @@
--- The whole verdict: the costs of a table, the inner demand, and what shown bounds are.
-use Rattle.std.proofs.Common.{◌≡◌, ◌<◌, ◌+◌, ◌*◌, ℕ, ℤ, List, subst, ap, arith, slice_index}
+-- The whole verdict: the inner demand, and what shown bounds are.
+use Rattle.std.proofs.Common.{◌≡◌, ◌<◌, ◌+◌, ◌*◌, ℕ, ℤ, List, ap, arith, slice_index}
 use Rattle.std.proofs.lemmas.Nat.{mul-add-lt}
 use Rattle.std.proofs.Math.Nat.{lt_of_mul-lt-mul_left, mul-lt-mul_of_pos_left}
 use Rattle.rp_num.specs.Fraction.{Fraction, IsLowestTerms}
 use Rattle.rp_evidence.specs.Demand.{BudgetInput, FractionBundle, IsInfimum, IsInnerDemand, IsSupportingDemand, IsSupremum}
 use Rattle.rp_evidence.specs.DemandEvidence.{ProvesLower, ProvesUpper, budget_of}
 use Rattle.rp_evidence.specs.DemandPrograms.{ListsBelow, demand_program, lower_program, upper_program}
-use Rattle.rp_evidence.specs.Garp.{MeetsGarp, ProvesGarp}
+use Rattle.rp_evidence.specs.Garp.{MeetsGarp}
 use Rattle.rp_evidence.specs.Input.{TableInput, input_of_table}
 use Rattle.rp_evidence.specs.declared.demand.Bound.{Bound}
 use Rattle.rp_evidence.specs.declared.demand.Bound.TheVariants.{Shown, Wide}
 use Rattle.rp_evidence.specs.declared.demand.GoodBounds.{GoodBounds}
-use Rattle.rp_evidence.specs.declared.garp.Garp.{Garp}
 use Rattle.rp_evidence.proofs.DemandBounds.{lower_is_infimum, mixtures, priced, upper_is_supremum}
 use Rattle.rp_evidence.proofs.InnerDemand.{inner_demand_supports}
-use Rattle.rp_evidence.proofs.SameCosts.{garp_same}
 use Rattle.rp_farkas.specs.Listing.{numerator_at}
-use Rattle.rp_table.specs.Cost.{CostTable, IsCostsOf, cost_at, cost_of}
+use Rattle.rp_table.specs.Cost.{cost_of}
 use Rattle.rp_table.specs.NewPrices.{AreNewPrices}
 use Rattle.rp_table.specs.Tables.{IsTable, Observations, goods_of, price_of, records_of}
 use Rattle.rp_simplex.specs.ProgramBound.{IsBoundOf}
 use Rattle.rp_support.specs.Bounds.{AreBoundsOf, AreMixed, Mixes}
 use Rattle.rp_support.proofs.SupportPrices.{support_bounds}
-
--- ---- the costs of a table
-
-module _ (table : Observations) (costs : CostTable) (of : IsCostsOf costs table) where
-  pub garp_of_table : (verdict : Garp) → ProvesGarp costs.n (cost_at costs) verdict → ProvesGarp (records_of table) (cost_of table) verdict
-  garp_of_table verdict proves =
-      garp_same (records_of table) (cost_at costs) (cost_of table) verdict of.each (subst (λ n. ProvesGarp n (cost_at costs) verdict) of.size proves)
 
 -- ---- bounds in lowest terms
 

@@ -6,4 +6,4 @@ mod goods;
 mod inner;
 mod verdict;
 
-pub use verdict::{demand, demand_by_closure};
+pub use verdict::demand;

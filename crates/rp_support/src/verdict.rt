@@ -1,11 +1,11 @@
 ghost use Rattle.std.specs.Prelude.{◌≡◌, [], IfOk};
 ghost use Rattle.rp_evidence.specs.DemandEvidence.{ProvesDemand, budget_of};
-ghost use Rattle.rp_evidence.specs.Garp.{MeetsGarp, ProvesGarp};
+ghost use Rattle.rp_evidence.specs.Garp.{MeetsGarp};
 ghost use Rattle.rp_evidence.specs.Input.{input_of_table};
-ghost use Rattle.rp_evidence.specs.Preference.{IsWeak};
+ghost use Rattle.rp_garp.specs.Test.{IsTestOf};
 ghost use Rattle.rp_people.specs.Says.{SaysDemand};
-ghost use Rattle.rp_pref.specs.Closure.{IsClosureOf, IsWeakClosureOf};
-ghost use Rattle.rp_table.specs.Cost.{IsCostsOf, cost_at, cost_of};
+ghost use Rattle.rp_pref.specs.Closure.{IsWeakClosureOf};
+ghost use Rattle.rp_table.specs.Cost.{cost_of};
 ghost use Rattle.rp_table.specs.Limits.{IsExpenditure};
 ghost use Rattle.rp_table.specs.NewPrices.{AreNewPrices};
 ghost use Rattle.rp_table.specs.Tables.{goods_of, records_of};
@@ -15,74 +15,43 @@ ghost use Rattle.rp_support.specs.Verdict.{HasMixtures, IsDemandVerdict, AreDema
 use crate::below::{below, strictly_below};
 use crate::goods::goods;
 use crate::inner::inner;
-use rp_evidence::{DemandPart, Garp, Level};
+use rp_evidence::{DemandPart, Garp};
+use rp_garp::GarpTest;
 use rp_num::{NoMemory, Seq};
-use rp_pref::{Closure, Steps};
-use rp_table::{Costs, NewBudget, NewPrices, Table};
+use rp_pref::Closure;
+use rp_table::{NewBudget, NewPrices, Table};
 use std::alloc::Global;
 
-/// What the table supports at new prices when `m` is spent (Varian 1982), or the violation of the verdict. Prices are
-/// scaled as those of the table, and `m` by both scales. The observations have no levels of their own.
+/// What the table supports at new prices when `m` is spent (Varian 1982), or the violation that its test shows. Prices
+/// are scaled as those of the table, and `m` by both scales. The observations have no levels of their own.
 pub fn demand(
     alloc: Global,
     table: &Table,
-    costs: &Costs,
-    verdict: &Garp,
+    tested: &GarpTest,
     prices: &[u32],
     m: u64,
 ) -> Result<DemandPart, NoMemory>
-    requires costs { IsCostsOf costs.now table.now }
+    requires is_test { IsTestOf table.now tested.now }
     requires no_levels { table.now.levels ≡ [] }
-    requires verdict { ProvesGarp costs.now.n (cost_at costs.now) verdict.now }
     requires prices { AreNewPrices (goods_of table.now) prices.now }
     requires spent { IsExpenditure m }
     ensures proves { IfOk result (λ part.
         ProvesDemand (input_of_table table.now) prices.now m part) }
     ensures says { IfOk result (λ part.
         SaysDemand (input_of_table table.now) prices.now m part) }
-    ensures given { IfOk result (λ part.
-        IsDemandVerdict (input_of_table table.now) (budget_of prices.now m) verdict.now part) }
+    ensures given { IfOk result (λ part. IsDemandVerdict (input_of_table table.now)
+        (budget_of prices.now m) tested.now.garp part) }
     ensures mixtures { IfOk result (λ part.
         HasMixtures (input_of_table table.now) (budget_of prices.now m) part) }
 {
-    let closure = Closure::of(alloc, costs, Level { num: 1, den: 1 }, Steps::Weak)?;
-    demand_by_closure(alloc, table, costs, verdict, &closure, prices, m)
-}
-
-/// `demand` by a closure of the weak steps that is there already.
-pub fn demand_by_closure(
-    alloc: Global,
-    table: &Table,
-    costs: &Costs,
-    verdict: &Garp,
-    closure: &Closure,
-    prices: &[u32],
-    m: u64,
-) -> Result<DemandPart, NoMemory>
-    requires costs { IsCostsOf costs.now table.now }
-    requires no_levels { table.now.levels ≡ [] }
-    requires verdict { ProvesGarp costs.now.n (cost_at costs.now) verdict.now }
-    requires closes { IsClosureOf closure.now costs.now.n (IsWeak (cost_at costs.now)) }
-    requires prices { AreNewPrices (goods_of table.now) prices.now }
-    requires spent { IsExpenditure m }
-    ensures proves { IfOk result (λ part.
-        ProvesDemand (input_of_table table.now) prices.now m part) }
-    ensures says { IfOk result (λ part.
-        SaysDemand (input_of_table table.now) prices.now m part) }
-    ensures given { IfOk result (λ part.
-        IsDemandVerdict (input_of_table table.now) (budget_of prices.now m) verdict.now part) }
-    ensures mixtures { IfOk result (λ part.
-        HasMixtures (input_of_table table.now) (budget_of prices.now m) part) }
-{
-    prove!(table.goods() > 0);
-    match verdict {
+    match &tested.garp {
         Garp::Ranks(_) => {
             let at = NewPrices {
                 table,
-                costs,
+                costs: &tested.costs,
                 prices,
             };
-            bounds(alloc, &NewBudget { at, m }, closure)
+            bounds(alloc, &NewBudget { at, m }, &tested.closure)
         }
         Garp::Cycle(walk) => {
             let walk = Vec::from_slice(alloc, walk.as_slice())?;

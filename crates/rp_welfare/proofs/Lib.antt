@@ -1,3 +1,2 @@
 pub mod Cheapest
 pub mod LowerBounds
-pub mod SameTable

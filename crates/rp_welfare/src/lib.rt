@@ -6,4 +6,4 @@ mod reached;
 mod upper;
 mod verdict;
 
-pub use verdict::{welfare, welfare_by_closure};
+pub use verdict::welfare;

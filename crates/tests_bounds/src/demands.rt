@@ -1,10 +1,9 @@
 //! Tests of demand at new prices: the supporting demand, the observations below, and the bounds of each good.
 use crate::shared::{are_prices, push_list, push_number, push_numbers};
 use rp_evidence::{Bound, DemandPart, GoodBounds, Point};
-use rp_garp::garp;
+use rp_garp::GarpTest;
 use rp_num::Frac;
 use rp_support::demand;
-use rp_table::Costs;
 use rp_text::read_table;
 use std::alloc::Global;
 use std::process::Abort;
@@ -93,12 +92,11 @@ fn given(
 ) -> Result<DemandPart, Fail> {
     let table = read_table(alloc, file.as_bytes())?;
     assert!(rt; !table.levelled());
-    let costs = Costs::of(alloc, &table)?;
-    let verdict = garp(alloc, &costs)?;
+    let tested = GarpTest::of(alloc, &table)?;
     assert!(rt; are_prices(prices));
     assert!(rt; prices.len() == table.goods() as usize);
     assert!(rt; 1 <= m && m <= 1_600_000_000_000_000);
-    Ok(demand(alloc, &table, &costs, &verdict, prices, m)?)
+    Ok(demand(alloc, &table, &tested, prices, m)?)
 }
 
 /// A table, new prices, what is spent at them, and what is found.

@@ -2,9 +2,8 @@
 use crate::shared::{are_prices, push_list, push_number, push_numbers};
 use rp_evidence::{Bound, WelfarePart};
 use rp_farkas::{Entry, Pair};
-use rp_garp::garp;
+use rp_garp::GarpTest;
 use rp_num::Frac;
-use rp_table::Costs;
 use rp_text::read_table;
 use rp_welfare::welfare;
 use std::alloc::Global;
@@ -89,12 +88,11 @@ fn given(
 ) -> Result<WelfarePart, Fail> {
     let table = read_table(alloc, file.as_bytes())?;
     assert!(rt; !table.levelled());
-    let costs = Costs::of(alloc, &table)?;
-    let verdict = garp(alloc, &costs)?;
+    let tested = GarpTest::of(alloc, &table)?;
     assert!(rt; are_prices(prices));
     assert!(rt; prices.len() == table.goods() as usize);
-    assert!(rt; t >= 1 && t <= costs.n(), "no such observation");
-    Ok(welfare(alloc, &table, &costs, &verdict, prices, t - 1)?)
+    assert!(rt; t >= 1 && t <= table.n(), "no such observation");
+    Ok(welfare(alloc, &table, &tested, prices, t - 1)?)
 }
 
 /// A table, new prices, an observation from 1, and what is found.

@@ -1,9 +1,9 @@
 //! Tests of Afriat numbers and of the utilities that they give, at levels too, and of what passes their width.
-use crate::shared::{costs_of, table_in};
+use crate::shared::table_in;
 use rp_afriat::{afriat, utility_at};
 use rp_evidence::AfriatPart;
-use rp_garp::garp;
-use rp_table::{Costs, LARGEST};
+use rp_garp::GarpTest;
+use rp_table::LARGEST;
 use std::alloc::Global;
 use std::process::Abort;
 use std::test::Fail;
@@ -14,10 +14,11 @@ use tests_inputs::tables::{
 /// One observation, of which half counts.
 const HALF: &str = "p_a,q_a,e\n3,2,500\n";
 
-/// The numbers of these costs, or why there are none.
-fn part_of(alloc: Global, costs: &Costs) -> Result<AfriatPart, Fail> {
-    let verdict = garp(alloc, costs)?;
-    Ok(afriat(alloc, costs, &verdict)?)
+/// The numbers of the table in a file, or why there are none.
+fn part_of(alloc: Global, file: &str) -> Result<AfriatPart, Fail> {
+    let table = table_in(alloc, file)?;
+    let tested = GarpTest::of(alloc, &table)?;
+    Ok(afriat(alloc, &tested)?)
 }
 
 /// Whether these are the numbers.
@@ -53,12 +54,11 @@ fn utility(
     bundle: &[u32],
 ) -> Result<Option<i128>, Fail> {
     let table = table_in(alloc, file)?;
-    let costs = Costs::of(alloc, &table)?;
-    let verdict = garp(alloc, &costs)?;
+    let tested = GarpTest::of(alloc, &table)?;
     assert!(rt; bundle.len() == table.goods() as usize);
     assert!(rt; bundle.iter().all(|q| *q <= LARGEST));
-    match afriat(alloc, &costs, &verdict)? {
-        AfriatPart::Model(numbers) => Ok(Some(utility_at(&table, &costs, &numbers, bundle))),
+    match afriat(alloc, &tested)? {
+        AfriatPart::Model(numbers) => Ok(Some(utility_at(&table, &tested.costs, &numbers, bundle))),
         _ => Ok(None),
     }
 }
@@ -72,8 +72,7 @@ type UtilityCase = (&'static str, &'static [u32], Option<i128>);
 /// Asserts the numbers of each table.
 fn assert_numbers(rt: &impl Abort, alloc: Global, cases: &[NumbersCase]) -> Result<(), Fail> {
     for (file, u, lambda) in cases {
-        let costs = costs_of(alloc, file)?;
-        let part = part_of(alloc, &costs)?;
+        let part = part_of(alloc, file)?;
         assert!(rt; has_numbers(&part, u, lambda), "{file}");
     }
     Ok(())
@@ -107,7 +106,7 @@ fn numbers_by_own_levels(rt: HostRuntime) -> Result<(), Fail> {
 fn no_numbers_where_two_contradict_each_other(rt: HostRuntime) -> Result<(), Fail> {
     let alloc = rt.alloc();
     for file in [AT_800, AT_ALL, CONTRADICTION] {
-        let part = part_of(alloc, &costs_of(alloc, file)?)?;
+        let part = part_of(alloc, file)?;
         assert!(rt; has_cycle(&part, &[0, 1, 0]), "{file}");
     }
     Ok(())
@@ -129,19 +128,19 @@ const OF_NOTHING: &str =
 const OF_ONE: &str =
     "9999999,0,9999999,0,9999999,0,9999999,1,9999999,0,9999999,0,9999999,0,9999999,0,9999999,0,9999999,0,9999999,0,9999999,0,9999999,0,9999999,0,9999999,0,9999999,0";
 
-/// The costs of a table: its headers and records, each line with what is given for the column of levels.
+/// The file of a table: its headers and records, each line with what is given for the column of levels.
 fn steepest(
     alloc: Global,
     headers: &str,
     records: &[&str],
     header: &str,
     level: &str,
-) -> Result<Costs, Fail> {
+) -> Result<String, Fail> {
     let mut text = format!(in alloc; "{headers}{header}\n")?;
     for record in records {
         text.push_str(format!(in alloc; "{record}{level}\n")?.as_str())?;
     }
-    costs_of(alloc, text.as_str())
+    Ok(text)
 }
 
 /// Each class falls as far below the one above it as a multiplier near 2^60 lets it. Without levels the last utility is
@@ -163,9 +162,11 @@ fn a_utility_is_the_first_to_pass_its_width(rt: HostRuntime) -> Result<(), Fail>
         1_152_073_617_378_793_336,
         1_152_073_617_378_793_336,
     ];
-    let part = part_of(alloc, &steepest(alloc, HEADERS, &records, "", "")?)?;
+    let plain = steepest(alloc, HEADERS, &records, "", "")?;
+    let part = part_of(alloc, plain.as_str())?;
     assert!(rt; has_numbers(&part, &u, &lambda));
-    let part = part_of(alloc, &steepest(alloc, HEADERS, &records, ",e", ",1000")?)?;
+    let levelled = steepest(alloc, HEADERS, &records, ",e", ",1000")?;
+    let part = part_of(alloc, levelled.as_str())?;
     assert!(rt; is_withheld(&part, 3), "at levels");
     Ok(())
 }

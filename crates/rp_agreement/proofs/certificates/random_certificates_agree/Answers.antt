@@ -1,8 +1,8 @@
 use Rattle.rp_agreement.proofs.AcceptedRandom.{random_certificate_passes}
+use Rattle.rp_evidence.specs.Certificates.{random_certificate}
 use Rattle.rp_evidence.specs.declared.certificate.Kind.TheVariants.{Random}
 use Rattle.rp_agreement.proofs.ItemsFit.{random_readable}
 use Rattle.rp_agreement.proofs.SameValues.{text_read_back}
-use Rattle.rp_agreement.specs.ReadBack.{random_certificate}
 use Rattle.rp_agreement.proofs.certificates.random_certificates_agree.Goals as goal
 
 pub returns-clause-accepted : goal.returns-clause-accepted

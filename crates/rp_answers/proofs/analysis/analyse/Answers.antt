@@ -1,6 +1,7 @@
 use Rattle.std.proofs.Common.{◌∙◌, ap, subst, sym, [], ◌∷◌}
 use Rattle.rp_afriat.specs.Verdict.{IsOwnAfriatVerdict}
 use Rattle.rp_effic.specs.Verdict.{IsEfficiencyVerdict}
+use Rattle.rp_evidence.specs.Certificates.{table_certificate}
 use Rattle.rp_evidence.specs.Input.{input_of_table}
 use Rattle.rp_evidence.specs.Proves.{Proves}
 use Rattle.rp_evidence.specs.declared.certificate.Item.TheVariants.{Garp as GarpItem, Afriat as AfriatItem, Efficiency as EfficiencyItem, Homothetic as HomotheticItem, Quasi as QuasiItem}
@@ -19,7 +20,7 @@ use Rattle.rp_homo.proofs.SameVerdicts.{verdict_same as homothetic_verdict_same}
 use Rattle.rp_quasi.proofs.SameVerdicts.{verdict_same as quasilinear_verdict_same}
 use Rattle.rp_table.specs.Cost.{cost_at, cost_of}
 use Rattle.rp_evidence.specs.declared.certificate.Kind.TheVariants.{Table}
-use Rattle.rp_agreement.specs.ReadBack.{IsReadBack, table_certificate}
+use Rattle.rp_agreement.specs.ReadBack.{IsReadBack}
 use Rattle.rp_agreement.proofs.ItemsFit.{analysis_readable, table_limited}
 use Rattle.rp_agreement.proofs.SameValues.{text_read_back}
 use Rattle.rp_answers.specs.AnalysisText.{certificate_of}
@@ -28,7 +29,7 @@ use Rattle.rp_answers.proofs.analysis.analyse.Goals as goal
 
 pub returns : goal.returns
 returns c =
-    let is_test = c.in_ok-tested.ensures in
+    let is_test = c.in_ok-tested.ensures.is_test in
     let is = is_test.of_table in
     let costs = c.in_ok-tested.tested.costs in
     let n = costs.n in
@@ -42,8 +43,8 @@ returns c =
     let efficiency = c.in_ok-efficiency.efficiency in
     let homothetic = c.in_ok-homothetic.homothetic in
     let quasilinear = c.in_ok-quasilinear.quasilinear in
-    let garp_proves : Proves input (GarpItem garp) = garp_there costs table is garp is_test.proves in
-    let garp_given : IsOwnGarpVerdict input.n input.levels input.cost garp = garp_given_there costs table is garp is_test.given in
+    let garp_proves : Proves input (GarpItem garp) = garp_there costs table is garp is_test.is_test.proves in
+    let garp_given : IsOwnGarpVerdict input.n input.levels input.cost garp = garp_given_there costs table is garp c.in_ok-tested.ensures.given in
     let afriat_proves : Proves input (AfriatItem afriat) = afriat_there costs table is afriat c.in_ok-afriat.ensures.proves in
     let afriat_given : IsOwnAfriatVerdict input.n input.levels input.cost afriat = afriat_given_there costs table is afriat c.in_ok-afriat.ensures.given in
     let efficiency_proves : Proves input (EfficiencyItem efficiency) = rw (← is.size) (efficiency_same n here there efficiency same c.in_ok-efficiency.ensures.proves) in
@@ -52,7 +53,7 @@ returns c =
     let homothetic_given : IsHomotheticVerdict input.n input.cost homothetic = rw (← is.size) (homothetic_verdict_same n here there homothetic same c.in_ok-homothetic.ensures.verdict) in
     let quasilinear_proves : Proves input (QuasiItem quasilinear) = rw (← is.size) (quasilinear_same n here there quasilinear same c.in_ok-quasilinear.ensures.proves) in
     let quasilinear_given : IsQuasilinearVerdict input.n input.cost quasilinear = rw (← is.size) (quasilinear_verdict_same n here there quasilinear same c.in_ok-quasilinear.ensures.verdict) in
-    let made = c.in_ok-certificate.ensures ∙ ap (table_certificate input.levels) c.in_ok-items.ensures in
+    let made = c.in_ok-certificate.ensures ∙ ap (λ levels. table_certificate levels c.in_ok-items.items.items) c.levels.ensures.same ∙ ap (table_certificate input.levels) c.in_ok-items.ensures in
     record {
       garp = garp;
       afriat = afriat;

@@ -11,14 +11,14 @@ use Rattle.rp_answers.proofs.utility.utility_text.Goals as goal
 
 pub returns : goal.returns
 returns c =
-    let is_test = c.in_ok-tested.ensures in
+    let is_test = c.in_ok-tested.ensures.is_test in
     let is = is_test.of_table in
     let costs = c.in_ok-tested.tested.costs in
     let table = c.args.table.now in
     let input = input_of_table table in
     let garp = c.in_ok-tested.tested.garp in
     let afriat = c.in_ok-afriat.afriat in
-    let garp_proves : Proves input (GarpItem garp) = garp_there costs table is garp is_test.proves in
+    let garp_proves : Proves input (GarpItem garp) = garp_there costs table is garp is_test.is_test.proves in
     let afriat_proves : Proves input (AfriatItem afriat) = afriat_there costs table is afriat c.in_ok-afriat.ensures.proves in
     let afriat_given : IsOwnAfriatVerdict input.n input.levels input.cost afriat = afriat_given_there costs table is afriat c.in_ok-afriat.ensures.given in
     record {
@@ -26,7 +26,7 @@ returns c =
       afriat = afriat;
       lines = c.in_ok-lines.lines.items;
       garp_proves = garp_proves;
-      garp_given = garp_given_there costs table is garp is_test.given;
+      garp_given = garp_given_there costs table is garp c.in_ok-tested.ensures.given;
       afriat_proves = afriat_proves;
       afriat_given = afriat_given;
       accepted = first_accepted input garp garp_proves afriat afriat_proves afriat_given;

@@ -1,23 +1,14 @@
 use Rattle.std.proofs.Common.{◌∙◌}
 use Rattle.rp_evidence.specs.Input.{input_of_table}
-use Rattle.rp_answers.proofs.GarpFirstLemmas.{garp_at_one_there}
+use Rattle.rp_garp.proofs.TestLemmas.{judged_in_table}
 use Rattle.rp_agreement.proofs.ItemsFit.{table_limited}
 use Rattle.rp_people.proofs.FullTables.{table_is_full}
 use Rattle.rp_answers.proofs.BoundItems.{welfare_record}
-use Rattle.rp_answers.proofs.GarpTestLemmas.{closes_at_one, judged_at_one}
 use Rattle.rp_answers.proofs.welfare.welfare_item.Goals as goal
-
-pub welfare_by_closure-requires-clause-verdict : goal.welfare_by_closure-requires-clause-verdict
-welfare_by_closure-requires-clause-verdict c =
-    judged_at_one c.args.table.now c.requires.no_levels c.args.tested.now c.requires.is_test
-
-pub welfare_by_closure-requires-clause-closes : goal.welfare_by_closure-requires-clause-closes
-welfare_by_closure-requires-clause-closes c =
-    closes_at_one c.args.table.now c.requires.no_levels c.args.tested.now c.requires.is_test
 
 pub returns : goal.returns
 returns c =
     let q = c.requires in
-    let given = c.in_ok-evidence.ensures in
-    welfare_record (input_of_table c.args.table.now) q.no_levels (table_limited c.args.table.now q.is_test.valid) (table_is_full c.args.table.now q.is_test.valid) c.args.tested.now.garp c.args.prices.now c.from_vec.result (c.from_vec.ensures ∙ c.in_ok-prices.ensures.items) q.prices.one_each q.prices.fit c.args.t c.in_ok-evidence.evidence q.observed
-    (garp_at_one_there c.args.tested.now.costs c.args.table.now q.is_test.of_table c.args.tested.now.garp (judged_at_one c.args.table.now q.no_levels c.args.tested.now q.is_test)) given.proves given.given
+    let given = c.in_ok-welfare.ensures in
+    welfare_record (input_of_table c.args.table.now) q.no_levels (table_limited c.args.table.now q.is_test.valid) (table_is_full c.args.table.now q.is_test.valid) c.args.tested.now.garp c.args.prices.now c.from_vec.result (c.from_vec.ensures ∙ c.in_ok-prices.ensures.items) q.prices.one_each q.prices.fit c.args.t c.in_ok-welfare.welfare q.observed
+    (judged_in_table c.args.table.now q.no_levels c.args.tested.now q.is_test) given.proves given.given

@@ -6,7 +6,7 @@ use Rattle.rp_table.specs.Cost.{cost_at}
 use Rattle.rp_garp.specs.Verdict.{IsGarpVerdict}
 use Rattle.rp_garp.proofs.MeetingLemmas.{if_ok}
 use Rattle.rp_garp.proofs.SameVerdicts.{given_at_one, proves_at_one}
-use Rattle.rp_garp.proofs.verdict.garp_by_closure.Goals as goal
+use Rattle.rp_garp.proofs.verdict.garp.Goals as goal
 
 pub returns-clause-proves_without_levels : goal.returns-clause-proves_without_levels
 returns-clause-proves_without_levels c =

@@ -1,0 +1,8 @@
+use Rattle.rp_garp.proofs.garp_test.GarpTest.of.Goals as goal
+
+pub returns-clause-is_test : goal.returns-clause-is_test
+returns-clause-is_test c = record {
+  valid = c.n.ensures.valid;
+  of_table = c.in_ok-costs.ensures;
+  is_test = record { closes = c.in_ok-closure.ensures; proves = c.in_ok-garp.ensures.proves };
+}
