@@ -9,7 +9,6 @@ mod bounds;
 mod check;
 mod listed;
 mod lower;
-mod program;
 mod question;
 mod report;
 mod tech;
