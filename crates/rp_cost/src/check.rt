@@ -10,10 +10,11 @@ ghost use Rattle.rp_cost.specs.CostBounds.{BoundsHold, LowerHolds, ProvesCostBou
 ghost use Rattle.rp_cost.specs.InnerCheapest.{NoneCheaper};
 ghost use Rattle.rp_producers.specs.OuterSet.{NoneMakes};
 
-use crate::bounds::{CostBounds, Upper};
+use crate::bounds::CostBounds;
 use crate::listed::write_not_above;
 use crate::question::Question;
 use crate::tech::Tech;
+use crate::upper::Upper;
 use rp_clauses::bound::bound_holds;
 use rp_clauses::reach::ROOM;
 use rp_evidence::Bound;

@@ -36,11 +36,7 @@ fn spent(table: &Table, t: u32) -> u64
 
 impl<'a> LeastCostProgram<'a> {
     /// The program at new prices, one for each good of the table, over the listed observations.
-    pub fn make(
-        table: &'a Table,
-        prices: &'a [u32],
-        listed: &'a [u32],
-    ) -> LeastCostProgram<'a>
+    pub fn make(table: &'a Table, prices: &'a [u32], listed: &'a [u32]) -> LeastCostProgram<'a>
         requires prices { AreNewPrices (goods_of table.now) prices.now }
         requires observed { All (λ t. t < records_of table.now) listed.now }
         requires few { length listed.now ≤ RECORDS }
