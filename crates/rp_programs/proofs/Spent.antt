@@ -10,7 +10,7 @@ use Rattle.rp_table.specs.Tables.{IsTable, Observations, goods_of, price_of, qua
 use Rattle.rp_table.specs.declared.TheConstants.{LARGEST}
 use Rattle.rp_table.proofs.SumsBelow.{sum_below-mono}
 
-sum_at_most : (k m : ℕ) (f : ℕ → ℕ) → ((i : ℕ) → i < k → f i ≤ m) → sum_below k f ≤ k * m
+pub sum_at_most : (k m : ℕ) (f : ℕ → ℕ) → ((i : ℕ) → i < k → f i ≤ m) → sum_below k f ≤ k * m
 sum_at_most zero m f h = omega arith
 sum_at_most (suc k) m f h =
     let before = sum_at_most k m f (λ i l. h i (omega arith)) in
