@@ -6,7 +6,7 @@ use Rattle.rp_table.specs.Rows.{row_of, rows_count}
 use Rattle.rp_table.specs.Tables.{goods_of}
 use Rattle.rp_cost.specs.AskedOutputs.{AskedOutputs}
 use Rattle.rp_cost.specs.Axioms.{MeetsCost}
-use Rattle.rp_cost.specs.CostBounds.{AreCostBounds, BoundProducers, BoundsHold, IsAtMost, ProvesCostBounds}
+use Rattle.rp_cost.specs.CostBounds.{AreCostBounds, BoundProducers, BoundsHold, IsAtMostUpper, ProvesCostBounds}
 use Rattle.rp_cost.specs.CostBounds.{ShowsNothing}
 use Rattle.rp_producers.specs.OuterSet.{AllMakeMore, MadeIsOuter}
 use Rattle.rp_cost.specs.Report.{IsProductionReport}
@@ -22,7 +22,7 @@ pub record IsCostAnswer (tech : Technology) (prices : List ℕ) (y : ℕ) (bound
   pub given : AreCostBounds (input_of_table tech.table) (slice_index tech.y) y (slice_index prices) bounds
   pub accepted : BoundsHold (input_of_table tech.table) (slice_index tech.y) y (slice_index prices) bounds
   pub made_is_outer : MadeIsOuter (input_of_table tech.table) (slice_index tech.y) y
-  pub lower_at_most_upper : IsAtMost bounds.lower bounds.upper
+  pub lower_at_most_upper : IsAtMostUpper bounds.lower bounds.upper
   pub nothing_below : AllMakeMore (input_of_table tech.table) (slice_index tech.y) y
       → ShowsNothing (goods_of tech.table) bounds.lower
   pub producers : BoundProducers (input_of_table tech.table) (slice_index tech.y) y (slice_index prices) bounds

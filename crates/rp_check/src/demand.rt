@@ -21,7 +21,7 @@ use rp_clauses::standard::WHOLE;
 use rp_clauses::walk::check_violation;
 use rp_evidence::{Bound, DemandPart, Failure, GoodBounds, Point, Reason, fails};
 use rp_farkas::Measure;
-use rp_programs::{LowerProgram, UpperProgram};
+use rp_programs::DemandProgram;
 use rp_table::{NewBudget, NewPrices};
 
 /// Checks evidence on demand at new prices when `m` is spent; `garp_shown` says whether an item before it shows by
@@ -178,7 +178,7 @@ fn lower_holds(budget: &NewBudget<'_>, below: &[u32], g: u32, bound: &Bound) -> 
         (λ x. x g) bound.now }
 {
     bound_holds(
-        &LowerProgram::make(budget, below, g),
+        &DemandProgram::least(budget, below, g),
         Measure::Price(g),
         bound,
     )
@@ -193,7 +193,7 @@ fn upper_holds(budget: &NewBudget<'_>, below: &[u32], g: u32, bound: &Bound) -> 
         (λ x. x g) bound.now }
 {
     bound_holds(
-        &UpperProgram::make(budget, below, g),
+        &DemandProgram::greatest(budget, below, g),
         Measure::Price(g),
         bound,
     )

@@ -185,7 +185,7 @@ fn cost_holds(new_prices: &NewPrices<'_>, list: &[u32], bound: &Bound) -> bool
         bound.now }
 {
     bound_holds(
-        &LeastCostProgram::make(new_prices, list),
+        &LeastCostProgram::make(new_prices.table, new_prices.prices, list),
         Measure::Cost,
         bound,
     )

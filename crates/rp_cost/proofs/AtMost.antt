@@ -4,9 +4,9 @@ use Rattle.rp_evidence.specs.Input.{TableInput}
 use Rattle.rp_evidence.specs.declared.demand.Bound.{Bound}
 use Rattle.rp_evidence.specs.declared.demand.Bound.TheVariants.{Shown, Wide}
 use Rattle.rp_producers.specs.CostAxiom.{MeetsCostAxiom}
-use Rattle.rp_cost.specs.CostBounds.{IsAtMost, IsUpperCostBound, ProvesLowerCost}
+use Rattle.rp_cost.specs.CostBounds.{IsAtMostUpper, IsUpperCostBound, ProvesLowerCost}
 use Rattle.rp_producers.specs.OuterSet.{MadeIsOuter}
-use Rattle.rp_cost.specs.declared.bounds.Upper.{Upper}
+use Rattle.rp_cost.specs.declared.upper.Upper.{Upper}
 
 module _ (input : TableInput) (y : ℕ → ℕ) (y0 : ℕ) (minimises : MeetsCostAxiom input.n input.cost y) where
   pub made_in_outer_set : MadeIsOuter input y y0
@@ -18,7 +18,7 @@ module _ (input : TableInput) (y : ℕ → ℕ) (y0 : ℕ) (minimises : MeetsCos
         omega (arith, h, e);
   }
 
-  pub lower_at_most : (prices : ℕ → ℕ) (lower : Bound) (upper : Option Upper) → ProvesLowerCost input y y0 prices lower → IsUpperCostBound input y y0 prices upper → IsAtMost lower upper
+  pub lower_at_most : (prices : ℕ → ℕ) (lower : Bound) (upper : Option Upper) → ProvesLowerCost input y y0 prices lower → IsUpperCostBound input y y0 prices upper → IsAtMostUpper lower upper
   lower_at_most prices (Shown value pair) None proves given = tt
   lower_at_most prices (Wide step) None proves given = tt
   lower_at_most prices (Wide step) (Some upper) proves given = tt

@@ -30,7 +30,7 @@ use Rattle.rp_simplex.proofs.Sound.{first-right, first-slack}
 use Rattle.rp_table.specs.declared.TheConstants.{LARGEST}
 use Rattle.rp_cost.specs.CostBounds.{IsLowerCostBound, ShowsNothing}
 use Rattle.rp_producers.specs.OuterSet.{AllMakeMore, ListsNotAbove}
-use Rattle.rp_cost.proofs.Enough.{sum_at_most}
+use Rattle.rp_programs.proofs.Spent.{sum_at_most}
 
 fits_delta : (i k : ℕ) → FitsEvidence (unsigned_abs (delta i k))
 fits_delta i k = either (eqb i k)

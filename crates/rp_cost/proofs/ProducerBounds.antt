@@ -19,7 +19,7 @@ use Rattle.rp_cost.specs.Axioms.{AreFirstBroken}
 use Rattle.rp_cost.specs.CostBounds.{BoundProducers, IsUpperCostBound, ProvesLowerCost, SufficesAt}
 use Rattle.rp_cost.specs.declared.axioms.Axiom.{Axiom}
 use Rattle.rp_cost.specs.declared.axioms.Axiom.TheVariants.{Holds, Pair}
-use Rattle.rp_cost.specs.declared.bounds.Upper.{Upper}
+use Rattle.rp_cost.specs.declared.upper.Upper.{Upper}
 
 -- ---- the axioms
 

@@ -15,7 +15,7 @@ use Rattle.rp_people.specs.Bundles.{IsBundle}
 use Rattle.rp_producers.specs.OuterSet.{IsLowerCost, IsUpperCost, ListsNotAbove, NoneMakes}
 use Rattle.rp_producers.specs.RequirementSets.{AreRequirementSets, RationalizeCost}
 use Rattle.rp_cost.specs.declared.bounds.CostBounds.{CostBounds}
-use Rattle.rp_cost.specs.declared.bounds.Upper.{Upper}
+use Rattle.rp_cost.specs.declared.upper.Upper.{Upper}
 
 module _ (input : TableInput) (y : ℕ → ℕ) (y0 : ℕ) (prices : ℕ → ℕ) where
   -- ---- when evidence holds
@@ -83,10 +83,10 @@ module _ (input : TableInput) (y : ℕ → ℕ) (y0 : ℕ) (prices : ℕ → ℕ
         → RationalizeCost input y suffices → SufficesAt suffices bounds.upper
 
 -- A shown bound from below is at most the one from above, where there is one.
-abbrev pub IsAtMost : Bound → Option Upper → Type 0
-IsAtMost lower None = Unit {0}
-IsAtMost (Shown value pair) (Some upper) = value.num ≤ upper.cost * value.den
-IsAtMost (Wide step) (Some upper) = Unit {0}
+abbrev pub IsAtMostUpper : Bound → Option Upper → Type 0
+IsAtMostUpper lower None = Unit {0}
+IsAtMostUpper (Shown value pair) (Some upper) = value.num ≤ upper.cost * value.den
+IsAtMostUpper (Wide step) (Some upper) = Unit {0}
 
 -- Nothing is spent: every input is 0 over 1, with no column of the program.
 pub record IsNothing (inputs : ℕ) (value : Fraction) (pair : Pair) : Type 0 where

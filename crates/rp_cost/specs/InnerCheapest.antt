@@ -2,7 +2,7 @@
 use Rattle.std.specs.Prelude.{◌≡◌, ℕ, ◌<◌, ◌≤◌, Option, Some, None, if◌then◌else◌, nat_le}
 use Rattle.rp_evidence.specs.Demand.{spending}
 use Rattle.rp_evidence.specs.Input.{TableInput}
-use Rattle.rp_cost.specs.declared.bounds.Upper.{Upper}
+use Rattle.rp_cost.specs.declared.upper.Upper.{Upper}
 
 -- The later one only where it costs less.
 abbrev pub cheaper_of : Option Upper → Upper → Upper

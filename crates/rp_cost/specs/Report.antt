@@ -13,8 +13,8 @@ use Rattle.rp_cost.specs.declared.axioms.Axiom.TheVariants.{Holds, Pair}
 use Rattle.rp_cost.specs.declared.bounds.CostBounds.{CostBounds}
 
 -- how many observations and inputs there are, and the places of prices and quantities
-abbrev pub head_text : Technology → List ℕ
-head_text tech = line_of
+abbrev pub production_head_text : Technology → List ℕ
+production_head_text tech = line_of
     (codes "technology records " ++ decimal (records_of tech.table) ++ codes " inputs " ++ decimal (goods_of tech.table)
     ++ codes " places " ++ decimal tech.table.price_places ++ codes " " ++ decimal tech.table.quantity_places)
 
@@ -60,7 +60,7 @@ answers_text (suc k) asked bounds = answers_text k asked bounds ++ answer_text a
 -- the whole report
 abbrev pub production_report : Technology → AskedOutputs → Axiom → Option Axiom → List CostBounds → List ℕ
 production_report tech asked cost profit bounds =
-    head_text tech ++ axiom_text (codes "cost") cost ++ profit_text profit
+    production_head_text tech ++ axiom_text (codes "cost") cost ++ profit_text profit
     ++ answers_text (rows_count asked.prices.prices asked.prices.goods) asked bounds
 
 -- the text is the report of these bounds, with the verdicts on the technology's axioms

@@ -4,24 +4,17 @@ ghost use Rattle.rp_table.specs.NewPrices.{AreNewPrices};
 ghost use Rattle.rp_table.specs.Tables.{goods_of};
 ghost use Rattle.rp_table.specs.declared.TheConstants.{LARGEST};
 ghost use Rattle.rp_cost.specs.Axioms.{MeetsCost};
-ghost use Rattle.rp_cost.specs.CostBounds.{AreCostBounds, BoundProducers, BoundsHold, IsAtMost};
-ghost use Rattle.rp_cost.specs.CostBounds.{ProvesCostBounds, ShowsNothing};
+ghost use Rattle.rp_cost.specs.CostBounds.{AreCostBounds, BoundProducers, BoundsHold};
+ghost use Rattle.rp_cost.specs.CostBounds.{IsAtMostUpper, ProvesCostBounds, ShowsNothing};
 ghost use Rattle.rp_producers.specs.OuterSet.{AllMakeMore, MadeIsOuter};
 
 use crate::lower::lower_bound;
 use crate::question::Question;
 use crate::tech::Tech;
-use crate::upper::first_cheapest;
+use crate::upper::{Upper, first_cheapest};
 use rp_evidence::Bound;
 use rp_num::NoMemory;
 use std::alloc::Global;
-
-/// What the inputs of an observation that made enough cost at the new prices, scaled by both scales.
-#[derive(Clone, Copy, Debug)]
-pub struct Upper {
-    pub cost: u64,
-    pub at: u32,
-}
 
 /// Bounds on what an output costs at new prices. There is none from above where no observation made as much.
 #[derive(Debug, Drop)]
@@ -50,7 +43,7 @@ pub fn cost_bounds(
         (slice_index tech.now.y) y (slice_index prices.now)) }
     ensures made_is_outer { MadeIsOuter (input_of_table tech.now.table) (slice_index tech.now.y) y }
     ensures lower_at_most_upper { IfOk result
-        (λ bounds. IsAtMost bounds.lower bounds.upper) }
+        (λ bounds. IsAtMostUpper bounds.lower bounds.upper) }
     ensures nothing_below { AllMakeMore (input_of_table tech.now.table) (slice_index tech.now.y) y
         → IfOk result (λ bounds. ShowsNothing (goods_of tech.now.table) bounds.lower) }
     ensures producers { IfOk result (BoundProducers (input_of_table tech.now.table)

@@ -10,11 +10,11 @@ ghost use Rattle.rp_cost.specs.CostBounds.{BoundsHold, LowerHolds, ProvesCostBou
 ghost use Rattle.rp_cost.specs.InnerCheapest.{NoneCheaper};
 ghost use Rattle.rp_producers.specs.OuterSet.{NoneMakes};
 
-use crate::bounds::{CostBounds, Upper};
+use crate::bounds::CostBounds;
 use crate::listed::write_not_above;
-use crate::program::OuterProgram;
 use crate::question::Question;
 use crate::tech::Tech;
+use crate::upper::Upper;
 use rp_clauses::bound::bound_holds;
 use rp_clauses::reach::ROOM;
 use rp_evidence::Bound;
@@ -98,5 +98,5 @@ fn holds_over(question: &Question<'_>, listed: &[u32], lower: &Bound) -> bool
         listed.now) (spending (goods_of question.now.tech.now.table)
         (slice_index question.now.prices.now)) lower.now }
 {
-    bound_holds(&OuterProgram::make(question, listed), Measure::Cost, lower)
+    bound_holds(&question.program(listed), Measure::Cost, lower)
 }

@@ -9,7 +9,6 @@ ghost use Rattle.rp_table.specs.declared.TheConstants.{RECORDS};
 ghost use Rattle.rp_cost.specs.CostBounds.{IsLowerCostBound, ProvesLowerCost};
 
 use crate::listed::write_not_above;
-use crate::program::OuterProgram;
 use crate::question::Question;
 use rp_clauses::reach::ROOM;
 use rp_evidence::Bound;
@@ -47,5 +46,5 @@ fn bound_over(alloc: Global, question: &Question<'_>, listed: &[u32]) -> Result<
         (input_of_table question.now.tech.now.table) (slice_index question.now.prices.now)
         listed.now)) }
 {
-    bound_of(alloc, &OuterProgram::make(question, listed), Measure::Cost)
+    bound_of(alloc, &question.program(listed), Measure::Cost)
 }

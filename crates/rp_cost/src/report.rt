@@ -2,7 +2,7 @@ ghost use Rattle.std.specs.Prelude.{◌≡◌, ◌++◌, ◌<◌, [], IfOk, OnOk
 ghost use Rattle.rp_cost.specs.Axioms.{MeetsCost};
 ghost use Rattle.rp_cost.specs.Report.{answer_text, answers_text, asked_text, axiom_text};
 ghost use Rattle.rp_cost.specs.Report.{both_text};
-ghost use Rattle.rp_cost.specs.Report.{IsProductionReport, found_text, head_text};
+ghost use Rattle.rp_cost.specs.Report.{IsProductionReport, found_text, production_head_text};
 ghost use Rattle.rp_cost.specs.Report.{production_report, profit_text};
 ghost use Rattle.rp_table.specs.Rows.{rows_count};
 
@@ -59,7 +59,7 @@ fn report_of(
 /// Appends the line on the technology: how many observations and inputs it has, and the places of its prices and
 /// quantities.
 fn push_head(alloc: Global, out: &mut Vec<u8>, tech: &Tech) -> Result<(), NoMemory>
-    ensures { OnOk result (out.new.items ≡ out.old.items ++ head_text tech.now) }
+    ensures { OnOk result (out.new.items ≡ out.old.items ++ production_head_text tech.now) }
 {
     push_after::<Number>(alloc, out, b"technology records ", tech.count())?;
     push_after::<Number>(alloc, out, b" inputs ", tech.inputs())?;

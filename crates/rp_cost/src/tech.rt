@@ -38,6 +38,14 @@ impl Tech {
         Tech { table, y, p }
     }
 
+    /// The table of input prices and inputs.
+    pub(crate) fn table(&self) -> &Table
+        ensures same { result.now ≡ self.now.table }
+        ensures valid { IsTechnology self.now }
+    {
+        &self.table
+    }
+
     /// How many observations there are.
     pub fn count(&self) -> u32
         ensures count { result ≡ records_of self.now.table }

@@ -4,8 +4,14 @@ ghost use Rattle.rp_table.specs.Spending.{spending};
 ghost use Rattle.rp_cost.specs.CostBounds.{IsUpperCostBound};
 ghost use Rattle.rp_cost.specs.InnerCheapest.{cheaper_of};
 
-use crate::bounds::Upper;
 use crate::question::Question;
+
+/// What the inputs of an observation that made enough cost at the new prices, scaled by both scales.
+#[derive(Clone, Copy, Debug)]
+pub struct Upper {
+    pub cost: u64,
+    pub at: u32,
+}
 
 /// The first observation of least cost among those that made enough.
 pub(crate) fn first_cheapest(question: &Question) -> Option<Upper>

@@ -9,6 +9,7 @@ use Rattle.std.proofs.lemmas.Int.{ints, to_z-of_z, fits_signed_from_abs, unsigne
 use Rattle.std.proofs.lemmas.Nat.{mul-le}
 use Rattle.rp_farkas.specs.declared.entry.Entry.{Entry}
 use Rattle.std.proofs.Math.ListN.{drop_of_length-le}
+use Rattle.rp_farkas.specs.Limits.{largest_entry, most_columns}
 use Rattle.rp_farkas.specs.Listing.{IsListing, numerator_at}
 use Rattle.rp_farkas.specs.Total.{total}
 use Rattle.rp_farkas.proofs.Totals.{total-suc}
@@ -16,7 +17,7 @@ use Rattle.rp_farkas.proofs.Listings.{ListedFrom-length, listed_from, total-list
 
 -- the greatest absolute value of one product
 abbrev pub product_bound : ℕ
-product_bound = 2 ^ 51 * (2 ^ 63 - 1)
+product_bound = largest_entry * (2 ^ 63 - 1)
 
 abs_sum : (s t : ℤ) → unsigned_abs (s +ℤ t) ≤ unsigned_abs s + unsigned_abs t
 abs_sum s t = omega (arith, ints)
@@ -27,9 +28,9 @@ pub record AddsProduct (s : ℤ) (a : ℤ) (v k : ℕ) : Type 0 where
   pub product_fits : FitsSigned w128 (a *ℤ pos v)
   pub sum_fits : FitsSigned w128 (s +ℤ a *ℤ pos v)
 
-pub adds_product : (s a : ℤ) (v k : ℕ) → unsigned_abs s ≤ k * product_bound → unsigned_abs a ≤ 2 ^ 51 → v < 2 ^ 63 → k < 8192 → AddsProduct s a v k
+pub adds_product : (s a : ℤ) (v k : ℕ) → unsigned_abs s ≤ k * product_bound → unsigned_abs a ≤ largest_entry → v < 2 ^ 63 → k < most_columns → AddsProduct s a v k
 adds_product s a v k hs ha hv hk =
-    let size : unsigned_abs (a *ℤ pos v) ≤ product_bound = omega (arith, unsigned_abs-mul a (pos v), mul-le (unsigned_abs a) v (2 ^ 51) (2 ^ 63 - 1) ha (omega arith)) in
+    let size : unsigned_abs (a *ℤ pos v) ≤ product_bound = omega (arith, unsigned_abs-mul a (pos v), mul-le (unsigned_abs a) v (largest_entry) (2 ^ 63 - 1) ha (omega arith)) in
     let whole : unsigned_abs (s +ℤ a *ℤ pos v) ≤ (k + 1) * product_bound = omega (arith, abs_sum s (a *ℤ pos v)) in
     record {
       bounded = whole;
@@ -45,7 +46,7 @@ listed_total-step f es i d s t l h =
     let opened = ap (λ (r : List Entry). s +ℤ listed_total f r) (drop-here es i d l) in
     omega (arith, ints, opened)
 
-pub room_left : (s : ℤ) (k : ℕ) → unsigned_abs s ≤ k * product_bound → k < 8192 → unsigned_abs s ≤ 8191 * product_bound
+pub room_left : (s : ℤ) (k : ℕ) → unsigned_abs s ≤ k * product_bound → k < most_columns → unsigned_abs s ≤ (most_columns - 1) * product_bound
 room_left s k h l = omega arith
 
 -- a listing has at most as many entries as the program has columns
@@ -68,8 +69,8 @@ added s r a z v fits_r fits_a e is =
     to_z-of_z w128 r (record { sfits = fits_r }) ∙ e ∙ ap (λ (x : ℤ). s +ℤ (x *ℤ pos v)) (to_z-of_z w64 a (record { sfits = fits_a }) ∙ is)
 
 -- a turn of a loop along a listing
-pub listing_kept : (f : ℕ → ℤ) (es : List Entry) (i : ℕ) (d : Entry) (s r a t : ℤ) → i < length es → i < 8192
-    → unsigned_abs (f (get_or es i d).at) ≤ 2 ^ 51 → (get_or es i d).value < 2 ^ 63
+pub listing_kept : (f : ℕ → ℤ) (es : List Entry) (i : ℕ) (d : Entry) (s r a t : ℤ) → i < length es → i < most_columns
+    → unsigned_abs (f (get_or es i d).at) ≤ largest_entry → (get_or es i d).value < 2 ^ 63
     → (s +ℤ listed_total f (drop i es) ≡ t) × (unsigned_abs s ≤ i * product_bound)
     → mag r < 2 ^ 127 → mag a < 2 ^ 63 → r ≡ s +ℤ (to_z w64 (of_z w64 a) *ℤ pos (get_or es i d).value) → a ≡ f (get_or es i d).at
     → (to_z w128 (of_z w128 r) +ℤ listed_total f (drop (i + 1) es) ≡ t) × (unsigned_abs (to_z w128 (of_z w128 r)) ≤ (i + 1) * product_bound)
@@ -81,7 +82,7 @@ listing_kept f es i d s r a t l small bound fits h fits_r fits_a e is =
     subst P (sym gives) (listed_total-step f es i d s t l h.0, (adds_product s z v i h.1 bound fits small).bounded)
 
 -- a turn of a loop along the rows
-pub index_kept : (f : ℕ → ℤ) (i v : ℕ) (s r a : ℤ) → i < 8192 → unsigned_abs a ≤ 2 ^ 51 → v < 2 ^ 63
+pub index_kept : (f : ℕ → ℤ) (i v : ℕ) (s r a : ℤ) → i < most_columns → unsigned_abs a ≤ largest_entry → v < 2 ^ 63
     → (s ≡ total i f) × (unsigned_abs s ≤ i * product_bound)
     → mag r < 2 ^ 127 → mag a < 2 ^ 63 → r ≡ s +ℤ (to_z w64 (of_z w64 a) *ℤ pos v) → f i ≡ a *ℤ pos v
     → (to_z w128 (of_z w128 r) ≡ total (i + 1) f) × (unsigned_abs (to_z w128 (of_z w128 r)) ≤ (i + 1) * product_bound)

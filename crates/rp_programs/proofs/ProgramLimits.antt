@@ -5,15 +5,18 @@ use Rattle.std.proofs.lemmas.Int.{ints}
 use Rattle.std.proofs.lemmas.Nat.{mul-add-lt}
 use Rattle.std.specs.Int.RustNames.{unsigned_abs}
 use Rattle.rp_evidence.specs.DemandEvidence.{budget_of}
-use Rattle.rp_evidence.specs.DemandPrograms.{demand_entry, demand_program, demand_worth, lower_program, upper_program}
+use Rattle.rp_evidence.specs.DemandPrograms.{demand_entry, demand_program, demand_worth}
 use Rattle.rp_evidence.specs.Input.{input_of_table}
 use Rattle.rp_evidence.specs.LeastCost.{least_cost_program}
 use Rattle.rp_farkas.specs.Limits.{IsWithinLimits, largest_entry}
-use Rattle.rp_table.specs.Cost.{CostTable, IsCostTable, IsCostsOf, cost_of}
 use Rattle.rp_table.specs.Limits.{IsExpenditure}
 use Rattle.rp_table.specs.NewPrices.{AreNewPrices}
 use Rattle.rp_table.specs.Tables.{IsTable, Observations, goods_of, price_of, records_of}
 use Rattle.rp_table.specs.declared.TheConstants.{RECORDS}
+use Rattle.rp_programs.proofs.Spent.{spent_small}
+use Rattle.rp_programs.specs.InnerRightSide.{right_side}
+use Rattle.rp_programs.specs.declared.demand.Extreme.{Extreme}
+use Rattle.rp_programs.specs.declared.demand.Extreme.TheVariants.{Least, Greatest}
 
 -- ---- entries
 
@@ -32,7 +35,7 @@ at_least_0 : (b : Bool) (n m : ℕ) → pos 0 ≤ℤ cond b (pos n) (pos m)
 at_least_0 true n m = omega (arith, ints)
 at_least_0 false n m = omega (arith, ints)
 
--- ---- prices and what was spent
+-- ---- prices
 
 price_small : (table : Observations) → IsTable table → (t g : ℕ) → t < records_of table → g < goods_of table → price_of table t g ≤ largest_entry
 price_small table valid t g t_in g_in =
@@ -42,14 +45,7 @@ price_small table valid t g t_in g_in =
 new_price_small : (goods : ℕ) (prices : List ℕ) → AreNewPrices goods prices → (g : ℕ) → g < goods → slice_index prices g ≤ largest_entry
 new_price_small goods prices new g g_in = let h = (new.fit g 0 (omega (arith, new.one_each))).1 in omega arith
 
-pub spent_small : (table : Observations) (costs : CostTable) → IsCostTable costs → IsCostsOf costs table → (t : ℕ) → t < records_of table → cost_of table t t ≤ largest_entry
-spent_small table costs valid of t t_in =
-    let a : t < costs.n = omega (arith, of.size) in
-    let h = (valid.limits (t * costs.n + t) 0 (omega (arith, mul-add-lt t costs.n t costs.n a a, valid.all))).1 in
-    let e = of.each t t t_in t_in in
-    omega (arith, h, e)
-
-module _ (table : Observations) (valid : IsTable table) (spent : (t : ℕ) → t < records_of table → cost_of table t t ≤ largest_entry)
+module _ (table : Observations) (valid : IsTable table)
     (prices : List ℕ) (new : AreNewPrices (goods_of table) prices)
     (listed : List ℕ) (observed : All (λ t. t < records_of table) listed) (few : length listed ≤ RECORDS) where
   -- ---- the least cost
@@ -60,7 +56,7 @@ module _ (table : Observations) (valid : IsTable table) (spent : (t : ℕ) → t
     cols_at_most = omega (arith, few);
     a_bounded = λ i j i_in j_in. price_small table valid (slice_index listed j) i (observed j 0 j_in) i_in;
     b_bounded = λ i i_in. new_price_small (goods_of table) prices new i i_in;
-    c_bounded = λ j j_in. spent (slice_index listed j) (observed j 0 j_in);
+    c_bounded = λ j j_in. spent_small table valid (slice_index listed j) (observed j 0 j_in);
     b_not_negative = λ i i_in. omega (arith, ints);
   }
 
@@ -80,7 +76,7 @@ module _ (table : Observations) (valid : IsTable table) (spent : (t : ℕ) → t
 
     c_small : (j : ℕ) → unsigned_abs (demand_worth (input_of_table table) (budget_of prices m) listed j) ≤ largest_entry
     c_small j = elim (cases_lt j (length listed)) [
-      | inl l ↦ abs_either (ltb j (length listed)) _ _ largest_entry (spent (slice_index listed j) (observed j 0 l)) rest
+      | inl l ↦ abs_either (ltb j (length listed)) _ _ largest_entry (spent_small table valid (slice_index listed j) (observed j 0 l)) rest
       | inr l ↦ abs_past (ltb j (length listed)) _ _ largest_entry (le-ltb j (length listed) l) rest
     ]
       where
@@ -98,11 +94,10 @@ module _ (table : Observations) (valid : IsTable table) (spent : (t : ℕ) → t
       b_not_negative = not_negative;
     }
 
-    pub lower_within : (g : ℕ) → IsWithinLimits (lower_program (input_of_table table) (budget_of prices m) listed g)
-    lower_within g =
+    -- the right side of the least of a good, and of the greatest
+    pub demand_within : (extreme : Extreme) (g : ℕ) → IsWithinLimits (demand_program (input_of_table table) (budget_of prices m) listed (right_side extreme (budget_of prices m) g))
+    demand_within Least g =
         with_right _ (λ i i_in. abs_either (eqb i g) (pos 1) (pos 0) largest_entry (omega arith) (omega arith)) (λ i i_in. at_least_0 (eqb i g) 1 0)
-
-    pub upper_within : (g : ℕ) → IsWithinLimits (upper_program (input_of_table table) (budget_of prices m) listed g)
-    upper_within g =
+    demand_within Greatest g =
         with_right _ (λ i i_in. abs_either (eqb i g) (pos 0) (pos (slice_index prices i)) largest_entry (omega arith) (new_price_small (goods_of table) prices new i i_in))
         (λ i i_in. at_least_0 (eqb i g) 0 (slice_index prices i))

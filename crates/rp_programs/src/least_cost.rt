@@ -1,38 +1,52 @@
-ghost use Rattle.std.specs.Prelude.{◌≡◌, ◌<◌, ◌≤◌, All, length, slice_index};
+ghost use Rattle.std.specs.Prelude.{◌≡◌, ◌<◌, ◌≤◌, ◌^◌, All, length, slice_index};
 ghost use Rattle.rp_evidence.specs.Input.{input_of_table};
 ghost use Rattle.rp_evidence.specs.LeastCost.{least_cost_program};
 ghost use Rattle.rp_farkas.specs.Limits.{IsWithinLimits};
-ghost use Rattle.rp_table.specs.Tables.{records_of};
+ghost use Rattle.rp_table.specs.Cost.{cost_of};
+ghost use Rattle.rp_table.specs.NewPrices.{AreNewPrices};
+ghost use Rattle.rp_table.specs.Tables.{goods_of, records_of};
 ghost use Rattle.rp_table.specs.declared.TheConstants.{RECORDS};
 
 use rp_farkas::Lp;
-use rp_table::NewPrices;
+use rp_table::{Table, cost_of_bundle};
 
 /// The program whose prices are the bundles that cost enough at the listed observations, at the least cost: a row for
 /// each good with its new price, and a column for each listed observation with its prices and what was spent there.
 #[derive(Clone, Copy, Debug)]
 pub struct LeastCostProgram<'a> {
-    new_prices: NewPrices<'a>,
+    table: &'a Table,
+    prices: &'a [u32],
     listed: &'a [u32],
-    ghost observed: { All (λ t. t < records_of new_prices.table.now) listed.now },
+    ghost new: { AreNewPrices (goods_of table.now) prices.now },
+    ghost observed: { All (λ t. t < records_of table.now) listed.now },
     ghost few: { length listed.now ≤ RECORDS },
-    ghost within: { IsWithinLimits (least_cost_program (input_of_table new_prices.table.now)
-        (slice_index new_prices.prices.now) listed.now) },
+    ghost within: { IsWithinLimits (least_cost_program (input_of_table table.now)
+        (slice_index prices.now) listed.now) },
+}
+
+/// What was spent at observation `t`, scaled by both scales.
+fn spent(table: &Table, t: u32) -> u64
+    requires { t < records_of table.now }
+    ensures exact { result ≡ cost_of table.now t t }
+    ensures below { result < 2 ^ 51 }
+{
+    prove!(table.goods() > 0);
+    cost_of_bundle(table.prices(t), table.bundle(t))
 }
 
 impl<'a> LeastCostProgram<'a> {
-    /// The program over the listed observations.
-    pub fn make(new_prices: &NewPrices<'a>, listed: &'a [u32]) -> LeastCostProgram<'a>
-        requires observed { All (λ t. t < records_of new_prices.now.table.now) listed.now }
+    /// The program at new prices, one for each good of the table, over the listed observations.
+    pub fn make(table: &'a Table, prices: &'a [u32], listed: &'a [u32]) -> LeastCostProgram<'a>
+        requires prices { AreNewPrices (goods_of table.now) prices.now }
+        requires observed { All (λ t. t < records_of table.now) listed.now }
         requires few { length listed.now ≤ RECORDS }
         ensures { ⟦<LeastCostProgram<'a> as Lp>⟧.program result
-            ≡ least_cost_program (input_of_table new_prices.now.table.now)
-            (slice_index new_prices.now.prices.now) listed.now }
+            ≡ least_cost_program (input_of_table table.now) (slice_index prices.now) listed.now }
     {
-        prove!(new_prices.table.goods() > 0);
-        prove!(new_prices.costs.n() > 0);
+        prove!(table.goods() > 0);
         LeastCostProgram {
-            new_prices: *new_prices,
+            table,
+            prices,
             listed,
         }
     }
@@ -43,13 +57,13 @@ impl Lp for LeastCostProgram<'_> {
     ghost use Rattle.rp_evidence.specs.Input.{input_of_table};
     ghost use Rattle.rp_evidence.specs.LeastCost.{least_cost_program};
 
-    ghost program = { λ p. least_cost_program (input_of_table p.new_prices.table.now)
-        (slice_index p.new_prices.prices.now) p.listed.now };
+    ghost program = { λ p. least_cost_program (input_of_table p.table.now)
+        (slice_index p.prices.now) p.listed.now };
 
     ghost within_limits = { λ p. p.within };
 
     fn rows(&self) -> u32 {
-        self.new_prices.table.goods()
+        self.table.goods()
     }
 
     fn cols(&self) -> u32 {
@@ -57,15 +71,14 @@ impl Lp for LeastCostProgram<'_> {
     }
 
     fn a(&self, i: u32, j: u32) -> i64 {
-        i64::from(self.new_prices.table.price(self.listed[j as usize], i))
+        i64::from(self.table.price(self.listed[j as usize], i))
     }
 
     fn b(&self, i: u32) -> i64 {
-        i64::from(self.new_prices.price(i))
+        i64::from(self.prices[i as usize])
     }
 
     fn c(&self, j: u32) -> i64 {
-        let t = self.listed[j as usize];
-        self.new_prices.cost(t, t) as i64
+        spent(self.table, self.listed[j as usize]) as i64
     }
 }

@@ -2,11 +2,8 @@
 //! observations. No memory is taken, and nothing is solved.
 #![tactic(auto)]
 
-mod columns;
+mod demand;
 mod least_cost;
-mod lower;
-mod upper;
 
+pub use demand::DemandProgram;
 pub use least_cost::LeastCostProgram;
-pub use lower::LowerProgram;
-pub use upper::UpperProgram;

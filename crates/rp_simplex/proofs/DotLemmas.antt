@@ -7,19 +7,20 @@ use Rattle.std.proofs.lemmas.Int.{ints, to_z-of_z, fits_signed_from_abs, unsigne
 use Rattle.std.proofs.lemmas.Nat.{mul-le}
 use Rattle.std.proofs.lemmas.Bool.{cases_lt}
 use Rattle.std.proofs.lemmas.List.{get_or_past}
+use Rattle.rp_farkas.specs.Limits.{largest_entry, most_rows}
 use Rattle.rp_farkas.specs.Total.{total}
 use Rattle.rp_farkas.proofs.Totals.{total-suc}
 use Rattle.rp_simplex.specs.InnerCombined.{AreSmall, ElementsFit, dot}
 
 -- the greatest absolute value of one product
 abbrev pub product_bound : ℕ
-product_bound = 2 ^ 63 * 2 ^ 51
+product_bound = 2 ^ 63 * largest_entry
 
 pub abs_sum : (s t : ℤ) → unsigned_abs (s +ℤ t) ≤ unsigned_abs s + unsigned_abs t
 abs_sum s t = omega (arith, ints)
 
-pub product_size : (a b : ℤ) → unsigned_abs a < 2 ^ 63 → unsigned_abs b ≤ 2 ^ 51 → unsigned_abs (a *ℤ b) ≤ product_bound
-product_size a b ha hb = omega (arith, unsigned_abs-mul a b, mul-le (unsigned_abs a) (unsigned_abs b) (2 ^ 63) (2 ^ 51) (omega arith) hb)
+pub product_size : (a b : ℤ) → unsigned_abs a < 2 ^ 63 → unsigned_abs b ≤ largest_entry → unsigned_abs (a *ℤ b) ≤ product_bound
+product_size a b ha hb = omega (arith, unsigned_abs-mul a b, mul-le (unsigned_abs a) (unsigned_abs b) (2 ^ 63) (largest_entry) (omega arith) hb)
 
 back64 : (z : ℤ) → unsigned_abs z < 2 ^ 63 → to_z w64 (of_z w64 z) ≡ z
 back64 z fits = to_z-of_z w64 z (fits_signed_from_abs w64 z fits)
@@ -27,7 +28,7 @@ back64 z fits = to_z-of_z w64 z (fits_signed_from_abs w64 z fits)
 back128 : (z : ℤ) → unsigned_abs z < 2 ^ 127 → to_z w128 (of_z w128 z) ≡ z
 back128 z fits = to_z-of_z w128 z (fits_signed_from_abs w128 z fits)
 
-pub plus_read : (sum m e x y : ℤ) → unsigned_abs sum ≤ 64 * product_bound → unsigned_abs m < 2 ^ 63 → unsigned_abs e ≤ 2 ^ 51 → x ≡ to_z w64 (of_z w64 m) → y ≡ to_z w64 (of_z w64 e)
+pub plus_read : (sum m e x y : ℤ) → unsigned_abs sum ≤ most_rows * product_bound → unsigned_abs m < 2 ^ 63 → unsigned_abs e ≤ largest_entry → x ≡ to_z w64 (of_z w64 m) → y ≡ to_z w64 (of_z w64 e)
     → to_z w128 (of_z w128 (to_z w128 (of_z w128 sum) +ℤ to_z w128 (of_z w128 (to_z w128 (of_z w128 x) *ℤ to_z w128 (of_z w128 y))))) ≡ sum +ℤ m *ℤ e
 plus_read sum m e x y room fits small is_x is_y =
     let x_is : x ≡ m = is_x ∙ back64 m fits in
@@ -41,7 +42,7 @@ plus_read sum m e x y room fits small is_x is_y =
     (λ k. to_z w128 (of_z w128 (sum_read k +ℤ product_read k))) ∙ back128 (sum +ℤ m *ℤ e) (omega (arith, abs_sum sum (m *ℤ e)))
 
 -- the running sum after one more product
-pub product_more : (k : ℕ) (f : ℕ → ℤ) (x y sum r : ℤ) → unsigned_abs x < 2 ^ 63 → unsigned_abs y ≤ 2 ^ 51 → f k ≡ x *ℤ y
+pub product_more : (k : ℕ) (f : ℕ → ℤ) (x y sum r : ℤ) → unsigned_abs x < 2 ^ 63 → unsigned_abs y ≤ largest_entry → f k ≡ x *ℤ y
     → sum ≡ total k f → unsigned_abs sum ≤ k * product_bound → r ≡ sum +ℤ to_z w64 (of_z w64 x) *ℤ to_z w64 (of_z w64 y)
     → (r ≡ total (k + 1) f) × (unsigned_abs r ≤ (k + 1) * product_bound)
 product_more k f x y sum r fit small here is bounded e =

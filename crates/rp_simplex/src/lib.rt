@@ -15,6 +15,7 @@ mod pricing;
 mod readout;
 mod renewal;
 mod room;
+mod run;
 mod simplex;
 mod stage;
 mod tableau;

@@ -8,6 +8,9 @@ ghost use Rattle.rp_simplex.specs.InnerStage.{exact};
 use crate::dot::plus_product;
 use crate::stage::Stage;
 
+/// The most multipliers that a row has: one more than a program has rows.
+const MOST_MULTIPLIERS: usize = 65;
+
 /// Notes the places of the multipliers that are not 0, in order, and gives how many there are.
 fn gather(multipliers: &[i64], places: &mut [usize]) -> usize
     requires room { length multipliers.now ≤ length places.old }
@@ -63,6 +66,6 @@ pub fn entering_column(t: &Stage) -> Option<usize>
     ensures { MatchOption result (IsOptimal t.now.rows t.now.width (exact t.now))
         (λ c. IsEntering t.now.rows t.now.width (exact t.now) c) }
 {
-    let mut places = [0; 65];
+    let mut places = [0; MOST_MULTIPLIERS];
     first_negative(t, &mut places)
 }

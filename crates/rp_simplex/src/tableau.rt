@@ -7,7 +7,7 @@ ghost use Rattle.rp_simplex.specs.SameOutcome.{IsSameOutcome};
 use crate::first::first_stage;
 use crate::outcome::Outcome;
 use crate::room::{Room, room_for};
-use crate::simplex::run;
+use crate::run::run;
 use crate::stage::Stage;
 use rp_farkas::Lp;
 use rp_num::NoMemory;

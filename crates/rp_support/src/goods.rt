@@ -9,7 +9,7 @@ ghost use Rattle.rp_support.specs.Bounds.{AreBoundsOf};
 use rp_evidence::{Bound, GoodBounds};
 use rp_farkas::Measure;
 use rp_num::NoMemory;
-use rp_programs::{LowerProgram, UpperProgram};
+use rp_programs::DemandProgram;
 use rp_simplex::bound_of;
 use rp_table::NewBudget;
 use std::alloc::Global;
@@ -41,7 +41,7 @@ fn lower_bound(alloc: Global, budget: &NewBudget, below: &[u32], g: u32) -> Resu
     prove!(budget.at.n() > 0);
     bound_of(
         alloc,
-        &LowerProgram::make(budget, below, g),
+        &DemandProgram::least(budget, below, g),
         Measure::Price(g),
     )
 }
@@ -57,7 +57,7 @@ fn upper_bound(alloc: Global, budget: &NewBudget, below: &[u32], g: u32) -> Resu
     prove!(budget.at.n() > 0);
     bound_of(
         alloc,
-        &UpperProgram::make(budget, below, g),
+        &DemandProgram::greatest(budget, below, g),
         Measure::Price(g),
     )
 }

@@ -18,7 +18,7 @@ use Rattle.rp_farkas.specs.Measure.{measured}
 use Rattle.rp_farkas.specs.Prices.{HasFeasiblePrices}
 use Rattle.rp_farkas.specs.declared.measure.Measure.TheVariants.{Cost}
 use Rattle.rp_programs.proofs.LeastCosts.{cost_is, measure_is}
-use Rattle.rp_welfare.specs.Verdict.{IsAtMost}
+use Rattle.rp_welfare.specs.Verdict.{IsBoundAtMost}
 
 -- what the price side of the program costs is what it costs at the new prices
 pub cost_bound : (input : TableInput) (prices : ℕ → ℕ) (reached : List ℕ) (bound : Bound)
@@ -57,7 +57,7 @@ module _ (input : TableInput) (prices : ℕ → ℕ) (t : ℕ) (reached : List �
   least_proves (Wide step) least = tt
 
 -- the lower bound is at most the upper one: the bundle of the upper one lies in the region
-pub lower_at_most : (input : TableInput) (prices : ℕ → ℕ) (t s cost : ℕ) (bound : Bound) → MeetsGarp input.n input.cost → IsUpperWelfare input prices t s cost → ProvesLowerWelfare input prices t bound → IsAtMost bound cost
+pub lower_at_most : (input : TableInput) (prices : ℕ → ℕ) (t s cost : ℕ) (bound : Bound) → MeetsGarp input.n input.cost → IsUpperWelfare input prices t s cost → ProvesLowerWelfare input prices t bound → IsBoundAtMost bound cost
 lower_at_most input prices t s cost (Shown value pair) sound upper lower =
     let h = lower.none_less (record { den = 1; num = input.quantity s }) (reaching_in_region input s t sound upper.leads) in
     subst (λ (c : ℕ). value.num ≤ c * value.den) upper.costs (omega (arith, h))

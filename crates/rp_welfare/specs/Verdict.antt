@@ -40,12 +40,12 @@ IsWelfareVerdict input prices t verdict (Bounds upper at lower) =
 IsWelfareVerdict input prices t verdict (NoModel walk) = verdict ≡ Cycle walk
 
 -- A shown lower bound is at most the upper one.
-abbrev pub IsAtMost : Bound → ℕ → Type 0
-IsAtMost (Shown value pair) upper = value.num ≤ upper * value.den
-IsAtMost (Wide step) upper = Unit {0}
+abbrev pub IsBoundAtMost : Bound → ℕ → Type 0
+IsBoundAtMost (Shown value pair) upper = value.num ≤ upper * value.den
+IsBoundAtMost (Wide step) upper = Unit {0}
 
 abbrev pub HasLowerAtMostUpper : WelfarePart → Type 0
-HasLowerAtMostUpper (Bounds upper at lower) = IsAtMost lower upper
+HasLowerAtMostUpper (Bounds upper at lower) = IsBoundAtMost lower upper
 HasLowerAtMostUpper (NoModel walk) = Unit {0}
 
 -- Where bounds are given the program of the lower one is bounded, not its run alone: no feasible point of it is worth

@@ -53,5 +53,9 @@ fn bound_over(alloc: Global, new: &NewPrices, reached: &[u32]) -> Result<Bound, 
     ensures least { IfOk result (ShowsLeastCost (least_cost_program
         (input_of_table new.now.table.now) (slice_index new.now.prices.now) reached.now)) }
 {
-    bound_of(alloc, &LeastCostProgram::make(new, reached), Measure::Cost)
+    bound_of(
+        alloc,
+        &LeastCostProgram::make(new.table, new.prices, reached),
+        Measure::Cost,
+    )
 }

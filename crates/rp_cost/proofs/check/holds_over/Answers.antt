@@ -11,5 +11,5 @@ pub returns : goal.returns
 returns c =
     let question = c.args.question.now in
     let same = cost_holds (input_of_table question.tech.now.table) (slice_index question.prices.now) c.args.listed.now c.args.lower.now in
-    let told = subst (λ (p : LinearProgram). IsTrue c.bound_holds.result ↔ BoundHolds p (measured p Cost) c.args.lower.now) c.make.ensures c.bound_holds.ensures in
+    let told = subst (λ (p : LinearProgram). IsTrue c.bound_holds.result ↔ BoundHolds p (measured p Cost) c.args.lower.now) c.program.ensures c.bound_holds.ensures in
     ((λ h. same.0 (told.0 h)), (λ h. told.1 (same.1 h)))

@@ -1,7 +1,8 @@
-use Rattle.std.proofs.Common.{ℕ, ◌≤◌, ℤ, pos, ◌*ℤ◌, slice_index, ◌^◌, ap, sym, subst, arith}
+use Rattle.std.proofs.Common.{ℕ, ◌≤◌, ℤ, pos, ◌*ℤ◌, slice_index, ap, sym, subst, arith}
 use Rattle.std.specs.Int.RustNames.{unsigned_abs}
 use mir.Val.{to_z}
 use Rattle.std.specs.Int.{w128}
+use Rattle.rp_farkas.specs.Limits.{largest_entry}
 use Rattle.rp_farkas.proofs.SumSteps.{room_left, index_kept, index_start}
 use Rattle.rp_farkas.proofs.sums.column_sum.Goals as goal
 
@@ -16,7 +17,7 @@ loop-i-preserved g c =
     let f : ℕ → ℤ = λ i. (g.P.Lp.program c.args.p.now).a i c.args.j *ℤ pos (slice_index c.args.x.now i) in
     index_kept f c.loop-i.i (slice_index c.args.x.now c.loop-i.i) _ c.plus_product-sum.result c.a.result
     (omega (arith, limits.rows_at_most))
-    (subst (λ (z : ℤ). unsigned_abs z ≤ 2 ^ 51) (sym c.a.ensures) (limits.a_bounded c.loop-i.i c.args.j (omega arith) c.requires.column))
+    (subst (λ (z : ℤ). unsigned_abs z ≤ largest_entry) (sym c.a.ensures) (limits.a_bounded c.loop-i.i c.args.j (omega arith) c.requires.column))
     (c.requires.fits c.loop-i.i 0 (omega arith))
     c.loop-i.invariant c.plus_product-sum.type_inv c.a.type_inv c.plus_product-sum.ensures
     (ap (λ (z : ℤ). z *ℤ pos (slice_index c.args.x.now c.loop-i.i)) (sym c.a.ensures))

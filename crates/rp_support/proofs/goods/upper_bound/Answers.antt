@@ -11,13 +11,13 @@ use Rattle.rp_evidence.proofs.Enumerations.{enumerates_few}
 use Rattle.rp_support.proofs.BelowLists.{below_observed}
 use Rattle.rp_support.proofs.goods.upper_bound.Goals as goal
 
-pub make-requires-clause-observed : goal.make-requires-clause-observed
-make-requires-clause-observed c =
+pub greatest-requires-clause-observed : goal.greatest-requires-clause-observed
+greatest-requires-clause-observed c =
     let b = c.args.budget.now in
     below_observed (input_of_table b.at.table.now) (budget_of b.at.prices.now b.m) c.args.below.now c.requires.below
 
-pub make-requires-clause-few : goal.make-requires-clause-few
-make-requires-clause-few c =
+pub greatest-requires-clause-few : goal.greatest-requires-clause-few
+greatest-requires-clause-few c =
     let b = c.args.budget.now in
     let few = enumerates_few (records_of b.at.table.now) (IsBelow (input_of_table b.at.table.now) (budget_of b.at.prices.now b.m)) c.args.below.now c.requires.below in
     omega (arith, few, c.n.ensures.count, c.n.ensures.few)
@@ -25,8 +25,8 @@ make-requires-clause-few c =
 pub bound_of-requires-clause-prices : goal.bound_of-requires-clause-prices
 bound_of-requires-clause-prices c =
     let b = c.args.budget.now in
-    subst (λ (p : LinearProgram). HasFeasiblePrices p) (sym c.make.ensures)
+    subst (λ (p : LinearProgram). HasFeasiblePrices p) (sym c.greatest.ensures)
     (support_prices (input_of_table b.at.table.now) (budget_of b.at.prices.now b.m) c.args.below.now c.requires.below _ c.requires.support)
 
 pub returns : goal.returns
-returns c = subst (λ (p : LinearProgram). IfOk c.bound_of.result (λ bound. IsBoundOf p (λ x. x c.args.g) bound)) c.make.ensures c.bound_of.ensures.bound
+returns c = subst (λ (p : LinearProgram). IfOk c.bound_of.result (λ bound. IsBoundOf p (λ x. x c.args.g) bound)) c.greatest.ensures c.bound_of.ensures.bound

@@ -3,7 +3,7 @@ use Rattle.rp_simplex.specs.ReadProgram.{program_in}
 use Rattle.rp_simplex.specs.declared.outcome.Outcome.TheVariants.{Optimal, Unbounded, Wide}
 use Rattle.rp_simplex.proofs.Outcomes.{whole}
 use Rattle.rp_simplex.proofs.OutcomeLemmas.{ends_optimal, ends_unbounded, passes_width, next_count}
-use Rattle.rp_simplex.proofs.simplex.run.Goals as goal
+use Rattle.rp_simplex.proofs.run.run.Goals as goal
 
 pub loop-column-init : goal.loop-column-init
 loop-column-init c = starts (program_in c.args.first.columns) c.args.first c.requires.first c.requires.shape
