@@ -9,15 +9,15 @@ use Rattle.rp_command_line.specs.declared.commands.FileSet.{FileSet}
 use Rattle.rp_command_line.specs.declared.commands.TheConstants.{MOST_DRAWS, MOST_ROWS}
 
 -- a number from least to most
-pub record Number : Type 0 where
+pub record NumberArgument : Type 0 where
   pub name : Text
   pub least : ℕ
   pub most : ℕ
 
-pub record Form : Type 0 where
+pub record CommandForm : Type 0 where
   pub name : Text
   pub files : FileSet
-  pub numbers : List Number
+  pub numbers : List NumberArgument
   -- whether it takes `--per N`, which asks for so many units on each budget or menu
   pub per : Bool
   -- whether it takes `--json`, which asks for a certificate
@@ -26,35 +26,35 @@ pub record Form : Type 0 where
   pub levels : Bool
 
 -- the state that a generator starts from, and how many observations and goods a trial table has
-abbrev pub seed : Number
+abbrev pub seed : NumberArgument
 seed = record { name = codes "SEED"; least = 0; most = 2 ^ 64 - 1 }
 
-abbrev pub rows : Number
+abbrev pub rows : NumberArgument
 rows = record { name = codes "ROWS"; least = 1; most = MOST_ROWS }
 
-abbrev pub goods : Number
+abbrev pub goods : NumberArgument
 goods = record { name = codes "GOODS"; least = 1; most = GOODS }
 
 -- how many random behaviours are drawn
-abbrev pub draws : Number
+abbrev pub draws : NumberArgument
 draws = record { name = codes "N"; least = 1; most = MOST_DRAWS }
 
 -- how many units there are on each budget or menu
-abbrev pub units : Number
+abbrev pub units : NumberArgument
 units = record { name = codes "per"; least = 1; most = UNITS }
 
 -- a form with files alone; with numbers after them; with options; with levels that a table may have
-abbrev pub over : Text → FileSet → Form
+abbrev pub over : Text → FileSet → CommandForm
 over name files = record { name = name; files = files; numbers = []; per = false; json = false; levels = false }
 
-abbrev pub with_numbers : List Number → Form → Form
+abbrev pub with_numbers : List NumberArgument → CommandForm → CommandForm
 with_numbers numbers form = record form { numbers = numbers }
 
-abbrev pub with_per : Form → Form
+abbrev pub with_per : CommandForm → CommandForm
 with_per form = record form { per = true }
 
-abbrev pub with_json : Form → Form
+abbrev pub with_json : CommandForm → CommandForm
 with_json form = record form { json = true }
 
-abbrev pub with_levels : Form → Form
+abbrev pub with_levels : CommandForm → CommandForm
 with_levels form = record form { levels = true }
