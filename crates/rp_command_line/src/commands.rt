@@ -1,7 +1,8 @@
 //! The commands of the program, each with its form.
 ghost use Rattle.std.specs.Prelude.{◌≡◌, Some, None, map};
 ghost use Rattle.rp_command_line.specs.CommandLine.{command_named, commands, file_names, form_of};
-ghost use Rattle.rp_command_line.specs.CommandForms.{over, with_json, with_levels, with_numbers, with_per};
+ghost use Rattle.rp_command_line.specs.CommandForms.{over, with_json, with_levels, with_numbers};
+ghost use Rattle.rp_command_line.specs.CommandForms.{with_per};
 ghost use Rattle.rp_command_line.specs.Named.{named_form, named_number};
 ghost use Rattle.rp_command_line.specs.Usage.{usage_text};
 

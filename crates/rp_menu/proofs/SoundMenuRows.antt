@@ -21,9 +21,9 @@ use Rattle.rp_sheet.proofs.FieldFaults.{role_is}
 use Rattle.rp_sheet.proofs.FigureLemmas.{good_size, rows_are, size_listed}
 use Rattle.rp_sheet.proofs.FineHeaders.{FineHeaders, column_there, required_there}
 use Rattle.rp_sheet.proofs.PlaceLemmas.{none_below, none_or}
-use Rattle.rp_menu.specs.Cells.{entry_at}
-use Rattle.rp_menu.specs.Denotation.{choice_fault, column_fault, entries_in, entries_stage, entry_fault, entry_of, is_of_menus, menu_fault, text_under, times_in, told}
-use Rattle.rp_menu.specs.InnerCells.{IsEntry}
+use Rattle.rp_menu.specs.Cells.{menu_row_at}
+use Rattle.rp_menu.specs.Denotation.{choice_fault, column_fault, menu_rows_in, menu_rows_stage, menu_row_fault, menu_row_of, is_of_menus, menu_fault, text_under, times_in, told}
+use Rattle.rp_menu.specs.InnerCells.{IsMenuRow}
 use Rattle.rp_menu.specs.MenuTexts.{is_choice, is_menu}
 use Rattle.rp_menu.specs.declared.fault.MenuFault.{MenuFault}
 use Rattle.rp_menu.specs.declared.fault.MenuFault.TheVariants as fault
@@ -51,9 +51,9 @@ is_chosen true f e = refl
 is_chosen false f e = cc e
 
 -- what a record without a fault passed
-pub passed_record : (headers : List (List ℕ)) (records : List (List (List ℕ))) (t : ℕ) → entry_fault headers records t ≡ None
+pub passed_record : (headers : List (List ℕ)) (records : List (List (List ℕ))) (t : ℕ) → menu_row_fault headers records t ≡ None
     → (first_of (length headers) (column_fault headers records t) ≡ None) × (choice_fault headers records t ≡ None)
-unfolding entry_fault
+unfolding menu_row_fault
 passed_record headers records t fine =
     none_or (first_of (length headers) (column_fault headers records t)) (choice_fault headers records t)
     (whole_record (length (row_at records t) == length headers) (fault.Ragged (number_of t)) _ fine)
@@ -68,12 +68,12 @@ chosen_there : (headers : List (List ℕ)) (records : List (List (List ℕ))) (t
 unfolding choice_fault
 chosen_there headers records t fine = is_chosen (is_choice (text_under (codes "menu") headers records t) (text_under (codes "choice") headers records t)) (fault.BadChoice (number_of t)) fine
 
-pub passed_entry : (headers : List (List ℕ)) (records : List (List (List ℕ))) → entries_stage headers records ≡ None → (t : ℕ) → t < rows_in records → entry_fault headers records t ≡ None
-unfolding entries_stage
-passed_entry headers records fine t row = none_below (entry_fault headers records) (rows_in records) t fine row
+pub passed_menu_row : (headers : List (List ℕ)) (records : List (List (List ℕ))) → menu_rows_stage headers records ≡ None → (t : ℕ) → t < rows_in records → menu_row_fault headers records t ≡ None
+unfolding menu_rows_stage
+passed_menu_row headers records fine t row = none_below (menu_row_fault headers records) (rows_in records) t fine row
 
 module _ (headers : List (List ℕ)) (records : List (List (List ℕ))) (fine : FineHeaders menus_form headers)
-    (fine_entries : entries_stage headers records ≡ None) (fine_sizes : sizes_stage menus_form headers (figures_of menus_form headers records) ≡ None) where
+    (fine_menu_rows : menu_rows_stage headers records ≡ None) (fine_sizes : sizes_stage menus_form headers (figures_of menus_form headers records) ≡ None) where
   -- the columns of menus and of counts are there
   pub menus_there : has headers (codes "menu") ≡ true
   menus_there = (required_there (has headers (codes "menu")) _ fine.columns).0
@@ -89,13 +89,13 @@ module _ (headers : List (List ℕ)) (records : List (List (List ℕ))) (fine : 
       let column = column_there headers (codes "menu") menus_there in
       let at_column : column_named (codes "menu") headers ≡ column.0 = ap (λ o. unwrap_or o 0) column.2 in
       let role : role_at Goods headers column.0 ≡ Menu = role_is _ headers column.0 Menu (ap (role_of Goods) column.3 ∙ menu_says) in
-      let passed = passed_record headers records t (passed_entry headers records fine_entries t row) in
+      let passed = passed_record headers records t (passed_menu_row headers records fine_menu_rows t row) in
       let here = passed_column headers records t column.0 (none_below (column_fault headers records t) (length headers) column.0 passed.0 column.1) in
       ap (λ k. is_menu (text_at (row_at records t) k)) at_column
       ∙ is_menu_there (is_of_menus (role_at Goods headers column.0)) (is_menu (text_at (row_at records t) column.0)) (fault.BadMenu (number_of t)) here.1 (ap is_of_menus role)
 
   choice_is : (t : ℕ) → t < rows_in records → is_choice (text_under (codes "menu") headers records t) (text_under (codes "choice") headers records t) ≡ true
-  choice_is t row = chosen_there headers records t (passed_record headers records t (passed_entry headers records fine_entries t row)).1
+  choice_is t row = chosen_there headers records t (passed_record headers records t (passed_menu_row headers records fine_menu_rows t row)).1
 
   times_within : (t : ℕ) → t < rows_in records → slice_index (text_at (sizes_in menus_form headers records) t) (column_named (codes "n") headers) ≤ 9999999
   times_within t row =
@@ -108,8 +108,8 @@ module _ (headers : List (List ℕ)) (records : List (List (List ℕ))) (fine : 
       let sized : slice_index (text_at (sizes_in menus_form headers records) t) column.0 ≤ limit_of (role_at Goods headers column.0) = rw (size_listed menus_form headers figures t column.0 inside column.1) most in
       rw at_column (subst (λ (r : Role). slice_index (text_at (sizes_in menus_form headers records) t) column.0 ≤ limit_of r) role sized)
 
-  pub sound_entry : (t : ℕ) → t < rows_in records → IsEntry (entry_of headers records (times_in headers records) t)
-  sound_entry t row =
+  pub sound_menu_row : (t : ℕ) → t < rows_in records → IsMenuRow (menu_row_of headers records (times_in headers records) t)
+  sound_menu_row t row =
       let menu = text_under (codes "menu") headers records t in
       let is = menu_is t row in
       let sizes = sizes_in menus_form headers records in
@@ -123,6 +123,6 @@ module _ (headers : List (List ℕ)) (records : List (List (List ℕ))) (fine : 
         from_menu = menu_has menu is (text_under (codes "choice") headers records t) (choice_is t row);
       }
 
-  pub sound_entries : (t : ℕ) → t < rows_in records → IsEntry (entry_at (entries_in headers records) t)
-  sound_entries t row =
-      subst IsEntry (sym (get-listed (entry_of headers records (times_in headers records)) (rows_in records) t _ row)) (sound_entry t row)
+  pub sound_menu_rows : (t : ℕ) → t < rows_in records → IsMenuRow (menu_row_at (menu_rows_in headers records) t)
+  sound_menu_rows t row =
+      subst IsMenuRow (sym (get-listed (menu_row_of headers records (times_in headers records)) (rows_in records) t _ row)) (sound_menu_row t row)

@@ -5,7 +5,7 @@ use Rattle.rp_sheet.proofs.PassedOn.{passed_on}
 use Rattle.rp_menu.specs.Denotation.{column_fault}
 use Rattle.rp_menu.specs.declared.fault.MenuFault.{MenuFault}
 use Rattle.rp_menu.specs.declared.fault.MenuFault.TheVariants as fault
-use Rattle.rp_menu.proofs.entries.read_fields.Goals as goal
+use Rattle.rp_menu.proofs.menu_rows.read_fields.Goals as goal
 
 pub returns-in_err-read_column-clause-refused : goal.returns-in_err-read_column-clause-refused
 returns-in_err-read_column-clause-refused c =

@@ -2,8 +2,8 @@ use Rattle.std.proofs.Common.{◌≡◌, true, false}
 use Rattle.std.specs.Prelude.{codes}
 use Rattle.rp_menu.specs.Denotation.{text_under}
 use Rattle.rp_menu.specs.MenuTexts.{is_choice}
-use Rattle.rp_menu.proofs.EntryFaults.{bad_choice, good_choice}
-use Rattle.rp_menu.proofs.entries.check_choice.Goals as goal
+use Rattle.rp_menu.proofs.MenuRowFaults.{bad_choice, good_choice}
+use Rattle.rp_menu.proofs.menu_rows.check_choice.Goals as goal
 
 pub returns-then-is_choice-clause-fine : goal.returns-then-is_choice-clause-fine
 returns-then-is_choice-clause-fine c =

@@ -12,7 +12,7 @@ use Rattle.rp_forms.specs.Forms.{menus_form}
 use Rattle.rp_forms.specs.Texts.{number_of, text_at}
 use Rattle.rp_sheet.specs.declared.fault.TableFault.{TableFault}
 use Rattle.rp_forms.specs.declared.form.Marks.TheVariants.{Goods}
-use Rattle.rp_menu.specs.Denotation.{choice_fault, column_fault, entry_fault, lacks_menu, menu_fault, text_under, told}
+use Rattle.rp_menu.specs.Denotation.{choice_fault, column_fault, menu_row_fault, lacks_menu, menu_fault, text_under, told}
 use Rattle.rp_menu.specs.MenuTexts.{is_choice}
 use Rattle.rp_menu.specs.declared.fault.MenuFault.{MenuFault}
 use Rattle.rp_menu.specs.declared.fault.MenuFault.TheVariants as fault
@@ -45,22 +45,22 @@ module _ (headers : List (List ℕ)) (records : List (List (List ℕ))) (t : ℕ
   unfolding choice_fault
   bad_choice is = rw is refl
 
-  pub ragged : length (row_at records t) ≢ length headers → entry_fault headers records t ≡ Some (fault.Ragged (number_of t))
-  unfolding entry_fault
+  pub ragged : length (row_at records t) ≢ length headers → menu_row_fault headers records t ≡ Some (fault.Ragged (number_of t))
+  unfolding menu_row_fault
   ragged other =
       let test : (length (row_at records t) == length headers) ≡ false = grind (arith, nat_tests) in
       rw test refl
 
   pub bad_fields : (e : MenuFault) → length (row_at records t) ≡ length headers → first_of (length headers) (column_fault headers records t) ≡ Some e
-      → entry_fault headers records t ≡ Some e
-  unfolding entry_fault
+      → menu_row_fault headers records t ≡ Some e
+  unfolding menu_row_fault
   bad_fields e same faulty =
       let test : (length (row_at records t) == length headers) ≡ true = grind (arith, nat_tests) in
       rw (test, faulty) refl
 
   pub after_fields : (o : Option MenuFault) → length (row_at records t) ≡ length headers → first_of (length headers) (column_fault headers records t) ≡ None
-      → choice_fault headers records t ≡ o → entry_fault headers records t ≡ o
-  unfolding entry_fault
+      → choice_fault headers records t ≡ o → menu_row_fault headers records t ≡ o
+  unfolding menu_row_fault
   after_fields o same fine is =
       let test : (length (row_at records t) == length headers) ≡ true = grind (arith, nat_tests) in
       rw (test, fine, is) refl

@@ -3,8 +3,8 @@ ghost use Rattle.std.specs.Prelude.{◌≡◌, ◌+◌, ◌<◌, None, OnOk, IfO
 ghost use Rattle.rp_num.specs.Below.{first_of, listed};
 ghost use Rattle.rp_sheet.specs.Fields.{figure, figures_of};
 ghost use Rattle.rp_forms.specs.Forms.{menus_form};
-ghost use Rattle.rp_menu.specs.Denotation.{RefusedAt, choice_fault, column_fault, entries_stage};
-ghost use Rattle.rp_menu.specs.Denotation.{entry_fault, is_of_menus, lacks_menu, text_under};
+ghost use Rattle.rp_menu.specs.Denotation.{RefusedAt, choice_fault, column_fault, menu_rows_stage};
+ghost use Rattle.rp_menu.specs.Denotation.{menu_row_fault, is_of_menus, lacks_menu, text_under};
 
 use crate::MenuFault;
 use crate::menu_texts::{is_choice, is_menu};
@@ -23,18 +23,18 @@ pub fn read_figures(
     requires some { 0 < length records.now }
     ensures read { IfOk result
         (λ rows. rows.items ≡ figures_of menus_form columns.now.headers records.now) }
-    ensures faultless { IfOk result (λ _. entries_stage columns.now.headers records.now ≡ None) }
-    ensures refused { RefusedAt result (entries_stage columns.now.headers records.now) }
+    ensures faultless { IfOk result (λ _. menu_rows_stage columns.now.headers records.now ≡ None) }
+    ensures refused { RefusedAt result (menu_rows_stage columns.now.headers records.now) }
 {
     let mut rows = Vec::new(alloc);
     for t in 0..records.len() - 1 {
-        rows.push(read_entry(alloc, columns, records, t)?)?;
+        rows.push(read_menu_row(alloc, columns, records, t)?)?;
     }
     Ok(rows)
 }
 
 /// The numbers of the t-th record after the headers, column by column.
-fn read_entry(
+fn read_menu_row(
     alloc: Global,
     columns: &Columns<'_>,
     records: &Records,
@@ -44,8 +44,8 @@ fn read_entry(
     requires there { t + 1 < length records.now }
     ensures read { IfOk result (λ row. row ≡ listed (length columns.now.headers)
         (figure menus_form columns.now.headers records.now t)) }
-    ensures faultless { IfOk result (λ _. entry_fault columns.now.headers records.now t ≡ None) }
-    ensures refused { RefusedAt result (entry_fault columns.now.headers records.now t) }
+    ensures faultless { IfOk result (λ _. menu_row_fault columns.now.headers records.now t ≡ None) }
+    ensures refused { RefusedAt result (menu_row_fault columns.now.headers records.now t) }
 {
     if records.row_width(t) != columns.len() {
         return Err(MenuFault::Ragged { row: number_of(t) });

@@ -11,8 +11,8 @@ use Rattle.rp_sheet.proofs.PassedOn.{passed_on}
 use Rattle.rp_menu.specs.Denotation.{column_fault, lacks_menu, told}
 use Rattle.rp_menu.specs.declared.fault.MenuFault.{MenuFault}
 use Rattle.rp_menu.specs.declared.fault.MenuFault.TheVariants as fault
-use Rattle.rp_menu.proofs.EntryFaults.{bad_menu, bad_number, good_column}
-use Rattle.rp_menu.proofs.entries.read_column.Goals as goal
+use Rattle.rp_menu.proofs.MenuRowFaults.{bad_menu, bad_number, good_column}
+use Rattle.rp_menu.proofs.menu_rows.read_column.Goals as goal
 
 pub returns-in_err-number-clause-refused : goal.returns-in_err-number-clause-refused
 returns-in_err-number-clause-refused c =
