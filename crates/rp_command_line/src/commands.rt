@@ -218,7 +218,8 @@ fn over(name: &'static str, files: FileSet) -> CommandForm
 impl CommandForm {
     /// The same form with these numbers after the files.
     fn with_numbers(self, numbers: &'static [NumberArgument]) -> CommandForm
-        ensures { named_form result ≡ with_numbers (map named_number numbers.now) (named_form self) }
+        ensures { named_form result
+            ≡ with_numbers (map named_number numbers.now) (named_form self) }
     {
         CommandForm { numbers, ..self }
     }

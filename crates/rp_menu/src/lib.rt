@@ -3,11 +3,11 @@
 #![tactic(auto)]
 
 mod cells;
-mod menu_rows;
-mod menu_row;
 mod fault;
 mod laws;
 mod limits;
+mod menu_row;
+mod menu_rows;
 mod menu_texts;
 mod menus;
 mod read;

@@ -10,8 +10,8 @@ ghost use Rattle.rp_menu.specs.InnerCells.{IsMenuRow};
 ghost use Rattle.rp_menu.specs.MenuLists.{IsMenuList};
 
 use crate::cells::{Cell, Tally, tally_of};
-use crate::menu_rows::{choice_at, menu_at, read_figures};
 use crate::menu_row::MenuRow;
+use crate::menu_rows::{choice_at, menu_at, read_figures};
 use crate::menu_texts::{has_letter, letter_in, number_of_menu};
 use crate::{LETTERS, MenuFault, Menus};
 use rp_forms::Form;

@@ -18,12 +18,13 @@ use Rattle.rp_run.specs.ChoiceContents.{BudgetsIn, ChoicesIn, TypedPatchesOf}
 use Rattle.rp_run.specs.ChosenInFiles.{AreOfChoicesIn}
 use Rattle.rp_run.specs.Contents.{ContentsIn}
 use Rattle.rp_run.specs.FaultLines.{file_line}
+use Rattle.rp_run.specs.FaultTexts.{fault_text}
 use Rattle.rp_run.specs.Readings.{NumbersIn, WhereKnown, or_line}
 use Rattle.rp_run.specs.declared.contents.Contents.{Contents}
 use Rattle.rp_run.specs.declared.contents.Contents.TheVariants as contents
 
 -- a value that was read from a file of numbers is what its bytes denote
-value_there : {A : Type 0} (long : Bool) (line name : List ℕ) (r : Result A TableFault) (x : A) → (if long then Err line else or_line name r) ≡ Ok x → r ≡ Ok x
+value_there : {A : Type 0} (long : Bool) (line name : List ℕ) (r : Result A TableFault) (x : A) → (if long then Err line else or_line fault_text name r) ≡ Ok x → r ≡ Ok x
 value_there true line name r x h = cc h
 value_there false line name (Ok v) x h = ap (λ s. Ok (result_unwrap_or s x)) h
 value_there false line name (Err fault) x h = cc h

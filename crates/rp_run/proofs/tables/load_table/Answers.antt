@@ -1,7 +1,7 @@
 use Rattle.rp_run.specs.Endings.{Rose}
 use Rattle.rp_run.specs.Readings.{TakenTable}
 use Rattle.rp_run.proofs.FileLemmas.{passed_loaded, table_loaded, untaken_cause}
-use Rattle.rp_run.proofs.files.load_table.Goals as goal
+use Rattle.rp_run.proofs.tables.load_table.Goals as goal
 
 pub returns-in_err-table-clause-loads : goal.returns-in_err-table-clause-loads
 returns-in_err-table-clause-loads g c =

@@ -1,6 +1,6 @@
 use Rattle.std.proofs.Common.{refl}
 use Rattle.rp_run.proofs.FileLemmas.{all_taken, levels_refused, none_taken}
-use Rattle.rp_run.proofs.files.unless_levelled.Goals as goal
+use Rattle.rp_run.proofs.tables.unless_levelled.Goals as goal
 
 pub returns-then-takes_levels-clause-taken : goal.returns-then-takes_levels-clause-taken
 returns-then-takes_levels-clause-taken c =

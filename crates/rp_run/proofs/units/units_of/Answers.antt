@@ -2,7 +2,7 @@ use Rattle.std.proofs.Common.{ℕ, List, subst}
 use Rattle.rp_patch.specs.Apportionment.{SaysWhyNoUnits, grouped}
 use Rattle.rp_patch.specs.declared.fault.ApportionFault.TheVariants.{NeedUnit}
 use Rattle.rp_run.proofs.MenuFiles.{unit_needed_cause}
-use Rattle.rp_run.proofs.menus.units_of.Goals as goal
+use Rattle.rp_run.proofs.units.units_of.Goals as goal
 
 pub returns-in-Err-NeedUnit-clause-caused : goal.returns-in-Err-NeedUnit-clause-caused
 returns-in-Err-NeedUnit-clause-caused c =

@@ -9,7 +9,7 @@ use Rattle.rp_run.specs.declared.files.TheConstants.{MOST_BYTES}
 use Rattle.rp_run.specs.declared.contents.Contents.TheVariants as contents
 use Rattle.rp_run.proofs.LoadLemmas.{IsOverOne, failed_on, one_held, one_none, over_one}
 use Rattle.rp_run.proofs.MenuFiles.{menus_load, no_menus_load, no_units_load}
-use Rattle.rp_run.proofs.menus.load_menus_with_units.Goals as goal
+use Rattle.rp_run.proofs.contents.load_menus_with_units.Goals as goal
 
 one : (line : Line) → file_set line ≡ Menus → IsSized line
     → IsOverOne line Menus MOST_BYTES (MenusIn line.arguments.per (file_at line 0)) (λ made. contents.Menus made.0 made.1)
