@@ -1,6 +1,6 @@
 use mir.Syntax.{w128}
 use mir.Val.{of_z, to_z}
-use Rattle.std.proofs.Common.{rules, ◌≡◌, ◌≤ℤ◌, ◌<ℤ◌, FitsSigned, refl, subst, sym, ◌∙◌, arith}
+use Rattle.std.proofs.Common.{rules, ◌≡◌, ◌≤ℤ◌, ◌<ℤ◌, FitsSigned, refl, subst, sym, ◌∙◌}
 use Rattle.std.proofs.lemmas.Int.{to_z-of_z}
 use Rattle.rp_orders.proofs.LeastLemmas.{kept, less_if, no_less_if, replaced}
 use Rattle.rp_orders.proofs.least.lesser.Goals as goal
