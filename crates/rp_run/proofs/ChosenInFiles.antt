@@ -1,6 +1,5 @@
 -- Patches that files denote are those of choices in the files, and none of the chosen bundles is empty.
-use Rattle.std.proofs.Common.{◌≡◌, ℕ, Bool, true, false, if◌then◌else◌, length, List, Option, Some, None, Result, Ok, Err, refl, sym, ap, subst}
-use Rattle.std.specs.Prelude.{nat_lt}
+use Rattle.std.proofs.Common.{◌≡◌, ℕ, Bool, true, false, if◌then◌else◌, List, Option, Some, None, Result, Ok, Err, ap, subst}
 use Rattle.std.specs.Result.{result_unwrap_or}
 use Rattle.rp_table.specs.BudgetLists.{BudgetList}
 use Rattle.rp_table.specs.ChoiceLists.{ChoiceList}
@@ -9,7 +8,7 @@ use Rattle.rp_sheet.specs.declared.fault.TableFault.{TableFault}
 use Rattle.rp_evidence.specs.declared.certificate.Certificate.{Certificate}
 use Rattle.rp_answers.proofs.ChosenBundles.{full_files}
 use Rattle.rp_patch.specs.Choices.{random_input_of}
-use Rattle.rp_patch.specs.Patches.{IsPatchList, PatchList}
+use Rattle.rp_patch.specs.Patches.{PatchList}
 use Rattle.rp_patch.specs.Units.{ArePatchesOf}
 use Rattle.rp_types.specs.declared.types.Rational.{Rational}
 use Rattle.rp_command_line.specs.CommandLine.{Arguments, file}
@@ -17,7 +16,6 @@ use Rattle.rp_command_line.specs.declared.commands.FileSet.TheVariants as files
 use Rattle.rp_run.specs.ChoiceContents.{BudgetsIn, ChoicesIn, TypedPatchesOf}
 use Rattle.rp_run.specs.ChosenInFiles.{AreOfChoicesIn}
 use Rattle.rp_run.specs.Contents.{ContentsIn}
-use Rattle.rp_run.specs.FaultLines.{file_line}
 use Rattle.rp_run.specs.FaultTexts.{fault_text}
 use Rattle.rp_run.specs.Readings.{NumbersIn, WhereKnown, or_line}
 use Rattle.rp_run.specs.declared.contents.Contents.{Contents}

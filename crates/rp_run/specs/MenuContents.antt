@@ -1,7 +1,7 @@
 -- What a file of choices from menus comes to: menus with the units of their cells (by largest remainders: Hamilton's
 -- method), or the first refusal.
 use Rattle.std.specs.Prelude.{◌≡◌, ℕ, Option, List, [], ◌++◌, codes}
-use Rattle.std.specs.Prelude.{Result, Ok, Err, slice_index}
+use Rattle.std.specs.Prelude.{Ok, Err, slice_index}
 use Rattle.rp_menu.specs.Denotation.{menus_in}
 use Rattle.rp_menu.specs.MenuLists.{MenuList}
 use Rattle.rp_menu.specs.declared.fault.MenuFault.{MenuFault}

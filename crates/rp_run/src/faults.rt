@@ -14,7 +14,7 @@ use rp_text::TableFault;
 
 /// A fault of that name at a place.
 fn told(name: &'static [u8], place: Place) -> Option<Told>
-    ensures { result ≡ Some (record { name = name; place = place }) }
+    ensures { result ≡ Some (record { name = name.entry; place = place }) }
 {
     Some(Told { name, place })
 }
