@@ -1,5 +1,5 @@
 ghost use Rattle.std.specs.Prelude.{◌≡◌, ◌≤◌, [], IfOk};
-ghost use Rattle.rp_command_line.specs.Forms.{draws as draws_range};
+ghost use Rattle.rp_command_line.specs.CommandForms.{draws as draws_range};
 ghost use Rattle.rp_answers.specs.PowerText.{IsPowerText};
 
 use rp_num::NoMemory;

@@ -20,7 +20,7 @@ use Rattle.clap.specs.declared.builder.value_parser.ValueParser.TheVariants.{Non
 use Rattle.clap.specs.declared.parser.matches.ValueSource.TheVariants.{DefaultValue}
 use Rattle.rp_command_line.specs.CommandLine.{Arguments}
 use Rattle.rp_command_line.specs.Commands.{json_rule, number_rule, per_rule, where_asked}
-use Rattle.rp_command_line.specs.Forms.{Form, Number, units}
+use Rattle.rp_command_line.specs.CommandForms.{CommandForm, NumberArgument, units}
 use Rattle.rp_command_line.specs.CommandLine.{file_names}
 use Rattle.rp_command_line.specs.Shapes.{AreInRange, AreFileNames, AreUnits, Fits, MayAsk, json_word, per_words, words_of}
 use Rattle.rp_command_line.specs.Words.{all_in, arguments_in, json_of, number_of}
@@ -34,11 +34,11 @@ use Rattle.rp_command_line.proofs.UsesTaken.{IsCalm, Leads, Place, absent, at, j
 abbrev pub file_place : Text → Place
 file_place id = (id, NonEmptyString)
 
-abbrev pub number_place : Number → Place
+abbrev pub number_place : NumberArgument → Place
 number_place number = (number.name, Unsigned number.least number.most)
 
 -- what the test of a number's range is about
-abbrev IsSmall : Number → Type 0
+abbrev IsSmall : NumberArgument → Type 0
 IsSmall number = number.most < 2 ^ 64
 
 -- names of files and numbers in range are taken at their places
@@ -48,7 +48,7 @@ files_taken [] (file ∷ files) named = absurd named
 files_taken (id ∷ ids) [] named = absurd named
 files_taken (id ∷ ids) (file ∷ files) named = let word = file_word file named.0 in ((word.plain, word.filled), files_taken ids files named.1)
 
-numbers_taken : (numbers : List Number) (ns : List ℕ) → AllByRecursion IsSmall numbers → AreInRange numbers ns → AreTakenAt number_place numbers (map decimal ns)
+numbers_taken : (numbers : List NumberArgument) (ns : List ℕ) → AllByRecursion IsSmall numbers → AreInRange numbers ns → AreTakenAt number_place numbers (map decimal ns)
 numbers_taken [] [] small ranges = tt
 numbers_taken [] (n ∷ ns) small ranges = absurd ranges
 numbers_taken (number ∷ numbers) [] small ranges = absurd ranges
@@ -63,7 +63,7 @@ files_read [] (file ∷ files) rows found = absurd found
 files_read (id ∷ ids) [] rows found = absurd found
 files_read (id ∷ ids) (file ∷ files) rows found = rw (found.0, files_read ids files rows found.1) refl
 
-numbers_read : (numbers : List Number) (ns : List ℕ) (rows : List Row) → AllByRecursion IsSmall numbers → AreInRange numbers ns → AreFound number_place numbers (map decimal ns) rows
+numbers_read : (numbers : List NumberArgument) (ns : List ℕ) (rows : List Row) → AllByRecursion IsSmall numbers → AreInRange numbers ns → AreFound number_place numbers (map decimal ns) rows
     → all_in number_of numbers rows ≡ Some ns
 numbers_read [] [] rows small ranges found = refl
 numbers_read [] (n ∷ ns) rows small ranges found = absurd ranges
@@ -142,13 +142,13 @@ options_own c false false j own = ((λ e. cc), (λ e. cc))
 abbrev option_names : List Text
 option_names = units.name ∷ codes "json" ∷ []
 
-abbrev number_names : Form → List Text
+abbrev number_names : CommandForm → List Text
 number_names form = map (name number_place) form.numbers ++ option_names
 
-abbrev all_names : Form → List Text
+abbrev all_names : CommandForm → List Text
 all_names form = map (name file_place) (file_names form.files) ++ number_names form
 
-abbrev pub is_orderly : Form → Bool
+abbrev pub is_orderly : CommandForm → Bool
 is_orderly form =
     are_kept (leaf form).rules
     && (are_at file_place (leaf form).rules 1 (file_names form.files)
@@ -157,7 +157,7 @@ is_orderly form =
     && (is_option (leaf form).rules form.json (codes "json")
     && (are_apart (all_names form) && list_all (λ number. nat_lt number.most (2 ^ 64)) form.numbers)))))
 
-pub record IsOrderly (form : Form) : Type 0 where
+pub record IsOrderly (form : CommandForm) : Type 0 where
   pub files : AreAt file_place (leaf form).rules 1 (file_names form.files)
   pub numbers : AreAt number_place (leaf form).rules (after file_place 1 (file_names form.files)) form.numbers
   pub per : IsOption (leaf form).rules form.per units.name per_built
@@ -165,7 +165,7 @@ pub record IsOrderly (form : Form) : Type 0 where
   pub apart : are_apart (all_names form) ≡ true
   pub small : AllByRecursion IsSmall form.numbers
 
-all_small : (numbers : List Number) → list_all (λ number. nat_lt number.most (2 ^ 64)) numbers ≡ true → AllByRecursion IsSmall numbers
+all_small : (numbers : List NumberArgument) → list_all (λ number. nat_lt number.most (2 ^ 64)) numbers ≡ true → AllByRecursion IsSmall numbers
 all_small [] test = tt
 all_small (number ∷ numbers) test = let tests = both _ _ test in (ltb-true number.most (2 ^ 64) tests.0, all_small numbers tests.1)
 
@@ -173,7 +173,7 @@ each_own : (c : List Rule) (rules : List Rule) → AllByRecursion (IsKept c) rul
 each_own c [] kept = tt
 each_own c (a ∷ rest) kept = (kept.0.own, each_own c rest kept.1)
 
-pub orderly : (form : Form) → is_orderly form ≡ true → IsOrderly form
+pub orderly : (form : CommandForm) → is_orderly form ≡ true → IsOrderly form
 orderly form test =
     let c = (leaf form).rules in
     let i = after file_place 1 (file_names form.files) in
@@ -219,7 +219,7 @@ options_default j true has asked rows may fresh =
     ∙ json_default j has asked rows may fresh
 options_default j false has asked rows may fresh = json_default j has asked rows may fresh
 
-module _ (form : Form) (o : IsOrderly form) (arguments : Arguments) (fits : Fits form arguments) where
+module _ (form : CommandForm) (o : IsOrderly form) (arguments : Arguments) (fits : Fits form arguments) where
   abbrev pub last : ℕ
   last = after number_place (after file_place 1 (file_names form.files)) form.numbers
 

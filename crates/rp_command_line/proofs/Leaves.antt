@@ -2,11 +2,11 @@
 use Rattle.std.proofs.Common.{List, [], ◌∷◌}
 use Rattle.clap.specs.Simple.{Shape, built, built_leaf, inherited, marked_built, with_leaf_noted}
 use Rattle.rp_command_line.specs.Commands.{command_of, program_of}
-use Rattle.rp_command_line.specs.Forms.{Form}
+use Rattle.rp_command_line.specs.CommandForms.{CommandForm}
 
 -- the command of a form
-abbrev pub leaf : Form → Shape
+abbrev pub leaf : CommandForm → Shape
 leaf form = built_leaf (inherited (with_leaf_noted (marked_built (program_of (form ∷ [])).top)) (command_of form))
 
-abbrev pub leaves : List Form → List Shape
+abbrev pub leaves : List CommandForm → List Shape
 leaves forms = (built (program_of forms)).subs

@@ -10,7 +10,7 @@ use Rattle.clap.specs.Walk.{Row, Rule, Text, answers_to, first_of, finished, not
 use Rattle.rp_command_line.specs.CommandLine.{Arguments, Line, command_named, commands, form_of}
 use Rattle.rp_command_line.specs.declared.commands.Command.{Command}
 use Rattle.rp_command_line.specs.Commands.{file_rule, number_rule, program, rules_of}
-use Rattle.rp_command_line.specs.Forms.{Form, Number}
+use Rattle.rp_command_line.specs.CommandForms.{CommandForm, NumberArgument}
 use Rattle.rp_command_line.specs.CommandLine.{file_names}
 use Rattle.rp_command_line.specs.Words.{all_in, command_line, arguments_in, line_named, denoted_line, number_of}
 use Rattle.rp_command_line.proofs.KeptRows.{IsKept, all_found, are_kept, each_found, every, first_free, kept_from, second_free}
@@ -72,12 +72,12 @@ module _ (c : List Rule) (rows : List Row) (taken : AreTaken c rows) where
   file_reads : (id : Text) (i : ℕ) → IsKept c (with_index i (filled (file_rule id))) → (text : Text) × (first_of id rows ≡ Some text)
   file_reads id i kept = let read = required_read c rows (with_index i (filled (file_rule id))) taken kept.own refl in (read.text, read.first)
 
-  number_reads : (number : Number) (i : ℕ) → IsKept c (with_index i (filled (number_rule number))) → (n : ℕ) × (number_of number rows ≡ Some n)
+  number_reads : (number : NumberArgument) (i : ℕ) → IsKept c (with_index i (filled (number_rule number))) → (n : ℕ) × (number_of number rows ≡ Some n)
   number_reads number i kept =
       let a = with_index i (filled (number_rule number)) in
       number_read a number rows refl refl (required_read c rows a taken kept.own refl)
 
-given_named : (form : Form) (rows : List Row) → AreTaken (filled_from 1 (rules_of form)) rows → IsSome (arguments_in form rows)
+given_named : (form : CommandForm) (rows : List Row) → AreTaken (filled_from 1 (rules_of form)) rows → IsSome (arguments_in form rows)
 given_named form rows taken =
     let c = filled_from 1 (rules_of form) in
     let files = all_read c rows taken file_rule first_of (file_reads c rows taken) (file_names form.files) 1 _ taken.kept in

@@ -14,7 +14,7 @@ use Rattle.clap.specs.Values.{read_as}
 use Rattle.clap.specs.ValueTests.{is_unsigned_in}
 use Rattle.clap.specs.Walk.{Row, Rule, Text, arg_by_id, first_of, one_of, reading_by}
 use Rattle.clap.specs.declared.builder.value_parser.ValueParser.TheVariants.{Unsigned}
-use Rattle.rp_command_line.specs.Forms.{Number}
+use Rattle.rp_command_line.specs.CommandForms.{NumberArgument}
 use Rattle.rp_command_line.specs.Words.{number_in, number_of}
 use Rattle.rp_command_line.proofs.KeptRows.{AreGood, IsFilled, IsGood, all_found, first_free}
 use Rattle.rp_command_line.proofs.KeptWalk.{AreTaken}
@@ -75,7 +75,7 @@ required_read rules rows a taken own required =
     given_read rules a own rows taken.good (all_found (λ b. b.required ≡ true → is_given b.id rows ≡ true) (λ b. bytes_eq b.id a.id) a rules taken.given own required)
 
 -- a number is read where the parser takes numbers
-pub number_read : (a : Rule) (number : Number) (rows : List Row) → a.id ≡ number.name → a.parser ≡ Some (Unsigned number.least number.most) → IsRead a rows → (n : ℕ) × (number_of number rows ≡ Some n)
+pub number_read : (a : Rule) (number : NumberArgument) (rows : List Row) → a.id ≡ number.name → a.parser ≡ Some (Unsigned number.least number.most) → IsRead a rows → (n : ℕ) × (number_of number rows ≡ Some n)
 number_read a number rows named parser read =
     (digits_value 10 (without_leading_plus read.text), rw (sym named, read.one, parser) (go (is_unsigned_in number.least number.most read.text) refl))
   where

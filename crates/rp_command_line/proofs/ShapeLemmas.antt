@@ -12,7 +12,7 @@ use Rattle.rp_command_line.specs.CommandLine.{Arguments, Line, command_named, co
 use Rattle.rp_command_line.specs.declared.commands.Command.{Command}
 use Rattle.rp_command_line.specs.declared.commands.Command.TheVariants.{Pairs}
 use Rattle.rp_command_line.specs.Commands.{program, program_of}
-use Rattle.rp_command_line.specs.Forms.{Form}
+use Rattle.rp_command_line.specs.CommandForms.{CommandForm}
 use Rattle.rp_command_line.specs.Shapes.{Fits, HasShape, shape_of, words_of}
 use Rattle.rp_command_line.specs.Words.{denoted_line}
 use Rattle.rp_command_line.proofs.FormsTaken.{end_rows, given_again, is_orderly, orderly, rows_are, words_free}
@@ -21,8 +21,8 @@ use Rattle.rp_command_line.proofs.Leaves.{leaf, leaves}
 use Rattle.rp_command_line.proofs.UsesTaken.{and_false}
 
 -- the name of a form is that of its command
-module _ (name : Text) (form : Form) where
-  command_found : (some : List Form) → find (λ x. bytes_eq x.name name) some ≡ Some form → find (λ s. answers_to name (label_of s)) (leaves some) ≡ Some (leaf form)
+module _ (name : Text) (form : CommandForm) where
+  command_found : (some : List CommandForm) → find (λ x. bytes_eq x.name name) some ≡ Some form → find (λ s. answers_to name (label_of s)) (leaves some) ≡ Some (leaf form)
   command_found [] is = cc
   command_found (x ∷ xs) is = go (command_found xs) (bytes_eq x.name name) is
     where
@@ -31,13 +31,13 @@ module _ (name : Text) (form : Form) where
       go later true is = ap (option_map leaf) is
       go later false is = later is
 
-  name_found : (some : List Form) → find (λ x. bytes_eq x.name name) some ≡ Some form → find (answers_to name) (names_of (built (program_of some))) ≡ Some (label_of (leaf form))
+  name_found : (some : List CommandForm) → find (λ x. bytes_eq x.name name) some ≡ Some form → find (answers_to name) (names_of (built (program_of some))) ≡ Some (label_of (leaf form))
   name_found [] is = cc
   name_found (x ∷ xs) is = go (name_found xs) (bytes_eq x.name name) is
     where
       go : (find (λ y. bytes_eq y.name name) xs ≡ Some form → find (answers_to name) (names_of (built (program_of xs))) ≡ Some (label_of (leaf form))) → (b : Bool)
           → cond b (Some x) (find (λ y. bytes_eq y.name name) xs) ≡ Some form → cond (b || false) (Some (label_of (leaf x))) (find (answers_to name) (names_of (built (program_of xs)))) ≡ Some (label_of (leaf form))
-      go later true is = ap (option_map (λ (f : Form). label_of (leaf f))) is
+      go later true is = ap (option_map (λ (f : CommandForm). label_of (leaf f))) is
       go later false is = later is
 
 -- once a command is met, the walk goes over the words after it
@@ -56,7 +56,7 @@ module _ (s : Shape) (names : Names) where
   stopped_free name words (word ∷ rest) = stopped_free name (words ++ word ∷ []) rest
 
 -- so the program takes the words that the command takes, and its matches are those of the command
-module _ (some : List Form) (form : Form) (own : find (λ x. bytes_eq x.name form.name) some ≡ Some form) (rest : List Text) where
+module _ (some : List CommandForm) (form : CommandForm) (own : find (λ x. bytes_eq x.name form.name) some ≡ Some form) (rest : List Text) where
   abbrev app_top : Shape
   app_top = (built (program_of some)).top
 
@@ -113,7 +113,7 @@ module _ (command : Command) (own : command_named (form_of command).name ≡ Som
   abbrev words : List Text
   words = name ∷ (form_of command).name ∷ words_of arguments
 
-  abbrev form : Form
+  abbrev form : CommandForm
   form = form_of command
 
   command_denotes : denoted_line words ≡ Some (record { command = command; arguments = arguments })

@@ -14,7 +14,7 @@ use Rattle.clap.specs.declared.builder.value_parser.Reading.TheVariants.{AsWritt
 use Rattle.clap.specs.declared.builder.value_parser.ValueParser.{ValueParser}
 use Rattle.clap.specs.declared.parser.matches.ValueSource.TheVariants.{CommandLine}
 use Rattle.rp_command_line.specs.Commands.{json_rule, per_rule}
-use Rattle.rp_command_line.specs.Forms.{units}
+use Rattle.rp_command_line.specs.CommandForms.{units}
 use Rattle.clap.specs.ValueTests.{is_unsigned_in}
 use Rattle.rp_command_line.proofs.KeptRows.{neither}
 use Rattle.rp_command_line.proofs.PlainWords.{IsPlainWord}

@@ -19,7 +19,7 @@ use Rattle.clap.specs.ValueTests.{is_numeral, is_unsigned_in}
 use Rattle.clap.specs.declared.builder.value_parser.ValueParser.TheVariants.{Unsigned}
 use Rattle.rp_command_line.specs.CommandLine.{Line}
 use Rattle.rp_command_line.specs.Commands.{program, with_rules}
-use Rattle.rp_command_line.specs.Forms.{Number}
+use Rattle.rp_command_line.specs.CommandForms.{NumberArgument}
 use Rattle.rp_command_line.specs.Words.{line_named, denoted_line, number_in}
 
 -- a numeral that fits passes the first two tests
@@ -34,7 +34,7 @@ fits text numeral small =
 abbrev pub between : ℕ → ℕ → ℕ → Option ℕ
 between low high n = if nat_le low n && nat_le n high then Some n else None
 
-pub number_given : (E : Type 0) (number : Number) (text : Option (List ℕ)) (v : ℕ) → (text ≡ None → Some v ≡ None) → ((t : List ℕ) → text ≡ Some t → ParsesUnsigned {E = E} 64 10 t (Ok v))
+pub number_given : (E : Type 0) (number : NumberArgument) (text : Option (List ℕ)) (v : ℕ) → (text ≡ None → Some v ≡ None) → ((t : List ℕ) → text ≡ Some t → ParsesUnsigned {E = E} 64 10 t (Ok v))
     → between number.least number.most v ≡ option_and_then (number_in number) text
 number_given E number None v none given = let no : Some v ≡ None = none refl in cc
 number_given E number (Some t) v none given =
@@ -42,7 +42,7 @@ number_given E number (Some t) v none given =
     let ok = fits t parsed.0.0 parsed.0.1 in
     rw (parsed.1, ok.0, ok.1) refl
 
-pub number_refused : (E : Type 0) (number : Number) (text : Option (List ℕ)) → ((t : List ℕ) → text ≡ Some t → (e : E) × ParsesUnsigned {E = E} 64 10 t (Err e))
+pub number_refused : (E : Type 0) (number : NumberArgument) (text : Option (List ℕ)) → ((t : List ℕ) → text ≡ Some t → (e : E) × ParsesUnsigned {E = E} 64 10 t (Err e))
     → None ≡ option_and_then (number_in number) text
 number_refused E number None refused = refl
 number_refused E number (Some t) refused = let failed = refused t refl in go failed.0 (is_unsigned_in number.least number.most t) refl failed.1

@@ -6,7 +6,7 @@ use Rattle.std.proofs.Math.Seq.{drop-cons}
 use Rattle.clap.specs.Walk.{Row, Rule, Text, first_of, one_of}
 use Rattle.clap.specs.Simple.{App, with_subcommand}
 use Rattle.rp_command_line.specs.Commands.{alone, command_of, program_of, with_rules}
-use Rattle.rp_command_line.specs.Forms.{Form, Number, units}
+use Rattle.rp_command_line.specs.CommandForms.{CommandForm, NumberArgument, units}
 use Rattle.rp_command_line.specs.CommandLine.{file_names}
 use Rattle.std.proofs.lemmas.Bool.{leb-true}
 use Rattle.std.specs.Str.Parse.{digits_value, without_leading_plus}
@@ -52,18 +52,18 @@ module _ {A X V : Type 0} (read : X → List Row → Option V) (rows : List Row)
       ∙ one_missing read rows (map of (take i xs)) (of (get_or xs i d)) (map of (drop (suc i) xs)) none
 
 -- a program so far: with no command it is a leaf
-abbrev is_none : List Form → Bool
+abbrev is_none : List CommandForm → Bool
 is_none [] = true
 is_none (x ∷ xs) = false
 
-abbrev pub program_so_far : List Form → App
+abbrev pub program_so_far : List CommandForm → App
 program_so_far some = record (program_of some) { top = record (program_of some).top { is_leaf = is_none some } }
 
-not_none : (some : List Form) (form : Form) → is_none (some ++ form ∷ []) ≡ false
+not_none : (some : List CommandForm) (form : CommandForm) → is_none (some ++ form ∷ []) ≡ false
 not_none [] form = refl
 not_none (x ∷ xs) form = refl
 
-pub command_more : {A : Type 0} (of : A → Form) (xs : List A) (i : ℕ) (d : A) (old new command : App) → i < length xs → old ≡ program_so_far (map of (take i xs))
+pub command_more : {A : Type 0} (of : A → CommandForm) (xs : List A) (i : ℕ) (d : A) (old new command : App) → i < length xs → old ≡ program_so_far (map of (take i xs))
     → command ≡ alone (command_of (of (get_or xs i d))) → new ≡ with_subcommand old command.top → new ≡ program_so_far (map of (take (i + 1) xs))
 command_more of xs i d old new command within so is added =
     let some = map of (take i xs) in
@@ -81,7 +81,7 @@ map_twice f g [] = refl
 map_twice f g (x ∷ xs) = ap (λ (more : List _). f (g x) ∷ more) (map_twice f g xs)
 
 -- what matches give is in range
-number_ranged : (number : Number) (text : Option Text) (n : ℕ) → option_and_then (number_in number) text ≡ Some n → IsInRange number n
+number_ranged : (number : NumberArgument) (text : Option Text) (n : ℕ) → option_and_then (number_in number) text ≡ Some n → IsInRange number n
 number_ranged number None n is = cc
 number_ranged number (Some text) n is = go (is_unsigned_in number.least number.most text) refl is
   where
@@ -94,7 +94,7 @@ number_ranged number (Some text) n is = go (is_unsigned_in number.least number.m
         (subst (λ m. number.least ≤ m) same (leb-true _ _ bounds.0), subst (λ m. m ≤ number.most) same (leb-true _ _ bounds.1))
     go false test is = cc
 
-numbers_ranged : (numbers : List Number) (rows : List Row) (ns : List ℕ) → all_in number_of numbers rows ≡ Some ns → AreInRange numbers ns
+numbers_ranged : (numbers : List NumberArgument) (rows : List Row) (ns : List ℕ) → all_in number_of numbers rows ≡ Some ns → AreInRange numbers ns
 numbers_ranged [] rows [] is = tt
 numbers_ranged [] rows (n ∷ ns) is = cc
 numbers_ranged (number ∷ numbers) rows ns is = go (numbers_ranged numbers rows) (number_of number rows) refl (all_in number_of numbers rows) refl ns is
@@ -107,7 +107,7 @@ numbers_ranged (number ∷ numbers) rows ns is = go (numbers_ranged numbers rows
         let whole : m ∷ ms ≡ ns = cc in
         subst (λ (all : List ℕ). AreInRange (number ∷ numbers) all) whole (number_ranged number (one_of number.name rows) m one, later ms rest)
 
-pub given_ranged : (form : Form) (rows : List Row) (arguments : Arguments) → arguments_in form rows ≡ Some arguments → HasRanges form arguments
+pub given_ranged : (form : CommandForm) (rows : List Row) (arguments : Arguments) → arguments_in form rows ≡ Some arguments → HasRanges form arguments
 given_ranged form rows arguments is = go (all_in first_of (file_names form.files) rows) (all_in number_of form.numbers rows) refl is
   where
     per_ranged : (has : Bool) (per : Option ℕ) → (if has then number_of units rows else None) ≡ per → AreUnits has per
@@ -140,7 +140,7 @@ all_there read (x ∷ xs) rows vs is = go (all_there read xs rows) (read x rows)
     go later (Some w) None rest is = cc
     go later (Some w) (Some ws) rest is = let whole : w ∷ ws ≡ vs = cc in ap length (sym whole) ∙ ap suc (later ws rest)
 
-pub given_whole : (form : Form) (rows : List Row) (arguments : Arguments) → arguments_in form rows ≡ Some arguments → length arguments.files ≡ length (file_names form.files)
+pub given_whole : (form : CommandForm) (rows : List Row) (arguments : Arguments) → arguments_in form rows ≡ Some arguments → length arguments.files ≡ length (file_names form.files)
 given_whole form rows arguments is = go (all_in first_of (file_names form.files) rows) refl (all_in number_of form.numbers rows) is
   where
     go : (files : Option (List Text)) → all_in first_of (file_names form.files) rows ≡ files → (numbers : Option (List ℕ))

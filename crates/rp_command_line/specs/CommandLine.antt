@@ -3,8 +3,8 @@
 use Rattle.std.specs.Prelude.{ℕ, Bool, List, [], ◌∷◌, Option, codes, find, map, slice_index_or}
 use Rattle.std.specs.Str.{bytes_eq}
 use Rattle.clap.specs.Walk.{Text}
-use Rattle.rp_command_line.specs.Forms.{Form, draws, goods, over, rows, seed, with_json}
-use Rattle.rp_command_line.specs.Forms.{with_levels, with_numbers, with_per}
+use Rattle.rp_command_line.specs.CommandForms.{CommandForm, draws, goods, over, rows, seed, with_json}
+use Rattle.rp_command_line.specs.CommandForms.{with_levels, with_numbers, with_per}
 use Rattle.rp_command_line.specs.declared.commands.Command.{Command}
 use Rattle.rp_command_line.specs.declared.commands.Command.TheVariants.{Pairs, Analyse, Certify, Check, Demand, Welfare}
 use Rattle.rp_command_line.specs.declared.commands.Command.TheVariants.{Utility}
@@ -37,7 +37,7 @@ files_in files.TechnologyAndAsked = Numbers (codes "TECH") ∷ Numbers (codes "N
 abbrev pub file_names : FileSet → List Text
 file_names set = map file_name (files_in set)
 
-abbrev pub form_of : Command → Form
+abbrev pub form_of : Command → CommandForm
 form_of Pairs = with_levels (over (codes "pairs") files.Table)
 form_of Analyse = with_levels (over (codes "analyse") files.Table)
 form_of Certify = with_levels (over (codes "certify") files.Table)
@@ -59,7 +59,7 @@ commands =
     Pairs ∷ Analyse ∷ Certify ∷ Check ∷ Demand ∷ Welfare ∷ Utility ∷ Random ∷ CheckRandom ∷ Trial
     ∷ Menus ∷ Pump ∷ Cost ∷ Power ∷ []
 
-abbrev pub forms : List Form
+abbrev pub forms : List CommandForm
 forms = map form_of commands
 
 -- the command of that name

@@ -6,7 +6,7 @@ use Rattle.clap.specs.Walk.{Rule, Text}
 use Rattle.clap.specs.declared.builder.action.ArgAction.TheVariants.{SetTrue}
 use Rattle.clap.specs.declared.builder.value_parser.ValueParser.TheVariants.{NonEmptyString, Unsigned}
 use Rattle.rp_command_line.specs.CommandLine.{forms}
-use Rattle.rp_command_line.specs.Forms.{Form, Number, units}
+use Rattle.rp_command_line.specs.CommandForms.{CommandForm, NumberArgument, units}
 use Rattle.rp_command_line.specs.CommandLine.{file_names}
 
 -- the name of a file, which has to be there and is not empty
@@ -14,7 +14,7 @@ abbrev pub file_rule : Text → Rule
 file_rule id = record (new_rule id) { parser = Some NonEmptyString; required = true }
 
 -- a number in its range, which has to be there
-abbrev pub number_rule : Number → Rule
+abbrev pub number_rule : NumberArgument → Rule
 number_rule number = record (new_rule number.name)
     { parser = Some (Unsigned number.least number.most); required = true }
 
@@ -31,7 +31,7 @@ abbrev pub where_asked : Bool → Rule → List Rule
 where_asked asked rule = if asked then rule ∷ [] else []
 
 -- the arguments of a command, in the order of the words
-abbrev pub rules_of : Form → List Rule
+abbrev pub rules_of : CommandForm → List Rule
 rules_of form =
     map file_rule (file_names form.files)
     ++ (map number_rule form.numbers ++ (where_asked form.per per_rule ++ where_asked form.json json_rule))
@@ -40,7 +40,7 @@ rules_of form =
 abbrev pub command_shape : Text → List Rule → Shape
 command_shape name rules = record (new_shape name) { rules = rules }
 
-abbrev pub command_of : Form → Shape
+abbrev pub command_of : CommandForm → Shape
 command_of form = command_shape form.name (rules_of form)
 
 -- a command with no command below it
@@ -52,7 +52,7 @@ abbrev pub with_rules : App → List Rule → App
 with_rules a rules = record a { top = record a.top { rules = a.top.rules ++ rules } }
 
 -- the program: one of the commands has to be there, and no word asks for help
-abbrev pub program_of : List Form → App
+abbrev pub program_of : List CommandForm → App
 program_of commands = record {
   top = record (new_shape (codes "rp"))
       { is_leaf = false; subcommand_required = true; disable_help_flag = true; disable_help_subcommand = true };

@@ -1,6 +1,6 @@
 pub mod CommandLine
+pub mod CommandForms
 pub mod Commands
-pub mod Forms
 pub mod Named
 pub mod Ranges
 pub mod Shapes

@@ -1,16 +1,16 @@
 -- A form, what is given to a command, and a line of `src/`, as those that contracts speak of.
 use Rattle.std.specs.Prelude.{map}
 use Rattle.rp_command_line.specs.CommandLine.{Arguments, Line}
-use Rattle.rp_command_line.specs.Forms.{Form, Number}
-use Rattle.rp_command_line.specs.declared.commands.Form.{Form as HeldForm}
-use Rattle.rp_command_line.specs.declared.commands.Number.{Number as HeldNumber}
+use Rattle.rp_command_line.specs.CommandForms.{CommandForm, NumberArgument}
+use Rattle.rp_command_line.specs.declared.commands.CommandForm.{CommandForm as HeldForm}
+use Rattle.rp_command_line.specs.declared.commands.NumberArgument.{NumberArgument as HeldNumber}
 use Rattle.rp_command_line.specs.declared.arguments.Arguments.{Arguments as HeldArguments}
 use Rattle.rp_command_line.specs.declared.line.Line.{Line as HeldLine}
 
-abbrev pub named_number : HeldNumber → Number
+abbrev pub named_number : HeldNumber → NumberArgument
 named_number number = record { name = number.name.now; least = number.least; most = number.most }
 
-abbrev pub named_form : HeldForm → Form
+abbrev pub named_form : HeldForm → CommandForm
 named_form form = record {
   name = form.name.now;
   files = form.files;

@@ -2,7 +2,7 @@
 -- that words denote have them.
 use Rattle.std.specs.Prelude.{◌≡◌, ◌≤◌, ℕ, Option, IfSome, length}
 use Rattle.rp_command_line.specs.CommandLine.{Line, file_set, files_of, form_of}
-use Rattle.rp_command_line.specs.Forms.{goods, rows, units}
+use Rattle.rp_command_line.specs.CommandForms.{goods, rows, units}
 use Rattle.rp_command_line.specs.CommandLine.{file_names}
 use Rattle.rp_command_line.specs.Shapes.{HasRanges, IsInRange}
 

@@ -5,7 +5,7 @@ use Rattle.std.specs.Prelude.{IfSome, codes, map, if◌then◌else◌}
 use Rattle.std.specs.Fmt.{decimal}
 use Rattle.clap.specs.Walk.{Text}
 use Rattle.rp_command_line.specs.CommandLine.{Arguments, Line, form_of}
-use Rattle.rp_command_line.specs.Forms.{Form, Number, units}
+use Rattle.rp_command_line.specs.CommandForms.{CommandForm, NumberArgument, units}
 use Rattle.rp_command_line.specs.CommandLine.{file_names}
 
 -- a word that names a file: it is not empty and begins with no minus sign
@@ -37,11 +37,11 @@ AreFileNames [] [] = Unit {0}
 AreFileNames (id ∷ ids) (file ∷ files) = (is_file_name file ≡ true) × AreFileNames ids files
 AreFileNames _ _ = ⊥
 
-abbrev pub IsInRange : Number → ℕ → Type 0
+abbrev pub IsInRange : NumberArgument → ℕ → Type 0
 IsInRange number n = (number.least ≤ n) × (n ≤ number.most)
 
 -- a number in range for each number
-abbrev pub AreInRange : List Number → List ℕ → Type 0
+abbrev pub AreInRange : List NumberArgument → List ℕ → Type 0
 AreInRange [] [] = Unit {0}
 AreInRange (number ∷ numbers) (n ∷ ns) = IsInRange number n × AreInRange numbers ns
 AreInRange _ _ = ⊥
@@ -57,11 +57,11 @@ MayAsk true json = Unit {0}
 MayAsk false json = json ≡ false
 
 -- the numbers that are given are those of the form, each in its range
-abbrev pub HasRanges : Form → Arguments → Type 0
+abbrev pub HasRanges : CommandForm → Arguments → Type 0
 HasRanges form arguments = AreInRange form.numbers arguments.numbers × AreUnits form.per arguments.per
 
 -- what is given fits the form
-abbrev pub Fits : Form → Arguments → Type 0
+abbrev pub Fits : CommandForm → Arguments → Type 0
 Fits form arguments =
     AreFileNames (file_names form.files) arguments.files × HasRanges form arguments × MayAsk form.json arguments.json
 

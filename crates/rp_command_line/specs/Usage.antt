@@ -2,7 +2,7 @@
 use Rattle.std.specs.Prelude.{ℕ, List, [], ◌∷◌, ◌++◌, codes, map, if◌then◌else◌}
 use Rattle.clap.specs.Walk.{Text}
 use Rattle.rp_command_line.specs.CommandLine.{forms}
-use Rattle.rp_command_line.specs.Forms.{Form}
+use Rattle.rp_command_line.specs.CommandForms.{CommandForm}
 use Rattle.rp_command_line.specs.CommandLine.{file_names}
 
 -- words, each after a blank
@@ -11,13 +11,13 @@ spaced [] = []
 spaced (word ∷ words) = 32 ∷ word ++ spaced words
 
 -- how a command is called
-abbrev pub call_text : Form → List ℕ
+abbrev pub call_text : CommandForm → List ℕ
 call_text form =
     codes "rp " ++ form.name ++ spaced (file_names form.files) ++ spaced (map (λ number. number.name) form.numbers)
     ++ (if form.per then codes " [--per N]" else []) ++ (if form.json then codes " [--json]" else [])
 
 -- the lines of the calls, where the first begins so, and each further one with as many blanks
-abbrev pub calls_text : List ℕ → List Form → List ℕ
+abbrev pub calls_text : List ℕ → List CommandForm → List ℕ
 calls_text start [] = []
 calls_text start (form ∷ more) = start ++ call_text form ++ 10 ∷ calls_text (codes "       ") more
 

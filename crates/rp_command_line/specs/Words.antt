@@ -12,15 +12,15 @@ use Rattle.clap.specs.ValueTests.{is_unsigned_in}
 use Rattle.clap.specs.Walk.{Row, Text, first_of, is_empty, one_of}
 use Rattle.rp_command_line.specs.CommandLine.{Arguments, Line, command_named, form_of}
 use Rattle.rp_command_line.specs.Commands.{program}
-use Rattle.rp_command_line.specs.Forms.{Form, Number, units}
+use Rattle.rp_command_line.specs.CommandForms.{CommandForm, NumberArgument, units}
 use Rattle.rp_command_line.specs.CommandLine.{file_names}
 
 -- a number in its range, in decimal digits
-abbrev pub number_in : Number → Text → Option ℕ
+abbrev pub number_in : NumberArgument → Text → Option ℕ
 number_in n text = if is_unsigned_in n.least n.most text
     then Some (digits_value 10 (without_leading_plus text)) else None
 
-abbrev pub number_of : Number → List Row → Option ℕ
+abbrev pub number_of : NumberArgument → List Row → Option ℕ
 number_of n matches = option_and_then (number_in n) (one_of n.name matches)
 
 -- whether JSON is asked for
@@ -34,7 +34,7 @@ all_in read (x ∷ xs) matches =
     option_and_then (λ v. option_map (λ vs. v ∷ vs) (all_in read xs matches)) (read x matches)
 
 -- what the matches give to a command of that form
-abbrev pub arguments_in : Form → List Row → Option Arguments
+abbrev pub arguments_in : CommandForm → List Row → Option Arguments
 arguments_in form matches =
     option_and_then (λ files. option_map (λ numbers. record {
       files = files;

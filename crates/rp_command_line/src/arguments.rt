@@ -3,11 +3,11 @@ ghost use Rattle.std.specs.Prelude.{IfSome, map, option_map};
 ghost use Rattle.clap.specs.Walk.{first_of};
 ghost use Rattle.clap.specs.Words.{found_of, rows_of};
 ghost use Rattle.rp_command_line.specs.CommandLine.{file, number};
-ghost use Rattle.rp_command_line.specs.Forms.{units};
+ghost use Rattle.rp_command_line.specs.CommandForms.{units};
 ghost use Rattle.rp_command_line.specs.Named.{named_form, named_arguments, named_number};
 ghost use Rattle.rp_command_line.specs.Words.{all_in, arguments_in, json_of, number_of};
 
-use crate::commands::{Form, Number, UNITS};
+use crate::commands::{CommandForm, NumberArgument, UNITS};
 use clap::ArgMatches;
 use rp_num::NoMemory;
 use std::alloc::Global;
@@ -48,7 +48,7 @@ impl<'a> Arguments<'a> {
 /// What the matches give to a command of that form, or none where one of its files or numbers is missing.
 pub(crate) fn arguments_in<'a>(
     alloc: Global,
-    form: &Form,
+    form: &CommandForm,
     matches: &ArgMatches<'a>,
 ) -> Result<Option<Arguments<'a>>, NoMemory>
     ensures { IfOk result (λ arguments. option_map named_arguments arguments
@@ -92,7 +92,7 @@ fn files_in<'a>(
 /// The numbers that the matches name, or none where one is missing.
 fn numbers_in(
     alloc: Global,
-    numbers: &[Number],
+    numbers: &[NumberArgument],
     matches: &ArgMatches<'_>,
 ) -> Result<Option<Vec<u64>>, NoMemory>
     ensures { IfOk result (λ read. option_map (λ all. all.items) read
@@ -137,7 +137,7 @@ fn text_of<'a>(matches: &ArgMatches<'a>, id: &str) -> Option<&'a str>
 }
 
 /// A number in its range.
-fn number_of(matches: &ArgMatches<'_>, number: &Number) -> Option<u64>
+fn number_of(matches: &ArgMatches<'_>, number: &NumberArgument) -> Option<u64>
     ensures exact { result ≡ number_of (named_number number.now) (rows_of (found_of matches.now)) }
     ensures within { IfSome result (λ n. (number.now.least ≤ n) × (n ≤ number.now.most)) }
 {

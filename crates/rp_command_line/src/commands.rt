@@ -1,7 +1,8 @@
 //! The commands of the program, each with its form.
 ghost use Rattle.std.specs.Prelude.{◌≡◌, Some, None, map};
 ghost use Rattle.rp_command_line.specs.CommandLine.{command_named, commands, file_names, form_of};
-ghost use Rattle.rp_command_line.specs.Forms.{over, with_json, with_levels, with_numbers, with_per};
+ghost use Rattle.rp_command_line.specs.CommandForms.{over, with_json, with_levels, with_numbers};
+ghost use Rattle.rp_command_line.specs.CommandForms.{with_per};
 ghost use Rattle.rp_command_line.specs.Named.{named_form, named_number};
 ghost use Rattle.rp_command_line.specs.Usage.{usage_text};
 
@@ -81,7 +82,7 @@ impl FileSet {
 
 /// A number from `least` to `most`.
 #[derive(Clone, Copy)]
-pub(crate) struct Number {
+pub(crate) struct NumberArgument {
     pub(crate) name: &'static str,
     pub(crate) least: u64,
     pub(crate) most: u64,
@@ -90,10 +91,10 @@ pub(crate) struct Number {
 /// The form of a command: its name, its files and its numbers in the order of the words, its options, and which tables
 /// it takes.
 #[derive(Clone, Copy)]
-pub(crate) struct Form {
+pub(crate) struct CommandForm {
     pub(crate) name: &'static str,
     pub(crate) files: FileSet,
-    pub(crate) numbers: &'static [Number],
+    pub(crate) numbers: &'static [NumberArgument],
     /// Whether it takes `--per N`.
     pub(crate) per: bool,
     /// Whether it takes `--json`.
@@ -109,32 +110,32 @@ pub const MOST_ROWS: u64 = 256;
 pub const MOST_DRAWS: u64 = 1_000;
 
 /// How many units there are on each budget or menu.
-pub(crate) const UNITS: Number = Number {
+pub(crate) const UNITS: NumberArgument = NumberArgument {
     name: "per",
     least: 1,
     most: rp_patch::UNITS as u64,
 };
 
-pub(crate) const SEED: Number = Number {
+pub(crate) const SEED: NumberArgument = NumberArgument {
     name: "SEED",
     least: 0,
     most: u64::MAX,
 };
 
-pub(crate) const ROWS: Number = Number {
+pub(crate) const ROWS: NumberArgument = NumberArgument {
     name: "ROWS",
     least: 1,
     most: MOST_ROWS,
 };
 
-pub(crate) const GOODS: Number = Number {
+pub(crate) const GOODS: NumberArgument = NumberArgument {
     name: "GOODS",
     least: 1,
     most: rp_table::GOODS as u64,
 };
 
 /// How many random behaviours are drawn.
-pub(crate) const DRAWS: Number = Number {
+pub(crate) const DRAWS: NumberArgument = NumberArgument {
     name: "N",
     least: 1,
     most: MOST_DRAWS,
@@ -178,7 +179,7 @@ impl Command {
     }
 
     /// The form of the command.
-    pub(crate) fn form(self) -> Form
+    pub(crate) fn form(self) -> CommandForm
         ensures { named_form result ≡ form_of self }
     {
         match self {
@@ -201,10 +202,10 @@ impl Command {
 }
 
 /// A form with files alone, among them no table with levels.
-fn over(name: &'static str, files: FileSet) -> Form
+fn over(name: &'static str, files: FileSet) -> CommandForm
     ensures { named_form result ≡ over name.now files }
 {
-    Form {
+    CommandForm {
         name,
         files,
         numbers: &[],
@@ -214,33 +215,34 @@ fn over(name: &'static str, files: FileSet) -> Form
     }
 }
 
-impl Form {
+impl CommandForm {
     /// The same form with these numbers after the files.
-    fn with_numbers(self, numbers: &'static [Number]) -> Form
-        ensures { named_form result ≡ with_numbers (map named_number numbers.now) (named_form self) }
+    fn with_numbers(self, numbers: &'static [NumberArgument]) -> CommandForm
+        ensures { named_form result
+            ≡ with_numbers (map named_number numbers.now) (named_form self) }
     {
-        Form { numbers, ..self }
+        CommandForm { numbers, ..self }
     }
 
     /// The same form with the option `--per N`.
-    fn with_per(self) -> Form
+    fn with_per(self) -> CommandForm
         ensures { named_form result ≡ with_per (named_form self) }
     {
-        Form { per: true, ..self }
+        CommandForm { per: true, ..self }
     }
 
     /// The same form with the option `--json`.
-    fn with_json(self) -> Form
+    fn with_json(self) -> CommandForm
         ensures { named_form result ≡ with_json (named_form self) }
     {
-        Form { json: true, ..self }
+        CommandForm { json: true, ..self }
     }
 
     /// The same form of a command that takes tables with levels.
-    fn with_levels(self) -> Form
+    fn with_levels(self) -> CommandForm
         ensures { named_form result ≡ with_levels (named_form self) }
     {
-        Form {
+        CommandForm {
             levels: true,
             ..self
         }

@@ -6,7 +6,7 @@ ghost use Rattle.rp_command_line.specs.Commands.{alone, command_of, program, whe
 ghost use Rattle.rp_command_line.specs.Commands.{file_rule, json_rule, number_rule, per_rule};
 ghost use Rattle.rp_command_line.specs.Named.{named_form, named_number};
 
-use crate::commands::{Form, Number, UNITS, commands};
+use crate::commands::{CommandForm, NumberArgument, UNITS, commands};
 use clap::builder::ValueParser;
 use clap::{Arg, ArgAction, Command};
 use std::alloc::{AllocError, Global};
@@ -27,7 +27,7 @@ pub(crate) fn program<'a>(alloc: Global) -> Result<Command<'a>, AllocError>
 }
 
 /// The command of a form.
-fn command_of<'a>(alloc: Global, form: &Form) -> Result<Command<'a>, AllocError>
+fn command_of<'a>(alloc: Global, form: &CommandForm) -> Result<Command<'a>, AllocError>
     ensures shape { IfOk result (λ command. app_of command
         ≡ alone (command_of (named_form form.now))) }
     ensures local { IfOk result (λ command. (out-Command command).has_globals ≡ false) }
@@ -82,7 +82,7 @@ fn with_files<'a>(
 fn with_numbers<'a>(
     alloc: Global,
     command: Command<'a>,
-    numbers: &[Number],
+    numbers: &[NumberArgument],
 ) -> Result<Command<'a>, AllocError>
     requires { (out-Command command).has_globals ≡ false }
     ensures shape { IfOk result (λ more. app_of more ≡ with_rules (app_of command.entry)
@@ -107,7 +107,7 @@ fn file_argument<'a>(alloc: Global, id: &'static str) -> Arg<'a>
 }
 
 /// A number in its range, which has to be there.
-fn number_argument<'a>(alloc: Global, number: &Number) -> Arg<'a>
+fn number_argument<'a>(alloc: Global, number: &NumberArgument) -> Arg<'a>
     ensures rule { rule_of result ≡ number_rule (named_number number.now) }
     ensures local { result.global ≡ false }
 {

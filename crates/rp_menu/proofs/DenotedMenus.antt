@@ -11,15 +11,15 @@ use Rattle.rp_sheet.specs.Sizes.{sizes_stage}
 use Rattle.rp_sheet.specs.declared.fault.TableFault.TheVariants as table_fault
 use Rattle.rp_sheet.proofs.StageLemmas.{many_records}
 use Rattle.rp_menu.specs.Cells.{letters_of, listed_menus, menu_list, menus_below, cells_below}
-use Rattle.rp_menu.specs.Denotation.{cells_stage, denoted_menus, entries_in, entries_stage, fault_under, menus_stage, sheet_fault, told, unless_fault}
+use Rattle.rp_menu.specs.Denotation.{cells_stage, denoted_menus, menu_rows_in, menu_rows_stage, fault_under, menus_stage, sheet_fault, told, unless_fault}
 use Rattle.rp_menu.specs.declared.cells.Cell.{Cell}
-use Rattle.rp_menu.specs.declared.entry.Entry.{Entry}
+use Rattle.rp_menu.specs.declared.menu_row.MenuRow.{MenuRow}
 use Rattle.rp_menu.specs.declared.fault.MenuFault.{MenuFault}
 use Rattle.rp_menu.specs.declared.fault.MenuFault.TheVariants as fault
 
 module _ (records : List (List (List ℕ))) where
-  abbrev pub said : List Entry
-  said = entries_in (headers_of records) records
+  abbrev pub said : List MenuRow
+  said = menu_rows_in (headers_of records) records
 
   pub in_sheet : (e : MenuFault) → sheet_fault records ≡ Some e → denoted_menus records ≡ Err e
   unfolding denoted_menus
@@ -38,9 +38,9 @@ module _ (records : List (List (List ℕ))) where
   menus_there a b d = rw (a, b, d) refl
 
 -- the menus of counted records
-pub listed_as : (entries : List Entry) (letters : ℕ) (menus : List ℕ) (cells : List Cell) → letters ≡ letters_of entries → menus ≡ menus_below entries (length entries)
-    → cells ≡ cells_below entries (length entries) → listed_menus letters menus cells ≡ menu_list entries
-listed_as entries letters menus cells a b d = rw (a, b, d) refl
+pub listed_as : (menu_rows : List MenuRow) (letters : ℕ) (menus : List ℕ) (cells : List Cell) → letters ≡ letters_of menu_rows → menus ≡ menus_below menu_rows (length menu_rows)
+    → cells ≡ cells_below menu_rows (length menu_rows) → listed_menus letters menus cells ≡ menu_list menu_rows
+listed_as menu_rows letters menus cells a b d = rw (a, b, d) refl
 
 -- what is refused for its headers or for the number of its records is refused whatever the records are
 refused_early : {A : Type 0} (h g n a b x y a' b' x' y' : Option MenuFault) (e : MenuFault) (v w : A) → n ≡ Some e
@@ -58,11 +58,11 @@ too_long (header ∷ rows) many =
     let all : count_stage menus_form (header ∷ rows) ≡ Some table_fault.TooManyRecords = many_records menus_form (header ∷ rows) (omega arith) in
     let headers = headers_in header in
     rw (first, all) (refused_early (option_map told (headers_stage menus_form headers)) (option_map told (goods_stage menus_form [] headers)) (Some fault.TooManyRecords)
-    (entries_stage headers (header ∷ take 4097 rows)) (option_map told (sizes_stage menus_form headers (figures_of menus_form headers (header ∷ take 4097 rows))))
-    (menus_stage (entries_in headers (header ∷ take 4097 rows))) (cells_stage (entries_in headers (header ∷ take 4097 rows)))
-    (entries_stage headers (header ∷ rows)) (option_map told (sizes_stage menus_form headers (figures_of menus_form headers (header ∷ rows))))
-    (menus_stage (entries_in headers (header ∷ rows))) (cells_stage (entries_in headers (header ∷ rows)))
-    fault.TooManyRecords (menu_list (entries_in headers (header ∷ take 4097 rows))) (menu_list (entries_in headers (header ∷ rows))) refl)
+    (menu_rows_stage headers (header ∷ take 4097 rows)) (option_map told (sizes_stage menus_form headers (figures_of menus_form headers (header ∷ take 4097 rows))))
+    (menus_stage (menu_rows_in headers (header ∷ take 4097 rows))) (cells_stage (menu_rows_in headers (header ∷ take 4097 rows)))
+    (menu_rows_stage headers (header ∷ rows)) (option_map told (sizes_stage menus_form headers (figures_of menus_form headers (header ∷ rows))))
+    (menus_stage (menu_rows_in headers (header ∷ rows))) (cells_stage (menu_rows_in headers (header ∷ rows)))
+    fault.TooManyRecords (menu_list (menu_rows_in headers (header ∷ take 4097 rows))) (menu_list (menu_rows_in headers (header ∷ rows))) refl)
 
 -- a file denotes what its first records denote, as many as the limit, the headers and one more
 pub first_records : (records : List (List (List ℕ))) → denoted_menus (take 4098 records) ≡ denoted_menus records

@@ -5,9 +5,9 @@ pub mod CountedCells
 pub mod GroupedCells
 pub mod Tallies
 pub mod ChosenLetters
-pub mod EntryFaults
+pub mod MenuRowFaults
 pub mod MenuStages
 pub mod CountedRecords
-pub mod SoundEntries
+pub mod SoundMenuRows
 pub mod DenotedMenus
 pub mod NamedFaults

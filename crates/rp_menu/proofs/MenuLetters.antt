@@ -1,16 +1,16 @@
 -- The letters of a menu by its number.
-use Rattle.std.proofs.Common.{◌≡◌, ℕ, zero, suc, ◌+◌, ◌-◌, ◌*◌, ◌/◌, ◌%◌, ◌<◌, ◌≤◌, ◌^◌, ◌==◌, Bool, true, false, List, length, inl, inr, refl, sym, ap, subst, ◌∙◌, arith, max, lit<, add-one, if◌then◌else◌}
+use Rattle.std.proofs.Common.{◌≡◌, ℕ, zero, suc, ◌+◌, ◌-◌, ◌*◌, ◌/◌, ◌%◌, ◌<◌, ◌≤◌, ◌^◌, ◌==◌, Bool, true, false, List, length, nat_lt, inl, inr, refl, sym, ap, subst, ◌∙◌, arith, max, lit<, add-one, if◌then◌else◌}
 use Rattle.std.specs.Int.{bit_at}
-use Rattle.std.proofs.lemmas.Bool.{cases_eq, cases_lt}
+use Rattle.std.proofs.lemmas.Bool.{cases_eq, cases_lt, ltb-true}
 use Rattle.std.proofs.lemmas.Bool.Decides.{nat_tests}
 use Rattle.std.proofs.lemmas.Nat.{div-mul-add, pow-add}
 use Rattle.std.proofs.lemmas.Nat.Bits.{bit_at_above}
 use Rattle.std.proofs.Math.Nat.{add-mul-div_left, add-mul-mod_self_right, div-eq_of_lt-le, pow-suc, pow-le-pow_right}
 use Rattle.rp_num.specs.Below.{greatest_below}
 use Rattle.rp_table.specs.Sums.{sum_below}
-use Rattle.rp_menu.specs.Cells.{entry_at, letters_of, top_of}
+use Rattle.rp_menu.specs.Cells.{menu_row_at, letters_of, top_of}
 use Rattle.rp_menu.specs.MenuLists.{has_letter}
-use Rattle.rp_menu.specs.declared.entry.Entry.{Entry}
+use Rattle.rp_menu.specs.declared.menu_row.MenuRow.{MenuRow}
 use Rattle.rp_sheet.proofs.PlaceLemmas.{greatest_at_most}
 
 -- a letter of a menu is one of so many, where the number of the menu is below that power of 2
@@ -21,6 +21,15 @@ letter_within menu n x small has = elim (cases_lt x n) [
       let none : bit_at menu x ≡ 0 = bit_at_above menu n x small g in
       absurd (grind (arith, nat_tests))
 ]
+
+-- a letter that is not one of so many is in no such menu
+pub no_letter : (menu n x : ℕ) → menu < 2 ^ n → ¬ (x < n) → nat_lt x n ≡ has_letter menu x
+no_letter menu n x small outside =
+    is_off (nat_lt x n) (λ e. outside (ltb-true x n e)) ∙ sym (is_off (has_letter menu x) (λ e. outside (letter_within menu n x small e)))
+  where
+    is_off : (b : Bool) → ¬ (b ≡ true) → b ≡ false
+    is_off true n = absurd (n refl)
+    is_off false n = refl
 
 double : (n : ℕ) → 2 ^ suc n ≡ 2 ^ n + 2 ^ n
 double n = let e : 2 ^ n * 2 ≡ 2 ^ n + 2 ^ n = omega arith in pow-suc 2 n ∙ e
@@ -75,14 +84,14 @@ at_least f (suc n) k inside = elim (cases_eq k n) [
 ]
 
 -- the letters of all records
-pub few_in_records : (entries : List Entry) → letters_of entries ≤ 6
-few_in_records entries = greatest_at_most (λ t. top_of (entry_at entries t).menu) (length entries) 6 (λ t inside. few_in_menu (entry_at entries t).menu)
+pub few_in_records : (menu_rows : List MenuRow) → letters_of menu_rows ≤ 6
+few_in_records menu_rows = greatest_at_most (λ t. top_of (menu_row_at menu_rows t).menu) (length menu_rows) 6 (λ t inside. few_in_menu (menu_row_at menu_rows t).menu)
 
-pub below_all : (entries : List Entry) (t : ℕ) → t < length entries → (entry_at entries t).menu < 2 ^ 6 → (entry_at entries t).menu < 2 ^ letters_of entries
-below_all entries t inside small =
-    let low = below_top (entry_at entries t).menu small in
-    let most = pow-le-pow_right {n = 2} (lit< tt) {i = top_of (entry_at entries t).menu} {j = letters_of entries}
-    (at_least (λ k. top_of (entry_at entries k).menu) (length entries) t inside) in
+pub below_all : (menu_rows : List MenuRow) (t : ℕ) → t < length menu_rows → (menu_row_at menu_rows t).menu < 2 ^ 6 → (menu_row_at menu_rows t).menu < 2 ^ letters_of menu_rows
+below_all menu_rows t inside small =
+    let low = below_top (menu_row_at menu_rows t).menu small in
+    let most = pow-le-pow_right {n = 2} (lit< tt) {i = top_of (menu_row_at menu_rows t).menu} {j = letters_of menu_rows}
+    (at_least (λ k. top_of (menu_row_at menu_rows k).menu) (length menu_rows) t inside) in
     omega (arith, low, most)
 
 -- a higher power of 2 leaves a bit as it is

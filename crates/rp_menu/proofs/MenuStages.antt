@@ -9,7 +9,7 @@ use Rattle.rp_sheet.specs.Sizes.{sizes_stage}
 use Rattle.rp_sheet.specs.declared.fault.TableFault.{TableFault}
 use Rattle.rp_sheet.specs.declared.fault.TableFault.TheVariants as table_fault
 use Rattle.rp_forms.specs.declared.form.Form.{Form}
-use Rattle.rp_menu.specs.Denotation.{entries_stage, fault_under, sheet_fault, told}
+use Rattle.rp_menu.specs.Denotation.{menu_rows_stage, fault_under, sheet_fault, told}
 use Rattle.rp_menu.specs.declared.fault.MenuFault.{MenuFault}
 use Rattle.rp_menu.specs.declared.fault.MenuFault.TheVariants as fault
 
@@ -39,18 +39,18 @@ module _ (records : List (List (List ℕ))) (some : 0 < length records) where
   unfolding fault_under
   in_count e a b c = rw (under_headers records some, a, b, c) refl
 
-  pub in_entries : (e : MenuFault) → headers_stage menus_form headers ≡ None → goods_stage menus_form [] headers ≡ None → count_stage menus_form records ≡ None
-      → entries_stage headers records ≡ Some e → sheet_fault records ≡ Some e
+  pub in_menu_rows : (e : MenuFault) → headers_stage menus_form headers ≡ None → goods_stage menus_form [] headers ≡ None → count_stage menus_form records ≡ None
+      → menu_rows_stage headers records ≡ Some e → sheet_fault records ≡ Some e
   unfolding fault_under
-  in_entries e a b c d = rw (under_headers records some, a, b, c, d) refl
+  in_menu_rows e a b c d = rw (under_headers records some, a, b, c, d) refl
 
   pub in_sizes : (e : TableFault) → headers_stage menus_form headers ≡ None → goods_stage menus_form [] headers ≡ None → count_stage menus_form records ≡ None
-      → entries_stage headers records ≡ None → sizes_stage menus_form headers (figures_of menus_form headers records) ≡ Some e → sheet_fault records ≡ Some (told e)
+      → menu_rows_stage headers records ≡ None → sizes_stage menus_form headers (figures_of menus_form headers records) ≡ Some e → sheet_fault records ≡ Some (told e)
   unfolding fault_under
   in_sizes e a b c d f = rw (under_headers records some, a, b, c, d, f) refl
 
   pub in_none : headers_stage menus_form headers ≡ None → goods_stage menus_form [] headers ≡ None → count_stage menus_form records ≡ None
-      → entries_stage headers records ≡ None → sizes_stage menus_form headers (figures_of menus_form headers records) ≡ None → sheet_fault records ≡ None
+      → menu_rows_stage headers records ≡ None → sizes_stage menus_form headers (figures_of menus_form headers records) ≡ None → sheet_fault records ≡ None
   unfolding fault_under
   in_none a b c d f = rw (under_headers records some, a, b, c, d, f) refl
 

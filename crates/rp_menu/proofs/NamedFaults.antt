@@ -22,10 +22,10 @@ use Rattle.rp_forms.specs.declared.form.Role.{Role}
 use Rattle.rp_forms.specs.declared.form.Role.TheVariants.{Observation, Price, Quantity, Expenditure, Income, Budget, Times, Output, OutputPrice, Menu, Choice, OwnLevel}
 use Rattle.rp_sheet.proofs.FigureLemmas.{figure_there, rows_are}
 use Rattle.rp_sheet.proofs.PlaceLemmas.{none_below}
-use Rattle.rp_menu.specs.Cells.{cells_below, entry_at, menu_list}
-use Rattle.rp_menu.specs.Denotation.{cells_stage, choice_fault, column_fault, denoted_menus, entries_in, entries_stage, entry_fault, fault_under, first_fault, lacks_menu, menu_fault, menus_stage, sheet_fault, text_under, told, unless_fault}
+use Rattle.rp_menu.specs.Cells.{cells_below, menu_row_at, menu_list}
+use Rattle.rp_menu.specs.Denotation.{cells_stage, choice_fault, column_fault, denoted_menus, menu_rows_in, menu_rows_stage, menu_row_fault, fault_under, first_fault, lacks_menu, menu_fault, menus_stage, sheet_fault, text_under, told, unless_fault}
 use Rattle.rp_menu.specs.MenuTexts.{is_choice}
-use Rattle.rp_menu.specs.declared.entry.Entry.{Entry}
+use Rattle.rp_menu.specs.declared.menu_row.MenuRow.{MenuRow}
 use Rattle.rp_menu.specs.declared.fault.MenuFault.{MenuFault}
 use Rattle.rp_menu.specs.declared.fault.MenuFault.TheVariants as fault
 
@@ -200,18 +200,18 @@ module _ (headers : List (List ℕ)) (records : List (List (List ℕ))) (fine : 
       by true = λ same. cc same
       by false = λ same. cc same
 
-  entry_named : (t : ℕ) → IsNamed (entry_fault headers records t)
-  unfolding entry_fault
-  entry_named t = by (length (row_at records t) == length headers)
+  menu_row_named : (t : ℕ) → IsNamed (menu_row_fault headers records t)
+  unfolding menu_row_fault
+  menu_row_named t = by (length (row_at records t) == length headers)
     where
       by : (b : Bool) → IsNamed (if not b then Some (fault.Ragged (number_of t)) else option_or (first_of (length headers) (column_fault headers records t)) (choice_fault headers records t))
       by true = either (first_of (length headers) (column_fault headers records t)) (choice_fault headers records t)
           (of_first (length headers) (column_fault headers records t) (column_named t)) (λ _. choice_named headers records t)
       by false = λ same. cc same
 
-  entries_named : IsNamed (entries_stage headers records)
-  unfolding entries_stage
-  entries_named = of_first (rows_in records) (entry_fault headers records) (λ t _. entry_named t)
+  menu_rows_named : IsNamed (menu_rows_stage headers records)
+  unfolding menu_rows_stage
+  menu_rows_named = of_first (rows_in records) (menu_row_fault headers records) (λ t _. menu_row_named t)
 
   sizes_named : IsNamed (option_map told (sizes_stage menus_form headers (figures_of menus_form headers records)))
   unfolding sizes_stage size_at field_at
@@ -232,7 +232,7 @@ under_named headers records =
     let fine = told_none (headers_stage menus_form headers) first in
     either (option_map told (goods_stage menus_form [] headers)) _ (goods_named headers fine) (λ _.
     either (option_map told (count_stage menus_form records)) _ (count_named records) (λ _.
-    either (entries_stage headers records) _ (entries_named headers records fine) (λ _.
+    either (menu_rows_stage headers records) _ (menu_rows_named headers records fine) (λ _.
     either (option_map told (sizes_stage menus_form headers (figures_of menus_form headers records))) None (sizes_named headers records fine) (λ _. λ same. cc same)))))
   where
     told_none : (o : Option TableFault) → option_map told o ≡ None → o ≡ None
@@ -244,17 +244,17 @@ unfolding sheet_fault
 sheet_named [] = λ same. cc same
 sheet_named (header ∷ rows) = under_named (headers_in header) (header ∷ rows)
 
-menus_named : (entries : List Entry) → IsNamed (menus_stage entries)
+menus_named : (menu_rows : List MenuRow) → IsNamed (menus_stage menu_rows)
 unfolding menus_stage
-menus_named entries = by (any_below (length entries) (λ t. nat_lt 0 (entry_at entries t).times))
+menus_named menu_rows = by (any_below (length menu_rows) (λ t. nat_lt 0 (menu_row_at menu_rows t).times))
   where
     by : (b : Bool) → IsNamed (if b then None else Some fault.NoMenus)
     by true = λ same. cc same
     by false = λ same. cc same
 
-cells_named : (entries : List Entry) → IsNamed (cells_stage entries)
+cells_named : (menu_rows : List MenuRow) → IsNamed (cells_stage menu_rows)
 unfolding cells_stage
-cells_named entries = of_first (length entries) _ (λ t _. by t (nat_lt 64 (length (cells_below entries (t + 1)))))
+cells_named menu_rows = of_first (length menu_rows) _ (λ t _. by t (nat_lt 64 (length (cells_below menu_rows (t + 1)))))
   where
     by : (t : ℕ) (b : Bool) → IsNamed (if b then Some (fault.TooManyCells (number_of t)) else None)
     by t true = λ same. cc same
@@ -263,7 +263,7 @@ cells_named entries = of_first (length entries) _ (λ t _. by t (nat_lt 64 (leng
 pub never_memory : (records : List (List (List ℕ))) → denoted_menus records ≢ Err fault.NoMemory
 unfolding denoted_menus
 never_memory records =
-    let said = entries_in (headers_of records) records in
+    let said = menu_rows_in (headers_of records) records in
     by (first_fault records)
     (either (sheet_fault records) _ (sheet_named records) (λ _. either (menus_stage said) _ (menus_named said) (λ _. either (cells_stage said) None (cells_named said) (λ _. λ same. cc same))))
     (menu_list said)

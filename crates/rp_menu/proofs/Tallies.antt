@@ -2,10 +2,10 @@
 use Rattle.std.proofs.Common.{◌≡◌, ◌≢◌, ℕ, zero, suc, ◌*◌, ◌^◌, ◌<◌, ◌≤◌, ◌==◌, ◌||◌, Bool, true, false, List, [], inl, inr, length, slice_index, sum_by, nat_lt, refl, sym, ap, ◌∙◌, arith, if◌then◌else◌}
 use Rattle.std.proofs.lemmas.Bool.Decides.{nat_tests}
 use Rattle.rp_num.specs.Below.{any_below}
-use Rattle.rp_menu.specs.Cells.{cell_at, cell_of, cells_below, counted, entry_at, listed_menus, menus_below, offered, place_in}
+use Rattle.rp_menu.specs.Cells.{cell_at, added_cell, cells_below, counted, menu_row_at, listed_menus, menus_below, offered, place_in}
 use Rattle.rp_menu.specs.MenuLists.{IsMenuList, has_letter}
 use Rattle.rp_menu.specs.declared.cells.Cell.{Cell}
-use Rattle.rp_menu.specs.declared.entry.Entry.{Entry}
+use Rattle.rp_menu.specs.declared.menu_row.MenuRow.{MenuRow}
 use Rattle.rp_menu.proofs.OfferedMenus.{each_menu, menu_either, menu_kept, menu_there, menus_apart}
 use Rattle.rp_menu.proofs.CountedCells.{AreChosen, Each, InOrder, chosen_at, chosen_counted, each_as, each_at, each_counted, in_order_counted, on, order_at, some_counted, total_counted}
 use Rattle.rp_menu.proofs.GroupedCells.{all_groups, all_letters, are_grouped, count_at, group_at, groups_are, letter_at, letters}
@@ -64,60 +64,60 @@ module _ (n : ℕ) (menus : List ℕ) (cells : List Cell) (records : ℕ) (is : 
     few_on = λ j. omega (arith, is.few_on j);
   }
 
-  pub one_counted : (entry : Entry) → 1 ≤ entry.times → entry.times ≤ 9999999 → IsMenu n entry.menu → has_letter entry.menu entry.letter ≡ true
-      → IsTally n (offered menus entry.menu) (counted cells (cell_of menus entry)) (suc records)
-  one_counted entry some few menu letter =
-      let new = cell_of menus entry in
-      let there = menu_there menus entry.menu in
+  pub one_counted : (menu_row : MenuRow) → 1 ≤ menu_row.times → menu_row.times ≤ 9999999 → IsMenu n menu_row.menu → has_letter menu_row.menu menu_row.letter ≡ true
+      → IsTally n (offered menus menu_row.menu) (counted cells (added_cell menus menu_row)) (suc records)
+  one_counted menu_row some few menu letter =
+      let new = added_cell menus menu_row in
+      let there = menu_there menus menu_row.menu in
       record {
-        on_menus = each_counted (IsOn (offered menus entry.menu)) cells new (each_as (IsOn menus) (IsOn (offered menus entry.menu)) (on_as menus entry.menu) cells is.on_menus)
-            (there.0, ap (λ m. has_letter m entry.letter) there.1 ∙ letter);
+        on_menus = each_counted (IsOn (offered menus menu_row.menu)) cells new (each_as (IsOn menus) (IsOn (offered menus menu_row.menu)) (on_as menus menu_row.menu) cells is.on_menus)
+            (there.0, ap (λ m. has_letter m menu_row.letter) there.1 ∙ letter);
         in_order = in_order_counted cells new is.in_order;
         chosen = chosen_counted cells new is.chosen some;
-        are_menus = each_menu menus entry.menu (IsMenu n) is.are_menus menu;
-        apart = menus_apart menus entry.menu is.apart;
+        are_menus = each_menu menus menu_row.menu (IsMenu n) is.are_menus menu;
+        apart = menus_apart menus menu_row.menu is.apart;
         some_on = λ j inside.
             let total = total_counted j cells new in
-            elim (menu_either menus entry.menu j inside) [
+            elim (menu_either menus menu_row.menu j inside) [
               | inl old ↦ omega (arith, total, is.some_on j old)
               | inr last ↦
-                  let here : on j new ≡ entry.times = ap (λ g. if g == j then entry.times else 0) (sym last.1) ∙ own j entry.times in
+                  let here : on j new ≡ menu_row.times = ap (λ g. if g == j then menu_row.times else 0) (sym last.1) ∙ own j menu_row.times in
                   omega (arith, total, here, some)
             ];
         few_on = λ j.
             let total = total_counted j cells new in
-            let here = at_most (place_in menus entry.menu == j) entry.times in
+            let here = at_most (place_in menus menu_row.menu == j) menu_row.times in
             omega (arith, total, is.few_on j, here, few);
       }
 
 -- what the records of a file without a fault keep to
-abbrev pub IsSound : ℕ → Entry → Type 0
-IsSound n entry = (entry.times ≤ 9999999) × (IsMenu n entry.menu × (has_letter entry.menu entry.letter ≡ true))
+abbrev pub IsSound : ℕ → MenuRow → Type 0
+IsSound n menu_row = (menu_row.times ≤ 9999999) × (IsMenu n menu_row.menu × (has_letter menu_row.menu menu_row.letter ≡ true))
 
-pub tally_below : (n : ℕ) (entries : List Entry) (t : ℕ) → ((k : ℕ) → k < t → IsSound n (entry_at entries k)) → IsTally n (menus_below entries t) (cells_below entries t) t
-tally_below n entries zero sound = none_yet n
-tally_below n entries (suc t) sound = by (nat_lt 0 (entry_at entries t).times) refl (tally_below n entries t (λ k l. sound k (omega (arith, l))))
+pub tally_below : (n : ℕ) (menu_rows : List MenuRow) (t : ℕ) → ((k : ℕ) → k < t → IsSound n (menu_row_at menu_rows k)) → IsTally n (menus_below menu_rows t) (cells_below menu_rows t) t
+tally_below n menu_rows zero sound = none_yet n
+tally_below n menu_rows (suc t) sound = by (nat_lt 0 (menu_row_at menu_rows t).times) refl (tally_below n menu_rows t (λ k l. sound k (omega (arith, l))))
   where
-    by : (b : Bool) → nat_lt 0 (entry_at entries t).times ≡ b → IsTally n (menus_below entries t) (cells_below entries t) t
-        → IsTally n (if b then offered (menus_below entries t) (entry_at entries t).menu else menus_below entries t)
-        (if b then counted (cells_below entries t) (cell_of (menus_below entries t) (entry_at entries t)) else cells_below entries t) (suc t)
+    by : (b : Bool) → nat_lt 0 (menu_row_at menu_rows t).times ≡ b → IsTally n (menus_below menu_rows t) (cells_below menu_rows t) t
+        → IsTally n (if b then offered (menus_below menu_rows t) (menu_row_at menu_rows t).menu else menus_below menu_rows t)
+        (if b then counted (cells_below menu_rows t) (added_cell (menus_below menu_rows t) (menu_row_at menu_rows t)) else cells_below menu_rows t) (suc t)
     by true some so_far =
         let here = sound t (omega arith) in
-        one_counted n (menus_below entries t) (cells_below entries t) t so_far (entry_at entries t) (grind (arith, nat_tests)) here.0 here.1.0 here.1.1
-    by false none so_far = passed_over n (menus_below entries t) (cells_below entries t) t so_far
+        one_counted n (menus_below menu_rows t) (cells_below menu_rows t) t so_far (menu_row_at menu_rows t) (grind (arith, nat_tests)) here.0 here.1.0 here.1.1
+    by false none so_far = passed_over n (menus_below menu_rows t) (cells_below menu_rows t) t so_far
 
 -- a positive count makes a cell
-pub some_cells : (entries : List Entry) (t : ℕ) → any_below t (λ k. nat_lt 0 (entry_at entries k).times) ≡ true → 1 ≤ length (cells_below entries t)
-some_cells entries zero some = cc some
-some_cells entries (suc t) some = by (nat_lt 0 (entry_at entries t).times) refl (any_below t (λ k. nat_lt 0 (entry_at entries k).times)) refl (some_cells entries t)
+pub some_cells : (menu_rows : List MenuRow) (t : ℕ) → any_below t (λ k. nat_lt 0 (menu_row_at menu_rows k).times) ≡ true → 1 ≤ length (cells_below menu_rows t)
+some_cells menu_rows zero some = cc some
+some_cells menu_rows (suc t) some = by (nat_lt 0 (menu_row_at menu_rows t).times) refl (any_below t (λ k. nat_lt 0 (menu_row_at menu_rows k).times)) refl (some_cells menu_rows t)
   where
-    by : (b : Bool) → nat_lt 0 (entry_at entries t).times ≡ b → (a : Bool) → any_below t (λ k. nat_lt 0 (entry_at entries k).times) ≡ a
-        → (any_below t (λ k. nat_lt 0 (entry_at entries k).times) ≡ true → 1 ≤ length (cells_below entries t))
-        → 1 ≤ length (if b then counted (cells_below entries t) (cell_of (menus_below entries t) (entry_at entries t)) else cells_below entries t)
-    by true is a before rest = some_counted (cells_below entries t) (cell_of (menus_below entries t) (entry_at entries t))
+    by : (b : Bool) → nat_lt 0 (menu_row_at menu_rows t).times ≡ b → (a : Bool) → any_below t (λ k. nat_lt 0 (menu_row_at menu_rows k).times) ≡ a
+        → (any_below t (λ k. nat_lt 0 (menu_row_at menu_rows k).times) ≡ true → 1 ≤ length (cells_below menu_rows t))
+        → 1 ≤ length (if b then counted (cells_below menu_rows t) (added_cell (menus_below menu_rows t) (menu_row_at menu_rows t)) else cells_below menu_rows t)
+    by true is a before rest = some_counted (cells_below menu_rows t) (added_cell (menus_below menu_rows t) (menu_row_at menu_rows t))
     by false is true before rest = rest before
     by false is false before rest =
-        let none : (any_below t (λ k. nat_lt 0 (entry_at entries k).times) || nat_lt 0 (entry_at entries t).times) ≡ false = rw (before, is) refl in
+        let none : (any_below t (λ k. nat_lt 0 (menu_row_at menu_rows k).times) || nat_lt 0 (menu_row_at menu_rows t).times) ≡ false = rw (before, is) refl in
         cc (none, some)
 
 some_power : (k menu : ℕ) → IsMenu k menu → 1 ≤ k

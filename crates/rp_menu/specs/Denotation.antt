@@ -22,10 +22,10 @@ use Rattle.rp_forms.specs.declared.form.Marks.TheVariants.{Goods}
 use Rattle.rp_forms.specs.declared.form.Role.{Role}
 use Rattle.rp_forms.specs.declared.form.Role.TheVariants.{Observation, Price, Quantity, Expenditure, Income, Budget}
 use Rattle.rp_forms.specs.declared.form.Role.TheVariants.{Times, Output, OutputPrice, Menu, Choice, OwnLevel}
-use Rattle.rp_menu.specs.Cells.{cells_below, entry_at, menu_list}
+use Rattle.rp_menu.specs.Cells.{cells_below, menu_row_at, menu_list}
 use Rattle.rp_menu.specs.MenuLists.{MenuList}
 use Rattle.rp_menu.specs.MenuTexts.{is_choice, is_menu, letter_in, number_of_menu}
-use Rattle.rp_menu.specs.declared.entry.Entry.{Entry}
+use Rattle.rp_menu.specs.declared.menu_row.MenuRow.{MenuRow}
 use Rattle.rp_menu.specs.declared.fault.MenuFault.{MenuFault}
 use Rattle.rp_menu.specs.declared.fault.MenuFault.TheVariants as fault
 
@@ -91,18 +91,18 @@ choice_fault headers records t =
     else Some (fault.BadChoice (number_of t))
 
 -- the fault of the t-th record: its length, then its columns in order, then what was chosen
-unfoldable pub entry_fault : List (List ℕ) → List (List (List ℕ)) → ℕ → Option MenuFault
-entry_fault headers records t =
+unfoldable pub menu_row_fault : List (List ℕ) → List (List (List ℕ)) → ℕ → Option MenuFault
+menu_row_fault headers records t =
     if not (length (row_at records t) == length headers) then Some (fault.Ragged (number_of t))
     else option_or (first_of (length headers) (column_fault headers records t)) (choice_fault headers records t)
 
 -- the records in order
-unfoldable pub entries_stage : List (List ℕ) → List (List (List ℕ)) → Option MenuFault
-entries_stage headers records = first_of (rows_in records) (entry_fault headers records)
+unfoldable pub menu_rows_stage : List (List ℕ) → List (List (List ℕ)) → Option MenuFault
+menu_rows_stage headers records = first_of (rows_in records) (menu_row_fault headers records)
 
 -- what the t-th record says, under these counts
-abbrev pub entry_of : List (List ℕ) → List (List (List ℕ)) → List ℕ → ℕ → Entry
-entry_of headers records times t = record {
+abbrev pub menu_row_of : List (List ℕ) → List (List (List ℕ)) → List ℕ → ℕ → MenuRow
+menu_row_of headers records times t = record {
   menu = number_of_menu (text_under (codes "menu") headers records t);
   letter = letter_in (text_under (codes "choice") headers records t);
   times = slice_index times t;
@@ -113,20 +113,20 @@ abbrev pub times_in : List (List ℕ) → List (List (List ℕ)) → List ℕ
 times_in headers records =
     column_numbers (codes "n") headers (sizes_of menus_form headers (figures_of menus_form headers records))
 
-abbrev pub entries_in : List (List ℕ) → List (List (List ℕ)) → List Entry
-entries_in headers records =
-    listed (rows_in records) (entry_of headers records (times_in headers records))
+abbrev pub menu_rows_in : List (List ℕ) → List (List (List ℕ)) → List MenuRow
+menu_rows_in headers records =
+    listed (rows_in records) (menu_row_of headers records (times_in headers records))
 
 -- no count is positive
-unfoldable pub menus_stage : List Entry → Option MenuFault
-menus_stage entries =
-    if any_below (length entries) (λ t. nat_lt 0 (entry_at entries t).times) then None else Some fault.NoMenus
+unfoldable pub menus_stage : List MenuRow → Option MenuFault
+menus_stage menu_rows =
+    if any_below (length menu_rows) (λ t. nat_lt 0 (menu_row_at menu_rows t).times) then None else Some fault.NoMenus
 
 -- the first record with which there are more cells than the limit
-unfoldable pub cells_stage : List Entry → Option MenuFault
-cells_stage entries =
-    first_of (length entries)
-    (λ t. if nat_lt PLACES (length (cells_below entries (t + 1))) then Some (fault.TooManyCells (number_of t))
+unfoldable pub cells_stage : List MenuRow → Option MenuFault
+cells_stage menu_rows =
+    first_of (length menu_rows)
+    (λ t. if nat_lt PLACES (length (cells_below menu_rows (t + 1))) then Some (fault.TooManyCells (number_of t))
     else None)
 
 -- the first fault of a sheet with these headers: the headers in order, a missing column, the number of records, the
@@ -136,7 +136,7 @@ fault_under headers records = first_there (
     option_map told (headers_stage menus_form headers)
     ∷ option_map told (goods_stage menus_form [] headers)
     ∷ option_map told (count_stage menus_form records)
-    ∷ entries_stage headers records
+    ∷ menu_rows_stage headers records
     ∷ option_map told (sizes_stage menus_form headers (figures_of menus_form headers records))
     ∷ [])
 
@@ -149,8 +149,8 @@ sheet_fault (header ∷ rows) = fault_under (headers_in header) (header ∷ rows
 abbrev pub first_fault : List (List (List ℕ)) → Option MenuFault
 first_fault records = first_there (
     sheet_fault records
-    ∷ menus_stage (entries_in (headers_of records) records)
-    ∷ cells_stage (entries_in (headers_of records) records)
+    ∷ menus_stage (menu_rows_in (headers_of records) records)
+    ∷ cells_stage (menu_rows_in (headers_of records) records)
     ∷ [])
 
 -- a value, where there is no fault
@@ -160,7 +160,7 @@ unless_fault (Some f) value = Err f
 
 -- what records denote
 unfoldable pub denoted_menus : List (List (List ℕ)) → Result MenuList MenuFault
-denoted_menus records = unless_fault (first_fault records) (menu_list (entries_in (headers_of records) records))
+denoted_menus records = unless_fault (first_fault records) (menu_list (menu_rows_in (headers_of records) records))
 
 -- what the bytes of a file denote
 abbrev pub menus_in : List ℕ → Result MenuList MenuFault

@@ -2,13 +2,13 @@
 ghost use Rattle.std.specs.Prelude.{◌≡◌, ◌<◌, ◌≤◌, ◌*◌, ℕ, None, All, IfOk, OnOk};
 ghost use Rattle.std.specs.Prelude.{length, true, false};
 ghost use Rattle.rp_menu.specs.Cells as Cells;
-ghost use Rattle.rp_menu.specs.Cells.{cell_at, cells_below, cells_with, counted, entry_at};
+ghost use Rattle.rp_menu.specs.Cells.{cell_at, cells_below, cells_with, counted, menu_row_at};
 ghost use Rattle.rp_menu.specs.Cells.{menus_below, menus_with};
 ghost use Rattle.rp_menu.specs.Denotation.{RefusedAt, cells_stage};
 ghost use Rattle.rp_menu.specs.InnerCells.{is_seat};
 
 use crate::MenuFault;
-use crate::entry::Entry;
+use crate::menu_row::MenuRow;
 use rp_forms::number_of;
 use rp_num::NoMemory;
 use rp_patch::PLACES;
@@ -81,47 +81,47 @@ fn count_in(cells: &mut Vec<Cell>, new: Cell) -> Result<(), NoMemory>
 }
 
 /// Counts the choices of one record more.
-fn count(menus: &mut Vec<u32>, cells: &mut Vec<Cell>, entry: &Entry) -> Result<(), NoMemory>
+fn count(menus: &mut Vec<u32>, cells: &mut Vec<Cell>, menu_row: &MenuRow) -> Result<(), NoMemory>
     requires few { length menus.old.items ≤ CHOICES }
     requires bounded { All (λ (cell : Cell). cell.count ≤ CHOICES * LARGEST) cells.old.items }
-    requires small { entry.now.times ≤ LARGEST }
-    ensures menus { OnOk result (menus.new.items ≡ menus_with menus.old.items entry.now) }
+    requires small { menu_row.now.times ≤ LARGEST }
+    ensures menus { OnOk result (menus.new.items ≡ menus_with menus.old.items menu_row.now) }
     ensures cells { OnOk result
-        (cells.new.items ≡ cells_with menus.old.items cells.old.items entry.now) }
+        (cells.new.items ≡ cells_with menus.old.items cells.old.items menu_row.now) }
 {
-    if entry.times == 0 {
+    if menu_row.times == 0 {
         return Ok(());
     }
-    let place = place_in(menus.as_slice(), entry.menu);
+    let place = place_in(menus.as_slice(), menu_row.menu);
     if place == menus.len() {
-        menus.push(entry.menu)?;
+        menus.push(menu_row.menu)?;
     }
     count_in(
         cells,
         Cell {
             group: place as u32,
-            letter: entry.letter,
-            count: entry.times,
+            letter: menu_row.letter,
+            count: menu_row.times,
         },
     )
 }
 
 /// The menus and the cells that records make, by the first record of each.
-pub fn tally_of(alloc: Global, entries: &[Entry]) -> Result<Tally, MenuFault>
-    requires few { length entries.now ≤ CHOICES }
-    requires bounded { (t : ℕ) → t < length entries.now
-        → (entry_at entries.now t).times ≤ LARGEST }
+pub fn tally_of(alloc: Global, menu_rows: &[MenuRow]) -> Result<Tally, MenuFault>
+    requires few { length menu_rows.now ≤ CHOICES }
+    requires bounded { (t : ℕ) → t < length menu_rows.now
+        → (menu_row_at menu_rows.now t).times ≤ LARGEST }
     ensures menus { IfOk result
-        (λ tally. tally.menus.items ≡ menus_below entries.now (length entries.now)) }
+        (λ tally. tally.menus.items ≡ menus_below menu_rows.now (length menu_rows.now)) }
     ensures cells { IfOk result
-        (λ tally. tally.cells.items ≡ cells_below entries.now (length entries.now)) }
-    ensures faultless { IfOk result (λ _. cells_stage entries.now ≡ None) }
-    ensures refused { RefusedAt result (cells_stage entries.now) }
+        (λ tally. tally.cells.items ≡ cells_below menu_rows.now (length menu_rows.now)) }
+    ensures faultless { IfOk result (λ _. cells_stage menu_rows.now ≡ None) }
+    ensures refused { RefusedAt result (cells_stage menu_rows.now) }
 {
     let mut menus = Vec::new(alloc);
     let mut cells = Vec::new(alloc);
-    for t in 0..entries.len() {
-        count(&mut menus, &mut cells, &entries[t])?;
+    for t in 0..menu_rows.len() {
+        count(&mut menus, &mut cells, &menu_rows[t])?;
         if cells.len() > PLACES as usize {
             return Err(MenuFault::TooManyCells { row: number_of(t) });
         }

@@ -3,11 +3,11 @@
 #![tactic(auto)]
 
 mod cells;
-mod entries;
-mod entry;
 mod fault;
 mod laws;
 mod limits;
+mod menu_row;
+mod menu_rows;
 mod menu_texts;
 mod menus;
 mod read;
@@ -15,6 +15,7 @@ mod read;
 pub use fault::MenuFault;
 pub use laws::files_never_denote_want_of_memory;
 pub use limits::limits_in_numbers;
+pub use menu_texts::has_letter;
 pub use menus::Menus;
 pub use read::read_menus;
 

@@ -73,8 +73,7 @@ pub fn letter_in(text: &[u8]) -> u32
 
 /// Whether the menu with that number has letter `x`, from 0.
 pub fn has_letter(menu: u32, x: u32) -> bool
-    requires { x < LETTERS }
     ensures { result ≡ MenuLists.has_letter menu x }
 {
-    (menu >> x) % 2 == 1
+    x < u32::BITS && (menu >> x) % 2 == 1
 }

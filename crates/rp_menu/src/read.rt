@@ -3,15 +3,15 @@ ghost use Rattle.std.specs.Prelude.{◌≡◌, ◌<◌, ◌≤◌, ℕ, None, Ok
 ghost use Rattle.rp_num.specs.Below.{listed};
 ghost use Rattle.rp_sheet.specs.Fields.{rows_in};
 ghost use Rattle.rp_sheet.specs.Headers.{headers_of};
-ghost use Rattle.rp_menu.specs.Cells.{entry_at, letters_of, listed_menus, top_of};
-ghost use Rattle.rp_menu.specs.Denotation.{RefusedAs, RefusedAt, denoted_menus, entries_in};
-ghost use Rattle.rp_menu.specs.Denotation.{entry_of, menus_in, menus_stage, sheet_fault};
-ghost use Rattle.rp_menu.specs.InnerCells.{IsEntry};
+ghost use Rattle.rp_menu.specs.Cells.{menu_row_at, letters_of, listed_menus, top_of};
+ghost use Rattle.rp_menu.specs.Denotation.{RefusedAs, RefusedAt, denoted_menus, menu_rows_in};
+ghost use Rattle.rp_menu.specs.Denotation.{menu_row_of, menus_in, menus_stage, sheet_fault};
+ghost use Rattle.rp_menu.specs.InnerCells.{IsMenuRow};
 ghost use Rattle.rp_menu.specs.MenuLists.{IsMenuList};
 
 use crate::cells::{Cell, Tally, tally_of};
-use crate::entries::{choice_at, menu_at, read_figures};
-use crate::entry::Entry;
+use crate::menu_row::MenuRow;
+use crate::menu_rows::{choice_at, menu_at, read_figures};
 use crate::menu_texts::{has_letter, letter_in, number_of_menu};
 use crate::{LETTERS, MenuFault, Menus};
 use rp_forms::Form;
@@ -39,19 +39,19 @@ fn menus_from(alloc: Global, records: &Records) -> Result<Menus, MenuFault>
     ensures refused { RefusedAs result (denoted_menus records.now) }
     ensures valid { IfOk result IsMenuList }
 {
-    let entries = read_entries(alloc, records)?;
-    check_times(entries.as_slice())?;
-    let tally = tally_of(alloc, entries.as_slice())?;
-    Ok(fill_menus(alloc, letters_of(entries.as_slice()), tally)?)
+    let menu_rows = read_menu_rows(alloc, records)?;
+    check_times(menu_rows.as_slice())?;
+    let tally = tally_of(alloc, menu_rows.as_slice())?;
+    Ok(fill_menus(alloc, letters_of(menu_rows.as_slice()), tally)?)
 }
 
 /// What the records say, through all stages of a sheet.
-fn read_entries(alloc: Global, records: &Records) -> Result<Vec<Entry>, MenuFault>
+fn read_menu_rows(alloc: Global, records: &Records) -> Result<Vec<MenuRow>, MenuFault>
     ensures read { IfOk result
-        (λ entries. entries.items ≡ entries_in (headers_of records.now) records.now) }
-    ensures few { IfOk result (λ entries. length entries.items ≤ CHOICES) }
-    ensures sound { IfOk result (λ entries. (t : ℕ) → t < length entries.items
-        → IsEntry (entry_at entries.items t)) }
+        (λ menu_rows. menu_rows.items ≡ menu_rows_in (headers_of records.now) records.now) }
+    ensures few { IfOk result (λ menu_rows. length menu_rows.items ≤ CHOICES) }
+    ensures sound { IfOk result (λ menu_rows. (t : ℕ) → t < length menu_rows.items
+        → IsMenuRow (menu_row_at menu_rows.items t)) }
     ensures faultless { IfOk result (λ _. sheet_fault records.now ≡ None) }
     ensures refused { RefusedAt result (sheet_fault records.now) }
 {
@@ -65,38 +65,38 @@ fn read_entries(alloc: Global, records: &Records) -> Result<Vec<Entry>, MenuFaul
     let figures = read_figures(alloc, &columns, records)?;
     let sizes = read_sizes(alloc, &columns, figures.as_slice())?;
     let times = column_numbers(alloc, &columns, b"n", sizes.as_slice())?;
-    Ok(list_entries(alloc, &columns, records, times.as_slice())?)
+    Ok(list_menu_rows(alloc, &columns, records, times.as_slice())?)
 }
 
 /// What the records say, under these counts.
-fn list_entries(
+fn list_menu_rows(
     alloc: Global,
     columns: &Columns<'_>,
     records: &Records,
     times: &[u64],
-) -> Result<Vec<Entry>, NoMemory>
+) -> Result<Vec<MenuRow>, NoMemory>
     requires { 0 < length records.now }
-    ensures { IfOk result (λ entries. entries.items ≡ listed (rows_in records.now)
-        (entry_of columns.now.headers records.now times.now)) }
+    ensures { IfOk result (λ menu_rows. menu_rows.items ≡ listed (rows_in records.now)
+        (menu_row_of columns.now.headers records.now times.now)) }
 {
-    let mut entries = Vec::new(alloc);
+    let mut menu_rows = Vec::new(alloc);
     for t in 0..records.len() - 1 {
-        entries.push(Entry {
+        menu_rows.push(MenuRow {
             menu: number_of_menu(menu_at(columns, records, t)),
             letter: letter_in(choice_at(columns, records, t)),
             times: times.get(t).copied().unwrap_or(0),
         })?;
     }
-    Ok(entries)
+    Ok(menu_rows)
 }
 
 /// Looks for a count that is positive.
-fn check_times(entries: &[Entry]) -> Result<(), MenuFault>
-    ensures fine { OnOk result (menus_stage entries.now ≡ None) }
-    ensures refused { RefusedAt result (menus_stage entries.now) }
+fn check_times(menu_rows: &[MenuRow]) -> Result<(), MenuFault>
+    ensures fine { OnOk result (menus_stage menu_rows.now ≡ None) }
+    ensures refused { RefusedAt result (menus_stage menu_rows.now) }
 {
-    for t in 0..entries.len() {
-        if entries[t].times > 0 {
+    for t in 0..menu_rows.len() {
+        if menu_rows[t].times > 0 {
             return Ok(());
         }
     }
@@ -118,12 +118,12 @@ fn top_of(menu: u32) -> u32
 }
 
 /// The number, from 1, of the greatest letter of all records.
-fn letters_of(entries: &[Entry]) -> u32
-    ensures { result ≡ letters_of entries.now }
+fn letters_of(menu_rows: &[MenuRow]) -> u32
+    ensures { result ≡ letters_of menu_rows.now }
 {
     let mut letters = 0;
-    for t in 0..entries.len() {
-        letters = letters.max(top_of(entries[t].menu));
+    for t in 0..menu_rows.len() {
+        letters = letters.max(top_of(menu_rows[t].menu));
     }
     letters
 }

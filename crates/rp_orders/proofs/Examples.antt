@@ -11,7 +11,7 @@ use Rattle.rp_farkas.specs.Total.{total}
 use Rattle.rp_menu.specs.Cells.{cells_below, menu_list}
 use Rattle.rp_menu.specs.MenuLists.{MenuList}
 use Rattle.rp_menu.specs.MenuTexts.{is_menu, number_of_menu}
-use Rattle.rp_menu.specs.declared.entry.Entry.{Entry}
+use Rattle.rp_menu.specs.declared.menu_row.MenuRow.{MenuRow}
 use Rattle.rp_orders.specs.MenuSums.{sum_at}
 use Rattle.rp_orders.specs.OrderKinds.{PicksCells, cell_of, cells_picked}
 use Rattle.rp_orders.specs.OrderMixtures.{AreUnitsOf, menu_at}
@@ -31,10 +31,10 @@ number_of_f = refl
 out_of_order : is_menu (codes "ba") ≡ false
 out_of_order = refl
 
-abbrev chosen_from_one : List Entry
+abbrev chosen_from_one : List MenuRow
 chosen_from_one = record { menu = 3; letter = 0; times = 1 } ∷ record { menu = 3; letter = 1; times = 2 } ∷ []
 
-abbrev chosen_from_two : List Entry
+abbrev chosen_from_two : List MenuRow
 chosen_from_two =
     record { menu = 7; letter = 0; times = 1 } ∷ record { menu = 7; letter = 1; times = 1 }
     ∷ record { menu = 3; letter = 1; times = 2 } ∷ []

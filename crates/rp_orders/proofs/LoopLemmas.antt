@@ -1,17 +1,16 @@
 -- Turns of the loops over digits, letters and lists.
-use Rattle.std.proofs.Common.{◌≡◌, ◌≢◌, ◌<◌, ◌≤◌, ◌+◌, ◌-◌, ◌*◌, ◌^◌, ◌==◌, ◌&&◌, ◌++◌, add-one, inl, inr, ℕ, zero, suc, Bool, true, false, not, nat_lt, List, [], ◌∷◌, Contains, length, length-append, drop, take, set, slice_index, refl, sym, ap, subst, ◌∙◌, arith, lit≤}
+use Rattle.std.proofs.Common.{◌≡◌, ◌≢◌, ◌<◌, ◌≤◌, ◌+◌, ◌-◌, ◌*◌, ◌^◌, ◌==◌, ◌&&◌, ◌++◌, add-one, inl, inr, ℕ, zero, suc, Bool, true, false, not, List, [], ◌∷◌, Contains, length, length-append, drop, take, set, slice_index, refl, sym, ap, subst, ◌∙◌, arith, lit≤}
 use Rattle.std.specs.Cmp.Lexicographic.{slice_cmp}
 use Rattle.std.specs.List.{AllByRecursion}
 use Rattle.std.specs.List.Sorted.{IsStrictlySortedBy}
 use Rattle.std.specs.Ordering.{nat_cmp}
 use Rattle.std.specs.declared.cmp.Ordering.TheVariants.{Less}
-use Rattle.std.proofs.lemmas.Bool.{cases_eq, cases_lt, eq-eqb, ltb-true, ne_eqb}
+use Rattle.std.proofs.lemmas.Bool.{cases_eq, cases_lt, eq-eqb, ne_eqb}
 use Rattle.std.proofs.lemmas.List.{map_push}
 use Rattle.std.proofs.lemmas.List.Elements.{Contains-append_left, Contains-push, Contains-push_cases}
 use Rattle.rp_num.proofs.BelowLemmas.{get-listed, length-listed}
 use Rattle.rp_table.specs.Sums.{sum_below}
-use Rattle.rp_menu.specs.MenuLists.{MenuList, has_letter}
-use Rattle.rp_menu.proofs.MenuLetters.{letter_within}
+use Rattle.rp_menu.specs.MenuLists.{MenuList}
 use Rattle.rp_orders.specs.InnerLists.{digits, first_missing, listed_order}
 use Rattle.rp_orders.specs.InnerOrders.{AppendsKind, AreListedBelow, orders_of}
 use Rattle.rp_orders.specs.OrderKinds.{PicksCells, cell_of, cells_picked}
@@ -143,15 +142,6 @@ off_second a l x apart = ap (λ b. a && b) (ne_eqb l x apart) ∙ none a
     none : (b : Bool) → (b && false) ≡ false
     none true = refl
     none false = refl
-
--- ---- letters that there are not
-
-pub no_letter : (menu x : ℕ) → menu < 64 → ¬ (x < 6) → nat_lt x 6 ≡ has_letter menu x
-no_letter menu x small outside = is_off (nat_lt x 6) (λ e. outside (ltb-true x 6 e)) ∙ sym (is_off (has_letter menu x) (λ e. outside (letter_within menu 6 x small e)))
-  where
-    is_off : (b : Bool) → ¬ (b ≡ true) → b ≡ false
-    is_off true n = absurd (n refl)
-    is_off false n = refl
 
 -- ---- a list that is written
 

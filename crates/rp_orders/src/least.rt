@@ -5,9 +5,8 @@ ghost use Rattle.rp_orders.specs.LeastSums.{IsLeastMenuSum};
 ghost use Rattle.rp_orders.specs.MenuSums.{AreComplete, sum_at};
 ghost use Rattle.rp_orders.specs.OrderMixtures.{AreUnitsOf};
 
-use crate::picks::has_letter;
 use crate::sums::menu_sum;
-use rp_menu::{LETTERS, Menus};
+use rp_menu::{LETTERS, Menus, has_letter};
 use rp_patch::apportionment::Units;
 
 /// The sum of a letter at a menu that holds it.
@@ -61,7 +60,6 @@ fn lesser(seen: &Menus, units: &Units, menu: u32, letter: u32, found: LeastSum) 
     requires before { IsLeastBefore seen.now units.now menu letter found }
     ensures { IsLeastBefore seen.now units.now menu (letter + 1) result }
 {
-    prove!(seen.letters() <= LETTERS);
     if !has_letter(menu, letter) {
         return found;
     }

@@ -1,21 +1,12 @@
 //! What an order picks from menus, and the cells that it picks.
 ghost use Rattle.std.specs.Prelude.{◌≡◌, ◌<◌, ◌≤◌, ◌^◌, ◌↔◌, IsTrue, length};
-ghost use Rattle.rp_menu.specs.MenuLists.{has_letter as has};
 ghost use Rattle.rp_menu.specs.declared.TheConstants.{LETTERS};
 ghost use Rattle.rp_orders.specs.OrderKinds.{PicksCells, cell_of as cell_of_letter, cells_picked};
 ghost use Rattle.rp_orders.specs.OrderMixtures.{menu_at};
 ghost use Rattle.rp_orders.specs.Orders.{IsStrictOrder, picked};
 ghost use Rattle.rp_patch.specs.Kinds.{cells_weight, uses};
 
-use rp_menu::{LETTERS, Menus};
-
-/// Whether the menu with that number has a letter.
-pub fn has_letter(menu: u32, letter: u32) -> bool
-    requires { menu < 2 ^ LETTERS }
-    ensures { result ≡ has menu letter }
-{
-    letter < LETTERS && menu / 2u32.pow(letter) % 2 == 1
-}
+use rp_menu::{LETTERS, Menus, has_letter};
 
 /// The letter that an order picks from the menu with that number.
 pub fn pick(menu: u32, order: &[u32]) -> u32

@@ -12,10 +12,9 @@ ghost use Rattle.rp_print.specs.LowestTerms.{lowest_terms};
 
 use crate::least::{LeastSum, least_sum};
 use crate::orders::all_orders;
-use crate::picks::has_letter;
 use crate::sums::is_complete;
 use rp_evidence::RandomPart;
-use rp_menu::{LETTERS, Menus};
+use rp_menu::{LETTERS, Menus, has_letter};
 use rp_num::{Frac, NoMemory};
 use rp_patch::apportionment::Units;
 use rp_print::{

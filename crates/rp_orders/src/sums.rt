@@ -11,8 +11,8 @@ ghost use Rattle.rp_orders.specs.OrderMixtures.{AreUnitsOf, HasOrderMixture, men
 ghost use Rattle.rp_orders.specs.OrderMixtures.{units_of as units_of_letter};
 ghost use Rattle.rp_patch.specs.declared.TheConstants.{UNITS};
 
-use crate::picks::{cell_of, has_letter};
-use rp_menu::{LETTERS, Menus};
+use crate::picks::cell_of;
+use rp_menu::{LETTERS, Menus, has_letter};
 use rp_patch::apportionment::Units;
 
 /// How many letters a menu has.

@@ -1,6 +1,5 @@
 -- Patches that files denote are those of choices in the files, and none of the chosen bundles is empty.
-use Rattle.std.proofs.Common.{◌≡◌, ℕ, Bool, true, false, if◌then◌else◌, length, List, Option, Some, None, Result, Ok, Err, refl, sym, ap, subst}
-use Rattle.std.specs.Prelude.{nat_lt}
+use Rattle.std.proofs.Common.{◌≡◌, ℕ, Bool, true, false, if◌then◌else◌, List, Option, Some, None, Result, Ok, Err, ap, subst}
 use Rattle.std.specs.Result.{result_unwrap_or}
 use Rattle.rp_table.specs.BudgetLists.{BudgetList}
 use Rattle.rp_table.specs.ChoiceLists.{ChoiceList}
@@ -9,7 +8,7 @@ use Rattle.rp_sheet.specs.declared.fault.TableFault.{TableFault}
 use Rattle.rp_evidence.specs.declared.certificate.Certificate.{Certificate}
 use Rattle.rp_answers.proofs.ChosenBundles.{full_files}
 use Rattle.rp_patch.specs.Choices.{random_input_of}
-use Rattle.rp_patch.specs.Patches.{IsPatchList, PatchList}
+use Rattle.rp_patch.specs.Patches.{PatchList}
 use Rattle.rp_patch.specs.Units.{ArePatchesOf}
 use Rattle.rp_types.specs.declared.types.Rational.{Rational}
 use Rattle.rp_command_line.specs.CommandLine.{Arguments, file}
@@ -17,13 +16,13 @@ use Rattle.rp_command_line.specs.declared.commands.FileSet.TheVariants as files
 use Rattle.rp_run.specs.ChoiceContents.{BudgetsIn, ChoicesIn, TypedPatchesOf}
 use Rattle.rp_run.specs.ChosenInFiles.{AreOfChoicesIn}
 use Rattle.rp_run.specs.Contents.{ContentsIn}
-use Rattle.rp_run.specs.FaultLines.{file_line}
+use Rattle.rp_run.specs.FaultTexts.{fault_text}
 use Rattle.rp_run.specs.Readings.{NumbersIn, WhereKnown, or_line}
 use Rattle.rp_run.specs.declared.contents.Contents.{Contents}
 use Rattle.rp_run.specs.declared.contents.Contents.TheVariants as contents
 
 -- a value that was read from a file of numbers is what its bytes denote
-value_there : {A : Type 0} (long : Bool) (line name : List ℕ) (r : Result A TableFault) (x : A) → (if long then Err line else or_line name r) ≡ Ok x → r ≡ Ok x
+value_there : {A : Type 0} (long : Bool) (line name : List ℕ) (r : Result A TableFault) (x : A) → (if long then Err line else or_line fault_text name r) ≡ Ok x → r ≡ Ok x
 value_there true line name r x h = cc h
 value_there false line name (Ok v) x h = ap (λ s. Ok (result_unwrap_or s x)) h
 value_there false line name (Err fault) x h = cc h

@@ -27,10 +27,11 @@ use Rattle.rp_command_line.specs.declared.commands.FileSet.TheVariants as files
 use Rattle.rp_run.specs.declared.contents.Contents.{Contents}
 use Rattle.rp_run.specs.declared.contents.Contents.TheVariants as contents
 use Rattle.rp_run.specs.ChoiceContents.{PatchesOf, TypedPatchesOf, TypesOf}
-use Rattle.rp_run.specs.MenuContents.{MenusIn, MenusOf, UnitsOf, menus_of}
+use Rattle.rp_menu.specs.Denotation.{menus_in}
+use Rattle.rp_run.specs.MenuContents.{MenusIn, MenusOf, UnitsOf, menu_fault_text}
 use Rattle.rp_run.proofs.MenusOnce.{units_one}
 use Rattle.rp_run.specs.Contents.{ContentsIn, Denotes}
-use Rattle.rp_run.specs.Readings.{AndThen, CertificateIn, Just, Reading, numbers_in, taken_table}
+use Rattle.rp_run.specs.Readings.{AndThen, CertificateIn, Just, Reading, held_in, numbers_in, taken_table}
 
 -- one value is read or one line, at most
 abbrev pub GivesOne : {A : Type 0} → Reading A → Type 0
@@ -103,7 +104,7 @@ certificate_one file kind bytes (Err line) (Err other) (inr (few, (f, real, why,
 menus_one : (per : Option ℕ) (file bytes : List ℕ) → GivesOne (MenusIn per file bytes)
 menus_one per file bytes =
     then_one (MenusOf file bytes) (λ list. AndThen (UnitsOf list per) (λ units. Just (Ok (list, units))))
-    (just_one (menus_of file bytes)) (λ list. over_one (UnitsOf list per) (λ units. (list, units)) (units_one list per))
+    (just_one (held_in menu_fault_text file menus_in bytes)) (λ list. over_one (UnitsOf list per) (λ units. (list, units)) (units_one list per))
 
 -- types are those of their patches
 abbrev as_type : List ℕ → Rational

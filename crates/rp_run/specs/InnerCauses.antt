@@ -1,22 +1,14 @@
 -- Why there is no answer, as the code says it: what each cause stands for, its status and its line.
 use Rattle.std.specs.Prelude.{◌≡◌, ◌≢◌, ◌<◌, ℕ, suc, List, Result, Ok, Err, MatchResult, length}
-use Rattle.rp_sheet.specs.declared.fault.TableFault.{TableFault}
-use Rattle.rp_sheet.specs.declared.fault.TableFault.TheVariants as fault
-use Rattle.rp_json.specs.declared.fault.JsonFault.{JsonFault}
-use Rattle.rp_json.specs.declared.fault.JsonFault.TheVariants as json_fault
-use Rattle.rp_run.specs.FaultTexts.{fault_text, json_fault_text}
-use Rattle.rp_run.specs.MenuContents.{menu_fault_text}
 use Rattle.rp_command_line.specs.CommandLine.{Line, file_at, files_of}
 use Rattle.rp_run.specs.Readings.{Reading}
 use Rattle.rp_outside.specs.Known.{AreAll}
 use Rattle.rp_run.specs.Answers.{Files, RefusesWith}
-use Rattle.rp_menu.specs.declared.fault.MenuFault.{MenuFault}
-use Rattle.rp_menu.specs.declared.fault.MenuFault.TheVariants as menu_fault
 use Rattle.rp_patch.specs.declared.fault.PatchFault.{PatchFault}
 use Rattle.rp_patch.specs.declared.fault.PatchFault.TheVariants as patch_fault
 use Rattle.rp_types.specs.declared.fault.TypesFault.{TypesFault}
 use Rattle.rp_types.specs.declared.fault.TypesFault.TheVariants as types_fault
-use Rattle.rp_run.specs.FaultLines.{file_line, read_line, memory_line, patch_line, types_line}
+use Rattle.rp_run.specs.FaultLines.{read_line, memory_line, patch_line, types_line}
 use Rattle.rp_run.specs.declared.files.Cause.{Cause}
 use Rattle.rp_run.specs.declared.files.Cause.TheVariants.{Read, Refused, NoMemory}
 use Rattle.rp_answers.specs.declared.status.Status.{Status}
@@ -43,16 +35,6 @@ abbrev pub IsFaultCause : {F : Type 0} → F → (F → List ℕ) → F → Caus
 IsFaultCause no_memory line f (Read name) = ⊥
 IsFaultCause no_memory line f (Refused text) = (f ≢ no_memory) × (text.items ≡ line f)
 IsFaultCause no_memory line f NoMemory = Unit {0}
-
--- a fault of a file of numbers, of a certificate's, and of a file of menus
-abbrev pub IsRefusalOf : List ℕ → TableFault → Cause → Type 0
-IsRefusalOf file = IsFaultCause fault.NoMemory (λ f. file_line file (fault_text f))
-
-abbrev pub IsJsonRefusalOf : List ℕ → JsonFault → Cause → Type 0
-IsJsonRefusalOf file = IsFaultCause json_fault.NoMemory (λ f. file_line file (json_fault_text f))
-
-abbrev pub IsMenuRefusalOf : List ℕ → MenuFault → Cause → Type 0
-IsMenuRefusalOf file = IsFaultCause menu_fault.NoMemory (λ f. file_line file (menu_fault_text f))
 
 -- a fault of patches, and of rational types
 abbrev pub IsPatchRefusal : PatchFault → Cause → Type 0

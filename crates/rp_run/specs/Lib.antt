@@ -1,4 +1,5 @@
 pub mod FaultTexts
+pub mod InnerTold
 pub mod FaultLines
 pub mod Readings
 pub mod ChoiceContents

@@ -1,7 +1,7 @@
 -- What a file of choices from menus comes to: menus with the units of their cells (by largest remainders: Hamilton's
 -- method), or the first refusal.
-use Rattle.std.specs.Prelude.{◌≡◌, ℕ, nat_lt, if◌then◌else◌, Option, List, [], ◌++◌, length, codes}
-use Rattle.std.specs.Prelude.{Result, Ok, Err, slice_index}
+use Rattle.std.specs.Prelude.{◌≡◌, ℕ, Option, List, [], ◌++◌, codes}
+use Rattle.std.specs.Prelude.{Ok, Err, slice_index}
 use Rattle.rp_menu.specs.Denotation.{menus_in}
 use Rattle.rp_menu.specs.MenuLists.{MenuList}
 use Rattle.rp_menu.specs.declared.fault.MenuFault.{MenuFault}
@@ -11,10 +11,8 @@ use Rattle.rp_patch.specs.Apportionment.{AreGrouped, HasShares, SaysWhyNoUnits, 
 use Rattle.rp_patch.specs.declared.apportionment.Units.{Units}
 use Rattle.rp_patch.specs.declared.fault.ApportionFault.TheVariants.{NeedUnit}
 use Rattle.rp_print.specs.ListText.{line_of, ordinal_text}
-use Rattle.rp_run.specs.FaultLines.{file_line}
 use Rattle.rp_run.specs.FaultTexts.{column_text, record_text}
-use Rattle.rp_run.specs.Readings.{AndThen, Just, Reading}
-use Rattle.rp_run.specs.declared.files.TheConstants.{MOST_BYTES}
+use Rattle.rp_run.specs.Readings.{AndThen, HeldIn, Just, Reading}
 
 -- the text of each fault: its name, and then the record and the column where it has them, which count from 1
 abbrev pub menu_fault_name : MenuFault → List ℕ
@@ -58,19 +56,9 @@ menu_fault_text f = menu_fault_name f ++ menu_places_text f
 abbrev pub need_unit_line : ℕ → List ℕ
 need_unit_line menu = line_of (codes "rp: NeedUnit menu " ++ ordinal_text menu)
 
--- menus that were read from a file, or the line of its fault
-abbrev pub menus_or_line : List ℕ → Result MenuList MenuFault → Result MenuList (List ℕ)
-menus_or_line file (Ok list) = Ok list
-menus_or_line file (Err f) = Err (file_line file (menu_fault_text f))
-
 -- the menus that the bytes of a file denote, where they are not too many
-abbrev pub menus_of : List ℕ → List ℕ → Result MenuList (List ℕ)
-menus_of file bytes =
-    if nat_lt MOST_BYTES (length bytes) then Err (file_line file (codes "TooLong"))
-    else menus_or_line file (menus_in bytes)
-
 abbrev pub MenusOf : List ℕ → List ℕ → Reading MenuList
-MenusOf file bytes = Just (menus_of file bytes)
+MenusOf file = HeldIn menu_fault_text file menus_in
 
 -- the units of the cells, which stand by menu, with so many on each menu where that is asked for
 abbrev pub UnitsOf : MenuList → Option ℕ → Reading Units

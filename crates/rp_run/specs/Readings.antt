@@ -28,16 +28,23 @@ abbrev pub AndThen : {A B : Type 0} → Reading A → (A → Reading B) → Read
 AndThen {A} first next (Ok value) = (earlier : A) × first (Ok earlier) × next earlier (Ok value)
 AndThen {A} first next (Err line) = first (Err line) ⊎ ((earlier : A) × first (Ok earlier) × next earlier (Err line))
 
--- a value that was read from a file, or the line of its fault
-abbrev pub or_line : {A : Type 0} → List ℕ → Result A TableFault → Result A (List ℕ)
-or_line file (Ok value) = Ok value
-or_line file (Err fault) = Err (file_line file (fault_text fault))
+-- a value that was read from a file, or the line of its fault, by the text of each fault
+abbrev pub or_line : {A F : Type 0} → (F → List ℕ) → List ℕ → Result A F → Result A (List ℕ)
+or_line text file (Ok value) = Ok value
+or_line text file (Err fault) = Err (file_line file (text fault))
 
--- what the bytes of a file of numbers denote by this reading, where they are not too many
-abbrev pub numbers_in : {A : Type 0} → List ℕ → (List ℕ → Result A TableFault) → List ℕ → Result A (List ℕ)
-numbers_in file reading bytes =
+-- what the bytes of a file denote by this reading, where they are not too many
+abbrev pub held_in : {A F : Type 0} → (F → List ℕ) → List ℕ → (List ℕ → Result A F) → List ℕ → Result A (List ℕ)
+held_in text file reading bytes =
     if nat_lt MOST_BYTES (length bytes) then Err (file_line file (codes "TooLong"))
-    else or_line file (reading bytes)
+    else or_line text file (reading bytes)
+
+abbrev pub HeldIn : {A F : Type 0} → (F → List ℕ) → List ℕ → (List ℕ → Result A F) → List ℕ → Reading A
+HeldIn text file reading bytes = Just (held_in text file reading bytes)
+
+-- the same of a file of numbers
+abbrev pub numbers_in : {A : Type 0} → List ℕ → (List ℕ → Result A TableFault) → List ℕ → Result A (List ℕ)
+numbers_in = held_in fault_text
 
 abbrev pub NumbersIn : {A : Type 0} → List ℕ → (List ℕ → Result A TableFault) → List ℕ → Reading A
 NumbersIn file reading bytes = Just (numbers_in file reading bytes)

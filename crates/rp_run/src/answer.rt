@@ -17,7 +17,7 @@ use rp_answers::{
     menus_text, pairs_text, power_text, pump_text, random_text, trial_text, utility_text,
     welfare_text,
 };
-use rp_command_line::{Command, Line};
+use rp_command_line::{Command, Line, MOST_DRAWS};
 use rp_num::NoMemory;
 use rp_outside::Desk;
 use rp_table::Table;
@@ -171,7 +171,7 @@ fn text_of_power(alloc: Global, line: &Line<'_>, table: &Table) -> Result<Vec<u8
 {
     let seed = line.arguments.number(0);
     let draws = line.arguments.number(1);
-    prove!(draws <= 1_000);
+    prove!(draws <= MOST_DRAWS);
     power_text(alloc, table, seed, draws)
 }
 

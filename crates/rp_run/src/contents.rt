@@ -16,13 +16,14 @@ ghost use Rattle.rp_run.specs.InnerLoadings.{AreContentsOf, LoadsLine};
 ghost use Rattle.rp_run.specs.declared.contents.Contents.TheVariants as contents;
 ghost use Rattle.rp_types.specs.declared.types.Rational.{Rational as TypeOf};
 
-use crate::files::{Cause, load_certificate, load_table};
-use crate::menus::load_menus_with_units;
+use crate::files::{Cause, load_certificate};
 use crate::number_files::{
-    AskedFile, BudgetedPricesFile, BudgetsFile, BundlesFile, ChoicesFile, PricesFile,
+    AskedFile, BudgetedPricesFile, BudgetsFile, BundlesFile, ChoicesFile, MenusFile, PricesFile,
     TechnologyFile, load_numbers,
 };
 use crate::patches::patches_of;
+use crate::tables::load_line_table;
+use crate::units::units_of;
 use rp_command_line::{FileSet, Line};
 use rp_cost::{Asked, Tech};
 use rp_evidence::{Certificate, Kind};
@@ -214,12 +215,7 @@ fn load_table_alone<'a, D: Desk>(
     ensures { LoadsLine D.bytes D.faults D.calls desk.old desk.new (named_line line.now)
         (AreContentsOf (D.bytes desk.old) (named_line line.now)) result }
 {
-    let table = load_table(
-        alloc,
-        desk,
-        line.arguments.file(0),
-        line.command.takes_levels(),
-    )?;
+    let table = load_line_table(alloc, desk, line)?;
     Ok(Contents::Table(table))
 }
 
@@ -234,12 +230,7 @@ fn load_table_certificate<'a, D: Desk>(
     ensures { LoadsLine D.bytes D.faults D.calls desk.old desk.new (named_line line.now)
         (AreContentsOf (D.bytes desk.old) (named_line line.now)) result }
 {
-    let table = load_table(
-        alloc,
-        desk,
-        line.arguments.file(0),
-        line.command.takes_levels(),
-    )?;
+    let table = load_line_table(alloc, desk, line)?;
     let certificate = load_certificate(alloc, desk, line.arguments.file(1), Kind::Table)?;
     Ok(Contents::TableAndCertificate(table, certificate))
 }
@@ -255,12 +246,7 @@ fn load_table_prices_with_expenditure<'a, D: Desk>(
     ensures { LoadsLine D.bytes D.faults D.calls desk.old desk.new (named_line line.now)
         (AreContentsOf (D.bytes desk.old) (named_line line.now)) result }
 {
-    let table = load_table(
-        alloc,
-        desk,
-        line.arguments.file(0),
-        line.command.takes_levels(),
-    )?;
+    let table = load_line_table(alloc, desk, line)?;
     let new = load_numbers(
         alloc,
         desk,
@@ -281,12 +267,7 @@ fn load_table_prices<'a, D: Desk>(
     ensures { LoadsLine D.bytes D.faults D.calls desk.old desk.new (named_line line.now)
         (AreContentsOf (D.bytes desk.old) (named_line line.now)) result }
 {
-    let table = load_table(
-        alloc,
-        desk,
-        line.arguments.file(0),
-        line.command.takes_levels(),
-    )?;
+    let table = load_line_table(alloc, desk, line)?;
     let new = load_numbers(alloc, desk, line.arguments.file(1), &PricesFile(&table))?;
     Ok(Contents::TableAndPrices(table, new))
 }
@@ -302,12 +283,7 @@ fn load_table_bundles<'a, D: Desk>(
     ensures { LoadsLine D.bytes D.faults D.calls desk.old desk.new (named_line line.now)
         (AreContentsOf (D.bytes desk.old) (named_line line.now)) result }
 {
-    let table = load_table(
-        alloc,
-        desk,
-        line.arguments.file(0),
-        line.command.takes_levels(),
-    )?;
+    let table = load_line_table(alloc, desk, line)?;
     let bundles = load_numbers(alloc, desk, line.arguments.file(1), &BundlesFile(&table))?;
     Ok(Contents::TableAndBundles(table, bundles))
 }
@@ -345,6 +321,22 @@ fn load_patches_certificate<'a, D: Desk>(
     let certificate = load_certificate(alloc, desk, line.arguments.file(2), Kind::Random)?;
     let (patches, types) = patches_of(alloc, &budgets, &choices, line.arguments.per)?;
     Ok(Contents::ChoicesAndCertificate(patches, types, certificate))
+}
+
+/// The choices from menus in one file, with the units of their cells.
+fn load_menus_with_units<'a, D: Desk>(
+    alloc: Global,
+    desk: &mut D,
+    line: &Line<'a>,
+) -> Result<Contents, Cause<'a>>
+    requires sized { IsSized (named_line line.now) }
+    requires files { file_set (named_line line.now) ≡ files.Menus }
+    ensures { LoadsLine D.bytes D.faults D.calls desk.old desk.new (named_line line.now)
+        (AreContentsOf (D.bytes desk.old) (named_line line.now)) result }
+{
+    let seen = load_numbers(alloc, desk, line.arguments.file(0), &MenusFile)?;
+    let units = units_of(alloc, &seen, line.arguments.per)?;
+    Ok(Contents::Menus(seen, units))
 }
 
 /// The technology in one file, and the outputs that are asked of it in another.

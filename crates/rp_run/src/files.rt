@@ -1,4 +1,4 @@
-//! The files of a line: why one gives nothing, its bytes, and the loaders of a table and of a certificate.
+//! The files of a line: why one gives nothing, its bytes, and the loader of a certificate.
 ghost use Rattle.std.specs.Prelude.{◌≡◌, ◌+◌, ◌≤◌};
 ghost use Rattle.std.specs.Prelude.{IfOk, IfErr, Ok, length};
 ghost use Rattle.rp_evidence.specs.Kinds.{IsCertificateOf};
@@ -7,22 +7,16 @@ ghost use Rattle.rp_outside.specs.Known.{AreAll};
 ghost use Rattle.rp_outside.specs.Reads.{calls_through};
 ghost use Rattle.rp_run.specs.FaultLines as text;
 ghost use Rattle.rp_run.specs.Endings.{Rose};
-ghost use Rattle.rp_run.specs.InnerContents.{MayHaveLevels};
 ghost use Rattle.rp_run.specs.InnerLoadings.{LoadsFile};
-ghost use Rattle.rp_run.specs.Readings.{CertificateIn, Just, NumbersIn, TakenTable, all_bytes};
-ghost use Rattle.rp_run.specs.Readings.{unless_levelled};
-ghost use Rattle.rp_run.specs.InnerCauses.{IsJsonRefusalOf, IsRefusal, IsRefusalOf, IsFileCause};
-ghost use Rattle.rp_run.specs.InnerCauses.{IsReadingCause};
+ghost use Rattle.rp_run.specs.Readings.{CertificateIn, NumbersIn, all_bytes};
+ghost use Rattle.rp_run.specs.InnerCauses.{IsFaultCause, IsRefusal, IsFileCause};
 
-use crate::fault_text::{text_of_fault, text_of_json_fault};
-use crate::number_files::{TableFile, load_numbers};
+use crate::fault_text::{FileFault, text_of};
 use rp_evidence::{Certificate, Kind};
-use rp_json::{JsonFault, read};
+use rp_json::read;
 use rp_num::NoMemory;
 use rp_outside::{Desk, LoadFault, load};
 use rp_print::push_line;
-use rp_table::Table;
-use rp_text::TableFault;
 use std::alloc::Global;
 
 /// The most bytes of a file of numbers.
@@ -41,42 +35,6 @@ pub(crate) enum Cause<'a> {
     NoMemory,
 }
 
-/// The table in a file, for a command that takes levels or not.
-pub(crate) fn load_table<'a, D: Desk>(
-    alloc: Global,
-    desk: &mut D,
-    file: &'a str,
-    takes_levels: bool,
-) -> Result<Table, Cause<'a>>
-    ensures loads { LoadsFile D.bytes D.faults D.calls desk.old desk.new MOST_BYTES
-        file.now (TakenTable takes_levels file.now) result }
-    ensures levels { IfOk result (MayHaveLevels takes_levels) }
-{
-    let table = load_numbers(alloc, desk, file, &TableFile)?;
-    unless_levelled(alloc, file, table, takes_levels)
-}
-
-/// The table that was read from a file, unless the command refuses its levels.
-fn unless_levelled<'a>(
-    alloc: Global,
-    file: &'a str,
-    table: Table,
-    takes_levels: bool,
-) -> Result<Table, Cause<'a>>
-    ensures taken { IfOk result (λ taken. unless_levelled takes_levels file.now table ≡ Ok taken) }
-    ensures levels { IfOk result (MayHaveLevels takes_levels) }
-    ensures refused { IfErr result
-        (IsReadingCause (Just (unless_levelled takes_levels file.now table))) }
-{
-    if takes_levels {
-        return Ok(table);
-    }
-    if table.levelled() {
-        return Err(refused(alloc, file, b"OwnLevels"));
-    }
-    Ok(table)
-}
-
 /// The certificate of a kind in a file.
 pub(crate) fn load_certificate<'a, D: Desk>(
     alloc: Global,
@@ -91,7 +49,7 @@ pub(crate) fn load_certificate<'a, D: Desk>(
     match load(alloc, desk, file, MOST_CERTIFICATE_BYTES) {
         Ok(bytes) => match read(alloc, bytes.as_slice(), kind) {
             Ok(certificate) => Ok(certificate),
-            Err(fault) => Err(json_refusal(alloc, file, fault)),
+            Err(fault) => Err(refusal(alloc, file, fault)),
         },
         Err(LoadFault::Read) => Err(Cause::Read(file)),
         Err(LoadFault::TooLong) => Err(refused(alloc, file, b"TooLong")),
@@ -124,28 +82,15 @@ pub(crate) fn load_bytes<'a, D: Desk>(
 }
 
 /// The cause that a fault of a file is.
-pub(crate) fn refusal<'a>(alloc: Global, file: &'a str, fault: TableFault) -> Cause<'a>
-    ensures { IsRefusalOf file.now fault result }
+pub(crate) fn refusal<'a, F: FileFault>(alloc: Global, file: &'a str, fault: F) -> Cause<'a>
+    ensures { IsFaultCause F.no_memory (λ f. text.file_line file.now (F.text f)) fault result }
 {
-    match fault {
-        TableFault::NoMemory => Cause::NoMemory,
-        other => match text_of_fault(alloc, other) {
-            Ok(text) => refused(alloc, file, text.as_slice()),
-            Err(_) => Cause::NoMemory,
-        },
-    }
-}
-
-/// The cause that a fault of a certificate's file is.
-fn json_refusal<'a>(alloc: Global, file: &'a str, fault: JsonFault) -> Cause<'a>
-    ensures { IsJsonRefusalOf file.now fault result }
-{
-    match fault {
-        JsonFault::NoMemory => Cause::NoMemory,
-        other => match text_of_json_fault(alloc, other) {
-            Ok(text) => refused(alloc, file, text.as_slice()),
-            Err(_) => Cause::NoMemory,
-        },
+    let Some(told) = fault.told() else {
+        return Cause::NoMemory;
+    };
+    match text_of(alloc, told) {
+        Ok(text) => refused(alloc, file, text.as_slice()),
+        Err(_) => Cause::NoMemory,
     }
 }
 

@@ -4,15 +4,18 @@
 mod answer;
 mod contents;
 mod fault_text;
+mod faults;
 mod files;
 mod laws;
 mod limits;
-mod menus;
 mod number_files;
 mod patches;
 mod running;
 mod sure;
+mod tables;
 mod telling;
+mod told;
+mod units;
 
 pub use contents::Contents;
 pub use files::{MOST_BYTES, MOST_CERTIFICATE_BYTES};

@@ -5,7 +5,7 @@ use Rattle.clap.specs.Walk.{Rule, Text, rule_of}
 use Rattle.rp_command_line.specs.Commands.{file_rule, json_rule, number_rule, per_rule, where_asked, with_rules}
 use Rattle.rp_command_line.specs.CommandLine.{file_names}
 use Rattle.rp_command_line.specs.Named.{named_form, named_number}
-use Rattle.rp_command_line.specs.declared.commands.Number.{Number}
+use Rattle.rp_command_line.specs.declared.commands.NumberArgument.{NumberArgument}
 use Rattle.rp_command_line.proofs.WordLoops.{map_twice, rules_whole}
 use Rattle.rp_command_line.proofs.parser.command_of.Goals as goal
 
@@ -21,7 +21,7 @@ returns-clause-shape c =
     c.in_ok-command.ensures.shape ∙ ap (λ (a : App). with_rules a (map (λ (file : Bor Text). file_rule file.now) c.names.result.now)) c.new-command.ensures.app
     ∙ ap (with_rules start) (map_twice file_rule (λ (file : Bor Text). file.now) c.names.result.now ∙ ap (map file_rule) c.names.ensures) in
     let two : app_of c.in_ok-command-2.command ≡ with_rules (with_rules start files) numbers =
-    c.in_ok-command-2.ensures.shape ∙ ap (λ (a : App). with_rules a (map (λ (number : Number). number_rule (named_number number)) c.args.form.now.numbers.now)) one
+    c.in_ok-command-2.ensures.shape ∙ ap (λ (a : App). with_rules a (map (λ (number : NumberArgument). number_rule (named_number number)) c.args.form.now.numbers.now)) one
     ∙ ap (with_rules (with_rules start files)) (map_twice number_rule named_number c.args.form.now.numbers.now) in
     let three : app_of c.in_ok-command-3.command ≡ with_rules (with_rules (with_rules start files) numbers) per =
     c.in_ok-command-3.ensures.shape ∙ ap (λ (a : App). with_rules a (where_asked form.per (rule_of c.per_argument.result))) two

@@ -3,7 +3,7 @@ use Rattle.std.proofs.lemmas.List.{take_all}
 use Rattle.clap.specs.Simple.{App, app_of, app_of_fields}
 use Rattle.rp_command_line.specs.CommandLine.{form_of}
 use Rattle.rp_command_line.specs.Commands.{alone, command_of}
-use Rattle.rp_command_line.specs.Forms.{Form}
+use Rattle.rp_command_line.specs.CommandForms.{CommandForm}
 use Rattle.rp_command_line.specs.declared.commands.Command.{Command}
 use Rattle.rp_command_line.specs.declared.commands.Command.TheVariants.{Pairs}
 use Rattle.rp_command_line.proofs.WordLemmas.{needing, without_help_flag, without_help_command}
@@ -21,7 +21,7 @@ pub loop-command-preserved : goal.loop-command-preserved
 loop-command-preserved c =
     command_more form_of c.commands-command-items.result.now c.loop-command.command-index Pairs
     (app_of c.loop-command.program) (app_of c.in_ok-program.program) (app_of c.in_ok-command_of.field-0) c.loop-command-test.true c.loop-command.invariant
-    (c.in_ok-command_of.ensures.shape ∙ ap (λ (form : Form). alone (command_of form)) c.form.ensures)
+    (c.in_ok-command_of.ensures.shape ∙ ap (λ (form : CommandForm). alone (command_of form)) c.form.ensures)
     (c.in_ok-program.ensures.shape c.in_ok-command_of.ensures.local)
 
 pub returns : goal.returns

@@ -4,7 +4,7 @@ use Rattle.clap.specs.Simple.{app_of}
 use Rattle.clap.specs.Walk.{rule_of}
 use Rattle.rp_command_line.specs.Commands.{number_rule}
 use Rattle.rp_command_line.specs.Named.{named_number}
-use Rattle.rp_command_line.specs.declared.commands.Number.{Number}
+use Rattle.rp_command_line.specs.declared.commands.NumberArgument.{NumberArgument}
 use Rattle.rp_command_line.proofs.WordLemmas.{rule_more}
 use Rattle.rp_command_line.proofs.parser.with_numbers.Goals as goal
 
@@ -13,7 +13,7 @@ loop-number-init c = record { shape = rw (append-nil (app_of c.args.command).top
 
 pub loop-number-preserved : goal.loop-number-preserved
 loop-number-preserved c = record {
-  shape = rule_more (λ (number : Number). number_rule (named_number number)) c.args.numbers.now c.loop-number.number-index (record { name = record { ref_ptr = (0, 0); now = [] }; least = 0; most = 0 }) (app_of c.args.command) (app_of c.loop-number.more) (app_of c.in_ok-more.more)
+  shape = rule_more (λ (number : NumberArgument). number_rule (named_number number)) c.args.numbers.now c.loop-number.number-index (record { name = record { ref_ptr = (0, 0); now = [] }; least = 0; most = 0 }) (app_of c.args.command) (app_of c.loop-number.more) (app_of c.in_ok-more.more)
       (rule_of c.number_argument.result) c.loop-number-test.true c.loop-number.invariant.shape c.number_argument.ensures.rule (c.in_ok-more.ensures.shape c.number_argument.ensures.local);
   local = c.in_ok-more.ensures.globals ∙ ap₂ (λ a b. a || b) c.loop-number.invariant.local c.number_argument.ensures.local;
 }

@@ -7,7 +7,7 @@ use Rattle.rp_menu.proofs.cells.tally_of.Given as goal
 
 abbrev pub invariant-loop-t : goal.invariant-loop-t
 invariant-loop-t l = record {
-  menus : l.menus.items ≡ menus_below l.entries l.t;
-  cells : l.cells.items ≡ cells_below l.entries l.t;
-  faultless : first_of l.t (λ t. if nat_lt 64 (length (cells_below l.entries (t + 1))) then Some (fault.TooManyCells (number_of t)) else None) ≡ None;
+  menus : l.menus.items ≡ menus_below l.menu_rows l.t;
+  cells : l.cells.items ≡ cells_below l.menu_rows l.t;
+  faultless : first_of l.t (λ t. if nat_lt 64 (length (cells_below l.menu_rows (t + 1))) then Some (fault.TooManyCells (number_of t)) else None) ≡ None;
 }

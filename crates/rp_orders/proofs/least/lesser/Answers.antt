@@ -1,12 +1,9 @@
 use mir.Syntax.{w128}
 use mir.Val.{of_z, to_z}
-use Rattle.std.proofs.Common.{rules, ◌≡◌, ◌≤ℤ◌, ◌<ℤ◌, FitsSigned, refl, subst, sym, ◌∙◌, arith}
+use Rattle.std.proofs.Common.{rules, ◌≡◌, ◌≤ℤ◌, ◌<ℤ◌, FitsSigned, refl, subst, sym, ◌∙◌}
 use Rattle.std.proofs.lemmas.Int.{to_z-of_z}
-use Rattle.rp_orders.proofs.LeastLemmas.{kept, less_if, no_less_if, replaced, small_menu}
+use Rattle.rp_orders.proofs.LeastLemmas.{kept, less_if, no_less_if, replaced}
 use Rattle.rp_orders.proofs.least.lesser.Goals as goal
-
-pub has_letter-requires : goal.has_letter-requires
-has_letter-requires c = small_menu c.args.seen.now.letters c.args.menu (omega (arith, c.letters.ensures.exact, c.letters.ensures.few)) c.requires.within
 
 pub returns-then-sum-found : goal.returns-then-sum-found
 returns-then-sum-found c =

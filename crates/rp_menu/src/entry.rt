@@ -1,7 +1,0 @@
-/// What a record says: the menu as its number, the letter that was chosen, from 0, and how many times.
-#[derive(Clone, Copy, Debug)]
-pub struct Entry {
-    pub menu: u32,
-    pub letter: u32,
-    pub times: u64,
-}
