@@ -23,7 +23,12 @@ fn weight_of_type(weights: &[u64], numbers: &[u32]) -> u128
 
 /// Whether every rational type weighs at least `least`. `partials` is room for the partial types on the way: the one at
 /// place d has a patch of each of the first d budgets.
-fn all_weigh_by(patches: &Patches, least: u64, weights: &[u64], partials: &mut [PartialType]) -> bool
+fn all_weigh_by(
+    patches: &Patches,
+    least: u64,
+    weights: &[u64],
+    partials: &mut [PartialType],
+) -> bool
     requires one_each { length weights.now ≡ length patches.now.patches }
     requires room { length partials.old ≡ 48 }
     ensures { IsTrue result ↔ ((type : List ℕ) → IsRationalType patches.now type
