@@ -160,7 +160,10 @@ fn mixture(entries: (u64, ((), (Seq<Share>, (u64, ()))))) -> Random
 
 /// The partial mixture that was found, with the weights of the patches.
 fn violated(entries: (u64, ((), (Seq<Share>, (u64, (Seq<u64>, ())))))) -> Random
-    ensures { result ≡ (entries.1.1.1.0, RandomPart.Violated entries.0 entries.1.1.0 entries.1.1.1.1.0) }
+    ensures { result ≡ (
+      entries.1.1.1.0,
+      RandomPart.Violated entries.0 entries.1.1.0 entries.1.1.1.1.0,
+    ) }
 {
     let (den, ((), (parts, (total, (weights, ()))))) = entries;
     (
