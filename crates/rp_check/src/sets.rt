@@ -9,9 +9,9 @@ ghost use Rattle.rp_evidence.specs.Preference.{IsStrict};
 ghost use Rattle.rp_table.specs.Cost.{cost_of};
 ghost use Rattle.rp_table.specs.Tables.{records_of};
 
-use rp_clauses::closure::Closure;
+use rp_clauses::closure::{Closure, spread};
 use rp_clauses::input::Input;
-use rp_clauses::reach::{ROOM, is_marked_list, spread};
+use rp_clauses::reach::{ROOM, is_marked_list};
 use rp_clauses::standard::WHOLE;
 use rp_evidence::{Failure, Reason, fails};
 use rp_table::NewBudget;

@@ -1,12 +1,10 @@
 -- Parts of a mixture of kinds, and what they weigh.
-use Rattle.std.proofs.Common.{◌≡◌, ◌+◌, ◌*◌, ◌^◌, ◌<◌, ◌≤◌, ℕ, zero, suc, Bool, true, false, List, [], All, Result, Err, length, take, get_or, add-one, ap, arith, inl, inr, refl, subst, sym, ◌∙◌, if◌then◌else◌}
-use Rattle.std.proofs.Math.Nat.{mul-le-mul}
+use Rattle.std.proofs.Common.{◌≡◌, ◌+◌, ◌*◌, ◌^◌, ◌<◌, ◌≤◌, ℕ, zero, suc, Bool, true, false, List, [], All, Result, Err, length, take, get_or, ap, arith, inl, inr, refl, subst, sym, ◌∙◌, if◌then◌else◌}
 use Rattle.std.proofs.lemmas.List.{get_or_read}
 use Rattle.std.proofs.lemmas.List.Sums.{sum_by_more}
 use Rattle.rp_evidence.specs.declared.failure.Failure.{Failure}
 use Rattle.rp_evidence.specs.declared.failure.Reason.TheVariants.{Irrational}
 use Rattle.rp_evidence.specs.declared.random.Share.{Share}
-use Rattle.rp_table.specs.Sums.{sum_below}
 use Rattle.rp_evidence.specs.Clauses.{failure}
 use Rattle.rp_farkas.specs.Limits.{FitsEvidence}
 use Rattle.rp_patch.specs.KindFailure.{PartFailsOf, part_at}
@@ -50,10 +48,3 @@ taken_more k shares i n weight share used new within is fit does so_far adds = (
     by : (b : Bool) → new ≡ weight + (if b then share.weight else 0) → new ≤ (n + 1) * 2 ^ 63
     by true e = omega (arith, e, small, so_far.1)
     by false e = omega (arith, e, so_far.1)
-
-pub product_small : (a b : ℕ) → a < 2 ^ 64 → b ≤ 1000000000 → a * b ≤ 2 ^ 64 * 1000000000
-product_small a b la lb = mul-le-mul {n₁ = a} {m₁ = b} {n₂ = 2 ^ 64} {m₂ = 1000000000} (omega (arith, la)) lb
-
--- one term more
-pub term_more : (f : ℕ → ℕ) (i sum term : ℕ) → sum ≡ sum_below i f → term ≡ f i → sum + term ≡ sum_below (i + 1) f
-term_more f i sum term so_far is = rw (so_far, is, add-one) refl

@@ -1,7 +1,6 @@
 ghost use Rattle.rp_patch.specs.RandomFailure.{RandomFails};
 
 use crate::evidence::check_evidence;
-use crate::rational::TypesOn;
 use rp_evidence::{Failure, RandomPart, Reason, fails};
 use rp_patch::Patches;
 
@@ -12,5 +11,5 @@ pub fn check_choices(patches: &Patches, total: u64, evidence: &RandomPart) -> Re
     if total != patches.total() {
         return fails(Reason::Units, 0);
     }
-    check_evidence(&TypesOn { patches }, evidence)
+    check_evidence(patches, evidence)
 }

@@ -21,27 +21,32 @@ fn weight_of_type(weights: &[u64], numbers: &[u32]) -> u128
     weight
 }
 
-/// Whether every rational type weighs at least `least`. `parts` is room for the partial types on the way: the one at
+/// Whether every rational type weighs at least `least`. `partials` is room for the partial types on the way: the one at
 /// place d has a patch of each of the first d budgets.
-fn all_weigh_by(patches: &Patches, least: u64, weights: &[u64], parts: &mut [PartialType]) -> bool
+fn all_weigh_by(
+    patches: &Patches,
+    least: u64,
+    weights: &[u64],
+    partials: &mut [PartialType],
+) -> bool
     requires one_each { length weights.now ≡ length patches.now.patches }
-    requires room { length parts.old ≡ 48 }
+    requires room { length partials.old ≡ 48 }
     ensures { IsTrue result ↔ ((type : List ℕ) → IsRationalType patches.now type
         → least ≤ cells_weight weights.now type) }
 {
     prove!(patches.budgets() <= 48);
     let mut depth = 0;
     let mut i = 0;
-    parts[0] = PartialType::new(patches);
+    partials[0] = PartialType::new(patches);
     'types: loop {
         if i == patches.count() {
             if depth == 0 {
                 return true;
             }
-            i = parts[depth].patches()[depth - 1] + 1;
+            i = partials[depth].patches()[depth - 1] + 1;
             depth -= 1;
         } else {
-            match parts[depth].with(patches, i) {
+            match partials[depth].with(patches, i) {
                 Some(longer) => {
                     if weight_of_type(weights, longer.patches()) >= u128::from(least) {
                         i += 1;
@@ -49,7 +54,7 @@ fn all_weigh_by(patches: &Patches, least: u64, weights: &[u64], parts: &mut [Par
                         return false;
                     } else {
                         depth += 1;
-                        parts[depth] = longer;
+                        partials[depth] = longer;
                         i = 0;
                     }
                 }
@@ -65,6 +70,6 @@ pub fn all_weigh(patches: &Patches, least: u64, weights: &[u64]) -> bool
     ensures { IsTrue result ↔ ((type : List ℕ) → IsRationalType patches.now type
         → least ≤ cells_weight weights.now type) }
 {
-    let mut parts = [PartialType::new(patches); 48];
-    all_weigh_by(patches, least, weights, &mut parts)
+    let mut partials = [PartialType::new(patches); 48];
+    all_weigh_by(patches, least, weights, &mut partials)
 }

@@ -4,12 +4,12 @@ ghost use Rattle.rp_evidence.specs.Clauses.{FirstUnless, InOrder, Unless};
 ghost use Rattle.rp_farkas.specs.Limits.{FitsEvidence};
 ghost use Rattle.rp_patch.specs.KindFailure.{EvidenceFailsOf, MixtureFailsOf};
 ghost use Rattle.rp_patch.specs.KindFailure.{PartFailsOf, PartsFailOf, ViolationFailsOf};
-ghost use Rattle.rp_patch.specs.Kinds.{all_units_weight, weight_of as weight_of_shares};
-ghost use Rattle.rp_patch.specs.Kinds.{weight_using};
+ghost use Rattle.rp_patch.specs.Kinds.{all_units_weight, weight_of, weight_using};
 
 use crate::choosers::Choosers;
-use crate::shares::{check_numbers, comes_in_order, total_weight};
+use crate::shares::{check_numbers, comes_in_order};
 use rp_evidence::{Failure, RandomPart, Reason, Share, fails};
+use rp_patch::{weight_of_shares, weight_of_units};
 
 /// Checks share `k`: a list as a kind is written, some weight, a kind, and in order.
 fn check_share<C: Choosers>(choosers: &C, shares: &[Share], k: usize) -> Result<(), Failure>
@@ -53,18 +53,6 @@ fn weight_on<C: Choosers>(choosers: &C, shares: &[Share], cell: u32) -> u128
         if choosers.uses(share.patches.as_slice(), cell) {
             weight += u128::from(share.weight);
         }
-    }
-    weight
-}
-
-/// What all units weigh together.
-fn weight_of_units<C: Choosers>(choosers: &C, weights: &[u64]) -> u128
-    requires { length weights.now ≡ (C.kinds choosers.now).cells }
-    ensures { result ≡ all_units_weight (C.kinds choosers.now) weights.now }
-{
-    let mut weight = 0;
-    for i in 0..choosers.cells() {
-        weight += u128::from(weights[i as usize]) * u128::from(choosers.units(i));
     }
     weight
 }
@@ -118,13 +106,13 @@ fn check_shortfall<C: Choosers>(
     requires shares { All (λ share. FitsEvidence share.weight) shares.now }
     requires one_each { length weights.now ≡ (C.kinds choosers.now).cells }
     ensures { InOrder (
-        Unless (weight_of_shares shares.now ≡ all_units_weight (C.kinds choosers.now) weights.now)
+        Unless (weight_of shares.now ≡ all_units_weight (C.kinds choosers.now) weights.now)
         Reason.Least 0
-        ∷ Unless (weight_of_shares shares.now < den * (C.kinds choosers.now).total)
+        ∷ Unless (weight_of shares.now < den * (C.kinds choosers.now).total)
         Reason.NotLess 0
         ∷ []) result }
 {
-    let weight = total_weight(shares);
+    let weight = weight_of_shares(shares);
     if weight != weight_of_units(choosers, weights) {
         return fails(Reason::Least, 0);
     }

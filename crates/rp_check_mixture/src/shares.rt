@@ -6,7 +6,6 @@ ghost use Rattle.std.specs.declared.cmp.Ordering.TheVariants.{Less};
 ghost use Rattle.rp_farkas.specs.Limits.{FitsEvidence};
 ghost use Rattle.rp_evidence.specs.Clauses.{Unless};
 ghost use Rattle.rp_patch.specs.KindFailure.{ComesInOrder, HasFitNumbers};
-ghost use Rattle.rp_patch.specs.Kinds.{weight_of as weight_of_shares};
 
 use rp_evidence::{Failure, Reason, Share, fails};
 use rp_farkas::EVIDENCE_WIDTH;
@@ -63,16 +62,4 @@ pub fn comes_in_order(shares: &[Share], k: usize) -> bool
             shares[k - 1].patches.as_slice(),
             shares[k].patches.as_slice(),
         )
-}
-
-/// How much there is of all kinds.
-pub fn total_weight(shares: &[Share]) -> u128
-    requires { All (λ share. FitsEvidence share.weight) shares.now }
-    ensures { result ≡ weight_of_shares shares.now }
-{
-    let mut weight = 0;
-    for share in shares {
-        weight += u128::from(share.weight);
-    }
-    weight
 }

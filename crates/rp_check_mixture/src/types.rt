@@ -26,10 +26,10 @@ pub fn is_rational(patches: &Patches, numbers: &[u32]) -> bool
     requires { IsType patches.now numbers.now }
     ensures { IsTrue result ↔ IsRationalType patches.now numbers.now }
 {
-    let mut part = PartialType::new(patches);
+    let mut partial = PartialType::new(patches);
     for i in numbers {
-        match part.with(patches, *i) {
-            Some(longer) => part = longer,
+        match partial.with(patches, *i) {
+            Some(longer) => partial = longer,
             None => return false,
         }
     }

@@ -2,7 +2,6 @@
 use Rattle.std.proofs.Common.{◌≡◌, ◌<◌, ◌↔◌, ℕ, IsTrue, List, sym, ap, subst, ◌∙◌}
 use Rattle.rp_evidence.specs.Walk.{Reaches}
 use Rattle.rp_evidence.specs.Bits.{bit_in}
-use Rattle.rp_evidence.specs.Marks.{IsMarked}
 use Rattle.rp_evidence.specs.Reached.{IsClosureOf, Reached, reached_by, reaches_in}
 use Rattle.rp_evidence.proofs.Tabulated.{reaches_in_by}
 use Rattle.rp_clauses.specs.InnerBits.{has_bit}

@@ -1,7 +1,8 @@
 //! Which observations of a table reach which by walks of weak steps, found once for all items.
-ghost use Rattle.std.specs.Prelude.{◌≡◌, ◌<◌, ◌≤◌, ◌&&◌, ◌||◌, ◌↔◌, ℕ, IsTrue, length};
+ghost use Rattle.std.specs.Prelude.{◌≡◌, ◌<◌, ◌≤◌, ◌&&◌, ◌||◌, ◌↔◌, ◌⊎◌, ℕ, IsTrue, length};
 ghost use Rattle.rp_clauses.specs.InnerBits.{has_bit};
-ghost use Rattle.rp_evidence.specs.Marks.{IsMarked};
+ghost use Rattle.rp_clauses.specs.ReachedMarks.{IsReachedFromMarked};
+ghost use Rattle.rp_evidence.specs.Marks.{AreMarked, IsMarked};
 ghost use Rattle.rp_evidence.specs.Input.{TableInput, input_of_table};
 ghost use Rattle.rp_evidence.specs.Preference.{IsWeak};
 ghost use Rattle.rp_evidence.specs.Welfare.{EqualsOrReaches};
@@ -135,6 +136,34 @@ fn go_through(n: u32, rows: &mut [[u64; WORDS]; ROOM], k: u32)
     for s in 0..n {
         if is_set(&rows[s as usize], k) {
             take_in(&mut rows[s as usize], &from);
+        }
+    }
+}
+
+/// Marks each observation that weak steps, or none, lead to from one that is marked.
+pub fn spread(input: &Input<'_>, closure: &Closure, marks: &mut [bool])
+    requires closure { IsWeakClosureOf closure.now (input_of_table input.now.table.now) }
+    requires room { records_of input.now.table.now ≤ length marks.old }
+    ensures { AreMarked (records_of input.now.table.now)
+        (IsReachedFromMarked (records_of input.now.table.now)
+        (IsWeak (cost_of input.now.table.now))
+        marks.old) marks.new }
+{
+    let n = input.n();
+    let reached = closure.reached_from(marks);
+    mark_bits(n, &reached, marks);
+}
+
+/// Marks each of the first `n` observations that has its bit.
+fn mark_bits(n: u32, row: &[u64; WORDS], marks: &mut [bool])
+    requires few { n ≤ RECORDS }
+    requires room { n ≤ length marks.old }
+    ensures { (t : ℕ) → t < n → IsMarked marks.new t
+        ↔ (IsMarked marks.old t ⊎ IsTrue (bit_in row.now t)) }
+{
+    for t in 0..n {
+        if is_set(row, t) {
+            marks[t as usize] = true;
         }
     }
 }

@@ -18,7 +18,7 @@ use Rattle.rp_farkas.specs.declared.entry.Entry.{Entry}
 use Rattle.rp_farkas.specs.declared.entry.Pair.{Pair}
 use Rattle.rp_farkas.proofs.Duality.{weak_duality}
 use Rattle.rp_farkas.proofs.Listings.{listed_total}
-use Rattle.rp_farkas.proofs.SumSteps.{listing_short, total-listing}
+use Rattle.rp_farkas.proofs.SumSteps.{total-listing}
 use Rattle.rp_table.specs.Sums.{sum_below}
 use Rattle.rp_table.proofs.SumsBelow.{sum_below-same}
 use Rattle.rp_patch.specs.Kinds.{AreAllOf, AreWhole, IsMixtureOf, IsPartialMixtureOf, Kinds, ProvesNoMixtureOf, all_units_weight, cells_weight, mixture_program, uses, weight_of, weight_using}
@@ -168,16 +168,6 @@ module _ (k : Kinds) where
       proves_shown (Wide step) h = absurd h
 
 -- ---- sizes
-
-pub few_parts : (kinds : List (List ℕ)) (es : List Entry) (cols : ℕ) → IsListing cols es → cols ≤ 8192 → length (shares_of kinds es) ≤ 8192
-few_parts kinds es cols listed few =
-    let short = listing_short cols es listed in
-    let size : length (shares_of kinds es) ≡ length es = length-parts kinds es in
-    omega (arith, short, size, few)
-  where
-    length-parts : (kinds : List (List ℕ)) (es : List Entry) → length (shares_of kinds es) ≡ length es
-    length-parts kinds [] = refl
-    length-parts kinds (e ∷ es) = ap suc (length-parts kinds es)
 
 pub fit_parts : (kinds : List (List ℕ)) (es : List Entry) (cols : ℕ) → IsListing cols es → All (λ part. FitsEvidence part.weight) (shares_of kinds es)
 fit_parts kinds es cols listed =

@@ -1,8 +1,6 @@
 //! The shares of the kinds that a point gives some weight.
-ghost use Rattle.std.specs.Prelude.{◌≡◌, ◌<◌, ◌≤◌, [], All, IfOk, length, slice_index_or};
+ghost use Rattle.std.specs.Prelude.{◌≡◌, ◌<◌, [], All, IfOk, length, slice_index_or};
 ghost use Rattle.rp_find_mixture.specs.Verdict.{shares_of};
-ghost use Rattle.rp_farkas.specs.Limits.{FitsEvidence};
-ghost use Rattle.rp_patch.specs.Kinds.{weight_of as weight_of_shares};
 
 use crate::listed::Listed;
 use rp_evidence::Share;
@@ -11,7 +9,7 @@ use rp_num::{NoMemory, Seq};
 use std::alloc::Global;
 
 /// The kind of an entry with its weight.
-fn share_of<L: Listed>(alloc: Global, listed: &L, entry: &Entry) -> Result<Share, NoMemory>
+fn make_share<L: Listed>(alloc: Global, listed: &L, entry: &Entry) -> Result<Share, NoMemory>
     requires { entry.now.at < length (L.listed listed.now) }
     ensures { IfOk result (λ share. share ≡ record {
       patches = slice_index_or (L.listed listed.now) entry.now.at [];
@@ -37,20 +35,7 @@ pub fn listed_shares<L: Listed>(
 {
     let mut shares = Vec::new(alloc);
     for entry in entries {
-        shares.push(share_of(alloc, listed, entry)?)?;
+        shares.push(make_share(alloc, listed, entry)?)?;
     }
     Ok(shares)
-}
-
-/// How much there is of all kinds.
-pub fn weight_of(shares: &[Share]) -> u128
-    requires few { length shares.now ≤ 8192 }
-    requires fits { All (λ share. FitsEvidence share.weight) shares.now }
-    ensures { result ≡ weight_of_shares shares.now }
-{
-    let mut weight = 0;
-    for share in shares {
-        weight += u128::from(share.weight);
-    }
-    weight
 }

@@ -6,10 +6,11 @@ ghost use Rattle.rp_patch.specs.Kinds.{AreAllOf, AreWhole, mixture_program};
 
 use crate::listed::Listed;
 use crate::program::MixtureProgram;
-use crate::shares::{listed_shares, weight_of};
+use crate::shares::listed_shares;
 use rp_evidence::RandomPart;
 use rp_farkas::Pair;
 use rp_num::{NoMemory, Seq};
+use rp_patch::weight_of_shares;
 use rp_simplex::{Outcome, maximize};
 use std::alloc::Global;
 
@@ -40,7 +41,7 @@ fn verdict_of_pair<L: Listed>(alloc: Global, listed: &L, pair: Pair) -> Result<R
 {
     let parts = listed_shares(alloc, listed, pair.y.as_slice())?;
     let whole = u128::from(pair.den) * u128::from(listed.total());
-    if weight_of(parts.as_slice()) == whole {
+    if weight_of_shares(parts.as_slice()) == whole {
         return Ok(RandomPart::Mixture {
             den: pair.den,
             parts: Seq::from_vec(parts),

@@ -24,7 +24,7 @@ pub(crate) fn read_item(alloc: Global, kind: Kind, value: &Value) -> Result<Opti
     match kind {
         Kind::Table => read_table_item(alloc, value),
         Kind::Random => match read_random(alloc, value)? {
-            Some(found) => Ok(Some(random(found))),
+            Some(entries) => Ok(Some(random(entries))),
             None => Ok(None),
         },
     }
@@ -55,35 +55,35 @@ fn read_table_item(alloc: Global, value: &Value) -> Result<Option<Item>, NoMemor
         None => {}
     }
     match read_demand(alloc, value)? {
-        Some(found) => return Ok(Some(demand(found))),
+        Some(entries) => return Ok(Some(demand(entries))),
         None => {}
     }
     match read_welfare(alloc, value)? {
-        Some(found) => Ok(Some(welfare(found))),
+        Some(entries) => Ok(Some(welfare(entries))),
         None => Ok(None),
     }
 }
 
 /// The item on demand at new prices that was found.
-fn demand(found: Demand) -> Item
-    ensures { result ≡ Item.Demand found.0 found.1 found.2 }
+fn demand(entries: Demand) -> Item
+    ensures { result ≡ Item.Demand entries.0 entries.1 entries.2 }
 {
-    let (prices, m, part) = found;
+    let (prices, m, part) = entries;
     Item::Demand { prices, m, part }
 }
 
 /// The item on welfare that was found.
-fn welfare(found: Welfare) -> Item
-    ensures { result ≡ Item.Welfare found.0 found.1 found.2 }
+fn welfare(entries: Welfare) -> Item
+    ensures { result ≡ Item.Welfare entries.0 entries.1 entries.2 }
 {
-    let (prices, of, part) = found;
+    let (prices, of, part) = entries;
     Item::Welfare { prices, of, part }
 }
 
 /// The item on random choices that was found.
-fn random(found: Random) -> Item
-    ensures { result ≡ Item.Random found.0 found.1 }
+fn random(entries: Random) -> Item
+    ensures { result ≡ Item.Random entries.0 entries.1 }
 {
-    let (total, part) = found;
+    let (total, part) = entries;
     Item::Random { total, part }
 }

@@ -61,7 +61,7 @@ impl Notation for Good {
 
     fn read(alloc: Global, value: &Value) -> Result<Option<GoodBounds>, NoMemory> {
         match read_object::<(AnyBound, (AnyBound, ()))>(alloc, &["lower", "upper"], value)? {
-            Some(found) => Ok(Some(both(found))),
+            Some(entries) => Ok(Some(both(entries))),
             None => Ok(None),
         }
     }
@@ -83,7 +83,7 @@ impl Notation for AnyBound {
 
     fn read(alloc: Global, value: &Value) -> Result<Option<Bound>, NoMemory> {
         match read_object::<PairFields>(alloc, &["den", "value", "x", "y"], value)? {
-            Some(found) => return Ok(Some(bound_with_pair(found))),
+            Some(entries) => return Ok(Some(bound_with_pair(entries))),
             None => {}
         }
         match read_object::<(Natural, ())>(alloc, &["withheld"], value)? {
@@ -156,7 +156,7 @@ impl Notation for Bundle {
 
     fn read(alloc: Global, value: &Value) -> Result<Option<Point>, NoMemory> {
         match read_object::<(Natural, (Seq<Natural>, ()))>(alloc, &["den", "num"], value)? {
-            Some(found) => Ok(Some(point(found))),
+            Some(entries) => Ok(Some(point(entries))),
             None => Ok(None),
         }
     }
@@ -172,27 +172,27 @@ pub fn point_value(alloc: Global, point: &Point) -> Result<Value, NoMemory>
 }
 
 /// The bound that was found with its pair.
-fn bound_with_pair(found: (u64, (Frac, (Seq<u64>, (Seq<Entry>, ()))))) -> Bound
-    ensures { result ≡ Bound.Shown found.1.0
-        (record { den = found.0; y = found.1.1.1.0; x = found.1.1.0 }) }
+fn bound_with_pair(entries: (u64, (Frac, (Seq<u64>, (Seq<Entry>, ()))))) -> Bound
+    ensures { result ≡ Bound.Shown entries.1.0
+        (record { den = entries.0; y = entries.1.1.1.0; x = entries.1.1.0 }) }
 {
-    let (den, (value, (x, (y, ())))) = found;
+    let (den, (value, (x, (y, ())))) = entries;
     let pair = Pair { den, y, x };
     Bound::Shown { value, pair }
 }
 
 /// Both bounds that were found.
-fn both(found: (Bound, (Bound, ()))) -> GoodBounds
-    ensures { result ≡ record { lower = found.0; upper = found.1.0 } }
+fn both(entries: (Bound, (Bound, ()))) -> GoodBounds
+    ensures { result ≡ record { lower = entries.0; upper = entries.1.0 } }
 {
-    let (lower, (upper, ())) = found;
+    let (lower, (upper, ())) = entries;
     GoodBounds { lower, upper }
 }
 
 /// The point that was found.
-fn point(found: (u64, (Seq<u64>, ()))) -> Point
-    ensures { result ≡ record { den = found.0; num = found.1.0 } }
+fn point(entries: (u64, (Seq<u64>, ()))) -> Point
+    ensures { result ≡ record { den = entries.0; num = entries.1.0 } }
 {
-    let (den, (num, ())) = found;
+    let (den, (num, ())) = entries;
     Point { den, num }
 }

@@ -123,11 +123,11 @@ pub fn read_demand(alloc: Global, value: &Value) -> Result<Option<Demand>, NoMem
         (view value.now) o) }
 {
     match read_object::<BoundsFields>(alloc, &BOUNDS, value)? {
-        Some(found) => return Ok(Some(bounds(found))),
+        Some(entries) => return Ok(Some(bounds(entries))),
         None => {}
     }
     match read_object::<CycleFields>(alloc, &["cycle", "expenditure", "item", "prices"], value)? {
-        Some(found) => Ok(Some(no_model(found))),
+        Some(entries) => Ok(Some(no_model(entries))),
         None => Ok(None),
     }
 }
@@ -166,14 +166,14 @@ type FoundBounds = (Seq<u32>, (u64, (Seq<GoodBounds>, (Point, FoundPrices))));
 type FoundPrices = ((), (Seq<u32>, (Seq<u32>, ())));
 
 /// The bounds that were found.
-fn bounds(found: FoundBounds) -> Demand
+fn bounds(entries: FoundBounds) -> Demand
     ensures { result ≡ (
-      found.1.1.1.1.1.0,
-      found.1.0,
-      DemandPart.Bounds found.0 found.1.1.1.1.1.1.0 found.1.1.1.0 found.1.1.0,
+      entries.1.1.1.1.1.0,
+      entries.1.0,
+      DemandPart.Bounds entries.0 entries.1.1.1.1.1.1.0 entries.1.1.1.0 entries.1.1.0,
     ) }
 {
-    let (below, (m, (goods, (inner, ((), (prices, (strict, ()))))))) = found;
+    let (below, (m, (goods, (inner, ((), (prices, (strict, ()))))))) = entries;
     let evidence = DemandPart::Bounds {
         below,
         strict,
@@ -184,9 +184,9 @@ fn bounds(found: FoundBounds) -> Demand
 }
 
 /// The violation that was found.
-fn no_model(found: (Seq<u32>, (u64, ((), (Seq<u32>, ()))))) -> Demand
-    ensures { result ≡ (found.1.1.1.0, found.1.0, DemandPart.NoModel found.0) }
+fn no_model(entries: (Seq<u32>, (u64, ((), (Seq<u32>, ()))))) -> Demand
+    ensures { result ≡ (entries.1.1.1.0, entries.1.0, DemandPart.NoModel entries.0) }
 {
-    let (cycle, (m, ((), (prices, ())))) = found;
+    let (cycle, (m, ((), (prices, ())))) = entries;
     (prices, m, DemandPart::NoModel(cycle))
 }

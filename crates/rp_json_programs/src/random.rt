@@ -37,7 +37,7 @@ impl Notation for TypeShare {
 
     fn read(alloc: Global, value: &Value) -> Result<Option<Share>, NoMemory> {
         match read_array::<(Seq<Observation>, (Natural, ()))>(alloc, value)? {
-            Some(found) => Ok(Some(share(found))),
+            Some(entries) => Ok(Some(share(entries))),
             None => Ok(None),
         }
     }
@@ -110,7 +110,7 @@ pub fn read_random(alloc: Global, value: &Value) -> Result<Option<Random>, NoMem
         (view value.now) o) }
 {
     match read_object::<MixtureFields>(alloc, &["den", "item", "parts", "total"], value)? {
-        Some(found) => return Ok(Some(mixture(found))),
+        Some(entries) => return Ok(Some(mixture(entries))),
         None => {}
     }
     match read_object::<ViolatedFields>(
@@ -118,7 +118,7 @@ pub fn read_random(alloc: Global, value: &Value) -> Result<Option<Random>, NoMem
         &["den", "item", "parts", "total", "weights"],
         value,
     )? {
-        Some(found) => return Ok(Some(violated(found))),
+        Some(entries) => return Ok(Some(violated(entries))),
         None => {}
     }
     match read_object::<WideFields>(alloc, &["item", "total", "withheld"], value)? {
@@ -142,27 +142,30 @@ type ViolatedFields = (
 /// The item's name, the total and the step.
 type WideFields = (Named<RandomTag>, (Natural, (Natural, ())));
 
-/// The part that was found.
-fn share(found: (Seq<u32>, (u64, ()))) -> Share
-    ensures { result ≡ record { patches = found.0; weight = found.1.0 } }
+/// The share that was found.
+fn share(entries: (Seq<u32>, (u64, ()))) -> Share
+    ensures { result ≡ record { patches = entries.0; weight = entries.1.0 } }
 {
-    let (patches, (weight, ())) = found;
+    let (patches, (weight, ())) = entries;
     Share { patches, weight }
 }
 
 /// The mixture that was found.
-fn mixture(found: (u64, ((), (Seq<Share>, (u64, ()))))) -> Random
-    ensures { result ≡ (found.1.1.1.0, RandomPart.Mixture found.0 found.1.1.0) }
+fn mixture(entries: (u64, ((), (Seq<Share>, (u64, ()))))) -> Random
+    ensures { result ≡ (entries.1.1.1.0, RandomPart.Mixture entries.0 entries.1.1.0) }
 {
-    let (den, ((), (parts, (total, ())))) = found;
+    let (den, ((), (parts, (total, ())))) = entries;
     (total, RandomPart::Mixture { den, parts })
 }
 
 /// The partial mixture that was found, with the weights of the patches.
-fn violated(found: (u64, ((), (Seq<Share>, (u64, (Seq<u64>, ())))))) -> Random
-    ensures { result ≡ (found.1.1.1.0, RandomPart.Violated found.0 found.1.1.0 found.1.1.1.1.0) }
+fn violated(entries: (u64, ((), (Seq<Share>, (u64, (Seq<u64>, ())))))) -> Random
+    ensures { result ≡ (
+      entries.1.1.1.0,
+      RandomPart.Violated entries.0 entries.1.1.0 entries.1.1.1.1.0,
+    ) }
 {
-    let (den, ((), (parts, (total, (weights, ()))))) = found;
+    let (den, ((), (parts, (total, (weights, ()))))) = entries;
     (
         total,
         RandomPart::Violated {

@@ -109,11 +109,11 @@ pub fn read_welfare(alloc: Global, value: &Value) -> Result<Option<Welfare>, NoM
         (λ w. FitsWelfare w.0 w.1 w.2) (view value.now) o) }
 {
     match read_object::<BoundsFields>(alloc, &BOUNDS, value)? {
-        Some(found) => return Ok(Some(bounds(found))),
+        Some(entries) => return Ok(Some(bounds(entries))),
         None => {}
     }
     match read_object::<CycleFields>(alloc, &["cycle", "item", "observation", "prices"], value)? {
-        Some(found) => Ok(Some(no_model(found))),
+        Some(entries) => Ok(Some(no_model(entries))),
         None => Ok(None),
     }
 }
@@ -138,21 +138,21 @@ type CycleFields = (
 type FoundBounds = (u32, ((), (Bound, (u32, (Seq<u32>, (u64, ()))))));
 
 /// The bounds that were found.
-fn bounds(found: FoundBounds) -> Welfare
+fn bounds(entries: FoundBounds) -> Welfare
     ensures { result ≡ (
-      found.1.1.1.1.0,
-      found.1.1.1.0,
-      WelfarePart.Bounds found.1.1.1.1.1.0 found.0 found.1.1.0,
+      entries.1.1.1.1.0,
+      entries.1.1.1.0,
+      WelfarePart.Bounds entries.1.1.1.1.1.0 entries.0 entries.1.1.0,
     ) }
 {
-    let (at, ((), (lower, (of, (prices, (upper, ())))))) = found;
+    let (at, ((), (lower, (of, (prices, (upper, ())))))) = entries;
     (prices, of, WelfarePart::Bounds { upper, at, lower })
 }
 
 /// The violation that was found.
-fn no_model(found: (Seq<u32>, ((), (u32, (Seq<u32>, ()))))) -> Welfare
-    ensures { result ≡ (found.1.1.1.0, found.1.1.0, WelfarePart.NoModel found.0) }
+fn no_model(entries: (Seq<u32>, ((), (u32, (Seq<u32>, ()))))) -> Welfare
+    ensures { result ≡ (entries.1.1.1.0, entries.1.1.0, WelfarePart.NoModel entries.0) }
 {
-    let (cycle, ((), (of, (prices, ())))) = found;
+    let (cycle, ((), (of, (prices, ())))) = entries;
     (prices, of, WelfarePart::NoModel(cycle))
 }

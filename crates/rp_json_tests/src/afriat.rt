@@ -70,7 +70,7 @@ pub fn read_afriat(alloc: Global, value: &Value) -> Result<Option<AfriatPart>, N
     ensures { IfOk result (λ o. IsRead afriat_value FitsAfriat (view value.now) o) }
 {
     match read_object::<ModelFields>(alloc, &["item", "lambda", "utility"], value)? {
-        Some(found) => return Ok(Some(model(found))),
+        Some(entries) => return Ok(Some(model(entries))),
         None => {}
     }
     match read_object::<CycleFields>(alloc, &["cycle", "item"], value)? {
@@ -95,9 +95,9 @@ type CycleFields = (Seq<Observation>, (Named<AfriatTag>, ()));
 type WideFields = (Named<AfriatTag>, (Observation, ()));
 
 /// The model whose numbers were found.
-fn model(found: ((), (Seq<u64>, (Seq<i128>, ())))) -> AfriatPart
-    ensures { result ≡ AfriatPart.Model (record { u = found.1.1.0; lambda = found.1.0 }) }
+fn model(entries: ((), (Seq<u64>, (Seq<i128>, ())))) -> AfriatPart
+    ensures { result ≡ AfriatPart.Model (record { u = entries.1.1.0; lambda = entries.1.0 }) }
 {
-    let ((), (lambda, (u, ()))) = found;
+    let ((), (lambda, (u, ()))) = entries;
     AfriatPart::Model(Numbers { u, lambda })
 }

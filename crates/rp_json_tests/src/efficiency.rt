@@ -83,11 +83,11 @@ pub fn read_efficiency(alloc: Global, value: &Value) -> Result<Option<Efficiency
     ensures { IfOk result (λ o. IsRead efficiency_value FitsEfficiency (view value.now) o) }
 {
     match read_object::<AttainedFields>(alloc, &ATTAINED, value)? {
-        Some(found) => return Ok(Some(attained(found))),
+        Some(entries) => return Ok(Some(attained(entries))),
         None => {}
     }
     match read_object::<MissedFields>(alloc, &MISSED, value)? {
-        Some(found) => Ok(Some(missed(found))),
+        Some(entries) => Ok(Some(missed(entries))),
         None => Ok(None),
     }
 }
@@ -153,15 +153,15 @@ fn level_from(f: Frac) -> Option<Level>
 type FoundBelow = (Seq<u32>, ((), (Level, ())));
 
 /// The index that was found, with ranks at it.
-fn attained(found: (Seq<u32>, (Seq<u32>, FoundBelow))) -> Efficiency
+fn attained(entries: (Seq<u32>, (Seq<u32>, FoundBelow))) -> Efficiency
     ensures { result ≡ record {
-      level = found.1.1.1.1.0;
-      below = found.1.1.0;
-      above = found.0;
-      at = Garp.Ranks found.1.0;
+      level = entries.1.1.1.1.0;
+      below = entries.1.1.0;
+      above = entries.0;
+      at = Garp.Ranks entries.1.0;
     } }
 {
-    let (above, (ranks, (below, ((), (level, ()))))) = found;
+    let (above, (ranks, (below, ((), (level, ()))))) = entries;
     let at = Garp::Ranks(ranks);
     Efficiency {
         level,
@@ -172,15 +172,15 @@ fn attained(found: (Seq<u32>, (Seq<u32>, FoundBelow))) -> Efficiency
 }
 
 /// The index that was found, with a cycle at it.
-fn missed(found: (Seq<u32>, (Seq<u32>, FoundBelow))) -> Efficiency
+fn missed(entries: (Seq<u32>, (Seq<u32>, FoundBelow))) -> Efficiency
     ensures { result ≡ record {
-      level = found.1.1.1.1.0;
-      below = found.1.1.0;
-      above = found.0;
-      at = Garp.Cycle found.1.0;
+      level = entries.1.1.1.1.0;
+      below = entries.1.1.0;
+      above = entries.0;
+      at = Garp.Cycle entries.1.0;
     } }
 {
-    let (above, (cycle, (below, ((), (level, ()))))) = found;
+    let (above, (cycle, (below, ((), (level, ()))))) = entries;
     let at = Garp::Cycle(cycle);
     Efficiency {
         level,

@@ -91,7 +91,7 @@ pub fn read_homothetic(alloc: Global, value: &Value) -> Result<Option<Homothetic
         None => {}
     }
     match read_object::<CycleFields>(alloc, &["cycle", "item", "start"], value)? {
-        Some(found) => return Ok(Some(cycle(found))),
+        Some(entries) => return Ok(Some(cycle(entries))),
         None => {}
     }
     match read_object::<WideFields>(alloc, &["item", "withheld"], value)? {
@@ -135,9 +135,9 @@ impl Notation for Place {
 }
 
 /// The cycle that was found, with its start.
-fn cycle(found: (Seq<u32>, ((), (Frac, ())))) -> Homothetic
-    ensures { result ≡ Homothetic.Cycle found.1.1.0 found.0 }
+fn cycle(entries: (Seq<u32>, ((), (Frac, ())))) -> Homothetic
+    ensures { result ≡ Homothetic.Cycle entries.1.1.0 entries.0 }
 {
-    let (steps, ((), (start, ()))) = found;
+    let (steps, ((), (start, ()))) = entries;
     Homothetic::Cycle { start, steps }
 }

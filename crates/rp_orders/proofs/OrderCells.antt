@@ -4,7 +4,7 @@ use Rattle.std.proofs.lemmas.Bool.{cases_eq, cases_lt, eq-eqb, eqb-true, ne_eqb}
 use Rattle.std.proofs.lemmas.Int.{ints}
 use Rattle.std.proofs.Math.Nat.{pow-le-pow_right}
 use Rattle.std.specs.Int.RustNames.{unsigned_abs}
-use Rattle.rp_farkas.specs.Limits.{IsWithinLimits, largest_entry}
+use Rattle.rp_farkas.specs.Limits.{IsWithinLimits, largest_entry, most_columns}
 use Rattle.rp_num.proofs.BelowLemmas.{get-listed, length-listed}
 use Rattle.rp_table.specs.Sums.{sum_below}
 use Rattle.rp_menu.specs.MenuLists.{IsMenuList, MenuList}
@@ -160,7 +160,7 @@ module _ (list : MenuList) (is : IsMenuList list) where
           omega (arith, here, term, all, are.few)
 
       -- the program of any of these orders is within the limits
-      pub within_limits : (orders : List (List ℕ)) → length orders ≤ 8192 → IsWithinLimits (mixture_program (orders_over list units) orders)
+      pub within_limits : (orders : List (List ℕ)) → length orders ≤ most_columns → IsWithinLimits (mixture_program (orders_over list units) orders)
       within_limits orders few = record {
         rows_at_most = omega (arith, is.grouped.few);
         cols_at_most = omega (arith, few);

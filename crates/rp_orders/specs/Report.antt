@@ -38,15 +38,15 @@ counts_text list orders total =
     ++ codes " total " ++ decimal total)
 
 -- how much there is of the parts over the denominator, as a share of the total, in lowest terms
-abbrev pub share_of : Units → ℕ → List Share → Fraction
-share_of units den parts = lowest_terms (weight_of parts) (den * units.total)
+abbrev pub share_of_parts : Units → ℕ → List Share → Fraction
+share_of_parts units den parts = lowest_terms (weight_of parts) (den * units.total)
 
 -- the evidence: a mixture; or the greatest share, with the weights that show it and a partial mixture that has it; or
 -- the step at which the run of the program passes its width
 abbrev pub evidence_text : Units → RandomPart → List ℕ
 evidence_text units (Mixture den parts) = mixture_text (codes "menus") letter_text den parts
 evidence_text units (Violated den parts weights) =
-    violation_text (codes "menus") letter_text (share_of units den parts) den weights parts
+    violation_text (codes "menus") letter_text (share_of_parts units den parts) den weights parts
 evidence_text units (Wide step) = line_of (codes "menus withheld " ++ decimal step)
 
 -- a sum, of letter x at a menu

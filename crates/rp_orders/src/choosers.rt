@@ -8,13 +8,14 @@ use crate::lists::{is_order, list_at, lists};
 use crate::picks::{picks, picks_cells, weight_picked};
 use rp_check_mixture::Choosers;
 use rp_menu::Menus;
+use rp_patch::CellUnits;
 use rp_patch::apportionment::Units;
 
 /// The orders over menus with units of their cells.
 #[derive(Drop)]
 pub struct OrdersOver<'a> {
-    seen: &'a Menus,
-    units: &'a Units,
+    pub(crate) seen: &'a Menus,
+    pub(crate) units: &'a Units,
     ghost are: { AreUnitsOf seen.now units.now },
 }
 
@@ -57,7 +58,7 @@ fn weighs(seen: &Menus, least: u64, weights: &[u64], list: &[u32]) -> bool
     weight_picked(seen, list, weights) >= u128::from(least)
 }
 
-impl Choosers for OrdersOver<'_> {
+impl CellUnits for OrdersOver<'_> {
     ghost use Rattle.rp_orders.specs.OrderKinds.{orders_over};
 
     ghost kinds = { λ o. orders_over o.seen.now o.units.now };
@@ -74,7 +75,9 @@ impl Choosers for OrdersOver<'_> {
     fn total(&self) -> u64 {
         self.units.total
     }
+}
 
+impl Choosers for OrdersOver<'_> {
     fn is_formed(&self, list: &[u32]) -> bool {
         is_order(self.seen.letters(), list)
     }

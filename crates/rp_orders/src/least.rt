@@ -37,14 +37,14 @@ pub(crate) fn least_sum(seen: &Menus, units: &Units) -> LeastSum
 }
 
 /// The least of one that was found on the menus before a menu and the sums at that menu.
-fn least_with(seen: &Menus, units: &Units, menu: u32, found: LeastSum) -> LeastSum
+fn least_with(seen: &Menus, units: &Units, menu: u32, earlier: LeastSum) -> LeastSum
     requires units { AreUnitsOf seen.now units.now }
     requires complete { AreComplete seen.now }
     requires within { menu < 2 ^ seen.now.letters }
-    requires before { IsLeastBefore seen.now units.now menu 0 found }
+    requires before { IsLeastBefore seen.now units.now menu 0 earlier }
     ensures { IsLeastBefore seen.now units.now (menu + 1) 0 result }
 {
-    let mut least = found;
+    let mut least = earlier;
     for letter in 0..LETTERS {
         least = lesser(seen, units, menu, letter, least);
     }
@@ -53,20 +53,20 @@ fn least_with(seen: &Menus, units: &Units, menu: u32, found: LeastSum) -> LeastS
 }
 
 /// The lesser of one that was found before a letter at a menu and the sum of that, where the menu holds it.
-fn lesser(seen: &Menus, units: &Units, menu: u32, letter: u32, found: LeastSum) -> LeastSum
+fn lesser(seen: &Menus, units: &Units, menu: u32, letter: u32, least: LeastSum) -> LeastSum
     requires units { AreUnitsOf seen.now units.now }
     requires complete { AreComplete seen.now }
     requires within { menu < 2 ^ seen.now.letters }
-    requires before { IsLeastBefore seen.now units.now menu letter found }
+    requires before { IsLeastBefore seen.now units.now menu letter least }
     ensures { IsLeastBefore seen.now units.now menu (letter + 1) result }
 {
     if !has_letter(menu, letter) {
-        return found;
+        return least;
     }
     let sum = menu_sum(seen, units, letter, menu);
-    if sum < found.sum {
+    if sum < least.sum {
         LeastSum { sum, letter, menu }
     } else {
-        found
+        least
     }
 }

@@ -1,5 +1,5 @@
 //! The report on choices from menus.
-ghost use Rattle.std.specs.Prelude.{◌≡◌, ◌≤◌, ◌<◌, ◌*◌, ◌^◌, ◌++◌, All, IfOk, List, OnOk, ℕ, length};
+ghost use Rattle.std.specs.Prelude.{◌≡◌, ◌≤◌, ◌<◌, ◌*◌, ◌^◌, ◌++◌, IfOk, List, OnOk, ℕ, length};
 ghost use Rattle.rp_menu.specs.declared.TheConstants.{LETTERS};
 ghost use Rattle.rp_orders.specs.MenuEvidence.{PassesMenus};
 ghost use Rattle.rp_orders.specs.OrderKinds.{orders_over};
@@ -10,6 +10,7 @@ ghost use Rattle.rp_farkas.specs.Limits.{FitsEvidence};
 ghost use Rattle.rp_patch.specs.Kinds.{all_units_weight};
 ghost use Rattle.rp_print.specs.LowestTerms.{lowest_terms};
 
+use crate::choosers::OrdersOver;
 use crate::least::{LeastSum, least_sum};
 use crate::orders::all_orders;
 use crate::sums::is_complete;
@@ -17,6 +18,7 @@ use rp_evidence::RandomPart;
 use rp_menu::{LETTERS, Menus, has_letter};
 use rp_num::{Frac, NoMemory};
 use rp_patch::apportionment::Units;
+use rp_patch::weight_of_units;
 use rp_print::{
     LongNumber, Number, Print, Signed, lowest_terms, push_after, push_apportioned, push_mixture,
     push_number_line, push_violation,
@@ -117,28 +119,12 @@ fn share(seen: &Menus, units: &Units, den: u64, weights: &[u64]) -> Frac
     requires fraction { 1 ≤ den }
     requires den_fits { FitsEvidence den }
     requires one_each { length weights.now ≡ length seen.now.groups }
-    requires weights_fit { All FitsEvidence weights.now }
     ensures { result ≡ lowest_terms
         (all_units_weight (orders_over seen.now units.now) weights.now) (den * units.now.total) }
 {
     let whole = u128::from(den) * u128::from(units.total);
-    lowest_terms(weight_of_units(seen, units, weights), whole)
-}
-
-/// What the units of all cells weigh together.
-fn weight_of_units(seen: &Menus, units: &Units, weights: &[u64]) -> u128
-    requires units { AreUnitsOf seen.now units.now }
-    requires one_each { length weights.now ≡ length seen.now.groups }
-    requires weights_fit { All FitsEvidence weights.now }
-    ensures exact { result ≡ all_units_weight (orders_over seen.now units.now) weights.now }
-    ensures fits { result ≤ 64 * (2 ^ 63 * 2 ^ 30) }
-{
-    prove!(seen.letters() <= LETTERS);
-    let mut weight = 0;
-    for i in 0..seen.cells() as usize {
-        weight += u128::from(weights[i]) * u128::from(units.units.as_slice()[i]);
-    }
-    weight
+    let weight = weight_of_units(&OrdersOver::make(seen, units), weights);
+    lowest_terms(weight, whole)
 }
 
 /// Appends the line of the least sum, where the data are complete.

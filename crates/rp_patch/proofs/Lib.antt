@@ -24,4 +24,5 @@ pub mod TypeKinds
 pub mod Sums
 pub mod TallyMaps
 pub mod TallyEntries
+mod UnitsWeight
 pub mod Examples

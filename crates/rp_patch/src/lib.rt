@@ -3,6 +3,7 @@
 #![tactic(auto)]
 
 pub mod apportionment;
+mod cells;
 mod chosen;
 mod fault;
 mod laws;
@@ -15,8 +16,10 @@ mod sets;
 mod signs;
 mod tally;
 mod totals;
+mod weights;
 
 pub use apportionment::apportion;
+pub use cells::CellUnits;
 pub use fault::{ApportionFault, PatchFault};
 pub use laws::{
     patches_are_determined, patches_are_numbered_by_first_choice,
@@ -24,6 +27,7 @@ pub use laws::{
 };
 pub use limits::limits_in_numbers;
 pub use patch_list::Patches;
+pub use weights::{weight_of_shares, weight_of_units};
 
 /// The most patches of all budgets together.
 pub const PATCHES: u32 = 48;

@@ -6,7 +6,7 @@ ghost use Rattle.rp_types.specs.Listed.{types_of};
 ghost use Rattle.rp_types.specs.declared.TheConstants.{TYPES};
 
 use rp_find_mixture::Listed;
-use rp_patch::Patches;
+use rp_patch::{CellUnits, Patches};
 use rp_types::Rational;
 
 /// Rational types on patches, in a list.
@@ -29,15 +29,10 @@ impl<'a> ListedTypes<'a> {
     }
 }
 
-impl Listed for ListedTypes<'_> {
+impl CellUnits for ListedTypes<'_> {
     ghost use Rattle.rp_patch.specs.Mixtures.{types_on};
-    ghost use Rattle.rp_types.specs.Listed.{types_of};
 
     ghost kinds = { λ t. types_on t.patches.now };
-
-    ghost listed = { λ t. types_of t.types.now };
-
-    ghost within_limits = { λ t. t.within };
 
     fn cells(&self) -> u32 {
         self.patches.count()
@@ -51,6 +46,14 @@ impl Listed for ListedTypes<'_> {
     fn total(&self) -> u64 {
         self.patches.total()
     }
+}
+
+impl Listed for ListedTypes<'_> {
+    ghost use Rattle.rp_types.specs.Listed.{types_of};
+
+    ghost listed = { λ t. types_of t.types.now };
+
+    ghost within_limits = { λ t. t.within };
 
     fn count(&self) -> u32 {
         self.types.len() as u32

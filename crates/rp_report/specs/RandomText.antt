@@ -18,15 +18,15 @@ use Rattle.rp_print.specs.LowestTerms.{lowest_terms}
 use Rattle.rp_print.specs.MixtureText.{apportioned_text, mixture_text, violation_text}
 
 -- what the units of the patches weigh over the denominator, as a share of the total, in lowest terms
-abbrev pub share_of : PatchList → ℕ → List ℕ → Fraction
-share_of p den weights = lowest_terms (units_weight p weights) (den * p.total)
+abbrev pub share_of_units : PatchList → ℕ → List ℕ → Fraction
+share_of_units p den weights = lowest_terms (units_weight p weights) (den * p.total)
 
 -- evidence on random choices, its patches counted from 1: a mixture; or the greatest share, with the weights that show
 -- it and a partial mixture that has it; or the step at which the run of the program passes its width
 abbrev pub random_text : PatchList → RandomPart → List ℕ
 random_text p (Mixture den parts) = mixture_text (codes "random") ordinal_text den parts
 random_text p (Violated den parts weights) =
-    violation_text (codes "random") ordinal_text (share_of p den weights) den weights parts
+    violation_text (codes "random") ordinal_text (share_of_units p den weights) den weights parts
 random_text p (Wide step) = line_of (codes "random withheld " ++ decimal step)
 
 -- the patches, of which so many types are rational

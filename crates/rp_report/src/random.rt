@@ -1,13 +1,11 @@
-ghost use Rattle.std.specs.Prelude.{◌≡◌, ◌≤◌, ◌*◌, ◌^◌, ◌++◌, All, Ok, OnOk, length};
-ghost use Rattle.rp_patch.specs.Mixtures.{units_weight};
+ghost use Rattle.std.specs.Prelude.{◌≡◌, ◌≤◌, ◌++◌, Ok, OnOk, length};
 ghost use Rattle.rp_farkas.specs.Limits.{FitsEvidence};
 ghost use Rattle.rp_patch.specs.RandomFailure.{RandomPartFails};
-ghost use Rattle.rp_patch.specs.declared.TheConstants.{UNITS};
-ghost use Rattle.rp_report.specs.RandomText.{random_text, share_of};
+ghost use Rattle.rp_report.specs.RandomText.{random_text, share_of_units};
 
 use rp_evidence::RandomPart;
 use rp_num::{Frac, NoMemory};
-use rp_patch::Patches;
+use rp_patch::{Patches, weight_of_units};
 use rp_print::{Ordinal, lowest_terms, push_mixture, push_number_line, push_violation};
 use std::alloc::Global;
 
@@ -51,25 +49,9 @@ fn share(patches: &Patches, den: u64, weights: &[u64]) -> Frac
     requires fraction { 1 ≤ den }
     requires den_fits { FitsEvidence den }
     requires one_each { length weights.now ≡ length patches.now.patches }
-    requires weights_fit { All FitsEvidence weights.now }
-    ensures { result ≡ share_of patches.now den weights.now }
+    ensures { result ≡ share_of_units patches.now den weights.now }
 {
     prove!(patches.budgets() >= 1);
     let whole = u128::from(den) * u128::from(patches.total());
     lowest_terms(weight_of_units(patches, weights), whole)
-}
-
-/// What the units of all patches weigh together.
-fn weight_of_units(patches: &Patches, weights: &[u64]) -> u128
-    requires few { patches.now.total ≤ UNITS }
-    requires one_each { length weights.now ≡ length patches.now.patches }
-    requires weights_fit { All FitsEvidence weights.now }
-    ensures exact { result ≡ units_weight patches.now weights.now }
-    ensures fits { result ≤ 48 * (2 ^ 63 * 2 ^ 30) }
-{
-    let mut weight = 0;
-    for i in 0..patches.count() {
-        weight += u128::from(weights[i as usize]) * u128::from(patches.units(i));
-    }
-    weight
 }

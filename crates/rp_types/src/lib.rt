@@ -11,7 +11,8 @@ mod types;
 pub use fault::TypesFault;
 pub use laws::rational_types_are_determined;
 pub use limits::limits_in_numbers;
-pub use types::{Rational, rational_types};
+pub use search::rational_types;
+pub use types::Rational;
 
 /// The largest product of the numbers of patches of the budgets.
 pub const COMBINATIONS: u32 = 1 << 20;

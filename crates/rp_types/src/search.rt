@@ -1,10 +1,13 @@
 //! All rational types by a search, depth first over the budgets, that leaves a partial type with a violation.
-ghost use Rattle.std.specs.Prelude.{◌≡◌, IfErr, OnOk};
+ghost use Rattle.std.specs.Prelude.{◌≡◌, ◌≤◌, IfErr, IfOk, OnOk, length};
 ghost use Rattle.rp_patch.specs.PartialTypes.{IsPartialType, taken_in};
+ghost use Rattle.rp_patch.specs.Types.{AreRationalTypes, combinations};
 ghost use Rattle.rp_types.specs.InnerListed.{AreListedBefore, AreListedThrough, SaysMore};
+ghost use Rattle.rp_types.specs.Listed.{SaysWhy, types_of};
 
+use crate::combinations::test_combinations;
 use crate::types::Rational;
-use crate::{TYPES, TypesFault};
+use crate::{COMBINATIONS, TYPES, TypesFault};
 use rp_num::Seq;
 use rp_patch::Patches;
 use rp_patch::partial_type::PartialType;
@@ -14,21 +17,21 @@ use std::alloc::Global;
 fn push_type(
     alloc: Global,
     patches: &Patches,
-    part: &PartialType,
+    partial: &PartialType,
     types: &mut Vec<Rational>,
 ) -> Result<(), TypesFault>
-    requires part { IsPartialType patches.now part.now }
-    requires whole { part.now.taken ≡ patches.now.budgets }
-    requires so_far { AreListedBefore patches.now (taken_in part.now) types.old.items }
+    requires partial { IsPartialType patches.now partial.now }
+    requires whole { partial.now.taken ≡ patches.now.budgets }
+    requires so_far { AreListedBefore patches.now (taken_in partial.now) types.old.items }
     ensures listed { OnOk result
-        (AreListedThrough patches.now (taken_in part.now) types.new.items) }
+        (AreListedThrough patches.now (taken_in partial.now) types.new.items) }
     ensures refused { IfErr result (SaysMore patches.now) }
 {
     prove!(patches.budgets() <= 48);
     if types.len() == TYPES as usize {
         return Err(TypesFault::TooManyTypes);
     }
-    let taken = Vec::from_slice(alloc, part.patches())?;
+    let taken = Vec::from_slice(alloc, partial.patches())?;
     types.push(Rational {
         patches: Seq::from_vec(taken),
     })?;
@@ -39,22 +42,37 @@ fn push_type(
 pub fn extend(
     alloc: Global,
     patches: &Patches,
-    part: &PartialType,
+    partial: &PartialType,
     types: &mut Vec<Rational>,
 ) -> Result<(), TypesFault>
-    requires part { IsPartialType patches.now part.now }
-    requires so_far { AreListedBefore patches.now (taken_in part.now) types.old.items }
+    requires partial { IsPartialType patches.now partial.now }
+    requires so_far { AreListedBefore patches.now (taken_in partial.now) types.old.items }
     ensures listed { OnOk result
-        (AreListedThrough patches.now (taken_in part.now) types.new.items) }
+        (AreListedThrough patches.now (taken_in partial.now) types.new.items) }
     ensures refused { IfErr result (SaysMore patches.now) }
 {
-    if part.taken == patches.budgets() {
-        return push_type(alloc, patches, part, types);
+    if partial.taken == patches.budgets() {
+        return push_type(alloc, patches, partial, types);
     }
     for i in 0..patches.count() {
-        if let Some(next) = part.with(patches, i) {
+        if let Some(next) = partial.with(patches, i) {
             extend(alloc, patches, &next, types)?;
         }
     }
     Ok(())
+}
+
+/// All rational types, in lexicographic order of their patches.
+pub fn rational_types(alloc: Global, patches: &Patches) -> Result<Seq<Rational>, TypesFault>
+    ensures all { IfOk result (λ types. AreRationalTypes patches.now (types_of types)) }
+    ensures few { IfOk result (λ types. length types ≤ TYPES) }
+    ensures within { IfOk result
+        (λ _. combinations patches.now patches.now.budgets ≤ COMBINATIONS) }
+    ensures refused { IfErr result (SaysWhy patches.now) }
+{
+    test_combinations(patches)?;
+    let mut types = Vec::new(alloc);
+    let partial = PartialType::new(patches);
+    extend(alloc, patches, &partial, &mut types)?;
+    Ok(Seq::from_vec(types))
 }

@@ -6,14 +6,14 @@ use Rattle.rp_check_mixture.proofs.evidence.check_evidence.Goals as goal
 
 pub returns-in-Mixture : goal.returns-in-Mixture
 returns-in-Mixture g c =
-    let k = g.C.Choosers.kinds c.args.choosers.now in
+    let k = g.C.CellUnits.kinds c.args.choosers.now in
     let r = c.check_mixture.result in
     subst (λ (evidence : RandomPart). EvidenceFailsOf k evidence r) (sym c.in-Mixture.is)
     (subst (λ (parts : List Share). MixtureFailsOf k c.in-Mixture.den parts r) c.as_slice.ensures c.check_mixture.ensures)
 
 pub returns-in-Violated : goal.returns-in-Violated
 returns-in-Violated g c =
-    let k = g.C.Choosers.kinds c.args.choosers.now in
+    let k = g.C.CellUnits.kinds c.args.choosers.now in
     let r = c.check_no_mixture.result in
     let v = c.in-Violated in
     subst (λ (evidence : RandomPart). EvidenceFailsOf k evidence r) (sym v.is)

@@ -6,7 +6,7 @@ use Rattle.rp_check_mixture.proofs.evidence.check_share.Goals as goal
 
 pub returns-then-not-is_kind : goal.returns-then-not-is_kind
 returns-then-not-is_kind g c =
-    let k = g.C.Choosers.kinds c.args.choosers.now in
+    let k = g.C.CellUnits.kinds c.args.choosers.now in
     let share = c.index-shares-k.result in
     no_kind k c.args.shares.now c.args.k share c.fails-then-not-is_kind.result
     (get_or_read c.args.shares.now c.args.k share c.requires c.index-shares-k.is (record { patches = []; weight = 0 }))

@@ -7,7 +7,7 @@ use Rattle.rp_check_mixture.proofs.evidence.weight_on.Goals.{then-uses, else-use
 pub loop-share-preserved : goal.loop-share-preserved
 loop-share-preserved g c =
     let a = c.args in
-    let k = g.C.Choosers.kinds a.choosers.now in
+    let k = g.C.CellUnits.kinds a.choosers.now in
     let used = c.uses.ensures ∙ ap (λ (list : List ℕ). uses (k.used list) a.cell) c.as_slice.ensures in
     elim c.if-uses.branch [
       | then-uses w ↦

@@ -4,4 +4,4 @@ use Rattle.rp_check_mixture.proofs.types.is_rational.Given as goal
 
 abbrev pub invariant-loop-i : goal.invariant-loop-i
 invariant-loop-i l =
-    IsPartialType l.patches l.part × (l.part.taken ≡ l.i-index) × (taken_in l.part ≡ take l.i-index l.numbers)
+    IsPartialType l.patches l.partial × (l.partial.taken ≡ l.i-index) × (taken_in l.partial ≡ take l.i-index l.numbers)

@@ -14,7 +14,7 @@ use Rattle.rp_find_mixture.proofs.verdict.mixture.Goals as goal
 
 pub unreachable-requires : goal.unreachable-requires
 unreachable-requires g c =
-    let k = g.L.Listed.kinds c.args.listed.now in
+    let k = g.L.CellUnits.kinds c.args.listed.now in
     let kinds = g.L.Listed.listed c.args.listed.now in
     let evidence = subst (λ (q : LinearProgram). IsEvidence q c.in_ok-pair.field-0) c.make-program.ensures c.in_ok-pair.ensures.evidence in
     let shown = subst (λ (o : Outcome). IsEvidence (mixture_program k kinds) o) c.in-Unbounded.is evidence in
@@ -22,7 +22,7 @@ unreachable-requires g c =
 
 pub returns-in-Optimal-clause-proves : goal.returns-in-Optimal-clause-proves
 returns-in-Optimal-clause-proves g c =
-    let k = g.L.Listed.kinds c.args.listed.now in
+    let k = g.L.CellUnits.kinds c.args.listed.now in
     let kinds = g.L.Listed.listed c.args.listed.now in
     let evidence = subst (λ (q : LinearProgram). IsEvidence q c.in_ok-pair.field-0) c.make-program.ensures c.in_ok-pair.ensures.evidence in
     let shown = subst (λ (o : Outcome). IsEvidence (mixture_program k kinds) o) c.in-Optimal.is evidence in
@@ -31,7 +31,7 @@ returns-in-Optimal-clause-proves g c =
 
 pub returns-in-Optimal-clause-passes : goal.returns-in-Optimal-clause-passes
 returns-in-Optimal-clause-passes g c =
-    let k = g.L.Listed.kinds c.args.listed.now in
+    let k = g.L.CellUnits.kinds c.args.listed.now in
     let kinds = g.L.Listed.listed c.args.listed.now in
     let evidence = subst (λ (q : LinearProgram). IsEvidence q c.in_ok-pair.field-0) c.make-program.ensures c.in_ok-pair.ensures.evidence in
     let shown = subst (λ (o : Outcome). IsEvidence (mixture_program k kinds) o) c.in-Optimal.is evidence in
@@ -40,7 +40,7 @@ returns-in-Optimal-clause-passes g c =
 
 pub returns-in-Optimal-clause-run : goal.returns-in-Optimal-clause-run
 returns-in-Optimal-clause-run g c =
-    let k = g.L.Listed.kinds c.args.listed.now in
+    let k = g.L.CellUnits.kinds c.args.listed.now in
     let kinds = g.L.Listed.listed c.args.listed.now in
     let outcome = subst (λ (q : LinearProgram). IsOutcome q c.in_ok-pair.field-0) c.make-program.ensures c.in_ok-pair.ensures.outcome in
     let only = subst (λ (q : LinearProgram). (other : Outcome) → IsOutcome q other → IsSameOutcome q c.in_ok-pair.field-0 other) c.make-program.ensures c.in_ok-pair.ensures.only in

@@ -28,10 +28,10 @@ pub returns-in-Some-5 : goal.returns-in-Some-5
 returns-in-Some-5 c = found_quasilinear (view c.args.value.now) _ (subst (IsFound quasilinear_value FitsQuasilinear (view c.args.value.now)) c.in-Some-5.is c.in_ok-quasilinear.ensures)
 
 pub returns-in-Some-6 : goal.returns-in-Some-6
-returns-in-Some-6 c = rw c.demand.ensures (found_demand (view c.args.value.now) _ (subst (IsFound demand_of FitsDemandOf (view c.args.value.now)) c.in-Some-6.is c.in_ok-found.ensures))
+returns-in-Some-6 c = rw c.demand.ensures (found_demand (view c.args.value.now) _ (subst (IsFound demand_of FitsDemandOf (view c.args.value.now)) c.in-Some-6.is c.in_ok-entries.ensures))
 
 pub returns-in-Some-7 : goal.returns-in-Some-7
-returns-in-Some-7 c = rw c.welfare.ensures (found_welfare (view c.args.value.now) _ (subst (IsFound welfare_of FitsWelfareOf (view c.args.value.now)) c.in-Some-7.is c.in_ok-found-2.ensures))
+returns-in-Some-7 c = rw c.welfare.ensures (found_welfare (view c.args.value.now) _ (subst (IsFound welfare_of FitsWelfareOf (view c.args.value.now)) c.in-Some-7.is c.in_ok-entries-2.ensures))
 
 pub returns-in-None-7 : goal.returns-in-None-7
 returns-in-None-7 c =
@@ -41,5 +41,5 @@ returns-in-None-7 c =
     (subst (IsFound efficiency_value FitsEfficiency (view c.args.value.now)) c.in-None-3.is c.in_ok-efficiency.ensures)
     (subst (IsFound homothetic_value FitsHomothetic (view c.args.value.now)) c.in-None-4.is c.in_ok-homothetic.ensures)
     (subst (IsFound quasilinear_value FitsQuasilinear (view c.args.value.now)) c.in-None-5.is c.in_ok-quasilinear.ensures)
-    (subst (IsFound demand_of FitsDemandOf (view c.args.value.now)) c.in-None-6.is c.in_ok-found.ensures)
-    (subst (IsFound welfare_of FitsWelfareOf (view c.args.value.now)) c.in-None-7.is c.in_ok-found-2.ensures)
+    (subst (IsFound demand_of FitsDemandOf (view c.args.value.now)) c.in-None-6.is c.in_ok-entries.ensures)
+    (subst (IsFound welfare_of FitsWelfareOf (view c.args.value.now)) c.in-None-7.is c.in_ok-entries-2.ensures)

@@ -6,16 +6,16 @@ use Rattle.rp_json_programs.proofs.random.read_random.Goals as goal
 
 pub returns-in-Some : goal.returns-in-Some
 returns-in-Some c =
-    rw c.mixture.ensures (found_mixture (view c.args.value.now) _ (subst (IsFound value_mixture Fits_mixture (view c.args.value.now)) c.in-Some.is c.in_ok-found.ensures))
+    rw c.mixture.ensures (found_mixture (view c.args.value.now) _ (subst (IsFound value_mixture Fits_mixture (view c.args.value.now)) c.in-Some.is c.in_ok-entries.ensures))
 
 pub returns-in-Some-2 : goal.returns-in-Some-2
 returns-in-Some-2 c =
-    rw c.violated.ensures (found_violated (view c.args.value.now) _ (subst (IsFound value_mixture Fits_mixture (view c.args.value.now)) c.in-None.is c.in_ok-found.ensures) (subst (IsFound value_violated Fits_violated (view c.args.value.now)) c.in-Some-2.is c.in_ok-found-2.ensures))
+    rw c.violated.ensures (found_violated (view c.args.value.now) _ (subst (IsFound value_mixture Fits_mixture (view c.args.value.now)) c.in-None.is c.in_ok-entries.ensures) (subst (IsFound value_violated Fits_violated (view c.args.value.now)) c.in-Some-2.is c.in_ok-entries-2.ensures))
 
 pub returns-in-Some-3 : goal.returns-in-Some-3
 returns-in-Some-3 c =
-    found_wide (view c.args.value.now) _ (subst (IsFound value_mixture Fits_mixture (view c.args.value.now)) c.in-None.is c.in_ok-found.ensures) (subst (IsFound value_violated Fits_violated (view c.args.value.now)) c.in-None-2.is c.in_ok-found-2.ensures) (subst (IsFound value_wide Fits_wide (view c.args.value.now)) c.in-Some-3.is c.in_ok-total.ensures)
+    found_wide (view c.args.value.now) _ (subst (IsFound value_mixture Fits_mixture (view c.args.value.now)) c.in-None.is c.in_ok-entries.ensures) (subst (IsFound value_violated Fits_violated (view c.args.value.now)) c.in-None-2.is c.in_ok-entries-2.ensures) (subst (IsFound value_wide Fits_wide (view c.args.value.now)) c.in-Some-3.is c.in_ok-total.ensures)
 
 pub returns-in-None-3 : goal.returns-in-None-3
 returns-in-None-3 c =
-    found_none (view c.args.value.now) (subst (IsFound value_mixture Fits_mixture (view c.args.value.now)) c.in-None.is c.in_ok-found.ensures) (subst (IsFound value_violated Fits_violated (view c.args.value.now)) c.in-None-2.is c.in_ok-found-2.ensures) (subst (IsFound value_wide Fits_wide (view c.args.value.now)) c.in-None-3.is c.in_ok-total.ensures)
+    found_none (view c.args.value.now) (subst (IsFound value_mixture Fits_mixture (view c.args.value.now)) c.in-None.is c.in_ok-entries.ensures) (subst (IsFound value_violated Fits_violated (view c.args.value.now)) c.in-None-2.is c.in_ok-entries-2.ensures) (subst (IsFound value_wide Fits_wide (view c.args.value.now)) c.in-None-3.is c.in_ok-total.ensures)

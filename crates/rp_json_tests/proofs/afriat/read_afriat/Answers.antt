@@ -6,16 +6,16 @@ use Rattle.rp_json_tests.proofs.afriat.read_afriat.Goals as goal
 
 pub returns-in-Some : goal.returns-in-Some
 returns-in-Some c =
-    rw c.model.ensures (found_model (view c.args.value.now) _ (subst (IsFound value_model Fits_model (view c.args.value.now)) c.in-Some.is c.in_ok-found.ensures))
+    rw c.model.ensures (found_model (view c.args.value.now) _ (subst (IsFound value_model Fits_model (view c.args.value.now)) c.in-Some.is c.in_ok-entries.ensures))
 
 pub returns-in-Some-2 : goal.returns-in-Some-2
 returns-in-Some-2 c =
-    found_cycle (view c.args.value.now) _ (subst (IsFound value_model Fits_model (view c.args.value.now)) c.in-None.is c.in_ok-found.ensures) (subst (IsFound value_cycle Fits_cycle (view c.args.value.now)) c.in-Some-2.is c.in_ok-cycle.ensures)
+    found_cycle (view c.args.value.now) _ (subst (IsFound value_model Fits_model (view c.args.value.now)) c.in-None.is c.in_ok-entries.ensures) (subst (IsFound value_cycle Fits_cycle (view c.args.value.now)) c.in-Some-2.is c.in_ok-cycle.ensures)
 
 pub returns-in-Some-3 : goal.returns-in-Some-3
 returns-in-Some-3 c =
-    found_wide (view c.args.value.now) _ (subst (IsFound value_model Fits_model (view c.args.value.now)) c.in-None.is c.in_ok-found.ensures) (subst (IsFound value_cycle Fits_cycle (view c.args.value.now)) c.in-None-2.is c.in_ok-cycle.ensures) (subst (IsFound value_wide Fits_wide (view c.args.value.now)) c.in-Some-3.is c.in_ok-at.ensures)
+    found_wide (view c.args.value.now) _ (subst (IsFound value_model Fits_model (view c.args.value.now)) c.in-None.is c.in_ok-entries.ensures) (subst (IsFound value_cycle Fits_cycle (view c.args.value.now)) c.in-None-2.is c.in_ok-cycle.ensures) (subst (IsFound value_wide Fits_wide (view c.args.value.now)) c.in-Some-3.is c.in_ok-at.ensures)
 
 pub returns-in-None-3 : goal.returns-in-None-3
 returns-in-None-3 c =
-    found_none (view c.args.value.now) (subst (IsFound value_model Fits_model (view c.args.value.now)) c.in-None.is c.in_ok-found.ensures) (subst (IsFound value_cycle Fits_cycle (view c.args.value.now)) c.in-None-2.is c.in_ok-cycle.ensures) (subst (IsFound value_wide Fits_wide (view c.args.value.now)) c.in-None-3.is c.in_ok-at.ensures)
+    found_none (view c.args.value.now) (subst (IsFound value_model Fits_model (view c.args.value.now)) c.in-None.is c.in_ok-entries.ensures) (subst (IsFound value_cycle Fits_cycle (view c.args.value.now)) c.in-None-2.is c.in_ok-cycle.ensures) (subst (IsFound value_wide Fits_wide (view c.args.value.now)) c.in-None-3.is c.in_ok-at.ensures)

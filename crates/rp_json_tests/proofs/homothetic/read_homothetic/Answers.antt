@@ -10,12 +10,12 @@ returns-in-Some c =
 
 pub returns-in-Some-2 : goal.returns-in-Some-2
 returns-in-Some-2 c =
-    rw c.cycle.ensures (found_cycle (view c.args.value.now) _ (subst (IsFound value_values Fits_values (view c.args.value.now)) c.in-None.is c.in_ok-values.ensures) (subst (IsFound value_cycle Fits_cycle (view c.args.value.now)) c.in-Some-2.is c.in_ok-found.ensures))
+    rw c.cycle.ensures (found_cycle (view c.args.value.now) _ (subst (IsFound value_values Fits_values (view c.args.value.now)) c.in-None.is c.in_ok-values.ensures) (subst (IsFound value_cycle Fits_cycle (view c.args.value.now)) c.in-Some-2.is c.in_ok-entries.ensures))
 
 pub returns-in-Some-3 : goal.returns-in-Some-3
 returns-in-Some-3 c =
-    found_wide (view c.args.value.now) _ (subst (IsFound value_values Fits_values (view c.args.value.now)) c.in-None.is c.in_ok-values.ensures) (subst (IsFound value_cycle Fits_cycle (view c.args.value.now)) c.in-None-2.is c.in_ok-found.ensures) (subst (IsFound value_wide Fits_wide (view c.args.value.now)) c.in-Some-3.is c.in_ok-steps.ensures)
+    found_wide (view c.args.value.now) _ (subst (IsFound value_values Fits_values (view c.args.value.now)) c.in-None.is c.in_ok-values.ensures) (subst (IsFound value_cycle Fits_cycle (view c.args.value.now)) c.in-None-2.is c.in_ok-entries.ensures) (subst (IsFound value_wide Fits_wide (view c.args.value.now)) c.in-Some-3.is c.in_ok-steps.ensures)
 
 pub returns-in-None-3 : goal.returns-in-None-3
 returns-in-None-3 c =
-    found_none (view c.args.value.now) (subst (IsFound value_values Fits_values (view c.args.value.now)) c.in-None.is c.in_ok-values.ensures) (subst (IsFound value_cycle Fits_cycle (view c.args.value.now)) c.in-None-2.is c.in_ok-found.ensures) (subst (IsFound value_wide Fits_wide (view c.args.value.now)) c.in-None-3.is c.in_ok-steps.ensures)
+    found_none (view c.args.value.now) (subst (IsFound value_values Fits_values (view c.args.value.now)) c.in-None.is c.in_ok-values.ensures) (subst (IsFound value_cycle Fits_cycle (view c.args.value.now)) c.in-None-2.is c.in_ok-entries.ensures) (subst (IsFound value_wide Fits_wide (view c.args.value.now)) c.in-None-3.is c.in_ok-steps.ensures)

@@ -16,7 +16,7 @@ pub mixture-requires-clause-whole : goal.mixture-requires-clause-whole
 mixture-requires-clause-whole c =
     let list = c.args.seen.now in
     let units = c.args.units.now in
-    subst (λ (m : MenuList). AreWhole (orders_over m c.make.result.units.now)) (sym c.make.ensures.seen)
+    subst (λ (m : MenuList). AreWhole (orders_over m c.make.result.over.units.now)) (sym c.make.ensures.seen)
     (subst (λ (u : Units). AreWhole (orders_over list u)) (sym c.make.ensures.units) (are_whole list c.letters.ensures.valid units c.requires))
 
 pub returns-clause-proves : goal.returns-clause-proves
@@ -25,7 +25,7 @@ returns-clause-proves c =
     let units = c.args.units.now in
     let r = c.mixture.result in
     let proves = subst (λ (u : Units). IfOk r (ProvesMixture (orders_over list u))) c.make.ensures.units
-    (subst (λ (m : MenuList). IfOk r (ProvesMixture (orders_over m c.make.result.units.now))) c.make.ensures.seen c.mixture.ensures.proves) in
+    (subst (λ (m : MenuList). IfOk r (ProvesMixture (orders_over m c.make.result.over.units.now))) c.make.ensures.seen c.mixture.ensures.proves) in
     IfOk-weaker r (ProvesMixture (orders_over list units)) (ProvesMenus list units)
     (λ part h. proves_menus list c.letters.ensures.valid units c.requires part h) proves
 
@@ -38,7 +38,7 @@ returns-clause-run c =
     let are = ap orders_of (c.make.ensures.orders ∙ c.as_slice.ensures.value) in
     let run = subst (λ (os : List (List ℕ)). IfOk r (IsRunVerdict (orders_over list units) os)) are
     (subst (λ (u : Units). IfOk r (IsRunVerdict (orders_over list u) (orders_of c.make.result.orders.now))) c.make.ensures.units
-    (subst (λ (m : MenuList). IfOk r (IsRunVerdict (orders_over m c.make.result.units.now) (orders_of c.make.result.orders.now))) c.make.ensures.seen c.mixture.ensures.run)) in
+    (subst (λ (m : MenuList). IfOk r (IsRunVerdict (orders_over m c.make.result.over.units.now) (orders_of c.make.result.orders.now))) c.make.ensures.seen c.mixture.ensures.run)) in
     IfOk-weaker r (IsRunVerdict (orders_over list units) orders) (IsMenuVerdict list units)
     (λ part h. (orders, c.in_ok-orders.ensures.all, h)) run
 
@@ -48,7 +48,7 @@ returns-clause-sums c =
     let units = c.args.units.now in
     let r = c.mixture.result in
     let proves = subst (λ (u : Units). IfOk r (ProvesMixture (orders_over list u))) c.make.ensures.units
-    (subst (λ (m : MenuList). IfOk r (ProvesMixture (orders_over m c.make.result.units.now))) c.make.ensures.seen c.mixture.ensures.proves) in
+    (subst (λ (m : MenuList). IfOk r (ProvesMixture (orders_over m c.make.result.over.units.now))) c.make.ensures.seen c.mixture.ensures.proves) in
     let is = c.letters.ensures.valid in
     IfOk-weaker r (ProvesMixture (orders_over list units)) (ShowsSums list units)
     (λ part h. shows_sums list is units c.requires part) proves

@@ -1,4 +1,4 @@
-use Rattle.std.proofs.Common.{◌≤◌, length, sym, subst, arith}
+use Rattle.std.proofs.Common.{◌≤◌, length, sym, subst}
 use Rattle.rp_evidence.specs.Marks.{IsMarked}
 use Rattle.rp_evidence.specs.Reached.{Reached}
 use Rattle.rp_clauses.proofs.SeenClosures.{seen_from}

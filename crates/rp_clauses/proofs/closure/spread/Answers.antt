@@ -3,7 +3,7 @@ use Rattle.rp_table.specs.Cost.{cost_of}
 use Rattle.rp_table.specs.Tables.{records_of}
 use Rattle.std.proofs.Common.{arith}
 use Rattle.rp_clauses.proofs.MarkLemmas.{spread_all}
-use Rattle.rp_clauses.proofs.reach.spread.Goals as goal
+use Rattle.rp_clauses.proofs.closure.spread.Goals as goal
 
 pub reached_from-reached-requires : goal.reached_from-reached-requires
 reached_from-reached-requires c = omega (arith, c.requires.closure.size, c.requires.room)

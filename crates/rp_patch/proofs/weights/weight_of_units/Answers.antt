@@ -1,6 +1,6 @@
 use Rattle.std.proofs.Common.{◌*◌, ◌<◌, ◌≤◌, ◌^◌, ap, arith, slice_index, ◌∙◌}
-use Rattle.rp_check_mixture.proofs.ShareLemmas.{product_small, term_more}
-use Rattle.rp_check_mixture.proofs.evidence.weight_of_units.Goals as goal
+use Rattle.rp_patch.proofs.UnitsWeight.{product_small, term_more}
+use Rattle.rp_patch.proofs.weights.weight_of_units.Goals as goal
 
 pub overflow_add-weight : goal.overflow_add-weight
 overflow_add-weight g c =
@@ -11,7 +11,7 @@ overflow_add-weight g c =
 
 pub loop-i-preserved : goal.loop-i-preserved
 loop-i-preserved g c =
-    let k = g.C.Choosers.kinds c.args.choosers.now in
+    let k = g.C.CellUnits.kinds c.args.cells.now in
     let weight : c.from.result < 2 ^ 64 = omega (arith, c.from.ensures, c.type_inv.weights c.loop-i.i) in
     let units : c.from-in-loop-i.result ≤ 1000000000 = omega (arith, c.from-in-loop-i.ensures, c.units.ensures.few) in
     let small = product_small c.from.result c.from-in-loop-i.result weight units in (

@@ -1,6 +1,6 @@
 use Rattle.std.proofs.Common.{◌≤◌, List, ℕ, slice_index, subst, sym}
 use Rattle.rp_orders.proofs.OrderCells.{few_units}
-use Rattle.rp_orders.proofs.choosers.OrdersOverChoosers.units.Goals as goal
+use Rattle.rp_orders.proofs.choosers.OrdersOverCellUnits.units.Goals as goal
 
 pub returns-clause-few : goal.returns-clause-few
 returns-clause-few c =
