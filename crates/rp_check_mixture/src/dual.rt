@@ -59,9 +59,7 @@ fn all_weigh_by(patches: &Patches, least: u64, weights: &[u64], parts: &mut [Par
     }
 }
 
-/// Whether every rational type weighs at least `least`. The room for the partial types is taken where this is called
-/// alone, and not by every answer of the program.
-#[inline(never)]
+/// Whether every rational type weighs at least `least`.
 pub fn all_weigh(patches: &Patches, least: u64, weights: &[u64]) -> bool
     requires { length weights.now ≡ length patches.now.patches }
     ensures { IsTrue result ↔ ((type : List ℕ) → IsRationalType patches.now type
