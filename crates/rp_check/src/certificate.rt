@@ -40,7 +40,8 @@ pub fn check(table: &Table, costs: &Costs, certificate: &Certificate) -> Verdict
     }
 }
 
-/// The verdict on these items.
+/// The verdict on these items. Not inlined: each call of the program would pay for the pages of the closure's array.
+#[inline(never)]
 fn check_items(table: &Table, costs: &Costs, items: &[Item]) -> Verdict
     requires costs { IsCostsOf costs.now table.now }
     requires kinds { All (IsOfKind TableKind) items.now }

@@ -3,7 +3,8 @@ ghost use Rattle.std.specs.Fmt.{decimal, signed_decimal};
 ghost use Rattle.rp_num.specs.Fraction.{fraction_text};
 ghost use Rattle.rp_print.specs.ListText.{ordinal_text};
 
-use rp_num::{Frac, NoMemory, print_frac, print_i128, print_u128};
+use itoa::{Buffer, Integer};
+use rp_num::{Frac, NoMemory, print_frac};
 use std::alloc::Global;
 
 /// How one kind of entry is printed. A crate that prints entries of its own gives an impl for them.
@@ -26,8 +27,8 @@ impl Print for Number {
 
     ghost text = { decimal };
 
-    fn push(alloc: Global, out: &mut Vec<u8>, entry: u32) -> Result<(), NoMemory> {
-        print_u128(alloc, out, u128::from(entry))
+    fn push(_alloc: Global, out: &mut Vec<u8>, entry: u32) -> Result<(), NoMemory> {
+        push_digits(out, entry)
     }
 }
 
@@ -39,8 +40,8 @@ impl Print for LongNumber {
 
     ghost text = { decimal };
 
-    fn push(alloc: Global, out: &mut Vec<u8>, entry: u64) -> Result<(), NoMemory> {
-        print_u128(alloc, out, u128::from(entry))
+    fn push(_alloc: Global, out: &mut Vec<u8>, entry: u64) -> Result<(), NoMemory> {
+        push_digits(out, entry)
     }
 }
 
@@ -52,8 +53,8 @@ impl Print for Ordinal {
 
     ghost text = { ordinal_text };
 
-    fn push(alloc: Global, out: &mut Vec<u8>, entry: u32) -> Result<(), NoMemory> {
-        print_u128(alloc, out, u128::from(entry) + 1)
+    fn push(_alloc: Global, out: &mut Vec<u8>, entry: u32) -> Result<(), NoMemory> {
+        push_digits(out, u64::from(entry) + 1)
     }
 }
 
@@ -65,8 +66,8 @@ impl Print for Signed {
 
     ghost text = { signed_decimal };
 
-    fn push(alloc: Global, out: &mut Vec<u8>, entry: i128) -> Result<(), NoMemory> {
-        print_i128(alloc, out, entry)
+    fn push(_alloc: Global, out: &mut Vec<u8>, entry: i128) -> Result<(), NoMemory> {
+        push_digits(out, entry)
     }
 }
 
@@ -81,4 +82,13 @@ impl Print for Fraction {
     fn push(alloc: Global, out: &mut Vec<u8>, entry: Frac) -> Result<(), NoMemory> {
         print_frac(alloc, out, entry)
     }
+}
+
+/// Appends an integer as `{}` writes it. No text is made for it in memory.
+fn push_digits<I: Integer>(out: &mut Vec<u8>, n: I) -> Result<(), NoMemory>
+    ensures { OnOk result (out.new.items ≡ out.old.items ++ I.text n) }
+{
+    let mut buffer = Buffer::new();
+    out.extend_from_slice(buffer.format(n).as_bytes())?;
+    Ok(())
 }

@@ -9,6 +9,12 @@ use rp_num::NoMemory;
 use std::alloc::Global;
 use std::marker::Model;
 
+/// The bytes of fields for which a record has room as it is begun.
+const BYTES_AT_FIRST: usize = 64;
+
+/// The fields for which a record has room as it is begun.
+const FIELDS_AT_FIRST: usize = 8;
+
 /// The records of a file, each a list of fields.
 #[derive(Drop)]
 pub struct Records {
@@ -35,7 +41,7 @@ impl Records {
             .from_reader(alloc, bytes);
         let mut records = Vec::new(alloc);
         for _ in 0..most {
-            let mut row = ByteRecord::new(alloc);
+            let mut row = ByteRecord::with_capacity(alloc, BYTES_AT_FIRST, FIELDS_AT_FIRST)?;
             match reader.read_byte_record(&mut row) {
                 Ok(true) => records.push(row)?,
                 Ok(false) => return Ok(Records { records }),

@@ -41,7 +41,7 @@ impl Costs {
     {
         let n = table.n();
         let levels = Vec::from_slice(alloc, table.levels())?;
-        let mut entries = Vec::new(alloc);
+        let mut entries = Vec::with_capacity(alloc, n as usize * n as usize)?;
         for s in 0..n {
             for t in 0..n {
                 entries.push(cost_at_prices(table, s, t))?;

@@ -1,5 +1,5 @@
 use Rattle.rp_walk.proofs.Runs.{IsRun}
-use Rattle.rp_walk.proofs.outcome.settle_by_rounds.Given as goal
+use Rattle.rp_walk.proofs.settling.settle_by_rounds.Given as goal
 
 abbrev pub invariant-loop-steps : goal.invariant-loop-steps
 invariant-loop-steps g l =

@@ -2,7 +2,7 @@ use Rattle.std.proofs.Common.{arith, ◌≡◌, ◌<◌, get_or, sym, subst, Lis
 use Rattle.rp_walk.specs.RoundWalk.{IsFirstLive}
 use Rattle.rp_walk.specs.InnerRounds.{Remembers}
 use Rattle.rp_walk.proofs.Runs.{IsRun-start, IsRun-next, SettlesInValues-run, SettlesInWide-run, NoneTooWide-run, IsFirstLive-run}
-use Rattle.rp_walk.proofs.outcome.settle_by_rounds.Goals as goal
+use Rattle.rp_walk.proofs.settling.settle_by_rounds.Goals as goal
 
 pub loop-steps-init : goal.loop-steps-init
 loop-steps-init g c =
