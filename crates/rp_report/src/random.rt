@@ -2,7 +2,7 @@ ghost use Rattle.std.specs.Prelude.{◌≡◌, ◌≤◌, ◌*◌, ◌^◌, ◌+
 ghost use Rattle.rp_patch.specs.Mixtures.{units_weight};
 ghost use Rattle.rp_farkas.specs.Limits.{FitsEvidence};
 ghost use Rattle.rp_patch.specs.RandomFailure.{RandomPartFails};
-ghost use Rattle.rp_patch.specs.declared.TheConstants.{UNITS};
+ghost use Rattle.rp_patch.specs.declared.TheConstants.{PATCHES, UNITS};
 ghost use Rattle.rp_report.specs.RandomText.{random_text, share_of};
 
 use rp_evidence::RandomPart;
@@ -65,7 +65,7 @@ fn weight_of_units(patches: &Patches, weights: &[u64]) -> u128
     requires one_each { length weights.now ≡ length patches.now.patches }
     requires weights_fit { All FitsEvidence weights.now }
     ensures exact { result ≡ units_weight patches.now weights.now }
-    ensures fits { result ≤ 48 * (2 ^ 63 * 2 ^ 30) }
+    ensures fits { result ≤ PATCHES * (2 ^ 63 * 2 ^ 30) }
 {
     let mut weight = 0;
     for i in 0..patches.count() {

@@ -8,6 +8,7 @@ use crate::{TYPES, TypesFault};
 use rp_num::Seq;
 use rp_patch::Patches;
 use rp_patch::partial_type::PartialType;
+use rp_table::BUDGETS;
 use std::alloc::Global;
 
 /// Adds a partial type with a patch of every budget.
@@ -24,7 +25,7 @@ fn push_type(
         (AreListedThrough patches.now (taken_in part.now) types.new.items) }
     ensures refused { IfErr result (SaysMore patches.now) }
 {
-    prove!(patches.budgets() <= 48);
+    prove!(patches.budgets() <= BUDGETS);
     if types.len() == TYPES as usize {
         return Err(TypesFault::TooManyTypes);
     }
