@@ -16,13 +16,13 @@ use Rattle.rp_table.specs.Names.{IsName}
 use Rattle.rp_table.specs.declared.TheConstants.{RECORDS, GOODS}
 use Rattle.rp_table.specs.Tables.{IsTable, records_of, quantity_of}
 use Rattle.rp_sheet.proofs.RowLemmas.{length-rows, row_number, all_rows}
-use Rattle.rp_power.specs.Shares.{not_all_zero}
+use Rattle.rp_power.specs.DrawnNumbers.{drawn_numbers, not_all_zero}
 use Rattle.rp_power.proofs.DrawnLemmas.{not_all_zero_sum, not_all_zero_within}
-use Rattle.rp_answers.specs.TrialTable.{drawn_price, drawn_quantity, record_generator, good_name, trial_of}
+use Rattle.rp_answers.specs.TrialTable.{trial_price, trial_quantity, record_generator, good_name, trial_of}
 use Rattle.rp_power.specs.Words.{after_words, generator_of, word_after}
 
 -- one more price
-pub prices_more : (g here : Lcg) (k word price : ℕ) (row more : List ℕ) → row ≡ listed k (drawn_price g) → here ≡ after_words g k → word ≡ word_after here 0 → price ≡ 1 + word % 99 → more ≡ row ++ price ∷ [] → more ≡ listed (k + 1) (drawn_price g)
+pub prices_more : (g here : Lcg) (k word price : ℕ) (row more : List ℕ) → row ≡ listed k (trial_price g) → here ≡ after_words g k → word ≡ word_after here 0 → price ≡ 1 + word % 99 → more ≡ row ++ price ∷ [] → more ≡ listed (k + 1) (trial_price g)
 prices_more g here k word price row more so is drawn priced pushed =
     let at : word_after here 0 ≡ word_after g k = ap (λ (h : Lcg). word_after h 0) is ∙ word_later g k 0 ∙ (let e : k + 0 ≡ k = omega arith in ap (word_after g) e) in
     rw (pushed, so, priced, drawn, at, add-one) refl
@@ -61,8 +61,8 @@ names_distinct goods few i j d before within same =
 pub trial_is_table : (seed rows goods : ℕ) → 1 ≤ rows → rows ≤ RECORDS → 1 ≤ goods → goods ≤ GOODS → IsTable (trial_of seed rows goods)
 trial_is_table seed rows goods some_rows few_rows some_goods few_goods =
     let names = length-listed good_name goods in
-    let price : ℕ → ℕ → ℕ = λ t. drawn_price (record_generator seed goods t) in
-    let quantity : ℕ → ℕ → ℕ = λ t. not_all_zero goods (drawn_quantity goods (record_generator seed goods t)) in
+    let price : ℕ → ℕ → ℕ = λ t. trial_price (record_generator seed goods t) in
+    let quantity : ℕ → ℕ → ℕ = λ t. trial_quantity goods (record_generator seed goods t) in
     let count : records_of (trial_of seed rows goods) ≡ rows = rw (length-rows rows goods price, names) (whole_rows rows goods some_goods) in
     record {
       some_goods = omega arith;
@@ -73,12 +73,12 @@ trial_is_table seed rows goods some_rows few_rows some_goods few_goods =
       all_prices = rw (count, names) (length-rows rows goods price);
       all_quantities = rw (count, names) (length-rows rows goods quantity);
       price_limits = all_rows IsPrice rows goods price (λ t g row good. (omega arith, omega (arith, mod_small (word_after (record_generator seed goods t) g) 99 (lit≤ tt))));
-      quantity_limits = all_rows (λ q. q ≤ 9999999) rows goods quantity (λ t g row good. not_all_zero_within 9999999 goods (drawn_quantity goods (record_generator seed goods t)) g (lit≤ tt) (omega (arith, mod_small (word_after (record_generator seed goods t) (goods + g)) 100 (lit≤ tt))));
+      quantity_limits = all_rows (λ q. q ≤ 9999999) rows goods quantity (λ t g row good. not_all_zero_within 9999999 goods (λ i. word_after (record_generator seed goods t) (goods + i) % 100) g (lit≤ tt) (omega (arith, mod_small (word_after (record_generator seed goods t) (goods + g)) 100 (lit≤ tt))));
       bought = λ t row.
           let here : t < rows = omega arith in
           let each : (g : ℕ) → g < goods → quantity t g ≡ quantity_of (trial_of seed rows goods) t g = λ g good. rw names (sym (row_number rows goods quantity t g here good)) in
           let same = sum_below-same (quantity t) (quantity_of (trial_of seed rows goods) t) goods each in
-          let one = not_all_zero_sum goods (drawn_quantity goods (record_generator seed goods t)) some_goods in
+          let one = not_all_zero_sum goods (λ i. word_after (record_generator seed goods t) (goods + i) % 100) some_goods in
           rw names (omega arith);
       few_price_places = lit≤ tt;
       few_quantity_places = lit≤ tt;
@@ -103,14 +103,14 @@ unfolding after_words
 first_record seed goods g is = is ∙ (let e : 0 ≡ 0 * (goods + goods) = omega arith in ap (after_words (generator_of seed)) e)
 
 -- quantities of a record, by the words after those of its prices
-pub quantities_after : (goods : ℕ) (here priced_after : Lcg) (row : List ℕ) → priced_after ≡ after_words here goods → row ≡ listed goods (not_all_zero goods (λ g. word_after priced_after g % 100)) → row ≡ listed goods (not_all_zero goods (drawn_quantity goods here))
+pub quantities_after : (goods : ℕ) (here priced_after : Lcg) (row : List ℕ) → priced_after ≡ after_words here goods → row ≡ listed goods (drawn_numbers goods (word_after priced_after)) → row ≡ listed goods (trial_quantity goods here)
 quantities_after goods here priced_after row priced drawn =
-    drawn ∙ ap (λ (h : Lcg). listed goods (not_all_zero goods (λ g. word_after h g % 100))) priced
+    drawn ∙ ap (λ (h : Lcg). listed goods (drawn_numbers goods (word_after h))) priced
     ∙ ap (λ (q : ℕ → ℕ). listed goods (not_all_zero goods q)) (λ i g. word_later here goods g i % 100)
 
 -- the lists that were drawn are those of the table
 pub trial_is : (seed rows goods : ℕ) (names : List (List ℕ)) (prices quantities : List ℕ) → names ≡ listed goods good_name
-    → prices ≡ rows_below rows goods (λ t. drawn_price (record_generator seed goods t)) → quantities ≡ rows_below rows goods (λ t. not_all_zero goods (drawn_quantity goods (record_generator seed goods t)))
+    → prices ≡ rows_below rows goods (λ t. trial_price (record_generator seed goods t)) → quantities ≡ rows_below rows goods (λ t. trial_quantity goods (record_generator seed goods t))
     → record { names = names; prices = prices; quantities = quantities; price_places = 0; quantity_places = 0; levels = [] } ≡ trial_of seed rows goods
 trial_is seed rows goods names prices quantities named priced bought =
     λ i. record { names = named i; prices = priced i; quantities = bought i; price_places = 0; quantity_places = 0; levels = [] }

@@ -1,6 +1,7 @@
-ghost use Rattle.std.specs.Prelude.{◌≡◌, ◌-◌, ◌^◌, IfOk, min, sum_by};
+ghost use Rattle.std.specs.Prelude.{◌≡◌, IfOk, sum_by};
 ghost use Rattle.rp_evidence.specs.Certificates.{random_certificate, table_certificate};
 ghost use Rattle.rp_evidence.specs.Certificates.{version_of};
+ghost use Rattle.rp_evidence.specs.Clauses.{cap};
 ghost use Rattle.rp_evidence.specs.Withheld.{withheld_in};
 
 use crate::afriat::AfriatPart;
@@ -97,7 +98,7 @@ fn version_of(levels: &[u32]) -> u32
 
 /// How many values an item leaves out because their computation passed its width, up to 2^32 - 1.
 fn withheld_in_item(item: &Item) -> u32
-    ensures { result ≡ min (withheld_in item.now) (2 ^ 32 - 1) }
+    ensures { result ≡ cap (withheld_in item.now) }
 {
     match item {
         Item::Garp(_) => 0,
@@ -114,7 +115,7 @@ fn withheld_in_item(item: &Item) -> u32
 /// The number of values that the certificate leaves out because their computation passed its width, cut off at
 /// 2^32 - 1.
 pub fn withheld(c: &Certificate) -> u32
-    ensures { result ≡ min (sum_by withheld_in c.now.items) (2 ^ 32 - 1) }
+    ensures { result ≡ cap (sum_by withheld_in c.now.items) }
 {
     let mut total: u32 = 0;
     for item in c.items.as_slice() {

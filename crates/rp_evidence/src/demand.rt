@@ -1,4 +1,5 @@
-ghost use Rattle.std.specs.Prelude.{◌≡◌, ◌-◌, ◌^◌, min, sum_by};
+ghost use Rattle.std.specs.Prelude.{◌≡◌, sum_by};
+ghost use Rattle.rp_evidence.specs.Clauses.{cap};
 ghost use Rattle.rp_evidence.specs.DemandEvidence.{withheld_bound, withheld_demand, withheld_good};
 ghost use Rattle.rp_evidence.specs.DemandEvidence.{withheld_welfare};
 
@@ -71,7 +72,7 @@ impl GoodBounds {
 impl DemandPart {
     /// How many bounds are withheld, up to 2^32 - 1.
     pub fn withheld(&self) -> u32
-        ensures { result ≡ min (withheld_demand self.now) (2 ^ 32 - 1) }
+        ensures { result ≡ cap (withheld_demand self.now) }
     {
         match self {
             DemandPart::Bounds { goods, .. } => withheld_in_goods(goods.as_slice()),
@@ -82,7 +83,7 @@ impl DemandPart {
 
 /// How many bounds of goods are withheld, up to 2^32 - 1.
 fn withheld_in_goods(goods: &[GoodBounds]) -> u32
-    ensures { result ≡ min (sum_by withheld_good goods.now) (2 ^ 32 - 1) }
+    ensures { result ≡ cap (sum_by withheld_good goods.now) }
 {
     let mut total: u32 = 0;
     for bounds in goods {

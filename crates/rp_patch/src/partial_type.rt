@@ -7,17 +7,19 @@ ghost use Rattle.rp_patch.specs.PartialTypes.{taken_in};
 ghost use Rattle.rp_patch.specs.Patches.{budget_at, sign_at};
 ghost use Rattle.rp_patch.specs.Sets.{Has};
 ghost use Rattle.rp_patch.specs.Types.{IsRationalType, IsWeakBy};
+ghost use Rattle.rp_table.specs.declared.TheConstants.{BUDGETS};
 
 use crate::Patches;
 use crate::sets::{meet, union, with};
+use rp_table::BUDGETS;
 
 /// A patch of each of the first budgets. For each of these `reached` is a set of budgets, a bit for each: those that
 /// walks of weak steps lead to from it, itself among them.
 #[derive(Clone, Copy, Debug)]
 pub struct PartialType {
     pub taken: u32,
-    pub patches: [u32; 48],
-    pub reached: [u64; 48],
+    pub patches: [u32; BUDGETS as usize],
+    pub reached: [u64; BUDGETS as usize],
 }
 
 /// Whether patch `i` does not lie above budget `k`.
@@ -36,7 +38,7 @@ fn weak_to(patches: &Patches, i: u32, n: u32) -> u64
     requires budgets { n ≤ patches.now.budgets }
     ensures { (k : ℕ) → Has result k ↔ ((k < n) × (sign_at patches.now i k ≤ℤ pos 0)) }
 {
-    prove!(patches.budgets() <= 48);
+    prove!(patches.budgets() <= BUDGETS);
     let mut set = 0;
     for k in 0..n {
         if is_weak(patches, i, k) {
@@ -52,7 +54,7 @@ fn strict_to(patches: &Patches, i: u32, n: u32) -> u64
     requires budgets { n ≤ patches.now.budgets }
     ensures { (k : ℕ) → Has result k ↔ ((k < n) × (sign_at patches.now i k <ℤ pos 0)) }
 {
-    prove!(patches.budgets() <= 48);
+    prove!(patches.budgets() <= BUDGETS);
     let mut set = 0;
     for k in 0..n {
         if patches.sign(i, k) < 0 {
@@ -70,14 +72,14 @@ impl PartialType {
     {
         PartialType {
             taken: 0,
-            patches: [0; 48],
-            reached: [0; 48],
+            patches: [0; BUDGETS as usize],
+            reached: [0; BUDGETS as usize],
         }
     }
 
     /// The patches taken, of the first budgets in order.
     pub fn patches(&self) -> &[u32]
-        requires { self.now.taken ≤ 48 }
+        requires { self.now.taken ≤ BUDGETS }
         ensures { result.now ≡ taken_in self.now }
     {
         &self.patches[..self.taken as usize]
@@ -112,7 +114,7 @@ impl PartialType {
         ensures taken { result.taken ≡ self.now.taken + 1 }
         ensures longer { taken_in result ≡ taken_in self.now ++ i ∷ [] }
     {
-        prove!(patches.budgets() <= 48);
+        prove!(patches.budgets() <= BUDGETS);
         let d = self.taken;
         let from = self.from_next(patches);
         let into = weak_to(patches, i, d);
@@ -133,7 +135,7 @@ impl PartialType {
             × IsWeakBy patches.now (taken_in self.now) self.now.taken j
             × Has (slice_index self.now.reached j) t)) }
     {
-        prove!(patches.budgets() <= 48);
+        prove!(patches.budgets() <= BUDGETS);
         let d = self.taken;
         let mut from = with(0, d);
         for j in 0..d {
@@ -146,7 +148,7 @@ impl PartialType {
 
     /// Each budget that leads into one of a set leads on to what is in another.
     fn join(&mut self, into: u64, from: u64)
-        requires { self.old.taken ≤ 48 }
+        requires { self.old.taken ≤ BUDGETS }
         ensures taken { self.new.taken ≡ self.old.taken }
         ensures patches { self.new.patches ≡ self.old.patches }
         ensures count { length self.new.reached ≡ length self.old.reached }
@@ -167,7 +169,7 @@ impl PartialType {
         ensures violated { result ≡ true → ¬ IsRationalBelow patches.now (taken_in self.now) }
         ensures rational { result ≡ false → IsRationalBelow patches.now (taken_in self.now) }
     {
-        prove!(patches.budgets() <= 48);
+        prove!(patches.budgets() <= BUDGETS);
         for j in 0..self.taken {
             let strict = strict_to(patches, self.patches[j as usize], self.taken);
             if meet(self.reached[j as usize], strict) {

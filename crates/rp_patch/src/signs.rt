@@ -5,7 +5,7 @@ ghost use Rattle.rp_patch.specs.Signs.{cost_on as cost_of_choice, sign_to as sig
 ghost use Rattle.rp_patch.specs.Signs.{signs_of as signs_of_choice};
 
 use rp_num::NoMemory;
-use rp_table::{Budgets, Choices, cost_of_bundle};
+use rp_table::{Budgets, Choices, GOODS, cost_of_bundle};
 use std::alloc::Global;
 use std::cmp::Ordering;
 
@@ -17,7 +17,7 @@ fn cost_on(budgets: &Budgets, choices: &Choices, k: u32, i: u32) -> u64
     ensures exact { result ≡ cost_of_choice (random_input_of budgets.now choices.now) k i }
     ensures below { result < 2 ^ 51 }
 {
-    prove!(budgets.goods() <= 16);
+    prove!(budgets.goods() <= GOODS);
     cost_of_bundle(budgets.row(k), choices.row(i))
 }
 

@@ -10,8 +10,8 @@ use Rattle.rp_sheet.proofs.RowLemmas.{length-rows, row_number, all_rows, all_lis
 use Rattle.rp_table.specs.Sums.{sum_below}
 use Rattle.rp_table.specs.Tables.{Observations, IsTable, goods_of, records_of, quantity_of}
 use Rattle.rp_table.proofs.SumsBelow.{sum_below-same}
-use Rattle.rp_power.specs.Shares.{not_all_zero}
-use Rattle.rp_power.specs.DrawnTable.{bought_of, drawn_quantity, drawn_table, share_of}
+use Rattle.rp_power.specs.DrawnNumbers.{not_all_zero}
+use Rattle.rp_power.specs.DrawnTable.{bought_of, drawn_quantity, drawn_table, budget_share_of}
 
 -- lists of the same numbers
 pub listed-same : (f h : ℕ → ℕ) (n : ℕ) → ((k : ℕ) → k < n → f k ≡ h k) → listed n f ≡ listed n h
@@ -95,14 +95,14 @@ other_row row some = listed-self row ∙ as_they_are (length row) (λ k. get_or 
 
 -- ---- shares
 
-pub share_small : (table : Observations) (words : List ℕ) (t g : ℕ) → share_of table words t g < 100
+pub share_small : (table : Observations) (words : List ℕ) (t g : ℕ) → budget_share_of table words t g < 100
 share_small table words t g =
     let within = not_all_zero_within 99 (goods_of table) (λ h. get_or words (t * goods_of table + h) 0 % 100) g (lit≤ tt) (omega (arith, mod_below (get_or words (t * goods_of table + g) 0) 100 (lit≤ tt))) in
     omega (arith, within)
 
-pub shares_small : (table : Observations) (words : List ℕ) (t : ℕ) (row : List ℕ) → row ≡ listed (goods_of table) (share_of table words t) → All (λ share. share < 100) row
+pub shares_small : (table : Observations) (words : List ℕ) (t : ℕ) (row : List ℕ) → row ≡ listed (goods_of table) (budget_share_of table words t) → All (λ share. share < 100) row
 shares_small table words t row is =
-    subst (All (λ share. share < 100)) (sym is) (all_listed (λ share. share < 100) (goods_of table) (share_of table words t) (λ g within. share_small table words t g))
+    subst (All (λ share. share < 100)) (sym is) (all_listed (λ share. share < 100) (goods_of table) (budget_share_of table words t) (λ g within. share_small table words t g))
 
 -- ---- listed numbers
 

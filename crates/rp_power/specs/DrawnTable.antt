@@ -7,11 +7,12 @@ use Rattle.rp_table.specs.Cost.{cost_of}
 use Rattle.rp_table.specs.Sums.{sum_below}
 use Rattle.rp_table.specs.Tables.{Observations, goods_of, records_of, price_of}
 use Rattle.rp_table.specs.declared.TheConstants.{LARGEST}
-use Rattle.rp_power.specs.Shares.{not_all_zero, shares}
+use Rattle.rp_power.specs.DrawnNumbers.{drawn_numbers, not_all_zero}
 
--- the share of each good at observation t by a list of words, one for each observation and then good
-abbrev pub share_of : Observations → List ℕ → ℕ → ℕ → ℕ
-share_of table words t = shares (goods_of table) (λ g. slice_index words (t * goods_of table + g))
+-- the share of what was spent at observation t that goes to each good, by a list of words, one for each observation and
+-- then good: a number of the sum of them all
+abbrev pub budget_share_of : Observations → List ℕ → ℕ → ℕ → ℕ
+budget_share_of table words t = drawn_numbers (goods_of table) (λ g. slice_index words (t * goods_of table + g))
 
 -- the whole part of what a good's share of an expenditure buys at the good's price, within the limit of quantities
 abbrev pub affordable : ℕ → ℕ → ℕ → ℕ → ℕ
@@ -20,7 +21,7 @@ affordable spent share total price = min LARGEST (spent * share / (total * price
 -- what the share of each good at observation t buys there
 abbrev pub bought_of : Observations → List ℕ → ℕ → ℕ → ℕ
 bought_of table words t g =
-    affordable (cost_of table t t) (share_of table words t g) (sum_below (goods_of table) (share_of table words t))
+    affordable (cost_of table t t) (budget_share_of table words t g) (sum_below (goods_of table) (budget_share_of table words t))
     (price_of table t g)
 
 -- the drawn quantity of each good at observation t: 1 of the first where nothing is bought

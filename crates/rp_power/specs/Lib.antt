@@ -1,4 +1,4 @@
-pub mod Shares
+pub mod DrawnNumbers
 pub mod DrawnTable
 pub mod InnerSpent
 pub mod PowerCount

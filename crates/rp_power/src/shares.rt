@@ -1,8 +1,8 @@
 ghost use Rattle.std.specs.Prelude.{◌≡◌, ◌+◌, ◌*◌, ◌<◌, ◌≤◌, All, OnOk, length, slice_index};
 ghost use Rattle.rp_num.specs.Below.{listed};
-ghost use Rattle.rp_power.specs.DrawnTable.{share_of};
+ghost use Rattle.rp_power.specs.DrawnTable.{budget_share_of};
 ghost use Rattle.rp_power.specs.PowerCount.{words_of};
-ghost use Rattle.rp_power.specs.Shares.{not_all_zero};
+ghost use Rattle.rp_power.specs.DrawnNumbers.{not_all_zero};
 ghost use Rattle.rp_table.specs.Sums.{sum_below};
 ghost use Rattle.rp_table.specs.Tables.{goods_of, records_of};
 ghost use Rattle.rp_table.specs.declared.TheConstants.{GOODS, LARGEST};
@@ -21,7 +21,7 @@ pub(crate) fn draw_shares(
     requires words { length words.now ≡ words_of table.now }
     requires observed { t < records_of table.now }
     ensures drawn { OnOk result (shares.new.items
-        ≡ listed (goods_of table.now) (share_of table.now words.now t)) }
+        ≡ listed (goods_of table.now) (budget_share_of table.now words.now t)) }
     ensures within { OnOk result (All (λ share. share < 100) shares.new.items) }
 {
     let goods = table.goods();

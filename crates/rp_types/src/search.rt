@@ -11,6 +11,7 @@ use crate::{COMBINATIONS, TYPES, TypesFault};
 use rp_num::Seq;
 use rp_patch::Patches;
 use rp_patch::partial_type::PartialType;
+use rp_table::BUDGETS;
 use std::alloc::Global;
 
 /// Adds a partial type with a patch of every budget.
@@ -27,7 +28,7 @@ fn push_type(
         (AreListedThrough patches.now (taken_in partial.now) types.new.items) }
     ensures refused { IfErr result (SaysMore patches.now) }
 {
-    prove!(patches.budgets() <= 48);
+    prove!(patches.budgets() <= BUDGETS);
     if types.len() == TYPES as usize {
         return Err(TypesFault::TooManyTypes);
     }

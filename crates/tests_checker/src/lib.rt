@@ -7,6 +7,8 @@ mod bound;
 #[cfg(test)]
 mod bounds;
 #[cfg(test)]
+mod cases;
+#[cfg(test)]
 mod forged;
 #[cfg(test)]
 mod items;

@@ -1,106 +1,132 @@
 //! Forged values and walks of the homothetic and the quasilinear test, with the clause that each fails first; several
 //! items.
-use crate::forged::{falling, fraction, negative, products, sums};
-use crate::items::{Answer, answer, answer_alone, list};
+use crate::cases::{Answer, Case, answer, assert_answer, assert_answers};
+use crate::forged::Forged::{Falling, Negative, Products, Sums};
+use crate::items::list;
 use rp_evidence::Reason::{NotClosed, NotLess, Number, Order, Shape, Wide};
 use rp_evidence::{AfriatPart, Garp, Homothetic, Item, Quasi};
 use rp_num::Seq;
 use std::alloc::Global;
+use std::process::Abort;
 use std::test::Fail;
 use tests_inputs::tables::{ALONE, APART, CONTRADICTION, MORE_AND_LESS};
 
 /// The greatest part of a fraction.
 const WIDEST: u128 = (1 << 127) - 1;
 
+const PRODUCTS: &[Case] = &[
+    (MORE_AND_LESS, Products(&[(1, 1), (1, 2)]), None),
+    (
+        MORE_AND_LESS,
+        Products(&[(1, 1), (0, 1)]),
+        Some((1, Number, 2)),
+    ),
+    (
+        CONTRADICTION,
+        Products(&[(1, 1), (1, 1)]),
+        Some((1, Order, 1)),
+    ),
+    (
+        MORE_AND_LESS,
+        Products(&[(1, 1), (1, 4)]),
+        Some((1, Order, 2)),
+    ),
+    (
+        CONTRADICTION,
+        Products(&[(WIDEST, 1), (1, 1)]),
+        Some((1, Wide, 1)),
+    ),
+    (APART, Products(&[(1, 1), (1, WIDEST)]), Some((1, Wide, 2))),
+    // the steps from the first come before those from the second
+    (
+        CONTRADICTION,
+        Products(&[(1, 1), (WIDEST, 1)]),
+        Some((1, Order, 1)),
+    ),
+    (APART, Products(&[]), Some((1, Shape, 0))),
+];
+
 #[test]
 fn forged_products(rt: HostRuntime) -> Result<(), Fail> {
-    let alloc = rt.alloc();
-    // (table, two values, and the answer)
-    let cases: [(&str, u128, u128, u128, u128, Answer); 7] = [
-        (MORE_AND_LESS, 1, 1, 1, 2, None),
-        (MORE_AND_LESS, 1, 1, 0, 1, Some((1, Number, 2))),
-        (CONTRADICTION, 1, 1, 1, 1, Some((1, Order, 1))),
-        (MORE_AND_LESS, 1, 1, 1, 4, Some((1, Order, 2))),
-        (CONTRADICTION, WIDEST, 1, 1, 1, Some((1, Wide, 1))),
-        (APART, 1, 1, 1, WIDEST, Some((1, Wide, 2))),
-        // the steps from the first come before those from the second
-        (CONTRADICTION, 1, 1, WIDEST, 1, Some((1, Order, 1))),
-    ];
-    for (text, num, den, other_num, other_den, expected) in cases {
-        let values = [fraction(&rt, num, den), fraction(&rt, other_num, other_den)];
-        let item = products(alloc, &values)?;
-        assert_eq!(rt; answer_alone(alloc, text, item)?, expected);
-    }
-    let item = products(alloc, &[])?;
-    assert_eq!(rt; answer_alone(alloc, APART, item)?, Some((1, Shape, 0)));
-    Ok(())
+    assert_answers(&rt, rt.alloc(), &[], PRODUCTS)
 }
+
+const FALLING: &[Case] = &[
+    (CONTRADICTION, Falling(1, 1, &[0, 1, 0]), None),
+    (CONTRADICTION, Falling(25, WIDEST, &[0, 1, 0]), None),
+    (
+        CONTRADICTION,
+        Falling(0, 1, &[0, 1, 0]),
+        Some((1, Number, 0)),
+    ),
+    (CONTRADICTION, Falling(1, 1, &[]), Some((1, Shape, 0))),
+    (
+        CONTRADICTION,
+        Falling(1, 1, &[0, 1]),
+        Some((1, NotClosed, 0)),
+    ),
+    (
+        CONTRADICTION,
+        Falling(1, 1, &[0, 2, 0]),
+        Some((1, Number, 2)),
+    ),
+    (APART, Falling(1, 1, &[0, 1, 0]), Some((1, NotLess, 0))),
+    (CONTRADICTION, Falling(1, 1, &[0, 0]), Some((1, NotLess, 0))),
+    (
+        CONTRADICTION,
+        Falling(WIDEST, 1, &[0, 1, 0]),
+        Some((1, Wide, 1)),
+    ),
+    (
+        CONTRADICTION,
+        Falling(1, WIDEST, &[0, 1, 0]),
+        Some((1, Wide, 1)),
+    ),
+    (
+        CONTRADICTION,
+        Falling(5 << 124, 1, &[0, 1, 0]),
+        Some((1, Wide, 2)),
+    ),
+];
 
 #[test]
 fn forged_falling_cycles(rt: HostRuntime) -> Result<(), Fail> {
-    let alloc = rt.alloc();
-    // (table, start, walk, and the answer)
-    let cases: [(&str, u128, u128, &[u32], Answer); 11] = [
-        (CONTRADICTION, 1, 1, &[0, 1, 0], None),
-        (CONTRADICTION, 25, WIDEST, &[0, 1, 0], None),
-        (CONTRADICTION, 0, 1, &[0, 1, 0], Some((1, Number, 0))),
-        (CONTRADICTION, 1, 1, &[], Some((1, Shape, 0))),
-        (CONTRADICTION, 1, 1, &[0, 1], Some((1, NotClosed, 0))),
-        (CONTRADICTION, 1, 1, &[0, 2, 0], Some((1, Number, 2))),
-        (APART, 1, 1, &[0, 1, 0], Some((1, NotLess, 0))),
-        (CONTRADICTION, 1, 1, &[0, 0], Some((1, NotLess, 0))),
-        (CONTRADICTION, WIDEST, 1, &[0, 1, 0], Some((1, Wide, 1))),
-        (CONTRADICTION, 1, WIDEST, &[0, 1, 0], Some((1, Wide, 1))),
-        (CONTRADICTION, 5 << 124, 1, &[0, 1, 0], Some((1, Wide, 2))),
-    ];
-    for (text, num, den, walk, expected) in cases {
-        let item = falling(alloc, fraction(&rt, num, den), walk)?;
-        assert_eq!(rt; answer_alone(alloc, text, item)?, expected);
-    }
-    Ok(())
+    assert_answers(&rt, rt.alloc(), &[], FALLING)
 }
+
+const SUMS: &[Case] = &[
+    (MORE_AND_LESS, Sums(&[0, -4]), None),
+    (APART, Sums(&[]), Some((1, Shape, 0))),
+    (APART, Sums(&[0]), Some((1, Shape, 0))),
+    (CONTRADICTION, Sums(&[0, 0]), Some((1, Order, 1))),
+    (MORE_AND_LESS, Sums(&[0, -3]), Some((1, Order, 1))),
+    (MORE_AND_LESS, Sums(&[0, -5]), Some((1, Order, 2))),
+    (ALONE, Sums(&[1 << 100]), None),
+    (ALONE, Sums(&[-(1 << 100)]), None),
+    (ALONE, Sums(&[(1 << 100) + 1]), Some((1, Number, 1))),
+    (ALONE, Sums(&[-(1 << 100) - 1]), Some((1, Number, 1))),
+    (ALONE, Sums(&[i128::MAX]), Some((1, Number, 1))),
+    (ALONE, Sums(&[i128::MIN]), Some((1, Number, 1))),
+];
 
 #[test]
 fn forged_sums(rt: HostRuntime) -> Result<(), Fail> {
-    let alloc = rt.alloc();
-    let cases: [(&str, &[i128], Answer); 12] = [
-        (MORE_AND_LESS, &[0, -4], None),
-        (APART, &[], Some((1, Shape, 0))),
-        (APART, &[0], Some((1, Shape, 0))),
-        (CONTRADICTION, &[0, 0], Some((1, Order, 1))),
-        (MORE_AND_LESS, &[0, -3], Some((1, Order, 1))),
-        (MORE_AND_LESS, &[0, -5], Some((1, Order, 2))),
-        (ALONE, &[1 << 100], None),
-        (ALONE, &[-(1 << 100)], None),
-        (ALONE, &[(1 << 100) + 1], Some((1, Number, 1))),
-        (ALONE, &[-(1 << 100) - 1], Some((1, Number, 1))),
-        (ALONE, &[i128::MAX], Some((1, Number, 1))),
-        (ALONE, &[i128::MIN], Some((1, Number, 1))),
-    ];
-    for (text, values, expected) in cases {
-        let item = sums(alloc, values)?;
-        assert_eq!(rt; answer_alone(alloc, text, item)?, expected);
-    }
-    Ok(())
+    assert_answers(&rt, rt.alloc(), &[], SUMS)
 }
+
+const NEGATIVE: &[Case] = &[
+    (CONTRADICTION, Negative(&[0, 1, 0]), None),
+    (CONTRADICTION, Negative(&[]), Some((1, Shape, 0))),
+    (CONTRADICTION, Negative(&[0, 1]), Some((1, NotClosed, 0))),
+    (CONTRADICTION, Negative(&[7, 7]), Some((1, Number, 1))),
+    (APART, Negative(&[0, 1, 0]), Some((1, NotLess, 0))),
+    // a sum of just 0
+    (MORE_AND_LESS, Negative(&[0, 1, 0]), Some((1, NotLess, 0))),
+];
 
 #[test]
 fn forged_negative_cycles(rt: HostRuntime) -> Result<(), Fail> {
-    let alloc = rt.alloc();
-    let cases: [(&str, &[u32], Answer); 6] = [
-        (CONTRADICTION, &[0, 1, 0], None),
-        (CONTRADICTION, &[], Some((1, Shape, 0))),
-        (CONTRADICTION, &[0, 1], Some((1, NotClosed, 0))),
-        (CONTRADICTION, &[7, 7], Some((1, Number, 1))),
-        (APART, &[0, 1, 0], Some((1, NotLess, 0))),
-        // a sum of just 0
-        (MORE_AND_LESS, &[0, 1, 0], Some((1, NotLess, 0))),
-    ];
-    for (text, walk, expected) in cases {
-        let item = negative(alloc, walk)?;
-        assert_eq!(rt; answer_alone(alloc, text, item)?, expected);
-    }
-    Ok(())
+    assert_answers(&rt, rt.alloc(), &[], NEGATIVE)
 }
 
 /// What the checker answers on a walk as a violation, values of the quasilinear test and a walk of negative sum.
@@ -119,21 +145,29 @@ fn answer_on_three(
     answer(alloc, text, items)
 }
 
-#[test]
-fn the_first_item_that_fails_is_named(rt: HostRuntime) -> Result<(), Fail> {
-    let alloc = rt.alloc();
-    // (a walk as a violation, values of the quasilinear test, a walk of negative sum, and the answer)
-    let cases: [(&[u32], &[i128], &[u32], Answer); 4] = [
-        (&[0, 1, 0], &[0], &[0, 1, 0], Some((2, Shape, 0))),
-        (&[0, 1, 0], &[0, 0], &[], Some((2, Order, 1))),
-        (&[0, 1], &[0, 0], &[], Some((1, NotClosed, 0))),
-        (&[], &[], &[], Some((1, Shape, 0))),
-    ];
-    for (violation, values, walk, expected) in cases {
+/// A walk as a violation, values of the quasilinear test, a walk of negative sum, and the answer.
+type Three = (&'static [u32], &'static [i128], &'static [u32], Answer);
+
+const THREE_ITEMS: &[Three] = &[
+    (&[0, 1, 0], &[0], &[0, 1, 0], Some((2, Shape, 0))),
+    (&[0, 1, 0], &[0, 0], &[], Some((2, Order, 1))),
+    (&[0, 1], &[0, 0], &[], Some((1, NotClosed, 0))),
+    (&[], &[], &[], Some((1, Shape, 0))),
+];
+
+/// Asserts what the checker answers on the three items of each.
+fn assert_first_failures(rt: &impl Abort, alloc: Global, cases: &[Three]) -> Result<(), Fail> {
+    for k in 0..cases.len() {
+        let (violation, values, walk, expected) = cases[k];
         let got = answer_on_three(alloc, CONTRADICTION, violation, values, walk)?;
-        assert_eq!(rt; got, expected);
+        assert_answer(rt, k, got, expected);
     }
     Ok(())
+}
+
+#[test]
+fn the_first_item_that_fails_is_named(rt: HostRuntime) -> Result<(), Fail> {
+    assert_first_failures(&rt, rt.alloc(), THREE_ITEMS)
 }
 
 #[test]
@@ -147,7 +181,7 @@ fn what_is_withheld_is_passed_over(rt: HostRuntime) -> Result<(), Fail> {
         from: place,
         to: place,
     }))?;
-    assert_eq!(rt; answer(alloc, ALONE, items)?, None);
-    assert_eq!(rt; answer(alloc, ALONE, Vec::new(alloc))?, None);
+    assert_answer(&rt, 0, answer(alloc, ALONE, items)?, None);
+    assert_answer(&rt, 1, answer(alloc, ALONE, Vec::new(alloc))?, None);
     Ok(())
 }

@@ -1,10 +1,9 @@
-ghost use Rattle.std.specs.Prelude.{◌≡◌, ◌+◌, ◌%◌, ◌≤◌, IfOk, OnOk};
+ghost use Rattle.std.specs.Prelude.{◌≡◌, ◌≤◌, IfOk, OnOk};
 ghost use Rattle.rp_num.specs.Below.{listed};
 ghost use Rattle.rp_table.specs.declared.TheConstants.{RECORDS, GOODS};
-ghost use Rattle.rp_answers.specs.TrialTable.{trial_of, good_name};
+ghost use Rattle.rp_answers.specs.TrialTable.{good_name, trial_of, trial_price};
 ghost use Rattle.rp_power.specs.Words.{after_words, word_after};
-ghost use Rattle.rp_answers.specs.TrialTable.{drawn_price};
-ghost use Rattle.rp_power.specs.Shares.{not_all_zero};
+ghost use Rattle.rp_power.specs.DrawnNumbers.{drawn_numbers};
 
 use rand_pcg::Lcg64Xsh32;
 use rp_num::{NoMemory, print_u128};
@@ -36,7 +35,7 @@ pub fn trial_table(alloc: Global, seed: u64, rows: u32, goods: u32) -> Result<Ta
 
 /// The prices of a record.
 fn draw_prices(alloc: Global, generator: &mut Lcg64Xsh32, goods: u32) -> Result<Vec<u32>, NoMemory>
-    ensures drawn { IfOk result (λ row. row.items ≡ listed goods (drawn_price generator.old)) }
+    ensures drawn { IfOk result (λ row. row.items ≡ listed goods (trial_price generator.old)) }
     ensures moved { OnOk result (generator.new ≡ after_words generator.old goods) }
 {
     let mut row = Vec::new(alloc);
@@ -55,7 +54,7 @@ fn draw_quantities(
     requires some_goods { 1 ≤ goods }
     requires few_goods { goods ≤ GOODS }
     ensures drawn { IfOk result (λ row. row.items
-        ≡ listed goods (not_all_zero goods (λ g. word_after generator.old g % 100))) }
+        ≡ listed goods (drawn_numbers goods (word_after generator.old))) }
     ensures moved { OnOk result (generator.new ≡ after_words generator.old goods) }
 {
     let mut row = Vec::new(alloc);

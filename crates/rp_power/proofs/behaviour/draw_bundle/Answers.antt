@@ -4,23 +4,23 @@ use Rattle.std.proofs.lemmas.List.Elements.{All-push}
 use Rattle.rp_num.proofs.BelowLemmas.{listed-more}
 use Rattle.rp_table.specs.Cost.{cost_of}
 use Rattle.rp_table.specs.Tables.{goods_of, price_of}
-use Rattle.rp_power.specs.DrawnTable.{affordable, bought_of, share_of}
+use Rattle.rp_power.specs.DrawnTable.{affordable, bought_of, budget_share_of}
 use Rattle.rp_power.proofs.DrawnLemmas.{count_of, left, not_all_zero_sum, read_at, share_small, total_of}
 use Rattle.rp_power.proofs.behaviour.draw_bundle.Goals as goal
 
 pub total-total-requires-clause-few : goal.total-total-requires-clause-few
 total-total-requires-clause-few c =
-    let count = count_of (share_of c.args.table.now c.args.words.now c.args.t) (goods_of c.args.table.now) c.draw_shares.new.shares.items c.in_ok-draw_shares.ensures.drawn in
+    let count = count_of (budget_share_of c.args.table.now c.args.words.now c.args.t) (goods_of c.args.table.now) c.draw_shares.new.shares.items c.in_ok-draw_shares.ensures.drawn in
     rw c.as_slice.ensures.value (omega (arith, count, c.goods-goods.ensures.valid.few_goods))
 
 pub index-share-requires : goal.index-share-requires
 index-share-requires c =
-    let count = count_of (share_of c.args.table.now c.args.words.now c.args.t) (goods_of c.args.table.now) c.draw_shares.new.shares.items c.in_ok-draw_shares.ensures.drawn in
+    let count = count_of (budget_share_of c.args.table.now c.args.words.now c.args.t) (goods_of c.args.table.now) c.draw_shares.new.shares.items c.in_ok-draw_shares.ensures.drawn in
     omega (arith, count, c.draw_shares.new.shares.ok.0, c.loop-g-test.true, c.goods-goods.ensures.count)
 
 pub affordable-requires-clause-share : goal.affordable-requires-clause-share
 affordable-requires-clause-share c =
-    let share = read_at (share_of c.args.table.now c.args.words.now c.args.t) (goods_of c.args.table.now) c.loop-g.g c.index-share.result.now c.draw_shares.new.shares.items c.in_ok-draw_shares.ensures.drawn (omega (arith, c.loop-g-test.true, c.goods-goods.ensures.count)) c.index-share.ensures in
+    let share = read_at (budget_share_of c.args.table.now c.args.words.now c.args.t) (goods_of c.args.table.now) c.loop-g.g c.index-share.result.now c.draw_shares.new.shares.items c.in_ok-draw_shares.ensures.drawn (omega (arith, c.loop-g-test.true, c.goods-goods.ensures.count)) c.index-share.ensures in
     subst (λ s. s < 100) (sym share) (share_small c.args.table.now c.args.words.now c.args.t c.loop-g.g)
 
 pub affordable-requires-clause-some : goal.affordable-requires-clause-some
@@ -28,7 +28,7 @@ affordable-requires-clause-some c =
     let table = c.args.table.now in
     let words = c.args.words.now in
     let t = c.args.t in
-    let total = total_of (share_of table words t) (goods_of table) c.total-total.result c.draw_shares.new.shares.items c.in_ok-draw_shares.ensures.drawn (rw c.as_slice.ensures.value at c.total-total.ensures.exact) in
+    let total = total_of (budget_share_of table words t) (goods_of table) c.total-total.result c.draw_shares.new.shares.items c.in_ok-draw_shares.ensures.drawn (rw c.as_slice.ensures.value at c.total-total.ensures.exact) in
     subst (λ s. 1 ≤ s) (sym total) (not_all_zero_sum (goods_of table) (λ g. slice_index words (t * goods_of table + g) % 100) c.goods-goods.ensures.valid.some_goods)
 
 pub loop-g-preserved : goal.loop-g-preserved
@@ -39,8 +39,8 @@ loop-g-preserved c =
     let g = c.loop-g.g in
     let observed = c.requires.observed in
     let spent : c.cost.result ≡ cost_of table t t = c.cost.ensures.exact ∙ c.requires.of_table.each t t observed observed in
-    let share = read_at (share_of table words t) (goods_of table) g c.index-share.result.now c.draw_shares.new.shares.items c.in_ok-draw_shares.ensures.drawn (omega (arith, c.loop-g-test.true, c.goods-goods.ensures.count)) c.index-share.ensures in
-    let total = total_of (share_of table words t) (goods_of table) c.total-total.result c.draw_shares.new.shares.items c.in_ok-draw_shares.ensures.drawn (rw c.as_slice.ensures.value at c.total-total.ensures.exact) in
+    let share = read_at (budget_share_of table words t) (goods_of table) g c.index-share.result.now c.draw_shares.new.shares.items c.in_ok-draw_shares.ensures.drawn (omega (arith, c.loop-g-test.true, c.goods-goods.ensures.count)) c.index-share.ensures in
+    let total = total_of (budget_share_of table words t) (goods_of table) c.total-total.result c.draw_shares.new.shares.items c.in_ok-draw_shares.ensures.drawn (rw c.as_slice.ensures.value at c.total-total.ensures.exact) in
     let price : c.price-price.result ≡ price_of table t g = c.price-price.ensures.exact in
     let quantity : c.affordable.result ≡ bought_of table words t g = c.affordable.ensures.exact ∙ (λ i. affordable (spent i) (share i) (total i) (price i)) in
     record {

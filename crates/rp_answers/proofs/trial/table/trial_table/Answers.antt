@@ -1,7 +1,6 @@
 use Rattle.std.proofs.Common.{◌≡◌, ◌∙◌, ◌++◌, ap, sym, subst, arith, List, ℕ}
 use Rattle.rp_table.specs.Tables.{IsTable}
-use Rattle.rp_answers.specs.TrialTable.{record_generator, drawn_price, drawn_quantity}
-use Rattle.rp_power.specs.Shares.{not_all_zero}
+use Rattle.rp_answers.specs.TrialTable.{record_generator, trial_price, trial_quantity}
 use Rattle.rp_power.proofs.DrawnLemmas.{row_more}
 use Rattle.rp_answers.proofs.TrialLemmas.{first_record, record_more, quantities_after, trial_is_table, trial_is}
 use Rattle.rp_answers.proofs.trial.table.trial_table.Goals as goal
@@ -21,8 +20,8 @@ loop-preserved c =
     let here = c.loop.generator in
     let mid = c.draw_prices.new.generator in
     let i = c.loop.invariant in
-    let price : ℕ → ℕ → ℕ = λ t. drawn_price (record_generator seed goods t) in
-    let quantity : ℕ → ℕ → ℕ = λ t. not_all_zero goods (drawn_quantity goods (record_generator seed goods t)) in
+    let price : ℕ → ℕ → ℕ = λ t. trial_price (record_generator seed goods t) in
+    let quantity : ℕ → ℕ → ℕ = λ t. trial_quantity goods (record_generator seed goods t) in
     record {
       moved = record_more seed goods k here mid c.draw_quantities.new.generator i.moved c.in_ok-priced.ensures.moved c.in_ok-bought.ensures.moved;
       priced = row_more k goods price c.loop.prices.items c.in_ok-priced.priced.items c.extend_from_slice.new.self.items i.priced (rw i.moved at c.in_ok-priced.ensures.drawn) (c.in_ok-extend_from_slice.ensures.items ∙ ap (λ (l : List ℕ). c.loop.prices.items ++ l) c.as_slice.ensures.value);
