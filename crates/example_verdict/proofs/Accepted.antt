@@ -1,7 +1,7 @@
 -- The checker accepts the certificate of the three verdicts: none of its items fails.
 use Rattle.std.proofs.Common.{◌≡◌, ℕ, zero, suc, List, arith, inr, subst, sym}
 use Rattle.rp_afriat.proofs.SameVerdicts.{own_verdict_same as afriat_verdict_same}
-use Rattle.rp_afriat.specs.Verdict.{IsOwnAfriatVerdict}
+use Rattle.rp_afriat.specs.AfriatVerdict.{IsOwnAfriatVerdict}
 use Rattle.rp_agreement.proofs.Accepted.{afriat_passes, efficiency_passes, garp_passes}
 use Rattle.rp_agreement.proofs.AcceptedItems.{levels_pass}
 use Rattle.rp_agreement.proofs.OneFinding.{only_accepted}
@@ -9,7 +9,7 @@ use Rattle.rp_check.specs.CheckVerdict.{IsCheckVerdictOnItems, IsCheckVerdict}
 use Rattle.rp_check.specs.declared.verdict.Verdict.{Verdict}
 use Rattle.rp_check.specs.declared.verdict.Verdict.TheVariants.{Accepted}
 use Rattle.rp_effic.proofs.SameVerdicts.{verdict_same as efficiency_verdict_same}
-use Rattle.rp_effic.specs.Verdict.{IsEfficiencyVerdict}
+use Rattle.rp_effic.specs.EfficiencyVerdict.{IsEfficiencyVerdict}
 use Rattle.rp_evidence.proofs.OwnLevels.{own_garp_same}
 use Rattle.rp_evidence.proofs.SameAfriat.{own_afriat_same}
 use Rattle.rp_evidence.proofs.SameIndex.{efficiency_same}

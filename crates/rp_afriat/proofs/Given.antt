@@ -10,7 +10,7 @@ use Rattle.rp_evidence.specs.Preference.{StrictByLevels, WeakByLevels}
 use Rattle.rp_evidence.specs.declared.afriat.AfriatPart.TheVariants.{Model}
 use Rattle.rp_evidence.proofs.OwnAfriat.{own_standard_model, weak_by_own}
 use Rattle.rp_afriat.specs.InnerFilling.{AreFilledAbove, AreForEach, FitAbove}
-use Rattle.rp_afriat.specs.Verdict.{IsOwnAfriatVerdict}
+use Rattle.rp_afriat.specs.AfriatVerdict.{IsOwnAfriatVerdict}
 use Rattle.rp_afriat.proofs.Fillings.{all_fit, standard_numbers}
 
 module _ (n : ℕ) (levels : List ℕ) (c : ℕ → ℕ → ℕ) (counts : List ℕ) (u : List ℤ) (lambda : List ℕ) (counted : AreCounts n (WeakByLevels levels c) counts) (each : AreForEach n counts u lambda) (filled : AreFilledAbove n (in_scale (level_scale levels) c) (own_by_level levels c) counts u lambda 0) (fit : FitAbove n counts u lambda 0) (holds : HasNoViolation n (WeakByLevels levels c) (StrictByLevels levels c)) where

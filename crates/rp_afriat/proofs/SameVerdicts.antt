@@ -10,7 +10,7 @@ use Rattle.rp_evidence.proofs.OwnAfriat.{evidence_without_levels}
 use Rattle.rp_evidence.proofs.OwnLevels.{strict_by_levels_same, weak_by_levels_same}
 use Rattle.rp_evidence.proofs.SameAfriat.{own_standard_same}
 use Rattle.rp_evidence.proofs.SameCosts.{no_violation_same, preference_violation_same}
-use Rattle.rp_afriat.specs.Verdict.{IsOwnAfriatVerdict}
+use Rattle.rp_afriat.specs.AfriatVerdict.{IsOwnAfriatVerdict}
 
 module _ (n : ℕ) (levels : List ℕ) (c d : ℕ → ℕ → ℕ) (same : AgreeBelow n c d) where
   own_holds_same : HasNoViolation n (WeakByLevels levels c) (StrictByLevels levels c) → HasNoViolation n (WeakByLevels levels d) (StrictByLevels levels d)

@@ -1,3 +1,3 @@
 pub mod Bundle
 pub mod InnerFilling
-pub mod Verdict
+pub mod AfriatVerdict

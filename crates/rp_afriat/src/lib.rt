@@ -5,7 +5,7 @@ mod bounds;
 mod classes;
 mod multipliers;
 mod utility;
-mod verdict;
+mod afriat;
 
 pub use utility::utility_at;
-pub use verdict::afriat;
+pub use afriat::afriat;

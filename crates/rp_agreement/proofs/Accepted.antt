@@ -2,13 +2,13 @@
 use Rattle.std.proofs.Common.{◌≡◌, ◌≢◌, ◌<◌, ◌*◌, ◌⊎◌, ℕ, ℤ, List, length, Ok, ap, arith, inl, inr}
 use Rattle.std.proofs.lemmas.Int.{ints}
 use Rattle.std.proofs.lemmas.Bool.{cases_eq}
-use Rattle.rp_afriat.specs.Verdict.{IsOwnAfriatVerdict}
+use Rattle.rp_afriat.specs.AfriatVerdict.{IsOwnAfriatVerdict}
 use Rattle.rp_clauses.specs.AfriatFailure.{AfriatFails}
 use Rattle.rp_clauses.specs.EfficiencyFailure.{AboveFails, EfficiencyFails}
 use Rattle.rp_clauses.specs.GarpFailure.{GarpFails}
 use Rattle.rp_clauses.specs.HomotheticFailure.{HomotheticFails}
 use Rattle.rp_clauses.specs.QuasilinearFailure.{QuasilinearFails}
-use Rattle.rp_effic.specs.Verdict.{IsEfficiencyVerdict}
+use Rattle.rp_effic.specs.EfficiencyVerdict.{IsEfficiencyVerdict}
 use Rattle.rp_evidence.specs.AfriatEvidence.{ProvesOwnAfriat}
 use Rattle.rp_evidence.specs.Efficiency.{BoundsFromAbove, ProvesEfficiency}
 use Rattle.rp_evidence.specs.Garp.{ProvesOfPreference}
@@ -25,9 +25,9 @@ use Rattle.rp_evidence.specs.declared.homothetic.Homothetic.{Homothetic}
 use Rattle.rp_evidence.specs.declared.homothetic.Homothetic.TheVariants.{Values as ProductValues, Cycle as FallingCycle, Withheld}
 use Rattle.rp_evidence.specs.declared.quasilinear.Quasi.{Quasi}
 use Rattle.rp_evidence.specs.declared.quasilinear.Quasi.TheVariants.{Values, Cycle as NegativeCycle}
-use Rattle.rp_homo.specs.Verdict.{IsHomotheticVerdict}
+use Rattle.rp_homo.specs.HomotheticVerdict.{IsHomotheticVerdict}
 use Rattle.rp_num.specs.Fraction.{Fraction}
-use Rattle.rp_quasi.specs.Verdict.{IsLimitedSum, IsQuasilinearVerdict}
+use Rattle.rp_quasi.specs.QuasilinearVerdict.{IsLimitedSum, IsQuasilinearVerdict}
 use Rattle.rp_clauses.specs.QuasilinearFailure.{FitsValue}
 use Rattle.rp_agreement.proofs.Closed.{closed_passes, violation_passes, weak_passes}
 use Rattle.rp_agreement.proofs.Narrow.{narrow_after}

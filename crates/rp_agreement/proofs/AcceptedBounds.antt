@@ -24,8 +24,8 @@ use Rattle.rp_evidence.specs.declared.garp.Garp.{Garp}
 use Rattle.rp_evidence.specs.declared.garp.Garp.TheVariants.{Ranks, Cycle}
 use Rattle.rp_evidence.proofs.DemandLaws.{enough_where_kept, more_where_kept}
 use Rattle.rp_support.specs.Bounds.{AreBoundsOf}
-use Rattle.rp_support.specs.Verdict.{IsDemandVerdict}
-use Rattle.rp_welfare.specs.Verdict.{IsLowerBound, IsWelfareVerdict}
+use Rattle.rp_support.specs.DemandVerdict.{IsDemandVerdict}
+use Rattle.rp_welfare.specs.WelfareVerdict.{IsLowerBound, IsWelfareVerdict}
 use Rattle.rp_agreement.proofs.Closed.{violation_passes}
 
 prices_pass : (goods : ℕ) (prices : List ℕ) → AreNewPrices goods prices → PricesFail goods prices (Ok tt)

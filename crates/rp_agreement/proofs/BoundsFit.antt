@@ -37,10 +37,10 @@ use Rattle.rp_num.proofs.Lowest.{FitsWidth-divided, IsLowestTerms-divided, IsLow
 use Rattle.rp_simplex.specs.Outcome.{EndsPastWidth}
 use Rattle.rp_simplex.specs.ProgramBound.{IsBoundOf}
 use Rattle.rp_support.specs.Bounds.{AreBoundsOf}
-use Rattle.rp_support.specs.Verdict.{IsDemandVerdict}
+use Rattle.rp_support.specs.DemandVerdict.{IsDemandVerdict}
 use Rattle.rp_table.specs.Sums.{sum_below}
 use Rattle.rp_table.specs.declared.TheConstants.{LARGEST, RECORDS}
-use Rattle.rp_welfare.specs.Verdict.{IsLowerBound, IsWelfareVerdict}
+use Rattle.rp_welfare.specs.WelfareVerdict.{IsLowerBound, IsWelfareVerdict}
 use Rattle.rp_agreement.specs.Limited.{IsLimited}
 use Rattle.rp_agreement.proofs.Lists.{listed_fit, rising_few, walk_fits}
 

@@ -18,7 +18,7 @@ use Rattle.rp_json.specs.Denoted.{FitLevels, FitsKind, IsReadable}
 use Rattle.rp_json_entries.proofs.ListLemmas.{all_more, all_none}
 use Rattle.rp_patch.specs.Patches.{IsPatchList, PatchList}
 use Rattle.rp_patch.specs.RandomEvidence.{ProvesRandom}
-use Rattle.rp_random.specs.Verdict.{IsRandomVerdict}
+use Rattle.rp_random.specs.RandomVerdict.{IsRandomVerdict}
 use Rattle.rp_table.specs.OwnLevels.{AreOwnLevels}
 use Rattle.rp_table.specs.Tables.{IsTable, Observations, goods_of, records_of}
 use Rattle.rp_agreement.specs.Limited.{IsLimited}

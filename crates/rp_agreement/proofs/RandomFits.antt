@@ -3,7 +3,7 @@ use Rattle.std.proofs.Common.{◌≡◌, ◌<◌, ◌^◌, ℕ, zero, suc, ℤ, 
 use Rattle.std.proofs.lemmas.List.{get_or_default}
 use Rattle.std.proofs.lemmas.List.Elements.{Contains-get_or}
 use Rattle.std.specs.Int.RustNames.{unsigned_abs}
-use Rattle.rp_find_mixture.specs.Verdict.{IsOutcomeVerdict, shares_of}
+use Rattle.rp_find_mixture.specs.MixtureVerdict.{IsOutcomeVerdict, shares_of}
 use Rattle.rp_evidence.specs.declared.random.RandomPart.{RandomPart}
 use Rattle.rp_evidence.specs.declared.random.RandomPart.TheVariants.{Mixture, Violated, Wide}
 use Rattle.rp_evidence.specs.declared.random.Share.{Share}
@@ -18,7 +18,7 @@ use Rattle.rp_patch.specs.Mixtures.{random_program, types_on}
 use Rattle.rp_patch.specs.Patches.{IsPatchList, PatchList}
 use Rattle.rp_patch.specs.RandomEvidence.{ProvesRandom}
 use Rattle.rp_patch.specs.Types.{IsRationalType, IsType}
-use Rattle.rp_random.specs.Verdict.{IsRandomVerdict}
+use Rattle.rp_random.specs.RandomVerdict.{IsRandomVerdict}
 use Rattle.rp_simplex.specs.Outcome.{EndsOptimal, IsOutcome}
 use Rattle.rp_simplex.specs.declared.outcome.Outcome.{Outcome}
 use Rattle.rp_simplex.specs.declared.outcome.Outcome.TheVariants.{Optimal, Unbounded, Wide as PassedWidth}

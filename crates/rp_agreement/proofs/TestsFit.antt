@@ -4,8 +4,8 @@ use Rattle.std.proofs.lemmas.Bool.{cases_eq}
 use Rattle.std.proofs.lemmas.Int.{ints}
 use Rattle.std.proofs.lemmas.List.{get_or_default}
 use Rattle.rp_num.specs.Spelled.{FitsSum, IsReduced}
-use Rattle.rp_afriat.specs.Verdict.{IsOwnAfriatVerdict}
-use Rattle.rp_effic.specs.Verdict.{IsEfficiencyVerdict}
+use Rattle.rp_afriat.specs.AfriatVerdict.{IsOwnAfriatVerdict}
+use Rattle.rp_effic.specs.EfficiencyVerdict.{IsEfficiencyVerdict}
 use Rattle.rp_pref.specs.Violation.{IsVerdictOfPreference}
 use Rattle.rp_evidence.specs.AfriatEvidence.{ProvesOwnAfriat}
 use Rattle.rp_evidence.specs.Efficiency.{BoundsFromAbove, ProvesEfficiency}
@@ -24,10 +24,10 @@ use Rattle.rp_evidence.specs.declared.homothetic.Homothetic.{Homothetic}
 use Rattle.rp_evidence.specs.declared.homothetic.Homothetic.TheVariants.{Values as Products, Cycle as Falls, Withheld}
 use Rattle.rp_evidence.specs.declared.quasilinear.Quasi.{Quasi}
 use Rattle.rp_evidence.specs.declared.quasilinear.Quasi.TheVariants.{Values as Sums, Cycle as Negative}
-use Rattle.rp_homo.specs.Verdict.{IsHomotheticVerdict}
+use Rattle.rp_homo.specs.HomotheticVerdict.{IsHomotheticVerdict}
 use Rattle.rp_json_entries.specs.Reading.{FitObservations}
 use Rattle.rp_json_tests.specs.Limits.{FitsAfriat, FitsEfficiency, FitsGarp, FitsHomothetic, FitsQuasilinear}
-use Rattle.rp_quasi.specs.Verdict.{IsLimitedSum, IsQuasilinearVerdict}
+use Rattle.rp_quasi.specs.QuasilinearVerdict.{IsLimitedSum, IsQuasilinearVerdict}
 use Rattle.rp_table.specs.declared.TheConstants.{RECORDS}
 use Rattle.rp_agreement.proofs.Lists.{counts_fit, walk_fits}
 

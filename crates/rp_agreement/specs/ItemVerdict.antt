@@ -1,9 +1,9 @@
 -- What the searches give for a table, item by item (sources at each kind of evidence), and what it is that nothing is
 -- found wrong with it.
 use Rattle.std.specs.Prelude.{◌≡◌, ◌<◌, Ok, []}
-use Rattle.rp_afriat.specs.Verdict.{IsOwnAfriatVerdict}
+use Rattle.rp_afriat.specs.AfriatVerdict.{IsOwnAfriatVerdict}
 use Rattle.rp_evidence.specs.Clauses.{Finding}
-use Rattle.rp_effic.specs.Verdict.{IsEfficiencyVerdict}
+use Rattle.rp_effic.specs.EfficiencyVerdict.{IsEfficiencyVerdict}
 use Rattle.rp_evidence.specs.DemandEvidence.{budget_of}
 use Rattle.rp_evidence.specs.Input.{TableInput}
 use Rattle.rp_evidence.specs.Proves.{Proves}
@@ -14,13 +14,13 @@ use Rattle.rp_evidence.specs.declared.certificate.Item.TheVariants.{Homothetic a
 use Rattle.rp_evidence.specs.declared.certificate.Item.TheVariants.{Demand as DemandItem, Welfare as WelfareItem}
 use Rattle.rp_evidence.specs.declared.certificate.Item.TheVariants.{Random as RandomItem}
 use Rattle.rp_evidence.specs.declared.garp.Garp.{Garp}
-use Rattle.rp_garp.specs.Verdict.{IsOwnGarpVerdict}
-use Rattle.rp_homo.specs.Verdict.{IsHomotheticVerdict}
-use Rattle.rp_quasi.specs.Verdict.{IsQuasilinearVerdict}
-use Rattle.rp_support.specs.Verdict.{IsDemandVerdict}
+use Rattle.rp_garp.specs.GarpVerdict.{IsOwnGarpVerdict}
+use Rattle.rp_homo.specs.HomotheticVerdict.{IsHomotheticVerdict}
+use Rattle.rp_quasi.specs.QuasilinearVerdict.{IsQuasilinearVerdict}
+use Rattle.rp_support.specs.DemandVerdict.{IsDemandVerdict}
 use Rattle.rp_table.specs.Limits.{IsExpenditure}
 use Rattle.rp_table.specs.NewPrices.{AreNewPrices}
-use Rattle.rp_welfare.specs.Verdict.{IsWelfareVerdict}
+use Rattle.rp_welfare.specs.WelfareVerdict.{IsWelfareVerdict}
 
 -- Nothing is found wrong.
 abbrev pub PassesCheck : Finding → Type 0

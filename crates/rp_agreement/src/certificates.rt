@@ -21,7 +21,7 @@ ghost use Rattle.rp_json.specs.Denoted.{IsReadable};
 ghost use Rattle.rp_patch.specs.Patches.{IsPatchList, PatchList};
 ghost use Rattle.rp_patch.specs.RandomEvidence.{ProvesRandom};
 ghost use Rattle.rp_patch.specs.Types.{AreRationalTypes};
-ghost use Rattle.rp_random.specs.Verdict.{IsRandomVerdict};
+ghost use Rattle.rp_random.specs.RandomVerdict.{IsRandomVerdict};
 ghost use Rattle.rp_types.specs.declared.TheConstants.{TYPES};
 
 /// The text of a certificate that can be read back denotes it, and nothing else but for want of memory.

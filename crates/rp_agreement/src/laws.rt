@@ -1,5 +1,5 @@
 ghost use Rattle.std.specs.Prelude.{◌<◌, ◌≤◌, List, length, ℕ};
-ghost use Rattle.rp_afriat.specs.Verdict.{IsOwnAfriatVerdict};
+ghost use Rattle.rp_afriat.specs.AfriatVerdict.{IsOwnAfriatVerdict};
 ghost use Rattle.rp_agreement.specs.ItemVerdict.{PassesCheck};
 ghost use Rattle.rp_agreement.specs.Limited.{IsLimited};
 ghost use Rattle.rp_clauses.specs.AfriatFailure.{AfriatFails};
@@ -10,7 +10,7 @@ ghost use Rattle.rp_clauses.specs.HomotheticFailure.{HomotheticFails};
 ghost use Rattle.rp_check.specs.ItemFailure.{shows_garp};
 ghost use Rattle.rp_clauses.specs.QuasilinearFailure.{QuasilinearFails};
 ghost use Rattle.rp_check.specs.WelfareFailure.{WelfareFails};
-ghost use Rattle.rp_effic.specs.Verdict.{IsEfficiencyVerdict};
+ghost use Rattle.rp_effic.specs.EfficiencyVerdict.{IsEfficiencyVerdict};
 ghost use Rattle.rp_evidence.specs.AfriatEvidence.{ProvesOwnAfriat};
 ghost use Rattle.rp_evidence.specs.DemandEvidence.{ProvesDemand, ProvesWelfare, budget_of};
 ghost use Rattle.rp_evidence.specs.Efficiency.{ProvesEfficiency};
@@ -28,8 +28,8 @@ ghost use Rattle.rp_evidence.specs.declared.garp.Garp.{Garp};
 ghost use Rattle.rp_evidence.specs.declared.homothetic.Homothetic.{Homothetic};
 ghost use Rattle.rp_evidence.specs.declared.quasilinear.Quasi.{Quasi};
 ghost use Rattle.rp_evidence.specs.declared.random.RandomPart.{RandomPart};
-ghost use Rattle.rp_garp.specs.Verdict.{IsOwnGarpVerdict};
-ghost use Rattle.rp_homo.specs.Verdict.{IsHomotheticVerdict};
+ghost use Rattle.rp_garp.specs.GarpVerdict.{IsOwnGarpVerdict};
+ghost use Rattle.rp_homo.specs.HomotheticVerdict.{IsHomotheticVerdict};
 ghost use Rattle.rp_json_tests.specs.Limits.{FitsAfriat, FitsEfficiency, FitsGarp};
 ghost use Rattle.rp_json_programs.specs.Limits.{FitsDemand};
 ghost use Rattle.rp_json_tests.specs.Limits.{FitsHomothetic, FitsQuasilinear};
@@ -38,15 +38,15 @@ ghost use Rattle.rp_patch.specs.Patches.{IsPatchList, PatchList};
 ghost use Rattle.rp_patch.specs.RandomEvidence.{ProvesRandom};
 ghost use Rattle.rp_patch.specs.RandomFailure.{RandomFails};
 ghost use Rattle.rp_patch.specs.Types.{AreRationalTypes};
-ghost use Rattle.rp_quasi.specs.Verdict.{IsQuasilinearVerdict};
-ghost use Rattle.rp_random.specs.Verdict.{IsRandomVerdict};
-ghost use Rattle.rp_support.specs.Verdict.{IsDemandVerdict};
+ghost use Rattle.rp_quasi.specs.QuasilinearVerdict.{IsQuasilinearVerdict};
+ghost use Rattle.rp_random.specs.RandomVerdict.{IsRandomVerdict};
+ghost use Rattle.rp_support.specs.DemandVerdict.{IsDemandVerdict};
 ghost use Rattle.rp_table.specs.Limits.{IsExpenditure};
 ghost use Rattle.rp_table.specs.NewPrices.{AreNewPrices};
 ghost use Rattle.rp_table.specs.Tables.{IsTable, Observations};
 ghost use Rattle.rp_table.specs.declared.TheConstants.{RECORDS};
 ghost use Rattle.rp_types.specs.declared.TheConstants.{TYPES};
-ghost use Rattle.rp_welfare.specs.Verdict.{IsWelfareVerdict};
+ghost use Rattle.rp_welfare.specs.WelfareVerdict.{IsWelfareVerdict};
 
 /// What a table gives is within the limits of tables.
 pub fn tables_are_limited()

@@ -1,12 +1,12 @@
 -- The checker accepts the certificates of the program: none of their items fails.
 use Rattle.std.proofs.Common.{◌≡◌, ◌||◌, ℕ, zero, suc, Bool, true, false, IsTrue, List, [], ◌∷◌, Ok, inr, subst, sym, take, slice_index_or, refl, arith}
-use Rattle.rp_afriat.specs.Verdict.{IsOwnAfriatVerdict}
+use Rattle.rp_afriat.specs.AfriatVerdict.{IsOwnAfriatVerdict}
 use Rattle.rp_check.specs.CheckVerdict.{IsCheckVerdictOnItems, IsCheckVerdict}
 use Rattle.rp_check.specs.LevelsFailure.{LevelsFail}
 use Rattle.rp_clauses.specs.GarpFailure.{GarpFails}
 use Rattle.rp_check.specs.ItemFailure.{one_shows_garp, shows_garp}
 use Rattle.rp_check.specs.declared.verdict.Verdict.TheVariants.{Accepted}
-use Rattle.rp_effic.specs.Verdict.{IsEfficiencyVerdict}
+use Rattle.rp_effic.specs.EfficiencyVerdict.{IsEfficiencyVerdict}
 use Rattle.rp_evidence.specs.Input.{TableInput}
 use Rattle.rp_evidence.specs.Preference.{StrictByLevels, WeakByLevels}
 use Rattle.rp_evidence.specs.Proves.{Proves}
@@ -17,8 +17,8 @@ use Rattle.rp_evidence.specs.declared.efficiency.Efficiency.{Efficiency}
 use Rattle.rp_evidence.specs.declared.garp.Garp.{Garp}
 use Rattle.rp_evidence.specs.declared.homothetic.Homothetic.{Homothetic}
 use Rattle.rp_evidence.specs.declared.quasilinear.Quasi.{Quasi}
-use Rattle.rp_homo.specs.Verdict.{IsHomotheticVerdict}
-use Rattle.rp_quasi.specs.Verdict.{IsQuasilinearVerdict}
+use Rattle.rp_homo.specs.HomotheticVerdict.{IsHomotheticVerdict}
+use Rattle.rp_quasi.specs.QuasilinearVerdict.{IsQuasilinearVerdict}
 use Rattle.rp_answers.specs.Accepted.{PassesAfter}
 use Rattle.rp_answers.specs.AnalysisText.{certificate_of, five_items}
 use Rattle.rp_answers.specs.GarpFirst.{AreAnswered}

@@ -10,10 +10,10 @@ use Rattle.rp_evidence.specs.declared.demand.WelfarePart.{WelfarePart}
 use Rattle.rp_evidence.specs.declared.garp.Garp.{Garp}
 use Rattle.rp_people.specs.TableChoices.{IsFullInput}
 use Rattle.rp_people.proofs.SaysOfItems.{says}
-use Rattle.rp_support.specs.Verdict.{IsDemandVerdict}
+use Rattle.rp_support.specs.DemandVerdict.{IsDemandVerdict}
 use Rattle.rp_table.specs.Limits.{IsPrice}
 use Rattle.rp_table.specs.declared.TheConstants.{LARGEST_EXPENDITURE}
-use Rattle.rp_welfare.specs.Verdict.{IsWelfareVerdict}
+use Rattle.rp_welfare.specs.WelfareVerdict.{IsWelfareVerdict}
 use Rattle.rp_answers.specs.DemandText.{IsDemandItem}
 use Rattle.rp_answers.specs.WelfareText.{IsWelfareItem}
 use Rattle.rp_agreement.proofs.AcceptedBounds.{demand_passes, welfare_passes}

@@ -15,9 +15,9 @@ use Rattle.rp_evidence.specs.declared.certificate.Kind.TheVariants.{Table}
 use Rattle.rp_evidence.specs.declared.garp.Garp.{Garp}
 use Rattle.rp_evidence.proofs.OwnLevels.{own_garp_same}
 use Rattle.rp_evidence.proofs.SameAfriat.{own_afriat_same}
-use Rattle.rp_afriat.specs.Verdict.{IsOwnAfriatVerdict}
+use Rattle.rp_afriat.specs.AfriatVerdict.{IsOwnAfriatVerdict}
 use Rattle.rp_afriat.proofs.SameVerdicts.{own_verdict_same}
-use Rattle.rp_garp.specs.Verdict.{IsOwnGarpVerdict}
+use Rattle.rp_garp.specs.GarpVerdict.{IsOwnGarpVerdict}
 use Rattle.rp_garp.proofs.SameVerdicts.{own_garp_verdict_same}
 use Rattle.rp_table.specs.Cost.{CostTable, IsCostsOf, cost_at, cost_of}
 use Rattle.rp_table.specs.Tables.{Observations, records_of}

@@ -8,7 +8,7 @@ use Rattle.rp_evidence.specs.declared.certificate.Item.TheVariants.{Garp as Garp
 use Rattle.rp_evidence.specs.declared.certificate.Kind.TheVariants.{Table}
 use Rattle.rp_evidence.specs.declared.garp.Garp.{Garp}
 use Rattle.rp_garp.specs.Test.{IsTestOf}
-use Rattle.rp_garp.specs.Verdict.{IsOwnGarpVerdict}
+use Rattle.rp_garp.specs.GarpVerdict.{IsOwnGarpVerdict}
 use Rattle.rp_garp.specs.declared.garp_test.GarpTest.{GarpTest}
 use Rattle.rp_garp.proofs.TestLemmas.{given_in_table, judged_in_table}
 use Rattle.rp_json.specs.Denoted.{FitsKind}

@@ -6,7 +6,7 @@ use Rattle.rp_evidence.specs.declared.certificate.Item.{Item}
 use Rattle.rp_evidence.specs.declared.certificate.Item.TheVariants.{Garp as GarpItem}
 use Rattle.rp_evidence.specs.declared.certificate.Kind.TheVariants.{Table}
 use Rattle.rp_evidence.specs.declared.garp.Garp.{Garp}
-use Rattle.rp_garp.specs.Verdict.{IsGarpVerdict}
+use Rattle.rp_garp.specs.GarpVerdict.{IsGarpVerdict}
 use Rattle.rp_json.specs.Denoted.{FitsKind}
 use Rattle.rp_json_entries.proofs.ListLemmas.{all_more}
 use Rattle.rp_table.specs.Tables.{IsTable, Observations, records_of}

@@ -16,11 +16,11 @@ use Rattle.rp_evidence.specs.declared.certificate.Item.TheVariants.{Homothetic a
 use Rattle.rp_evidence.specs.declared.homothetic.Homothetic.{Homothetic}
 use Rattle.rp_evidence.specs.declared.quasilinear.Quasi.{Quasi}
 use Rattle.rp_evidence.specs.declared.certificate.Kind.TheVariants.{Table}
-use Rattle.rp_afriat.specs.Verdict.{IsOwnAfriatVerdict}
-use Rattle.rp_effic.specs.Verdict.{IsEfficiencyVerdict}
-use Rattle.rp_garp.specs.Verdict.{IsOwnGarpVerdict}
-use Rattle.rp_homo.specs.Verdict.{IsHomotheticVerdict}
-use Rattle.rp_quasi.specs.Verdict.{IsQuasilinearVerdict}
+use Rattle.rp_afriat.specs.AfriatVerdict.{IsOwnAfriatVerdict}
+use Rattle.rp_effic.specs.EfficiencyVerdict.{IsEfficiencyVerdict}
+use Rattle.rp_garp.specs.GarpVerdict.{IsOwnGarpVerdict}
+use Rattle.rp_homo.specs.HomotheticVerdict.{IsHomotheticVerdict}
+use Rattle.rp_quasi.specs.QuasilinearVerdict.{IsQuasilinearVerdict}
 use Rattle.rp_people.specs.Says.{Says}
 use Rattle.rp_agreement.specs.ReadBack.{IsReadBack}
 use Rattle.rp_answers.specs.Accepted.{IsAcceptedOn}

@@ -14,7 +14,7 @@ use Rattle.rp_evidence.specs.declared.certificate.Item.TheVariants.{Demand}
 use Rattle.rp_evidence.specs.declared.demand.DemandPart.{DemandPart}
 use Rattle.rp_evidence.specs.declared.garp.Garp.{Garp}
 use Rattle.rp_people.specs.Says.{HasPricesAboveZero, Says}
-use Rattle.rp_support.specs.Verdict.{IsDemandVerdict}
+use Rattle.rp_support.specs.DemandVerdict.{IsDemandVerdict}
 use Rattle.rp_json.specs.Denoted.{FitsKind}
 use Rattle.rp_answers.specs.Accepted.{PassesAfter}
 use Rattle.rp_answers.specs.GarpFirst.{IsGarpFirst}

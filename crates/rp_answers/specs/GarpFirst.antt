@@ -8,7 +8,7 @@ use Rattle.rp_evidence.specs.declared.certificate.Item.{Item}
 use Rattle.rp_evidence.specs.declared.certificate.Item.TheVariants.{Garp as GarpItem}
 use Rattle.rp_evidence.specs.declared.certificate.Kind.TheVariants.{Table}
 use Rattle.rp_evidence.specs.declared.garp.Garp.{Garp}
-use Rattle.rp_garp.specs.Verdict.{IsGarpVerdict}
+use Rattle.rp_garp.specs.GarpVerdict.{IsGarpVerdict}
 use Rattle.rp_people.specs.Says.{Says}
 use Rattle.rp_agreement.specs.ReadBack.{IsReadBack, certificate_from}
 use Rattle.rp_answers.specs.Accepted.{IsAcceptedOn}

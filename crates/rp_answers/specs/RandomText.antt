@@ -10,7 +10,7 @@ use Rattle.rp_evidence.specs.declared.random.RandomPart.{RandomPart}
 use Rattle.rp_json.specs.CertificateValue.{certificate_text}
 use Rattle.rp_patch.specs.RandomEvidence.{ProvesRandom}
 use Rattle.rp_persons.specs.SaysRandom.{SaysOfChoices}
-use Rattle.rp_random.specs.Verdict.{IsRandomVerdict}
+use Rattle.rp_random.specs.RandomVerdict.{IsRandomVerdict}
 use Rattle.rp_agreement.specs.ReadBack.{IsReadBack}
 use Rattle.rp_report.specs.RandomText.{random_report_text}
 use Rattle.rp_answers.specs.Typed.{TypedPatches}

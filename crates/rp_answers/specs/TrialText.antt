@@ -16,10 +16,10 @@ use Rattle.rp_evidence.specs.declared.homothetic.Homothetic.TheVariants.{Values 
 use Rattle.rp_evidence.specs.declared.homothetic.Homothetic.TheVariants.{Cycle as HomotheticCycle, Withheld}
 use Rattle.rp_evidence.specs.declared.quasilinear.Quasi.{Quasi}
 use Rattle.rp_evidence.specs.declared.quasilinear.Quasi.TheVariants.{Values as QuasiValues, Cycle as QuasiCycle}
-use Rattle.rp_effic.specs.Verdict.{IsEfficiencyVerdict}
-use Rattle.rp_garp.specs.Verdict.{IsGarpVerdict}
-use Rattle.rp_homo.specs.Verdict.{IsHomotheticVerdict}
-use Rattle.rp_quasi.specs.Verdict.{IsQuasilinearVerdict}
+use Rattle.rp_effic.specs.EfficiencyVerdict.{IsEfficiencyVerdict}
+use Rattle.rp_garp.specs.GarpVerdict.{IsGarpVerdict}
+use Rattle.rp_homo.specs.HomotheticVerdict.{IsHomotheticVerdict}
+use Rattle.rp_quasi.specs.QuasilinearVerdict.{IsQuasilinearVerdict}
 use Rattle.rp_people.specs.Says.{Says}
 use Rattle.rp_report.specs.EfficiencyText.{index_text}
 use Rattle.rp_print.specs.ListText.{line_of}

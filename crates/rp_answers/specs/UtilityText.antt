@@ -17,8 +17,8 @@ use Rattle.rp_evidence.specs.declared.certificate.Certificate.{Certificate}
 use Rattle.rp_evidence.specs.declared.certificate.Item.TheVariants.{Garp as GarpItem, Afriat as AfriatItem}
 use Rattle.rp_evidence.specs.declared.garp.Garp.{Garp}
 use Rattle.rp_afriat.specs.Bundle.{bundle_cost}
-use Rattle.rp_afriat.specs.Verdict.{IsOwnAfriatVerdict}
-use Rattle.rp_garp.specs.Verdict.{IsOwnGarpVerdict}
+use Rattle.rp_afriat.specs.AfriatVerdict.{IsOwnAfriatVerdict}
+use Rattle.rp_garp.specs.GarpVerdict.{IsOwnGarpVerdict}
 use Rattle.rp_people.specs.Says.{Says}
 use Rattle.rp_print.specs.ListText.{line_of, ordinal_text}
 use Rattle.rp_report.specs.ReportText.{report_text}

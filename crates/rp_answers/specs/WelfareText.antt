@@ -14,7 +14,7 @@ use Rattle.rp_evidence.specs.declared.certificate.Item.TheVariants.{Welfare}
 use Rattle.rp_evidence.specs.declared.demand.WelfarePart.{WelfarePart}
 use Rattle.rp_evidence.specs.declared.garp.Garp.{Garp}
 use Rattle.rp_people.specs.Says.{Says}
-use Rattle.rp_welfare.specs.Verdict.{IsWelfareVerdict}
+use Rattle.rp_welfare.specs.WelfareVerdict.{IsWelfareVerdict}
 use Rattle.rp_json.specs.Denoted.{FitsKind}
 use Rattle.rp_answers.specs.Accepted.{PassesAfter}
 use Rattle.rp_answers.specs.GarpFirst.{IsGarpFirst}

@@ -1,6 +1,6 @@
 ghost use Rattle.std.specs.Prelude.{◌≡◌, ◌++◌, IfOk, All, codes, length};
 ghost use Rattle.std.specs.Fmt.{signed_decimal};
-ghost use Rattle.rp_afriat.specs.Verdict.{IsOwnAfriatVerdict};
+ghost use Rattle.rp_afriat.specs.AfriatVerdict.{IsOwnAfriatVerdict};
 ghost use Rattle.rp_table.specs.Cost.{IsCostsOf, cost_at};
 ghost use Rattle.rp_table.specs.Limits.{IsQuantity};
 ghost use Rattle.rp_table.specs.Rows.{rows_count};

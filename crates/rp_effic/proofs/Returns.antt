@@ -6,7 +6,7 @@ use Rattle.rp_evidence.specs.Walk.{IsShortestWalk}
 use Rattle.rp_evidence.proofs.Walks.{reach_starts_below}
 use Rattle.rp_pref.specs.Closure.{IsClosureOf, Reached, reaches_in}
 use Rattle.rp_effic.specs.InnerCycles.{HasCycle}
-use Rattle.rp_effic.specs.Verdict.{IsAbove}
+use Rattle.rp_effic.specs.EfficiencyVerdict.{IsAbove}
 
 module _ (reached : Reached) (n : ℕ) (c : ℕ → ℕ → ℕ) (num den : ℕ) (closed : IsClosureOf reached n (IsWeakAt c num den)) where
   -- where a closed walk exists, some observation returns to itself

@@ -4,7 +4,7 @@ use Rattle.rp_evidence.specs.Preference.{AgreeBelow, IsStrictAt, IsWeakAt}
 use Rattle.rp_evidence.specs.declared.efficiency.Efficiency.{Efficiency}
 use Rattle.rp_evidence.proofs.SameCosts.{counts_same, reach_same, shortest_same, strict_same, weak_same}
 use Rattle.rp_pref.proofs.SameVerdicts.{verdict_on_same}
-use Rattle.rp_effic.specs.Verdict.{IsAbove, IsEfficiencyVerdict, IsFirstReturn}
+use Rattle.rp_effic.specs.EfficiencyVerdict.{IsAbove, IsEfficiencyVerdict, IsFirstReturn}
 
 module _ (n : ℕ) (c d : ℕ → ℕ → ℕ) (num den : ℕ) (same : AgreeBelow n c d) where
   return_there : (s : ℕ) (walk : List ℕ) → IsFirstReturn n (IsWeakAt c num den) s walk → IsFirstReturn n (IsWeakAt d num den) s walk

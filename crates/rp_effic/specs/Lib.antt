@@ -5,4 +5,4 @@ pub mod Monotone
 pub mod InnerRatioOrder
 pub mod InnerRatios
 pub mod InnerWeakSteps
-pub mod Verdict
+pub mod EfficiencyVerdict

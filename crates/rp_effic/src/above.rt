@@ -4,7 +4,7 @@ ghost use Rattle.rp_pref.specs.Closure.{IsClosureOf};
 ghost use Rattle.rp_pref.specs.Steps.{WeakAt};
 ghost use Rattle.rp_table.specs.Cost.{cost_at};
 ghost use Rattle.rp_effic.specs.InnerCycles.{HasCycle};
-ghost use Rattle.rp_effic.specs.Verdict.{IsAbove};
+ghost use Rattle.rp_effic.specs.EfficiencyVerdict.{IsAbove};
 
 use crate::returning::first_return;
 use rp_evidence::Level;

@@ -1,7 +1,7 @@
 ghost use Rattle.std.specs.Prelude.{IfOk};
 ghost use Rattle.rp_evidence.specs.Efficiency.{IsEfficiencyIndex};
 ghost use Rattle.rp_table.specs.Cost.{cost_at};
-ghost use Rattle.rp_effic.specs.Verdict.{IsLowestLevel};
+ghost use Rattle.rp_effic.specs.EfficiencyVerdict.{IsLowestLevel};
 
 use crate::ratios::ratios_between;
 use crate::sampling::sampled_bracket;

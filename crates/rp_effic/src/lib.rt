@@ -12,9 +12,9 @@ mod ratios;
 mod returning;
 mod sampling;
 mod thresholds;
-mod verdict;
+mod efficiency;
 mod weak_steps;
 
 pub use ask::{Ask, first_true};
 pub use laws::given_evidence_depends_on_observed_costs;
-pub use verdict::efficiency;
+pub use efficiency::efficiency;

@@ -27,7 +27,7 @@ use Rattle.rp_simplex.specs.Outcome.{IsOutcome}
 use Rattle.rp_simplex.specs.SameOutcome.{IsSameOutcome}
 use Rattle.rp_simplex.specs.declared.outcome.Outcome.{Outcome}
 use Rattle.rp_simplex.specs.declared.outcome.Outcome.TheVariants.{Optimal}
-use Rattle.rp_find_mixture.specs.Verdict.{IsOutcomeVerdict, IsPairVerdict, IsRunVerdict, ProvesMixture, shares_of}
+use Rattle.rp_find_mixture.specs.MixtureVerdict.{IsOutcomeVerdict, IsPairVerdict, IsRunVerdict, ProvesMixture, shares_of}
 
 -- ---- totals as sums
 

@@ -20,7 +20,7 @@ use Rattle.rp_simplex.specs.Outcome.{IsOutcome}
 use Rattle.rp_simplex.specs.declared.outcome.Outcome.{Outcome}
 use Rattle.rp_simplex.specs.declared.outcome.Outcome.TheVariants.{Optimal, Unbounded, Wide as PassedWidth}
 use Rattle.rp_simplex.proofs.Outcomes.{outcome_shows}
-use Rattle.rp_find_mixture.specs.Verdict.{IsOutcomeVerdict, IsPairVerdict, IsRunVerdict, shares_of}
+use Rattle.rp_find_mixture.specs.MixtureVerdict.{IsOutcomeVerdict, IsPairVerdict, IsRunVerdict, shares_of}
 use Rattle.rp_find_mixture.proofs.PairLemmas.{fit_parts, heavy, partial, same, whole_mixture}
 
 abbrev no_part : Share

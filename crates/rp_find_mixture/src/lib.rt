@@ -5,7 +5,7 @@
 mod listed;
 mod program;
 mod shares;
-mod verdict;
+mod mixture;
 
 pub use listed::Listed;
-pub use verdict::mixture;
+pub use mixture::mixture;

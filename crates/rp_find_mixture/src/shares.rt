@@ -1,6 +1,6 @@
 //! The shares of the kinds that a point gives some weight.
 ghost use Rattle.std.specs.Prelude.{◌≡◌, ◌<◌, [], All, IfOk, length, slice_index_or};
-ghost use Rattle.rp_find_mixture.specs.Verdict.{shares_of};
+ghost use Rattle.rp_find_mixture.specs.MixtureVerdict.{shares_of};
 
 use crate::listed::Listed;
 use rp_evidence::Share;

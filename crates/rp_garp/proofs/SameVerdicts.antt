@@ -9,7 +9,7 @@ use Rattle.rp_evidence.proofs.SameCosts.{strict_same, weak_same}
 use Rattle.rp_pref.proofs.SameVerdicts.{first_or_none_same, verdict_on_same}
 use Rattle.rp_pref.specs.Violation.{IsVerdictOfPreference}
 use Rattle.rp_garp.specs.Pairs.{Contradict, IsOwnPairs}
-use Rattle.rp_garp.specs.Verdict.{IsGarpVerdict, IsOwnGarpVerdict}
+use Rattle.rp_garp.specs.GarpVerdict.{IsGarpVerdict, IsOwnGarpVerdict}
 
 module _ (n : ℕ) (weak strict weak' strict' : ℕ → ℕ → Type 0) (weak_is : (s t : ℕ) → s < n → t < n → weak s t ↔ weak' s t) (strict_is : (s t : ℕ) → s < n → t < n → strict s t ↔ strict' s t) where
   contradict_same : (s t : ℕ) → s < n → t < n → Contradict weak strict s t ↔ Contradict weak' strict' s t

@@ -12,7 +12,7 @@ use Rattle.rp_pref.proofs.WeakClosures.{closure_of_table}
 use Rattle.rp_table.specs.Cost.{cost_at, cost_of}
 use Rattle.rp_table.specs.Tables.{Observations, records_of}
 use Rattle.rp_garp.specs.Test.{IsTestOf}
-use Rattle.rp_garp.specs.Verdict.{IsGarpVerdict, IsOwnGarpVerdict}
+use Rattle.rp_garp.specs.GarpVerdict.{IsGarpVerdict, IsOwnGarpVerdict}
 use Rattle.rp_garp.specs.declared.garp_test.GarpTest.{GarpTest}
 use Rattle.rp_garp.proofs.SameVerdicts.{garp_verdict_same, given_at_one, proves_at_one}
 

@@ -1,7 +1,7 @@
 ghost use Rattle.std.specs.Prelude.{IfOk};
 ghost use Rattle.rp_table.specs.Cost.{cost_at};
 ghost use Rattle.rp_garp.specs.Test.{IsTestOf};
-ghost use Rattle.rp_garp.specs.Verdict.{IsOwnGarpVerdict};
+ghost use Rattle.rp_garp.specs.GarpVerdict.{IsOwnGarpVerdict};
 
 use rp_evidence::Garp;
 use rp_num::NoMemory;

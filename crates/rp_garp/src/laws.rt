@@ -1,7 +1,7 @@
 ghost use Rattle.std.specs.Prelude.{◌<◌, ◌↔◌, ℕ, List};
 ghost use Rattle.rp_evidence.specs.Preference.{AgreeBelow, IsStrictAt, IsWeakAt};
 ghost use Rattle.rp_evidence.specs.declared.garp.Garp.{Garp};
-ghost use Rattle.rp_garp.specs.Verdict.{IsOwnGarpVerdict};
+ghost use Rattle.rp_garp.specs.GarpVerdict.{IsOwnGarpVerdict};
 ghost use Rattle.rp_pref.specs.Violation.{IsVerdictOfPreference};
 
 use rp_evidence::Preference;

@@ -5,10 +5,10 @@ mod contradiction;
 mod garp_test;
 mod laws;
 mod meeting;
-mod verdict;
+mod garp;
 
 pub use contradiction::pairs;
 pub use garp_test::GarpTest;
 pub use laws::given_evidence_depends_on_observed_costs;
 pub use meeting::{meets_garp, meets_garp_over};
-pub use verdict::garp;
+pub use garp::garp;

@@ -9,7 +9,7 @@ use Rattle.rp_evidence.specs.declared.homothetic.Homothetic.TheVariants.{Values,
 use Rattle.rp_evidence.proofs.SameCosts.{agree_back}
 use Rattle.rp_evidence.proofs.SameProducts.{ends_below_same, least_product_same, meets_homothetic_same, products_fit_same}
 use Rattle.rp_walk.specs.Products.{FitsFraction, as_total, times}
-use Rattle.rp_homo.specs.Verdict.{IsFirstFall, IsHomotheticVerdict, IsLongCycle, IsPairCycle, NoPairFalls, PairFalls}
+use Rattle.rp_homo.specs.HomotheticVerdict.{IsFirstFall, IsHomotheticVerdict, IsLongCycle, IsPairCycle, NoPairFalls, PairFalls}
 
 -- ---- least products and the first product that is too wide
 

@@ -23,7 +23,7 @@ use Rattle.rp_evidence.specs.Homothetic.{BoundProducts, EndsBelow, IsFallingCycl
 use Rattle.rp_evidence.proofs.Walks.{starts_below}
 use Rattle.rp_walk.specs.Products.{FitsFraction, as_total, at_least_one, products, times}
 use Rattle.rp_walk.proofs.ProductLaws.{products_keep_order}
-use Rattle.rp_homo.specs.Verdict.{GivesCycle, GivesValues, GivesWithheld, IsFirstFall, IsLongCycle, IsPairCycle, NoPairFalls, PairFalls}
+use Rattle.rp_homo.specs.HomotheticVerdict.{GivesCycle, GivesValues, GivesWithheld, IsFirstFall, IsLongCycle, IsPairCycle, NoPairFalls, PairFalls}
 use Rattle.rp_homo.proofs.Steps.{at_least_one-is}
 use Rattle.rp_homo.proofs.Walks.{Positive, across, own, breaks_by_costs, den_after, ends_below, falls_from, num_after, product_from-across, product_from-own, products_treat_starts_alike}
 

@@ -10,7 +10,7 @@ use Rattle.rp_walk.proofs.Numbers.{less-pos, pos-less, test, tested}
 use Rattle.rp_walk.proofs.Walks.{IsTotal-here}
 use Rattle.rp_evidence.specs.Homothetic.{product_from}
 use Rattle.rp_walk.specs.Products.{at_least_one, products}
-use Rattle.rp_homo.specs.Verdict.{PairFalls}
+use Rattle.rp_homo.specs.HomotheticVerdict.{PairFalls}
 use Rattle.rp_homo.proofs.Steps.{at_least_one-is}
 
 -- what steps multiply by and are divided by

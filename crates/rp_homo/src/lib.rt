@@ -2,6 +2,6 @@
 #![tactic(auto)]
 
 mod products;
-mod verdict;
+mod homothetic;
 
-pub use verdict::homothetic;
+pub use homothetic::homothetic;

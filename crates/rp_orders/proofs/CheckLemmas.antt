@@ -1,7 +1,7 @@
 -- A check that answers whether nothing is found wrong.
 use Rattle.std.proofs.Common.{◌≡◌, true, Result, Ok, Err, refl}
 use Rattle.std.specs.Result.{is_ok}
-use Rattle.rp_find_mixture.specs.Verdict.{ProvesMixture}
+use Rattle.rp_find_mixture.specs.MixtureVerdict.{ProvesMixture}
 use Rattle.rp_evidence.specs.declared.failure.Failure.{Failure}
 use Rattle.rp_evidence.specs.declared.random.RandomPart.{RandomPart}
 use Rattle.rp_evidence.specs.declared.random.RandomPart.TheVariants.{Mixture, Violated, Wide}

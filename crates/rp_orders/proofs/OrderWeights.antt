@@ -9,7 +9,7 @@ use Rattle.std.proofs.Math.Nat.{pow-le-pow_right}
 use Rattle.rp_evidence.specs.declared.random.RandomPart.{RandomPart}
 use Rattle.rp_evidence.specs.declared.random.RandomPart.TheVariants.{Mixture, Violated, Wide}
 use Rattle.rp_evidence.specs.declared.random.Share.{Share}
-use Rattle.rp_find_mixture.specs.Verdict.{ProvesMixture}
+use Rattle.rp_find_mixture.specs.MixtureVerdict.{ProvesMixture}
 use Rattle.rp_menu.specs.MenuLists.{IsMenuList, MenuList, has_letter}
 use Rattle.rp_menu.proofs.MenuLetters.{letter_within}
 use Rattle.rp_orders.specs.MenuEvidence.{ProvesMenus, ProvesNoOrderMixture}

@@ -1,7 +1,7 @@
 -- What evidence on choices from menus has to be to prove its verdict, which verdict is given, and what a check of it
 -- decides (Block and Marschak 1960; the weights of the cells are the dual side of the program of mixtures).
 use Rattle.std.specs.Prelude.{◌≡◌, ◌≤◌, ℕ, List, Ok, length}
-use Rattle.rp_find_mixture.specs.Verdict.{IsRunVerdict}
+use Rattle.rp_find_mixture.specs.MixtureVerdict.{IsRunVerdict}
 use Rattle.rp_evidence.specs.declared.random.RandomPart.{RandomPart}
 use Rattle.rp_evidence.specs.declared.random.RandomPart.TheVariants.{Mixture, Violated, Wide}
 use Rattle.rp_evidence.specs.declared.random.Share.{Share}

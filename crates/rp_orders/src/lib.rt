@@ -11,10 +11,10 @@ mod orders;
 mod picks;
 mod report;
 mod sums;
-mod verdict;
+mod menus;
 
 pub use check::check_menu;
 pub use report::report_menus;
 pub use rp_evidence::RandomPart as MenuPart;
 pub use sums::{is_complete, menu_sum};
-pub use verdict::menus;
+pub use menus::menus;

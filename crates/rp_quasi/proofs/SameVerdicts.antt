@@ -11,7 +11,7 @@ use Rattle.rp_evidence.specs.Preference.{AgreeBelow}
 use Rattle.rp_evidence.specs.declared.quasilinear.Quasi.{Quasi}
 use Rattle.rp_evidence.specs.declared.quasilinear.Quasi.TheVariants.{Values, Cycle}
 use Rattle.rp_evidence.proofs.SameSums.{least_sum_same, meets_test_same, negative_same, step_sum_same}
-use Rattle.rp_quasi.specs.Verdict.{IsQuasilinearVerdict}
+use Rattle.rp_quasi.specs.QuasilinearVerdict.{IsQuasilinearVerdict}
 
 -- a step adds the same
 abbrev after : (ℕ → ℕ → ℕ) → After

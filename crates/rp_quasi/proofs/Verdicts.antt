@@ -15,7 +15,7 @@ use Rattle.rp_walk.proofs.Leads.{leads_from, leads_to}
 use Rattle.rp_walk.proofs.SumWalks.{least_sum_limits, negative_from, never_wide, no_negative_walk, sum_bound, sum_is, sum_lowest}
 use Rattle.rp_evidence.specs.Walk.{AnyStep, IsWalk}
 use Rattle.rp_evidence.specs.Quasilinear.{step_sum, sum_from, walk_sum, IsNegativeCycle, MeetsQuasilinearTest, IsLeastSum, BoundSteps}
-use Rattle.rp_quasi.specs.Verdict.{GivesNegativeCycle, IsLimitedSum}
+use Rattle.rp_quasi.specs.QuasilinearVerdict.{GivesNegativeCycle, IsLimitedSum}
 use Rattle.rp_table.specs.declared.TheConstants.{RECORDS}
 
 -- the sum of what the steps of a walk add, in the two ways of writing it

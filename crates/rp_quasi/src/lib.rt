@@ -2,6 +2,6 @@
 #![tactic(auto)]
 
 mod sums;
-mod verdict;
+mod quasilinear;
 
-pub use verdict::quasilinear;
+pub use quasilinear::quasilinear;

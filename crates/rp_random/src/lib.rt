@@ -3,6 +3,6 @@
 #![tactic(auto)]
 
 mod listed;
-mod verdict;
+mod random;
 
-pub use verdict::random;
+pub use random::random;

@@ -1,4 +1,4 @@
 pub mod Bounds
 pub mod InnerMarks
 pub mod InnerStart
-pub mod Verdict
+pub mod DemandVerdict

@@ -4,6 +4,6 @@
 mod below;
 mod goods;
 mod inner;
-mod verdict;
+mod demand;
 
-pub use verdict::demand;
+pub use demand::demand;

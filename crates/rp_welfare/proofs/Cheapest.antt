@@ -5,7 +5,7 @@ use Rattle.rp_evidence.specs.Demand.{spending}
 use Rattle.rp_evidence.specs.Input.{TableInput}
 use Rattle.rp_evidence.specs.Welfare.{EqualsOrReaches}
 use Rattle.rp_welfare.specs.InnerCheapest.{IsBefore, IsCheapestBelow}
-use Rattle.rp_welfare.specs.Verdict.{IsFirstCheapest}
+use Rattle.rp_welfare.specs.WelfareVerdict.{IsFirstCheapest}
 use Rattle.rp_evidence.proofs.EqualOrReached.{equals}
 
 module _ (input : TableInput) (prices : ℕ → ℕ) (t : ℕ) where

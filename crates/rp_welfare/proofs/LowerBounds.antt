@@ -18,7 +18,7 @@ use Rattle.rp_farkas.specs.Measure.{measured}
 use Rattle.rp_farkas.specs.Prices.{HasFeasiblePrices}
 use Rattle.rp_farkas.specs.declared.measure.Measure.TheVariants.{Cost}
 use Rattle.rp_programs.proofs.LeastCosts.{cost_is, measure_is}
-use Rattle.rp_welfare.specs.Verdict.{IsBoundAtMost}
+use Rattle.rp_welfare.specs.WelfareVerdict.{IsBoundAtMost}
 
 -- what the price side of the program costs is what it costs at the new prices
 pub cost_bound : (input : TableInput) (prices : ℕ → ℕ) (reached : List ℕ) (bound : Bound)

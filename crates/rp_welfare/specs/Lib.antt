@@ -1,2 +1,2 @@
-pub mod Verdict
+pub mod WelfareVerdict
 pub mod InnerCheapest

@@ -4,6 +4,6 @@
 mod lower;
 mod reached;
 mod upper;
-mod verdict;
+mod welfare;
 
-pub use verdict::welfare;
+pub use welfare::welfare;

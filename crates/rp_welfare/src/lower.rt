@@ -10,7 +10,7 @@ ghost use Rattle.rp_table.specs.Spending.{spending};
 ghost use Rattle.rp_table.specs.Tables.{goods_of, records_of};
 ghost use Rattle.rp_table.specs.declared.TheConstants.{RECORDS};
 ghost use Rattle.rp_pref.specs.Closure.{IsWeakClosureOf};
-ghost use Rattle.rp_welfare.specs.Verdict.{IsLowerBound};
+ghost use Rattle.rp_welfare.specs.WelfareVerdict.{IsLowerBound};
 
 use crate::reached::reached_from;
 use rp_evidence::Bound;

@@ -3,7 +3,7 @@ ghost use Rattle.rp_evidence.specs.Input.{input_of_table};
 ghost use Rattle.rp_table.specs.Tables.{records_of};
 ghost use Rattle.rp_pref.specs.Closure.{IsWeakClosureOf};
 ghost use Rattle.rp_welfare.specs.InnerCheapest.{IsBefore, cost_at_prices};
-ghost use Rattle.rp_welfare.specs.Verdict.{IsFirstCheapest};
+ghost use Rattle.rp_welfare.specs.WelfareVerdict.{IsFirstCheapest};
 
 use rp_pref::Closure;
 use rp_table::NewPrices;

@@ -1,13 +1,13 @@
 use Rattle.std.proofs.Common.{◌∙◌, ap, subst, sym, [], ◌∷◌}
-use Rattle.rp_afriat.specs.Verdict.{IsOwnAfriatVerdict}
-use Rattle.rp_effic.specs.Verdict.{IsEfficiencyVerdict}
+use Rattle.rp_afriat.specs.AfriatVerdict.{IsOwnAfriatVerdict}
+use Rattle.rp_effic.specs.EfficiencyVerdict.{IsEfficiencyVerdict}
 use Rattle.rp_evidence.specs.Certificates.{table_certificate}
 use Rattle.rp_evidence.specs.Input.{input_of_table}
 use Rattle.rp_evidence.specs.Proves.{Proves}
 use Rattle.rp_evidence.specs.declared.certificate.Item.TheVariants.{Garp as GarpItem, Afriat as AfriatItem, Efficiency as EfficiencyItem, Homothetic as HomotheticItem, Quasi as QuasiItem}
-use Rattle.rp_garp.specs.Verdict.{IsOwnGarpVerdict}
-use Rattle.rp_homo.specs.Verdict.{IsHomotheticVerdict}
-use Rattle.rp_quasi.specs.Verdict.{IsQuasilinearVerdict}
+use Rattle.rp_garp.specs.GarpVerdict.{IsOwnGarpVerdict}
+use Rattle.rp_homo.specs.HomotheticVerdict.{IsHomotheticVerdict}
+use Rattle.rp_quasi.specs.QuasilinearVerdict.{IsQuasilinearVerdict}
 use Rattle.rp_answers.specs.Accepted.{IsAcceptedOn}
 use Rattle.rp_answers.proofs.AcceptedLemmas.{analysis_accepted}
 use Rattle.rp_answers.proofs.GarpFirstLemmas.{afriat_given_there, afriat_there, garp_given_there, garp_there}

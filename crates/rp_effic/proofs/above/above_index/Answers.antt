@@ -3,7 +3,7 @@ use Rattle.std.proofs.lemmas.Result.{IfOk-weaker}
 use Rattle.rp_evidence.specs.Preference.{IsWeakAt}
 use Rattle.rp_evidence.specs.Walk.{IsShortestWalk}
 use Rattle.rp_table.specs.Cost.{cost_at}
-use Rattle.rp_effic.specs.Verdict.{IsAbove}
+use Rattle.rp_effic.specs.EfficiencyVerdict.{IsAbove}
 use Rattle.rp_effic.proofs.Returns.{above_one, some_returns}
 use Rattle.rp_effic.proofs.above.above_index.Goals as goal
 

@@ -1,5 +1,5 @@
 use Rattle.std.proofs.Common.{◌≡◌, take}
-use Rattle.rp_find_mixture.specs.Verdict.{shares_of}
+use Rattle.rp_find_mixture.specs.MixtureVerdict.{shares_of}
 use Rattle.rp_find_mixture.proofs.shares.listed_shares.Given as goal
 
 abbrev pub invariant-loop-entry : goal.invariant-loop-entry
