@@ -5,6 +5,7 @@ mod above;
 mod ask;
 mod bracket;
 mod closed_walk;
+mod efficiency;
 mod index;
 mod laws;
 mod ratio;
@@ -12,9 +13,8 @@ mod ratios;
 mod returning;
 mod sampling;
 mod thresholds;
-mod efficiency;
 mod weak_steps;
 
 pub use ask::{Ask, first_true};
-pub use laws::given_evidence_depends_on_observed_costs;
 pub use efficiency::efficiency;
+pub use laws::given_evidence_depends_on_observed_costs;

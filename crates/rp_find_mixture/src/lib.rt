@@ -3,9 +3,9 @@
 #![tactic(auto)]
 
 mod listed;
+mod mixture;
 mod program;
 mod shares;
-mod mixture;
 
 pub use listed::Listed;
 pub use mixture::mixture;

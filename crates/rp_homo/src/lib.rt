@@ -1,7 +1,7 @@
 //! The homothetic test, with evidence for each verdict.
 #![tactic(auto)]
 
-mod products;
 mod homothetic;
+mod products;
 
 pub use homothetic::homothetic;

@@ -7,14 +7,14 @@ mod choosers;
 mod least;
 mod listed;
 mod lists;
+mod menus;
 mod orders;
 mod picks;
 mod report;
 mod sums;
-mod menus;
 
 pub use check::check_menu;
+pub use menus::menus;
 pub use report::report_menus;
 pub use rp_evidence::RandomPart as MenuPart;
 pub use sums::{is_complete, menu_sum};
-pub use menus::menus;

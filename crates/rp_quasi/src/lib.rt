@@ -1,7 +1,7 @@
 //! The quasilinear test, with evidence for each verdict.
 #![tactic(auto)]
 
-mod sums;
 mod quasilinear;
+mod sums;
 
 pub use quasilinear::quasilinear;

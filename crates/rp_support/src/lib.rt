@@ -2,8 +2,8 @@
 #![tactic(auto)]
 
 mod below;
+mod demand;
 mod goods;
 mod inner;
-mod demand;
 
 pub use demand::demand;
