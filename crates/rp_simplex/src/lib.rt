@@ -1,5 +1,5 @@
-//! The simplex over fractions of whole numbers, step for step, and the bound of a linear program by its run: its value with
-//! the equal pair that shows it.
+//! The simplex over fractions of whole numbers, step for step, and the bound of a linear program by its run: its value
+//! with the equal pair that shows it.
 #![tactic(auto)]
 
 mod bound;
