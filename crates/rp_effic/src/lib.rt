@@ -5,7 +5,7 @@ mod above;
 mod ask;
 mod bracket;
 mod closed_walk;
-mod efficiency;
+mod efficiency_verdict;
 mod index;
 mod laws;
 mod ratio;
@@ -16,5 +16,5 @@ mod thresholds;
 mod weak_steps;
 
 pub use ask::{Ask, first_true};
-pub use efficiency::efficiency;
+pub use efficiency_verdict::efficiency;
 pub use laws::given_evidence_depends_on_observed_costs;

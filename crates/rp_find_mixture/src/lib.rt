@@ -3,9 +3,9 @@
 #![tactic(auto)]
 
 mod listed;
-mod mixture;
+mod mixture_verdict;
 mod program;
 mod shares;
 
 pub use listed::Listed;
-pub use mixture::mixture;
+pub use mixture_verdict::mixture;

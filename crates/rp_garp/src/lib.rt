@@ -2,13 +2,13 @@
 #![tactic(auto)]
 
 mod contradiction;
-mod garp;
+mod garp_verdict;
 mod garp_test;
 mod laws;
 mod meeting;
 
 pub use contradiction::pairs;
-pub use garp::garp;
+pub use garp_verdict::garp;
 pub use garp_test::GarpTest;
 pub use laws::given_evidence_depends_on_observed_costs;
 pub use meeting::{meets_garp, meets_garp_over};

@@ -1,7 +1,7 @@
 //! The homothetic test, with evidence for each verdict.
 #![tactic(auto)]
 
-mod homothetic;
+mod homothetic_verdict;
 mod products;
 
-pub use homothetic::homothetic;
+pub use homothetic_verdict::homothetic;

@@ -7,14 +7,14 @@ mod choosers;
 mod least;
 mod listed;
 mod lists;
-mod menus;
+mod menus_verdict;
 mod orders;
 mod picks;
 mod report;
 mod sums;
 
 pub use check::check_menu;
-pub use menus::menus;
+pub use menus_verdict::menus;
 pub use report::report_menus;
 pub use rp_evidence::RandomPart as MenuPart;
 pub use sums::{is_complete, menu_sum};

@@ -1,7 +1,7 @@
 //! The quasilinear test, with evidence for each verdict.
 #![tactic(auto)]
 
-mod quasilinear;
+mod quasilinear_verdict;
 mod sums;
 
-pub use quasilinear::quasilinear;
+pub use quasilinear_verdict::quasilinear;

@@ -3,6 +3,6 @@
 #![tactic(auto)]
 
 mod listed;
-mod random;
+mod random_verdict;
 
-pub use random::random;
+pub use random_verdict::random;

@@ -2,8 +2,8 @@
 #![tactic(auto)]
 
 mod below;
-mod demand;
+mod demand_verdict;
 mod goods;
 mod inner;
 
-pub use demand::demand;
+pub use demand_verdict::demand;

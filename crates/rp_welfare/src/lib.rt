@@ -4,6 +4,6 @@
 mod lower;
 mod reached;
 mod upper;
-mod welfare;
+mod welfare_verdict;
 
-pub use welfare::welfare;
+pub use welfare_verdict::welfare;

@@ -1,0 +1,23 @@
+use Rattle.std.proofs.Common.{rules, ◌≡◌, [], IfOk, Result, Ok, Err}
+use Rattle.rp_evidence.specs.AfriatEvidence.{ProvesAfriat, ProvesOwnAfriat}
+use Rattle.rp_evidence.specs.declared.afriat.AfriatPart.TheVariants.{NoModel}
+use Rattle.rp_table.specs.Cost.{cost_at}
+use Rattle.rp_afriat.proofs.SameVerdicts.{proves_at_one}
+use Rattle.rp_afriat.proofs.afriat_verdict.afriat.Goals as goal
+
+if_ok : {X E : Type 0} (P Q : X → Type 0) (N : Type 0) → (N → (x : X) → P x → Q x) → (r : Result X E) → IfOk r P → IfOk r (λ x. N → Q x)
+if_ok P Q N f (Ok x) p = λ none. f none x p
+if_ok P Q N f (Err e) p = p
+
+pub returns-in-Ranks-clause-proves_without_levels : goal.returns-in-Ranks-clause-proves_without_levels
+returns-in-Ranks-clause-proves_without_levels c =
+    let k = c.args.tested.now.costs in
+    if_ok (ProvesOwnAfriat k.n k.levels (cost_at k)) (ProvesAfriat k.n (cost_at k)) (k.levels ≡ []) (proves_at_one k.n k.levels (cost_at k))
+    c.standard.result c.standard.ensures.proves
+
+pub returns-in_ok-walk-in-Cycle-clause-proves_without_levels :
+    goal.returns-in_ok-walk-in-Cycle-clause-proves_without_levels
+returns-in_ok-walk-in-Cycle-clause-proves_without_levels c =
+    let k = c.args.tested.now.costs in
+    let own : ProvesOwnAfriat k.n k.levels (cost_at k) (NoModel c.from_vec.result) = search rules in
+    λ none. proves_at_one k.n k.levels (cost_at k) none (NoModel c.from_vec.result) own
