@@ -1,4 +1,4 @@
-//! The kinds of files of numbers: how each is read, and one loader for all.
+//! The kinds of files of numbers, and that of menus: how each is read, and one loader for all.
 ghost use Rattle.std.specs.Prelude.{◌≡◌, ◌≢◌, ⊤, ℕ, List, true, false};
 ghost use Rattle.std.specs.Prelude.{Result, Ok, Err, IfOk, IfErr};
 ghost use Rattle.rp_cost.specs.Denotation.{asked_beside, tech_in};
