@@ -5,6 +5,7 @@ use rp_num::Seq;
 /// A rational type with its weight: its patches, from 0, one of each budget in their order.
 #[derive(Debug, Drop)]
 pub struct Share {
+    /// In evidence on menus: the letters of a strict order, from 0, the best first.
     pub patches: Seq<u32>,
     pub weight: u64,
 }
