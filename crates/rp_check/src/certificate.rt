@@ -11,7 +11,7 @@ ghost use Rattle.rp_table.specs.Cost.{IsCostsOf};
 use crate::Verdict;
 use crate::item::{check_item, shows_garp};
 use crate::levels::check_levels;
-use rp_clauses::closure::Closure;
+use rp_clauses::closure::Reachability;
 use rp_clauses::input::Input;
 use rp_evidence::{Certificate, Item, cap};
 use rp_table::{Costs, Table};
@@ -55,7 +55,7 @@ fn check_items(table: &Table, costs: &Costs, items: &[Item]) -> Verdict
 {
     prove!(table.n() > 0);
     let input = Input::new(table, costs);
-    let closure = Closure::of(&input);
+    let closure = Reachability::of(&input);
     let mut garp_shown = false;
     for (k, item) in items.iter().enumerate() {
         if let Err(found) = check_item(&input, &closure, garp_shown, item) {

@@ -13,7 +13,7 @@ ghost use Rattle.rp_table.specs.Tables.{goods_of, records_of};
 
 use crate::sets::{Sets, check_lists};
 use rp_clauses::bound::bound_holds;
-use rp_clauses::closure::Closure;
+use rp_clauses::closure::Reachability;
 use rp_clauses::input::Input;
 use rp_clauses::prices::{check_expenditure, check_prices};
 use rp_clauses::reach::ROOM;
@@ -28,7 +28,7 @@ use rp_table::{NewBudget, NewPrices};
 /// ranks that the axiom holds.
 pub fn check_demand(
     input: &Input<'_>,
-    closure: &Closure,
+    closure: &Reachability,
     garp_shown: bool,
     prices: &[u32],
     m: u64,

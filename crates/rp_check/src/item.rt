@@ -13,7 +13,7 @@ use crate::demand::check_demand;
 use crate::levels::check_no_levels;
 use crate::welfare::check_welfare;
 use rp_clauses::afriat::check_afriat;
-use rp_clauses::closure::Closure;
+use rp_clauses::closure::Reachability;
 use rp_clauses::efficiency::check_efficiency;
 use rp_clauses::garp::check_garp;
 use rp_clauses::homothetic::check_homothetic;
@@ -32,7 +32,7 @@ pub fn shows_garp(item: &Item) -> bool
 /// Checks an item; `garp_shown` says whether an item before it shows by ranks that the axiom holds.
 pub fn check_item(
     input: &Input<'_>,
-    closure: &Closure,
+    closure: &Reachability,
     garp_shown: bool,
     item: &Item,
 ) -> Result<(), Failure>
@@ -59,7 +59,7 @@ pub fn check_item(
 /// Checks an item on demand, which is about tables without levels.
 fn check_demand_item(
     input: &Input<'_>,
-    closure: &Closure,
+    closure: &Reachability,
     garp_shown: bool,
     prices: &[u32],
     m: u64,
@@ -77,7 +77,7 @@ fn check_demand_item(
 /// Checks an item on welfare, which is about tables without levels.
 fn check_welfare_item(
     input: &Input<'_>,
-    closure: &Closure,
+    closure: &Reachability,
     garp_shown: bool,
     prices: &[u32],
     of: u32,

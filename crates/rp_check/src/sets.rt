@@ -9,7 +9,7 @@ ghost use Rattle.rp_evidence.specs.Preference.{IsStrict};
 ghost use Rattle.rp_table.specs.Cost.{cost_of};
 ghost use Rattle.rp_table.specs.Tables.{records_of};
 
-use rp_clauses::closure::{Closure, spread};
+use rp_clauses::closure::{Reachability, spread};
 use rp_clauses::input::Input;
 use rp_clauses::reach::{ROOM, is_marked_list};
 use rp_clauses::standard::WHOLE;
@@ -25,7 +25,7 @@ pub struct Sets {
 
 impl Sets {
     /// The sets of the budget.
-    pub fn of(budget: &NewBudget<'_>, closure: &Closure) -> Sets
+    pub fn of(budget: &NewBudget<'_>, closure: &Reachability) -> Sets
         requires { IsWeakClosureOf closure.now (input_of budget.now.at) }
         ensures { AreSets (input_of budget.now.at) (new_budget budget.now) result }
     {

@@ -19,7 +19,7 @@ ghost use Rattle.rp_table.specs.Spending.{spending};
 ghost use Rattle.rp_table.specs.Tables.{goods_of, records_of};
 
 use rp_clauses::bound::bound_holds;
-use rp_clauses::closure::Closure;
+use rp_clauses::closure::Reachability;
 use rp_clauses::input::Input;
 use rp_clauses::prices::check_prices;
 use rp_clauses::reach::{ROOM, write_marked};
@@ -34,7 +34,7 @@ use rp_table::NewPrices;
 /// before it shows by ranks that the axiom holds.
 pub fn check_welfare(
     input: &Input<'_>,
-    closure: &Closure,
+    closure: &Reachability,
     garp_shown: bool,
     prices: &[u32],
     t: u32,
@@ -79,7 +79,7 @@ fn check_no_model(input: &Input<'_>, t: u32, walk: &[u32]) -> Result<(), Failure
 /// Checks the upper bound and where it stands, and then the lower bound.
 fn check_bounds(
     new_prices: &NewPrices<'_>,
-    closure: &Closure,
+    closure: &Reachability,
     garp_shown: bool,
     t: u32,
     upper: u64,
@@ -133,7 +133,7 @@ fn check_none_cheaper(
 }
 
 /// Marks `t` and the observations that reach it.
-fn reaching(new_prices: &NewPrices<'_>, closure: &Closure, t: u32) -> [bool; ROOM]
+fn reaching(new_prices: &NewPrices<'_>, closure: &Reachability, t: u32) -> [bool; ROOM]
     requires closure { IsWeakClosureOf closure.now (input_of new_prices.now) }
     requires observed { t < records_of new_prices.now.table.now }
     ensures { AreMarked (records_of new_prices.now.table.now)
@@ -148,7 +148,7 @@ fn reaching(new_prices: &NewPrices<'_>, closure: &Closure, t: u32) -> [bool; ROO
 }
 
 /// Marks `t` and the observations that it reaches.
-fn reached(new_prices: &NewPrices<'_>, closure: &Closure, t: u32) -> [bool; ROOM]
+fn reached(new_prices: &NewPrices<'_>, closure: &Reachability, t: u32) -> [bool; ROOM]
     requires closure { IsWeakClosureOf closure.now (input_of new_prices.now) }
     requires observed { t < records_of new_prices.now.table.now }
     ensures { AreMarked (records_of new_prices.now.table.now)
@@ -163,7 +163,7 @@ fn reached(new_prices: &NewPrices<'_>, closure: &Closure, t: u32) -> [bool; ROOM
 }
 
 /// Whether a shown lower bound of `t` is that of its pair.
-fn lower_holds(new_prices: &NewPrices<'_>, closure: &Closure, t: u32, lower: &Bound) -> bool
+fn lower_holds(new_prices: &NewPrices<'_>, closure: &Reachability, t: u32, lower: &Bound) -> bool
     requires closure { IsWeakClosureOf closure.now (input_of new_prices.now) }
     requires observed { t < records_of new_prices.now.table.now }
     ensures { IsTrue result

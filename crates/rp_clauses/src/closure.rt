@@ -22,12 +22,12 @@ use std::marker::Model;
 /// Which observations reach which by walks of one or more weak steps: a row of bits for each, in an array. No memory is
 /// taken.
 #[derive(Drop)]
-pub struct Closure {
+pub struct Reachability {
     n: u32,
     rows: [[u64; WORDS]; ROOM],
 }
 
-impl Model for Closure {
+impl Model for Reachability {
     ghost use Rattle.std.specs.Prelude.{◌≤◌};
     ghost use Rattle.rp_clauses.specs.InnerBits.{has_bit};
     ghost use Rattle.rp_evidence.specs.Reached.{Reached, reached_by};
@@ -40,16 +40,16 @@ impl Model for Closure {
     ghost invariant = { λ c. c.n ≤ RECORDS };
 }
 
-impl Closure {
+impl Reachability {
     /// The closure of the weak steps of a table.
-    pub fn of(input: &Input<'_>) -> Closure
+    pub fn of(input: &Input<'_>) -> Reachability
         ensures { IsWeakClosureOf result (input_of_table input.now.table.now) }
     {
         let n = input.n();
         let mut rows = [[0; WORDS]; ROOM];
         note_steps(input, &mut rows);
         close(n, &mut rows);
-        Closure { n, rows }
+        Reachability { n, rows }
     }
 
     /// Whether `s` is `t`, or some walk with at least one step leads from it to `t`.
@@ -141,7 +141,7 @@ fn go_through(n: u32, rows: &mut [[u64; WORDS]; ROOM], k: u32)
 }
 
 /// Marks each observation that weak steps, or none, lead to from one that is marked.
-pub fn spread(input: &Input<'_>, closure: &Closure, marks: &mut [bool])
+pub fn spread(input: &Input<'_>, closure: &Reachability, marks: &mut [bool])
     requires closure { IsWeakClosureOf closure.now (input_of_table input.now.table.now) }
     requires room { records_of input.now.table.now ≤ length marks.old }
     ensures { AreMarked (records_of input.now.table.now)

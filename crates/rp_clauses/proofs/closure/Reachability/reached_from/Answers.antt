@@ -2,7 +2,7 @@ use Rattle.std.proofs.Common.{◌≤◌, length, sym, subst}
 use Rattle.rp_evidence.specs.Marks.{IsMarked}
 use Rattle.rp_evidence.specs.Reached.{Reached}
 use Rattle.rp_clauses.proofs.SeenClosures.{seen_from}
-use Rattle.rp_clauses.proofs.closure.Closure.reached_from.Goals as goal
+use Rattle.rp_clauses.proofs.closure.Reachability.reached_from.Goals as goal
 
 pub united-requires : goal.united-requires
 united-requires c = record {

@@ -5,7 +5,7 @@ use Rattle.rp_table.specs.Cost.{cost_of}
 use Rattle.rp_table.specs.Tables.{records_of}
 use Rattle.rp_clauses.specs.InnerBits.{has_bit}
 use Rattle.rp_clauses.proofs.SeenClosures.{is_closure}
-use Rattle.rp_clauses.proofs.closure.Closure.of.Goals as goal
+use Rattle.rp_clauses.proofs.closure.Reachability.of.Goals as goal
 
 pub invariant_of-result : goal.invariant_of-result
 invariant_of-result c = omega (arith, c.n-n.ensures.few)

@@ -2,7 +2,7 @@ use Rattle.std.proofs.Common.{arith, inl, inr, sym, ◌∙◌}
 use Rattle.std.proofs.lemmas.Bool.{eq-eqb}
 use Rattle.rp_evidence.proofs.EqualOrReached.{equal_or_reached, equals, reaches}
 use Rattle.rp_clauses.proofs.SeenClosures.{seen_bit}
-use Rattle.rp_clauses.proofs.closure.Closure.equals_or_reaches.Goals as goal
+use Rattle.rp_clauses.proofs.closure.Reachability.equals_or_reaches.Goals as goal
 
 pub returns-then-s-t : goal.returns-then-s-t
 returns-then-s-t c = λ input closes s_in t_in. (
