@@ -11,6 +11,7 @@ use crate::Verdict;
 use rp_check_mixture::check_choices;
 use rp_evidence::{Certificate, Failure, Item, cap};
 use rp_patch::Patches;
+use rp_table::BUDGETS;
 
 /// Checks an item. One on a table is none on random choices.
 fn check_random_item(patches: &Patches, item: &Item) -> Result<(), Failure>
@@ -32,7 +33,7 @@ pub fn check_random(patches: &Patches, certificate: &Certificate) -> Verdict
     ensures accepted_says { result ≡ Accepted
         → All (SaysOnPatches patches.now) certificate.now.items }
 {
-    prove!(patches.budgets() <= 48);
+    prove!(patches.budgets() <= BUDGETS);
     for (k, item) in certificate.items.as_slice().iter().enumerate() {
         if let Err(found) = check_random_item(patches, item) {
             return Verdict::Rejected {

@@ -6,6 +6,7 @@ use Rattle.rp_patch.specs.PartialTypes.{Before, IsPartialType, taken_in}
 use Rattle.rp_patch.specs.Patches.{PatchList}
 use Rattle.rp_patch.specs.Types.{IsRationalType}
 use Rattle.rp_patch.specs.declared.partial_type.PartialType.{PartialType}
+use Rattle.rp_table.specs.declared.TheConstants.{BUDGETS}
 
 abbrev pub no_patches : PartialType
 no_patches = record { taken = 0; patches = []; reached = [] }
@@ -27,7 +28,7 @@ place_of base (suc left) (x ∷ xs) = (x + 1) * base ^ left + place_of base left
 -- enough.
 pub record IsSearching (p : PatchList) (weights : List ℕ) (least : ℕ) (parts : List PartialType)
     (depth i : ℕ) : Type 0 where
-  pub room : length parts ≡ 48
+  pub room : length parts ≡ BUDGETS
   pub deep : depth < p.budgets
   pub within : i ≤ length p.patches
   pub each : (k : ℕ) → k ≤ depth → IsPartialType p (type_of_depth parts k) × ((type_of_depth parts k).taken ≡ k)

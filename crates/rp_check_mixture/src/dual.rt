@@ -3,13 +3,15 @@
 ghost use Rattle.std.specs.Prelude.{◌≡◌, ◌<◌, ◌≤◌, ◌↔◌, ℕ, List, IsTrue, length, slice_index};
 ghost use Rattle.rp_patch.specs.Kinds.{cells_weight};
 ghost use Rattle.rp_patch.specs.Types.{IsRationalType};
+ghost use Rattle.rp_table.specs.declared.TheConstants.{BUDGETS};
 
 use rp_patch::Patches;
 use rp_patch::partial_type::PartialType;
+use rp_table::BUDGETS;
 
 /// What these patches weigh together.
 fn weight_of_type(weights: &[u64], numbers: &[u32]) -> u128
-    requires few { length numbers.now ≤ 48 }
+    requires few { length numbers.now ≤ BUDGETS }
     requires weighed { (j : ℕ) → j < length numbers.now
         → slice_index numbers.now j < length weights.now }
     ensures { result ≡ cells_weight weights.now numbers.now }
@@ -30,11 +32,11 @@ fn all_weigh_by(
     partials: &mut [PartialType],
 ) -> bool
     requires one_each { length weights.now ≡ length patches.now.patches }
-    requires room { length partials.old ≡ 48 }
+    requires room { length partials.old ≡ BUDGETS }
     ensures { IsTrue result ↔ ((type : List ℕ) → IsRationalType patches.now type
         → least ≤ cells_weight weights.now type) }
 {
-    prove!(patches.budgets() <= 48);
+    prove!(patches.budgets() <= BUDGETS);
     let mut depth = 0;
     let mut i = 0;
     partials[0] = PartialType::new(patches);
@@ -70,6 +72,6 @@ pub fn all_weigh(patches: &Patches, least: u64, weights: &[u64]) -> bool
     ensures { IsTrue result ↔ ((type : List ℕ) → IsRationalType patches.now type
         → least ≤ cells_weight weights.now type) }
 {
-    let mut partials = [PartialType::new(patches); 48];
+    let mut partials = [PartialType::new(patches); BUDGETS as usize];
     all_weigh_by(patches, least, weights, &mut partials)
 }

@@ -7,6 +7,7 @@ ghost use Rattle.rp_types.specs.declared.TheConstants.{TYPES};
 
 use rp_find_mixture::Listed;
 use rp_patch::{CellUnits, Patches};
+use rp_table::BUDGETS;
 use rp_types::Rational;
 
 /// Rational types on patches, in a list.
@@ -24,7 +25,7 @@ impl<'a> ListedTypes<'a> {
         ensures patches { result.patches.now ≡ patches.now }
         ensures types { result.types.now ≡ types.now }
     {
-        prove!(patches.budgets() <= 48);
+        prove!(patches.budgets() <= BUDGETS);
         ListedTypes { patches, types }
     }
 }
@@ -39,7 +40,7 @@ impl CellUnits for ListedTypes<'_> {
     }
 
     fn units(&self, cell: u32) -> u64 {
-        prove!(self.patches.budgets() <= 48);
+        prove!(self.patches.budgets() <= BUDGETS);
         self.patches.units(cell)
     }
 
