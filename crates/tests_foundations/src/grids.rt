@@ -1,5 +1,6 @@
 //! Tests of a grid: its size, its rows, and what the calls that write leave in it.
 use rp_grid::Grid;
+use std::alloc::Global;
 use std::process::Abort;
 use std::test::Fail;
 
@@ -54,17 +55,32 @@ fn a_grid_through_every_call(rt: HostRuntime) -> Result<(), Fail> {
     Ok(())
 }
 
+/// Whether a grid without columns has its rows, also once two are exchanged.
+fn is_without_columns(alloc: Global) -> Result<bool, Fail> {
+    let mut grid = Grid::new(alloc, 3, 0, 9u8)?;
+    grid.swap(0, 2);
+    Ok(grid.rows() == 3 && grid.cols() == 0 && grid.row(2).is_empty())
+}
+
+/// Whether a grid without rows has its columns.
+fn is_without_rows(alloc: Global) -> Result<bool, Fail> {
+    let grid = Grid::new(alloc, 0, 5, true)?;
+    Ok(grid.rows() == 0 && grid.cols() == 5)
+}
+
+/// Whether a grid of elements of sixteen bytes keeps what is written.
+fn keeps_wide(alloc: Global) -> Result<bool, Fail> {
+    let mut grid = Grid::new(alloc, 2, 1, 1u128)?;
+    grid.row_mut(1)[0] = u128::MAX;
+    Ok(grid.row(0)[0] == 1 && grid.row(1)[0] == u128::MAX)
+}
+
 /// Without rows, without columns, and with elements of one and of sixteen bytes.
 #[test]
 fn grids_without_elements_and_of_other_sizes(rt: HostRuntime) -> Result<(), Fail> {
     let alloc = rt.alloc();
-    let mut thin = Grid::new(alloc, 3, 0, 9u8)?;
-    thin.swap(0, 2);
-    assert_eq!(rt; (thin.rows(), thin.cols(), thin.row(2).len()), (3, 0, 0));
-    let none = Grid::new(alloc, 0, 5, true)?;
-    assert_eq!(rt; (none.rows(), none.cols()), (0, 5));
-    let mut wide = Grid::new(alloc, 2, 1, 1u128)?;
-    wide.row_mut(1)[0] = u128::MAX;
-    assert_eq!(rt; (wide.row(0)[0], wide.row(1)[0]), (1, u128::MAX));
+    assert!(rt; is_without_columns(alloc)?);
+    assert!(rt; is_without_rows(alloc)?);
+    assert!(rt; keeps_wide(alloc)?);
     Ok(())
 }

@@ -4,11 +4,9 @@
 #[cfg(test)]
 mod calls;
 #[cfg(test)]
-mod exact;
+mod checks;
 #[cfg(test)]
 mod grids;
-#[cfg(test)]
-mod large_programs;
 #[cfg(test)]
 mod numbers;
 #[cfg(test)]
@@ -17,5 +15,3 @@ mod outside;
 mod programs;
 #[cfg(test)]
 mod system;
-#[cfg(test)]
-mod wide_numbers;

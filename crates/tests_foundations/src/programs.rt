@@ -1,9 +1,8 @@
-//! Tests of linear programs: the run's outcomes on worked programs and at their limits, and each condition of a check.
+//! Tests of linear programs: the run's outcomes on worked programs, at their limits, and at the greatest sizes.
 ghost use Rattle.std.specs.Prelude.{◌↔◌, ◌^◌, ◌≤◌, pos, ◌≤ℤ◌, All, IsTrue};
 ghost use Rattle.std.specs.Int.RustNames.{unsigned_abs};
 
-use rp_farkas::{Entry, Pair, Program, check_pair, check_ray};
-use rp_num::Seq;
+use rp_farkas::{Entry, Program, check_pair, check_ray};
 use rp_simplex::{Outcome, Tableau, maximize};
 use std::alloc::Global;
 use std::process::Abort;
@@ -26,165 +25,118 @@ fn are_right_sides(values: &[i64]) -> bool
 }
 
 /// The program of these lists, one row of A after the other.
-fn program(
+fn program(rt: &impl Abort, a: Vec<i64>, b: Vec<i64>, c: Vec<i64>) -> Program {
+    let rows = b.len();
+    let cols = c.len();
+    assert!(rt; rows <= 64 && cols <= 8192, "too large");
+    assert!(rt; a.len() == rows * cols, "not one entry for each place");
+    assert!(rt;
+        are_entries(&a) && are_entries(&b) && are_entries(&c),
+        "too large"
+    );
+    assert!(rt; are_right_sides(&b), "below 0");
+    Program::make(rows as u32, cols as u32, a, b, c)
+}
+
+/// The program of copies of these lists.
+pub(crate) fn copied(
     rt: &impl Abort,
     alloc: Global,
     a: &[i64],
     b: &[i64],
     c: &[i64],
 ) -> Result<Program, Fail> {
-    let rows = b.len();
-    let cols = c.len();
-    assert!(rt; rows <= 64 && cols <= 8192, "too large");
-    assert!(rt; a.len() == rows * cols, "not one entry for each place");
-    assert!(rt;
-        are_entries(a) && are_entries(b) && are_entries(c),
-        "too large"
-    );
-    assert!(rt; are_right_sides(b), "below 0");
     let (a, b, c) = (a.to_vec(alloc)?, b.to_vec(alloc)?, c.to_vec(alloc)?);
-    Ok(Program::make(rows as u32, cols as u32, a, b, c))
+    Ok(program(rt, a, b, c))
 }
 
-/// The listing of these columns and values.
-fn listing(alloc: Global, places: &[(u32, u64)]) -> Result<Seq<Entry>, Fail> {
-    let mut entries = Vec::new(alloc);
-    for place in places {
-        entries.push(Entry {
-            at: place.0,
-            value: place.1,
-        })?;
+/// An outcome that is wanted: columns with their values, and prices in order.
+enum Want {
+    /// A denominator, y, and x.
+    Optimal(u64, &'static [(u32, u64)], &'static [u64]),
+    /// A denominator, a point, and a ray from it.
+    Unbounded(u64, &'static [(u32, u64)], &'static [(u32, u64)]),
+    /// The step at which the run is withheld.
+    Wide(u64),
+}
+
+/// Whether a listing has just these columns and values.
+fn are_listed(entries: &[Entry], want: &[(u32, u64)]) -> bool {
+    if entries.len() != want.len() {
+        return false;
     }
-    Ok(Seq::from_vec(entries))
-}
-
-/// The columns with their values, with a space before each.
-fn push_entries(alloc: Global, text: &mut String, entries: &[Entry]) -> Result<(), Fail> {
-    for entry in entries {
-        push_entry(alloc, text, entry)?;
+    for k in 0..want.len() {
+        if entries[k].at != want[k].0 || entries[k].value != want[k].1 {
+            return false;
+        }
     }
-    Ok(())
+    true
 }
 
-/// A column with its value, with a space before it.
-fn push_entry(alloc: Global, text: &mut String, entry: &Entry) -> Result<(), Fail> {
-    let (at, value) = (entry.at, entry.value);
-    text.push_str(format!(in alloc; " {at}:{value}")?.as_str())?;
-    Ok(())
-}
-
-/// The prices, with a space before each.
-fn push_prices(alloc: Global, text: &mut String, prices: &[u64]) -> Result<(), Fail> {
-    for price in prices {
-        text.push_str(format!(in alloc; " {price}")?.as_str())?;
+/// Whether an outcome is as it is wanted.
+fn is_wanted(outcome: &Outcome, want: &Want) -> bool {
+    match (outcome, want) {
+        (Outcome::Optimal(pair), Want::Optimal(den, y, x)) => {
+            pair.den == *den && are_listed(pair.y.as_slice(), y) && pair.x.as_slice() == *x
+        }
+        (Outcome::Unbounded { den, point, ray }, Want::Unbounded(wanted, from, along)) => {
+            den == wanted && are_listed(point.as_slice(), from) && are_listed(ray.as_slice(), along)
+        }
+        (Outcome::Wide { step }, Want::Wide(wanted)) => step == wanted,
+        _ => false,
     }
-    Ok(())
 }
 
-/// A kind, the denominator and the entries.
-fn headed(alloc: Global, kind: &str, den: u64, entries: &[Entry]) -> Result<String, Fail> {
-    let mut text = format!(in alloc; "{kind} {den}")?;
-    push_entries(alloc, &mut text, entries)?;
-    Ok(text)
-}
-
-/// The outcome as text: its kind, the denominator, the entries as column:value, then the prices or the ray.
-fn text_of(alloc: Global, outcome: &Outcome) -> Result<String, Fail> {
+/// Whether the check of an outcome's evidence takes it.
+fn is_taken(program: &Program, outcome: &Outcome) -> bool {
     match outcome {
-        Outcome::Optimal(pair) => {
-            let mut text = headed(alloc, "optimal", pair.den, pair.y.as_slice())?;
-            text.push_str(" x")?;
-            push_prices(alloc, &mut text, pair.x.as_slice())?;
-            Ok(text)
-        }
-        Outcome::Unbounded { den, point, ray } => {
-            let mut text = headed(alloc, "unbounded", *den, point.as_slice())?;
-            text.push_str(" ray")?;
-            push_entries(alloc, &mut text, ray.as_slice())?;
-            Ok(text)
-        }
-        Outcome::Wide { step } => Ok(format!(in alloc; "wide {step}")?),
+        Outcome::Optimal(pair) => check_pair(program, pair),
+        Outcome::Unbounded { den, point, ray } => check_ray(program, *den, point, ray),
+        Outcome::Wide { .. } => true,
     }
 }
 
-/// The outcome of the program, which both calls give, and whether the checks take its evidence.
-fn outcome(
+/// Whether the run in one call ends as it is wanted, and the checks take its evidence.
+fn ends(alloc: Global, program: &Program, want: &Want) -> Result<bool, Fail> {
+    let outcome = maximize(alloc, program)?;
+    Ok(is_wanted(&outcome, want) && is_taken(program, &outcome))
+}
+
+/// Whether the run from a tableau ends as it is wanted.
+fn ends_from_tableau(alloc: Global, program: &Program, want: &Want) -> Result<bool, Fail> {
+    let outcome = Tableau::of(alloc, program)?.solve();
+    Ok(is_wanted(&outcome, want))
+}
+
+/// Asserts the outcome of a row's program, which both calls give, and of which the checks take the evidence.
+fn assert_outcome(
     rt: &impl Abort,
     alloc: Global,
-    a: &[i64],
-    b: &[i64],
-    c: &[i64],
-) -> Result<(String, bool), Fail> {
-    let program = program(rt, alloc, a, b, c)?;
-    let outcome = maximize(alloc, &program)?;
-    let text = text_of(alloc, &outcome)?;
-    let solved = Tableau::of(alloc, &program)?.solve();
-    assert_eq!(rt; text_of(alloc, &solved)?, text);
-    let taken = match &outcome {
-        Outcome::Optimal(pair) => check_pair(&program, pair),
-        Outcome::Unbounded { den, point, ray } => check_ray(&program, *den, point, ray),
-        Outcome::Wide { .. } => true,
-    };
-    Ok((text, taken))
-}
-
-/// The outcome as text, of which the checks have to take the evidence.
-pub(crate) fn checked_outcome(
-    rt: &impl Abort,
-    alloc: Global,
-    a: &[i64],
-    b: &[i64],
-    c: &[i64],
-) -> Result<String, Fail> {
-    let (text, taken) = outcome(rt, alloc, a, b, c)?;
-    assert!(rt; taken);
-    Ok(text)
-}
-
-/// Whether a check takes y and x over `den`.
-fn takes_pair(
-    alloc: Global,
     program: &Program,
-    den: u64,
-    y: &[(u32, u64)],
-    x: &[u64],
-) -> Result<bool, Fail> {
-    let y = listing(alloc, y)?;
-    let x = Seq::from_vec(Vec::from_slice(alloc, x)?);
-    Ok(check_pair(program, &Pair { den, y, x }))
+    want: &Want,
+    row: usize,
+) -> Result<(), Fail> {
+    assert!(rt; ends(alloc, program, want)?, "row {row}");
+    assert!(rt;
+        ends_from_tableau(alloc, program, want)?,
+        "row {row}, from its tableau"
+    );
+    Ok(())
 }
 
-/// Whether a check takes the ray from the point over `den`.
-fn takes_ray(
-    alloc: Global,
-    program: &Program,
-    den: u64,
-    point: &[(u32, u64)],
-    ray: &[(u32, u64)],
-) -> Result<bool, Fail> {
-    let point = listing(alloc, point)?;
-    let ray = listing(alloc, ray)?;
-    Ok(check_ray(program, den, &point, &ray))
-}
+/// The rows of A, one after the other, b, c, and the outcome.
+type Case = (&'static [i64], &'static [i64], &'static [i64], Want);
 
-/// So many ones.
-fn ones(alloc: Global, count: u32) -> Result<Vec<i64>, Fail> {
-    Ok(vec![in alloc; 1i64; count as usize]?)
-}
-
-/// The rows of A, one after the other, b, c, and the outcome as text.
-type ProgramCase = (&'static [i64], &'static [i64], &'static [i64], &'static str);
-
-/// Asserts the outcome of each, of which the checks take the evidence.
-fn assert_outcomes(rt: &impl Abort, alloc: Global, cases: &[ProgramCase]) -> Result<(), Fail> {
-    for (a, b, c, text) in cases {
-        let got = checked_outcome(rt, alloc, a, b, c)?;
-        assert!(rt; got.as_str() == *text, "{text}");
+/// Asserts the outcome of each.
+fn assert_outcomes(rt: &impl Abort, alloc: Global, cases: &[Case]) -> Result<(), Fail> {
+    for (row, (a, b, c, want)) in cases.iter().enumerate() {
+        let program = copied(rt, alloc, a, b, c)?;
+        assert_outcome(rt, alloc, &program, want, row)?;
     }
     Ok(())
 }
 
-const WORKED: [ProgramCase; 12] = [
+const WORKED: [Case; 12] = [
     // once the denominator is 2^50, one entry becomes 2^100 - 2^50 + 1
     (
         &[
@@ -195,33 +147,48 @@ const WORKED: [ProgramCase; 12] = [
         ],
         &[1, 1],
         &[1, 1],
-        "wide 1",
+        Want::Wide(1),
     ),
-    (&[4, 1, 3, 4], &[1, 1], &[1, 1], "optimal 13 0:3 1:1 x 1 3"),
-    (&[-1], &[1], &[1], "unbounded 1 ray 0:1"),
-    (&[1, -1], &[1], &[1, 1], "unbounded 1 0:1 ray 0:1 1:1"),
+    (
+        &[4, 1, 3, 4],
+        &[1, 1],
+        &[1, 1],
+        Want::Optimal(13, &[(0, 3), (1, 1)], &[1, 3]),
+    ),
+    (&[-1], &[1], &[1], Want::Unbounded(1, &[], &[(0, 1)])),
+    (
+        &[1, -1],
+        &[1],
+        &[1, 1],
+        Want::Unbounded(1, &[(0, 1)], &[(0, 1), (1, 1)]),
+    ),
     // no columns, no rows, neither
-    (&[], &[1], &[], "optimal 1 x 0"),
-    (&[], &[], &[1], "unbounded 1 ray 0:1"),
-    (&[], &[], &[], "optimal 1 x"),
-    (&[1], &[0], &[1], "optimal 1 x 1"),
+    (&[], &[1], &[], Want::Optimal(1, &[], &[0])),
+    (&[], &[], &[1], Want::Unbounded(1, &[], &[(0, 1)])),
+    (&[], &[], &[], Want::Optimal(1, &[], &[])),
+    (&[1], &[0], &[1], Want::Optimal(1, &[], &[1])),
     (
         &[1, 2, 1, -1, 2, 1, 1, -1],
         &[1, 0],
         &[4, 4, 3, -3],
-        "optimal 1 1:1 3:1 x 1 2",
+        Want::Optimal(1, &[(1, 1), (3, 1)], &[1, 2]),
     ),
     // Beale's program, which cycles where ties go to the first row
     (
         &[1, -32, -4, 36, 1, -24, -1, 6, 0, 0, 1, 0],
         &[0, 0, 1],
         &[3, -80, 2, -24],
-        "optimal 1 0:1 2:1 x 0 3 5",
+        Want::Optimal(1, &[(0, 1), (2, 1)], &[0, 3, 5]),
     ),
     // the slack of the last row leaves, and has to enter again
-    (&[1, 1, 1, 0], &[1, 1], &[1, 2], "optimal 1 1:1 x 2 0"),
+    (
+        &[1, 1, 1, 0],
+        &[1, 1],
+        &[1, 2],
+        Want::Optimal(1, &[(1, 1)], &[2, 0]),
+    ),
     // equal right sides: the later row is the lexicographically lesser
-    (&[1, 1], &[1, 1], &[1], "optimal 1 0:1 x 0 1"),
+    (&[1, 1], &[1, 1], &[1], Want::Optimal(1, &[(0, 1)], &[0, 1])),
 ];
 
 #[test]
@@ -231,44 +198,57 @@ fn outcomes_of_worked_programs(rt: HostRuntime) -> Result<(), Fail> {
 
 /// A number of 2^63 - 1 is shown: the value, an entry of the objective row, a denominator, the value after a second
 /// pivot. With 2^63 there the run is withheld.
-const AT_THE_WIDTH: [ProgramCase; 8] = [
+const AT_THE_WIDTH: [Case; 8] = [
     (
         &[1],
         &[153_092_023],
         &[60_247_241_209],
-        "optimal 1 0:153092023 x 60247241209",
+        Want::Optimal(1, &[(0, 153_092_023)], &[60_247_241_209]),
     ),
-    (&[1], &[2_147_483_648], &[4_294_967_296], "wide 1"),
+    (&[1], &[2_147_483_648], &[4_294_967_296], Want::Wide(1)),
     (
         &[1, -153_092_023],
         &[1],
         &[60_247_241_209, 0],
-        "unbounded 1 0:1 ray 0:153092023 1:1",
+        Want::Unbounded(1, &[(0, 1)], &[(0, 153_092_023), (1, 1)]),
     ),
-    (&[1, -2_147_483_648], &[1], &[4_294_967_296, 0], "wide 1"),
+    (
+        &[1, -2_147_483_648],
+        &[1],
+        &[4_294_967_296, 0],
+        Want::Wide(1),
+    ),
     (
         &[153_092_023, 0, 0, 60_247_241_209],
         &[1, 1],
         &[1, 1],
-        "optimal 9223372036854775807 0:60247241209 1:153092023 x 60247241209 153092023",
+        Want::Optimal(
+            9_223_372_036_854_775_807,
+            &[(0, 60_247_241_209), (1, 153_092_023)],
+            &[60_247_241_209, 153_092_023],
+        ),
     ),
     (
         &[4_294_967_296, 0, 1, 2_147_483_648],
         &[1, 1],
         &[1, 1],
-        "wide 1",
+        Want::Wide(1),
     ),
     (
         &[1, 0, 0, 1],
         &[1_073_741_824, 2_147_483_647],
         &[4_294_967_296, 2_147_483_649],
-        "optimal 1 0:1073741824 1:2147483647 x 4294967296 2147483649",
+        Want::Optimal(
+            1,
+            &[(0, 1_073_741_824), (1, 2_147_483_647)],
+            &[4_294_967_296, 2_147_483_649],
+        ),
     ),
     (
         &[1, 0, 0, 1],
         &[1_073_741_824, 1_073_741_824],
         &[4_294_967_296, 4_294_967_296],
-        "wide 2",
+        Want::Wide(2),
     ),
 ];
 
@@ -277,112 +257,132 @@ fn outcomes_at_the_width(rt: HostRuntime) -> Result<(), Fail> {
     assert_outcomes(&rt, rt.alloc(), &AT_THE_WIDTH)
 }
 
-#[test]
-fn a_program_of_ones(rt: HostRuntime) -> Result<(), Fail> {
-    let alloc = rt.alloc();
-    let a = ones(alloc, 262_144)?;
-    let b = ones(alloc, 64)?;
-    let c = ones(alloc, 4_096)?;
-    let got = checked_outcome(&rt, alloc, &a, &b, &c)?;
-    let mut text = String::from_str(alloc, "optimal 1 0:1 x")?;
-    for _ in 0..63 {
-        text.push_str(" 0")?;
+/// Numbers by their places, from 0.
+enum By {
+    /// 1.
+    Ones,
+    /// 1, 2, ..
+    Rising,
+    /// 1 from this place on, and 0 before it.
+    From(u32),
+    /// 1 and one more for each 8 places before it.
+    Eighths,
+    /// The entries of so many rows of so many columns, where column j has a 1 in row j modulo the rows, and else 0.
+    Columns(u32, u32),
+}
+
+/// 1 where this holds, and else 0.
+fn one_if(holds: bool) -> i64 {
+    if holds { 1 } else { 0 }
+}
+
+/// The number at a place.
+fn number(by: &By, place: u32) -> i64 {
+    match by {
+        By::Ones => 1,
+        By::Rising => i64::from(place) + 1,
+        By::From(first) => one_if(place >= *first),
+        By::Eighths => 1 + i64::from(place / 8),
+        By::Columns(rows, cols) => {
+            let (rows, cols) = ((*rows).max(1), (*cols).max(1));
+            one_if(place % cols % rows == place / cols)
+        }
     }
-    text.push_str(" 1")?;
-    assert!(rt; got.as_str() == text.as_str());
+}
+
+/// So many numbers.
+type Numbers = (u32, By);
+
+/// These numbers.
+fn listed(alloc: Global, numbers: &Numbers) -> Result<Vec<i64>, Fail> {
+    let (count, by) = numbers;
+    let mut all = Vec::new(alloc);
+    for place in 0..*count {
+        all.push(number(by, place))?;
+    }
+    Ok(all)
+}
+
+/// The program of these numbers.
+fn large(
+    rt: &impl Abort,
+    alloc: Global,
+    a: &Numbers,
+    b: &Numbers,
+    c: &Numbers,
+) -> Result<Program, Fail> {
+    let (a, b, c) = (listed(alloc, a)?, listed(alloc, b)?, listed(alloc, c)?);
+    Ok(program(rt, a, b, c))
+}
+
+/// The rows of A, one after the other, b, c, and the outcome.
+type LargeCase = (Numbers, Numbers, Numbers, Want);
+
+/// Asserts the outcome of each.
+fn assert_large(rt: &impl Abort, alloc: Global, cases: &[LargeCase]) -> Result<(), Fail> {
+    for (row, (a, b, c, want)) in cases.iter().enumerate() {
+        let program = large(rt, alloc, a, b, c)?;
+        assert_outcome(rt, alloc, &program, want, row)?;
+    }
     Ok(())
 }
 
-/// A number past the width of a denominator, a price or a value.
-const PAST: u64 = 9_223_372_036_854_775_808;
-
-/// A denominator, y, x, and whether a check takes them for the program of rows 4, 1 and 3, 4.
-type PairCase = (u64, &'static [(u32, u64)], &'static [u64], bool);
-
-const PAIRS: [PairCase; 18] = [
-    (13, &[(0, 3), (1, 1)], &[1, 3], true),
-    (26, &[(0, 6), (1, 2)], &[2, 6], true),
-    (0, &[(0, 3), (1, 1)], &[1, 3], false),
-    (PAST, &[(0, 3), (1, 1)], &[1, 3], false),
-    (13, &[(0, 3), (0, 3), (1, 1)], &[1, 3], false),
-    (13, &[(1, 1), (0, 3)], &[1, 3], false),
-    (13, &[(0, 3), (1, 1), (2, 1)], &[1, 3], false),
-    (13, &[(0, 3), (1, 0)], &[1, 3], false),
-    (13, &[(0, 3), (1, PAST)], &[1, 3], false),
-    (13, &[(0, 3), (1, 1)], &[1], false),
-    (13, &[(0, 3), (1, 1)], &[1, 3, 0], false),
-    (13, &[(0, 3), (1, 1)], &[1, PAST], false),
-    // y is not feasible in the first row, and in the last
-    (13, &[(0, 4)], &[1, 3], false),
-    (13, &[(1, 4)], &[1, 3], false),
-    // x is not feasible in the first column, and in the last
-    (13, &[(0, 3), (1, 1)], &[0, 4], false),
-    (13, &[(0, 3), (1, 1)], &[4, 0], false),
-    // both are feasible, and the values differ
-    (13, &[(0, 3)], &[1, 3], false),
-    (13, &[(0, 3), (1, 1)], &[2, 3], false),
+const LARGE: [LargeCase; 3] = [
+    // the first column alone, in the last row
+    (
+        (262_144, By::Ones),
+        (64, By::Ones),
+        (4_096, By::Ones),
+        Want::Optimal(
+            1,
+            &[(0, 1)],
+            &[
+                0, 0, 0, 0, 0, 0, 0, 0, 0, 0, 0, 0, 0, 0, 0, 0, 0, 0, 0, 0, 0, 0, 0, 0, 0, 0, 0, 0,
+                0, 0, 0, 0, 0, 0, 0, 0, 0, 0, 0, 0, 0, 0, 0, 0, 0, 0, 0, 0, 0, 0, 0, 0, 0, 0, 0, 0,
+                0, 0, 0, 0, 0, 0, 0, 1,
+            ],
+        ),
+    ),
+    // The most rows and columns, of which only the last two columns are worth something: the one best point fills their
+    // rows with them, and the one best price of each of these rows is 1.
+    (
+        (524_288, By::Columns(64, 8_192)),
+        (64, By::Rising),
+        (8_192, By::From(8_190)),
+        Want::Optimal(
+            1,
+            &[(8_190, 63), (8_191, 64)],
+            &[
+                0, 0, 0, 0, 0, 0, 0, 0, 0, 0, 0, 0, 0, 0, 0, 0, 0, 0, 0, 0, 0, 0, 0, 0, 0, 0, 0, 0,
+                0, 0, 0, 0, 0, 0, 0, 0, 0, 0, 0, 0, 0, 0, 0, 0, 0, 0, 0, 0, 0, 0, 0, 0, 0, 0, 0, 0,
+                0, 0, 0, 0, 0, 0, 1, 1,
+            ],
+        ),
+    ),
+    // Column j of 8 rows is worth 1 + j / 8, so each column in turn is the first that enters, and takes the place of
+    // the column before it in its row: 320 pivots.
+    (
+        (2_560, By::Columns(8, 320)),
+        (8, By::Rising),
+        (320, By::Eighths),
+        Want::Optimal(
+            1,
+            &[
+                (312, 1),
+                (313, 2),
+                (314, 3),
+                (315, 4),
+                (316, 5),
+                (317, 6),
+                (318, 7),
+                (319, 8),
+            ],
+            &[40, 40, 40, 40, 40, 40, 40, 40],
+        ),
+    ),
 ];
 
-/// Asserts which of these a check takes for the program of the rows a, where all else is 1.
-fn assert_pairs(rt: &impl Abort, alloc: Global, a: &[i64], cases: &[PairCase]) -> Result<(), Fail> {
-    let program = program(rt, alloc, a, &[1, 1], &[1, 1])?;
-    for (den, y, x, taken) in cases {
-        let got = takes_pair(alloc, &program, *den, y, x)?;
-        assert!(rt; got == *taken, "over {den}");
-    }
-    Ok(())
-}
-
 #[test]
-fn each_condition_of_a_pair(rt: HostRuntime) -> Result<(), Fail> {
-    assert_pairs(&rt, rt.alloc(), &[4, 1, 3, 4], &PAIRS)
-}
-
-/// A denominator, a point, a ray, and whether a check takes them for the program of rows -1, 1 and -1, 2.
-type RayCase = (u64, &'static [(u32, u64)], &'static [(u32, u64)], bool);
-
-const RAYS: [RayCase; 12] = [
-    (1, &[], &[(0, 1)], true),
-    (2, &[(1, 1)], &[(0, 2), (1, 1)], true),
-    (0, &[], &[(0, 1)], false),
-    (PAST, &[], &[(0, 1)], false),
-    (1, &[(1, 1)], &[(0, 1)], false),
-    (1, &[(1, 0)], &[(0, 1)], false),
-    (1, &[(2, 1)], &[(0, 1)], false),
-    (1, &[], &[(0, 0)], false),
-    (1, &[], &[(0, 1), (0, 1)], false),
-    (1, &[], &[(0, PAST)], false),
-    // the ray rises in the last row
-    (1, &[], &[(0, 1), (1, 1)], false),
-    // it gains nothing
-    (1, &[], &[], false),
-];
-
-/// Asserts which of these a check takes for the program of the rows a, where all else is 1.
-fn assert_rays(rt: &impl Abort, alloc: Global, a: &[i64], cases: &[RayCase]) -> Result<(), Fail> {
-    let program = program(rt, alloc, a, &[1, 1], &[1, 1])?;
-    for (den, point, ray, taken) in cases {
-        let got = takes_ray(alloc, &program, *den, point, ray)?;
-        assert!(rt; got == *taken, "over {den}");
-    }
-    Ok(())
-}
-
-#[test]
-fn each_condition_of_a_ray(rt: HostRuntime) -> Result<(), Fail> {
-    assert_rays(&rt, rt.alloc(), &[-1, 1, -1, 2], &RAYS)
-}
-
-#[test]
-fn extreme_entries(rt: HostRuntime) -> Result<(), Fail> {
-    let alloc = rt.alloc();
-    let most: i64 = 2_251_799_813_685_248;
-    let width: u64 = 9_223_372_036_854_775_807;
-    let top = program(&rt, alloc, &[most], &[most], &[most])?;
-    let all = [(0, width)];
-    assert!(rt; takes_pair(alloc, &top, width, &all, &[width])?);
-    let falling = program(&rt, alloc, &[-most], &[most], &[most])?;
-    assert!(rt; takes_ray(alloc, &falling, width, &all, &all)?);
-    assert!(rt; !takes_pair(alloc, &falling, width, &all, &[width])?);
-    Ok(())
+fn outcomes_of_large_programs(rt: HostRuntime) -> Result<(), Fail> {
+    assert_large(&rt, rt.alloc(), &LARGE)
 }
