@@ -1,6 +1,4 @@
-ghost use Rattle.std.specs.Prelude.{◌<◌};
 ghost use Rattle.rp_cost.specs.Axioms.{MeetsCost};
-ghost use Rattle.rp_table.specs.Rows.{rows_count};
 
 use crate::limits::repeated;
 use rp_cost::{
@@ -20,9 +18,9 @@ fn bounds_at(
     asked: &Asked,
     i: u32,
 ) -> Result<CostBounds, Fail>
-    requires minimises { MeetsCost tech.now }
-    requires asked { i < rows_count asked.now.prices.prices asked.now.prices.goods }
+    requires { MeetsCost tech.now }
 {
+    assert!(rt; i < asked.count());
     let prices = asked.row(i);
     assert!(rt; prices.len() == tech.inputs() as usize);
     let bounds = cost_bounds(alloc, tech, prices, asked.y(i))?;
@@ -37,7 +35,7 @@ fn all_bounds(
     tech: &Tech,
     asked: &Asked,
 ) -> Result<Vec<CostBounds>, Fail>
-    requires minimises { MeetsCost tech.now }
+    requires { MeetsCost tech.now }
 {
     let mut all = Vec::new(alloc);
     for i in 0..asked.count() {
