@@ -1,150 +1,144 @@
-use crate::readers::{asked, fine_technology, is_read, technology};
-use rp_cost::{TableFault, read_asked, read_tech};
+use crate::readers::{Wanted, reads_technology, technology_in};
+use rp_cost::{TableFault, Tech, read_asked};
 use std::alloc::{AllocError, Global};
+use std::process::Abort;
 use std::test::Fail;
 
 /// A first part, and then so many times another.
-fn repeated(alloc: Global, first: &str, part: &str, times: u32) -> Result<String, AllocError> {
+pub(crate) fn repeated(
+    alloc: Global,
+    first: &str,
+    part: &str,
+    times: u32,
+) -> Result<String, AllocError> {
     let mut text = String::from_str(alloc, first)?;
+    push_repeated(&mut text, part, times)?;
+    Ok(text)
+}
+
+/// Puts a part so many times at the end.
+fn push_repeated(text: &mut String, part: &str, times: u32) -> Result<(), AllocError> {
     for _ in 0..times {
         text.push_str(part)?;
     }
-    Ok(text)
+    Ok(())
+}
+
+/// Puts the columns of an input at the end, named by so many letters.
+fn push_columns(text: &mut String, letters: u32) -> Result<(), AllocError> {
+    text.push_str(",w_")?;
+    push_repeated(text, "n", letters)?;
+    text.push_str(",x_")?;
+    push_repeated(text, "n", letters)
 }
 
 /// A file of one record with a column of outputs and so many inputs, named by as many letters as they are.
 fn inputs_of(alloc: Global, inputs: u32) -> Result<String, AllocError> {
     let mut text = String::from_str(alloc, "y")?;
     for i in 0..inputs {
-        text.push_str(repeated(alloc, ",w_n", "n", i)?.as_str())?;
-        text.push_str(repeated(alloc, ",x_n", "n", i)?.as_str())?;
+        push_columns(&mut text, i.saturating_add(1))?;
     }
-    text.push_str(repeated(alloc, "\n1", ",1,1", inputs)?.as_str())?;
+    text.push_str("\n1")?;
+    push_repeated(&mut text, ",1,1", inputs)?;
     Ok(text)
+}
+
+/// A file of one record with an input that is named by so many letters.
+fn named_by(alloc: Global, letters: u32) -> Result<String, AllocError> {
+    let mut text = String::from_str(alloc, "y")?;
+    push_columns(&mut text, letters)?;
+    text.push_str("\n1,1,1\n")?;
+    Ok(text)
+}
+
+/// How many records and inputs a file of a technology has, or its fault.
+fn size(alloc: Global, file: &str) -> Result<(u32, u32), TableFault> {
+    let tech = technology_in(alloc, file)?;
+    Ok((tech.count(), tech.inputs()))
+}
+
+/// How many outputs a file asks of a technology, or its fault.
+fn asked_count(alloc: Global, tech: &Tech, file: &str) -> Result<u32, TableFault> {
+    Ok(read_asked(alloc, file.as_bytes(), tech)?.count())
+}
+
+/// A file of a technology has so many records and inputs, or this fault.
+fn check_size(
+    rt: &impl Abort,
+    alloc: Global,
+    label: &str,
+    file: String,
+    want: Result<(u32, u32), TableFault>,
+) -> Result<(), Fail> {
+    let got = size(alloc, file.as_str());
+    assert!(rt; got == want, "{label}");
+    Ok(())
+}
+
+/// A file of a technology with so many records.
+fn records_of(alloc: Global, records: u32) -> Result<String, AllocError> {
+    repeated(alloc, "y,w_a,x_a\n", "1,1,1\n", records)
 }
 
 #[test]
 fn as_many_inputs_as_the_limit_and_one_more(rt: HostRuntime) -> Result<(), Fail> {
-    let alloc = rt.alloc();
-    let tech = read_tech(alloc, inputs_of(alloc, 16)?.as_bytes())?;
-    assert_eq!(rt; tech.inputs(), 16);
-    let got = technology(alloc, inputs_of(alloc, 17)?.as_str())?;
-    assert!(rt; is_read(&got, Err(TableFault::TooManyGoods)));
+    let file = inputs_of(rt.alloc(), 16)?;
+    check_size(&rt, rt.alloc(), "16 inputs", file, Ok((1, 16)))?;
+    let file = inputs_of(rt.alloc(), 17)?;
+    let fault = TableFault::TooManyGoods;
+    check_size(&rt, rt.alloc(), "17 inputs", file, Err(fault))
+}
+
+#[test]
+fn as_many_records_as_the_limit_and_one_more(rt: HostRuntime) -> Result<(), Fail> {
+    let file = records_of(rt.alloc(), 512)?;
+    check_size(&rt, rt.alloc(), "512 records", file, Ok((512, 1)))?;
+    let file = records_of(rt.alloc(), 513)?;
+    let fault = TableFault::TooManyRecords;
+    check_size(&rt, rt.alloc(), "513 records", file, Err(fault))
+}
+
+/// A technology is read so of a file with such a name.
+fn check_name(rt: &impl Abort, alloc: Global, letters: u32, want: Wanted) -> Result<(), Fail> {
+    let file = named_by(alloc, letters)?;
+    let is_read = reads_technology(alloc, file.as_str(), want)?;
+    assert!(rt; is_read, "{letters}");
     Ok(())
 }
 
 #[test]
 fn a_name_as_long_as_the_limit_and_one_byte_more(rt: HostRuntime) -> Result<(), Fail> {
-    let alloc = rt.alloc();
-    for (length, column) in [(64, None), (65, Some(2))] {
-        let mut text = repeated(alloc, "y,w_", "n", length)?;
-        text.push_str(repeated(alloc, ",x_", "n", length)?.as_str())?;
-        text.push_str("\n1,1,1\n")?;
-        let got = technology(alloc, text.as_str())?;
-        let want = match column {
-            None => Ok([1u64, 0, 0, 1, 1, 1].as_slice()),
-            Some(column) => Err(TableFault::BadHeader { column }),
-        };
-        assert!(rt; is_read(&got, want));
-    }
+    check_name(&rt, rt.alloc(), 64, Ok(&[1, 0, 0, 1, 1, 1]))?;
+    let fault = TableFault::BadHeader { column: 2 };
+    check_name(&rt, rt.alloc(), 65, Err(fault))
+}
+
+/// The technology with the most records.
+fn technology_of_the_most(alloc: Global) -> Result<Tech, Fail> {
+    let file = records_of(alloc, 512)?;
+    Ok(technology_in(alloc, file.as_str())?)
+}
+
+/// A file asks so many outputs of a technology, or has this fault.
+fn check_count(
+    rt: &impl Abort,
+    alloc: Global,
+    tech: &Tech,
+    label: &str,
+    file: String,
+    want: Result<u32, TableFault>,
+) -> Result<(), Fail> {
+    let got = asked_count(alloc, tech, file.as_str());
+    assert!(rt; got == want, "{label}");
     Ok(())
 }
 
 #[test]
-fn as_many_records_as_the_limit_and_one_more(rt: HostRuntime) -> Result<(), Fail> {
-    let alloc = rt.alloc();
-    let tech = read_tech(
-        alloc,
-        repeated(alloc, "y,w_a,x_a\n", "1,1,1\n", 512)?.as_bytes(),
-    )?;
-    assert_eq!(rt; tech.count(), 512);
-    let got = technology(
-        alloc,
-        repeated(alloc, "y,w_a,x_a\n", "1,1,1\n", 513)?.as_str(),
-    )?;
-    assert!(rt; is_read(&got, Err(TableFault::TooManyRecords)));
-    let file = repeated(alloc, "w_a,y\n", "1,1\n", 16)?;
-    assert_eq!(rt; read_asked(alloc, file.as_bytes(), &tech)?.count(), 16);
-    let got = asked(
-        alloc,
-        repeated(alloc, "w_a,y\n", "1,1\n", 17)?.as_str(),
-        &tech,
-    )?;
-    assert!(rt; is_read(&got, Err(TableFault::TooManyRecords)));
-    Ok(())
-}
-
-#[test]
-fn scaled_numbers_of_technologies_up_to_the_limit(rt: HostRuntime) -> Result<(), Fail> {
-    for (file, want) in [
-        (
-            "y,w_a,x_a,p\n9999999,9999999,9999999,9999999\n",
-            Ok([1u64, 0, 0, 9_999_999, 9_999_999, 9_999_999, 9_999_999].as_slice()),
-        ),
-        (
-            "y,w_a,x_a,p\n0.000001,0.0000010,9.999999,9.999999\n",
-            Ok(&[1, 6, 6, 1, 9_999_999, 1, 9_999_999]),
-        ),
-        (
-            "y,w_a,x_a\n10000000,1,1\n",
-            Err(TableFault::TooLarge { row: 1, column: 1 }),
-        ),
-        (
-            "y,w_a,x_a\n1,10000000,1\n",
-            Err(TableFault::TooLarge { row: 1, column: 2 }),
-        ),
-        (
-            "y,w_a,x_a\n1,1,99999999999999999999\n",
-            Err(TableFault::TooLarge { row: 1, column: 3 }),
-        ),
-        (
-            "y,w_a,x_a,p\n1,1,1,10000000\n",
-            Err(TableFault::TooLarge { row: 1, column: 4 }),
-        ),
-        (
-            "y,w_a,x_a,p\n1,999999.9,1,1\n1,1,1,1000000\n",
-            Err(TableFault::TooLarge { row: 2, column: 4 }),
-        ),
-        (
-            "y,w_a,x_a\n0.5,1,1\n1,1,1000000\n",
-            Err(TableFault::TooLarge { row: 2, column: 3 }),
-        ),
-        (
-            "y,w_a,x_a\n1,1,0.5\n1000000,1,1\n",
-            Err(TableFault::TooLarge { row: 2, column: 1 }),
-        ),
-    ] {
-        let got = technology(rt.alloc(), file)?;
-        assert!(rt; is_read(&got, want), "{file}");
-    }
-    Ok(())
-}
-
-#[test]
-fn scaled_numbers_of_asked_outputs_up_to_the_limit(rt: HostRuntime) -> Result<(), Fail> {
-    let alloc = rt.alloc();
-    let tech = fine_technology(alloc)?;
-    for (file, want) in [
-        (
-            "w_a,w_b,y\n9999999,1,999999.9\n",
-            Ok([9_999_999u64, 1, 9_999_999].as_slice()),
-        ),
-        ("w_a,w_b,y\n9.999999,0.000001,0.1\n", Ok(&[9_999_999, 1, 1])),
-        (
-            "w_a,w_b,y\n10000000,1,1\n",
-            Err(TableFault::TooLarge { row: 1, column: 1 }),
-        ),
-        (
-            "w_a,w_b,y\n0.1,1000000,1\n",
-            Err(TableFault::TooLarge { row: 1, column: 2 }),
-        ),
-        (
-            "w_a,w_b,y\n1,1,1000000\n",
-            Err(TableFault::TooLarge { row: 1, column: 3 }),
-        ),
-    ] {
-        let got = asked(alloc, file, &tech)?;
-        assert!(rt; is_read(&got, want), "{file}");
-    }
-    Ok(())
+fn as_many_asked_outputs_as_the_limit_and_one_more(rt: HostRuntime) -> Result<(), Fail> {
+    let tech = technology_of_the_most(rt.alloc())?;
+    let file = repeated(rt.alloc(), "w_a,y\n", "1,1\n", 16)?;
+    check_count(&rt, rt.alloc(), &tech, "16 outputs", file, Ok(16))?;
+    let file = repeated(rt.alloc(), "w_a,y\n", "1,1\n", 17)?;
+    let fault = TableFault::TooManyRecords;
+    check_count(&rt, rt.alloc(), &tech, "17 outputs", file, Err(fault))
 }
