@@ -43,6 +43,16 @@ fn as_many_new_prices_and_bundles_as_the_limit_and_one_more(rt: HostRuntime) -> 
 fn as_many_budgets_and_choices_as_the_limit_and_one_more(rt: HostRuntime) -> Result<(), Fail> {
     let (budgets, found) = (("p_a,w|1,2|", "1,2|"), ("Ok([1, 2", ", 1, 2"));
     assert_limit(&rt, rt.alloc(), Reader::Budgets, budgets, found, 47)?;
-    let (choices, found) = (("budget,q_a,n|1,1,1|", "1,1,1|"), ("Ok([0, 1, 1", ", 0, 1, 1"));
-    assert_limit(&rt, rt.alloc(), Reader::ChoicesFromOne, choices, found, 4_095)
+    let (choices, found) = (
+        ("budget,q_a,n|1,1,1|", "1,1,1|"),
+        ("Ok([0, 1, 1", ", 0, 1, 1"),
+    );
+    assert_limit(
+        &rt,
+        rt.alloc(),
+        Reader::ChoicesFromOne,
+        choices,
+        found,
+        4_095,
+    )
 }

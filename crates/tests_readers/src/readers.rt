@@ -136,8 +136,14 @@ fn has_goods(alloc: Global, file: &str, first: &[u8], second: &[u8]) -> Result<b
 #[test]
 fn goods_of_budgets_are_in_the_order_of_their_columns(rt: HostRuntime) -> Result<(), Fail> {
     let alloc = rt.alloc();
-    assert!(rt; has_goods(alloc, "p_a,p_b,w\n1,2,5\n", b"a", b"b")?, "first a");
-    assert!(rt; has_goods(alloc, "w,p_b,obs,p_a\n5,1,x,2\n", b"b", b"a")?, "first b");
+    assert!(rt;
+        has_goods(alloc, "p_a,p_b,w\n1,2,5\n", b"a", b"b")?,
+        "first a"
+    );
+    assert!(rt;
+        has_goods(alloc, "w,p_b,obs,p_a\n5,1,x,2\n", b"b", b"a")?,
+        "first b"
+    );
     Ok(())
 }
 
