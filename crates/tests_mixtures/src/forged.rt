@@ -1,3 +1,4 @@
+//! Evidence on random choices, of whatever origin, as lines of numbers, and what the checker answers on it.
 ghost use Rattle.std.specs.Prelude.{◌≡◌, ◌≤◌, [], All, IfOk, IfSome};
 ghost use Rattle.rp_evidence.specs.Kinds.{IsOfKind};
 ghost use Rattle.rp_evidence.specs.declared.certificate.Kind.TheVariants.{Random as RandomKind};
@@ -9,10 +10,11 @@ use rp_patch::of_choices::patches;
 use rp_patch::{Patches, UNITS};
 use rp_text::{read_budgets, read_choices};
 use std::alloc::Global;
+use std::process::Abort;
 use std::test::Fail;
 
 /// The patches of choices in a file, from budgets in a file.
-pub fn patches_of(
+pub(crate) fn patches_of(
     alloc: Global,
     budgets: &str,
     choices: &str,
@@ -25,61 +27,105 @@ pub fn patches_of(
     Ok(patches(alloc, &budgets, &choices, unit)?)
 }
 
-/// Types, by their patches, which are numbered from 0 as in code, and their weights.
-pub type Parts<'a> = &'a [(&'a [u32], u64)];
-
-/// The parts.
-fn listed(alloc: Global, parts: Parts<'_>) -> Result<Seq<Share>, Fail> {
-    let mut listed = Vec::new(alloc);
-    for (patches, weight) in parts {
-        let patches = Seq::from_vec(patches.to_vec(alloc)?);
-        listed.push(Share {
-            patches,
-            weight: *weight,
-        })?;
+/// The numbers in a text, with spaces between them.
+fn numbers(alloc: Global, text: &str) -> Result<Seq<u64>, Fail> {
+    let mut numbers = Vec::new(alloc);
+    for word in text.split(' ') {
+        if !word.is_empty() {
+            numbers.push(word.parse::<u64>()?)?;
+        }
     }
-    Ok(Seq::from_vec(listed))
+    Ok(Seq::from_vec(numbers))
 }
 
-/// A mixture over `den`.
-pub fn mixture(alloc: Global, total: u64, den: u64, parts: Parts<'_>) -> Result<Item, Fail>
-    ensures { IfOk result (IsOfKind RandomKind) }
-{
-    let parts = listed(alloc, parts)?;
-    let part = RandomPart::Mixture { den, parts };
-    Ok(Item::Random { total, part })
+/// A type by its patches, which are numbered from 0 as in code, and after a colon its weight.
+fn share(alloc: Global, text: &str) -> Result<Share, Fail> {
+    let (names, weight) = text.split_once(':').unwrap_or((text, ""));
+    let weight = weight.parse::<u64>()?;
+    let mut patches = Vec::new(alloc);
+    for word in names.split(' ') {
+        if !word.is_empty() {
+            patches.push(word.parse::<u32>()?)?;
+        }
+    }
+    let patches = Seq::from_vec(patches);
+    Ok(Share { patches, weight })
+}
+
+/// The parts, with commas between them.
+fn shares(alloc: Global, text: &str) -> Result<Seq<Share>, Fail> {
+    let mut parts = Vec::new(alloc);
+    for part in text.trim().split(',') {
+        if !part.is_empty() {
+            parts.push(share(alloc, part)?)?;
+        }
+    }
+    Ok(Seq::from_vec(parts))
 }
 
 /// A violation: a partial mixture over `den`, and the weights of the patches.
-pub fn violation(
-    alloc: Global,
-    total: u64,
-    den: u64,
-    parts: Parts<'_>,
-    weights: &[u64],
-) -> Result<Item, Fail>
-    ensures { IfOk result (IsOfKind RandomKind) }
-{
-    let parts = listed(alloc, parts)?;
-    let weights = Seq::from_vec(weights.to_vec(alloc)?);
-    let part = RandomPart::Violated {
+fn violation(alloc: Global, den: u64, parts: &str, weights: &str) -> Result<RandomPart, Fail> {
+    let parts = shares(alloc, parts)?;
+    let weights = numbers(alloc, weights)?;
+    Ok(RandomPart::Violated {
         den,
         parts,
         weights,
-    };
+    })
+}
+
+/// A mixture over `den`, or where weights of the patches stand after the parts a violation.
+fn evidence(alloc: Global, den: u64, text: &str) -> Result<RandomPart, Fail> {
+    if let Some((parts, weights)) = text.split_once(';') {
+        return violation(alloc, den, parts, weights);
+    }
+    let parts = shares(alloc, text)?;
+    Ok(RandomPart::Mixture { den, parts })
+}
+
+/// The evidence in a line: the total, over which number it is, its parts, and of a violation the weights of the
+/// patches.
+pub(crate) fn item_of(alloc: Global, line: &str) -> Result<Item, Fail>
+    ensures { IfOk result (IsOfKind RandomKind) }
+{
+    let (total, rest) = line.split_once(';').unwrap_or((line, ""));
+    let (den, rest) = rest.split_once(';').unwrap_or((rest, ""));
+    let (total, den) = (total.parse::<u64>()?, den.parse::<u64>()?);
+    let part = evidence(alloc, den, rest)?;
     Ok(Item::Random { total, part })
 }
 
 /// What is withheld.
-pub fn withheld(total: u64, step: u64) -> Item
+pub(crate) fn withheld(total: u64, step: u64) -> Item
     ensures { IsOfKind RandomKind result }
 {
     let part = RandomPart::Wide { step };
     Item::Random { total, part }
 }
 
+/// The evidence in a line.
+pub(crate) fn alone(alloc: Global, line: &str) -> Result<Vec<Item>, Fail>
+    ensures { IfOk result (λ items. All (IsOfKind RandomKind) items.items) }
+{
+    let item = item_of(alloc, line)?;
+    let mut items = Vec::new(alloc);
+    items.push(item)?;
+    Ok(items)
+}
+
+/// The evidence in a line, and then what is withheld.
+pub(crate) fn followed(alloc: Global, line: &str, step: u64) -> Result<Vec<Item>, Fail>
+    ensures { IfOk result (λ items. All (IsOfKind RandomKind) items.items) }
+{
+    let item = item_of(alloc, line)?;
+    let mut items = Vec::new(alloc);
+    items.push(item)?;
+    items.push(withheld(4, step))?;
+    Ok(items)
+}
+
 /// A certificate of these items.
-pub fn certificate(alloc: Global, items: Vec<Item>) -> Certificate
+pub(crate) fn certificate(alloc: Global, items: Vec<Item>) -> Certificate
     ensures { result ≡ record { kind = RandomKind; version = 1; levels = []; items = items.items } }
 {
     Certificate {
@@ -91,7 +137,7 @@ pub fn certificate(alloc: Global, items: Vec<Item>) -> Certificate
 }
 
 /// What the checker answers on these items, in words; items and places are from 1.
-pub fn answer(alloc: Global, patches: &Patches, items: Vec<Item>) -> Result<String, Fail>
+pub(crate) fn answer(alloc: Global, patches: &Patches, items: Vec<Item>) -> Result<String, Fail>
     requires { All (IsOfKind RandomKind) items.items }
 {
     match check_random(patches, &certificate(alloc, items)) {
@@ -104,11 +150,22 @@ pub fn answer(alloc: Global, patches: &Patches, items: Vec<Item>) -> Result<Stri
     }
 }
 
-/// What it answers on one item.
-pub fn answer_alone(alloc: Global, patches: &Patches, item: Item) -> Result<String, Fail>
-    requires { IsOfKind RandomKind item }
-{
-    let mut items = Vec::new(alloc);
-    items.push(item)?;
-    answer(alloc, patches, items)
+/// What it answers on the evidence in a line.
+pub(crate) fn answer_alone(alloc: Global, patches: &Patches, line: &str) -> Result<String, Fail> {
+    answer(alloc, patches, alone(alloc, line)?)
+}
+
+/// Asserts what the checker answers on the evidence in each line, which stands before an arrow.
+pub(crate) fn assert_answers(
+    rt: &impl Abort,
+    alloc: Global,
+    patches: &Patches,
+    cases: &str,
+) -> Result<(), Fail> {
+    for case in cases.lines() {
+        let (line, wanted) = case.split_once(" => ").unwrap_or((case, ""));
+        let got = answer_alone(alloc, patches, line)?;
+        assert!(rt; got.as_str() == wanted, "{case}, got {got}");
+    }
+    Ok(())
 }

@@ -2,7 +2,7 @@ ghost use Rattle.std.specs.Prelude.{◌≤◌, All, IfSome};
 ghost use Rattle.rp_evidence.specs.Kinds.{IsOfKind};
 ghost use Rattle.rp_evidence.specs.declared.certificate.Kind.TheVariants.{Random as RandomKind};
 
-use crate::forged::{certificate, mixture, patches_of, violation, withheld};
+use crate::forged::{alone, certificate, followed, patches_of};
 use rp_check::{Verdict, check_random};
 use rp_evidence::Item;
 use rp_patch::{Patches, UNITS};
@@ -10,8 +10,11 @@ use rp_random::random;
 use rp_report::report_random;
 use rp_types::rational_types;
 use std::alloc::Global;
+use std::process::Abort;
 use std::test::Fail;
-use tests_inputs::choices::{COPRIME, CROSSED, IRRATIONAL, MIXTURE, VIOLATION};
+use tests_inputs::choices::{
+    COPRIME, CROSSED, IRRATIONAL, MIXTURE, ONE_BUDGET, ONE_CHOICE, VIOLATION,
+};
 
 /// The report of these items, or that they are not accepted.
 fn reported(alloc: Global, patches: &Patches, types: u32, items: Vec<Item>) -> Result<String, Fail>
@@ -42,94 +45,123 @@ fn found(alloc: Global, budgets: &str, choices: &str, unit: Option<u32>) -> Resu
     reported(alloc, &patches, types.as_slice().len() as u32, items)
 }
 
+/// Budgets, choices, the unit that is asked for, and the report.
+type Case = (&'static str, &'static str, Option<u32>, &'static str);
+
+const ONE_EACH: &str =
+    "budget,q_a,q_b,q_c,n\n1,0,2,2,1\n1,1,0,0,1\n2,2,0,2,1\n2,0,1,0,1\n3,2,2,0,1\n3,0,0,1,1\n";
+
+const FOUND: &[Case] = &[
+    (
+        CROSSED,
+        VIOLATION,
+        None,
+        "budgets 2 patches 4 types 3 total 4\nrandom violated share 3/4\nweights 1 0 1 0 over 1\npart 1 4 weight 1\npart 2 3 weight 2\n",
+    ),
+    (
+        CROSSED,
+        VIOLATION,
+        Some(100),
+        "budgets 2 patches 4 types 3 total 100\napportioned per 100\nrandom violated share 3/4\nweights 1 0 1 0 over 1\npart 1 4 weight 25\npart 2 3 weight 50\n",
+    ),
+    (
+        CROSSED,
+        MIXTURE,
+        None,
+        "budgets 2 patches 4 types 3 total 4\nrandom mixture over 1\npart 1 3 weight 1\npart 1 4 weight 2\npart 2 3 weight 1\n",
+    ),
+    (
+        CROSSED,
+        COPRIME,
+        Some(100),
+        "budgets 2 patches 2 types 1 total 100\napportioned per 100\nrandom mixture over 1\npart 1 2 weight 100\n",
+    ),
+    // no type is rational
+    (
+        CROSSED,
+        IRRATIONAL,
+        None,
+        "budgets 2 patches 2 types 0 total 1\nrandom violated share 0\nweights 0 0 over 1\n",
+    ),
+    (
+        ONE_BUDGET,
+        ONE_CHOICE,
+        None,
+        "budgets 1 patches 1 types 1 total 7\nrandom mixture over 1\npart 1 weight 7\n",
+    ),
+    // of the patches below the other budgets a type takes at most one, so each of the others has a half of two
+    // types
+    (
+        "p_a,p_b,p_c,w\n4,1,1,4\n1,4,1,4\n1,1,4,4\n",
+        ONE_EACH,
+        None,
+        "budgets 3 patches 6 types 4 total 2\nrandom violated share 3/4\nweights 1 0 1 0 1 0 over 2\npart 1 3 6 weight 1\npart 1 4 5 weight 1\npart 2 3 5 weight 1\n",
+    ),
+];
+
+/// Asserts the report of what is found of the files of a case.
+fn assert_found(rt: &impl Abort, alloc: Global, case: Case) -> Result<(), Fail> {
+    let (budgets, choices, unit, expected) = case;
+    if let Some(unit) = unit {
+        assert!(rt; 1 <= unit && unit <= UNITS, "{choices}");
+    }
+    let got = found(alloc, budgets, choices, unit)?;
+    assert!(rt; got.as_str() == expected, "{choices} {got}");
+    Ok(())
+}
+
 /// What is found is reported, by budget files and choices whose verdict is known.
 #[test]
 fn reports_of_what_is_found(rt: HostRuntime) -> Result<(), Fail> {
-    let alloc = rt.alloc();
-    let one_each =
-        "budget,q_a,q_b,q_c,n\n1,0,2,2,1\n1,1,0,0,1\n2,2,0,2,1\n2,0,1,0,1\n3,2,2,0,1\n3,0,0,1,1\n";
-    let cases: [(&str, &str, Option<u32>, &str); 7] = [
-        (
-            CROSSED,
-            VIOLATION,
-            None,
-            "budgets 2 patches 4 types 3 total 4\nrandom violated share 3/4\nweights 1 0 1 0 over 1\npart 1 4 weight 1\npart 2 3 weight 2\n",
-        ),
-        (
-            CROSSED,
-            VIOLATION,
-            Some(100),
-            "budgets 2 patches 4 types 3 total 100\napportioned per 100\nrandom violated share 3/4\nweights 1 0 1 0 over 1\npart 1 4 weight 25\npart 2 3 weight 50\n",
-        ),
-        (
-            CROSSED,
-            MIXTURE,
-            None,
-            "budgets 2 patches 4 types 3 total 4\nrandom mixture over 1\npart 1 3 weight 1\npart 1 4 weight 2\npart 2 3 weight 1\n",
-        ),
-        (
-            CROSSED,
-            COPRIME,
-            Some(100),
-            "budgets 2 patches 2 types 1 total 100\napportioned per 100\nrandom mixture over 1\npart 1 2 weight 100\n",
-        ),
-        // no type is rational
-        (
-            CROSSED,
-            IRRATIONAL,
-            None,
-            "budgets 2 patches 2 types 0 total 1\nrandom violated share 0\nweights 0 0 over 1\n",
-        ),
-        (
-            "p_a,w\n3,10\n",
-            "budget,q_a,n\n1,2,7\n",
-            None,
-            "budgets 1 patches 1 types 1 total 7\nrandom mixture over 1\npart 1 weight 7\n",
-        ),
-        // of the patches below the other budgets a type takes at most one, so each of the others has a half of two
-        // types
-        (
-            "p_a,p_b,p_c,w\n4,1,1,4\n1,4,1,4\n1,1,4,4\n",
-            one_each,
-            None,
-            "budgets 3 patches 6 types 4 total 2\nrandom violated share 3/4\nweights 1 0 1 0 1 0 over 2\npart 1 3 6 weight 1\npart 1 4 5 weight 1\npart 2 3 5 weight 1\n",
-        ),
-    ];
-    for (budgets, choices, unit, expected) in cases {
-        assert_eq!(rt; found(alloc, budgets, choices, unit)?.as_str(), expected);
+    for case in FOUND {
+        assert_found(&rt, rt.alloc(), *case)?;
     }
     Ok(())
+}
+
+/// The report of a violation and of what is withheld.
+fn report_of_two(alloc: Global) -> Result<String, Fail> {
+    let patches = patches_of(alloc, CROSSED, VIOLATION, None)?;
+    let items = followed(
+        alloc,
+        "4;2; 0 3:2, 1 2:4; 2 0 2 0",
+        18_446_744_073_709_551_615,
+    )?;
+    reported(alloc, &patches, 3, items)
+}
+
+/// The patches of choices of which each budget has one on the line of the other, so that every type is rational.
+fn patches_on_lines(alloc: Global) -> Result<Patches, Fail> {
+    let choices = "budget,q_a,q_b,n\n1,2,1,1\n1,1,1,1\n2,1,2,1\n2,1,1,1\n";
+    patches_of(alloc, CROSSED, choices, None)
+}
+
+/// The report of a mixture of all types.
+fn report_of_mixture(alloc: Global) -> Result<String, Fail> {
+    let patches = patches_on_lines(alloc)?;
+    let items = alone(alloc, "2;2; 0 2:1, 0 3:1, 1 2:1, 1 3:1")?;
+    reported(alloc, &patches, 4, items)
+}
+
+/// The report of no evidence.
+fn report_of_none(alloc: Global) -> Result<String, Fail> {
+    reported(alloc, &patches_on_lines(alloc)?, 4, Vec::new(alloc))
 }
 
 /// Evidence from elsewhere: its numbers are reported as they stand, and the share in lowest terms.
 #[test]
 fn reports_of_other_evidence(rt: HostRuntime) -> Result<(), Fail> {
-    let alloc = rt.alloc();
-    let patches = patches_of(alloc, CROSSED, VIOLATION, None)?;
-    let mut items = Vec::new(alloc);
-    items.push(violation(alloc, 4, 2, &[(&[0, 3], 2), (&[1, 2], 4)], &[2, 0, 2, 0])?)?;
-    items.push(withheld(4, 18_446_744_073_709_551_615))?;
+    let two = report_of_two(rt.alloc())?;
     assert_eq!(rt;
-        reported(alloc, &patches, 3, items)?.as_str(),
+        two.as_str(),
         "budgets 2 patches 4 types 3 total 4\nrandom violated share 3/4\nweights 2 0 2 0 over 2\npart 1 4 weight 2\npart 2 3 weight 4\nrandom withheld 18446744073709551615\n"
     );
-    // each budget has a patch on the line of the other, so every type is rational
-    let on_lines = "budget,q_a,q_b,n\n1,2,1,1\n1,1,1,1\n2,1,2,1\n2,1,1,1\n";
-    let patches = patches_of(alloc, CROSSED, on_lines, None)?;
-    let mut items = Vec::new(alloc);
-    items.push(mixture(
-        alloc,
-        2,
-        2,
-        &[(&[0, 2], 1), (&[0, 3], 1), (&[1, 2], 1), (&[1, 3], 1)],
-    )?)?;
+    let mixture = report_of_mixture(rt.alloc())?;
     assert_eq!(rt;
-        reported(alloc, &patches, 4, items)?.as_str(),
+        mixture.as_str(),
         "budgets 2 patches 4 types 4 total 2\nrandom mixture over 2\npart 1 3 weight 1\npart 1 4 weight 1\npart 2 3 weight 1\npart 2 4 weight 1\n"
     );
-    assert_eq!(rt;
-        reported(alloc, &patches, 4, Vec::new(alloc))?.as_str(),
-        "budgets 2 patches 4 types 4 total 2\n"
-    );
+    let none = report_of_none(rt.alloc())?;
+    assert_eq!(rt; none.as_str(), "budgets 2 patches 4 types 4 total 2\n");
     Ok(())
 }

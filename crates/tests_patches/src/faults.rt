@@ -1,24 +1,45 @@
 use rp_patch::PatchFault;
 use rp_types::TypesFault;
+use std::alloc::{AllocError, Global};
 use std::test::Fail;
+
+const OF_PATCHES: &[PatchFault] = &[
+    PatchFault::TooManyPatches { budget: 24 },
+    PatchFault::NeedUnit { budget: 1 },
+    PatchFault::NoMemory,
+];
+
+const OF_TYPES: &[TypesFault] = &[
+    TypesFault::TooManyCombinations,
+    TypesFault::TooManyTypes,
+    TypesFault::NoMemory,
+];
+
+/// The text of each fault, in a line of its own.
+fn told(alloc: Global) -> Result<String, AllocError> {
+    let mut text = String::new(alloc);
+    for fault in OF_PATCHES {
+        writeln!(text, "{fault}")?;
+    }
+    for fault in OF_TYPES {
+        writeln!(text, "{fault}")?;
+    }
+    Ok(text)
+}
+
+const NAMES: &str = "\
+TooManyPatches
+NeedUnit
+NoMemory
+TooManyCombinations
+TooManyTypes
+NoMemory
+";
 
 /// The text of a fault is its name alone.
 #[test]
 fn faults_are_told_by_name(rt: HostRuntime) -> Result<(), Fail> {
-    let alloc = rt.alloc();
-    for (fault, name) in [
-        (PatchFault::TooManyPatches { budget: 24 }, "TooManyPatches"),
-        (PatchFault::NeedUnit { budget: 1 }, "NeedUnit"),
-        (PatchFault::NoMemory, "NoMemory"),
-    ] {
-        assert_eq!(rt; fault.to_string(alloc)?.as_str(), name);
-    }
-    for (fault, name) in [
-        (TypesFault::TooManyCombinations, "TooManyCombinations"),
-        (TypesFault::TooManyTypes, "TooManyTypes"),
-        (TypesFault::NoMemory, "NoMemory"),
-    ] {
-        assert_eq!(rt; fault.to_string(alloc)?.as_str(), name);
-    }
+    let got = told(rt.alloc())?;
+    assert_eq!(rt; got.as_str(), NAMES);
     Ok(())
 }

@@ -5,16 +5,12 @@
 #[cfg(test)]
 mod apportioned;
 #[cfg(test)]
-mod counts;
-#[cfg(test)]
-mod edges;
-#[cfg(test)]
 mod faults;
-#[cfg(test)]
-mod given;
 #[cfg(test)]
 mod limits;
 #[cfg(test)]
 mod mixtures;
 #[cfg(test)]
 mod rows;
+#[cfg(test)]
+mod told;

@@ -10,6 +10,6 @@ mod limits;
 #[cfg(test)]
 mod readers;
 #[cfg(test)]
-mod shared;
+mod reading;
 #[cfg(test)]
 mod sheets;
