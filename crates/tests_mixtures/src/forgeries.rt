@@ -1,4 +1,4 @@
-use crate::forged::{answer, assert_answers, followed, item_of, patches_of, withheld};
+use crate::forged::{answer, assert_answers, assert_text, followed, item_of, patches_of, withheld};
 use rp_patch::Patches;
 use std::alloc::Global;
 use std::test::Fail;
@@ -139,13 +139,13 @@ fn answer_on_three(alloc: Global, patches: &Patches) -> Result<String, Fail> {
 fn forged_items_after_others(rt: HostRuntime) -> Result<(), Fail> {
     let alloc = rt.alloc();
     let patches = patches_of(alloc, CROSSED, VIOLATION, None)?;
-    let none = answer(alloc, &patches, Vec::new(alloc))?;
-    assert_eq!(rt; none.as_str(), "accepted", "none");
-    let two = answer_on_two(alloc, &patches)?;
-    assert_eq!(rt; two.as_str(), "accepted", "two");
-    let other = answer_on_other_total(alloc, &patches)?;
-    assert_eq!(rt; other.as_str(), "item 1 Units 0", "another total");
-    let three = answer_on_three(alloc, &patches)?;
-    assert_eq!(rt; three.as_str(), "item 2 Units 1", "three");
+    assert_text(&rt, answer(alloc, &patches, Vec::new(alloc))?, "accepted");
+    assert_text(&rt, answer_on_two(alloc, &patches)?, "accepted");
+    assert_text(
+        &rt,
+        answer_on_other_total(alloc, &patches)?,
+        "item 1 Units 0",
+    );
+    assert_text(&rt, answer_on_three(alloc, &patches)?, "item 2 Units 1");
     Ok(())
 }

@@ -2,7 +2,7 @@ ghost use Rattle.std.specs.Prelude.{◌≤◌, All, IfSome};
 ghost use Rattle.rp_evidence.specs.Kinds.{IsOfKind};
 ghost use Rattle.rp_evidence.specs.declared.certificate.Kind.TheVariants.{Random as RandomKind};
 
-use crate::forged::{alone, certificate, followed, patches_of};
+use crate::forged::{alone, assert_text, certificate, followed, patches_of};
 use rp_check::{Verdict, check_random};
 use rp_evidence::Item;
 use rp_patch::{Patches, UNITS};
@@ -148,20 +148,31 @@ fn report_of_none(alloc: Global) -> Result<String, Fail> {
     reported(alloc, &patches_on_lines(alloc)?, 4, Vec::new(alloc))
 }
 
+const OF_TWO: &str = "\
+budgets 2 patches 4 types 3 total 4
+random violated share 3/4
+weights 2 0 2 0 over 2
+part 1 4 weight 2
+part 2 3 weight 4
+random withheld 18446744073709551615
+";
+
+const OF_ALL_TYPES: &str = "\
+budgets 2 patches 4 types 4 total 2
+random mixture over 2
+part 1 3 weight 1
+part 1 4 weight 1
+part 2 3 weight 1
+part 2 4 weight 1
+";
+
+const OF_NONE: &str = "budgets 2 patches 4 types 4 total 2\n";
+
 /// Evidence from elsewhere: its numbers are reported as they stand, and the share in lowest terms.
 #[test]
 fn reports_of_other_evidence(rt: HostRuntime) -> Result<(), Fail> {
-    let two = report_of_two(rt.alloc())?;
-    assert_eq!(rt;
-        two.as_str(),
-        "budgets 2 patches 4 types 3 total 4\nrandom violated share 3/4\nweights 2 0 2 0 over 2\npart 1 4 weight 2\npart 2 3 weight 4\nrandom withheld 18446744073709551615\n"
-    );
-    let mixture = report_of_mixture(rt.alloc())?;
-    assert_eq!(rt;
-        mixture.as_str(),
-        "budgets 2 patches 4 types 4 total 2\nrandom mixture over 2\npart 1 3 weight 1\npart 1 4 weight 1\npart 2 3 weight 1\npart 2 4 weight 1\n"
-    );
-    let none = report_of_none(rt.alloc())?;
-    assert_eq!(rt; none.as_str(), "budgets 2 patches 4 types 4 total 2\n");
+    assert_text(&rt, report_of_two(rt.alloc())?, OF_TWO);
+    assert_text(&rt, report_of_mixture(rt.alloc())?, OF_ALL_TYPES);
+    assert_text(&rt, report_of_none(rt.alloc())?, OF_NONE);
     Ok(())
 }
