@@ -155,9 +155,9 @@ pub(crate) fn answer_alone(alloc: Global, patches: &Patches, line: &str) -> Resu
     answer(alloc, patches, alone(alloc, line)?)
 }
 
-/// Asserts that a text is as wanted.
-pub(crate) fn assert_text(rt: &impl Abort, got: String, wanted: &str) {
-    assert!(rt; got.as_str() == wanted, "{got}");
+/// Asserts that the text of this case is as wanted.
+pub(crate) fn assert_text(rt: &impl Abort, case: &str, got: String, wanted: &str) {
+    assert!(rt; got.as_str() == wanted, "{case}: {got}");
 }
 
 /// Asserts what the checker answers on the evidence in each line, which stands before an arrow.

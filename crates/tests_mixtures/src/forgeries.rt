@@ -139,13 +139,29 @@ fn answer_on_three(alloc: Global, patches: &Patches) -> Result<String, Fail> {
 fn forged_items_after_others(rt: HostRuntime) -> Result<(), Fail> {
     let alloc = rt.alloc();
     let patches = patches_of(alloc, CROSSED, VIOLATION, None)?;
-    assert_text(&rt, answer(alloc, &patches, Vec::new(alloc))?, "accepted");
-    assert_text(&rt, answer_on_two(alloc, &patches)?, "accepted");
     assert_text(
         &rt,
+        "no item",
+        answer(alloc, &patches, Vec::new(alloc))?,
+        "accepted",
+    );
+    assert_text(
+        &rt,
+        "two items",
+        answer_on_two(alloc, &patches)?,
+        "accepted",
+    );
+    assert_text(
+        &rt,
+        "another total",
         answer_on_other_total(alloc, &patches)?,
         "item 1 Units 0",
     );
-    assert_text(&rt, answer_on_three(alloc, &patches)?, "item 2 Units 1");
+    assert_text(
+        &rt,
+        "three items",
+        answer_on_three(alloc, &patches)?,
+        "item 2 Units 1",
+    );
     Ok(())
 }

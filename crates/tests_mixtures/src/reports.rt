@@ -171,8 +171,13 @@ const OF_NONE: &str = "budgets 2 patches 4 types 4 total 2\n";
 /// Evidence from elsewhere: its numbers are reported as they stand, and the share in lowest terms.
 #[test]
 fn reports_of_other_evidence(rt: HostRuntime) -> Result<(), Fail> {
-    assert_text(&rt, report_of_two(rt.alloc())?, OF_TWO);
-    assert_text(&rt, report_of_mixture(rt.alloc())?, OF_ALL_TYPES);
-    assert_text(&rt, report_of_none(rt.alloc())?, OF_NONE);
+    assert_text(&rt, "two types", report_of_two(rt.alloc())?, OF_TWO);
+    assert_text(
+        &rt,
+        "all types",
+        report_of_mixture(rt.alloc())?,
+        OF_ALL_TYPES,
+    );
+    assert_text(&rt, "none", report_of_none(rt.alloc())?, OF_NONE);
     Ok(())
 }
