@@ -1,15 +1,24 @@
-//! Tests of verdicts on costs, with and without evidence, and of what they stand on: the axiom, Afriat numbers and
-//! utilities, the index with its search by halving, and walks with totals.
+//! Tests of revealed preference, steps, closures and shortest walks, at one level for all and at levels of the
+//! observations' own; and of verdicts on costs, with and without evidence, and of what they stand on: the axiom, Afriat
+//! numbers and utilities, the index with its search by halving, and walks with totals.
 #![tactic(auto)]
 
 #[cfg(test)]
 mod afriat;
+#[cfg(test)]
+mod closure_levels;
+#[cfg(test)]
+mod closure_texts;
+#[cfg(test)]
+mod closures;
 #[cfg(test)]
 mod garp;
 #[cfg(test)]
 mod halving;
 #[cfg(test)]
 mod indices;
+#[cfg(test)]
+mod own_levels;
 #[cfg(test)]
 mod shared;
 #[cfg(test)]

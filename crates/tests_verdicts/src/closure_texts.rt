@@ -1,18 +1,10 @@
-//! What these tests share: the costs of a table that is written out, tables whose closures are known for every size,
-//! and what a closure holds. Nothing here ensures anything, so that a test carries none of what the calls ensure.
+//! Tables whose closures are known for every size, and what a closure holds. Nothing here ensures anything, so that a
+//! test carries none of what the calls ensure.
 ghost use Rattle.std.specs.Prelude.{◌≡◌};
 
 use rp_pref::Closure;
-use rp_table::Costs;
-use rp_text::read_table;
 use std::alloc::Global;
 use std::test::Fail;
-
-/// The costs of the table in a file.
-pub(crate) fn costs_of(alloc: Global, file: &str) -> Result<Costs, Fail> {
-    let table = read_table(alloc, file.as_bytes())?;
-    Ok(Costs::of(alloc, &table)?)
-}
 
 /// The sum of the numbers up to this one.
 pub(crate) fn triangle(side: u32) -> u32 {

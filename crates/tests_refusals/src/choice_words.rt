@@ -1,4 +1,4 @@
-use crate::over_files::each_is_answered_by_the_usage;
+use crate::words_over_files::each_is_answered_by_the_usage;
 use std::test::Fail;
 use tests_inputs::choices::{CROSSED, OF_VIOLATION, OF_VIOLATION_PER_100, VIOLATION};
 use tests_support::prints;

@@ -1,4 +1,4 @@
-use crate::over_files::FILES;
+use crate::words_over_files::FILES;
 use std::alloc::Global;
 use std::test::Fail;
 use tests_inputs::tables::CERTIFICATE;

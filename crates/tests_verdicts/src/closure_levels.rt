@@ -1,5 +1,6 @@
 //! Tests of closures and of shortest walks at one level for all observations.
-use crate::shared::{chain, costs_of, counts_of, rows_of};
+use crate::closure_texts::{chain, counts_of, rows_of};
+use crate::shared::costs_of;
 use rp_evidence::Level;
 use rp_pref::{Closure, Steps, walk_between};
 use std::alloc::Global;

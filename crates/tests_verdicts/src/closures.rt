@@ -1,7 +1,8 @@
 //! Tests of closures of many sizes: fewer bits than a word, one word, one bit more, and several words.
 ghost use Rattle.std.specs.Prelude.{◌≡◌, ◌<◌};
 
-use crate::shared::{chain, costs_of, triangle};
+use crate::closure_texts::{chain, triangle};
+use crate::shared::costs_of;
 use rp_evidence::Level;
 use rp_pref::{Closure, Steps};
 use rp_table::Costs;

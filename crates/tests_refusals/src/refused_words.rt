@@ -1,4 +1,4 @@
-use crate::over_files::{FILES, each_is_answered_by_the_usage};
+use crate::words_over_files::{FILES, each_is_answered_by_the_usage};
 use std::test::Fail;
 
 const OTHER_WORDS: &[&[&str]] = &[

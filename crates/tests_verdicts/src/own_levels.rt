@@ -1,5 +1,6 @@
 //! Tests of steps, closures and shortest walks on tables whose observations have levels of their own.
-use crate::shared::{costs_of, push_bit, rows_of};
+use crate::closure_texts::{push_bit, rows_of};
+use crate::shared::costs_of;
 use rp_pref::{Closure, own_strict, own_walk, own_weak};
 use rp_table::Costs;
 use std::alloc::Global;
