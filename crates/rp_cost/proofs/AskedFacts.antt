@@ -1,26 +1,30 @@
 -- Records without a fault make new prices and outputs within the limits.
-use Rattle.std.proofs.Common.{◌≡◌, ℕ, ◌*◌, ◌≤◌, inl, List, length, Some, None, Ok, Err, refl, sym, ap, ◌∙◌}
+use Rattle.std.proofs.Common.{◌≡◌, ℕ, ◌*◌, ◌<◌, ◌≤◌, inl, List, [], length, slice_index, None, refl, sym, ap, ◌∙◌, subst}
+use Rattle.std.specs.List.{All}
 use Rattle.std.specs.Prelude.{codes}
 use Rattle.std.proofs.lemmas.List.Elements.{All-nil}
+use Rattle.rp_num.specs.declared.decimal.Decimal.{Decimal}
 use Rattle.rp_num.proofs.BelowLemmas.{length-listed}
-use Rattle.rp_table.specs.Limits.{IsExpenditure}
-use Rattle.rp_table.specs.declared.TheConstants.{GOODS, NEW_RECORDS}
-use Rattle.rp_forms.specs.Columns.{mark_of_prices}
+use Rattle.rp_table.specs.Limits.{IsExpenditure, IsPrice, IsQuantity}
+use Rattle.rp_table.specs.PriceLists.{PriceList, IsPriceList}
+use Rattle.rp_table.specs.declared.TheConstants.{GOODS, LARGEST, NEW_RECORDS}
+use Rattle.rp_forms.specs.Columns.{Layout, mark_of_prices}
 use Rattle.rp_sheet.specs.Fields.{fields_stage, figures_of, rows_in}
 use Rattle.rp_forms.specs.Forms.{asked_form}
-use Rattle.rp_sheet.specs.Headers.{goods_stage, has, headers_in}
-use Rattle.rp_sheet.specs.Records.{record_at}
-use Rattle.rp_sheet.specs.Sheets.{first_fault}
+use Rattle.rp_sheet.specs.Headers.{goods_stage, has, headers_of}
+use Rattle.rp_sheet.specs.SheetFiles.{IsReadFrom}
+use Rattle.rp_sheet.specs.Sheets.{column_numbers, column_of, numbers_under}
+use Rattle.rp_forms.specs.Texts.{text_at}
+use Rattle.rp_sheet.proofs.FileLemmas.{of_read, read_as, scaled_numbers}
+use Rattle.rp_sheet.proofs.RowLemmas.{each_row}
 use Rattle.rp_sheet.specs.Sizes.{sizes_stage}
-use Rattle.rp_sheet.specs.declared.fault.TableFault.{TableFault}
 use Rattle.rp_forms.specs.declared.form.Marks.TheVariants.{Inputs}
 use Rattle.rp_sheet.proofs.ColumnSizes.{sizes_are, sizes_in}
 use Rattle.rp_sheet.proofs.FineHeaders.{FineHeaders, fine_headers, required_there}
 use Rattle.rp_sheet.proofs.FixedHeaders.{numbers_of_goods, prices_within, rows_of_goods}
-use Rattle.rp_sheet.proofs.StageLemmas.{fault_denoted, value_denoted}
 use Rattle.rp_sheet.proofs.StagesPassed.{counted, passed}
 use Rattle.rp_cost.specs.AskedOutputs.{AreAskedOutputs}
-use Rattle.rp_cost.specs.Denotation.{asked_list, asked_of, denoted_asked}
+use Rattle.rp_cost.specs.Denotation.{asked_list, asked_of}
 use Rattle.rp_cost.proofs.OutputFacts.{outputs_within}
 
 -- the prices and outputs are within the limits
@@ -48,20 +52,40 @@ asked_are places inputs headers records fine sound fine_fields fine_sizes some f
       output_limits = outputs_within (asked_form places) headers records fine_fields fine_sizes (required_there (has headers (codes "y")) _ fine.columns).0;
     }
 
-pub asked_made : (places : ℕ) (inputs : List (List ℕ)) (records : List (List (List ℕ))) → 1 ≤ length inputs → length inputs ≤ GOODS → first_fault (asked_form places) inputs records ≡ None
-    → AreAskedOutputs (asked_list (headers_in (record_at records 0)) inputs (sizes_in (asked_form places) (headers_in (record_at records 0)) records))
-asked_made places inputs records some few faultless =
-    let stages = passed (asked_form places) inputs records faultless in
+asked_within : {places : ℕ} {inputs : List (List ℕ)} {records : List (List (List ℕ))} {columns : Layout} {figures : List (List Decimal)} {sizes : List (List ℕ)} → IsReadFrom (asked_form places) inputs records columns figures sizes
+    → 1 ≤ length inputs → length inputs ≤ GOODS → AreAskedOutputs (asked_list columns.headers inputs sizes)
+asked_within {places} {inputs} {records} read some few =
+    let stages = passed (asked_form places) inputs records read.faultless in
     let count = counted (asked_form places) records stages.3 in
-    let fine = fine_headers (asked_form places) inputs (headers_in (record_at records 0)) stages.1 stages.2 in
-    asked_are places inputs (headers_in (record_at records 0)) records fine stages.2 stages.4 stages.5 some few count.0 count.1
+    let fine = fine_headers (asked_form places) inputs (headers_of records) stages.1 stages.2 in
+    of_read (λ h _ s. AreAskedOutputs (asked_list h inputs s)) read (asked_are places inputs (headers_of records) records fine stages.2 stages.4 stages.5 some few count.0 count.1)
 
--- what a file denotes as outputs that are asked, by its first fault
-pub refused_asked : (places : ℕ) (inputs : List (List ℕ)) (records : List (List (List ℕ))) (e : TableFault) → first_fault (asked_form places) inputs records ≡ Some e → denoted_asked places inputs records ≡ Err e
-unfolding denoted_asked
-refused_asked places inputs records e faulty = fault_denoted (first_fault (asked_form places) inputs records) _ e faulty
+module _ {places : ℕ} {inputs given : List (List ℕ)} {records : List (List (List ℕ))} {columns : Layout} {figures : List (List Decimal)} {sizes scaled : List (List ℕ)} (read : IsReadFrom (asked_form places) inputs records columns figures sizes)
+    (some : 1 ≤ length inputs) (few : length inputs ≤ GOODS) (named : given ≡ inputs) (same : scaled ≡ sizes) where
+  within : AreAskedOutputs (asked_list columns.headers given scaled)
+  within = asked_within (read_as named refl same read) (rw named some) (rw named few)
 
-pub asked_there : (places : ℕ) (inputs : List (List ℕ)) (records : List (List (List ℕ))) → first_fault (asked_form places) inputs records ≡ None
-    → denoted_asked places inputs records ≡ Ok (asked_list (headers_in (record_at records 0)) inputs (sizes_in (asked_form places) (headers_in (record_at records 0)) records))
-unfolding denoted_asked asked_of
-asked_there places inputs records faultless = value_denoted (first_fault (asked_form places) inputs records) _ faultless
+  -- each number of a sheet that no stage refuses is within its limit
+  pub asked_price_limits : (t i : ℕ) → t < length scaled → i < length given → slice_index (text_at scaled t) (column_of (mark_of_prices Inputs) columns.headers given i) ≤ LARGEST
+  asked_price_limits t i row place =
+      (each_row IsPrice (length scaled) (length given) (λ s k. slice_index (text_at scaled s) (column_of (mark_of_prices Inputs) columns.headers given k)) within.priced.price_limits t i row place).1
+
+  pub asked_output_limits : All IsQuantity (column_numbers (codes "y") columns.headers scaled)
+  asked_output_limits = within.output_limits
+
+  -- its prices are within the limits
+  pub asked_prices : (n : ℕ) (prices m : List ℕ) → n ≡ length inputs → prices ≡ numbers_under (mark_of_prices Inputs) columns.headers given scaled → m ≡ [] → IsPriceList (record { goods = n; prices = prices; m = m })
+  asked_prices n prices m count numbered none =
+      let count_given = count ∙ sym (ap length named) in
+      let list : record { goods = n; prices = prices; m = m } ≡ (asked_list columns.headers given scaled).prices = rw (count_given, numbered, none) refl in
+      subst IsPriceList (sym list) within.priced
+
+  -- what it asks is within the limits, and that of its numbers
+  pub asked_made : (n : ℕ) (prices m y : List ℕ) (list : PriceList) → n ≡ length inputs → prices ≡ numbers_under (mark_of_prices Inputs) columns.headers given scaled → m ≡ [] → list ≡ record { goods = n; prices = prices; m = m }
+      → y ≡ column_numbers (codes "y") columns.headers scaled → AreAskedOutputs (record { prices = list; y = y }) × (record { prices = list; y = y } ≡ asked_of places inputs columns.headers figures)
+  unfolding asked_of
+  asked_made n prices m y list count numbered none listed outputs =
+      let count_given = count ∙ sym (ap length named) in
+      let whole : record { prices = list; y = y } ≡ asked_list columns.headers given scaled = rw (listed, count_given, numbered, none, outputs) refl in
+      let exact = ap (asked_list columns.headers given) (scaled_numbers (read_as named refl same read)) in
+      (subst AreAskedOutputs (sym whole) within, whole ∙ exact ∙ ap (λ names. asked_of places names columns.headers figures) named)

@@ -1,5 +1,5 @@
 -- Records without a fault make a technology within the limits.
-use Rattle.std.proofs.Common.{◌≡◌, ℕ, ◌≤◌, Bool, true, false, if◌then◌else◌, ◌⊎◌, inl, inr, List, [], length, Some, None, Ok, Err, refl, sym, ap, ◌∙◌}
+use Rattle.std.proofs.Common.{◌≡◌, ℕ, ◌≤◌, Bool, true, false, if◌then◌else◌, ◌⊎◌, inl, inr, List, [], length, None, refl, sym, ap, ◌∙◌, subst}
 use Rattle.std.specs.Prelude.{codes}
 use Rattle.std.specs.List.{All}
 use Rattle.std.proofs.lemmas.List.Elements.{All-nil}
@@ -9,21 +9,21 @@ use Rattle.rp_table.specs.Limits.{IsPrice, IsQuantity}
 use Rattle.rp_table.specs.Tables.{Observations, IsTable, records_of}
 use Rattle.rp_table.specs.declared.TheConstants.{RECORDS}
 use Rattle.rp_sheet.specs.Fields.{fields_stage, figures_of, rows_in}
+use Rattle.rp_forms.specs.Columns.{Layout}
 use Rattle.rp_forms.specs.Forms.{technology_form}
-use Rattle.rp_sheet.specs.Headers.{has, headers_in}
-use Rattle.rp_sheet.specs.Records.{record_at}
-use Rattle.rp_sheet.specs.Sheets.{column_numbers, first_fault}
+use Rattle.rp_sheet.specs.Headers.{has, headers_of}
+use Rattle.rp_sheet.specs.SheetFiles.{IsReadFrom}
+use Rattle.rp_sheet.proofs.FileLemmas.{of_read, read_as, scaled_numbers}
+use Rattle.rp_sheet.specs.Sheets.{column_numbers}
 use Rattle.rp_sheet.specs.Sizes.{sizes_of, sizes_stage}
-use Rattle.rp_sheet.specs.declared.fault.TableFault.{TableFault}
 use Rattle.rp_forms.specs.declared.form.Form.{Form}
 use Rattle.rp_sheet.proofs.ColumnSizes.{sizes_are, sizes_in}
 use Rattle.rp_sheet.proofs.FineHeaders.{required_there}
 use Rattle.rp_sheet.proofs.GoodHeaders.{GoodHeaders, good_headers}
-use Rattle.rp_sheet.proofs.StageLemmas.{fault_denoted, value_denoted}
 use Rattle.rp_sheet.proofs.StagesPassed.{counted, passed}
 use Rattle.rp_text.specs.Denotation.{priced_table}
 use Rattle.rp_text.proofs.PricedTables.{IsPriced, priced_is, priced_records}
-use Rattle.rp_cost.specs.Denotation.{denoted_tech, inputs_of, output_prices, tech_of}
+use Rattle.rp_cost.specs.Denotation.{inputs_of, output_prices, tech_of}
 use Rattle.rp_cost.specs.Technology.{IsTechnology}
 use Rattle.rp_cost.proofs.OutputFacts.{output_prices_within, outputs_within}
 
@@ -64,19 +64,20 @@ module _ (headers : List (List ℕ)) (records : List (List (List ℕ))) (good : 
     output_price_limits = all_output_prices (has headers (codes "p")) refl;
   }
 
-pub technology_within : (records : List (List (List ℕ))) → first_fault technology_form [] records ≡ None → IsTechnology (tech_of (headers_in (record_at records 0)) (figures_of technology_form (headers_in (record_at records 0)) records))
-technology_within records fine =
-    let stages = passed technology_form [] records fine in
+technology_within : {records : List (List (List ℕ))} {columns : Layout} {figures : List (List Decimal)} {sizes : List (List ℕ)} → IsReadFrom technology_form [] records columns figures sizes → IsTechnology (tech_of columns.headers figures)
+technology_within {records} read =
+    let stages = passed technology_form [] records read.faultless in
     let count = counted technology_form records stages.3 in
-    technology_is (headers_in (record_at records 0)) records (good_headers technology_form (headers_in (record_at records 0)) refl refl refl stages.1 stages.2) stages.4 stages.5 count.0 count.1
+    let good = good_headers technology_form (headers_of records) refl refl refl stages.1 stages.2 in
+    of_read (λ h f _. IsTechnology (tech_of h f)) read (technology_is (headers_of records) records good stages.4 stages.5 count.0 count.1)
 
 -- the table of inputs from its form
-pub inputs_made : (form : Form) (headers : List (List ℕ)) (figures : List (List Decimal)) → form ≡ technology_form → priced_table form headers figures [] ≡ inputs_of headers figures
+inputs_made : (form : Form) (headers : List (List ℕ)) (figures : List (List Decimal)) → form ≡ technology_form → priced_table form headers figures [] ≡ inputs_of headers figures
 unfolding inputs_of
 inputs_made form headers figures is = ap (λ (kind : Form). priced_table kind headers figures []) is
 
 -- the technology from its parts
-pub tech_made : (headers : List (List ℕ)) (figures : List (List Decimal)) (sizes : List (List ℕ)) (table : Observations) (y p : List ℕ) → sizes ≡ sizes_of technology_form headers figures → table ≡ inputs_of headers figures
+tech_made : (headers : List (List ℕ)) (figures : List (List Decimal)) (sizes : List (List ℕ)) (table : Observations) (y p : List ℕ) → sizes ≡ sizes_of technology_form headers figures → table ≡ inputs_of headers figures
     → y ≡ column_numbers (codes "y") headers sizes → p ≡ output_prices headers sizes → record { table = table; y = y; p = p } ≡ tech_of headers figures
 unfolding tech_of
 tech_made headers figures sizes table y p sized is_table is_y is_p =
@@ -85,16 +86,23 @@ tech_made headers figures sizes table y p sized is_table is_y is_p =
     rw (is_table, at_y, at_p) refl
 
 -- its parts are within the limits
-pub parts_within : (headers : List (List ℕ)) (figures : List (List Decimal)) (sizes : List (List ℕ)) → sizes ≡ sizes_of technology_form headers figures → IsTechnology (tech_of headers figures)
+parts_within : (headers : List (List ℕ)) (figures : List (List Decimal)) (sizes : List (List ℕ)) → sizes ≡ sizes_of technology_form headers figures → IsTechnology (tech_of headers figures)
     → IsTable (inputs_of headers figures) × All IsQuantity (column_numbers (codes "y") headers sizes) × All IsPrice (output_prices headers sizes)
 unfolding tech_of
 parts_within headers figures sizes sized within = rw sized (within.inputs, within.output_limits, within.output_price_limits)
 
--- what a file denotes as a technology, by its first fault
-pub refused_technology : (records : List (List (List ℕ))) (e : TableFault) → first_fault technology_form [] records ≡ Some e → denoted_tech records ≡ Err e
-unfolding denoted_tech
-refused_technology records e faulty = fault_denoted (first_fault technology_form [] records) _ e faulty
+module _ {records : List (List (List ℕ))} {columns : Layout} {figures numbers : List (List Decimal)} {sizes scaled : List (List ℕ)} (read : IsReadFrom technology_form [] records columns figures sizes) (same_numbers : numbers ≡ figures) (same : scaled ≡ sizes) where
+  -- the parts of a sheet that no stage refuses are within the limits
+  pub technology_limits : IsTable (priced_table columns.form columns.headers numbers []) × All IsQuantity (column_numbers (codes "y") columns.headers scaled) × All IsPrice (output_prices columns.headers scaled)
+  technology_limits =
+      let given = read_as refl same_numbers same read in
+      let parts = parts_within columns.headers numbers scaled (scaled_numbers given) (technology_within given) in
+      (subst IsTable (sym (inputs_made columns.form columns.headers numbers read.kind)) parts.0, parts.1, parts.2)
 
-pub technology_there : (records : List (List (List ℕ))) → first_fault technology_form [] records ≡ None → denoted_tech records ≡ Ok (tech_of (headers_in (record_at records 0)) (figures_of technology_form (headers_in (record_at records 0)) records))
-unfolding denoted_tech
-technology_there records fine = value_denoted (first_fault technology_form [] records) _ fine
+  -- its technology is within the limits, and that of its numbers
+  pub technology_made : (table : Observations) (y p : List ℕ) → table ≡ priced_table columns.form columns.headers numbers [] → y ≡ column_numbers (codes "y") columns.headers scaled → p ≡ output_prices columns.headers scaled
+      → IsTechnology (record { table = table; y = y; p = p }) × (record { table = table; y = y; p = p } ≡ tech_of columns.headers figures)
+  technology_made table y p is_table is_y is_p =
+      let given = read_as refl same_numbers same read in
+      let made = tech_made columns.headers numbers scaled table y p (scaled_numbers given) (is_table ∙ inputs_made columns.form columns.headers numbers read.kind) is_y is_p in
+      (subst IsTechnology (sym made) (technology_within given), made ∙ ap (tech_of columns.headers) same_numbers)

@@ -4,11 +4,11 @@ use Rattle.std.specs.Prelude.{ℕ, List, [], codes, if◌then◌else◌, length,
 use Rattle.rp_num.specs.declared.decimal.Decimal.{Decimal}
 use Rattle.rp_table.specs.Tables.{Observations}
 use Rattle.rp_forms.specs.Columns.{mark_of_prices}
-use Rattle.rp_sheet.specs.Fields.{figures_of}
 use Rattle.rp_forms.specs.Forms.{asked_form, technology_form}
-use Rattle.rp_sheet.specs.Headers.{has, headers_of}
+use Rattle.rp_sheet.specs.Headers.{has}
 use Rattle.rp_sheet.specs.Records.{records_in}
-use Rattle.rp_sheet.specs.Sheets.{column_numbers, first_fault, numbers_under, unless_fault}
+use Rattle.rp_sheet.specs.SheetFiles.{denoted_by}
+use Rattle.rp_sheet.specs.Sheets.{column_numbers, numbers_under}
 use Rattle.rp_sheet.specs.Sizes.{sizes_of}
 use Rattle.rp_sheet.specs.declared.fault.TableFault.{TableFault}
 use Rattle.rp_forms.specs.declared.form.Marks.TheVariants.{Inputs}
@@ -35,9 +35,7 @@ tech_of headers figures = record {
 
 -- what records denote as a technology
 unfoldable pub denoted_tech : List (List (List ℕ)) → Result Technology TableFault
-denoted_tech records =
-    let headers = headers_of records in
-    unless_fault (first_fault technology_form [] records) (tech_of headers (figures_of technology_form headers records))
+denoted_tech records = denoted_by technology_form [] tech_of records
 
 -- what the bytes of a file denote as a technology
 abbrev pub tech_in : List ℕ → Result Technology TableFault
@@ -60,10 +58,7 @@ asked_of places inputs headers figures = asked_list headers inputs (sizes_of (as
 
 -- what records denote as outputs that are asked of a technology with these inputs and places
 unfoldable pub denoted_asked : ℕ → List (List ℕ) → List (List (List ℕ)) → Result AskedOutputs TableFault
-denoted_asked places inputs records =
-    let headers = headers_of records in
-    unless_fault (first_fault (asked_form places) inputs records)
-    (asked_of places inputs headers (figures_of (asked_form places) headers records))
+denoted_asked places inputs records = denoted_by (asked_form places) inputs (asked_of places inputs) records
 
 -- what the bytes of a file denote as outputs that are asked of a technology with these inputs and places
 abbrev pub asked_in : ℕ → List (List ℕ) → List ℕ → Result AskedOutputs TableFault

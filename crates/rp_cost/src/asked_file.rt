@@ -1,59 +1,65 @@
-ghost use Rattle.std.specs.Prelude.{◌≡◌, Ok, IfOk, length};
+ghost use Rattle.std.specs.Prelude.{◌≡◌, Ok, IfOk};
 ghost use Rattle.rp_table.specs.Tables.{goods_of};
 ghost use Rattle.rp_sheet.specs.Refusals.{RefusedAs};
-ghost use Rattle.rp_cost.specs.AskedOutputs.{AreAskedOutputs};
-ghost use Rattle.rp_cost.specs.Denotation.{asked_beside, asked_list, denoted_asked};
+ghost use Rattle.rp_cost.specs.Denotation.{asked_beside};
 
 use crate::asked::Asked;
 use crate::tech::Tech;
 use crate::tech_file::outputs;
 use rp_forms::Form;
-use rp_num::{NoMemory, Seq};
-use rp_sheet::{Columns, Records, TableFault, numbers_under, read_sheet};
-use rp_table::{NEW_RECORDS, Name, Prices};
+use rp_num::NoMemory;
+use rp_sheet::{FileKind, Sheet, TableFault, numbers_under, read_file};
+use rp_table::{Name, Prices};
 use std::alloc::Global;
 
 /// Reads columns `w_NAME` of prices of the technology's inputs, `y` of outputs and possibly `obs`, which says nothing.
 /// Prices are scaled by 10^k, where k is the most places that one of them has, outputs as the technology's.
+#[tactic(auto, unfolding(crate::specs::Denotation::denoted_asked))]
 pub fn read_asked(alloc: Global, bytes: &[u8], tech: &Tech) -> Result<Asked, TableFault>
     ensures denoted { IfOk result (λ asked. asked_beside tech.now bytes.now ≡ Ok asked) }
     ensures refused { RefusedAs result (asked_beside tech.now bytes.now) }
     ensures inputs { IfOk result (λ asked. asked.prices.goods ≡ goods_of tech.now.table) }
 {
-    let records = Records::of(alloc, bytes, NEW_RECORDS as usize + 2)?;
-    asked_from(alloc, tech, &records)
+    read_file(alloc, bytes, &AskedFile { tech })
 }
 
-/// What is asked in these records.
-fn asked_from(alloc: Global, tech: &Tech, records: &Records) -> Result<Asked, TableFault>
-    ensures denoted { IfOk result
-        (λ asked. denoted_asked tech.now.table.quantity_places tech.now.table.names records.now
-        ≡ Ok asked) }
-    ensures refused { RefusedAs result
-        (denoted_asked tech.now.table.quantity_places tech.now.table.names records.now) }
-    ensures inputs { IfOk result (λ asked. asked.prices.goods ≡ goods_of tech.now.table) }
-{
-    let form = Form::asked(tech.quantity_places());
-    let names = tech.names();
-    let inputs = tech.inputs();
-    let sheet = read_sheet(alloc, &form, names, records)?;
-    let sizes = sheet.sizes.as_slice();
-    Ok(fill_asked(alloc, &sheet.columns, names, inputs, sizes)?)
+/// What is asked of a technology.
+#[derive(Drop)]
+struct AskedFile<'t> {
+    tech: &'t Tech,
 }
 
-/// What is asked with these scaled numbers.
-fn fill_asked(
-    alloc: Global,
-    columns: &Columns<'_>,
-    names: &[Name],
-    inputs: u32,
-    sizes: &[Seq<u64>],
-) -> Result<Asked, NoMemory>
-    requires counted { inputs ≡ length names.now }
-    requires within { AreAskedOutputs (asked_list columns.now.headers names.now sizes.now) }
-    ensures { IfOk result (λ asked. asked ≡ asked_list columns.now.headers names.now sizes.now) }
-{
-    let prices = numbers_under(alloc, columns, b"w_", names, sizes)?;
-    let outputs = outputs(alloc, columns, sizes)?;
-    Ok(Asked::make(Prices::make(inputs, prices, Vec::new(alloc)), outputs))
+impl FileKind for AskedFile<'_> {
+    ghost use Rattle.std.specs.Prelude.{◌≡◌};
+    ghost use Rattle.rp_forms.specs.Forms.{asked_form};
+    ghost use Rattle.rp_table.specs.Tables.{goods_of};
+    ghost use Rattle.rp_cost.specs.Denotation.{asked_of};
+
+    type Value = Asked;
+
+    ghost form = { λ kind. asked_form kind.tech.now.table.quantity_places };
+
+    ghost goods = { λ kind. kind.tech.now.table.names };
+
+    ghost value = { λ kind. asked_of kind.tech.now.table.quantity_places
+        kind.tech.now.table.names };
+
+    ghost fits = { λ kind asked. asked.prices.goods ≡ goods_of kind.tech.now.table };
+
+    fn form(&self) -> Form {
+        Form::asked(self.tech.quantity_places())
+    }
+
+    fn goods(&self) -> &[Name] {
+        self.tech.names()
+    }
+
+    fn make(&self, alloc: Global, sheet: &Sheet<'_>) -> Result<Asked, NoMemory> {
+        let inputs = self.tech.inputs();
+        let names = self.tech.names();
+        let sizes = sheet.sizes.as_slice();
+        let prices = numbers_under(alloc, &sheet.columns, b"w_", names, sizes)?;
+        let outputs = outputs(alloc, &sheet.columns, sizes)?;
+        Ok(Asked::make(Prices::make(inputs, prices, Vec::new(alloc)), outputs))
+    }
 }

@@ -20,3 +20,4 @@ pub mod FixedGoods
 pub mod SheetStages
 pub mod StagesPassed
 pub mod MeasuredRoles
+pub mod FileLemmas

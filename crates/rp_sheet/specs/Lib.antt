@@ -6,3 +6,4 @@ pub mod Sizes
 pub mod ChoiceCounts
 pub mod Chosen
 pub mod Sheets
+pub mod SheetFiles

@@ -4,6 +4,7 @@
 mod columns;
 mod fault;
 mod fields;
+mod file;
 mod fixed_goods;
 mod goods;
 mod headers;
@@ -15,6 +16,7 @@ mod sizes;
 pub use columns::Columns;
 pub use fault::TableFault;
 pub use fields::read_field;
+pub use file::{FileKind, read_file};
 pub use fixed_goods::check_goods;
 pub use goods::read_names;
 pub use headers::read_columns;

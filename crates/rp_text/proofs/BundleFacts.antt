@@ -1,23 +1,26 @@
 -- Records without a fault make bundles within the limits.
-use Rattle.std.proofs.Common.{◌≡◌, ℕ, ◌*◌, ◌≤◌, List, length, None, Some, Ok, Err, refl, sym, ap, ◌∙◌}
+use Rattle.std.proofs.Common.{◌≡◌, ℕ, ◌*◌, ◌<◌, ◌≤◌, List, length, slice_index, None, refl, sym, ap, ◌∙◌, subst}
 use Rattle.rp_table.specs.BundleLists.{IsBundleList}
-use Rattle.rp_forms.specs.Columns.{quantity_mark}
+use Rattle.rp_table.specs.declared.TheConstants.{GOODS, LARGEST}
+use Rattle.rp_forms.specs.Texts.{text_at}
+use Rattle.rp_num.specs.declared.decimal.Decimal.{Decimal}
+use Rattle.rp_forms.specs.Columns.{Layout, quantity_mark}
 use Rattle.rp_forms.specs.Forms.{bundles_form}
-use Rattle.rp_sheet.specs.Records.{record_at}
-use Rattle.rp_sheet.specs.Headers.{headers_in, goods_stage}
+use Rattle.rp_sheet.specs.Headers.{headers_of, goods_stage}
 use Rattle.rp_sheet.specs.Fields.{figures_of, rows_in, fields_stage}
 use Rattle.rp_sheet.specs.Sizes.{sizes_stage}
-use Rattle.rp_text.specs.Denotation.{bundle_list, bundles_of, denoted_bundles}
-use Rattle.rp_sheet.specs.Sheets.{first_fault}
-use Rattle.rp_sheet.specs.declared.fault.TableFault.{TableFault}
+use Rattle.rp_sheet.specs.SheetFiles.{IsReadFrom}
+use Rattle.rp_sheet.specs.Sheets.{column_of, numbers_under}
+use Rattle.rp_sheet.proofs.FileLemmas.{of_read, read_as, scaled_numbers}
+use Rattle.rp_sheet.proofs.RowLemmas.{each_row}
+use Rattle.rp_text.specs.Denotation.{bundle_list, bundles_of}
 use Rattle.rp_sheet.proofs.FineHeaders.{FineHeaders, fine_headers}
 use Rattle.rp_sheet.proofs.ColumnSizes.{sizes_in, sizes_are}
 use Rattle.rp_sheet.proofs.FixedHeaders.{numbers_within, rows_of_goods, numbers_of_goods}
-use Rattle.rp_sheet.proofs.StageLemmas.{value_denoted, fault_denoted}
 use Rattle.rp_sheet.proofs.StagesPassed.{counted, passed}
 
 -- the bundles are within the limits
-pub bundles_are : (places : ℕ) (goods headers : List (List ℕ)) (records : List (List (List ℕ))) → FineHeaders (bundles_form places) headers → goods_stage (bundles_form places) goods headers ≡ None
+bundles_are : (places : ℕ) (goods headers : List (List ℕ)) (records : List (List (List ℕ))) → FineHeaders (bundles_form places) headers → goods_stage (bundles_form places) goods headers ≡ None
     → fields_stage (bundles_form places) headers records ≡ None → sizes_stage (bundles_form places) headers (figures_of (bundles_form places) headers records) ≡ None
     → 1 ≤ length goods → length goods ≤ 16 → 1 ≤ rows_in records → rows_in records ≤ 16
     → IsBundleList (bundle_list headers goods (sizes_in (bundles_form places) headers records))
@@ -34,20 +37,29 @@ bundles_are places goods headers records fine sound fine_fields fine_sizes some 
       quantity_limits = numbers_within (bundles_form places) goods headers records fine refl sound fine_fields fine_sizes;
     }
 
-pub bundles_made : (places : ℕ) (goods : List (List ℕ)) (records : List (List (List ℕ))) → 1 ≤ length goods → length goods ≤ 16 → first_fault (bundles_form places) goods records ≡ None
-    → IsBundleList (bundle_list (headers_in (record_at records 0)) goods (sizes_in (bundles_form places) (headers_in (record_at records 0)) records))
-bundles_made places goods records some few faultless =
-    let stages = passed (bundles_form places) goods records faultless in
+bundles_within : {places : ℕ} {goods : List (List ℕ)} {records : List (List (List ℕ))} {columns : Layout} {figures : List (List Decimal)} {sizes : List (List ℕ)} → IsReadFrom (bundles_form places) goods records columns figures sizes
+    → 1 ≤ length goods → length goods ≤ GOODS → IsBundleList (bundle_list columns.headers goods sizes)
+bundles_within {places} {goods} {records} read some few =
+    let stages = passed (bundles_form places) goods records read.faultless in
     let count = counted (bundles_form places) records stages.3 in
-    let fine = fine_headers (bundles_form places) goods (headers_in (record_at records 0)) stages.1 stages.2 in
-    bundles_are places goods (headers_in (record_at records 0)) records fine stages.2 stages.4 stages.5 some few count.0 count.1
+    let fine = fine_headers (bundles_form places) goods (headers_of records) stages.1 stages.2 in
+    of_read (λ h _ s. IsBundleList (bundle_list h goods s)) read (bundles_are places goods (headers_of records) records fine stages.2 stages.4 stages.5 some few count.0 count.1)
 
--- what a file denotes as bundles, by its first fault
-pub refused_bundles : (places : ℕ) (goods : List (List ℕ)) (records : List (List (List ℕ))) (e : TableFault) → first_fault (bundles_form places) goods records ≡ Some e → denoted_bundles places goods records ≡ Err e
-unfolding denoted_bundles
-refused_bundles places goods records e faulty = fault_denoted (first_fault (bundles_form places) goods records) _ e faulty
+module _ {places : ℕ} {goods given : List (List ℕ)} {records : List (List (List ℕ))} {columns : Layout} {figures : List (List Decimal)} {sizes scaled : List (List ℕ)} (read : IsReadFrom (bundles_form places) goods records columns figures sizes)
+    (some : 1 ≤ length goods) (few : length goods ≤ GOODS) (named : given ≡ goods) (same : scaled ≡ sizes) where
+  within : IsBundleList (bundle_list columns.headers given scaled)
+  within = bundles_within (read_as named refl same read) (rw named some) (rw named few)
 
-pub bundles_there : (places : ℕ) (goods : List (List ℕ)) (records : List (List (List ℕ))) → first_fault (bundles_form places) goods records ≡ None
-    → denoted_bundles places goods records ≡ Ok (bundle_list (headers_in (record_at records 0)) goods (sizes_in (bundles_form places) (headers_in (record_at records 0)) records))
-unfolding denoted_bundles bundles_of
-bundles_there places goods records faultless = value_denoted (first_fault (bundles_form places) goods records) _ faultless
+  -- each quantity of a sheet that no stage refuses is within the limit
+  pub bundle_limits : (t g : ℕ) → t < length scaled → g < length given → slice_index (text_at scaled t) (column_of quantity_mark columns.headers given g) ≤ LARGEST
+  bundle_limits = each_row (λ q. q ≤ LARGEST) (length scaled) (length given) (λ t g. slice_index (text_at scaled t) (column_of quantity_mark columns.headers given g)) within.quantity_limits
+
+  -- its bundles are within the limits, and those of its numbers
+  pub bundles_made : (n : ℕ) (quantities : List ℕ) → n ≡ length goods → quantities ≡ numbers_under quantity_mark columns.headers given scaled
+      → IsBundleList (record { goods = n; quantities = quantities }) × (record { goods = n; quantities = quantities } ≡ bundles_of places goods columns.headers figures)
+  unfolding bundles_of
+  bundles_made n quantities count numbered =
+      let count_given = count ∙ sym (ap length named) in
+      let list : record { goods = n; quantities = quantities } ≡ bundle_list columns.headers given scaled = rw (count_given, numbered) refl in
+      let exact = ap (bundle_list columns.headers given) (scaled_numbers (read_as named refl same read)) in
+      (subst IsBundleList (sym list) within, list ∙ exact ∙ ap (λ names. bundles_of places names columns.headers figures) named)

@@ -1,12 +1,15 @@
 -- Choices without a fault are on the budgets, and each budget was chosen from.
-use Rattle.std.proofs.Common.{◌≡◌, ℕ, ◌+◌, ◌-◌, ◌<◌, ◌≤◌, Bool, true, false, not, ◌&&◌, ◌==◌, nat_lt, if◌then◌else◌, List, [], ◌∷◌, length, map, slice_index, Some, None, refl, ap, ◌∙◌, arith}
+use Rattle.std.proofs.Common.{◌≡◌, ℕ, ◌+◌, ◌-◌, ◌<◌, ◌≤◌, Bool, true, false, not, ◌&&◌, ◌==◌, nat_lt, if◌then◌else◌, List, [], ◌∷◌, length, map, slice_index, Some, None, refl, sym, ap, ◌∙◌, subst, arith}
 use Rattle.std.specs.Prelude.{codes, unwrap_or}
 use Rattle.std.specs.List.{All}
 use Rattle.std.proofs.lemmas.Bool.Decides.{nat_tests}
 use Rattle.std.proofs.lemmas.List.{length-map, get_or-map}
 use Rattle.std.proofs.lemmas.List.Elements.{All-map}
+use Rattle.rp_num.specs.declared.decimal.Decimal.{Decimal}
+use Rattle.rp_table.specs.ChoiceLists.{ChoiceList}
+use Rattle.rp_table.specs.declared.TheConstants.{BUDGETS, GOODS}
 use Rattle.rp_forms.specs.Texts.{text_at, number_of}
-use Rattle.rp_forms.specs.Columns.{role_of}
+use Rattle.rp_forms.specs.Columns.{Layout, role_of}
 use Rattle.rp_forms.specs.Forms.{choices_form}
 use Rattle.rp_sheet.specs.Records.{record_at}
 use Rattle.rp_sheet.specs.Headers.{headers_in, headers_stage, goods_stage, has}
@@ -14,7 +17,8 @@ use Rattle.rp_sheet.specs.Fields.{figures_of, rows_in, count_stage, fields_stage
 use Rattle.rp_sheet.specs.Sizes.{figure_at, places_of, sizes_stage}
 use Rattle.rp_sheet.specs.ChoiceCounts.{column_named, is_chosen, choices_stage}
 use Rattle.rp_sheet.specs.Chosen.{IsChosenFrom}
-use Rattle.rp_text.specs.Denotation.{choice_list}
+use Rattle.rp_text.specs.Denotation.{choice_list, choices_of}
+use Rattle.rp_sheet.specs.SheetFiles.{IsReadFrom}
 use Rattle.rp_sheet.specs.Sheets.{fault_under, first_fault, column_numbers}
 use Rattle.rp_forms.specs.declared.form.Form.{Form}
 use Rattle.rp_forms.specs.declared.form.Marks.TheVariants.{Goods}
@@ -29,8 +33,9 @@ use Rattle.rp_sheet.proofs.RowLemmas.{all_listed}
 use Rattle.rp_sheet.proofs.FigureLemmas.{rows_are}
 use Rattle.rp_sheet.proofs.FineHeaders.{FineHeaders, fine_headers, column_there}
 use Rattle.rp_sheet.proofs.ColumnSizes.{sizes_in, sizes_are, unscaled}
+use Rattle.rp_sheet.proofs.FileLemmas.{of_read}
 use Rattle.rp_sheet.proofs.StagesPassed.{passed}
-use Rattle.rp_text.proofs.ChoiceFacts.{both_there, budget_within, budget_says, times_say}
+use Rattle.rp_text.proofs.ChoiceFacts.{both_there, choices_exact, choices_within, budget_within, budget_says, times_say}
 
 -- the last stage of a file without a fault
 last_passed : (form : Form) (goods : List (List ℕ)) (records : List (List (List ℕ))) → first_fault form goods records ≡ None
@@ -78,7 +83,7 @@ module _ (budgets : ℕ) (goods headers : List (List ℕ)) (records : List (List
       rw at_column (unscaled (choices_form budgets) headers records fine_fields fine_sizes t column.0 role row column.1 (ap (role_of Goods) column.3 ∙ says) whole)
 
   -- a number of a budget is the number of one that there is
-  pub on_budgets : 1 ≤ budgets → All (λ j. j < budgets) (map (λ number. number - 1) (column_numbers (codes "budget") headers (sizes_in (choices_form budgets) headers records)))
+  on_budgets : 1 ≤ budgets → All (λ j. j < budgets) (map (λ number. number - 1) (column_numbers (codes "budget") headers (sizes_in (choices_form budgets) headers records)))
   on_budgets some =
       All-map (λ j. j < budgets) (λ number. number - 1) (column_numbers (codes "budget") headers (sizes_in (choices_form budgets) headers records))
       (all_listed (λ number. number - 1 < budgets) (length (sizes_in (choices_form budgets) headers records)) _
@@ -86,7 +91,7 @@ module _ (budgets : ℕ) (goods headers : List (List ℕ)) (records : List (List
       below_all _ budgets (budget_within budgets goods headers records fine sound fine_fields fine_sizes t inside) some))
 
   -- each budget was chosen from
-  pub every_budget : (j : ℕ) → j < budgets → IsChosenFrom (choice_list headers goods (sizes_in (choices_form budgets) headers records)) j
+  every_budget : (j : ℕ) → j < budgets → IsChosenFrom (choice_list headers goods (sizes_in (choices_form budgets) headers records)) j
   unfolding is_chosen places_of
   every_budget j below =
       let figures = figures_of (choices_form budgets) headers records in
@@ -110,15 +115,26 @@ module _ (budgets : ℕ) (goods headers : List (List ℕ)) (records : List (List
         rw (get-listed (λ t. slice_index (text_at sizes t) (column_named (codes "n") headers)) (length sizes) found.0 0 inside ∙ times) (over_zero _ tests.1),
       )
 
--- the same of the choices in a file
-pub choices_on_budgets : (budgets : ℕ) (goods : List (List ℕ)) (records : List (List (List ℕ))) → 1 ≤ budgets → first_fault (choices_form budgets) goods records ≡ None
-    → All (λ j. j < budgets) (choice_list (headers_in (record_at records 0)) goods (sizes_in (choices_form budgets) (headers_in (record_at records 0)) records)).budget
-choices_on_budgets budgets goods records some faultless =
-    let stages = passed (choices_form budgets) goods records faultless in
-    on_budgets budgets goods (headers_in (record_at records 0)) records (fine_headers (choices_form budgets) goods (headers_in (record_at records 0)) stages.1 stages.2) stages.2 stages.4 stages.5 (last_passed (choices_form budgets) goods records faultless) some
+-- the same of the choices of a sheet that no stage refuses
+module _ {budgets : ℕ} {goods : List (List ℕ)} {records : List (List (List ℕ))} {columns : Layout} {figures : List (List Decimal)} {sizes : List (List ℕ)} (read : IsReadFrom (choices_form budgets) goods records columns figures sizes) where
+  choices_on_budgets : 1 ≤ budgets → All (λ j. j < budgets) (choice_list columns.headers goods sizes).budget
+  choices_on_budgets some =
+      let stages = passed (choices_form budgets) goods records read.faultless in
+      let fine = fine_headers (choices_form budgets) goods (headers_in (record_at records 0)) stages.1 stages.2 in
+      of_read (λ h _ s. All (λ j. j < budgets) (choice_list h goods s).budget) read
+      (on_budgets budgets goods (headers_in (record_at records 0)) records fine stages.2 stages.4 stages.5 (last_passed (choices_form budgets) goods records read.faultless) some)
 
-pub choices_from_every : (budgets : ℕ) (goods : List (List ℕ)) (records : List (List (List ℕ))) → first_fault (choices_form budgets) goods records ≡ None
-    → (j : ℕ) → j < budgets → IsChosenFrom (choice_list (headers_in (record_at records 0)) goods (sizes_in (choices_form budgets) (headers_in (record_at records 0)) records)) j
-choices_from_every budgets goods records faultless =
-    let stages = passed (choices_form budgets) goods records faultless in
-    every_budget budgets goods (headers_in (record_at records 0)) records (fine_headers (choices_form budgets) goods (headers_in (record_at records 0)) stages.1 stages.2) stages.2 stages.4 stages.5 (last_passed (choices_form budgets) goods records faultless)
+  choices_from_every : (j : ℕ) → j < budgets → IsChosenFrom (choice_list columns.headers goods sizes) j
+  choices_from_every =
+      let stages = passed (choices_form budgets) goods records read.faultless in
+      let fine = fine_headers (choices_form budgets) goods (headers_in (record_at records 0)) stages.1 stages.2 in
+      of_read (λ h _ s. (j : ℕ) → j < budgets → IsChosenFrom (choice_list h goods s) j) read
+      (every_budget budgets goods (headers_in (record_at records 0)) records fine stages.2 stages.4 stages.5 (last_passed (choices_form budgets) goods records read.faultless))
+
+  -- what holds of every list of choices that is read
+  pub choices_fit : 1 ≤ budgets → 1 ≤ length goods → length goods ≤ GOODS → budgets ≤ BUDGETS → (list : ChoiceList) → list ≡ choices_of budgets goods columns.headers figures
+      → (list.goods ≡ length goods) × (1 ≤ length list.budget) × All (λ j. j < budgets) list.budget × ((j : ℕ) → j < budgets → IsChosenFrom list j)
+  choices_fit some_budgets some few few_budgets list is =
+      subst (λ (l : ChoiceList). (l.goods ≡ length goods) × (1 ≤ length l.budget) × All (λ j. j < budgets) l.budget × ((j : ℕ) → j < budgets → IsChosenFrom l j))
+      (sym (is ∙ sym (choices_exact read some few few_budgets refl refl)))
+      (refl, (choices_within read some few few_budgets).some_choices, choices_on_budgets some_budgets, choices_from_every)

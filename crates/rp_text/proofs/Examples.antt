@@ -10,13 +10,14 @@ use Rattle.rp_sheet.specs.Headers.{header_fault, headers_stage, pair_fault, othe
 use Rattle.rp_sheet.specs.Fields.{field_of, field_at, record_fault, count_stage, fields_stage}
 use Rattle.rp_sheet.specs.Sizes.{greatest_places, places_of, size_at, sizes_stage}
 use Rattle.rp_sheet.specs.ChoiceCounts.{is_chosen, choices_stage}
-use Rattle.rp_text.specs.Denotation.{table_of, table_under, denoted_table, table_in, prices_of, denoted_prices, bundles_of, denoted_bundles, budgets_of, denoted_budgets, choices_of, denoted_choices}
+use Rattle.rp_text.specs.Denotation.{table_of, denoted_table, table_in, prices_of, denoted_prices, bundles_of, denoted_bundles, budgets_of, denoted_budgets, choices_of, denoted_choices}
+use Rattle.rp_sheet.specs.SheetFiles.{denoted_by}
 use Rattle.rp_sheet.specs.Sheets.{fault_under, first_fault}
 use Rattle.rp_sheet.specs.declared.fault.TableFault.TheVariants as fault
 
 -- what computes a file's meaning
 unfoldable on_files : ⊤
-unfolding next_record records_from strip_bom after_blanks before_blanks named_role good_role role_of records_in header_fault headers_stage pair_fault other_goods_fault present_fault missing_fault goods_count_fault goods_stage field_of field_at record_fault count_stage fields_stage greatest_places places_of size_at sizes_stage is_chosen choices_stage fault_under first_fault table_of table_under denoted_table prices_of denoted_prices bundles_of denoted_bundles budgets_of denoted_budgets choices_of denoted_choices
+unfolding next_record records_from strip_bom after_blanks before_blanks named_role good_role role_of records_in header_fault headers_stage pair_fault other_goods_fault present_fault missing_fault goods_count_fault goods_stage field_of field_at record_fault count_stage fields_stage greatest_places places_of size_at sizes_stage is_chosen choices_stage fault_under first_fault denoted_by table_of denoted_table prices_of denoted_prices bundles_of denoted_bundles budgets_of denoted_budgets choices_of denoted_choices
 on_files = tt
 
 line : List ℕ → List ℕ

@@ -1,34 +1,35 @@
 -- Records without a fault make new prices within the limits.
-use Rattle.std.proofs.Common.{◌≡◌, ℕ, ◌*◌, ◌<◌, ◌≤◌, Bool, true, false, if◌then◌else◌, ◌⊎◌, inl, inr, List, [], length, slice_index, Option, Some, None, Ok, Err, refl, sym, ap, ◌∙◌, arith}
+use Rattle.std.proofs.Common.{◌≡◌, ℕ, ◌*◌, ◌<◌, ◌≤◌, Bool, true, false, if◌then◌else◌, ◌⊎◌, inl, inr, List, [], length, slice_index, Option, Some, None, refl, sym, ap, ◌∙◌, subst, arith}
 use Rattle.std.specs.Prelude.{codes, unwrap_or}
 use Rattle.std.specs.List.{All}
 use Rattle.std.specs.Option.{option_map_or}
 use Rattle.std.proofs.lemmas.List.Elements.{All-nil}
-use Rattle.rp_table.specs.declared.TheConstants.{LARGEST_EXPENDITURE}
+use Rattle.rp_table.specs.declared.TheConstants.{GOODS, LARGEST, LARGEST_EXPENDITURE}
+use Rattle.rp_table.specs.Limits.{IsPrice}
 use Rattle.rp_table.specs.Rows.{rows_count}
-use Rattle.rp_table.specs.PriceLists.{IsPriceList}
+use Rattle.rp_table.specs.PriceLists.{PriceList, IsPriceList}
 use Rattle.rp_forms.specs.Texts.{text_at}
-use Rattle.rp_forms.specs.Columns.{role_of, takes, measures, price_mark}
+use Rattle.rp_num.specs.declared.decimal.Decimal.{Decimal}
+use Rattle.rp_forms.specs.Columns.{Layout, role_of, takes, measures, price_mark}
 use Rattle.rp_forms.specs.Forms.{prices_form}
-use Rattle.rp_sheet.specs.Records.{record_at}
-use Rattle.rp_sheet.specs.Headers.{headers_in, has, goods_stage}
+use Rattle.rp_sheet.specs.Headers.{headers_of, has, goods_stage}
 use Rattle.rp_sheet.specs.Fields.{figures_of, rows_in, fields_stage}
 use Rattle.rp_sheet.specs.Sizes.{sizes_stage}
 use Rattle.rp_sheet.specs.ChoiceCounts.{column_named}
-use Rattle.rp_text.specs.Denotation.{price_list, prices_of, denoted_prices}
-use Rattle.rp_sheet.specs.Sheets.{first_fault, column_numbers, numbers_under}
+use Rattle.rp_sheet.specs.SheetFiles.{IsReadFrom}
+use Rattle.rp_sheet.proofs.FileLemmas.{of_read, read_as, scaled_numbers}
+use Rattle.rp_text.specs.Denotation.{price_list, prices_of}
+use Rattle.rp_sheet.specs.Sheets.{column_of, column_numbers, numbers_under}
 use Rattle.rp_forms.specs.declared.form.Marks.TheVariants.{Goods}
 use Rattle.rp_forms.specs.declared.form.Role.{Role}
 use Rattle.rp_forms.specs.declared.form.Role.TheVariants.{Observation, Expenditure}
-use Rattle.rp_sheet.specs.declared.fault.TableFault.{TableFault}
 use Rattle.rp_num.proofs.BelowLemmas.{length-listed}
-use Rattle.rp_sheet.proofs.RowLemmas.{all_listed}
+use Rattle.rp_sheet.proofs.RowLemmas.{all_listed, each_row}
 use Rattle.rp_sheet.proofs.MeasuredRoles.{measured_role}
 use Rattle.rp_sheet.proofs.FineHeaders.{FineHeaders, fine_headers, required_there}
 use Rattle.rp_sheet.proofs.ColumnSizes.{sizes_in, sizes_are}
 use Rattle.rp_sheet.proofs.AmountColumns.{expenditure_header, expenditure_says, amount_within}
 use Rattle.rp_sheet.proofs.FixedHeaders.{prices_within, rows_of_goods, numbers_of_goods}
-use Rattle.rp_sheet.proofs.StageLemmas.{value_denoted, fault_denoted}
 use Rattle.rp_sheet.proofs.StagesPassed.{counted, passed}
 
 -- only an expenditure says how much is bought
@@ -66,13 +67,13 @@ module _ (places : ℕ) (headers : List (List ℕ)) (records : List (List (List 
   count_expenditures false sizes n is = inl refl
 
 -- an expenditure for each record, where they are asked for
-pub spent_each : (with_m : Bool) (headers goods sizes : List (List ℕ)) → 1 ≤ length goods → with_m ≡ true
+spent_each : (with_m : Bool) (headers goods sizes : List (List ℕ)) → 1 ≤ length goods → with_m ≡ true
     → length (price_list with_m headers goods sizes).m ≡ rows_count (price_list with_m headers goods sizes).prices (price_list with_m headers goods sizes).goods
 spent_each true headers goods sizes some is = length-listed _ (length sizes) ∙ sym (rows_of_goods price_mark headers goods sizes some)
 spent_each false headers goods sizes some is = cc is
 
 -- the prices are within the limits
-pub prices_are : (with_m : Bool) (places : ℕ) (goods headers : List (List ℕ)) (records : List (List (List ℕ))) → FineHeaders (prices_form with_m places) headers → goods_stage (prices_form with_m places) goods headers ≡ None
+prices_are : (with_m : Bool) (places : ℕ) (goods headers : List (List ℕ)) (records : List (List (List ℕ))) → FineHeaders (prices_form with_m places) headers → goods_stage (prices_form with_m places) goods headers ≡ None
     → fields_stage (prices_form with_m places) headers records ≡ None → sizes_stage (prices_form with_m places) headers (figures_of (prices_form with_m places) headers records) ≡ None
     → 1 ≤ length goods → length goods ≤ 16 → 1 ≤ rows_in records → rows_in records ≤ 16
     → IsPriceList (price_list with_m headers goods (sizes_in (prices_form with_m places) headers records))
@@ -91,20 +92,39 @@ prices_are with_m places goods headers records fine sound fine_fields fine_sizes
       expenditure_limits = all_expenditures places headers records with_m fine fine_fields fine_sizes;
     }
 
-pub prices_made : (with_m : Bool) (places : ℕ) (goods : List (List ℕ)) (records : List (List (List ℕ))) → 1 ≤ length goods → length goods ≤ 16 → first_fault (prices_form with_m places) goods records ≡ None
-    → IsPriceList (price_list with_m (headers_in (record_at records 0)) goods (sizes_in (prices_form with_m places) (headers_in (record_at records 0)) records))
-prices_made with_m places goods records some few faultless =
-    let stages = passed (prices_form with_m places) goods records faultless in
+prices_read : (with_m : Bool) {places : ℕ} {goods : List (List ℕ)} {records : List (List (List ℕ))} {columns : Layout} {figures : List (List Decimal)} {sizes : List (List ℕ)} → IsReadFrom (prices_form with_m places) goods records columns figures sizes
+    → 1 ≤ length goods → length goods ≤ GOODS → IsPriceList (price_list with_m columns.headers goods sizes)
+prices_read with_m {places} {goods} {records} read some few =
+    let stages = passed (prices_form with_m places) goods records read.faultless in
     let count = counted (prices_form with_m places) records stages.3 in
-    let fine = fine_headers (prices_form with_m places) goods (headers_in (record_at records 0)) stages.1 stages.2 in
-    prices_are with_m places goods (headers_in (record_at records 0)) records fine stages.2 stages.4 stages.5 some few count.0 count.1
+    let fine = fine_headers (prices_form with_m places) goods (headers_of records) stages.1 stages.2 in
+    of_read (λ h _ s. IsPriceList (price_list with_m h goods s)) read (prices_are with_m places goods (headers_of records) records fine stages.2 stages.4 stages.5 some few count.0 count.1)
 
--- what a file denotes as new prices, by its first fault
-pub refused_prices : (with_m : Bool) (places : ℕ) (goods : List (List ℕ)) (records : List (List (List ℕ))) (e : TableFault) → first_fault (prices_form with_m places) goods records ≡ Some e → denoted_prices with_m places goods records ≡ Err e
-unfolding denoted_prices
-refused_prices with_m places goods records e faulty = fault_denoted (first_fault (prices_form with_m places) goods records) _ e faulty
+module _ (with_m : Bool) {places : ℕ} {goods given : List (List ℕ)} {records : List (List (List ℕ))} {columns : Layout} {figures : List (List Decimal)} {sizes scaled : List (List ℕ)} (read : IsReadFrom (prices_form with_m places) goods records columns figures sizes)
+    (some : 1 ≤ length goods) (few : length goods ≤ GOODS) (named : given ≡ goods) (same : scaled ≡ sizes) where
+  within : IsPriceList (price_list with_m columns.headers given scaled)
+  within = prices_read with_m (read_as named refl same read) (rw named some) (rw named few)
 
-pub prices_there : (with_m : Bool) (places : ℕ) (goods : List (List ℕ)) (records : List (List (List ℕ))) → first_fault (prices_form with_m places) goods records ≡ None
-    → denoted_prices with_m places goods records ≡ Ok (price_list with_m (headers_in (record_at records 0)) goods (sizes_in (prices_form with_m places) (headers_in (record_at records 0)) records))
-unfolding denoted_prices prices_of
-prices_there with_m places goods records faultless = value_denoted (first_fault (prices_form with_m places) goods records) _ faultless
+  -- each price of a sheet that no stage refuses is within the limit
+  pub price_limits : (t g : ℕ) → t < length scaled → g < length given → slice_index (text_at scaled t) (column_of price_mark columns.headers given g) ≤ LARGEST
+  price_limits t g row place =
+      (each_row IsPrice (length scaled) (length given) (λ s k. slice_index (text_at scaled s) (column_of price_mark columns.headers given k)) within.price_limits t g row place).1
+
+  -- its prices are within the limits, and those of its numbers
+  pub prices_made : (n : ℕ) (prices m : List ℕ) → n ≡ length goods → prices ≡ numbers_under price_mark columns.headers given scaled → m ≡ (if with_m then column_numbers (codes "m") columns.headers scaled else [])
+      → IsPriceList (record { goods = n; prices = prices; m = m }) × (record { goods = n; prices = prices; m = m } ≡ prices_of with_m places goods columns.headers figures)
+  unfolding prices_of
+  prices_made n prices m count numbered spent =
+      let count_given = count ∙ sym (ap length named) in
+      let list : record { goods = n; prices = prices; m = m } ≡ price_list with_m columns.headers given scaled = rw (count_given, numbered, spent) refl in
+      let exact = ap (price_list with_m columns.headers given) (scaled_numbers (read_as named refl same read)) in
+      (subst IsPriceList (sym list) within, list ∙ exact ∙ ap (λ names. prices_of with_m places names columns.headers figures) named)
+
+  -- what holds of every list of prices that is read
+  pub prices_fit : (list : PriceList) → list ≡ prices_of with_m places goods columns.headers figures → (list.goods ≡ length goods) × (1 ≤ rows_count list.prices list.goods) × (with_m ≡ true → length list.m ≡ rows_count list.prices list.goods)
+  unfolding prices_of
+  prices_fit list is =
+      let sheet = prices_read with_m read some few in
+      let exact = is ∙ sym (ap (price_list with_m columns.headers goods) (scaled_numbers read)) in
+      subst (λ (l : PriceList). (l.goods ≡ length goods) × (1 ≤ rows_count l.prices l.goods) × (with_m ≡ true → length l.m ≡ rows_count l.prices l.goods)) (sym exact)
+      (refl, sheet.some_records, spent_each with_m columns.headers goods sizes some)

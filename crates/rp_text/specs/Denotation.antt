@@ -6,12 +6,12 @@ use Rattle.rp_table.specs.PriceLists.{PriceList}
 use Rattle.rp_table.specs.BundleLists.{BundleList}
 use Rattle.rp_table.specs.BudgetLists.{BudgetList}
 use Rattle.rp_table.specs.ChoiceLists.{ChoiceList}
-use Rattle.rp_sheet.specs.Sheets.{first_fault, unless_fault, numbers_under, column_numbers}
+use Rattle.rp_sheet.specs.SheetFiles.{denoted_by}
+use Rattle.rp_sheet.specs.Sheets.{numbers_under, column_numbers}
 use Rattle.rp_forms.specs.Forms.{table_form, prices_form, bundles_form, budgets_form, choices_form}
 use Rattle.rp_sheet.specs.Records.{records_in}
 use Rattle.rp_forms.specs.Columns.{names_with, is_price, mark_of_prices, mark_of_quantities, price_mark, quantity_mark}
-use Rattle.rp_sheet.specs.Headers.{headers_of, has}
-use Rattle.rp_sheet.specs.Fields.{figures_of}
+use Rattle.rp_sheet.specs.Headers.{has}
 use Rattle.rp_sheet.specs.Sizes.{places_of, sizes_of}
 use Rattle.rp_forms.specs.declared.form.Form.{Form}
 use Rattle.rp_forms.specs.declared.form.Marks.TheVariants.{Goods}
@@ -41,13 +41,9 @@ unfoldable pub table_of : List (List ℕ) → List (List Decimal) → Observatio
 table_of headers figures =
     priced_table table_form headers figures (own_levels headers (sizes_of table_form headers figures))
 
--- the table in these records, if they have no fault
-unfoldable pub table_under : List (List ℕ) → List (List (List ℕ)) → Observations
-table_under headers records = table_of headers (figures_of table_form headers records)
-
 -- what records denote as a table
 unfoldable pub denoted_table : List (List (List ℕ)) → Result Observations TableFault
-denoted_table records = unless_fault (first_fault table_form [] records) (table_under (headers_of records) records)
+denoted_table records = denoted_by table_form [] table_of records
 
 -- what the bytes of a file denote as a table
 abbrev pub table_in : List ℕ → Result Observations TableFault
@@ -69,9 +65,7 @@ prices_of with_m places goods headers figures =
 -- what records denote as new prices of these goods, beside a table whose quantities have these places
 unfoldable pub denoted_prices : Bool → ℕ → List (List ℕ) → List (List (List ℕ)) → Result PriceList TableFault
 denoted_prices with_m places goods records =
-    let headers = headers_of records in
-    unless_fault (first_fault (prices_form with_m places) goods records)
-    (prices_of with_m places goods headers (figures_of (prices_form with_m places) headers records))
+    denoted_by (prices_form with_m places) goods (prices_of with_m places goods) records
 
 -- what the bytes of a file denote as new prices of these goods
 abbrev pub prices_in : Bool → ℕ → List (List ℕ) → List ℕ → Result PriceList TableFault
@@ -94,10 +88,7 @@ bundles_of places goods headers figures = bundle_list headers goods (sizes_of (b
 
 -- what records denote as bundles of these goods, beside a table whose quantities have these places
 unfoldable pub denoted_bundles : ℕ → List (List ℕ) → List (List (List ℕ)) → Result BundleList TableFault
-denoted_bundles places goods records =
-    let headers = headers_of records in
-    unless_fault (first_fault (bundles_form places) goods records)
-    (bundles_of places goods headers (figures_of (bundles_form places) headers records))
+denoted_bundles places goods records = denoted_by (bundles_form places) goods (bundles_of places goods) records
 
 -- what the bytes of a file denote as bundles of these goods
 abbrev pub bundles_in : ℕ → List (List ℕ) → List ℕ → Result BundleList TableFault
@@ -122,9 +113,7 @@ budgets_of headers figures =
 
 -- what records denote as budgets
 unfoldable pub denoted_budgets : List (List (List ℕ)) → Result BudgetList TableFault
-denoted_budgets records =
-    let headers = headers_of records in
-    unless_fault (first_fault budgets_form [] records) (budgets_of headers (figures_of budgets_form headers records))
+denoted_budgets records = denoted_by budgets_form [] budgets_of records
 
 -- what the bytes of a file denote as budgets
 abbrev pub budgets_in : List ℕ → Result BudgetList TableFault
@@ -145,10 +134,7 @@ choices_of budgets goods headers figures = choice_list headers goods (sizes_of (
 
 -- what records denote as choices on so many budgets over these goods
 unfoldable pub denoted_choices : ℕ → List (List ℕ) → List (List (List ℕ)) → Result ChoiceList TableFault
-denoted_choices budgets goods records =
-    let headers = headers_of records in
-    unless_fault (first_fault (choices_form budgets) goods records)
-    (choices_of budgets goods headers (figures_of (choices_form budgets) headers records))
+denoted_choices budgets goods records = denoted_by (choices_form budgets) goods (choices_of budgets goods) records
 
 -- what the bytes of a file denote as choices on so many budgets over these goods
 abbrev pub choices_in : ℕ → List (List ℕ) → List ℕ → Result ChoiceList TableFault
