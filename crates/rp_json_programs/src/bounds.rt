@@ -1,5 +1,4 @@
-ghost use Rattle.std.specs.Prelude.{◌≡◌, IfOk, codes};
-ghost use Rattle.serde_json.specs.Data.{object, member, no_members};
+ghost use Rattle.std.specs.Prelude.{◌≡◌, IfOk};
 ghost use Rattle.serde_json.specs.View.{view};
 ghost use Rattle.rp_json_programs.specs.BoundValue.{bound_value, entry_value, good_value};
 ghost use Rattle.rp_json_programs.specs.BoundValue.{point_value};
@@ -27,10 +26,10 @@ impl Notation for PointEntry {
     ghost fits = { FitsEntry };
 
     fn value(alloc: Global, entry: &Entry) -> Result<Value, NoMemory> {
-        let at = Observation::value(alloc, &entry.at)?;
-        let value = Natural::value(alloc, &entry.value)?;
         let mut values = Vec::with_capacity(alloc, 2)?;
+        let at = Observation::value(alloc, &entry.at)?;
         values.push(at)?;
+        let value = Natural::value(alloc, &entry.value)?;
         values.push(value)?;
         Ok(Value::Array(values))
     }
@@ -54,9 +53,12 @@ impl Notation for Good {
     ghost fits = { FitsGood };
 
     fn value(alloc: Global, entry: &GoodBounds) -> Result<Value, NoMemory> {
+        let mut members = Map::new(alloc);
         let lower = bound_value(alloc, &entry.lower)?;
+        put(&mut members, alloc, "lower", lower)?;
         let upper = bound_value(alloc, &entry.upper)?;
-        Ok(json!(in alloc; {"lower": lower, "upper": upper})?)
+        put(&mut members, alloc, "upper", upper)?;
+        Ok(Value::Object(members))
     }
 
     fn read(alloc: Global, value: &Value) -> Result<Option<GoodBounds>, NoMemory> {
@@ -113,29 +115,14 @@ pub fn bound_value(alloc: Global, bound: &Bound) -> Result<Value, NoMemory>
 fn pair_value(alloc: Global, value: &Frac, pair: &Pair) -> Result<Value, NoMemory>
     ensures { IfOk result (λ v. view v ≡ bound_value (Bound.Shown value.now pair.now)) }
 {
-    let den = Natural::value(alloc, &pair.den)?;
-    let value = Fraction::value(alloc, value)?;
-    let x = list_value::<Natural>(alloc, pair.x.as_slice())?;
-    let y = list_value::<PointEntry>(alloc, pair.y.as_slice())?;
-    pair_object(alloc, den, value, x, y)
-}
-
-/// Makes the object of a pair and the value that it shows.
-fn pair_object(
-    alloc: Global,
-    den: Value,
-    value: Value,
-    x: Value,
-    y: Value,
-) -> Result<Value, NoMemory>
-    ensures { IfOk result (λ v. view v ≡ object
-        (member (codes "den") (view den) (member (codes "value") (view value)
-        (member (codes "x") (view x) (member (codes "y") (view y) no_members))))) }
-{
     let mut members = Map::new(alloc);
+    let den = Natural::value(alloc, &pair.den)?;
     put(&mut members, alloc, "den", den)?;
+    let value = Fraction::value(alloc, value)?;
     put(&mut members, alloc, "value", value)?;
+    let x = list_value::<Natural>(alloc, pair.x.as_slice())?;
     put(&mut members, alloc, "x", x)?;
+    let y = list_value::<PointEntry>(alloc, pair.y.as_slice())?;
     put(&mut members, alloc, "y", y)?;
     Ok(Value::Object(members))
 }
@@ -166,9 +153,12 @@ impl Notation for Bundle {
 pub fn point_value(alloc: Global, point: &Point) -> Result<Value, NoMemory>
     ensures { IfOk result (λ v. view v ≡ point_value point.now) }
 {
+    let mut members = Map::new(alloc);
     let den = Natural::value(alloc, &point.den)?;
+    put(&mut members, alloc, "den", den)?;
     let num = list_value::<Natural>(alloc, point.num.as_slice())?;
-    Ok(json!(in alloc; {"den": den, "num": num})?)
+    put(&mut members, alloc, "num", num)?;
+    Ok(Value::Object(members))
 }
 
 /// The bound that was found with its pair.
