@@ -3,16 +3,14 @@ ghost use Rattle.serde_json.specs.View.{view};
 ghost use Rattle.rp_json_programs.specs.BoundValue.{bound_value, entry_value, good_value};
 ghost use Rattle.rp_json_programs.specs.BoundValue.{point_value};
 ghost use Rattle.rp_json_programs.specs.Limits.{FitsBound, FitsEntry, FitsGood, FitsPoint};
-ghost use Rattle.rp_json_entries.specs.Values.{list_value};
 
 use rp_evidence::{Bound, GoodBounds, Point};
 use rp_farkas::{Entry, Pair};
-use rp_json_entries::lists::list_value;
 use rp_json_entries::notation::Notation;
 use rp_json_entries::numbers::{Fraction, Natural, Observation};
-use rp_json_entries::objects::{read_array, read_object};
+use rp_json_entries::objects::{put_entry, read_array, read_object};
 use rp_num::{Frac, NoMemory, Seq};
-use serde_json::{Map, Value, json, put};
+use serde_json::{Map, Value, json};
 use std::alloc::Global;
 
 /// A positive entry of a point, with its column counted from 1.
@@ -54,10 +52,8 @@ impl Notation for Good {
 
     fn value(alloc: Global, entry: &GoodBounds) -> Result<Value, NoMemory> {
         let mut members = Map::new(alloc);
-        let lower = bound_value(alloc, &entry.lower)?;
-        put(&mut members, alloc, "lower", lower)?;
-        let upper = bound_value(alloc, &entry.upper)?;
-        put(&mut members, alloc, "upper", upper)?;
+        put_entry::<AnyBound>(&mut members, alloc, "lower", &entry.lower)?;
+        put_entry::<AnyBound>(&mut members, alloc, "upper", &entry.upper)?;
         Ok(Value::Object(members))
     }
 
@@ -116,14 +112,10 @@ fn pair_value(alloc: Global, value: &Frac, pair: &Pair) -> Result<Value, NoMemor
     ensures { IfOk result (λ v. view v ≡ bound_value (Bound.Shown value.now pair.now)) }
 {
     let mut members = Map::new(alloc);
-    let den = Natural::value(alloc, &pair.den)?;
-    put(&mut members, alloc, "den", den)?;
-    let value = Fraction::value(alloc, value)?;
-    put(&mut members, alloc, "value", value)?;
-    let x = list_value::<Natural>(alloc, pair.x.as_slice())?;
-    put(&mut members, alloc, "x", x)?;
-    let y = list_value::<PointEntry>(alloc, pair.y.as_slice())?;
-    put(&mut members, alloc, "y", y)?;
+    put_entry::<Natural>(&mut members, alloc, "den", &pair.den)?;
+    put_entry::<Fraction>(&mut members, alloc, "value", value)?;
+    put_entry::<Seq<Natural>>(&mut members, alloc, "x", &pair.x)?;
+    put_entry::<Seq<PointEntry>>(&mut members, alloc, "y", &pair.y)?;
     Ok(Value::Object(members))
 }
 
@@ -154,10 +146,8 @@ pub fn point_value(alloc: Global, point: &Point) -> Result<Value, NoMemory>
     ensures { IfOk result (λ v. view v ≡ point_value point.now) }
 {
     let mut members = Map::new(alloc);
-    let den = Natural::value(alloc, &point.den)?;
-    put(&mut members, alloc, "den", den)?;
-    let num = list_value::<Natural>(alloc, point.num.as_slice())?;
-    put(&mut members, alloc, "num", num)?;
+    put_entry::<Natural>(&mut members, alloc, "den", &point.den)?;
+    put_entry::<Seq<Natural>>(&mut members, alloc, "num", &point.num)?;
     Ok(Value::Object(members))
 }
 

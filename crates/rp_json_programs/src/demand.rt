@@ -8,14 +8,13 @@ ghost use Rattle.rp_json_entries.specs.Reading.{IsRead};
 ghost use Rattle.rp_json_entries.specs.Values.{list_value, natural_value, naturals_value};
 ghost use Rattle.rp_json_entries.specs.Values.{observations_value};
 
-use crate::bounds::{Bundle, Good, point_value};
+use crate::bounds::{Bundle, Good};
 use crate::tags::DemandTag;
 use rp_evidence::{DemandPart, GoodBounds, Point};
 use rp_json_entries::lists::list_value;
 use rp_json_entries::named::Named;
-use rp_json_entries::notation::Notation;
 use rp_json_entries::numbers::{Natural, Observation, Price};
-use rp_json_entries::objects::read_object;
+use rp_json_entries::objects::{put_entry, read_object};
 use rp_num::{NoMemory, Seq};
 use serde_json::{Map, Value, put};
 use std::alloc::Global;
@@ -36,19 +35,19 @@ pub fn demand_value(
             inner,
             goods,
         } => {
-            let members = first_members(alloc, below.as_slice(), m, goods.as_slice())?;
-            bounds_object(alloc, members, inner, prices, strict.as_slice())
+            let members = first_members(alloc, below, m, goods)?;
+            bounds_object(alloc, members, inner, prices, strict)
         }
-        DemandPart::NoModel(cycle) => cycle_object(alloc, cycle.as_slice(), m, prices),
+        DemandPart::NoModel(cycle) => cycle_object(alloc, cycle, m, prices),
     }
 }
 
 /// The first members of the object of bounds.
 fn first_members(
     alloc: Global,
-    below: &[u32],
+    below: &Seq<u32>,
     m: u64,
-    goods: &[GoodBounds],
+    goods: &Seq<GoodBounds>,
 ) -> Result<Map<String, Value>, NoMemory>
     ensures { IfOk result (λ members. members_view members.entries
         ≡ member (codes "below") (observations_value below.now)
@@ -56,12 +55,9 @@ fn first_members(
         (member (codes "goods") (list_value good_value goods.now) no_members))) }
 {
     let mut members = Map::new(alloc);
-    let below = list_value::<Observation>(alloc, below)?;
-    put(&mut members, alloc, "below", below)?;
-    let expenditure = Natural::value(alloc, &m)?;
-    put(&mut members, alloc, "expenditure", expenditure)?;
-    let goods = list_value::<Good>(alloc, goods)?;
-    put(&mut members, alloc, "goods", goods)?;
+    put_entry::<Seq<Observation>>(&mut members, alloc, "below", below)?;
+    put_entry::<Natural>(&mut members, alloc, "expenditure", &m)?;
+    put_entry::<Seq<Good>>(&mut members, alloc, "goods", goods)?;
     Ok(members)
 }
 
@@ -71,7 +67,7 @@ fn bounds_object(
     first: Map<String, Value>,
     inner: &Point,
     prices: &[u32],
-    strict: &[u32],
+    strict: &Seq<u32>,
 ) -> Result<Value, NoMemory>
     ensures { (below expenditure goods : Data)
         → members_view first.entries ≡ member (codes "below") below
@@ -84,28 +80,22 @@ fn bounds_object(
         (member (codes "strict") (observations_value strict.now) no_members)))))))) }
 {
     let mut members = first;
-    let inner = point_value(alloc, inner)?;
-    put(&mut members, alloc, "inner", inner)?;
-    let name = Value::try_from_str(alloc, "demand")?;
-    put(&mut members, alloc, "item", name)?;
+    put_entry::<Bundle>(&mut members, alloc, "inner", inner)?;
+    put_entry::<Named<DemandTag>>(&mut members, alloc, "item", &())?;
     let prices = list_value::<Price>(alloc, prices)?;
     put(&mut members, alloc, "prices", prices)?;
-    let strict = list_value::<Observation>(alloc, strict)?;
-    put(&mut members, alloc, "strict", strict)?;
+    put_entry::<Seq<Observation>>(&mut members, alloc, "strict", strict)?;
     Ok(Value::Object(members))
 }
 
 /// Makes the object of a violation.
-fn cycle_object(alloc: Global, cycle: &[u32], m: u64, prices: &[u32]) -> Result<Value, NoMemory>
+fn cycle_object(alloc: Global, cycle: &Seq<u32>, m: u64, prices: &[u32]) -> Result<Value, NoMemory>
     ensures { IfOk result (λ v. view v ≡ demand_value prices.now m (DemandPart.NoModel cycle.now)) }
 {
     let mut members = Map::new(alloc);
-    let cycle = list_value::<Observation>(alloc, cycle)?;
-    put(&mut members, alloc, "cycle", cycle)?;
-    let expenditure = Natural::value(alloc, &m)?;
-    put(&mut members, alloc, "expenditure", expenditure)?;
-    let name = Value::try_from_str(alloc, "demand")?;
-    put(&mut members, alloc, "item", name)?;
+    put_entry::<Seq<Observation>>(&mut members, alloc, "cycle", cycle)?;
+    put_entry::<Natural>(&mut members, alloc, "expenditure", &m)?;
+    put_entry::<Named<DemandTag>>(&mut members, alloc, "item", &())?;
     let prices = list_value::<Price>(alloc, prices)?;
     put(&mut members, alloc, "prices", prices)?;
     Ok(Value::Object(members))

@@ -12,9 +12,9 @@ use rp_json_entries::lists::list_value;
 use rp_json_entries::named::Named;
 use rp_json_entries::notation::Notation;
 use rp_json_entries::numbers::{Natural, Observation};
-use rp_json_entries::objects::{read_array, read_object};
+use rp_json_entries::objects::{put_entry, read_array, read_object};
 use rp_num::{NoMemory, Seq};
-use serde_json::{Map, Value, put};
+use serde_json::{Map, Value};
 use std::alloc::Global;
 
 /// A rational type with its weight; its patches are counted from 1.
@@ -50,7 +50,7 @@ pub fn random_value(alloc: Global, total: u64, evidence: &RandomPart) -> Result<
 {
     match evidence {
         RandomPart::Mixture { den, parts } => {
-            let members = mixture_members(alloc, *den, parts.as_slice(), total)?;
+            let members = mixture_members(alloc, *den, parts, total)?;
             Ok(Value::Object(members))
         }
         RandomPart::Violated {
@@ -58,9 +58,8 @@ pub fn random_value(alloc: Global, total: u64, evidence: &RandomPart) -> Result<
             parts,
             weights,
         } => {
-            let mut members = mixture_members(alloc, *den, parts.as_slice(), total)?;
-            let weights = list_value::<Natural>(alloc, weights.as_slice())?;
-            put(&mut members, alloc, "weights", weights)?;
+            let mut members = mixture_members(alloc, *den, parts, total)?;
+            put_entry::<Seq<Natural>>(&mut members, alloc, "weights", weights)?;
             Ok(Value::Object(members))
         }
         RandomPart::Wide { step } => withheld_object(alloc, total, *step),
@@ -71,7 +70,7 @@ pub fn random_value(alloc: Global, total: u64, evidence: &RandomPart) -> Result<
 fn mixture_members(
     alloc: Global,
     den: u64,
-    parts: &[Share],
+    parts: &Seq<Share>,
     total: u64,
 ) -> Result<Map<String, Value>, NoMemory>
     ensures { IfOk result (λ m. members_view m.entries ≡ member (codes "den") (natural_value den)
@@ -80,14 +79,10 @@ fn mixture_members(
         (member (codes "total") (natural_value total) no_members)))) }
 {
     let mut members = Map::new(alloc);
-    let den = Natural::value(alloc, &den)?;
-    put(&mut members, alloc, "den", den)?;
-    let name = Value::try_from_str(alloc, "random")?;
-    put(&mut members, alloc, "item", name)?;
-    let parts = list_value::<TypeShare>(alloc, parts)?;
-    put(&mut members, alloc, "parts", parts)?;
-    let total = Natural::value(alloc, &total)?;
-    put(&mut members, alloc, "total", total)?;
+    put_entry::<Natural>(&mut members, alloc, "den", &den)?;
+    put_entry::<Named<RandomTag>>(&mut members, alloc, "item", &())?;
+    put_entry::<Seq<TypeShare>>(&mut members, alloc, "parts", parts)?;
+    put_entry::<Natural>(&mut members, alloc, "total", &total)?;
     Ok(members)
 }
 
@@ -96,12 +91,9 @@ fn withheld_object(alloc: Global, total: u64, step: u64) -> Result<Value, NoMemo
     ensures { IfOk result (λ v. view v ≡ random_value total (RandomPart.Wide step)) }
 {
     let mut members = Map::new(alloc);
-    let name = Value::try_from_str(alloc, "random")?;
-    put(&mut members, alloc, "item", name)?;
-    let total = Natural::value(alloc, &total)?;
-    put(&mut members, alloc, "total", total)?;
-    let withheld = Natural::value(alloc, &step)?;
-    put(&mut members, alloc, "withheld", withheld)?;
+    put_entry::<Named<RandomTag>>(&mut members, alloc, "item", &())?;
+    put_entry::<Natural>(&mut members, alloc, "total", &total)?;
+    put_entry::<Natural>(&mut members, alloc, "withheld", &step)?;
     Ok(Value::Object(members))
 }
 

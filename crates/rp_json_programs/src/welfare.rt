@@ -7,14 +7,13 @@ ghost use Rattle.rp_json_programs.specs.Limits.{FitsWelfare};
 ghost use Rattle.rp_json_entries.specs.Reading.{IsRead};
 ghost use Rattle.rp_json_entries.specs.Values.{natural_value, naturals_value, observation_value};
 
-use crate::bounds::{AnyBound, bound_value};
+use crate::bounds::AnyBound;
 use crate::tags::WelfareTag;
 use rp_evidence::{Bound, WelfarePart};
 use rp_json_entries::lists::list_value;
 use rp_json_entries::named::Named;
-use rp_json_entries::notation::Notation;
 use rp_json_entries::numbers::{Natural, Observation, Price};
-use rp_json_entries::objects::read_object;
+use rp_json_entries::objects::{put_entry, read_object};
 use rp_num::{NoMemory, Seq};
 use serde_json::{Map, Value, put};
 use std::alloc::Global;
@@ -33,7 +32,7 @@ pub fn welfare_value(
             let members = first_members(alloc, *at, lower)?;
             bounds_object(alloc, members, of, prices, *upper)
         }
-        WelfarePart::NoModel(cycle) => cycle_object(alloc, cycle.as_slice(), of, prices),
+        WelfarePart::NoModel(cycle) => cycle_object(alloc, cycle, of, prices),
     }
 }
 
@@ -44,12 +43,9 @@ fn first_members(alloc: Global, at: u32, lower: &Bound) -> Result<Map<String, Va
         (member (codes "lower") (bound_value lower.now) no_members))) }
 {
     let mut members = Map::new(alloc);
-    let at = Observation::value(alloc, &at)?;
-    put(&mut members, alloc, "at", at)?;
-    let name = Value::try_from_str(alloc, "welfare")?;
-    put(&mut members, alloc, "item", name)?;
-    let lower = bound_value(alloc, lower)?;
-    put(&mut members, alloc, "lower", lower)?;
+    put_entry::<Observation>(&mut members, alloc, "at", &at)?;
+    put_entry::<Named<WelfareTag>>(&mut members, alloc, "item", &())?;
+    put_entry::<AnyBound>(&mut members, alloc, "lower", lower)?;
     Ok(members)
 }
 
@@ -70,27 +66,22 @@ fn bounds_object(
         (member (codes "upper") (natural_value upper) no_members))))))) }
 {
     let mut members = first;
-    let observation = Observation::value(alloc, &of)?;
-    put(&mut members, alloc, "observation", observation)?;
+    put_entry::<Observation>(&mut members, alloc, "observation", &of)?;
     let prices = list_value::<Price>(alloc, prices)?;
     put(&mut members, alloc, "prices", prices)?;
-    let upper = Natural::value(alloc, &upper)?;
-    put(&mut members, alloc, "upper", upper)?;
+    put_entry::<Natural>(&mut members, alloc, "upper", &upper)?;
     Ok(Value::Object(members))
 }
 
 /// Makes the object of a violation.
-fn cycle_object(alloc: Global, cycle: &[u32], of: u32, prices: &[u32]) -> Result<Value, NoMemory>
+fn cycle_object(alloc: Global, cycle: &Seq<u32>, of: u32, prices: &[u32]) -> Result<Value, NoMemory>
     ensures { IfOk result (λ v. view v
         ≡ welfare_value prices.now of (WelfarePart.NoModel cycle.now)) }
 {
     let mut members = Map::new(alloc);
-    let cycle = list_value::<Observation>(alloc, cycle)?;
-    put(&mut members, alloc, "cycle", cycle)?;
-    let name = Value::try_from_str(alloc, "welfare")?;
-    put(&mut members, alloc, "item", name)?;
-    let observation = Observation::value(alloc, &of)?;
-    put(&mut members, alloc, "observation", observation)?;
+    put_entry::<Seq<Observation>>(&mut members, alloc, "cycle", cycle)?;
+    put_entry::<Named<WelfareTag>>(&mut members, alloc, "item", &())?;
+    put_entry::<Observation>(&mut members, alloc, "observation", &of)?;
     let prices = list_value::<Price>(alloc, prices)?;
     put(&mut members, alloc, "prices", prices)?;
     Ok(Value::Object(members))
