@@ -10,7 +10,7 @@ use rp_json_entries::notation::Notation;
 use rp_json_entries::numbers::{Fraction, Natural, Observation};
 use rp_json_entries::objects::{put_entry, read_array, read_object};
 use rp_num::{Frac, NoMemory, Seq};
-use serde_json::{Map, Value, json};
+use serde_json::{Map, Value};
 use std::alloc::Global;
 
 /// A positive entry of a point, with its column counted from 1.
@@ -101,8 +101,9 @@ pub fn bound_value(alloc: Global, bound: &Bound) -> Result<Value, NoMemory>
     match bound {
         Bound::Shown { value, pair } => pair_value(alloc, value, pair),
         Bound::Wide { step } => {
-            let step = Natural::value(alloc, step)?;
-            Ok(json!(in alloc; {"withheld": step})?)
+            let mut members = Map::new(alloc);
+            put_entry::<Natural>(&mut members, alloc, "withheld", step)?;
+            Ok(Value::Object(members))
         }
     }
 }
