@@ -9,7 +9,7 @@ ghost use Rattle.rp_farkas.specs.PairCheck.{IsShownPair};
 use crate::entry::{Entry, Pair};
 use crate::listing::{EVIDENCE_WIDTH, all_fit, is_listing};
 use crate::program::Lp;
-use crate::sums::{column_sum, cost_sum, row_sum, value_sum};
+use crate::sums::{column_sum, cost_sum, product, row_sum, value_sum};
 
 /// Whether each row of A times the listed point is at most its right side, over the denominator.
 pub fn rows_hold<P: Lp>(p: &P, den: u64, y: &[Entry]) -> bool
@@ -20,7 +20,7 @@ pub fn rows_hold<P: Lp>(p: &P, den: u64, y: &[Entry]) -> bool
         ≤ℤ ((P.program p.now).b i *ℤ pos den)) }
 {
     for i in 0..p.rows() {
-        if row_sum(p, i, y) > i128::from(p.b(i)) * i128::from(den) {
+        if row_sum(p, i, y) > product(p.b(i), den) {
             return false;
         }
     }
@@ -37,7 +37,7 @@ fn columns_hold<P: Lp>(p: &P, den: u64, x: &[u64]) -> bool
         (slice_index x.now)) }
 {
     for j in 0..p.cols() {
-        if i128::from(p.c(j)) * i128::from(den) > column_sum(p, j, x) {
+        if product(p.c(j), den) > column_sum(p, j, x) {
             return false;
         }
     }

@@ -9,6 +9,14 @@ ghost use Rattle.rp_farkas.specs.Prices.{column_times, value_of_prices};
 use crate::entry::Entry;
 use crate::program::Lp;
 
+/// The product of an entry and a number, which has 128 bits.
+pub fn product(entry: i64, number: u64) -> i128
+    requires { FitsEvidence number }
+    ensures { result ≡ entry *ℤ pos number }
+{
+    i128::from(entry) * i128::from(number)
+}
+
 /// A running sum of at most 8,191 products of an entry and a number, and one more: it stays within 128 bits, since
 /// 2^13 · 2^51 · (2^63 - 1) is below 2^127.
 fn plus_product(sum: i128, entry: i64, number: u64) -> i128
@@ -17,7 +25,7 @@ fn plus_product(sum: i128, entry: i64, number: u64) -> i128
     requires number { FitsEvidence number }
     ensures { result ≡ sum +ℤ entry *ℤ pos number }
 {
-    sum + i128::from(entry) * i128::from(number)
+    sum + product(entry, number)
 }
 
 /// Row i of A times the listed point.

@@ -1,12 +1,13 @@
-ghost use Rattle.std.specs.Prelude.{◌≡◌, List, IfOk, IfSome, None, length};
-ghost use Rattle.serde_json.specs.Data.{Data, array, object};
+ghost use Rattle.std.specs.Prelude.{◌≡◌, List, IfOk, IfSome, None, OnOk, length};
+ghost use Rattle.serde_json.specs.Data.{Data, array, object, put as with_member};
 ghost use Rattle.serde_json.specs.View.{view, items_of, members_view};
 ghost use Rattle.rp_json_entries.specs.InnerMembers.{AreNamed, named, texts, views};
 ghost use Rattle.rp_json_entries.specs.Reading.{IsRead};
 
 use crate::fields::Fields;
+use crate::notation::Notation;
 use rp_num::NoMemory;
-use serde_json::{Map, Value};
+use serde_json::{Map, Value, put};
 use std::alloc::Global;
 
 /// The entries of an object that has just the members of these names, in the order of their bytes.
@@ -41,6 +42,21 @@ pub fn read_array<F: Fields>(alloc: Global, value: &Value) -> Result<Option<F::E
         values.push(item)?;
     }
     F::read(alloc, values.as_slice())
+}
+
+/// Puts in the value of an entry under a name.
+pub fn put_entry<N: Notation>(
+    members: &mut Map<String, Value>,
+    alloc: Global,
+    name: &str,
+    entry: &N::Entry,
+) -> Result<(), NoMemory>
+    ensures { OnOk result (members_view members.new.entries
+        ≡ with_member name.now (N.value_of entry.now) (members_view members.old.entries)) }
+{
+    let value = N::value(alloc, entry)?;
+    put(members, alloc, name, value)?;
+    Ok(())
 }
 
 /// The values of members of which these are all names.

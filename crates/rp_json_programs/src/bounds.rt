@@ -1,19 +1,16 @@
-ghost use Rattle.std.specs.Prelude.{◌≡◌, IfOk, codes};
-ghost use Rattle.serde_json.specs.Data.{object, member, no_members};
+ghost use Rattle.std.specs.Prelude.{◌≡◌, IfOk};
 ghost use Rattle.serde_json.specs.View.{view};
 ghost use Rattle.rp_json_programs.specs.BoundValue.{bound_value, entry_value, good_value};
 ghost use Rattle.rp_json_programs.specs.BoundValue.{point_value};
 ghost use Rattle.rp_json_programs.specs.Limits.{FitsBound, FitsEntry, FitsGood, FitsPoint};
-ghost use Rattle.rp_json_entries.specs.Values.{list_value};
 
 use rp_evidence::{Bound, GoodBounds, Point};
 use rp_farkas::{Entry, Pair};
-use rp_json_entries::lists::list_value;
 use rp_json_entries::notation::Notation;
 use rp_json_entries::numbers::{Fraction, Natural, Observation};
-use rp_json_entries::objects::{read_array, read_object};
+use rp_json_entries::objects::{put_entry, read_array, read_object};
 use rp_num::{Frac, NoMemory, Seq};
-use serde_json::{Map, Value, json, put};
+use serde_json::{Map, Value};
 use std::alloc::Global;
 
 /// A positive entry of a point, with its column counted from 1.
@@ -27,10 +24,10 @@ impl Notation for PointEntry {
     ghost fits = { FitsEntry };
 
     fn value(alloc: Global, entry: &Entry) -> Result<Value, NoMemory> {
-        let at = Observation::value(alloc, &entry.at)?;
-        let value = Natural::value(alloc, &entry.value)?;
         let mut values = Vec::with_capacity(alloc, 2)?;
+        let at = Observation::value(alloc, &entry.at)?;
         values.push(at)?;
+        let value = Natural::value(alloc, &entry.value)?;
         values.push(value)?;
         Ok(Value::Array(values))
     }
@@ -54,9 +51,10 @@ impl Notation for Good {
     ghost fits = { FitsGood };
 
     fn value(alloc: Global, entry: &GoodBounds) -> Result<Value, NoMemory> {
-        let lower = bound_value(alloc, &entry.lower)?;
-        let upper = bound_value(alloc, &entry.upper)?;
-        Ok(json!(in alloc; {"lower": lower, "upper": upper})?)
+        let mut members = Map::new(alloc);
+        put_entry::<AnyBound>(&mut members, alloc, "lower", &entry.lower)?;
+        put_entry::<AnyBound>(&mut members, alloc, "upper", &entry.upper)?;
+        Ok(Value::Object(members))
     }
 
     fn read(alloc: Global, value: &Value) -> Result<Option<GoodBounds>, NoMemory> {
@@ -103,8 +101,9 @@ pub fn bound_value(alloc: Global, bound: &Bound) -> Result<Value, NoMemory>
     match bound {
         Bound::Shown { value, pair } => pair_value(alloc, value, pair),
         Bound::Wide { step } => {
-            let step = Natural::value(alloc, step)?;
-            Ok(json!(in alloc; {"withheld": step})?)
+            let mut members = Map::new(alloc);
+            put_entry::<Natural>(&mut members, alloc, "withheld", step)?;
+            Ok(Value::Object(members))
         }
     }
 }
@@ -113,30 +112,11 @@ pub fn bound_value(alloc: Global, bound: &Bound) -> Result<Value, NoMemory>
 fn pair_value(alloc: Global, value: &Frac, pair: &Pair) -> Result<Value, NoMemory>
     ensures { IfOk result (λ v. view v ≡ bound_value (Bound.Shown value.now pair.now)) }
 {
-    let den = Natural::value(alloc, &pair.den)?;
-    let value = Fraction::value(alloc, value)?;
-    let x = list_value::<Natural>(alloc, pair.x.as_slice())?;
-    let y = list_value::<PointEntry>(alloc, pair.y.as_slice())?;
-    pair_object(alloc, den, value, x, y)
-}
-
-/// Makes the object of a pair and the value that it shows.
-fn pair_object(
-    alloc: Global,
-    den: Value,
-    value: Value,
-    x: Value,
-    y: Value,
-) -> Result<Value, NoMemory>
-    ensures { IfOk result (λ v. view v ≡ object
-        (member (codes "den") (view den) (member (codes "value") (view value)
-        (member (codes "x") (view x) (member (codes "y") (view y) no_members))))) }
-{
     let mut members = Map::new(alloc);
-    put(&mut members, alloc, "den", den)?;
-    put(&mut members, alloc, "value", value)?;
-    put(&mut members, alloc, "x", x)?;
-    put(&mut members, alloc, "y", y)?;
+    put_entry::<Natural>(&mut members, alloc, "den", &pair.den)?;
+    put_entry::<Fraction>(&mut members, alloc, "value", value)?;
+    put_entry::<Seq<Natural>>(&mut members, alloc, "x", &pair.x)?;
+    put_entry::<Seq<PointEntry>>(&mut members, alloc, "y", &pair.y)?;
     Ok(Value::Object(members))
 }
 
@@ -166,9 +146,10 @@ impl Notation for Bundle {
 pub fn point_value(alloc: Global, point: &Point) -> Result<Value, NoMemory>
     ensures { IfOk result (λ v. view v ≡ point_value point.now) }
 {
-    let den = Natural::value(alloc, &point.den)?;
-    let num = list_value::<Natural>(alloc, point.num.as_slice())?;
-    Ok(json!(in alloc; {"den": den, "num": num})?)
+    let mut members = Map::new(alloc);
+    put_entry::<Natural>(&mut members, alloc, "den", &point.den)?;
+    put_entry::<Seq<Natural>>(&mut members, alloc, "num", &point.num)?;
+    Ok(Value::Object(members))
 }
 
 /// The bound that was found with its pair.

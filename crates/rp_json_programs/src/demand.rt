@@ -1,18 +1,20 @@
 ghost use Rattle.std.specs.Prelude.{◌≡◌, IfOk, codes};
 ghost use Rattle.serde_json.specs.Data.{Data, object, string, member, no_members};
 ghost use Rattle.serde_json.specs.View.{view, members_view};
+ghost use Rattle.rp_json_programs.specs.BoundValue.{good_value, point_value};
 ghost use Rattle.rp_json_programs.specs.DemandValue.{demand_value};
 ghost use Rattle.rp_json_programs.specs.Limits.{FitsDemand};
 ghost use Rattle.rp_json_entries.specs.Reading.{IsRead};
+ghost use Rattle.rp_json_entries.specs.Values.{list_value, natural_value, naturals_value};
+ghost use Rattle.rp_json_entries.specs.Values.{observations_value};
 
-use crate::bounds::{Bundle, Good, point_value};
+use crate::bounds::{Bundle, Good};
 use crate::tags::DemandTag;
 use rp_evidence::{DemandPart, GoodBounds, Point};
 use rp_json_entries::lists::list_value;
 use rp_json_entries::named::Named;
-use rp_json_entries::notation::Notation;
 use rp_json_entries::numbers::{Natural, Observation, Price};
-use rp_json_entries::objects::read_object;
+use rp_json_entries::objects::{put_entry, read_object};
 use rp_num::{NoMemory, Seq};
 use serde_json::{Map, Value, put};
 use std::alloc::Global;
@@ -26,8 +28,6 @@ pub fn demand_value(
 ) -> Result<Value, NoMemory>
     ensures { IfOk result (λ v. view v ≡ demand_value prices.now m evidence.now) }
 {
-    let prices = list_value::<Price>(alloc, prices)?;
-    let expenditure = Natural::value(alloc, &m)?;
     match evidence {
         DemandPart::Bounds {
             below,
@@ -35,35 +35,29 @@ pub fn demand_value(
             inner,
             goods,
         } => {
-            let below = list_value::<Observation>(alloc, below.as_slice())?;
-            let strict = list_value::<Observation>(alloc, strict.as_slice())?;
-            let inner = point_value(alloc, inner)?;
-            let goods = list_value::<Good>(alloc, goods.as_slice())?;
-            let members = first_members(alloc, below, expenditure, goods)?;
+            let members = first_members(alloc, below, m, goods)?;
             bounds_object(alloc, members, inner, prices, strict)
         }
-        DemandPart::NoModel(cycle) => {
-            let cycle = list_value::<Observation>(alloc, cycle.as_slice())?;
-            cycle_object(alloc, cycle, expenditure, prices)
-        }
+        DemandPart::NoModel(cycle) => cycle_object(alloc, cycle, m, prices),
     }
 }
 
 /// The first members of the object of bounds.
 fn first_members(
     alloc: Global,
-    below: Value,
-    expenditure: Value,
-    goods: Value,
+    below: &Seq<u32>,
+    m: u64,
+    goods: &Seq<GoodBounds>,
 ) -> Result<Map<String, Value>, NoMemory>
-    ensures { IfOk result (λ m. members_view m.entries ≡ member (codes "below") (view below)
-        (member (codes "expenditure") (view expenditure)
-        (member (codes "goods") (view goods) no_members))) }
+    ensures { IfOk result (λ members. members_view members.entries
+        ≡ member (codes "below") (observations_value below.now)
+        (member (codes "expenditure") (natural_value m)
+        (member (codes "goods") (list_value good_value goods.now) no_members))) }
 {
     let mut members = Map::new(alloc);
-    put(&mut members, alloc, "below", below)?;
-    put(&mut members, alloc, "expenditure", expenditure)?;
-    put(&mut members, alloc, "goods", goods)?;
+    put_entry::<Seq<Observation>>(&mut members, alloc, "below", below)?;
+    put_entry::<Natural>(&mut members, alloc, "expenditure", &m)?;
+    put_entry::<Seq<Good>>(&mut members, alloc, "goods", goods)?;
     Ok(members)
 }
 
@@ -71,45 +65,38 @@ fn first_members(
 fn bounds_object(
     alloc: Global,
     first: Map<String, Value>,
-    inner: Value,
-    prices: Value,
-    strict: Value,
+    inner: &Point,
+    prices: &[u32],
+    strict: &Seq<u32>,
 ) -> Result<Value, NoMemory>
     ensures { (below expenditure goods : Data)
         → members_view first.entries ≡ member (codes "below") below
         (member (codes "expenditure") expenditure (member (codes "goods") goods no_members))
         → IfOk result (λ v. view v ≡ object (member (codes "below") below
         (member (codes "expenditure") expenditure (member (codes "goods") goods
-        (member (codes "inner") (view inner) (member (codes "item") (string (codes "demand"))
-        (member (codes "prices") (view prices)
-        (member (codes "strict") (view strict) no_members)))))))) }
+        (member (codes "inner") (point_value inner.now)
+        (member (codes "item") (string (codes "demand"))
+        (member (codes "prices") (naturals_value prices.now)
+        (member (codes "strict") (observations_value strict.now) no_members)))))))) }
 {
     let mut members = first;
-    let name = Value::try_from_str(alloc, "demand")?;
-    put(&mut members, alloc, "inner", inner)?;
-    put(&mut members, alloc, "item", name)?;
+    put_entry::<Bundle>(&mut members, alloc, "inner", inner)?;
+    put_entry::<Named<DemandTag>>(&mut members, alloc, "item", &())?;
+    let prices = list_value::<Price>(alloc, prices)?;
     put(&mut members, alloc, "prices", prices)?;
-    put(&mut members, alloc, "strict", strict)?;
+    put_entry::<Seq<Observation>>(&mut members, alloc, "strict", strict)?;
     Ok(Value::Object(members))
 }
 
 /// Makes the object of a violation.
-fn cycle_object(
-    alloc: Global,
-    cycle: Value,
-    expenditure: Value,
-    prices: Value,
-) -> Result<Value, NoMemory>
-    ensures { IfOk result (λ v. view v ≡ object (member (codes "cycle") (view cycle)
-        (member (codes "expenditure") (view expenditure)
-        (member (codes "item") (string (codes "demand"))
-        (member (codes "prices") (view prices) no_members))))) }
+fn cycle_object(alloc: Global, cycle: &Seq<u32>, m: u64, prices: &[u32]) -> Result<Value, NoMemory>
+    ensures { IfOk result (λ v. view v ≡ demand_value prices.now m (DemandPart.NoModel cycle.now)) }
 {
     let mut members = Map::new(alloc);
-    let name = Value::try_from_str(alloc, "demand")?;
-    put(&mut members, alloc, "cycle", cycle)?;
-    put(&mut members, alloc, "expenditure", expenditure)?;
-    put(&mut members, alloc, "item", name)?;
+    put_entry::<Seq<Observation>>(&mut members, alloc, "cycle", cycle)?;
+    put_entry::<Natural>(&mut members, alloc, "expenditure", &m)?;
+    put_entry::<Named<DemandTag>>(&mut members, alloc, "item", &())?;
+    let prices = list_value::<Price>(alloc, prices)?;
     put(&mut members, alloc, "prices", prices)?;
     Ok(Value::Object(members))
 }

@@ -1,8 +1,9 @@
 ghost use Rattle.std.specs.Prelude.{◌≡◌, IfOk, codes};
-ghost use Rattle.serde_json.specs.Data.{object, string, member, no_members};
+ghost use Rattle.serde_json.specs.Data.{string, member, no_members};
 ghost use Rattle.serde_json.specs.View.{view, members_view};
 ghost use Rattle.rp_json_programs.specs.Limits.{FitsRandom, FitsShare};
 ghost use Rattle.rp_json_entries.specs.Reading.{IsRead};
+ghost use Rattle.rp_json_entries.specs.Values.{list_value, natural_value};
 ghost use Rattle.rp_json_programs.specs.RandomValue.{random_value, share_value};
 
 use crate::tags::RandomTag;
@@ -11,9 +12,9 @@ use rp_json_entries::lists::list_value;
 use rp_json_entries::named::Named;
 use rp_json_entries::notation::Notation;
 use rp_json_entries::numbers::{Natural, Observation};
-use rp_json_entries::objects::{read_array, read_object};
+use rp_json_entries::objects::{put_entry, read_array, read_object};
 use rp_num::{NoMemory, Seq};
-use serde_json::{Map, Value, json, put};
+use serde_json::{Map, Value};
 use std::alloc::Global;
 
 /// A rational type with its weight; its patches are counted from 1.
@@ -27,10 +28,10 @@ impl Notation for TypeShare {
     ghost fits = { FitsShare };
 
     fn value(alloc: Global, entry: &Share) -> Result<Value, NoMemory> {
-        let patches = list_value::<Observation>(alloc, entry.patches.as_slice())?;
-        let weight = Natural::value(alloc, &entry.weight)?;
         let mut values = Vec::with_capacity(alloc, 2)?;
+        let patches = list_value::<Observation>(alloc, entry.patches.as_slice())?;
         values.push(patches)?;
+        let weight = Natural::value(alloc, &entry.weight)?;
         values.push(weight)?;
         Ok(Value::Array(values))
     }
@@ -47,58 +48,53 @@ impl Notation for TypeShare {
 pub fn random_value(alloc: Global, total: u64, evidence: &RandomPart) -> Result<Value, NoMemory>
     ensures { IfOk result (λ v. view v ≡ random_value total evidence.now) }
 {
-    let total = Natural::value(alloc, &total)?;
     match evidence {
         RandomPart::Mixture { den, parts } => {
-            let den = Natural::value(alloc, den)?;
-            let parts = list_value::<TypeShare>(alloc, parts.as_slice())?;
-            Ok(Value::Object(mixture_members(alloc, den, parts, total)?))
+            let members = mixture_members(alloc, *den, parts, total)?;
+            Ok(Value::Object(members))
         }
         RandomPart::Violated {
             den,
             parts,
             weights,
         } => {
-            let den = Natural::value(alloc, den)?;
-            let parts = list_value::<TypeShare>(alloc, parts.as_slice())?;
-            let weights = list_value::<Natural>(alloc, weights.as_slice())?;
-            let mut members = mixture_members(alloc, den, parts, total)?;
-            put(&mut members, alloc, "weights", weights)?;
+            let mut members = mixture_members(alloc, *den, parts, total)?;
+            put_entry::<Seq<Natural>>(&mut members, alloc, "weights", weights)?;
             Ok(Value::Object(members))
         }
-        RandomPart::Wide { step } => {
-            let step = Natural::value(alloc, step)?;
-            withheld_object(alloc, total, step)
-        }
+        RandomPart::Wide { step } => withheld_object(alloc, total, *step),
     }
 }
 
 /// The members of a mixture, which a violation has too.
 fn mixture_members(
     alloc: Global,
-    den: Value,
-    parts: Value,
-    total: Value,
+    den: u64,
+    parts: &Seq<Share>,
+    total: u64,
 ) -> Result<Map<String, Value>, NoMemory>
-    ensures { IfOk result (λ m. members_view m.entries ≡ member (codes "den") (view den)
-        (member (codes "item") (string (codes "random")) (member (codes "parts") (view parts)
-        (member (codes "total") (view total) no_members)))) }
+    ensures { IfOk result (λ m. members_view m.entries ≡ member (codes "den") (natural_value den)
+        (member (codes "item") (string (codes "random"))
+        (member (codes "parts") (list_value share_value parts.now)
+        (member (codes "total") (natural_value total) no_members)))) }
 {
     let mut members = Map::new(alloc);
-    let name = Value::try_from_str(alloc, "random")?;
-    put(&mut members, alloc, "den", den)?;
-    put(&mut members, alloc, "item", name)?;
-    put(&mut members, alloc, "parts", parts)?;
-    put(&mut members, alloc, "total", total)?;
+    put_entry::<Natural>(&mut members, alloc, "den", &den)?;
+    put_entry::<Named<RandomTag>>(&mut members, alloc, "item", &())?;
+    put_entry::<Seq<TypeShare>>(&mut members, alloc, "parts", parts)?;
+    put_entry::<Natural>(&mut members, alloc, "total", &total)?;
     Ok(members)
 }
 
 /// Makes the object of a verdict that is withheld.
-fn withheld_object(alloc: Global, total: Value, step: Value) -> Result<Value, NoMemory>
-    ensures { IfOk result (λ v. view v ≡ object (member (codes "item") (string (codes "random"))
-        (member (codes "total") (view total) (member (codes "withheld") (view step) no_members)))) }
+fn withheld_object(alloc: Global, total: u64, step: u64) -> Result<Value, NoMemory>
+    ensures { IfOk result (λ v. view v ≡ random_value total (RandomPart.Wide step)) }
 {
-    Ok(json!(in alloc; {"item": "random", "total": total, "withheld": step})?)
+    let mut members = Map::new(alloc);
+    put_entry::<Named<RandomTag>>(&mut members, alloc, "item", &())?;
+    put_entry::<Natural>(&mut members, alloc, "total", &total)?;
+    put_entry::<Natural>(&mut members, alloc, "withheld", &step)?;
+    Ok(Value::Object(members))
 }
 
 /// A verdict on random choices: the total and the evidence.

@@ -1,18 +1,19 @@
 ghost use Rattle.std.specs.Prelude.{◌≡◌, IfOk, codes};
 ghost use Rattle.serde_json.specs.Data.{Data, object, string, member, no_members};
 ghost use Rattle.serde_json.specs.View.{view, members_view};
+ghost use Rattle.rp_json_programs.specs.BoundValue.{bound_value};
 ghost use Rattle.rp_json_programs.specs.DemandValue.{welfare_value};
 ghost use Rattle.rp_json_programs.specs.Limits.{FitsWelfare};
 ghost use Rattle.rp_json_entries.specs.Reading.{IsRead};
+ghost use Rattle.rp_json_entries.specs.Values.{natural_value, naturals_value, observation_value};
 
-use crate::bounds::{AnyBound, bound_value};
+use crate::bounds::AnyBound;
 use crate::tags::WelfareTag;
 use rp_evidence::{Bound, WelfarePart};
 use rp_json_entries::lists::list_value;
 use rp_json_entries::named::Named;
-use rp_json_entries::notation::Notation;
 use rp_json_entries::numbers::{Natural, Observation, Price};
-use rp_json_entries::objects::read_object;
+use rp_json_entries::objects::{put_entry, read_object};
 use rp_num::{NoMemory, Seq};
 use serde_json::{Map, Value, put};
 use std::alloc::Global;
@@ -26,34 +27,25 @@ pub fn welfare_value(
 ) -> Result<Value, NoMemory>
     ensures { IfOk result (λ v. view v ≡ welfare_value prices.now of evidence.now) }
 {
-    let prices = list_value::<Price>(alloc, prices)?;
-    let observation = Observation::value(alloc, &of)?;
     match evidence {
         WelfarePart::Bounds { upper, at, lower } => {
-            let upper = Natural::value(alloc, upper)?;
-            let at = Observation::value(alloc, at)?;
-            let lower = bound_value(alloc, lower)?;
-            let members = first_members(alloc, at, lower)?;
-            bounds_object(alloc, members, observation, prices, upper)
+            let members = first_members(alloc, *at, lower)?;
+            bounds_object(alloc, members, of, prices, *upper)
         }
-        WelfarePart::NoModel(cycle) => {
-            let cycle = list_value::<Observation>(alloc, cycle.as_slice())?;
-            cycle_object(alloc, cycle, observation, prices)
-        }
+        WelfarePart::NoModel(cycle) => cycle_object(alloc, cycle, of, prices),
     }
 }
 
 /// The first members of the object of bounds.
-fn first_members(alloc: Global, at: Value, lower: Value) -> Result<Map<String, Value>, NoMemory>
-    ensures { IfOk result (λ m. members_view m.entries ≡ member (codes "at") (view at)
+fn first_members(alloc: Global, at: u32, lower: &Bound) -> Result<Map<String, Value>, NoMemory>
+    ensures { IfOk result (λ m. members_view m.entries ≡ member (codes "at") (observation_value at)
         (member (codes "item") (string (codes "welfare"))
-        (member (codes "lower") (view lower) no_members))) }
+        (member (codes "lower") (bound_value lower.now) no_members))) }
 {
     let mut members = Map::new(alloc);
-    let name = Value::try_from_str(alloc, "welfare")?;
-    put(&mut members, alloc, "at", at)?;
-    put(&mut members, alloc, "item", name)?;
-    put(&mut members, alloc, "lower", lower)?;
+    put_entry::<Observation>(&mut members, alloc, "at", &at)?;
+    put_entry::<Named<WelfareTag>>(&mut members, alloc, "item", &())?;
+    put_entry::<AnyBound>(&mut members, alloc, "lower", lower)?;
     Ok(members)
 }
 
@@ -61,41 +53,36 @@ fn first_members(alloc: Global, at: Value, lower: Value) -> Result<Map<String, V
 fn bounds_object(
     alloc: Global,
     first: Map<String, Value>,
-    observation: Value,
-    prices: Value,
-    upper: Value,
+    of: u32,
+    prices: &[u32],
+    upper: u64,
 ) -> Result<Value, NoMemory>
     ensures { (at lower : Data) → members_view first.entries ≡ member (codes "at") at
         (member (codes "item") (string (codes "welfare")) (member (codes "lower") lower no_members))
         → IfOk result (λ v. view v ≡ object (member (codes "at") at
         (member (codes "item") (string (codes "welfare")) (member (codes "lower") lower
-        (member (codes "observation") (view observation) (member (codes "prices") (view prices)
-        (member (codes "upper") (view upper) no_members))))))) }
+        (member (codes "observation") (observation_value of)
+        (member (codes "prices") (naturals_value prices.now)
+        (member (codes "upper") (natural_value upper) no_members))))))) }
 {
     let mut members = first;
-    put(&mut members, alloc, "observation", observation)?;
+    put_entry::<Observation>(&mut members, alloc, "observation", &of)?;
+    let prices = list_value::<Price>(alloc, prices)?;
     put(&mut members, alloc, "prices", prices)?;
-    put(&mut members, alloc, "upper", upper)?;
+    put_entry::<Natural>(&mut members, alloc, "upper", &upper)?;
     Ok(Value::Object(members))
 }
 
 /// Makes the object of a violation.
-fn cycle_object(
-    alloc: Global,
-    cycle: Value,
-    observation: Value,
-    prices: Value,
-) -> Result<Value, NoMemory>
-    ensures { IfOk result (λ v. view v ≡ object (member (codes "cycle") (view cycle)
-        (member (codes "item") (string (codes "welfare"))
-        (member (codes "observation") (view observation)
-        (member (codes "prices") (view prices) no_members))))) }
+fn cycle_object(alloc: Global, cycle: &Seq<u32>, of: u32, prices: &[u32]) -> Result<Value, NoMemory>
+    ensures { IfOk result (λ v. view v
+        ≡ welfare_value prices.now of (WelfarePart.NoModel cycle.now)) }
 {
     let mut members = Map::new(alloc);
-    let name = Value::try_from_str(alloc, "welfare")?;
-    put(&mut members, alloc, "cycle", cycle)?;
-    put(&mut members, alloc, "item", name)?;
-    put(&mut members, alloc, "observation", observation)?;
+    put_entry::<Seq<Observation>>(&mut members, alloc, "cycle", cycle)?;
+    put_entry::<Named<WelfareTag>>(&mut members, alloc, "item", &())?;
+    put_entry::<Observation>(&mut members, alloc, "observation", &of)?;
+    let prices = list_value::<Price>(alloc, prices)?;
     put(&mut members, alloc, "prices", prices)?;
     Ok(Value::Object(members))
 }

@@ -1,5 +1,4 @@
-ghost use Rattle.std.specs.Prelude.{◌≡◌, IfOk, codes};
-ghost use Rattle.serde_json.specs.Data.{object, string, member, no_members};
+ghost use Rattle.std.specs.Prelude.{◌≡◌, IfOk};
 ghost use Rattle.serde_json.specs.View.{view};
 ghost use Rattle.rp_json_tests.specs.AfriatValue.{afriat_value};
 ghost use Rattle.rp_json_tests.specs.Limits.{FitsAfriat};
@@ -7,13 +6,11 @@ ghost use Rattle.rp_json_entries.specs.Reading.{IsRead};
 
 use crate::tags::AfriatTag;
 use rp_evidence::{AfriatPart, Numbers};
-use rp_json_entries::lists::list_value;
 use rp_json_entries::named::Named;
-use rp_json_entries::notation::Notation;
 use rp_json_entries::numbers::{Natural, Observation, Signed};
-use rp_json_entries::objects::read_object;
+use rp_json_entries::objects::{put_entry, read_object};
 use rp_num::{NoMemory, Seq};
-use serde_json::{Value, json};
+use serde_json::{Map, Value};
 use std::alloc::Global;
 
 /// Makes the value of evidence by Afriat's theorem.
@@ -21,48 +18,41 @@ pub fn afriat_value(alloc: Global, evidence: &AfriatPart) -> Result<Value, NoMem
     ensures { IfOk result (λ v. view v ≡ afriat_value evidence.now) }
 {
     match evidence {
-        AfriatPart::Model(numbers) => {
-            let lambda = list_value::<Natural>(alloc, numbers.lambda.as_slice())?;
-            let utility = list_value::<Signed>(alloc, numbers.u.as_slice())?;
-            model_object(alloc, lambda, utility)
-        }
-        AfriatPart::NoModel(cycle) => {
-            let cycle = list_value::<Observation>(alloc, cycle.as_slice())?;
-            cycle_object(alloc, cycle)
-        }
-        AfriatPart::Wide { at } => {
-            let at = Observation::value(alloc, at)?;
-            withheld_object(alloc, at)
-        }
+        AfriatPart::Model(numbers) => model_object(alloc, numbers),
+        AfriatPart::NoModel(cycle) => cycle_object(alloc, cycle),
+        AfriatPart::Wide { at } => withheld_object(alloc, *at),
     }
 }
 
 /// Makes the object of the numbers of a model.
-fn model_object(alloc: Global, lambda: Value, utility: Value) -> Result<Value, NoMemory>
-    ensures { IfOk result (λ v. view v ≡ object
-        (member (codes "item") (string (codes "afriat"))
-        (member (codes "lambda") (view lambda)
-        (member (codes "utility") (view utility) no_members)))) }
+fn model_object(alloc: Global, numbers: &Numbers) -> Result<Value, NoMemory>
+    ensures { IfOk result (λ v. view v ≡ afriat_value (AfriatPart.Model numbers.now)) }
 {
-    Ok(json!(in alloc; {"item": "afriat", "lambda": lambda, "utility": utility})?)
+    let mut members = Map::new(alloc);
+    put_entry::<Named<AfriatTag>>(&mut members, alloc, "item", &())?;
+    put_entry::<Seq<Natural>>(&mut members, alloc, "lambda", &numbers.lambda)?;
+    put_entry::<Seq<Signed>>(&mut members, alloc, "utility", &numbers.u)?;
+    Ok(Value::Object(members))
 }
 
 /// Makes the object of a violation.
-fn cycle_object(alloc: Global, cycle: Value) -> Result<Value, NoMemory>
-    ensures { IfOk result (λ v. view v ≡ object
-        (member (codes "cycle") (view cycle)
-        (member (codes "item") (string (codes "afriat")) no_members))) }
+fn cycle_object(alloc: Global, cycle: &Seq<u32>) -> Result<Value, NoMemory>
+    ensures { IfOk result (λ v. view v ≡ afriat_value (AfriatPart.NoModel cycle.now)) }
 {
-    Ok(json!(in alloc; {"cycle": cycle, "item": "afriat"})?)
+    let mut members = Map::new(alloc);
+    put_entry::<Seq<Observation>>(&mut members, alloc, "cycle", cycle)?;
+    put_entry::<Named<AfriatTag>>(&mut members, alloc, "item", &())?;
+    Ok(Value::Object(members))
 }
 
 /// Makes the object of the place at which the numbers pass their width.
-fn withheld_object(alloc: Global, at: Value) -> Result<Value, NoMemory>
-    ensures { IfOk result (λ v. view v ≡ object
-        (member (codes "item") (string (codes "afriat"))
-        (member (codes "withheld") (view at) no_members))) }
+fn withheld_object(alloc: Global, at: u32) -> Result<Value, NoMemory>
+    ensures { IfOk result (λ v. view v ≡ afriat_value (AfriatPart.Wide at)) }
 {
-    Ok(json!(in alloc; {"item": "afriat", "withheld": at})?)
+    let mut members = Map::new(alloc);
+    put_entry::<Named<AfriatTag>>(&mut members, alloc, "item", &())?;
+    put_entry::<Observation>(&mut members, alloc, "withheld", &at)?;
+    Ok(Value::Object(members))
 }
 
 /// The evidence by Afriat's theorem that has this value.

@@ -1,5 +1,4 @@
-ghost use Rattle.std.specs.Prelude.{◌≡◌, IfOk, IfSome, None, OnOk, codes};
-ghost use Rattle.serde_json.specs.Data.{string, member, no_members};
+ghost use Rattle.std.specs.Prelude.{◌≡◌, IfOk, IfSome, None, OnOk};
 ghost use Rattle.serde_json.specs.View.{view, members_view};
 ghost use Rattle.rp_json_tests.specs.EfficiencyValue.{at_members, below_members};
 ghost use Rattle.rp_json_tests.specs.EfficiencyValue.{efficiency_value, level_value};
@@ -9,13 +8,12 @@ ghost use Rattle.rp_evidence.specs.declared.efficiency.Efficiency.{Efficiency};
 
 use crate::tags::EfficiencyTag;
 use rp_evidence::{Efficiency, Garp, Level};
-use rp_json_entries::lists::list_value;
 use rp_json_entries::named::Named;
 use rp_json_entries::notation::Notation;
 use rp_json_entries::numbers::{Count, Fraction, Observation, fraction_value};
-use rp_json_entries::objects::read_object;
+use rp_json_entries::objects::{put_entry, read_object};
 use rp_num::{Frac, NoMemory, Seq};
-use serde_json::{Map, Value, put};
+use serde_json::{Map, Value};
 use std::alloc::Global;
 
 /// Makes the value of an efficiency index with its evidence.
@@ -24,8 +22,7 @@ pub fn efficiency_value(alloc: Global, evidence: &Efficiency) -> Result<Value, N
 {
     let mut members = below(alloc, evidence)?;
     put_at(alloc, &mut members, &evidence.at)?;
-    let above = list_value::<Observation>(alloc, evidence.above.as_slice())?;
-    put(&mut members, alloc, "above", above)?;
+    put_entry::<Seq<Observation>>(&mut members, alloc, "above", &evidence.above)?;
     Ok(Value::Object(members))
 }
 
@@ -36,38 +33,19 @@ fn put_at(alloc: Global, members: &mut Map<String, Value>, at: &Garp) -> Result<
         → members_view members.new.entries ≡ at_members at.now (below_members evidence)) }
 {
     match at {
-        Garp::Ranks(ranks) => {
-            let ranks = list_value::<Count>(alloc, ranks.as_slice())?;
-            put(members, alloc, "at_ranks", ranks)?;
-        }
-        Garp::Cycle(cycle) => {
-            let cycle = list_value::<Observation>(alloc, cycle.as_slice())?;
-            put(members, alloc, "at_cycle", cycle)?;
-        }
+        Garp::Ranks(ranks) => put_entry::<Seq<Count>>(members, alloc, "at_ranks", ranks),
+        Garp::Cycle(cycle) => put_entry::<Seq<Observation>>(members, alloc, "at_cycle", cycle),
     }
-    Ok(())
 }
 
 /// The members that come after the evidence at the index.
 fn below(alloc: Global, evidence: &Efficiency) -> Result<Map<String, Value>, NoMemory>
     ensures { IfOk result (λ m. members_view m.entries ≡ below_members evidence.now) }
 {
-    let below = list_value::<Count>(alloc, evidence.below.as_slice())?;
-    let level = level_value(alloc, evidence.level)?;
-    below_object(alloc, below, level)
-}
-
-/// These members of these values.
-fn below_object(alloc: Global, below: Value, level: Value) -> Result<Map<String, Value>, NoMemory>
-    ensures { IfOk result (λ m. members_view m.entries ≡
-        member (codes "below") (view below) (member (codes "item") (string (codes "efficiency"))
-        (member (codes "level") (view level) no_members))) }
-{
     let mut members = Map::new(alloc);
-    let name = Value::try_from_str(alloc, "efficiency")?;
-    put(&mut members, alloc, "below", below)?;
-    put(&mut members, alloc, "item", name)?;
-    put(&mut members, alloc, "level", level)?;
+    put_entry::<Seq<Count>>(&mut members, alloc, "below", &evidence.below)?;
+    put_entry::<Named<EfficiencyTag>>(&mut members, alloc, "item", &())?;
+    put_entry::<LevelText>(&mut members, alloc, "level", &evidence.level)?;
     Ok(members)
 }
 

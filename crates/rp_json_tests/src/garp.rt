@@ -6,12 +6,11 @@ ghost use Rattle.rp_json_entries.specs.Reading.{IsRead};
 
 use crate::tags::GarpTag;
 use rp_evidence::Garp;
-use rp_json_entries::lists::list_value;
 use rp_json_entries::named::Named;
 use rp_json_entries::numbers::{Count, Observation};
-use rp_json_entries::objects::read_object;
+use rp_json_entries::objects::{put_entry, read_object};
 use rp_num::{NoMemory, Seq};
-use serde_json::{Value, json};
+use serde_json::{Map, Value};
 use std::alloc::Global;
 
 /// Makes the value of a verdict on the generalized axiom of revealed preference.
@@ -20,12 +19,16 @@ pub fn garp_value(alloc: Global, evidence: &Garp) -> Result<Value, NoMemory>
 {
     match evidence {
         Garp::Ranks(ranks) => {
-            let ranks = list_value::<Count>(alloc, ranks.as_slice())?;
-            Ok(json!(in alloc; {"item": "garp", "ranks": ranks})?)
+            let mut members = Map::new(alloc);
+            put_entry::<Named<GarpTag>>(&mut members, alloc, "item", &())?;
+            put_entry::<Seq<Count>>(&mut members, alloc, "ranks", ranks)?;
+            Ok(Value::Object(members))
         }
         Garp::Cycle(cycle) => {
-            let cycle = list_value::<Observation>(alloc, cycle.as_slice())?;
-            Ok(json!(in alloc; {"cycle": cycle, "item": "garp"})?)
+            let mut members = Map::new(alloc);
+            put_entry::<Seq<Observation>>(&mut members, alloc, "cycle", cycle)?;
+            put_entry::<Named<GarpTag>>(&mut members, alloc, "item", &())?;
+            Ok(Value::Object(members))
         }
     }
 }

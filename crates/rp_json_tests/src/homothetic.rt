@@ -1,5 +1,4 @@
-ghost use Rattle.std.specs.Prelude.{◌≡◌, IfOk, codes};
-ghost use Rattle.serde_json.specs.Data.{array, object, string, item, no_items, member, no_members};
+ghost use Rattle.std.specs.Prelude.{◌≡◌, IfOk};
 ghost use Rattle.serde_json.specs.View.{view};
 ghost use Rattle.rp_json_tests.specs.HomotheticValue.{homothetic_value, place_value};
 ghost use Rattle.rp_json_tests.specs.Limits.{FitsHomothetic};
@@ -7,13 +6,12 @@ ghost use Rattle.rp_json_entries.specs.Reading.{FitsCount, FitsObservation, IsRe
 
 use crate::tags::HomotheticTag;
 use rp_evidence::Homothetic;
-use rp_json_entries::lists::list_value;
 use rp_json_entries::named::Named;
 use rp_json_entries::notation::Notation;
 use rp_json_entries::numbers::{Count, Fraction, Observation};
-use rp_json_entries::objects::{read_array, read_object};
+use rp_json_entries::objects::{put_entry, read_array, read_object};
 use rp_num::{Frac, NoMemory, Seq};
-use serde_json::{Value, json};
+use serde_json::{Map, Value};
 use std::alloc::Global;
 
 /// Makes the value of a verdict of the homothetic test.
@@ -21,61 +19,54 @@ pub fn homothetic_value(alloc: Global, evidence: &Homothetic) -> Result<Value, N
     ensures { IfOk result (λ v. view v ≡ homothetic_value evidence.now) }
 {
     match evidence {
-        Homothetic::Values(values) => {
-            let values = list_value::<Fraction>(alloc, values.as_slice())?;
-            values_object(alloc, values)
-        }
-        Homothetic::Cycle { start, steps } => {
-            let cycle = list_value::<Observation>(alloc, steps.as_slice())?;
-            let start = Fraction::value(alloc, start)?;
-            cycle_object(alloc, cycle, start)
-        }
-        Homothetic::Withheld { steps, from, to } => {
-            let steps = Count::value(alloc, steps)?;
-            let from = Observation::value(alloc, from)?;
-            let to = Observation::value(alloc, to)?;
-            let place = place_array(alloc, steps, from, to)?;
-            withheld_object(alloc, place)
-        }
+        Homothetic::Values(values) => values_object(alloc, values),
+        Homothetic::Cycle { start, steps } => cycle_object(alloc, steps, start),
+        Homothetic::Withheld { steps, from, to } => withheld_object(alloc, *steps, *from, *to),
     }
 }
 
 /// Makes the object of values.
-fn values_object(alloc: Global, values: Value) -> Result<Value, NoMemory>
-    ensures { IfOk result (λ v. view v ≡ object
-        (member (codes "item") (string (codes "homothetic"))
-        (member (codes "values") (view values) no_members))) }
+fn values_object(alloc: Global, values: &Seq<Frac>) -> Result<Value, NoMemory>
+    ensures { IfOk result (λ v. view v ≡ homothetic_value (Homothetic.Values values.now)) }
 {
-    Ok(json!(in alloc; {"item": "homothetic", "values": values})?)
+    let mut members = Map::new(alloc);
+    put_entry::<Named<HomotheticTag>>(&mut members, alloc, "item", &())?;
+    put_entry::<Seq<Fraction>>(&mut members, alloc, "values", values)?;
+    Ok(Value::Object(members))
 }
 
 /// Makes the object of a cycle and its start.
-fn cycle_object(alloc: Global, cycle: Value, start: Value) -> Result<Value, NoMemory>
-    ensures { IfOk result (λ v. view v ≡ object
-        (member (codes "cycle") (view cycle)
-        (member (codes "item") (string (codes "homothetic"))
-        (member (codes "start") (view start) no_members)))) }
+fn cycle_object(alloc: Global, steps: &Seq<u32>, start: &Frac) -> Result<Value, NoMemory>
+    ensures { IfOk result (λ v. view v
+        ≡ homothetic_value (Homothetic.Cycle start.now steps.now)) }
 {
-    Ok(json!(in alloc; {"cycle": cycle, "item": "homothetic", "start": start})?)
+    let mut members = Map::new(alloc);
+    put_entry::<Seq<Observation>>(&mut members, alloc, "cycle", steps)?;
+    put_entry::<Named<HomotheticTag>>(&mut members, alloc, "item", &())?;
+    put_entry::<Fraction>(&mut members, alloc, "start", start)?;
+    Ok(Value::Object(members))
 }
 
 /// Makes the object of the place of a product that is too wide.
-fn withheld_object(alloc: Global, place: Value) -> Result<Value, NoMemory>
-    ensures { IfOk result (λ v. view v ≡ object
-        (member (codes "item") (string (codes "homothetic"))
-        (member (codes "withheld") (view place) no_members))) }
+fn withheld_object(alloc: Global, steps: u32, from: u32, to: u32) -> Result<Value, NoMemory>
+    ensures { IfOk result (λ v. view v ≡ homothetic_value (Homothetic.Withheld steps from to)) }
 {
-    Ok(json!(in alloc; {"item": "homothetic", "withheld": place})?)
+    let mut members = Map::new(alloc);
+    put_entry::<Named<HomotheticTag>>(&mut members, alloc, "item", &())?;
+    put_entry::<Place>(&mut members, alloc, "withheld", &(steps, from, to))?;
+    Ok(Value::Object(members))
 }
 
 /// Makes the array of a number of steps and of the observations from and to which the next goes.
-fn place_array(alloc: Global, steps: Value, from: Value, to: Value) -> Result<Value, NoMemory>
-    ensures { IfOk result (λ v. view v ≡ array
-        (item (view steps) (item (view from) (item (view to) no_items)))) }
+fn place_array(alloc: Global, steps: u32, from: u32, to: u32) -> Result<Value, NoMemory>
+    ensures { IfOk result (λ v. view v ≡ place_value steps from to) }
 {
     let mut place = Vec::with_capacity(alloc, 3)?;
+    let steps = Count::value(alloc, &steps)?;
     place.push(steps)?;
+    let from = Observation::value(alloc, &from)?;
     place.push(from)?;
+    let to = Observation::value(alloc, &to)?;
     place.push(to)?;
     Ok(Value::Array(place))
 }
@@ -120,10 +111,7 @@ impl Notation for Place {
     ghost fits = { λ p. FitsCount p.0 × FitsObservation p.1 × FitsObservation p.2 };
 
     fn value(alloc: Global, entry: &(u32, u32, u32)) -> Result<Value, NoMemory> {
-        let steps = Count::value(alloc, &entry.0)?;
-        let from = Observation::value(alloc, &entry.1)?;
-        let to = Observation::value(alloc, &entry.2)?;
-        place_array(alloc, steps, from, to)
+        place_array(alloc, entry.0, entry.1, entry.2)
     }
 
     fn read(alloc: Global, value: &Value) -> Result<Option<(u32, u32, u32)>, NoMemory> {

@@ -6,12 +6,11 @@ ghost use Rattle.rp_json_entries.specs.Reading.{IsRead};
 
 use crate::tags::QuasilinearTag;
 use rp_evidence::Quasi;
-use rp_json_entries::lists::list_value;
 use rp_json_entries::named::Named;
 use rp_json_entries::numbers::{Observation, Signed};
-use rp_json_entries::objects::read_object;
+use rp_json_entries::objects::{put_entry, read_object};
 use rp_num::{NoMemory, Seq};
-use serde_json::{Value, json};
+use serde_json::{Map, Value};
 use std::alloc::Global;
 
 /// Makes the value of a verdict of the quasilinear test.
@@ -20,12 +19,16 @@ pub fn quasilinear_value(alloc: Global, evidence: &Quasi) -> Result<Value, NoMem
 {
     match evidence {
         Quasi::Values(values) => {
-            let values = list_value::<Signed>(alloc, values.as_slice())?;
-            Ok(json!(in alloc; {"item": "quasilinear", "values": values})?)
+            let mut members = Map::new(alloc);
+            put_entry::<Named<QuasilinearTag>>(&mut members, alloc, "item", &())?;
+            put_entry::<Seq<Signed>>(&mut members, alloc, "values", values)?;
+            Ok(Value::Object(members))
         }
         Quasi::Cycle(cycle) => {
-            let cycle = list_value::<Observation>(alloc, cycle.as_slice())?;
-            Ok(json!(in alloc; {"cycle": cycle, "item": "quasilinear"})?)
+            let mut members = Map::new(alloc);
+            put_entry::<Seq<Observation>>(&mut members, alloc, "cycle", cycle)?;
+            put_entry::<Named<QuasilinearTag>>(&mut members, alloc, "item", &())?;
+            Ok(Value::Object(members))
         }
     }
 }
