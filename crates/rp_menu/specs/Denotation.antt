@@ -1,6 +1,6 @@
 -- What a file of choices from menus denotes: its menus, or the first fault of the earliest stage that finds one (this
 -- project's own order of stages).
-use Rattle.std.specs.Prelude.{◌≡◌, ◌≢◌, ℕ, ◌+◌, ◌==◌, ◌&&◌, Bool, false, true, not, nat_lt}
+use Rattle.std.specs.Prelude.{◌≡◌, ◌≢◌, ℕ, ◌+◌, ◌&&◌, Bool, false, true, not, nat_lt}
 use Rattle.std.specs.Prelude.{if◌then◌else◌, List, [], ◌∷◌}
 use Rattle.std.specs.Prelude.{codes, length, slice_index, Option, None, Some, Result, Ok, Err, IfErr}
 use Rattle.std.specs.Option.{option_map, option_or}

@@ -1,21 +1,18 @@
-ghost use Rattle.std.specs.Prelude.{◌≡◌, ◌+◌, ◌<◌, ◌&&◌, None, IfOk, length, nat_lt};
-ghost use Rattle.std.specs.Prelude.{slice_index_or};
+ghost use Rattle.std.specs.Prelude.{◌≡◌, ◌&&◌, length, nat_lt, slice_index_or};
 ghost use Rattle.rp_num.specs.Below.{any_below};
 ghost use Rattle.rp_forms.specs.Texts.{trimmed};
 ghost use Rattle.rp_forms.specs.Columns.{role_at, measures};
 ghost use Rattle.rp_num.specs.Decimal.{decimal_of};
 ghost use Rattle.rp_sheet.specs.Fields as Fields;
-ghost use Rattle.rp_sheet.specs.Fields.{nothing, field_of, field_at, figures_of, fields_stage};
-ghost use Rattle.rp_sheet.specs.Refusals.{RefusedAt};
+ghost use Rattle.rp_sheet.specs.Fields.{nothing, field_of};
 
 use crate::TableFault;
 use crate::columns::Columns;
-use crate::record_kind::{RecordKind, read_records};
+use crate::record_kind::RecordKind;
 use crate::records::Records;
 use rp_forms::{Role, number_of, trimmed};
-use rp_num::{Decimal, NumFault, Seq, read_decimal};
+use rp_num::{Decimal, NumFault, read_decimal};
 use rp_table::LEVEL_SCALE;
-use std::alloc::Global;
 
 /// What a field says in a column of that role: a number, or 0 where the fields are texts. `budgets` is how many there
 /// are.
@@ -142,24 +139,6 @@ impl RecordKind for NumberRecord {
         }
         Ok(())
     }
-}
-
-/// The numbers of all records after the headers.
-#[tactic(auto, unfolding(crate::specs::Fields::fields_stage, crate::specs::Fields::record_fault))]
-pub fn read_figures(
-    alloc: Global,
-    columns: &Columns<'_>,
-    records: &Records,
-) -> Result<Vec<Seq<Decimal>>, TableFault>
-    requires { 0 < length records.now }
-    ensures read { IfOk result (λ rows. rows.items ≡ figures_of columns.now.form
-        columns.now.headers records.now) }
-    ensures faultless { IfOk result (λ _. fields_stage columns.now.form columns.now.headers
-        records.now ≡ None) }
-    ensures refused { RefusedAt result (fields_stage columns.now.form columns.now.headers
-        records.now) }
-{
-    read_records::<NumberRecord>(alloc, columns, records)
 }
 
 /// Whether some column says how much is bought, and each says 0.

@@ -1,7 +1,6 @@
 use Rattle.std.proofs.Common.{◌≡◌, ◌≢◌, ◌<◌, length, Some, sym, arith}
 use Rattle.rp_num.specs.Below.{first_of}
-use Rattle.rp_num.proofs.BelowLemmas.{first_at, none_so_far, listed-more}
-use Rattle.rp_sheet.specs.Fields.{figure}
+use Rattle.rp_num.proofs.BelowLemmas.{first_at}
 use Rattle.rp_sheet.specs.declared.fault.TableFault.TheVariants as fault
 use Rattle.rp_sheet.proofs.PassedOn.{passed_on}
 use Rattle.rp_sheet.proofs.record_kind.read_fields.Goals as goal

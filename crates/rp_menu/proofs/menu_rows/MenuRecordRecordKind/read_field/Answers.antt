@@ -1,4 +1,4 @@
-use Rattle.std.proofs.Common.{◌≡◌, true, false, sym, ap, ◌∙◌}
+use Rattle.std.proofs.Common.{true, false, sym, ap, ◌∙◌}
 use Rattle.rp_sheet.specs.Fields.{row_at}
 use Rattle.rp_forms.specs.Texts.{text_at}
 use Rattle.rp_forms.specs.declared.form.Role.{Role}

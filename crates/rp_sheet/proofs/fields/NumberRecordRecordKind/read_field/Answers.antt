@@ -2,7 +2,7 @@ use Rattle.std.proofs.Common.{sym, ap, ◌∙◌}
 use Rattle.std.specs.Result.{result_err}
 use Rattle.rp_forms.specs.Texts.{trimmed}
 use Rattle.rp_forms.specs.declared.form.Form.{Form}
-use Rattle.rp_sheet.specs.Fields.{field_at, field_of}
+use Rattle.rp_sheet.specs.Fields.{field_of}
 use Rattle.rp_sheet.proofs.FieldFaults.{field_read, number_read}
 use Rattle.rp_sheet.proofs.fields.NumberRecordRecordKind.read_field.Goals as goal
 
