@@ -35,6 +35,7 @@ impl RecordKind for MenuRecord {
         Ok(number)
     }
 
+    #[tactic(auto, unfolding(crate::specs::Denotation::choice_fault))]
     fn check_rest(
         columns: &Columns<'_>,
         records: &Records,

@@ -99,7 +99,7 @@ fn from_one(
     }
 }
 
-/// Records of numbers and of texts that say nothing, by which something is bought.
+/// Records of numbers, by each of which something is bought where a column says how much.
 pub struct NumberRecord;
 
 impl RecordKind for NumberRecord {
