@@ -2,14 +2,14 @@
 use Rattle.std.proofs.Common.{◌≡◌, ℕ, ◌<◌, ◌≤◌, ◌==◌, Bool, true, false, nat_lt, List, [], ◌∷◌, length, Option, Some, None, refl, subst, arith, if◌then◌else◌}
 use Rattle.std.proofs.lemmas.Bool.Decides.{nat_tests}
 use Rattle.rp_num.specs.declared.decimal.Decimal.{Decimal}
-use Rattle.rp_sheet.specs.Fields.{count_stage, figures_of, rows_in}
+use Rattle.rp_sheet.specs.Fields.{count_stage, fault_in_records, figures_of, rows_in}
 use Rattle.rp_forms.specs.Forms.{menus_form}
 use Rattle.rp_sheet.specs.Headers.{goods_stage, headers_of, headers_stage}
 use Rattle.rp_sheet.specs.Sizes.{sizes_stage}
 use Rattle.rp_sheet.specs.declared.fault.TableFault.{TableFault}
 use Rattle.rp_sheet.specs.declared.fault.TableFault.TheVariants as table_fault
 use Rattle.rp_forms.specs.declared.form.Form.{Form}
-use Rattle.rp_menu.specs.Denotation.{menu_rows_stage, fault_under, sheet_fault, told}
+use Rattle.rp_menu.specs.Denotation.{menu_faults, menu_row_fault, menu_rows_stage, fault_under, sheet_fault, told}
 use Rattle.rp_menu.specs.declared.fault.MenuFault.{MenuFault}
 use Rattle.rp_menu.specs.declared.fault.MenuFault.TheVariants as fault
 
@@ -61,11 +61,17 @@ pub goods_as : (form : Form) (headers : List (List ℕ)) (records : List (List (
 goods_as form headers records o is headed told_is =
     subst (λ (f : Form). goods_stage f [] (headers_of records) ≡ o) is (subst (λ (h : List (List ℕ)). goods_stage form [] h ≡ o) headed told_is)
 
+pub menu_rows_as : (form : Form) (headers : List (List ℕ)) (records : List (List (List ℕ))) (o : Option MenuFault) → form ≡ menus_form → headers ≡ headers_of records
+    → fault_in_records menu_faults form headers records ≡ o → menu_rows_stage (headers_of records) records ≡ o
+unfolding menu_rows_stage menu_row_fault
+menu_rows_as form headers records o is headed told_is =
+    subst (λ (f : Form). fault_in_records menu_faults f (headers_of records) records ≡ o) is (subst (λ (h : List (List ℕ)). fault_in_records menu_faults form h records ≡ o) headed told_is)
+
 pub sizes_as : (form : Form) (headers : List (List ℕ)) (records : List (List (List ℕ))) (figures : List (List Decimal)) (o : Option TableFault) → form ≡ menus_form → headers ≡ headers_of records
-    → figures ≡ figures_of menus_form headers records → sizes_stage form headers figures ≡ o → sizes_stage menus_form (headers_of records) (figures_of menus_form (headers_of records) records) ≡ o
+    → figures ≡ figures_of form headers records → sizes_stage form headers figures ≡ o → sizes_stage menus_form (headers_of records) (figures_of menus_form (headers_of records) records) ≡ o
 sizes_as form headers records figures o is headed read told_is =
-    subst (λ (f : Form). sizes_stage f (headers_of records) (figures_of menus_form (headers_of records) records) ≡ o) is
-    (subst (λ (h : List (List ℕ)). sizes_stage form h (figures_of menus_form h records) ≡ o) headed
+    subst (λ (f : Form). sizes_stage f (headers_of records) (figures_of f (headers_of records) records) ≡ o) is
+    (subst (λ (h : List (List ℕ)). sizes_stage form h (figures_of form h records) ≡ o) headed
     (subst (λ (fs : List (List Decimal)). sizes_stage form headers fs ≡ o) read told_is))
 
 few_test : (n : ℕ) → nat_lt 4096 n ≡ false → n ≤ 4096

@@ -189,10 +189,10 @@ module _ (headers : List (List ℕ)) (records : List (List (List ℕ))) (fine : 
   unfolding headers_stage
   taken_at c inside = role_taken (role_of Goods (text_at headers c)) (header_taken headers c (none_below (header_fault menus_form headers) (length headers) c fine inside))
 
-  column_named : (t c : ℕ) → c < length headers → IsNamed (column_fault headers records t c)
+  column_named : (t c : ℕ) → c < length headers → IsNamed (column_fault menus_form headers records t c)
   unfolding column_fault field_at
   column_named t c inside =
-      either (option_map told (result_err (field_at menus_form headers records t c))) (menu_fault headers records t c)
+      either (option_map told (result_err (field_at menus_form headers records t c))) (menu_fault menus_form headers records t c)
       (field_named (role_at Goods headers c) (trimmed (text_at (row_at records t) c)) (number_of t) (number_of c) (taken_at c inside))
       (λ _. by (lacks_menu (role_at Goods headers c) (text_at (row_at records t) c)))
     where
@@ -204,9 +204,9 @@ module _ (headers : List (List ℕ)) (records : List (List (List ℕ))) (fine : 
   unfolding menu_row_fault
   menu_row_named t = by (length (row_at records t) == length headers)
     where
-      by : (b : Bool) → IsNamed (if not b then Some (fault.Ragged (number_of t)) else option_or (first_of (length headers) (column_fault headers records t)) (choice_fault headers records t))
-      by true = either (first_of (length headers) (column_fault headers records t)) (choice_fault headers records t)
-          (of_first (length headers) (column_fault headers records t) (column_named t)) (λ _. choice_named headers records t)
+      by : (b : Bool) → IsNamed (if not b then Some (fault.Ragged (number_of t)) else option_or (first_of (length headers) (column_fault menus_form headers records t)) (choice_fault headers records t))
+      by true = either (first_of (length headers) (column_fault menus_form headers records t)) (choice_fault headers records t)
+          (of_first (length headers) (column_fault menus_form headers records t) (column_named t)) (λ _. choice_named headers records t)
       by false = λ same. cc same
 
   menu_rows_named : IsNamed (menu_rows_stage headers records)

@@ -52,16 +52,16 @@ is_chosen false f e = cc e
 
 -- what a record without a fault passed
 pub passed_record : (headers : List (List ℕ)) (records : List (List (List ℕ))) (t : ℕ) → menu_row_fault headers records t ≡ None
-    → (first_of (length headers) (column_fault headers records t) ≡ None) × (choice_fault headers records t ≡ None)
+    → (first_of (length headers) (column_fault menus_form headers records t) ≡ None) × (choice_fault headers records t ≡ None)
 unfolding menu_row_fault
 passed_record headers records t fine =
-    none_or (first_of (length headers) (column_fault headers records t)) (choice_fault headers records t)
+    none_or (first_of (length headers) (column_fault menus_form headers records t)) (choice_fault headers records t)
     (whole_record (length (row_at records t) == length headers) (fault.Ragged (number_of t)) _ fine)
 
-pub passed_column : (headers : List (List ℕ)) (records : List (List (List ℕ))) (t c : ℕ) → column_fault headers records t c ≡ None
-    → (option_map told (result_err (field_at menus_form headers records t c)) ≡ None) × (menu_fault headers records t c ≡ None)
+pub passed_column : (headers : List (List ℕ)) (records : List (List (List ℕ))) (t c : ℕ) → column_fault menus_form headers records t c ≡ None
+    → (option_map told (result_err (field_at menus_form headers records t c)) ≡ None) × (menu_fault menus_form headers records t c ≡ None)
 unfolding column_fault
-passed_column headers records t c fine = none_or (option_map told (result_err (field_at menus_form headers records t c))) (menu_fault headers records t c) fine
+passed_column headers records t c fine = none_or (option_map told (result_err (field_at menus_form headers records t c))) (menu_fault menus_form headers records t c) fine
 
 chosen_there : (headers : List (List ℕ)) (records : List (List (List ℕ))) (t : ℕ) → choice_fault headers records t ≡ None
     → is_choice (text_under (codes "menu") headers records t) (text_under (codes "choice") headers records t) ≡ true
@@ -90,7 +90,7 @@ module _ (headers : List (List ℕ)) (records : List (List (List ℕ))) (fine : 
       let at_column : column_named (codes "menu") headers ≡ column.0 = ap (λ o. unwrap_or o 0) column.2 in
       let role : role_at Goods headers column.0 ≡ Menu = role_is _ headers column.0 Menu (ap (role_of Goods) column.3 ∙ menu_says) in
       let passed = passed_record headers records t (passed_menu_row headers records fine_menu_rows t row) in
-      let here = passed_column headers records t column.0 (none_below (column_fault headers records t) (length headers) column.0 passed.0 column.1) in
+      let here = passed_column headers records t column.0 (none_below (column_fault menus_form headers records t) (length headers) column.0 passed.0 column.1) in
       ap (λ k. is_menu (text_at (row_at records t) k)) at_column
       ∙ is_menu_there (is_of_menus (role_at Goods headers column.0)) (is_menu (text_at (row_at records t) column.0)) (fault.BadMenu (number_of t)) here.1 (ap is_of_menus role)
 

@@ -1,6 +1,6 @@
 -- What a file of choices from menus denotes: its menus, or the first fault of the earliest stage that finds one (this
 -- project's own order of stages).
-use Rattle.std.specs.Prelude.{◌≡◌, ◌≢◌, ℕ, ◌+◌, ◌==◌, ◌&&◌, Bool, false, true, not, nat_lt}
+use Rattle.std.specs.Prelude.{◌≡◌, ◌≢◌, ℕ, ◌+◌, ◌&&◌, Bool, false, true, not, nat_lt}
 use Rattle.std.specs.Prelude.{if◌then◌else◌, List, [], ◌∷◌}
 use Rattle.std.specs.Prelude.{codes, length, slice_index, Option, None, Some, Result, Ok, Err, IfErr}
 use Rattle.std.specs.Option.{option_map, option_or}
@@ -9,7 +9,7 @@ use Rattle.rp_num.specs.Below.{any_below, first_of, first_there, listed}
 use Rattle.rp_patch.specs.declared.TheConstants.{PLACES}
 use Rattle.rp_sheet.specs.ChoiceCounts.{column_named}
 use Rattle.rp_forms.specs.Columns.{role_at}
-use Rattle.rp_sheet.specs.Fields.{count_stage, field_at, figures_of, row_at, rows_in}
+use Rattle.rp_sheet.specs.Fields.{RecordFaults, count_stage, fault_in_record, field_at, figures_of, row_at, rows_in}
 use Rattle.rp_forms.specs.Forms.{menus_form}
 use Rattle.rp_sheet.specs.Headers.{goods_stage, headers_in, headers_of, headers_stage}
 use Rattle.rp_sheet.specs.Records.{records_in}
@@ -18,7 +18,7 @@ use Rattle.rp_sheet.specs.Sizes.{sizes_of, sizes_stage}
 use Rattle.rp_forms.specs.Texts.{number_of, text_at}
 use Rattle.rp_sheet.specs.declared.fault.TableFault.{TableFault}
 use Rattle.rp_sheet.specs.declared.fault.TableFault.TheVariants as table_fault
-use Rattle.rp_forms.specs.declared.form.Marks.TheVariants.{Goods}
+use Rattle.rp_forms.specs.declared.form.Form.{Form}
 use Rattle.rp_forms.specs.declared.form.Role.{Role}
 use Rattle.rp_forms.specs.declared.form.Role.TheVariants.{Observation, Price, Quantity, Expenditure, Income, Budget}
 use Rattle.rp_forms.specs.declared.form.Role.TheVariants.{Times, Output, OutputPrice, Menu, Choice, OwnLevel}
@@ -74,15 +74,15 @@ text_under header headers records t = text_at (row_at records t) (column_named h
 abbrev pub lacks_menu : Role → List ℕ → Bool
 lacks_menu role text = is_of_menus role && not (is_menu text)
 
-abbrev pub menu_fault : List (List ℕ) → List (List (List ℕ)) → ℕ → ℕ → Option MenuFault
-menu_fault headers records t c =
-    if lacks_menu (role_at Goods headers c) (text_at (row_at records t) c) then Some (fault.BadMenu (number_of t))
+abbrev pub menu_fault : Form → List (List ℕ) → List (List (List ℕ)) → ℕ → ℕ → Option MenuFault
+menu_fault form headers records t c =
+    if lacks_menu (role_at form.marks headers c) (text_at (row_at records t) c) then Some (fault.BadMenu (number_of t))
     else None
 
 -- the fault of the field at a record and a column
-unfoldable pub column_fault : List (List ℕ) → List (List (List ℕ)) → ℕ → ℕ → Option MenuFault
-column_fault headers records t c =
-    option_or (option_map told (result_err (field_at menus_form headers records t c))) (menu_fault headers records t c)
+unfoldable pub column_fault : Form → List (List ℕ) → List (List (List ℕ)) → ℕ → ℕ → Option MenuFault
+column_fault form headers records t c =
+    option_or (option_map told (result_err (field_at form headers records t c))) (menu_fault form headers records t c)
 
 -- what was chosen is not one letter of the menu
 unfoldable pub choice_fault : List (List ℕ) → List (List (List ℕ)) → ℕ → Option MenuFault
@@ -90,11 +90,12 @@ choice_fault headers records t =
     if is_choice (text_under (codes "menu") headers records t) (text_under (codes "choice") headers records t) then None
     else Some (fault.BadChoice (number_of t))
 
--- the fault of the t-th record: its length, then its columns in order, then what was chosen
+-- what the records are refused for
+abbrev pub menu_faults : RecordFaults MenuFault
+menu_faults = record { told = told; field_fault = column_fault; rest_fault = λ _. choice_fault }
+
 unfoldable pub menu_row_fault : List (List ℕ) → List (List (List ℕ)) → ℕ → Option MenuFault
-menu_row_fault headers records t =
-    if not (length (row_at records t) == length headers) then Some (fault.Ragged (number_of t))
-    else option_or (first_of (length headers) (column_fault headers records t)) (choice_fault headers records t)
+menu_row_fault headers records t = fault_in_record menu_faults menus_form headers records t
 
 -- the records in order
 unfoldable pub menu_rows_stage : List (List ℕ) → List (List (List ℕ)) → Option MenuFault

@@ -11,13 +11,14 @@ ghost use Rattle.rp_menu.specs.MenuLists.{IsMenuList};
 
 use crate::cells::{Cell, Tally, tally_of};
 use crate::menu_row::MenuRow;
-use crate::menu_rows::{choice_at, menu_at, read_figures};
+use crate::menu_rows::{MenuRecord, choice_at, menu_at};
 use crate::menu_texts::{has_letter, letter_in, number_of_menu};
 use crate::{LETTERS, MenuFault, Menus};
 use rp_forms::Form;
 use rp_num::NoMemory;
 use rp_sheet::{
-    Columns, Records, check_count, check_goods, column_numbers, read_columns, read_sizes,
+    Columns, Records, check_count, check_goods, column_numbers, read_columns, read_records,
+    read_sizes,
 };
 use rp_table::CHOICES;
 use std::alloc::Global;
@@ -62,7 +63,7 @@ fn read_menu_rows(alloc: Global, records: &Records) -> Result<Vec<MenuRow>, Menu
     let columns = read_columns(alloc, &form, records)?;
     check_goods(alloc, &[], &columns)?;
     check_count(&form, records)?;
-    let figures = read_figures(alloc, &columns, records)?;
+    let figures = read_records::<MenuRecord>(alloc, &columns, records)?;
     let sizes = read_sizes(alloc, &columns, figures.as_slice())?;
     let times = column_numbers(alloc, &columns, b"n", sizes.as_slice())?;
     Ok(list_menu_rows(alloc, &columns, records, times.as_slice())?)

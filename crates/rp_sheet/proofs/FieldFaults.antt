@@ -1,12 +1,12 @@
 -- What a field says, and the fault of a record.
-use Rattle.std.proofs.Common.{◌≡◌, ◌≢◌, ℕ, ◌==◌, true, false, ◌&&◌, nat_lt, List, length, get_or, Some, None, Result, refl, arith}
-use Rattle.std.specs.Result.{result_err}
+use Rattle.std.proofs.Common.{◌≡◌, ◌≢◌, ℕ, ◌==◌, true, false, ◌&&◌, nat_lt, List, length, get_or, Option, Some, None, Result, Ok, Err, refl, arith}
+use Rattle.std.specs.Result.{IfOk, result_unwrap_or}
 use Rattle.std.proofs.lemmas.Bool.Decides.{nat_tests}
 use Rattle.rp_num.specs.declared.decimal.Decimal.{Decimal}
 use Rattle.rp_num.specs.Below.{first_of, listed}
 use Rattle.rp_forms.specs.Texts.{trimmed, text_at, number_of}
 use Rattle.rp_forms.specs.Columns.{role_of, role_at, measures}
-use Rattle.rp_sheet.specs.Fields.{nothing, field_of, field_at, figure, row_at, buys_nothing, record_fault}
+use Rattle.rp_sheet.specs.Fields.{RecordFaults, nothing, field_of, field_at, figure, row_at, buys_nothing, fault_in_record}
 use Rattle.rp_forms.specs.declared.form.Form.{Form}
 use Rattle.rp_forms.specs.declared.form.Marks.{Marks}
 use Rattle.rp_forms.specs.declared.form.Role.{Role}
@@ -26,20 +26,30 @@ unfolding field_at
 field_read form headers records t c role text row column result is there told at_column read =
     rw (role_is _ headers c role is, ← there, ← told, ← at_column, read) refl
 
--- a record of another length
-pub ragged : (form : Form) (headers : List (List ℕ)) (records : List (List (List ℕ))) (t : ℕ) → length (row_at records t) ≢ length headers → record_fault form headers records t ≡ Some (fault.Ragged (number_of t))
-unfolding record_fault
-ragged form headers records t other =
-    let test : (length (row_at records t) == length headers) ≡ false = grind (arith, nat_tests) in
-    rw test refl
+-- the number that is read
+pub number_read : (r f : Result Decimal TableFault) → f ≡ r → IfOk r (λ n. n ≡ result_unwrap_or f nothing)
+number_read (Ok n) f is = rw is refl
+number_read (Err e) f is = tt
 
--- a record with a fault in a column
-pub bad_field : (form : Form) (headers : List (List ℕ)) (records : List (List (List ℕ))) (t : ℕ) (e : TableFault) → length (row_at records t) ≡ length headers
-    → first_of (length headers) (λ c. result_err (field_at form headers records t c)) ≡ Some e → record_fault form headers records t ≡ Some e
-unfolding record_fault
-bad_field form headers records t e same faulty =
-    let test : (length (row_at records t) == length headers) ≡ true = grind (arith, nat_tests) in
-    rw (test, faulty) refl
+module _ {F : Type 0} (faults : RecordFaults F) (form : Form) (headers : List (List ℕ)) (records : List (List (List ℕ))) (t : ℕ) where
+  -- a record of another length
+  pub ragged : length (row_at records t) ≢ length headers → fault_in_record faults form headers records t ≡ Some (faults.told (fault.Ragged (number_of t)))
+  ragged other =
+      let test : (length (row_at records t) == length headers) ≡ false = grind (arith, nat_tests) in
+      rw test refl
+
+  -- a record with a fault in a column
+  pub bad_field : (e : F) → length (row_at records t) ≡ length headers → first_of (length headers) (faults.field_fault form headers records t) ≡ Some e → fault_in_record faults form headers records t ≡ Some e
+  bad_field e same faulty =
+      let test : (length (row_at records t) == length headers) ≡ true = grind (arith, nat_tests) in
+      rw (test, faulty) refl
+
+  -- a record with none
+  pub after_fields : (o : Option F) → length (row_at records t) ≡ length headers → first_of (length headers) (faults.field_fault form headers records t) ≡ None → o ≡ faults.rest_fault form headers records t
+      → fault_in_record faults form headers records t ≡ o
+  after_fields o same fine rest =
+      let test : (length (row_at records t) == length headers) ≡ true = grind (arith, nat_tests) in
+      rw (test, fine, rest) refl
 
 -- whether nothing is bought, by the numbers that were read
 pub nothing_bought : (form : Form) (headers : List (List ℕ)) (records : List (List (List ℕ))) (t : ℕ) (figures : List Decimal) → figures ≡ listed (length headers) (figure form headers records t)
@@ -48,17 +58,3 @@ nothing_bought form headers records t figures read =
     let same = any_same (λ c. measures (role_at form.marks headers c) && nat_lt 0 (get_or figures c nothing).units) (λ c. measures (role_at form.marks headers c) && nat_lt 0 (figure form headers records t c).units) (length headers)
     (λ k below. let here : get_or figures k nothing ≡ figure form headers records t k = rw read (get-listed (figure form headers records t) (length headers) k nothing below) in rw here refl) in
     rw same refl
-
-pub empty_bundle : (form : Form) (headers : List (List ℕ)) (records : List (List (List ℕ))) (t : ℕ) → length (row_at records t) ≡ length headers
-    → first_of (length headers) (λ c. result_err (field_at form headers records t c)) ≡ None → buys_nothing form.marks headers (figure form headers records t) ≡ true → record_fault form headers records t ≡ Some (fault.ZeroBundle (number_of t))
-unfolding record_fault
-empty_bundle form headers records t same fine empty =
-    let test : (length (row_at records t) == length headers) ≡ true = grind (arith, nat_tests) in
-    rw (test, fine, empty) refl
-
-pub good_record : (form : Form) (headers : List (List ℕ)) (records : List (List (List ℕ))) (t : ℕ) → length (row_at records t) ≡ length headers
-    → first_of (length headers) (λ c. result_err (field_at form headers records t c)) ≡ None → buys_nothing form.marks headers (figure form headers records t) ≡ false → record_fault form headers records t ≡ None
-unfolding record_fault
-good_record form headers records t same fine bought =
-    let test : (length (row_at records t) == length headers) ≡ true = grind (arith, nat_tests) in
-    rw (test, fine, bought) refl

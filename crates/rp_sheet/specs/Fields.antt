@@ -1,7 +1,7 @@
 -- The first fault in the records of a file: their number, a record of another length than the headers, a
 -- field that is not a number of its column's kind, and a record by which nothing is bought.
 use Rattle.std.specs.Prelude.{ℕ, ◌+◌, ◌-◌, Bool, not, ◌&&◌, ◌==◌, nat_le, nat_lt, if◌then◌else◌, List, length, Option}
-use Rattle.std.specs.Prelude.{None, Some, Result, Ok, Err}
+use Rattle.std.specs.Prelude.{◌≡◌, ◌≢◌, None, Some, Result, Ok, Err, IfErr}
 use Rattle.std.specs.Option.{option_or}
 use Rattle.std.specs.Result.{result_err, result_unwrap_or}
 use Rattle.rp_num.specs.Decimal.{decimal_of}
@@ -92,13 +92,43 @@ buys_nothing marks headers figures =
     any_below (length headers) (λ c. measures (role_at marks headers c))
     && not (any_below (length headers) (λ c. measures (role_at marks headers c) && nat_lt 0 (figures c).units))
 
--- the fault of the t-th record: its length, then its columns in order, then that nothing is bought
+-- what the records of a kind are refused for: a fault that files of every kind have, that of a field, and that of a
+-- record by all its fields
+pub record RecordFaults (F : Type 0) : Type 0 where
+  pub told : TableFault → F
+  pub field_fault : Form → List (List ℕ) → List (List (List ℕ)) → ℕ → ℕ → Option F
+  pub rest_fault : Form → List (List ℕ) → List (List (List ℕ)) → ℕ → Option F
+
+-- the fault of the t-th record: its length, then its columns in order, then the rest
+abbrev pub fault_in_record : {F : Type 0} → RecordFaults F
+    → Form → List (List ℕ) → List (List (List ℕ)) → ℕ → Option F
+fault_in_record faults form headers records t =
+    if not (length (row_at records t) == length headers) then Some (faults.told (fault.Ragged (number_of t)))
+    else option_or (first_of (length headers) (faults.field_fault form headers records t))
+    (faults.rest_fault form headers records t)
+
+-- the records in order
+abbrev pub fault_in_records : {F : Type 0} → RecordFaults F
+    → Form → List (List ℕ) → List (List (List ℕ)) → Option F
+fault_in_records faults form headers records =
+    first_of (rows_in records) (fault_in_record faults form headers records)
+
+-- refused with the fault of this stage, or for want of memory
+abbrev pub RefusedIn : {A F : Type 0} → RecordFaults F → Result A F → Option F → Type 0
+RefusedIn faults result stage = IfErr result (λ e. e ≢ faults.told fault.NoMemory → stage ≡ Some e)
+
+-- in records of numbers: a field that is refused, and that nothing is bought
+abbrev pub number_faults : RecordFaults TableFault
+number_faults = record {
+  told = λ f. f;
+  field_fault = λ form headers records t c. result_err (field_at form headers records t c);
+  rest_fault = λ form headers records t.
+      if buys_nothing form.marks headers (figure form headers records t) then Some (fault.ZeroBundle (number_of t))
+      else None;
+}
+
 unfoldable pub record_fault : Form → List (List ℕ) → List (List (List ℕ)) → ℕ → Option TableFault
-record_fault form headers records t =
-    if not (length (row_at records t) == length headers) then Some (fault.Ragged (number_of t))
-    else option_or (first_of (length headers) (λ c. result_err (field_at form headers records t c)))
-    (if buys_nothing form.marks headers (figure form headers records t)
-    then Some (fault.ZeroBundle (number_of t)) else None)
+record_fault form headers records t = fault_in_record number_faults form headers records t
 
 -- no record, or more than the limit
 unfoldable pub count_stage : Form → List (List (List ℕ)) → Option TableFault

@@ -1,27 +1,23 @@
-ghost use Rattle.std.specs.Prelude.{◌≡◌, ◌+◌, ◌<◌, ◌&&◌, None, IfOk, length, nat_lt};
-ghost use Rattle.std.specs.Prelude.{slice_index_or};
-ghost use Rattle.rp_num.specs.Below.{first_of, listed, any_below};
+ghost use Rattle.std.specs.Prelude.{◌≡◌, ◌&&◌, length, nat_lt, slice_index_or};
+ghost use Rattle.rp_num.specs.Below.{any_below};
 ghost use Rattle.rp_forms.specs.Texts.{trimmed};
 ghost use Rattle.rp_forms.specs.Columns.{role_at, measures};
-ghost use Rattle.std.specs.Result.{result_err};
 ghost use Rattle.rp_num.specs.Decimal.{decimal_of};
 ghost use Rattle.rp_sheet.specs.Fields as Fields;
-ghost use Rattle.rp_sheet.specs.Fields.{nothing, field_of, field_at, figure, figures_of};
-ghost use Rattle.rp_sheet.specs.Fields.{record_fault, fields_stage};
-ghost use Rattle.rp_sheet.specs.Refusals.{RefusedAt};
+ghost use Rattle.rp_sheet.specs.Fields.{nothing, field_of};
 
 use crate::TableFault;
 use crate::columns::Columns;
+use crate::record_kind::RecordKind;
 use crate::records::Records;
 use rp_forms::{Role, number_of, trimmed};
-use rp_num::{Decimal, NumFault, Seq, read_decimal};
+use rp_num::{Decimal, NumFault, read_decimal};
 use rp_table::LEVEL_SCALE;
-use std::alloc::Global;
 
 /// What a field says in a column of that role: a number, or 0 where the fields are texts. `budgets` is how many there
 /// are.
 #[tactic(auto, unfolding(crate::specs::Fields::field_of))]
-pub fn read_field(
+fn read_field(
     budgets: u32,
     role: Role,
     field: &[u8],
@@ -103,62 +99,46 @@ fn from_one(
     }
 }
 
-/// The numbers of the t-th record after the headers, column by column.
-fn read_record(
-    alloc: Global,
-    columns: &Columns<'_>,
-    records: &Records,
-    t: usize,
-) -> Result<Seq<Decimal>, TableFault>
-    requires { t + 1 < length records.now }
-    ensures read { IfOk result
-        (λ row. row ≡ listed (length columns.now.headers)
-        (figure columns.now.form columns.now.headers records.now t)) }
-    ensures faultless { IfOk result (λ _. record_fault columns.now.form columns.now.headers
-        records.now t ≡ None) }
-    ensures refused { RefusedAt result (record_fault columns.now.form columns.now.headers
-        records.now t) }
-{
-    if records.row_width(t) != columns.len() {
-        return Err(TableFault::Ragged { row: number_of(t) });
-    }
-    let figures = read_columns(alloc, columns, records, t)?;
-    if buys_nothing(columns, figures.as_slice()) {
-        return Err(TableFault::ZeroBundle { row: number_of(t) });
-    }
-    Ok(Seq::from_vec(figures))
-}
+/// Records of numbers, by each of which something is bought where a column says how much.
+pub struct NumberRecord;
 
-/// The numbers of the t-th record after the headers, whatever its length and whatever is bought.
-fn read_columns(
-    alloc: Global,
-    columns: &Columns<'_>,
-    records: &Records,
-    t: usize,
-) -> Result<Vec<Decimal>, TableFault>
-    requires { t + 1 < length records.now }
-    ensures read { IfOk result
-        (λ row. row.items ≡ listed (length columns.now.headers)
-        (figure columns.now.form columns.now.headers records.now t)) }
-    ensures faultless { IfOk result
-        (λ _. first_of (length columns.now.headers)
-        (λ c. result_err (field_at columns.now.form columns.now.headers records.now t c)) ≡ None) }
-    ensures refused { RefusedAt result
-        (first_of (length columns.now.headers)
-        (λ c. result_err (field_at columns.now.form columns.now.headers records.now t c))) }
-{
-    let mut figures = Vec::new(alloc);
-    for c in 0..columns.len() {
-        let field = records.row_field(t, c);
-        figures.push(read_field(
+impl RecordKind for NumberRecord {
+    ghost use Rattle.rp_sheet.specs.Fields.{number_faults};
+
+    type Fault = TableFault;
+
+    ghost faults = { number_faults };
+
+    fn tell(fault: TableFault) -> TableFault {
+        fault
+    }
+
+    fn read_field(
+        columns: &Columns<'_>,
+        records: &Records,
+        t: usize,
+        c: usize,
+    ) -> Result<Decimal, TableFault> {
+        read_field(
             columns.form().budgets,
             columns.role(c),
-            field,
+            records.row_field(t, c),
             number_of(t),
             number_of(c),
-        )?)?;
+        )
     }
-    Ok(figures)
+
+    fn check_rest(
+        columns: &Columns<'_>,
+        records: &Records,
+        t: usize,
+        figures: &[Decimal],
+    ) -> Result<(), TableFault> {
+        if buys_nothing(columns, figures) {
+            return Err(TableFault::ZeroBundle { row: number_of(t) });
+        }
+        Ok(())
+    }
 }
 
 /// Whether some column says how much is bought, and each says 0.
@@ -196,25 +176,4 @@ fn buys(columns: &Columns<'_>, figures: &[Decimal]) -> bool
         }
     }
     false
-}
-
-/// The numbers of all records after the headers.
-pub fn read_figures(
-    alloc: Global,
-    columns: &Columns<'_>,
-    records: &Records,
-) -> Result<Vec<Seq<Decimal>>, TableFault>
-    requires { 0 < length records.now }
-    ensures read { IfOk result (λ rows. rows.items ≡ figures_of columns.now.form
-        columns.now.headers records.now) }
-    ensures faultless { IfOk result (λ _. fields_stage columns.now.form columns.now.headers
-        records.now ≡ None) }
-    ensures refused { RefusedAt result (fields_stage columns.now.form columns.now.headers
-        records.now) }
-{
-    let mut rows = Vec::new(alloc);
-    for t in 0..records.len() - 1 {
-        rows.push(read_record(alloc, columns, records, t)?)?;
-    }
-    Ok(rows)
 }

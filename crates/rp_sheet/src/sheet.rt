@@ -9,9 +9,10 @@ ghost use Rattle.rp_sheet.specs.Refusals.{RefusedAt};
 
 use crate::TableFault;
 use crate::columns::Columns;
-use crate::fields::read_figures;
+use crate::fields::NumberRecord;
 use crate::fixed_goods::check_goods;
 use crate::headers::read_columns;
+use crate::record_kind::read_records;
 use crate::records::Records;
 use crate::sizes::read_sizes;
 use rp_forms::{Form, number_of};
@@ -48,7 +49,7 @@ pub fn read_sheet<'a>(
     let columns = read_columns(alloc, form, records)?;
     check_goods(alloc, goods, &columns)?;
     check_count(form, records)?;
-    let figures = read_figures(alloc, &columns, records)?;
+    let figures = read_records::<NumberRecord>(alloc, &columns, records)?;
     let sizes = read_sizes(alloc, &columns, figures.as_slice())?;
     check_choices(&columns, figures.as_slice())?;
     Ok(Sheet {

@@ -1,4 +1,4 @@
-use Rattle.std.proofs.Common.{rules, ◌≡◌, ◌≢◌, ◌<◌, ℕ, List, [], length, None, Some, sym, ap, subst, arith, ◌∙◌}
+use Rattle.std.proofs.Common.{rules, ◌≡◌, ◌≢◌, ◌<◌, List, [], length, None, Some, sym, ap, subst, arith, ◌∙◌}
 use Rattle.rp_num.proofs.BelowLemmas.{length-listed}
 use Rattle.rp_sheet.specs.Fields.{count_stage, rows_in}
 use Rattle.rp_forms.specs.Forms.{menus_form}
@@ -8,12 +8,12 @@ use Rattle.rp_sheet.proofs.FigureLemmas.{whole_rows}
 use Rattle.rp_sheet.proofs.FineHeaders.{fine_headers}
 use Rattle.rp_sheet.proofs.PassedOn.{passed_on}
 use Rattle.rp_menu.specs.Cells.{menu_row_at}
-use Rattle.rp_menu.specs.Denotation.{menu_rows_in, menu_rows_stage, menu_row_of, sheet_fault, times_in, told}
+use Rattle.rp_menu.specs.Denotation.{menu_rows_in, menu_row_of, sheet_fault, times_in, told}
 use Rattle.rp_menu.specs.InnerCells.{IsMenuRow}
 use Rattle.rp_menu.specs.declared.menu_row.MenuRow.{MenuRow}
 use Rattle.rp_menu.specs.declared.fault.MenuFault.{MenuFault}
 use Rattle.rp_menu.specs.declared.fault.MenuFault.TheVariants as fault
-use Rattle.rp_menu.proofs.MenuStages.{empty_file, few_rows, goods_as, in_count, in_menu_rows, in_goods, in_headers, in_none, in_sizes, sizes_as}
+use Rattle.rp_menu.proofs.MenuStages.{empty_file, few_rows, goods_as, in_count, in_menu_rows, in_goods, in_headers, in_none, in_sizes, menu_rows_as, sizes_as}
 use Rattle.rp_menu.proofs.SoundMenuRows.{sound_menu_rows}
 use Rattle.rp_menu.proofs.read.read_menu_rows.Goals as goal
 
@@ -62,12 +62,12 @@ returns-in_err-figures-clause-refused c =
     let count = subst (λ (form : Form). count_stage form records ≡ None) c.menus-form.ensures c.in_ok-check_count.ensures.fine in
     let e = c.in_err-figures.field-0.0 in
     passed_on c.from_residual-in_err-figures.result e (λ (f : MenuFault). f ≢ fault.NoMemory → sheet_fault records ≡ Some f) c.from_residual-in_err-figures.ensures
-    (λ other. in_menu_rows records some e headed goods count (subst (λ (h : List (List ℕ)). menu_rows_stage h records ≡ Some e) c.in_ok-columns.ensures.read (c.in_err-figures.ensures.refused other)))
+    (λ other. in_menu_rows records some e headed goods count (menu_rows_as columns.form columns.headers records (Some e) kind c.in_ok-columns.ensures.read (c.in_err-figures.ensures.refused other)))
 
 pub read_sizes-requires : goal.read_sizes-requires
 read_sizes-requires c =
     let read = c.as_slice.ensures.value ∙ c.in_ok-figures.ensures.read in
-    rw read (whole_rows menus_form c.in_ok-columns.columns.headers c.args.records.now)
+    rw read (whole_rows c.in_ok-columns.columns.form c.in_ok-columns.columns.headers c.args.records.now)
 
 pub returns-in_err-sizes-clause-refused : goal.returns-in_err-sizes-clause-refused
 returns-in_err-sizes-clause-refused c =
@@ -78,7 +78,7 @@ returns-in_err-sizes-clause-refused c =
     let headed = subst (λ (form : Form). headers_stage form (headers_of records) ≡ None) c.menus-form.ensures c.in_ok-columns.ensures.faultless in
     let goods = goods_as columns.form columns.headers records None kind c.in_ok-columns.ensures.read c.in_ok-check_goods.ensures.fine in
     let count = subst (λ (form : Form). count_stage form records ≡ None) c.menus-form.ensures c.in_ok-check_count.ensures.fine in
-    let menu_rows = subst (λ (h : List (List ℕ)). menu_rows_stage h records ≡ None) c.in_ok-columns.ensures.read c.in_ok-figures.ensures.faultless in
+    let menu_rows = menu_rows_as columns.form columns.headers records None kind c.in_ok-columns.ensures.read c.in_ok-figures.ensures.faultless in
     let read = c.as_slice.ensures.value ∙ c.in_ok-figures.ensures.read in
     let e = c.in_err-sizes.field-0.0 in
     passed_on c.from_residual-in_err-sizes.result (told e) (λ (f : MenuFault). f ≢ fault.NoMemory → sheet_fault records ≡ Some f) c.from_residual-in_err-sizes.ensures
@@ -101,7 +101,7 @@ returns-clause-sound c = λ t inside.
     let kind = c.in_ok-columns.ensures.kind ∙ c.menus-form.ensures in
     let headed = subst (λ (form : Form). headers_stage form (headers_of records) ≡ None) c.menus-form.ensures c.in_ok-columns.ensures.faultless in
     let goods = goods_as columns.form columns.headers records None kind c.in_ok-columns.ensures.read c.in_ok-check_goods.ensures.fine in
-    let menu_rows = subst (λ (h : List (List ℕ)). menu_rows_stage h records ≡ None) c.in_ok-columns.ensures.read c.in_ok-figures.ensures.faultless in
+    let menu_rows = menu_rows_as columns.form columns.headers records None kind c.in_ok-columns.ensures.read c.in_ok-figures.ensures.faultless in
     let read = c.as_slice.ensures.value ∙ c.in_ok-figures.ensures.read in
     let sizes = sizes_as columns.form columns.headers records c.as_slice.result.now None kind c.in_ok-columns.ensures.read read c.in_ok-sizes.ensures.faultless in
     let row : t < rows_in records = omega (arith, inside, all) in
@@ -117,7 +117,7 @@ returns-clause-faultless c =
     let headed = subst (λ (form : Form). headers_stage form (headers_of records) ≡ None) c.menus-form.ensures c.in_ok-columns.ensures.faultless in
     let goods = goods_as columns.form columns.headers records None kind c.in_ok-columns.ensures.read c.in_ok-check_goods.ensures.fine in
     let count = subst (λ (form : Form). count_stage form records ≡ None) c.menus-form.ensures c.in_ok-check_count.ensures.fine in
-    let menu_rows = subst (λ (h : List (List ℕ)). menu_rows_stage h records ≡ None) c.in_ok-columns.ensures.read c.in_ok-figures.ensures.faultless in
+    let menu_rows = menu_rows_as columns.form columns.headers records None kind c.in_ok-columns.ensures.read c.in_ok-figures.ensures.faultless in
     let read = c.as_slice.ensures.value ∙ c.in_ok-figures.ensures.read in
     let sizes = sizes_as columns.form columns.headers records c.as_slice.result.now None kind c.in_ok-columns.ensures.read read c.in_ok-sizes.ensures.faultless in
     in_none records some headed goods count menu_rows sizes

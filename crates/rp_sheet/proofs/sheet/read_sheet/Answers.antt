@@ -1,4 +1,5 @@
 use Rattle.std.proofs.Common.{◌≡◌, ◌≢◌, ◌<◌, length, Some, sym, arith, ◌∙◌}
+use Rattle.rp_sheet.specs.Fields.{fields_stage, record_fault}
 use Rattle.rp_sheet.specs.Sheets.{first_fault}
 use Rattle.rp_sheet.specs.declared.fault.TableFault.{TableFault}
 use Rattle.rp_sheet.specs.declared.fault.TableFault.TheVariants as fault
@@ -30,6 +31,7 @@ returns-in_err-check_count-clause-refused c =
     (λ _. count_fault c.args.form.now c.args.goods.now c.args.records.now c.in_ok-columns.columns some c.in_ok-columns.ensures.kind c.in_ok-columns.ensures.read c.in_ok-columns.ensures.faultless c.in_err-check_count.field-0.0 c.in_ok-check_goods.ensures.fine c.in_err-check_count.ensures.refused)
 
 pub returns-in_err-figures-clause-refused : goal.returns-in_err-figures-clause-refused
+unfolding fields_stage record_fault
 returns-in_err-figures-clause-refused c =
     let some : 0 < length c.args.records.now = omega arith in
     passed_on c.from_residual-in_err-figures.result c.in_err-figures.field-0.0 (λ (e : TableFault). e ≢ fault.NoMemory → first_fault c.args.form.now c.args.goods.now c.args.records.now ≡ Some e) c.from_residual-in_err-figures.ensures
@@ -41,6 +43,7 @@ read_sizes-requires c =
     rw read (whole_rows c.in_ok-columns.columns.form c.in_ok-columns.columns.headers c.args.records.now)
 
 pub returns-in_err-sizes-clause-refused : goal.returns-in_err-sizes-clause-refused
+unfolding fields_stage record_fault
 returns-in_err-sizes-clause-refused c =
     let some : 0 < length c.args.records.now = omega arith in
     let read = c.as_slice.ensures.value ∙ c.in_ok-figures.ensures.read in
@@ -48,6 +51,7 @@ returns-in_err-sizes-clause-refused c =
     (λ other. sizes_fault c.args.form.now c.args.goods.now c.args.records.now c.in_ok-columns.columns some c.in_ok-columns.ensures.kind c.in_ok-columns.ensures.read c.in_ok-columns.ensures.faultless c.in_err-sizes.field-0.0 c.in_ok-check_goods.ensures.fine c.in_ok-check_count.ensures.fine c.in_ok-figures.ensures.faultless (rw read at (c.in_err-sizes.ensures.refused other)))
 
 pub returns-in_err-check_choices-clause-refused : goal.returns-in_err-check_choices-clause-refused
+unfolding fields_stage record_fault
 returns-in_err-check_choices-clause-refused c =
     let some : 0 < length c.args.records.now = omega arith in
     let sized = c.as_slice.ensures.value ∙ c.in_ok-figures.ensures.read in
@@ -56,6 +60,7 @@ returns-in_err-check_choices-clause-refused c =
     (λ _. choices_fault c.args.form.now c.args.goods.now c.args.records.now c.in_ok-columns.columns some c.in_ok-columns.ensures.kind c.in_ok-columns.ensures.read c.in_ok-columns.ensures.faultless c.in_err-check_choices.field-0.0 c.in_ok-check_goods.ensures.fine c.in_ok-check_count.ensures.fine c.in_ok-figures.ensures.faultless (rw sized at c.in_ok-sizes.ensures.faultless) (rw read at c.in_err-check_choices.ensures.refused))
 
 pub returns-clause-faultless : goal.returns-clause-faultless
+unfolding fields_stage record_fault
 returns-clause-faultless c =
     let some : 0 < length c.args.records.now = omega arith in
     let sized = c.as_slice.ensures.value ∙ c.in_ok-figures.ensures.read in
