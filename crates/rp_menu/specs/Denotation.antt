@@ -90,7 +90,7 @@ choice_fault headers records t =
     if is_choice (text_under (codes "menu") headers records t) (text_under (codes "choice") headers records t) then None
     else Some (fault.BadChoice (number_of t))
 
--- what the records are refused for
+-- what a record is refused for: its length, then its columns in order, then what was chosen
 abbrev pub menu_faults : RecordFaults MenuFault
 menu_faults = record { told = told; field_fault = column_fault; rest_fault = λ _. choice_fault }
 
