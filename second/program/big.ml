@@ -17,4 +17,5 @@ let to_positive z = if sign z <= 0 then Z.one else z
 let testbit z k = sign k >= 0 && Z.testbit z (to_int k)
 let shift_left_by z k = if sign k >= 0 then shift_left z (to_int k) else shift_right z (to_int (neg k))
 let setbit z k = logor z (shift_left_by Z.one k)
+let signed z = of_int (sign z)
 let comparison a b = Z.compare a b

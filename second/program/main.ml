@@ -190,6 +190,20 @@ let table_item value =
   | "welfare" -> welfare value
   | _ -> raise Misshapen
 
+let random_item value =
+  if string_of (try List.assoc "item" (member_list value) with Not_found -> raise Misshapen) <> "random" then raise Misshapen;
+  let total get = natural 64 (get "total") in
+  if has "withheld" value then
+    let get = members [ "item"; "total"; "withheld" ] value in
+    (ignore (natural 64 (get "withheld")); (total get, RandomWithheld))
+  else
+    let weights = if has "weights" value then [ "weights" ] else [] in
+    let get = members ([ "den"; "item"; "parts"; "total" ] @ weights) value in
+    let parts = entries (pair (entries number) (natural 64)) (get "parts") in
+    let den = natural 64 (get "den") in
+    if weights = [] then (total get, Mixture (den, parts))
+    else (total get, NoMixture (den, parts, entries (natural 64) (get "weights")))
+
 (* A certificate of a kind: its levels and items. *)
 let certificate kind one text =
   look_at_json text;
@@ -335,6 +349,20 @@ let table bytes =
   let levels = if List.mem_assoc "e" (List.hd rows) then List.map (List.assoc "e") rows else [] in
   { prices = List.map (by "p_" goods) rows; quantities = List.map (by "q_" goods) rows; levels }
 
+let offers bytes =
+  let goods, rows = numbers budget_kind None 0 bytes in
+  (goods, List.map (fun row -> (by "p_" goods row, List.assoc "w" row)) rows)
+
+let choices goods offers bytes =
+  let _, rows = numbers choice_kind (Some goods) (List.length offers) bytes in
+  let made row =
+    { made_on = List.assoc "budget" row; made_of = by "q_" goods row; made_times = List.assoc "n" row } in
+  let found = List.map made rows in
+  List.iteri (fun j _ ->
+      let here it = Z.equal it.made_on (Z.of_int (j + 1)) && Z.sign it.made_times > 0 in
+      if not (List.exists here found) then refuse "NoChoices budget %d" (j + 1)) offers;
+  found
+
 (* ---- words, files and the answer ---- *)
 
 exception Ended of int * string
@@ -381,15 +409,51 @@ let check_table table_name certificate_name =
   let claimed, items = certificate_of "table" table_item certificate_name in
   check_certificate tb { claimed; items }
 
+let refusal_line = function
+  | TooManyPatches budget -> Printf.sprintf "TooManyPatches budget %s" (Z.to_string budget)
+  | NeedUnit budget -> Printf.sprintf "NeedUnit budget %s" (Z.to_string budget)
+  | TooManyCombinations -> "TooManyCombinations"
+  | TooManyTypes -> "TooManyTypes"
+
+let check_random budgets_name choices_name certificate_name per =
+  let goods, offers = numbers_of budgets_name offers in
+  let made = numbers_of choices_name (choices goods offers) in
+  match prepare offers made per with
+  | NoChoices -> raise (Ended (4, "no choices"))
+  | Refused why -> raise (Ended (4, refusal_line why))
+  | Prepared shares -> check_choices shares (snd (certificate_of "random" random_item certificate_name))
+
 let usage = "usage: rp-second TABLE CERT\n       rp-second BUDGETS CHOICES CERT [--per N]"
 
+(* The names of files, and N: `--per N` or `--per=N` anywhere, and after `--` all words are names. *)
+let rec words_of names per = function
+  | [] -> Some (List.rev names, per)
+  | "--" :: rest -> if List.mem "" rest then None else Some (List.rev_append names rest, per)
+  | "--per" :: n :: rest -> with_per names per n rest
+  | word :: rest when String.length word > 6 && String.sub word 0 6 = "--per=" ->
+      with_per names per (String.sub word 6 (String.length word - 6)) rest
+  | word :: rest -> if word = "" || word.[0] = '-' then None else words_of (word :: names) per rest
+and with_per names per n rest =
+  match (per, decimal n) with
+  | None, Some (k, 0) when Z.sign k > 0 && Z.leq k (Z.of_int 1_000_000_000) && not (String.contains n '.') ->
+      words_of names (Some k) rest
+  | _ -> None
+
 let () =
-  let status, out, line =
-    match List.tl (Array.to_list Sys.argv) with
-    | [ a; b ] -> (
-        try let status, out = answer (check_table a b) in (status, out, "") with Ended (status, line) -> (status, "", "rp-second: " ^ line))
-    | _ -> (2, "", usage)
+  let ended, out, line =
+    try
+      let ended, out =
+        match words_of [] None (List.tl (Array.to_list Sys.argv)) with
+        | Some ([ table; certificate ], None) -> answer (check_table table certificate)
+        | Some ([ budgets; choices; certificate ], per) -> answer (check_random budgets choices certificate per)
+        | _ -> raise (Ended (2, ""))
+      in
+      (ended, out, "")
+    with
+    | Ended (2, _) -> (2, "", usage)
+    | Ended (ended, line) -> (ended, "", "rp-second: " ^ line)
+    | Out_of_memory | Stack_overflow -> (6, "", "rp-second: out of memory")
   in
   if line <> "" then prerr_endline line;
-  (try print_string out; flush stdout with Sys_error _ -> prerr_endline "rp-second: write failed"; Stdlib.exit 5);
-  exit status
+  try print_string out; flush stdout; exit ended
+  with Sys_error _ -> prerr_endline "rp-second: write failed"; Stdlib.do_at_exit (); exit 5
