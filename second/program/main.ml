@@ -5,9 +5,9 @@ module Z = Big
 module J = Yojson.Raw
 
 (* A file is refused: the word for it, with the place. *)
-exception Refused of string
+exception Unread of string
 
-let refuse form = Printf.ksprintf (fun text -> raise (Refused text)) form
+let refuse form = Printf.ksprintf (fun text -> raise (Unread text)) form
 let two k = Z.pow (Z.of_int 2) k
 let below k z = Z.sign z >= 0 && Z.lt z (two k)
 
@@ -231,138 +231,6 @@ let certificate kind one text =
     List.fold_left (fun (k, read) value -> (k + 1, or_refuse k (fun () -> one value) :: read)) (1, []) items in
   (levels, List.rev read)
 
-(* ---- files of numbers: the columns, the first fault in the order of the stages, and the scaled numbers ---- *)
-
-type kind = { prices_named : bool; quantities_named : bool; words : string list; needed : string list; limit : int }
-
-let table_kind = { prices_named = true; quantities_named = true; words = [ "e" ]; needed = []; limit = 512 }
-let budget_kind = { prices_named = true; quantities_named = false; words = [ "w" ]; needed = [ "w" ]; limit = 48 }
-let choice_kind =
-  { prices_named = false; quantities_named = true; words = [ "budget"; "n" ]; needed = [ "budget"; "n" ]; limit = 4096 }
-
-let trimmed field =
-  let blank c = c = ' ' || c = '\t' in
-  let rec from i = if i < String.length field && blank field.[i] then from (i + 1) else i in
-  let rec upto i = if i > 0 && blank field.[i - 1] then upto (i - 1) else i in
-  let first = from 0 in
-  let last = max first (upto (String.length field)) in
-  String.sub field first (last - first)
-
-let good_of prefix name =
-  let long = String.length name - 2 in
-  let plain = long >= 1 && long <= 64 && String.for_all (fun c -> c >= ' ') name in
-  if plain && String.sub name 0 2 = prefix then Some (String.sub name 2 long) else None
-
-let is_price kind name = kind.prices_named && good_of "p_" name <> None
-let is_quantity kind name = kind.quantities_named && good_of "q_" name <> None
-
-(* The names of the columns, and the goods in their order: those of the prices, or those that are given. *)
-let columns kind given header =
-  let names = Array.of_list (List.map trimmed header) in
-  let has name = Array.exists (String.equal name) names in
-  Array.iteri (fun i name ->
-      if not (name = "obs" || List.mem name kind.words || is_price kind name || is_quantity kind name) then
-        refuse "BadHeader column %d" (i + 1);
-      if Array.exists (String.equal name) (Array.sub names 0 i) then refuse "TwiceNamed column %d" (i + 1))
-    names;
-  let good name = String.sub name 2 (String.length name - 2) in
-  let goods_by is = List.map good (List.filter (is kind) (Array.to_list names)) in
-  let goods = match given with Some goods -> goods | None -> goods_by is_price in
-  Array.iteri (fun i name ->
-      let here = is_price kind name || is_quantity kind name in
-      if here && given = None && kind.quantities_named && not (has ("p_" ^ good name) && has ("q_" ^ good name)) then
-        refuse "Unpaired column %d" (i + 1);
-      if here && given <> None && not (List.mem (good name) goods) then refuse "OtherGoods column %d" (i + 1))
-    names;
-  let seen = if given = None then goods else goods_by is_quantity in
-  if seen = [] || not (List.for_all has kind.needed) then refuse "Unpaired column 0";
-  if List.length seen < List.length goods then refuse "OtherGoods column 0";
-  if List.length goods > 16 then refuse "TooManyGoods";
-  (names, goods)
-
-(* A number as its digits without a point, and how many of them stand behind it. *)
-let decimal field =
-  let all_digits text = text <> "" && String.for_all (fun c -> c >= '0' && c <= '9') text in
-  match String.split_on_char '.' (trimmed field) with
-  | [ units ] when all_digits units -> Some (Z.of_string units, 0)
-  | [ units; parts ] when all_digits units && all_digits parts ->
-      let rec places k = if k > 0 && parts.[k - 1] = '0' then places (k - 1) else k in
-      let k = places (String.length parts) in
-      Some (Z.of_string (units ^ String.sub parts 0 k), k)
-  | _ -> None
-
-let power_of_ten k = Z.pow (Z.of_int 10) k
-let is_whole name = List.mem name [ "e"; "budget"; "n" ]
-
-(* The goods, and of each record the scaled numbers by the names of their columns. *)
-let numbers kind given budgets bytes =
-  let string_of_bytes field = String.concat "" (List.rev (List.rev_map (fun b -> String.make 1 (Char.chr (Z.to_int b))) field)) in
-  let records = List.rev (List.rev_map (fun record -> List.map string_of_bytes record) (records_of bytes)) in
-  let header, rest = match records with [] -> refuse "Empty" | header :: rest -> (header, rest) in
-  let names, goods = columns kind given header in
-  if rest = [] then refuse "NoRecords";
-  if List.compare_length_with rest kind.limit > 0 then refuse "TooManyRecords";
-  let read r record =
-    let fields = Array.of_list record in
-    if Array.length fields <> Array.length names then refuse "Ragged record %d" r;
-    let field i name =
-      if name = "obs" then (Z.zero, 0)
-      else
-        let at = Printf.sprintf "record %d column %d" r (i + 1) in
-        match decimal fields.(i) with
-        | None -> refuse "BadNumber %s" at
-        | Some (_, places) when places > 0 && is_whole name -> refuse "BadNumber %s" at
-        | Some (_, places) when places > 6 -> refuse "TooManyDecimals %s" at
-        | Some (z, _) when Z.sign z = 0 && is_price kind name -> refuse "ZeroPrice %s" at
-        | Some (z, _) when name = "e" && (Z.sign z = 0 || Z.gt z (Z.of_int 1000)) -> refuse "BadLevel %s" at
-        | Some (z, _) when name = "budget" && (Z.sign z = 0 || Z.gt z (Z.of_int budgets)) ->
-            refuse "UnknownBudget record %d" r
-        | Some found -> found
-    in
-    let found = Array.mapi field names in
-    let zero_at is = Array.for_all (fun x -> x) (Array.mapi (fun i name -> (not (is name)) || Z.sign (fst found.(i)) = 0) names) in
-    if (kind.quantities_named && zero_at (is_quantity kind)) || (List.mem "w" kind.needed && zero_at (String.equal "w")) then
-      refuse "ZeroBundle record %d" r;
-    found
-  in
-  let rows = List.mapi (fun i record -> read (i + 1) record) rest in
-  let places is = List.fold_left (fun most row ->
-      let most = ref most in
-      Array.iteri (fun i (_, k) -> if is names.(i) then most := max !most k) row; !most) 0 rows in
-  let of_prices = places (is_price kind) and of_quantities = places (is_quantity kind) and of_income = places (String.equal "w") in
-  let scale r row =
-    Array.to_list (Array.mapi (fun i (z, k) ->
-        let name = names.(i) in
-        let to_ = if is_price kind name then of_prices else if is_quantity kind name then of_quantities
-          else if name = "w" then of_income else 0 in
-        let scaled = Z.mul z (power_of_ten (to_ - k)) in
-        let most = Z.of_string (if name = "w" then "1600000000000000" else "9999999") in
-        if name <> "obs" && Z.gt scaled most then refuse "TooLarge record %d column %d" r (i + 1);
-        (name, scaled)) row)
-  in
-  (goods, List.mapi (fun i row -> scale (i + 1) row) rows)
-
-let by prefix goods row = List.map (fun good -> List.assoc (prefix ^ good) row) goods
-
-let table bytes =
-  let goods, rows = numbers table_kind None 0 bytes in
-  let levels = if List.mem_assoc "e" (List.hd rows) then List.map (List.assoc "e") rows else [] in
-  { prices = List.map (by "p_" goods) rows; quantities = List.map (by "q_" goods) rows; levels }
-
-let offers bytes =
-  let goods, rows = numbers budget_kind None 0 bytes in
-  (goods, List.map (fun row -> (by "p_" goods row, List.assoc "w" row)) rows)
-
-let choices goods offers bytes =
-  let _, rows = numbers choice_kind (Some goods) (List.length offers) bytes in
-  let made row =
-    { made_on = List.assoc "budget" row; made_of = by "q_" goods row; made_times = List.assoc "n" row } in
-  let found = List.map made rows in
-  List.iteri (fun j _ ->
-      let here it = Z.equal it.made_on (Z.of_int (j + 1)) && Z.sign it.made_times > 0 in
-      if not (List.exists here found) then refuse "NoChoices budget %d" (j + 1)) offers;
-  found
-
 (* ---- words, files and the answer ---- *)
 
 exception Ended of int * string
@@ -387,15 +255,18 @@ let bytes_of text =
   let rec go i kept = if i < 0 then kept else go (i - 1) (each_byte.(Char.code text.[i]) :: kept) in
   go (String.length text - 1) []
 
-let reading name make = try make () with Refused fault -> raise (Ended (4, Printf.sprintf "%s: %s" name fault))
-let numbers_of name make = let text = read_file 4_194_304 name in reading name (fun () -> make (bytes_of text))
-let certificate_of kind one name = let text = read_file 16_777_216 name in reading name (fun () -> certificate kind one text)
+let fault_line (word, places) =
+  String.concat " " (word :: List.map (fun (what, k) -> what ^ " " ^ Z.to_string k) places)
 
-let reason_word = function
-  | Shape -> "Shape" | Number -> "Number" | NotClosed -> "NotClosed" | NotWeak -> "NotWeak" | NoStrict -> "NoStrict"
-  | Order -> "Order" | Level -> "Level" | NotLess -> "NotLess" | Wide -> "Wide" | NoGarp -> "NoGarp" | Sets -> "Set"
-  | Point -> "Point" | Bound -> "Bound" | Least -> "Least" | Dual -> "Dual" | Units -> "Units"
-  | Irrational -> "Irrational" | Levels -> "Levels"
+(* What Gallina reads of a file of numbers, and a certificate in JSON. *)
+let numbers_of read name =
+  match read (bytes_of (read_file 4_194_304 name)) with
+  | Inr found -> found
+  | Inl fault -> raise (Ended (4, name ^ ": " ^ fault_line fault))
+
+let certificate_of kind one name =
+  let text = read_file 16_777_216 name in
+  try certificate kind one text with Unread fault -> raise (Ended (4, name ^ ": " ^ fault))
 
 let answer = function
   | Accepted (items, withheld) -> (0, Printf.sprintf "accepted items %s withheld %s\n" (Z.to_string items) (Z.to_string withheld))
@@ -405,22 +276,16 @@ let answer = function
   | NoTable -> raise (Ended (4, "no table"))
 
 let check_table table_name certificate_name =
-  let tb = numbers_of table_name table in
+  let tb = numbers_of read_table table_name in
   let claimed, items = certificate_of "table" table_item certificate_name in
   check_certificate tb { claimed; items }
 
-let refusal_line = function
-  | TooManyPatches budget -> Printf.sprintf "TooManyPatches budget %s" (Z.to_string budget)
-  | NeedUnit budget -> Printf.sprintf "NeedUnit budget %s" (Z.to_string budget)
-  | TooManyCombinations -> "TooManyCombinations"
-  | TooManyTypes -> "TooManyTypes"
-
 let check_random budgets_name choices_name certificate_name per =
-  let goods, offers = numbers_of budgets_name offers in
-  let made = numbers_of choices_name (choices goods offers) in
+  let goods, offers = numbers_of read_budgets budgets_name in
+  let made = numbers_of (read_choices goods offers) choices_name in
   match prepare offers made per with
   | NoChoices -> raise (Ended (4, "no choices"))
-  | Refused why -> raise (Ended (4, refusal_line why))
+  | Refused why -> raise (Ended (4, fault_line (refusal_fault why)))
   | Prepared shares -> check_choices shares (snd (certificate_of "random" random_item certificate_name))
 
 let usage = "usage: rp-second TABLE CERT\n       rp-second BUDGETS CHOICES CERT [--per N]"
@@ -434,10 +299,9 @@ let rec words_of names per = function
       with_per names per (String.sub word 6 (String.length word - 6)) rest
   | word :: rest -> if word = "" || word.[0] = '-' then None else words_of (word :: names) per rest
 and with_per names per n rest =
-  match (per, decimal n) with
-  | None, Some (k, 0) when Z.sign k > 0 && Z.leq k (Z.of_int 1_000_000_000) && not (String.contains n '.') ->
-      words_of names (Some k) rest
-  | _ -> None
+  let plain = n <> "" && String.for_all (fun c -> c >= '0' && c <= '9') n in
+  let k = if plain then Z.of_string n else Z.zero in
+  if per = None && Z.sign k > 0 && Z.leq k (Z.of_int 1_000_000_000) then words_of names (Some k) rest else None
 
 let () =
   let ended, out, line =
