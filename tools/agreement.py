@@ -1,8 +1,8 @@
 """Draws tables, choices and certificates on them, alters the certificates, and compares what two checkers say of each.
 
 The certificates are the program's own: of five items, of demand and of welfare, on tables with levels and without, and on
-random choices. An alteration changes a number, a list, a member, the order of items or the spelling of the JSON, or holds
-the certificate against another table.
+random choices. An alteration changes a number, a list, a member, the order of items or the spelling of the JSON, or a byte,
+a field or a line of a table, of budgets or of choices.
 """
 import json
 import random
@@ -181,6 +181,31 @@ def altered(draw, text):
     return json.dumps(value, separators=(",", ":"))
 
 
+def altered_file(draw, text):
+    """Another file of numbers, by one to three changes of its bytes or lines."""
+    for _ in range(draw.choice([1, 1, 2, 3])):
+        k, how = draw.randrange(len(text) + 1), draw.randrange(6)
+        rows = text.split("\n")
+        row = draw.randrange(len(rows))
+        if how == 0:
+            text = text[:k] + draw.choice(['"', ",", ".", "0", "1", "9", " ", "\t", "\n", "\r", "\r\n", "-", "e", "é"]) + text[k:]
+        elif how == 1:
+            text = text[:k] + text[k + 1 :]
+        elif how == 2:
+            text = "\n".join([*rows[:row], rows[row], *rows[row:]])
+        elif how == 3:
+            text = "\n".join(rows[:row] + rows[row + 1 :])
+        elif how == 4:
+            fields = rows[row].split(",")
+            at = draw.randrange(len(fields))
+            wild = ['"' + fields[at] + '"', "0", "", "1.1234567", "10000000", "99999.999", "0.10", "1000", "obs", "e", "w", "q_a"]
+            fields[at] = draw.choice(wild)
+            text = "\n".join([*rows[:row], ",".join(fields), *rows[row + 1 :]])
+        else:
+            text = draw.choice([text.replace("\n", "\r\n"), text.replace(",", " ,"), text + "\n\n", "\ufeff" + text, text.rstrip("\n")])
+    return text
+
+
 # ---- what is compared
 
 
@@ -228,13 +253,24 @@ class Input:
                 first["items"] += later["items"]
                 texts.append((False, json.dumps(first)))
             texts += [(True, altered(self.draw, self.draw.choice(whole))) for _ in range(alterations if whole else 0)]
+            original = dict(self.files)
+            texts += [(None, whole[0]) for _ in range(2 if whole else 0)]
             for changed, text in texts:
+                if changed is None:
+                    name = self.draw.choice([it for it in self.second])
+                    self.files = {**original, name: altered_file(self.draw, original[name])}
+                    with open(f"{folder}/{name}", "w", encoding="utf-8", newline="") as it:
+                        it.write(self.files[name])
                 with open(f"{folder}/cert.json", "w", encoding="utf-8", errors="surrogatepass") as it:
                     it.write(text)
                 one = ran([rp, *self.first, "cert.json", *self.end], folder)
                 other = ran([second, *self.second, "cert.json", *self.end], folder)
                 differ = None if one == other else {"files": self.files, "cert": text, "rp": one, "second": other}
-                yield changed, one[0] == 0, differ
+                yield changed is not False, one[0] == 0, differ
+                if changed is None:
+                    with open(f"{folder}/{name}", "w", encoding="utf-8") as it:
+                        it.write(original[name])
+                    self.files = original
 
 
 def agreement(seed, rp, second, wanted, wanted_altered):
