@@ -4,6 +4,11 @@ pub mod Bought
 pub mod Chains
 pub mod Differences
 mod Examples
+pub mod FactsOfBundles
+pub mod FactsOfEvidence
+mod FactsOfPeople
+pub mod FactsOfPreferences
+mod FactsOfUtilities
 pub mod FullTables
 pub mod HomotheticChains
 pub mod Minima
