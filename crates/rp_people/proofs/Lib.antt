@@ -18,5 +18,6 @@ pub mod Potentials
 pub mod Rooms
 pub mod SaysOfItems
 pub mod TableLaws
+pub mod TablesOfCosts
 pub mod Values
 pub mod WelfareBounds
