@@ -1,11 +1,10 @@
 -- The definitions at small tables: a preference that rationalizes two choices that are weakly preferred to each other,
 -- none for a contradiction of three steps, and a constant answer is no preference.
-use Rattle.std.proofs.Common.{ℕ, zero, suc, ◌*◌, ◌<◌, ◌≤◌, inl, List, [], ◌∷◌, refl, arith, slice_index, slice_index_or}
+use Rattle.std.proofs.Common.{ℕ, zero, suc, ◌<◌, inl, List, [], ◌∷◌, refl, arith, slice_index, slice_index_or}
 use Rattle.std.proofs.lemmas.Int.{ints}
 use Rattle.std.specs.Prelude.{Bool, ℤ, pos, ◌*ℤ◌, ◌≤ℤ◌}
 use Rattle.rp_table.specs.Spending.{spending}
 use Rattle.rp_evidence.specs.Afriat.{allowed_for_by}
-use Rattle.rp_evidence.specs.Demand.{FractionBundle}
 use Rattle.rp_people.specs.AfriatUtility.{IsModelOfChoices, scaled_cost}
 use Rattle.rp_people.specs.Bundles.{IsBundle}
 use Rattle.rp_people.specs.Choices.{Choices, IsStrictChoice, IsWeakChoice, MeetAxiom}

@@ -1,11 +1,11 @@
 -- What holds the definitions of evidence in place of which a law uses one direction alone: the number that each of them
 -- says to be the least, the greatest or the bound is one number.
-use Rattle.std.proofs.Common.{◌≡◌, ℕ, ◌*◌, ◌<◌, ◌≤◌, inl, inr, List, length, ap, sym, subst, ◌∙◌, arith}
+use Rattle.std.proofs.Common.{◌≡◌, ℕ, ◌*◌, ◌<◌, ◌≤◌, inl, inr, List, length, ap, subst, arith}
 use Rattle.std.proofs.lemmas.Bool.{cases_lt}
 use Rattle.std.proofs.lemmas.Int.{ints}
 use Rattle.std.proofs.Math.Nat.{le_of_mul-le-mul_left, mul-le-mul_left}
 use Rattle.std.specs.Prelude.{ℤ, ◌≤ℤ◌}
-use Rattle.rp_evidence.specs.Demand.{BudgetInput, FractionBundle, IsInfimum, IsOnBudget, IsSupremum, spending}
+use Rattle.rp_evidence.specs.Demand.{BudgetInput, IsInfimum, IsSupremum, spending}
 use Rattle.rp_evidence.specs.Input.{TableInput}
 use Rattle.rp_evidence.specs.Quasilinear.{IsLeastSum}
 use Rattle.rp_evidence.specs.Walk.{IsShortestWalk}

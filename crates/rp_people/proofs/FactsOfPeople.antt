@@ -1,10 +1,8 @@
 -- What holds the definitions of what verdicts say of people in place: bounds and indices are one number, the lower welfare
 -- bound is not above the upper one, an item that says yes and one that says no exclude each other, and an item that says
 -- yes says that its test holds.
-use Rattle.std.proofs.Common.{◌≡◌, ℕ, zero, suc, ◌+◌, ◌*◌, ◌<◌, ◌≤◌, inl, inr, List, [], ◌∷◌, ap, refl, subst, arith}
-use Rattle.std.proofs.lemmas.Bool.{cases_lt}
+use Rattle.std.proofs.Common.{◌≡◌, ℕ, ◌+◌, ◌*◌, ◌<◌, ◌≤◌, [], ◌∷◌, ap, refl, subst, arith}
 use Rattle.std.proofs.lemmas.Int.{ints}
-use Rattle.std.proofs.Math.Nat.{mul-le-mul_left}
 use Rattle.std.specs.Prelude.{pos, negsuc, ◌-ℤ◌, ◌*ℤ◌, ◌≤ℤ◌}
 use Rattle.rp_num.specs.Fraction.{Fraction}
 use Rattle.rp_table.specs.Spending.{spending}
@@ -23,12 +21,11 @@ use Rattle.rp_people.specs.Fractions.{AreEqual, SignedFraction}
 use Rattle.rp_people.specs.Money.{HasConcaveWorth, HasWorth, RationalizesWithMoney, gain}
 use Rattle.rp_people.specs.Rationalizing.{HasConcaveUtility, HasHomogeneousUtility, HasNonsatiatedHomotheticPreference, HasNonsatiatedPreference}
 use Rattle.rp_people.specs.TableChoices.{IsFullInput, choices_at, choices_of}
-use Rattle.rp_people.specs.Utilities.{preference_of}
 use Rattle.rp_people.specs.WelfareOfPeople.{BoundWelfareOfPeople}
 use Rattle.rp_people.proofs.Bought.{by_utility_is_bought}
 use Rattle.rp_people.proofs.FactsOfBundles.{over, ratio}
 use Rattle.rp_people.proofs.FactsOfEvidence.{one_number}
-use Rattle.rp_people.proofs.Orders.{nonsatiated_of_preference, preference_is, preference_of_concave, preference_of_homogeneous}
+use Rattle.rp_people.proofs.Orders.{nonsatiated_of_preference, preference_of_concave, preference_of_homogeneous}
 use Rattle.rp_people.proofs.Rooms.{more_is_nonsatiated}
 use Rattle.rp_people.proofs.SaysOfItems.{homothetic_meets, worth_meets}
 use Rattle.rp_people.proofs.TableLaws.{by_levels}

@@ -4,15 +4,15 @@
 use Rattle.std.proofs.Common.{◌≡◌, ℕ, zero, suc, ◌+◌, ◌*◌, ◌<◌, ◌≤◌, [], ◌∷◌, ap, refl, sym, subst, arith}
 use Rattle.std.proofs.lemmas.Int.{ints}
 use Rattle.std.proofs.Math.Nat.{mul-le-mul_left}
-use Rattle.std.specs.Prelude.{Bool, ℤ, IsTrue, min, pos, ◌+ℤ◌, ◌*ℤ◌, ◌<ℤ◌, ◌≤ℤ◌}
+use Rattle.std.specs.Prelude.{IsTrue, min, pos, ◌+ℤ◌, ◌*ℤ◌, ◌<ℤ◌, ◌≤ℤ◌}
 use Rattle.rp_evidence.specs.Demand.{FractionBundle}
-use Rattle.rp_people.specs.Bundles.{AreEqualInValue, HasMoreOfEveryGood, IsBundle, mixture, multiple}
+use Rattle.rp_people.specs.Bundles.{AreEqualInValue, HasMoreOfEveryGood, mixture, multiple}
 use Rattle.rp_people.specs.Fractions.{SignedFraction}
 use Rattle.rp_people.specs.Utilities.{IsConcave, IsConcaveUtility, IsHomogeneous, IsMonotone, IsStrictlyMonotone, IsUtilityOfBundles, preference_of}
 use Rattle.rp_people.proofs.Affine.{spending_mixture, spending_more_of_one, spending_multiple}
 use Rattle.rp_people.proofs.Differences.{at_most_times}
 use Rattle.rp_people.proofs.FactsOfBundles.{more_of_one, over, ratio}
-use Rattle.rp_people.proofs.FactsOfPreferences.{greater, lesser, min_times, more_lesser, more_size, same_lesser, same_size, size}
+use Rattle.rp_people.proofs.FactsOfPreferences.{greater, lesser, more_lesser, more_size, same_lesser, same_size, size}
 
 -- a number of the bundle, over its denominator
 abbrev of : (FractionBundle → ℕ) → FractionBundle → SignedFraction

@@ -1,13 +1,13 @@
 -- Where a bundle costs less than what can be spent, whatever is near enough costs no more than that: so a better one can
 -- be had by a preference that is locally nonsatiated. A preference with more of every good as better is one such, since a
 -- bundle with a little of each good more is near.
-use Rattle.std.proofs.Common.{◌≡◌, ℕ, zero, suc, ◌+◌, ◌*◌, ◌<◌, ◌≤◌, refl, sym, arith}
+use Rattle.std.proofs.Common.{ℕ, zero, suc, ◌+◌, ◌*◌, ◌<◌, ◌≤◌, refl, arith}
 use Rattle.std.proofs.Math.Nat.{le_of_mul-le-mul_left, lt_of_mul-lt-mul_left, mul-le-mul_left, mul-pos}
 use Rattle.std.specs.Prelude.{Bool}
 use Rattle.rp_table.specs.Spending.{spending}
 use Rattle.rp_evidence.specs.Demand.{FractionBundle}
 use Rattle.rp_people.specs.Bundles.{AreEqualInValue, AreWithin, CostsAtMost, CostsLess, HasMoreOfEveryGood, IsBundle}
-use Rattle.rp_people.specs.Preferences.{IsAtLeastAsGood, IsBetter, IsNonsatiated, IsNonsatiatedByValue, IsNonsatiatedPreference, IsPreference, IsTransitive, PrefersMore, TreatsAlikeByValue}
+use Rattle.rp_people.specs.Preferences.{IsBetter, IsNonsatiated, IsNonsatiatedByValue, IsNonsatiatedPreference, IsPreference, IsTransitive, PrefersMore, TreatsAlikeByValue}
 
 -- ---- what is near costs little more
 
