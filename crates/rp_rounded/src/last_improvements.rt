@@ -1,6 +1,3 @@
-ghost use Rattle.std.specs.Prelude.{◌≡◌, ◌≤◌, IfSome};
-ghost use Rattle.rp_num.specs.Fraction.{IsLowestTerms};
-
 use crate::rounds::Best;
 use rp_clauses::input::Input;
 use rp_num::{Frac, NoMemory};
@@ -41,17 +38,17 @@ fn walk_back(alloc: Global, best: &[Best], at: u32) -> Result<Vec<u32>, NoMemory
     Ok(walk)
 }
 
-/// The first observation that a round made less, or 0.
-fn first_of_round(best: &[Best], round: u32) -> u32 {
-    match best.iter().position(|b| b.round == round) {
-        Some(s) => s as u32,
+/// The observation from which a round first made another less, or 0.
+fn first_from(best: &[Best], round: u32) -> u32 {
+    match best.iter().find(|b| b.round == round) {
+        Some(found) => found.from,
         None => 0,
     }
 }
 
-/// A closed walk of the last improvements.
+/// A closed walk of the last improvements, from one that the round made.
 pub fn closed_walk(alloc: Global, best: &[Best], round: u32) -> Result<Vec<u32>, NoMemory> {
-    walk_back(alloc, best, far_before(best, first_of_round(best, round)))
+    walk_back(alloc, best, far_before(best, first_from(best, round)))
 }
 
 /// The product over the first half of a walk's steps, or none where it passes the width or the walk leaves the table.
