@@ -2,6 +2,7 @@ ghost use Rattle.std.specs.Prelude.{◌≡◌, IfOk, IfSome};
 ghost use Rattle.rp_evidence.specs.BoundEvidence.{BoundHolds};
 ghost use Rattle.rp_evidence.specs.DemandEvidence.{withheld_bound};
 ghost use Rattle.rp_farkas.specs.Measure.{HasMeasure, measured};
+ghost use Rattle.rp_farkas.specs.PairCheck.{IsShownPair};
 
 use crate::run::run;
 use rp_evidence::Bound;
@@ -9,19 +10,26 @@ use rp_farkas::{Lp, Measure, Pair, check_pair};
 use rp_num::{Frac, NoMemory};
 use std::alloc::Global;
 
-/// The measure of the pair's prices, where the check takes the pair.
-fn shown_if_taken<P: Lp>(p: &P, measure: Measure, pair: Pair) -> Option<Bound>
-    requires measure { HasMeasure (P.program p.now) measure }
-    ensures holds { IfSome result
-        (BoundHolds (P.program p.now) (measured (P.program p.now) measure)) }
-    ensures given { IfSome result (λ bound. withheld_bound bound ≡ 0) }
+/// The pair where the check takes it.
+fn if_taken<P: Lp>(p: &P, pair: Pair) -> Option<Pair>
+    ensures { IfSome result (IsShownPair (P.program p.now)) }
 {
     if !check_pair(p, &pair) {
         return None;
     }
+    Some(pair)
+}
+
+/// The measure of the pair's prices.
+fn shown<P: Lp>(p: &P, measure: Measure, pair: Pair) -> Bound
+    requires measure { HasMeasure (P.program p.now) measure }
+    requires pair { IsShownPair (P.program p.now) pair }
+    ensures holds { BoundHolds (P.program p.now) (measured (P.program p.now) measure) result }
+    ensures given { withheld_bound result ≡ 0 }
+{
     let num = measure.of(p, pair.x.as_slice());
     let value = Frac::new(num, u128::from(pair.den));
-    Some(Bound::Shown { value, pair })
+    Bound::Shown { value, pair }
 }
 
 /// The measure of the prices at the pair at which the run of the program ends, on whole numbers over one denominator
@@ -38,8 +46,11 @@ pub fn whole_bound_of<P: Lp>(
         (BoundHolds (P.program p.now) (measured (P.program p.now) measure))) }
     ensures given { IfOk result (λ o. IfSome o (λ bound. withheld_bound bound ≡ 0)) }
 {
-    match run(alloc, p)? {
-        Some(pair) => Ok(shown_if_taken(p, measure, pair)),
+    let Some(found) = run(alloc, p)? else {
+        return Ok(None);
+    };
+    match if_taken(p, found) {
+        Some(pair) => Ok(Some(shown(p, measure, pair))),
         None => Ok(None),
     }
 }
