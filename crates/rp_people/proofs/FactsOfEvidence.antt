@@ -1,11 +1,11 @@
 -- What holds the definitions of evidence in place of which a law uses one direction alone: the number that each of them
 -- says to be the least, the greatest or the bound is one number.
-use Rattle.std.proofs.Common.{◌≡◌, ℕ, ◌*◌, ◌<◌, ◌≤◌, inl, inr, List, length, ap, subst, arith}
+use Rattle.std.proofs.Common.{◌≡◌, ℕ, ◌*◌, ◌<◌, ◌≤◌, inl, inr, List, length, ap, subst, sym, arith}
 use Rattle.std.proofs.lemmas.Bool.{cases_lt}
 use Rattle.std.proofs.lemmas.Int.{ints}
 use Rattle.std.proofs.Math.Nat.{le_of_mul-le-mul_left, mul-le-mul_left}
-use Rattle.std.specs.Prelude.{ℤ, ◌≤ℤ◌}
-use Rattle.rp_evidence.specs.Demand.{BudgetInput, IsInfimum, IsSupremum, spending}
+use Rattle.std.specs.Prelude.{ℤ, ◌≤ℤ◌, slice_index}
+use Rattle.rp_evidence.specs.Demand.{BudgetInput, IsInfimum, IsInnerStart, IsSupremum, spending}
 use Rattle.rp_evidence.specs.Input.{TableInput}
 use Rattle.rp_evidence.specs.Quasilinear.{IsLeastSum}
 use Rattle.rp_evidence.specs.Walk.{IsShortestWalk}
@@ -67,3 +67,18 @@ shortest_walks_are_as_long n step s t walk other is also =
     let low = is.fewest other also.leads also.has_step in
     let high = also.fewest walk is.leads is.has_step in
     omega arith
+
+inner_start_is_one : (input : TableInput) (budget : BudgetInput) (counts : List ℕ) (s t : ℕ) → IsInnerStart input budget counts s → IsInnerStart input budget counts t → s ≡ t
+inner_start_is_one input budget counts s t is other =
+    let low = is.greatest t other.observed other.bought in
+    let high = other.greatest s is.observed is.bought in
+    let same : slice_index counts t ≡ slice_index counts s = omega arith in
+    let cheap = is.cheapest t other.observed other.bought same in
+    let dear = other.cheapest s is.observed is.bought (sym same) in
+    elim (cases_lt s t) [
+      | inl l ↦ let k = other.first s l is.bought (sym same) in absurd (omega arith)
+      | inr l ↦ elim (cases_lt t s) [
+        | inl m ↦ let k = is.first t m other.bought same in absurd (omega arith)
+        | inr m ↦ omega arith
+      ]
+    ]

@@ -1,9 +1,9 @@
 -- What holds the definitions of what verdicts say of people in place: bounds and indices are one number, the lower welfare
 -- bound is not above the upper one, an item that says yes and one that says no exclude each other, and an item that says
 -- yes says that its test holds.
-use Rattle.std.proofs.Common.{◌≡◌, ℕ, ◌+◌, ◌*◌, ◌<◌, ◌≤◌, [], ◌∷◌, ap, refl, subst, arith}
+use Rattle.std.proofs.Common.{◌≡◌, ℕ, ◌+◌, ◌*◌, ◌<◌, ◌≤◌, List, [], ◌∷◌, ap, refl, subst, sym, ◌∙◌, arith}
 use Rattle.std.proofs.lemmas.Int.{ints}
-use Rattle.std.specs.Prelude.{pos, negsuc, ◌-ℤ◌, ◌*ℤ◌, ◌≤ℤ◌}
+use Rattle.std.specs.Prelude.{ℤ, pos, negsuc, ◌-ℤ◌, ◌*ℤ◌, ◌≤ℤ◌}
 use Rattle.rp_num.specs.Fraction.{Fraction}
 use Rattle.rp_table.specs.Spending.{spending}
 use Rattle.rp_evidence.specs.Demand.{BudgetInput, FractionBundle}
@@ -14,7 +14,9 @@ use Rattle.rp_evidence.specs.Preference.{IsLevel, StrictByLevels, WeakByLevels}
 use Rattle.rp_evidence.specs.Quasilinear.{MeetsQuasilinearTest}
 use Rattle.rp_evidence.specs.WelfareModels.{bundle_at}
 use Rattle.rp_evidence.specs.declared.demand.Bound.TheVariants.{Shown}
+use Rattle.rp_people.specs.AfriatUtility.{IsUtilityOfNumbers}
 use Rattle.rp_people.specs.BoughtBundles.{IsInfimumBought, IsSupremumBought}
+use Rattle.rp_people.specs.Bundles.{IsBundle}
 use Rattle.rp_people.specs.Choices.{Choices}
 use Rattle.rp_people.specs.DividedLevels.{DividesLevels}
 use Rattle.rp_people.specs.Fractions.{AreEqual, SignedFraction}
@@ -23,6 +25,7 @@ use Rattle.rp_people.specs.Rationalizing.{HasConcaveUtility, HasHomogeneousUtili
 use Rattle.rp_people.specs.TableChoices.{IsFullInput, choices_at, choices_of}
 use Rattle.rp_people.specs.WelfareOfPeople.{BoundWelfareOfPeople}
 use Rattle.rp_people.proofs.Bought.{by_utility_is_bought}
+use Rattle.rp_people.proofs.Differences.{both_at_most}
 use Rattle.rp_people.proofs.FactsOfBundles.{over, ratio}
 use Rattle.rp_people.proofs.FactsOfEvidence.{one_number}
 use Rattle.rp_people.proofs.Orders.{nonsatiated_of_preference, preference_of_concave, preference_of_homogeneous}
@@ -112,6 +115,44 @@ module _ (input : TableInput) (full : IsFullInput input) where
 
 four_fifths : (input : TableInput) (s : ℕ) → ((choices_at input 4 5).scale ≡ 5) × ((choices_at input 4 5).own s ≡ 4 * input.cost s s)
 four_fifths input s = (refl, refl)
+
+-- ---- the numbers of a model have one utility
+
+utility_is_one : (choices : Choices) (number : ℕ → ℤ) (multiplier : ℕ → ℕ) (u v : FractionBundle → SignedFraction) → IsUtilityOfNumbers choices number multiplier u → IsUtilityOfNumbers choices number multiplier v
+    → (x : FractionBundle) → IsBundle x → AreEqual (u x) (v x)
+utility_is_one choices number multiplier u v is other x ix =
+    let a = is.least x ix in
+    let b = other.least x ix in
+    let low : (u x).num ≤ℤ (v x).num = subst (λ z. (u x).num ≤ℤ z) (sym b.reached.2) (a.least b.reached.0 b.reached.1) in
+    let high : (v x).num ≤ℤ (u x).num = subst (λ z. (v x).num ≤ℤ z) (sym a.reached.2) (b.least a.reached.0 a.reached.1) in
+    let e = both_at_most (u x).num (v x).num low high in
+    let d : (v x).den ≡ (u x).den = other.over x ix ∙ sym (is.over x ix) in
+    ap (λ n. n *ℤ pos (v x).den) e ∙ ap (λ k. (v x).num *ℤ pos k) d
+
+-- ---- a table of one good: of a price and a bundle that are not 0, and held by its own level
+
+abbrev lone_table : ℕ → ℕ → List ℕ → TableInput
+lone_table p q levels = record {
+  n = 1;
+  goods = 1;
+  price = λ s g. p;
+  quantity = λ s g. q;
+  cost = λ s t. spending 1 (λ g. p) (λ g. q);
+  levels = levels;
+  sums = λ s t a b. refl;
+}
+
+lone_is_full : IsFullInput (lone_table 2 3 [])
+lone_is_full = record { some = omega arith; some_goods = omega arith; positive_prices = λ s g a b. omega arith; positive_costs = λ s t a b. omega arith }
+
+no_price_is_nothing : ¬ IsFullInput (lone_table 0 3 [])
+no_price_is_nothing full = let l = full.positive_prices 0 0 (omega arith) (omega arith) in absurd (omega (arith, l))
+
+no_bundle_is_empty : ¬ IsFullInput (lone_table 2 0 [])
+no_bundle_is_empty full = let l = full.positive_costs 0 0 (omega arith) (omega arith) in absurd (omega (arith, l))
+
+held_to_800 : ((choices_of (lone_table 2 3 (800 ∷ []))).scale ≡ 1000) × ((choices_of (lone_table 2 3 (800 ∷ []))).own 0 ≡ 4800)
+held_to_800 = (refl, refl)
 
 -- ---- money: one choice of 1 at the price 1. Who holds a bundle to be worth what it costs gains nothing of any; who holds
 -- it to be worth twice that gains more of 5.
