@@ -44,29 +44,29 @@ NEEDS = {
 }
 
 
-CALL = "the proved functions of the library's call"
-NOT_PROVED = "no proof covers the compiler for this system, the link and the code around the call; tools/check-systems tries them"
+CALL = "the functions of the library's call, proved by rt ci as Rattle's compiler has them before any backend"
+TRIED = "no proof covers the compiler for this system, the link and the code around the call; run by tools/check-systems"
 # How a program for Linux is linked statically: at any address, and with nothing that is written later than at the start.
 STATIC = ["-static-pie", "-s", "-Wl,--gc-sections,-z,relro,-z,now,-z,noexecstack,-z,noseparate-code"]
 # How the program for ARM is linked of what stands beside it, under link/ in its archive.
 ARM_PARTS = ["link/program.o", "link/posix.o", "link/heap.o", "link/librp_c.a"]
 ARM_LINK = ["aarch64-linux-gnu-gcc", *STATIC, "-o", "rp", *ARM_PARTS]
-# What stands behind each file, for PROVED.
+# What stands behind each file, for PROVED: what was proved, and by what it was compiled, linked and run.
 ORIGINS = {
     "arm": {
-        "rp": f"{CALL}, compiled for aarch64 by rattle build, linked statically with systems/program.c and posix.c; {NOT_PROVED}: {' '.join(ARM_LINK)}",
+        "rp": f"{CALL}; compiled for aarch64 by rattle build; linked statically with systems/program.c and posix.c by the system's gcc; {TRIED} under qemu: {' '.join(ARM_LINK)}",
         **{it: "what rp is linked from" for it in ARM_PARTS},
     },
     "windows": {
-        "rp.exe": f"{CALL}, their LLVM module compiled for x86_64-pc-windows-gnu, linked with systems/program.c and windows.c; {NOT_PROVED}",
-        "rp.dll": f"the same call as a library; {NOT_PROVED}",
+        "rp.exe": f"{CALL}; their LLVM module compiled for x86_64-pc-windows-gnu by the kit's clang; linked with systems/program.c and windows.c by mingw-w64's gcc; {TRIED} under Wine",
+        "rp.dll": f"the same functions and compiler; linked as a library by mingw-w64's gcc; {TRIED} under Wine",
         "librp.dll.a": "what a program is linked with that takes rp.dll",
         "rp.h": "the call in C",
     },
     "web": {
-        "rp.wasm": f"{CALL}, their LLVM module compiled for WebAssembly; {NOT_PROVED}",
-        "rp.js": "JavaScript around the module, for a page and for Node; no proof covers it",
-        "rp.mjs": "the command for Node over rp.js; no proof covers it",
+        "rp.wasm": f"{CALL}; their LLVM module compiled for WebAssembly and linked by the kit's clang, its addresses made 32 bits by wasm-opt; {TRIED} in Node and browsers",
+        "rp.js": "JavaScript around the module, for a page and for Node; no proof covers it; run by tools/check-systems",
+        "rp.mjs": "the command for Node over rp.js; no proof covers it; run by tools/check-systems",
         "rp": "a script of the shell that starts rp.mjs by Node",
     },
 }
