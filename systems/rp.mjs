@@ -3,7 +3,7 @@
 import { closeSync, openSync, readFileSync, readSync, writeSync } from "node:fs";
 
 const [READ_FAULT, REFUSED, WRITE_FAULT, NO_MEMORY, NO_TEXT] = [3, 4, 5, 6, 7];
-/** No answer, since a file beside this one is missing or damaged, or the module stopped: an end that the program has not. */
+/** No answer: a file beside this one is missing or damaged, or the module stopped. The program has no such end. */
 const NO_MODULE = 70;
 const texts = new TextDecoder();
 

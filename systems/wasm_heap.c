@@ -16,7 +16,7 @@ extern unsigned char __heap_base;
 static block *freed[CLASSES];
 static u64 top, in_use;
 
-/* The class of a size, the smallest whose blocks have room for it; sets the room, of which the class is the same one. Rooms
+/* The class of a size, the smallest whose blocks have room for it; sets the room, whose class is the same one. Rooms
    are multiples of 16: up to 64 each of them, and from there on four for each doubling. */
 static int class_of(u64 size, u64 *room) {
     if (size <= 64) {

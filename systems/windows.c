@@ -11,8 +11,8 @@
 #include <shellapi.h>
 
 enum { NO_MEMORY = 6, NO_TEXT = 7 };
-/* A file whose path from the root on has as many characters as this, or more, is named by that path with a prefix, behind
-   which there may be 32,767 of them; without it 259. */
+/* A file whose path from the root on has as many characters as this, or more, is named by that path with a prefix,
+   behind which Windows takes 32,767 of them; without it 259. */
 enum { LONG_PATH = 240 };
 
 /* Returns a text in UTF-8 as Windows has it, or nothing where there is no memory for it. */
@@ -29,8 +29,8 @@ static bool is_own(const wchar_t *path) {
     return wcsncmp(path, L"\\\\?\\", 4) == 0 || wcsncmp(path, L"\\\\.\\", 4) == 0;
 }
 
-/* Returns the name by which a file is opened, in the place of the one that is given: the same, or where its path from the
-   root on is long, that path with the prefix; nothing where there is no memory. */
+/* Returns the name by which a file is opened, in the place of the one that is given: the same, or where its path from
+   the root on is long, that path with the prefix; nothing where there is no memory. */
 static wchar_t *opened_by(wchar_t *name) {
     enum { ROOM = 8 };
     DWORD count = GetFullPathNameW(name, 0, NULL, NULL);

@@ -1,7 +1,8 @@
-"""The notices of what is linked into the files of a release: the kit's libraries, the C library and the compiler's run time.
+"""The notices of what is linked into the files of a release: the kit's libraries, the C library and the compiler's run
+time.
 
-The texts are those that stand on the machine which makes the release: of the kit's libraries in the kit, of the rest in the
-documents of the system's packages. Where there is none, the notice says so.
+The texts are those that stand on the machine which makes the release: of the kit's libraries in the kit, of the rest in
+the documents of the system's packages. Where there is none, the notice says so.
 """
 import functools
 import glob
@@ -18,25 +19,26 @@ OF_KIT = ("core", "io", "libc", "os", "std", "std_alloc", "std_collections", "st
 HEAD = """rp is under the licenses of LICENSE. {what} parts of other works are linked, whose notices follow: {names}.
 """
 LIBRARIES = "{names}, of the Rattle kit. What it has as the license of {each}:"
-KIT = """The Rattle kit's own libraries ({names}), and what these take of C: the kit that this was made with has no text of a
-license for them, so none can be repeated here."""
-GNU = """The GNU C library {version}: GNU Lesser General Public License, version 2.1 or later. Its source is that of this
-version, and of the system's package. With what lies under link/ the program can be linked with another version:
+KIT = """The Rattle kit's own libraries ({names}), and what these take of C: the kit that this was made with has
+no text of a license for them, so none can be repeated here."""
+GNU = """The GNU C library {version}: GNU Lesser General Public License, version 2.1 or later. Its source is
+that of this version, and of the system's package. With what lies under link/ the program can be linked with another
+version:
 
     {link}
 
 What its package says of it, and the license:
 """
-START = """The code by which a program or a library starts, of the GNU C library and of GCC: both may be linked into any work
-without further terms, by what their sources say. The C library itself is not inside: it is that of the system.
+START = """The code by which a program or a library starts, of the GNU C library, which its sources allow to be linked
+into any work without further terms. The C library itself is not inside: it is that of the system.
 """
-GCC = """GCC's run time (libgcc and the code by which a program starts): GNU General Public License, version 3 or later, with
-the GCC Runtime Library Exception, under which it may be linked into any work:
+GCC = """GCC's run time (libgcc and the code by which a program starts): GNU General Public License, version 3 or
+later, with the GCC Runtime Library Exception, under which it may be linked into any work:
 """
 MINGW = """The run time of mingw-w64: what its package says of it.
 """
-LLVM = """The functions of LLVM's compiler-rt on whole numbers of 128 bits: Apache License, version 2.0 (it stands in LICENSE),
-with the LLVM Exceptions. What their package says of them:
+LLVM = """The functions of LLVM's compiler-rt on whole numbers of 128 bits: Apache License, version 2.0 (it stands in
+LICENSE), with the LLVM Exceptions. What their package says of them:
 """
 
 
@@ -80,7 +82,7 @@ def libraries():
 
 
 def license_of(name):
-    """Returns the text of a library's license: the MIT License where it is one of two, and all that it has else; or nothing."""
+    """Returns the text of a library's license: the MIT License where it is one of two, else all it has; or nothing."""
     files = sorted(glob.glob(f"{kit()}/rattle/{name}/LICENSE*"))
     chosen = [it for it in files if it.endswith("-MIT")] or files
     more = [it for it in files if it not in chosen and not it.endswith("-APACHE")]
@@ -148,12 +150,14 @@ def wrapped(paragraph):
 
 def linux(version, link):
     """The notice of the archive for Linux, whose program has the C library inside."""
-    return joined("Into the programs and the libraries of this archive", [glibc("libc6-dev", version, link), gcc("libgcc-12-dev")])
+    parts = [glibc("libc6-dev", version, link), gcc("libgcc-12-dev")]
+    return joined("Into the programs and the libraries of this archive", parts)
 
 
 def shared():
     """The notice of what takes the C library of the system: the package for Debian, and the wheel for Linux."""
-    return joined("Into the program and the library of this package", [("the start of a program", START), gcc("libgcc-12-dev")])
+    parts = [("the start of a program", START), gcc("libgcc-12-dev")]
+    return joined("Into the program and the library of this package", parts)
 
 
 def arm(version, link):

@@ -97,8 +97,8 @@ def debian(entries, program, library, version, libc, when, archive):
 
 
 def python(when, inside=None, notice="", proved=""):
-    """Returns the wheel of Python that has this library or program inside, with its NOTICE and its PROVED; or where there is
-    none, the wheel for every platform and the sdist; by their names."""
+    """Returns the wheel of Python that has this library or program inside, with its NOTICE and its PROVED; or where there
+    is none, the wheel for every platform and the sdist; by their names."""
     given = {**(inside or {}), **({"NOTICE": notice.encode(), "PROVED": proved.encode()} if inside else {})}
     with tempfile.TemporaryDirectory(prefix="rp-wheels-") as room:
         os.mkdir(f"{room}/made")

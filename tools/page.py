@@ -37,7 +37,8 @@ def safe(source):
 
 
 def page(module, version, commit, terms):
-    """Returns the page's text, with the license and the notices of what is inside. What its scripts and its style are is said by their checksums, and no connection is allowed."""
+    """Returns the page's text, with the license and the notices of what is inside. What its scripts and its style are is
+    said by their checksums, and no connection is allowed."""
     script = safe("'use strict';\n" + joined(f"{PAGE}/{it}.js" for it in MODULES))
     worker = joined([f"{TOP}/systems/rp.js", f"{PAGE}/worker.js"])
     style = text(f"{PAGE}/style.css")

@@ -46,7 +46,7 @@ NEEDS = {
 
 CALL = "the functions of the library's call, proved by rt ci as Rattle's compiler has them before any backend"
 TRIED = "no proof covers the compiler for this system, the link and the code around the call; run by tools/check-systems"
-# How a program for Linux is linked statically: at any address, and with nothing that is written later than at the start.
+# How a program for Linux is linked statically: for any address, bound at its start, its stack not run.
 STATIC = ["-static-pie", "-s", "-Wl,--gc-sections,-z,relro,-z,now,-z,noexecstack,-z,noseparate-code"]
 # How the program for ARM is linked of what stands beside it, under link/ in its archive.
 ARM_PARTS = ["link/program.o", "link/posix.o", "link/heap.o", "link/librp_c.a"]

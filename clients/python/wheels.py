@@ -3,9 +3,10 @@ package. The same sources give the same bytes.
 
 usage: wheels.py FOLDER [FILE..]
 
-Without files it writes the wheel for every platform, and the sdist. With the library `librp.so` or `rp.dll`, or the program `rp`
-or `rp.exe`, it writes the wheel of that platform, which has them inside, and among its own documents the files `NOTICE` and
-`PROVED` of a release where they are given. pip gives them by `--config-settings=library=FILE`, `program=FILE` and `told=FILE`.
+Without files it writes the wheel for every platform, and the sdist. With the library `librp.so` or `rp.dll`, or the
+program `rp` or `rp.exe`, it writes the wheel of that platform, which has them inside, and among its own documents the
+files `NOTICE` and `PROVED` of a release where they are given. pip gives them by `--config-settings=library=FILE`,
+`program=FILE` and `told=FILE`.
 """
 
 import base64
@@ -113,9 +114,11 @@ def metadata():
 
 
 def own_license():
-    """Returns the file LICENSE, which stands beside this one in the sdist, and at the top of a release and of its sources."""
-    found = [it for it in (os.path.join(HERE, "LICENSE"), os.path.join(HERE, "..", "..", "LICENSE")) if os.path.exists(it)]
-    return [("LICENSE", bytes_of(found[0]))] if found else []
+    """Returns the file LICENSE, which stands beside this one in the sdist, else at the top of a release or the sources."""
+    for folder in (HERE, os.path.join(HERE, "..", "..")):
+        if os.path.exists(os.path.join(folder, "LICENSE")):
+            return [("LICENSE", bytes_of(os.path.join(folder, "LICENSE")))]
+    return []
 
 
 def sources(top):
