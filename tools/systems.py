@@ -59,7 +59,7 @@ ORIGINS = {
     },
     "windows": {
         "rp.exe": f"{CALL}; their LLVM module compiled for x86_64-pc-windows-gnu by the kit's clang; linked with systems/program.c and windows.c by mingw-w64's gcc; {TRIED} under Wine",
-        "rp.dll": f"the same functions and compiler; linked as a library by mingw-w64's gcc; {TRIED} under Wine",
+        "rp.dll": f"{CALL}; their LLVM module compiled as for rp.exe; linked as a library by mingw-w64's gcc; {TRIED} under Wine",
         "librp.dll.a": "what a program is linked with that takes rp.dll",
         "rp.h": "the call in C",
     },
