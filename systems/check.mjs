@@ -47,6 +47,38 @@ function limited(data, more) {
   }
 }
 
+/** Takes and frees blocks of every kind while another is in use, as the library does within a call. */
+function checkHeap({ malloc, free, memory }) {
+  const held = malloc(1n);
+  const edgesOf = (at) => [4, 5, 6, 7].flatMap((part) => [-1, 0, 1].map((by) => part * 2 ** at + by));
+  const edges = [...Array(22).keys()].flatMap(edgesOf);
+  const sizes = [...new Set([...Array(4200).keys(), ...edges.filter((it) => it >= 4200)])].sort((a, b) => a - b);
+  const lost = sizes.filter((size) => {
+    const first = malloc(BigInt(size));
+    free(first);
+    const again = malloc(BigInt(size));
+    free(again);
+    return again !== first;
+  });
+  expect(lost.length === 0, `blocks of ${lost.length} sizes are freed and not taken again: ${lost.slice(0, 40)}`);
+  const few = sizes.filter((it) => it < 70000);
+  const taken = () => few.map((size) => ({ at: malloc(BigInt(size)), size })).sort((a, b) => Number(a.at - b.at));
+  const blocks = taken();
+  const ends = blocks.map(({ at, size }) => at + BigInt(size));
+  const misplaced = blocks.filter(({ at }, it) => at % 16n !== 0n || (it > 0 && ends[it - 1] > at));
+  expect(misplaced.length === 0, `${misplaced.length} blocks overlap others, or begin at no multiple of 16`);
+  const before = memory.buffer.byteLength;
+  for (const { at } of blocks) free(at);
+  for (const { at } of taken()) free(at);
+  for (let pair = 0; pair < 1000000; pair++) free(malloc(20n));
+  const more = (memory.buffer.byteLength - before) / 65536;
+  expect(more === 0, `memory grew by ${more} pages over blocks that were freed, and a million pairs of 20 bytes`);
+  free(held);
+  const again = sizes.length - lost.length;
+  console.log(`the heap: blocks of ${again} of ${sizes.length} sizes are taken again within a call`);
+}
+
+checkHeap((await WebAssembly.instantiate(bytes, {})).instance.exports);
 const library = await load(bytes);
 for (const [words, files] of calls) library.answer(words, files);
 const most = pages(library);
