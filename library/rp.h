@@ -38,13 +38,14 @@ enum rp_status {
  * `words_length` counts the zero bytes too. `names` are the names of the files, as the words have them, in the same form.
  * `sizes` has one number for each name, in their order: how many bytes the file has. `files` is how many sizes there are.
  * `bytes` are the bytes of the files, one after the other, with nothing between them; `bytes_length` is their sum.
- * All files that the words name are given, and no others. One that is not given is told first (RP_READ_FAULT), before any
- * other is looked at. A name that is given twice counts as it is given first.
+ * All files that the words name are given, and no more than they name. One that is not given is told first
+ * (RP_READ_FAULT), before any other is looked at. A name that is given twice counts as it is given first.
  *
  * The texts. What the command would write to standard output goes to `output`, and what it would tell on standard error
  * to `told`, each as far as there is room; the rest of the room stays as it was. No zero byte is added. `output_length`
  * and `told_length` take how long the texts are, also where they did not fit: where one is greater than the room, call
- * again with that much. The answer to the same arguments is the same text again.
+ * again with that much, and take that answer whole: of several cycles that would do no clause says which is printed, so
+ * none says that the text of the next call is the same.
  *
  * Ownership. All memory is the caller's. The call only reads the first five, and writes only within the room and the two
  * numbers. No pointer is null, not even where its length is 0, and no memory that is written overlaps another argument.

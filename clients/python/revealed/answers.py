@@ -406,7 +406,7 @@ class Part:
 
 
 class RandomVerdict:
-    """Whether a population in which each has a utility makes the choices.
+    """Whether a population in which each has a preference makes the choices.
 
     `rational` is True, False, or None where the verdict is withheld: then `reason` says why. `share` is the greatest share
     of the choices that rational types make, a Fraction, 1 where `rational` is True. `parts` are the types that make it.
