@@ -12,6 +12,7 @@ from typing import Any, Callable, Iterable, Iterator, Sequence
 
 from . import clusters, exact, program
 from .answers import Certificate, Verdict
+from .catalogue import DRAWS, SEED
 from .commands import refusal
 from .faults import BadData, Failed, NoProgram, Pooled, Problem, Refused, WrongColumns
 from .frames import Frame, near, own_labels, pairs_of, values_of
@@ -174,7 +175,7 @@ def panel(
     """
     names = [by] if not isinstance(by, (list, tuple)) else list(by)
     if power is not None:
-        power, seed = program.whole(power, "power", 1, 1000), program.whole(seed, "seed", 0, 2**64 - 1)
+        power, seed = program.whole(power, "power", *DRAWS), program.whole(seed, "seed", *SEED)
     if workers is not None:
         workers = program.whole(workers, "workers", 1, 1024)
     if clusters.is_dask(d):
