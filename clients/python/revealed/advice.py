@@ -116,7 +116,9 @@ def rounded_prices(kinds: dict[str, Sequence[Any]]) -> str:
 
 def without_places(kind: str) -> str:
     """Returns what to do about a number that does not fit without any place."""
-    unit = "a smaller unit of the good (its price less, its quantity more)" if kind == PRICES else "a larger unit of the good (its quantity less, its price more)"
+    unit = (
+        "a smaller unit of the good (its price less, its quantity more)" if kind == PRICES else "a larger unit of the good (its quantity less, its price more)"
+    )
     return f"above {LARGEST:,} a number is not taken: take {unit}, which changes no verdict ({MEANT})"
 
 

@@ -79,9 +79,7 @@ def random_trial(seed: Any, rows: Any, goods: Any, *, exe: Any = None) -> Trial:
 # ---- at new prices
 
 
-def demand_bounds(
-    p: Any, q: Any = None, new: Any = None, m: Any = None, *, levels: Any = None, places: Any = None, exe: Any = None
-) -> Answers:
+def demand_bounds(p: Any, q: Any = None, new: Any = None, m: Any = None, *, levels: Any = None, places: Any = None, exe: Any = None) -> Answers:
     """Returns the Demand on each new budget: prices `new`, a row or a frame, and what is spent `m`, one number or one a row.
 
     A frame of new prices may have the column `m` itself. It is refused on a table with levels.

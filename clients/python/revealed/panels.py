@@ -108,7 +108,9 @@ class Panel(list):
             if name in self.by or kind is None:
                 made[name] = pandas.Series(values, dtype=None if values else object)
             elif kind == "string":
-                made[name] = pandas.array([None if value is None else value if isinstance(value, str) else exact.written(value) for value in values], dtype=kind)
+                made[name] = pandas.array(
+                    [None if value is None else value if isinstance(value, str) else exact.written(value) for value in values], dtype=kind
+                )
             else:
                 made[name] = pandas.array(values, dtype=kind)
         return pandas.DataFrame(made)
