@@ -1,12 +1,17 @@
-// The module's memory, in Node: many calls do not make it grow, and memory that is refused ends a call with the status for it.
-// usage: node check.mjs FOLDER CALLS, where FOLDER has rp.wasm and rp.js, and CALLS is JSON: words and files of each call.
+// The module's memory, in Node: many calls do not make it grow, and memory that is refused ends a call with the status
+// for it.
+// usage: node check.mjs FOLDER CALLS, where FOLDER has rp.wasm and rp.js, and CALLS is JSON: words and files of each
+// call.
 import { readFileSync } from "node:fs";
 import { pathToFileURL } from "node:url";
 
 const [folder, file] = process.argv.slice(2);
 const { load } = await import(pathToFileURL(`${folder}/rp.js`));
 const bytes = readFileSync(`${folder}/rp.wasm`);
-const decoded = ([words, files]) => [words, Object.entries(files).map(([name, data]) => ({ name, bytes: Buffer.from(data, "base64") }))];
+const decoded = ([words, files]) => [
+  words,
+  Object.entries(files).map(([name, data]) => ({ name, bytes: Buffer.from(data, "base64") })),
+];
 const calls = JSON.parse(readFileSync(file)).map(decoded);
 const small = calls.filter(([, files]) => files.every((it) => it.bytes.length < 10000));
 const [ROUNDS, NO_MEMORY] = [10000, 6];
@@ -41,12 +46,46 @@ function limited(data, more) {
       const [least] = numberAt(data, start + 2);
       const number = (value) => [value & 127 | 128, value >> 7 & 127 | 128, value >> 14];
       const section = [1, 1, ...number(least), ...number(least + more)];
-      return Buffer.concat([data.subarray(0, at), Buffer.from([5, section.length, ...section]), data.subarray(start + length)]);
+      return Buffer.concat(
+        [data.subarray(0, at), Buffer.from([5, section.length, ...section]), data.subarray(start + length)],
+      );
     }
     at = start + length;
   }
 }
 
+/** Takes and frees blocks of every kind while another is in use, as the library does within a call. */
+function checkHeap({ malloc, free, memory }) {
+  const held = malloc(1n);
+  const edgesOf = (at) => [4, 5, 6, 7].flatMap((part) => [-1, 0, 1].map((by) => part * 2 ** at + by));
+  const edges = [...Array(22).keys()].flatMap(edgesOf);
+  const sizes = [...new Set([...Array(4200).keys(), ...edges.filter((it) => it >= 4200)])].sort((a, b) => a - b);
+  const lost = sizes.filter((size) => {
+    const first = malloc(BigInt(size));
+    free(first);
+    const again = malloc(BigInt(size));
+    free(again);
+    return again !== first;
+  });
+  expect(lost.length === 0, `blocks of ${lost.length} sizes are freed and not taken again: ${lost.slice(0, 40)}`);
+  const few = sizes.filter((it) => it < 70000);
+  const taken = () => few.map((size) => ({ at: malloc(BigInt(size)), size })).sort((a, b) => Number(a.at - b.at));
+  const blocks = taken();
+  const ends = blocks.map(({ at, size }) => at + BigInt(size));
+  const misplaced = blocks.filter(({ at }, it) => at % 16n !== 0n || (it > 0 && ends[it - 1] > at));
+  expect(misplaced.length === 0, `${misplaced.length} blocks overlap others, or begin at no multiple of 16`);
+  const before = memory.buffer.byteLength;
+  for (const { at } of blocks) free(at);
+  for (const { at } of taken()) free(at);
+  for (let pair = 0; pair < 1000000; pair++) free(malloc(20n));
+  const more = (memory.buffer.byteLength - before) / 65536;
+  expect(more === 0, `memory grew by ${more} pages over blocks that were freed, and a million pairs of 20 bytes`);
+  free(held);
+  const again = sizes.length - lost.length;
+  console.log(`the heap: blocks of ${again} of ${sizes.length} sizes are taken again within a call`);
+}
+
+checkHeap((await WebAssembly.instantiate(bytes, {})).instance.exports);
 const library = await load(bytes);
 for (const [words, files] of calls) library.answer(words, files);
 const most = pages(library);
@@ -57,7 +96,10 @@ const began = performance.now();
 for (let at = 0; at < ROUNDS; at++) fresh.answer(...small[at % small.length]);
 const took = performance.now() - began;
 expect(pages(fresh) === before, `memory grew from ${before} to ${pages(fresh)} pages over ${ROUNDS} calls`);
-console.log(`${ROUNDS} calls took ${Math.round(took)} ms and left the memory at ${before} pages of 64 KB; the largest inputs want ${most}`);
+console.log(
+  `${ROUNDS} calls took ${Math.round(took)} ms and left the memory at ${before} pages of 64 KB; the largest inputs ` +
+    `want ${most}`,
+);
 
 let refused = 0;
 for (const more of [0, 1, 2, 4, 8, 16, 32]) {
@@ -67,7 +109,10 @@ for (const more of [0, 1, 2, 4, 8, 16, 32]) {
     const given = tight.texts(words, files);
     if (given.status === NO_MEMORY) {
       refused += 1;
-      expect(given.output === "" && given.told === "rp: out of memory\n", `refused memory: ${words}: ${JSON.stringify(given)}`);
+      expect(
+        given.output === "" && given.told === "rp: out of memory\n",
+        `refused memory: ${words}: ${JSON.stringify(given)}`,
+      );
     } else {
       expect(JSON.stringify(given) === JSON.stringify(wide), `refused memory: ${words}: another answer`);
     }
