@@ -1,12 +1,17 @@
-// The module's memory, in Node: many calls do not make it grow, and memory that is refused ends a call with the status for it.
-// usage: node check.mjs FOLDER CALLS, where FOLDER has rp.wasm and rp.js, and CALLS is JSON: words and files of each call.
+// The module's memory, in Node: many calls do not make it grow, and memory that is refused ends a call with the status
+// for it.
+// usage: node check.mjs FOLDER CALLS, where FOLDER has rp.wasm and rp.js, and CALLS is JSON: words and files of each
+// call.
 import { readFileSync } from "node:fs";
 import { pathToFileURL } from "node:url";
 
 const [folder, file] = process.argv.slice(2);
 const { load } = await import(pathToFileURL(`${folder}/rp.js`));
 const bytes = readFileSync(`${folder}/rp.wasm`);
-const decoded = ([words, files]) => [words, Object.entries(files).map(([name, data]) => ({ name, bytes: Buffer.from(data, "base64") }))];
+const decoded = ([words, files]) => [
+  words,
+  Object.entries(files).map(([name, data]) => ({ name, bytes: Buffer.from(data, "base64") })),
+];
 const calls = JSON.parse(readFileSync(file)).map(decoded);
 const small = calls.filter(([, files]) => files.every((it) => it.bytes.length < 10000));
 const [ROUNDS, NO_MEMORY] = [10000, 6];
@@ -41,7 +46,9 @@ function limited(data, more) {
       const [least] = numberAt(data, start + 2);
       const number = (value) => [value & 127 | 128, value >> 7 & 127 | 128, value >> 14];
       const section = [1, 1, ...number(least), ...number(least + more)];
-      return Buffer.concat([data.subarray(0, at), Buffer.from([5, section.length, ...section]), data.subarray(start + length)]);
+      return Buffer.concat(
+        [data.subarray(0, at), Buffer.from([5, section.length, ...section]), data.subarray(start + length)],
+      );
     }
     at = start + length;
   }
@@ -89,7 +96,10 @@ const began = performance.now();
 for (let at = 0; at < ROUNDS; at++) fresh.answer(...small[at % small.length]);
 const took = performance.now() - began;
 expect(pages(fresh) === before, `memory grew from ${before} to ${pages(fresh)} pages over ${ROUNDS} calls`);
-console.log(`${ROUNDS} calls took ${Math.round(took)} ms and left the memory at ${before} pages of 64 KB; the largest inputs want ${most}`);
+console.log(
+  `${ROUNDS} calls took ${Math.round(took)} ms and left the memory at ${before} pages of 64 KB; the largest inputs ` +
+    `want ${most}`,
+);
 
 let refused = 0;
 for (const more of [0, 1, 2, 4, 8, 16, 32]) {
@@ -99,7 +109,10 @@ for (const more of [0, 1, 2, 4, 8, 16, 32]) {
     const given = tight.texts(words, files);
     if (given.status === NO_MEMORY) {
       refused += 1;
-      expect(given.output === "" && given.told === "rp: out of memory\n", `refused memory: ${words}: ${JSON.stringify(given)}`);
+      expect(
+        given.output === "" && given.told === "rp: out of memory\n",
+        `refused memory: ${words}: ${JSON.stringify(given)}`,
+      );
     } else {
       expect(JSON.stringify(given) === JSON.stringify(wide), `refused memory: ${words}: another answer`);
     }

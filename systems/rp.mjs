@@ -44,12 +44,13 @@ function writes(stream, bytes) {
   return true;
 }
 
-const fileWanted = ({ status, told }) => (status === READ_FAULT ? /^rp: ([^]*): read failed\n$/.exec(texts.decode(told))?.[1] : undefined);
+const fileWanted = ({ status, told }) =>
+  status === READ_FAULT ? /^rp: ([^]*): read failed\n$/.exec(texts.decode(told))?.[1] : undefined;
 
 /**
- * Answers, and reads each file when the library wants it: it tells that the reading of one that is not given failed. The
- * command refuses a file before it asks for the next; so where one cannot be read, an earlier one may have to be refused
- * all the same: it is asked once more, with nothing in the files from there on.
+ * Answers, and reads each file when the library wants it: it tells that the reading of one that is not given failed.
+ * The command refuses a file before it asks for the next; so where one cannot be read, an earlier one may have to be
+ * refused all the same: it is asked once more, with nothing in the files from there on.
  */
 function answer(library, words, most) {
   const files = [];

@@ -9,7 +9,7 @@ import re
 TOP = os.path.dirname(os.path.dirname(os.path.realpath(__file__)))
 PAGE = f"{TOP}/page"
 # The page's modules, each after those that it takes names from.
-MODULES = ["dom", "sheets", "reports", "pictures", "client", "slots", "answers", "panels", "questions", "main"]
+MODULES = ["facts", "dom", "sheets", "reports", "pictures", "client", "slots", "answers", "panels", "questions", "main"]
 EXAMPLES = ["experiment.csv", "contradiction.csv", "levels.csv", "panel/panel.csv", "budgets.csv", "choices.csv", "menus.csv", "technology.csv", "outputs.csv"]
 
 
@@ -27,6 +27,11 @@ def joined(files):
     return "\n".join(parts)
 
 
+def with_facts(source):
+    """Returns a script with what docs/catalogue.json tells in the place that page/facts.js has for it."""
+    return source.replace('"{catalogue}"', json.dumps(json.loads(text(f"{TOP}/docs/catalogue.json")), ensure_ascii=False), 1)
+
+
 def hashed(source):
     return f"'sha256-{base64.b64encode(hashlib.sha256(source.encode()).digest()).decode()}'"
 
@@ -39,11 +44,19 @@ def safe(source):
 def page(module, version, commit, terms):
     """Returns the page's text, with the license and the notices of what is inside. What its scripts and its style are is
     said by their checksums, and no connection is allowed."""
-    script = safe("'use strict';\n" + joined(f"{PAGE}/{it}.js" for it in MODULES))
+    script = safe("'use strict';\n" + with_facts(joined(f"{PAGE}/{it}.js" for it in MODULES)))
     worker = joined([f"{TOP}/systems/rp.js", f"{PAGE}/worker.js"])
     style = text(f"{PAGE}/style.css")
     examples = {os.path.basename(it): text(f"{TOP}/examples/{it}") for it in EXAMPLES}
-    rules = ["default-src 'none'", f"script-src {hashed(script)} 'wasm-unsafe-eval' blob:", "worker-src blob:", f"style-src {hashed(style)}", "img-src data: blob:", "base-uri 'none'", "form-action 'none'"]
+    rules = [
+        "default-src 'none'",
+        f"script-src {hashed(script)} 'wasm-unsafe-eval' blob:",
+        "worker-src blob:",
+        f"style-src {hashed(style)}",
+        "img-src data: blob:",
+        "base-uri 'none'",
+        "form-action 'none'",
+    ]
     given = {
         "policy": "; ".join(rules),
         "style": style,
