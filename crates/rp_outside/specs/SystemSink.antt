@@ -2,8 +2,8 @@
 -- project's own).
 use Rattle.std.specs.Prelude.{ℕ, ◌-◌, List, Option, Some, None, length, take}
 
--- the bytes that the writer holds, where it tells them; how many of them, at the end, it took before a flush failed; how
--- many calls there were, and how many of them failed
+-- the bytes that the writer holds, where it tells them; how many of them, at the end, it took before a flush failed;
+-- how many calls there were, and how many of them failed
 pub record StdSinkState : Type 0 where
   pub contents : Option (List ℕ)
   pub unflushed : ℕ

@@ -13,9 +13,9 @@ pub enum DeskFault {
     NoMemory,
 }
 
-/// Files that are read by name, at any place in them. The bytes of a name are known or not known, and a
-/// clause on content holds where they are. Faults are counted by name, calls for the desk as a whole. So are the reads
-/// that were asked for known or not.
+/// Files that are read by name, at any place in them. The bytes of a name are known or not known, and a clause on
+/// content holds where they are; so are the reads that were asked for. Faults are counted by name, calls for the desk as
+/// a whole.
 pub trait Desk {
     /// The bytes of each name, where they are known.
     ghost bytes: { Self → List ℕ → Option (List ℕ) };

@@ -1,5 +1,6 @@
 ghost use Rattle.std.specs.Prelude.{◌≡◌, ◌≢◌, ◌+◌, ◌≤◌, ◌⊎◌, ◌↔◌, ℕ, List, None, Some, Ok, IfOk};
-ghost use Rattle.std.specs.Prelude.{IsErr, IsErrOf, IsOk, drop, length, min, option_map, string_bytes, take};
+ghost use Rattle.std.specs.Prelude.{IsErr, IsErrOf, IsOk, drop, length, min, option_map};
+ghost use Rattle.std.specs.Prelude.{string_bytes, take};
 ghost use Rattle.std.specs.Io.KnownBytes.{ReadConsumes};
 ghost use Rattle.std.specs.Option.{ForSome};
 ghost use Rattle.rp_outside.specs.Asked.{ListsRead, MayListRead};

@@ -1,8 +1,5 @@
-ghost use Rattle.std.specs.Prelude.{◌≡◌, ◌++◌, ◌∷◌, ◌≤◌, ◌⊎◌, ℕ, List, [], Some, IfOk, IsErrOf};
-ghost use Rattle.std.specs.Prelude.{OnErr, OnOk, drop, length, map, take};
-ghost use Rattle.std.specs.Option.{ForSome};
+ghost use Rattle.std.specs.Prelude.{◌≡◌, ◌++◌, ◌∷◌, [], Some, OnErr, OnOk, map};
 ghost use Rattle.rp_outside.specs.Asked.{reads_of};
-ghost use Rattle.rp_outside.specs.Faults.{HasRisen, next_count};
 ghost use Rattle.rp_outside.specs.Files.{bytes_under};
 ghost use Rattle.rp_outside.specs.ListedRead.{listed_read};
 ghost use Rattle.rp_outside.specs.NamedFile.{named_bytes};
@@ -21,8 +18,8 @@ pub struct AskedRead {
     pub at: u64,
 }
 
-/// Files in memory, as those of `MemDesk`, with a list of the reads that were asked for. Where there is no memory to list
-/// a read, it is not asked for.
+/// Files in memory, as those of `MemDesk`, with a list of the reads that were asked for. Where there is no memory to
+/// list a read, it is not asked for.
 #[derive(Drop)]
 pub struct ListingDesk {
     alloc: Global,

@@ -107,7 +107,8 @@ fn take_turn<D: Desk>(
     ensures call_counted { D.calls desk.new ≡ next_count (D.calls desk.old) }
     ensures listed { IsErrOf result LoadFault.NoMemory
         ⊎ ListsRead (D.asked desk.old) (D.asked desk.new) name.now (vec_len bytes.old) }
-    ensures may_list { MayListRead (D.asked desk.old) (D.asked desk.new) name.now (vec_len bytes.old) }
+    ensures may_list { MayListRead (D.asked desk.old) (D.asked desk.new)
+        name.now (vec_len bytes.old) }
 {
     let at = bytes.len() as u64;
     match desk.read_at(name, at, &mut *part) {
