@@ -134,7 +134,15 @@ fn a_read_that_fails_midway_is_no_end_of_the_file(rt: HostRuntime) -> Result<(),
 fn a_folder_is_opened_and_not_read(rt: HostRuntime) -> Result<(), Fail> {
     let folder = env::temp_dir(&rt)?.into_string();
     let mut desk = FileDesk::new(&rt, rt.alloc());
-    assert!(rt; loads(rt.alloc(), &mut desk, folder.as_str(), 12, Err(LoadFault::Read)));
+    assert!(rt;
+        loads(
+            rt.alloc(),
+            &mut desk,
+            folder.as_str(),
+            12,
+            Err(LoadFault::Read)
+        )
+    );
     assert!(rt; desk.faults() == 1);
     Ok(())
 }
