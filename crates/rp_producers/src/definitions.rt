@@ -15,9 +15,9 @@ ghost use Rattle.rp_producers.specs.SmallSets.{just_one_suffices, some_output, s
 /// where each of two inputs alone suffices in an amount of 2, 1 of each does by convexity; and families that lack one
 /// property are none.
 pub fn requirement_sets_in_small_cases()
-    ensures by_value { (goods output : ℕ) (suffices : ℕ → FractionBundle → Bool) (x z : FractionBundle)
-        → AreRequirementSets goods suffices → IsBundle x → IsBundle z → AreEqualInValue goods x z
-        → IsTrue (suffices output x) → IsTrue (suffices output z) }
+    ensures by_value { (goods output : ℕ) (suffices : ℕ → FractionBundle → Bool)
+        (x z : FractionBundle) → AreRequirementSets goods suffices → IsBundle x → IsBundle z
+        → AreEqualInValue goods x z → IsTrue (suffices output x) → IsTrue (suffices output z) }
     ensures more_of_one { (suffices : ℕ → FractionBundle → Bool) → AreRequirementSets 2 suffices
         → IsTrue (suffices 3 (inputs_of 1 1)) → IsTrue (suffices 2 (inputs_of 2 1)) }
     ensures halves { (suffices : ℕ → FractionBundle → Bool) (output : ℕ)
@@ -42,12 +42,12 @@ pub fn rationalizing_sets_in_small_cases()
 /// halfway between their inputs; and what takes less output for none is no such set. Profit is the output at its price
 /// less what the inputs cost.
 pub fn production_sets_in_small_cases()
-    ensures less_output { (goods low high : ℕ) (feasible : ℕ → FractionBundle → Bool) (x : FractionBundle)
-        → IsConvexProductionSet goods feasible → IsBundle x → low ≤ high
+    ensures less_output { (goods low high : ℕ) (feasible : ℕ → FractionBundle → Bool)
+        (x : FractionBundle) → IsConvexProductionSet goods feasible → IsBundle x → low ≤ high
         → IsTrue (feasible high x) → IsTrue (feasible low x) }
-    ensures by_value { (goods output : ℕ) (feasible : ℕ → FractionBundle → Bool) (x z : FractionBundle)
-        → IsConvexProductionSet goods feasible → IsBundle x → IsBundle z → AreEqualInValue goods x z
-        → IsTrue (feasible output x) → IsTrue (feasible output z) }
+    ensures by_value { (goods output : ℕ) (feasible : ℕ → FractionBundle → Bool)
+        (x z : FractionBundle) → IsConvexProductionSet goods feasible → IsBundle x → IsBundle z
+        → AreEqualInValue goods x z → IsTrue (feasible output x) → IsTrue (feasible output z) }
     ensures halfway { (feasible : ℕ → FractionBundle → Bool) → IsConvexProductionSet 2 feasible
         → IsTrue (feasible 1 (inputs_of 2 0)) → IsTrue (feasible 3 (inputs_of 0 2))
         → IsTrue (feasible 2 (inputs_of 1 1)) }
