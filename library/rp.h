@@ -1,9 +1,9 @@
 /*
  * rp.h - revealed preference, as one call over files in memory.
  *
- * The call answers what the command `rp` answers: to the same words, over files of the same bytes, with the same text. It
- * reads no file, prints nothing, starts no thread and keeps nothing between calls. What each command takes and writes is
- * told in docs/FORMATS.md; `rp` below is the command's name in its own texts.
+ * The call answers as the command `rp` does, to the same words over files of the same bytes. It reads no file, prints
+ * nothing, starts no thread and keeps nothing between calls. What each command takes and writes is told in
+ * docs/FORMATS.md; `rp` below is the command's name in its own texts.
  *
  *   cc program.c -lrp                 with the shared library
  *   cc program.c librp.a              with the static one: it needs nothing but the C library
@@ -35,20 +35,21 @@ enum rp_status {
  * Answers the words of a command line.
  *
  * Framing. `words` are the words after the program's name, each ended by a zero byte: "analyse\0t.csv\0" are two, and
- * `words_length` counts the zero bytes too. `names` are the names of the files, as the words have them, in the same form.
- * `sizes` has one number for each name, in their order: how many bytes the file has. `files` is how many sizes there are.
- * `bytes` are the bytes of the files, one after the other, with nothing between them; `bytes_length` is their sum.
- * All files that the words name are given, and no others. One that is not given is told first (RP_READ_FAULT), before any
- * other is looked at. A name that is given twice counts as it is given first.
+ * `words_length` counts the zero bytes too. `names` are the names of the files, as the words have them, in the same
+ * form. `sizes` has one number for each name, in their order: how many bytes the file has. `files` is how many sizes
+ * there are. `bytes` are the bytes of the files, one after the other, with nothing between them; `bytes_length` is
+ * their sum. All files that the words name are given, and no more than they name. One that is not given is told first
+ * (RP_READ_FAULT), before any other is looked at. A name that is given twice counts as it is given first.
  *
  * The texts. What the command would write to standard output goes to `output`, and what it would tell on standard error
  * to `told`, each as far as there is room; the rest of the room stays as it was. No zero byte is added. `output_length`
  * and `told_length` take how long the texts are, also where they did not fit: where one is greater than the room, call
- * again with that much. The answer to the same arguments is the same text again.
+ * again with that much, and take that answer whole: of several cycles that would do no clause says which is printed, so
+ * none says that the text of the next call is the same.
  *
- * Ownership. All memory is the caller's. The call only reads the first five, and writes only within the room and the two
- * numbers. No pointer is null, not even where its length is 0, and no memory that is written overlaps another argument.
- * Of its own the call takes memory by malloc and gives all of it back before it returns.
+ * Ownership. All memory is the caller's. The call only reads the first five, and writes only within the room and the
+ * two numbers. No pointer is null, not even where its length is 0, and no memory that is written overlaps another
+ * argument. Of its own the call takes memory by malloc and gives all of it back before it returns.
  *
  * Threads. Any number of threads may call at once, each with rooms of its own; they share nothing. Do not call from a
  * signal handler, nor in the child of a fork of a process that has threads.

@@ -49,9 +49,25 @@ export function folded(says, ...children) {
 /** A table of texts under column names, in a place of its own to scroll in. */
 export function tableOf(names, rows, caption) {
   const head = make("tr", {}, ...names.map((it) => make("th", { scope: "col", textContent: it })));
-  const body = rows.map((row) => make("tr", {}, ...row.map((it) => make("td", { textContent: it, className: /^-?[\d./]+$/.test(it) ? "number" : "" }))));
-  const it = make("table", {}, caption ? make("caption", { textContent: caption, className: "note" }) : null, make("thead", {}, head), make("tbody", {}, ...body));
-  return make("div", { className: "scroll tall", tabIndex: 0, attrs: { role: "region", "aria-label": caption ?? "table" } }, it);
+  const body = rows.map(
+    (row) => make(
+      "tr",
+      {},
+      ...row.map((it) => make("td", { textContent: it, className: /^-?[\d./]+$/.test(it) ? "number" : "" })),
+    ),
+  );
+  const it = make(
+    "table",
+    {},
+    caption ? make("caption", { textContent: caption, className: "note" }) : null,
+    make("thead", {}, head),
+    make("tbody", {}, ...body),
+  );
+  return make(
+    "div",
+    { className: "scroll tall", tabIndex: 0, attrs: { role: "region", "aria-label": caption ?? "table" } },
+    it,
+  );
 }
 
 /** A text of the program as it stands. */

@@ -2,6 +2,7 @@
 import { tableAnswers } from "./answers.js";
 import { Client, Stopped } from "./client.js";
 import { labelled, make, textOf } from "./dom.js";
+import { range } from "./facts.js";
 import { Panel } from "./panels.js";
 import { commandForm, otherAnswers, panelQuestions, tableQuestions } from "./questions.js";
 import { Purchases, parseFault } from "./reports.js";
@@ -13,22 +14,46 @@ const KINDS = [
   {
     key: "table",
     says: "prices and purchases: a table, or a panel of households",
-    slots: [{ key: "table", title: "Table", mapped: true, note: "A CSV file: p_NAME and q_NAME for each good, a record for each observation. A column of households makes it a panel.", examples: ["experiment.csv", "contradiction.csv", "levels.csv", "panel.csv"] }],
+    slots: [
+      {
+        key: "table",
+        title: "Table",
+        mapped: true,
+        note:
+          "A CSV file: p_NAME and q_NAME for each good, a record for each observation. A column of households makes " +
+          "it a panel.",
+        examples: ["experiment.csv", "contradiction.csv", "levels.csv", "panel.csv"],
+      },
+    ],
   },
   {
     key: "budgets",
     says: "choices of many people from budgets",
     slots: [
       { key: "budgets", title: "Budgets", note: "p_NAME for each good, and w, the income.", examples: ["budgets.csv"] },
-      { key: "choices", title: "Choices", note: "budget, q_NAME for each good, and n, how many times it was chosen.", examples: ["choices.csv"] },
+      {
+        key: "choices",
+        title: "Choices",
+        note: "budget, q_NAME for each good, and n, how many times it was chosen.",
+        examples: ["choices.csv"],
+      },
     ],
   },
-  { key: "menus", says: "choices from menus", slots: [{ key: "menus", title: "Choices from menus", note: "menu, choice and n.", examples: ["menus.csv"] }] },
+  {
+    key: "menus",
+    says: "choices from menus",
+    slots: [{ key: "menus", title: "Choices from menus", note: "menu, choice and n.", examples: ["menus.csv"] }],
+  },
   {
     key: "production",
     says: "a firm: inputs and outputs",
     slots: [
-      { key: "technology", title: "Technology", note: "w_NAME and x_NAME for each input, y, and possibly p.", examples: ["technology.csv"] },
+      {
+        key: "technology",
+        title: "Technology",
+        note: "w_NAME and x_NAME for each input, y, and possibly p.",
+        examples: ["technology.csv"],
+      },
       { key: "outputs", title: "Outputs that are asked", note: "w_NAME, and y.", examples: ["outputs.csv"] },
     ],
   },
@@ -36,7 +61,8 @@ const KINDS = [
 
 const client = new Client(textOf("module"), textOf("worker"));
 const at = (id) => document.getElementById(id);
-const per = make("input", { type: "number", min: 1, max: 1_000_000_000, size: 12 });
+const [leastUnits, mostUnits] = range("random", "--per");
+const per = make("input", { type: "number", min: leastUnits, max: mostUnits, size: 12 });
 let slots = [];
 
 function tell(text) {
@@ -72,7 +98,9 @@ function refused(files, told) {
     at(`fault-${slot.form.key}`)?.scrollIntoView({ block: "center" });
   }
   tell(`Refused: ${told.trim()}`);
-  at("results").replaceChildren(...(fault && !slot ? [make("p", { className: "fault", textContent: fault.means })] : []));
+  at("results").replaceChildren(
+    ...(fault && !slot ? [make("p", { className: "fault", textContent: fault.means })] : []),
+  );
 }
 
 async function answerTable(slot) {
@@ -112,7 +140,9 @@ async function answerPanel(slot) {
 async function answerOthers(kind) {
   if (!slots.every((it) => it.sheet)) return;
   const files = slots.map((it) => it.file);
-  if (new Set(files.map((it) => it.name)).size < files.length) files.forEach((it, place) => (it.name = `${slots[place].form.key}.csv`));
+  if (new Set(files.map((it) => it.name)).size < files.length) {
+    files.forEach((it, place) => (it.name = `${slots[place].form.key}.csv`));
+  }
   const given = await working(() => otherAnswers(client, kind, files, per.value));
   if (!given) return;
   if (given.answer.status !== 0) {
@@ -134,12 +164,17 @@ function choose(kind) {
   slots = kind.slots.map((form) => new Slot(form, EXAMPLES, (slot) => ready(kind.key, slot)));
   at("answers").hidden = at("more").hidden = true;
   at("results").replaceChildren();
-  const units = kind.key === "budgets" || kind.key === "menus" ? [make("div", { className: "row" }, labelled("Units to ask for (none: the least common ones)", per))] : [];
+  const units = kind.key === "budgets" || kind.key === "menus"
+    ? [make("div", { className: "row" }, labelled("Units to ask for (none: the least common ones)", per))]
+    : [];
   at("slots").replaceChildren(...units, ...slots.map((it) => it.place));
 }
 
 KINDS.forEach((kind, number) => {
-  const radio = make("input", { type: "radio", name: "kind", id: `kind-${kind.key}`, checked: number === 0, onchange: () => choose(kind) });
+  const radio = make(
+    "input",
+    { type: "radio", name: "kind", id: `kind-${kind.key}`, checked: number === 0, onchange: () => choose(kind) },
+  );
   at("kinds").append(make("label", {}, radio, ` ${kind.says}`));
 });
 at("stop").addEventListener("click", () => client.stop());

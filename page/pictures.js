@@ -15,7 +15,10 @@ function element(name, attributes, ...children) {
 }
 
 function picture(width, height, title, description) {
-  const it = element("svg", { viewBox: `0 0 ${width} ${height}`, role: "img", "aria-label": `${title}. ${description}`, xmlns: SVG });
+  const it = element(
+    "svg",
+    { viewBox: `0 0 ${width} ${height}`, role: "img", "aria-label": `${title}. ${description}`, xmlns: SVG },
+  );
   it.append(element("title", {}, title), element("desc", {}, description));
   return it;
 }
@@ -54,7 +57,12 @@ function axes(svg, { left, top, width, height, mostX, mostY, nameX, nameY }) {
     svg.append(element("text", { x: left - 9, y: y(it) + 4, "text-anchor": "end" }, ticked(it)));
   }
   svg.append(element("text", { x: left + width / 2, y: top + height + 40, "text-anchor": "middle" }, nameX));
-  const across = { x: 14, y: top + height / 2, "text-anchor": "middle", transform: `rotate(-90 14 ${top + height / 2})` };
+  const across = {
+    x: 14,
+    y: top + height / 2,
+    "text-anchor": "middle",
+    transform: `rotate(-90 14 ${top + height / 2})`,
+  };
   svg.append(element("text", across, nameY));
   return { x, y, endX, endY };
 }
@@ -69,18 +77,34 @@ function arrow(svg, [x1, y1], [x2, y2], bend) {
   const [toX, toY] = [x2 - dx * 9, y2 - dy * 9];
   const turn = Math.hypot(toX - midX, toY - midY) || 1;
   const [ux, uy] = [(toX - midX) / turn, (toY - midY) / turn];
-  svg.append(element("path", { class: "cycle", d: `M${x1 + dx * 8} ${y1 + dy * 8}Q${midX} ${midY} ${toX - ux * 8} ${toY - uy * 8}` }));
+  svg.append(
+    element(
+      "path",
+      { class: "cycle", d: `M${x1 + dx * 8} ${y1 + dy * 8}Q${midX} ${midY} ${toX - ux * 8} ${toY - uy * 8}` },
+    ),
+  );
   const [baseX, baseY] = [toX - ux * 11, toY - uy * 11];
-  svg.append(element("path", { class: "arrow", d: `M${toX} ${toY}L${baseX - uy * 5} ${baseY + ux * 5}L${baseX + uy * 5} ${baseY - ux * 5}Z` }));
+  svg.append(
+    element(
+      "path",
+      { class: "arrow", d: `M${toX} ${toY}L${baseX - uy * 5} ${baseY + ux * 5}L${baseX + uy * 5} ${baseY - ux * 5}Z` },
+    ),
+  );
 }
 
-/** The places where a curve of equal utility by Afriat's numbers turns: the bundles that cost as much as each choice says. */
+/**
+ * The places where a curve of equal utility by Afriat's numbers turns: the bundles that cost as much as each choice
+ * says.
+ */
 function curveOf(table, model, through, x, y, endX, endY) {
   const costs = (s, t) => Number(table.cost(s, t));
   const prices = (s) => table.prices[s].map(Number);
   const scale = 10 ** table.quantityPlaces;
   const level = model.utility[through];
-  const lines = table.prices.map((_, s) => ({ p: prices(s), least: costs(s, s) + (level - model.utility[s]) / model.lambda[s] }));
+  const lines = table.prices.map((_, s) => ({
+    p: prices(s),
+    least: costs(s, s) + (level - model.utility[s]) / model.lambda[s],
+  }));
   const points = [];
   const steps = 300;
   for (let at = 0; at <= steps; at++) {
@@ -91,22 +115,46 @@ function curveOf(table, model, through, x, y, endX, endY) {
   return points;
 }
 
-/** Budget lines of a table of two goods with the choices, a violating cycle, and a curve of equal utility where there is one. */
+/**
+ * Budget lines of a table of two goods with the choices, a violating cycle, and a curve of equal utility where there is
+ * one.
+ */
 export function budgetPicture(table, cycle, model) {
   const scale = 10 ** table.quantityPlaces;
   const ends = table.prices.map((p, s) => p.map((price) => Number(table.cost(s, s)) / Number(price) / scale));
   const chosen = table.quantities.map((it) => it.map((q) => Number(q) / scale));
-  const what = cycle.length ? `The arrows are the cycle ${cycle.join(", ")}: each leads to a bundle that could have been bought.` : "";
-  const curve = model ? `The dashed curve joins bundles as good as that of observation ${model.through + 1} by Afriat's numbers.` : "";
-  const svg = picture(640, 480, "Budget lines and choices", `${table.count} observations of ${table.goods.join(" and ")}. ${what}${curve}`);
+  const what = cycle.length
+    ? `The arrows are the cycle ${cycle.join(", ")}: each leads to a bundle that could have been bought.`
+    : "";
+  const curve = model
+    ? `The dashed curve joins bundles as good as that of observation ${model.through + 1} by Afriat's numbers.`
+    : "";
+  const svg = picture(
+    640,
+    480,
+    "Budget lines and choices",
+    `${table.count} observations of ${table.goods.join(" and ")}. ${what}${curve}`,
+  );
   const frame = { left: 64, top: 16, width: 556, height: 408, nameX: table.goods[0], nameY: table.goods[1] };
-  const { x, y, endX, endY } = axes(svg, { ...frame, mostX: Math.max(...ends.map((it) => it[0])), mostY: Math.max(...ends.map((it) => it[1])) });
+  const { x, y, endX, endY } = axes(
+    svg,
+    { ...frame, mostX: Math.max(...ends.map((it) => it[0])), mostY: Math.max(...ends.map((it) => it[1])) },
+  );
   const inCycle = new Set(cycle.map((it) => it - 1));
   const few = table.count <= 60;
   ends.forEach(([a, b], s) => {
-    if (few || inCycle.has(s)) svg.append(element("path", { class: "budget", "stroke-width": inCycle.has(s) ? 2.5 : 1, d: pathOf([[x(a), y(0)], [x(0), y(b)]]) }));
+    if (few || inCycle.has(s)) {
+      svg.append(
+        element(
+          "path",
+          { class: "budget", "stroke-width": inCycle.has(s) ? 2.5 : 1, d: pathOf([[x(a), y(0)], [x(0), y(b)]]) },
+        ),
+      );
+    }
   });
-  if (model) svg.append(element("path", { class: "curve", d: pathOf(curveOf(table, model, model.through, x, y, endX, endY)) }));
+  if (model) {
+    svg.append(element("path", { class: "curve", d: pathOf(curveOf(table, model, model.through, x, y, endX, endY)) }));
+  }
   cycle.slice(1).forEach((to, at) => {
     const [from, there] = [chosen[cycle[at] - 1], chosen[to - 1]];
     arrow(svg, [x(from[0]), y(from[1])], [x(there[0]), y(there[1])], 26);
@@ -121,10 +169,15 @@ export function budgetPicture(table, cycle, model) {
 /** Bounds of each good as intervals. A bound that is withheld has no end. */
 export function intervalPicture(goods) {
   const most = Math.max(...goods.flatMap((it) => [it.lower ?? 0, it.upper ?? 0]), 0) || 1;
-  const describes = goods.map((it) => `${it.name}: from ${it.lower ?? "withheld"} to ${it.upper ?? "withheld"}`).join("; ");
+  const describes = goods.map(
+    (it) => `${it.name}: from ${it.lower ?? "withheld"} to ${it.upper ?? "withheld"}`,
+  ).join("; ");
   const height = 70 + 34 * goods.length;
   const svg = picture(640, height, "Bounds on demand", describes);
-  const { x } = axes(svg, { left: 130, top: 10, width: 480, height: height - 66, mostX: most, mostY: 1, nameX: "quantity", nameY: "" });
+  const { x } = axes(
+    svg,
+    { left: 130, top: 10, width: 480, height: height - 66, mostX: most, mostY: 1, nameX: "quantity", nameY: "" },
+  );
   svg.querySelectorAll("text[text-anchor=end]").forEach((it) => it.remove());
   goods.forEach((it, at) => {
     const row = 28 + 34 * at;
@@ -147,8 +200,22 @@ function cumulative(values, x, y) {
 /** The share of households with at most each index, beside that of random behaviour on the same budgets. */
 export function indexPicture(people, random) {
   const beside = random.length ? `, beside ${random.length} tables of random behaviour on the same budgets` : "";
-  const svg = picture(640, 480, "Efficiency indices", `The share of ${people.length} households with at most each index${beside}.`);
-  const frame = { left: 64, top: 34, width: 556, height: 390, mostX: 1, mostY: 1, nameX: "efficiency index", nameY: "share with at most this index" };
+  const svg = picture(
+    640,
+    480,
+    "Efficiency indices",
+    `The share of ${people.length} households with at most each index${beside}.`,
+  );
+  const frame = {
+    left: 64,
+    top: 34,
+    width: 556,
+    height: 390,
+    mostX: 1,
+    mostY: 1,
+    nameX: "efficiency index",
+    nameY: "share with at most this index",
+  };
   const { x, y } = axes(svg, frame);
   if (random.length) svg.append(element("path", { class: "random", d: cumulative(random, x, y) }));
   svg.append(element("path", { class: "people", d: cumulative(people, x, y) }));

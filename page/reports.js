@@ -1,4 +1,10 @@
-/** The program's texts read back, and what they say in words. Costs are exact: whole numbers in the table's own scale. */
+/**
+ * The program's texts read back, and what they say in words. Costs are exact: whole numbers in the table's own scale.
+ */
+import { written } from "./facts.js";
+
+// The words with which the items of a report on a table begin.
+const HEADS = ["garp", "afriat", "efficiency", "homothetic", "quasilinear", "pump"];
 
 /** Gives the items of a report on a table by the first words of its lines. */
 export function parseReport(text) {
@@ -6,9 +12,11 @@ export function parseReport(text) {
   let item = null;
   for (const line of report.lines) {
     const [first, ...rest] = line.split(" ");
-    if (first === "observations") report.size = { observations: +rest[0], goods: +rest[2], prices: +rest[4], quantities: +rest[5] };
+    if (first === "observations") {
+      report.size = { observations: +rest[0], goods: +rest[2], prices: +rest[4], quantities: +rest[5] };
+    }
     else if (first === "levels") report.levels = rest.map(Number);
-    else if (["garp", "afriat", "efficiency", "homothetic", "quasilinear", "pump"].includes(first)) {
+    else if (HEADS.includes(first)) {
       item = { verdict: rest.join(" ") };
       report.items[first] = item;
     } else if (item) {
@@ -73,7 +81,10 @@ export class Purchases {
 export function decimal(amount, places) {
   const sign = amount < 0n ? "−" : "";
   const digits = (amount < 0n ? -amount : amount).toString().padStart(places + 1, "0");
-  const [whole, part] = [digits.slice(0, digits.length - places), digits.slice(digits.length - places).replace(/0+$/, "")];
+  const [whole, part] = [
+    digits.slice(0, digits.length - places),
+    digits.slice(digits.length - places).replace(/0+$/, ""),
+  ];
   return sign + whole + (part ? `.${part}` : "");
 }
 
@@ -88,44 +99,95 @@ export function inUnits(fraction, places) {
 
 /** The steps of a closed walk as sentences. */
 export function cycleSentences(cycle, table) {
-  const name = (at) => (table.labels[at - 1] === String(at) ? `observation ${at}` : `observation ${at} (${table.labels[at - 1]})`);
+  const name = (at) =>
+    table.labels[at - 1] === String(at) ? `observation ${at}` : `observation ${at} (${table.labels[at - 1]})`;
   return cycle.slice(1).map((to, at) => {
     const from = cycle[at];
     const [paid, other] = [table.cost(from - 1, from - 1), table.cost(from - 1, to - 1)];
     const held = table.levels ? `, of which ${table.levels[from - 1]} thousandths count` : "";
-    return `In ${name(from)} you could have had the bundle of ${to} for ${table.money(other)}, and paid ${table.money(paid)}${held}.`;
+    return (
+      `In ${name(from)} you could have had the bundle of ${to} for ${table.money(other)}, and paid ` +
+      `${table.money(paid)}${held}.`
+    );
   });
 }
 
-/** What each fault of a file means, and what to do. */
-const FAULTS = {
+/**
+ * What each fault means, and what to do: one for each fault of the catalogue, and no other (tools/check-page-logic).
+ */
+export const FAULTS = {
   Empty: "The file has no line at all.",
-  BadHeader: "A column has a name that no column of this kind of file has. A table has p_NAME and q_NAME for each good, and may have e and obs: assign the columns above, or leave this one out.",
-  TwiceNamed: "Two columns have one name.",
-  Unpaired: "A column is missing, or a price stands without its quantity. Each good wants p_NAME and q_NAME.",
-  TooManyGoods: "There are more than 16 goods: put goods together, or leave some out.",
+  BadHeader:
+    "A column has a name that no column of this kind of file has. A table has p_NAME and q_NAME for each good, and " +
+    "may have e and obs: assign the columns above, or leave this one out.",
+  TwiceNamed: "Two columns have one name: leave one out, or give it another.",
+  Unpaired:
+    "A column is missing, or a price stands without its quantity. Each good wants p_NAME and q_NAME: add the column, " +
+    "or leave the good out.",
+  TooManyGoods: `There are more than ${written("table.goods")} goods: put goods together, or leave some out.`,
   NoRecords: "There are column names and no records.",
-  TooManyRecords: "There are more records than this kind of file may have. A table has at most 512: is this a panel that wants a column of households?",
+  TooManyRecords:
+    "There are more records than this kind of file may have. A table has at most " +
+    `${written("table.records")}: is this a panel that wants a column of households?`,
   Ragged: "This record has more or fewer fields than there are column names.",
-  BadNumber: "This is no number as the program takes it: digits, and possibly a point with digits on both sides; no sign, no blank, no exponent, no mark of thousands.",
-  TooManyDecimals: "This number has more than 6 places. Round it yourself, knowing that a verdict can hang on the rounding.",
+  BadNumber:
+    "This is no number as the program takes it: digits, and possibly a point with digits on both sides; no sign, no " +
+    "blank, no exponent, no mark of thousands.",
+  TooManyDecimals:
+    `This number has more than ${written("table.places")} places. Round it yourself, knowing that a verdict can hang ` +
+    "on the rounding.",
   ZeroPrice: "A price is 0; prices are above 0.",
-  BadLevel: "A level is from 1 to 1000 thousandths.",
+  BadLevel: `A level is from 1 to ${written("table.level_scale")} thousandths.`,
   ZeroBundle: "Nothing was bought in this record, or nothing is spent.",
-  TooLarge: "With the places of the longest number of its kind this number is above 9,999,999. Count in a greater unit, or give fewer places to all.",
-  OtherGoods: "These are not the goods of the table.",
-  TooFine: "This number has more places than those of the table.",
+  TooLarge:
+    "With the places of the longest number of its kind this number is above " +
+    `${written("table.largest")}. Count in a greater unit, or give fewer places to all.`,
+  OtherGoods: "These are not the goods of the table, or of the budgets: name the same ones.",
+  TooFine: "This number has more places than those of the table: round it to as many.",
+  UnknownBudget:
+    "This record chooses from a budget that there is not: budgets are numbered from 1 in their file's order.",
+  NoChoices: "On this budget nothing was chosen: leave the budget out, or add its choices.",
   OwnLevels: "This command is defined without levels of the observations' own: leave the column e out for it.",
-  TooLong: "The file is longer than the program takes.",
-  BadMenu: "This is no menu: letters from a to f, each after the one before it.",
+  TooLong:
+    `The file is longer than the program takes: ${written("run.bytes")} bytes, and a certificate ` +
+    `${written("run.certificate_bytes")}.`,
+  NotJson: "This is no JSON, so it is no certificate. A file that PowerShell wrote by > is UTF-16: write it in UTF-8.",
+  BadVersion: "The certificate has another version than 1 and 2.",
+  BadShape: "This item is none of its kind, or has a number that no item has; item 0 is the certificate as a whole.",
+  BadMenu:
+    `This is no menu: one to ${written("menu.letters")} letters from a on, each after the one before it, without ` +
+      "blanks.",
   BadChoice: "This is not one letter of the menu.",
-  NoMenus: "Every n is 0.",
-  TooManyCells: "There are more than 64 pairs of a menu and a choice.",
-  TooManyPatches: "The budgets have more than 48 patches.",
-  TooManyCombinations: "A patch of each budget can be taken in more than 2^20 ways.",
-  TooManyTypes: "There are more than 4,096 rational types.",
-  NeedUnit: "The numbers of choices have no common unit that is small enough: give a number of units.",
-  NoChoice: "On some budget nothing was chosen.",
+  NoMenus: "Every n is 0, so nothing was chosen.",
+  TooManyCells: `There are more than ${written("patch.places")} pairs of a menu and a choice: ask about fewer menus.`,
+  TooManyPatches: `The budgets have more than ${written("patch.patches")} patches: ask about fewer budgets.`,
+  TooManyCombinations:
+    `A patch of each budget can be taken in more than ${written("types.combinations")} ways: ask about fewer budgets.`,
+  TooManyTypes: `There are more than ${written("types.types")} rational types: ask about fewer budgets.`,
+  NeedUnit:
+    `The numbers of choices have no common multiple up to ${written("patch.units")}: give a number of units, as ` +
+    "1000, which takes the shares in thousandths, rounded.",
+};
+
+/** What each word of a verdict says: the words of the catalogue, and no others (tools/check-page-logic). */
+export const VERDICTS = {
+  garp: { holds: "Yes: the axiom holds", violated: "No: the axiom is violated" },
+  afriat: { model: "There is one", none: "There is none", withheld: "Withheld" },
+  homothetic: { holds: "It holds", violated: "It is violated", withheld: "Withheld" },
+  quasilinear: { holds: "It holds", violated: "It is violated" },
+  random: {
+    mixture: "Yes: people with a preference each can have made these choices. The parts below are a mixture that does.",
+    violated: "No people with a preference each make these choices.",
+    withheld: "Withheld: the run of the program got longer than it keeps. This is no verdict.",
+  },
+  menus: {
+    mixture:
+      "Yes: people with a strict order each can have made these choices. The parts below are a mixture that does.",
+    violated: "No people with a strict order each make these choices.",
+    withheld: "Withheld: the run of the program got longer than it keeps. This is no verdict.",
+  },
+  cost: { holds: "The firm minimised cost.", violated: "The firm did not minimise cost: the pair below shows it." },
+  profit: { holds: "It maximised profit.", violated: "It did not maximise profit: the pair below shows it." },
 };
 
 /** What is told of a refused file: its name, fault, record, column, and what it means. */
@@ -133,5 +195,11 @@ export function parseFault(told) {
   const it = /^rp: (?:([^]*?): )?([A-Z]\w+)((?: [a-z]+ \d+)*)\n$/.exec(told);
   if (!it) return null;
   const place = (word) => Number(new RegExp(`${word} (\\d+)`).exec(it[3])?.[1] ?? 0);
-  return { file: it[1] ?? "", fault: it[2], record: place("record"), column: place("column"), means: FAULTS[it[2]] ?? "" };
+  return {
+    file: it[1] ?? "",
+    fault: it[2],
+    record: place("record"),
+    column: place("column"),
+    means: FAULTS[it[2]] ?? "",
+  };
 }

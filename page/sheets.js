@@ -3,7 +3,9 @@
  * change that is offered. Nothing is changed before it is asked for.
  */
 
-/** Gives the records of a text with this mark between fields, a quoted field taken as one; each with its line's number. */
+/**
+ * Gives the records of a text with this mark between fields, a quoted field taken as one; each with its line's number.
+ */
 export function parseRecords(text, mark) {
   const records = [];
   let [fields, field, quoted, started] = [[], "", false, false];
@@ -54,12 +56,20 @@ function markOf(text) {
 const MARK_NAMES = { ";": "semicolons", "\t": "tabs" };
 const DECIMAL_COMMA = /^\s*\d+,\d+\s*$/;
 const THOUSANDS_COMMA = /^\s*\d{1,3}(,\d{3})+\s*$/;
-const DATE = /^\s*(\d{4}-\d{1,2}-\d{1,2}|\d{1,2}[./]\d{1,2}[./]\d{2,4}|\d{1,2}[- ](jan|feb|mar|apr|may|jun|jul|aug|sep|oct|nov|dec)[a-z]*)\s*$/i;
+const MONTH = "(jan|feb|mar|apr|may|jun|jul|aug|sep|oct|nov|dec)[a-z]*";
+const DATE = new RegExp(
+  `^\\s*(\\d{4}-\\d{1,2}-\\d{1,2}|\\d{1,2}[./]\\d{1,2}[./]\\d{2,4}|\\d{1,2}[- ]${MONTH})\\s*$`,
+  "i",
+);
 
 /** Gives the text of a file, and how its bytes were read where that is not as UTF-8. */
 export function decodeFile(bytes) {
-  if (bytes[0] === 0xff && bytes[1] === 0xfe) return { text: new TextDecoder("utf-16le").decode(bytes), coding: "UTF-16" };
-  if (bytes[0] === 0xfe && bytes[1] === 0xff) return { text: new TextDecoder("utf-16be").decode(bytes), coding: "UTF-16" };
+  if (bytes[0] === 0xff && bytes[1] === 0xfe) {
+    return { text: new TextDecoder("utf-16le").decode(bytes), coding: "UTF-16" };
+  }
+  if (bytes[0] === 0xfe && bytes[1] === 0xff) {
+    return { text: new TextDecoder("utf-16be").decode(bytes), coding: "UTF-16" };
+  }
   try {
     return { text: new TextDecoder("utf-8", { fatal: true }).decode(bytes), coding: null };
   } catch {
@@ -80,7 +90,9 @@ export class Sheet {
     this.hasMark = bytes[0] === 0xef && bytes[1] === 0xbb && bytes[2] === 0xbf;
   }
 
-  /** The records as they stand, before any change but that of the mark between fields, which only tells fields apart. */
+  /**
+   * The records as they stand, before any change but that of the mark between fields, which only tells fields apart.
+   */
   get records() {
     this.parsed ??= parseRecords(this.text, this.mark);
     return this.parsed;
@@ -93,34 +105,76 @@ export class Sheet {
   /** The cells of numbers that match a pattern: the record, the column and the text of each, records counted from 1. */
   cells(pattern) {
     const found = [];
-    this.records.slice(1).forEach((fields, row) => fields.forEach((it, column) => pattern.test(it) && found.push([row + 1, column, it.trim()])));
+    this.records.slice(1).forEach(
+      (fields, row) => fields.forEach((it, column) => pattern.test(it) && found.push([row + 1, column, it.trim()])),
+    );
     return found;
   }
 
   /** What was found: `{ key, says, change }`; with a change it is offered, without one only told. */
   findings() {
     const found = [];
-    if (this.hasMark) found.push({ key: "mark", says: "A byte-order mark stands at the beginning. The program skips it." });
+    if (this.hasMark) {
+      found.push({ key: "mark", says: "A byte-order mark stands at the beginning. The program skips it." });
+    }
     if (this.coding) {
-      found.push({ key: "coding", says: `The bytes are no UTF-8; as ${this.coding} they are text.`, change: `write the file in UTF-8, read as ${this.coding}` });
+      found.push(
+        {
+          key: "coding",
+          says: `The bytes are no UTF-8; as ${this.coding} they are text.`,
+          change: `write the file in UTF-8, read as ${this.coding}`,
+        },
+      );
     }
     if (this.mark !== ",") {
-      found.push({ key: "separator", says: `The fields are separated by ${MARK_NAMES[this.mark]}.`, change: "write commas between the fields" });
+      found.push(
+        {
+          key: "separator",
+          says: `The fields are separated by ${MARK_NAMES[this.mark]}.`,
+          change: "write commas between the fields",
+        },
+      );
     }
     const decimals = this.cells(DECIMAL_COMMA);
     const thousands = decimals.length > 0 && decimals.every(([, , it]) => THOUSANDS_COMMA.test(it));
     if (decimals.length) {
       const [row, , it] = decimals[0];
-      const says = `${decimals.length === 1 ? "One number has" : `${decimals.length} numbers have`} a comma, the first in record ${row}: ${it}.`;
-      const doubt = thousands ? " With three digits behind it, it may as well be a mark of thousands: say which it is." : "";
-      found.push({ key: "decimals", says: says + doubt, change: `take the comma as the decimal mark: ${it} becomes ${it.replace(",", ".")}` });
-      if (thousands) found.push({ key: "thousands", says: "", change: `take the comma as a mark of thousands: ${it} becomes ${it.replaceAll(",", "")}` });
+      const many = decimals.length === 1 ? "One number has" : `${decimals.length} numbers have`;
+      const says = `${many} a comma, the first in record ${row}: ${it}.`;
+      const doubt = thousands
+        ? " With three digits behind it, it may as well be a mark of thousands: say which it is."
+        : "";
+      found.push(
+        {
+          key: "decimals",
+          says: says + doubt,
+          change: `take the comma as the decimal mark: ${it} becomes ${it.replace(",", ".")}`,
+        },
+      );
+      if (thousands) {
+        found.push(
+          {
+            key: "thousands",
+            says: "",
+            change: `take the comma as a mark of thousands: ${it} becomes ${it.replaceAll(",", "")}`,
+          },
+        );
+      }
     }
     const dates = this.cells(DATE);
     if (dates.length) {
       const [row, column, it] = dates[0];
-      const how = "Where that column has numbers, a spreadsheet may have made dates of them; go back to the numbers. As a label it does no harm.";
-      found.push({ key: "dates", says: `Dates stand in the column ${this.header[column] ?? column + 1}, the first in record ${row}: ${it}. ${how}` });
+      const how =
+        "Where that column has numbers, a spreadsheet may have made dates of them; go back to the numbers. As a " +
+        "label it does no harm.";
+      found.push(
+        {
+          key: "dates",
+          says:
+            `Dates stand in the column ${this.header[column] ?? column + 1}, the first in record ${row}: ${it}. ` +
+            `${how}`,
+        },
+      );
     }
     return found;
   }
@@ -211,7 +265,12 @@ export class Mapping {
 
   /** The names of the columns for the program, none for a column that is left out. */
   names(header) {
-    const name = { price: (good) => `p_${good}`, quantity: (good) => `q_${good}`, level: () => "e", label: () => "obs" };
+    const name = {
+      price: (good) => `p_${good}`,
+      quantity: (good) => `q_${good}`,
+      level: () => "e",
+      label: () => "obs",
+    };
     return this.roles.map(({ role, good }, at) => (role === "same" ? header[at] : name[role]?.(good)));
   }
 
@@ -223,7 +282,12 @@ export class Mapping {
   apply(records) {
     const names = this.names(records[0].map((it) => it.trim()));
     const kept = this.kept;
-    return [kept.map((at) => names[at]), ...records.slice(1).map((fields) => (fields.length === records[0].length ? kept.map((at) => fields[at]) : fields))];
+    return [
+      kept.map((at) => names[at]),
+      ...records.slice(1).map(
+        (fields) => (fields.length === records[0].length ? kept.map((at) => fields[at]) : fields),
+      ),
+    ];
   }
 }
 
@@ -250,5 +314,8 @@ export function splitHouseholds(records, mapping) {
     if (!parts.has(household)) parts.set(household, [records[0]]);
     parts.get(household).push(fields);
   }
-  return [...parts].map(([household, own]) => ({ household, bytes: new TextEncoder().encode(writeRecords(mapping.apply(own))) }));
+  return [...parts].map(([household, own]) => ({
+    household,
+    bytes: new TextEncoder().encode(writeRecords(mapping.apply(own))),
+  }));
 }

@@ -1,4 +1,6 @@
-/** The worker: holds the module, and answers one call, or a panel household by household, so that the page stays alive. */
+/**
+ * The worker: holds the module, and answers one call, or a panel household by household, so that the page stays alive.
+ */
 
 let loading = null;
 let library = null;
@@ -7,7 +9,9 @@ function answerOne({ words, files }) {
   return library.texts(words, files);
 }
 
-/** Answers a panel; after each some households it tells what came, so that all that was done stays when it is stopped. */
+/**
+ * Answers a panel; after each some households it tells what came, so that all that was done stays when it is stopped.
+ */
 function answerPanel({ words, households, more }, id) {
   let [batch, told] = [[], performance.now()];
   households.forEach(({ household, bytes }, at) => {

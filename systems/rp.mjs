@@ -1,20 +1,21 @@
 #!/usr/bin/env node
 // The command `rp` for Node on any system: the words, files, streams and statuses of the program, over rp.wasm.
 import { closeSync, openSync, readFileSync, readSync, writeSync } from "node:fs";
-import { MOST_READ, NoText, load } from "./rp.js";
 
 const [READ_FAULT, REFUSED, WRITE_FAULT, NO_MEMORY, NO_TEXT] = [3, 4, 5, 6, 7];
+/** No answer: a file beside this one is missing or damaged, or the module stopped. The program has no such end. */
+const NO_MODULE = 70;
 const texts = new TextDecoder();
 
 /** Reads a file, or as much of it as shows that it is too long; nothing where the system fails. */
-function bytesOf(name) {
+function bytesOf(name, most) {
   let file;
   try {
     file = openSync(name, "r");
     const parts = [];
     let length = 0;
-    while (length < MOST_READ) {
-      const part = new Uint8Array(Math.min(65536, MOST_READ - length));
+    while (length < most) {
+      const part = new Uint8Array(Math.min(65536, most - length));
       const count = readSync(file, part);
       if (count === 0) break;
       parts.push(part.subarray(0, count));
@@ -43,14 +44,15 @@ function writes(stream, bytes) {
   return true;
 }
 
-const fileWanted = ({ status, told }) => (status === READ_FAULT ? /^rp: ([^]*): read failed\n$/.exec(texts.decode(told))?.[1] : undefined);
+const fileWanted = ({ status, told }) =>
+  status === READ_FAULT ? /^rp: ([^]*): read failed\n$/.exec(texts.decode(told))?.[1] : undefined;
 
 /**
- * Answers, and reads each file when the library wants it: it tells that the reading of one that is not given failed. The
- * command refuses a file before it asks for the next; so where one cannot be read, an earlier one may have to be refused
- * all the same: it is asked once more, with nothing in the files from there on.
+ * Answers, and reads each file when the library wants it: it tells that the reading of one that is not given failed.
+ * The command refuses a file before it asks for the next; so where one cannot be read, an earlier one may have to be
+ * refused all the same: it is asked once more, with nothing in the files from there on.
  */
-function answer(library, words) {
+function answer(library, words, most) {
   const files = [];
   let unread = null;
   for (;;) {
@@ -60,32 +62,38 @@ function answer(library, words) {
       const isEarlier = given.status === REFUSED && !texts.decode(given.told).startsWith(`rp: ${unread?.name}:`);
       return unread && !isEarlier ? unread.answer : given;
     }
-    const bytes = unread ? null : bytesOf(wanted);
+    const bytes = unread ? null : bytesOf(wanted, most);
     if (!bytes) unread ??= { name: wanted, answer: given };
     files.push({ name: wanted, bytes: bytes ?? new Uint8Array() });
   }
 }
 
-async function main() {
-  const library = await load(readFileSync(new URL("rp.wasm", import.meta.url)));
-  const { status, output, told } = answer(library, process.argv.slice(2));
-  if (!writes(1, output)) {
-    writes(2, Buffer.from("rp: write failed\n"));
-    return WRITE_FAULT;
-  }
-  writes(2, told);
+/** Writes a line of the command's own on standard error, and gives the status that it stands with. */
+function ends(line, status) {
+  writes(2, Buffer.from(`rp: ${line}\n`));
   return status;
 }
 
-try {
-  process.exitCode = await main();
-} catch (error) {
-  if (error instanceof NoText) {
-    process.exitCode = NO_TEXT;
-  } else if (error instanceof RangeError || error.code === "ENOMEM") {
-    writes(2, Buffer.from("rp: out of memory\n"));
-    process.exitCode = NO_MEMORY;
-  } else {
+async function main() {
+  const { MOST_READ, NoText, load } = await import("./rp.js");
+  const library = await load(readFileSync(new URL("rp.wasm", import.meta.url)));
+  let given;
+  try {
+    given = answer(library, process.argv.slice(2), MOST_READ);
+  } catch (error) {
+    if (error instanceof NoText) return NO_TEXT;
     throw error;
   }
+  if (!writes(1, given.output)) return ends("write failed", WRITE_FAULT);
+  writes(2, given.told);
+  return given.status;
 }
+
+/** The end without an answer: memory is short, or rp.js or rp.wasm is missing or damaged, or the module stopped. */
+function failed(error) {
+  if (error instanceof RangeError || error?.code === "ENOMEM") return ends("out of memory", NO_MEMORY);
+  const reason = String(error?.message ?? error).split("\n")[0];
+  return ends(`no answer: ${reason}; unpack the archive again, all its files into one folder`, NO_MODULE);
+}
+
+process.exitCode = await main().catch(failed);

@@ -2,7 +2,8 @@
    free blocks. When the last block in use is freed, all of it is free again: the library keeps nothing between calls. */
 typedef unsigned long u64;
 
-enum { PAGE = 65536, HEAD = 16, CLASSES = 160 };
+/* As many classes as the greatest size that is asked for has. */
+enum { PAGE = 65536, HEAD = 16, CLASSES = 108 };
 /* No address may pass this, so that the module also runs where memory has 32 bits. */
 static const u64 MOST = 0xffff0000ul;
 
@@ -15,17 +16,19 @@ extern unsigned char __heap_base;
 static block *freed[CLASSES];
 static u64 top, in_use;
 
-/* The class of a size, the smallest of a class whose blocks have room for it; sets the room. */
+/* The class of a size, the smallest whose blocks have room for it; sets the room, whose class is the same one. Rooms
+   are multiples of 16: up to 64 each of them, and from there on four for each doubling. */
 static int class_of(u64 size, u64 *room) {
-    if (size <= 16) {
-        *room = 16;
-        return 0;
+    if (size <= 64) {
+        u64 parts = size ? (size - 1) / 16 : 0;
+        *room = (parts + 1) * 16;
+        return (int)parts;
     }
     int bits = 63 - __builtin_clzl(size - 1);
     u64 step = 1ul << (bits - 2);
     u64 parts = (size - 1) / step;
-    *room = ((parts + 1) * step + 15) & ~15ul;
-    return (bits - 4) * 4 + (int)(parts - 4) + 1;
+    *room = (parts + 1) * step;
+    return (bits - 6) * 4 + (int)parts;
 }
 
 /* Whether there is memory up to an address, after more was asked for where it was short. */
@@ -77,11 +80,24 @@ void free(void *address) {
     freed[at] = it;
 }
 
+/* Makes the last block of all longer where it stands; whether it is the last and there is memory. */
+static int lengthens(block *it, u64 size) {
+    u64 room, start = (u64)it + HEAD;
+    if (start + it->size != top || size > MOST)
+        return 0;
+    class_of(size, &room);
+    if (!reaches(start + room))
+        return 0;
+    it->size = room;
+    top = start + room;
+    return 1;
+}
+
 void *realloc(void *address, u64 size) {
     if (!address)
         return malloc(size);
     block *it = (block *)((char *)address - HEAD);
-    if (size <= it->size)
+    if (size <= it->size || lengthens(it, size))
         return address;
     void *moved = malloc(size);
     if (moved) {

@@ -11,7 +11,8 @@
 #include <shellapi.h>
 
 enum { NO_MEMORY = 6, NO_TEXT = 7 };
-/* A path as long as this or longer is named with a prefix, behind which Windows takes up to 32,767 characters. */
+/* A file whose path from the root on has as many characters as this, or more, is named by that path with a prefix,
+   behind which Windows takes 32,767 of them; without it 259. */
 enum { LONG_PATH = 240 };
 
 /* Returns a text in UTF-8 as Windows has it, or nothing where there is no memory for it. */
@@ -23,31 +24,36 @@ static wchar_t *wide(const char *text) {
     return it;
 }
 
-/* Returns the path of a name from the root on, with the prefix of long paths. */
-static wchar_t *long_path(const wchar_t *name) {
-    static const wchar_t prefix[] = L"\\\\?\\", share[] = L"\\\\?\\UNC\\";
+/* Whether a path is one of Windows' own kind, which is taken as it stands. */
+static bool is_own(const wchar_t *path) {
+    return wcsncmp(path, L"\\\\?\\", 4) == 0 || wcsncmp(path, L"\\\\.\\", 4) == 0;
+}
+
+/* Returns the name by which a file is opened, in the place of the one that is given: the same, or where its path from
+   the root on is long, that path with the prefix; nothing where there is no memory. */
+static wchar_t *opened_by(wchar_t *name) {
+    enum { ROOM = 8 };
     DWORD count = GetFullPathNameW(name, 0, NULL, NULL);
-    wchar_t *whole = count ? malloc((count + 1) * sizeof *whole) : NULL;
-    if (!whole)
-        return NULL;
-    GetFullPathNameW(name, count + 1, whole, NULL);
-    bool is_share = wcsncmp(whole, L"\\\\", 2) == 0;
-    wchar_t *it = malloc((wcslen(whole) + 10) * sizeof *it);
-    if (it) {
-        wcscpy(it, is_share ? share : prefix);
-        wcscat(it, is_share ? whole + 2 : whole);
+    if (count < LONG_PATH || is_own(name))
+        return name;
+    wchar_t *it = malloc((ROOM + count) * sizeof *it), *whole = it ? it + ROOM : NULL;
+    if (it && (GetFullPathNameW(name, count, whole, NULL) >= count || is_own(whole))) {
+        free(it);
+        return name;
     }
-    free(whole);
+    if (it) {
+        bool is_share = wcsncmp(whole, L"\\\\", 2) == 0;
+        const wchar_t *prefix = is_share ? L"\\\\?\\UNC" : L"\\\\?\\";
+        wmemmove(it + wcslen(prefix), whole + is_share, wcslen(whole + is_share) + 1);
+        wmemcpy(it, prefix, wcslen(prefix));
+    }
+    free(name);
     return it;
 }
 
 FileRead open_file(File *file, const char *name) {
     wchar_t *named = wide(name);
-    if (named && wcslen(named) >= LONG_PATH && wcsncmp(named, L"\\\\?\\", 4) != 0) {
-        wchar_t *longer = long_path(named);
-        free(named);
-        named = longer;
-    }
+    named = named ? opened_by(named) : NULL;
     if (!named)
         return FILE_NO_MEMORY;
     DWORD shared = FILE_SHARE_READ | FILE_SHARE_WRITE | FILE_SHARE_DELETE;
@@ -102,16 +108,24 @@ static int narrow(const wchar_t *word, char **set) {
     return 0;
 }
 
+/* An end before anything is asked. */
+static int ended(int status) {
+    static const char line[] = "rp: out of memory\n";
+    if (status == NO_MEMORY)
+        write_told((const uint8_t *)line, sizeof line - 1);
+    return status;
+}
+
 int main(void) {
     int count = 0;
     wchar_t **wide_words = CommandLineToArgvW(GetCommandLineW(), &count);
     char **words = calloc((size_t)count + 1, sizeof *words);
     if (!wide_words || !words)
-        return NO_MEMORY;
+        return ended(NO_MEMORY);
     for (int at = 0; at < count; at++) {
         int status = narrow(wide_words[at], &words[at]);
         if (status)
-            return status;
+            return ended(status);
     }
     return program(count ? count - 1 : 0, count ? words + 1 : words);
 }

@@ -54,7 +54,9 @@ def budgets_and_choices(draw):
         for share in draw.sample(range(0, 61), draw.randint(1, 3)):
             records.append([str(at + 1), f"{share / a:.6f}", f"{(60 - share) / b:.6f}", str(draw.randint(1, 4))])
     if draw.random() < 0.85:
-        records = [[r[0], str(round(float(r[1]))), str(round((60 - round(float(r[1])) * prices[int(r[0]) - 1][0]) / prices[int(r[0]) - 1][1])), r[3]] for r in records]
+        records = [
+            [r[0], str(round(float(r[1]))), str(round((60 - round(float(r[1])) * prices[int(r[0]) - 1][0]) / prices[int(r[0]) - 1][1])), r[3]] for r in records
+        ]
     return budgets, sheet(["budget", "q_bread", "q_wine", "n"], records, draw)
 
 
@@ -165,7 +167,13 @@ def drawn(draw, count, native):
         is_certificate = answer[0] == 0 and answer[1].startswith(b"{")
         if is_certificate and given < count:
             data = answer[1] if draw.random() < 0.5 else altered(draw, answer[1])
-            words = ["checkrandom", "b.csv", "c.csv", "made.json", *words[words.index("--per") : words.index("--per") + 2]] if words[0] == "random" and "--per" in words else ["checkrandom", "b.csv", "c.csv", "made.json"] if words[0] == "random" else ["check", "t.csv", "made.json"]
+            words = (
+                ["checkrandom", "b.csv", "c.csv", "made.json", *words[words.index("--per") : words.index("--per") + 2]]
+                if words[0] == "random" and "--per" in words
+                else ["checkrandom", "b.csv", "c.csv", "made.json"]
+                if words[0] == "random"
+                else ["check", "t.csv", "made.json"]
+            )
             told = {name: it for name, it in {**files, "made.json": data}.items() if name in words}
             yield words, told, native.answer(words, told)
             given += 1

@@ -34,6 +34,8 @@ Description: revealed preference with proved verdicts
 """
 COPYRIGHT = """Format: https://www.debian.org/doc/packaging-manuals/copyright-format/1.0/
 Upstream-Name: rp
+Comment: Into the program and the library parts of other works are linked.
+ NOTICE in this folder has the notices of these.
 
 Files: *
 Copyright: 2026 the authors of rp
@@ -55,6 +57,11 @@ def ar(members, when):
     return b"".join(parts)
 
 
+def place(name):
+    """Returns where Debian has a file of the C library."""
+    return f"usr/{name}" if name.startswith("include/") else f"usr/{MACHINE}/{name.removeprefix('lib/')}"
+
+
 def of_library(library):
     """Returns the files of the C library where Debian has them; the one for pkg-config tells these places."""
     found = {}
@@ -62,7 +69,7 @@ def of_library(library):
         if name.endswith(".pc"):
             text = re.sub(r"(?m)^prefix=.*$", "prefix=/usr", data.decode())
             data = re.sub(r"(?m)^libdir=.*$", f"libdir=${{prefix}}/{MACHINE}", text).encode()
-        found[f"usr/{name}" if name.startswith("include/") else f"usr/{MACHINE}/{name.removeprefix('lib/')}"] = (data, False)
+        found[place(name)] = (data, False)
     return found
 
 
@@ -72,7 +79,7 @@ def debian(entries, program, library, version, libc, when, archive):
     files["usr/share/man/man1/rp.1.gz"] = (pressed(entries["share/man/man1/rp.1"][0]), False)
     files["usr/share/bash-completion/completions/rp"] = entries["share/bash-completion/completions/rp"]
     folder = f"usr/share/doc/{NAME}"
-    for name in ("PROVED", "README.md", *(it for it in entries if it.startswith("docs/"))):
+    for name in ("NOTICE", "PROVED", "README.md", *(it for it in entries if it.startswith("docs/"))):
         files[f"{folder}/{name}"] = entries[name]
     files[f"{folder}/changelog.gz"] = (pressed(entries["CHANGELOG.md"][0]), False)
     text = entries["LICENSE"][0].decode()
@@ -89,28 +96,19 @@ def debian(entries, program, library, version, libc, when, archive):
     return {f"{NAME}_{version}_amd64.deb": ar(members, when)}
 
 
-def python(libraries, when):
-    """Returns the wheel of Python for each library or program, or the one for all and the sdist where there is none, by their
-    names."""
+def python(when, inside=None, notice="", proved=""):
+    """Returns the wheel of Python that has this library or program inside, with its NOTICE and its PROVED; or where there
+    is none, the wheel for every platform and the sdist; by their names."""
+    given = {**(inside or {}), **({"NOTICE": notice.encode(), "PROVED": proved.encode()} if inside else {})}
     with tempfile.TemporaryDirectory(prefix="rp-wheels-") as room:
-        words = [sys.executable, "-B", f"{TOP}/clients/python/wheels.py", room, *libraries]
+        os.mkdir(f"{room}/made")
+        for name, data in given.items():
+            with open(f"{room}/{name}", "wb") as it:
+                it.write(data)
+        words = [sys.executable, "-B", f"{TOP}/clients/python/wheels.py", f"{room}/made", *(f"{room}/{it}" for it in given)]
         subprocess.run(words, check=True, stdin=subprocess.DEVNULL, stdout=subprocess.DEVNULL, env={**os.environ, "SOURCE_DATE_EPOCH": str(when)})
         found = {}
-        for name in sorted(os.listdir(room)):
-            with open(f"{room}/{name}", "rb") as it:
+        for name in sorted(os.listdir(f"{room}/made")):
+            with open(f"{room}/made/{name}", "rb") as it:
                 found[name] = it.read()
-    return found
-
-
-def made(entries, program, library, version, libc, when, archive):
-    """Returns the packages for this system and for every one, by their names."""
-    found = {**debian(entries, program, library, version, libc, when, archive), **python([], when)}
-    shared = [data for name, data in library.items() if name.startswith("lib/librp.so.") and not isinstance(data, str)]
-    with tempfile.TemporaryDirectory(prefix="rp-wheels-") as room:
-        for data in shared:
-            with open(f"{room}/librp.so", "wb") as it:
-                it.write(data)
-            found |= python([f"{room}/librp.so"], when)
-    for name, data in found.items():
-        print(f"release: {name}, {len(data):,} bytes")
     return found

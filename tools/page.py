@@ -1,6 +1,7 @@
 """Builds the page: one HTML file of the sources in page/, the module of WebAssembly and the examples."""
 import base64
 import hashlib
+import html
 import json
 import os
 import re
@@ -8,7 +9,7 @@ import re
 TOP = os.path.dirname(os.path.dirname(os.path.realpath(__file__)))
 PAGE = f"{TOP}/page"
 # The page's modules, each after those that it takes names from.
-MODULES = ["dom", "sheets", "reports", "pictures", "client", "slots", "answers", "panels", "questions", "main"]
+MODULES = ["facts", "dom", "sheets", "reports", "pictures", "client", "slots", "answers", "panels", "questions", "main"]
 EXAMPLES = ["experiment.csv", "contradiction.csv", "levels.csv", "panel/panel.csv", "budgets.csv", "choices.csv", "menus.csv", "technology.csv", "outputs.csv"]
 
 
@@ -26,6 +27,11 @@ def joined(files):
     return "\n".join(parts)
 
 
+def with_facts(source):
+    """Returns a script with what docs/catalogue.json tells in the place that page/facts.js has for it."""
+    return source.replace('"{catalogue}"', json.dumps(json.loads(text(f"{TOP}/docs/catalogue.json")), ensure_ascii=False), 1)
+
+
 def hashed(source):
     return f"'sha256-{base64.b64encode(hashlib.sha256(source.encode()).digest()).decode()}'"
 
@@ -35,16 +41,26 @@ def safe(source):
     return source.replace("</", "<\\/").replace("<!--", "<\\!--")
 
 
-def page(module, version, commit):
-    """Returns the page's text. What its scripts and its style are is said by their checksums, and no connection is allowed."""
-    script = safe("'use strict';\n" + joined(f"{PAGE}/{it}.js" for it in MODULES))
+def page(module, version, commit, terms):
+    """Returns the page's text, with the license and the notices of what is inside. What its scripts and its style are is
+    said by their checksums, and no connection is allowed."""
+    script = safe("'use strict';\n" + with_facts(joined(f"{PAGE}/{it}.js" for it in MODULES)))
     worker = joined([f"{TOP}/systems/rp.js", f"{PAGE}/worker.js"])
     style = text(f"{PAGE}/style.css")
     examples = {os.path.basename(it): text(f"{TOP}/examples/{it}") for it in EXAMPLES}
-    rules = ["default-src 'none'", f"script-src {hashed(script)} 'wasm-unsafe-eval' blob:", "worker-src blob:", f"style-src {hashed(style)}", "img-src data: blob:", "base-uri 'none'", "form-action 'none'"]
+    rules = [
+        "default-src 'none'",
+        f"script-src {hashed(script)} 'wasm-unsafe-eval' blob:",
+        "worker-src blob:",
+        f"style-src {hashed(style)}",
+        "img-src data: blob:",
+        "base-uri 'none'",
+        "form-action 'none'",
+    ]
     given = {
         "policy": "; ".join(rules),
         "style": style,
+        "terms": html.escape(terms, quote=False),
         "version": version,
         "commit": commit,
         "sum": hashlib.sha256(module).hexdigest(),

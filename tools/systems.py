@@ -35,32 +35,38 @@ BUILTINS = "/usr/lib/llvm-14/lib/clang/14.0.6/lib/wasi/libclang_rt.builtins-wasm
 # What each build needs beside the kit: the command or file, and the package that has it.
 NEEDS = {
     "web": {"gcc": "gcc", "wasm-opt": "binaryen", BUILTINS: "libclang-rt-14-dev-wasm64"},
-    "windows": {"gcc": "gcc", "x86_64-w64-mingw32-gcc": "gcc-mingw-w64-x86-64"},
+    "windows": {
+        "gcc": "gcc",
+        "x86_64-w64-mingw32-gcc": "gcc-mingw-w64-x86-64",
+        "x86_64-w64-mingw32-windres": "binutils-mingw-w64-x86-64",
+    },
     "arm": {"aarch64-linux-gnu-gcc": "gcc-aarch64-linux-gnu", "aarch64-linux-gnu-strip": "binutils-aarch64-linux-gnu"},
 }
 
 
-CALL = "the proved functions of the library's call"
-NOT_PROVED = "no proof covers the compiler for this system, the link and the code around the call; tools/check-systems tries them"
+CALL = "the functions of the library's call, proved by rt ci as Rattle's compiler has them before any backend"
+TRIED = "no proof covers the compiler for this system, the link and the code around the call; run by tools/check-systems"
+# How a program for Linux is linked statically: for any address, bound at its start, its stack not run.
+STATIC = ["-static-pie", "-s", "-Wl,--gc-sections,-z,relro,-z,now,-z,noexecstack,-z,noseparate-code"]
 # How the program for ARM is linked of what stands beside it, under link/ in its archive.
 ARM_PARTS = ["link/program.o", "link/posix.o", "link/heap.o", "link/librp_c.a"]
-ARM_LINK = ["aarch64-linux-gnu-gcc", "-static", "-s", "-Wl,--gc-sections", "-o", "rp", *ARM_PARTS]
-# What stands behind each file, for PROVED.
+ARM_LINK = ["aarch64-linux-gnu-gcc", *STATIC, "-o", "rp", *ARM_PARTS]
+# What stands behind each file, for PROVED: what was proved, and by what it was compiled, linked and run.
 ORIGINS = {
     "arm": {
-        "rp": f"{CALL}, compiled for aarch64 by rattle build, linked statically with systems/program.c and posix.c; {NOT_PROVED}: {' '.join(ARM_LINK)}",
+        "rp": f"{CALL}; compiled for aarch64 by rattle build; linked statically with systems/program.c and posix.c by the system's gcc; {TRIED} under qemu: {' '.join(ARM_LINK)}",
         **{it: "what rp is linked from" for it in ARM_PARTS},
     },
     "windows": {
-        "rp.exe": f"{CALL}, their LLVM module compiled for x86_64-pc-windows-gnu, linked with systems/program.c and windows.c; {NOT_PROVED}",
-        "rp.dll": f"the same call as a library; {NOT_PROVED}",
+        "rp.exe": f"{CALL}; their LLVM module compiled for x86_64-pc-windows-gnu by the kit's clang; linked with systems/program.c and windows.c by mingw-w64's gcc; {TRIED} under Wine",
+        "rp.dll": f"{CALL}; their LLVM module compiled as for rp.exe; linked as a library by mingw-w64's gcc; {TRIED} under Wine",
         "librp.dll.a": "what a program is linked with that takes rp.dll",
         "rp.h": "the call in C",
     },
     "web": {
-        "rp.wasm": f"{CALL}, their LLVM module compiled for WebAssembly; {NOT_PROVED}",
-        "rp.js": "JavaScript around the module, for a page and for Node; no proof covers it",
-        "rp.mjs": "the command for Node over rp.js; no proof covers it",
+        "rp.wasm": f"{CALL}; their LLVM module compiled for WebAssembly and linked by the kit's clang, its addresses made 32 bits by wasm-opt; {TRIED} in Node and browsers",
+        "rp.js": "JavaScript around the module, for a page and for Node; no proof covers it; run by tools/check-systems",
+        "rp.mjs": "the command for Node over rp.js; no proof covers it; run by tools/check-systems",
         "rp": "a script of the shell that starts rp.mjs by Node",
     },
 }
@@ -221,6 +227,12 @@ def web(room):
     return {"rp.wasm": module, "rp.js": f"{SOURCES}/rp.js", "rp.mjs": f"{SOURCES}/rp.mjs", "rp": f"{SOURCES}/rp.sh"}
 
 
+def heap(room):
+    """Returns a module of WebAssembly that has the heap alone."""
+    objects = [compile_one("wasm", f"{SOURCES}/{it}", f"{room}/heap-{it}.o", room) for it in ("wasm_heap.c", "wasm_guard.c")]
+    return linked_wasm(objects, ("malloc", "free", "realloc"), f"{room}/heap.wasm", room)
+
+
 def wide(room):
     """Returns a module and a program of this system, each with the same digest of whole numbers of 128 bits."""
     objects = []
@@ -232,15 +244,35 @@ def wide(room):
     return linked_wasm(objects, ("wide_digest",), f"{room}/wide.wasm", room), f"{room}/wide"
 
 
+def version():
+    """Returns the version of CHANGELOG.md."""
+    with open(f"{TOP}/CHANGELOG.md", encoding="utf-8") as it:
+        return re.search(r"(?m)^## (\d\S*) \(", it.read())[1]
+
+
+def told_of(name, what, kind, room):
+    """Compiles what Windows tells of a program (kind 1) or a library (2): its version, and what it is."""
+    numbers = ",".join([*re.findall(r"\d+", version())[:3], "0"])
+    words = {"NUMBERS": numbers, "TYPE": str(kind), "WHAT": what, "VERSION": version(), "NAME": name}
+    with open(f"{SOURCES}/rp.rc", encoding="utf-8") as it:
+        text = re.sub(r"@(\w+)@", lambda found: words[found[1]], it.read())
+    with open(f"{room}/{name}.rc", "w", encoding="utf-8") as it:
+        it.write(text)
+    ran(["x86_64-w64-mingw32-windres", f"{name}.rc", f"{name}.res.o"], room)
+    return f"{room}/{name}.res.o"
+
+
 def windows(room):
     """Returns the program and the library for Windows, which need no other file, and the library's import library."""
     objects = compiled("windows", ["heap.ll"], room)
     gcc = ["x86_64-w64-mingw32-gcc", "-O2", "-std=c11", "-Wall", "-Wextra", "-Werror", "-static", "-s", "-Wl,--gc-sections,--no-insert-timestamp"]
     sources = [f"{SOURCES}/{it}" for it in ("program.c", "windows.c")]
-    ran([*gcc, *sources, *objects, "-lshell32", "-o", f"{room}/rp.exe"], room)
+    told = told_of("rp.exe", "revealed preference with proved verdicts", 1, room)
+    ran([*gcc, *sources, *objects, told, "-lshell32", "-o", f"{room}/rp.exe"], room)
     exported = [f"{SOURCES}/rp.def", f"-Wl,--out-implib,{room}/librp.dll.a"]
+    told = told_of("rp.dll", "the library of rp, revealed preference with proved verdicts", 2, room)
     # Else its base is drawn from the name of its file, with the folder.
-    ran([*gcc, "-shared", "-Wl,--disable-auto-image-base", *objects, *exported, "-o", f"{room}/rp.dll"], room)
+    ran([*gcc, "-shared", "-Wl,--disable-auto-image-base", *objects, told, *exported, "-o", f"{room}/rp.dll"], room)
     return {it: f"{room}/{it}" for it in ("rp.exe", "rp.dll", "librp.dll.a")} | {"rp.h": f"{TOP}/library/rp.h"}
 
 
@@ -267,7 +299,7 @@ def arm(room):
     arm_library(room)
     os.makedirs(f"{room}/link", exist_ok=True)
     shutil.copy(f"{room}/arm.a", f"{room}/link/librp_c.a")
-    gcc = ["aarch64-linux-gnu-gcc", "-O2", "-std=c11", "-D_POSIX_C_SOURCE=200809L", "-Wall", "-Wextra", "-Werror"]
+    gcc = ["aarch64-linux-gnu-gcc", "-O2", "-fPIE", "-std=c11", "-D_POSIX_C_SOURCE=200809L", "-Wall", "-Wextra", "-Werror"]
     for it in ("program", "posix", "heap"):
         ran([*gcc, "-c", f"{SOURCES}/{it}.c", "-o", f"link/{it}.o"], room)
     ran(ARM_LINK, room)

@@ -3,9 +3,10 @@ package. The same sources give the same bytes.
 
 usage: wheels.py FOLDER [FILE..]
 
-Without files it writes the wheel for every platform, and the sdist. With the library `librp.so` or `rp.dll`, or the program `rp`
-or `rp.exe`, it writes the wheel of that platform, which has them inside. pip gives them by
-`--config-settings=library=FILE` and `--config-settings=program=FILE`.
+Without files it writes the wheel for every platform, and the sdist. With the library `librp.so` or `rp.dll`, or the
+program `rp` or `rp.exe`, it writes the wheel of that platform, which has them inside, and among its own documents the
+files `NOTICE` and `PROVED` of a release where they are given. pip gives them by `--config-settings=library=FILE`,
+`program=FILE` and `told=FILE`.
 """
 
 import base64
@@ -40,7 +41,7 @@ Description-Content-Type: text/markdown
 
 def build_wheel(wheel_directory, config_settings=None, metadata_directory=None):
     """Writes the wheel into a folder, and returns its name."""
-    files = [it for name in ("library", "program") for it in listed((config_settings or {}).get(name))]
+    files = [it for name in ("library", "program", "told") for it in listed((config_settings or {}).get(name))]
     return write_wheel(wheel_directory, files)
 
 
@@ -50,6 +51,7 @@ def build_sdist(sdist_directory, config_settings=None):
     files = {f"{top}/PKG-INFO": metadata()}
     for name in ("README.md", "EXPERIMENT.md", "pyproject.toml", "wheels.py"):
         files[f"{top}/{name}"] = bytes_of(os.path.join(HERE, name))
+    files.update({f"{top}/{name}": data for name, data in own_license()})
     for folder in (NAME, "tests", "data"):
         files.update({f"{top}/{name}": data for name, data in sources(folder)})
     packed = io.BytesIO()
@@ -67,6 +69,7 @@ def build_sdist(sdist_directory, config_settings=None):
 def write_wheel(folder, extra=()):
     """Writes the wheel with these libraries and programs inside, and returns its name."""
     inside = {os.path.basename(it): bytes_of(it) for it in extra}
+    told = {name: inside.pop(name) for name in ("NOTICE", "PROVED") if name in inside}
     tags = {tag_of(name, data) for name, data in inside.items()} or {"any"}
     if len(tags) > 1 and not all(it.startswith("manylinux") for it in tags):
         raise SystemExit(f"wheels: these are of several platforms: {sorted(tags)}")
@@ -74,6 +77,7 @@ def write_wheel(folder, extra=()):
     info = f"{NAME}-{version()}.dist-info"
     files = dict(sources(NAME))
     files.update({f"{NAME}/{name}": data for name, data in inside.items()})
+    files.update({f"{info}/{name}": data for name, data in [*own_license(), *told.items()]})
     files[f"{info}/METADATA"] = metadata()
     files[f"{info}/WHEEL"] = f"Wheel-Version: 1.0\nGenerator: wheels\nRoot-Is-Purelib: {'false' if inside else 'true'}\nTag: py3-none-{tag}\n".encode()
     record = "".join(f"{name},sha256={digest(data)},{len(data)}\n" for name, data in sorted(files.items()))
@@ -107,6 +111,14 @@ def version():
 
 def metadata():
     return METADATA.format(name=NAME, version=version(), readme=bytes_of(os.path.join(HERE, "README.md")).decode()).encode()
+
+
+def own_license():
+    """Returns the file LICENSE, which stands beside this one in the sdist, else at the top of a release or the sources."""
+    for folder in (HERE, os.path.join(HERE, "..", "..")):
+        if os.path.exists(os.path.join(folder, "LICENSE")):
+            return [("LICENSE", bytes_of(os.path.join(folder, "LICENSE")))]
+    return []
 
 
 def sources(top):

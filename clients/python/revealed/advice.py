@@ -6,12 +6,50 @@ from fractions import Fraction
 from typing import Any, Iterable, Sequence
 
 from . import exact
+from .catalogue import LIMITS
 
-LARGEST = 9_999_999
-LARGEST_MONEY = 1_600_000_000_000_000
+LARGEST = LIMITS["table.largest"]
+LARGEST_MONEY = LIMITS["table.largest_expenditure"]
 # What is scaled by one power of ten, by the name that a column has in a sheet.
 PRICES, QUANTITIES, LEVELS, MONEY, WHOLE = "prices", "quantities", "levels", "money", "whole numbers"
 MEANT = "docs/USING.md, 'A table that keeps its verdict'"
+LEVEL_HINT = f"levels are whole thousandths of what was spent, from 1 to {LIMITS['table.level_scale']}: 0.8 of it is 800"
+NAME_HINT = f"a name has 1 to {LIMITS['table.name_bytes']} bytes, none of them a control character, and stands once"
+FEWER = "ask about fewer budgets"
+# What to do about each fault of the catalogue where nothing more is known: one for each, and no other (tests/test_catalogue.py).
+HINTS = {
+    "Empty": "there is no line at all: see why nothing was written",
+    "Ragged": "each record has as many fields as there are names of columns",
+    "BadHeader": NAME_HINT,
+    "TwiceNamed": NAME_HINT,
+    "Unpaired": "a column is missing, or a price stands without its quantity: add it, or leave the good out",
+    "TooManyGoods": f"there are more than {LIMITS['table.goods']} goods: put goods together, or leave some out",
+    "NoRecords": "there are no rows",
+    "TooManyRecords": f"a table has at most {LIMITS['table.records']} rows; many households are a panel: panel(d, by=..)",
+    "BadNumber": "a number has digits, and possibly a point with digits on both sides",
+    "TooManyDecimals": f"at most {LIMITS['table.places']} places are taken",
+    "ZeroPrice": "prices are above 0",
+    "ZeroBundle": "in each row something is bought, and what is spent is above 0",
+    "TooLarge": f"made whole, a number is at most {LARGEST:,}, and an amount of money {LARGEST_MONEY:,}",
+    "OtherGoods": "the goods are those of the table, or of the budgets",
+    "TooFine": "it has more places than the table's quantities have: round it to as many, or multiply the new prices and the money by 10",
+    "UnknownBudget": "budgets are numbered from 1 in their order",
+    "NoChoices": "nothing was chosen on this budget: leave the budget out, or add its choices",
+    "BadLevel": LEVEL_HINT,
+    "BadMenu": f"a menu is one to {LIMITS['menu.letters']} of the letters from a on, each after the one before it, without blanks",
+    "BadChoice": "the letter that was chosen is one of its menu",
+    "NoMenus": "every n is 0, so nothing was chosen",
+    "TooManyCells": f"there are more than {LIMITS['patch.places']} pairs of a menu and a choice: ask about fewer menus",
+    "NotJson": "a certificate is JSON in UTF-8",
+    "BadVersion": "a certificate has the version 1, or with levels 2",
+    "BadShape": "the item is none of its kind, or has a number that no item has; item 0 is the certificate as a whole",
+    "TooLong": f"a file has at most {LIMITS['run.bytes']:,} bytes, and a certificate {LIMITS['run.certificate_bytes']:,}",
+    "OwnLevels": "this is defined on a table without levels: leave the column 'e', or the argument levels, out",
+    "TooManyPatches": f"there are more than {LIMITS['patch.patches']} patches: {FEWER}",
+    "NeedUnit": f"the counts have no common multiple up to {LIMITS['patch.units']:,}: per=1000 takes the shares in thousandths, rounded",
+    "TooManyCombinations": f"a patch of each budget can be taken in more than {LIMITS['types.combinations']:,} ways: {FEWER}",
+    "TooManyTypes": f"there are more than {LIMITS['types.types']:,} rational types: {FEWER}",
+}
 
 
 def numbers(values: Iterable[Any]) -> list[Fraction]:
@@ -78,7 +116,9 @@ def rounded_prices(kinds: dict[str, Sequence[Any]]) -> str:
 
 def without_places(kind: str) -> str:
     """Returns what to do about a number that does not fit without any place."""
-    unit = "a smaller unit of the good (its price less, its quantity more)" if kind == PRICES else "a larger unit of the good (its quantity less, its price more)"
+    unit = (
+        "a smaller unit of the good (its price less, its quantity more)" if kind == PRICES else "a larger unit of the good (its quantity less, its price more)"
+    )
     return f"above {LARGEST:,} a number is not taken: take {unit}, which changes no verdict ({MEANT})"
 
 

@@ -8,6 +8,7 @@ from fractions import Fraction
 from typing import Any, Callable, Iterable, Iterator, Sequence
 
 from . import exact
+from .catalogue import LIMITS
 from .faults import Unreadable
 from .tables import Choices, Sheet, Table
 
@@ -214,7 +215,7 @@ def money_scale(table: Table) -> int:
 
 def utility_scale(table: Table) -> int:
     """The same of utilities: where the table has levels, costs are compared in thousandths."""
-    return money_scale(table) * (1000 if table.levels is not None else 1)
+    return money_scale(table) * (LIMITS["table.level_scale"] if table.levels is not None else 1)
 
 
 class Answers(list):
@@ -406,7 +407,7 @@ class Part:
 
 
 class RandomVerdict:
-    """Whether a population in which each has a utility makes the choices.
+    """Whether a population in which each has a preference makes the choices.
 
     `rational` is True, False, or None where the verdict is withheld: then `reason` says why. `share` is the greatest share
     of the choices that rational types make, a Fraction, 1 where `rational` is True. `parts` are the types that make it.

@@ -6,8 +6,9 @@ import json
 import os
 from typing import Any, Callable, Union
 
-from . import program, verifier
+from . import advice, program, verifier
 from .answers import Answers, Certificate, Checked, RandomVerdict, Verdict, demands, reading, utilities, walk_of, welfares
+from .catalogue import DRAWS, PER, SEED, span
 from .faults import BadData, Failed, NoFile, Refused
 from .measures import CostMinimisation, MenuVerdict, MoneyPump, Power, Trial
 from .tables import Choices, MenuChoices, Sheet, Table, Technology, beside, table
@@ -15,7 +16,6 @@ from .verifier import Findings, reports
 
 TABLE, NEW, BUDGETS, CHOICES, CERTIFICATE = "table.csv", "new.csv", "budgets.csv", "choices.csv", "certificate.json"
 MENUS, TECHNOLOGY, ASKED = "menus.csv", "technology.csv", "asked.csv"
-SEED, DRAWS = 2**64 - 1, 1000
 Explains = Callable[[Union[str, None], str, "dict[str, int]"], Exception]
 
 
@@ -64,23 +64,22 @@ def power_of_test(p: Any, q: Any = None, *, seed: Any = 1, draws: Any = 1000, le
     table with levels.
     """
     own = table(p, q, places=places, levels=levels)
-    seed, draws = program.whole(seed, "seed", 0, SEED), program.whole(draws, "draws", 1, DRAWS)
+    seed, draws = program.whole(seed, "seed", *SEED), program.whole(draws, "draws", *DRAWS)
     out = program.answer(["power", TABLE, str(seed), str(draws)], {TABLE: own.csv()}, exe, _explains(own))
     return Power(own, out.encode(), seed, draws)
 
 
 def random_trial(seed: Any, rows: Any, goods: Any, *, exe: Any = None) -> Trial:
     """Returns the verdicts on a table of pseudorandom numbers: 1 to 256 rows of 1 to 16 goods."""
-    words = [program.whole(seed, "seed", 0, SEED), program.whole(rows, "rows", 1, 256), program.whole(goods, "goods", 1, 16)]
+    given = (("seed", seed, "SEED"), ("rows", rows, "ROWS"), ("goods", goods, "GOODS"))
+    words = [program.whole(value, name, *span("trial", word)) for name, value, word in given]
     return Trial(program.answer(["trial", *map(str, words)], {}, exe).encode())
 
 
 # ---- at new prices
 
 
-def demand_bounds(
-    p: Any, q: Any = None, new: Any = None, m: Any = None, *, levels: Any = None, places: Any = None, exe: Any = None
-) -> Answers:
+def demand_bounds(p: Any, q: Any = None, new: Any = None, m: Any = None, *, levels: Any = None, places: Any = None, exe: Any = None) -> Answers:
     """Returns the Demand on each new budget: prices `new`, a row or a frame, and what is spent `m`, one number or one a row.
 
     A frame of new prices may have the column `m` itself. It is refused on a table with levels.
@@ -219,7 +218,7 @@ def _asked(words: list[str], own: Table, new: Sheet, exe: Any) -> bytes:
 
 
 def _units(per: Any) -> list[str]:
-    return [] if per is None else ["--per", str(program.whole(per, "per", 1, 1_000_000_000))]
+    return [] if per is None else ["--per", str(program.whole(per, "per", *PER))]
 
 
 def _explains(*sheets: Sheet) -> Explains:
@@ -235,7 +234,7 @@ def _explains(*sheets: Sheet) -> Explains:
 def refusal(fault: str, file: str | None, places: dict[str, int], label: Any = None) -> Refused:
     """Returns a refusal at these places."""
     record, column, budget, menu, item = map(places.get, ("record", "column", "budget", "menu", "item"))
-    return Refused(fault, file, record, column, budget, menu, item, label=label)
+    return Refused(fault, file, record, column, budget, menu, item, label=label, hint=advice.HINTS.get(fault))
 
 
 def _explains_choices(own: Choices) -> Explains:

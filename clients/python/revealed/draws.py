@@ -28,9 +28,7 @@ def on_budget_lines(table: Table, seed: Any) -> Table:
     rows = [[Fraction(text) for text in texts[: 2 * count]] for texts in table.texts]
     prices = [row[:count] for row in rows]
     spent = [sum((p * q for p, q in zip(row[:count], row[count:])), Fraction(0)) for row in rows]
-    drawn = [
-        [Fraction(part) * money / price for part, price in zip(shares(draw, count), row)] for row, money in zip(prices, spent)
-    ]
+    drawn = [[Fraction(part) * money / price for part, price in zip(shares(draw, count), row)] for row, money in zip(prices, spent)]
     places = advice.places_that_fit([number for row in drawn for number in row])
     scale = 10 ** (places or 0)
     quantities = [[exact.decimal_text(Fraction(int(number * scale), scale)) for number in row] for row in drawn]

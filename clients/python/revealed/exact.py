@@ -14,8 +14,10 @@ from fractions import Fraction
 from math import isfinite
 from typing import Any
 
+from .catalogue import LIMITS
+
 MISSING = ""
-MOST_PLACES = 6
+MOST_PLACES = LIMITS["table.places"]
 _PLAIN = re.compile(r"[0-9]+(\.[0-9]+)?")
 _NUMBER = re.compile(r"[+-]?([0-9]+\.?[0-9]*|\.[0-9]+)([eE][+-]?[0-9]{1,3})?")
 

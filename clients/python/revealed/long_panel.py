@@ -34,6 +34,7 @@ import sys
 import time
 from typing import Any, Iterator, Optional, Sequence
 
+from .catalogue import DRAWS, SEED
 from .long_answers import ASKED, Pool, columns, lines_of
 from .long_ends import Ends, Signalled
 from .long_files import BLOCK, Apart, Columns, Gathered, Household, LongFile, Stopped, blocks, first_columns, sum_of, together
@@ -119,8 +120,8 @@ def refuse_words(asked: argparse.Namespace) -> None:
     """Stops where words do not fit together, or where a result would stand in the place of something else."""
     if asked.processes is not None and not 1 <= asked.processes <= 1024:
         raise Stopped("--processes: the number of processes is a whole number from 1 to 1024")
-    if asked.power is not None and not (1 <= asked.power <= 1000 and 0 <= asked.seed < 2**64):
-        raise Stopped("--power DRAWS is from 1 to 1000, and --seed S a whole number from 0 below 2^64")
+    if asked.power is not None and not (DRAWS[0] <= asked.power <= DRAWS[1] and SEED[0] <= asked.seed <= SEED[1]):
+        raise Stopped(f"--power DRAWS is from {DRAWS[0]} to {DRAWS[1]}, and --seed S a whole number from {SEED[0]} below 2^64")
     kept = [f"--{it}" for it in ("certificates", "demand", "welfare") if getattr(asked, it)]
     if bool(kept) != bool(asked.archive):
         raise Stopped(f"{kept[0]} needs --archive FILE.tar" if kept else "--archive needs --certificates, --demand or --welfare")

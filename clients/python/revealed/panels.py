@@ -12,6 +12,7 @@ from typing import Any, Callable, Iterable, Iterator, Sequence
 
 from . import clusters, exact, program
 from .answers import Certificate, Verdict
+from .catalogue import DRAWS, SEED
 from .commands import refusal
 from .faults import BadData, Failed, NoProgram, Pooled, Problem, Refused, WrongColumns
 from .frames import Frame, near, own_labels, pairs_of, values_of
@@ -107,7 +108,9 @@ class Panel(list):
             if name in self.by or kind is None:
                 made[name] = pandas.Series(values, dtype=None if values else object)
             elif kind == "string":
-                made[name] = pandas.array([None if value is None else value if isinstance(value, str) else exact.written(value) for value in values], dtype=kind)
+                made[name] = pandas.array(
+                    [None if value is None else value if isinstance(value, str) else exact.written(value) for value in values], dtype=kind
+                )
             else:
                 made[name] = pandas.array(values, dtype=kind)
         return pandas.DataFrame(made)
@@ -174,7 +177,7 @@ def panel(
     """
     names = [by] if not isinstance(by, (list, tuple)) else list(by)
     if power is not None:
-        power, seed = program.whole(power, "power", 1, 1000), program.whole(seed, "seed", 0, 2**64 - 1)
+        power, seed = program.whole(power, "power", *DRAWS), program.whole(seed, "seed", *SEED)
     if workers is not None:
         workers = program.whole(workers, "workers", 1, 1024)
     if clusters.is_dask(d):

@@ -8,7 +8,6 @@ Kariv 2007, "Consistency and Heterogeneity of Individual Behavior under Uncertai
 from __future__ import annotations
 
 from concurrent.futures import ThreadPoolExecutor
-from fractions import Fraction
 from typing import Any, Sequence
 
 from . import draws, papers
@@ -106,5 +105,3 @@ def random_verdicts(rows: Sequence[Any], count: int, seed: Any, exe: Any, worker
     tables = [draws.on_budget_lines(rows[number % len(rows)].verdict.table, f"{seed} {number}") for number in range(count)]
     with ThreadPoolExecutor(workers) as pool:
         return list(pool.map(lambda table: analyse(table, exe=exe), tables))
-
-

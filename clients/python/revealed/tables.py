@@ -7,11 +7,10 @@ from __future__ import annotations
 from typing import Any, Iterable, Iterator, Sequence
 
 from . import advice, exact, program
-from .advice import LEVELS, MONEY, PRICES, QUANTITIES, WHOLE
+from .advice import HINTS, LEVEL_HINT, LEVELS, MONEY, PRICES, QUANTITIES, WHOLE
+from .catalogue import PER
 from .faults import BadData, Refused, WrongColumns
 from .frames import Frame, is_frame, listed, near, need, no_panel, numbered, one_row, own_labels, pairs_of, rows_of, starting, values_of
-
-LEVEL_HINT = "levels are whole thousandths of what was spent, from 1 to 1000: 0.8 of it is 800"
 
 
 class Sheet:
@@ -90,15 +89,9 @@ class Sheet:
             return advice.too_many_places(value, kind, self.values())
         if fault == "TooLarge" and number is not None:
             return advice.too_large(value, kind, self.values())
-        if fault == "TooFine":
-            return "it has more places than the table's quantities have: round it to as many, or multiply the new prices and the money by 10"
-        if fault == "OwnLevels":
-            return "this is defined on a table without levels: leave the column 'e', or the argument levels, out"
-        if fault in ("BadHeader", "TwiceNamed"):
-            return "a name has 1 to 64 bytes, none of them a control character, and stands once"
-        if fault in ("Unpaired", "OtherGoods", "Empty"):
-            return f"the columns that are wanted are {self.wanted}; those that were found are {listed(self.names)}" if self.wanted else None
-        return {"NoRecords": "there are no rows", "TooManyGoods": "there are more than 16 goods"}.get(fault)
+        if fault in ("Unpaired", "OtherGoods", "Empty") and self.wanted:
+            return f"the columns that are wanted are {self.wanted}; those that were found are {listed(self.names)}"
+        return HINTS.get(fault)
 
 
 def pair_of(places: Any) -> tuple[int | None, int | None]:
@@ -298,7 +291,7 @@ class Choices:
 
     def __init__(self, budgets: Any, choices: Any, per: int | None, places: Any = None) -> None:
         price_places, quantity_places = pair_of(places)
-        self.per = None if per is None else program.whole(per, "per", 1, 1_000_000_000)
+        self.per = None if per is None else program.whole(per, "per", *PER)
         self.budgets = _sheet("budgets", budgets, "p_", ["w"], {"p_": (PRICES, price_places), "w": (MONEY, price_places)})
         others = {"q_": (QUANTITIES, quantity_places), "budget": (WHOLE, None), "n": (WHOLE, None)}
         self.choices = _sheet("choices", choices, "q_", ["budget", "n"], others)
@@ -345,7 +338,7 @@ class MenuChoices(Sheet):
     """Choices from menus, and the units that were asked for: a frame with `menu`, `choice` and `n`, or rows of these three."""
 
     def __init__(self, data: Any, per: int | None) -> None:
-        self.per = None if per is None else program.whole(per, "per", 1, 1_000_000_000)
+        self.per = None if per is None else program.whole(per, "per", *PER)
         names = ["menu", "choice", "n"]
         labels: list[Any]
         if is_frame(data):
@@ -362,11 +355,6 @@ class MenuChoices(Sheet):
     def _texts(self, record: int, row: list[Any]) -> list[str]:
         # a menu and a letter stand as they are, with their blanks
         return [*(it if isinstance(it, str) else str(it) for it in row[:2]), exact.text_of(row[2])]
-
-    def _hint(self, fault: str, value: Any, kind: str) -> str | None:
-        if fault == "BadMenu":
-            return "a menu is one to six of the letters a to f, each after the one before it, without blanks"
-        return "the letter that was chosen is one of its menu" if fault == "BadChoice" else super()._hint(fault, value, kind)
 
 
 class Technology(Sheet):

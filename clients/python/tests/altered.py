@@ -25,7 +25,12 @@ from revealed.verifier import cost, menus, pump, reports, tables  # noqa: E402
 FOLDER = os.path.realpath(f"{HERE}/../../../crates/tests_altered/src")
 SEED = "altered"
 TABLES, EACH = 10, 8
-WIDE = {"pump": [2**60, 2**60 + 1, 2**58], "value": [2**121, 2**121 + 1, 2**120], "menus": [2**62, 2**63 - 1, 2**63], "cost": [2**62, 2**63 - 1, 2**63]}
+WIDE = {
+    "pump": [2**60, 2**60 + 1, 2**58],
+    "value": [2**121, 2**121 + 1, 2**120],
+    "menus": [2**62, 2**63 - 1, 2**63],
+    "cost": [2**62, 2**63 - 1, 2**63],
+}
 
 
 # ---- evidence as a list of numbers, and back

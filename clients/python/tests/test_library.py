@@ -30,7 +30,18 @@ class Found(unittest.TestCase):
                 os.environ[name] = value
 
     def test_names_of_libraries(self):
-        for name, so in [("librp.so", True), ("a/librp.so.0", True), ("RP.DLL", True), ("librp.dylib", True), ("rp", False), ("so", False), ("rp.exe", False), (5, False), (None, False), (b"x.so", True)]:
+        for name, so in [
+            ("librp.so", True),
+            ("a/librp.so.0", True),
+            ("RP.DLL", True),
+            ("librp.dylib", True),
+            ("rp", False),
+            ("so", False),
+            ("rp.exe", False),
+            (5, False),
+            (None, False),
+            (b"x.so", True),
+        ]:
             self.assertEqual(library.is_library(name), so, name)
 
     def test_what_is_no_library(self):

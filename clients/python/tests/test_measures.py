@@ -62,7 +62,16 @@ class Pumps(unittest.TestCase):
             self.assertIn(told, found.rejected.why)
         self.assertTrue(verify_pump(table, good.encode()))
         self.assertEqual(verify_pump(table, good.encode()).remarks, [])
-        for text in ("", good[:-1], good + "\n", good.replace("1/5", "2/10"), good.replace("1/5", "1/1"), good.replace("values", "value"), good.replace(" 1 2 1", "  1 2 1"), good.replace("0 0", "-0 0")):
+        for text in (
+            "",
+            good[:-1],
+            good + "\n",
+            good.replace("1/5", "2/10"),
+            good.replace("1/5", "1/1"),
+            good.replace("values", "value"),
+            good.replace(" 1 2 1", "  1 2 1"),
+            good.replace("0 0", "-0 0"),
+        ):
             with self.assertRaises(NoReport):
                 verify_pump(table, text.encode())
         self.assertFalse(verify_pump(b"p_a,q_a,e\n1,1,5\n", b"observations 1 goods 1 places 0 0\npump 0\ncycle 1 1\nvalues 0\n"))
@@ -116,7 +125,9 @@ class Firms(unittest.TestCase):
     def test_refusals_name_the_row(self):
         with self.assertRaises(Refused) as caught:
             revealed.cost({**FIRM, "w_coal": [2, 0]}, ASKED)
-        self.assertEqual((caught.exception.file, caught.exception.fault, caught.exception.label, caught.exception.name), ("technology", "ZeroPrice", "new", "w_coal"))
+        self.assertEqual(
+            (caught.exception.file, caught.exception.fault, caught.exception.label, caught.exception.name), ("technology", "ZeroPrice", "new", "w_coal")
+        )
         with self.assertRaises(Refused) as caught:
             revealed.cost(FIRM, {**ASKED, "y": [1, "1.5"]})
         self.assertEqual((caught.exception.file, caught.exception.fault), ("asked", "TooFine"))
@@ -158,7 +169,17 @@ class Menus(unittest.TestCase):
         self.assertEqual(revealed.menus([["abc", "a", 1], ["abc", "b", 1], ["ab", "b", 2]]).report, found.report)
 
     def test_complete_choices(self):
-        rows = [["ab", "a", 2], ["ab", "b", 2], ["ac", "a", 3], ["ac", "c", 1], ["bc", "b", 1], ["bc", "c", 1], ["abc", "a", 2], ["abc", "b", 1], ["abc", "c", 1]]
+        rows = [
+            ["ab", "a", 2],
+            ["ab", "b", 2],
+            ["ac", "a", 3],
+            ["ac", "c", 1],
+            ["bc", "b", 1],
+            ["bc", "c", 1],
+            ["abc", "a", 2],
+            ["abc", "b", 1],
+            ["abc", "c", 1],
+        ]
         found = revealed.menus(rows)
         self.assertIsNotNone(found.least_sum)
         self.assertEqual(found.rational, found.least_sum >= 0)
@@ -174,7 +195,13 @@ class Menus(unittest.TestCase):
             self.assertEqual(told.accepted, other == line)
 
     def test_refusals(self):
-        for rows, fault, record in [([["ba", "a", 1]], "BadMenu", 1), ([["ab", "a", 1], ["ab", "c", 1]], "BadChoice", 2), ([["ab", "a", 0]], "NoMenus", None), ([[" ab", "a", 1]], "BadMenu", 1), ([["ab", "a", 1.5]], "BadNumber", 1)]:
+        for rows, fault, record in [
+            ([["ba", "a", 1]], "BadMenu", 1),
+            ([["ab", "a", 1], ["ab", "c", 1]], "BadChoice", 2),
+            ([["ab", "a", 0]], "NoMenus", None),
+            ([[" ab", "a", 1]], "BadMenu", 1),
+            ([["ab", "a", 1.5]], "BadNumber", 1),
+        ]:
             with self.assertRaises(Refused) as caught:
                 revealed.menus(rows)
             self.assertEqual((caught.exception.file, caught.exception.fault, caught.exception.record), ("menus", fault, record))
@@ -212,7 +239,18 @@ class AltogetherAnotherWay(unittest.TestCase):
             self.assertFalse(revealed.verify(EXAMPLES / "decimals.csv", path))
 
     def test_the_names_of_the_commands(self):
-        for name, command in [("power_of_test", "power"), ("money_pump", "pump"), ("cost_minimisation", "cost"), ("menu_choices", "menus"), ("random_trial", "trial"), ("first_contradiction", "pairs"), ("demand_bounds", "demand"), ("welfare_bounds", "welfare"), ("afriat_utility", "utility"), ("random_utility", "random")]:
+        for name, command in [
+            ("power_of_test", "power"),
+            ("money_pump", "pump"),
+            ("cost_minimisation", "cost"),
+            ("menu_choices", "menus"),
+            ("random_trial", "trial"),
+            ("first_contradiction", "pairs"),
+            ("demand_bounds", "demand"),
+            ("welfare_bounds", "welfare"),
+            ("afriat_utility", "utility"),
+            ("random_utility", "random"),
+        ]:
             self.assertIs(getattr(revealed, name), getattr(revealed, command))
         for name in revealed.__all__:
             self.assertTrue(hasattr(revealed, name), name)

@@ -166,11 +166,21 @@ class Tables(unittest.TestCase):
                 table([[1]], [[1]], places=places)
 
     def test_places_that_fit_seven_digits(self):
-        for values, places in [([12.5], 5), ([1250], 3), ([9999999], 0), ([9999999.5], None), ([10000000], None), ([0.05], 6), ([99.99999999], 4), ([9.9999996], 5), ([], 6)]:
+        for values, places in [
+            ([12.5], 5),
+            ([1250], 3),
+            ([9999999], 0),
+            ([9999999.5], None),
+            ([10000000], None),
+            ([0.05], 6),
+            ([99.99999999], 4),
+            ([9.9999996], 5),
+            ([], 6),
+        ]:
             self.assertEqual(advice.places_that_fit(values), places, values)
 
     def test_a_carriage_return_is_quoted(self):
-        made = from_frame({"p_a\rb": [1], 'q_a\rb': ["1\r2"]})
+        made = from_frame({"p_a\rb": [1], "q_a\rb": ["1\r2"]})
         self.assertEqual(made.csv(), b'"p_a\rb","q_a\rb"\n1,"1\r2"\n')
         with self.assertRaises(BadData):
             from_frame({"p_\ud800": [1], "q_\ud800": [1]}).csv()

@@ -39,7 +39,14 @@ def made(**more):
 class Texts(unittest.TestCase):
     def test_a_table(self):
         text = made(pump=True, power=10).text()
-        for line in ("households +3", "with a verdict +2", r"GARP holds +1 of 2 \(50\.0%\)", r"efficiency index \(CCEI\), mean +0\.9000", r"efficiency index at least 0\.80 +2 of 2", r"money pump ratio, greatest, greatest +0\.2000"):
+        for line in (
+            "households +3",
+            "with a verdict +2",
+            r"GARP holds +1 of 2 \(50\.0%\)",
+            r"efficiency index \(CCEI\), mean +0\.9000",
+            r"efficiency index at least 0\.80 +2 of 2",
+            r"money pump ratio, greatest, greatest +0\.2000",
+        ):
             self.assertRegex(text, f"(?m)^({line})")
         self.assertEqual(len({len(line.rstrip()) > 0 for line in text.splitlines()}), 1)
 
@@ -51,8 +58,12 @@ class Texts(unittest.TestCase):
         self.assertEqual(papers.escaped("a_b & 5% $x$ {~^\\}#"), "a\\_b \\& 5\\% \\$x\\$ \\{\\textasciitilde{}\\textasciicircum{}\\textbackslash{}\\}\\#")
 
     def test_only_what_is_1_reads_1(self):
-        self.assertEqual([papers.down(it) for it in (Fraction(1), 1 - Fraction(1, 10**9), Fraction(4, 5), Fraction(0))], ["1.0000", "0.9999", "0.8000", "0.0000"])
-        self.assertEqual([papers.mean(it) for it in ([Fraction(1)], [Fraction(1), 1 - Fraction(1, 10**9)], [Fraction(4, 5), Fraction(1)])], ["1.0000", "0.9999", "0.9000"])
+        self.assertEqual(
+            [papers.down(it) for it in (Fraction(1), 1 - Fraction(1, 10**9), Fraction(4, 5), Fraction(0))], ["1.0000", "0.9999", "0.8000", "0.0000"]
+        )
+        self.assertEqual(
+            [papers.mean(it) for it in ([Fraction(1)], [Fraction(1), 1 - Fraction(1, 10**9)], [Fraction(4, 5), Fraction(1)])], ["1.0000", "0.9999", "0.9000"]
+        )
         self.assertEqual(papers.quantile([Fraction(1), Fraction(0)], Fraction(1, 4)), Fraction(1, 4))
 
     def test_a_panel_without_verdicts(self):
@@ -91,7 +102,9 @@ class Draws(unittest.TestCase):
 class Import(unittest.TestCase):
     def test_nothing_is_imported_with_the_package(self):
         code = "import sys, revealed; sys.exit(any(name in sys.modules for name in ('pandas', 'numpy', 'matplotlib')))"
-        self.assertEqual(subprocess.run([sys.executable, "-c", code], env={**os.environ, "PYTHONPATH": str(pathlib.Path(revealed.__file__).parents[1])}).returncode, 0)
+        self.assertEqual(
+            subprocess.run([sys.executable, "-c", code], env={**os.environ, "PYTHONPATH": str(pathlib.Path(revealed.__file__).parents[1])}).returncode, 0
+        )
 
 
 @unittest.skipIf(pandas is None, "pandas or matplotlib is not there")

@@ -91,13 +91,21 @@ class Plain(unittest.TestCase):
         self.assertTrue(revealed.verify(plain.welfare(P, Q, [1, 1])))
 
     def test_what_is_no_table(self):
-        for call in (lambda: plain.analyse([[0]], [[1]]), lambda: plain.analyse([[1]], [[10**7]]), lambda: plain.analyse([], []), lambda: plain.demand(P, Q, [1], 3)):
+        for call in (
+            lambda: plain.analyse([[0]], [[1]]),
+            lambda: plain.analyse([[1]], [[10**7]]),
+            lambda: plain.analyse([], []),
+            lambda: plain.demand(P, Q, [1], 3),
+        ):
             with self.assertRaises((BadData, revealed.Refused)):
                 call()
 
     def test_shares_of_money(self):
         d = {"p_a": ["1.25", "2.50"], "p_b": ["2.50", "1.25"], "q_a": [2, 1], "q_b": [1, 2]}
-        for call, name in ((lambda way: way.demand(d, new={"p_b": "0.5", "p_a": "0.25"}, m=3), "bounds"), (lambda way: way.welfare(d, new=["0.5", "0.25"]), "lower")):
+        for call, name in (
+            (lambda way: way.demand(d, new={"p_b": "0.5", "p_a": "0.25"}, m=3), "bounds"),
+            (lambda way: way.welfare(d, new=["0.5", "0.25"]), "lower"),
+        ):
             own, other = call(revealed)[0], call(plain)[0]
             self.assertEqual(getattr(own, name), getattr(other, name))
             self.assertEqual(own.prices, other.prices)

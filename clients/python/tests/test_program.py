@@ -263,7 +263,6 @@ class Checks(unittest.TestCase):
                 revealed.verify((P, Q), text)
         self.assertEqual(revealed.check((P, Q), {"items": [], "kind": "table", "version": 1}).items, 0)
 
-
     def test_a_table_with_levels(self):
         with tempfile.TemporaryDirectory() as folder:
             path = pathlib.Path(folder) / "table.csv"

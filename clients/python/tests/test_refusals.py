@@ -313,7 +313,12 @@ class Certificates(unittest.TestCase):
 
     def test_fields_that_are_long(self):
         field = "x" * 200_000
-        for data in (f"obs,p_a,q_a\n{field},1,1\n", f'obs,p_a,q_a\n"{field}\n,""",1,1\n', f"p_a,q_a\n{'0' * 200_000}1,1.{'0' * 200_000}\n", "obs,p_a,q_a\na\x00b,1,1\n"):
+        for data in (
+            f"obs,p_a,q_a\n{field},1,1\n",
+            f'obs,p_a,q_a\n"{field}\n,""",1,1\n',
+            f"p_a,q_a\n{'0' * 200_000}1,1.{'0' * 200_000}\n",
+            "obs,p_a,q_a\na\x00b,1,1\n",
+        ):
             certificate = revealed.certify([[1]], [[1]])
             self.assertTrue(revealed.check(data, certificate), data[:20])
             self.assertTrue(revealed.verify(data, certificate), data[:20])
@@ -332,8 +337,19 @@ class OtherPrograms(unittest.TestCase):
     def test_each_call(self):
         good = revealed.certify(P, Q).data
         texts = [b"", b"hello\n", b"{}", b"[]", b'{"items":[]}', b'{"items":[{"item":"garp"}]}', b"\xff\xfe", good[:-3], b"[" * 100_000, b"1" * 5000]
-        texts += [good.replace(b"[1,2,1]", b"[1,3,1]"), good.replace(b"[1,1]", b"[1]"), good.replace(b"4/5", b"x"), b"pair 1\n", b"pump 1/5\n", b"accepted\n", b"rejected item\n"]
-        texts += [b"observations 2 goods 2 places 0 0\npump 2/10\ncycle 1 2 1\nvalues 0 0\n", b"observations 2 goods 2 places 0 0\npower 1 draws 10 violations 11\n"]
+        texts += [
+            good.replace(b"[1,2,1]", b"[1,3,1]"),
+            good.replace(b"[1,1]", b"[1]"),
+            good.replace(b"4/5", b"x"),
+            b"pair 1\n",
+            b"pump 1/5\n",
+            b"accepted\n",
+            b"rejected item\n",
+        ]
+        texts += [
+            b"observations 2 goods 2 places 0 0\npump 2/10\ncycle 1 2 1\nvalues 0 0\n",
+            b"observations 2 goods 2 places 0 0\npower 1 draws 10 violations 11\n",
+        ]
         calls = [
             lambda exe: revealed.analyse(P, Q, exe=exe),
             lambda exe: revealed.demand(P, Q, [1, 1], 3, exe=exe),

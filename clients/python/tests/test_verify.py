@@ -375,7 +375,12 @@ class Differences(unittest.TestCase):
         self.differs(YEARS, changed(WELFARE, "lower", to=scaled), f"{second} Bound place 1", [RANKS])
 
     def test_limits_of_new_prices(self):
-        dear = {**DEMAND, "prices": [str(2 * 10**7), str(2 * 10**7)], "expenditure": str(6 * 10**7), "goods": [{"lower": {"withheld": "1"}, "upper": {"withheld": "1"}}] * 2}
+        dear = {
+            **DEMAND,
+            "prices": [str(2 * 10**7), str(2 * 10**7)],
+            "expenditure": str(6 * 10**7),
+            "goods": [{"lower": {"withheld": "1"}, "upper": {"withheld": "1"}}] * 2,
+        }
         self.differs(YEARS, dear, "rejected item 2 Number place 1", [RANKS])
         much = {**DEMAND, "expenditure": str(2 * 10**15), "strict": [1, 2], "inner": {"den": "1", "num": [str(10**15), "0"]}, "goods": dear["goods"]}
         self.differs(YEARS, much, "rejected item 2 Number place 0", [RANKS])
@@ -388,7 +393,12 @@ class Differences(unittest.TestCase):
             (["parts"], [[[1, 3], "0"], [[1, 4], "1"], [[2, 3], "2"]], "Number place 1"),
         ]:
             self.differs(data, changed(VIOLATED, *path, to=to), f"rejected item 1 {told}", kind="random")
-        wide = {**VIOLATED, "den": str(2**63), "parts": [[[1, 4], str(2**63)], [[2, 3], str(2**63)], [[2, 3], str(2**63)]], "weights": [str(2**63), "0", str(2**63), "0"]}
+        wide = {
+            **VIOLATED,
+            "den": str(2**63),
+            "parts": [[[1, 4], str(2**63)], [[2, 3], str(2**63)], [[2, 3], str(2**63)]],
+            "weights": [str(2**63), "0", str(2**63), "0"],
+        }
         self.differs(data, wide, "rejected item 1 Number place 0", kind="random")
 
 

@@ -127,10 +127,22 @@ class Stata:
             else:
                 out.append({"&": " and ", "|": " or ", "!": " not ", "^": "**", ".": "M"}.get(other, other))
         names = {
-            "S": strings, "R": lambda it: self.r.get(it, MISSING), "V": self.cell, "N": self.count, "n": row, "rc": self.code, "M": MISSING,
-            "F_missing": lambda it: it in (MISSING, ""), "F_floor": lambda it: it if it == MISSING else math.floor(it),
-            "F_cond": lambda it, a, b: a if it else b, "F_trim": str.strip, "F_round": round, "F_log10": math.log10,
-            "F_max": lambda *it: max([x for x in it if x != MISSING], default=MISSING), "F_min": min, "F_string": self.string,
+            "S": strings,
+            "R": lambda it: self.r.get(it, MISSING),
+            "V": self.cell,
+            "N": self.count,
+            "n": row,
+            "rc": self.code,
+            "M": MISSING,
+            "F_missing": lambda it: it in (MISSING, ""),
+            "F_floor": lambda it: it if it == MISSING else math.floor(it),
+            "F_cond": lambda it, a, b: a if it else b,
+            "F_trim": str.strip,
+            "F_round": round,
+            "F_log10": math.log10,
+            "F_max": lambda *it: max([x for x in it if x != MISSING], default=MISSING),
+            "F_min": min,
+            "F_string": self.string,
         }
         found = eval("".join(out).strip(), {"__builtins__": {}}, names)
         return int(found) if isinstance(found, bool) else found
@@ -484,8 +496,11 @@ def households(count):
     prices = [(1.0, 2.0), (2.0, 1.0)]
     bought = lambda own, year: prices[year] if own % 3 == 0 else prices[1 - year]
     return {
-        "id": [float(own) for own, _ in rows], "p_a": [prices[year][0] for _, year in rows], "p_b": [prices[year][1] for _, year in rows],
-        "q_a": [bought(own, year)[0] for own, year in rows], "q_b": [bought(own, year)[1] for own, year in rows],
+        "id": [float(own) for own, _ in rows],
+        "p_a": [prices[year][0] for _, year in rows],
+        "p_b": [prices[year][1] for _, year in rows],
+        "q_a": [bought(own, year)[0] for own, year in rows],
+        "q_b": [bought(own, year)[1] for own, year in rows],
     }
 
 
@@ -522,7 +537,7 @@ def check_texts():
         # What an other program says is no answer, and is no command of Stata or the shell.
         fake = os.path.join(room, "fake")
         with open(fake, "w", encoding="utf-8") as it:
-            it.write("#!/bin/sh\necho 'garp `x` $(touch X) \"'\necho \"rp: \\`touch X\\` \\\"'\" >&2\n")
+            it.write('#!/bin/sh\necho \'garp `x` $(touch X) "\'\necho "rp: \\`touch X\\` \\"\'" >&2\n')
         os.chmod(fake, 0o755)
         found, code, _, _ = call(data, **BOTH, exe=fake)
         assert found["garp"] == MISSING and found["status"] == MISSING and "no answer" in found["message"], found

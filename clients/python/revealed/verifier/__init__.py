@@ -12,8 +12,8 @@ program's checker accepts a certificate exactly where this one does, and remarks
 
 from __future__ import annotations
 
-from . import afriat, certificate, cost, demand, efficiency, garp, homothetic, menus, pairs, pump, quasilinear, random_choices, reports
-from . import tables, walks, welfare
+from . import afriat, certificate, cost, demand, efficiency, garp, homothetic, menus, pump, quasilinear, random_choices, reports
+from . import tables, welfare
 from .certificate import NoCertificate
 from .reports import NoReport
 from .tables import NoTable

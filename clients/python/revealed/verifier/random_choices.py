@@ -1,4 +1,4 @@
-"""Random choices: can people with a utility each have made them? (McFadden and Richter 1990; Kitamura and Stoye 2018)
+"""Random choices: can people with a preference each have made them? (McFadden and Richter 1990; Kitamura and Stoye 2018)
 
 A patch is a budget with a sign to each budget: whether the choice, scaled to cost the whole income of its own, costs more
 than the income there, just that, or less. A type has a patch of every budget. It is rational unless some closed walk over

@@ -80,9 +80,7 @@ def no_violation(table, walk, level=None):
 
 def no_ranks(table, ranks, level=None):
     """Returns why these ranks do not respect the preference at a level: no weak step rises, each strict one falls."""
-    return ranks_that_rise(table, ranks, weakly_preferred(table, level)) or ranks_that_do_not_fall(
-        table, ranks, strictly_preferred(table, level)
-    )
+    return ranks_that_rise(table, ranks, weakly_preferred(table, level)) or ranks_that_do_not_fall(table, ranks, strictly_preferred(table, level))
 
 
 def ranks_that_rise(table, ranks, weak):

@@ -5,7 +5,7 @@ rp_random_panel <- function(panel, times = 10, seed, digits = NULL, workers = NU
   if (missing(seed)) bad_data("there is no seed: give the argument seed, a whole number")
   times <- as.integer(whole_word(times, "times", "1", "1000000"))
   seed <- as.integer(whole_word(seed, "seed", "0", "2147483647"))
-  whole_word(if (is.null(digits)) 0 else digits, "digits", "0", as.character(most_places))
+  whole_word(if (is.null(digits)) 0 else digits, "digits", "0", limit_text("table.places"))
   drawn <- drawn_data(panel, times, seed, digits)
   rp_panel(drawn, c(panel$id, "draw"), ask = panel$ask, workers = workers, progress = progress, exe = exe)
 }

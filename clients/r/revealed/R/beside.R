@@ -70,7 +70,7 @@ choices_of <- function(budgets, choices, per, digits) {
   structure(list(budgets = first, choices = second, per = per_word(per)), class = "rp_choices")
 }
 
-per_word <- function(per) if (!is.null(per)) whole_word(per, "per", "1", "1000000000")
+per_word <- function(per) if (!is.null(per)) word_within(per, "per", "random", "--per")
 
 # Puts the numbers of budgets where their labels stand.
 by_budget <- function(choices, labels) {

@@ -80,6 +80,12 @@ whole_word <- function(x, what, low, high) {
   text
 }
 
+# The same of a number, or of an option's number, of a command, within its range.
+word_within <- function(x, what, command, name) {
+  range <- range_of(command, name)
+  whole_word(x, what, range[1], range[2])
+}
+
 # Returns the lesser of two whole numbers by their digits.
 least <- function(a, b) {
   if (nchar(a) != nchar(b)) return(if (nchar(a) < nchar(b)) a else b)

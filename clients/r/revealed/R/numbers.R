@@ -1,8 +1,5 @@
 # Numbers as text, without rounding, on their way to the program.
 
-# At most so many places of a number are taken, and so many digits of the largest of its kind.
-most_places <- 6L
-digits_taken <- 7L
 plain <- "^[0-9]+(\\.[0-9]+)?$"
 number <- "^([+-]?)([0-9]+\\.?[0-9]*|\\.[0-9]+)([eE][+-]?[0-9]{1,3})?$"
 
@@ -121,12 +118,12 @@ places_that_fit <- function(texts) {
   texts <- unique(texts[grepl(plain, texts, useBytes = TRUE)])
   whole <- nchar(sub("^0+", "", sub("\\..*$", "", texts)))
   most <- max(whole, 0L)
-  places <- min(most_places, digits_taken - most)
+  places <- min(most_places(), digits_taken() - most)
   if (places < 0) return(-1L)
   largest <- vapply(texts[whole == most], plain_decimal, "", digits = places)
   # Rounding may carry the largest into one digit more.
   figures <- nchar(sub("^0+", "", gsub(".", "", largest, fixed = TRUE)))
-  as.integer(if (any(figures > digits_taken)) places - 1 else places)
+  as.integer(if (any(figures > digits_taken())) places - 1 else places)
 }
 
 # Returns how many numbers of a column are others once they are rounded to so many places: of doubles, those that do not

@@ -19,7 +19,7 @@ rp_panel <- function(data, id, ask = c("test", "pump", "power"), digits = NULL, 
   digits_pair(digits)
   if (kind == "power" && is.null(seed)) bad_data("there is no seed: give the argument seed, a whole number")
   if (kind != "test" && !is.null(sides$levels)) {
-    stop(refused("OwnLevels", hint = "this is defined without levels of observations: leave the column e, or the argument levels, out"))
+    stop(refused("OwnLevels", hint = plain_hint("OwnLevels")))
   }
   how <- asked_of_panels[[kind]]
   words <- how$words(list(seed = seed, draws = draws))

@@ -142,9 +142,5 @@ text_of <- function(ran, sheets, good = 0) {
     for (own in sheets) if (own$file == "budgets") label <- own$labels[told$places$budget]
   }
   file <- if (nzchar(told$file)) told$file else if (length(sheets)) sheets[[length(sheets)]]$file else "choices"
-  stop(refused(told$fault, file, told$places, label, hint = hint_of_whole(told$fault)))
-}
-
-hint_of_whole <- function(fault) {
-  if (fault == "NeedUnit") "the counts have no common multiple up to 1000000000: per = 1000 takes the shares in thousandths, rounded" else NA
+  stop(refused(told$fault, file, told$places, label, hint = plain_hint(told$fault)))
 }

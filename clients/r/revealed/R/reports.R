@@ -100,9 +100,7 @@ rp_power <- function(p, q = NULL, seed, draws = 1000, digits = NULL, exe = NULL)
 
 rp_test_power <- rp_power
 
-power_words <- function(seed, draws) c(whole_word(seed, "seed", "0", most_seed), whole_word(draws, "draws", "1", "1000"))
-
-most_seed <- "18446744073709551615"
+power_words <- function(seed, draws) c(word_within(seed, "seed", "power", "SEED"), word_within(draws, "draws", "power", "N"))
 
 power_on <- function(table, words, engine) {
   read_power(table, words, ask(c("power", "table.csv", words), list(table.csv = csv_lines(table)), engine, list(table)))
@@ -127,7 +125,7 @@ as.data.frame.rp_power <- function(x, row.names = NULL, optional = FALSE, ...) f
 # ---- trials
 
 rp_trial <- function(seed, rows, goods, exe = NULL) {
-  words <- c(whole_word(seed, "seed", "0", most_seed), whole_word(rows, "rows", "1", "256"), whole_word(goods, "goods", "1", "16"))
+  words <- c(word_within(seed, "seed", "trial", "SEED"), word_within(rows, "rows", "trial", "ROWS"), word_within(goods, "goods", "trial", "GOODS"))
   text <- ask(c("trial", words), list(), engine_of(exe))
   reading(text, {
     report <- report_of(text)

@@ -14,8 +14,8 @@ sheet <- function(file, header, kinds, names, columns, labels, digits) {
 
 digits_pair <- function(digits) {
   if (is.null(digits)) return(list(NULL, NULL))
-  good <- is.numeric(digits) && length(digits) %in% 1:2 && all(is.na(digits) | digits %in% 0:most_places)
-  if (!good) bad_data("digits is a whole number from 0 to ", most_places, ", or two of these: of prices and of quantities")
+  good <- is.numeric(digits) && length(digits) %in% 1:2 && all(is.na(digits) | digits %in% 0:most_places())
+  if (!good) bad_data("digits is a whole number from 0 to ", most_places(), ", or two of these: of prices and of quantities")
   lapply(rep(digits, length.out = 2), function(it) if (is.na(it)) NULL else it)
 }
 
@@ -80,21 +80,16 @@ hint_of <- function(sheet, fault, column, value) {
   if (fault == "BadNumber" && !is.null(value)) {
     if (text == "") return("leave the row out, or fill it in")
     if (grepl("^-[0-9]", text)) return("prices and quantities have no sign")
-    if (sheet$names[column] == "e") return("a level is a whole number of thousandths from 1 to 1000: 950 is 0.95")
-    return(NA)
+    return(plain_hint(if (sheet$names[column] == "e") "BadLevel" else fault))
   }
   switch(fault,
-    BadLevel = "a level is a whole number of thousandths from 1 to 1000: 950 is 0.95",
-    OwnLevels = "this is defined without levels of observations: leave the column e, or the argument levels, out",
     TooManyDecimals = paste0(
-      "this is ", substr(text, 1, 24), if (nchar(text) > 24) "..", ", and at most ", most_places,
+      "this is ", substr(text, 1, 24), if (nchar(text) > 24) "..", ", and at most ", most_places(),
       " places are taken; nothing is rounded unasked: ", rounding_advice(sheet), "; a text is taken as it is"
     ),
     TooLarge = too_large_hint(sheet, sheet$kinds[column]),
     TooFine = too_fine_hint(sheet$kinds[column]),
-    TooManyRecords = "a table has at most 512 rows; many households are a panel: rp_panel(data, id = ..)",
-    NeedUnit = , TooManyTypes = , TooManyCombinations = hint_of_whole(fault),
-    NA
+    plain_hint(fault)
   )
 }
 
@@ -102,16 +97,16 @@ too_fine_hint <- function(kind) {
   if (kind == "money") {
     return("it has more places than the new prices and the table's quantities have together: multiply the new prices and it by 10 until it fits")
   }
-  "it has more places than the table's quantities have: write it with fewer"
+  plain_hint("TooFine")
 }
 
 too_large_hint <- function(sheet, kind) {
-  if (!nzchar(kind) || kind == "money") return("9999999 is the most that is taken, and 1600000000000000 of money")
+  if (!nzchar(kind) || kind == "money") return(plain_hint("TooLarge"))
   places <- places_of(sheet, kind)
   what <- if (kind == "price") "prices" else "quantities"
   paste0(
     what, " are counted in units of their last place, here the ", if (places) paste0(places, ". behind the point") else "whole number",
-    ", of which 9999999 are the most that is taken: the largest may have ", digits_taken, " digits with the places of all; ", rounding_advice(sheet),
+    ", of which ", limit_text("table.largest"), " are the most that is taken: the largest may have ", digits_taken(), " digits with the places of all; ", rounding_advice(sheet),
     "; or take another unit of the good, by which its price and its quantity are both short, as a price per ton with a quantity in tons"
   )
 }
@@ -121,12 +116,12 @@ rounding_advice <- function(sheet) {
   fit <- if (is.null(sheet$fit)) fit_of(sheet) else sheet$fit
   if (any(fit$places %in% -1L)) {
     large <- c("prices", "quantities")[match(-1L, fit$places)]
-    return(paste("the largest of the", large, "has more than 7 digits before its point, so no rounding helps: take a larger unit"))
+    return(paste("the largest of the", large, "has more than", digits_taken(), "digits before its point, so no rounding helps: take a larger unit"))
   }
   # NA leaves a kind as it is that this file has not.
   asked <- ifelse(is.na(fit$places), "NA", fit$places)
   paste0(
-    "digits = c(", asked[1], ", ", asked[2], ") rounds prices and quantities each to the most places that fit 7 digits, ",
+    "digits = c(", asked[1], ", ", asked[2], ") rounds prices and quantities each to the most places that fit ", digits_taken(), " digits, ",
     if (fit$moved == 0) "which gives every number back as it was written" else paste0(
       "which moves ", fit$moved, " of ", fit$count, " numbers and can change a verdict: look at the index beside it. ",
       "Prices that are 1 over an intercept need no rounding: exchange the intercepts, ",

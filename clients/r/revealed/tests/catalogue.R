@@ -1,0 +1,10 @@
+# What is keyed by the catalogue: a hint for each fault and no other, a call for each command, and its limits.
+library(revealed)
+own <- asNamespace("revealed")
+stopifnot(setequal(names(own$hints()), own$fault_names()), !anyDuplicated(own$fault_names()))
+stopifnot(vapply(own$hints(), function(it) is.character(it) && length(it) == 1 && nzchar(it), TRUE))
+commands <- vapply(own$catalogue()$commands, function(it) it$name, "")
+stopifnot(length(commands) == 14, vapply(paste0("rp_", commands), exists, TRUE, where = "package:revealed"))
+stopifnot(own$limit("table.records") == 512L, own$most_places() == 6L, own$digits_taken() == 7L)
+stopifnot(identical(own$range_of("power", "N"), c("1", "1000")), identical(own$range_of("random", "--per"), c("1", "1000000000")))
+stopifnot(identical(own$range_of("power", "SEED"), c("0", "18446744073709551615")))

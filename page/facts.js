@@ -1,0 +1,21 @@
+/** What the program has, as docs/catalogue.json tells: commands, faults, limits, words. The build puts it in. */
+const FACTS = "{catalogue}";
+
+/** The number of a limit, by its name in the catalogue. */
+export function limit(name) {
+  return Number(FACTS.limits.find((it) => it.name === name).most);
+}
+
+/** The same as it is written in a sentence. */
+export const written = (name) => limit(name).toLocaleString("en");
+
+export const commands = () => FACTS.commands;
+
+/** The range of a number, or of an option's number, of a command: the least and the most. */
+export function range(command, name) {
+  const form = FACTS.commands.find((it) => it.name === command);
+  const { least, most } = [...form.numbers, ...form.options].find((it) => it.name === name);
+  return [least, most];
+}
+
+export const facts = () => FACTS;

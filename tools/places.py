@@ -1,0 +1,184 @@
+"""Where the facts of the catalogue stand outside of the proved sources, and how each is told there.
+
+A place is a file, or a part of it, with the facts of one kind: for each a pattern that has to be found, and, where the place is to
+have no others, what finds all that it has.
+"""
+import re
+
+CAMEL = r"[A-Z][a-z]+(?:[A-Z][a-z]+)+"
+# What ./rp adds to the statuses, and what is no limit that a user meets.
+OF_THE_SCRIPT, INNER = "70", {"walk.observations"}
+# What is found nowhere: a limit of which FORMATS_LIMITS has no phrase yet.
+NEVER = r"(?!)"
+
+
+class Place:
+    """`needs` has a pattern for each fact by its name; `found` gives the names that a text has, where others are too many."""
+
+    def __init__(self, file, kind, needs, found=None, part=None, made_up="unheard"):
+        self.file, self.kind, self.needs, self.found, self.part, self.made_up = file, kind, needs, found, part, made_up
+
+    def own(self, text):
+        """Returns the part of the file, or nothing where there is none such."""
+        if self.part is None:
+            return text
+        match = re.search(self.part, text, re.M | re.S)
+        return match[0] if match else ""
+
+    def wrong(self, text):
+        """Returns what is wrong with it."""
+        own = self.own(text)
+        if not own:
+            return [f"{self.file} has no part {self.part} for {self.kind}"]
+        lacks = [name for name, pattern in self.needs.items() if not re.search(pattern, own, re.M)]
+        more = sorted(set(self.found(own)) - {name.split()[0] for name in self.needs}) if self.found else []
+        return [f"{self.file} lacks of {self.kind}: {it}" for it in lacks] + [f"{self.file} has too many of {self.kind}: {it}" for it in more]
+
+
+def all_of(pattern):
+    """Returns what finds all first groups of a pattern."""
+    return lambda text: [it if isinstance(it, str) else next(filter(None, it), "") for it in re.findall(pattern, text, re.M)]
+
+
+def quoted(text):
+    return re.escape(text)
+
+
+def number(value):
+    """Returns the ways in which a number is written."""
+    ways = {str(value), f"{value:,}"}
+    if value & (value - 1) == 0 and value > 2**16:
+        ways.add(f"2^{value.bit_length() - 1}")
+    words = "no one two three four five six seven eight nine ten".split()
+    return "(?:" + "|".join(sorted(map(re.escape, ways | ({words[value]} if value < len(words) else set())), key=len, reverse=True)) + ")"
+
+
+def said(facts, phrases):
+    """Returns the patterns of limits by the phrases around them, where {} is the number."""
+    most = {it["name"]: int(it["most"]) for it in facts["limits"]}
+    return {name: re.sub(r"\\ |\s", r"\\s+", quoted(phrase)).replace(r"\{\}", number(most[name])) for name, phrase in phrases.items()}
+
+
+FORMATS_LIMITS = {
+    "table.records": "1 to {} observations of 1 to", "table.goods": "of 1 to {} goods", "table.name_bytes": "NAME has 1 to {} bytes",
+    "table.places": "At most {} places are taken", "table.largest": "scaled numbers are at most {}", "table.level_scale": "from 1 to {}; it may",
+    "table.largest_expenditure": "scaled `m` and `w` are at most {}", "table.new_records": "| asked outputs | `w_NAME`, the new price of each input of the technology; `y`, the output that is asked | 1 to {} |",
+    "table.budgets": "the income | 1 to {} |", "table.choices": "times it was chosen from it | 1 to {} |", "run.bytes": "A file has at most {} bytes",
+    "run.certificate_bytes": "A file of at most {} bytes", "patch.patches": "have more than {} patches", "patch.units": "passes {} |",
+    "patch.places": "more than {} cells", "menu.letters": "one to {} letters", "types.combinations": "more than {} ways",
+    "types.types": "more than {} rational types", "command_line.rows": "1 to {} observations of 1 to 16 goods: below under Trials",
+    "command_line.draws": "draws N behaviours, 1 to {}",
+}  # fmt: skip
+USING_LIMITS = {
+    "table.largest": "none may be above {}", "table.places": "At most {} places are taken", "types.combinations": "at most {}, and of rational",
+    "types.types": "rational types, at most {}", "patch.units": "multiple is above {}",
+}  # fmt: skip
+MANUAL_LIMITS = {
+    "table.records": "A table has at most {} observations", "table.goods": "observations of {} goods. It", "command_line.rows": "1 to {} observations",
+    "command_line.draws": "1 to {}, random behaviours", "patch.units": "units, 1 to {},",
+}  # fmt: skip
+STATA_LIMITS = {"table.places": "min({}, 7 - `whole')", "table.largest": "> {}, `fit' - 1", "table.level_scale": "; {} is the whole of what was spent"}
+
+
+def of_documents(facts):
+    commands, statuses = facts["commands"], [it for it in facts["statuses"] if it["of"] == "program"]
+    names, faults, reasons = [it["name"] for it in commands], [it["name"] for it in facts["faults"]], facts["reasons"]
+    rows = {it["name"]: rf"^\| `rp {quoted(it['usage'])}` \|" for it in commands}
+    told = {f"{it['name']} {' '.join(own)}".strip(): rf"`(?:rp: (?:NAME: )?)?{it['name']}{''.join(f' {place} [A-Z]' for place in own)}`"
+            for it in facts["faults"] for own in it["places"]}  # fmt: skip
+    numbers = {str(it["number"]): rf"^\| {it['number']} \|" for it in statuses}
+    words = {f"{name} {word}": rf"`{name} {word}\b" for name, own in facts["verdicts"].items() for word in own}
+    columns = {f"{kind['name']} {it}": rf"`{quoted(it)}`" for kind in facts["kinds"] for it in kind["columns"] + kind["optional"]}
+    row = all_of(r"^\| `rp (\w+)")
+    digits = all_of(r"^\| (\d+) \|")
+    is_fault = all_of(rf"`(?:rp: (?:[\w.]+: )?)?({CAMEL})\b")
+    lines = {it: rf"`{it}\b" for it in facts["lines"]}
+    yield Place("README.md", "commands", rows, row)
+    yield Place("docs/FORMATS.md", "commands", rows, row)
+    yield Place("docs/FORMATS.md", "usage", {it["name"]: rf"^(?:usage:|      ) rp {quoted(it['usage'])}$" for it in commands},
+                all_of(r"^(?:usage:|      ) rp (\w+)"), r"^usage: rp .*?^\$")  # fmt: skip
+    yield Place("docs/FORMATS.md", "faults", told, lambda own: set(is_fault(own)) - set(reasons), made_up="UnheardOf")
+    unsaid = [it["name"] for it in facts["limits"] if it["name"] not in {*FORMATS_LIMITS, *INNER}]
+    yield Place("docs/FORMATS.md", "limits", {**said(facts, FORMATS_LIMITS), **{it: NEVER for it in unsaid}})
+    yield Place("docs/FORMATS.md", "statuses", numbers, digits, r"^\| status \|.*?^$", "99")
+    yield Place("docs/FORMATS.md", "reasons", {it: rf"`{it}\b" for it in reasons}, lambda own: all_of(r"`([A-Z][a-z]\w*)\b")(own),
+                r"^## The checker's order.*", "UnheardOf")  # fmt: skip
+    yield Place("docs/FORMATS.md", "items of certificates", {it: rf'"item":"{it}"' for it in facts["certificates"]["tags"]},
+                all_of(r'"item":"(\w+)"'))  # fmt: skip
+    yield Place("docs/FORMATS.md", "kinds of certificates", {it: rf'"kind":"{it}"|is\s+`"{it}"`' for it in facts["certificates"]["kinds"]})
+    yield Place("docs/FORMATS.md", "words of verdicts", words)
+    yield Place("docs/FORMATS.md", "lines of reports", lines)
+    yield Place("docs/FORMATS.md", "columns", columns)
+    yield Place("docs/USING.md", "sessions", {it: rf"^\$ \./rp {it} " for it in names})
+    yield Place("docs/USING.md", "verdicts", {it: rf"^\| `{it}` \|" for it in [*facts["verdicts"], "efficiency", "pump"]},
+                all_of(r"^\| `(\w+)` \|"), r"^\| verdict \| what it means.*?^$")  # fmt: skip
+    yield Place("docs/USING.md", "statuses", numbers, lambda own: set(digits(own)) - {OF_THE_SCRIPT}, r"^\| status \| for a script.*?^$", "99")
+    yield Place("docs/USING.md", "limits", said(facts, USING_LIMITS))
+    yield Place("docs/USING.md", "faults", {}, lambda own: set(all_of(r"^\| `([A-Z]\w+)`?")(own)) - set(faults), r"^\| you see \|.*?^$", "UnheardOf")
+    yield Place("docs/REFEREES.md", "reasons", {it: rf"^\| `{it}` \|" for it in reasons}, all_of(r"^\| `(\w+)` \|"), r"^\| reason \|.*?^$", "UnheardOf")
+    yield Place("docs/REFEREES.md", "items of certificates", {it: rf'`"{it}"`' for it in facts["certificates"]["tags"]})
+
+
+def of_release(facts):
+    commands, statuses = facts["commands"], facts["statuses"]
+    names = [it["name"] for it in commands]
+    plain = {it["name"]: re.sub(r"[A-Z-]+", lambda word: word[0], it["usage"]) for it in commands}
+
+    def synopsis(usage):
+        """The line of the manual with its changes of font."""
+        name, *rest = re.findall(r"\[[^]]*\]|\S+", usage)
+        files = [it for it in rest if not it.startswith("[")]
+        line = rf"\\fBrp {name}\\fR" + (rf" \\fI{' '.join(files)}\\fR" if files else "")
+        for it in rest:
+            if it.startswith("["):
+                option, *value = it[1:-1].replace("-", r"\\-").split()
+                line += rf" \[\\fB{option}\\fR" + (rf" \\fI{value[0]}\\fR" if value else "") + r"\]"
+        return rf"^{line}$"
+
+    options = sorted({one["name"] for it in commands for one in it["options"]})
+    yield Place("release/rp.1", "usage", {it: synopsis(usage) for it, usage in plain.items()}, all_of(r"^\\fBrp (\w+)"), r"^\.SH SYNOPSIS.*?^\.fi")
+    yield Place("release/rp.1", "commands", {it: rf"^\.B[IR]? {it}\b" for it in names}, all_of(r"^\.TP\n\.B[IR]? (\w+)"), r"^\.SH COMMANDS.*?^\.SH OPTIONS")
+    yield Place("release/rp.1", "options", {it: rf"^\.BI? {quoted(it.replace('-', chr(92) + '-'))}(?: |$)" for it in options})
+    yield Place("release/rp.1", "statuses", {str(it["number"]): rf"^\.B {it['number']}$" for it in statuses if it["of"] == "program"},
+                all_of(r"^\.B (\d+)$"), r"^\.SH EXIT STATUS.*?^\.SH", "99")  # fmt: skip
+    yield Place("release/rp.1", "limits", said(facts, MANUAL_LIMITS))
+    yield Place("release/rp.bash", "commands", {it: rf'-W "[a-z ]*\b{it}\b' for it in names}, lambda own: " ".join(re.findall(r'-W "([a-z ]*)"', own)).split())
+    for it in commands:
+        own = [re.escape(one["name"]) for one in it["options"]]
+        if own:
+            case = rf"^ *(?:\w+ \| )*{it['name']}(?: \| \w+)*\) options=\""
+            yield Place("release/rp.bash", f"options of {it['name']}", {one: case + rf"[^\"]*{one}\b" for one in own})
+    yield Place(
+        "library/rp.h", "statuses", {str(it["number"]): rf"^    RP_\w+ = {it['number']}\b" for it in statuses}, all_of(r"^    RP_\w+ = (\d+)"), None, "99"
+    )
+
+
+def of_clients(facts):
+    names, faults = [it["name"] for it in facts["commands"]], [it["name"] for it in facts["faults"]]
+    kinds = {it["name"]: it["columns"] for it in facts["kinds"]}
+    shown = ["table", "budgets", "choices", "menus", "technology", "asked"]
+    keys = {it: rf"^  {it}:" for it in faults}
+    yield Place("page/reports.js", "faults", keys, all_of(r"^  ([A-Z]\w+):"), r"^export const FAULTS = \{.*?^\};", "UnheardOf")
+    for name, own in facts["verdicts"].items():
+        yield Place("page/reports.js", f"words of {name}", {it: rf"\b{it}:\s" for it in own}, all_of(r"^    ([a-z]+):|[{,] ([a-z]+): [\"`]"),
+                    rf"^  {name}: \{{.*?\}}")  # fmt: skip
+    yield Place("page/main.js", "columns", {f"{kind} {it}": rf"\b{quoted(it)}\b" for kind in shown for it in kinds[kind]})
+    yield Place("clients/python/revealed/advice.py", "faults", {it: rf'^    "{it}": ' for it in faults}, all_of(r'^    "(\w+)": '),
+                r"^HINTS = \{.*?^\}", "UnheardOf")  # fmt: skip
+    yield Place("clients/python/revealed/__init__.py", "commands", {it: rf'^    "{it}",' for it in names if not it.startswith("check")} |
+                {"check": r"^    check,", "checkrandom": r"^    checkrandom,"})  # fmt: skip
+    yield Place("clients/python/README.md", "commands", {it: rf"^\| `(?:\w+\(.*?\)` \| `)?{it}[`(]" for it in names})
+    yield Place("clients/r/revealed/R/catalogue.R", "faults", {it: rf"^    {it} = " for it in faults}, all_of(r"^    ([A-Z]\w+) = "),
+                r"^hints <- .*?^\}", "UnheardOf")  # fmt: skip
+    yield Place("clients/r/revealed/NAMESPACE", "commands", {it: rf"\brp_{it}\b" for it in names})
+    yield Place("clients/r/README.md", "commands", {it: rf"`rp_{it}[`(]" for it in names})
+    yield Place("clients/stata/rptest.ado", "limits", said(facts, STATA_LIMITS))
+    words = {word for name in ("garp", "afriat", "homothetic", "quasilinear") for word in facts["verdicts"][name]}
+    yield Place("clients/stata/rptest.sh", "words of verdicts", {it: rf'== "{it}"' for it in sorted(words)})
+
+
+def places(facts):
+    """Yields all places."""
+    yield from of_documents(facts)
+    yield from of_release(facts)
+    yield from of_clients(facts)
