@@ -202,7 +202,8 @@ def altered_file(draw, text):
             fields[at] = draw.choice(wild)
             text = "\n".join([*rows[:row], ",".join(fields), *rows[row + 1 :]])
         else:
-            text = draw.choice([text.replace("\n", "\r\n"), text.replace(",", " ,"), text + "\n\n", "\ufeff" + text, text.rstrip("\n")])
+            whole = [text.replace("\n", "\r\n"), text.replace(",", " ,"), text + "\n\n", "\ufeff" + text, text.rstrip("\n")]
+            text = draw.choice(whole)
     return text
 
 

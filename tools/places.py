@@ -8,6 +8,8 @@ import re
 CAMEL = r"[A-Z][a-z]+(?:[A-Z][a-z]+)+"
 # What ./rp adds to the statuses, and what is no limit that a user meets.
 OF_THE_SCRIPT, INNER = "70", {"walk.observations"}
+# What is found nowhere: a limit of which FORMATS_LIMITS has no phrase yet.
+NEVER = r"(?!)"
 
 
 class Place:
@@ -96,7 +98,8 @@ def of_documents(facts):
     yield Place("docs/FORMATS.md", "usage", {it["name"]: rf"^(?:usage:|      ) rp {quoted(it['usage'])}$" for it in commands},
                 all_of(r"^(?:usage:|      ) rp (\w+)"), r"^usage: rp .*?^\$")  # fmt: skip
     yield Place("docs/FORMATS.md", "faults", told, lambda own: set(is_fault(own)) - set(reasons), made_up="UnheardOf")
-    yield Place("docs/FORMATS.md", "limits", said(facts, FORMATS_LIMITS))
+    unsaid = [it["name"] for it in facts["limits"] if it["name"] not in {*FORMATS_LIMITS, *INNER}]
+    yield Place("docs/FORMATS.md", "limits", {**said(facts, FORMATS_LIMITS), **{it: NEVER for it in unsaid}})
     yield Place("docs/FORMATS.md", "statuses", numbers, digits, r"^\| status \|.*?^$", "99")
     yield Place("docs/FORMATS.md", "reasons", {it: rf"`{it}\b" for it in reasons}, lambda own: all_of(r"`([A-Z][a-z]\w*)\b")(own),
                 r"^## The checker's order.*", "UnheardOf")  # fmt: skip

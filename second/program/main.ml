@@ -19,8 +19,9 @@ let utf8_length text i =
   let rest least most k = byte 1 >= least && byte 1 <= most && List.for_all (fun j -> byte j land 0xC0 = 0x80) k in
   match byte 0 with
   | b when b >= 0xC2 && b <= 0xDF && rest 0x80 0xBF [] -> 2
-  | b when b >= 0xE0 && b <= 0xEF && rest (if b = 0xE0 then 0xA0 else 0x80) (if b = 0xED then 0x9F else 0xBF) [ 2 ] -> 3
-  | b when b >= 0xF0 && b <= 0xF4 && rest (if b = 0xF0 then 0x90 else 0x80) (if b = 0xF4 then 0x8F else 0xBF) [ 2; 3 ] -> 4
+  | b when b land 0xF0 = 0xE0 && rest (if b = 0xE0 then 0xA0 else 0x80) (if b = 0xED then 0x9F else 0xBF) [ 2 ] -> 3
+  | b when b >= 0xF0 && b <= 0xF4 && rest (if b = 0xF0 then 0x90 else 0x80) (if b = 0xF4 then 0x8F else 0xBF) [ 2; 3 ]
+    -> 4
   | _ -> refuse "NotJson"
 
 let look_at_json text =
@@ -75,8 +76,7 @@ exception Misshapen
 let member_list = function
   | `Assoc members ->
       (* Of members of one name the last counts. *)
-      List.fold_left (fun kept (name, value) -> (name, value) :: List.remove_assoc name kept) []
-        (List.map (fun (name, value) -> (text_of ("\"" ^ name ^ "\""), value)) members)
+      List.fold_left (fun kept (name, value) -> (name, value) :: List.remove_assoc name kept) [] members
   | _ -> raise Misshapen
 
 let members names value =
@@ -159,10 +159,13 @@ let welfare value =
     WelfareAt (entries (natural 32) (get "prices"), number (get "observation"),
       WelfareBounded { found_at = number (get "at"); upper = natural 64 (get "upper"); lower = bound (get "lower") })
 
+let kind_of value = string_of (try List.assoc "item" (member_list value) with Not_found -> raise Misshapen)
+
 let table_item value =
   let only name = members [ "item"; name ] value name in
-  match string_of (try List.assoc "item" (member_list value) with Not_found -> raise Misshapen) with
-  | "garp" -> if has "ranks" value then Garp (entries rank (only "ranks")) else GarpCycle (entries number (only "cycle"))
+  match kind_of value with
+  | "garp" ->
+      if has "ranks" value then Garp (entries rank (only "ranks")) else GarpCycle (entries number (only "cycle"))
   | "afriat" ->
       if has "withheld" value then (ignore (number (only "withheld")); AfriatWithheld)
       else if has "cycle" value then AfriatCycle (entries number (only "cycle"))
@@ -191,7 +194,7 @@ let table_item value =
   | _ -> raise Misshapen
 
 let random_item value =
-  if string_of (try List.assoc "item" (member_list value) with Not_found -> raise Misshapen) <> "random" then raise Misshapen;
+  if kind_of value <> "random" then raise Misshapen;
   let total get = natural 64 (get "total") in
   if has "withheld" value then
     let get = members [ "item"; "total"; "withheld" ] value in
@@ -269,7 +272,8 @@ let certificate_of kind one name =
   try certificate kind one text with Unread fault -> raise (Ended (4, name ^ ": " ^ fault))
 
 let answer = function
-  | Accepted (items, withheld) -> (0, Printf.sprintf "accepted items %s withheld %s\n" (Z.to_string items) (Z.to_string withheld))
+  | Accepted (items, withheld) ->
+      (0, Printf.sprintf "accepted items %s withheld %s\n" (Z.to_string items) (Z.to_string withheld))
   | Rejected (item, why, place) ->
       let place = Z.min place (Z.of_string "4294967295") in
       (1, Printf.sprintf "rejected item %s %s place %s\n" (Z.to_string item) (reason_word why) (Z.to_string place))
@@ -319,5 +323,6 @@ let () =
     | Out_of_memory | Stack_overflow -> (6, "", "rp-second: out of memory")
   in
   if line <> "" then prerr_endline line;
-  try print_string out; flush stdout; exit ended
-  with Sys_error _ -> prerr_endline "rp-second: write failed"; Stdlib.do_at_exit (); exit 5
+  let written = try print_string out; flush stdout; true with Sys_error _ -> close_out_noerr stdout; false in
+  if not written then prerr_endline "rp-second: write failed";
+  exit (if written then ended else 5)
