@@ -1,11 +1,11 @@
 // The module's memory, in Node: many calls do not make it grow, and memory that is refused ends a call with the status
 // for it.
-// usage: node check.mjs FOLDER CALLS, where FOLDER has rp.wasm and rp.js, and CALLS is JSON: words and files of each
-// call.
+// usage: node check.mjs FOLDER CALLS HEAP, where FOLDER has rp.wasm and rp.js, CALLS is JSON, words and files of each
+// call, and HEAP is a module of the heap alone.
 import { readFileSync } from "node:fs";
 import { pathToFileURL } from "node:url";
 
-const [folder, file] = process.argv.slice(2);
+const [folder, file, heap] = process.argv.slice(2);
 const { load } = await import(pathToFileURL(`${folder}/rp.js`));
 const bytes = readFileSync(`${folder}/rp.wasm`);
 const decoded = ([words, files]) => [
@@ -85,7 +85,37 @@ function checkHeap({ malloc, free, memory }) {
   console.log(`the heap: blocks of ${again} of ${sizes.length} sizes are taken again within a call`);
 }
 
+/** Grows a list as the library does, an item of 32 bytes at a time, with a small block for each that is given back. */
+function checkGrowth({ malloc, free, realloc, memory }) {
+  const held = malloc(1n);
+  const before = memory.buffer.byteLength;
+  let [list, room] = [malloc(128n), 4];
+  const fill = (at, value) => new BigUint64Array(memory.buffer, Number(list) + 32 * at, 4).fill(BigInt(value));
+  for (let at = 0; at < 1000000; at++) {
+    if (at === room) list = realloc(list, BigInt(32 * (room *= 2)));
+    fill(at, at);
+    free(malloc(20n));
+  }
+  const numbers = new BigUint64Array(memory.buffer, Number(list), 4000000);
+  expect(numbers.every((it, at) => it === BigInt(at >> 2)), "a list that grew has other items");
+  const [after, most] = [memory.buffer.byteLength - before, 32 * room * 1.1];
+  expect(after < most, `a list of ${32 * room} bytes took ${after}`);
+  const [first, last] = [malloc(1000n), malloc(1000n)];
+  expect(realloc(first, 2000n) !== first, "a block with another behind it grew where it stands");
+  expect(realloc(last, 500n) === last && realloc(last, 900n) === last, "a block that has the room was moved");
+  expect(realloc(last, 0xffff0001n) === 0n, "there is memory past the last address");
+  free(list);
+  expect(malloc(BigInt(32 * room)) === list, "a block that grew is not taken again");
+  free(held);
+  console.log(`the heap: a list of ${32 * room} bytes took ${after} as it grew`);
+}
+
 checkHeap((await WebAssembly.instantiate(bytes, {})).instance.exports);
+if (heap) {
+  for (const check of [checkHeap, checkGrowth]) {
+    check((await WebAssembly.instantiate(readFileSync(heap), {})).instance.exports);
+  }
+}
 const library = await load(bytes);
 for (const [words, files] of calls) library.answer(words, files);
 const most = pages(library);

@@ -227,6 +227,12 @@ def web(room):
     return {"rp.wasm": module, "rp.js": f"{SOURCES}/rp.js", "rp.mjs": f"{SOURCES}/rp.mjs", "rp": f"{SOURCES}/rp.sh"}
 
 
+def heap(room):
+    """Returns a module of WebAssembly that has the heap alone."""
+    objects = [compile_one("wasm", f"{SOURCES}/{it}", f"{room}/heap-{it}.o", room) for it in ("wasm_heap.c", "wasm_guard.c")]
+    return linked_wasm(objects, ("malloc", "free", "realloc"), f"{room}/heap.wasm", room)
+
+
 def wide(room):
     """Returns a module and a program of this system, each with the same digest of whole numbers of 128 bits."""
     objects = []

@@ -9,6 +9,7 @@ use Rattle.rp_evidence.specs.declared.certificate.Certificate.{Certificate}
 use Rattle.rp_evidence.specs.declared.certificate.Item.TheVariants.{Garp as GarpItem, Afriat as AfriatItem}
 use Rattle.rp_evidence.specs.declared.certificate.Item.TheVariants.{Efficiency as EfficiencyItem}
 use Rattle.rp_evidence.specs.declared.efficiency.Efficiency.{Efficiency}
+use Rattle.rp_people.specs.Says.{Says}
 use Rattle.rp_evidence.specs.declared.garp.Garp.{Garp}
 
 -- The certificate of a table with these levels, or none: a verdict on the generalized axiom of revealed preference
@@ -17,10 +18,12 @@ abbrev pub certificate_of : List ℕ → Garp → AfriatPart → Efficiency → 
 certificate_of levels garp afriat efficiency =
     table_certificate levels (GarpItem garp ∷ AfriatItem afriat ∷ EfficiencyItem efficiency ∷ [])
 
--- The certificate has these three verdicts, and each proves what it says of the table.
+-- The certificate has these three verdicts, and each proves what it says of the table, and says of consumers what that
+-- kind of verdict says.
 pub record IsCertifiedBy (table : Observations) (certificate : Certificate) : Type 0 where
   pub garp : Garp
   pub afriat : AfriatPart
   pub efficiency : Efficiency
   pub items : certificate ≡ certificate_of table.levels garp afriat efficiency
   pub proves : All (Proves (input_of_table table)) certificate.items
+  pub says : All (Says (input_of_table table)) certificate.items

@@ -4,6 +4,8 @@ ghost use Rattle.rp_evidence.specs.Count.{AreCounts};
 ghost use Rattle.rp_evidence.specs.Garp.{HasNoViolation};
 ghost use Rattle.rp_evidence.specs.StandardNumbers.{FitsUtility};
 ghost use Rattle.rp_garp.specs.Test.{IsTest};
+ghost use Rattle.rp_people.specs.Says.{SaysAfriat};
+ghost use Rattle.rp_people.specs.TablesOfCosts.{OfEachTable};
 ghost use Rattle.rp_pref.specs.Closure.{IsClosureOf};
 ghost use Rattle.rp_pref.specs.Steps.{OwnStrict, OwnWeak};
 ghost use Rattle.rp_table.specs.Cost.{cost_at, own_of};
@@ -29,6 +31,8 @@ pub fn afriat(alloc: Global, tested: &GarpTest) -> Result<AfriatPart, NoMemory>
         tested.now.costs.levels (cost_at tested.now.costs)) }
     ensures given { IfOk result (IsOwnAfriatVerdict tested.now.costs.n
         tested.now.costs.levels (cost_at tested.now.costs)) }
+    ensures says { IfOk result (λ part.
+        OfEachTable tested.now.costs (λ input. SaysAfriat input part)) }
     ensures proves_without_levels { IfOk result (λ part. tested.now.costs.levels ≡ []
         → ProvesAfriat tested.now.costs.n (cost_at tested.now.costs) part) }
 {

@@ -40,7 +40,7 @@ given_contents files line bytes are k within = given_all (bytes_under files (fil
 given_answer : (files : NamedFiles) (line : Line) (s : Status) (text : List ℕ) → AnswersLine (known_in files) line s text
     → AnswersLine (bytes_under files) line s text
 given_answer files line s text answers =
-    (answers.0, (answers.1.0, given_contents files line answers.1.0 answers.1.1, answers.1.2), answers.2)
+    (answers.0, (answers.1.0, given_contents files line answers.1.0 answers.1.1, answers.1.2, answers.1.3), answers.2)
 
 given_refusal : (files : NamedFiles) (line : Line) (text : List ℕ) → RefusesWith (known_in files) line text → RefusesWith (bytes_under files) line text
 given_refusal files line text refuses = (refuses.0, given_contents files line refuses.0 refuses.1, refuses.2)

@@ -11,10 +11,10 @@ use Rattle.rp_evidence.specs.declared.demand.Bound.{Bound}
 use Rattle.rp_evidence.specs.declared.demand.Bound.TheVariants.{Shown, Wide}
 use Rattle.rp_people.specs.Bundles.{IsBundle}
 use Rattle.rp_producers.specs.CostAxiom.{BreaksCostAxiom, MeetsCostAxiom}
-use Rattle.rp_producers.specs.ProductionSets.{HasProductionSet}
+use Rattle.rp_producers.specs.ProductionSets.{HasConvexProductionSet, HasProductionSet}
 use Rattle.rp_producers.specs.ProfitAxiom.{BreaksProfitAxiom, MeetsProfitAxiom, profit}
-use Rattle.rp_producers.specs.RequirementSets.{AreRequirementSets, HasRequirementSets, RationalizeCost}
-use Rattle.rp_producers.proofs.Producers.{cost_sets, enough_suffices, profit_sets, sufficing_is_outer}
+use Rattle.rp_producers.specs.RequirementSets.{AreRequirementSets, HasConvexRequirementSets, HasRequirementSets, RationalizeCost}
+use Rattle.rp_producers.proofs.Producers.{convex_cost_sets, convex_profit_sets, cost_sets, enough_suffices, profit_sets, sufficing_is_outer}
 use Rattle.rp_cost.specs.Axioms.{AreFirstBroken}
 use Rattle.rp_cost.specs.CostBounds.{BoundProducers, IsUpperCostBound, ProvesLowerCost, SufficesAt}
 use Rattle.rp_cost.specs.declared.axioms.Axiom.{Axiom}
@@ -57,6 +57,12 @@ cost_sets_where input y verdict first = through (cost_where input.n input.cost y
 
 pub profit_sets_where : (input : TableInput) (y p : ℕ → ℕ) (verdict : Axiom) → AreFirstBroken input.n (BreaksProfitAxiom input.cost y p) verdict → (verdict ≡ Holds) ↔ HasProductionSet input y p
 profit_sets_where input y p verdict first = through (profit_where input.n input.cost y p verdict first) (profit_sets input y p)
+
+pub convex_cost_sets_where : (input : TableInput) (y : ℕ → ℕ) (verdict : Axiom) → AreFirstBroken input.n (BreaksCostAxiom input.cost y) verdict → (verdict ≡ Holds) ↔ HasConvexRequirementSets input y
+convex_cost_sets_where input y verdict first = through (cost_where input.n input.cost y verdict first) (convex_cost_sets input y)
+
+pub convex_profit_sets_where : (input : TableInput) (y p : ℕ → ℕ) (verdict : Axiom) → AreFirstBroken input.n (BreaksProfitAxiom input.cost y p) verdict → (verdict ≡ Holds) ↔ HasConvexProductionSet input y p
+convex_profit_sets_where input y p verdict first = through (profit_where input.n input.cost y p verdict first) (convex_profit_sets input y p)
 
 -- ---- the bounds
 

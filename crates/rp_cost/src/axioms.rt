@@ -6,8 +6,9 @@ ghost use Rattle.rp_table.specs.Cost.{cost_of};
 ghost use Rattle.rp_table.specs.Tables.{records_of};
 ghost use Rattle.rp_cost.specs.Axioms.{AreFirstBroken, Breaks, MeetsCost, MeetsProfit};
 ghost use Rattle.rp_producers.specs.CostAxiom.{BreaksCostAxiom};
-ghost use Rattle.rp_producers.specs.ProductionSets.{HasProductionSet};
+ghost use Rattle.rp_producers.specs.ProductionSets.{HasConvexProductionSet, HasProductionSet};
 ghost use Rattle.rp_producers.specs.ProfitAxiom.{BreaksProfitAxiom, profit};
+ghost use Rattle.rp_producers.specs.RequirementSets.{HasConvexRequirementSets};
 ghost use Rattle.rp_producers.specs.RequirementSets.{HasRequirementSets};
 ghost use Rattle.rp_cost.specs.declared.axioms.Axiom.TheVariants.{Holds};
 ghost use Rattle.rp_cost.specs.declared.axioms.Test.TheVariants.{Profit};
@@ -30,25 +31,31 @@ pub(crate) enum Test {
 }
 
 /// Whether the inputs minimise cost: the first observation of a pair spent more than it had to. The axiom holds exactly
-/// where some nested and disposable requirement sets make each observation one of least cost (Varian 1984).
+/// where some nested and disposable requirement sets, which may be convex, make each observation one of least cost
+/// (Varian 1984).
 pub fn cost_axiom(tech: &Tech) -> Axiom
     ensures first { AreFirstBroken (records_of tech.now.table)
         (BreaksCostAxiom (cost_of tech.now.table) (slice_index tech.now.y)) result }
     ensures holds { (result ≡ Holds) ↔ MeetsCost tech.now }
     ensures sets { (result ≡ Holds) ↔ HasRequirementSets (input_of_table tech.now.table)
         (slice_index tech.now.y) }
+    ensures convex { (result ≡ Holds) ↔ HasConvexRequirementSets (input_of_table tech.now.table)
+        (slice_index tech.now.y) }
 {
     first_pair(tech, Test::Cost)
 }
 
 /// Whether inputs and output maximise profit; none where the output has no price. The axiom holds exactly where in some
-/// production set each observation makes the most profit at its prices (Varian 1984).
+/// production set, which may be disposable and convex, each observation makes the most profit at its prices (Varian
+/// 1984).
 pub fn profit_axiom(tech: &Tech) -> Option<Axiom>
     ensures priced { IsNone result ↔ (length tech.now.p ≡ 0) }
     ensures first { IfSome result (AreFirstBroken (records_of tech.now.table) (BreaksProfitAxiom
         (cost_of tech.now.table) (slice_index tech.now.y) (slice_index tech.now.p))) }
     ensures holds { IfSome result (λ found. (found ≡ Holds) ↔ MeetsProfit tech.now) }
     ensures sets { IfSome result (λ found. (found ≡ Holds) ↔ HasProductionSet
+        (input_of_table tech.now.table) (slice_index tech.now.y) (slice_index tech.now.p)) }
+    ensures convex { IfSome result (λ found. (found ≡ Holds) ↔ HasConvexProductionSet
         (input_of_table tech.now.table) (slice_index tech.now.y) (slice_index tech.now.p)) }
 {
     prove!(tech.count() > 0);

@@ -1,5 +1,7 @@
 ghost use Rattle.std.specs.Prelude.{IfOk};
 ghost use Rattle.rp_evidence.specs.Efficiency.{IsLeastGreatestRatio, ProvesEfficiency};
+ghost use Rattle.rp_people.specs.Says.{SaysEfficiency};
+ghost use Rattle.rp_people.specs.TablesOfCosts.{OfEachTable};
 ghost use Rattle.rp_table.specs.Cost.{cost_at};
 ghost use Rattle.rp_effic.specs.EfficiencyVerdict.{IsEfficiencyVerdict};
 
@@ -16,6 +18,8 @@ use std::alloc::Global;
 /// violation.
 pub fn efficiency(alloc: Global, costs: &Costs) -> Result<Efficiency, NoMemory>
     ensures proves { IfOk result (ProvesEfficiency costs.now.n (cost_at costs.now)) }
+    ensures says { IfOk result (λ evidence.
+        OfEachTable costs.now (λ input. SaysEfficiency input evidence)) }
     ensures given { IfOk result (IsEfficiencyVerdict costs.now.n (cost_at costs.now)) }
     ensures threshold { IfOk result
         (λ evidence. IsLeastGreatestRatio costs.now.n (cost_at costs.now)

@@ -52,3 +52,7 @@ module _ (n : ℕ) (c : ℕ → ℕ → ℕ) where
 pub if_ok : {X E : Type 0} (P Q : X → Type 0) (N : Type 0) → (N → (x : X) → P x → Q x) → (r : Result X E) → IfOk r P → IfOk r (λ x. N → Q x)
 if_ok P Q N f (Ok x) p = λ none. f none x p
 if_ok P Q N f (Err e) p = p
+
+pub ok_with : {X E : Type 0} (P Q : X → Type 0) → ((x : X) → P x → Q x) → (r : Result X E) → IfOk r P → IfOk r Q
+ok_with P Q f (Ok x) p = f x p
+ok_with P Q f (Err e) p = p

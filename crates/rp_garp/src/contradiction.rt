@@ -1,5 +1,8 @@
-ghost use Rattle.std.specs.Prelude.{◌<◌};
+ghost use Rattle.std.specs.Prelude.{◌<◌, IfSome};
 ghost use Rattle.rp_evidence.specs.First.{IsFirstOf};
+ghost use Rattle.rp_people.specs.Rationalizing.{NoneHasBoth};
+ghost use Rattle.rp_people.specs.TableChoices.{choices_of};
+ghost use Rattle.rp_people.specs.TablesOfCosts.{OfEachTable};
 ghost use Rattle.rp_pref.specs.Steps.{OwnStrict, OwnWeak};
 ghost use Rattle.rp_table.specs.Cost.{cost_at};
 ghost use Rattle.rp_garp.specs.Pairs.{Contradict, IsOwnPairs};
@@ -11,6 +14,8 @@ use rp_table::Costs;
 /// preferred to the second and the second strictly to the first (Varian 1982), each held to its own level.
 pub fn pairs(costs: &Costs) -> Option<(u32, u32)>
     ensures own { IsOwnPairs costs.now.n costs.now.levels (cost_at costs.now) result }
+    ensures says { IfSome result (λ p. OfEachTable costs.now
+        (λ input. NoneHasBoth (choices_of input) p.0 p.1)) }
 {
     for s in 0..costs.n() {
         if let Some(t) = first_contradicted(costs, s) {

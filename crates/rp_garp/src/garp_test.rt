@@ -1,4 +1,7 @@
 ghost use Rattle.std.specs.Prelude.{IfOk};
+ghost use Rattle.rp_evidence.specs.Input.{input_of_table};
+ghost use Rattle.rp_people.specs.Says.{SaysOfChoices};
+ghost use Rattle.rp_people.specs.TableChoices.{choices_of};
 ghost use Rattle.rp_table.specs.Cost.{cost_at};
 ghost use Rattle.rp_garp.specs.Test.{IsTestOf};
 ghost use Rattle.rp_garp.specs.GarpVerdict.{IsOwnGarpVerdict};
@@ -25,6 +28,8 @@ impl GarpTest {
         ensures is_test { IfOk result (IsTestOf table.now) }
         ensures given { IfOk result (λ tested. IsOwnGarpVerdict tested.costs.n
             tested.costs.levels (cost_at tested.costs) tested.garp) }
+        ensures says { IfOk result (λ tested.
+            SaysOfChoices (choices_of (input_of_table table.now)) tested.garp) }
     {
         prove!(table.n() >= 1);
         let costs = Costs::of(alloc, table)?;

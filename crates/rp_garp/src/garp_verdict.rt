@@ -1,5 +1,8 @@
 ghost use Rattle.std.specs.Prelude.{◌≡◌, [], IfOk};
 ghost use Rattle.rp_evidence.specs.Garp.{ProvesGarp, ProvesOfPreference};
+ghost use Rattle.rp_people.specs.Says.{SaysOfChoices};
+ghost use Rattle.rp_people.specs.TableChoices.{choices_of};
+ghost use Rattle.rp_people.specs.TablesOfCosts.{OfEachTable};
 ghost use Rattle.rp_pref.specs.Steps.{OwnStrict, OwnWeak};
 ghost use Rattle.rp_pref.specs.Violation.{IsVerdictOfPreference};
 ghost use Rattle.rp_table.specs.Cost.{cost_at};
@@ -19,6 +22,8 @@ pub fn garp(alloc: Global, costs: &Costs) -> Result<Garp, NoMemory>
         (OwnWeak costs.now) (OwnStrict costs.now)) }
     ensures given { IfOk result (IsVerdictOfPreference costs.now.n
         (OwnWeak costs.now) (OwnStrict costs.now)) }
+    ensures says { IfOk result (λ verdict. OfEachTable costs.now
+        (λ input. SaysOfChoices (choices_of input) verdict)) }
     ensures proves_without_levels { IfOk result (λ verdict. costs.now.levels ≡ []
         → ProvesGarp costs.now.n (cost_at costs.now) verdict) }
     ensures given_without_levels { IfOk result (λ verdict. costs.now.levels ≡ []

@@ -2,6 +2,8 @@ ghost use Rattle.std.specs.Prelude.{IfOk, All};
 ghost use Rattle.rp_num.specs.Fraction.{Fraction, FitsWidth, IsLowestTerms};
 ghost use Rattle.rp_evidence.specs.Homothetic.{ProvesHomothetic};
 ghost use Rattle.rp_homo.specs.HomotheticVerdict.{IsHomotheticVerdict};
+ghost use Rattle.rp_people.specs.Says.{SaysHomothetic};
+ghost use Rattle.rp_people.specs.TablesOfCosts.{OfEachTable};
 ghost use Rattle.rp_table.specs.Cost.{cost_at};
 
 use crate::products::Products;
@@ -16,6 +18,8 @@ use std::alloc::Global;
 pub fn homothetic(alloc: Global, costs: &Costs) -> Result<Homothetic, NoMemory>
     ensures verdict { IfOk result (IsHomotheticVerdict costs.now.n (cost_at costs.now)) }
     ensures proves { IfOk result (ProvesHomothetic costs.now.n (cost_at costs.now)) }
+    ensures says { IfOk result (λ verdict.
+        OfEachTable costs.now (λ input. SaysHomothetic input verdict)) }
 {
     let n = costs.n();
     prove!(n > 0);

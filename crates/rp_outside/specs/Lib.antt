@@ -1,11 +1,16 @@
+pub mod Asked
 pub mod Drip
 pub mod Faults
 pub mod Files
+pub mod ListedRead
+pub mod ListingDesk
 pub mod MemoryDesk
 pub mod MemorySink
 pub mod NamedFile
 pub mod Reads
 pub mod SureDesk
-pub mod SystemCounts
+pub mod SystemDesk
+pub mod SystemSink
+pub mod OpenedFile
 pub mod Known
 pub mod InnerFronts

@@ -1,4 +1,4 @@
-ghost use Rattle.std.specs.Prelude.{◌≡◌, ◌≤◌, ◌⊎◌, ◌↔◌, ℕ, List, IfOk, IsErr, IsOkUnless};
+ghost use Rattle.std.specs.Prelude.{None, ◌≡◌, ◌≤◌, ◌⊎◌, ◌↔◌, ℕ, List, IfOk, IsErr, IsOkUnless};
 ghost use Rattle.std.specs.Prelude.{IsSomeAnd, is_ok, length, map};
 ghost use Rattle.std.specs.Option.{ForSome};
 ghost use Rattle.rp_outside.specs.Drip.{ReadsPiece, after_drip_read};
@@ -64,6 +64,8 @@ impl Desk for DripDesk {
     ghost faults = { λ d _. d.desk.faults };
 
     ghost calls = { λ d. d.desk.calls };
+
+    ghost asked = { λ _. None };
 
     fn read_at(&mut self, name: &str, at: u64, into: &mut [u8]) -> Result<u64, DeskFault>
         ensures fails { IsErr result ↔ ReadFails self.old.desk name.now }

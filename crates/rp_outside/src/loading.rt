@@ -1,5 +1,6 @@
 ghost use Rattle.std.specs.Prelude.{◌≡◌, ◌+◌, ◌^◌, ◌<◌, ◌≤◌, ◌⊎◌, IfOk, IsErrOf, Ok};
 ghost use Rattle.std.specs.Prelude.{length, vec_len};
+ghost use Rattle.rp_outside.specs.Asked.{AsksAtMostOnce, AsksOnce, ListsRead, MayListRead};
 ghost use Rattle.rp_outside.specs.Faults.{EachStays, HasRisen, NoneFalls, next_count};
 ghost use Rattle.rp_outside.specs.Reads.{calls_through};
 ghost use Rattle.rp_outside.specs.Known.{AreAll, AreAtMost, AreMoreThan};
@@ -57,6 +58,10 @@ pub fn load<D: Desk>(
         ≤ D.calls desk.old + calls_through limit (D.bytes desk.old name.now) }
     ensures some_read { HasRisen (D.calls desk.old) (D.calls desk.new) }
 
+    // For which name, and at which places.
+    ensures asks_once { IfOk result (λ _. AsksOnce (D.asked desk.old) (D.asked desk.new) name.now) }
+    ensures asks_at_most_once { AsksAtMostOnce (D.asked desk.old) (D.asked desk.new) name.now }
+
     // In every outcome, for every name.
     ensures bytes_stay { EachStays (D.bytes desk.old) (D.bytes desk.new) }
     ensures never_falls { NoneFalls (D.faults desk.old) (D.faults desk.new) }
@@ -100,6 +105,10 @@ fn take_turn<D: Desk>(
     ensures bytes_stay { EachStays (D.bytes desk.old) (D.bytes desk.new) }
     ensures never_falls { NoneFalls (D.faults desk.old) (D.faults desk.new) }
     ensures call_counted { D.calls desk.new ≡ next_count (D.calls desk.old) }
+    ensures listed { IsErrOf result LoadFault.NoMemory
+        ⊎ ListsRead (D.asked desk.old) (D.asked desk.new) name.now (vec_len bytes.old) }
+    ensures may_list { MayListRead (D.asked desk.old) (D.asked desk.new)
+        name.now (vec_len bytes.old) }
 {
     let at = bytes.len() as u64;
     match desk.read_at(name, at, &mut *part) {

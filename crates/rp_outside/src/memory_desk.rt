@@ -66,6 +66,8 @@ impl Desk for MemDesk {
 
     ghost calls = { λ d. d.calls };
 
+    ghost asked = { λ _. None };
+
     fn read_at(&mut self, name: &str, at: u64, into: &mut [u8]) -> Result<u64, DeskFault>
         ensures fails { IsErr result ↔ ReadFails self.old name.now }
         ensures only_failed { IsOkUnless result DeskFault.Failed }

@@ -47,6 +47,8 @@ impl Desk for SureDesk {
 
     ghost calls = { λ d. d.calls };
 
+    ghost asked = { λ _. None };
+
     fn read_at(&mut self, name: &str, at: u64, into: &mut [u8]) -> Result<u64, DeskFault>
         ensures sure { IsOk result }
         ensures reads_all { IfOk result

@@ -16,10 +16,11 @@ use Rattle.rp_people.specs.Choices.{AreChoices, Choices, IsStrictChoice, IsWeakC
 use Rattle.rp_people.specs.Preferences.{IsAtLeastAsGood}
 use Rattle.rp_people.specs.Rationalizing.{IsBest}
 use Rattle.rp_people.specs.TableChoices.{IsFullInput, choices_at}
+use Rattle.rp_people.specs.Utilities.{preference_of}
 use Rattle.rp_people.proofs.AfriatUtilities.{concave_utility_exists}
 use Rattle.rp_people.proofs.Chains.{meets_axiom}
-use Rattle.rp_people.proofs.Orders.{preference_of_concave}
-use Rattle.rp_people.specs.BoughtBundles.{IsBought, IsInfimumBought, IsSupremumBought}
+use Rattle.rp_people.proofs.Orders.{nonsatiated_utility}
+use Rattle.rp_people.specs.BoughtBundles.{IsBought, IsBoughtByUtility, IsInfimumBought, IsSupremumBought}
 
 -- ---- the table with one choice more
 
@@ -164,17 +165,27 @@ module _ (input : TableInput) (budget : BudgetInput) (x : FractionBundle) where
         bundle_of s (inl l) = subst IsBundle (sym (old (bundle_at input s) x s l)) (omega arith)
         bundle_of s (inr l) = subst IsBundle (sym (new (bundle_at input s) x s l)) fraction
 
-  pub supporting_is_bought : IsFullInput input → ((g : ℕ) → g < input.goods → 1 ≤ budget.prices g) → IsSupportingDemand input budget x → IsBought input budget x
-  supporting_is_bought full positive is =
+  pub supporting_is_bought_by_utility : IsFullInput input → ((g : ℕ) → g < input.goods → 1 ≤ budget.prices g) → IsSupportingDemand input budget x → IsBoughtByUtility input budget x
+  supporting_is_bought_by_utility full positive is =
       let are = are_choices full positive is.on_budget.fraction in
-      let has = preference_of_concave (widened input budget x) (concave_utility_exists (widened input budget x) are ((meets_where is.on_budget).0 is.meets)) in
+      let has = concave_utility_exists (widened input budget x) are ((meets_where is.on_budget).0 is.meets) in
+      let prefers = preference_of has.utility in
       record {
         on_budget = is.on_budget;
-        prefers = has.prefers;
-        preference = has.preference;
-        rationalizes = λ s a. subst (λ T. T) (best_old has.prefers s a) (has.rationalizes s (omega arith));
-        best = subst (λ T. T) (best_new has.prefers input.n (omega arith)) (has.rationalizes input.n (omega arith));
+        utility = has.utility;
+        concave_utility = has.concave_utility;
+        rationalizes = λ s a. subst (λ T. T) (best_old prefers s a) (has.rationalizes s (omega arith));
+        best = subst (λ T. T) (best_new prefers input.n (omega arith)) (has.rationalizes input.n (omega arith));
       }
+
+  pub by_utility_is_bought : IsBoughtByUtility input budget x → IsBought input budget x
+  by_utility_is_bought is = record {
+    on_budget = is.on_budget;
+    prefers = preference_of is.utility;
+    preference = nonsatiated_utility input.goods is.utility is.concave_utility;
+    rationalizes = is.rationalizes;
+    best = is.best;
+  }
 
   pub bought_is_supporting : IsFullInput input → ((g : ℕ) → g < input.goods → 1 ≤ budget.prices g) → IsBought input budget x → IsSupportingDemand input budget x
   bought_is_supporting full positive is =
@@ -193,12 +204,12 @@ module _ (input : TableInput) (budget : BudgetInput) (full : IsFullInput input) 
   infimum_bought g num den is = record {
     fraction = is.fraction;
     none_less = λ x bought. is.none_less x (bought_is_supporting input budget x full positive bought);
-    approached = λ num' den' some l. let r = is.approached num' den' some l in (r.0, supporting_is_bought input budget r.0 full positive r.1, r.2);
+    approached = λ num' den' some l. let r = is.approached num' den' some l in (r.0, supporting_is_bought_by_utility input budget r.0 full positive r.1, r.2);
   }
 
   pub supremum_bought : (g num den : ℕ) → IsSupremum input budget g num den → IsSupremumBought input budget g num den
   supremum_bought g num den is = record {
     fraction = is.fraction;
     none_more = λ x bought. is.none_more x (bought_is_supporting input budget x full positive bought);
-    approached = λ num' den' some l. let r = is.approached num' den' some l in (r.0, supporting_is_bought input budget r.0 full positive r.1, r.2);
+    approached = λ num' den' some l. let r = is.approached num' den' some l in (r.0, supporting_is_bought_by_utility input budget r.0 full positive r.1, r.2);
   }

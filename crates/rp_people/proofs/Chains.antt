@@ -1,5 +1,5 @@
 -- Along a walk of weak steps a rationalizing preference has each bundle at least as good as the next, and a strict step
--- leads to a worse one, since a little more of every good is still affordable: so no closed walk has one.
+-- leads to a worse one, since a better one than it is still affordable: so no closed walk has one.
 use Rattle.std.proofs.Common.{ℕ, ◌<◌, inl, inr, List, [], ◌∷◌, sym, subst}
 use Rattle.std.specs.Prelude.{Bool}
 use Rattle.rp_evidence.specs.Demand.{FractionBundle}
@@ -7,21 +7,20 @@ use Rattle.rp_evidence.specs.Walk.{HasStepFrom, LeadsTo}
 use Rattle.rp_evidence.proofs.Walks.{ends_below, starts_below}
 use Rattle.rp_people.specs.Bundles.{IsBundle}
 use Rattle.rp_people.specs.Choices.{Choices, IsStrictChoice, IsWeakChoice, MeetAxiom}
-use Rattle.rp_people.specs.Preferences.{IsAtLeastAsGood, IsPreference}
+use Rattle.rp_people.specs.Preferences.{IsAtLeastAsGood, IsNonsatiatedPreference}
 use Rattle.rp_people.specs.Rationalizing.{NoneHasBoth, Rationalizes}
 use Rattle.rp_people.proofs.Rooms.{room}
 
-module _ (choices : Choices) (bundles : (s : ℕ) → s < choices.n → IsBundle (choices.bundle s)) (prefers : FractionBundle → FractionBundle → Bool) (preference : IsPreference choices.goods prefers) (rationalizes : Rationalizes choices prefers) where
+module _ (choices : Choices) (bundles : (s : ℕ) → s < choices.n → IsBundle (choices.bundle s)) (prefers : FractionBundle → FractionBundle → Bool) (preference : IsNonsatiatedPreference choices.goods prefers) (rationalizes : Rationalizes choices prefers) where
   as_good_as_itself : (x : FractionBundle) → IsBundle x → IsAtLeastAsGood prefers x x
   as_good_as_itself x is = elim (preference.complete x x is is) [ inl h ↦ h | inr h ↦ h ]
 
   -- a strict step leads to a worse bundle
   pub strict_is_better : (s t : ℕ) → s < choices.n → t < choices.n → IsStrictChoice choices s t → ¬ IsAtLeastAsGood prefers (choices.bundle t) (choices.bundle s)
   strict_is_better s t a b strict back =
-      let r = room choices.goods (choices.price s) (choices.bundle t) (choices.own s) choices.scale (bundles t b) strict in
-      let over = preference.monotone r.more (choices.bundle t) r.bundle (bundles t b) r.has_more in
+      let r = room choices.goods (choices.price s) prefers (choices.bundle t) (choices.own s) choices.scale preference.nonsatiated (bundles t b) strict in
       let under = rationalizes s a r.more r.bundle r.costs in
-      over.1 (preference.transitive (choices.bundle t) (choices.bundle s) r.more (bundles t b) (bundles s a) r.bundle back under)
+      r.better.1 (preference.transitive (choices.bundle t) (choices.bundle s) r.more (bundles t b) (bundles s a) r.bundle back under)
 
   pub never_worse : (s t : ℕ) (w : List ℕ) → LeadsTo choices.n (IsWeakChoice choices) s t w → IsAtLeastAsGood prefers (choices.bundle s) (choices.bundle t)
   never_worse s t [] h = subst (λ v. IsAtLeastAsGood prefers (choices.bundle s) (choices.bundle v)) h.1 (as_good_as_itself (choices.bundle s) (bundles s h.0))
@@ -54,6 +53,5 @@ module _ (choices : Choices) (bundles : (s : ℕ) → s < choices.n → IsBundle
 -- two choices, the first weakly preferred to the second and the second strictly to the first
 pub none_has_both : (choices : Choices) (s t : ℕ) → IsBundle (choices.bundle s) → IsBundle (choices.bundle t) → IsWeakChoice choices s t → IsStrictChoice choices t s → NoneHasBoth choices s t
 none_has_both choices s t is_s is_t weak strict prefers preference best_s best_t =
-    let r = room choices.goods (choices.price t) (choices.bundle s) (choices.own t) choices.scale is_s strict in
-    (preference.monotone r.more (choices.bundle s) r.bundle is_s r.has_more).1
-    (preference.transitive (choices.bundle s) (choices.bundle t) r.more is_s is_t r.bundle (best_s (choices.bundle t) is_t weak) (best_t r.more r.bundle r.costs))
+    let r = room choices.goods (choices.price t) prefers (choices.bundle s) (choices.own t) choices.scale preference.nonsatiated is_s strict in
+    r.better.1 (preference.transitive (choices.bundle s) (choices.bundle t) r.more is_s is_t r.bundle (best_s (choices.bundle t) is_t weak) (best_t r.more r.bundle r.costs))

@@ -1,16 +1,18 @@
 -- The definitions at small tables: a preference that rationalizes two choices that are weakly preferred to each other,
 -- none for a contradiction of three steps, and a constant answer is no preference.
-use Rattle.std.proofs.Common.{ℕ, zero, suc, ◌*◌, ◌<◌, ◌≤◌, ◌⊎◌, inl, inr, List, [], ◌∷◌, refl, arith, slice_index, slice_index_or}
-use Rattle.std.specs.Prelude.{Bool, IsTrue, nat_le}
-use Rattle.std.proofs.lemmas.Bool.{cases_lt}
-use Rattle.std.proofs.Math.Nat.{le_of_mul-le-mul_left, mul-le-mul_left}
+use Rattle.std.proofs.Common.{ℕ, zero, suc, ◌<◌, inl, List, [], ◌∷◌, refl, arith, slice_index, slice_index_or}
+use Rattle.std.proofs.lemmas.Int.{ints}
+use Rattle.std.specs.Prelude.{Bool, ℤ, pos, ◌*ℤ◌, ◌≤ℤ◌}
 use Rattle.rp_table.specs.Spending.{spending}
-use Rattle.rp_evidence.specs.Demand.{FractionBundle}
+use Rattle.rp_evidence.specs.Afriat.{allowed_for_by}
+use Rattle.rp_people.specs.AfriatUtility.{IsModelOfChoices, scaled_cost}
+use Rattle.rp_people.specs.Bundles.{IsBundle}
 use Rattle.rp_people.specs.Choices.{Choices, IsStrictChoice, IsWeakChoice, MeetAxiom}
 use Rattle.rp_people.specs.Preferences.{IsPreference}
-use Rattle.rp_people.specs.Rationalizing.{HasPreference, Rationalizes}
-use Rattle.rp_people.proofs.Affine.{spending_more}
+use Rattle.rp_people.specs.Rationalizing.{HasNonsatiatedPreference, HasPreference, Rationalizes}
 use Rattle.rp_people.proofs.Chains.{meets_axiom}
+use Rattle.rp_people.proofs.FactsOfPreferences.{by, by_is_preference, more_size, same_size, size, test}
+use Rattle.rp_people.proofs.Rooms.{preference_is_nonsatiated}
 
 abbrev entry : List (List ℕ) → ℕ → ℕ → ℕ
 entry rows s g = slice_index (slice_index_or rows s []) g
@@ -48,41 +50,50 @@ weak_back = omega arith
 not_strict : ¬ IsStrictChoice either 0 1
 not_strict h = omega (arith, h)
 
--- who looks at the sum of both goods alone rationalizes them
-abbrev size : FractionBundle → ℕ
-size x = spending 2 (λ g. 1) x.num
-
-abbrev by_size : FractionBundle → FractionBundle → Bool
-by_size x y = nat_le (size y * x.den) (size x * y.den)
-
-by_size_orders : (a b : ℕ) → (IsTrue (nat_le a b) → a ≤ b) × (a ≤ b → IsTrue (nat_le a b))
-by_size_orders a b = (λ e. grind arith, λ l. grind arith)
-
-by_size_is_preference : IsPreference 2 by_size
-by_size_is_preference = record {
-  complete = λ x y ix iy. both (size y * x.den) (size x * y.den);
-  transitive = λ x y z ix iy iz h k. (by_size_orders _ _).1 (on (size x) (size y) (size z) x.den y.den z.den iy ((by_size_orders _ _).0 h) ((by_size_orders _ _).0 k));
-  monotone = λ x y ix iy more.
-      let l : size y * x.den < size x * y.den = spending_more 2 (λ g. 1) x.num y.num x.den y.den (omega arith) (λ g a. omega arith) more in
-      ((by_size_orders _ _).1 (omega arith), λ h. let k = (by_size_orders _ _).0 h in omega arith);
-}
-  where
-    both : (a b : ℕ) → IsTrue (nat_le a b) ⊎ IsTrue (nat_le b a)
-    both a b = elim (cases_lt a b) [ inl l ↦ inl ((by_size_orders a b).1 (omega arith)) | inr l ↦ inr ((by_size_orders b a).1 l) ]
-
-    on : (a b c d e f : ℕ) → 0 < e → b * d ≤ a * e → c * e ≤ b * f → c * d ≤ a * f
-    on a b c d e f some h k =
-        let p : f * (b * d) ≤ f * (a * e) = mul-le-mul_left f h in
-        let q : d * (c * e) ≤ d * (b * f) = mul-le-mul_left d k in
-        le_of_mul-le-mul_left {k = e} (omega arith) some
-
-by_size_rationalizes : Rationalizes either by_size
-by_size_rationalizes zero l x ix h = (by_size_orders _ _).1 (omega (arith, h))
-by_size_rationalizes (suc zero) l x ix h = (by_size_orders _ _).1 (omega (arith, h))
+-- who looks at the sum of both goods alone rationalizes them, and who looks at the first good does not
+by_size_rationalizes : Rationalizes either (by size)
+by_size_rationalizes zero l x ix h = (test _ _).1 (omega (arith, h))
+by_size_rationalizes (suc zero) l x ix h = (test _ _).1 (omega (arith, h))
 by_size_rationalizes (suc (suc s)) l x ix h = absurd (omega arith)
 
 some_preference : HasPreference either
-some_preference = record { prefers = by_size; preference = by_size_is_preference; rationalizes = by_size_rationalizes }
+some_preference = record { prefers = by size; preference = by_is_preference size 2 same_size more_size; rationalizes = by_size_rationalizes }
+
+first_alone : ¬ Rationalizes either (by (λ x. x.num 0))
+first_alone rationalizes =
+    let e = rationalizes 1 (omega arith) (record { den = 1; num = entry ((1 ∷ 1 ∷ []) ∷ []) 0 }) (omega arith) (omega arith) in
+    absurd cc
+
+either_meets : MeetAxiom either
+either_meets =
+    meets_axiom either bundles (by size) (preference_is_nonsatiated 2 (by size) (by_is_preference size 2 same_size more_size)) by_size_rationalizes
+  where
+    bundles : (s : ℕ) → s < 2 → IsBundle (either.bundle s)
+    bundles s l = omega arith
+
+-- ---- numbers of an Afriat model of the two: 0 for both, with multipliers above 0, and not more for the first
+
+abbrev first_has : ℕ → ℕ → ℤ
+first_has k zero = pos k
+first_has k (suc s) = pos 0
+
+zeros_are_a_model : IsModelOfChoices either (first_has 0) (λ s. 1)
+zeros_are_a_model = record { at_least_one = λ s l. omega arith; none_above = none }
+  where
+    none : (s t : ℕ) → s < 2 → t < 2 → (pos 1 *ℤ first_has 0 t) ≤ℤ allowed_for_by either.own (first_has 0) (λ s. 1) 1 (scaled_cost either (either.bundle t)) s
+    none zero zero a b = omega (arith, ints)
+    none zero (suc zero) a b = omega (arith, ints)
+    none (suc zero) zero a b = omega (arith, ints)
+    none (suc zero) (suc zero) a b = omega (arith, ints)
+    none (suc (suc s)) t a b = absurd (omega arith)
+    none zero (suc (suc t)) a b = absurd (omega arith)
+    none (suc zero) (suc (suc t)) a b = absurd (omega arith)
+
+multipliers_are_positive : ¬ IsModelOfChoices either (first_has 0) (λ s. 0)
+multipliers_are_positive is = let l = is.at_least_one 0 (omega arith) in absurd (omega (arith, l))
+
+one_above_is_none : ¬ IsModelOfChoices either (first_has 1) (λ s. 1)
+one_above_is_none is = let l = is.none_above 1 0 (omega arith) (omega arith) in absurd (omega (arith, ints, l))
 
 -- ---- (2, 1, 3), (3, 2, 1), (1, 3, 2) with one of the first, the second and the third good: each is strictly preferred
 -- to the next, and no preference rationalizes them
@@ -94,5 +105,5 @@ around_contradicts : ¬ MeetAxiom around
 around_contradicts meets =
     meets (0 ∷ 1 ∷ 2 ∷ 0 ∷ []) ((0, (refl, (omega arith, omega arith, (omega arith, omega arith, (omega arith, omega arith, (omega arith, refl))))), omega arith), inl (omega arith))
 
-no_preference : ¬ HasPreference around
+no_preference : ¬ HasNonsatiatedPreference around
 no_preference has = around_contradicts (meets_axiom around (λ s l. omega arith) has.prefers has.preference has.rationalizes)

@@ -8,8 +8,8 @@ use Rattle.std.specs.Prelude.{ℤ, pos, ◌+ℤ◌, ◌*ℤ◌, ◌<ℤ◌, ◌�
 use Rattle.rp_evidence.specs.Demand.{FractionBundle}
 use Rattle.rp_people.specs.Bundles.{AreEqualInValue, IsBundle, mixture, multiple}
 use Rattle.rp_people.specs.Fractions.{SignedFraction}
-use Rattle.rp_people.specs.Utilities.{IsConcave, IsConcaveUtility, IsHomogeneous, IsMonotone, IsUtilityOfBundles}
-use Rattle.rp_people.proofs.Affine.{IsAffine, by_value, mixed_by_mixtures, more_is_more, multiplied}
+use Rattle.rp_people.specs.Utilities.{IsConcave, IsConcaveUtility, IsHomogeneous, IsMonotone, IsStrictlyMonotone, IsUtilityOfBundles}
+use Rattle.rp_people.proofs.Affine.{IsAffine, by_value, mixed_by_mixtures, more_is_more, more_of_some_is_more, multiplied}
 use Rattle.rp_people.proofs.Differences.{at_most_below, at_most_itself, at_most_on, at_most_sum, at_most_times, both_at_most, times_at_most}
 
 -- ---- the least of n numbers
@@ -88,14 +88,23 @@ module _ (n goods : ℕ) (price : ℕ → ℕ → ℕ) (a b c : ℕ → ℕ) (va
         (not_above_equal x y ix iy same) (not_above_equal y x iy ix (λ g l. sym (same g l)));
   }
 
-  pub monotone : 1 ≤ goods → ((s g : ℕ) → s < n → g < goods → 1 ≤ price s g) → IsMonotone goods utility
-  monotone some positive x y ix iy more =
+  -- where each value is below
+  below_where : (x y : FractionBundle) → IsBundle x → IsBundle y → ((s : ℕ) → s < n → (values s y *ℤ pos x.den) <ℤ (values s x *ℤ pos y.den)) → ((utility y).num *ℤ pos (utility x).den) <ℤ ((utility x).num *ℤ pos (utility y).den)
+  below_where x y ix iy each =
       let r = (is.least x ix).reached in
-      let f = more_is_more goods (price r.0) (a r.0) (b r.0) (c r.0) (values r.0) (affine r.0 r.1) x y some (λ g l. positive r.0 g r.1 l) more in
+      let f = each r.0 r.1 in
       let l = at_most_below ((utility y).num *ℤ pos x.den) (values r.0 y *ℤ pos x.den) (values r.0 x *ℤ pos y.den) (at_most_over r.0 r.1 y iy x.den) f in
       let m : ((utility y).num *ℤ pos x.den) <ℤ ((utility x).num *ℤ pos y.den) = subst (λ v. ((utility y).num *ℤ pos x.den) <ℤ (v *ℤ pos y.den)) (sym r.2) l in
       subst (λ d. ((utility y).num *ℤ pos d) <ℤ ((utility x).num *ℤ pos (utility y).den)) (sym (is.over x ix))
       (subst (λ d. ((utility y).num *ℤ pos x.den) <ℤ ((utility x).num *ℤ pos d)) (sym (is.over y iy)) m)
+
+  pub monotone : 1 ≤ goods → ((s g : ℕ) → s < n → g < goods → 1 ≤ price s g) → IsMonotone goods utility
+  monotone some positive x y ix iy more =
+      below_where x y ix iy (λ s l. more_is_more goods (price s) (a s) (b s) (c s) (values s) (affine s l) x y some (λ g k. positive s g l k) more)
+
+  pub strictly_monotone : ((s g : ℕ) → s < n → g < goods → 1 ≤ price s g) → IsStrictlyMonotone goods utility
+  strictly_monotone positive x y ix iy more =
+      below_where x y ix iy (λ s l. more_of_some_is_more goods (price s) (a s) (b s) (c s) (values s) (affine s l) x y (λ g k. positive s g l k) more)
 
   mixture_is : (p q : ℕ) (x y : FractionBundle) → 0 < p + q → IsBundle x → IsBundle y → IsBundle (mixture p q x y)
   mixture_is p q x y some ix iy = mul-pos some (mul-pos ix iy)
@@ -125,7 +134,12 @@ module _ (n goods : ℕ) (price : ℕ → ℕ → ℕ) (a b c : ℕ → ℕ) (va
           (subst (λ k. (((pos p *ℤ (u *ℤ pos k)) +ℤ (pos q *ℤ (v *ℤ pos x.den))) *ℤ pos ((p + q) * (x.den * y.den))) ≤ℤ (w *ℤ pos ((p + q) * (x.den * k)))) (sym ey) l))
 
   pub concave_utility : 1 ≤ goods → ((s g : ℕ) → s < n → g < goods → 1 ≤ price s g) → IsConcaveUtility goods utility
-  concave_utility some positive = record { utility_of_bundles = of_bundles; monotone = monotone some positive; concave = concave }
+  concave_utility some positive = record {
+    utility_of_bundles = of_bundles;
+    monotone = monotone some positive;
+    strictly_monotone = strictly_monotone positive;
+    concave = concave;
+  }
 
   multiple_is : (num den : ℕ) (x : FractionBundle) → 1 ≤ den → IsBundle x → IsBundle (multiple num den x)
   multiple_is num den x some ix = mul-pos some ix

@@ -6,12 +6,13 @@ use Rattle.std.proofs.lemmas.Int.{by_lt_z, ints}
 use Rattle.std.proofs.Math.Nat.{le_of_mul-le-mul_left, mul-le-mul_left, mul-pos}
 use Rattle.std.specs.Prelude.{ℤ, pos, ◌*ℤ◌, ◌<ℤ◌, ◌≤ℤ◌}
 use Rattle.rp_evidence.specs.Demand.{FractionBundle}
-use Rattle.rp_people.specs.Bundles.{AreEqualInValue, IsBundle, multiple}
+use Rattle.rp_people.specs.Bundles.{HasMoreOfSomeGood, IsBundle, multiple}
 use Rattle.rp_people.specs.Choices.{Choices}
 use Rattle.rp_people.specs.Fractions.{IsAtMost, SignedFraction}
-use Rattle.rp_people.specs.Preferences.{IsAtLeastAsGood, IsHomotheticPreference, IsPreference}
-use Rattle.rp_people.specs.Rationalizing.{HasConcaveUtility, HasHomogeneousUtility, HasHomotheticPreference, HasPreference}
-use Rattle.rp_people.specs.Utilities.{IsHomogeneous, IsMonotone, IsUtilityOfBundles, preference_of}
+use Rattle.rp_people.specs.Preferences.{IsAtLeastAsGood, IsBetter, IsHomotheticPreference, IsNonsatiatedPreference, IsPreference, TreatsAlikeByValue}
+use Rattle.rp_people.specs.Rationalizing.{HasConcaveUtility, HasHomotheticPreference, HasNonsatiatedPreference, HasPreference, Rationalizes}
+use Rattle.rp_people.specs.Utilities.{IsConcaveUtility, IsHomogeneous, IsMonotone, IsStrictlyMonotone, IsUtilityOfBundles, preference_of}
+use Rattle.rp_people.proofs.Rooms.{preference_is_nonsatiated}
 use Rattle.rp_people.proofs.Differences.{at_most_by, at_most_parts, at_most_test, below_not_at_most, by_itself, is_times, test_at_most, times_is}
 
 -- a/b at most c/d, and c/d at most e/f
@@ -43,6 +44,9 @@ module _ (goods : ℕ) (utility : FractionBundle → SignedFraction) (of_bundles
     test_at_most ((utility y).num *ℤ pos (utility x).den) ((utility x).num *ℤ pos (utility y).den),
   )
 
+  pub alike_by_value : TreatsAlikeByValue goods (preference_of utility)
+  alike_by_value x y ix iy same = (utility_orders x y).0 (same_at_most _ _ (sym (of_bundles.by_value x y ix iy same)))
+
   pub preference_is : IsMonotone goods utility → IsPreference goods (preference_of utility)
   preference_is monotone = record {
     complete = λ x y ix iy. elim (either_at_most ((utility y).num *ℤ pos (utility x).den) ((utility x).num *ℤ pos (utility y).den)) [
@@ -53,13 +57,16 @@ module _ (goods : ℕ) (utility : FractionBundle → SignedFraction) (of_bundles
         (utility_orders x z).0
         (at_most_through (utility z).num (utility y).num (utility x).num (utility z).den (utility y).den (utility x).den (of_bundles.fraction y iy)
         ((utility_orders y z).1 k) ((utility_orders x y).1 h));
+    by_value = alike_by_value;
     monotone = λ x y ix iy more.
         let l = monotone x y ix iy more in
         ((utility_orders x y).0 (below_at_most _ _ l), λ back. below_not_at_most _ _ l ((utility_orders y x).1 back));
   }
 
-  pub alike_by_value : (x y : FractionBundle) → IsBundle x → IsBundle y → AreEqualInValue goods x y → IsAtLeastAsGood (preference_of utility) x y
-  alike_by_value x y ix iy same = (utility_orders x y).0 (same_at_most _ _ (sym (of_bundles.by_value x y ix iy same)))
+  pub strict_is_better : IsStrictlyMonotone goods utility → (x y : FractionBundle) → IsBundle x → IsBundle y → HasMoreOfSomeGood goods x y → IsBetter (preference_of utility) x y
+  strict_is_better strictly x y ix iy more =
+      let l = strictly x y ix iy more in
+      ((utility_orders x y).0 (below_at_most _ _ l), λ back. below_not_at_most _ _ l ((utility_orders y x).1 back))
 
   pub homothetic_is : IsHomogeneous utility → IsHomotheticPreference (preference_of utility)
   homothetic_is homogeneous num den x y some_num some_den ix iy h =
@@ -82,17 +89,34 @@ module _ (goods : ℕ) (utility : FractionBundle → SignedFraction) (of_bundles
           (is_times (pos n *ℤ v) (d * f) (n * up v) (n * down v) (times_is n v (up v) (down v) (by_itself v)))
           (is_times (pos n *ℤ w) (d * e) (n * up w) (n * down w) (times_is n w (up w) (down w) (by_itself w))) (omega arith)
 
+pub preference_of_monotone : (choices : Choices) (utility : FractionBundle → SignedFraction) → IsUtilityOfBundles choices.goods utility → IsMonotone choices.goods utility → Rationalizes choices (preference_of utility)
+    → HasPreference choices
+preference_of_monotone choices utility of_bundles monotone rationalizes = record {
+  prefers = preference_of utility;
+  preference = preference_is choices.goods utility of_bundles monotone;
+  rationalizes = rationalizes;
+}
+
 pub preference_of_concave : (choices : Choices) → HasConcaveUtility choices → HasPreference choices
-preference_of_concave choices has = record {
-  prefers = preference_of has.utility;
-  preference = preference_is choices.goods has.utility has.concave_utility.utility_of_bundles has.concave_utility.monotone;
+preference_of_concave choices has =
+    preference_of_monotone choices has.utility has.concave_utility.utility_of_bundles has.concave_utility.monotone has.rationalizes
+
+pub nonsatiated_utility : (goods : ℕ) (utility : FractionBundle → SignedFraction) → IsConcaveUtility goods utility → IsNonsatiatedPreference goods (preference_of utility)
+nonsatiated_utility goods utility is =
+    preference_is_nonsatiated goods (preference_of utility) (preference_is goods utility is.utility_of_bundles is.monotone)
+
+pub nonsatiated_of_preference : (choices : Choices) → HasPreference choices → HasNonsatiatedPreference choices
+nonsatiated_of_preference choices has = record {
+  prefers = has.prefers;
+  preference = preference_is_nonsatiated choices.goods has.prefers has.preference;
   rationalizes = has.rationalizes;
 }
 
-pub preference_of_homogeneous : (choices : Choices) → HasHomogeneousUtility choices → HasHomotheticPreference choices
-preference_of_homogeneous choices has = record {
-  prefers = preference_of has.utility;
-  preference = preference_is choices.goods has.utility has.concave_utility.utility_of_bundles has.concave_utility.monotone;
-  homothetic = homothetic_is choices.goods has.utility has.concave_utility.utility_of_bundles has.homogeneous;
-  rationalizes = has.rationalizes;
+pub preference_of_homogeneous : (choices : Choices) (utility : FractionBundle → SignedFraction) → IsUtilityOfBundles choices.goods utility → IsMonotone choices.goods utility → IsHomogeneous utility → Rationalizes choices (preference_of utility)
+    → HasHomotheticPreference choices
+preference_of_homogeneous choices utility of_bundles monotone homogeneous rationalizes = record {
+  prefers = preference_of utility;
+  preference = preference_is choices.goods utility of_bundles monotone;
+  homothetic = homothetic_is choices.goods utility of_bundles homogeneous;
+  rationalizes = rationalizes;
 }

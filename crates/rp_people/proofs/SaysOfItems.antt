@@ -34,43 +34,44 @@ use Rattle.rp_evidence.specs.declared.quasilinear.Quasi.{Quasi}
 use Rattle.rp_evidence.specs.declared.quasilinear.Quasi.TheVariants.{Cycle as Negative, Values as Numbers}
 use Rattle.rp_people.specs.DividedLevels.{DividesLevels}
 use Rattle.rp_people.specs.Money.{HasWorth}
-use Rattle.rp_people.specs.Rationalizing.{HasHomotheticPreference}
+use Rattle.rp_people.specs.Rationalizing.{HasNonsatiatedHomotheticPreference}
 use Rattle.rp_people.specs.Says.{Says, SaysAfriat, SaysDemand, SaysEfficiency, SaysHomothetic, SaysLower, SaysOfChoices, SaysQuasilinear, SaysUpper, SaysWelfare}
 use Rattle.rp_people.specs.TableChoices.{IsFullInput, choices_at, choices_of}
-use Rattle.rp_people.proofs.Bought.{infimum_bought, supporting_is_bought, supremum_bought}
+use Rattle.rp_people.proofs.Bought.{infimum_bought, supporting_is_bought_by_utility, supremum_bought}
 use Rattle.rp_people.proofs.HomotheticChains.{meets_test}
 use Rattle.rp_people.proofs.MoneyLaws.{numbers_give_worth, worth_meets_test}
 use Rattle.rp_people.proofs.TableLaws.{at_level, by_levels, own_model_utility}
 use Rattle.rp_people.proofs.Values.{values_give_utility}
 use Rattle.rp_people.proofs.WelfareBounds.{bounds_hold}
 
-pub homothetic_meets : (input : TableInput) → IsFullInput input → HasHomotheticPreference (choices_at input 1 1) → MeetsHomotheticTest input.n input.cost
-homothetic_meets input full has = meets_test input full has.prefers has.preference has.homothetic has.rationalizes
+pub homothetic_meets : (input : TableInput) → IsFullInput input → HasNonsatiatedHomotheticPreference (choices_at input 1 1) → MeetsHomotheticTest input.n input.cost
+homothetic_meets input full has = meets_test input full has.prefers has.transitive has.nonsatiated has.homothetic has.rationalizes
 
 pub worth_meets : (input : TableInput) → HasWorth (choices_at input 1 1) → MeetsQuasilinearTest input.n input.cost
 worth_meets input has = worth_meets_test input has.worth has.rationalizes
 
 module _ (input : TableInput) (full : IsFullInput input) where
   says_garp : (verdict : Garp) → ProvesOwnGarp input.n input.levels input.cost verdict → SaysOfChoices (choices_of input) verdict
-  says_garp (Ranks ranks) p = (by_levels input full).1.1 p.1
-  says_garp (Cycle walk) p = λ has. (by_levels input full).0.0 has walk p
+  says_garp (Ranks ranks) p = (by_levels input full).utility.1 p.1
+  says_garp (Cycle walk) p = λ has. (by_levels input full).nonsatiated.0 has walk p
 
   says_afriat : (part : AfriatPart) → ProvesOwnAfriat input.n input.levels input.cost part → SaysAfriat input part
   says_afriat (Model numbers) p = own_model_utility input full (utility_in numbers) (multiplier_in numbers) p.1
-  says_afriat (NoModel walk) p = λ has. (by_levels input full).0.0 has walk p
+  says_afriat (NoModel walk) p = λ has. (by_levels input full).nonsatiated.0 has walk p
   says_afriat (Wide at) p = tt
 
   pub divides : (num den : ℕ) → IsEfficiencyIndex input.n input.cost num den → DividesLevels input num den
   divides num den index = record {
-    utility_below = λ p q level l. (at_level input full p q level).1.1 (index.holds_below p q level l);
-    none_above = λ p q level l has. let f = index.fails_above p q level l in (at_level input full p q level).0.0 has f.0 f.1;
-    preference_where_attained = (at_level input full num den index.level).0;
-    utility_where_attained = (at_level input full num den index.level).1;
+    utility_below = λ p q level l. (at_level input full p q level).utility.1 (index.holds_below p q level l);
+    none_above = λ p q level l has. let f = index.fails_above p q level l in (at_level input full p q level).nonsatiated.0 has f.0 f.1;
+    nonsatiated_where_attained = (at_level input full num den index.level).nonsatiated;
+    preference_where_attained = (at_level input full num den index.level).preference;
+    utility_where_attained = (at_level input full num den index.level).utility;
   }
 
   says_at : (num den : ℕ) → IsLevel num den → (verdict : Garp) → ProvesOfPreference input.n (IsWeakAt input.cost num den) (IsStrictAt input.cost num den) verdict → SaysOfChoices (choices_at input num den) verdict
-  says_at num den level (Ranks ranks) p = (at_level input full num den level).1.1 p.1
-  says_at num den level (Cycle walk) p = λ has. (at_level input full num den level).0.0 has walk p
+  says_at num den level (Ranks ranks) p = (at_level input full num den level).utility.1 p.1
+  says_at num den level (Cycle walk) p = λ has. (at_level input full num den level).nonsatiated.0 has walk p
 
   says_efficiency : (evidence : Efficiency) → ProvesEfficiency input.n input.cost evidence → SaysEfficiency input evidence
   says_efficiency evidence p = (divides evidence.level.num evidence.level.den p.index, says_at evidence.level.num evidence.level.den p.index.level evidence.at p.at)
@@ -102,20 +103,20 @@ module _ (input : TableInput) (full : IsFullInput input) where
 
   says_demand : (prices : List ℕ) (m : ℕ) (part : DemandPart) → ProvesDemand input prices m part → SaysDemand input prices m part
   says_demand prices m (Bounds below strict inner goods) p = (
-    (at_level input full 1 1 at_one).1.1 p.1.sound,
+    (at_level input full 1 1 at_one).utility.1 p.1.sound,
     λ positive. record {
-      inner_bought = supporting_is_bought input (budget_of prices m) (bundle_of inner) full positive p.1.inner_supports;
+      inner_bought = supporting_is_bought_by_utility input (budget_of prices m) (bundle_of inner) full positive p.1.inner_supports;
       each = λ g d l. let b = p.1.each g d l in (
         says_lower (budget_of prices m) positive g (slice_index_or goods g d).lower b.0,
         says_upper (budget_of prices m) positive g (slice_index_or goods g d).upper b.1,
       );
     },
   )
-  says_demand prices m (NoDemand walk) p = λ has. (at_level input full 1 1 at_one).0.0 has walk p
+  says_demand prices m (NoDemand walk) p = λ has. (at_level input full 1 1 at_one).nonsatiated.0 has walk p
 
   says_welfare : (prices : List ℕ) (of : ℕ) (part : WelfarePart) → ProvesWelfare input prices of part → SaysWelfare input prices of part
-  says_welfare prices of (WelfareBounds upper at lower) p = ((at_level input full 1 1 at_one).1.1 p.1.sound, bounds_hold input (slice_index prices) of upper at lower p.1)
-  says_welfare prices of (NoWelfare walk) p = λ has. (at_level input full 1 1 at_one).0.0 has walk p
+  says_welfare prices of (WelfareBounds upper at lower) p = ((at_level input full 1 1 at_one).utility.1 p.1.sound, bounds_hold input (slice_index prices) of upper at lower p.1)
+  says_welfare prices of (NoWelfare walk) p = λ has. (at_level input full 1 1 at_one).nonsatiated.0 has walk p
 
   pub says : (item : Item) → Proves input item → Says input item
   says (GarpItem verdict) p = says_garp verdict p

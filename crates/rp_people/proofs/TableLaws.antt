@@ -11,12 +11,12 @@ use Rattle.rp_evidence.specs.Preference.{IsLevel, IsOwnStrict, IsOwnWeak, Strict
 use Rattle.rp_evidence.proofs.AfriatSums.{once}
 use Rattle.rp_evidence.proofs.SameCosts.{no_violation_same}
 use Rattle.rp_people.specs.AfriatUtility.{HaveUtility, IsModelOfChoices}
-use Rattle.rp_people.specs.Choices.{AreChoices, IsStrictChoice, IsWeakChoice, MeetAxiom}
-use Rattle.rp_people.specs.Rationalizing.{HasConcaveUtility, HasPreference, NoneHasBoth}
+use Rattle.rp_people.specs.Choices.{AreChoices, Choices, IsStrictChoice, IsWeakChoice, MeetAxiom}
+use Rattle.rp_people.specs.Rationalizing.{HasConcaveUtility, HasNonsatiatedPreference, HasPreference, NoneHasBoth}
 use Rattle.rp_people.specs.TableChoices.{IsFullInput, choices_at, choices_held_to, choices_of}
 use Rattle.rp_people.proofs.AfriatUtilities.{concave_utility_exists, have_utility}
 use Rattle.rp_people.proofs.Chains.{meets_axiom, none_has_both}
-use Rattle.rp_people.proofs.Orders.{preference_of_concave}
+use Rattle.rp_people.proofs.Orders.{nonsatiated_of_preference, preference_of_concave}
 
 module _ (input : TableInput) (full : IsFullInput input) (scale : ℕ) (own : ℕ → ℕ) (some_scale : 1 ≤ scale) where
   pub are_choices : AreChoices (choices_held_to input scale own)
@@ -41,7 +41,7 @@ module _ (input : TableInput) (full : IsFullInput input) (scale : ℕ) (own : �
         (λ s t a b. let w = held_weak s t a b in (w.1, w.0)) (λ s t a b. let w = held_strict s t a b in (w.1, w.0)),
   )
 
-  pub held_preferences : HasPreference (choices_held_to input scale own) → HasNoViolation input.n (IsOwnWeak scale own input.cost) (IsOwnStrict scale own input.cost)
+  pub held_preferences : HasNonsatiatedPreference (choices_held_to input scale own) → HasNoViolation input.n (IsOwnWeak scale own input.cost) (IsOwnStrict scale own input.cost)
   held_preferences has =
       held_meets.1 (meets_axiom (choices_held_to input scale own) are_choices.bundles has.prefers has.preference has.rationalizes)
 
@@ -69,22 +69,32 @@ pub scale_positive : (levels : List ℕ) → 1 ≤ level_scale levels
 scale_positive [] = omega arith
 scale_positive (level ∷ levels) = omega arith
 
+-- what there is exactly where no violation is
+pub record AreWhere (choices : Choices) (None : Type 0) : Type 0 where
+  pub nonsatiated : HasNonsatiatedPreference choices ↔ None
+  pub preference : HasPreference choices ↔ None
+  pub utility : HasConcaveUtility choices ↔ None
+
+all_where : (choices : Choices) (None : Type 0) → (HasNonsatiatedPreference choices → None) → (None → HasConcaveUtility choices) → AreWhere choices None
+all_where choices None to from = record {
+  nonsatiated = (to, λ none. nonsatiated_of_preference choices (preference_of_concave choices (from none)));
+  preference = (λ has. to (nonsatiated_of_preference choices has), λ none. preference_of_concave choices (from none));
+  utility = (λ has. to (nonsatiated_of_preference choices (preference_of_concave choices has)), from);
+}
+
 module _ (input : TableInput) (full : IsFullInput input) where
-  pub by_levels : (HasPreference (choices_of input) ↔ HasNoViolation input.n (WeakByLevels input.levels input.cost) (StrictByLevels input.levels input.cost))
-      × (HasConcaveUtility (choices_of input) ↔ HasNoViolation input.n (WeakByLevels input.levels input.cost) (StrictByLevels input.levels input.cost))
+  pub by_levels : AreWhere (choices_of input) (HasNoViolation input.n (WeakByLevels input.levels input.cost) (StrictByLevels input.levels input.cost))
   by_levels =
       let some = scale_positive input.levels in
-      let to = held_preferences input full (level_scale input.levels) (own_by_level input.levels input.cost) some in
-      let from = held_utility input full (level_scale input.levels) (own_by_level input.levels input.cost) some in
-      ((to, λ none. preference_of_concave (choices_of input) (from none)), (λ has. to (preference_of_concave (choices_of input) has), from))
+      all_where (choices_of input) (HasNoViolation input.n (WeakByLevels input.levels input.cost) (StrictByLevels input.levels input.cost))
+      (held_preferences input full (level_scale input.levels) (own_by_level input.levels input.cost) some)
+      (held_utility input full (level_scale input.levels) (own_by_level input.levels input.cost) some)
 
-  pub at_level : (num den : ℕ) → IsLevel num den → (HasPreference (choices_at input num den) ↔ MeetsGarpAt input.n input.cost num den)
-      × (HasConcaveUtility (choices_at input num den) ↔ MeetsGarpAt input.n input.cost num den)
+  pub at_level : (num den : ℕ) → IsLevel num den → AreWhere (choices_at input num den) (MeetsGarpAt input.n input.cost num den)
   at_level num den level =
       let some : 1 ≤ den = omega (arith, level.0, level.1) in
-      let to = held_preferences input full den (λ s. num * input.cost s s) some in
-      let from = held_utility input full den (λ s. num * input.cost s s) some in
-      ((to, λ none. preference_of_concave (choices_at input num den) (from none)), (λ has. to (preference_of_concave (choices_at input num den) has), from))
+      all_where (choices_at input num den) (MeetsGarpAt input.n input.cost num den)
+      (held_preferences input full den (λ s. num * input.cost s s) some) (held_utility input full den (λ s. num * input.cost s s) some)
 
   pub own_model_utility : (u : ℕ → ℤ) (m : ℕ → ℕ) → IsOwnModel input.n input.levels input.cost u m → HaveUtility (choices_of input) u m
   own_model_utility = held_model_utility input full (level_scale input.levels) (own_by_level input.levels input.cost) (scale_positive input.levels)

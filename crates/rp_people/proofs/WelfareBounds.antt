@@ -15,14 +15,14 @@ use Rattle.rp_evidence.specs.declared.demand.Bound.TheVariants.{Shown, Wide}
 use Rattle.rp_evidence.proofs.Walks.{ends_below, leads_by_weaker}
 use Rattle.rp_people.specs.Bundles.{CostsLess, IsBundle}
 use Rattle.rp_people.specs.Choices.{IsWeakChoice}
-use Rattle.rp_people.specs.Preferences.{IsAtLeastAsGood, IsPreference}
+use Rattle.rp_people.specs.Preferences.{IsAtLeastAsGood, IsNonsatiatedPreference}
 use Rattle.rp_people.specs.Rationalizing.{Rationalizes}
 use Rattle.rp_people.specs.TableChoices.{choices_at}
 use Rattle.rp_people.proofs.Chains.{never_worse}
 use Rattle.rp_people.proofs.Rooms.{room}
 use Rattle.rp_people.specs.WelfareOfPeople.{BoundWelfareOfPeople}
 
-module _ (input : TableInput) (prefers : FractionBundle → FractionBundle → Bool) (preference : IsPreference input.goods prefers) (rationalizes : Rationalizes (choices_at input 1 1) prefers) where
+module _ (input : TableInput) (prefers : FractionBundle → FractionBundle → Bool) (preference : IsNonsatiatedPreference input.goods prefers) (rationalizes : Rationalizes (choices_at input 1 1) prefers) where
   weaker : (s t : ℕ) → s < input.n → t < input.n → IsWeak input.cost s t → IsWeakChoice (choices_at input 1 1) s t
   weaker s t a b h = let e = input.sums s t a b in omega arith
 
@@ -51,10 +51,9 @@ module _ (input : TableInput) (prefers : FractionBundle → FractionBundle → B
             | inr enough ↦ enough
             | inl cheap ↦
                 let less : CostsLess input.goods (input.price s) x (1 * input.cost s s) 1 = omega arith in
-                let m = room input.goods (input.price s) x (1 * input.cost s s) 1 ix less in
-                let better = preference.monotone m.more x m.bundle ix m.has_more in
+                let m = room input.goods (input.price s) prefers x (1 * input.cost s s) 1 preference.nonsatiated ix less in
                 let there = preference.transitive x (bundle_at input t) (bundle_at input s) ix (omega arith) (omega arith) good (reached_not_better t s r) in
-                absurd (better.1 (preference.transitive x (bundle_at input s) m.more ix (omega arith) m.bundle there (rationalizes s (ends_in t s r) m.more m.bundle m.costs)))
+                absurd (m.better.1 (preference.transitive x (bundle_at input s) m.more ix (omega arith) m.bundle there (rationalizes s (ends_in t s r) m.more m.bundle m.costs)))
           ]
 
   costs_enough : (prices : ℕ → ℕ) (t : ℕ) (lower : Bound) → ProvesLowerWelfare input prices t lower → (x : FractionBundle) → IsBundle x → IsAtLeastAsGood prefers x (bundle_at input t) → CostsAtLeast input prices x lower

@@ -29,7 +29,7 @@ pub record IsUtilityOfNumbers (choices : Choices) (number : ℕ → ℤ) (multip
   pub least : (x : FractionBundle) → IsBundle x
       → IsUtilityBy choices.n choices.own number multiplier x.den (scaled_cost choices x) (utility x).num
 
--- The numbers have a utility, it is monotone and concave, and its preference rationalizes the choices.
+-- The numbers have a utility, it is strictly monotone and concave, and its preference rationalizes the choices.
 pub record HaveUtility (choices : Choices) (number : ℕ → ℤ) (multiplier : ℕ → ℕ) : Type 0 where
   pub utility : FractionBundle → SignedFraction
   pub of_numbers : IsUtilityOfNumbers choices number multiplier utility

@@ -16,6 +16,19 @@ AreEqualInValue goods x y = (g : ℕ) → g < goods → x.num g * y.den ≡ y.nu
 abbrev pub HasMoreOfEveryGood : ℕ → FractionBundle → FractionBundle → Type 0
 HasMoreOfEveryGood goods x y = (g : ℕ) → g < goods → y.num g * x.den < x.num g * y.den
 
+-- The bundle x has no less of any good than y, and more of one.
+pub record HasMoreOfSomeGood (goods : ℕ) (x y : FractionBundle) : Type 0 where
+  pub no_less : (g : ℕ) → g < goods → y.num g * x.den ≤ x.num g * y.den
+  pub good : ℕ
+  pub among : good < goods
+  pub more : y.num good * x.den < x.num good * y.den
+
+-- What two bundles have of a good is at most num/den apart, for each good.
+abbrev pub AreWithin : ℕ → FractionBundle → FractionBundle → ℕ → ℕ → Type 0
+AreWithin goods x y num den = (g : ℕ) → g < goods
+    → (den * (x.num g * y.den) ≤ den * (y.num g * x.den) + num * (x.den * y.den))
+    × (den * (y.num g * x.den) ≤ den * (x.num g * y.den) + num * (x.den * y.den))
+
 -- At these prices the bundle costs at most num/den.
 abbrev pub CostsAtMost : ℕ → (ℕ → ℕ) → FractionBundle → ℕ → ℕ → Type 0
 CostsAtMost goods prices x num den = den * spending goods prices x.num ≤ num * x.den

@@ -4,13 +4,16 @@ use Rattle.std.specs.Prelude.{ℕ, ◌*◌, ◌<◌, ◌↔◌}
 use Rattle.rp_evidence.specs.Garp.{MeetsGarpAt}
 use Rattle.rp_evidence.specs.Input.{TableInput}
 use Rattle.rp_evidence.specs.Preference.{IsLevel}
-use Rattle.rp_people.specs.Rationalizing.{HasConcaveUtility, HasPreference}
+use Rattle.rp_people.specs.Rationalizing.{HasConcaveUtility, HasNonsatiatedPreference, HasPreference}
 use Rattle.rp_people.specs.TableChoices.{choices_at}
 
--- At each level below num/den a monotone and concave utility rationalizes, at each level above it, up to 1, no
--- preference does, and at num/den itself one does exactly where the index is attained: where the axiom holds at it.
+-- At each level below num/den a strictly monotone and concave utility rationalizes, at each level above it, up to 1, no
+-- locally nonsatiated preference does, and at num/den itself one does exactly where the index is attained: where the
+-- axiom holds at it.
 pub record DividesLevels (input : TableInput) (num den : ℕ) : Type 0 where
   pub utility_below : (p q : ℕ) → IsLevel p q → p * den < num * q → HasConcaveUtility (choices_at input p q)
-  pub none_above : (p q : ℕ) → IsLevel p q → num * q < p * den → ¬ HasPreference (choices_at input p q)
+  pub none_above : (p q : ℕ) → IsLevel p q → num * q < p * den → ¬ HasNonsatiatedPreference (choices_at input p q)
+  pub nonsatiated_where_attained : HasNonsatiatedPreference (choices_at input num den)
+      ↔ MeetsGarpAt input.n input.cost num den
   pub preference_where_attained : HasPreference (choices_at input num den) ↔ MeetsGarpAt input.n input.cost num den
   pub utility_where_attained : HasConcaveUtility (choices_at input num den) ↔ MeetsGarpAt input.n input.cost num den

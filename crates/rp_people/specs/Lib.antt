@@ -9,5 +9,6 @@ pub mod Preferences
 pub mod Rationalizing
 pub mod Says
 pub mod TableChoices
+pub mod TablesOfCosts
 pub mod Utilities
 pub mod WelfareOfPeople

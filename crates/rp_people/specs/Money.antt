@@ -25,7 +25,7 @@ pub record HasWorth (choices : Choices) : Type 0 where
   pub worth : FractionBundle → SignedFraction
   pub rationalizes : RationalizesWithMoney choices worth
 
--- Some monotone and concave one, the same for bundles that are equal in value, does.
+-- Some strictly monotone and concave one, the same for bundles that are equal in value, does.
 pub record HasConcaveWorth (choices : Choices) : Type 0 where
   pub worth : FractionBundle → SignedFraction
   pub concave_utility : IsConcaveUtility choices.goods worth

@@ -4,7 +4,8 @@ use Rattle.rp_evidence.specs.Demand.{FractionBundle}
 use Rattle.rp_people.specs.Bundles.{IsBundle}
 use Rattle.rp_people.specs.Choices.{Choices, IsAffordable}
 use Rattle.rp_people.specs.Fractions.{SignedFraction}
-use Rattle.rp_people.specs.Preferences.{IsAtLeastAsGood, IsHomotheticPreference, IsPreference}
+use Rattle.rp_people.specs.Preferences.{IsAtLeastAsGood, IsComplete, IsHomotheticPreference, IsNonsatiatedByValue}
+use Rattle.rp_people.specs.Preferences.{IsNonsatiatedPreference, IsPreference, IsTransitive}
 use Rattle.rp_people.specs.Utilities.{IsConcaveUtility, IsHomogeneous, preference_of}
 
 -- By the preference, the bundle that was chosen at s is the best of what s affords: at least as good as every bundle
@@ -17,10 +18,10 @@ IsBest choices prefers s = (x : FractionBundle) → IsBundle x → IsAffordable 
 abbrev pub Rationalizes : Choices → (FractionBundle → FractionBundle → Bool) → Type 0
 Rationalizes choices prefers = (s : ℕ) → s < choices.n → IsBest choices prefers s
 
--- Two choices contradict each other: by no preference are both the best of what they afford.
+-- Two choices contradict each other: by no locally nonsatiated preference are both the best of what they afford.
 abbrev pub NoneHasBoth : Choices → ℕ → ℕ → Type 0
-NoneHasBoth choices s t = (prefers : FractionBundle → FractionBundle → Bool) → IsPreference choices.goods prefers
-    → IsBest choices prefers s → ¬ IsBest choices prefers t
+NoneHasBoth choices s t = (prefers : FractionBundle → FractionBundle → Bool)
+    → IsNonsatiatedPreference choices.goods prefers → IsBest choices prefers s → ¬ IsBest choices prefers t
 
 -- Some preference rationalizes the choices.
 pub record HasPreference (choices : Choices) : Type 0 where
@@ -28,7 +29,13 @@ pub record HasPreference (choices : Choices) : Type 0 where
   pub preference : IsPreference choices.goods prefers
   pub rationalizes : Rationalizes choices prefers
 
--- The preference of some monotone and concave utility rationalizes the choices.
+-- Some locally nonsatiated preference does, whether or not it takes bundles that are equal in value for the same.
+pub record HasNonsatiatedPreference (choices : Choices) : Type 0 where
+  pub prefers : FractionBundle → FractionBundle → Bool
+  pub preference : IsNonsatiatedPreference choices.goods prefers
+  pub rationalizes : Rationalizes choices prefers
+
+-- The preference of some strictly monotone and concave utility rationalizes the choices.
 pub record HasConcaveUtility (choices : Choices) : Type 0 where
   pub utility : FractionBundle → SignedFraction
   pub concave_utility : IsConcaveUtility choices.goods utility
@@ -41,7 +48,17 @@ pub record HasHomotheticPreference (choices : Choices) : Type 0 where
   pub homothetic : IsHomotheticPreference prefers
   pub rationalizes : Rationalizes choices prefers
 
--- The preference of some homogeneous, monotone and concave utility rationalizes the choices.
+-- Some homothetic preference does that is locally nonsatiated, and so by value: each that is monotone, and each that
+-- takes bundles that are equal in value for the same, is.
+pub record HasNonsatiatedHomotheticPreference (choices : Choices) : Type 0 where
+  pub prefers : FractionBundle → FractionBundle → Bool
+  pub complete : IsComplete prefers
+  pub transitive : IsTransitive prefers
+  pub nonsatiated : IsNonsatiatedByValue choices.goods prefers
+  pub homothetic : IsHomotheticPreference prefers
+  pub rationalizes : Rationalizes choices prefers
+
+-- The preference of some homogeneous, strictly monotone and concave utility rationalizes the choices.
 pub record HasHomogeneousUtility (choices : Choices) : Type 0 where
   pub utility : FractionBundle → SignedFraction
   pub concave_utility : IsConcaveUtility choices.goods utility

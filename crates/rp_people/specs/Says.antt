@@ -29,25 +29,26 @@ use Rattle.rp_evidence.specs.declared.homothetic.Homothetic.TheVariants.{Cycle a
 use Rattle.rp_evidence.specs.declared.quasilinear.Quasi.{Quasi}
 use Rattle.rp_evidence.specs.declared.quasilinear.Quasi.TheVariants.{Cycle as Negative, Values as Numbers}
 use Rattle.rp_people.specs.AfriatUtility.{HaveUtility}
-use Rattle.rp_people.specs.BoughtBundles.{IsBought, IsInfimumBought, IsSupremumBought}
+use Rattle.rp_people.specs.BoughtBundles.{IsBoughtByUtility, IsInfimumBought, IsSupremumBought}
 use Rattle.rp_people.specs.Choices.{Choices}
 use Rattle.rp_people.specs.DividedLevels.{DividesLevels}
 use Rattle.rp_people.specs.Money.{HasConcaveWorth, HasWorth}
-use Rattle.rp_people.specs.Rationalizing.{HasConcaveUtility, HasHomogeneousUtility, HasHomotheticPreference}
-use Rattle.rp_people.specs.Rationalizing.{HasPreference}
+use Rattle.rp_people.specs.Rationalizing.{HasConcaveUtility, HasHomogeneousUtility, HasNonsatiatedHomotheticPreference}
+use Rattle.rp_people.specs.Rationalizing.{HasNonsatiatedPreference}
 use Rattle.rp_people.specs.TableChoices.{choices_at, choices_of}
 use Rattle.rp_people.specs.WelfareOfPeople.{BoundWelfareOfPeople}
 
--- Ranks: the preference of a monotone and concave utility rationalizes the choices. A cycle: no preference does.
+-- Ranks: the preference of a strictly monotone and concave utility rationalizes the choices. A cycle: no locally
+-- nonsatiated preference does.
 abbrev pub SaysOfChoices : Choices → Garp → Type 0
 SaysOfChoices choices (Ranks ranks) = HasConcaveUtility choices
-SaysOfChoices choices (Cycle walk) = ¬ HasPreference choices
+SaysOfChoices choices (Cycle walk) = ¬ HasNonsatiatedPreference choices
 
--- A model: the utility of its numbers is monotone and concave, and its preference rationalizes the choices. No model:
--- no preference does.
+-- A model: the utility of its numbers is strictly monotone and concave, and its preference rationalizes the choices. No
+-- model: no locally nonsatiated preference does.
 abbrev pub SaysAfriat : TableInput → AfriatPart → Type 0
 SaysAfriat input (Model numbers) = HaveUtility (choices_of input) (utility_in numbers) (multiplier_in numbers)
-SaysAfriat input (NoModel walk) = ¬ HasPreference (choices_of input)
+SaysAfriat input (NoModel walk) = ¬ HasNonsatiatedPreference (choices_of input)
 SaysAfriat input (Wide at) = Unit {0}
 
 -- The index divides the levels; at the index some preference rationalizes the choices or none does.
@@ -55,14 +56,14 @@ abbrev pub SaysEfficiency : TableInput → Efficiency → Type 0
 SaysEfficiency input evidence = DividesLevels input evidence.level.num evidence.level.den
     × SaysOfChoices (choices_at input evidence.level.num evidence.level.den) evidence.at
 
--- Values: the preference of a homogeneous, monotone and concave utility rationalizes the choices. A cycle: no
--- homothetic preference does.
+-- Values: the preference of a homogeneous, strictly monotone and concave utility rationalizes the choices. A cycle: no
+-- homothetic and locally nonsatiated preference does.
 abbrev pub SaysHomothetic : TableInput → Homothetic → Type 0
 SaysHomothetic input (Values values) = HasHomogeneousUtility (choices_at input 1 1)
-SaysHomothetic input (Falling start walk) = ¬ HasHomotheticPreference (choices_at input 1 1)
+SaysHomothetic input (Falling start walk) = ¬ HasNonsatiatedHomotheticPreference (choices_at input 1 1)
 SaysHomothetic input (Withheld steps from to) = Unit {0}
 
--- Values: a monotone and concave function rationalizes the choices with money. A cycle: no function does.
+-- Values: a strictly monotone and concave function rationalizes the choices with money. A cycle: no function does.
 abbrev pub SaysQuasilinear : TableInput → Quasi → Type 0
 SaysQuasilinear input (Numbers values) = HasConcaveWorth (choices_at input 1 1)
 SaysQuasilinear input (Negative walk) = ¬ HasWorth (choices_at input 1 1)
@@ -79,7 +80,7 @@ SaysUpper input budget g (BoundWide step) = Unit {0}
 -- The inner demand is bought by such a person, and each shown bound of a good is over all that such people buy.
 pub record SaysDemandBounds (input : TableInput) (budget : BudgetInput) (inner : Point) (goods : List GoodBounds)
     : Type 0 where
-  pub inner_bought : IsBought input budget (bundle_of inner)
+  pub inner_bought : IsBoughtByUtility input budget (bundle_of inner)
   pub each : (g : ℕ) (d : GoodBounds) → g < input.goods
       → SaysLower input budget g (slice_index_or goods g d).lower × SaysUpper input budget g (slice_index_or goods g d).upper
 
@@ -87,19 +88,19 @@ pub record SaysDemandBounds (input : TableInput) (budget : BudgetInput) (inner :
 abbrev pub AreAboveZero : ℕ → List ℕ → Type 0
 AreAboveZero goods prices = (g : ℕ) → g < goods → 1 ≤ slice_index prices g
 
--- Bounds: a monotone and concave utility rationalizes the table, and, where no new price is 0, the bounds are those of
--- what such people buy. No model: no preference rationalizes it.
+-- Bounds: a strictly monotone and concave utility rationalizes the table, and, where no new price is 0, the bounds are
+-- those of what such people buy. No model: no locally nonsatiated preference rationalizes it.
 abbrev pub SaysDemand : TableInput → List ℕ → ℕ → DemandPart → Type 0
 SaysDemand input prices m (Bounds below strict inner goods) = HasConcaveUtility (choices_at input 1 1)
     × (AreAboveZero input.goods prices → SaysDemandBounds input (budget_of prices m) inner goods)
-SaysDemand input prices m (NoDemand walk) = ¬ HasPreference (choices_at input 1 1)
+SaysDemand input prices m (NoDemand walk) = ¬ HasNonsatiatedPreference (choices_at input 1 1)
 
--- Bounds: a monotone and concave utility rationalizes the table, and the bounds hold for every such person. No model: no
--- preference rationalizes it.
+-- Bounds: a strictly monotone and concave utility rationalizes the table, and the bounds hold for every person with a
+-- locally nonsatiated preference that does. No model: no such preference does.
 abbrev pub SaysWelfare : TableInput → List ℕ → ℕ → WelfarePart → Type 0
 SaysWelfare input prices t (WelfareBounds upper at lower) = HasConcaveUtility (choices_at input 1 1)
     × BoundWelfareOfPeople input (slice_index prices) t upper at lower
-SaysWelfare input prices t (NoWelfare walk) = ¬ HasPreference (choices_at input 1 1)
+SaysWelfare input prices t (NoWelfare walk) = ¬ HasNonsatiatedPreference (choices_at input 1 1)
 
 -- The axiom and Afriat's numbers speak of choices held by the levels of the observations' own, where they have them;
 -- every other item of all that was spent. A random item is about no table.

@@ -1,7 +1,7 @@
 -- Utilities of bundles (Afriat 1967; Varian 1982, Afriat's theorem). A utility gives each bundle a fraction.
 use Rattle.std.specs.Prelude.{ℕ, ◌+◌, ◌<◌, ◌≤◌, Bool}
 use Rattle.rp_evidence.specs.Demand.{FractionBundle}
-use Rattle.rp_people.specs.Bundles.{AreEqualInValue, HasMoreOfEveryGood, IsBundle, mixture, multiple}
+use Rattle.rp_people.specs.Bundles.{AreEqualInValue, HasMoreOfEveryGood, HasMoreOfSomeGood, IsBundle, mixture, multiple}
 use Rattle.rp_people.specs.Fractions.{AreEqual, IsAtMost, IsBelow, SignedFraction, average, is_at_most, times}
 
 -- A utility of bundles of these goods: a fraction for each bundle, the same for bundles that are equal in value.
@@ -19,6 +19,11 @@ abbrev pub IsMonotone : ℕ → (FractionBundle → SignedFraction) → Type 0
 IsMonotone goods utility = (x y : FractionBundle) → IsBundle x → IsBundle y → HasMoreOfEveryGood goods x y
     → IsBelow (utility y) (utility x)
 
+-- No less of any good, and more of one, gives more.
+abbrev pub IsStrictlyMonotone : ℕ → (FractionBundle → SignedFraction) → Type 0
+IsStrictlyMonotone goods utility = (x y : FractionBundle) → IsBundle x → IsBundle y → HasMoreOfSomeGood goods x y
+    → IsBelow (utility y) (utility x)
+
 -- A mixture has at least the same mixture of the utilities.
 abbrev pub IsConcave : (FractionBundle → SignedFraction) → Type 0
 IsConcave utility = (a b : ℕ) (x y : FractionBundle) → 0 < a + b → IsBundle x → IsBundle y
@@ -29,8 +34,9 @@ abbrev pub IsHomogeneous : (FractionBundle → SignedFraction) → Type 0
 IsHomogeneous utility = (num den : ℕ) (x : FractionBundle) → 1 ≤ num → 1 ≤ den → IsBundle x
     → AreEqual (utility (multiple num den x)) (times num den (utility x))
 
--- A utility that is monotone and concave.
+-- A utility that is monotone, strictly too, and concave.
 pub record IsConcaveUtility (goods : ℕ) (utility : FractionBundle → SignedFraction) : Type 0 where
   pub utility_of_bundles : IsUtilityOfBundles goods utility
   pub monotone : IsMonotone goods utility
+  pub strictly_monotone : IsStrictlyMonotone goods utility
   pub concave : IsConcave utility

@@ -1,23 +1,23 @@
--- What it costs people at new prices to be as well off as at an observation, whose preferences rationalize a table (after
--- Varian 1982).
+-- What it costs people at new prices to be as well off as at an observation, whose preferences rationalize a table
+-- (after Varian 1982).
 use Rattle.std.specs.Prelude.{◌≡◌, ℕ, Bool}
 use Rattle.rp_evidence.specs.Demand.{FractionBundle, spending}
 use Rattle.rp_evidence.specs.Input.{TableInput}
 use Rattle.rp_evidence.specs.WelfareModels.{CostsAtLeast, bundle_at}
 use Rattle.rp_evidence.specs.declared.demand.Bound.{Bound}
 use Rattle.rp_people.specs.Bundles.{IsBundle}
-use Rattle.rp_people.specs.Preferences.{IsAtLeastAsGood, IsPreference}
+use Rattle.rp_people.specs.Preferences.{IsAtLeastAsGood, IsNonsatiatedPreference}
 use Rattle.rp_people.specs.Rationalizing.{Rationalizes}
 use Rattle.rp_people.specs.TableChoices.{choices_at}
 
--- By every preference that rationalizes the table, each bundle that is at least as good as that of t costs at least a
--- shown lower bound, and the bundle of the upper bound's observation is at least as good as that of t, and costs the
--- upper bound.
+-- By every locally nonsatiated preference that rationalizes the table, each bundle that is at least as good as that of
+-- t costs at least a shown lower bound, and the bundle of the upper bound's observation is at least as good as that of
+-- t, and costs the upper bound.
 pub record BoundWelfareOfPeople (input : TableInput) (prices : ℕ → ℕ) (t upper at : ℕ) (lower : Bound) : Type 0 where
-  pub none_cheaper : (prefers : FractionBundle → FractionBundle → Bool) → IsPreference input.goods prefers
+  pub none_cheaper : (prefers : FractionBundle → FractionBundle → Bool) → IsNonsatiatedPreference input.goods prefers
       → Rationalizes (choices_at input 1 1) prefers → (x : FractionBundle) → IsBundle x
       → IsAtLeastAsGood prefers x (bundle_at input t) → CostsAtLeast input prices x lower
-  pub as_good : (prefers : FractionBundle → FractionBundle → Bool) → IsPreference input.goods prefers
+  pub as_good : (prefers : FractionBundle → FractionBundle → Bool) → IsNonsatiatedPreference input.goods prefers
       → Rationalizes (choices_at input 1 1) prefers
       → IsAtLeastAsGood prefers (bundle_at input at) (bundle_at input t)
   pub costs : spending input.goods prices (input.quantity at) ≡ upper

@@ -5,17 +5,21 @@ ghost use Rattle.rp_evidence.specs.DemandEvidence.{ProvesWelfareBounds};
 ghost use Rattle.rp_evidence.specs.Input.{TableInput};
 ghost use Rattle.rp_evidence.specs.declared.demand.Bound.{Bound};
 ghost use Rattle.rp_people.specs.TableChoices.{IsFullInput};
-ghost use Rattle.rp_people.specs.BoughtBundles.{IsBought, IsInfimumBought};
-ghost use Rattle.rp_people.specs.BoughtBundles.{IsSupremumBought};
+ghost use Rattle.rp_people.specs.BoughtBundles.{IsBought, IsBoughtByUtility};
+ghost use Rattle.rp_people.specs.BoughtBundles.{IsInfimumBought, IsSupremumBought};
 ghost use Rattle.rp_people.specs.WelfareOfPeople.{BoundWelfareOfPeople};
 
-/// On a new budget at positive prices a bundle is a supporting demand exactly where some preference that rationalizes
-/// the table has it at least as good as all that the budget affords; so bounds of a good over supporting demands are
-/// those over all that such people buy.
+/// On a new budget at positive prices a bundle is a supporting demand exactly where some locally nonsatiated preference
+/// that rationalizes the table has it at least as good as all that the budget affords, and then that of a strictly
+/// monotone and concave utility does; so bounds of a good over supporting demands are those over all that such people
+/// buy.
 pub fn supporting_demands_are_bought()
     ensures bought { (input : TableInput) (budget : BudgetInput) (x : FractionBundle)
         → IsFullInput input → ((g : ℕ) → g < input.goods → 1 ≤ budget.prices g)
         → IsSupportingDemand input budget x ↔ IsBought input budget x }
+    ensures by_utility { (input : TableInput) (budget : BudgetInput) (x : FractionBundle)
+        → IsFullInput input → ((g : ℕ) → g < input.goods → 1 ≤ budget.prices g)
+        → IsSupportingDemand input budget x ↔ IsBoughtByUtility input budget x }
     ensures infimum { (input : TableInput) (budget : BudgetInput) (g num den : ℕ)
         → IsFullInput input → ((i : ℕ) → i < input.goods → 1 ≤ budget.prices i)
         → IsInfimum input budget g num den → IsInfimumBought input budget g num den }
@@ -24,7 +28,7 @@ pub fn supporting_demands_are_bought()
         → IsSupremum input budget g num den → IsSupremumBought input budget g num den }
 {}
 
-/// Welfare bounds hold for every person whose preference rationalizes the table.
+/// Welfare bounds hold for every person whose preference is locally nonsatiated and rationalizes the table.
 pub fn welfare_bounds_hold_for_people()
     ensures { (input : TableInput) (prices : ℕ → ℕ) (t upper at : ℕ) (lower : Bound)
         → ProvesWelfareBounds input prices t upper at lower

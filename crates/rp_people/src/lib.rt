@@ -10,7 +10,8 @@ mod says;
 mod tables;
 
 pub use axiom::{
-    axiom_gives_utility, models_give_utilities, preferences_meet_axiom, utilities_are_preferences,
+    axiom_gives_utility, models_give_utilities, monotone_preferences_are_nonsatiated,
+    preferences_meet_axiom, utilities_are_preferences,
 };
 pub use bounds::{supporting_demands_are_bought, welfare_bounds_hold_for_people};
 pub use homothetic::{

@@ -10,7 +10,7 @@ pub fn worths_meet_quasilinear_test()
         → HasWorth (choices_at input 1 1) → MeetsQuasilinearTest input.n input.cost }
 {}
 
-/// Where the test holds, a monotone and concave function rationalizes the choices with money.
+/// Where the test holds, a strictly monotone and concave function rationalizes the choices with money.
 pub fn quasilinear_test_gives_worth()
     ensures { (input : TableInput) → IsFullInput input
         → MeetsQuasilinearTest input.n input.cost → HasConcaveWorth (choices_at input 1 1) }

@@ -8,7 +8,8 @@ ghost use Rattle.rp_evidence.specs.Input.{TableInput, input_of_table};
 ghost use Rattle.rp_evidence.specs.Preference.{IsLevel, StrictByLevels, WeakByLevels};
 ghost use Rattle.rp_people.specs.AfriatUtility.{HaveUtility};
 ghost use Rattle.rp_people.specs.DividedLevels.{DividesLevels};
-ghost use Rattle.rp_people.specs.Rationalizing.{HasConcaveUtility, HasPreference, NoneHasBoth};
+ghost use Rattle.rp_people.specs.Rationalizing.{HasConcaveUtility, HasNonsatiatedPreference};
+ghost use Rattle.rp_people.specs.Rationalizing.{HasPreference, NoneHasBoth};
 ghost use Rattle.rp_people.specs.TableChoices.{IsFullInput, choices_at, choices_of};
 ghost use Rattle.rp_table.specs.Tables.{IsTable, Observations};
 
@@ -17,9 +18,13 @@ pub fn tables_are_full()
     ensures { (table : Observations) → IsTable table → IsFullInput (input_of_table table) }
 {}
 
-/// Held by their own levels, or to all that was spent, the choices of a table are rationalized by some preference, and
-/// by that of a monotone and concave utility, exactly where no violation exists.
+/// Held by their own levels, or to all that was spent, the choices of a table are rationalized by some locally
+/// nonsatiated preference, by a monotone one that takes bundles that are equal in value for the same, and by that of a
+/// strictly monotone and concave utility, exactly where no violation exists.
 pub fn rationalized_by_levels()
+    ensures nonsatiated { (input : TableInput) → IsFullInput input
+        → HasNonsatiatedPreference (choices_of input) ↔ HasNoViolation input.n
+        (WeakByLevels input.levels input.cost) (StrictByLevels input.levels input.cost) }
     ensures preference { (input : TableInput) → IsFullInput input
         → HasPreference (choices_of input) ↔ HasNoViolation input.n
         (WeakByLevels input.levels input.cost) (StrictByLevels input.levels input.cost) }
@@ -30,6 +35,9 @@ pub fn rationalized_by_levels()
 
 /// The same at a level that is common to all observations.
 pub fn rationalized_at_level()
+    ensures nonsatiated { (input : TableInput) (num den : ℕ)
+        → IsFullInput input → IsLevel num den → HasNonsatiatedPreference (choices_at input num den)
+        ↔ MeetsGarpAt input.n input.cost num den }
     ensures preference { (input : TableInput) (num den : ℕ) → IsFullInput input → IsLevel num den
         → HasPreference (choices_at input num den) ↔ MeetsGarpAt input.n input.cost num den }
     ensures utility { (input : TableInput) (num den : ℕ) → IsFullInput input → IsLevel num den
@@ -37,7 +45,7 @@ pub fn rationalized_at_level()
 {}
 
 /// The utility of every Afriat model of a table, by the levels of the observations' own where they have them, is
-/// monotone and concave, and its preference rationalizes the choices.
+/// strictly monotone and concave, and its preference rationalizes the choices.
 pub fn models_of_tables_give_utilities()
     ensures { (input : TableInput) (number : ℕ → ℤ) (multiplier : ℕ → ℕ) → IsFullInput input
         → IsOwnModel input.n input.levels input.cost number multiplier
@@ -51,8 +59,8 @@ pub fn index_divides_levels()
         → IsEfficiencyIndex input.n input.cost num den → DividesLevels input num den }
 {}
 
-/// By no preference are two observations of a table both the best of what they afford, where one is weakly preferred
-/// to the other and the other strictly to it.
+/// By no locally nonsatiated preference are two observations of a table both the best of what they afford, where one is
+/// weakly preferred to the other and the other strictly to it.
 pub fn contradicting_pairs_survive_no_preference()
     ensures { (input : TableInput) (s t : ℕ) → IsFullInput input → s < input.n → t < input.n
         → WeakByLevels input.levels input.cost s t → StrictByLevels input.levels input.cost t s

@@ -1,6 +1,6 @@
 -- A mixture of rational types is one of persons: each rational type is that of a person whose bundles are chosen ones,
 -- scaled, by Afriat's theorem; and each person's type is rational.
-use Rattle.std.proofs.Common.{◌≡◌, ℕ, zero, suc, ◌+◌, ◌*◌, ◌<◌, ◌≤◌, ◌⊎◌, ◌↔◌, inl, inr, List, [], ◌∷◌, Option, map, length, slice_index, refl, sym, subst, ◌∙◌, arith}
+use Rattle.std.proofs.Common.{◌≡◌, ℕ, zero, suc, ◌+◌, ◌*◌, ◌<◌, ◌≤◌, ◌⊎◌, ◌↔◌, inl, inr, List, [], ◌∷◌, Option, map, length, slice_index, ap, refl, sym, subst, ◌∙◌, arith}
 use Rattle.std.proofs.lemmas.Bool.{cases_lt}
 use Rattle.std.proofs.lemmas.List.FromFn.{get_or-map-range_with_len, length-map-range_with_len}
 use Rattle.std.proofs.lemmas.List.Sums.{sum_by-cons}
@@ -11,21 +11,22 @@ use Rattle.rp_table.specs.Spending.{spending}
 use Rattle.rp_evidence.specs.Demand.{FractionBundle}
 use Rattle.rp_evidence.specs.declared.random.Share.{Share}
 use Rattle.rp_people.specs.Choices.{AreChoices}
+use Rattle.rp_people.specs.Utilities.{preference_of}
 use Rattle.rp_people.proofs.AfriatUtilities.{concave_utility_exists}
 use Rattle.rp_people.proofs.Chains.{meets_axiom}
-use Rattle.rp_people.proofs.Orders.{preference_of_concave}
+use Rattle.rp_people.proofs.Orders.{nonsatiated_utility}
 use Rattle.rp_patch.specs.Choices.{RandomInput}
 use Rattle.rp_patch.specs.FirstChoices.{AreNumberedByFirstChoice, IsFirstInPatch}
-use Rattle.rp_patch.specs.Kinds.{uses, weight_using}
-use Rattle.rp_patch.specs.Mixtures.{HasMixture, types_on}
+use Rattle.rp_patch.specs.Kinds.{uses, weight_of, weight_using}
+use Rattle.rp_patch.specs.Mixtures.{HasMixture, IsGreatestShare, IsPartialMixture, types_on}
 use Rattle.rp_patch.specs.Patches.{IsPatchList, PatchList, budget_at, patch_at}
 use Rattle.rp_patch.specs.Signs.{cost_on}
 use Rattle.rp_patch.specs.Types.{IsRationalType, IsType}
 use Rattle.rp_patch.specs.Units.{ArePatchesOf}
 use Rattle.rp_patch.proofs.FirstChosen.{numbered}
 use Rattle.rp_patch.proofs.KindWeights.{uses_some}
-use Rattle.rp_persons.specs.PersonMixtures.{IsFullRandomInput, PersonShare, SomePersonsMakeChoices, UsesListedPatches, weight_of_users}
-use Rattle.rp_persons.specs.Persons.{IsPersonOn, Person, scaled_choice, signs_of_bundle, uses_patch}
+use Rattle.rp_persons.specs.PersonMixtures.{HaveUtilities, IsFullRandomInput, IsGreatestShareOfPersons, MakePartOfChoices, PersonShare, SomePersonsMakeChoices, SomeWithUtilitiesMakeChoices, UsesListedPatches, weight_of_persons, weight_of_users}
+use Rattle.rp_persons.specs.Persons.{HasUtility, IsPersonOn, Person, scaled_choice, signs_of_bundle, uses_patch}
 use Rattle.rp_persons.proofs.SignFacts.{scaled_signs, scaled_spent}
 use Rattle.rp_persons.proofs.TypesOfPersons.{IsTypeOf, axiom_of_rational, choices_by, rational_of_axiom, uses_its_type}
 
@@ -88,6 +89,13 @@ module _ (input : RandomInput) (p : PatchList) (budgets : p.budgets ≡ input.bu
       ∙ (λ z. (if its_uses person type has i l z then weight else 0) + same z)
       ∙ sym (sum_by-cons (λ (part : Share). if uses part.patches i then part.weight else 0) (record { patches = type; weight = weight }) parts)
 
+  same_total : (person : Person) (type : List ℕ) (weight : ℕ) (persons : List PersonShare) (parts : List Share) → weight_of_persons persons ≡ weight_of parts
+      → weight_of_persons (record { person = person; weight = weight } ∷ persons) ≡ weight_of (record { patches = type; weight = weight } ∷ parts)
+  same_total person type weight persons parts same =
+      sum_by-cons (λ (share : PersonShare). share.weight) (record { person = person; weight = weight }) persons
+      ∙ (λ z. weight + same z)
+      ∙ sym (sum_by-cons (λ (part : Share). part.weight) (record { patches = type; weight = weight }) parts)
+
   -- ---- from types to persons
 
   module _ (full : IsFullRandomInput input) where
@@ -133,29 +141,31 @@ module _ (input : RandomInput) (p : PatchList) (budgets : p.budgets ≡ input.bu
       unfolding taken
       taken_spent j l = scaled_spent input j (first.0 (slice_index type j))
 
-    person_of : (type : List ℕ) → IsRationalType p type → (person : Person) × HasThisType person type
+    person_of : (type : List ℕ) → IsRationalType p type → (person : Person) × HasThisType person type × HasUtility input person
     person_of type rational =
         let is = taken_type type rational.0 in
         let are = taken_choices type rational.0 in
-        let has = preference_of_concave (choices_by input (taken type))
-        (concave_utility_exists (choices_by input (taken type)) are (axiom_of_rational input p budgets (taken type) type is rational)) in (
-          record { prefers = has.prefers; bundle = taken type },
+        let has = concave_utility_exists (choices_by input (taken type)) are (axiom_of_rational input p budgets (taken type) type is rational) in (
+          record { prefers = preference_of has.utility; bundle = taken type },
           record {
             rational = rational;
             type_of = is;
             is_person = record {
-              preference = has.preference;
+              preference = nonsatiated_utility input.goods has.utility has.concave_utility;
               bundles = are.bundles;
               spent = taken_spent type rational.0;
               best = has.rationalizes;
             };
           },
+          record { utility = has.utility; concave_utility = has.concave_utility; its_preference = refl },
         )
 
     record ArePersonsOf (parts : List Share) (persons : List PersonShare) : Type 0 where
       choose_best : (share : PersonShare) → Contains persons share → IsPersonOn input share.person
       use_listed : (share : PersonShare) → Contains persons share → UsesListedPatches input p share.person
+      utilities : HaveUtilities input persons
       same : (i : ℕ) → i < length p.patches → weight_of_users input p persons i ≡ weight_using (types_on p) parts i
+      total : weight_of_persons persons ≡ weight_of parts
 
     persons_of : (parts : List Share) → ((part : Share) → Contains parts part → IsRationalType p part.patches) → (persons : List PersonShare) × ArePersonsOf parts persons
     persons_of [] all = (
@@ -163,7 +173,9 @@ module _ (input : RandomInput) (p : PatchList) (budgets : p.budgets ≡ input.bu
       record {
         choose_best = all_empty (λ (share : PersonShare). IsPersonOn input share.person);
         use_listed = all_empty (λ (share : PersonShare). UsesListedPatches input p share.person);
+        utilities = all_empty (λ (share : PersonShare). HasUtility input share.person);
         same = λ i l. refl;
+        total = refl;
       },
     )
     persons_of (part ∷ parts) all =
@@ -173,14 +185,30 @@ module _ (input : RandomInput) (p : PatchList) (budgets : p.budgets ≡ input.bu
           record {
             choose_best = all_more (λ (share : PersonShare). IsPersonOn input share.person) (record { person = here.0; weight = part.weight }) rest.0 here.1.is_person rest.1.choose_best;
             use_listed = all_more (λ (share : PersonShare). UsesListedPatches input p share.person) (record { person = here.0; weight = part.weight }) rest.0 (listed_uses here.0 part.patches here.1) rest.1.use_listed;
+            utilities = all_more (λ (share : PersonShare). HasUtility input share.person) (record { person = here.0; weight = part.weight }) rest.0 here.2 rest.1.utilities;
             same = λ i l. same_weight here.0 part.patches part.weight rest.0 parts i here.1 l (rest.1.same i l);
+            total = same_total here.0 part.patches part.weight rest.0 parts rest.1.total;
           },
         )
 
-    pub persons_make : HasMixture p → SomePersonsMakeChoices input p
+    pub persons_make : HasMixture p → SomeWithUtilitiesMakeChoices input p
     persons_make (den, parts, is) =
-        let r = persons_of parts is.kinds in
-        (den, r.0, record { fraction = is.fraction; choose_best = r.1.choose_best; use_listed = r.1.use_listed; exact = λ i l. r.1.same i l ∙ is.exact i l })
+        let r = persons_of parts is.kinds in (
+          den,
+          r.0,
+          record { fraction = is.fraction; choose_best = r.1.choose_best; use_listed = r.1.use_listed; exact = λ i l. r.1.same i l ∙ is.exact i l },
+          r.1.utilities,
+        )
+
+    persons_in_part : (den : ℕ) (parts : List Share) → IsPartialMixture p den parts
+        → (persons : List PersonShare) × MakePartOfChoices input p den persons × HaveUtilities input persons × (weight_of_persons persons ≡ weight_of parts)
+    persons_in_part den parts is =
+        let r = persons_of parts is.kinds in (
+          r.0,
+          record { fraction = is.fraction; choose_best = r.1.choose_best; use_listed = r.1.use_listed; within = λ i l. omega (arith, r.1.same i l, is.within i l) },
+          r.1.utilities,
+          r.1.total,
+        )
 
   -- ---- from persons to types
 
@@ -232,10 +260,11 @@ module _ (input : RandomInput) (p : PatchList) (budgets : p.budgets ≡ input.bu
   record AreTypesOf (persons : List PersonShare) (parts : List Share) : Type 0 where
     kinds : (part : Share) → Contains parts part → IsRationalType p part.patches
     same : (i : ℕ) → i < length p.patches → weight_of_users input p persons i ≡ weight_using (types_on p) parts i
+    total : weight_of_persons persons ≡ weight_of parts
 
   types_of : (persons : List PersonShare) → ((share : PersonShare) → Contains persons share → IsPersonOn input share.person)
       → ((share : PersonShare) → Contains persons share → UsesListedPatches input p share.person) → (parts : List Share) × AreTypesOf persons parts
-  types_of [] best listed = ([], record { kinds = all_empty (λ (part : Share). IsRationalType p part.patches); same = λ i l. refl })
+  types_of [] best listed = ([], record { kinds = all_empty (λ (part : Share). IsRationalType p part.patches); same = λ i l. refl; total = refl })
   types_of (share ∷ persons) best listed =
       let is = first_of_all (λ (share : PersonShare). IsPersonOn input share.person) share persons best in
       let uses_them = first_of_all (λ (share : PersonShare). UsesListedPatches input p share.person) share persons listed in
@@ -247,6 +276,7 @@ module _ (input : RandomInput) (p : PatchList) (budgets : p.budgets ≡ input.bu
         record {
           kinds = all_more (λ (part : Share). IsRationalType p part.patches) (record { patches = type; weight = share.weight }) rest.0 has.rational rest.1.kinds;
           same = λ i l. same_weight share.person type share.weight persons rest.0 i has l (rest.1.same i l);
+          total = same_total share.person type share.weight persons rest.0 rest.1.total;
         },
       )
 
@@ -255,8 +285,44 @@ module _ (input : RandomInput) (p : PatchList) (budgets : p.budgets ≡ input.bu
       let r = types_of persons are.choose_best are.use_listed in
       (den, r.0, record { fraction = are.fraction; kinds = r.1.kinds; exact = λ i l. sym (r.1.same i l) ∙ are.exact i l })
 
+  types_in_part : (den : ℕ) (persons : List PersonShare) → MakePartOfChoices input p den persons → (parts : List Share) × IsPartialMixture p den parts × (weight_of_persons persons ≡ weight_of parts)
+  types_in_part den persons are =
+      let r = types_of persons are.choose_best are.use_listed in
+      (r.0, record { fraction = are.fraction; kinds = r.1.kinds; within = λ i l. omega (arith, r.1.same i l, are.within i l) }, r.1.total)
+
+  pub shares_same : IsFullRandomInput input → (num den : ℕ) → IsGreatestShare p num den ↔ IsGreatestShareOfPersons input p num den
+  shares_same full num den = (
+    λ is. record {
+      fraction = is.fraction;
+      reached =
+          let at = is.reached in
+          let r = persons_in_part full at.0 at.1 at.2 in
+          (at.0, r.0, r.1, r.2, ap (λ w. w * den) r.3 ∙ at.3);
+      no_greater = λ d persons are.
+          let r = types_in_part d persons are in
+          subst (λ w. w * den ≤ num * (d * p.total)) (sym r.2) (is.no_greater d r.0 r.1);
+    },
+    λ is. record {
+      fraction = is.fraction;
+      reached =
+          let at = is.reached in
+          let r = types_in_part at.0 at.1 at.2 in
+          (at.0, r.0, r.1, ap (λ w. w * den) (sym r.2) ∙ at.4);
+      no_greater = λ d parts are.
+          let r = persons_in_part full d parts are in
+          subst (λ w. w * den ≤ num * (d * p.total)) r.3 (is.no_greater d r.0 r.1);
+    },
+  )
+
 pub mixtures_of_persons : (input : RandomInput) (asked : Option ℕ) (p : PatchList) → IsFullRandomInput input → ArePatchesOf input asked p → IsPatchList p
-    → HasMixture p ↔ SomePersonsMakeChoices input p
+    → (HasMixture p → SomeWithUtilitiesMakeChoices input p) × (SomePersonsMakeChoices input p → HasMixture p)
 mixtures_of_persons input asked p full are valid =
     let firsts = numbered input asked p are in
     (persons_make input p are.budgets firsts valid full, types_make input p are.budgets firsts valid)
+
+pub shares_of_persons : (input : RandomInput) (asked : Option ℕ) (p : PatchList) → IsFullRandomInput input → ArePatchesOf input asked p → IsPatchList p
+    → (num den : ℕ) → IsGreatestShare p num den ↔ IsGreatestShareOfPersons input p num den
+shares_of_persons input asked p full are valid = shares_same input p are.budgets (numbered input asked p are) valid full
+
+pub with_utilities_make : (input : RandomInput) (p : PatchList) → SomeWithUtilitiesMakeChoices input p → SomePersonsMakeChoices input p
+with_utilities_make input p (den, persons, make, have) = (den, persons, make)

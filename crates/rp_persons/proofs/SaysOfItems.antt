@@ -1,5 +1,5 @@
 -- Proved items on random choices say of people what they say.
-use Rattle.std.proofs.Common.{ℕ, List}
+use Rattle.std.proofs.Common.{ℕ, ◌*◌, List}
 use Rattle.std.specs.Prelude.{All, slice_index_or}
 use Rattle.rp_evidence.specs.declared.certificate.Item.{Item}
 use Rattle.rp_evidence.specs.declared.certificate.Item.TheVariants.{Garp as GarpItem, Afriat as AfriatItem}
@@ -9,14 +9,22 @@ use Rattle.rp_evidence.specs.declared.certificate.Item.TheVariants.{Demand as De
 use Rattle.rp_evidence.specs.declared.certificate.Item.TheVariants.{Random as RandomItem}
 use Rattle.rp_evidence.specs.declared.random.RandomPart.{RandomPart}
 use Rattle.rp_evidence.specs.declared.random.RandomPart.TheVariants.{Mixture, Violated, Wide}
+use Rattle.rp_patch.specs.Kinds.{weight_of}
 use Rattle.rp_patch.specs.Patches.{IsPatchList, PatchList}
 use Rattle.rp_patch.specs.RandomEvidence.{ProvesOnPatches, ProvesRandom}
+use Rattle.rp_patch.proofs.GreatestShares.{shows_share}
 use Rattle.rp_persons.specs.SaysRandom.{SaysOfChoices, SaysOnPatches}
-use Rattle.rp_persons.proofs.Populations.{mixtures_of_persons}
+use Rattle.rp_persons.proofs.Populations.{mixtures_of_persons, shares_of_persons}
 
 pub evidence_says : (p : PatchList) (total : ℕ) (part : RandomPart) → IsPatchList p → ProvesRandom p total part → SaysOfChoices p part
-evidence_says p total (Mixture den parts) valid proves = λ input asked full are. (mixtures_of_persons input asked p full are valid).0 (den, parts, proves.1)
-evidence_says p total (Violated den parts weights) valid proves = λ input asked full are persons. proves.1.none ((mixtures_of_persons input asked p full are valid).1 persons)
+evidence_says p total (Mixture den parts) valid proves = λ input asked full are. (
+  (mixtures_of_persons input asked p full are valid).0 (den, parts, proves.1),
+  (shares_of_persons input asked p full are valid 1 1).0 (shows_share p valid total (Mixture den parts) proves),
+)
+evidence_says p total (Violated den parts weights) valid proves = λ input asked full are. (
+  λ persons. proves.1.none ((mixtures_of_persons input asked p full are valid).1 persons),
+  (shares_of_persons input asked p full are valid (weight_of parts) (den * p.total)).0 (shows_share p valid total (Violated den parts weights) proves),
+)
 evidence_says p total (Wide step) valid proves = λ input asked full are. tt
 
 item_says : (p : PatchList) (item : Item) → IsPatchList p → ProvesOnPatches p item → SaysOnPatches p item

@@ -4,7 +4,7 @@ use Rattle.std.specs.Prelude.{◌≡◌, ℕ, ◌*◌, ◌<◌, ◌≤◌, IsTru
 use Rattle.rp_patch.specs.Choices.{RandomInput}
 use Rattle.rp_patch.specs.Patches.{PatchList, budget_at, units_at}
 use Rattle.rp_patch.specs.Signs.{cost_on}
-use Rattle.rp_persons.specs.Persons.{IsPersonOn, Person, uses_patch}
+use Rattle.rp_persons.specs.Persons.{HasUtility, IsPersonOn, Person, uses_patch}
 
 -- A person, and how much of the population is like that.
 pub record PersonShare : Type 0 where
@@ -29,9 +29,39 @@ pub record MakeChoices (input : RandomInput) (p : PatchList) (den : ℕ) (person
   pub use_listed : (share : PersonShare) → Contains persons share → UsesListedPatches input p share.person
   pub exact : (i : ℕ) → i < length p.patches → weight_of_users input p persons i ≡ den * units_at p i
 
+-- Each of these persons has a utility.
+abbrev pub HaveUtilities : RandomInput → List PersonShare → Type 0
+HaveUtilities input persons = (share : PersonShare) → Contains persons share → HasUtility input share.person
+
 -- Some finitely many persons make the choices.
 abbrev pub SomePersonsMakeChoices : RandomInput → PatchList → Type 0
 SomePersonsMakeChoices input p = (den : ℕ) × (persons : List PersonShare) × MakeChoices input p den persons
+
+-- Some finitely many persons with utilities do.
+abbrev pub SomeWithUtilitiesMakeChoices : RandomInput → PatchList → Type 0
+SomeWithUtilitiesMakeChoices input p = (den : ℕ) × (persons : List PersonShare)
+    × MakeChoices input p den persons × HaveUtilities input persons
+
+-- How much there is of all these persons.
+abbrev pub weight_of_persons : List PersonShare → ℕ
+weight_of_persons persons = sum_by (λ share. share.weight) persons
+
+-- These persons, with weights over the denominator, make a part of the choices: at most the units of each patch are of
+-- those who use it, and what is left may be of anyone.
+pub record MakePartOfChoices (input : RandomInput) (p : PatchList) (den : ℕ) (persons : List PersonShare) : Type 0 where
+  pub fraction : 0 < den
+  pub choose_best : (share : PersonShare) → Contains persons share → IsPersonOn input share.person
+  pub use_listed : (share : PersonShare) → Contains persons share → UsesListedPatches input p share.person
+  pub within : (i : ℕ) → i < length p.patches → weight_of_users input p persons i ≤ den * units_at p i
+
+-- num/den is the greatest share of the choices that persons make: some with utilities make it, and no persons make
+-- more.
+pub record IsGreatestShareOfPersons (input : RandomInput) (p : PatchList) (num den : ℕ) : Type 0 where
+  pub fraction : 0 < den
+  pub reached : (d : ℕ) × (persons : List PersonShare) × MakePartOfChoices input p d persons
+      × HaveUtilities input persons × (weight_of_persons persons * den ≡ num * (d * p.total))
+  pub no_greater : (d : ℕ) (persons : List PersonShare) → MakePartOfChoices input p d persons
+      → weight_of_persons persons * den ≤ num * (d * p.total)
 
 -- There are goods, no price is 0, and each bundle that was chosen from a budget costs something there, as it does where
 -- it is not empty.

@@ -1,5 +1,5 @@
--- Persons who choose from budgets (McFadden and Richter 1990; Kitamura and Stoye 2018, section 2): each has a preference,
--- and takes from every budget a bundle that is best there.
+-- Persons who choose from budgets (McFadden and Richter 1990; Kitamura and Stoye 2018, section 2): each has a
+-- preference, and takes from every budget a bundle that is best there.
 use Rattle.std.specs.Prelude.{◌≡◌, ℕ, ◌*◌, ◌<◌, Bool, ℤ, List, map}
 use Rattle.std.specs.Cmp.Lexicographic.{pointwise}
 use Rattle.std.specs.List.{range_with_len}
@@ -7,7 +7,9 @@ use Rattle.std.specs.Ordering.{int_eq, nat_cmp}
 use Rattle.rp_table.specs.Spending.{spending}
 use Rattle.rp_evidence.specs.Demand.{FractionBundle}
 use Rattle.rp_people.specs.Bundles.{CostsAtMost, IsBundle}
-use Rattle.rp_people.specs.Preferences.{IsAtLeastAsGood, IsPreference}
+use Rattle.rp_people.specs.Fractions.{SignedFraction}
+use Rattle.rp_people.specs.Preferences.{IsAtLeastAsGood, IsNonsatiatedPreference}
+use Rattle.rp_people.specs.Utilities.{IsConcaveUtility, preference_of}
 use Rattle.rp_patch.specs.Choices.{RandomInput}
 use Rattle.rp_patch.specs.Patches.{PatchList, budget_at, patch_at}
 use Rattle.rp_patch.specs.Signs.{cost_on, sign_of}
@@ -17,16 +19,22 @@ pub record Person : Type 0 where
   pub prefers : FractionBundle → FractionBundle → Bool
   pub bundle : ℕ → FractionBundle
 
--- From each of these budgets the person takes a bundle that costs its income and is at least as good as all bundles that
--- cost at most that.
+-- The preference is locally nonsatiated, and from each of these budgets the person takes a bundle that costs its income
+-- and is at least as good as all bundles that cost at most that.
 pub record IsPersonOn (input : RandomInput) (person : Person) : Type 0 where
-  pub preference : IsPreference input.goods person.prefers
+  pub preference : IsNonsatiatedPreference input.goods person.prefers
   pub bundles : (j : ℕ) → j < input.budgets → IsBundle (person.bundle j)
   pub spent : (j : ℕ) → j < input.budgets
       → spending input.goods (input.price j) (person.bundle j).num ≡ (person.bundle j).den * input.income j
   pub best : (j : ℕ) → j < input.budgets → (x : FractionBundle) → IsBundle x
       → CostsAtMost input.goods (input.price j) x (input.income j) 1
       → IsAtLeastAsGood person.prefers (person.bundle j) x
+
+-- The person has a strictly monotone and concave utility, whose preference is the person's.
+pub record HasUtility (input : RandomInput) (person : Person) : Type 0 where
+  pub utility : FractionBundle → SignedFraction
+  pub concave_utility : IsConcaveUtility input.goods utility
+  pub its_preference : person.prefers ≡ preference_of utility
 
 -- 1 where the bundle costs more than the income of budget k at its prices, -1 where it costs less, and 0 where it costs
 -- just that.

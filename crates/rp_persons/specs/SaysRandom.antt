@@ -1,6 +1,6 @@
 -- What an item on random choices says of people (McFadden and Richter 1990; Kitamura and Stoye 2018). What is withheld
 -- says nothing.
-use Rattle.std.specs.Prelude.{ℕ, Option}
+use Rattle.std.specs.Prelude.{ℕ, ◌*◌, Option}
 use Rattle.rp_evidence.specs.declared.certificate.Item.{Item}
 use Rattle.rp_evidence.specs.declared.certificate.Item.TheVariants.{Garp as GarpItem, Afriat as AfriatItem}
 use Rattle.rp_evidence.specs.declared.certificate.Item.TheVariants.{Efficiency as EfficiencyItem}
@@ -12,12 +12,16 @@ use Rattle.rp_evidence.specs.declared.random.RandomPart.TheVariants.{Mixture, Vi
 use Rattle.rp_patch.specs.Choices.{RandomInput}
 use Rattle.rp_patch.specs.Patches.{PatchList}
 use Rattle.rp_patch.specs.Units.{ArePatchesOf}
-use Rattle.rp_persons.specs.PersonMixtures.{IsFullRandomInput, SomePersonsMakeChoices}
+use Rattle.rp_patch.specs.Kinds.{weight_of}
+use Rattle.rp_persons.specs.PersonMixtures.{IsFullRandomInput, IsGreatestShareOfPersons, SomePersonsMakeChoices}
+use Rattle.rp_persons.specs.PersonMixtures.{SomeWithUtilitiesMakeChoices}
 
--- A mixture: finitely many persons make the choices. A violation: no persons do, however many there are.
+-- A mixture: finitely many persons with utilities make the choices. A violation: no persons do, however many there are,
+-- and the share that is shown is the greatest that persons make.
 abbrev pub SaysRandom : RandomInput → PatchList → RandomPart → Type 0
-SaysRandom input p (Mixture den parts) = SomePersonsMakeChoices input p
-SaysRandom input p (Violated den parts weights) = ¬ SomePersonsMakeChoices input p
+SaysRandom input p (Mixture den parts) = SomeWithUtilitiesMakeChoices input p × IsGreatestShareOfPersons input p 1 1
+SaysRandom input p (Violated den parts weights) = (¬ SomePersonsMakeChoices input p)
+    × IsGreatestShareOfPersons input p (weight_of parts) (den * p.total)
 SaysRandom input p (Wide step) = Unit {0}
 
 -- It says so of all choices that have these patches.

@@ -2,12 +2,14 @@ ghost use Rattle.std.specs.Prelude.{◌≡◌, ◌*◌, ◌↔◌, All, List, �
 ghost use Rattle.rp_evidence.specs.declared.certificate.Item.{Item};
 ghost use Rattle.rp_evidence.specs.declared.random.RandomPart.{RandomPart};
 ghost use Rattle.rp_patch.specs.Choices.{RandomInput};
-ghost use Rattle.rp_patch.specs.Mixtures.{HasMixture};
+ghost use Rattle.rp_patch.specs.Mixtures.{HasMixture, IsGreatestShare};
 ghost use Rattle.rp_patch.specs.Patches.{IsPatchList, PatchList};
 ghost use Rattle.rp_patch.specs.RandomEvidence.{ProvesOnPatches, ProvesRandom};
 ghost use Rattle.rp_patch.specs.Signs.{cost_on, signs_of};
 ghost use Rattle.rp_patch.specs.Units.{ArePatchesOf};
-ghost use Rattle.rp_persons.specs.PersonMixtures.{IsFullRandomInput, SomePersonsMakeChoices};
+ghost use Rattle.rp_persons.specs.PersonMixtures.{IsFullRandomInput, IsGreatestShareOfPersons};
+ghost use Rattle.rp_persons.specs.PersonMixtures.{SomePersonsMakeChoices};
+ghost use Rattle.rp_persons.specs.PersonMixtures.{SomeWithUtilitiesMakeChoices};
 ghost use Rattle.rp_persons.specs.Persons.{scaled_choice, signs_of_bundle};
 ghost use Rattle.rp_persons.specs.SaysRandom.{SaysOfChoices, SaysOnPatches};
 ghost use Rattle.rp_table.specs.Spending.{spending};
@@ -24,11 +26,23 @@ pub fn chosen_bundles_scale()
 {}
 
 /// A mixture of rational types makes the choices exactly where finitely many persons do, each of whom takes from every
-/// budget a best bundle by a preference of the person's own, and uses a listed patch there.
+/// budget a best bundle by a locally nonsatiated preference of the person's own, and uses a listed patch there; and
+/// then persons do who have strictly monotone and concave utilities.
 pub fn mixtures_are_of_persons()
-    ensures { (input : RandomInput) (asked : Option ℕ) (p : PatchList) → IsFullRandomInput input
-        → ArePatchesOf input asked p → IsPatchList p
+    ensures preferences { (input : RandomInput) (asked : Option ℕ) (p : PatchList)
+        → IsFullRandomInput input → ArePatchesOf input asked p → IsPatchList p
         → HasMixture p ↔ SomePersonsMakeChoices input p }
+    ensures utilities { (input : RandomInput) (asked : Option ℕ) (p : PatchList)
+        → IsFullRandomInput input → ArePatchesOf input asked p → IsPatchList p
+        → HasMixture p ↔ SomeWithUtilitiesMakeChoices input p }
+{}
+
+/// The greatest rational share is the greatest share of the choices that persons make: some with utilities make it, and
+/// no persons with locally nonsatiated preferences, however many there are, make more.
+pub fn greatest_shares_are_of_persons()
+    ensures { (input : RandomInput) (asked : Option ℕ) (p : PatchList) → IsFullRandomInput input
+        → ArePatchesOf input asked p → IsPatchList p → (num den : ℕ)
+        → IsGreatestShare p num den ↔ IsGreatestShareOfPersons input p num den }
 {}
 
 /// Evidence that proves its verdict on patches, and items, say of people what that kind of verdict says.

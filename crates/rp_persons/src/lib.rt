@@ -4,4 +4,7 @@
 
 mod laws;
 
-pub use laws::{chosen_bundles_scale, mixtures_are_of_persons, proved_random_items_say};
+pub use laws::{
+    chosen_bundles_scale, greatest_shares_are_of_persons, mixtures_are_of_persons,
+    proved_random_items_say,
+};

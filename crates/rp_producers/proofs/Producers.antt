@@ -1,39 +1,28 @@
 -- The cost axiom and requirement sets, the profit axiom and production sets (Varian 1984): what was seen rules out all
--- sets where the axiom fails, and where it holds makes up the smallest ones that rationalize it.
-use Rattle.std.proofs.Common.{◌≡◌, ℕ, zero, suc, ◌+◌, ◌*◌, ◌<◌, ◌≤◌, ◌⊎◌, ◌↔◌, inl, inr, ap, refl, sym, subst, arith}
+-- sets where the axiom fails, and where it holds leaves the greatest ones that rationalize it, which are convex.
+use Rattle.std.proofs.Common.{ℕ, zero, suc, ◌+◌, ◌*◌, ◌<◌, ◌≤◌, ◌↔◌, inl, inr, ap, refl, sym, subst, arith}
 use Rattle.std.proofs.lemmas.Bool.{cases_eq}
 use Rattle.std.proofs.Math.Nat.{le_of_mul-le-mul_left, mul-le-mul_left}
-use Rattle.std.specs.Prelude.{Bool, true, false, ◌&&◌, ◌||◌, IsTrue, nat_eq, nat_le, pos, ◌-ℤ◌, ◌*ℤ◌, ◌≤ℤ◌}
+use Rattle.std.specs.Prelude.{Bool, true, false, ◌&&◌, IsTrue, nat_le, pos, ◌-ℤ◌, ◌*ℤ◌, ◌≤ℤ◌}
 use Rattle.rp_evidence.specs.Demand.{FractionBundle, spending}
 use Rattle.rp_evidence.specs.Input.{TableInput}
 use Rattle.rp_evidence.specs.WelfareModels.{bundle_at}
-use Rattle.rp_people.specs.Bundles.{IsBundle}
-use Rattle.rp_people.proofs.Affine.{spending_equal}
+use Rattle.rp_people.specs.Bundles.{IsBundle, mixture}
+use Rattle.rp_people.proofs.Affine.{spending_mixture}
 use Rattle.rp_people.proofs.Differences.{at_most_by, at_most_parts, is_times, less_is, of_whole}
 use Rattle.rp_producers.specs.CostAxiom.{MeetsCostAxiom}
 use Rattle.rp_producers.specs.OuterSet.{IsInOuterSet}
-use Rattle.rp_producers.specs.ProfitAxiom.{MeetsProfitAxiom, profit}
-use Rattle.rp_producers.specs.ProductionSets.{HasProductionSet, RationalizesProfit}
-use Rattle.rp_producers.specs.RequirementSets.{AreRequirementSets, HasRequirementSets, RationalizeCost}
+use Rattle.rp_producers.specs.ProfitAxiom.{MeetsProfitAxiom}
+use Rattle.rp_producers.specs.ProductionSets.{HasConvexProductionSet, HasProductionSet, IsConvexProductionSet}
+use Rattle.rp_producers.specs.ProductionSets.{RationalizesProfit}
+use Rattle.rp_producers.specs.RequirementSets.{AreConvex, AreRequirementSets, HasConvexRequirementSets}
+use Rattle.rp_producers.specs.RequirementSets.{HasAtLeastAsMuch, HasRequirementSets, RationalizeCost}
 
--- ---- tests of all, and of some, numbers below a bound
-
-some_below : ℕ → (ℕ → Bool) → Bool
-some_below zero f = false
-some_below (suc k) f = f k || some_below k f
+-- ---- tests of all numbers below a bound
 
 all_below : ℕ → (ℕ → Bool) → Bool
 all_below zero f = true
 all_below (suc k) f = f k && all_below k f
-
-or_true : (a b : Bool) → IsTrue (a || b) → IsTrue a ⊎ IsTrue b
-or_true true b e = inl refl
-or_true false b e = inr e
-
-true_or : (a b : Bool) → IsTrue a ⊎ IsTrue b → IsTrue (a || b)
-true_or true b h = refl
-true_or false b (inl e) = absurd cc
-true_or false b (inr e) = e
 
 and_true : (a b : Bool) → IsTrue (a && b) → IsTrue a × IsTrue b
 and_true true b e = (refl, e)
@@ -42,22 +31,6 @@ and_true false b e = absurd cc
 true_and : (a b : Bool) → IsTrue a → IsTrue b → IsTrue (a && b)
 true_and true b e h = h
 true_and false b e h = absurd cc
-
-some_there : (n : ℕ) (f : ℕ → Bool) → IsTrue (some_below n f) → (s : ℕ) × (s < n) × IsTrue (f s)
-unfolding some_below
-some_there zero f e = absurd cc
-some_there (suc k) f e = elim (or_true (f k) (some_below k f) e) [
-  | inl h ↦ (k, omega arith, h)
-  | inr h ↦ let r = some_there k f h in (r.0, omega (arith, r.1), r.2)
-]
-
-there_some : (n : ℕ) (f : ℕ → Bool) (s : ℕ) → s < n → IsTrue (f s) → IsTrue (some_below n f)
-unfolding some_below
-there_some zero f s l e = absurd (omega arith)
-there_some (suc k) f s l e = elim (cases_eq s k) [
-  | inl same ↦ true_or (f k) (some_below k f) (inl (subst (λ z. IsTrue (f z)) same e))
-  | inr d ↦ true_or (f k) (some_below k f) (inr (there_some k f s (omega arith) e))
-]
 
 all_there : (n : ℕ) (f : ℕ → Bool) → IsTrue (all_below n f) → (s : ℕ) → s < n → IsTrue (f s)
 unfolding all_below
@@ -72,18 +45,33 @@ unfolding all_below
 there_all zero f h = refl
 there_all (suc k) f h = true_and (f k) (all_below k f) (h k (omega arith)) (there_all k f (λ s l. h s (omega arith)))
 
+where_true : Bool → Bool → Bool
+where_true true b = b
+where_true false b = true
+
+true_where : (a b : Bool) → IsTrue (where_true a b) → IsTrue a → IsTrue b
+unfolding where_true
+true_where true b e h = e
+true_where false b e h = absurd cc
+
+where_there : (a b : Bool) → (IsTrue a → IsTrue b) → IsTrue (where_true a b)
+unfolding where_true
+where_there true b h = h refl
+where_there false b h = refl
+
 le_test : (a b : ℕ) → (IsTrue (nat_le a b) → a ≤ b) × (a ≤ b → IsTrue (nat_le a b))
 le_test a b = (λ e. grind arith, λ l. grind arith)
 
-eq_test : (a b : ℕ) → (IsTrue (nat_eq a b) → a ≡ b) × (a ≡ b → IsTrue (nat_eq a b))
-eq_test a b = (λ e. grind arith, λ l. grind arith)
-
-spending_at_least : (goods : ℕ) (prices x z : ℕ → ℕ) (d e : ℕ) → ((g : ℕ) → g < goods → x g * e ≤ z g * d) → spending goods prices x * e ≤ spending goods prices z * d
-spending_at_least zero prices x z d e h = omega arith
-spending_at_least (suc k) prices x z d e h =
-    let a = spending_at_least k prices x z d e (λ g l. h g (omega arith)) in
-    let b : prices k * (x k * e) ≤ prices k * (z k * d) = mul-le-mul_left (prices k) (h k (omega arith)) in
-    omega arith
+-- at least as much of every input costs at least as much
+spending_at_least : (goods : ℕ) (prices : ℕ → ℕ) (x z : FractionBundle) → HasAtLeastAsMuch goods z x → spending goods prices x.num * z.den ≤ spending goods prices z.num * x.den
+spending_at_least goods prices x z more = go goods more
+  where
+    go : (k : ℕ) → ((g : ℕ) → g < k → x.num g * z.den ≤ z.num g * x.den) → spending k prices x.num * z.den ≤ spending k prices z.num * x.den
+    go zero h = omega arith
+    go (suc k) h =
+        let a = go k (λ g l. h g (omega arith)) in
+        let b : prices k * (x.num k * z.den) ≤ prices k * (z.num k * x.den) = mul-le-mul_left (prices k) (h k (omega arith)) in
+        omega arith
 
 -- ---- cost
 
@@ -105,140 +93,162 @@ module _ (input : TableInput) (y : ℕ → ℕ) where
     pub enough_suffices : (y0 s : ℕ) → s < input.n → y0 ≤ y s → IsTrue (suffices y0 (bundle_at input s))
     enough_suffices y0 s a less = sets.nested y0 (y s) (bundle_at input s) (omega arith) less (rationalize.enough s a)
 
-  -- at least the inputs of an observation that made as much or more
-  as_much : FractionBundle → ℕ → Bool
-  as_much x s = all_below input.goods (λ g. nat_le (input.quantity s g * x.den) (x.num g))
+  -- the outer set: what costs at least what was spent at each observation that made as much or less
+  outer_suffices : ℕ → FractionBundle → Bool
+  outer_suffices output x = all_below input.n (λ t. where_true (nat_le (y t) output) (nat_le (x.den * input.cost t t) (spending input.goods (input.price t) x.num)))
 
-  seen_suffices : ℕ → FractionBundle → Bool
-  seen_suffices output x = some_below input.n (λ s. nat_le output (y s) && as_much x s)
+  abbrev IsDear : ℕ → FractionBundle → Type 0
+  IsDear output x = (t : ℕ) → t < input.n → y t ≤ output → x.den * input.cost t t ≤ spending input.goods (input.price t) x.num
 
-  pub record IsSeen (output : ℕ) (x : FractionBundle) : Type 0 where
-    pub at : ℕ
-    pub in_at : at < input.n
-    pub made : output ≤ y at
-    pub used : (g : ℕ) → g < input.goods → input.quantity at g * x.den ≤ x.num g
-
-  seen_there : (output : ℕ) (x : FractionBundle) → (IsTrue (seen_suffices output x) → IsSeen output x) × (IsSeen output x → IsTrue (seen_suffices output x))
-  unfolding seen_suffices as_much
-  seen_there output x = (
-    λ e. let r = some_there input.n (λ s. nat_le output (y s) && all_below input.goods (λ g. nat_le (input.quantity s g * x.den) (x.num g))) e in
-        let b = and_true (nat_le output (y r.0)) (all_below input.goods (λ g. nat_le (input.quantity r.0 g * x.den) (x.num g))) r.2 in
-        record {
-          at = r.0;
-          in_at = r.1;
-          made = (le_test output (y r.0)).0 b.0;
-          used = λ g l. (le_test (input.quantity r.0 g * x.den) (x.num g)).0 (all_there input.goods (λ g. nat_le (input.quantity r.0 g * x.den) (x.num g)) b.1 g l);
-        },
-    λ is.
-        there_some input.n (λ s. nat_le output (y s) && all_below input.goods (λ g. nat_le (input.quantity s g * x.den) (x.num g))) is.at is.in_at
-        (true_and (nat_le output (y is.at)) (all_below input.goods (λ g. nat_le (input.quantity is.at g * x.den) (x.num g))) ((le_test output (y is.at)).1 is.made)
-        (there_all input.goods (λ g. nat_le (input.quantity is.at g * x.den) (x.num g)) (λ g l. (le_test (input.quantity is.at g * x.den) (x.num g)).1 (is.used g l)))),
+  dear_there : (output : ℕ) (x : FractionBundle) → (IsTrue (outer_suffices output x) → IsDear output x) × (IsDear output x → IsTrue (outer_suffices output x))
+  unfolding outer_suffices
+  dear_there output x = (
+    λ e t l less.
+        (le_test (x.den * input.cost t t) (spending input.goods (input.price t) x.num)).0
+        (true_where (nat_le (y t) output) (nat_le (x.den * input.cost t t) (spending input.goods (input.price t) x.num))
+        (all_there input.n (λ t. where_true (nat_le (y t) output) (nat_le (x.den * input.cost t t) (spending input.goods (input.price t) x.num))) e t l) ((le_test (y t) output).1 less)),
+    λ dear.
+        there_all input.n (λ t. where_true (nat_le (y t) output) (nat_le (x.den * input.cost t t) (spending input.goods (input.price t) x.num)))
+        (λ t l. where_there (nat_le (y t) output) (nat_le (x.den * input.cost t t) (spending input.goods (input.price t) x.num))
+        (λ e. (le_test (x.den * input.cost t t) (spending input.goods (input.price t) x.num)).1 (dear t l ((le_test (y t) output).0 e)))),
   )
 
-  seen_sets : AreRequirementSets input.goods seen_suffices
-  seen_sets = record {
-    nested = λ low high x ix less e.
-        let is = (seen_there high x).0 e in
-        (seen_there low x).1 (record { at = is.at; in_at = is.in_at; made = omega (arith, less, is.made); used = is.used });
+  outer_sets : AreRequirementSets input.goods outer_suffices
+  outer_sets = record {
+    nested = λ low high x ix less e. (dear_there low x).1 (λ t l made. (dear_there high x).0 e t l (omega (arith, less, made)));
     disposable = λ output x z ix iz more e.
-        let is = (seen_there output x).0 e in
-        (seen_there output z).1 (record {
-          at = is.at;
-          in_at = is.in_at;
-          made = is.made;
-          used = λ g l. through (input.quantity is.at g) x.den (x.num g) z.den (z.num g) ix (is.used g l) (more g l);
-        });
+        (dear_there output z).1 (λ t l made.
+        through x.den z.den (input.cost t t) (spending input.goods (input.price t) x.num) (spending input.goods (input.price t) z.num) ix
+        ((dear_there output x).0 e t l made) (spending_at_least input.goods (input.price t) x z more));
   }
     where
-      through : (q d a e b : ℕ) → 0 < d → q * d ≤ a → a * e ≤ b * d → q * e ≤ b
-      through q d a e b some h k =
-          let m : e * (q * d) ≤ e * a = mul-le-mul_left e h in
+      through : (d e c a b : ℕ) → 0 < d → d * c ≤ a → a * e ≤ b * d → e * c ≤ b
+      through d e c a b some h k =
+          let m : e * (d * c) ≤ e * a = mul-le-mul_left e h in
           le_of_mul-le-mul_left {k = d} (omega arith) some
 
-  seen_rationalize : MeetsCostAxiom input.n input.cost y → RationalizeCost input y seen_suffices
-  seen_rationalize holds = record {
-    enough = λ s a. (seen_there (y s) (bundle_at input s)).1 (record { at = s; in_at = a; made = omega arith; used = λ g l. omega arith });
-    none_cheaper = λ s x a ix e.
-        let is = (seen_there (y s) x).0 e in
-        let l = holds s is.at a is.in_at is.made in
-        let c = input.sums s is.at a is.in_at in
-        let m = spending_at_least input.goods (input.price s) (input.quantity is.at) x.num 1 x.den (λ g k. let u = is.used g k in omega arith) in
-        let k : x.den * input.cost s s ≤ x.den * input.cost s is.at = mul-le-mul_left x.den l in
-        let f = ap (λ z. x.den * z) c in
-        omega arith;
+  outer_convex : AreConvex outer_suffices
+  outer_convex output a b x z some ix iz first second =
+      (dear_there output (mixture a b x z)).1 (λ t l made.
+      let h : (a * z.den) * (x.den * input.cost t t) ≤ (a * z.den) * spending input.goods (input.price t) x.num = mul-le-mul_left (a * z.den) ((dear_there output x).0 first t l made) in
+      let k : (b * x.den) * (z.den * input.cost t t) ≤ (b * x.den) * spending input.goods (input.price t) z.num = mul-le-mul_left (b * x.den) ((dear_there output z).0 second t l made) in
+      let e = spending_mixture input.goods (input.price t) a b x z in
+      omega arith)
+
+  outer_rationalize : MeetsCostAxiom input.n input.cost y → RationalizeCost input y outer_suffices
+  outer_rationalize holds = record {
+    enough = λ s a.
+        (dear_there (y s) (bundle_at input s)).1 (λ t l made.
+        let e = input.sums t s l a in
+        let h = holds t s l a made in
+        omega arith);
+    none_cheaper = λ s x a ix e. (dear_there (y s) x).0 e s a (omega arith);
   }
 
   pub cost_sets : HasRequirementSets input y ↔ MeetsCostAxiom input.n input.cost y
   cost_sets = (
     λ has. meets_cost has.suffices has.sets has.rationalize,
-    λ holds. record { suffices = seen_suffices; sets = seen_sets; rationalize = seen_rationalize holds },
+    λ holds. record { suffices = outer_suffices; sets = outer_sets; rationalize = outer_rationalize holds },
+  )
+
+  pub convex_cost_sets : HasConvexRequirementSets input y ↔ MeetsCostAxiom input.n input.cost y
+  convex_cost_sets = (
+    λ has. meets_cost has.suffices has.sets has.rationalize,
+    λ holds. record { suffices = outer_suffices; sets = outer_sets; convex = outer_convex; rationalize = outer_rationalize holds },
   )
 
 -- ---- profit
 
+-- a - k is at most v - c
+less_more : (a k v c : ℕ) → a + c ≤ v + k → (pos a -ℤ pos k) ≤ℤ (pos v -ℤ pos c)
+less_more a k v c l =
+    at_most_by (pos a -ℤ pos k) (pos v -ℤ pos c) (a + 0) (0 + k) (v + 0) (0 + c) (less_is (pos a) (pos k) a 0 k 0 (of_whole a) (of_whole k)) (less_is (pos v) (pos c) v 0 c 0 (of_whole v) (of_whole c)) (omega arith)
+
+more_less : (a k v c : ℕ) → (pos a -ℤ pos k) ≤ℤ (pos v -ℤ pos c) → a + c ≤ v + k
+more_less a k v c h =
+    let l = at_most_parts (pos a -ℤ pos k) (pos v -ℤ pos c) (a + 0) (0 + k) (v + 0) (0 + c) (less_is (pos a) (pos k) a 0 k 0 (of_whole a) (of_whole k)) (less_is (pos v) (pos c) v 0 c 0 (of_whole v) (of_whole c)) h in
+    omega arith
+
+-- a - k is at most d times v - c
+less_times : (a k v c d : ℕ) → a + c * d ≤ v * d + k → (pos a -ℤ pos k) ≤ℤ ((pos v -ℤ pos c) *ℤ pos d)
+less_times a k v c d l =
+    at_most_by (pos a -ℤ pos k) ((pos v -ℤ pos c) *ℤ pos d) (a + 0) (0 + k) ((v + 0) * d) ((0 + c) * d)
+    (less_is (pos a) (pos k) a 0 k 0 (of_whole a) (of_whole k))
+    (is_times (pos v -ℤ pos c) d (v + 0) (0 + c) (less_is (pos v) (pos c) v 0 c 0 (of_whole v) (of_whole c))) (omega arith)
+
+times_less : (a k v c d : ℕ) → (pos a -ℤ pos k) ≤ℤ ((pos v -ℤ pos c) *ℤ pos d) → a + c * d ≤ v * d + k
+times_less a k v c d h =
+    let l = at_most_parts (pos a -ℤ pos k) ((pos v -ℤ pos c) *ℤ pos d) (a + 0) (0 + k) ((v + 0) * d) ((0 + c) * d)
+    (less_is (pos a) (pos k) a 0 k 0 (of_whole a) (of_whole k))
+    (is_times (pos v -ℤ pos c) d (v + 0) (0 + c) (less_is (pos v) (pos c) v 0 c 0 (of_whole v) (of_whole c))) h in
+    omega arith
+
 module _ (input : TableInput) (y p : ℕ → ℕ) where
-  same_as : FractionBundle → ℕ → Bool
-  same_as x s = all_below input.goods (λ g. nat_eq (x.num g) (input.quantity s g * x.den))
+  -- at the prices of no observation the output and its inputs make more profit than was made there
+  outer_feasible : ℕ → FractionBundle → Bool
+  outer_feasible output x = all_below input.n (λ t. nat_le ((p t * output) * x.den + input.cost t t * x.den) ((p t * y t) * x.den + spending input.goods (input.price t) x.num))
 
-  seen_feasible : ℕ → FractionBundle → Bool
-  seen_feasible output x = some_below input.n (λ s. nat_eq output (y s) && same_as x s)
+  abbrev MakesNoMore : ℕ → FractionBundle → Type 0
+  MakesNoMore output x = (t : ℕ) → t < input.n → (p t * output) * x.den + input.cost t t * x.den ≤ (p t * y t) * x.den + spending input.goods (input.price t) x.num
 
-  pub record IsOne (output : ℕ) (x : FractionBundle) : Type 0 where
-    pub at : ℕ
-    pub in_at : at < input.n
-    pub made : output ≡ y at
-    pub used : (g : ℕ) → g < input.goods → x.num g ≡ input.quantity at g * x.den
-
-  one_there : (output : ℕ) (x : FractionBundle) → (IsTrue (seen_feasible output x) → IsOne output x) × (IsOne output x → IsTrue (seen_feasible output x))
-  unfolding seen_feasible same_as
-  one_there output x = (
-    λ e. let r = some_there input.n (λ s. nat_eq output (y s) && all_below input.goods (λ g. nat_eq (x.num g) (input.quantity s g * x.den))) e in
-        let b = and_true (nat_eq output (y r.0)) (all_below input.goods (λ g. nat_eq (x.num g) (input.quantity r.0 g * x.den))) r.2 in
-        record {
-          at = r.0;
-          in_at = r.1;
-          made = (eq_test output (y r.0)).0 b.0;
-          used = λ g l. (eq_test (x.num g) (input.quantity r.0 g * x.den)).0 (all_there input.goods (λ g. nat_eq (x.num g) (input.quantity r.0 g * x.den)) b.1 g l);
-        },
-    λ is.
-        there_some input.n (λ s. nat_eq output (y s) && all_below input.goods (λ g. nat_eq (x.num g) (input.quantity s g * x.den))) is.at is.in_at
-        (true_and (nat_eq output (y is.at)) (all_below input.goods (λ g. nat_eq (x.num g) (input.quantity is.at g * x.den))) ((eq_test output (y is.at)).1 is.made)
-        (there_all input.goods (λ g. nat_eq (x.num g) (input.quantity is.at g * x.den)) (λ g l. (eq_test (x.num g) (input.quantity is.at g * x.den)).1 (is.used g l)))),
+  no_more_there : (output : ℕ) (x : FractionBundle) → (IsTrue (outer_feasible output x) → MakesNoMore output x) × (MakesNoMore output x → IsTrue (outer_feasible output x))
+  unfolding outer_feasible
+  no_more_there output x = (
+    λ e t l.
+        (le_test ((p t * output) * x.den + input.cost t t * x.den) ((p t * y t) * x.den + spending input.goods (input.price t) x.num)).0
+        (all_there input.n (λ t. nat_le ((p t * output) * x.den + input.cost t t * x.den) ((p t * y t) * x.den + spending input.goods (input.price t) x.num)) e t l),
+    λ none.
+        there_all input.n (λ t. nat_le ((p t * output) * x.den + input.cost t t * x.den) ((p t * y t) * x.den + spending input.goods (input.price t) x.num))
+        (λ t l. (le_test ((p t * output) * x.den + input.cost t t * x.den) ((p t * y t) * x.den + spending input.goods (input.price t) x.num)).1 (none t l)),
   )
 
-  -- the profit of x over its denominator, where it is d times inputs that cost k
-  over : (a d k z v c : ℕ) → z ≡ d * k → (pos a -ℤ pos k) ≤ℤ (pos v -ℤ pos c) → (pos (a * d) -ℤ pos z) ≤ℤ ((pos v -ℤ pos c) *ℤ pos d)
-  over a d k z v c e h =
-      let l = at_most_parts (pos a -ℤ pos k) (pos v -ℤ pos c) (a + 0) (0 + k) (v + 0) (0 + c) (less_is (pos a) (pos k) a 0 k 0 (of_whole a) (of_whole k)) (less_is (pos v) (pos c) v 0 c 0 (of_whole v) (of_whole c)) h in
-      let m : d * ((a + 0) + (0 + c)) ≤ d * ((v + 0) + (0 + k)) = mul-le-mul_left d l in
-      at_most_by (pos (a * d) -ℤ pos z) ((pos v -ℤ pos c) *ℤ pos d) (a * d + 0) (0 + z) ((v + 0) * d) ((0 + c) * d)
-      (less_is (pos (a * d)) (pos z) (a * d) 0 z 0 (of_whole (a * d)) (of_whole z))
-      (is_times (pos v -ℤ pos c) d (v + 0) (0 + c) (less_is (pos v) (pos c) v 0 c 0 (of_whole v) (of_whole c))) (omega arith)
+  outer_set : IsConvexProductionSet input.goods outer_feasible
+  outer_set = record {
+    disposable = λ low high x z ix iz less more e.
+        (no_more_there low z).1 (λ t l.
+        through (p t) low high (input.cost t t) (y t) x.den z.den (spending input.goods (input.price t) x.num) (spending input.goods (input.price t) z.num) ix less
+        ((no_more_there high x).0 e t l) (spending_at_least input.goods (input.price t) x z more));
+    convex = λ output first second a b x z some ix iz same one other.
+        (no_more_there output (mixture a b x z)).1 (λ t l.
+        let e = spending_mixture input.goods (input.price t) a b x z in
+        let h = mul-le-mul_left (a * z.den) ((no_more_there first x).0 one t l) in
+        let k = mul-le-mul_left (b * x.den) ((no_more_there second z).0 other t l) in
+        let m = ap (λ v. (p t * (x.den * z.den)) * v) same in
+        omega arith);
+  }
+    where
+      through : (q low high c v d e a b : ℕ) → 0 < d → low ≤ high → (q * high) * d + c * d ≤ (q * v) * d + a → a * e ≤ b * d → (q * low) * e + c * e ≤ (q * v) * e + b
+      through q low high c v d e a b some less h k =
+          let m : e * ((q * high) * d + c * d) ≤ e * ((q * v) * d + a) = mul-le-mul_left e h in
+          let n : (q * (d * e)) * low ≤ (q * (d * e)) * high = mul-le-mul_left (q * (d * e)) less in
+          le_of_mul-le-mul_left {k = d} (omega arith) some
 
-  seen_profit : MeetsProfitAxiom input.n input.cost y p → RationalizesProfit input y p seen_feasible
-  seen_profit holds = record {
-    has_each = λ s a. (one_there (y s) (bundle_at input s)).1 (record { at = s; in_at = a; made = refl; used = λ g l. omega arith });
+  outer_profit : MeetsProfitAxiom input.n input.cost y p → RationalizesProfit input y p outer_feasible
+  outer_profit holds = record {
+    has_each = λ s a.
+        (no_more_there (y s) (bundle_at input s)).1 (λ t l.
+        let e = input.sums t s l a in
+        let h = more_less (p t * y s) (input.cost t s) (p t * y t) (input.cost t t) (holds t s l a) in
+        omega arith);
     none_makes_more = λ s output x a ix e.
-        let is = (one_there output x).0 e in
-        let c = input.sums s is.at a is.in_at in
-        let same : spending input.goods (input.price s) x.num * 1 ≡ spending input.goods (input.price s) (input.quantity is.at) * x.den =
-        spending_equal input.goods (input.price s) x.num (input.quantity is.at) x.den 1 (λ g l. let u = is.used g l in omega arith) in
-        let f = ap (λ z. x.den * z) c in
-        subst (λ o. (pos ((p s * o) * x.den) -ℤ pos (spending input.goods (input.price s) x.num)) ≤ℤ (profit input.cost y p s s *ℤ pos x.den)) (sym is.made)
-        (over (p s * y is.at) x.den (input.cost s is.at) (spending input.goods (input.price s) x.num) (p s * y s) (input.cost s s) (omega arith) (holds s is.at a is.in_at));
+        less_times ((p s * output) * x.den) (spending input.goods (input.price s) x.num) (p s * y s) (input.cost s s) x.den ((no_more_there output x).0 e s a);
   }
 
-  back : (a k v c z : ℕ) → z ≡ k → (pos (a * 1) -ℤ pos z) ≤ℤ ((pos v -ℤ pos c) *ℤ pos 1) → (pos a -ℤ pos k) ≤ℤ (pos v -ℤ pos c)
-  back a k v c z e h =
-      let l = at_most_parts (pos (a * 1) -ℤ pos z) ((pos v -ℤ pos c) *ℤ pos 1) (a * 1 + 0) (0 + z) ((v + 0) * 1) ((0 + c) * 1)
-      (less_is (pos (a * 1)) (pos z) (a * 1) 0 z 0 (of_whole (a * 1)) (of_whole z))
-      (is_times (pos v -ℤ pos c) 1 (v + 0) (0 + c) (less_is (pos v) (pos c) v 0 c 0 (of_whole v) (of_whole c))) h in
-      at_most_by (pos a -ℤ pos k) (pos v -ℤ pos c) (a + 0) (0 + k) (v + 0) (0 + c) (less_is (pos a) (pos k) a 0 k 0 (of_whole a) (of_whole k)) (less_is (pos v) (pos c) v 0 c 0 (of_whole v) (of_whole c)) (omega arith)
+  meets_profit : (feasible : ℕ → FractionBundle → Bool) → RationalizesProfit input y p feasible → MeetsProfitAxiom input.n input.cost y p
+  meets_profit feasible rationalizes t s a b =
+      let h = times_less ((p t * y s) * 1) (spending input.goods (input.price t) (input.quantity s)) (p t * y t) (input.cost t t) 1
+      (rationalizes.none_makes_more t (y s) (bundle_at input s) a (omega arith) (rationalizes.has_each s b)) in
+      let e = input.sums t s a b in
+      less_more (p t * y s) (input.cost t s) (p t * y t) (input.cost t t) (omega arith)
 
   pub profit_sets : HasProductionSet input y p ↔ MeetsProfitAxiom input.n input.cost y p
   profit_sets = (
-    λ has t s a b.
-        back (p t * y s) (input.cost t s) (p t * y t) (input.cost t t) (spending input.goods (input.price t) (input.quantity s)) (sym (input.sums t s a b))
-        (has.rationalizes.none_makes_more t (y s) (bundle_at input s) a (omega arith) (has.rationalizes.has_each s b)),
-    λ holds. record { feasible = seen_feasible; rationalizes = seen_profit holds },
+    λ has. meets_profit has.feasible has.rationalizes,
+    λ holds. record { feasible = outer_feasible; rationalizes = outer_profit holds },
+  )
+
+  pub convex_profit_sets : HasConvexProductionSet input y p ↔ MeetsProfitAxiom input.n input.cost y p
+  convex_profit_sets = (
+    λ has. meets_profit has.feasible has.rationalizes,
+    λ holds. record { feasible = outer_feasible; set = outer_set; rationalizes = outer_profit holds },
   )

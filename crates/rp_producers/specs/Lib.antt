@@ -3,3 +3,4 @@ pub mod OuterSet
 pub mod ProductionSets
 pub mod ProfitAxiom
 pub mod RequirementSets
+pub mod SmallSets

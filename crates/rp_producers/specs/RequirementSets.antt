@@ -1,9 +1,9 @@
 -- What inputs suffice for an output, in a technology that is not known (Varian 1984): input requirement sets.
-use Rattle.std.specs.Prelude.{ℕ, ◌*◌, ◌<◌, ◌≤◌, Bool, IsTrue}
+use Rattle.std.specs.Prelude.{ℕ, ◌+◌, ◌*◌, ◌<◌, ◌≤◌, Bool, IsTrue}
 use Rattle.rp_evidence.specs.Demand.{FractionBundle, spending}
 use Rattle.rp_evidence.specs.Input.{TableInput}
 use Rattle.rp_evidence.specs.WelfareModels.{bundle_at}
-use Rattle.rp_people.specs.Bundles.{IsBundle}
+use Rattle.rp_people.specs.Bundles.{IsBundle, mixture}
 
 -- The inputs z are at least as much of every input as x.
 abbrev pub HasAtLeastAsMuch : ℕ → FractionBundle → FractionBundle → Type 0
@@ -17,6 +17,11 @@ pub record AreRequirementSets (goods : ℕ) (suffices : ℕ → FractionBundle �
   pub disposable : (output : ℕ) (x z : FractionBundle) → IsBundle x → IsBundle z → HasAtLeastAsMuch goods z x
       → IsTrue (suffices output x) → IsTrue (suffices output z)
 
+-- For each output they are convex: a mixture of inputs that suffice suffices too.
+abbrev pub AreConvex : (ℕ → FractionBundle → Bool) → Type 0
+AreConvex suffices = (output a b : ℕ) (x z : FractionBundle) → 0 < a + b → IsBundle x → IsBundle z
+    → IsTrue (suffices output x) → IsTrue (suffices output z) → IsTrue (suffices output (mixture a b x z))
+
 -- They rationalize what was seen, `y s` being the output of observation s: its inputs suffice for it, and nothing that
 -- does costs less at its prices.
 pub record RationalizeCost (input : TableInput) (y : ℕ → ℕ) (suffices : ℕ → FractionBundle → Bool) : Type 0 where
@@ -28,4 +33,11 @@ pub record RationalizeCost (input : TableInput) (y : ℕ → ℕ) (suffices : �
 pub record HasRequirementSets (input : TableInput) (y : ℕ → ℕ) : Type 0 where
   pub suffices : ℕ → FractionBundle → Bool
   pub sets : AreRequirementSets input.goods suffices
+  pub rationalize : RationalizeCost input y suffices
+
+-- Some requirement sets that are convex do.
+pub record HasConvexRequirementSets (input : TableInput) (y : ℕ → ℕ) : Type 0 where
+  pub suffices : ℕ → FractionBundle → Bool
+  pub sets : AreRequirementSets input.goods suffices
+  pub convex : AreConvex suffices
   pub rationalize : RationalizeCost input y suffices

@@ -6,14 +6,18 @@ ghost use Rattle.rp_people.specs.Bundles.{IsBundle};
 ghost use Rattle.rp_producers.specs.CostAxiom.{MeetsCostAxiom};
 ghost use Rattle.rp_producers.specs.OuterSet.{IsLowerCost, IsUpperCost};
 ghost use Rattle.rp_producers.specs.ProfitAxiom.{MeetsProfitAxiom};
-ghost use Rattle.rp_producers.specs.ProductionSets.{HasProductionSet};
-ghost use Rattle.rp_producers.specs.RequirementSets.{AreRequirementSets, HasRequirementSets};
-ghost use Rattle.rp_producers.specs.RequirementSets.{RationalizeCost};
+ghost use Rattle.rp_producers.specs.ProductionSets.{HasConvexProductionSet, HasProductionSet};
+ghost use Rattle.rp_producers.specs.RequirementSets.{AreRequirementSets};
+ghost use Rattle.rp_producers.specs.RequirementSets.{HasConvexRequirementSets};
+ghost use Rattle.rp_producers.specs.RequirementSets.{HasRequirementSets, RationalizeCost};
 
-/// The cost axiom holds exactly where some nested and disposable requirement sets rationalize what was seen.
+/// The cost axiom holds exactly where some nested and disposable requirement sets rationalize what was seen, and exactly
+/// where some that are convex as well do.
 pub fn cost_axiom_is_of_requirement_sets()
-    ensures { (input : TableInput) (y : ℕ → ℕ)
+    ensures some { (input : TableInput) (y : ℕ → ℕ)
         → HasRequirementSets input y ↔ MeetsCostAxiom input.n input.cost y }
+    ensures convex { (input : TableInput) (y : ℕ → ℕ)
+        → HasConvexRequirementSets input y ↔ MeetsCostAxiom input.n input.cost y }
 {}
 
 /// Under each such family, whatever suffices for an output costs at least the lower bound at the new prices, and the
@@ -30,8 +34,11 @@ pub fn cost_bounds_hold_for_requirement_sets()
         → IsUpperCost input y y0 prices at cost → IsTrue (suffices y0 (bundle_at input at)) }
 {}
 
-/// The profit axiom holds exactly where some production set rationalizes what was seen.
+/// The profit axiom holds exactly where some production set rationalizes what was seen, and exactly where one does that
+/// is disposable and convex.
 pub fn profit_axiom_is_of_production_sets()
-    ensures { (input : TableInput) (y p : ℕ → ℕ)
+    ensures some { (input : TableInput) (y p : ℕ → ℕ)
         → HasProductionSet input y p ↔ MeetsProfitAxiom input.n input.cost y p }
+    ensures convex { (input : TableInput) (y p : ℕ → ℕ)
+        → HasConvexProductionSet input y p ↔ MeetsProfitAxiom input.n input.cost y p }
 {}

@@ -1,5 +1,7 @@
 ghost use Rattle.std.specs.Prelude.{IfOk};
 ghost use Rattle.rp_evidence.specs.Quasilinear.{ProvesQuasilinear};
+ghost use Rattle.rp_people.specs.Says.{SaysQuasilinear};
+ghost use Rattle.rp_people.specs.TablesOfCosts.{OfEachTable};
 ghost use Rattle.rp_quasi.specs.QuasilinearVerdict.{IsQuasilinearVerdict};
 ghost use Rattle.rp_table.specs.Cost.{cost_at};
 
@@ -14,6 +16,8 @@ use std::alloc::Global;
 pub fn quasilinear(alloc: Global, costs: &Costs) -> Result<Quasi, NoMemory>
     ensures verdict { IfOk result (IsQuasilinearVerdict costs.now.n (cost_at costs.now)) }
     ensures proves { IfOk result (ProvesQuasilinear costs.now.n (cost_at costs.now)) }
+    ensures says { IfOk result (λ verdict.
+        OfEachTable costs.now (λ input. SaysQuasilinear input verdict)) }
 {
     // As many steps as there are observations, of less than 2^51 each, stay far within an `i128`.
     let n = costs.n();

@@ -1,5 +1,5 @@
 -- Patches that files denote are those of choices in the files, and none of the chosen bundles is empty.
-use Rattle.std.proofs.Common.{◌≡◌, ℕ, Bool, true, false, if◌then◌else◌, List, Option, Some, None, Result, Ok, Err, ap, subst}
+use Rattle.std.proofs.Common.{◌≡◌, ℕ, Bool, true, false, if◌then◌else◌, List, Option, Some, None, Result, Ok, Err, ap, refl, subst}
 use Rattle.std.specs.Result.{result_unwrap_or}
 use Rattle.rp_table.specs.BudgetLists.{BudgetList}
 use Rattle.rp_table.specs.ChoiceLists.{ChoiceList}
@@ -11,11 +11,13 @@ use Rattle.rp_patch.specs.Choices.{random_input_of}
 use Rattle.rp_patch.specs.Patches.{PatchList}
 use Rattle.rp_patch.specs.Units.{ArePatchesOf}
 use Rattle.rp_types.specs.declared.types.Rational.{Rational}
-use Rattle.rp_command_line.specs.CommandLine.{Arguments, file}
+use Rattle.rp_command_line.specs.CommandLine.{Arguments, Line, file, file_set, takes_levels}
+use Rattle.rp_command_line.specs.declared.commands.FileSet.{FileSet}
 use Rattle.rp_command_line.specs.declared.commands.FileSet.TheVariants as files
+use Rattle.rp_run.specs.Answers.{AreOfTheFiles}
 use Rattle.rp_run.specs.ChoiceContents.{BudgetsIn, ChoicesIn, TypedPatchesOf}
 use Rattle.rp_run.specs.ChosenInFiles.{AreOfChoicesIn}
-use Rattle.rp_run.specs.Contents.{ContentsIn}
+use Rattle.rp_run.specs.Contents.{ContentsIn, Denotes}
 use Rattle.rp_run.specs.FaultTexts.{fault_text}
 use Rattle.rp_run.specs.Readings.{NumbersIn, WhereKnown, or_line}
 use Rattle.rp_run.specs.declared.contents.Contents.{Contents}
@@ -75,3 +77,26 @@ behind_patches takes arguments known p types = of_choices arguments known takes 
 pub behind_patches_with_certificate : (takes : Bool) (arguments : Arguments) (known : ℕ → Option (List ℕ)) (p : PatchList) (types : List Rational) (certificate : Certificate)
     → ContentsIn takes files.ChoicesAndCertificate arguments known (Ok (contents.ChoicesAndCertificate p types certificate)) → AreOfChoicesIn arguments known p
 behind_patches_with_certificate takes arguments known p types certificate = of_choices_with_certificate arguments known takes p types certificate
+
+-- whatever files denote, patches are those of the choices in the files
+of_same : (arguments : Arguments) (bytes : ℕ → List ℕ) (made held : Contents) → Ok made ≡ Ok held → AreOfTheFiles arguments bytes made → AreOfTheFiles arguments bytes held
+of_same arguments bytes made held same of = subst (AreOfTheFiles arguments bytes) (ap (λ (r : Result Contents (List ℕ)). result_unwrap_or r made) same) of
+
+of_files : (takes : Bool) (set : FileSet) (arguments : Arguments) (bytes : ℕ → List ℕ) (held : Contents) → ContentsIn takes set arguments (λ k. Some (bytes k)) (Ok held) → AreOfTheFiles arguments bytes held
+of_files takes files.Nothing arguments bytes held same = of_same arguments bytes contents.Nothing held same tt
+of_files takes files.Table arguments bytes held (t, read, same) = of_same arguments bytes (contents.Table t) held same tt
+of_files takes files.TableAndCertificate arguments bytes held (t, read, (c, certified, same)) = of_same arguments bytes (contents.TableAndCertificate t c) held same tt
+of_files takes files.TableAndPricesWithExpenditure arguments bytes held (t, read, (new, priced, same)) = of_same arguments bytes (contents.TableAndPricesWithExpenditure t new) held same tt
+of_files takes files.TableAndPrices arguments bytes held (t, read, (new, priced, same)) = of_same arguments bytes (contents.TableAndPrices t new) held same tt
+of_files takes files.TableAndBundles arguments bytes held (t, read, (b, bundled, same)) = of_same arguments bytes (contents.TableAndBundles t b) held same tt
+of_files takes files.Choices arguments bytes held (b, in_first, (c, in_second, (made, typed, same))) =
+    of_same arguments bytes (contents.Choices made.0 made.1) held same
+    (behind_patches takes arguments (λ k. Some (bytes k)) made.0 made.1 (b, in_first, (c, in_second, (made, typed, refl))))
+of_files takes files.ChoicesAndCertificate arguments bytes held (b, in_first, (c, in_second, (read, certified, (made, typed, same)))) =
+    of_same arguments bytes (contents.ChoicesAndCertificate made.0 made.1 read) held same
+    (behind_patches_with_certificate takes arguments (λ k. Some (bytes k)) made.0 made.1 read (b, in_first, (c, in_second, (read, certified, (made, typed, refl)))))
+of_files takes files.Menus arguments bytes held (made, read, same) = of_same arguments bytes (contents.Menus made.0 made.1) held same tt
+of_files takes files.TechnologyAndAsked arguments bytes held (tech, read, (asked, then_read, same)) = of_same arguments bytes (contents.TechnologyAndAsked tech asked) held same tt
+
+pub of_the_files : (line : Line) (bytes : ℕ → List ℕ) (held : Contents) → Denotes line bytes (Ok held) → AreOfTheFiles line.arguments bytes held
+of_the_files line bytes held denotes = of_files (takes_levels line) (file_set line) line.arguments bytes held denotes

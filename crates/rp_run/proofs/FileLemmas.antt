@@ -11,6 +11,7 @@ use Rattle.rp_text.specs.Denotation.{table_in}
 use Rattle.rp_command_line.specs.CommandLine.{Line, files_of}
 use Rattle.rp_outside.specs.Known.{AreAll}
 use Rattle.rp_run.specs.Answers.{Files, AreContents, HasContents}
+use Rattle.rp_run.proofs.ChosenInFiles.{of_the_files}
 use Rattle.rp_run.specs.Contents.{Denotes}
 use Rattle.rp_run.specs.InnerContents.{MayHaveLevels}
 use Rattle.rp_run.specs.declared.contents.Contents.{Contents}
@@ -113,7 +114,8 @@ pub one_input : {A : Type 0} (files : Files) (line : Line) (file : List ℕ) (re
     → files_of line ≡ file ∷ [] → ((bytes : ℕ → List ℕ) (r : Result Contents (List ℕ)) → AndThen (reading (bytes 0)) (λ v. Just (Ok (over v))) r → Denotes line bytes r)
     → HoldsValue files file reading value → HasContents files line (over value)
 one_input files line file reading over value named denoted (bytes, content, read) =
-    ((λ _. bytes), one_content files line file bytes named content, denoted (λ _. bytes) (Ok (over value)) (value, read, refl))
+    let denotes = denoted (λ _. bytes) (Ok (over value)) (value, read, refl) in
+    ((λ _. bytes), one_content files line file bytes named content, denotes, of_the_files line (λ _. bytes) (over value) denotes)
 
 pub one_cause : {A : Type 0} (files : Files) (rose : List ℕ → Type 0) (asks : Line → ℕ → Type 0) (line : Line) (file : List ℕ) (reading : List ℕ → Reading A) (over : A → Contents) (why : Cause)
     → files_of line ≡ file ∷ [] → ((bytes : ℕ → List ℕ) (r : Result Contents (List ℕ)) → AndThen (reading (bytes 0)) (λ v. Just (Ok (over v))) r → Denotes line bytes r)
@@ -161,7 +163,8 @@ module _ {A B : Type 0} (files : Files) (rose : List ℕ → Type 0) (asks : Lin
   pub two_input : (a : A) (b : B) (input : Contents) → HoldsValue files f reading a → HoldsValue files s (after a) b → last a b (Ok input) → HasContents files line input
   unfolding two_bytes
   two_input a b input (first, one, read) (second, two, then_read) made =
-      (two_bytes first second, two_contents files line f s first second named one two, denoted (two_bytes first second) (Ok input) (a, read, (b, then_read, made)))
+      let denotes = denoted (two_bytes first second) (Ok input) (a, read, (b, then_read, made)) in
+      (two_bytes first second, two_contents files line f s first second named one two, denotes, of_the_files line (two_bytes first second) input denotes)
 
   -- or the cause why the first gives none, whatever the second holds
   pub first_cause : (why : Cause) → asks line 1 → IsFileCause files rose f reading why → IsCause files rose asks line why
@@ -214,7 +217,8 @@ module _ {A B C : Type 0} (files : Files) (rose : List ℕ → Type 0) (asks : L
   pub three_input : (a : A) (b : B) (c : C) (input : Contents) → HoldsValue files f reading a → HoldsValue files s (after a) b → HoldsValue files t third c → last a b c (Ok input) → HasContents files line input
   unfolding three_bytes
   three_input a b c input (x, one, read) (y, two, then_read) (z, three, last_read) made =
-      (three_bytes x y z, three_contents files line f s t x y z named one two three, denoted (three_bytes x y z) (Ok input) (a, read, (b, then_read, (c, last_read, made))))
+      let denotes = denoted (three_bytes x y z) (Ok input) (a, read, (b, then_read, (c, last_read, made))) in
+      (three_bytes x y z, three_contents files line f s t x y z named one two three, denotes, of_the_files line (three_bytes x y z) input denotes)
 
   -- or the cause why the first gives none, and so the others
   pub three_first : (why : Cause) → asks line 1 → IsFileCause files rose f reading why → IsCause files rose asks line why
@@ -256,4 +260,4 @@ then_caused made over NoMemory none = tt
 
 -- a line without files has its input
 pub no_files : (files : Files) (line : Line) (input : Contents) → files_of line ≡ [] → ((bytes : ℕ → List ℕ) → Denotes line bytes (Ok input)) → HasContents files line input
-no_files files line input none denoted = ((λ _. []), (λ k within. let empty : k < length {A = List ℕ} [] = rw none at within in let no : ⊥ = omega (arith, empty) in absurd no), denoted (λ _. []))
+no_files files line input none denoted = ((λ _. []), (λ k within. let empty : k < length {A = List ℕ} [] = rw none at within in let no : ⊥ = omega (arith, empty) in absurd no), denoted (λ _. []), of_the_files line (λ _. []) input (denoted (λ _. [])))

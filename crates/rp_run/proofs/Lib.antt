@@ -1,3 +1,4 @@
+pub mod AskedLemmas
 pub mod ChosenInFiles
 pub mod FileLemmas
 pub mod GainsLemmas

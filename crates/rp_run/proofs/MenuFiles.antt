@@ -1,5 +1,6 @@
 -- What a file of menus gives, with the units of their cells.
 use Rattle.std.proofs.Common.{ℕ, List, Option, Ok, Err, inl, inr, refl}
+use Rattle.rp_outside.specs.Asked.{Reads}
 use Rattle.rp_menu.specs.MenuLists.{MenuList}
 use Rattle.rp_patch.specs.declared.apportionment.Units.{Units}
 use Rattle.rp_run.specs.Answers.{Files}
@@ -13,7 +14,7 @@ use Rattle.rp_run.specs.declared.files.TheConstants.{MOST_BYTES}
 use Rattle.rp_run.specs.declared.files.Cause.{Cause}
 use Rattle.rp_run.specs.declared.files.Cause.TheVariants.{Read, Refused, NoMemory}
 
-module _ {D : Type 0} (bytes : D → Files) (faults : D → List ℕ → ℕ) (calls : D → ℕ) (old new : D) (file : List ℕ) (per : Option ℕ) where
+module _ {D : Type 0} (bytes : D → Files) (faults : D → List ℕ → ℕ) (calls : D → ℕ) (asked : D → Option Reads) (old new : D) (file : List ℕ) (per : Option ℕ) where
   menus_caused : (why : Cause) → IsFileCause (bytes old) (Rose (faults old) (faults new)) file (MenusOf file) why → IsFileCause (bytes old) (Rose (faults old) (faults new)) file (MenusIn per file) why
   menus_caused (Read name) why = why
   menus_caused (Refused line) (bytes, content, refused) = (bytes, content, inl refused)
@@ -24,18 +25,39 @@ module _ {D : Type 0} (bytes : D → Files) (faults : D → List ℕ → ℕ) (c
   units_caused list (Refused line) (bytes, content, read) refused = (bytes, content, inr (list, read, inl refused))
   units_caused list NoMemory held none = tt
 
-  pub no_menus_load : (why : Cause) → LoadsFile bytes faults calls old new MOST_BYTES file (MenusOf file) (Err why) → LoadsFile bytes faults calls old new MOST_BYTES file (MenusIn per file) (Err why)
-  no_menus_load why loads = record { loaded = menus_caused why loads.loaded; read_through = loads.read_through; bytes_stay = loads.bytes_stay; never_falls = loads.never_falls }
+  pub no_menus_load : (why : Cause) → LoadsFile bytes faults calls asked old new MOST_BYTES file (MenusOf file) (Err why) → LoadsFile bytes faults calls asked old new MOST_BYTES file (MenusIn per file) (Err why)
+  no_menus_load why loads = record {
+    loaded = menus_caused why loads.loaded;
+    read_through = loads.read_through;
+    asks_once = tt;
+    asks_at_most_once = loads.asks_at_most_once;
+    bytes_stay = loads.bytes_stay;
+    never_falls = loads.never_falls;
+  }
 
-  pub no_units_load : (list : MenuList) (why : Cause) → LoadsFile bytes faults calls old new MOST_BYTES file (MenusOf file) (Ok list) → IsReadingCause (UnitsOf list per) why
-      → LoadsFile bytes faults calls old new MOST_BYTES file (MenusIn per file) (Err why)
-  no_units_load list why loads refused = record { loaded = units_caused list why loads.loaded refused; read_through = loads.read_through; bytes_stay = loads.bytes_stay; never_falls = loads.never_falls }
+  pub no_units_load : (list : MenuList) (why : Cause) → LoadsFile bytes faults calls asked old new MOST_BYTES file (MenusOf file) (Ok list) → IsReadingCause (UnitsOf list per) why
+      → LoadsFile bytes faults calls asked old new MOST_BYTES file (MenusIn per file) (Err why)
+  no_units_load list why loads refused = record {
+    loaded = units_caused list why loads.loaded refused;
+    read_through = loads.read_through;
+    asks_once = tt;
+    asks_at_most_once = loads.asks_at_most_once;
+    bytes_stay = loads.bytes_stay;
+    never_falls = loads.never_falls;
+  }
 
-  pub menus_load : (list : MenuList) (units : Units) → LoadsFile bytes faults calls old new MOST_BYTES file (MenusOf file) (Ok list) → UnitsOf list per (Ok units)
-      → LoadsFile bytes faults calls old new MOST_BYTES file (MenusIn per file) (Ok (list, units))
+  pub menus_load : (list : MenuList) (units : Units) → LoadsFile bytes faults calls asked old new MOST_BYTES file (MenusOf file) (Ok list) → UnitsOf list per (Ok units)
+      → LoadsFile bytes faults calls asked old new MOST_BYTES file (MenusIn per file) (Ok (list, units))
   menus_load list units loads made =
       let held = loads.loaded in
-      record { loaded = (held.0, held.1, (list, held.2, (units, made, refl))); read_through = loads.read_through; bytes_stay = loads.bytes_stay; never_falls = loads.never_falls }
+      record {
+        loaded = (held.0, held.1, (list, held.2, (units, made, refl)));
+        read_through = loads.read_through;
+        asks_once = loads.asks_once;
+        asks_at_most_once = loads.asks_at_most_once;
+        bytes_stay = loads.bytes_stay;
+        never_falls = loads.never_falls;
+      }
 
 -- a line that tells the want of a number of units is why there are none
 pub unit_needed_cause : (list : MenuList) (per : Option ℕ) (menu : ℕ) (why : Cause) → SaysWhyNoUnits (grouped list.groups list.counts) per (NeedUnit menu)

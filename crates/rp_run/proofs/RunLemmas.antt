@@ -142,14 +142,14 @@ line_rejected files asked line s text is (held, has, answers) rejected =
 
 pub done_line_apart : (files : Files) (asked : Option Line) (line other : Line) (s : Status) (text : List ℕ) → asked ≡ Some line → asked ≡ Some other
     → AnswersLine files line s text → MustBe IsRejectedOver files other → s ≡ status.Done → ⊥
-done_line_apart files asked line other s text is also (held, (bytes, are, denoted), answers) must done =
+done_line_apart files asked line other s text is also (held, (bytes, are, denoted, of_files), answers) must done =
     let same : line ≡ other = cc in
     let rejected = subst (λ (l : Line). MustBe IsRejectedOver files l) (sym same) must bytes are held denoted in
     done_apart line.command line.arguments held text (subst (λ t. Answers line.command line.arguments held t text) done answers) rejected
 
 pub rejected_line_apart : (files : Files) (asked : Option Line) (line other : Line) (s : Status) (text : List ℕ) → asked ≡ Some line → asked ≡ Some other
     → AnswersLine files line s text → MustBe IsAcceptedOver files other → s ≡ status.Rejected → ⊥
-rejected_line_apart files asked line other s text is also (held, (bytes, are, denoted), answers) must rejected =
+rejected_line_apart files asked line other s text is also (held, (bytes, are, denoted, of_files), answers) must rejected =
     let same : line ≡ other = cc in
     let accepted = subst (λ (l : Line). MustBe IsAcceptedOver files l) (sym same) must bytes are held denoted in
     accepted_apart held accepted (answer_rejected line.command line.arguments held text (subst (λ t. Answers line.command line.arguments held t text) rejected answers))

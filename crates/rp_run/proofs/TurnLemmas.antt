@@ -18,7 +18,7 @@ none_known takes Nothing arguments known text is refused = cc
 none_known takes _ arguments known text is (inl refused) = let no = rw is at refused in no
 none_known takes _ arguments known text is (inr (value, taken, more)) = let no = rw is at taken in no
 
-none_refused : (files : Files) (line : Line) → AreRefused files line 0 → ⊥
+pub none_refused : (files : Files) (line : Line) → AreRefused files line 0 → ⊥
 none_refused files line (text, refused) = none_known (takes_levels line) (file_set line) line.arguments (first_known files line 0) text refl refused
 
 -- where nothing is asked for

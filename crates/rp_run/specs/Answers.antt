@@ -28,6 +28,7 @@ use Rattle.rp_command_line.specs.declared.commands.Command.TheVariants.{Utility}
 use Rattle.rp_command_line.specs.declared.commands.Command.TheVariants.{Random, CheckRandom, Trial, Menus, Pump, Cost, Power}
 use Rattle.rp_run.specs.declared.contents.Contents.{Contents}
 use Rattle.rp_run.specs.declared.contents.Contents.TheVariants as contents
+use Rattle.rp_run.specs.ChosenInFiles.{AreOfChoicesIn}
 use Rattle.rp_run.specs.Contents.{Denotes}
 use Rattle.rp_answers.specs.declared.status.Status.{Status}
 use Rattle.rp_answers.specs.declared.status.Status.TheVariants as status
@@ -69,9 +70,19 @@ Answers CheckRandom arguments (contents.ChoicesAndCertificate patches types cert
     IsRandomCheck patches certificate s text
 Answers command arguments held s text = (s ≡ status.Done) × IsText command arguments held text
 
--- some bytes of a line's files denote these contents
+-- patches among the contents are those of the budgets and of the choices that these bytes denote, of which an item on
+-- the patches says what it says (`AreOfChoicesIn`)
+abbrev pub AreOfTheFiles : Arguments → (ℕ → List ℕ) → Contents → Type 0
+AreOfTheFiles arguments bytes (contents.Choices patches types) =
+    AreOfChoicesIn arguments (λ k. Some (bytes k)) patches
+AreOfTheFiles arguments bytes (contents.ChoicesAndCertificate patches types certificate) =
+    AreOfChoicesIn arguments (λ k. Some (bytes k)) patches
+AreOfTheFiles arguments bytes _ = Unit {0}
+
+-- some bytes of a line's files denote these contents, and patches among them are those of the choices in the files
 abbrev pub HasContents : Files → Line → Contents → Type 0
 HasContents files line held = (bytes : ℕ → List ℕ) × AreContents files line bytes × Denotes line bytes (Ok held)
+    × AreOfTheFiles line.arguments bytes held
 
 -- the text and the status answer a line, over some content of its files
 abbrev pub AnswersLine : Files → Line → Status → List ℕ → Type 0

@@ -1,6 +1,7 @@
 -- What a call of the program promises, by what it concerns. Each field is a clause of `run`; `run_surely` states those
 -- that speak of no failure, and what stays, over counts of faults that are 0.
 use Rattle.std.specs.Prelude.{◌≡◌, ◌⊎◌, ◌≤◌, ℕ, List, Option, Some, None}
+use Rattle.rp_outside.specs.Asked.{KeepsReads, Reads}
 use Rattle.rp_outside.specs.Faults.{EachStays, HasRisen, NoneFalls}
 use Rattle.rp_outside.specs.Known.{Stays, Grows, GrowsByPrefix}
 use Rattle.rp_command_line.specs.CommandLine.{Line}
@@ -9,6 +10,7 @@ use Rattle.rp_answers.specs.declared.status.Status.TheVariants.{Done, Rejected, 
 use Rattle.rp_run.specs.Answers.{AnswersDenoted, Files, IsAcceptedOver, IsRejectedOver, MayBe, MustBe}
 use Rattle.rp_run.specs.Endings.{IsEnd, IsFaultLine, IsSilent}
 use Rattle.rp_run.specs.Gains.{Gains}
+use Rattle.rp_run.specs.AskedInTurn.{AreAskedInTurn}
 use Rattle.rp_run.specs.Turns.{AreReadInTurn}
 
 -- the usage answers words that are no line, and no others
@@ -46,6 +48,11 @@ pub record TellsWhy (files : Files) (rose : List ℕ → Type 0) (asks : Line �
 pub record AsksInTurn (files : Files) (before after : ℕ) (denoted : Option Line) : Type 0 where
   pub in_turn : (line : Line) → denoted ≡ Some line → AreReadInTurn files before after line
   pub none_asked : denoted ≡ None → after ≡ before
+
+-- for which names the desk is asked, in which order, and each of them once, by the reads that it tells before and after
+pub record AsksByName (files : Files) (before after : Option Reads) (denoted : Option Line) : Type 0 where
+  pub by_name : (line : Line) → denoted ≡ Some line → AreAskedInTurn files before after line
+  pub no_name : denoted ≡ None → KeepsReads before after
 
 -- what stays: the bytes of every file are what they were, and no count of faults falls, of a file, of the output or of
 -- standard error, from those before to those after

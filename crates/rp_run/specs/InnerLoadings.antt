@@ -1,7 +1,8 @@
 -- What reading files of a desk gives, in the one form that all loaders have: what is held, or why nothing is, and what
--- the desk is asked for on the way. A desk is seen by what it says of its files' bytes, of their counts of faults and
--- of its count of calls, before and after (this program's own).
-use Rattle.std.specs.Prelude.{◌≤◌, ℕ, ◌+◌, List, Result, IfOk, IfErr}
+-- the desk is asked for on the way. A desk is seen by what it says of its files' bytes, of their counts of faults, of
+-- its count of calls and of the reads that it was asked for, before and after (this program's own).
+use Rattle.std.specs.Prelude.{◌≤◌, ℕ, ◌+◌, List, Option, Result, IfOk, IfErr}
+use Rattle.rp_outside.specs.Asked.{AsksAtMostOnce, AsksOnce, Reads}
 use Rattle.rp_outside.specs.Faults.{EachStays, NoneFalls}
 use Rattle.rp_outside.specs.Reads.{calls_through}
 use Rattle.rp_command_line.specs.CommandLine.{Line, file_set, takes_levels}
@@ -10,27 +11,32 @@ use Rattle.rp_run.specs.InnerCauses.{IsCause, IsLoaded}
 use Rattle.rp_run.specs.InnerContents.{AreOf}
 use Rattle.rp_run.specs.Endings.{Rose}
 use Rattle.rp_run.specs.Readings.{Reading}
+use Rattle.rp_run.specs.AskedInTurn.{AreAskedInTurn}
 use Rattle.rp_run.specs.Turns.{AreReadInTurn, AsksForFirst}
 use Rattle.rp_run.specs.declared.contents.Contents.{Contents}
 use Rattle.rp_run.specs.declared.files.Cause.{Cause}
 
 -- one file, of which at most so many bytes are taken, is read through at most once, and gives what it holds by the
 -- reading, or why it gives nothing
-pub record LoadsFile {D A : Type 0} (bytes : D → Files) (faults : D → List ℕ → ℕ) (calls : D → ℕ) (old new : D)
-    (limit : ℕ) (file : List ℕ) (reading : List ℕ → Reading A) (result : Result A Cause) : Type 0 where
+pub record LoadsFile {D A : Type 0} (bytes : D → Files) (faults : D → List ℕ → ℕ) (calls : D → ℕ)
+    (asked : D → Option Reads) (old new : D) (limit : ℕ) (file : List ℕ) (reading : List ℕ → Reading A)
+    (result : Result A Cause) : Type 0 where
   pub loaded : IsLoaded (bytes old) (Rose (faults old) (faults new)) file reading result
   pub read_through : calls new ≤ calls old + calls_through limit (bytes old file)
+  pub asks_once : IfOk result (λ _. AsksOnce (asked old) (asked new) file)
+  pub asks_at_most_once : AsksAtMostOnce (asked old) (asked new) file
   pub bytes_stay : EachStays (bytes old) (bytes new)
   pub never_falls : NoneFalls (faults old) (faults new)
 
 -- the files of a line are read in the order of the words, each whole before the next, and give such a value, or why
 -- there is none
-pub record LoadsLine {D A : Type 0} (bytes : D → Files) (faults : D → List ℕ → ℕ) (calls : D → ℕ) (old new : D)
-    (line : Line) (holds : A → Type 0) (result : Result A Cause) : Type 0 where
+pub record LoadsLine {D A : Type 0} (bytes : D → Files) (faults : D → List ℕ → ℕ) (calls : D → ℕ)
+    (asked : D → Option Reads) (old new : D) (line : Line) (holds : A → Type 0) (result : Result A Cause) : Type 0 where
   pub held : IfOk result holds
   pub caused : IfErr result (IsCause (bytes old) (Rose (faults old) (faults new))
       (AsksForFirst (bytes old) (calls old) (calls new)) line)
   pub in_turn : AreReadInTurn (bytes old) (calls old) (calls new) line
+  pub by_name : AreAskedInTurn (bytes old) (asked old) (asked new) line
   pub bytes_stay : EachStays (bytes old) (bytes new)
   pub never_falls : NoneFalls (faults old) (faults new)
 

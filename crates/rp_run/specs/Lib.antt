@@ -8,6 +8,7 @@ pub mod MenuContents
 pub mod Contents
 pub mod Answers
 pub mod Turns
+pub mod AskedInTurn
 pub mod Endings
 pub mod Gains
 pub mod InnerCauses

@@ -30,7 +30,7 @@ pub(crate) fn answer_line<'a, D: Desk>(
     line: &Line<'a>,
 ) -> Result<Answer, Cause<'a>>
     requires { IsSized (named_line line.now) }
-    ensures { LoadsLine D.bytes D.faults D.calls desk.old desk.new (named_line line.now)
+    ensures { LoadsLine D.bytes D.faults D.calls D.asked desk.old desk.new (named_line line.now)
         (λ answer. AnswersLine (D.bytes desk.old) (named_line line.now)
         answer.status answer.text.items) result }
 {

@@ -185,7 +185,7 @@ pub(crate) fn read_contents<'a, D: Desk>(
     line: &Line<'a>,
 ) -> Result<Contents, Cause<'a>>
     requires sized { IsSized (named_line line.now) }
-    ensures { LoadsLine D.bytes D.faults D.calls desk.old desk.new (named_line line.now)
+    ensures { LoadsLine D.bytes D.faults D.calls D.asked desk.old desk.new (named_line line.now)
         (AreContentsOf (D.bytes desk.old) (named_line line.now)) result }
 {
     match line.command.files() {
@@ -212,7 +212,7 @@ fn load_table_alone<'a, D: Desk>(
 ) -> Result<Contents, Cause<'a>>
     requires sized { IsSized (named_line line.now) }
     requires files { file_set (named_line line.now) ≡ files.Table }
-    ensures { LoadsLine D.bytes D.faults D.calls desk.old desk.new (named_line line.now)
+    ensures { LoadsLine D.bytes D.faults D.calls D.asked desk.old desk.new (named_line line.now)
         (AreContentsOf (D.bytes desk.old) (named_line line.now)) result }
 {
     let table = load_line_table(alloc, desk, line)?;
@@ -227,7 +227,7 @@ fn load_table_certificate<'a, D: Desk>(
 ) -> Result<Contents, Cause<'a>>
     requires sized { IsSized (named_line line.now) }
     requires files { file_set (named_line line.now) ≡ files.TableAndCertificate }
-    ensures { LoadsLine D.bytes D.faults D.calls desk.old desk.new (named_line line.now)
+    ensures { LoadsLine D.bytes D.faults D.calls D.asked desk.old desk.new (named_line line.now)
         (AreContentsOf (D.bytes desk.old) (named_line line.now)) result }
 {
     let table = load_line_table(alloc, desk, line)?;
@@ -243,7 +243,7 @@ fn load_table_prices_with_expenditure<'a, D: Desk>(
 ) -> Result<Contents, Cause<'a>>
     requires sized { IsSized (named_line line.now) }
     requires files { file_set (named_line line.now) ≡ files.TableAndPricesWithExpenditure }
-    ensures { LoadsLine D.bytes D.faults D.calls desk.old desk.new (named_line line.now)
+    ensures { LoadsLine D.bytes D.faults D.calls D.asked desk.old desk.new (named_line line.now)
         (AreContentsOf (D.bytes desk.old) (named_line line.now)) result }
 {
     let table = load_line_table(alloc, desk, line)?;
@@ -264,7 +264,7 @@ fn load_table_prices<'a, D: Desk>(
 ) -> Result<Contents, Cause<'a>>
     requires sized { IsSized (named_line line.now) }
     requires files { file_set (named_line line.now) ≡ files.TableAndPrices }
-    ensures { LoadsLine D.bytes D.faults D.calls desk.old desk.new (named_line line.now)
+    ensures { LoadsLine D.bytes D.faults D.calls D.asked desk.old desk.new (named_line line.now)
         (AreContentsOf (D.bytes desk.old) (named_line line.now)) result }
 {
     let table = load_line_table(alloc, desk, line)?;
@@ -280,7 +280,7 @@ fn load_table_bundles<'a, D: Desk>(
 ) -> Result<Contents, Cause<'a>>
     requires sized { IsSized (named_line line.now) }
     requires files { file_set (named_line line.now) ≡ files.TableAndBundles }
-    ensures { LoadsLine D.bytes D.faults D.calls desk.old desk.new (named_line line.now)
+    ensures { LoadsLine D.bytes D.faults D.calls D.asked desk.old desk.new (named_line line.now)
         (AreContentsOf (D.bytes desk.old) (named_line line.now)) result }
 {
     let table = load_line_table(alloc, desk, line)?;
@@ -296,7 +296,7 @@ fn load_patches<'a, D: Desk>(
 ) -> Result<Contents, Cause<'a>>
     requires sized { IsSized (named_line line.now) }
     requires files { file_set (named_line line.now) ≡ files.Choices }
-    ensures { LoadsLine D.bytes D.faults D.calls desk.old desk.new (named_line line.now)
+    ensures { LoadsLine D.bytes D.faults D.calls D.asked desk.old desk.new (named_line line.now)
         (AreContentsOf (D.bytes desk.old) (named_line line.now)) result }
 {
     let budgets = load_numbers(alloc, desk, line.arguments.file(0), &BudgetsFile)?;
@@ -313,7 +313,7 @@ fn load_patches_certificate<'a, D: Desk>(
 ) -> Result<Contents, Cause<'a>>
     requires sized { IsSized (named_line line.now) }
     requires files { file_set (named_line line.now) ≡ files.ChoicesAndCertificate }
-    ensures { LoadsLine D.bytes D.faults D.calls desk.old desk.new (named_line line.now)
+    ensures { LoadsLine D.bytes D.faults D.calls D.asked desk.old desk.new (named_line line.now)
         (AreContentsOf (D.bytes desk.old) (named_line line.now)) result }
 {
     let budgets = load_numbers(alloc, desk, line.arguments.file(0), &BudgetsFile)?;
@@ -331,7 +331,7 @@ fn load_menus_with_units<'a, D: Desk>(
 ) -> Result<Contents, Cause<'a>>
     requires sized { IsSized (named_line line.now) }
     requires files { file_set (named_line line.now) ≡ files.Menus }
-    ensures { LoadsLine D.bytes D.faults D.calls desk.old desk.new (named_line line.now)
+    ensures { LoadsLine D.bytes D.faults D.calls D.asked desk.old desk.new (named_line line.now)
         (AreContentsOf (D.bytes desk.old) (named_line line.now)) result }
 {
     let seen = load_numbers(alloc, desk, line.arguments.file(0), &MenusFile)?;
@@ -347,7 +347,7 @@ fn load_technology_asked<'a, D: Desk>(
 ) -> Result<Contents, Cause<'a>>
     requires sized { IsSized (named_line line.now) }
     requires files { file_set (named_line line.now) ≡ files.TechnologyAndAsked }
-    ensures { LoadsLine D.bytes D.faults D.calls desk.old desk.new (named_line line.now)
+    ensures { LoadsLine D.bytes D.faults D.calls D.asked desk.old desk.new (named_line line.now)
         (AreContentsOf (D.bytes desk.old) (named_line line.now)) result }
 {
     let tech = load_numbers(alloc, desk, line.arguments.file(0), &TechnologyFile)?;

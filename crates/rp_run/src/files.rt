@@ -2,6 +2,7 @@
 ghost use Rattle.std.specs.Prelude.{◌≡◌, ◌+◌, ◌≤◌};
 ghost use Rattle.std.specs.Prelude.{IfOk, IfErr, Ok, length};
 ghost use Rattle.rp_evidence.specs.Kinds.{IsCertificateOf};
+ghost use Rattle.rp_outside.specs.Asked.{AsksAtMostOnce, AsksOnce};
 ghost use Rattle.rp_outside.specs.Faults.{EachStays, NoneFalls};
 ghost use Rattle.rp_outside.specs.Known.{AreAll};
 ghost use Rattle.rp_outside.specs.Reads.{calls_through};
@@ -42,8 +43,8 @@ pub(crate) fn load_certificate<'a, D: Desk>(
     file: &'a str,
     kind: Kind,
 ) -> Result<Certificate, Cause<'a>>
-    ensures loads { LoadsFile D.bytes D.faults D.calls desk.old desk.new MOST_CERTIFICATE_BYTES
-        file.now (CertificateIn file.now kind) result }
+    ensures loads { LoadsFile D.bytes D.faults D.calls D.asked desk.old desk.new
+        MOST_CERTIFICATE_BYTES file.now (CertificateIn file.now kind) result }
     ensures kind { IfOk result (IsCertificateOf kind) }
 {
     match load(alloc, desk, file, MOST_CERTIFICATE_BYTES) {
@@ -70,6 +71,8 @@ pub(crate) fn load_bytes<'a, D: Desk>(
         file.now (NumbersIn file.now all_bytes)) }
     ensures read_through { D.calls desk.new ≤ D.calls desk.old
         + calls_through MOST_BYTES (D.bytes desk.old file.now) }
+    ensures asks_once { IfOk result (λ _. AsksOnce (D.asked desk.old) (D.asked desk.new) file.now) }
+    ensures asks_at_most_once { AsksAtMostOnce (D.asked desk.old) (D.asked desk.new) file.now }
     ensures bytes_stay { EachStays (D.bytes desk.old) (D.bytes desk.new) }
     ensures never_falls { NoneFalls (D.faults desk.old) (D.faults desk.new) }
 {

@@ -50,7 +50,7 @@ pub(crate) fn load_numbers<'a, D: Desk, N: NumberFile>(
     file: &'a str,
     kind: &N,
 ) -> Result<N::Value, Cause<'a>>
-    ensures loads { LoadsFile D.bytes D.faults D.calls desk.old desk.new MOST_BYTES
+    ensures loads { LoadsFile D.bytes D.faults D.calls D.asked desk.old desk.new MOST_BYTES
         file.now (HeldIn N.Fault.text file.now (N.denoted kind.now)) result }
     ensures fitting { IfOk result (N.fits kind.now) }
 {

@@ -8,8 +8,8 @@ ghost use Rattle.rp_command_line.specs.Words.{line_in};
 ghost use Rattle.rp_command_line.specs.Commands.{program};
 ghost use Rattle.rp_command_line.specs.Shapes.{HasShape, shape_of};
 ghost use Rattle.rp_run.specs.Answers.{IsAccepted, IsRefused};
-ghost use Rattle.rp_run.specs.Calls.{AnswersUsage, AsksInTurn, GivesCheckVerdict, IsWritten};
-ghost use Rattle.rp_run.specs.Calls.{LeavesTheRest, TellsWhy};
+ghost use Rattle.rp_run.specs.Calls.{AnswersUsage, AsksByName, AsksInTurn, GivesCheckVerdict};
+ghost use Rattle.rp_run.specs.Calls.{IsWritten, LeavesTheRest, TellsWhy};
 ghost use Rattle.rp_run.specs.FaultLines.{write_line};
 ghost use Rattle.rp_run.specs.Endings.{IsEnd, Rose, NoneRose};
 ghost use Rattle.rp_run.specs.Gains.{Gains};
@@ -57,6 +57,10 @@ pub fn run<D: Desk, O: Sink, E: Sink>(
     // How often the desk is asked for the files of the words, and in which order.
     ensures turns { AsksInTurn (D.bytes desk.old)
         (D.calls desk.old) (D.calls desk.new) (line_in words.now.items) }
+
+    // For which names, and each once.
+    ensures names { AsksByName (D.bytes desk.old)
+        (D.asked desk.old) (D.asked desk.new) (line_in words.now.items) }
 
     // When there is one.
     ensures complete { (line : Asked) → line_in words.now.items ≡ Some line

@@ -21,7 +21,7 @@ pub(crate) fn load_line_table<'a, D: Desk>(
     desk: &mut D,
     line: &Line<'a>,
 ) -> Result<Table, Cause<'a>>
-    ensures loads { LoadsFile D.bytes D.faults D.calls desk.old desk.new MOST_BYTES
+    ensures loads { LoadsFile D.bytes D.faults D.calls D.asked desk.old desk.new MOST_BYTES
         (file_at (named_line line.now) 0)
         (TakenTable (takes_levels (named_line line.now)) (file_at (named_line line.now) 0))
         result }
@@ -38,7 +38,7 @@ fn load_table<'a, D: Desk>(
     file: &'a str,
     takes_levels: bool,
 ) -> Result<Table, Cause<'a>>
-    ensures loads { LoadsFile D.bytes D.faults D.calls desk.old desk.new MOST_BYTES
+    ensures loads { LoadsFile D.bytes D.faults D.calls D.asked desk.old desk.new MOST_BYTES
         file.now (TakenTable takes_levels file.now) result }
     ensures levels { IfOk result (MayHaveLevels takes_levels) }
 {

@@ -13,4 +13,6 @@ mod fronts;
 #[cfg(test)]
 mod measures;
 #[cfg(test)]
+mod order;
+#[cfg(test)]
 mod sure;

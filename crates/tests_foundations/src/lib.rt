@@ -6,6 +6,8 @@ mod calls;
 #[cfg(test)]
 mod checks;
 #[cfg(test)]
+mod failing_files;
+#[cfg(test)]
 mod grids;
 #[cfg(test)]
 mod numbers;

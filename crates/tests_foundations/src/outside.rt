@@ -1,6 +1,8 @@
 //! Tests of desks and sinks in memory, whose failures are planned, and of those that never fail.
 use crate::calls::{TABLE, files_of, loads, pours, reads, writes};
-use rp_outside::{DeskFault, Failed, LoadFault, MemDesk, MemSink, SureDesk, SureSink, WriteFault};
+use rp_outside::{
+    DeskFault, Failed, ListingDesk, LoadFault, MemDesk, MemSink, SureDesk, SureSink, WriteFault,
+};
 use std::alloc::Global;
 use std::process::Abort;
 use std::test::Fail;
@@ -119,6 +121,41 @@ fn writes_one_call(rt: HostRuntime) -> Result<(), Fail> {
         assert!(rt; writes(&mut out, piece, want));
     }
     assert!(rt; has_written(&out, b"pair ", 2));
+    Ok(())
+}
+
+/// Whether the reads that a desk was asked for are these.
+fn was_asked(desk: &ListingDesk, want: &[(&str, u64)]) -> bool {
+    let asked = desk.asked();
+    if asked.len() != want.len() {
+        return false;
+    }
+    for k in 0..asked.len() {
+        let (name, at) = want[k];
+        if asked[k].name.as_str() != name || asked[k].at != at {
+            return false;
+        }
+    }
+    true
+}
+
+#[test]
+fn lists_what_it_is_asked_for(rt: HostRuntime) -> Result<(), Fail> {
+    let alloc = rt.alloc();
+    let files = files_of(alloc, &[("t.csv", TABLE), ("empty.csv", b"")])?;
+    let mut desk = ListingDesk::new(alloc, files, vec![in alloc; 5]?);
+    assert!(rt; loads(alloc, &mut desk, "t.csv", 32, Ok(TABLE)));
+    assert!(rt; loads(alloc, &mut desk, "empty.csv", 32, Ok(b"")));
+    assert!(rt; loads(alloc, &mut desk, "none.csv", 32, Err(LoadFault::Read)));
+    assert!(rt; loads(alloc, &mut desk, "t.csv", 32, Err(LoadFault::Read)));
+    let asked = [
+        ("t.csv", 0),
+        ("t.csv", 32),
+        ("empty.csv", 0),
+        ("none.csv", 0),
+        ("t.csv", 0),
+    ];
+    assert!(rt; was_asked(&desk, &asked));
     Ok(())
 }
 

@@ -129,6 +129,7 @@ pump_answer_same n c d part same answer = record {
   lowest_terms = answer.lowest_terms;
   least = totals_same n c d same part answer.least;
   accepted = holds_same n c d same part answer.accepted;
+  resting = answer.resting;
   garp = (λ positive. fails_same n c d same (answer.garp.0 positive), λ fails. answer.garp.1 (fails_same n d c (agree_back n c d same) fails));
 }
 
@@ -147,6 +148,7 @@ returns c =
         lowest_terms = given.lowest_terms;
         least = given.least;
         accepted = given.accepted;
+        resting = given.resting;
         garp = given.garp;
       })),
       c.in_ok-text.ensures,

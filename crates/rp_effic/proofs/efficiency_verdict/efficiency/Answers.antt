@@ -3,6 +3,8 @@ use Rattle.rp_evidence.specs.Preference.{IsStrictAt}
 use Rattle.rp_evidence.proofs.Counts.{counts_order_steps}
 use Rattle.rp_evidence.proofs.Index.{no_strict_cycle}
 use Rattle.rp_evidence.proofs.IndexThreshold.{index_is_least, walk_at_index}
+use Rattle.rp_evidence.specs.declared.efficiency.Efficiency.{Efficiency}
+use Rattle.rp_people.proofs.TablesOfCosts.{efficiency_of_each}
 use Rattle.rp_table.specs.Cost.{cost_at}
 use Rattle.rp_table.proofs.CostLimits.{cost_positive}
 use Rattle.rp_pref.proofs.VerdictLemmas.{counts_of}
@@ -46,3 +48,8 @@ returns-clause-threshold c =
     let costs = c.args.costs.now in
     let level = c.in_ok-level.level in
     (index_is_least costs.n (cost_at costs) c.n-n.ensures.valid.some (cost_positive costs c.n-n.ensures.valid) level.num level.den).0 c.in_ok-level.ensures.index
+
+pub returns-clause-says : goal.returns-clause-says
+returns-clause-says c =
+    let evidence : Efficiency = record { level = c.in_ok-level.level; below = c.in_ok-below.below; above = c.in_ok-above.above; at = c.in_ok-at.at } in
+    efficiency_of_each c.args.costs.now evidence (returns-clause-proves c)

@@ -2,6 +2,8 @@ use Rattle.std.proofs.Common.{arith, subst, List, All, ◌≡◌, ℕ, length}
 use Rattle.rp_num.specs.Fraction.{Fraction, FitsWidth, IsLowestTerms}
 use Rattle.rp_table.specs.Cost.{cost_at}
 use Rattle.rp_table.proofs.CostLimits.{cost_below, cost_positive}
+use Rattle.rp_evidence.specs.declared.homothetic.Homothetic.TheVariants.{Cycle, Values}
+use Rattle.rp_people.proofs.TablesOfCosts.{homothetic_of_each}
 use Rattle.rp_homo.proofs.Verdicts.{AllFit, AllLowest, BoundProducts-least, GivesCycle-settled, GivesValues-settled, GivesWithheld-settled, IsFallingCycle-falls}
 use Rattle.rp_homo.proofs.homothetic_verdict.homothetic.Goals as goal
 
@@ -46,3 +48,12 @@ returns-in-Wide-clause-verdict c =
     let costs = c.args.costs.now in
     let h = rw c.in-Wide.is at c.in_ok-values.ensures in
     GivesWithheld-settled costs.n (cost_at costs) (cost_positive costs c.n-n.ensures.valid) c.in-Wide.steps c.in-Wide.from c.in-Wide.to h
+
+pub returns-in-Values-clause-says : goal.returns-in-Values-clause-says
+returns-in-Values-clause-says c = homothetic_of_each c.args.costs.now (Values c.in-Values.values) (returns-in-Values-clause-proves c)
+
+pub returns-in-Cycle-clause-says : goal.returns-in-Cycle-clause-says
+returns-in-Cycle-clause-says c = homothetic_of_each c.args.costs.now (Cycle c.in-Cycle.start c.in-Cycle.steps) (returns-in-Cycle-clause-proves c)
+
+pub returns-in-Wide-clause-says : goal.returns-in-Wide-clause-says
+returns-in-Wide-clause-says c = λ table valid is. tt

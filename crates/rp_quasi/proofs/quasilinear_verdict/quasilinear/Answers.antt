@@ -2,6 +2,8 @@ use Rattle.std.proofs.Common.{arith, ◌≤◌}
 use Rattle.rp_table.specs.Cost.{cost_at}
 use Rattle.rp_table.proofs.CostLimits.{cost_below}
 use Rattle.rp_table.specs.declared.TheConstants.{RECORDS}
+use Rattle.rp_evidence.specs.declared.quasilinear.Quasi.TheVariants.{Cycle, Values}
+use Rattle.rp_people.proofs.TablesOfCosts.{quasilinear_of_each}
 use Rattle.rp_quasi.proofs.Verdicts.{IsLeastSum-least, HasLeastTotals-values, MeetsQuasilinearTest-least, GivesNegativeCycle-settled, IsNegativeCycle-falls, BoundSteps-least, IsLimitedSum-least, sums_stay_narrow}
 use Rattle.rp_quasi.proofs.quasilinear_verdict.quasilinear.Goals as goal
 
@@ -44,3 +46,9 @@ returns-in-Cycle-clause-proves c =
     let costs = c.args.costs.now in
     let h = rw c.in-Cycle.is at c.in_ok-values.ensures in
     IsNegativeCycle-falls costs.n (cost_at costs) _ c.in-Cycle.steps h.falls
+
+pub returns-in-Values-clause-says : goal.returns-in-Values-clause-says
+returns-in-Values-clause-says c = quasilinear_of_each c.args.costs.now (Values c.in-Values.values) (returns-in-Values-clause-proves c)
+
+pub returns-in-Cycle-clause-says : goal.returns-in-Cycle-clause-says
+returns-in-Cycle-clause-says c = quasilinear_of_each c.args.costs.now (Cycle c.in-Cycle.steps) (returns-in-Cycle-clause-proves c)

@@ -26,24 +26,24 @@ pub returns-in_err-budgets : goal.returns-in_err-budgets
 returns-in_err-budgets g c =
     let line = named_line c.args.line.now in
     let old = c.args.desk.now in
-    failed_on c.from_residual.result c.in_err-budgets.field-0.0 (LoadsLine g.D.Desk.bytes g.D.Desk.faults g.D.Desk.calls old _ line (AreContentsOf (g.D.Desk.bytes old) line)) c.from_residual.ensures
-    (three_first_none g.D.Desk.bytes g.D.Desk.faults g.D.Desk.calls line ChoicesAndCertificate MOST_BYTES MOST_BYTES MOST_CERTIFICATE_BYTES _ _ _ _ (three line c.requires.files c.requires.sized) old _ c.in_err-budgets.field-0.0
+    failed_on c.from_residual.result c.in_err-budgets.field-0.0 (LoadsLine g.D.Desk.bytes g.D.Desk.faults g.D.Desk.calls g.D.Desk.asked old _ line (AreContentsOf (g.D.Desk.bytes old) line)) c.from_residual.ensures
+    (three_first_none g.D.Desk.bytes g.D.Desk.faults g.D.Desk.calls g.D.Desk.asked line ChoicesAndCertificate MOST_BYTES MOST_BYTES MOST_CERTIFICATE_BYTES _ _ _ _ (three line c.requires.files c.requires.sized) old _ c.in_err-budgets.field-0.0
     (rw c.file.ensures at c.in_err-budgets.ensures.loads))
 
 pub returns-in_err-choices : goal.returns-in_err-choices
 returns-in_err-choices g c =
     let line = named_line c.args.line.now in
     let old = c.args.desk.now in
-    failed_on c.from_residual-in_err-choices.result c.in_err-choices.field-0.0 (LoadsLine g.D.Desk.bytes g.D.Desk.faults g.D.Desk.calls old _ line (AreContentsOf (g.D.Desk.bytes old) line)) c.from_residual-in_err-choices.ensures
-    (three_second_none g.D.Desk.bytes g.D.Desk.faults g.D.Desk.calls line ChoicesAndCertificate MOST_BYTES MOST_BYTES MOST_CERTIFICATE_BYTES _ _ _ _ (three line c.requires.files c.requires.sized) old _ _ c.in_ok-budgets.budgets c.in_err-choices.field-0.0 (rw c.file.ensures at c.in_ok-budgets.ensures.loads)
+    failed_on c.from_residual-in_err-choices.result c.in_err-choices.field-0.0 (LoadsLine g.D.Desk.bytes g.D.Desk.faults g.D.Desk.calls g.D.Desk.asked old _ line (AreContentsOf (g.D.Desk.bytes old) line)) c.from_residual-in_err-choices.ensures
+    (three_second_none g.D.Desk.bytes g.D.Desk.faults g.D.Desk.calls g.D.Desk.asked line ChoicesAndCertificate MOST_BYTES MOST_BYTES MOST_CERTIFICATE_BYTES _ _ _ _ (three line c.requires.files c.requires.sized) old _ _ c.in_ok-budgets.budgets c.in_err-choices.field-0.0 (rw c.file.ensures at c.in_ok-budgets.ensures.loads)
     (rw c.file-2.ensures at c.in_err-choices.ensures.loads))
 
 pub returns-in_err-certificate : goal.returns-in_err-certificate
 returns-in_err-certificate g c =
     let line = named_line c.args.line.now in
     let old = c.args.desk.now in
-    failed_on c.from_residual-in_err-certificate.result c.in_err-certificate.field-0.0 (LoadsLine g.D.Desk.bytes g.D.Desk.faults g.D.Desk.calls old _ line (AreContentsOf (g.D.Desk.bytes old) line)) c.from_residual-in_err-certificate.ensures
-    (three_third_none g.D.Desk.bytes g.D.Desk.faults g.D.Desk.calls line ChoicesAndCertificate MOST_BYTES MOST_BYTES MOST_CERTIFICATE_BYTES _ _ _ _ (three line c.requires.files c.requires.sized) old _ _ _ c.in_ok-budgets.budgets c.in_ok-choices.choices (rw c.file.ensures at c.in_ok-budgets.ensures.loads) (rw c.file-2.ensures at c.in_ok-choices.ensures.loads)
+    failed_on c.from_residual-in_err-certificate.result c.in_err-certificate.field-0.0 (LoadsLine g.D.Desk.bytes g.D.Desk.faults g.D.Desk.calls g.D.Desk.asked old _ line (AreContentsOf (g.D.Desk.bytes old) line)) c.from_residual-in_err-certificate.ensures
+    (three_third_none g.D.Desk.bytes g.D.Desk.faults g.D.Desk.calls g.D.Desk.asked line ChoicesAndCertificate MOST_BYTES MOST_BYTES MOST_CERTIFICATE_BYTES _ _ _ _ (three line c.requires.files c.requires.sized) old _ _ _ c.in_ok-budgets.budgets c.in_ok-choices.choices (rw c.file.ensures at c.in_ok-budgets.ensures.loads) (rw c.file-2.ensures at c.in_ok-choices.ensures.loads)
     c.in_err-certificate.field-0.0 (rw c.file-3.ensures at c.in_err-certificate.ensures.loads))
 
 pub returns-in_err-patches : goal.returns-in_err-patches
@@ -51,13 +51,13 @@ returns-in_err-patches g c =
     let line = named_line c.args.line.now in
     let old = c.args.desk.now in
     let why = c.in_err-patches.field-0.0 in
-    failed_on c.from_residual-in_err-patches.result why (LoadsLine g.D.Desk.bytes g.D.Desk.faults g.D.Desk.calls old _ line (AreContentsOf (g.D.Desk.bytes old) line)) c.from_residual-in_err-patches.ensures
-    (three_last_none g.D.Desk.bytes g.D.Desk.faults g.D.Desk.calls line ChoicesAndCertificate MOST_BYTES MOST_BYTES MOST_CERTIFICATE_BYTES _ _ _ _ (three line c.requires.files c.requires.sized) old _ _ _ c.in_ok-budgets.budgets c.in_ok-choices.choices (rw c.file.ensures at c.in_ok-budgets.ensures.loads) (rw c.file-2.ensures at c.in_ok-choices.ensures.loads) c.in_ok-certificate.certificate (rw c.file-3.ensures at c.in_ok-certificate.ensures.loads) why
+    failed_on c.from_residual-in_err-patches.result why (LoadsLine g.D.Desk.bytes g.D.Desk.faults g.D.Desk.calls g.D.Desk.asked old _ line (AreContentsOf (g.D.Desk.bytes old) line)) c.from_residual-in_err-patches.ensures
+    (three_last_none g.D.Desk.bytes g.D.Desk.faults g.D.Desk.calls g.D.Desk.asked line ChoicesAndCertificate MOST_BYTES MOST_BYTES MOST_CERTIFICATE_BYTES _ _ _ _ (three line c.requires.files c.requires.sized) old _ _ _ c.in_ok-budgets.budgets c.in_ok-choices.choices (rw c.file.ensures at c.in_ok-budgets.ensures.loads) (rw c.file-2.ensures at c.in_ok-choices.ensures.loads) c.in_ok-certificate.certificate (rw c.file-3.ensures at c.in_ok-certificate.ensures.loads) why
     (then_caused (TypedPatchesOf c.in_ok-budgets.budgets c.in_ok-choices.choices line.arguments.per) (λ made. contents.ChoicesAndCertificate made.0 made.1 c.in_ok-certificate.certificate) why c.in_err-patches.ensures.caused))
 
 pub returns : goal.returns
 returns g c =
     let line = named_line c.args.line.now in
-    three_held g.D.Desk.bytes g.D.Desk.faults g.D.Desk.calls line ChoicesAndCertificate MOST_BYTES MOST_BYTES MOST_CERTIFICATE_BYTES _ _ _ _ (three line c.requires.files c.requires.sized) c.args.desk.now _ _ _ c.in_ok-budgets.budgets c.in_ok-choices.choices (rw c.file.ensures at c.in_ok-budgets.ensures.loads) (rw c.file-2.ensures at c.in_ok-choices.ensures.loads) c.in_ok-certificate.certificate (rw c.file-3.ensures at c.in_ok-certificate.ensures.loads)
+    three_held g.D.Desk.bytes g.D.Desk.faults g.D.Desk.calls g.D.Desk.asked line ChoicesAndCertificate MOST_BYTES MOST_BYTES MOST_CERTIFICATE_BYTES _ _ _ _ (three line c.requires.files c.requires.sized) c.args.desk.now _ _ _ c.in_ok-budgets.budgets c.in_ok-choices.choices (rw c.file.ensures at c.in_ok-budgets.ensures.loads) (rw c.file-2.ensures at c.in_ok-choices.ensures.loads) c.in_ok-certificate.certificate (rw c.file-3.ensures at c.in_ok-certificate.ensures.loads)
     (contents.ChoicesAndCertificate c.in_ok-patches.patches c.in_ok-patches.types c.in_ok-certificate.certificate)
     ((c.in_ok-patches.patches, c.in_ok-patches.types), c.in_ok-patches.ensures.made, refl) c.in_ok-certificate.ensures.kind

@@ -19,12 +19,12 @@ pub returns-in_err-table : goal.returns-in_err-table
 returns-in_err-table g c =
     let line = named_line c.args.line.now in
     let old = c.args.desk.now in
-    failed_on c.from_residual.result c.in_err-table.field-0.0 (LoadsLine g.D.Desk.bytes g.D.Desk.faults g.D.Desk.calls old _ line (AreContentsOf (g.D.Desk.bytes old) line)) c.from_residual.ensures
-    (one_none g.D.Desk.bytes g.D.Desk.faults g.D.Desk.calls line Table MOST_BYTES _ contents.Table (one line c.requires.files c.requires.sized) old _ c.in_err-table.field-0.0
+    failed_on c.from_residual.result c.in_err-table.field-0.0 (LoadsLine g.D.Desk.bytes g.D.Desk.faults g.D.Desk.calls g.D.Desk.asked old _ line (AreContentsOf (g.D.Desk.bytes old) line)) c.from_residual.ensures
+    (one_none g.D.Desk.bytes g.D.Desk.faults g.D.Desk.calls g.D.Desk.asked line Table MOST_BYTES _ contents.Table (one line c.requires.files c.requires.sized) old _ c.in_err-table.field-0.0
     c.in_err-table.ensures.loads)
 
 pub returns : goal.returns
 returns g c =
     let line = named_line c.args.line.now in
-    one_held g.D.Desk.bytes g.D.Desk.faults g.D.Desk.calls line Table MOST_BYTES _ contents.Table (one line c.requires.files c.requires.sized) c.args.desk.now _ c.in_ok-table.table
+    one_held g.D.Desk.bytes g.D.Desk.faults g.D.Desk.calls g.D.Desk.asked line Table MOST_BYTES _ contents.Table (one line c.requires.files c.requires.sized) c.args.desk.now _ c.in_ok-table.table
     (c.in_ok-table.ensures.levels) c.in_ok-table.ensures.loads

@@ -21,21 +21,21 @@ pub returns-in_err-table : goal.returns-in_err-table
 returns-in_err-table g c =
     let line = named_line c.args.line.now in
     let old = c.args.desk.now in
-    failed_on c.from_residual.result c.in_err-table.field-0.0 (LoadsLine g.D.Desk.bytes g.D.Desk.faults g.D.Desk.calls old _ line (AreContentsOf (g.D.Desk.bytes old) line)) c.from_residual.ensures
-    (two_first_none g.D.Desk.bytes g.D.Desk.faults g.D.Desk.calls line TableAndBundles MOST_BYTES MOST_BYTES _ _ _ (two line c.requires.files c.requires.sized) old _ c.in_err-table.field-0.0
+    failed_on c.from_residual.result c.in_err-table.field-0.0 (LoadsLine g.D.Desk.bytes g.D.Desk.faults g.D.Desk.calls g.D.Desk.asked old _ line (AreContentsOf (g.D.Desk.bytes old) line)) c.from_residual.ensures
+    (two_first_none g.D.Desk.bytes g.D.Desk.faults g.D.Desk.calls g.D.Desk.asked line TableAndBundles MOST_BYTES MOST_BYTES _ _ _ (two line c.requires.files c.requires.sized) old _ c.in_err-table.field-0.0
     c.in_err-table.ensures.loads)
 
 pub returns-in_err-bundles : goal.returns-in_err-bundles
 returns-in_err-bundles g c =
     let line = named_line c.args.line.now in
     let old = c.args.desk.now in
-    failed_on c.from_residual-in_err-bundles.result c.in_err-bundles.field-0.0 (LoadsLine g.D.Desk.bytes g.D.Desk.faults g.D.Desk.calls old _ line (AreContentsOf (g.D.Desk.bytes old) line)) c.from_residual-in_err-bundles.ensures
-    (two_second_none g.D.Desk.bytes g.D.Desk.faults g.D.Desk.calls line TableAndBundles MOST_BYTES MOST_BYTES _ _ _ (two line c.requires.files c.requires.sized) old _ _ c.in_ok-table.table
+    failed_on c.from_residual-in_err-bundles.result c.in_err-bundles.field-0.0 (LoadsLine g.D.Desk.bytes g.D.Desk.faults g.D.Desk.calls g.D.Desk.asked old _ line (AreContentsOf (g.D.Desk.bytes old) line)) c.from_residual-in_err-bundles.ensures
+    (two_second_none g.D.Desk.bytes g.D.Desk.faults g.D.Desk.calls g.D.Desk.asked line TableAndBundles MOST_BYTES MOST_BYTES _ _ _ (two line c.requires.files c.requires.sized) old _ _ c.in_ok-table.table
     c.in_ok-table.ensures.loads c.in_err-bundles.field-0.0 (rw c.file.ensures at c.in_err-bundles.ensures.loads))
 
 pub returns : goal.returns
 returns g c =
     let line = named_line c.args.line.now in
-    two_held g.D.Desk.bytes g.D.Desk.faults g.D.Desk.calls line TableAndBundles MOST_BYTES MOST_BYTES _ _ _ (two line c.requires.files c.requires.sized) c.args.desk.now _ _ c.in_ok-table.table
+    two_held g.D.Desk.bytes g.D.Desk.faults g.D.Desk.calls g.D.Desk.asked line TableAndBundles MOST_BYTES MOST_BYTES _ _ _ (two line c.requires.files c.requires.sized) c.args.desk.now _ _ c.in_ok-table.table
     c.in_ok-table.ensures.loads c.in_ok-bundles.bundles (rw c.file.ensures at c.in_ok-bundles.ensures.loads)
     (contents.TableAndBundles c.in_ok-table.table c.in_ok-bundles.bundles) refl (c.in_ok-table.ensures.levels, c.in_ok-bundles.ensures.fitting)

@@ -21,21 +21,21 @@ pub returns-in_err-table : goal.returns-in_err-table
 returns-in_err-table g c =
     let line = named_line c.args.line.now in
     let old = c.args.desk.now in
-    failed_on c.from_residual.result c.in_err-table.field-0.0 (LoadsLine g.D.Desk.bytes g.D.Desk.faults g.D.Desk.calls old _ line (AreContentsOf (g.D.Desk.bytes old) line)) c.from_residual.ensures
-    (two_first_none g.D.Desk.bytes g.D.Desk.faults g.D.Desk.calls line TableAndCertificate MOST_BYTES MOST_CERTIFICATE_BYTES _ _ _ (two line c.requires.files c.requires.sized) old _ c.in_err-table.field-0.0
+    failed_on c.from_residual.result c.in_err-table.field-0.0 (LoadsLine g.D.Desk.bytes g.D.Desk.faults g.D.Desk.calls g.D.Desk.asked old _ line (AreContentsOf (g.D.Desk.bytes old) line)) c.from_residual.ensures
+    (two_first_none g.D.Desk.bytes g.D.Desk.faults g.D.Desk.calls g.D.Desk.asked line TableAndCertificate MOST_BYTES MOST_CERTIFICATE_BYTES _ _ _ (two line c.requires.files c.requires.sized) old _ c.in_err-table.field-0.0
     c.in_err-table.ensures.loads)
 
 pub returns-in_err-certificate : goal.returns-in_err-certificate
 returns-in_err-certificate g c =
     let line = named_line c.args.line.now in
     let old = c.args.desk.now in
-    failed_on c.from_residual-in_err-certificate.result c.in_err-certificate.field-0.0 (LoadsLine g.D.Desk.bytes g.D.Desk.faults g.D.Desk.calls old _ line (AreContentsOf (g.D.Desk.bytes old) line)) c.from_residual-in_err-certificate.ensures
-    (two_second_none g.D.Desk.bytes g.D.Desk.faults g.D.Desk.calls line TableAndCertificate MOST_BYTES MOST_CERTIFICATE_BYTES _ _ _ (two line c.requires.files c.requires.sized) old _ _ c.in_ok-table.table
+    failed_on c.from_residual-in_err-certificate.result c.in_err-certificate.field-0.0 (LoadsLine g.D.Desk.bytes g.D.Desk.faults g.D.Desk.calls g.D.Desk.asked old _ line (AreContentsOf (g.D.Desk.bytes old) line)) c.from_residual-in_err-certificate.ensures
+    (two_second_none g.D.Desk.bytes g.D.Desk.faults g.D.Desk.calls g.D.Desk.asked line TableAndCertificate MOST_BYTES MOST_CERTIFICATE_BYTES _ _ _ (two line c.requires.files c.requires.sized) old _ _ c.in_ok-table.table
     c.in_ok-table.ensures.loads c.in_err-certificate.field-0.0 (rw c.file.ensures at c.in_err-certificate.ensures.loads))
 
 pub returns : goal.returns
 returns g c =
     let line = named_line c.args.line.now in
-    two_held g.D.Desk.bytes g.D.Desk.faults g.D.Desk.calls line TableAndCertificate MOST_BYTES MOST_CERTIFICATE_BYTES _ _ _ (two line c.requires.files c.requires.sized) c.args.desk.now _ _ c.in_ok-table.table
+    two_held g.D.Desk.bytes g.D.Desk.faults g.D.Desk.calls g.D.Desk.asked line TableAndCertificate MOST_BYTES MOST_CERTIFICATE_BYTES _ _ _ (two line c.requires.files c.requires.sized) c.args.desk.now _ _ c.in_ok-table.table
     c.in_ok-table.ensures.loads c.in_ok-certificate.certificate (rw c.file.ensures at c.in_ok-certificate.ensures.loads)
     (contents.TableAndCertificate c.in_ok-table.table c.in_ok-certificate.certificate) refl (c.in_ok-table.ensures.levels, c.in_ok-certificate.ensures.kind)

@@ -21,21 +21,21 @@ pub returns-in_err-tech : goal.returns-in_err-tech
 returns-in_err-tech g c =
     let line = named_line c.args.line.now in
     let old = c.args.desk.now in
-    failed_on c.from_residual.result c.in_err-tech.field-0.0 (LoadsLine g.D.Desk.bytes g.D.Desk.faults g.D.Desk.calls old _ line (AreContentsOf (g.D.Desk.bytes old) line)) c.from_residual.ensures
-    (two_first_none g.D.Desk.bytes g.D.Desk.faults g.D.Desk.calls line TechnologyAndAsked MOST_BYTES MOST_BYTES _ _ _ (two line c.requires.files c.requires.sized) old _ c.in_err-tech.field-0.0
+    failed_on c.from_residual.result c.in_err-tech.field-0.0 (LoadsLine g.D.Desk.bytes g.D.Desk.faults g.D.Desk.calls g.D.Desk.asked old _ line (AreContentsOf (g.D.Desk.bytes old) line)) c.from_residual.ensures
+    (two_first_none g.D.Desk.bytes g.D.Desk.faults g.D.Desk.calls g.D.Desk.asked line TechnologyAndAsked MOST_BYTES MOST_BYTES _ _ _ (two line c.requires.files c.requires.sized) old _ c.in_err-tech.field-0.0
     (rw c.file.ensures at c.in_err-tech.ensures.loads))
 
 pub returns-in_err-asked : goal.returns-in_err-asked
 returns-in_err-asked g c =
     let line = named_line c.args.line.now in
     let old = c.args.desk.now in
-    failed_on c.from_residual-in_err-asked.result c.in_err-asked.field-0.0 (LoadsLine g.D.Desk.bytes g.D.Desk.faults g.D.Desk.calls old _ line (AreContentsOf (g.D.Desk.bytes old) line)) c.from_residual-in_err-asked.ensures
-    (two_second_none g.D.Desk.bytes g.D.Desk.faults g.D.Desk.calls line TechnologyAndAsked MOST_BYTES MOST_BYTES _ _ _ (two line c.requires.files c.requires.sized) old _ _ c.in_ok-tech.tech
+    failed_on c.from_residual-in_err-asked.result c.in_err-asked.field-0.0 (LoadsLine g.D.Desk.bytes g.D.Desk.faults g.D.Desk.calls g.D.Desk.asked old _ line (AreContentsOf (g.D.Desk.bytes old) line)) c.from_residual-in_err-asked.ensures
+    (two_second_none g.D.Desk.bytes g.D.Desk.faults g.D.Desk.calls g.D.Desk.asked line TechnologyAndAsked MOST_BYTES MOST_BYTES _ _ _ (two line c.requires.files c.requires.sized) old _ _ c.in_ok-tech.tech
     (rw c.file.ensures at c.in_ok-tech.ensures.loads) c.in_err-asked.field-0.0 (rw c.file-2.ensures at c.in_err-asked.ensures.loads))
 
 pub returns : goal.returns
 returns g c =
     let line = named_line c.args.line.now in
-    two_held g.D.Desk.bytes g.D.Desk.faults g.D.Desk.calls line TechnologyAndAsked MOST_BYTES MOST_BYTES _ _ _ (two line c.requires.files c.requires.sized) c.args.desk.now _ _ c.in_ok-tech.tech
+    two_held g.D.Desk.bytes g.D.Desk.faults g.D.Desk.calls g.D.Desk.asked line TechnologyAndAsked MOST_BYTES MOST_BYTES _ _ _ (two line c.requires.files c.requires.sized) c.args.desk.now _ _ c.in_ok-tech.tech
     (rw c.file.ensures at c.in_ok-tech.ensures.loads) c.in_ok-asked.asked (rw c.file-2.ensures at c.in_ok-asked.ensures.loads)
     (contents.TechnologyAndAsked c.in_ok-tech.tech c.in_ok-asked.asked) refl c.in_ok-asked.ensures.fitting

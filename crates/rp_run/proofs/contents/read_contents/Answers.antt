@@ -5,6 +5,7 @@ use Rattle.rp_command_line.specs.declared.commands.FileSet.TheVariants.{Nothing}
 use Rattle.rp_run.specs.Contents.{ContentsIn}
 use Rattle.rp_run.specs.InnerContents.{AreOf}
 use Rattle.rp_run.specs.declared.contents.Contents.TheVariants as contents
+use Rattle.rp_run.proofs.AskedLemmas.{unasked}
 use Rattle.rp_run.proofs.FileLemmas.{no_files}
 use Rattle.rp_run.proofs.LineLemmas.{none_named}
 use Rattle.rp_run.proofs.TurnLemmas.{unread}
@@ -23,6 +24,7 @@ returns-in-Nothing g c =
       );
       caused = tt;
       in_turn = unread files (g.D.Desk.calls c.args.desk.now) line;
+      by_name = unasked files (g.D.Desk.asked c.args.desk.now) line;
       bytes_stay = λ name. refl;
       never_falls = λ name. omega arith;
     }

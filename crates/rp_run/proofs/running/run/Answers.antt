@@ -3,7 +3,9 @@ use Rattle.rp_command_line.specs.Words.{line_in}
 use Rattle.rp_command_line.specs.Named.{named_line}
 use Rattle.rp_run.specs.Endings.{IsEnd, IsFaultLine, Rose}
 use Rattle.rp_run.specs.FaultLines.{write_line}
+use Rattle.rp_run.specs.AskedInTurn.{AreAskedInTurn}
 use Rattle.rp_run.specs.Turns.{AreReadInTurn, AsksForFirst}
+use Rattle.rp_run.proofs.AskedLemmas.{unasked}
 use Rattle.rp_run.proofs.TurnLemmas.{unread}
 use Rattle.rp_command_line.proofs.MatchesNameALine.{refused_where_no_line}
 use Rattle.rp_run.proofs.RunLemmas.{answer_written, cause_of_accepted, cause_of_calm, done_line_apart, line_ends, line_rejected, not_both, rejected_line_apart}
@@ -124,6 +126,30 @@ returns-clause-turns g c =
       in_turn = λ line is. (let same : named_line c.in-Some.line ≡ line = cc in
           subst (λ l. AreReadInTurn (g.D.Desk.bytes c.args.desk.now) (g.D.Desk.calls c.args.desk.now) (g.D.Desk.calls c.answer_line.new.desk) l) same c.in-Err.ensures.in_turn);
       none_asked = λ none. cc;
+    }
+
+pub returns-in_default-clause-names : goal.returns-in_default-clause-names
+returns-in_default-clause-names g c = record { by_name = λ line is. unasked (g.D.Desk.bytes c.args.desk.now) (g.D.Desk.asked c.args.desk.now) line; no_name = λ none reads is. is }
+
+pub returns-in_default-asked-clause-names : goal.returns-in_default-asked-clause-names
+returns-in_default-asked-clause-names g c = record { by_name = λ line is. unasked (g.D.Desk.bytes c.args.desk.now) (g.D.Desk.asked c.args.desk.now) line; no_name = λ none reads is. is }
+
+pub returns-in-Ok-answer_line-clause-names : goal.returns-in-Ok-answer_line-clause-names
+returns-in-Ok-answer_line-clause-names g c =
+    let asked : line_in c.args.words.now.items ≡ Some (named_line c.in-Some.line) = rw (c.in-Some.is, c.as_slice.ensures.value) at (sym c.in-Ok.ensures.exact) in
+    record {
+      by_name = λ line is. (let same : named_line c.in-Some.line ≡ line = cc in
+          subst (λ l. AreAskedInTurn (g.D.Desk.bytes c.args.desk.now) (g.D.Desk.asked c.args.desk.now) (g.D.Desk.asked c.answer_line.new.desk) l) same c.in-Ok-answer_line.ensures.by_name);
+      no_name = λ none reads is. cc;
+    }
+
+pub returns-clause-names : goal.returns-clause-names
+returns-clause-names g c =
+    let asked : line_in c.args.words.now.items ≡ Some (named_line c.in-Some.line) = rw (c.in-Some.is, c.as_slice.ensures.value) at (sym c.in-Ok.ensures.exact) in
+    record {
+      by_name = λ line is. (let same : named_line c.in-Some.line ≡ line = cc in
+          subst (λ l. AreAskedInTurn (g.D.Desk.bytes c.args.desk.now) (g.D.Desk.asked c.args.desk.now) (g.D.Desk.asked c.answer_line.new.desk) l) same c.in-Err.ensures.by_name);
+      no_name = λ none reads is. cc;
     }
 
 pub finish-requires : goal.finish-requires

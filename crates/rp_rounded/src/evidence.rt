@@ -1,0 +1,105 @@
+ghost use Rattle.std.specs.Prelude.{◌≡◌, IfOk, IfSome, vec_len};
+ghost use Rattle.rp_clauses.specs.HomotheticFailure.{HomotheticFails};
+ghost use Rattle.rp_evidence.specs.Homothetic.{ProvesHomothetic, withheld_homothetic};
+ghost use Rattle.rp_table.specs.Cost.{cost_of};
+ghost use Rattle.rp_table.specs.Tables.{records_of};
+
+use crate::last_improvements::{closed_walk, inverse_of_half};
+use crate::rounds::{Best, End, run_rounds};
+use rp_clauses::homothetic::check_homothetic;
+use rp_clauses::input::Input;
+use rp_evidence::Homothetic;
+use rp_num::{Frac, NoMemory, Seq};
+use std::alloc::Global;
+
+/// The evidence where the checker finds nothing wrong with it.
+fn if_it_passes(input: &Input<'_>, found: Homothetic) -> Option<Homothetic>
+    requires { withheld_homothetic found ≡ 0 }
+    ensures passes { IfSome result (λ h. HomotheticFails (records_of input.now.table.now)
+        (cost_of input.now.table.now) h (Ok tt)) }
+    ensures given { IfSome result (λ h. withheld_homothetic h ≡ 0) }
+{
+    match check_homothetic(input, &found) {
+        Ok(()) => Some(found),
+        Err(_) => None,
+    }
+}
+
+/// The products, by observation.
+fn products(alloc: Global, best: &[Best]) -> Result<Seq<Frac>, NoMemory> {
+    let mut products = Vec::with_capacity(alloc, best.len())?;
+    for found in best {
+        products.push(found.product)?;
+    }
+    Ok(Seq::from_vec(products))
+}
+
+/// A closed walk of the last improvements as evidence that the test fails: from 1, or where that is not taken, as
+/// where a product passes the width, from the inverse of the product of its first half.
+fn falling_cycle(
+    alloc: Global,
+    input: &Input<'_>,
+    best: &[Best],
+    round: u32,
+) -> Result<Option<Homothetic>, NoMemory>
+    ensures passes { IfOk result (λ o. IfSome o (λ h. HomotheticFails
+        (records_of input.now.table.now) (cost_of input.now.table.now) h (Ok tt))) }
+    ensures given { IfOk result (λ o. IfSome o (λ h. withheld_homothetic h ≡ 0)) }
+{
+    let walk = closed_walk(alloc, best, round)?;
+    let from_one = Homothetic::Cycle {
+        start: Frac::new(1, 1),
+        steps: Seq::from_vec(Vec::from_slice(alloc, walk.as_slice())?),
+    };
+    match if_it_passes(input, from_one) {
+        Some(cycle) => Ok(Some(cycle)),
+        None => match inverse_of_half(input, walk.as_slice()) {
+            Some(start) => {
+                let steps = Seq::from_vec(walk);
+                Ok(if_it_passes(input, Homothetic::Cycle { start, steps }))
+            }
+            None => Ok(None),
+        },
+    }
+}
+
+/// Evidence for the homothetic test by least products over walks, each rounded down to 60 binary digits where it gets
+/// longer (rounds after Bellman 1958 and Ford 1956; the test: Varian 1983). Rounding only lowers what a step allows, so
+/// where a round makes nothing less, each product is at most every exact one that leads to it. Where twice as many
+/// rounds as there are observations, and two, bring no rest, a closed walk of the last improvements is tried. None where
+/// a denominator would reach 2^120, or where the checker does not take what was found; how often that is, no clause
+/// says. What is never given is a verdict that is withheld.
+pub fn rounded_homothetic(alloc: Global, input: &Input<'_>) -> Result<Option<Homothetic>, NoMemory>
+    ensures passes { IfOk result (λ o. IfSome o (λ h. HomotheticFails
+        (records_of input.now.table.now) (cost_of input.now.table.now) h (Ok tt))) }
+    ensures given { IfOk result (λ o. IfSome o (λ h. withheld_homothetic h ≡ 0)) }
+    ensures proves { IfOk result (λ o. IfSome o
+        (ProvesHomothetic (records_of input.now.table.now) (cost_of input.now.table.now))) }
+{
+    let mut best = at_one(alloc, input.n())?;
+    let mut next = at_one(alloc, input.n())?;
+    let rounds = 2 * input.n() + 2;
+    match run_rounds(input, rounds, best.as_mut_slice(), next.as_mut_slice()) {
+        End::Rest => {
+            let values = products(alloc, next.as_slice())?;
+            Ok(if_it_passes(input, Homothetic::Values(values)))
+        }
+        End::Restless => falling_cycle(alloc, input, next.as_slice(), rounds),
+        End::TooLong => Ok(None),
+    }
+}
+
+/// The walks of no step: the product 1 at each observation.
+fn at_one(alloc: Global, n: u32) -> Result<Vec<Best>, NoMemory>
+    ensures { IfOk result (λ best. vec_len best ≡ n) }
+{
+    let mut best = Vec::with_capacity(alloc, n as usize)?;
+    for s in 0..n {
+        best.push(Best {
+            product: Frac::new(1, 1),
+            from: s,
+            round: 0,
+        })?;
+    }
+    Ok(best)
+}

@@ -1,0 +1,78 @@
+use crate::rounds::Best;
+use rp_clauses::input::Input;
+use rp_num::{Frac, NoMemory};
+use std::alloc::Global;
+
+/// The observation before `s` on the walk that made its product less last; `s` itself where there is none.
+fn before(best: &[Best], s: u32) -> u32 {
+    match best.get(s as usize) {
+        Some(found) => found.from,
+        None => s,
+    }
+}
+
+/// An observation that so many steps back from `s` lead to as there are observations: it lies on a closed walk of last
+/// improvements.
+fn far_before(best: &[Best], s: u32) -> u32 {
+    let mut at = s;
+    for _ in 0..best.len() {
+        at = before(best, at);
+    }
+    at
+}
+
+/// The walk of last improvements from `at` back to it, in the order in which it goes.
+fn walk_back(alloc: Global, best: &[Best], at: u32) -> Result<Vec<u32>, NoMemory> {
+    let mut walk = Vec::new(alloc);
+    walk.push(at)?;
+    let mut s = before(best, at);
+    for _ in 0..best.len() {
+        if s == at {
+            break;
+        }
+        walk.push(s)?;
+        s = before(best, s);
+    }
+    walk.push(at)?;
+    walk.reverse();
+    Ok(walk)
+}
+
+/// The observation from which a round first made another less, or 0.
+fn first_from(best: &[Best], round: u32) -> u32 {
+    match best.iter().find(|b| b.round == round) {
+        Some(found) => found.from,
+        None => 0,
+    }
+}
+
+/// A closed walk of the last improvements, from one that the round made.
+pub fn closed_walk(alloc: Global, best: &[Best], round: u32) -> Result<Vec<u32>, NoMemory> {
+    walk_back(alloc, best, far_before(best, first_from(best, round)))
+}
+
+/// The product over the first half of a walk's steps, or none where it passes the width or the walk leaves the table.
+fn half_product(input: &Input<'_>, walk: &[u32]) -> Option<Frac> {
+    let mut product = Frac::new(1, 1);
+    for k in 0..walk.len() / 2 {
+        let t = walk[k];
+        let s = walk[k + 1];
+        if t >= input.n() || s >= input.n() {
+            return None;
+        }
+        match product.times(input.cost(t, s), input.cost(t, t)) {
+            Ok(taken) => product = taken,
+            Err(_) => return None,
+        }
+    }
+    Some(product)
+}
+
+/// The inverse of the product of the walk's first half: from it the products along the walk stay about 1.
+pub fn inverse_of_half(input: &Input<'_>, walk: &[u32]) -> Option<Frac> {
+    let half = half_product(input, walk)?;
+    if half.num() == 0 {
+        return None;
+    }
+    Some(Frac::new(half.den(), half.num()))
+}

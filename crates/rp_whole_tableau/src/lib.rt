@@ -1,0 +1,14 @@
+//! Bounds by linear programs on whole numbers over one denominator, the last pivot, whose divisions are exact (Edmonds
+//! 1967; Bareiss 1968). Whatever is found is given only where the check of pairs takes it.
+#![tactic(auto)]
+
+mod bound;
+mod choice;
+mod pivot;
+mod readout;
+mod run;
+mod signed;
+mod tableau;
+
+pub use bound::whole_bound_of;
+pub use run::MOST_PIVOTS;
