@@ -89,7 +89,7 @@ module _ (files : Files) (line : Line) (f : List ℕ) where
 second_alone : AreOfFirst 2 ((97 ∷ []) ∷ (98 ∷ []) ∷ []) ((98 ∷ [], 0) ∷ []) → ⊥
 second_alone (inl none) = cc
 second_alone (inr (own, rest, is, (places, own_is, rises), more)) =
-    let all : (98 ∷ [], 0) ∷ [] ≡ reads_of (97 ∷ []) (0 ∷ places) ++ rest = is ∙ ap (λ reads. reads ++ rest) own_is in
-    let names : (98 ∷ []) ∷ [] ≡ (97 ∷ []) ∷ map (λ read. read.0) (reads_of (97 ∷ []) places ++ rest) = ap (map (λ read. read.0)) all in
-    let same : 98 ≡ 97 = cc in
+    let all : ◌≡◌ {A = List (List ℕ × ℕ)} ((98 ∷ [], 0) ∷ []) (reads_of (97 ∷ []) (0 ∷ places) ++ rest) = is ∙ ap (λ reads. reads ++ rest) own_is in
+    let names : ◌≡◌ {A = List (List ℕ)} ((98 ∷ []) ∷ []) ((97 ∷ []) ∷ map (λ read. read.0) (reads_of (97 ∷ []) places ++ rest)) = ap (map (λ read. read.0)) all in
+    let same : ◌≡◌ {A = ℕ} 98 97 = cc in
     omega (arith, same)

@@ -79,7 +79,7 @@ pub behind_patches_with_certificate : (takes : Bool) (arguments : Arguments) (kn
 behind_patches_with_certificate takes arguments known p types certificate = of_choices_with_certificate arguments known takes p types certificate
 
 -- whatever files denote, patches are those of the choices in the files
-of_same : (arguments : Arguments) (bytes : ℕ → List ℕ) (made held : Contents) → Ok made ≡ Ok held → AreOfTheFiles arguments bytes made → AreOfTheFiles arguments bytes held
+of_same : (arguments : Arguments) (bytes : ℕ → List ℕ) (made held : Contents) → ◌≡◌ {A = Result Contents (List ℕ)} (Ok made) (Ok held) → AreOfTheFiles arguments bytes made → AreOfTheFiles arguments bytes held
 of_same arguments bytes made held same of = subst (AreOfTheFiles arguments bytes) (ap (λ (r : Result Contents (List ℕ)). result_unwrap_or r made) same) of
 
 of_files : (takes : Bool) (set : FileSet) (arguments : Arguments) (bytes : ℕ → List ℕ) (held : Contents) → ContentsIn takes set arguments (λ k. Some (bytes k)) (Ok held) → AreOfTheFiles arguments bytes held

@@ -1,5 +1,5 @@
 -- What a cause tells of what was asked, when there is none, and that no line is both answered and refused.
-use Rattle.std.proofs.Common.{◌≡◌, ◌⊎◌, ◌<◌, inl, inr, List, [], length, ℕ, Option, Some, Ok, Err, sym, subst, refl}
+use Rattle.std.proofs.Common.{◌≡◌, ◌∙◌, ◌⊎◌, ◌<◌, inl, inr, List, [], length, ℕ, Option, Some, None, Ok, Err, arith, sym, subst, refl}
 use Rattle.std.specs.List.{Contains}
 use Rattle.std.proofs.lemmas.List.Elements.{Contains-get_or}
 use Rattle.rp_command_line.specs.CommandLine.{Line, file_at, files_of}
@@ -27,7 +27,7 @@ use Rattle.rp_run.specs.Answers.{Files, Answers, AnswersLine, IsAccepted, IsAcce
 use Rattle.rp_answers.specs.CheckText.{IsRandomCheck, IsTableCheck, check_status as verdict_status}
 use Rattle.rp_outside.specs.Faults.{HasRisen}
 use Rattle.rp_outside.specs.Known.{Grows, GrowsByPrefix}
-use Rattle.rp_run.specs.Calls.{IsWritten}
+use Rattle.rp_run.specs.Calls.{AnswersUsage, IsWritten}
 use Rattle.rp_run.specs.Endings.{IsEnd, IsSilent, Rose, NoneRose}
 use Rattle.rp_run.specs.InnerCauses.{status_of_cause, IsCause}
 use Rattle.rp_answers.specs.declared.status.Status.{Status}
@@ -189,3 +189,19 @@ answer_written files asked line s result text old new before after is answers (i
   silent = λ silent. absurd (subst IsSilent cut silent);
   write_counted = λ fault. (part fault).1;
 }
+
+-- an answer is no usage, and the words that it answers are a line
+pub no_usage : (s result : Status) → IsEnd s → (result ≡ s) ⊎ (result ≡ status.WriteFault) → result ≡ status.Usage → ⊥
+no_usage s result ends (inl same) used = subst IsEnd (sym same ∙ used) ends
+no_usage s result ends (inr fault) used = let wrong : status.WriteFault ≡ status.Usage = sym fault ∙ used in cc
+
+pub answered_words : (asked : Option Line) (line : Line) (s result : Status) → asked ≡ Some line → IsEnd s → (result ≡ s) ⊎ (result ≡ status.WriteFault) → AnswersUsage asked result
+answered_words asked line s result is ends either = record {
+  usage = λ used. absurd (no_usage s result ends either used);
+  no_line = λ none. (let wrong : Some line ≡ None = sym is ∙ none in cc);
+}
+
+-- a count that stays at 0 has not risen
+pub none_risen : HasRisen 0 0 → ⊥
+none_risen (inl l) = omega (arith, l)
+none_risen (inr l) = omega (arith, l)

@@ -3,7 +3,7 @@ ghost use Rattle.std.specs.Prelude.{◌↔◌, ◌^◌, ◌≤◌, pos, ◌≤�
 ghost use Rattle.std.specs.Int.RustNames.{unsigned_abs};
 
 use rp_evidence::Bound;
-use rp_farkas::{Entry, Measure, Program};
+use rp_farkas::{Entry, Lp, Measure, Program};
 use rp_simplex::{Outcome, maximize};
 use rp_whole_tableau::whole_bound_of;
 use std::alloc::Global;
@@ -120,6 +120,7 @@ fn bounds_where_the_stated_run_ends(rt: HostRuntime) -> Result<(), Fail> {
         x: &[1, 3],
     };
     assert!(rt; is_wanted(&whole_bound_of(alloc, &short, Measure::Cost)?, &cost));
+    assert!(rt; short.rows() == 2, "a row for each right side");
     let price = Want {
         value: (3, 13),
         ..cost

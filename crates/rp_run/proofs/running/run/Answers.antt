@@ -8,7 +8,7 @@ use Rattle.rp_run.specs.Turns.{AreReadInTurn, AsksForFirst}
 use Rattle.rp_run.proofs.AskedLemmas.{unasked}
 use Rattle.rp_run.proofs.TurnLemmas.{unread}
 use Rattle.rp_command_line.proofs.MatchesNameALine.{refused_where_no_line}
-use Rattle.rp_run.proofs.RunLemmas.{answer_written, cause_of_accepted, cause_of_calm, done_line_apart, line_ends, line_rejected, not_both, rejected_line_apart}
+use Rattle.rp_run.proofs.RunLemmas.{answer_written, answered_words, cause_of_accepted, cause_of_calm, done_line_apart, line_ends, line_rejected, no_usage, not_both, rejected_line_apart}
 use Rattle.rp_command_line.proofs.ShapeLemmas.{shape_given}
 use Rattle.rp_run.proofs.running.run.Goals as goal
 
@@ -58,6 +58,19 @@ returns-in-Ok-answer_line-clause-written g c =
     answer_written (g.D.Desk.bytes c.args.desk.now) (line_in c.args.words.now.items) (named_line c.in-Some.line) answer.answer.status c.finish.result answer.answer.text.items
     (g.O.Sink.written c.args.out.now) (g.O.Sink.written c.finish.new.out) (g.O.Sink.faults c.args.out.now) (g.O.Sink.faults c.finish.new.out)
     asked answer.ensures.held c.finish.ensures.either (λ ends. (c.finish.ensures.whole ends).0) c.finish.ensures.part
+
+pub returns-in-Ok-answer_line-clause-words : goal.returns-in-Ok-answer_line-clause-words
+returns-in-Ok-answer_line-clause-words g c =
+    let answer = c.in-Ok-answer_line in
+    let asked : line_in c.args.words.now.items ≡ Some (named_line c.in-Some.line) = rw (c.in-Some.is, c.as_slice.ensures.value) at (sym c.in-Ok.ensures.exact) in
+    let ends : IsEnd answer.answer.status = line_ends (g.D.Desk.bytes c.args.desk.now) (named_line c.in-Some.line) answer.answer.status answer.answer.text.items answer.ensures.held in
+    answered_words (line_in c.args.words.now.items) (named_line c.in-Some.line) answer.answer.status c.finish.result asked ends c.finish.ensures.either
+
+pub returns-in-Ok-answer_line-clause-refused_by_clap : goal.returns-in-Ok-answer_line-clause-refused_by_clap
+returns-in-Ok-answer_line-clause-refused_by_clap g c = λ used none.
+    let answer = c.in-Ok-answer_line in
+    let ends : IsEnd answer.answer.status = line_ends (g.D.Desk.bytes c.args.desk.now) (named_line c.in-Some.line) answer.answer.status answer.answer.text.items answer.ensures.held in
+    no_usage answer.answer.status c.finish.result ends c.finish.ensures.either used
 
 pub returns-in-Ok-answer_line-clause-verdict : goal.returns-in-Ok-answer_line-clause-verdict
 returns-in-Ok-answer_line-clause-verdict g c =
