@@ -13,6 +13,15 @@ def share(part: int, whole: int) -> str:
     return f"{part} of {whole} ({100 * part / whole:.1f}%)" if whole else "none"
 
 
+def share_told(verdicts: Sequence[bool | None]) -> str:
+    """Returns how many of some verdicts hold; one that is withheld may hold or not, so it stands between the two."""
+    holds, withheld, whole = verdicts.count(True), verdicts.count(None), len(verdicts)
+    if not withheld:
+        return share(holds, whole)
+    most = holds + withheld
+    return f"between {holds} and {most} of {whole} ({100 * holds / whole:.1f}% to {100 * most / whole:.1f}%), {withheld} withheld"
+
+
 def quantile(values: Sequence[Fraction], part: Fraction) -> Fraction:
     """Returns a quantile, between the two values next to it in proportion."""
     ordered = sorted(values)
@@ -44,13 +53,11 @@ def distribution(name: str, values: Sequence[Fraction]) -> list[tuple[str, str]]
 
 def lines_of(panel: Any) -> list[tuple[str, str]]:
     """Returns the lines of the table: what is told, and its value. Households without a verdict are counted and left out of the
-    rest; of a test those are left out whose verdict is withheld."""
+    rest; what is withheld counts, as what may hold or not."""
     rows = [row for row in panel if row.verdict is not None]
     lines = [("households", str(len(panel))), ("with a verdict", str(len(rows)))]
     for name, title in (("garp", "GARP holds"), ("homothetic", "homothetic"), ("quasilinear", "quasilinear")):
-        told = [getattr(row.verdict, name) for row in rows]
-        known = [it for it in told if it is not None]
-        lines.append((title, share(sum(known), len(known)) + (f", {len(told) - len(known)} withheld" if len(known) < len(told) else "")))
+        lines.append((title, share_told([getattr(row.verdict, name) for row in rows])))
     index = [row.verdict.efficiency for row in rows]
     lines += distribution("efficiency index (CCEI)", index)
     lines += [(f"efficiency index at least {level}", share(sum(value >= Fraction(level) for value in index), len(index))) for level in LEVELS]

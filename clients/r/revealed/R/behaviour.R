@@ -80,12 +80,22 @@ print.rp_lines <- function(x, ...) {
 
 as.character.rp_lines <- function(x, ...) as.vector(unclass(x))
 
+# Returns how many of some verdicts hold; one that is withheld may hold or not, so it stands between the two.
+share_told <- function(is) {
+  whole <- length(is)
+  if (!whole) return("none")
+  holds <- sum(is %in% TRUE)
+  withheld <- sum(is.na(is))
+  if (!withheld) return(sprintf("%d of %d (%.1f%%)", holds, whole, 100 * holds / whole))
+  most <- holds + withheld
+  sprintf("between %d and %d of %d (%.1f%% to %.1f%%), %d withheld", holds, most, whole, 100 * holds / whole, 100 * most / whole, withheld)
+}
+
 # Returns what a paper tells of a panel, by what it is called.
 summary_cells <- function(panel, digits, tests) {
   frame <- as.data.frame(panel)
   own <- frame[frame$status %in% 0L, ]
   count <- nrow(own)
-  share <- function(is) paste0(sum(is %in% TRUE), if (count) sprintf(" (%.1f%%)", 100 * mean(is %in% TRUE)))
   common <- c("Number" = count, "Without an answer" = nrow(frame) - count)
   index <- function(x, word) {
     number <- as.double(x)
@@ -100,13 +110,13 @@ summary_cells <- function(panel, digits, tests) {
   }
   switch(panel$ask,
     test = c(
-      common, "GARP holds" = share(own$garp), index(own$efficiency, "CCEI"),
-      "CCEI of at least 0.90" = share(own$efficiency >= exact("9/10")), "CCEI of at least 0.95" = share(own$efficiency >= exact("19/20")),
-      "CCEI of at least 0.99" = share(own$efficiency >= exact("99/100")),
-      if ("homothetic" %in% tests) c("Homothetic holds" = share(own$homothetic), "Homothetic withheld" = share(is.na(own$homothetic))),
-      if ("quasilinear" %in% tests) c("Quasilinear holds" = share(own$quasilinear))
+      common, "GARP holds" = share_told(own$garp), index(own$efficiency, "CCEI"),
+      "CCEI of at least 0.90" = share_told(own$efficiency >= exact("9/10")), "CCEI of at least 0.95" = share_told(own$efficiency >= exact("19/20")),
+      "CCEI of at least 0.99" = share_told(own$efficiency >= exact("99/100")),
+      if ("homothetic" %in% tests) c("Homothetic holds" = share_told(own$homothetic)),
+      if ("quasilinear" %in% tests) c("Quasilinear holds" = share_told(own$quasilinear))
     ),
-    pump = c(common, "GARP holds" = share(own$garp), index(own$pump_ratio, "Money pump")),
+    pump = c(common, "GARP holds" = share_told(own$garp), index(own$pump_ratio, "Money pump")),
     power = c(common, index(own$power, "Power"))
   )
 }
