@@ -39,7 +39,7 @@ drawn_data <- function(panel, times, seed, digits) {
     # Where parts of a unit are not bought, nothing may be left of a bundle: then one unit of the first good is taken.
     bought[rowSums(bought) == 0, 1] <- 10^-places
     quantities <- lapply(seq_along(names), function(good) sprintf("%.*f", places, bought[, good]))
-    frame_of(c(as.list(keys), list(draw = rep(draw, nrow(data))), more, named(prices, paste0("p_", names)), named(quantities, paste0("q_", names))))
+    frame_of(c(as.list(keys), list(draw = rep(draw, nrow(data))), more, named(prices, price_names(sides)), named(quantities, paste0("q_", names))))
   })
   do.call(rbind, frames)
 }
@@ -65,6 +65,7 @@ rp_table <- function(panel, random = NULL, what = c("summary", "households"), fo
   if (!is.character(tests) || !length(tests) || !all(tests %in% c("garp", "homothetic", "quasilinear"))) {
     bad_data("tests are some of 'garp', 'homothetic', 'quasilinear'")
   }
+  tests <- intersect(tests, tests_of(panel$own_money))
   cells <- if (what == "households") household_cells(panel, digits, tests) else {
     sides <- lapply(c(list(panel), if (!is.null(random)) list(random)), summary_cells, digits = digits, tests = tests)
     named(c(list(names(sides[[1]])), lapply(sides, unname)), c("", names[seq_along(sides)]))
