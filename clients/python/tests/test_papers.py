@@ -57,6 +57,14 @@ class Texts(unittest.TestCase):
         self.assertTrue(text.endswith("\\bottomrule\n\\end{tabular}\n"))
         self.assertEqual(papers.escaped("a_b & 5% $x$ {~^\\}#"), "a\\_b \\& 5\\% \\$x\\$ \\{\\textasciitilde{}\\textasciicircum{}\\textbackslash{}\\}\\#")
 
+    def test_shares_count_what_is_withheld(self):
+        said = papers.share_told([True] * 8 + [None] * 9 + [False] * 33)
+        self.assertEqual(said, "between 8 and 17 of 50 (16.0% to 34.0%), 9 withheld")
+        self.assertEqual(papers.share_told([True, False]), "1 of 2 (50.0%)")
+        self.assertEqual(papers.share_told([None]), "between 0 and 1 of 1 (0.0% to 100.0%), 1 withheld")
+        # what has no answer is neither withheld nor passing
+        self.assertRegex(made().text(), r"(?m)^quasilinear +1 of 2 \(50\.0%\)$")
+
     def test_only_what_is_1_reads_1(self):
         self.assertEqual(
             [papers.down(it) for it in (Fraction(1), 1 - Fraction(1, 10**9), Fraction(4, 5), Fraction(0))], ["1.0000", "0.9999", "0.8000", "0.0000"]

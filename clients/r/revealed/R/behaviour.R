@@ -39,7 +39,7 @@ drawn_data <- function(panel, times, seed, digits) {
     # Where parts of a unit are not bought, nothing may be left of a bundle: then one unit of the first good is taken.
     bought[rowSums(bought) == 0, 1] <- 10^-places
     quantities <- lapply(seq_along(names), function(good) sprintf("%.*f", places, bought[, good]))
-    frame_of(c(as.list(keys), list(draw = rep(draw, nrow(data))), more, named(prices, paste0("p_", names)), named(quantities, paste0("q_", names))))
+    frame_of(c(as.list(keys), list(draw = rep(draw, nrow(data))), more, named(prices, price_names(sides)), named(quantities, paste0("q_", names))))
   })
   do.call(rbind, frames)
 }
@@ -65,6 +65,7 @@ rp_table <- function(panel, random = NULL, what = c("summary", "households"), fo
   if (!is.character(tests) || !length(tests) || !all(tests %in% c("garp", "homothetic", "quasilinear"))) {
     bad_data("tests are some of 'garp', 'homothetic', 'quasilinear'")
   }
+  tests <- intersect(tests, tests_of(panel$own_money))
   cells <- if (what == "households") household_cells(panel, digits, tests) else {
     sides <- lapply(c(list(panel), if (!is.null(random)) list(random)), summary_cells, digits = digits, tests = tests)
     named(c(list(names(sides[[1]])), lapply(sides, unname)), c("", names[seq_along(sides)]))
@@ -80,12 +81,22 @@ print.rp_lines <- function(x, ...) {
 
 as.character.rp_lines <- function(x, ...) as.vector(unclass(x))
 
+# Returns how many of some verdicts hold; one that is withheld may hold or not, so it stands between the two.
+share_told <- function(is) {
+  whole <- length(is)
+  if (!whole) return("none")
+  holds <- sum(is %in% TRUE)
+  withheld <- sum(is.na(is))
+  if (!withheld) return(sprintf("%d of %d (%.1f%%)", holds, whole, 100 * holds / whole))
+  most <- holds + withheld
+  sprintf("between %d and %d of %d (%.1f%% to %.1f%%), %d withheld", holds, most, whole, 100 * holds / whole, 100 * most / whole, withheld)
+}
+
 # Returns what a paper tells of a panel, by what it is called.
 summary_cells <- function(panel, digits, tests) {
   frame <- as.data.frame(panel)
   own <- frame[frame$status %in% 0L, ]
   count <- nrow(own)
-  share <- function(is) paste0(sum(is %in% TRUE), if (count) sprintf(" (%.1f%%)", 100 * mean(is %in% TRUE)))
   common <- c("Number" = count, "Without an answer" = nrow(frame) - count)
   index <- function(x, word) {
     number <- as.double(x)
@@ -100,13 +111,13 @@ summary_cells <- function(panel, digits, tests) {
   }
   switch(panel$ask,
     test = c(
-      common, "GARP holds" = share(own$garp), index(own$efficiency, "CCEI"),
-      "CCEI of at least 0.90" = share(own$efficiency >= exact("9/10")), "CCEI of at least 0.95" = share(own$efficiency >= exact("19/20")),
-      "CCEI of at least 0.99" = share(own$efficiency >= exact("99/100")),
-      if ("homothetic" %in% tests) c("Homothetic holds" = share(own$homothetic), "Homothetic withheld" = share(is.na(own$homothetic))),
-      if ("quasilinear" %in% tests) c("Quasilinear holds" = share(own$quasilinear))
+      common, "GARP holds" = share_told(own$garp), index(own$efficiency, "CCEI"),
+      "CCEI of at least 0.90" = share_told(own$efficiency >= exact("9/10")), "CCEI of at least 0.95" = share_told(own$efficiency >= exact("19/20")),
+      "CCEI of at least 0.99" = share_told(own$efficiency >= exact("99/100")),
+      if ("homothetic" %in% tests) c("Homothetic holds" = share_told(own$homothetic)),
+      if ("quasilinear" %in% tests) c("Quasilinear holds" = share_told(own$quasilinear))
     ),
-    pump = c(common, "GARP holds" = share(own$garp), index(own$pump_ratio, "Money pump")),
+    pump = c(common, "GARP holds" = share_told(own$garp), index(own$pump_ratio, "Money pump")),
     power = c(common, index(own$power, "Power"))
   )
 }

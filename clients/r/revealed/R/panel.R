@@ -21,6 +21,7 @@ rp_panel <- function(data, id, ask = c("test", "pump", "power"), digits = NULL, 
   if (kind != "test" && !is.null(sides$levels)) {
     stop(refused("OwnLevels", hint = plain_hint("OwnLevels")))
   }
+  if (kind == "pump" && sides$own_money) bad_data("the money pump: ", own_money)
   how <- asked_of_panels[[kind]]
   words <- how$words(list(seed = seed, draws = draws))
   engine <- engine_of(exe)
@@ -37,7 +38,7 @@ rp_panel <- function(data, id, ask = c("test", "pump", "power"), digits = NULL, 
   found[lost] <- rep(list(failed(NA_integer_, "a process of R ended before its answer")), length(lost))
   keys <- data[vapply(rows, `[`, 1L, 1), id, drop = FALSE]
   keys <- as.data.frame(keys, row.names = seq_along(rows))
-  of <- list(keys = keys, answers = unname(found), ask = kind, data = data, id = id, digits = digits, levels = sides$levels)
+  of <- list(keys = keys, answers = unname(found), ask = kind, data = data, id = id, digits = digits, levels = sides$levels, own_money = sides$own_money)
   structure(of, class = "rp_panel")
 }
 
@@ -85,7 +86,7 @@ group_of <- function(data, id) {
 household_of <- function(at, sides, digits, id, fit) {
   part <- list(
     goods = sides$goods, prices = lapply(sides$prices, `[`, at), quantities = lapply(sides$quantities, `[`, at),
-    labels = sides$labels[at], levels = if (!is.null(sides$levels)) sides$levels[at], left_out = sides$left_out
+    labels = sides$labels[at], levels = if (!is.null(sides$levels)) sides$levels[at], left_out = sides$left_out, own_money = sides$own_money
   )
   tryCatch({
     table <- suppressWarnings(table_of_sides(part, digits, id_advice(id)))
@@ -168,7 +169,7 @@ summary.rp_panel <- function(object, ...) {
   if (object$ask != "test") {
     return(summary_of(as.data.frame(t(as.matrix(summary(own[[object$ask]])))), title))
   }
-  counts <- vapply(own[tests], function(it) {
+  counts <- vapply(own[tests_of(object$own_money)], function(it) {
     c(holds = sum(it %in% TRUE), violated = sum(it %in% FALSE), withheld = sum(is.na(it)))
   }, c(holds = 0L, violated = 0L, withheld = 0L))
   summary_of(as.data.frame(t(counts)), title)

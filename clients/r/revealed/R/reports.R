@@ -67,6 +67,7 @@ rp_money_pump <- function(p, q = NULL, digits = NULL, exe = NULL) pump_on(table_
 rp_pump <- rp_money_pump
 
 pump_on <- function(table, engine) {
+  if (table$own_money) bad_data("the money pump: ", own_money)
   read_pump(table, ask(c("pump", "table.csv"), list(table.csv = csv_lines(table)), engine, list(table)))
 }
 

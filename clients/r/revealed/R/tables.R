@@ -18,13 +18,14 @@ table_of_sides <- function(sides, digits, advice = id_advice(NULL)) {
   found <- sheet(
     "table", c(sprintf("p_%d", numbers), sprintf("q_%d", numbers), "e"[has_levels]),
     c(rep(c("price", "quantity"), each = length(numbers)), ""[has_levels]),
-    c(paste0("p_", sides$goods)[numbers], paste0("q_", sides$goods)[numbers], "e"[has_levels]),
+    c(price_names(sides)[numbers], paste0("q_", sides$goods)[numbers], "e"[has_levels]),
     c(sides$prices, sides$quantities, list(sides$levels)[has_levels]), labels, digits
   )
   found$goods <- sides$goods
   found$levels <- if (has_levels) found$texts[[length(found$texts)]]
   warn_of_levels(found$levels)
   found$left_out <- sides$left_out
+  found$own_money <- isTRUE(sides$own_money)
   structure(found, class = "rp_table")
 }
 
@@ -51,31 +52,42 @@ with_levels <- function(table, levels) {
   own <- seq_len(count)
   sides <- list(
     goods = table$goods, prices = table$texts[own], quantities = table$texts[count + own], labels = table$labels,
-    levels = levels_for(levels, length(table$labels)), left_out = table$left_out
+    levels = levels_for(levels, length(table$labels)), left_out = table$left_out, own_money = table$own_money
   )
   table_of_sides(sides, NULL)
 }
 
-# Returns the two sides of one frame. Columns other than p_NAME, q_NAME, e and obs are left out, and told where the answer
+# Why two answers are not given where the prices are intercepts exchanged.
+own_money <- "intercepts exchanged give each row money of its own, and this adds money of different rows"
+
+# Returns the columns that have the price of each good: its own, or the intercept of the other good.
+price_names <- function(sides) if (isTRUE(sides$own_money)) paste0("i_", rev(sides$goods)) else paste0("p_", sides$goods)
+
+# Returns the two sides of one frame. Where budget lines of two goods are kept by their intercepts, i_NAME in place of p_NAME,
+# these are exchanged, which is exact, and each row has money of its own then. Columns other than p_NAME, q_NAME, e and obs are left out, and told where the answer
 # is printed.
 sides_of <- function(d, in_panel = FALSE) {
   if (!is.data.frame(d)) bad_data("there are no quantities; a data frame alone has columns p_NAME and q_NAME for each good")
   prices <- starting(names(d), "p_")
+  is_line <- !length(prices) && length(starting(names(d), "i_")) > 0
+  first <- if (is_line) "i_" else "p_"
+  if (is_line) prices <- starting(names(d), "i_")
   quantities <- starting(names(d), "q_")
   wanted <- "a table has a column p_NAME, the price, and a column q_NAME, the quantity, for each good NAME"
   if (!length(c(prices, quantities))) bad_data(wanted, ", perhaps e and obs; found: ", listed(names(d)))
   for (name in names(d)[names(d) %in% c(prices, quantities)]) {
-    other <- paste0(if (startsWith(name, "p_")) "q_" else "p_", substring(name, 3))
+    other <- paste0(if (startsWith(name, first)) "q_" else first, substring(name, 3))
     if (!other %in% names(d)) unpaired(d, name, paste0("there is no column ", quoted(other), "; ", wanted, "; found: ", listed(names(d))))
   }
   near <- names(d)[!names(d) %in% "e" & trimws(tolower(names(d))) == "e"]
   if (length(near)) unpaired(d, near[1], "levels of observations stand in a column e", "BadHeader")
   goods <- substring(prices, 3)
+  if (is_line && length(goods) != 2) bad_data("a budget line has two intercepts, i_NAME of each of two goods, and here are ", listed(goods))
   left_out <- setdiff(names(d), c(prices, quantities, "e", "obs"))
   if (!in_panel) no_panel(d, left_out)
   list(
-    goods = goods, prices = columns_of(d, prices), quantities = columns_of(d, paste0("q_", goods)),
-    labels = frame_labels(d), levels = if ("e" %in% names(d)) d[["e"]], left_out = left_out
+    goods = goods, prices = columns_of(d, if (is_line) rev(prices) else prices), quantities = columns_of(d, paste0("q_", goods)),
+    labels = frame_labels(d), levels = if ("e" %in% names(d)) d[["e"]], left_out = left_out, own_money = is_line
   )
 }
 

@@ -27,7 +27,7 @@ verdict_from <- function(table, text) {
   afriat <- read_afriat(table, items$afriat)
   efficiency <- read_efficiency(table, items$efficiency)
   homothetic <- read_homothetic(table, items$homothetic)
-  quasilinear <- read_quasilinear(table, items$quasilinear)
+  quasilinear <- if (table$own_money) list(verdict = NA, reason = own_money) else read_quasilinear(table, items$quasilinear)
   found <- list(garp = garp, afriat = afriat, homothetic = homothetic, quasilinear = quasilinear)
   structure(class = "rp_test", list(
     garp = garp$verdict, afriat = afriat$verdict, efficiency = efficiency$level, ccei = double_below(efficiency$level),
@@ -123,8 +123,12 @@ table_lines <- function(table) {
   )
 }
 
+# Returns the tests that are asked: where rows have money of their own, the quasilinear one is not, and so not withheld.
+tests_of <- function(own_money) if (isTRUE(own_money)) setdiff(tests, "quasilinear") else tests
+
 verdict_lines <- function(x) {
-  lines <- paste(tests, vapply(tests, function(it) verdict_word(x[[it]]), ""))
+  asked <- tests_of(x$table$own_money)
+  lines <- paste(asked, vapply(asked, function(it) verdict_word(x[[it]]), ""))
   lines <- append(lines, paste("efficiency", bare(x$efficiency), "attained", if (x$attained) "yes" else "no"), 2)
   if (!is.null(x$cycle)) lines <- append(lines, paste(c("cycle", as.character(x$cycle)), collapse = " "), 1)
   c(lines, reason_lines(x$reasons))
@@ -164,6 +168,7 @@ summary.rp_test <- function(object, ...) {
     if (is.null(found$cycle)) return(if (is.na(object[[name]])) object$reasons[[name]] else names(found)[1])
     paste("cycle", paste(found$cycle, collapse = " "))
   }
+  tests <- tests_of(object$table$own_money)
   index <- paste(bare(object$efficiency), if (object$attained) "(attained)" else "(not attained)")
   above <- object$evidence$efficiency$above
   frame <- data.frame(

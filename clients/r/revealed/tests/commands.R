@@ -52,6 +52,22 @@ stopifnot(identical(as.data.frame(rp_panel(data.frame(id = 1, leveled[-5]), "id"
 # ---- what is left out is told
 stopifnot(any(grepl("left out: 'income'", capture.output(print(rp_test(cbind(years, income = 1:2)))))))
 
+# ---- budget lines by their intercepts
+lines <- data.frame(obs = 1:2, i_x = c("87.13", "45.50"), i_y = c("33.61", "62.04"), q_x = c("43.2", "20.1"), q_y = c("16.95", "34.63"))
+by_hand <- with(lines, data.frame(obs, p_x = i_y, p_y = i_x, q_x, q_y))
+for (v in list(rp_test(lines), rp_test(rp_test(lines)$table, levels = 1000))) {
+  stopifnot(v$garp, is.na(v$quasilinear), grepl("money of its own", v$reasons[["quasilinear"]]), !any(grepl("withheld", capture.output(print(v), print(summary(v))))))
+}
+stopifnot(identical(texts(rp_test(lines)$utility), texts(rp_test(by_hand)$utility)), !is.na(rp_test(by_hand)$quasilinear))
+stopifnot(grepl("money of its own", conditionMessage(caught(rp_pump(lines), "rp_bad_data"))))
+two <- cbind(s = 1, lines)
+stopifnot(grepl("money of its own", conditionMessage(caught(rp_panel(two, "s", ask = "pump"), "rp_bad_data"))))
+of_lines <- rp_panel(two, "s", workers = 1)
+stopifnot(!"quasilinear" %in% rownames(summary(of_lines)$table), !any(grepl("uasilinear", texts(rp_table(of_lines, rp_random_panel(of_lines, 2, 1))))))
+stopifnot(identical(with(rp_random_panel(of_lines, 1, 1)$data, texts(i_x)), texts(lines$i_x)))
+caught(rp_test(lines[-2]), "rp_refused")
+stopifnot(caught(rp_test(transform(lines, i_y = c(0, 1))), "rp_refused")$name == "i_y")
+
 # ---- money pump
 m <- rp_money_pump(P, P)
 stopifnot(texts(m$ratio) == "1/5", m$pump <= 0.2, m$pump > 0.2 - 1e-15, length(m$cycle) == 3, identical(texts(m$values), c("0", "0")), !m$garp)
@@ -213,9 +229,14 @@ caught(plot(rp_test(matrix(1), matrix(1))), "rp_bad_data")
 caught(plot(people, P), "rp_bad_data")
 grDevices::dev.off()
 lines <- texts(rp_table(people, random))
-stopifnot(any(grepl("^GARP holds +[0-9]+ \\([0-9.]+%\\) +[0-9]+ \\([0-9.]+%\\)$", lines)), any(grepl("^Number +30 +60$", lines)))
+stopifnot(any(grepl("^GARP holds +[0-9]+ of 30 \\([0-9.]+%\\) +[0-9]+ of 60 \\([0-9.]+%\\)$", lines)), any(grepl("^Number +30 +60$", lines)))
 lines <- texts(rp_table(people, random, format = "latex"))
-stopifnot(lines[1] == "\\begin{tabular}{lrr}", lines[length(lines)] == "\\end{tabular}", any(grepl("^GARP holds & [0-9]+ \\([0-9.]+\\\\%\\) & ", lines)))
+stopifnot(lines[1] == "\\begin{tabular}{lrr}", lines[length(lines)] == "\\end{tabular}", any(grepl("^GARP holds & [0-9]+ of 30 \\([0-9.]+\\\\%\\) & ", lines)))
+# what is withheld counts, as what may hold or not; what has no answer does not
+told <- revealed:::share_told
+stopifnot(told(rep(c(TRUE, NA, FALSE), c(8, 9, 33))) == "between 8 and 17 of 50 (16.0% to 34.0%), 9 withheld", told(c(TRUE, FALSE)) == "1 of 2 (50.0%)")
+refused <- rp_panel(data.frame(id = c(1, 1, 2), p_a = c(1, 2, 0), p_b = c(2, 1, 1), q_a = 1:3, q_b = c(2, 1, 1)), "id", workers = 1)
+stopifnot(any(grepl("^Quasilinear holds +0 of 1 \\(0.0%\\)$", texts(rp_table(refused)))), sum(summary(refused)$table["garp", ]) == 1)
 odd <- many[many$id <= 2, ]
 odd$id <- ifelse(odd$id == 1, "50% of A&B_{1}$", "\\end~^#")
 lines <- texts(rp_table(rp_panel(odd, "id", workers = 1), what = "households", format = "latex"))
