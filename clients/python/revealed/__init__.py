@@ -142,4 +142,4 @@ __all__ = [
     "welfare",
     "welfare_bounds",
 ]
-__version__ = "0.11.0"
+__version__ = "0.12.0"

@@ -43,7 +43,7 @@ usual_places <- function() {
   file.path(c(own, unlist(unpacked)), "rp")
 }
 
-# Returns where a release is unpacked, in a folder such as rp-0.11.0-x86_64-linux.
+# Returns where a release is unpacked, in a folder such as rp-0.12.0-x86_64-linux.
 usual_roots <- function() {
   home <- Sys.getenv("HOME")
   c(if (nzchar(home)) c(home, file.path(home, c(".local", "Downloads"))), "/opt", "/usr/local")
