@@ -11,13 +11,7 @@ from .catalogue import LIMITS
 LARGEST = LIMITS["table.largest"]
 LARGEST_MONEY = LIMITS["table.largest_expenditure"]
 # What is scaled by one power of ten, by the name that a column has in a sheet.
-PRICES, QUANTITIES, LEVELS, MONEY, WHOLE = (
-    "prices",
-    "quantities",
-    "levels",
-    "money",
-    "whole numbers",
-)
+PRICES, QUANTITIES, LEVELS, MONEY, WHOLE = "prices", "quantities", "levels", "money", "whole numbers"
 MEANT = "docs/USING.md, 'A table that keeps its verdict'"
 LEVEL_HINT = f"levels are whole thousandths of what was spent, from 1 to {LIMITS['table.level_scale']}: 0.8 of it is 800"
 NAME_HINT = f"a name has 1 to {LIMITS['table.name_bytes']} bytes, none of them a control character, and stands once"
@@ -70,14 +64,7 @@ def places_that_fit(values: Iterable[Any]) -> int | None:
     The numbers of a kind are made whole by one power of ten, and none may be above 9,999,999 then: 7 digits of the largest one.
     """
     largest = max(numbers(values), default=Fraction(0))
-    return next(
-        (
-            places
-            for places in range(exact.MOST_PLACES, -1, -1)
-            if exact.rounded(largest, places) * 10**places <= LARGEST
-        ),
-        None,
-    )
+    return next((places for places in range(exact.MOST_PLACES, -1, -1) if exact.rounded(largest, places) * 10**places <= LARGEST), None)
 
 
 def is_too_fine(value: Any) -> bool:
@@ -130,9 +117,7 @@ def rounded_prices(kinds: dict[str, Sequence[Any]]) -> str:
 def without_places(kind: str) -> str:
     """Returns what to do about a number that does not fit without any place."""
     unit = (
-        "a smaller unit of the good (its price less, its quantity more)"
-        if kind == PRICES
-        else "a larger unit of the good (its quantity less, its price more)"
+        "a smaller unit of the good (its price less, its quantity more)" if kind == PRICES else "a larger unit of the good (its quantity less, its price more)"
     )
     return f"above {LARGEST:,} a number is not taken: take {unit}, which changes no verdict ({MEANT})"
 

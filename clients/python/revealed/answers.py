@@ -26,9 +26,7 @@ class Certificate:
             if not all(isinstance(item["item"], str) for item in self.items):
                 raise TypeError
         except (ValueError, KeyError, TypeError, RecursionError):
-            raise Unreadable(
-                data.decode("utf-8", "replace"), "no certificate"
-            ) from None
+            raise Unreadable(data.decode("utf-8", "replace"), "no certificate") from None
 
     def save(self, path: str | os.PathLike[str]) -> None:
         """Writes it to a file."""
@@ -56,17 +54,7 @@ class _Reading:
         return None
 
     def __exit__(self, kind: Any, wrong: Any, trace: Any) -> None:
-        if isinstance(
-            wrong,
-            (
-                KeyError,
-                IndexError,
-                ValueError,
-                TypeError,
-                AttributeError,
-                StopIteration,
-            ),
-        ):
+        if isinstance(wrong, (KeyError, IndexError, ValueError, TypeError, AttributeError, StopIteration)):
             raise Unreadable(self.data, f"{type(wrong).__name__}: {wrong}") from wrong
 
 
@@ -139,27 +127,18 @@ class Verdict:
             return self._axiom("afriat", item)
         if "withheld" in item:
             label = self._walk([item["withheld"]])[0]
-            self.reasons[
-                "afriat"
-            ] = f"the numbers get past their width at {label!r}; they exist where garp is True"
+            self.reasons["afriat"] = f"the numbers get past their width at {label!r}; they exist where garp is True"
             self.evidence["afriat"] = {}
             return None
         money = utility_scale(self.table)
         self.evidence["afriat"] = {
-            "utility": self._by_label(
-                Fraction(exact.whole_of(u), money) for u in item["utility"]
-            ),
-            "lambda": self._by_label(
-                exact.whole_of(multiplier) for multiplier in item["lambda"]
-            ),
+            "utility": self._by_label(Fraction(exact.whole_of(u), money) for u in item["utility"]),
+            "lambda": self._by_label(exact.whole_of(multiplier) for multiplier in item["lambda"]),
         }
         return True
 
     def _efficiency(self, item: dict[str, Any]) -> tuple[Fraction, bool]:
-        found = {
-            "below": self._by_label(item["below"]),
-            "above": self._walk(item["above"]),
-        }
+        found = {"below": self._by_label(item["below"]), "above": self._walk(item["above"])}
         if "at_ranks" in item:
             found["at_ranks"] = self._by_label(item["at_ranks"])
         else:
@@ -171,20 +150,13 @@ class Verdict:
         if "withheld" in item:
             steps, start, end = item["withheld"]
             start, end = self._walk([start, end])
-            self.reasons[
-                "homothetic"
-            ] = f"after {steps} steps the product from {start!r} to {end!r} gets past its width"
+            self.reasons["homothetic"] = f"after {steps} steps the product from {start!r} to {end!r} gets past its width"
             self.evidence["homothetic"] = {}
             return None
         if "cycle" in item:
-            self.evidence["homothetic"] = {
-                "start": exact.fraction_read(item["start"]),
-                "cycle": self._walk(item["cycle"]),
-            }
+            self.evidence["homothetic"] = {"start": exact.fraction_read(item["start"]), "cycle": self._walk(item["cycle"])}
             return False
-        self.evidence["homothetic"] = {
-            "values": self._by_label(map(exact.fraction_read, item["values"]))
-        }
+        self.evidence["homothetic"] = {"values": self._by_label(map(exact.fraction_read, item["values"]))}
         return True
 
     def _quasilinear(self, item: dict[str, Any]) -> bool | None:
@@ -196,28 +168,13 @@ class Verdict:
             self.evidence["quasilinear"] = {"cycle": self._walk(item["cycle"])}
             return False
         money = money_scale(self.table)
-        self.evidence["quasilinear"] = {
-            "values": self._by_label(
-                Fraction(exact.whole_of(it), money) for it in item["values"]
-            )
-        }
+        self.evidence["quasilinear"] = {"values": self._by_label(Fraction(exact.whole_of(it), money) for it in item["values"])}
         return True
 
     def as_dict(self) -> dict[str, Any]:
         """Returns the verdicts by name."""
-        names = (
-            "garp",
-            "afriat",
-            "efficiency",
-            "ccei",
-            "attained",
-            "homothetic",
-            "quasilinear",
-        )
-        return {
-            **{name: getattr(self, name) for name in names},
-            "reasons": dict(self.reasons),
-        }
+        names = ("garp", "afriat", "efficiency", "ccei", "attained", "homothetic", "quasilinear")
+        return {**{name: getattr(self, name) for name in names}, "reasons": dict(self.reasons)}
 
     def plot(self, ax: Any = None, **more: Any) -> Any:
         """Draws the budget lines, the choices and the violating cycle of a table of two goods, with matplotlib; returns its axes."""
@@ -226,14 +183,9 @@ class Verdict:
         return pictures.of_verdict(self, ax, **more)
 
     def __repr__(self) -> str:
-        asked = [
-            name for name in TESTS if name != "quasilinear" or not self.table.own_money
-        ]
+        asked = [name for name in TESTS if name != "quasilinear" or not self.table.own_money]
         lines = [f"{name} {WORDS[getattr(self, name)]}" for name in asked]
-        lines.insert(
-            2,
-            f"efficiency {exact.written(self.efficiency)} attained {'yes' if self.attained else 'no'}",
-        )
+        lines.insert(2, f"efficiency {exact.written(self.efficiency)} attained {'yes' if self.attained else 'no'}")
         if self.cycle:
             lines.insert(1, "cycle " + " ".join(map(str, self.cycle)))
         told = [*lines, *(f"{name}: {why}" for name, why in self.reasons.items())]
@@ -269,9 +221,7 @@ def money_scale(table: Table) -> int:
 
 def utility_scale(table: Table) -> int:
     """The same of utilities: where the table has levels, costs are compared in thousandths."""
-    return money_scale(table) * (
-        LIMITS["table.level_scale"] if table.levels is not None else 1
-    )
+    return money_scale(table) * (LIMITS["table.level_scale"] if table.levels is not None else 1)
 
 
 class Answers(list):
@@ -280,13 +230,7 @@ class Answers(list):
     labels: list[Any]
     reasons: dict[Any, str]
 
-    def __init__(
-        self,
-        found: Iterable[Any],
-        table: Table,
-        certificate: Certificate | None = None,
-        garp: bool | None = None,
-    ) -> None:
+    def __init__(self, found: Iterable[Any], table: Table, certificate: Certificate | None = None, garp: bool | None = None) -> None:
         super().__init__(found)
         self.table = table
         self.certificate = certificate
@@ -316,26 +260,13 @@ class Demand:
         bounds: dict[str, tuple[Fraction | None, Fraction | None]] | None = None,
         reasons: dict[tuple[str, str], str] | None = None,
     ) -> None:
-        self.label, self.prices, self.expenditure, self.garp = (
-            label,
-            prices,
-            expenditure,
-            garp,
-        )
-        self.below, self.strict, self.inner, self.bounds, self.reasons = (
-            below,
-            strict,
-            inner,
-            bounds,
-            reasons or {},
-        )
+        self.label, self.prices, self.expenditure, self.garp = label, prices, expenditure, garp
+        self.below, self.strict, self.inner, self.bounds, self.reasons = below, strict, inner, bounds, reasons or {}
 
     def __repr__(self) -> str:
         if self.bounds is None:
             return f"<demand at {self.label!r}: none, the axiom fails>"
-        told = ", ".join(
-            f"{good} {low} to {high}" for good, (low, high) in self.bounds.items()
-        )
+        told = ", ".join(f"{good} {low} to {high}" for good, (low, high) in self.bounds.items())
         return f"<demand at {self.label!r}: {told}>"
 
 
@@ -362,9 +293,7 @@ class Welfare:
     def __repr__(self) -> str:
         if self.lower is None or self.upper is None:
             return f"<welfare at {self.label!r}: none, the axiom fails>"
-        told = ", ".join(
-            f"{row} {low} to {self.upper[row]}" for row, low in self.lower.items()
-        )
+        told = ", ".join(f"{row} {low} to {self.upper[row]}" for row, low in self.lower.items())
         return f"<welfare at {self.label!r}: {told}>"
 
 
@@ -378,9 +307,7 @@ def demands(table: Table, new: Sheet, certificate: Certificate) -> Answers:
         first, *items = certificate.items
         if len(items) != len(new.rows):
             raise ValueError(f"{len(items)} answers for {len(new.rows)} budgets")
-        found = [
-            _demand(table, new, label, item) for label, item in zip(new.labels, items)
-        ]
+        found = [_demand(table, new, label, item) for label, item in zip(new.labels, items)]
         return answers(found, table, certificate, first)
 
 
@@ -395,26 +322,10 @@ def _demand(table: Table, new: Sheet, label: Any, item: dict[str, Any]) -> Deman
         for name in ("lower", "upper"):
             if "withheld" in pair[name]:
                 reasons[good, name] = withheld(pair[name]["withheld"])
-        bounds[good] = (
-            bound_value(pair["lower"], quantity),
-            bound_value(pair["upper"], quantity),
-        )
+        bounds[good] = (bound_value(pair["lower"], quantity), bound_value(pair["upper"], quantity))
     den = exact.whole_of(item["inner"]["den"]) * quantity
-    inner = {
-        good: Fraction(exact.whole_of(number), den)
-        for good, number in strictly(table.goods, item["inner"]["num"])
-    }
-    return Demand(
-        label,
-        prices,
-        expenditure,
-        True,
-        walk(item["below"]),
-        walk(item["strict"]),
-        inner,
-        bounds,
-        reasons,
-    )
+    inner = {good: Fraction(exact.whole_of(number), den) for good, number in strictly(table.goods, item["inner"]["num"])}
+    return Demand(label, prices, expenditure, True, walk(item["below"]), walk(item["strict"]), inner, bounds, reasons)
 
 
 def welfares(table: Table, new: Sheet, certificate: Certificate) -> Answers:
@@ -422,22 +333,13 @@ def welfares(table: Table, new: Sheet, certificate: Certificate) -> Answers:
     with reading(certificate.data):
         first, *items = certificate.items
         if len(items) != len(new.rows) * len(table):
-            raise ValueError(
-                f"{len(items)} answers for {len(new.rows)} prices and {len(table)} observations"
-            )
-        by_new = [
-            items[number * len(table) : (number + 1) * len(table)]
-            for number in range(len(new.rows))
-        ]
-        found = [
-            _welfare(table, new, label, own) for label, own in zip(new.labels, by_new)
-        ]
+            raise ValueError(f"{len(items)} answers for {len(new.rows)} prices and {len(table)} observations")
+        by_new = [items[number * len(table) : (number + 1) * len(table)] for number in range(len(new.rows))]
+        found = [_welfare(table, new, label, own) for label, own in zip(new.labels, by_new)]
         return answers(found, table, certificate, first)
 
 
-def _welfare(
-    table: Table, new: Sheet, label: Any, own: list[dict[str, Any]]
-) -> Welfare:
+def _welfare(table: Table, new: Sheet, label: Any, own: list[dict[str, Any]]) -> Welfare:
     walk, price = walk_of(table), new.scale("p_")
     money = price * table.quantity_scale
     prices = named_prices(table, own[0], price)
@@ -445,16 +347,9 @@ def _welfare(
         return Welfare(label, prices, False)
     rows = walk([item["observation"] for item in own])
     lower = {row: bound_value(item["lower"], money) for row, item in zip(rows, own)}
-    upper = {
-        row: Fraction(exact.whole_of(item["upper"]), money)
-        for row, item in zip(rows, own)
-    }
+    upper = {row: Fraction(exact.whole_of(item["upper"]), money) for row, item in zip(rows, own)}
     at = {row: walk([item["at"]])[0] for row, item in zip(rows, own)}
-    reasons = {
-        row: withheld(item["lower"]["withheld"])
-        for row, item in zip(rows, own)
-        if "withheld" in item["lower"]
-    }
+    reasons = {row: withheld(item["lower"]["withheld"]) for row, item in zip(rows, own) if "withheld" in item["lower"]}
     return Welfare(label, prices, True, lower, upper, at, reasons)
 
 
@@ -466,19 +361,14 @@ def strictly(first: Sequence[Any], second: Sequence[Any]) -> Iterator[tuple[Any,
 
 
 def named_prices(table: Table, item: dict[str, Any], scale: int) -> dict[str, Fraction]:
-    return {
-        good: Fraction(exact.whole_of(price), scale)
-        for good, price in strictly(table.goods, item["prices"])
-    }
+    return {good: Fraction(exact.whole_of(price), scale) for good, price in strictly(table.goods, item["prices"])}
 
 
 def bound_value(bound: dict[str, Any], scale: int) -> Fraction | None:
     return None if "withheld" in bound else exact.fraction_read(bound["value"]) / scale
 
 
-def answers(
-    found: list[Any], table: Table, certificate: Certificate, first: dict[str, Any]
-) -> Answers:
+def answers(found: list[Any], table: Table, certificate: Certificate, first: dict[str, Any]) -> Answers:
     made = Answers(found, table, certificate, "ranks" in first)
     made.ranks = by_label(table, first["ranks"]) if "ranks" in first else None
     made.cycle = walk_of(table)(first["cycle"]) if "cycle" in first else None
@@ -500,10 +390,7 @@ def utilities(table: Table, bundles: Sheet, text: str) -> Answers:
                 if line[2] == "value":
                     found.append(exact.fraction_read(line[3]) / money)
                 else:
-                    reasons[label] = {
-                        "none": "the axiom fails",
-                        "withheld": "Afriat's numbers get past their width",
-                    }[line[2]]
+                    reasons[label] = {"none": "the axiom fails", "withheld": "Afriat's numbers get past their width"}[line[2]]
                     found.append(None)
         if len(found) != len(bundles.labels):
             raise ValueError(f"{len(found)} answers for {len(bundles.labels)} bundles")
@@ -549,29 +436,23 @@ class RandomVerdict:
                 self.reason = withheld(item["withheld"])
                 return
             den = exact.whole_of(item["den"])
-            self.parts = [
-                Part(patches, Fraction(exact.whole_of(weight), den * self.total))
-                for patches, weight in item["parts"]
-            ]
+            self.parts = [Part(patches, Fraction(exact.whole_of(weight), den * self.total)) for patches, weight in item["parts"]]
             self.rational = "weights" not in item
             self.share = sum((part.share for part in self.parts), Fraction(0))
             if not self.rational:
-                self.weights = [
-                    Fraction(exact.whole_of(weight), den) for weight in item["weights"]
-                ]
+                self.weights = [Fraction(exact.whole_of(weight), den) for weight in item["weights"]]
 
     def __repr__(self) -> str:
         if self.rational is None:
             return f"random withheld: {self.reason}"
-        return (
-            "random mixture" if self.rational else f"random violated share {self.share}"
-        )
+        return "random mixture" if self.rational else f"random violated share {self.share}"
 
 
 class Checked:
-    """What the program's checker says. It is true where it accepts; else `item`, `reason` and `place` say what fails first."""
+    """What the program's checker says. It is true where it accepts and some item of the certificate proves its verdict: one
+    without items, or that withholds all, proves nothing. Where it rejects, `item`, `reason` and `place` say what fails first."""
 
-    def __init__(self, line: str) -> None:
+    def __init__(self, line: str, certificate: bytes) -> None:
         self.line = line.strip()
         words = line.split()
         with reading(line.encode()):
@@ -583,9 +464,10 @@ class Checked:
             self.item = None if self.accepted else int(words[2])
             self.reason = None if self.accepted else words[3]
             self.place = None if self.accepted else int(words[5])
+        self.proved = sum("withheld" not in item for item in Certificate(certificate).items) if self.accepted else 0
 
     def __bool__(self) -> bool:
-        return self.accepted
+        return self.accepted and self.proved > 0
 
     def __repr__(self) -> str:
-        return self.line
+        return self.line + (": nothing is proved" if self.accepted and not self.proved else "")

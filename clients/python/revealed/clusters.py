@@ -13,18 +13,11 @@ from .faults import BadData
 PLACE = "row of the frame"
 ROWS = 1 << 40
 # The types of a panel's frame in the words of Spark.
-SPARK = {
-    "boolean": "boolean",
-    "Float64": "double",
-    "string": "string",
-    "Int64": "bigint",
-}
+SPARK = {"boolean": "boolean", "Float64": "double", "string": "string", "Int64": "bigint"}
 
 
 def is_dask(d: Any) -> bool:
-    return type(d).__module__.partition(".")[0] in ("dask", "dask_expr") and hasattr(
-        d, "map_partitions"
-    )
+    return type(d).__module__.partition(".")[0] in ("dask", "dask_expr") and hasattr(d, "map_partitions")
 
 
 def records_of(frame: Any, by: Any, more: dict[str, Any]) -> Any:
@@ -34,9 +27,7 @@ def records_of(frame: Any, by: Any, more: dict[str, Any]) -> Any:
     return panel(frame, by, workers=1, progress=False, **more).frame()
 
 
-def panel_task(
-    by: Any, *, order: Any = None, key: str = "string", **more: Any
-) -> Callable[[Any], Any]:
+def panel_task(by: Any, *, order: Any = None, key: str = "string", **more: Any) -> Callable[[Any], Any]:
     """Returns a function that answers a frame of whole households with the frame of their records, for `applyInPandas` of Spark.
 
     `task = panel_task("household", order="obs", pump=True)`, and then `d.groupBy("household").applyInPandas(task, task.schema)`.
@@ -45,9 +36,7 @@ def panel_task(
     frame is None or NaN, and its columns are plain ones.
     """
     if order is None:
-        raise BadData(
-            "order: the column by which the rows of a household are sorted, since groups have no order of their own"
-        )
+        raise BadData("order: the column by which the rows of a household are sorted, since groups have no order of their own")
 
     def task(frame: Any) -> Any:
         records = records_of(frame.sort_values(order, kind="stable"), by, more)
@@ -56,10 +45,7 @@ def panel_task(
                 values = records[name].astype(object)
                 records[name] = values.where(values.notna(), None)
             elif str(kind) in ("Float64", "Int64"):
-                records[name] = records[name].to_numpy(
-                    "float64" if str(kind) == "Float64" else "int64",
-                    na_value=float("nan"),
-                )
+                records[name] = records[name].to_numpy("float64" if str(kind) == "Float64" else "int64", na_value=float("nan"))
         return records
 
     names = list(by) if isinstance(by, (list, tuple)) else [by]
@@ -77,17 +63,13 @@ def of_dask(d: Any, names: Sequence[Any], levels: Any, more: dict[str, Any]) -> 
     import pandas
 
     if hasattr(levels, "__iter__"):
-        raise BadData(
-            "levels of a frame of Dask are one number for all, or its column 'e'"
-        )
+        raise BadData("levels of a frame of Dask are one number for all, or its column 'e'")
     more = {**more, "levels": levels}
     # What is wrong with the columns is told now, and not by each partition.
     records_of(d._meta, list(names), more)
     rows = d._meta.assign(**{PLACE: numpy.zeros(0, "int64")})
     empty = _answered(rows, list(names), more)
-    empty = empty.astype(
-        {name: pandas.Series(list(d._meta_nonempty[name])).dtype for name in names}
-    )
+    empty = empty.astype({name: pandas.Series(list(d._meta_nonempty[name])).dtype for name in names})
     whole = d.map_partitions(_placed, meta=rows).shuffle(list(names))
     return whole.map_partitions(_answered, list(names), more, meta=empty)
 
@@ -97,19 +79,14 @@ def _placed(part: Any, partition_info: Any = None) -> Any:
     import numpy
 
     number = partition_info["number"] if partition_info else 0
-    return part.assign(
-        **{PLACE: number * ROWS + numpy.arange(len(part), dtype="int64")}
-    )
+    return part.assign(**{PLACE: number * ROWS + numpy.arange(len(part), dtype="int64")})
 
 
 def _answered(part: Any, names: list[Any], more: dict[str, Any]) -> Any:
     """Returns the records of the households of a partition, under the place of each one's first row."""
     part = part.sort_values(PLACE)
     keys = part[names].astype(object).where(part[names].notna(), None)
-    if (
-        "obs" not in part.columns
-        and keys.assign(**{PLACE: part.index.to_numpy()}).duplicated().any()
-    ):
+    if "obs" not in part.columns and keys.assign(**{PLACE: part.index.to_numpy()}).duplicated().any():
         # The indices of several partitions say the same: the rows of each household are called by their numbers.
         part = part.set_axis(keys.groupby(names, dropna=False).cumcount() + 1)
     firsts = part[PLACE].to_numpy()[~keys.duplicated().to_numpy()]

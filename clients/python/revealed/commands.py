@@ -7,40 +7,14 @@ import os
 from typing import Any, Callable, Union
 
 from . import advice, program, verifier
-from .answers import (
-    Answers,
-    Certificate,
-    Checked,
-    RandomVerdict,
-    Verdict,
-    demands,
-    reading,
-    utilities,
-    walk_of,
-    welfares,
-)
+from .answers import Answers, Certificate, Checked, RandomVerdict, Verdict, demands, reading, utilities, walk_of, welfares
 from .catalogue import DRAWS, PER, SEED, span
 from .faults import BadData, Failed, NoFile, Refused
 from .measures import CostMinimisation, MenuVerdict, MoneyPump, Power, Trial
-from .tables import (
-    OWN_MONEY,
-    Choices,
-    MenuChoices,
-    Sheet,
-    Table,
-    Technology,
-    beside,
-    table,
-)
+from .tables import OWN_MONEY, Choices, MenuChoices, Sheet, Table, Technology, beside, table
 from .verifier import Findings, reports
 
-TABLE, NEW, BUDGETS, CHOICES, CERTIFICATE = (
-    "table.csv",
-    "new.csv",
-    "budgets.csv",
-    "choices.csv",
-    "certificate.json",
-)
+TABLE, NEW, BUDGETS, CHOICES, CERTIFICATE = "table.csv", "new.csv", "budgets.csv", "choices.csv", "certificate.json"
 MENUS, TECHNOLOGY, ASKED = "menus.csv", "technology.csv", "asked.csv"
 Explains = Callable[[Union[str, None], str, "dict[str, int]"], Exception]
 
@@ -48,9 +22,7 @@ Explains = Callable[[Union[str, None], str, "dict[str, int]"], Exception]
 # ---- verdicts on a table
 
 
-def analyse(
-    p: Any, q: Any = None, *, levels: Any = None, places: Any = None, exe: Any = None
-) -> Verdict:
+def analyse(p: Any, q: Any = None, *, levels: Any = None, places: Any = None, exe: Any = None) -> Verdict:
     """Returns the Verdict on prices p and quantities q: two lists of rows, two arrays, or two frames; or on a table alone.
 
     `levels` gives each row its level, in whole thousandths of what was spent, where the frame has no column `e`. `places` rounds
@@ -61,19 +33,14 @@ def analyse(
     return Verdict(own, _certificate(own, exe))
 
 
-def certify(
-    p: Any, q: Any = None, *, levels: Any = None, places: Any = None, exe: Any = None
-) -> Certificate:
+def certify(p: Any, q: Any = None, *, levels: Any = None, places: Any = None, exe: Any = None) -> Certificate:
     """Returns the Certificate of these verdicts."""
     return _certificate(table(p, q, places=places, levels=levels), exe)
 
 
-def first_contradiction(
-    p: Any, q: Any = None, *, levels: Any = None, places: Any = None, exe: Any = None
-) -> tuple[Any, Any] | None:
+def first_contradiction(p: Any, q: Any = None, *, levels: Any = None, places: Any = None, exe: Any = None) -> tuple[Any, Any] | None:
     """Returns the labels of the first two rows that contradict each other, the one weakly preferred to the other and that strictly
-    to it; None where no two do. It is a quick look: longer cycles are seen by `analyse`.
-    """
+    to it; None where no two do. It is a quick look: longer cycles are seen by `analyse`."""
     own = table(p, q, places=places, levels=levels)
     told = program.answer(["pairs", TABLE], {TABLE: own.csv()}, exe, _explains(own))
     with reading(told.encode()):
@@ -84,69 +51,38 @@ def first_contradiction(
         return first, second
 
 
-def money_pump(
-    p: Any, q: Any = None, *, levels: Any = None, places: Any = None, exe: Any = None
-) -> MoneyPump:
+def money_pump(p: Any, q: Any = None, *, levels: Any = None, places: Any = None, exe: Any = None) -> MoneyPump:
     """Returns the greatest money pump ratio of a table, with a cycle that has it. It is refused on a table with levels, and on
     one of intercepts exchanged, whose rows have money of their own."""
     own = table(p, q, places=places, levels=levels)
     if own.own_money:
         raise BadData(f"the money pump: {OWN_MONEY}")
-    return MoneyPump(
-        own,
-        program.answer(
-            ["pump", TABLE], {TABLE: own.csv()}, exe, _explains(own)
-        ).encode(),
-    )
+    return MoneyPump(own, program.answer(["pump", TABLE], {TABLE: own.csv()}, exe, _explains(own)).encode())
 
 
-def power_of_test(
-    p: Any,
-    q: Any = None,
-    *,
-    seed: Any = 1,
-    draws: Any = 1000,
-    levels: Any = None,
-    places: Any = None,
-    exe: Any = None,
-) -> Power:
+def power_of_test(p: Any, q: Any = None, *, seed: Any = 1, draws: Any = 1000, levels: Any = None, places: Any = None, exe: Any = None) -> Power:
     """Returns how many of so many random behaviours on the budgets of a table, 1 to 1,000, violate the axiom.
 
     How they are drawn stands in docs/USING.md: nearer to equal division than uniformly on the budget line. It is refused on a
     table with levels.
     """
     own = table(p, q, places=places, levels=levels)
-    seed, draws = program.whole(seed, "seed", *SEED), program.whole(
-        draws, "draws", *DRAWS
-    )
-    out = program.answer(
-        ["power", TABLE, str(seed), str(draws)], {TABLE: own.csv()}, exe, _explains(own)
-    )
+    seed, draws = program.whole(seed, "seed", *SEED), program.whole(draws, "draws", *DRAWS)
+    out = program.answer(["power", TABLE, str(seed), str(draws)], {TABLE: own.csv()}, exe, _explains(own))
     return Power(own, out.encode(), seed, draws)
 
 
 def random_trial(seed: Any, rows: Any, goods: Any, *, exe: Any = None) -> Trial:
     """Returns the verdicts on a table of pseudorandom numbers: 1 to 256 rows of 1 to 16 goods."""
     given = (("seed", seed, "SEED"), ("rows", rows, "ROWS"), ("goods", goods, "GOODS"))
-    words = [
-        program.whole(value, name, *span("trial", word)) for name, value, word in given
-    ]
+    words = [program.whole(value, name, *span("trial", word)) for name, value, word in given]
     return Trial(program.answer(["trial", *map(str, words)], {}, exe).encode())
 
 
 # ---- at new prices
 
 
-def demand_bounds(
-    p: Any,
-    q: Any = None,
-    new: Any = None,
-    m: Any = None,
-    *,
-    levels: Any = None,
-    places: Any = None,
-    exe: Any = None,
-) -> Answers:
+def demand_bounds(p: Any, q: Any = None, new: Any = None, m: Any = None, *, levels: Any = None, places: Any = None, exe: Any = None) -> Answers:
     """Returns the Demand on each new budget: prices `new`, a row or a frame, and what is spent `m`, one number or one a row.
 
     A frame of new prices may have the column `m` itself. It is refused on a table with levels.
@@ -157,15 +93,7 @@ def demand_bounds(
     return demands(own, sheet, Certificate(_asked(words, own, sheet, exe)))
 
 
-def welfare_bounds(
-    p: Any,
-    q: Any = None,
-    new: Any = None,
-    *,
-    levels: Any = None,
-    places: Any = None,
-    exe: Any = None,
-) -> Answers:
+def welfare_bounds(p: Any, q: Any = None, new: Any = None, *, levels: Any = None, places: Any = None, exe: Any = None) -> Answers:
     """Returns the Welfare bounds at each row of new prices. It is refused on a table with levels."""
     own = table(p, q, places=places, levels=levels)
     sheet = _new(own, new, "p_", places=places)
@@ -173,59 +101,32 @@ def welfare_bounds(
     return welfares(own, sheet, Certificate(_asked(words, own, sheet, exe)))
 
 
-def afriat_utility(
-    p: Any,
-    q: Any = None,
-    bundles: Any = None,
-    *,
-    levels: Any = None,
-    places: Any = None,
-    exe: Any = None,
-) -> Answers:
+def afriat_utility(p: Any, q: Any = None, bundles: Any = None, *, levels: Any = None, places: Any = None, exe: Any = None) -> Answers:
     """Returns the utility of each bundle under the Verdict's Afriat numbers, in their scale: money where lambda is 1."""
     own = table(p, q, places=places, levels=levels)
     sheet = _new(own, bundles, "q_", places=places)
-    return utilities(
-        own, sheet, _asked(["utility", TABLE, NEW], own, sheet, exe).decode()
-    )
+    return utilities(own, sheet, _asked(["utility", TABLE, NEW], own, sheet, exe).decode())
 
 
 # ---- firms, and choices of many people
 
 
-def cost_minimisation(
-    technology: Any, asked: Any = None, *, places: Any = None, exe: Any = None
-) -> CostMinimisation:
+def cost_minimisation(technology: Any, asked: Any = None, *, places: Any = None, exe: Any = None) -> CostMinimisation:
     """Returns whether a firm minimises its cost and maximises its profit, and what outputs cost at new prices of the inputs.
 
     The technology is a frame with `w_NAME` and `x_NAME` for each input, its price and how much of it was used, `y`, the output,
     and perhaps `p`, its price. What is asked is a frame with `w_NAME` and `y`, or a mapping of these to one number each; without
     it the verdicts alone are given.
     """
-    own = (
-        technology
-        if isinstance(technology, Technology)
-        else Technology(technology, places)
-    )
+    own = technology if isinstance(technology, Technology) else Technology(technology, places)
     first = dict(zip(own.names, own.rows[0])) if own.rows else {}
-    sheet = own.asked(
-        {
-            name: first.get(name)
-            for name in own.names
-            if name.startswith("w_") or name == "y"
-        }
-        if asked is None
-        else asked,
-        places,
-    )
+    sheet = own.asked({name: first.get(name) for name in own.names if name.startswith("w_") or name == "y"} if asked is None else asked, places)
     files = {TECHNOLOGY: own.csv(), ASKED: sheet.csv()}
     out = program.answer(["cost", TECHNOLOGY, ASKED], files, exe, _explains(own, sheet))
     return CostMinimisation(own, sheet, out.encode(), asked is not None)
 
 
-def random_utility(
-    budgets: Any, choices: Any, per: Any = None, *, places: Any = None, exe: Any = None
-) -> RandomVerdict:
+def random_utility(budgets: Any, choices: Any, per: Any = None, *, places: Any = None, exe: Any = None) -> RandomVerdict:
     """Returns the RandomVerdict on choices from budgets.
 
     Budgets are a frame with `p_NAME` for each good and `w`, the income, or rows of prices that end with the income. Choices
@@ -234,12 +135,7 @@ def random_utility(
     """
     own = Choices(budgets, choices, per, places)
     words = ["random", BUDGETS, CHOICES, "--json", *_units(own.per)]
-    out = program.answer(
-        words,
-        {BUDGETS: own.budgets.csv(), CHOICES: own.choices.csv()},
-        exe,
-        _explains_choices(own),
-    )
+    out = program.answer(words, {BUDGETS: own.budgets.csv(), CHOICES: own.choices.csv()}, exe, _explains_choices(own))
     return RandomVerdict(own, Certificate(out.encode()))
 
 
@@ -249,14 +145,8 @@ def menu_choices(choices: Any, per: Any = None, *, exe: Any = None) -> MenuVerdi
     A menu is a text of one to six of the letters a to f, each after the one before it; the choice is one of them, and `n` how
     many times it was made. `per` asks for so many units of each menu.
     """
-    own = (
-        choices
-        if isinstance(choices, MenuChoices) and per is None
-        else MenuChoices(choices, per)
-    )
-    out = program.answer(
-        ["menus", MENUS, *_units(own.per)], {MENUS: own.csv()}, exe, _explains(own)
-    )
+    own = choices if isinstance(choices, MenuChoices) and per is None else MenuChoices(choices, per)
+    out = program.answer(["menus", MENUS, *_units(own.per)], {MENUS: own.csv()}, exe, _explains(own))
     return MenuVerdict(own, out.encode())
 
 
@@ -273,14 +163,12 @@ def check(data: Any, certificate: Any, *, per: Any = None, exe: Any = None) -> C
     files, per, explain = _files(data, per)
     claimed = certificate_bytes(certificate)
     if TABLE not in files and BUDGETS not in files:
-        raise BadData(
-            "the program checks certificates alone; verify looks at reports of pump, menus and cost"
-        )
+        raise BadData("the program checks certificates alone; verify looks at reports of pump, menus and cost")
     files[CERTIFICATE] = claimed
     words = ["check", TABLE] if TABLE in files else ["checkrandom", BUDGETS, CHOICES]
     ran = program.call([*words, CERTIFICATE, *_units(per)], files, exe)
     if ran.status in (0, 1):
-        return Checked(ran.out)
+        return Checked(ran.out, claimed)
     if ran.refusal is None:
         raise Failed(ran.status, ran.said)
     raise explain(*ran.refusal)
@@ -299,21 +187,13 @@ def verify(data: Any, certificate: Any = None, *, per: Any = None) -> Findings:
         files = _as_firm(files)
         return verifier.verify_cost(files[TECHNOLOGY], files[ASKED], claimed)
     if claimed.lstrip().startswith(b"alternatives "):
-        return verifier.verify_menus(
-            files.get(MENUS, files.get(TABLE, b"")), claimed, per
-        )
+        return verifier.verify_menus(files.get(MENUS, files.get(TABLE, b"")), claimed, per)
     if TABLE in files:
         is_report = claimed.lstrip().startswith(b"observations ")
-        return (
-            verifier.verify_pump(files[TABLE], claimed)
-            if is_report
-            else verifier.verify_table(files[TABLE], claimed)
-        )
+        return verifier.verify_pump(files[TABLE], claimed) if is_report else verifier.verify_table(files[TABLE], claimed)
     if BUDGETS in files:
         return verifier.verify_choices(files[BUDGETS], files[CHOICES], claimed, per)
-    raise BadData(
-        "a certificate is on a table or on choices from budgets; on menus and on firms there are reports"
-    )
+    raise BadData("a certificate is on a table or on choices from budgets; on menus and on firms there are reports")
 
 
 def _as_firm(files: dict[str, bytes]) -> dict[str, bytes]:
@@ -321,9 +201,7 @@ def _as_firm(files: dict[str, bytes]) -> dict[str, bytes]:
     if TECHNOLOGY in files:
         return files
     if BUDGETS not in files:
-        raise BadData(
-            "a report on production is on a technology and what was asked of it: a tuple of the two"
-        )
+        raise BadData("a report on production is on a technology and what was asked of it: a tuple of the two")
     return {TECHNOLOGY: files[BUDGETS], ASKED: files[CHOICES]}
 
 
@@ -332,23 +210,14 @@ def _certificate(own: Table, exe: Any) -> Certificate:
     return Certificate(out.encode())
 
 
-def _new(
-    own: Table,
-    data: Any,
-    prefix: str,
-    more: str | None = None,
-    values: Any = None,
-    places: Any = None,
-) -> Sheet:
+def _new(own: Table, data: Any, prefix: str, more: str | None = None, values: Any = None, places: Any = None) -> Sheet:
     if data is None:
         raise BadData("there are no new prices or bundles")
     return beside(own, data, prefix, more, values, places)
 
 
 def _asked(words: list[str], own: Table, new: Sheet, exe: Any) -> bytes:
-    return program.answer(
-        words, {TABLE: own.csv(), NEW: new.csv()}, exe, _explains(own, new)
-    ).encode()
+    return program.answer(words, {TABLE: own.csv(), NEW: new.csv()}, exe, _explains(own, new)).encode()
 
 
 def _units(per: Any) -> list[str]:
@@ -360,33 +229,15 @@ def _explains(*sheets: Sheet) -> Explains:
     by_file = {sheet.file: sheet for sheet in sheets}
 
     def explain(file: str | None, fault: str, places: dict[str, int]) -> Refused:
-        return (
-            by_file[file].refused(fault, places)
-            if file in by_file
-            else refusal(fault, file, places)
-        )
+        return by_file[file].refused(fault, places) if file in by_file else refusal(fault, file, places)
 
     return explain
 
 
-def refusal(
-    fault: str, file: str | None, places: dict[str, int], label: Any = None
-) -> Refused:
+def refusal(fault: str, file: str | None, places: dict[str, int], label: Any = None) -> Refused:
     """Returns a refusal at these places."""
-    record, column, budget, menu, item = map(
-        places.get, ("record", "column", "budget", "menu", "item")
-    )
-    return Refused(
-        fault,
-        file,
-        record,
-        column,
-        budget,
-        menu,
-        item,
-        label=label,
-        hint=advice.HINTS.get(fault),
-    )
+    record, column, budget, menu, item = map(places.get, ("record", "column", "budget", "menu", "item"))
+    return Refused(fault, file, record, column, budget, menu, item, label=label, hint=advice.HINTS.get(fault))
 
 
 def _explains_choices(own: Choices) -> Explains:
@@ -405,9 +256,7 @@ def _explains_choices(own: Choices) -> Explains:
 def _files(data: Any, per: Any) -> tuple[dict[str, bytes], Any, Explains]:
     """Returns the files of some data with their units, and what explains a refusal of one."""
     for attribute in ("table", "choices"):
-        if isinstance(
-            data, (Verdict, RandomVerdict, MoneyPump, MenuVerdict, Answers)
-        ) and hasattr(data, attribute):
+        if isinstance(data, (Verdict, RandomVerdict, MoneyPump, MenuVerdict, Answers)) and hasattr(data, attribute):
             data = getattr(data, attribute)
             break
     if isinstance(data, CostMinimisation):
@@ -421,18 +270,10 @@ def _files(data: Any, per: Any) -> tuple[dict[str, bytes], Any, Explains]:
         return {TABLE: file_bytes(data)}, per, _explains()
     if isinstance(data, tuple) and len(data) == 2:
         if all(map(is_file, data)):
-            return (
-                {BUDGETS: file_bytes(data[0]), CHOICES: file_bytes(data[1])},
-                per,
-                _explains(),
-            )
+            return {BUDGETS: file_bytes(data[0]), CHOICES: file_bytes(data[1])}, per, _explains()
         if isinstance(data[0], Technology):
             sheet = data[1] if isinstance(data[1], Sheet) else data[0].asked(data[1])
-            return (
-                {TECHNOLOGY: data[0].csv(), ASKED: sheet.csv()},
-                per,
-                _explains(*data),
-            )
+            return {TECHNOLOGY: data[0].csv(), ASKED: sheet.csv()}, per, _explains(*data)
         data = table(*data)
     if not isinstance(data, Table):
         data = table(data)
@@ -462,24 +303,18 @@ def certificate_bytes(certificate: Any) -> bytes:
         return certificate.report
     if isinstance(certificate, (Verdict, RandomVerdict, Answers)):
         if certificate.certificate is None:
-            raise BadData(
-                "these utilities have no certificate: they are the Afriat numbers' of analyse, which has one"
-            )
+            raise BadData("these utilities have no certificate: they are the Afriat numbers' of analyse, which has one")
         return certificate.certificate.data
     if isinstance(certificate, (bytes, bytearray)):
         return bytes(certificate)
-    if isinstance(certificate, os.PathLike) or (
-        isinstance(certificate, str) and is_name_of_file(certificate)
-    ):
+    if isinstance(certificate, os.PathLike) or (isinstance(certificate, str) and is_name_of_file(certificate)):
         return _read(certificate)
     if isinstance(certificate, str):
         return text_bytes(certificate)
     try:
         return json.dumps(certificate).encode()
     except (TypeError, ValueError, RecursionError):
-        raise BadData(
-            f"a certificate is a Certificate, a text, bytes, a value of JSON or the name of a file, and not {certificate!r}"
-        ) from None
+        raise BadData(f"a certificate is a Certificate, a text, bytes, a value of JSON or the name of a file, and not {certificate!r}") from None
 
 
 def is_name_of_file(text: str) -> bool:
@@ -506,9 +341,4 @@ def _read(path: Any) -> bytes:
 
 pairs, pump, power, trial = first_contradiction, money_pump, power_of_test, random_trial
 demand, welfare, utility = demand_bounds, welfare_bounds, afriat_utility
-cost, random, menus, checkrandom = (
-    cost_minimisation,
-    random_utility,
-    menu_choices,
-    check,
-)
+cost, random, menus, checkrandom = cost_minimisation, random_utility, menu_choices, check

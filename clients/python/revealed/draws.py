@@ -27,27 +27,13 @@ def on_budget_lines(table: Table, seed: Any) -> Table:
     count = len(table.goods)
     rows = [[Fraction(text) for text in texts[: 2 * count]] for texts in table.texts]
     prices = [row[:count] for row in rows]
-    spent = [
-        sum((p * q for p, q in zip(row[:count], row[count:])), Fraction(0))
-        for row in rows
-    ]
-    drawn = [
-        [
-            Fraction(part) * money / price
-            for part, price in zip(shares(draw, count), row)
-        ]
-        for row, money in zip(prices, spent)
-    ]
+    spent = [sum((p * q for p, q in zip(row[:count], row[count:])), Fraction(0)) for row in rows]
+    drawn = [[Fraction(part) * money / price for part, price in zip(shares(draw, count), row)] for row, money in zip(prices, spent)]
     places = advice.places_that_fit([number for row in drawn for number in row])
     scale = 10 ** (places or 0)
-    quantities = [
-        [exact.decimal_text(Fraction(int(number * scale), scale)) for number in row]
-        for row in drawn
-    ]
+    quantities = [[exact.decimal_text(Fraction(int(number * scale), scale)) for number in row] for row in drawn]
     for row in quantities:
         if not any(Fraction(text) for text in row):
             row[0] = exact.decimal_text(Fraction(1, scale))
     texts = [[exact.decimal_text(price) for price in row] for row in prices]
-    return Table(
-        table.goods, texts, quantities, list(table.labels), own_money=table.own_money
-    )
+    return Table(table.goods, texts, quantities, list(table.labels), own_money=table.own_money)

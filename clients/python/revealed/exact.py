@@ -73,11 +73,7 @@ def fraction_of(value: Any) -> Fraction | None:
     if isinstance(value, Fraction):
         return value
     if isinstance(value, str):
-        return (
-            Fraction(value.strip(" \t"))
-            if _NUMBER.fullmatch(value.strip(" \t"))
-            else None
-        )
+        return Fraction(value.strip(" \t")) if _NUMBER.fullmatch(value.strip(" \t")) else None
     try:
         if isinstance(value, (int, float, Decimal)):
             return Fraction(value)
@@ -122,9 +118,7 @@ def places_of(number: Fraction) -> int:
 def decimal_text(number: Fraction) -> str:
     """Returns a fraction as a plain decimal."""
     places = places_of(number)
-    digits = str(abs(number.numerator) * 10**places // number.denominator).rjust(
-        places + 1, "0"
-    )
+    digits = str(abs(number.numerator) * 10**places // number.denominator).rjust(places + 1, "0")
     whole, part = (digits[:-places], digits[-places:]) if places else (digits, "")
     return ("-" if number < 0 else "") + whole + ("." + part if part else "")
 
@@ -156,9 +150,7 @@ def fraction_read(text: str) -> Fraction:
 def written(number: Fraction | int) -> str:
     """Returns a whole number or a fraction as a text, however long."""
     if isinstance(number, Fraction):
-        return written(number.numerator) + (
-            "" if number.denominator == 1 else "/" + written(number.denominator)
-        )
+        return written(number.numerator) + ("" if number.denominator == 1 else "/" + written(number.denominator))
     if number < 0:
         return "-" + written(-number)
     if number < 10**4000:

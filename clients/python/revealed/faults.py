@@ -16,18 +16,8 @@ class BadData(Problem, ValueError):
 class WrongColumns(BadData):
     """A column that is needed is not there: `wanted` are the columns that are asked for, and `found` those that there are."""
 
-    def __init__(
-        self,
-        wanted: Sequence[str],
-        found: Sequence[Any],
-        file: str = "table",
-        hint: str | None = None,
-    ) -> None:
-        self.wanted, self.found, self.file = (
-            list(wanted),
-            [str(name) for name in found],
-            file,
-        )
+    def __init__(self, wanted: Sequence[str], found: Sequence[Any], file: str = "table", hint: str | None = None) -> None:
+        self.wanted, self.found, self.file = list(wanted), [str(name) for name in found], file
         there = ", ".join(map(repr, self.found)) or "none"
         said = f"{file}: the columns that are wanted are {', '.join(self.wanted)}; those that were found are {there}"
         super().__init__(said + (f": {hint}" if hint else ""))
@@ -57,9 +47,7 @@ class Failed(Problem, RuntimeError):
     """The program ended without an answer, and not because of the data; `status` and `said` have its own words."""
 
     def __init__(self, status: int, said: str) -> None:
-        super().__init__(
-            f"rp ended with status {status}" + (f": {said}" if said else "")
-        )
+        super().__init__(f"rp ended with status {status}" + (f": {said}" if said else ""))
         self.status = status
         self.said = said
 
@@ -69,8 +57,7 @@ class Unreadable(Failed):
 
     def __init__(self, said: str, why: str) -> None:
         RuntimeError.__init__(
-            self,
-            f"rp ended as with an answer, and this is none that can be read ({why}): {said[:60]!r}; is that program rp, of this version?",
+            self, f"rp ended as with an answer, and this is none that can be read ({why}): {said[:60]!r}; is that program rp, of this version?"
         )
         self.status = 0
         self.said = said
@@ -122,9 +109,4 @@ class Refused(Problem, ValueError):
         if self.value is not None:
             told.append(f"value {self.value}")
         place = f"{self.file}: " if self.file and self.file != "table" else ""
-        return (
-            place
-            + " ".join(words)
-            + (f" ({', '.join(told)})" if told else "")
-            + (f": {self.hint}" if self.hint else "")
-        )
+        return place + " ".join(words) + (f" ({', '.join(told)})" if told else "") + (f": {self.hint}" if self.hint else "")

@@ -12,31 +12,8 @@ from . import exact
 from .faults import BadData, Pooled, Refused, WrongColumns
 
 # Names of a column that tells households apart. A frame that has one, with values that come again, is a panel.
-HOUSEHOLDS = {
-    "household",
-    "household_id",
-    "householdid",
-    "hh",
-    "hhid",
-    "hh_id",
-    "subject",
-    "subject_id",
-    "subjectid",
-    "participant",
-    "participant_id",
-}
-HOUSEHOLDS |= {
-    "respondent",
-    "respondent_id",
-    "consumer",
-    "consumer_id",
-    "person",
-    "person_id",
-    "individual",
-    "id",
-    "pid",
-    "uid",
-}
+HOUSEHOLDS = {"household", "household_id", "householdid", "hh", "hhid", "hh_id", "subject", "subject_id", "subjectid", "participant", "participant_id"}
+HOUSEHOLDS |= {"respondent", "respondent_id", "consumer", "consumer_id", "person", "person_id", "individual", "id", "pid", "uid"}
 OTHER_NAMES = re.compile(r"([pqxw])[ ._-]?(\d+)", re.I)
 
 
@@ -45,11 +22,7 @@ def is_frame(data: Any) -> bool:
 
 
 def is_records(data: Any) -> bool:
-    return (
-        isinstance(data, (list, tuple))
-        and bool(data)
-        and all(isinstance(row, Mapping) for row in data)
-    )
+    return isinstance(data, (list, tuple)) and bool(data) and all(isinstance(row, Mapping) for row in data)
 
 
 def is_arrow(data: Any) -> bool:
@@ -62,25 +35,15 @@ class Frame:
 
     def __init__(self, data: Any, what: str = "the data") -> None:
         if not is_frame(data):
-            raise BadData(
-                f"{what}: neither a frame, nor a mapping of names to columns, nor a list of mappings, but {described(data)}"
-            )
+            raise BadData(f"{what}: neither a frame, nor a mapping of names to columns, nor a list of mappings, but {described(data)}")
         columns: list[list[Any]]
         if is_records(data):
             self.names = list(dict.fromkeys(name for row in data for name in row))
             columns = [[row.get(name) for row in data] for name in self.names]
         else:
-            self.names = list(
-                data
-                if isinstance(data, Mapping)
-                else data.column_names
-                if is_arrow(data)
-                else data.columns
-            )
+            self.names = list(data if isinstance(data, Mapping) else data.column_names if is_arrow(data) else data.columns)
             if len(set(self.names)) != len(self.names):
-                raise BadData(
-                    f"{what}: two columns have one name: {sorted(map(str, self.names))}"
-                )
+                raise BadData(f"{what}: two columns have one name: {sorted(map(str, self.names))}")
             columns = [column_of(data, name, what) for name in self.names]
         lengths = {str(name): len(column) for name, column in zip(self.names, columns)}
         if len(set(lengths.values())) > 1:
@@ -107,9 +70,7 @@ def column_of(data: Any, name: Any, what: str) -> list[Any]:
     if hasattr(column, "to_pylist"):
         column = column.to_pylist()
     if isinstance(column, (str, bytes, Mapping)) or not hasattr(column, "__iter__"):
-        raise BadData(
-            f"{what}: the column {name!r} is {described(column)}, and no list of values"
-        )
+        raise BadData(f"{what}: the column {name!r} is {described(column)}, and no list of values")
     return list(column)
 
 
@@ -126,9 +87,7 @@ def numbered(labels: Iterable[Any]) -> list[Any]:
     """Returns the labels, and the numbers of the rows from 1 where two rows have one label or one has none."""
     labels = list(labels)
     try:
-        if len(set(labels)) == len(labels) and not any(
-            exact.is_missing(label) for label in labels
-        ):
+        if len(set(labels)) == len(labels) and not any(exact.is_missing(label) for label in labels):
             return labels
     except TypeError:
         pass
@@ -156,11 +115,7 @@ def own_labels(labels: Iterable[Any], name: str) -> list[Any]:
 def no_panel(frame: Frame, goods: Iterable[Any]) -> None:
     """Refuses a frame with a column of households, by its name and because its values come again."""
     for name in frame.names:
-        if (
-            isinstance(name, str)
-            and name.strip().lower() in HOUSEHOLDS
-            and name not in goods
-        ):
+        if isinstance(name, str) and name.strip().lower() in HOUSEHOLDS and name not in goods:
             values = [repr(value) for value in frame.columns[name]]
             if 1 < len(set(values)) < len(values):
                 why = f"the column {name!r} has {len(set(values))} values for {len(values)} rows"
@@ -177,49 +132,22 @@ def starting(names: Sequence[Any], prefix: str) -> list[str]:
         if isinstance(name, str) and name.startswith(prefix):
             found.append(name)
         elif isinstance(name, str) and name.strip().lower().startswith(prefix):
-            raise Refused(
-                "BadHeader",
-                column=place,
-                name=name,
-                hint=f"a column of this kind begins with {prefix!r}",
-            )
+            raise Refused("BadHeader", column=place, name=name, hint=f"a column of this kind begins with {prefix!r}")
     return found
 
 
-def pairs_of(
-    frame: Frame, first: str, second: str, file: str, others: Sequence[str] = ()
-) -> list[str]:
+def pairs_of(frame: Frame, first: str, second: str, file: str, others: Sequence[str] = ()) -> list[str]:
     """Returns the names of the goods, or inputs, that have a column of each kind; refuses a frame that lacks one."""
     prices, quantities = starting(frame.names, first), starting(frame.names, second)
     if not prices and not quantities:
-        kinds = [
-            f"{first}NAME and {second}NAME for each {'input' if first == 'w_' else 'good'}",
-            *others,
-        ]
-        raise WrongColumns(
-            kinds, frame.names, file, renames(frame.names, first, second)
-        )
-    goods = list(
-        dict.fromkeys(
-            [*(name[2:] for name in prices), *(name[2:] for name in quantities)]
-        )
-    )
-    for own, other in [
-        *((it, second + it[2:]) for it in prices),
-        *((it, first + it[2:]) for it in quantities),
-    ]:
+        kinds = [f"{first}NAME and {second}NAME for each {'input' if first == 'w_' else 'good'}", *others]
+        raise WrongColumns(kinds, frame.names, file, renames(frame.names, first, second))
+    goods = list(dict.fromkeys([*(name[2:] for name in prices), *(name[2:] for name in quantities)]))
+    for own, other in [*((it, second + it[2:]) for it in prices), *((it, first + it[2:]) for it in quantities)]:
         if other not in frame.columns:
-            wanted = ", ".join(
-                [
-                    *(first + good for good in goods),
-                    *(second + good for good in goods),
-                    *others,
-                ]
-            )
+            wanted = ", ".join([*(first + good for good in goods), *(second + good for good in goods), *others])
             hint = f"there is no column {other!r}; the columns that are wanted are {wanted}; those that were found are {listed(frame.names)}"
-            raise Refused(
-                "Unpaired", file, column=frame.names.index(own) + 1, name=own, hint=hint
-            )
+            raise Refused("Unpaired", file, column=frame.names.index(own) + 1, name=own, hint=hint)
     return [name[2:] for name in prices]
 
 
@@ -230,9 +158,7 @@ def prices_of(frame: Frame, file: str) -> tuple[list[str], list[str]]:
         return goods, ["p_" + good for good in goods]
     goods = pairs_of(frame, "i_", "q_", file)
     if len(goods) != 2:
-        raise BadData(
-            f"{file}: a budget line has two intercepts, i_NAME of each of two goods, and here are {listed(goods)}"
-        )
+        raise BadData(f"{file}: a budget line has two intercepts, i_NAME of each of two goods, and here are {listed(goods)}")
     return goods, ["i_" + good for good in reversed(goods)]
 
 
@@ -246,12 +172,7 @@ def near(frame: Frame, name: str, what: str) -> bool:
     """Whether the frame has this column; refuses one that is nearly called so."""
     for place, own in enumerate(frame.names, 1):
         if isinstance(own, str) and own != name and own.strip().lower() == name:
-            raise Refused(
-                "BadHeader",
-                column=place,
-                name=own,
-                hint=f"{what} are in a column {name!r}; give this one another name if it has none",
-            )
+            raise Refused("BadHeader", column=place, name=own, hint=f"{what} are in a column {name!r}; give this one another name if it has none")
     return name in frame.columns
 
 
@@ -280,27 +201,21 @@ def rows_of(data: Any, what: str) -> list[list[Any]]:
     rows = []
     for row in data:
         if isinstance(row, (str, bytes, Mapping)) or not hasattr(row, "__iter__"):
-            raise BadData(
-                f"{what}: each row is a list with a number for each good, and one is {described(row)}"
-            )
+            raise BadData(f"{what}: each row is a list with a number for each good, and one is {described(row)}")
         rows.append(list(row))
     return rows
 
 
 def one_row(data: Any) -> Any:
     """Returns a mapping of names to single numbers as one of names to columns."""
-    if isinstance(data, Mapping) and not any(
-        hasattr(it, "__iter__") and not isinstance(it, str) for it in data.values()
-    ):
+    if isinstance(data, Mapping) and not any(hasattr(it, "__iter__") and not isinstance(it, str) for it in data.values()):
         return {name: [value] for name, value in data.items()}
     return data
 
 
 def values_of(values: Any, count: int, name: str) -> list[Any]:
     """Returns one value for each row: those that are given, or the one for all."""
-    several = hasattr(values, "__iter__") and not isinstance(
-        values, (str, bytes, Mapping)
-    )
+    several = hasattr(values, "__iter__") and not isinstance(values, (str, bytes, Mapping))
     found = list(values) if several else [values] * count
     if len(found) != count:
         raise BadData(f"{name}: there are {len(found)} for {count} rows")

@@ -32,71 +32,30 @@ class Library:
             self.answer = ctypes.CDLL(path).rp_answer
         except (OSError, AttributeError, ValueError) as wrong:
             raise NoProgram(f"{path} is no library of rp: {wrong}") from wrong
-        text, size, number = (
-            ctypes.c_char_p,
-            ctypes.c_size_t,
-            ctypes.POINTER(ctypes.c_uint64),
-        )
+        text, size, number = ctypes.c_char_p, ctypes.c_size_t, ctypes.POINTER(ctypes.c_uint64)
         room = ctypes.POINTER(ctypes.c_char)
-        self.answer.argtypes = [
-            text,
-            size,
-            text,
-            size,
-            number,
-            size,
-            text,
-            size,
-            room,
-            size,
-            room,
-            size,
-            number,
-            number,
-        ]
+        self.answer.argtypes = [text, size, text, size, number, size, text, size, room, size, room, size, number, number]
         self.answer.restype = ctypes.c_int32
         self.rooms = threading.local()
 
-    def run(
-        self, program: str, words: Sequence[str], files: Mapping[str, bytes]
-    ) -> tuple[int, bytes, bytes]:
+    def run(self, program: str, words: Sequence[str], files: Mapping[str, bytes]) -> tuple[int, bytes, bytes]:
         """Returns the status of a call, and what it wrote to standard output and standard error, as a process would."""
         said = b"".join(word.encode() + b"\0" for word in words)
         names = b"".join(name.encode() + b"\0" for name in files)
         sizes = (ctypes.c_uint64 * max(len(files), 1))(*map(len, files.values()))
         data = b"".join(files.values())
-        rooms = [
-            getattr(self.rooms, name, None) or ctypes.create_string_buffer(ROOM)
-            for name in ("output", "told")
-        ]
+        rooms = [getattr(self.rooms, name, None) or ctypes.create_string_buffer(ROOM) for name in ("output", "told")]
         while True:
             self.rooms.output, self.rooms.told = rooms
             lengths = [ctypes.c_uint64(), ctypes.c_uint64()]
             ends = [it for room in rooms for it in (room, len(room))]
-            status = self.answer(
-                said,
-                len(said),
-                names,
-                len(names),
-                sizes,
-                len(files),
-                data,
-                len(data),
-                *ends,
-                *map(ctypes.byref, lengths),
-            )
+            status = self.answer(said, len(said), names, len(names), sizes, len(files), data, len(data), *ends, *map(ctypes.byref, lengths))
             if status == MALFORMED:
                 return status, b"", b"the arguments of rp_answer do not fit together"
             if all(length.value <= len(room) for length, room in zip(lengths, rooms)):
-                output, told = (
-                    ctypes.string_at(room, length.value)
-                    for length, room in zip(lengths, rooms)
-                )
+                output, told = (ctypes.string_at(room, length.value) for length, room in zip(lengths, rooms))
                 return status, output, told
-            rooms = [
-                ctypes.create_string_buffer(max(len(room), length.value))
-                for length, room in zip(lengths, rooms)
-            ]
+            rooms = [ctypes.create_string_buffer(max(len(room), length.value)) for length, room in zip(lengths, rooms)]
 
 
 KNOWN: dict[str, Library] = {}
@@ -124,11 +83,7 @@ def find(exe: Any = None) -> Library | None:
     """Returns the library that is asked for by the argument or by RP_LIBRARY, or that is inside the package; None where the
     program is to be taken."""
     if exe is not None and exe != "":
-        return (
-            known(os.path.abspath(os.fsdecode(os.fspath(exe))))
-            if is_library(exe)
-            else None
-        )
+        return known(os.path.abspath(os.fsdecode(os.fspath(exe)))) if is_library(exe) else None
     named = os.environ.get(VARIABLE)
     if named:
         return known(os.path.abspath(named))

@@ -23,16 +23,7 @@ from .long_ends import ENDS
 from .long_files import Household, Stopped
 
 TESTS = ("garp", "homothetic", "quasilinear")
-COLUMNS = (
-    "status",
-    "garp",
-    "efficiency",
-    "efficiency_floor",
-    "attained",
-    "homothetic",
-    "quasilinear",
-    "cycle",
-)
+COLUMNS = ("status", "garp", "efficiency", "efficiency_floor", "attained", "homothetic", "quasilinear", "cycle")
 # A million, for 6 places.
 PLACES = 10**6
 TABLE = "table.csv"
@@ -42,13 +33,7 @@ Ended = tuple[int, bytes, bytes]
 Answer = tuple[bytes, bytes, "list[tuple[str, bytes]]"]
 Run = Callable[[Sequence[str], dict[str, bytes]], Ended]
 # What may be asked of each household. `verdicts` is the call that gives these, and `header` the columns of long files.
-ASKED: dict[str, Any] = {
-    "verdicts": "analyse",
-    "header": None,
-    "pump": False,
-    "power": None,
-    "certificates": False,
-}
+ASKED: dict[str, Any] = {"verdicts": "analyse", "header": None, "pump": False, "power": None, "certificates": False}
 ASKED.update(demand=None, welfare=None)
 # A block is tried so often where the process that has it ends.
 TRIES = 3
@@ -57,12 +42,7 @@ STARTS = "import sys; sys.path.insert(0, sys.argv[1]); from revealed.long_answer
 
 def is_plain(text: str, rows: int, commas: int) -> bool:
     """Whether lines of fields that were joined have no field that has to be quoted."""
-    return (
-        '"' not in text
-        and "\r" not in text
-        and text.count("\n") == rows - 1
-        and text.count(",") == commas
-    )
+    return '"' not in text and "\r" not in text and text.count("\n") == rows - 1 and text.count(",") == commas
 
 
 def table(header: Sequence[str], rows: Sequence[Sequence[str]]) -> bytes:
@@ -94,19 +74,13 @@ def found_in(report: str) -> dict[str, str]:
             level, _, attained = rest.split()
             over, _, under = level.partition("/")
             floor = PLACES * whole_of(over) // whole_of(under or "1")
-            found.update(
-                efficiency=level,
-                attained=attained,
-                efficiency_floor=f"{floor // PLACES}.{floor % PLACES:06}",
-            )
+            found.update(efficiency=level, attained=attained, efficiency_floor=f"{floor // PLACES}.{floor % PLACES:06}")
         elif word == "cycle" and item == "garp":
             found["cycle"] = rest
     return found
 
 
-def more_of(
-    asked: dict[str, Any]
-) -> dict[str, tuple[list[str], dict[str, bytes], str]]:
+def more_of(asked: dict[str, Any]) -> dict[str, tuple[list[str], dict[str, bytes], str]]:
     """Returns what is asked beside the verdicts: words, files beside the table, and the name under which the answer is kept."""
     more: dict[str, tuple[list[str], dict[str, bytes], str]] = {}
     if asked["pump"]:
@@ -115,11 +89,7 @@ def more_of(
         more["power"] = (["power", TABLE, *map(str, asked["power"])], {}, "")
     for name in ("demand", "welfare"):
         if asked[name] is not None:
-            more[name] = (
-                [name, TABLE, "new.csv", "--json"],
-                {"new.csv": asked[name]},
-                f"{name}.json",
-            )
+            more[name] = ([name, TABLE, "new.csv", "--json"], {"new.csv": asked[name]}, f"{name}.json")
     if asked["certificates"]:
         more["certificate"] = (["certify", TABLE], {}, "certificate.json")
     return more
@@ -127,10 +97,7 @@ def more_of(
 
 def value_of(name: str, report: bytes) -> str:
     """Returns what a column has of an answer: the money pump as it is told, the power as a fraction, of a kept one that it is there."""
-    words = dict(
-        line.partition(" ")[::2]
-        for line in report.decode("utf-8", "replace").splitlines()[:2]
-    )
+    words = dict(line.partition(" ")[::2] for line in report.decode("utf-8", "replace").splitlines()[:2])
     if name == "pump":
         return words["pump"]
     if name == "power":
@@ -141,21 +108,12 @@ def value_of(name: str, report: bytes) -> str:
 
 def said(told: bytes) -> str:
     """Returns the program's own words, without the name of its table."""
-    lines = [
-        it
-        for it in told.decode("utf-8", "replace").splitlines()
-        if not it.startswith("note: ")
-    ]
+    lines = [it for it in told.decode("utf-8", "replace").splitlines() if not it.startswith("note: ")]
     return " ".join(it.removeprefix("rp: ").removeprefix(f"{TABLE}: ") for it in lines)
 
 
 def columns(asked: dict[str, Any]) -> list[str]:
-    return [
-        asked["name"],
-        *COLUMNS,
-        *(it for it in more_of(asked) if it != "certificate"),
-        "message",
-    ]
+    return [asked["name"], *COLUMNS, *(it for it in more_of(asked) if it != "certificate"), "message"]
 
 
 def ended(data: bytes, run: Run, asked: dict[str, Any]) -> dict[str, Ended]:
@@ -167,15 +125,11 @@ def ended(data: bytes, run: Run, asked: dict[str, Any]) -> dict[str, Ended]:
     return found
 
 
-def answer(
-    job: "tuple[Household, Optional[bytes]]", run: Run, asked: dict[str, Any]
-) -> Optional[Answer]:
+def answer(job: "tuple[Household, Optional[bytes]]", run: Run, asked: dict[str, Any]) -> Optional[Answer]:
     """Returns the record of a household; None where its table has the checksum that is known, so that its record stands."""
     (_, name, rows, fault), known = job
     data = table(asked["header"], rows)
-    summed = hashlib.blake2b(
-        repr((name, fault)).encode() + b"\0" + data, digest_size=16
-    ).digest()
+    summed = hashlib.blake2b(repr((name, fault)).encode() + b"\0" + data, digest_size=16).digest()
     if summed == known:
         return None
     calls = {"verdicts": (4, b"", fault.encode())} if fault else ended(data, run, asked)
@@ -216,11 +170,7 @@ def way(asked: dict[str, Any], folder: str = "") -> Run:
         return lambda words, files: loaded.run(path, words, files)
 
     def run(words: Sequence[str], files: dict[str, bytes]) -> tuple[int, bytes, bytes]:
-        status, out, told = (
-            worker.run_in(folder, path, words, files)
-            if folder
-            else worker.run(path, words, files)
-        )
+        status, out, told = worker.run_in(folder, path, words, files) if folder else worker.run(path, words, files)
         if -status in ENDS:
             # What was stopped from outside is no answer, and no refusal.
             raise Stopped("the program was stopped by a signal")
@@ -280,11 +230,7 @@ def remove(folder: str) -> None:
 
 def named(jobs: Any) -> str:
     """Returns where some jobs stand in a long file."""
-    return (
-        ""
-        if not jobs or isinstance(jobs[0], bytes)
-        else f", at the households {jobs[0][0][1]!r} to {jobs[-1][0][1]!r}"
-    )
+    return "" if not jobs or isinstance(jobs[0], bytes) else f", at the households {jobs[0][0][1]!r} to {jobs[-1][0][1]!r}"
 
 
 class Process:
@@ -294,9 +240,7 @@ class Process:
         above = os.path.dirname(os.path.dirname(os.path.abspath(__file__)))
         own = tempfile.mkdtemp(dir=folder) if folder else ""
         words = [sys.executable, "-I", "-S", "-c", STARTS, above, own]
-        self.process = subprocess.Popen(
-            words, stdin=subprocess.PIPE, stdout=subprocess.PIPE, start_new_session=True
-        )
+        self.process = subprocess.Popen(words, stdin=subprocess.PIPE, stdout=subprocess.PIPE, start_new_session=True)
         assert self.process.stdin is not None and self.process.stdout is not None
         self.to, self.source = self.process.stdin, self.process.stdout
         send(self.to, asked)
@@ -354,14 +298,8 @@ class Pool:
         self.restarts = 0
         self.ending = False
         self.processes: list[Process] = []
-        self.folder = (
-            ""
-            if asked["library"]
-            else os.path.join(tempfile.gettempdir(), f"rp-panel-{secrets.token_hex(8)}")
-        )
-        self.threads = [
-            threading.Thread(target=self._serve, daemon=True) for _ in range(count)
-        ]
+        self.folder = "" if asked["library"] else os.path.join(tempfile.gettempdir(), f"rp-panel-{secrets.token_hex(8)}")
+        self.threads = [threading.Thread(target=self._serve, daemon=True) for _ in range(count)]
 
     def begin(self) -> None:
         if self.folder:

@@ -10,11 +10,7 @@ import signal
 from typing import Any
 
 # The signals that ask for an end.
-ENDS = [
-    int(getattr(signal, name))
-    for name in ("SIGINT", "SIGTERM", "SIGHUP")
-    if hasattr(signal, name)
-]
+ENDS = [int(getattr(signal, name)) for name in ("SIGINT", "SIGTERM", "SIGHUP") if hasattr(signal, name)]
 
 
 class Signalled(Exception):

@@ -70,48 +70,30 @@ class Columns:
         header = [it.strip() for it in header]
         if len(header) == 1 and any(mark in header[0] for mark in ";\t"):
             mark = "semicolons" if ";" in header[0] else "tabs"
-            raise Stopped(
-                f"{file}: its fields are separated by {mark}; save it with commas, and with points in numbers"
-            )
+            raise Stopped(f"{file}: its fields are separated by {mark}; save it with commas, and with points in numbers")
         if name not in header:
-            raise Stopped(
-                f"{file}: no column {name}; its columns are {', '.join(header)}: name that of the households by --id NAME"
-            )
+            raise Stopped(f"{file}: no column {name}; its columns are {', '.join(header)}: name that of the households by --id NAME")
         if header.count(name) > 1:
             raise Stopped(f"{file}: there are {header.count(name)} columns {name}")
         self.width, self.place = len(header), header.index(name)
-        kept = [
-            at
-            for at, it in enumerate(header)
-            if at != self.place and (it in ("obs", "e") or it[:2] in SIDES)
-        ]
+        kept = [at for at, it in enumerate(header) if at != self.place and (it in ("obs", "e") or it[:2] in SIDES)]
         self.header = [header[at] for at in kept]
-        self.left_out = [
-            it for at, it in enumerate(header) if at not in kept and at != self.place
-        ]
+        self.left_out = [it for at, it in enumerate(header) if at not in kept and at != self.place]
         for it in self.header:
             partner = SIDES.get(it[:2], "") + it[2:]
             if it[:2] in SIDES and partner not in self.header:
-                raise Stopped(
-                    f"{file}: the column {it} has no partner {partner}: a good has a price p_NAME and a quantity q_NAME"
-                )
+                raise Stopped(f"{file}: the column {it} has no partner {partner}: a good has a price p_NAME and a quantity q_NAME")
             if self.header.count(it) > 1:
                 raise Stopped(f"{file}: there are {self.header.count(it)} columns {it}")
         if not any(it[:2] in SIDES for it in self.header):
-            raise Stopped(
-                f"{file}: there is no good: no columns p_NAME and q_NAME among {', '.join(header)}"
-            )
+            raise Stopped(f"{file}: there is no good: no columns p_NAME and q_NAME among {', '.join(header)}")
         self.own = itemgetter(*kept)
 
     def row(self, record: list[str]) -> Any:
         """Returns the fields of a record that are its table's, and None where there are too few or too many to tell."""
         if len(record) == self.width:
             return self.own(record)
-        return (
-            None
-            if self.left_out
-            else [*record[: self.place], *record[self.place + 1 :]]
-        )
+        return None if self.left_out else [*record[: self.place], *record[self.place + 1 :]]
 
 
 class LongFile:
@@ -133,20 +115,13 @@ class LongFile:
             size = max(raw.seek(0, io.SEEK_END), 1)
             raw.seek(0)
             summed = Summed(raw)
-            lines = csv.reader(
-                io.TextIOWrapper(
-                    io.BufferedReader(summed, 1 << 18), "utf-8-sig", newline=""
-                ),
-                strict=True,
-            )
+            lines = csv.reader(io.TextIOWrapper(io.BufferedReader(summed, 1 << 18), "utf-8-sig", newline=""), strict=True)
             try:
                 self.read = lambda: summed.taken / size
                 yield from self._of(lines)
                 self.sum = summed.sum.hexdigest()
             except UnicodeDecodeError:
-                raise Stopped(
-                    f"{self.file}: this is no text in UTF-8; save it as CSV in UTF-8"
-                ) from None
+                raise Stopped(f"{self.file}: this is no text in UTF-8; save it as CSV in UTF-8") from None
             except csv.Error as error:
                 raise Stopped(f"{self.file}: line {lines.line_num}: {error}") from None
 
@@ -160,9 +135,7 @@ class LongFile:
             if not record:
                 continue
             if len(record) <= place:
-                raise Stopped(
-                    f"{self.file}: line {lines.line_num}: {len(record)} fields, where column {place + 1} has the household"
-                )
+                raise Stopped(f"{self.file}: line {lines.line_num}: {len(record)} fields, where column {place + 1} has the household")
             any_yet = True
             yield record[place], columns.row(record)
         if not any_yet:
@@ -173,13 +146,9 @@ class LongFile:
         try:
             from pyarrow.parquet import ParquetFile
         except ImportError:
-            raise Stopped(
-                f"{self.file}: this is Parquet, which is read where pyarrow is there: install it, or write the file as CSV"
-            ) from None
+            raise Stopped(f"{self.file}: this is Parquet, which is read where pyarrow is there: install it, or write the file as CSV") from None
         file = ParquetFile(self.file)
-        columns = self.columns = Columns(
-            self.file, list(file.schema_arrow.names), self.name
-        )
+        columns = self.columns = Columns(self.file, list(file.schema_arrow.names), self.name)
         own, done = {it.strip(): it for it in file.schema_arrow.names}, 0
         names = [own[it] for it in (self.name, *columns.header)]
         self.read = lambda: done / max(file.metadata.num_rows, 1)
@@ -220,10 +189,7 @@ def grouped(records: Iterator[tuple[str, Any]]) -> Iterator[Household]:
         if len(rows) >= MOST_RECORDS:
             fault = fault or f"more than {MOST_RECORDS:,} records"
         elif row is None:
-            fault = (
-                fault
-                or f"record {len(rows) + 1}: its fields are not as many as the column names"
-            )
+            fault = fault or f"record {len(rows) + 1}: its fields are not as many as the column names"
             rows.append(())
         else:
             rows.append(row)
@@ -234,12 +200,7 @@ def grouped(records: Iterator[tuple[str, Any]]) -> Iterator[Household]:
 def temporary() -> sqlite3.Connection:
     """Returns a database in a temporary file without a name."""
     base = sqlite3.connect("", isolation_level=None)
-    for words in (
-        "temp_store = FILE",
-        "journal_mode = OFF",
-        "synchronous = OFF",
-        "cache_size = -65536",
-    ):
+    for words in ("temp_store = FILE", "journal_mode = OFF", "synchronous = OFF", "cache_size = -65536"):
         base.execute(f"PRAGMA {words}")
     return base
 
@@ -262,30 +223,19 @@ class Gathered:
 
     def __init__(self, long: LongFile) -> None:
         self.base = temporary()
-        self.base.execute(
-            "CREATE TABLE name (it BLOB PRIMARY KEY, number INTEGER) WITHOUT ROWID"
-        )
+        self.base.execute("CREATE TABLE name (it BLOB PRIMARY KEY, number INTEGER) WITHOUT ROWID")
         self.base.execute("CREATE TABLE record (household INTEGER, fields BLOB)")
         self.base.execute("BEGIN")
         count, last, number = 0, None, 0
         for name, row in long.records():
             if name != last:
-                found = self.base.execute(
-                    "SELECT number FROM name WHERE it = ?", (name.encode(),)
-                ).fetchone()
+                found = self.base.execute("SELECT number FROM name WHERE it = ?", (name.encode(),)).fetchone()
                 if found is None:
                     count += 1
-                    self.base.execute(
-                        "INSERT INTO name VALUES (?, ?)", (name.encode(), count)
-                    )
+                    self.base.execute("INSERT INTO name VALUES (?, ?)", (name.encode(), count))
                 last, number = name, found[0] if found else count
-            self.base.execute(
-                "INSERT INTO record VALUES (?, ?)", (number, marshal.dumps((name, row)))
-            )
-        pages, page = (
-            self.base.execute(f"PRAGMA {it}").fetchone()[0]
-            for it in ("page_count", "page_size")
-        )
+            self.base.execute("INSERT INTO record VALUES (?, ?)", (number, marshal.dumps((name, row))))
+        pages, page = (self.base.execute(f"PRAGMA {it}").fetchone()[0] for it in ("page_count", "page_size"))
         self.size, self.count = pages * page, count
 
     def households(self) -> Iterator[Household]:

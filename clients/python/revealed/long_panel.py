@@ -37,25 +37,11 @@ from typing import Any, Iterator, Optional, Sequence
 from .catalogue import DRAWS, SEED
 from .long_answers import ASKED, Pool, columns, lines_of
 from .long_ends import Ends, Signalled
-from .long_files import (
-    BLOCK,
-    Apart,
-    Columns,
-    Gathered,
-    Household,
-    LongFile,
-    Stopped,
-    blocks,
-    first_columns,
-    sum_of,
-    together,
-)
+from .long_files import BLOCK, Apart, Columns, Gathered, Household, LongFile, Stopped, blocks, first_columns, sum_of, together
 from .long_results import Results, begun, done_of, interleaved, is_apart, part_name
 
 # The sources or the release that this file came with.
-TOP = os.path.dirname(
-    os.path.dirname(os.path.dirname(os.path.dirname(os.path.realpath(__file__))))
-)
+TOP = os.path.dirname(os.path.dirname(os.path.dirname(os.path.dirname(os.path.realpath(__file__)))))
 # Another layout of the files gets another number.
 LAYOUT = 1
 ENDS = Ends()
@@ -66,11 +52,7 @@ def tell(line: str) -> None:
 
 
 def said(wrong: BaseException) -> str:
-    return (
-        f"{wrong.filename or 'a result'}: {wrong.strerror}"
-        if isinstance(wrong, OSError)
-        else str(wrong)
-    )
+    return f"{wrong.filename or 'a result'}: {wrong.strerror}" if isinstance(wrong, OSError) else str(wrong)
 
 
 def is_program(file: str) -> bool:
@@ -78,11 +60,7 @@ def is_program(file: str) -> bool:
 
 
 def is_library(file: str) -> bool:
-    return (
-        os.path.isfile(file)
-        and re.search(r"\.(so|dll|dylib)(\.|$)", os.path.basename(file).lower())
-        is not None
-    )
+    return os.path.isfile(file) and re.search(r"\.(so|dll|dylib)(\.|$)", os.path.basename(file).lower()) is not None
 
 
 def program(asked: Optional[str]) -> tuple[str, bool]:
@@ -93,22 +71,12 @@ def program(asked: Optional[str]) -> tuple[str, bool]:
             raise Stopped(f"{asked}: there is no program or library of that name")
         return os.path.abspath(asked), is_library(asked)
     own = os.path.dirname(os.path.abspath(__file__))
-    for file in (
-        f"{own}/librp.so",
-        f"{own}/rp.dll",
-        f"{TOP}/lib/librp.so",
-        f"{own}/rp",
-        f"{own}/rp.exe",
-    ):
+    for file in (f"{own}/librp.so", f"{own}/rp.dll", f"{TOP}/lib/librp.so", f"{own}/rp", f"{own}/rp.exe"):
         if is_library(file) or is_program(file):
             return file, is_library(file)
     if is_program(f"{TOP}/prove"):
-        if subprocess.run(
-            [f"{TOP}/prove", "--keep-new"], stdin=subprocess.DEVNULL
-        ).returncode:
-            raise Stopped(
-                f"the program is not proved here yet: run {TOP}/prove, once, or name a program by --rp PATH"
-            )
+        if subprocess.run([f"{TOP}/prove", "--keep-new"], stdin=subprocess.DEVNULL).returncode:
+            raise Stopped(f"the program is not proved here yet: run {TOP}/prove, once, or name a program by --rp PATH")
         return f"{TOP}/crates/rp/out/rp", False
     if is_program(f"{TOP}/rp"):
         return f"{TOP}/rp", False
@@ -126,9 +94,7 @@ def bytes_of(file: Optional[str]) -> Optional[bytes]:
 
 
 def parser() -> argparse.ArgumentParser:
-    it = argparse.ArgumentParser(
-        prog="rp-panel", usage=__doc__, add_help=False, allow_abbrev=False
-    )
+    it = argparse.ArgumentParser(prog="rp-panel", usage=__doc__, add_help=False, allow_abbrev=False)
     it.add_argument("files", nargs="*")
     for name in ("--demand", "--welfare", "--archive", "--rp", "--part"):
         it.add_argument(name)
@@ -153,55 +119,27 @@ def part_of(word: Optional[str]) -> Optional[tuple[int, int]]:
 def refuse_words(asked: argparse.Namespace) -> None:
     """Stops where words do not fit together, or where a result would stand in the place of something else."""
     if asked.processes is not None and not 1 <= asked.processes <= 1024:
-        raise Stopped(
-            "--processes: the number of processes is a whole number from 1 to 1024"
-        )
-    if asked.power is not None and not (
-        DRAWS[0] <= asked.power <= DRAWS[1] and SEED[0] <= asked.seed <= SEED[1]
-    ):
-        raise Stopped(
-            f"--power DRAWS is from {DRAWS[0]} to {DRAWS[1]}, and --seed S a whole number from {SEED[0]} below 2^64"
-        )
-    kept = [
-        f"--{it}" for it in ("certificates", "demand", "welfare") if getattr(asked, it)
-    ]
+        raise Stopped("--processes: the number of processes is a whole number from 1 to 1024")
+    if asked.power is not None and not (DRAWS[0] <= asked.power <= DRAWS[1] and SEED[0] <= asked.seed <= SEED[1]):
+        raise Stopped(f"--power DRAWS is from {DRAWS[0]} to {DRAWS[1]}, and --seed S a whole number from {SEED[0]} below 2^64")
+    kept = [f"--{it}" for it in ("certificates", "demand", "welfare") if getattr(asked, it)]
     if bool(kept) != bool(asked.archive):
-        raise Stopped(
-            f"{kept[0]} needs --archive FILE.tar"
-            if kept
-            else "--archive needs --certificates, --demand or --welfare"
-        )
+        raise Stopped(f"{kept[0]} needs --archive FILE.tar" if kept else "--archive needs --certificates, --demand or --welfare")
     if not os.path.isfile(asked.files[0]):
         with open(asked.files[0], "rb"):
-            raise Stopped(
-                f"{asked.files[0]}: this is no file that can be read twice: make a file of it"
-            )
+            raise Stopped(f"{asked.files[0]}: this is no file that can be read twice: make a file of it")
     inputs = [it for it in (asked.files[0], asked.demand, asked.welfare) if it]
-    outputs = [
-        part_name(it, part_of(asked.part))
-        for it in (asked.files[1], asked.archive)
-        if it
-    ]
+    outputs = [part_name(it, part_of(asked.part)) for it in (asked.files[1], asked.archive) if it]
     for output in outputs:
         if os.path.lexists(output) and not os.path.isfile(output):
             raise Stopped(f"{output}: this is no file, and nothing is put in its place")
-    places = [
-        os.path.realpath(f"{it}{end}")
-        for it in outputs
-        for end in ("", ".part", ".part.sums", ".json")
-    ]
-    if len(set(places)) < len(places) or any(
-        same(place, it) for place in places for it in inputs
-    ):
-        raise Stopped(
-            "a result would stand in the place of the data, or of another result: name another file"
-        )
+    places = [os.path.realpath(f"{it}{end}") for it in outputs for end in ("", ".part", ".part.sums", ".json")]
+    if len(set(places)) < len(places) or any(same(place, it) for place in places for it in inputs):
+        raise Stopped("a result would stand in the place of the data, or of another result: name another file")
 
 
 def same(one: str, other: str) -> bool:
-    return one == os.path.realpath(other) or (
-        os.path.exists(one) and os.path.exists(other) and os.path.samefile(one, other)
-    )
+    return one == os.path.realpath(other) or (os.path.exists(one) and os.path.exists(other) and os.path.samefile(one, other))
 
 
 # ---- a run
@@ -250,9 +188,7 @@ class Tally:
 
     def end(self) -> int:
         failed = f", {self.failed} without an answer" if self.failed else ""
-        print(
-            f"rp-panel: {self.answered} answered, {self.refused} refused{failed}{self.first}"
-        )
+        print(f"rp-panel: {self.answered} answered, {self.refused} refused{failed}{self.first}")
         return 1 if self.failed else 0
 
 
@@ -282,32 +218,11 @@ class Run:
         path, library = program(words.rp)
         power = [words.seed, words.power] if words.power else None
         new = {name: bytes_of(getattr(words, name)) for name in ("demand", "welfare")}
-        self.asked = {
-            **ASKED,
-            "name": words.id,
-            "header": file.header,
-            "rp": path,
-            "library": library,
-            "pump": words.pump,
-            "power": power,
-        }
+        self.asked = {**ASKED, "name": words.id, "header": file.header, "rp": path, "library": library, "pump": words.pump, "power": power}
         self.asked.update(certificates=words.certificates, **new)
-        sums = {
-            name: hashlib.blake2b(it or b"").hexdigest() for name, it in new.items()
-        }
-        self.head = {
-            "layout": LAYOUT,
-            "columns": [words.id, *file.header],
-            "part": self.part and list(self.part),
-            "program": sum_of(path),
-        }
-        self.head["questions"] = [
-            words.pump,
-            power,
-            words.certificates,
-            sums["demand"],
-            sums["welfare"],
-        ]
+        sums = {name: hashlib.blake2b(it or b"").hexdigest() for name, it in new.items()}
+        self.head = {"layout": LAYOUT, "columns": [words.id, *file.header], "part": self.part and list(self.part), "program": sum_of(path)}
+        self.head["questions"] = [words.pump, power, words.certificates, sums["demand"], sums["welfare"]]
         self.apart = apart
         self.households = self.count = 0
         self.results: Optional[Results] = None
@@ -315,24 +230,15 @@ class Run:
     def finished(self) -> bool:
         """Whether this part has been made, of the same file and with the same words."""
         done = done_of(self.target) if self.part else None
-        heads = done is not None and all(
-            done.get(name) == it for name, it in self.head.items()
-        )
-        return (
-            heads
-            and done is not None
-            and done["long"] == sum_of(self.words.files[0])
-            and not os.path.exists(f"{self.target}.part.sums")
-        )
+        heads = done is not None and all(done.get(name) == it for name, it in self.head.items())
+        return heads and done is not None and done["long"] == sum_of(self.words.files[0]) and not os.path.exists(f"{self.target}.part.sums")
 
     def own(self) -> Iterator[list[Household]]:
         """Yields the blocks that are this run's, after counting those of all."""
         if self.apart:
             gathered = Gathered(self.long)
             self.count = gathered.count
-            tell(
-                f"the records are put together by household in a temporary file of {gathered.size / 1e6:,.0f} MB, and as much again for their order"
-            )
+            tell(f"the records are put together by household in a temporary file of {gathered.size / 1e6:,.0f} MB, and as much again for their order")
             source = gathered.households()
         else:
             source = together(self.long)
@@ -344,9 +250,7 @@ class Run:
     def all(self) -> int:
         """Answers all households, and returns the status."""
         first = lines_of([columns(self.asked)]).encode()
-        results = self.results = Results(
-            self.target, self.archive, {**self.head, "apart": self.apart}, first
-        )
+        results = self.results = Results(self.target, self.archive, {**self.head, "apart": self.apart}, first)
         if results.count:
             tell(f"{results.count:,} households stand already in {results.part}")
         progress = Progress(self.words.quiet)
@@ -355,10 +259,7 @@ class Run:
         try:
             pool.begin()
             with ENDS:
-                jobs = (
-                    [(household, results.known()) for household in block]
-                    for block in self.own()
-                )
+                jobs = ([(household, results.known()) for household in block] for block in self.own())
                 for block, answers in pool.each(jobs):
                     self.keep(results, block, answers)
                     progress.step(results.count - standing, self.share())
@@ -366,18 +267,10 @@ class Run:
             progress.clear()
             pool.close()
             if pool.restarts:
-                tell(
-                    f"a process that answers had ended {pool.restarts} times; its households were answered by another"
-                )
+                tell(f"a process that answers had ended {pool.restarts} times; its households were answered by another")
         if results.known() is not None:
-            raise Stopped(
-                f"{results.part}: it has more households than {self.words.files[0]}: the data were changed; remove it to begin again"
-            )
-        results.finish(
-            {"long": self.long.sum, "households": self.households}
-            if self.part
-            else None
-        )
+            raise Stopped(f"{results.part}: it has more households than {self.words.files[0]}: the data were changed; remove it to begin again")
+        results.finish({"long": self.long.sum, "households": self.households} if self.part else None)
         self.results = None
         return tally_of(self.target).end()
 
@@ -396,9 +289,7 @@ class Run:
         if not self.results.count:
             self.results.drop()
             return False
-        tell(
-            f"{self.results.count:,} households are kept in {self.results.part}: the same words go on from there"
-        )
+        tell(f"{self.results.count:,} households are kept in {self.results.part}: the same words go on from there")
         return True
 
     def keep(self, results: Results, jobs: list[Any], answers: Any) -> None:
@@ -427,9 +318,7 @@ def analyse(words: argparse.Namespace) -> int:
     with ENDS:
         columns_of = first_columns(words.files[0], words.id)
     if columns_of.left_out:
-        tell(
-            f"{words.files[0]}: left out, since they are no prices or quantities: {', '.join(columns_of.left_out)}"
-        )
+        tell(f"{words.files[0]}: left out, since they are no prices or quantities: {', '.join(columns_of.left_out)}")
     apart = is_apart(part_name(words.files[1], part_of(words.part)))
     while True:
         run = Run(words, columns_of, apart)
@@ -440,9 +329,7 @@ def analyse(words: argparse.Namespace) -> int:
         try:
             return run.all()
         except Apart as household:
-            tell(
-                f"{words.files[0]}: the records of {household.args[0]!r} do not stand together: it begins again, and puts them together first"
-            )
+            tell(f"{words.files[0]}: the records of {household.args[0]!r} do not stand together: it begins again, and puts them together first")
             run.drop()
             apart = True
         except (Stopped, OSError) as wrong:
@@ -465,11 +352,7 @@ def gather(count: int, target: str) -> int:
     for name, done in zip(names, told):
         left = begun(name)
         if done is None:
-            state = (
-                "was not begun"
-                if left < 0
-                else f"did not end: {left:,} households of it are there"
-            )
+            state = "was not begun" if left < 0 else f"did not end: {left:,} households of it are there"
             if os.path.exists(name) and left < 0:
                 state = "is not what its task wrote"
             tell(f"{name}: this part {state}; start its task again")
@@ -477,27 +360,19 @@ def gather(count: int, target: str) -> int:
     if len(whole) < count:
         return 1
     for name in ("layout", "columns", "program", "questions", "long", "households"):
-        other = next(
-            (part for part, it in zip(names, whole) if it[name] != whole[0][name]), None
-        )
+        other = next((part for part, it in zip(names, whole) if it[name] != whole[0][name]), None)
         if other is not None:
-            raise Stopped(
-                f"{other}: this part is of another {'file' if name in ('long', 'households', 'columns') else name} than {names[0]}"
-            )
+            raise Stopped(f"{other}: this part is of another {'file' if name in ('long', 'households', 'columns') else name} than {names[0]}")
     with open(names[0], "rb") as one:
         first = one.readline()
     if os.path.exists(f"{target}.part.sums"):
-        raise Stopped(
-            f"{target}.part: a run over the whole file left this: go on with it, or remove it and {target}.part.sums"
-        )
+        raise Stopped(f"{target}.part: a run over the whole file left this: go on with it, or remove it and {target}.part.sums")
     try:
         with ENDS:
             tally = put_together(names, first, f"{target}.part")
         number = tally.answered + tally.refused + tally.failed
         if number != whole[0]["households"]:
-            raise Stopped(
-                f"{target}: the parts have {number} households, and the file has {whole[0]['households']}"
-            )
+            raise Stopped(f"{target}: the parts have {number} households, and the file has {whole[0]['households']}")
         os.replace(f"{target}.part", target)
     finally:
         if os.path.exists(f"{target}.part"):
@@ -521,11 +396,7 @@ def main(given: Optional[Sequence[str]] = None) -> int:
     ENDS.listen()
     try:
         words = parser().parse_intermixed_args(given)
-        if (
-            words.gather is not None
-            and len(words.files) == 1
-            and 1 <= words.gather < 1_000_000
-        ):
+        if words.gather is not None and len(words.files) == 1 and 1 <= words.gather < 1_000_000:
             return gather(words.gather, words.files[0])
         if words.help or len(words.files) != 2 or words.gather is not None:
             print(__doc__, file=sys.stdout if words.help else sys.stderr)

@@ -36,9 +36,7 @@ def put(file: int, data: bytes, name: str) -> None:
 class Results:
     """What is done of a panel. `head` says of what, and has to be the same where a start goes on."""
 
-    def __init__(
-        self, target: str, archive: Optional[str], head: dict[str, Any], first: bytes
-    ) -> None:
+    def __init__(self, target: str, archive: Optional[str], head: dict[str, Any], first: bytes) -> None:
         self.target, self.archive = target, archive
         self.part, self.sums = f"{target}.part", f"{target}.part.sums"
         self.head = json.dumps(head, sort_keys=True).encode() + b"\n"
@@ -49,14 +47,8 @@ class Results:
         goes_on = os.path.exists(self.sums)
         for file in (self.sums, self.part, *([f"{archive}.part"] if archive else [])):
             if not goes_on and os.path.lexists(file):
-                raise Stopped(
-                    f"{file}: this is there already, and no run is known that left it: remove it, or name another file"
-                )
-            self.files.append(
-                os.open(
-                    file, os.O_RDWR | os.O_CREAT | getattr(os, "O_BINARY", 0), 0o666
-                )
-            )
+                raise Stopped(f"{file}: this is there already, and no run is known that left it: remove it, or name another file")
+            self.files.append(os.open(file, os.O_RDWR | os.O_CREAT | getattr(os, "O_BINARY", 0), 0o666))
         self._alone()
         if not (goes_on and self._stand(first)):
             for place in self.files:
@@ -89,9 +81,7 @@ class Results:
             if not head.endswith(b"\n"):
                 return False
             if head != self.head:
-                raise Stopped(
-                    f"{self.part}: this was begun with {self._other(head)}: go on with the same, or remove it and {self.sums}"
-                )
+                raise Stopped(f"{self.part}: this was begun with {self._other(head)}: go on with the same, or remove it and {self.sums}")
             if part.read(len(first)) != first:
                 return False
             self.end = len(first)
@@ -99,16 +89,10 @@ class Results:
                 if len(entry) < ENTRY.size:
                     break
                 _, record, end, tar_end = ENTRY.unpack(entry)
-                if (
-                    end <= self.end
-                    or tar_end > tar_size
-                    or small(part.read(end - self.end)) != record
-                ):
+                if end <= self.end or tar_end > tar_size or small(part.read(end - self.end)) != record:
                     break
                 self.count, self.end, self.tar_end = self.count + 1, end, tar_end
-        for place, length in zip(
-            self.files, [len(head) + self.count * ENTRY.size, self.end, self.tar_end]
-        ):
+        for place, length in zip(self.files, [len(head) + self.count * ENTRY.size, self.end, self.tar_end]):
             os.ftruncate(place, length)
             os.lseek(place, 0, os.SEEK_END)
         self.standing = open(self.sums, "rb")
@@ -128,18 +112,11 @@ class Results:
     def _other(self, head: bytes) -> str:
         try:
             old, new = json.loads(head), json.loads(self.head)
-            return (
-                " and ".join(
-                    f"another {name}" for name in new if old.get(name) != new[name]
-                )
-                or "other words"
-            )
+            return " and ".join(f"another {name}" for name in new if old.get(name) != new[name]) or "other words"
         except ValueError:
             return "other words"
 
-    def add(
-        self, number: int, table: bytes, record: bytes, kept: list[tuple[str, bytes]]
-    ) -> bytes:
+    def add(self, number: int, table: bytes, record: bytes, kept: list[tuple[str, bytes]]) -> bytes:
         """Writes what is kept of a household, and returns its entry; the record is written with others by `write`."""
         if self.archive:
             data = b"".join(member(f"{number:07}/{name}", it) for name, it in kept)
@@ -156,11 +133,7 @@ class Results:
     def drop(self) -> None:
         """Removes everything, as where nothing of it is of use."""
         self.close()
-        for file in (
-            self.sums,
-            self.part,
-            *([f"{self.archive}.part"] if self.archive else []),
-        ):
+        for file in (self.sums, self.part, *([f"{self.archive}.part"] if self.archive else [])):
             os.remove(file)
 
     def close(self) -> None:
@@ -176,11 +149,7 @@ class Results:
     def finish(self, done: Optional[dict[str, Any]]) -> None:
         """Gives the files their names; of a part, with what `gather` has to know of it beside it."""
         if self.archive:
-            put(
-                self.files[2],
-                b"\0" * (1024 + -(self.tar_end + 1024) % 10240),
-                f"{self.archive}.part",
-            )
+            put(self.files[2], b"\0" * (1024 + -(self.tar_end + 1024) % 10240), f"{self.archive}.part")
         for place in self.files:
             os.fsync(place)
         self.close()

@@ -29,9 +29,7 @@ class MoneyPump:
             self.ratio: Fraction = told["ratio"]
             self.cycle: list[Any] = walk_of(table)(told["cycle"])
             scale = self.ratio.denominator * money_scale(table)
-            self.values: dict[Any, Fraction] = by_label(
-                table, [Fraction(value, scale) for value in told["values"]]
-            )
+            self.values: dict[Any, Fraction] = by_label(table, [Fraction(value, scale) for value in told["values"]])
 
     @property
     def garp(self) -> bool:
@@ -59,11 +57,7 @@ class Power:
         self.report = report
         with reading(report):
             told = reports.read_power(report)
-            self.seed, self.draws, self.violations = (
-                told["seed"],
-                told["draws"],
-                told["violations"],
-            )
+            self.seed, self.draws, self.violations = told["seed"], told["draws"], told["violations"]
             if (self.seed, self.draws) != (seed, draws) or self.violations > draws:
                 raise ValueError("another seed or number of draws")
 
@@ -91,9 +85,7 @@ class Trial:
         with reading(report):
             told = reports.read_trial(report)
             self.seed, self.rows, self.goods = told["seed"], told["rows"], told["goods"]
-            self.garp, self.homothetic, self.quasilinear = (
-                words[told[name]] for name in ("garp", "homothetic", "quasilinear")
-            )
+            self.garp, self.homothetic, self.quasilinear = (words[told[name]] for name in ("garp", "homothetic", "quasilinear"))
             self.efficiency: Fraction = told["efficiency"]
             self.attained: bool = told["attained"]
 
@@ -113,9 +105,7 @@ class CostBound:
     are None.
     """
 
-    def __init__(
-        self, label: Any, prices: dict[str, Fraction], output: Fraction
-    ) -> None:
+    def __init__(self, label: Any, prices: dict[str, Fraction], output: Fraction) -> None:
         self.label, self.prices, self.output = label, prices, output
         self.given = False
         self.lower: Fraction | None = None
@@ -135,9 +125,7 @@ class CostMinimisation:
     `bounds` are those on each output that was asked.
     """
 
-    def __init__(
-        self, technology: Technology, asked: Sheet, report: bytes, is_asked: bool = True
-    ) -> None:
+    def __init__(self, technology: Technology, asked: Sheet, report: bytes, is_asked: bool = True) -> None:
         self.technology = technology
         self.asked = asked
         self.report = report
@@ -147,39 +135,19 @@ class CostMinimisation:
             self.cost = told["cost"] == ()
             self.profit = None if told["profit"] is None else told["profit"] == ()
             self.cost_pair: tuple[Any, ...] | None = tuple(walk(told["cost"])) or None
-            self.profit_pair: tuple[Any, ...] | None = (
-                tuple(walk(told["profit"] or ())) or None
-            )
-            if (
-                len(told["bounds"]) != len(asked.rows)
-                or (told["profit"] is None) == technology.priced
-            ):
+            self.profit_pair: tuple[Any, ...] | None = tuple(walk(told["profit"] or ())) or None
+            if len(told["bounds"]) != len(asked.rows) or (told["profit"] is None) == technology.priced:
                 raise ValueError("there are not the answers that were asked for")
-            self.bounds = (
-                [
-                    _cost_bound(technology, asked, *it)
-                    for it in zip(asked.labels, told["bounds"])
-                ]
-                if is_asked
-                else []
-            )
+            self.bounds = [_cost_bound(technology, asked, *it) for it in zip(asked.labels, told["bounds"])] if is_asked else []
 
     def __repr__(self) -> str:
-        lines = [
-            f"cost {WORDS[self.cost]}",
-            *([] if self.profit is None else [f"profit {WORDS[self.profit]}"]),
-        ]
+        lines = [f"cost {WORDS[self.cost]}", *([] if self.profit is None else [f"profit {WORDS[self.profit]}"])]
         return "\n".join([*lines, *map(repr, self.bounds)])
 
 
-def _cost_bound(
-    technology: Technology, asked: Sheet, label: Any, told: dict[str, Any]
-) -> CostBound:
+def _cost_bound(technology: Technology, asked: Sheet, label: Any, told: dict[str, Any]) -> CostBound:
     price, quantity = asked.scale("w_"), technology.quantity_scale
-    prices = {
-        name: Fraction(value, price)
-        for name, value in zip(technology.inputs, told["prices"])
-    }
+    prices = {name: Fraction(value, price) for name, value in zip(technology.inputs, told["prices"])}
     found = CostBound(label, prices, Fraction(told["output"], quantity))
     if "lower" in told:
         money = price * quantity
@@ -189,9 +157,7 @@ def _cost_bound(
         else:
             found.lower = told["lower"]["value"] / money
         if told["upper"] is not None:
-            found.upper, (found.at,) = Fraction(told["upper"]["cost"], money), walk_of(
-                technology
-            )([told["upper"]["at"]])
+            found.upper, (found.at,) = Fraction(told["upper"]["cost"], money), walk_of(technology)([told["upper"]["at"]])
     return found
 
 
@@ -234,10 +200,7 @@ class MenuVerdict:
                 raise ValueError("another number of units")
             if told["sums"] is not None:
                 self.least_sum = Fraction(told["sums"]["least"], self.total)
-                self.sum_letter, self.sum_menu = (
-                    told["sums"]["letter"],
-                    told["sums"]["menu"],
-                )
+                self.sum_letter, self.sum_menu = told["sums"]["letter"], told["sums"]["menu"]
             self._evidence(told["item"])
 
     def _evidence(self, item: dict[str, Any]) -> None:
@@ -245,10 +208,7 @@ class MenuVerdict:
             self.reason = withheld(item["withheld"])
             return
         den = item["den"]
-        self.parts = [
-            OrderPart(order, Fraction(weight, den * self.total))
-            for order, weight in item["parts"]
-        ]
+        self.parts = [OrderPart(order, Fraction(weight, den * self.total)) for order, weight in item["parts"]]
         self.rational = "weights" not in item
         self.share = sum((part.share for part in self.parts), Fraction(0))
         if not self.rational:
@@ -259,6 +219,4 @@ class MenuVerdict:
     def __repr__(self) -> str:
         if self.rational is None:
             return f"menus withheld: {self.reason}"
-        return (
-            "menus mixture" if self.rational else f"menus violated share {self.share}"
-        )
+        return "menus mixture" if self.rational else f"menus violated share {self.share}"

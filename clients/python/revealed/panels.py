@@ -24,15 +24,7 @@ from .tables import OWN_MONEY, Table
 
 # Fewer households than this are done before other processes have begun: by the program, and by its library.
 FEW, FEW_CALLS = 50, 500
-VERDICTS = (
-    "garp",
-    "afriat",
-    "efficiency",
-    "ccei",
-    "attained",
-    "homothetic",
-    "quasilinear",
-)
+VERDICTS = ("garp", "afriat", "efficiency", "ccei", "attained", "homothetic", "quasilinear")
 
 
 class Row:
@@ -42,13 +34,7 @@ class Row:
     name.
     """
 
-    def __init__(
-        self,
-        key: Any,
-        verdict: Verdict | None = None,
-        refusal: Exception | None = None,
-        failure: Failed | None = None,
-    ) -> None:
+    def __init__(self, key: Any, verdict: Verdict | None = None, refusal: Exception | None = None, failure: Failed | None = None) -> None:
         self.key = key
         self.verdict = verdict
         self.refusal = refusal
@@ -69,10 +55,7 @@ class Row:
         """Why there is no verdict, or why a part of it is not there."""
         if self.verdict is None:
             return str(self.refusal or self.failure)
-        return "; ".join(
-            f"{name}: {why}"
-            for name, why in {**self.verdict.reasons, **self.missing}.items()
-        )
+        return "; ".join(f"{name}: {why}" for name, why in {**self.verdict.reasons, **self.missing}.items())
 
     def __repr__(self) -> str:
         return f"{self.key!r}: {self.message if self.verdict is None else ' '.join(repr(self.verdict).splitlines())}"
@@ -81,9 +64,7 @@ class Row:
 class Panel(list):
     """The Rows of a panel, in the order in which their keys first come. `asked` names what was asked beside the verdicts."""
 
-    def __init__(
-        self, by: Sequence[str], rows: Iterable[Row], asked: Sequence[str] = ()
-    ) -> None:
+    def __init__(self, by: Sequence[str], rows: Iterable[Row], asked: Sequence[str] = ()) -> None:
         super().__init__(rows)
         self.by = list(by)
         self.asked = list(asked)
@@ -109,13 +90,7 @@ class Panel(list):
     def names(self) -> list[str]:
         """Returns the names of what a record has."""
         more = {"pump": ["pump_ratio", "pump"], "power": ["power"]}
-        return [
-            *self.by,
-            "status",
-            *VERDICTS,
-            *(it for name in self.asked for it in more[name]),
-            "message",
-        ]
+        return [*self.by, "status", *VERDICTS, *(it for name in self.asked for it in more[name]), "message"]
 
     def frame(self) -> Any:
         """Returns the records as a frame of pandas, which has to be there.
@@ -134,15 +109,7 @@ class Panel(list):
                 made[name] = pandas.Series(values, dtype=None if values else object)
             elif kind == "string":
                 made[name] = pandas.array(
-                    [
-                        None
-                        if value is None
-                        else value
-                        if isinstance(value, str)
-                        else exact.written(value)
-                        for value in values
-                    ],
-                    dtype=kind,
+                    [None if value is None else value if isinstance(value, str) else exact.written(value) for value in values], dtype=kind
                 )
             else:
                 made[name] = pandas.array(values, dtype=kind)
@@ -153,11 +120,7 @@ class Panel(list):
         frame = self.frame()
         for name, kind in frame.dtypes.items():
             if str(kind) in ("boolean", "Float64", "Int64"):
-                frame[name] = (
-                    frame[name]
-                    .astype("Float64")
-                    .to_numpy(dtype="float64", na_value=float("nan"))
-                )
+                frame[name] = frame[name].astype("Float64").to_numpy(dtype="float64", na_value=float("nan"))
             elif str(kind) in ("string", "object"):
                 frame[name] = frame[name].fillna("").astype(str)
         frame.to_stata(path, write_index=False)
@@ -182,9 +145,7 @@ class Panel(list):
 
 
 KINDS = {
-    **dict.fromkeys(
-        ("garp", "afriat", "attained", "homothetic", "quasilinear"), "boolean"
-    ),
+    **dict.fromkeys(("garp", "afriat", "attained", "homothetic", "quasilinear"), "boolean"),
     **dict.fromkeys(("ccei", "pump", "power"), "Float64"),
     **dict.fromkeys(("efficiency", "pump_ratio", "message"), "string"),
     "status": "Int64",
@@ -216,54 +177,29 @@ def panel(
     """
     names = [by] if not isinstance(by, (list, tuple)) else list(by)
     if power is not None:
-        power, seed = program.whole(power, "power", *DRAWS), program.whole(
-            seed, "seed", *SEED
-        )
+        power, seed = program.whole(power, "power", *DRAWS), program.whole(seed, "seed", *SEED)
     if workers is not None:
         workers = program.whole(workers, "workers", 1, 1024)
     if clusters.is_dask(d):
-        of_dask: Panel = clusters.of_dask(
-            d,
-            names,
-            levels,
-            {"pump": pump, "power": power, "seed": seed, "places": places, "exe": exe},
-        )
+        of_dask: Panel = clusters.of_dask(d, names, levels, {"pump": pump, "power": power, "seed": seed, "places": places, "exe": exe})
         return of_dask
     library, path = program.way(exe)
-    asked = {
-        **ASKED,
-        "verdicts": "certify",
-        "pump": bool(pump),
-        "power": None if power is None else [seed, power],
-    }
+    asked = {**ASKED, "verdicts": "certify", "pump": bool(pump), "power": None if power is None else [seed, power]}
     asked.update(rp=path, library=library is not None)
     groups = _groups(Frame(d), names, levels, bool(pump))
-    rows = _bar(
-        _rows(groups, places, asked, workers or _processors()), len(groups), progress
-    )
+    rows = _bar(_rows(groups, places, asked, workers or _processors()), len(groups), progress)
     return Panel(names, list(rows), [it for it in ("pump", "power") if asked[it]])
 
 
-def _rows(
-    groups: Sequence[tuple[Any, Callable[[Any], Table]]],
-    places: Any,
-    asked: dict[str, Any],
-    workers: int,
-) -> Iterator[Row]:
+def _rows(groups: Sequence[tuple[Any, Callable[[Any], Table]]], places: Any, asked: dict[str, Any], workers: int) -> Iterator[Row]:
     """Yields the row of each household: by processes, where there are enough households for that to be worth it, or here."""
-    here = (
-        workers == 1
-        or len(groups) < (FEW_CALLS if asked["library"] else FEW)
-        or not sys.executable
-    )
+    here = workers == 1 or len(groups) < (FEW_CALLS if asked["library"] else FEW) or not sys.executable
     size = 1 if here else BLOCK
     begun: deque[list[tuple[Row, Table | None]]] = deque()
 
     def blocks() -> Iterator[list[bytes]]:
         for at in range(0, len(groups), size):
-            begun.append(
-                [_begin(key, own, places) for key, own in groups[at : at + size]]
-            )
+            begun.append([_begin(key, own, places) for key, own in groups[at : at + size]])
             yield [made.csv() for _, made in begun[-1] if made is not None]
 
     pool: Here | Pool = Here(asked) if here else Pool(workers, asked)
@@ -283,9 +219,7 @@ def _rows(
         pool.close()
 
 
-def _begin(
-    key: Any, own: Callable[[Any], Table], places: Any
-) -> tuple[Row, Table | None]:
+def _begin(key: Any, own: Callable[[Any], Table], places: Any) -> tuple[Row, Table | None]:
     """Returns the row of a household, and its table where there is one to be answered."""
     try:
         return Row(key), own(places)
@@ -297,11 +231,7 @@ def _end(row: Row, made: Table, calls: dict[str, Ended], asked: dict[str, Any]) 
     """Puts into a row what the program said of its table."""
 
     def explain(file: str | None, fault: str, places: dict[str, int]) -> Refused:
-        return (
-            made.refused(fault, places)
-            if file == made.file
-            else refusal(fault, file, places)
-        )
+        return made.refused(fault, places) if file == made.file else refusal(fault, file, places)
 
     def told(part: str) -> bytes:
         return program.output(program.ran_of(*calls[part]), explain).encode()
@@ -324,66 +254,35 @@ def _end(row: Row, made: Table, calls: dict[str, Ended], asked: dict[str, Any]) 
             row.missing[name] = str(wrong)
 
 
-def _groups(
-    frame: Frame, names: Sequence[Any], levels: Any, pump: bool = False
-) -> list[tuple[Any, Callable[[Any], Table]]]:
+def _groups(frame: Frame, names: Sequence[Any], levels: Any, pump: bool = False) -> list[tuple[Any, Callable[[Any], Table]]]:
     """Returns what makes the table of each household, under its key."""
     missing = [name for name in names if name not in frame.columns]
     if missing or not names:
-        raise WrongColumns(
-            [f"{name} (by)" for name in names]
-            or ["by: a column that tells households apart"],
-            frame.names,
-            "panel",
-        )
+        raise WrongColumns([f"{name} (by)" for name in names] or ["by: a column that tells households apart"], frame.names, "panel")
     goods, price_columns = prices_of(frame, "panel")
-    own = (
-        frame.columns["e"] if "e" not in names and near(frame, "e", "levels") else None
-    )
+    own = frame.columns["e"] if "e" not in names and near(frame, "e", "levels") else None
     if levels is not None:
         if own is not None:
-            raise BadData(
-                "levels are given twice: by the column 'e', and by the argument levels"
-            )
+            raise BadData("levels are given twice: by the column 'e', and by the argument levels")
         own = values_of(levels, frame.length, "levels")
-    sides = [
-        [frame.columns[name] for name in side]
-        for side in (price_columns, ["q_" + good for good in goods])
-    ]
+    sides = [[frame.columns[name] for name in side] for side in (price_columns, ["q_" + good for good in goods])]
     own_money = price_columns[0].startswith("i_")
     if own_money and pump:
         raise BadData(f"the money pump: {OWN_MONEY}; leave pump=True out")
     places: dict[tuple[Any, ...], list[int]] = {}
     for at in range(frame.length):
-        key = tuple(
-            None
-            if exact.is_missing(frame.columns[name][at])
-            else frame.columns[name][at]
-            for name in names
-        )
+        key = tuple(None if exact.is_missing(frame.columns[name][at]) else frame.columns[name][at] for name in names)
         places.setdefault(key, []).append(at)
 
     def of(rows: list[int]) -> Callable[[Any], Table]:
         def make(places: Any) -> Table:
             labels = own_labels([frame.labels[at] for at in rows], frame.label_name)
-            prices, quantities = (
-                [[column[at] for column in side] for at in rows] for side in sides
-            )
-            return Table(
-                goods,
-                prices,
-                quantities,
-                labels,
-                places,
-                None if own is None else [own[at] for at in rows],
-                own_money,
-            )
+            prices, quantities = ([[column[at] for column in side] for at in rows] for side in sides)
+            return Table(goods, prices, quantities, labels, places, None if own is None else [own[at] for at in rows], own_money)
 
         return make
 
-    return [
-        (key if len(names) > 1 else key[0], of(rows)) for key, rows in places.items()
-    ]
+    return [(key if len(names) > 1 else key[0], of(rows)) for key, rows in places.items()]
 
 
 def _processors() -> int:

@@ -47,20 +47,8 @@ def distribution(name: str, values: Sequence[Fraction]) -> list[tuple[str, str]]
     """Returns the lines on an index."""
     if not values:
         return [(name, "none")]
-    parts = [
-        ("least", 0),
-        ("first quartile", 1),
-        ("median", 2),
-        ("third quartile", 3),
-        ("greatest", 4),
-    ]
-    return [
-        (f"{name}, mean", mean(values)),
-        *(
-            (f"{name}, {what}", down(quantile(values, Fraction(part, 4))))
-            for what, part in parts
-        ),
-    ]
+    parts = [("least", 0), ("first quartile", 1), ("median", 2), ("third quartile", 3), ("greatest", 4)]
+    return [(f"{name}, mean", mean(values)), *((f"{name}, {what}", down(quantile(values, Fraction(part, 4)))) for what, part in parts)]
 
 
 def lines_of(panel: Any) -> list[tuple[str, str]]:
@@ -68,35 +56,17 @@ def lines_of(panel: Any) -> list[tuple[str, str]]:
     rest; what is withheld counts, as what may hold or not."""
     rows = [row for row in panel if row.verdict is not None]
     lines = [("households", str(len(panel))), ("with a verdict", str(len(rows)))]
-    asked = [
-        ("garp", "GARP holds"),
-        ("homothetic", "homothetic"),
-        ("quasilinear", "quasilinear"),
-    ]
+    asked = [("garp", "GARP holds"), ("homothetic", "homothetic"), ("quasilinear", "quasilinear")]
     # Where rows have money of their own, the quasilinear test is not asked, and so not withheld.
-    for name, title in (
-        asked[:2] if any(row.verdict.table.own_money for row in rows) else asked
-    ):
+    for name, title in asked[:2] if any(row.verdict.table.own_money for row in rows) else asked:
         lines.append((title, share_told([getattr(row.verdict, name) for row in rows])))
     index = [row.verdict.efficiency for row in rows]
     lines += distribution("efficiency index (CCEI)", index)
-    lines += [
-        (
-            f"efficiency index at least {level}",
-            share(sum(value >= Fraction(level) for value in index), len(index)),
-        )
-        for level in LEVELS
-    ]
+    lines += [(f"efficiency index at least {level}", share(sum(value >= Fraction(level) for value in index), len(index))) for level in LEVELS]
     if "pump" in panel.asked:
-        lines += distribution(
-            "money pump ratio, greatest",
-            [row.money_pump.ratio for row in rows if row.money_pump is not None],
-        )
+        lines += distribution("money pump ratio, greatest", [row.money_pump.ratio for row in rows if row.money_pump is not None])
     if "power" in panel.asked:
-        lines += distribution(
-            "power of the test",
-            [row.power.share for row in rows if row.power is not None],
-        )
+        lines += distribution("power of the test", [row.power.share for row in rows if row.power is not None])
     return lines
 
 
@@ -107,32 +77,13 @@ def text(panel: Any) -> str:
 
 
 def latex(panel: Any) -> str:
-    told = [
-        f"{escaped(name)} & {escaped(value)} \\\\" for name, value in lines_of(panel)
-    ]
-    return (
-        "\n".join(
-            [
-                "\\begin{tabular}{lr}",
-                "\\toprule",
-                *told[:2],
-                "\\midrule",
-                *told[2:],
-                "\\bottomrule",
-                "\\end{tabular}",
-            ]
-        )
-        + "\n"
-    )
+    told = [f"{escaped(name)} & {escaped(value)} \\\\" for name, value in lines_of(panel)]
+    return "\n".join(["\\begin{tabular}{lr}", "\\toprule", *told[:2], "\\midrule", *told[2:], "\\bottomrule", "\\end{tabular}"]) + "\n"
 
 
 def escaped(text: str) -> str:
     """Returns a text as LaTeX shows it."""
-    special: dict[str, str] = {
-        "\\": "\\textbackslash{}",
-        "~": "\\textasciitilde{}",
-        "^": "\\textasciicircum{}",
-    }
+    special: dict[str, str] = {"\\": "\\textbackslash{}", "~": "\\textasciitilde{}", "^": "\\textasciicircum{}"}
     special.update((it, "\\" + it) for it in "&%$#_{}")
     change: Callable[[str], str] = lambda it: special.get(it, it)
     return "".join(map(change, text))

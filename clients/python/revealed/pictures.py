@@ -33,9 +33,7 @@ def of_verdict(verdict: Verdict, ax: Any = None, *, labels: bool = True) -> Any:
     """Draws the budget lines of a table of two goods, the choices on them, and the cycle that violates the axiom."""
     table = verdict.table
     if len(table.goods) != 2:
-        raise BadData(
-            f"a picture of budget lines has two goods, and this table {len(table.goods)}"
-        )
+        raise BadData(f"a picture of budget lines has two goods, and this table {len(table.goods)}")
     ax = axes_of(ax)
     prices, bundles = sides(table)
     cycle = verdict.cycle or []
@@ -44,43 +42,22 @@ def of_verdict(verdict: Verdict, ax: Any = None, *, labels: bool = True) -> Any:
     for at, (p, q) in enumerate(zip(prices, bundles)):
         spent = p[0] * q[0] + p[1] * q[1]
         strong = at in marked
-        ax.plot(
-            [0, spent / p[0]],
-            [spent / p[1], 0],
-            color=STRONG if strong else LIGHT,
-            linewidth=1.4 if strong else 0.8,
-            zorder=2 if strong else 1,
-        )
+        ax.plot([0, spent / p[0]], [spent / p[1], 0], color=STRONG if strong else LIGHT, linewidth=1.4 if strong else 0.8, zorder=2 if strong else 1)
     rest = [q for at, q in enumerate(bundles) if at not in marked]
     if rest:
         ax.scatter(*zip(*rest), s=18, color=PLAIN, zorder=3, label="choices")
     if marked:
-        ax.scatter(
-            *zip(*(bundles[at] for at in sorted(marked))),
-            s=30,
-            color=STRONG,
-            zorder=4,
-            label="choices of the cycle",
-        )
+        ax.scatter(*zip(*(bundles[at] for at in sorted(marked))), s=30, color=STRONG, zorder=4, label="choices of the cycle")
     arrows(ax, [bundles[place[label]] for label in cycle])
     if labels and (marked or len(bundles) <= 12):
         for at in sorted(marked) if marked else range(len(bundles)):
-            ax.annotate(
-                str(table.labels[at]),
-                bundles[at],
-                textcoords="offset points",
-                xytext=(6, 5),
-                fontsize=8,
-                zorder=6,
-            )
+            ax.annotate(str(table.labels[at]), bundles[at], textcoords="offset points", xytext=(6, 5), fontsize=8, zorder=6)
     ax.set_xlabel(table.goods[0])
     ax.set_ylabel(table.goods[1])
     ax.set_xlim(left=0)
     ax.set_ylim(bottom=0)
     index = f"efficiency index {papers.down(verdict.efficiency)}{'' if verdict.attained else ', not attained'}"
-    ax.set_title(
-        f"GARP {'holds' if verdict.garp else 'is violated'}; {index}", fontsize=10
-    )
+    ax.set_title(f"GARP {'holds' if verdict.garp else 'is violated'}; {index}", fontsize=10)
     if marked:
         ax.legend(frameon=False, fontsize=8)
     return ax
@@ -89,14 +66,7 @@ def of_verdict(verdict: Verdict, ax: Any = None, *, labels: bool = True) -> Any:
 def arrows(ax: Any, walk: Sequence[Any]) -> None:
     """Draws the steps of a walk: from each bundle to one that it is revealed preferred to."""
     for start, end in zip(walk, walk[1:]):
-        how = {
-            "arrowstyle": "-|>",
-            "color": STRONG,
-            "linewidth": 1.2,
-            "connectionstyle": "arc3,rad=0.15",
-            "shrinkA": 5,
-            "shrinkB": 5,
-        }
+        how = {"arrowstyle": "-|>", "color": STRONG, "linewidth": 1.2, "connectionstyle": "arc3,rad=0.15", "shrinkA": 5, "shrinkB": 5}
         ax.annotate("", xy=end, xytext=start, arrowprops=how, zorder=5)
 
 
@@ -107,16 +77,7 @@ def sides(table: Any) -> tuple[list[list[float]], list[list[float]]]:
     return [row[:count] for row in rows], [row[count:] for row in rows]
 
 
-def of_panel(
-    panel: Any,
-    ax: Any = None,
-    *,
-    random: int = 200,
-    seed: Any = 1,
-    bins: int = 20,
-    exe: Any = None,
-    workers: int | None = None,
-) -> Any:
+def of_panel(panel: Any, ax: Any = None, *, random: int = 200, seed: Any = 1, bins: int = 20, exe: Any = None, workers: int | None = None) -> Any:
     """Draws how many households have which efficiency index, beside `random` behaviours on the same budgets; 0 leaves these out.
 
     A behaviour takes the budgets of one household, in turn, and on each a bundle drawn uniformly on the budget line. Its index is
@@ -127,45 +88,20 @@ def of_panel(
         raise BadData("no household of this panel has a verdict")
     ax = axes_of(ax)
     values = [row.verdict.ccei for row in rows]
-    drawn = (
-        [verdict.ccei for verdict in random_verdicts(rows, random, seed, exe, workers)]
-        if random
-        else []
-    )
+    drawn = [verdict.ccei for verdict in random_verdicts(rows, random, seed, exe, workers)] if random else []
     low = min([*values, *drawn])
-    edges = (
-        [low + (1 - low) * place / bins for place in range(bins + 1)]
-        if low < 1
-        else [0.95 + 0.05 * place / bins for place in range(bins + 1)]
-    )
-    told = [
-        (values, PLAIN, f"{len(values)} households"),
-        *([(drawn, LIGHT, f"{len(drawn)} random behaviours")] if drawn else []),
-    ]
+    edges = [low + (1 - low) * place / bins for place in range(bins + 1)] if low < 1 else [0.95 + 0.05 * place / bins for place in range(bins + 1)]
+    told = [(values, PLAIN, f"{len(values)} households"), *([(drawn, LIGHT, f"{len(drawn)} random behaviours")] if drawn else [])]
     numbers, colors, names = zip(*told)
-    ax.hist(
-        numbers,
-        bins=edges,
-        weights=[[1 / len(own)] * len(own) for own in numbers],
-        color=colors,
-        label=names,
-        rwidth=0.9,
-    )
+    ax.hist(numbers, bins=edges, weights=[[1 / len(own)] * len(own) for own in numbers], color=colors, label=names, rwidth=0.9)
     ax.set_xlabel("critical cost efficiency index")
     ax.set_ylabel("share")
     ax.legend(frameon=False, fontsize=8, loc="upper left")
     return ax
 
 
-def random_verdicts(
-    rows: Sequence[Any], count: int, seed: Any, exe: Any, workers: int | None
-) -> list[Verdict]:
+def random_verdicts(rows: Sequence[Any], count: int, seed: Any, exe: Any, workers: int | None) -> list[Verdict]:
     """Returns the verdicts on behaviours drawn on the budgets of these households."""
-    tables = [
-        draws.on_budget_lines(
-            rows[number % len(rows)].verdict.table, f"{seed} {number}"
-        )
-        for number in range(count)
-    ]
+    tables = [draws.on_budget_lines(rows[number % len(rows)].verdict.table, f"{seed} {number}") for number in range(count)]
     with ThreadPoolExecutor(workers) as pool:
         return list(pool.map(lambda table: analyse(table, exe=exe), tables))

@@ -14,9 +14,7 @@ from .faults import BadData, Failed, NoProgram
 VARIABLE = "RP_EXEC"
 NAME = "rp.exe" if sys.platform == "win32" else "rp"
 # A name of a file that the program is given stands in a refusal as `rp: table.csv: BadNumber record 2 column 5`.
-REFUSAL = re.compile(
-    r"rp: (?:([\w-]+)\.(?:csv|json): )?([A-Z]\w*(?: (?:record|column|budget|menu|item) \d+)*)"
-)
+REFUSAL = re.compile(r"rp: (?:([\w-]+)\.(?:csv|json): )?([A-Z]\w*(?: (?:record|column|budget|menu|item) \d+)*)")
 # What a field has to be quoted for.
 QUOTED = re.compile('[",\r\n]')
 QUOTED_ALSO = re.compile('["\r\n]')
@@ -25,10 +23,7 @@ QUOTED_ALSO = re.compile('["\r\n]')
 def find(exe: Any = None) -> str:
     """Returns the program: the argument, else what the environment variable RP_EXEC names, else what came with the package,
     else `rp` on the path."""
-    for named, where in (
-        (exe, "the argument exe"),
-        (os.environ.get(VARIABLE), f"the variable {VARIABLE}"),
-    ):
+    for named, where in ((exe, "the argument exe"), (os.environ.get(VARIABLE), f"the variable {VARIABLE}")):
         if named is not None and named != "":
             return _named(named, where)
     found = inside() or shutil.which(NAME)
@@ -50,12 +45,7 @@ Runs = Callable[[str, Sequence[str], Mapping[str, bytes]], "tuple[int, bytes, by
 def way(exe: Any = None) -> tuple[Runs | None, str]:
     """Returns how an answer is got: by a library, or by the program of this path; raises NoProgram where neither is found."""
     found = library.find(exe)
-    if (
-        found is None
-        and (exe is None or exe == "")
-        and not os.environ.get(VARIABLE)
-        and inside() is None
-    ):
+    if found is None and (exe is None or exe == "") and not os.environ.get(VARIABLE) and inside() is None:
         found = library.of_loader()
     return (found.run, found.path) if found is not None else (None, find(exe))
 
@@ -63,15 +53,9 @@ def way(exe: Any = None) -> tuple[Runs | None, str]:
 def _named(named: Any, where: str) -> str:
     try:
         path = os.fspath(named)
-        found = (
-            shutil.which(path)
-            if isinstance(path, str)
-            else shutil.which(os.fsdecode(path))
-        )
+        found = shutil.which(path) if isinstance(path, str) else shutil.which(os.fsdecode(path))
     except (TypeError, ValueError):
-        raise BadData(
-            f"{where} is the path of the program, and not {named!r}"
-        ) from None
+        raise BadData(f"{where} is the path of the program, and not {named!r}") from None
     if found is None:
         raise NoProgram(f"{where} names {path!r}, which is no program")
     return os.path.abspath(found)
@@ -114,11 +98,7 @@ class Ran:
         if self.status != 4 or told is None:
             return None
         fault, *places = told[2].split()
-        return (
-            told[1],
-            fault,
-            {name: int(number) for name, number in zip(places[::2], places[1::2])},
-        )
+        return told[1], fault, {name: int(number) for name, number in zip(places[::2], places[1::2])}
 
 
 def call(words: Sequence[str], files: Mapping[str, bytes], exe: Any = None) -> Ran:
@@ -147,12 +127,7 @@ def _text(data: bytes) -> str:
 Explains = Callable[["str | None", str, "dict[str, int]"], Exception]
 
 
-def answer(
-    words: Sequence[str],
-    files: Mapping[str, bytes],
-    exe: Any = None,
-    explain: Explains | None = None,
-) -> str:
+def answer(words: Sequence[str], files: Mapping[str, bytes], exe: Any = None, explain: Explains | None = None) -> str:
     """Returns the output of a call that ends with status 0; raises what `explain` makes of a refusal, or Failed."""
     return output(call(words, files, exe), explain)
 
@@ -169,11 +144,6 @@ def whole(value: Any, name: str, least: int, greatest: int) -> int:
     """Returns a whole number within its limits, before it becomes a word of the program; refuses everything else."""
     if not isinstance(value, (bool, str, bytes, float)) and hasattr(value, "__index__"):
         number = value.__index__()
-        if least <= number <= greatest and type(value).__name__ not in (
-            "bool",
-            "bool_",
-        ):
+        if least <= number <= greatest and type(value).__name__ not in ("bool", "bool_"):
             return int(number)
-    raise BadData(
-        f"{name} is a whole number from {least:,} to {greatest:,}, and not {value!r}"
-    )
+    raise BadData(f"{name} is a whole number from {least:,} to {greatest:,}, and not {value!r}")

@@ -10,18 +10,7 @@ from . import advice, exact, program
 from .advice import HINTS, LEVEL_HINT, LEVELS, MONEY, PRICES, QUANTITIES, WHOLE
 from .catalogue import PER
 from .faults import BadData, Refused, WrongColumns
-from .frames import (
-    Frame,
-    is_frame,
-    listed,
-    near,
-    need,
-    no_panel,
-    numbered,
-    one_row,
-    own_labels,
-    pairs_of,
-)
+from .frames import Frame, is_frame, listed, near, need, no_panel, numbered, one_row, own_labels, pairs_of
 from .frames import prices_of, rows_of, starting, values_of
 
 
@@ -32,16 +21,7 @@ class Sheet:
     have to be.
     """
 
-    def __init__(
-        self,
-        file: str,
-        names: Iterable[Any],
-        rows: list[list[Any]],
-        labels: list[Any],
-        kinds: list[str],
-        places: Any,
-        wanted: str = "",
-    ) -> None:
+    def __init__(self, file: str, names: Iterable[Any], rows: list[list[Any]], labels: list[Any], kinds: list[str], places: Any, wanted: str = "") -> None:
         self.file = file
         self.names = [str(name) for name in names]
         self.told = self.names
@@ -59,15 +39,9 @@ class Sheet:
             return list(map(str, row))
         for place, value in enumerate(row):
             try:
-                texts.append(
-                    exact.text_of(
-                        value, self.places[place] if place < len(self.places) else None
-                    )
-                )
+                texts.append(exact.text_of(value, self.places[place] if place < len(self.places) else None))
             except exact.NotFinite:
-                raise self.refused(
-                    "TooManyDecimals", {"record": record, "column": place + 1}
-                ) from None
+                raise self.refused("TooManyDecimals", {"record": record, "column": place + 1}) from None
         return texts
 
     def csv(self) -> bytes:
@@ -76,67 +50,32 @@ class Sheet:
 
     def scale(self, *prefixes: str) -> int:
         """Returns the power of ten that makes the numbers whole of all columns whose names begin so."""
-        own = [
-            place for place, name in enumerate(self.names) if name.startswith(prefixes)
-        ]
+        own = [place for place, name in enumerate(self.names) if name.startswith(prefixes)]
         return self.power(own)
 
     def power(self, columns: Sequence[int]) -> int:
         """Returns the power of ten that makes the numbers of these columns whole."""
-        parts = [
-            row[place].partition(".")[2].rstrip("0")
-            for row in self.texts
-            for place in columns
-        ]
+        parts = [row[place].partition(".")[2].rstrip("0") for row in self.texts for place in columns]
         return int(10 ** max(map(len, parts), default=0))
 
     def values(self) -> dict[str, Sequence[Any]]:
         """Returns the values of each kind, and the names of what has a price."""
         found: dict[str, list[Any]] = {}
         for place, kind in enumerate(self.kinds):
-            found.setdefault(kind, []).extend(
-                row[place] for row in self.rows if place < len(row)
-            )
-        return {
-            **found,
-            "goods": [
-                name for name, kind in zip(self.names, self.kinds) if kind == PRICES
-            ],
-        }
+            found.setdefault(kind, []).extend(row[place] for row in self.rows if place < len(row))
+        return {**found, "goods": [name for name, kind in zip(self.names, self.kinds) if kind == PRICES]}
 
     def refused(self, fault: str, places: dict[str, int]) -> Refused:
         """Returns the refusal of this file, with the row's label, the column's name, what stands there, and a hint."""
         record, column = places.get("record"), places.get("column")
-        label = (
-            self.labels[record - 1] if record and record <= len(self.labels) else None
-        )
+        label = self.labels[record - 1] if record and record <= len(self.labels) else None
         name = self.told[column - 1] if column and column <= len(self.told) else None
         value = shown = None
         kind = self.kinds[column - 1] if name is not None and column else ""
-        if (
-            label is not None
-            and name is not None
-            and record
-            and column
-            and column <= len(self.rows[record - 1])
-        ):
+        if label is not None and name is not None and record and column and column <= len(self.rows[record - 1]):
             value = self.rows[record - 1][column - 1]
-            shown = (
-                "missing"
-                if exact.is_missing(value)
-                else repr(value)
-                if isinstance(value, str)
-                else str(value)
-            )
-        return Refused(
-            fault,
-            self.file,
-            label=label,
-            name=name,
-            value=shown,
-            hint=self._hint(fault, value, kind),
-            **places,
-        )
+            shown = "missing" if exact.is_missing(value) else repr(value) if isinstance(value, str) else str(value)
+        return Refused(fault, self.file, label=label, name=name, value=shown, hint=self._hint(fault, value, kind), **places)
 
     def _hint(self, fault: str, value: Any, kind: str) -> str | None:
         if fault in ("BadNumber", "BadLevel") and kind == LEVELS:
@@ -161,15 +100,8 @@ def pair_of(places: Any) -> tuple[int | None, int | None]:
     """Returns the places of prices and of quantities: one number for both, or one for each."""
     pair = tuple(places) if isinstance(places, (tuple, list)) else (places, places)
     if len(pair) != 2:
-        raise BadData(
-            f"places is a whole number from 0 to {exact.MOST_PLACES}, or two of these, those of prices and of quantities: {places!r}"
-        )
-    prices, quantities = (
-        None
-        if number is None
-        else program.whole(number, "places", 0, exact.MOST_PLACES)
-        for number in pair
-    )
+        raise BadData(f"places is a whole number from 0 to {exact.MOST_PLACES}, or two of these, those of prices and of quantities: {places!r}")
+    prices, quantities = (None if number is None else program.whole(number, "places", 0, exact.MOST_PLACES) for number in pair)
     return prices, quantities
 
 
@@ -181,8 +113,7 @@ OWN_MONEY = "intercepts exchanged give each row money of its own, and this adds 
 
 class Table(Sheet):
     """Prices and quantities by observation, perhaps with levels. It is made by `table(p, q)` or `from_frame(d)`, and unpacks into
-    the two. `own_money` says that the prices are intercepts exchanged: then each row has money of its own.
-    """
+    the two. `own_money` says that the prices are intercepts exchanged: then each row has money of its own."""
 
     def __init__(
         self,
@@ -201,10 +132,7 @@ class Table(Sheet):
         self.levels = levels
         self.rounding = places
         count = len(self.goods)
-        names = [
-            *(f"p_{good}" for good in self.goods),
-            *(f"q_{good}" for good in self.goods),
-        ]
+        names = [*(f"p_{good}" for good in self.goods), *(f"q_{good}" for good in self.goods)]
         rows = [[*p, *q] for p, q in zip(prices, quantities)]
         kinds = [PRICES] * count + [QUANTITIES] * count
         price_places, quantity_places = pair_of(places)
@@ -212,20 +140,9 @@ class Table(Sheet):
         if levels is not None:
             names, kinds, asked = [*names, "e"], [*kinds, LEVELS], [*asked, None]
             rows = [[*row, level] for row, level in zip(rows, levels)]
-        super().__init__(
-            "table",
-            names,
-            rows,
-            labels,
-            kinds,
-            asked,
-            "p_NAME and q_NAME for each good",
-        )
+        super().__init__("table", names, rows, labels, kinds, asked, "p_NAME and q_NAME for each good")
         if own_money:
-            self.told = [
-                *(f"i_{good}" for good in reversed(self.goods)),
-                *self.names[count:],
-            ]
+            self.told = [*(f"i_{good}" for good in reversed(self.goods)), *self.names[count:]]
 
     def __len__(self) -> int:
         return len(self.rows)
@@ -235,38 +152,16 @@ class Table(Sheet):
 
     def rounded(self, places: Any) -> Table:
         """Returns the same table with so many places."""
-        return (
-            self
-            if places is None
-            else Table(
-                self.goods,
-                self.prices,
-                self.quantities,
-                self.labels,
-                places,
-                self.levels,
-                self.own_money,
-            )
-        )
+        return self if places is None else Table(self.goods, self.prices, self.quantities, self.labels, places, self.levels, self.own_money)
 
     def levelled(self, levels: Any) -> Table:
         """Returns the same table with these levels."""
         if levels is None:
             return self
         if self.levels is not None:
-            raise BadData(
-                "levels are given twice: by the column 'e', and by the argument levels"
-            )
+            raise BadData("levels are given twice: by the column 'e', and by the argument levels")
         own = values_of(levels, len(self), "levels")
-        return Table(
-            self.goods,
-            self.prices,
-            self.quantities,
-            self.labels,
-            self.rounding,
-            own,
-            self.own_money,
-        )
+        return Table(self.goods, self.prices, self.quantities, self.labels, self.rounding, own, self.own_money)
 
     @property
     def price_scale(self) -> int:
@@ -306,18 +201,8 @@ def from_frame(d: Any, *, places: Any = None, levels: Any = None) -> Table:
     no_panel(frame, price_columns)
     labels = own_labels(frame.labels, frame.label_name)
     own = frame.columns["e"] if near(frame, "e", "levels") else None
-    prices, quantities = frame.rows(price_columns), frame.rows(
-        f"q_{good}" for good in goods
-    )
-    return Table(
-        goods,
-        prices,
-        quantities,
-        labels,
-        places,
-        own,
-        price_columns[0].startswith("i_"),
-    ).levelled(levels)
+    prices, quantities = frame.rows(price_columns), frame.rows(f"q_{good}" for good in goods)
+    return Table(goods, prices, quantities, labels, places, own, price_columns[0].startswith("i_")).levelled(levels)
 
 
 def table(p: Any, q: Any = None, *, places: Any = None, levels: Any = None) -> Table:
@@ -329,27 +214,21 @@ def table(p: Any, q: Any = None, *, places: Any = None, levels: Any = None) -> T
     if q is None:
         if not isinstance(p, Table) and not is_frame(p):
             rows_of(p, "prices")
-            raise BadData(
-                "there are no quantities: prices p and quantities q are two lists, arrays or frames, or a frame has both"
-            )
+            raise BadData("there are no quantities: prices p and quantities q are two lists, arrays or frames, or a frame has both")
         return from_frame(p, places=places, levels=levels)
     if isinstance(p, Side) and isinstance(q, Side) and p.table is q.table:
         return p.table.rounded(places).levelled(levels)
     if is_frame(p) != is_frame(q):
         raise BadData("prices and quantities are two frames, or two lists or arrays")
     if is_frame(p):
-        return _of_frames(Frame(p, "prices"), Frame(q, "quantities"), places).levelled(
-            levels
-        )
+        return _of_frames(Frame(p, "prices"), Frame(q, "quantities"), places).levelled(levels)
     prices, quantities = rows_of(p, "prices"), rows_of(q, "quantities")
     if [len(row) for row in prices] != [len(row) for row in quantities]:
         raise BadData("prices and quantities have not the same shape")
     if len({len(row) for row in prices}) > 1:
         raise BadData("the rows of prices are not all of one length")
     goods = range(1, len(prices[0]) + 1) if prices else []
-    return Table(
-        goods, prices, quantities, list(range(1, len(prices) + 1)), places
-    ).levelled(levels)
+    return Table(goods, prices, quantities, list(range(1, len(prices) + 1)), places).levelled(levels)
 
 
 def _of_frames(p: Frame, q: Frame, places: Any) -> Table:
@@ -359,31 +238,17 @@ def _of_frames(p: Frame, q: Frame, places: Any) -> Table:
             f"prices and quantities are not of the same goods: {sorted(set(price_of) ^ set(quantity_of))}; "
             f"the columns of prices are {listed(p.names)}, those of quantities {listed(q.names)}"
         )
-    if len(p.labels) != len(q.labels) or any(
-        a != b for a, b in zip(p.labels, q.labels)
-    ):
-        raise BadData(
-            "the rows of prices and quantities have not the same labels in the same order"
-        )
+    if len(p.labels) != len(q.labels) or any(a != b for a, b in zip(p.labels, q.labels)):
+        raise BadData("the rows of prices and quantities have not the same labels in the same order")
     goods, labels = list(price_of), own_labels(p.labels, p.label_name)
-    return Table(
-        goods,
-        p.rows(price_of.values()),
-        q.rows(quantity_of[good] for good in goods),
-        labels,
-        places,
-    )
+    return Table(goods, p.rows(price_of.values()), q.rows(quantity_of[good] for good in goods), labels, places)
 
 
 def _goods(frame: Frame, prefix: str) -> dict[str, Any]:
     """Returns the name of each good's column."""
     found: dict[str, Any] = {}
-    if "e" in frame.columns and any(
-        str(name).startswith(prefix) for name in frame.names
-    ):
-        raise BadData(
-            f"a column 'e' among columns that begin with {prefix!r}: levels are given by the argument levels here"
-        )
+    if "e" in frame.columns and any(str(name).startswith(prefix) for name in frame.names):
+        raise BadData(f"a column 'e' among columns that begin with {prefix!r}: levels are given by the argument levels here")
     for name in frame.names:
         if name != "obs":
             good = str(name)[2:] if str(name).startswith(prefix) else str(name)
@@ -396,14 +261,7 @@ def _goods(frame: Frame, prefix: str) -> dict[str, Any]:
 # ---- what stands beside a table
 
 
-def beside(
-    table: Table,
-    data: Any,
-    prefix: str,
-    more: str | None = None,
-    values: Any = None,
-    places: Any = None,
-) -> Sheet:
+def beside(table: Table, data: Any, prefix: str, more: str | None = None, values: Any = None, places: Any = None) -> Sheet:
     """Returns new prices (`p_`) or bundles (`q_`) of a table's goods, and where `more` names one a column more.
 
     The data are a frame, which may have that column too, or rows, or one row; else its values are one for each row or one
@@ -412,33 +270,19 @@ def beside(
     own = pair_of(places)[0 if prefix == "p_" else 1]
     if is_frame(data):
         frame = Frame(one_row(data), "new")
-        columns = {
-            good: name for good, name in _goods(frame, prefix).items() if name != more
-        }
-        header, rows, labels = (
-            [prefix + good for good in columns],
-            frame.rows(columns.values()),
-            frame.labels,
-        )
+        columns = {good: name for good, name in _goods(frame, prefix).items() if name != more}
+        header, rows, labels = [prefix + good for good in columns], frame.rows(columns.values()), frame.labels
         values = frame.columns.get(more) if values is None else values
     else:
         rows = rows_of(data if _has_rows(data) else [data], "new")
-        header, labels = [prefix + good for good in table.goods], list(
-            range(1, len(rows) + 1)
-        )
+        header, labels = [prefix + good for good in table.goods], list(range(1, len(rows) + 1))
         if any(len(row) != len(header) for row in rows):
             raise BadData(f"each row has a number for each of the {len(header)} goods")
-    kinds, asked = [PRICES if prefix == "p_" else QUANTITIES] * len(header), [
-        own
-    ] * len(header)
-    wanted = ", ".join(
-        [*(prefix + good for good in table.goods), *([more] if more else [])]
-    )
+    kinds, asked = [PRICES if prefix == "p_" else QUANTITIES] * len(header), [own] * len(header)
+    wanted = ", ".join([*(prefix + good for good in table.goods), *([more] if more else [])])
     if more is not None and values is not None:
         values = values_of(values, len(rows), more)
-        header, rows = [*header, more], [
-            [*row, value] for row, value in zip(rows, values)
-        ]
+        header, rows = [*header, more], [[*row, value] for row, value in zip(rows, values)]
         kinds, asked = [*kinds, MONEY], [*asked, own]
     return Sheet("new", header, rows, numbered(labels), kinds, asked, wanted)
 
@@ -455,23 +299,11 @@ def _has_rows(data: Any) -> bool:
 class Choices:
     """Budgets, the choices from them, and the units that were asked for."""
 
-    def __init__(
-        self, budgets: Any, choices: Any, per: int | None, places: Any = None
-    ) -> None:
+    def __init__(self, budgets: Any, choices: Any, per: int | None, places: Any = None) -> None:
         price_places, quantity_places = pair_of(places)
         self.per = None if per is None else program.whole(per, "per", *PER)
-        self.budgets = _sheet(
-            "budgets",
-            budgets,
-            "p_",
-            ["w"],
-            {"p_": (PRICES, price_places), "w": (MONEY, price_places)},
-        )
-        others = {
-            "q_": (QUANTITIES, quantity_places),
-            "budget": (WHOLE, None),
-            "n": (WHOLE, None),
-        }
+        self.budgets = _sheet("budgets", budgets, "p_", ["w"], {"p_": (PRICES, price_places), "w": (MONEY, price_places)})
+        others = {"q_": (QUANTITIES, quantity_places), "budget": (WHOLE, None), "n": (WHOLE, None)}
         self.choices = _sheet("choices", choices, "q_", ["budget", "n"], others)
         if is_frame(budgets) and "obs" in Frame(budgets).columns:
             self._number_budgets()
@@ -484,18 +316,10 @@ class Choices:
             try:
                 self.choices.texts[record - 1][place] = str(numbers[row[place]])
             except (KeyError, TypeError):
-                raise self.choices.refused(
-                    "UnknownBudget", {"record": record, "column": place + 1}
-                ) from None
+                raise self.choices.refused("UnknownBudget", {"record": record, "column": place + 1}) from None
 
 
-def _sheet(
-    file: str,
-    data: Any,
-    prefix: str,
-    others: list[str],
-    kinds: dict[str, tuple[str, int | None]],
-) -> Sheet:
+def _sheet(file: str, data: Any, prefix: str, others: list[str], kinds: dict[str, tuple[str, int | None]]) -> Sheet:
     wanted = f"{prefix}NAME for each good, {', '.join(others)}"
     labels: list[Any]
     if is_frame(data):
@@ -505,11 +329,7 @@ def _sheet(
             raise WrongColumns(wanted.split(", "), frame.names, file)
         names = [*goods, *others]
         header, rows = names, frame.rows(names)
-        labels = (
-            own_labels(frame.labels, frame.label_name)
-            if file == "budgets" and "obs" in frame.columns
-            else numbered(frame.labels)
-        )
+        labels = own_labels(frame.labels, frame.label_name) if file == "budgets" and "obs" in frame.columns else numbered(frame.labels)
     else:
         rows = rows_of(data, file)
         numbers = range(1, (len(rows[0]) if rows else 0) - len(others) + 1)
@@ -517,18 +337,8 @@ def _sheet(
         if others[0] == "budget":
             header = ["budget", *(f"{prefix}{good}" for good in numbers), "n"]
         labels = list(range(1, len(rows) + 1))
-    of = [
-        kinds.get(name, kinds.get(name[:2], (WHOLE, None))) for name in map(str, header)
-    ]
-    return Sheet(
-        file,
-        header,
-        rows,
-        labels,
-        [kind for kind, _ in of],
-        [asked for _, asked in of],
-        wanted,
-    )
+    of = [kinds.get(name, kinds.get(name[:2], (WHOLE, None))) for name in map(str, header)]
+    return Sheet(file, header, rows, labels, [kind for kind, _ in of], [asked for _, asked in of], wanted)
 
 
 # ---- menus, and firms
@@ -549,25 +359,12 @@ class MenuChoices(Sheet):
             rows = rows_of(data, "menus")
             labels = list(range(1, len(rows) + 1))
             if any(len(row) != 3 for row in rows):
-                raise BadData(
-                    "menus: each row is a menu, the letter that was chosen, and how many times"
-                )
-        super().__init__(
-            "menus",
-            names,
-            rows,
-            labels,
-            ["letters", "letters", WHOLE],
-            [None] * 3,
-            ", ".join(names),
-        )
+                raise BadData("menus: each row is a menu, the letter that was chosen, and how many times")
+        super().__init__("menus", names, rows, labels, ["letters", "letters", WHOLE], [None] * 3, ", ".join(names))
 
     def _texts(self, record: int, row: list[Any]) -> list[str]:
         # a menu and a letter stand as they are, with their blanks
-        return [
-            *(it if isinstance(it, str) else str(it) for it in row[:2]),
-            exact.text_of(row[2]),
-        ]
+        return [*(it if isinstance(it, str) else str(it) for it in row[:2]), exact.text_of(row[2])]
 
 
 class Technology(Sheet):
@@ -578,44 +375,22 @@ class Technology(Sheet):
         frame = Frame(data, "technology")
         others = ["y", "p (where the output has a price)"]
         self.inputs = pairs_of(frame, "w_", "x_", "technology", others)
-        wanted = [
-            *("w_" + name for name in self.inputs),
-            *("x_" + name for name in self.inputs),
-            *others,
-        ]
+        wanted = [*("w_" + name for name in self.inputs), *("x_" + name for name in self.inputs), *others]
         need(frame, ["y"], wanted, "technology")
         no_panel(frame, [])
         self.priced = near(frame, "p", "prices of the output")
-        names = [
-            *("w_" + name for name in self.inputs),
-            *(["p"] if self.priced else []),
-            *("x_" + name for name in self.inputs),
-            "y",
-        ]
-        kinds = [
-            PRICES if name.startswith("w_") or name == "p" else QUANTITIES
-            for name in names
-        ]
+        names = [*("w_" + name for name in self.inputs), *(["p"] if self.priced else []), *("x_" + name for name in self.inputs), "y"]
+        kinds = [PRICES if name.startswith("w_") or name == "p" else QUANTITIES for name in names]
         prices, quantities = pair_of(places)
         asked = [prices if kind == PRICES else quantities for kind in kinds]
-        super().__init__(
-            "technology",
-            names,
-            frame.rows(names),
-            own_labels(frame.labels, frame.label_name),
-            kinds,
-            asked,
-            ", ".join(wanted),
-        )
+        super().__init__("technology", names, frame.rows(names), own_labels(frame.labels, frame.label_name), kinds, asked, ", ".join(wanted))
 
     def __len__(self) -> int:
         return len(self.rows)
 
     @property
     def quantity_scale(self) -> int:
-        return self.power(
-            [place for place, kind in enumerate(self.kinds) if kind == QUANTITIES]
-        )
+        return self.power([place for place, kind in enumerate(self.kinds) if kind == QUANTITIES])
 
     def asked(self, data: Any, places: Any = None) -> Sheet:
         """Returns the outputs that are asked of it at new prices of its inputs."""
@@ -623,15 +398,5 @@ class Technology(Sheet):
         names = [*("w_" + name for name in self.inputs), "y"]
         need(frame, names, names, "asked")
         prices, quantities = pair_of(places)
-        kinds, own = [PRICES] * len(self.inputs) + [QUANTITIES], [prices] * len(
-            self.inputs
-        ) + [quantities]
-        return Sheet(
-            "asked",
-            names,
-            frame.rows(names),
-            numbered(frame.labels),
-            kinds,
-            own,
-            ", ".join(names),
-        )
+        kinds, own = [PRICES] * len(self.inputs) + [QUANTITIES], [prices] * len(self.inputs) + [quantities]
+        return Sheet("asked", names, frame.rows(names), numbered(frame.labels), kinds, own, ", ".join(names))

@@ -6,27 +6,13 @@ import unittest
 from fractions import Fraction
 
 import revealed
-from revealed import NoReport, Refused
+from revealed import BadData, NoReport, Refused
 from revealed.verifier import verify_cost, verify_menus, verify_pump
 
 EXAMPLES = pathlib.Path(__file__).resolve().parents[3] / "examples"
 P, Q = [[1, 2], [2, 1]], [[1, 2], [2, 1]]
-YEARS = {
-    "obs": [2024, 2025],
-    "p_bread": ["1.25", "2.50"],
-    "p_wine": ["2.50", "1.25"],
-    "q_bread": [1, 2],
-    "q_wine": [2, 1],
-}
-FIRM = {
-    "obs": ["old", "new"],
-    "y": [1, 2],
-    "p": [5, 4],
-    "w_labour": [1, 2],
-    "w_coal": [2, 1],
-    "x_labour": [2, 2],
-    "x_coal": [1, 2],
-}
+YEARS = {"obs": [2024, 2025], "p_bread": ["1.25", "2.50"], "p_wine": ["2.50", "1.25"], "q_bread": [1, 2], "q_wine": [2, 1]}
+FIRM = {"obs": ["old", "new"], "y": [1, 2], "p": [5, 4], "w_labour": [1, 2], "w_coal": [2, 1], "x_labour": [2, 2], "x_coal": [1, 2]}
 ASKED = {"w_labour": [1, 1], "w_coal": [1, 1], "y": [1, 3]}
 MENUS = {"menu": ["abc", "abc", "ab"], "choice": ["a", "b", "b"], "n": [1, 1, 2]}
 
@@ -34,10 +20,7 @@ MENUS = {"menu": ["abc", "abc", "ab"], "choice": ["a", "b", "b"], "n": [1, 1, 2]
 class Pumps(unittest.TestCase):
     def test_the_example(self):
         found = revealed.money_pump(revealed.from_frame(YEARS))
-        self.assertEqual(
-            (found.ratio, found.garp, set(found.cycle)),
-            (Fraction(1, 5), False, {2024, 2025}),
-        )
+        self.assertEqual((found.ratio, found.garp, set(found.cycle)), (Fraction(1, 5), False, {2024, 2025}))
         self.assertEqual(found.values, {2024: 0, 2025: 0})
         self.assertLessEqual(Fraction(found.pump), found.ratio)
         self.assertEqual(float(found), found.pump)
@@ -52,20 +35,13 @@ class Pumps(unittest.TestCase):
 
     def test_values_are_in_money(self):
         # in cents, and tenths of a unit, the same table
-        d = {
-            "p_a": ["0.01", "0.02"],
-            "p_b": ["0.02", "0.01"],
-            "q_a": ["0.1", "0.2"],
-            "q_b": ["0.2", "0.1"],
-        }
+        d = {"p_a": ["0.01", "0.02"], "p_b": ["0.02", "0.01"], "q_a": ["0.1", "0.2"], "q_b": ["0.2", "0.1"]}
         three = [[2, 1, 3], [3, 2, 1], [1, 3, 2]], [[1, 0, 0], [0, 1, 0], [0, 0, 1]]
         found = revealed.pump(d)
         self.assertEqual(found.ratio, Fraction(1, 5))
         whole = revealed.pump(*three)
         parts = revealed.pump([[f"0.{it}" for it in row] for row in three[0]], three[1])
-        self.assertEqual(
-            {label: value * 10 for label, value in parts.values.items()}, whole.values
-        )
+        self.assertEqual({label: value * 10 for label, value in parts.values.items()}, whole.values)
 
     def test_what_verify_says_of_others(self):
         table = revealed.from_frame(YEARS).csv()
@@ -82,9 +58,7 @@ class Pumps(unittest.TestCase):
             ("places 2 0", "places 2 1", 0, "first line"),
         ]:
             found = verify_pump(table, good.replace(old, new).encode())
-            self.assertEqual(
-                (found.accepted, found.rejected.number), (False, number), old
-            )
+            self.assertEqual((found.accepted, found.rejected.number), (False, number), old)
             self.assertIn(told, found.rejected.why)
         self.assertTrue(verify_pump(table, good.encode()))
         self.assertEqual(verify_pump(table, good.encode()).remarks, [])
@@ -100,35 +74,18 @@ class Pumps(unittest.TestCase):
         ):
             with self.assertRaises(NoReport):
                 verify_pump(table, text.encode())
-        self.assertFalse(
-            verify_pump(
-                b"p_a,q_a,e\n1,1,5\n",
-                b"observations 1 goods 1 places 0 0\npump 0\ncycle 1 1\nvalues 0\n",
-            )
-        )
+        self.assertFalse(verify_pump(b"p_a,q_a,e\n1,1,5\n", b"observations 1 goods 1 places 0 0\npump 0\ncycle 1 1\nvalues 0\n"))
 
 
 class Powers(unittest.TestCase):
     def test_the_example(self):
         found = revealed.power_of_test(P, Q, seed=7, draws=1000)
-        self.assertEqual(
-            (found.violations, found.share, found.power),
-            (69, Fraction(69, 1000), 0.069),
-        )
+        self.assertEqual((found.violations, found.share, found.power), (69, Fraction(69, 1000), 0.069))
         self.assertEqual(float(found), 0.069)
 
     def test_a_trial(self):
         found = revealed.random_trial(7, 256, 16)
-        self.assertEqual(
-            (
-                found.garp,
-                found.efficiency,
-                found.attained,
-                found.homothetic,
-                found.quasilinear,
-            ),
-            (False, Fraction(631, 867), False, False, False),
-        )
+        self.assertEqual((found.garp, found.efficiency, found.attained, found.homothetic, found.quasilinear), (False, Fraction(631, 867), False, False, False))
         self.assertLess(found.ccei, Fraction(631, 867))
         self.assertEqual(revealed.trial(1, 1, 1).garp, True)
 
@@ -140,56 +97,28 @@ class Powers(unittest.TestCase):
 class Firms(unittest.TestCase):
     def test_the_example(self):
         found = revealed.cost_minimisation(FIRM, ASKED)
-        self.assertEqual(
-            (found.cost, found.profit, found.cost_pair, found.profit_pair),
-            (True, False, None, ("old", "new")),
-        )
+        self.assertEqual((found.cost, found.profit, found.cost_pair, found.profit_pair), (True, False, None, ("old", "new")))
         first, second = found.bounds
-        self.assertEqual(
-            (first.lower, first.upper, first.at, first.output), (2, 3, "old", 1)
-        )
-        self.assertEqual(
-            (second.lower, second.upper, second.at), (Fraction(10, 3), None, None)
-        )
+        self.assertEqual((first.lower, first.upper, first.at, first.output), (2, 3, "old", 1))
+        self.assertEqual((second.lower, second.upper, second.at), (Fraction(10, 3), None, None))
         self.assertEqual(second.prices, {"labour": 1, "coal": 1})
         self.assertTrue(revealed.verify(found))
-        self.assertTrue(
-            revealed.verify(
-                (EXAMPLES / "technology.csv", EXAMPLES / "outputs.csv"), found.report
-            )
-        )
+        self.assertTrue(revealed.verify((EXAMPLES / "technology.csv", EXAMPLES / "outputs.csv"), found.report))
 
     def test_the_verdicts_alone(self):
-        found = revealed.cost(
-            {name: values for name, values in FIRM.items() if name != "p"}
-        )
+        found = revealed.cost({name: values for name, values in FIRM.items() if name != "p"})
         self.assertEqual((found.cost, found.profit, found.bounds), (True, None, []))
         self.assertTrue(revealed.verify(found))
 
     def test_units(self):
         # prices in tenths, inputs and outputs in hundredths
-        scaled = {
-            "y": ["0.01", "0.02"],
-            "w_labour": ["0.1", "0.2"],
-            "w_coal": ["0.2", "0.1"],
-            "x_labour": ["0.02", "0.02"],
-            "x_coal": ["0.01", "0.02"],
-        }
-        (bound,) = revealed.cost(
-            scaled, {"w_labour": "0.01", "w_coal": "0.01", "y": "0.03"}
-        ).bounds
-        self.assertEqual(
-            (bound.lower, bound.output), (Fraction(10, 3) / 10_000, Fraction(3, 100))
-        )
+        scaled = {"y": ["0.01", "0.02"], "w_labour": ["0.1", "0.2"], "w_coal": ["0.2", "0.1"], "x_labour": ["0.02", "0.02"], "x_coal": ["0.01", "0.02"]}
+        (bound,) = revealed.cost(scaled, {"w_labour": "0.01", "w_coal": "0.01", "y": "0.03"}).bounds
+        self.assertEqual((bound.lower, bound.output), (Fraction(10, 3) / 10_000, Fraction(3, 100)))
 
     def test_waste(self):
-        found = revealed.cost(
-            {"y": [1, 1], "w_a": [1, 1], "w_b": [1, 1], "x_a": [3, 1], "x_b": [3, 1]},
-            {"w_a": 1, "w_b": 1, "y": 1},
-        )
-        self.assertEqual(
-            (found.cost, found.cost_pair, found.profit), (False, (1, 2), None)
-        )
+        found = revealed.cost({"y": [1, 1], "w_a": [1, 1], "w_b": [1, 1], "x_a": [3, 1], "x_b": [3, 1]}, {"w_a": 1, "w_b": 1, "y": 1})
+        self.assertEqual((found.cost, found.cost_pair, found.profit), (False, (1, 2), None))
         self.assertEqual((found.bounds[0].given, found.bounds[0].lower), (False, None))
         self.assertTrue(revealed.verify(found))
 
@@ -197,24 +126,14 @@ class Firms(unittest.TestCase):
         with self.assertRaises(Refused) as caught:
             revealed.cost({**FIRM, "w_coal": [2, 0]}, ASKED)
         self.assertEqual(
-            (
-                caught.exception.file,
-                caught.exception.fault,
-                caught.exception.label,
-                caught.exception.name,
-            ),
-            ("technology", "ZeroPrice", "new", "w_coal"),
+            (caught.exception.file, caught.exception.fault, caught.exception.label, caught.exception.name), ("technology", "ZeroPrice", "new", "w_coal")
         )
         with self.assertRaises(Refused) as caught:
             revealed.cost(FIRM, {**ASKED, "y": [1, "1.5"]})
-        self.assertEqual(
-            (caught.exception.file, caught.exception.fault), ("asked", "TooFine")
-        )
+        self.assertEqual((caught.exception.file, caught.exception.fault), ("asked", "TooFine"))
 
     def test_what_verify_says_of_others(self):
-        files = (EXAMPLES / "technology.csv").read_bytes(), (
-            EXAMPLES / "outputs.csv"
-        ).read_bytes()
+        files = (EXAMPLES / "technology.csv").read_bytes(), (EXAMPLES / "outputs.csv").read_bytes()
         good = revealed.cost_minimisation(FIRM, ASKED).report.decode()
         self.assertEqual(verify_cost(*files, good.encode()).remarks, [])
         for old, new, number, told in [
@@ -236,36 +155,18 @@ class Firms(unittest.TestCase):
             self.assertFalse(found.accepted, old)
             self.assertEqual(found.rejected.number, number, (old, found))
             self.assertIn(told, found.rejected.why)
-        withheld = good.replace(
-            "lower 2 upper 3 at 1\nlower x 0 4 y 1:1 over 2",
-            "lower withheld 7 upper 3 at 1",
-        )
-        self.assertEqual(
-            (
-                verify_cost(*files, withheld.encode()).accepted,
-                verify_cost(*files, withheld.encode()).withheld,
-            ),
-            (True, 1),
-        )
+        withheld = good.replace("lower 2 upper 3 at 1\nlower x 0 4 y 1:1 over 2", "lower withheld 7 upper 3 at 1")
+        self.assertEqual((verify_cost(*files, withheld.encode()).accepted, verify_cost(*files, withheld.encode()).withheld), (True, 1))
 
 
 class Menus(unittest.TestCase):
     def test_the_example(self):
         found = revealed.menu_choices(MENUS)
-        self.assertEqual(
-            (found.rational, found.share, found.total, found.orders),
-            (False, Fraction(1, 2), 2, 2),
-        )
-        self.assertEqual(
-            ([part.order for part in found.parts], found.weights, found.least_sum),
-            (["bac"], [0, 1, 0], None),
-        )
+        self.assertEqual((found.rational, found.share, found.total, found.orders), (False, Fraction(1, 2), 2, 2))
+        self.assertEqual(([part.order for part in found.parts], found.weights, found.least_sum), (["bac"], [0, 1, 0], None))
         self.assertTrue(revealed.verify(found))
         self.assertTrue(revealed.verify(EXAMPLES / "menus.csv", found.report))
-        self.assertEqual(
-            revealed.menus([["abc", "a", 1], ["abc", "b", 1], ["ab", "b", 2]]).report,
-            found.report,
-        )
+        self.assertEqual(revealed.menus([["abc", "a", 1], ["abc", "b", 1], ["ab", "b", 2]]).report, found.report)
 
     def test_complete_choices(self):
         rows = [
@@ -289,15 +190,8 @@ class Menus(unittest.TestCase):
         self.assertFalse(revealed.verify(asked, per=8))
         text = found.report.decode()
         line = text.splitlines()[-1]
-        for other in (
-            line.replace("least ", "least 9"),
-            line.rsplit(" ", 1)[0] + " ab",
-            "",
-        ):
-            told = verify_menus(
-                found.choices.csv(),
-                text.replace(line + "\n", other + "\n" if other else "").encode(),
-            )
+        for other in (line.replace("least ", "least 9"), line.rsplit(" ", 1)[0] + " ab", ""):
+            told = verify_menus(found.choices.csv(), text.replace(line + "\n", other + "\n" if other else "").encode())
             self.assertEqual(told.accepted, other == line)
 
     def test_refusals(self):
@@ -310,14 +204,7 @@ class Menus(unittest.TestCase):
         ]:
             with self.assertRaises(Refused) as caught:
                 revealed.menus(rows)
-            self.assertEqual(
-                (
-                    caught.exception.file,
-                    caught.exception.fault,
-                    caught.exception.record,
-                ),
-                ("menus", fault, record),
-            )
+            self.assertEqual((caught.exception.file, caught.exception.fault, caught.exception.record), ("menus", fault, record))
 
     def test_what_verify_says_of_others(self):
         data = (EXAMPLES / "menus.csv").read_bytes()
@@ -333,20 +220,13 @@ class Menus(unittest.TestCase):
             ("part b a c", "part a b c", 1, "nobody chose"),
             ("part b a c", "part b a", 1, "no order"),
             ("weight 1\n", "weight 1\nsums least 0 at a in a\n", 2, "no sums"),
-            (
-                "menus violated share 1/2\nweights 0 1 0 over 1",
-                "menus mixture over 1",
-                1,
-                "does not get its units",
-            ),
+            ("menus violated share 1/2\nweights 0 1 0 over 1", "menus mixture over 1", 1, "does not get its units"),
         ]:
             found = verify_menus(data, good.replace(old, new).encode())
             self.assertFalse(found.accepted, old)
             self.assertEqual(found.rejected.number, number, (old, found))
             self.assertIn(told, found.rejected.why)
-        found = verify_menus(
-            data, b"alternatives 3 menus 2 cells 3 orders 2 total 2\nmenus withheld 5\n"
-        )
+        found = verify_menus(data, b"alternatives 3 menus 2 cells 3 orders 2 total 2\nmenus withheld 5\n")
         self.assertEqual((found.accepted, found.withheld), (True, 1))
 
 
@@ -376,20 +256,11 @@ class AltogetherAnotherWay(unittest.TestCase):
             self.assertTrue(hasattr(revealed, name), name)
 
     def test_a_panel_of_all(self):
-        d = {
-            "id": [1, 1, 2, 2],
-            "p_a": [1, 2] * 2,
-            "p_b": [2, 1] * 2,
-            "q_a": [1, 2, 2, 1],
-            "q_b": [2, 1, 1, 2],
-        }
+        d = {"id": [1, 1, 2, 2], "p_a": [1, 2] * 2, "p_b": [2, 1] * 2, "q_a": [1, 2, 2, 1], "q_b": [2, 1, 1, 2]}
         found = revealed.panel(d, "id", pump=True, power=100, seed=7, progress=False)
         self.assertEqual([row.money_pump.ratio for row in found], [Fraction(1, 5), 0])
         self.assertEqual([row.power.draws for row in found], [100, 100])
-        self.assertEqual(
-            [(row["pump"] > 0, row["garp"]) for row in found.records()],
-            [(True, False), (False, True)],
-        )
+        self.assertEqual([(row["pump"] > 0, row["garp"]) for row in found.records()], [(True, False), (False, True)])
 
 
 LINES = {
@@ -404,26 +275,13 @@ LINES = {
 class Intercepts(unittest.TestCase):
     def test_each_row_has_money_of_its_own(self):
         made = revealed.from_frame(LINES)
-        self.assertEqual(
-            made.csv(),
-            b"p_x,p_y,q_x,q_y\n33.61,87.13,43.2,16.95\n62.04,45.50,20.1,34.63\n",
-        )
-        for verdict in (
-            revealed.analyse(LINES),
-            revealed.analyse(made, places=2),
-            revealed.analyse(made, levels=1000),
-            revealed.plain.analyse(made),
-        ):
+        self.assertEqual(made.csv(), b"p_x,p_y,q_x,q_y\n33.61,87.13,43.2,16.95\n62.04,45.50,20.1,34.63\n")
+        for verdict in (revealed.analyse(LINES), revealed.analyse(made, places=2), revealed.analyse(made, levels=1000), revealed.plain.analyse(made)):
             self.assertIsNone(verdict.quasilinear)
             self.assertIn("money of its own", verdict.reasons["quasilinear"])
             self.assertNotIn("withheld", repr(verdict))
             self.assertIn("garp holds", repr(verdict))
-        for call in (
-            lambda: revealed.pump(LINES),
-            lambda: revealed.panel(
-                {**LINES, "s": [1, 1]}, "s", pump=True, progress=False
-            ),
-        ):
+        for call in (lambda: revealed.pump(LINES), lambda: revealed.panel({**LINES, "s": [1, 1]}, "s", pump=True, progress=False)):
             with self.assertRaisesRegex(BadData, "money of its own"):
                 call()
         panel = revealed.panel({**LINES, "s": [1, 1]}, "s", progress=False)
@@ -432,9 +290,7 @@ class Intercepts(unittest.TestCase):
             revealed.from_frame({"i_x": [1], "q_x": [1]})
         with self.assertRaises(revealed.Refused) as caught:
             revealed.analyse({**LINES, "i_y": [0, 1]})
-        self.assertEqual(
-            (caught.exception.name, caught.exception.fault), ("i_y", "ZeroPrice")
-        )
+        self.assertEqual((caught.exception.name, caught.exception.fault), ("i_y", "ZeroPrice"))
 
 
 if __name__ == "__main__":

@@ -1,7 +1,12 @@
 """The second checker on evidence made by hand, and each way in which it differs from the program's."""
 
 import copy
+import importlib
 import os
+import pathlib
+import subprocess
+import sys
+import tempfile
 import unittest
 
 import revealed
@@ -415,6 +420,52 @@ class Large(unittest.TestCase):
         found = revealed.verify(verdict, verdict)
         self.assertTrue(found, found)
         self.assertTrue(revealed.check(verdict, verdict))
+
+
+class Told(unittest.TestCase):
+    """What findings say, and when they are true."""
+
+    def test_each_item_says_its_verdict(self):
+        index = {"item": "efficiency", "level": "4/5", "above": [1, 2, 1], "below": [1, 1], "at_ranks": [2, 2]}
+        found = verify_table(CONTRADICTION, certificate({"item": "garp", "cycle": [1, 2, 1]}, index, {"item": "homothetic", "withheld": [1, 1, 2]}))
+        lines = repr(found).splitlines()
+        self.assertEqual(lines[0], "accepted: items 3 proved 2 withheld 1, on 2 observations of 2 goods")
+        self.assertEqual(lines[1:], ["item 1 garp violated: proved", "item 2 efficiency 4/5 attained yes: proved", "item 3 homothetic withheld: nothing is said"])
+        self.assertIn("garp holds: proved", repr(verify_table(APART, certificate(RANKS))))
+        found = verify_table(YEARS, certificate(RANKS, DEMAND, WELFARE))
+        self.assertIn("demand 1 to 2, 1 to 2 (scaled): proved", repr(found))
+        self.assertIn("welfare of 1 4 to 6 (scaled): proved", repr(found))
+
+    def test_nothing_proved_is_not_true(self):
+        for items in ([], [{"item": "afriat", "withheld": 1}]):
+            found = verify_table(CONTRADICTION, certificate(*items))
+            self.assertEqual((found.accepted, bool(found), found.proved), (True, False, 0))
+            self.assertIn("nothing is proved", repr(found))
+        self.assertTrue(verify_table(CONTRADICTION, certificate({"item": "garp", "cycle": [1, 2, 1]})))
+
+    def test_at_the_command_line(self):
+        with tempfile.TemporaryDirectory() as folder:
+            good = {"item": "garp", "cycle": [1, 2, 1]}
+            files = {"t.csv": CONTRADICTION, "good.json": certificate(good), "bad.json": certificate(RANKS), "none.json": certificate()}
+            for name, data in files.items():
+                (pathlib.Path(folder) / name).write_bytes(data)
+            for words, status, told in (
+                (["t.csv", "good.json"], 0, "garp violated: proved"),
+                (["t.csv", "none.json"], 0, "nothing is proved"),
+                (["t.csv", "bad.json"], 1, "not proved"),
+                (["t.csv"], 2, "usage"),
+                (["t.csv", "not there"], 3, "cannot be read"),
+                (["t.csv", "t.csv"], 4, "refused"),
+                (["good.json", "good.json"], 4, "refused"),
+            ):
+                env = {**os.environ, "PYTHONPATH": str(pathlib.Path(revealed.__file__).parents[1])}
+                ran = subprocess.run([sys.executable, "-m", "revealed.verify", *words], cwd=folder, env=env, capture_output=True, text=True)
+                self.assertEqual(ran.returncode, status, words)
+                self.assertIn(told, ran.stdout + ran.stderr)
+
+    def test_the_module_leaves_the_function(self):
+        importlib.import_module("revealed.verify")
+        self.assertTrue(callable(revealed.verify))
 
 
 if __name__ == "__main__":

@@ -13,7 +13,7 @@ program's checker accepts a certificate exactly where this one does, and remarks
 from __future__ import annotations
 
 from . import afriat, certificate, cost, demand, efficiency, garp, homothetic, menus, pump, quasilinear, random_choices, reports
-from . import tables, welfare
+from . import tables, welfare, words
 from .certificate import NoCertificate
 from .reports import NoReport
 from .tables import NoTable
@@ -33,30 +33,38 @@ __all__ = [
 
 
 class Finding:
-    """What was found of one item: `proves` is True, False, or None where the item withholds its verdict."""
+    """What was found of one item: `proves` is True, False, or None where the item withholds its verdict. `says` is that verdict."""
 
-    def __init__(self, number: int, kind: str, proves: bool | None, why: str | None, remarks: list[str], withheld: int) -> None:
+    def __init__(self, number: int, kind: str, proves: bool | None, why: str | None, remarks: list[str], withheld: int, says: str | None = None) -> None:
         self.number = number
         self.kind = kind
         self.proves = proves
         self.why = why
         self.remarks = remarks
         self.withheld = withheld
+        self.says = says or kind
 
     def __repr__(self) -> str:
-        said = {True: "proves its verdict", False: f"does not: {self.why}", None: "withholds its verdict"}[self.proves]
-        return f"item {self.number} {self.kind} {said}" + "".join(f"; remark: {it}" for it in self.remarks)
+        said = {True: ": proved", False: f": not proved, {self.why}", None: ": nothing is said"}[self.proves]
+        return f"item {self.number} {self.says}{said}" + "".join(f"; remark: {it}" for it in self.remarks)
 
 
 class Findings:
-    """What was found of a certificate. It is true where no item fails."""
+    """What was found of a certificate on some `data`, such as 2 observations of 2 goods. It is true where no item fails and one
+    proves its verdict: one without items, and one that withholds all, prove nothing."""
 
-    def __init__(self, items: list[Finding]) -> None:
+    def __init__(self, items: list[Finding], data: str = "") -> None:
         self.items = items
+        self.data = data
 
     @property
     def accepted(self) -> bool:
         return all(item.proves is not False for item in self.items)
+
+    @property
+    def proved(self) -> int:
+        """How many items prove their verdicts."""
+        return sum(item.proves is True for item in self.items)
 
     @property
     def rejected(self) -> Finding | None:
@@ -74,10 +82,12 @@ class Findings:
         return [f"item {item.number}: {remark}" for item in self.items for remark in item.remarks]
 
     def __bool__(self) -> bool:
-        return self.accepted
+        return self.accepted and self.proved > 0
 
     def __repr__(self) -> str:
-        return "\n".join([f"{'accepted' if self.accepted else 'rejected'}", *map(repr, self.items)])
+        told = "rejected" if not self.accepted else "accepted" if self.proved else "accepted, and nothing is proved"
+        counts = f"items {len(self.items)} proved {self.proved} withheld {self.withheld}"
+        return "\n".join([f"{told}: {counts}" + (f", on {self.data}" if self.data else ""), *map(repr, self.items)])
 
 
 def verify_table(table: bytes, data: bytes) -> Findings:
@@ -92,7 +102,7 @@ def verify_table(table: bytes, data: bytes) -> Findings:
         found.append(finding(number, item, why, remarks + more, withheld))
         if item["item"] == "garp" and "ranks" in item and why is None:
             axiom_is_shown = True
-    return Findings(found)
+    return Findings(found, observations_of(own))
 
 
 def verify_choices(budgets: bytes, choices: bytes, data: bytes, per: int | None = None) -> Findings:
@@ -102,7 +112,7 @@ def verify_choices(budgets: bytes, choices: bytes, data: bytes, per: int | None 
     for number, (item, remarks) in enumerate(certificate.read(data, "random")[1], 1):
         why = random_choices.look(patches, item)
         found.append(finding(number, item, why, remarks + random_choices.remarks(item), int("withheld" in item)))
-    return Findings(found)
+    return Findings(found, "choices from budgets")
 
 
 def verify_pump(table: bytes, report: bytes) -> Findings:
@@ -110,9 +120,9 @@ def verify_pump(table: bytes, report: bytes) -> Findings:
     own, told = tables.read_table(table), reports.read_pump(report)
     found = other_head(told["head"], len(own.prices), own)
     if own.levels:
-        return Findings([*found, Finding(1, "pump", False, "a money pump is defined on a table without levels", [], 0)])
+        return Findings([*found, Finding(1, "pump", False, "a money pump is defined on a table without levels", [], 0)], observations_of(own))
     why = pump.look(own, told)
-    return Findings([*found, finding(1, told, why, pump.remarks(own, told), 0)])
+    return Findings([*found, finding(1, told, why, pump.remarks(own, told), 0)], observations_of(own))
 
 
 def verify_menus(data: bytes, report: bytes, per: int | None = None) -> Findings:
@@ -131,7 +141,7 @@ def verify_menus(data: bytes, report: bytes, per: int | None = None) -> Findings
     found.append(finding(1, item, why, menus.remarks(seen, item), int("withheld" in item)))
     if told["sums"] is not None or menus.is_complete(seen):
         found.append(finding(2, {"item": "sums"}, menus.look_at_sums(seen, told["sums"]), [], 0))
-    return Findings(found)
+    return Findings(found, f"{len(seen.menus)} menus")
 
 
 def verify_cost(technology: bytes, asked: bytes, report: bytes) -> Findings:
@@ -147,13 +157,14 @@ def verify_cost(technology: bytes, asked: bytes, report: bytes) -> Findings:
             continue
         why = cost.look_at_axiom(firm, told[name], breaks)
         first = why is None and told[name] != cost.first_pair(firm, breaks)
-        found.append(Finding(number, name, why is None, why, ["another pair comes first"] if first else [], 0))
+        says = f"{name} {'violated' if told[name] else 'holds'}"
+        found.append(Finding(number, name, why is None, why, ["another pair comes first"] if first else [], 0, says))
     if len(told["bounds"]) != len(questions):
         return Findings([*found, Finding(len(found) + 1, "bounds", False, "there are not bounds for each asked record", [], 0)])
     for bound, (prices, output) in zip(told["bounds"], questions):
         number = len([item for item in found if item.number]) + 1
         found.append(Finding(number, "bounds", *look_at_bounds(firm, told, bound, prices, output)))
-    return Findings(found)
+    return Findings(found, observations_of(firm.table))
 
 
 def look_at_bounds(firm, told, bound, prices, output):
@@ -184,7 +195,13 @@ def other_levels(own, levels):
 
 def finding(number, item, why, remarks, withheld):
     proves = False if why else None if "withheld" in item else True
-    return Finding(number, item["item"], proves, why, remarks, withheld)
+    says = "sums" if item["item"] == "sums" else words.verdict_of(item)
+    return Finding(number, item["item"], proves, why, remarks, withheld, says)
+
+
+def observations_of(table):
+    """Returns how much a table has, in words."""
+    return f"{len(table.prices)} observations of {len(table.goods)} goods"
 
 
 def look_at(table, item, axiom_is_shown):

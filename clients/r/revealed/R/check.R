@@ -23,7 +23,7 @@ checked_from <- function(text) {
 }
 
 print.rp_checked <- function(x, ...) {
-  cat(x$line, "\n", sep = "")
+  cat(x$line, if (x$accepted && x$items == 0) ": it has no items, and nothing is proved", "\n", sep = "")
   invisible(x)
 }
 
