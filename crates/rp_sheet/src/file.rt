@@ -48,8 +48,8 @@ pub trait FileKind {
         ensures fitting { IfOk result (fits self.now) };
 }
 
-/// Reads the bytes of a file of this kind: what it says, or its first fault. No more records are looked at than its
-/// form takes, and one.
+/// Reads the bytes of a file of this kind: what it says, or its first fault. How many records are looked at for that,
+/// no clause says.
 pub fn read_file<K: FileKind>(alloc: Global, bytes: &[u8], kind: &K) -> Result<K::Value, TableFault>
     ensures denoted { IfOk result (λ value.
         denoted_by (K.form kind.now) (K.goods kind.now) (K.value kind.now) (records_in bytes.now)
