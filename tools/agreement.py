@@ -87,7 +87,7 @@ def put(value, at, new):
 
 
 def other_number(draw, value):
-    if isinstance(value, int):
+    if isinstance(value, (int, float)):
         most = draw.choice([2**32 - 1, 2**32, 2**64 - 1, 2**64, 1.0, -1, str(value)])
         return draw.choice([value + 1, value + 1, max(0, value - 1), max(0, value - 1), 0, 1, 2, most])
     num, slash, den = value.partition("/")
