@@ -113,7 +113,7 @@ export function cycleSentences(cycle, table) {
 }
 
 /**
- * What each fault means, and what to do: one for each fault of the catalogue, and no other (tools/check-page-logic).
+ * What each fault means, and what to do: one for each fault of the catalogue, and no other (tools/check/page-logic).
  */
 export const FAULTS = {
   Empty: "The file has no line at all.",
@@ -169,7 +169,7 @@ export const FAULTS = {
     "1000, which takes the shares in thousandths, rounded.",
 };
 
-/** What each word of a verdict says: the words of the catalogue, and no others (tools/check-page-logic). */
+/** What each word of a verdict says: the words of the catalogue, and no others (tools/check/page-logic). */
 export const VERDICTS = {
   garp: { holds: "Yes: the axiom holds", violated: "No: the axiom is violated" },
   afriat: { model: "There is one", none: "There is none", withheld: "Withheld" },

@@ -1,6 +1,6 @@
 /**
  * The page's logic without a browser: faults, words of verdicts, reports, sheets, panels and questions. Run by
- * tools/check-page-logic, which puts the page's modules beside this file as the build makes them.
+ * tools/check/page-logic, which puts the page's modules beside this file as the build makes them.
  */
 import assert from "node:assert/strict";
 import { test } from "node:test";

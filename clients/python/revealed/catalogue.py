@@ -1,4 +1,4 @@
-"""What the program has, as its proved sources tell it: `catalogue.json` is written by the repository's tools/catalogue, and ships
+"""What the program has, as its proved sources tell it: `catalogue.json` is written by the repository's tools/make/catalogue, and ships
 beside this file. Limits, ranges of numbers, commands and faults are taken from there and stand nowhere else in this package.
 """
 

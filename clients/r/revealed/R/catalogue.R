@@ -1,4 +1,4 @@
-# What the program has, as its proved sources tell it: inst/catalogue.json, which tools/catalogue of the repository writes.
+# What the program has, as its proved sources tell it: inst/catalogue.json, which tools/make/catalogue of the repository writes.
 # Limits, ranges of numbers and faults are taken from there and stand nowhere else in this package.
 
 known <- new.env(parent = emptyenv())

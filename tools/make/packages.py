@@ -1,0 +1,115 @@
+"""The packages that stand beside the archive of a release: one for Debian and the systems that come from it, and those of
+Python. tools/make/release makes them, and tools/check/packages installs them. The same files give the same bytes.
+
+The package for Debian has the gate's program as it is, with the library, the header, the manual page and the completion. It is
+written here, since dpkg-deb is not on every system: an `ar` archive of two archives, of what is told and of what is installed.
+"""
+import gzip
+import hashlib
+import os
+import re
+import subprocess
+import sys
+import tempfile
+
+from shared import TOP
+
+NAME = "rp"
+MACHINE = "lib/x86_64-linux-gnu"
+CONTROL = """Package: {name}
+Version: {version}
+Architecture: amd64
+Maintainer: Violetoar maintainers <maintainers@users.noreply.violetoar.example>
+Installed-Size: {size}
+Depends: libc6 (>= {libc})
+Section: math
+Priority: optional
+Description: revealed preference with proved verdicts
+ Whether a table of prices and purchases meets the generalized axiom of revealed
+ preference, with the efficiency index, the homothetic and the quasilinear test,
+ bounds of demand and welfare, and tests of random choices, menus and firms. The
+ verdicts are proved, and PROVED among the documents says with what.
+ .
+ This package has the program, its library for C with the header, the manual page
+ and the completion for bash.
+"""
+COPYRIGHT = """Format: https://www.debian.org/doc/packaging-manuals/copyright-format/1.0/
+Upstream-Name: rp
+Comment: Into the program and the library parts of other works are linked.
+ NOTICE in this folder has the notices of these.
+
+Files: *
+Copyright: 2026 the authors of rp
+License: MIT or Apache-2.0
+
+"""
+
+
+def pressed(data):
+    """Returns data as gzip has them, without a name and a time."""
+    return gzip.compress(data, compresslevel=9, mtime=0)
+
+
+def ar(members, when):
+    """Returns the bytes of an `ar` archive."""
+    parts = [b"!<arch>\n"]
+    for name, data in members:
+        parts.append(f"{name:<16}{when:<12}{0:<6}{0:<6}{'100644':<8}{len(data):<10}`\n".encode() + data + b"\n" * (len(data) % 2))
+    return b"".join(parts)
+
+
+def place(name):
+    """Returns where Debian has a file of the C library."""
+    return f"usr/{name}" if name.startswith("include/") else f"usr/{MACHINE}/{name.removeprefix('lib/')}"
+
+
+def of_library(library):
+    """Returns the files of the C library where Debian has them; the one for pkg-config tells these places."""
+    found = {}
+    for name, data in library.items():
+        if name.endswith(".pc"):
+            text = re.sub(r"(?m)^prefix=.*$", "prefix=/usr", data.decode())
+            data = re.sub(r"(?m)^libdir=.*$", f"libdir=${{prefix}}/{MACHINE}", text).encode()
+        found[place(name)] = (data, False)
+    return found
+
+
+def debian(entries, program, library, version, libc, when, archive):
+    """Returns the package for Debian by its name, of the files of a release and of the gate's program."""
+    files = {"usr/bin/rp": (program, True), **of_library(library)}
+    files["usr/share/man/man1/rp.1.gz"] = (pressed(entries["share/man/man1/rp.1"][0]), False)
+    files["usr/share/bash-completion/completions/rp"] = entries["share/bash-completion/completions/rp"]
+    folder = f"usr/share/doc/{NAME}"
+    for name in ("NOTICE", "PROVED", "README.md", *(it for it in entries if it.startswith("docs/"))):
+        files[f"{folder}/{name}"] = entries[name]
+    files[f"{folder}/changelog.gz"] = (pressed(entries["CHANGELOG.md"][0]), False)
+    text = entries["LICENSE"][0].decode()
+    files[f"{folder}/copyright"] = ((COPYRIGHT + "".join(f" {it}".rstrip() + "\n" if it.strip() else " .\n" for it in text.splitlines())).encode(), False)
+    whole = {name: it[0] for name, it in files.items() if not isinstance(it[0], str)}
+    size = -(-sum(map(len, whole.values())) // 1024)
+    told = {
+        "control": CONTROL.format(name=NAME, version=version, size=size, libc=libc),
+        "md5sums": "".join(f"{hashlib.md5(whole[it]).hexdigest()}  {it}\n" for it in sorted(whole)),
+        "triggers": "activate-noawait ldconfig\n",
+    }
+    control = {name: (text.encode(), False) for name, text in told.items()}
+    members = [("debian-binary", b"2.0\n"), ("control.tar.gz", archive(control, ".", when)), ("data.tar.gz", archive(files, ".", when))]
+    return {f"{NAME}_{version}_amd64.deb": ar(members, when)}
+
+
+def python(when, inside=None, notice="", proved=""):
+    """Returns the wheel of Python that has this library or program inside, with its NOTICE and its PROVED; or where there
+    is none, the wheel for every platform and the sdist; by their names."""
+    given = {**(inside or {}), **({"NOTICE": notice.encode(), "PROVED": proved.encode()} if inside else {})}
+    with tempfile.TemporaryDirectory(prefix="rp-wheels-") as room:
+        os.mkdir(f"{room}/made")
+        for name, data in given.items():
+            with open(f"{room}/{name}", "wb") as it:
+                it.write(data)
+        words = [sys.executable, "-B", f"{TOP}/clients/python/wheels.py", f"{room}/made", *(f"{room}/{it}" for it in given)]
+        subprocess.run(words, check=True, stdin=subprocess.DEVNULL, stdout=subprocess.DEVNULL, env={**os.environ, "SOURCE_DATE_EPOCH": str(when)})
+        found = {}
+        for name in sorted(os.listdir(f"{room}/made")):
+            with open(f"{room}/made/{name}", "rb") as it:
+                found[name] = it.read()
+    return found
