@@ -1,4 +1,4 @@
-# Makes experiment.csv: the raw data of a made-up experiment, as a laboratory's program writes it. 30 subjects choose in 25
+# Makes laboratory.csv: the raw data of a made-up experiment, as a laboratory's program writes it. 30 subjects choose in 25
 # rounds from budget lines of two goods; a line is kept by its two intercepts, between 40 and 100. The first 18 subjects
 # maximize a utility of constant elasticity, and their choices are moved a little in share; 8 move more; 4 choose anywhere.
 set.seed(20261129, "Mersenne-Twister", "Inversion", "Rejection")
@@ -17,4 +17,4 @@ for (subject in 1:30) {
     x = sprintf("%.3f", share * a), y = sprintf("%.3f", (1 - share) * b)
   )
 }
-write.csv(do.call(rbind, rows), "experiment.csv", row.names = FALSE, quote = FALSE)
+write.csv(do.call(rbind, rows), "laboratory.csv", row.names = FALSE, quote = FALSE)

@@ -1,5 +1,5 @@
 #!/usr/bin/env python3
-"""Writes experiment.csv beside this file: a simulated experiment in the design of Choi, Fisman, Gale and Kariv (2007).
+"""Writes subjects.csv beside this file: a simulated experiment in the design of Choi, Fisman, Gale and Kariv (2007).
 
 Twenty subjects choose on 25 budget lines over two accounts. A line is kept by its two intercepts, between 10 and 100 tokens, one
 of them 50 or more; the choice is kept with two places. Subjects maximize a utility of constant elasticity of substitution and
@@ -25,7 +25,7 @@ def main():
             share = draw.random() if subject > 17 else min(1.0, max(0.0, share + draw.gauss(0, error)))
             x = round(share * x_max, 2)
             rows.append([subject, number, x_max, y_max, f"{x:.2f}", f"{max(0.0, (1 - x / x_max) * y_max):.2f}"])
-    with open(os.path.join(os.path.dirname(os.path.abspath(__file__)), "experiment.csv"), "w", newline="", encoding="utf-8") as it:
+    with open(os.path.join(os.path.dirname(os.path.abspath(__file__)), "subjects.csv"), "w", newline="", encoding="utf-8") as it:
         csv.writer(it, lineterminator="\n").writerows(rows)
 
 
