@@ -11,8 +11,8 @@ from shared import TOP
 
 # Whole numbers that every reader of JSON keeps; a greater one is written as a text of its digits.
 EXACT = 2**53
-# The law of each crate that has the numbers of its limits.
-LAW = "limits_in_numbers"
+# Where the limits stand, a module for each kind, and the law of each module that has their numbers.
+LIMITS, LAW = "rp_limits/src", "limits_in_numbers"
 # What a value of `Place` is told by, in order.
 PLACES = {"File": [], "Record": ["record"], "Column": ["column"], "Cell": ["record", "column"], "Budget": ["budget"], "Item": ["item"]}
 # Where the definitions of reports stand.
@@ -63,7 +63,7 @@ def whole(number):
 
 def value_of(written, known):
     """Returns the number of a constant as it is written in a clause or in the code."""
-    plain = re.sub(r"rp_\w+::|\bas \w+|_", lambda it: "" if it[0] != "_" else it[0], written).strip()
+    plain = re.sub(r"rp_\w+::(?:\w+::)?|\bas \w+|_", lambda it: "" if it[0] != "_" else it[0], written).strip()
     if plain == "u64::MAX":
         return 2**64 - 1
     if plain in known:
@@ -76,28 +76,18 @@ def value_of(written, known):
     return int(power[1]) ** int(power[2]) if "^" in plain else int(power[1]) << int(power[2])
 
 
-def crates_with_limits():
-    return sorted(it for it in os.listdir(f"{TOP}/crates") if it.startswith("rp_") and os.path.isfile(f"{TOP}/crates/{it}/src/limits.rt"))
-
-
-def constants(crate):
-    """Returns the public constants of a crate, each with its doc comment."""
-    found = {}
-    for name in sorted(os.listdir(f"{TOP}/crates/{crate}/src")):
-        for doc, constant in re.findall(r"((?:^///[^\n]*\n)+)^pub const (\w+)", text(f"{crate}/src/{name}"), re.M):
-            found[constant] = sentence(doc)
-    return found
-
-
 def limits():
     found = []
-    for crate in crates_with_limits():
-        says = constants(crate)
-        law = need(rf"^pub fn {LAW}\(\)\n(.*?)^\{{\}}", f"{crate}/src/limits.rt")[1]
+    for name in sorted(it for it in os.listdir(f"{TOP}/crates/{LIMITS}") if it != "lib.rt"):
+        file = f"{LIMITS}/{name}"
+        says = {constant: sentence(doc) for doc, constant in re.findall(r"((?:^///[^\n]*\n)+)^pub const (\w+)", text(file), re.M)}
+        law = need(rf"^pub fn {LAW}\(\)\n(.*?)^\{{\}}", file)[1]
         for clause, constant, number in re.findall(r"ensures (\w+) \{ (\w+) ≡ ([^}]*?) \}", law):
-            found.append({"name": f"{crate.removeprefix('rp_')}.{clause}", "constant": constant, "most": whole(value_of(number, {})), "says": says[constant]})
-    if not found:
-        raise Unread(f"no crate has a law {LAW}")
+            found.append(
+                {"name": f"{name.removesuffix('.rt')}.{clause}", "constant": constant, "most": whole(value_of(number, {})), "says": says.pop(constant)}
+            )
+        if says:
+            raise Unread(f"crates/{file} has limits without a clause of {LAW}: {', '.join(says)}")
     return found
 
 

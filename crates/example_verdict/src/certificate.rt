@@ -1,3 +1,4 @@
+//! A certificate of a table in memory, and its check.
 ghost use Rattle.std.specs.Prelude.{◌≡◌, IfOk};
 ghost use Rattle.rp_check.specs.declared.verdict.Verdict.TheVariants.{Accepted};
 ghost use Rattle.example_verdict.specs.Certified.{IsCertifiedBy, certificate_of};

@@ -1,3 +1,4 @@
+//! The example: a table of two purchases, and what is asked of it.
 ghost use Rattle.std.specs.Prelude.{◌≡◌, IfOk};
 ghost use Rattle.example_verdict.specs.Purchases.{purchases};
 

@@ -1,3 +1,4 @@
+//! Evidence by Afriat's theorem, class by class of observations.
 ghost use Rattle.std.specs.Prelude.{◌≡◌, ◌<◌, ◌-◌, ◌↔◌, [], IsTrue, IfNone, IfOk, IfSome};
 ghost use Rattle.rp_evidence.specs.AfriatEvidence.{ProvesAfriat, ProvesOwnAfriat};
 ghost use Rattle.rp_evidence.specs.Count.{AreCounts};

@@ -1,3 +1,4 @@
+//! The bounds that the numbers of observations set on a utility, and their least.
 ghost use Rattle.std.specs.Prelude.{◌≡◌, ◌<◌, ◌≤◌, ◌*◌, ◌^◌, ◌+ℤ◌, ◌-ℤ◌, ◌*ℤ◌, ◌≤ℤ◌, neg_ℤ, pos};
 ghost use Rattle.rp_evidence.specs.StandardNumbers.{FitsMultiplier, FitsUtility};
 ghost use Rattle.rp_afriat.specs.InnerFilling.{IsCeiling, scaled_at};

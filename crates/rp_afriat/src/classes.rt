@@ -1,3 +1,4 @@
+//! The utilities of a class of observations that reach each other.
 ghost use Rattle.std.specs.Prelude.{◌≡◌, ◌<◌, ℕ, IfNone, IfSome, length, slice_index};
 ghost use Rattle.rp_evidence.specs.StandardNumbers.{IsClassUtilityBy};
 ghost use Rattle.rp_table.specs.Cost.{own_of};

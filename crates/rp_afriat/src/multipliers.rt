@@ -1,3 +1,4 @@
+//! The multipliers of a class of observations.
 ghost use Rattle.std.specs.Prelude.{◌≡◌, ◌<◌, ◌≤◌, ℕ, IfNone, IfSome, length};
 ghost use Rattle.std.specs.Prelude.{slice_index};
 ghost use Rattle.rp_evidence.specs.Count.{AreCounts};

@@ -1,3 +1,4 @@
+//! The utility that Afriat numbers give to a bundle.
 ghost use Rattle.std.specs.Prelude.{◌≡◌, ◌<◌, ◌*◌, [], All, length};
 ghost use Rattle.rp_evidence.specs.Afriat.{IsOwnUtility, IsUtility, allowed_for_by};
 ghost use Rattle.rp_evidence.specs.AfriatEvidence.{AreOneEach, multiplier_in, utility_in};

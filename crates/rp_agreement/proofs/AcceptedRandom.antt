@@ -15,7 +15,7 @@ use Rattle.rp_patch.specs.RandomFailure.{RandomFails}
 use Rattle.rp_patch.specs.Types.{AreRationalTypes}
 use Rattle.rp_patch.proofs.TypeKinds.{are_whole}
 use Rattle.rp_random.specs.RandomVerdict.{IsRandomVerdict}
-use Rattle.rp_types.specs.declared.TheConstants.{TYPES}
+use Rattle.rp_limits.specs.declared.types.TheConstants.{TYPES}
 
 one_or_none : (b : Bool) → unsigned_abs (if b then pos 1 else pos 0) ≤ largest_entry
 one_or_none true = omega arith

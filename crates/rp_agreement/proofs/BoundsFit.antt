@@ -39,7 +39,7 @@ use Rattle.rp_simplex.specs.ProgramBound.{IsBoundOf}
 use Rattle.rp_support.specs.Bounds.{AreBoundsOf}
 use Rattle.rp_support.specs.DemandVerdict.{IsDemandVerdict}
 use Rattle.rp_table.specs.Sums.{sum_below}
-use Rattle.rp_table.specs.declared.TheConstants.{LARGEST, RECORDS}
+use Rattle.rp_limits.specs.declared.table.TheConstants.{LARGEST, RECORDS}
 use Rattle.rp_welfare.specs.WelfareVerdict.{IsLowerBound, IsWelfareVerdict}
 use Rattle.rp_agreement.specs.Limited.{IsLimited}
 use Rattle.rp_agreement.proofs.Lists.{listed_fit, rising_few, walk_fits}

@@ -9,7 +9,7 @@ use Rattle.rp_evidence.specs.Walk.{IsClosedWalk}
 use Rattle.rp_evidence.proofs.Enumerations.{enumerates_few}
 use Rattle.rp_evidence.proofs.Places.{below_at}
 use Rattle.rp_json_entries.specs.Reading.{FitObservations, FitsCount}
-use Rattle.rp_table.specs.declared.TheConstants.{RECORDS}
+use Rattle.rp_limits.specs.declared.table.TheConstants.{RECORDS}
 
 module _ (n : ℕ) (few : n ≤ RECORDS) where
   pub walk_fits : (step : ℕ → ℕ → Type 0) (walk : List ℕ) → IsClosedWalk n step walk → FitObservations walk

@@ -28,7 +28,7 @@ use Rattle.rp_homo.specs.HomotheticVerdict.{IsHomotheticVerdict}
 use Rattle.rp_json_entries.specs.Reading.{FitObservations}
 use Rattle.rp_json_tests.specs.Limits.{FitsAfriat, FitsEfficiency, FitsGarp, FitsHomothetic, FitsQuasilinear}
 use Rattle.rp_quasi.specs.QuasilinearVerdict.{IsLimitedSum, IsQuasilinearVerdict}
-use Rattle.rp_table.specs.declared.TheConstants.{RECORDS}
+use Rattle.rp_limits.specs.declared.table.TheConstants.{RECORDS}
 use Rattle.rp_agreement.proofs.Lists.{counts_fit, walk_fits}
 
 utility_fits : (x : ℤ) → FitsUtility x → FitsSum x

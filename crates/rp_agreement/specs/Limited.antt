@@ -2,7 +2,7 @@
 use Rattle.std.specs.Prelude.{ℕ, ◌<◌, ◌≤◌}
 use Rattle.rp_evidence.specs.Input.{TableInput}
 use Rattle.rp_table.specs.OwnLevels.{AreOwnLevels}
-use Rattle.rp_table.specs.declared.TheConstants.{GOODS, LARGEST, RECORDS}
+use Rattle.rp_limits.specs.declared.table.TheConstants.{GOODS, LARGEST, RECORDS}
 
 -- So many observations and goods at most, no quantity above the largest, and levels of all observations or of none.
 pub record IsLimited (input : TableInput) : Type 0 where

@@ -1,3 +1,4 @@
+//! Laws: certificates that the searches give are accepted, and read back from their text.
 ghost use Rattle.std.specs.Prelude.{◌≡◌, ◌≤◌, ◌∷◌, [], All, List, length, ℕ};
 ghost use Rattle.rp_agreement.specs.ItemVerdict.{ProvesVerdict};
 ghost use Rattle.rp_agreement.specs.Limited.{IsLimited};
@@ -22,7 +23,7 @@ ghost use Rattle.rp_patch.specs.Patches.{IsPatchList, PatchList};
 ghost use Rattle.rp_patch.specs.RandomEvidence.{ProvesRandom};
 ghost use Rattle.rp_patch.specs.Types.{AreRationalTypes};
 ghost use Rattle.rp_random.specs.RandomVerdict.{IsRandomVerdict};
-ghost use Rattle.rp_types.specs.declared.TheConstants.{TYPES};
+ghost use Rattle.rp_limits.specs.declared.types.TheConstants.{TYPES};
 
 /// The text of a certificate that can be read back denotes it, and nothing else but for want of memory.
 pub fn readable_texts_are_read_back()

@@ -1,3 +1,4 @@
+//! Laws, one for each kind of evidence: what a search gives passes the checker and is read back.
 ghost use Rattle.std.specs.Prelude.{◌<◌, ◌≤◌, List, length, ℕ};
 ghost use Rattle.rp_afriat.specs.AfriatVerdict.{IsOwnAfriatVerdict};
 ghost use Rattle.rp_agreement.specs.ItemVerdict.{PassesCheck};
@@ -44,8 +45,8 @@ ghost use Rattle.rp_support.specs.DemandVerdict.{IsDemandVerdict};
 ghost use Rattle.rp_table.specs.Limits.{IsExpenditure};
 ghost use Rattle.rp_table.specs.NewPrices.{AreNewPrices};
 ghost use Rattle.rp_table.specs.Tables.{IsTable, Observations};
-ghost use Rattle.rp_table.specs.declared.TheConstants.{RECORDS};
-ghost use Rattle.rp_types.specs.declared.TheConstants.{TYPES};
+ghost use Rattle.rp_limits.specs.declared.table.TheConstants.{RECORDS};
+ghost use Rattle.rp_limits.specs.declared.types.TheConstants.{TYPES};
 ghost use Rattle.rp_welfare.specs.WelfareVerdict.{IsWelfareVerdict};
 
 /// What a table gives is within the limits of tables.

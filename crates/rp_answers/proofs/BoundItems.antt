@@ -12,7 +12,7 @@ use Rattle.rp_people.specs.TableChoices.{IsFullInput}
 use Rattle.rp_people.proofs.SaysOfItems.{says}
 use Rattle.rp_support.specs.DemandVerdict.{IsDemandVerdict}
 use Rattle.rp_table.specs.Limits.{IsPrice}
-use Rattle.rp_table.specs.declared.TheConstants.{LARGEST_EXPENDITURE}
+use Rattle.rp_limits.specs.declared.table.TheConstants.{LARGEST_EXPENDITURE}
 use Rattle.rp_welfare.specs.WelfareVerdict.{IsWelfareVerdict}
 use Rattle.rp_answers.specs.DemandText.{IsDemandItem}
 use Rattle.rp_answers.specs.WelfareText.{IsWelfareItem}

@@ -13,7 +13,7 @@ use Rattle.rp_num.specs.Below.{listed, rows_below}
 use Rattle.rp_power.proofs.WordLemmas.{word_later, words_later}
 use Rattle.rp_num.proofs.BelowLemmas.{length-listed, get-listed}
 use Rattle.rp_table.specs.Names.{IsName}
-use Rattle.rp_table.specs.declared.TheConstants.{RECORDS, GOODS}
+use Rattle.rp_limits.specs.declared.table.TheConstants.{RECORDS, GOODS}
 use Rattle.rp_table.specs.Tables.{IsTable, records_of, quantity_of}
 use Rattle.rp_sheet.proofs.RowLemmas.{length-rows, row_number, all_rows}
 use Rattle.rp_power.specs.DrawnNumbers.{drawn_numbers, not_all_zero}

@@ -3,7 +3,7 @@ use Rattle.std.specs.Prelude.{◌≤◌, ℕ, List, length}
 use Rattle.rp_patch.specs.Patches.{PatchList}
 use Rattle.rp_patch.specs.Types.{AreRationalTypes}
 use Rattle.rp_types.specs.Listed.{types_of}
-use Rattle.rp_types.specs.declared.TheConstants.{TYPES}
+use Rattle.rp_limits.specs.declared.types.TheConstants.{TYPES}
 use Rattle.rp_types.specs.declared.types.Rational.{Rational}
 
 -- patches with all their rational types

@@ -1,3 +1,4 @@
+//! The answer of `analyse` and `certify`.
 ghost use Rattle.std.specs.Prelude.{◌≡◌, IfOk};
 ghost use Rattle.rp_evidence.specs.Input.{input_of_table};
 ghost use Rattle.rp_answers.specs.AnalysisText.{IsAnalysis, IsAnalysisText, five_items};

@@ -1,3 +1,4 @@
+//! What a command answers: a text, and how the call ends that has written it.
 use crate::status::Status;
 
 /// A whole text for the output, and how a call ends that has written it.

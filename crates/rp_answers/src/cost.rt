@@ -1,3 +1,4 @@
+//! The answer of `cost`.
 ghost use Rattle.std.specs.Prelude.{◌≡◌, IfOk};
 ghost use Rattle.rp_cost.specs.Axioms.{MeetsCost};
 ghost use Rattle.rp_table.specs.Tables.{goods_of};

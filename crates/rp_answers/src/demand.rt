@@ -1,3 +1,4 @@
+//! The answer of `demand`.
 ghost use Rattle.std.specs.Prelude.{◌≡◌, [], IfOk, slice_index};
 ghost use Rattle.rp_evidence.specs.Input.{input_of_table};
 ghost use Rattle.rp_garp.specs.Test.{IsTestOf};

@@ -1,3 +1,4 @@
+//! The answer of `menus`.
 ghost use Rattle.std.specs.Prelude.{IfOk};
 ghost use Rattle.rp_orders.specs.OrderMixtures.{AreUnitsOf};
 ghost use Rattle.rp_answers.specs.MenusText.{IsMenusText};

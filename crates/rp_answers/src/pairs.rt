@@ -1,3 +1,4 @@
+//! The answer of `pairs`.
 ghost use Rattle.std.specs.Prelude.{◌≡◌, IfOk};
 ghost use Rattle.rp_answers.specs.PairsText.{IsPairsText, pairs_line};
 

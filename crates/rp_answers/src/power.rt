@@ -1,3 +1,4 @@
+//! The answer of `power`.
 ghost use Rattle.std.specs.Prelude.{◌≡◌, ◌≤◌, [], IfOk};
 ghost use Rattle.rp_command_line.specs.CommandForms.{draws as draws_range};
 ghost use Rattle.rp_answers.specs.PowerText.{IsPowerText};

@@ -1,3 +1,4 @@
+//! The answer of `pump`.
 ghost use Rattle.std.specs.Prelude.{◌≡◌, [], IfOk};
 ghost use Rattle.rp_answers.specs.PumpText.{IsPumpText};
 

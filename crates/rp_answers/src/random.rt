@@ -1,3 +1,4 @@
+//! The answer of `random`.
 ghost use Rattle.std.specs.Prelude.{IfOk};
 ghost use Rattle.rp_answers.specs.Typed.{AreTyped};
 ghost use Rattle.rp_answers.specs.Typed.{typed};

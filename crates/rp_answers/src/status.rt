@@ -1,3 +1,4 @@
+//! The statuses with which a call ends.
 ghost use Rattle.std.specs.Prelude.{◌≡◌};
 ghost use Rattle.rp_answers.specs.StatusNumbers.{status_number};
 

@@ -1,3 +1,4 @@
+//! The answer of `trial`.
 ghost use Rattle.std.specs.Prelude.{◌≡◌, ◌++◌, [], IfOk, OnOk};
 ghost use Rattle.rp_print.specs.ListText.{line_of};
 ghost use Rattle.rp_command_line.specs.Ranges.{IsTrialSize};

@@ -1,3 +1,4 @@
+//! The answer of `utility`.
 ghost use Rattle.std.specs.Prelude.{◌≡◌, ◌++◌, IfOk, All, codes, length};
 ghost use Rattle.std.specs.Fmt.{signed_decimal};
 ghost use Rattle.rp_afriat.specs.AfriatVerdict.{IsOwnAfriatVerdict};

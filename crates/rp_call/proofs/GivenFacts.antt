@@ -1,5 +1,5 @@
 -- What a run over files in memory says of the files that are given, and how the functions between end.
-use Rattle.std.proofs.Common.{◌≡◌, ◌∙◌, ◌<◌, ◌≤◌, ℕ, List, [], Option, Some, None, Result, Ok, Err, IfOk, length, refl, sym, subst, ap, unwrap_or, map, string_bytes, inr}
+use Rattle.std.proofs.Common.{◌≡◌, ◌∙◌, ◌<◌, ◌≤◌, ℕ, List, Option, Some, None, Result, Ok, Err, IfOk, length, refl, sym, subst, ap, unwrap_or, map, string_bytes, inr}
 use Rattle.rp_outside.specs.Files.{bytes_under}
 use Rattle.rp_outside.specs.Known.{AreAll}
 use Rattle.rp_command_line.specs.CommandLine.{Line, file_at, files_of}
@@ -98,14 +98,6 @@ asked_apart words line none is = cc
 
 same_line : (words : List (List ℕ)) (line other : Line) → denoted_line words ≡ Some line → denoted_line words ≡ Some other → line ≡ other
 same_line words line other is also = cc
-
--- words that are no line end as their run
-pub none_ends : (words : List (List ℕ)) (files : NamedFiles) {E : Type 0} (result : Result Texts E) → denoted_line words ≡ None
-    → IfOk result (λ texts. EndsAsRun (known_in files) (denoted_line words) texts.ending texts.output.items texts.told.items)
-    → IfOk result (λ texts. EndsFor words files texts.ending texts.output.items texts.told.items)
-none_ends words files (Ok texts) none run =
-    run_ends words files texts.ending texts.output.items texts.told.items (λ line is. absurd (asked_apart words line none is)) run
-none_ends words files (Err e) none run = run
 
 -- a line of which each file is given, and no more are, ends as its run
 pub line_ends : (words : List (List ℕ)) (files : NamedFiles) (line : Line) {E : Type 0} (result : Result Texts E) → denoted_line words ≡ Some line

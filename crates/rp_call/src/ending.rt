@@ -1,3 +1,4 @@
+//! How a call ends: a status of the program, or one that a call alone has.
 ghost use Rattle.std.specs.Prelude.{◌≡◌, pos};
 ghost use Rattle.rp_call.specs.CallEndings.{ending_number};
 

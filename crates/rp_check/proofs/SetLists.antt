@@ -11,7 +11,7 @@ use Rattle.rp_check.specs.DemandFailure.{SetsFail}
 use Rattle.rp_evidence.specs.Enumeration.{Enumerates}
 use Rattle.rp_evidence.specs.Marks.{IsMarked}
 use Rattle.rp_check.specs.declared.sets.Sets.{Sets}
-use Rattle.rp_table.specs.declared.TheConstants.{RECORDS}
+use Rattle.rp_limits.specs.declared.table.TheConstants.{RECORDS}
 use Rattle.rp_evidence.proofs.Enumerations.{enumerates_few, enumerates_observed, enumerates_same}
 
 pub few_of : (n : ℕ) (P : ℕ → Type 0) (list : List ℕ) → n ≤ RECORDS → Enumerates n P list → AreFewOf n list

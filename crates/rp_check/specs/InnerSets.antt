@@ -5,7 +5,7 @@ use Rattle.rp_evidence.specs.Marks.{AreMarked}
 use Rattle.rp_check.specs.declared.sets.Sets.{Sets}
 use Rattle.rp_evidence.specs.Demand.{BudgetInput, IsBelow, IsStrictlyBelow}
 use Rattle.rp_evidence.specs.Input.{TableInput}
-use Rattle.rp_table.specs.declared.TheConstants.{RECORDS}
+use Rattle.rp_limits.specs.declared.table.TheConstants.{RECORDS}
 
 -- The marks are those of the observations below and strictly below.
 pub record AreSets (input : TableInput) (budget : BudgetInput) (sets : Sets) : Type 0 where

@@ -1,3 +1,4 @@
+//! The check of a certificate on a table.
 ghost use Rattle.std.specs.Prelude.{◌≡◌, All};
 ghost use Rattle.rp_check.specs.CheckVerdict.{IsCheckVerdictOnItems, IsCheckVerdict};
 ghost use Rattle.rp_check.specs.declared.verdict.Verdict.TheVariants.{Accepted};

@@ -1,3 +1,4 @@
+//! The clauses of demand at new prices.
 ghost use Rattle.std.specs.Prelude.{◌≡◌, ◌<◌, ◌↔◌, ◌∷◌, [], IsTrue, length};
 ghost use Rattle.rp_check.specs.InnerSets.{AreFewOf, AreSets};
 ghost use Rattle.rp_evidence.specs.InnerBudget.{input_of, new_budget};

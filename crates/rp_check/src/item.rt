@@ -1,3 +1,4 @@
+//! The check of one item of a certificate on a table.
 ghost use Rattle.std.specs.Prelude.{◌≡◌, ◌∷◌, []};
 ghost use Rattle.rp_check.specs.DemandFailure.{DemandFails};
 ghost use Rattle.rp_check.specs.ItemFailure.{ItemFails, shows_garp};

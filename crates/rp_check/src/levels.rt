@@ -1,3 +1,4 @@
+//! The check that a certificate has the levels of its table.
 ghost use Rattle.rp_check.specs.LevelsFailure.{LevelsFail, SomeLevelsFail};
 
 use rp_evidence::{Failure, Reason, fails};

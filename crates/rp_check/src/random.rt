@@ -1,3 +1,4 @@
+//! The check of a certificate on random choices.
 ghost use Rattle.std.specs.Prelude.{◌≡◌, All};
 ghost use Rattle.rp_check.specs.RandomCheckVerdict.{IsRandomCheckVerdict};
 ghost use Rattle.rp_check.specs.declared.verdict.Verdict.TheVariants.{Accepted};
@@ -10,8 +11,8 @@ ghost use Rattle.rp_persons.specs.SaysRandom.{SaysOnPatches};
 use crate::Verdict;
 use rp_check_mixture::check_choices;
 use rp_evidence::{Certificate, Failure, Item, cap};
+use rp_limits::table::BUDGETS;
 use rp_patch::Patches;
-use rp_table::BUDGETS;
 
 /// Checks an item. One on a table is none on random choices.
 fn check_random_item(patches: &Patches, item: &Item) -> Result<(), Failure>

@@ -1,3 +1,4 @@
+//! The observations below a new budget, marked.
 ghost use Rattle.std.specs.Prelude.{◌<◌, ◌≤◌, ◌↔◌, ℕ, IsTrue, length};
 ghost use Rattle.rp_check.specs.InnerSets.{AreSets};
 ghost use Rattle.rp_evidence.specs.InnerBudget.{input_of, new_budget};

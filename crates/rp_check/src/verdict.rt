@@ -1,3 +1,4 @@
+//! What the checker answers.
 use rp_evidence::Reason;
 
 /// The answer on a certificate: accepted, or its first item that fails, counted from 1, with the reason and the place.

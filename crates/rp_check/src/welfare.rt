@@ -1,3 +1,4 @@
+//! The clauses of the bounds on the money metric.
 ghost use Rattle.std.specs.Prelude.{◌≤◌, ◌<◌, ◌↔◌, ◌∷◌, [], IsTrue, length, slice_index};
 ghost use Rattle.rp_check.specs.InnerSets.{AreFewOf};
 ghost use Rattle.rp_evidence.specs.InnerBudget.{input_of};

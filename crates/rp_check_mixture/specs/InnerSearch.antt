@@ -6,7 +6,7 @@ use Rattle.rp_patch.specs.PartialTypes.{Before, IsPartialType, taken_in}
 use Rattle.rp_patch.specs.Patches.{PatchList}
 use Rattle.rp_patch.specs.Types.{IsRationalType}
 use Rattle.rp_patch.specs.declared.partial_type.PartialType.{PartialType}
-use Rattle.rp_table.specs.declared.TheConstants.{BUDGETS}
+use Rattle.rp_limits.specs.declared.table.TheConstants.{BUDGETS}
 
 abbrev pub no_patches : PartialType
 no_patches = record { taken = 0; patches = []; reached = [] }

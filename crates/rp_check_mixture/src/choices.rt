@@ -1,3 +1,4 @@
+//! The check of evidence on random choices.
 ghost use Rattle.rp_patch.specs.RandomFailure.{RandomFails};
 
 use crate::evidence::check_evidence;

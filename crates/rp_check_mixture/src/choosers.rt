@@ -1,3 +1,4 @@
+//! What a checker asks of kinds of persons, whatever they are.
 ghost use Rattle.std.specs.Prelude.{◌≡◌, ◌<◌, ◌≤◌, ◌↔◌, ℕ, IsTrue, List, length};
 ghost use Rattle.rp_patch.specs.Kinds.{cells_weight, uses};
 

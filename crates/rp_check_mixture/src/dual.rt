@@ -3,11 +3,11 @@
 ghost use Rattle.std.specs.Prelude.{◌≡◌, ◌<◌, ◌≤◌, ◌↔◌, ℕ, List, IsTrue, length, slice_index};
 ghost use Rattle.rp_patch.specs.Kinds.{cells_weight};
 ghost use Rattle.rp_patch.specs.Types.{IsRationalType};
-ghost use Rattle.rp_table.specs.declared.TheConstants.{BUDGETS};
+ghost use Rattle.rp_limits.specs.declared.table.TheConstants.{BUDGETS};
 
+use rp_limits::table::BUDGETS;
 use rp_patch::Patches;
 use rp_patch::partial_type::PartialType;
-use rp_table::BUDGETS;
 
 /// What these patches weigh together.
 fn weight_of_type(weights: &[u64], numbers: &[u32]) -> u128

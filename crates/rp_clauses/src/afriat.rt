@@ -1,3 +1,4 @@
+//! The clauses of evidence by Afriat's theorem.
 ghost use Rattle.std.specs.Prelude.{◌≡◌, ◌+◌, ◌<◌, ◌≤◌, ◌↔◌, ℕ, IsTrue, length};
 ghost use Rattle.std.specs.Prelude.{◌+ℤ◌, ◌*ℤ◌, ◌^◌, pos};
 ghost use Rattle.std.specs.Int.RustNames.{unsigned_abs};

@@ -1,7 +1,7 @@
 //! Rows of bits: one bit for each observation that a table may have.
 ghost use Rattle.std.specs.Prelude.{◌≡◌, ◌<◌, ◌||◌, ◌==◌, ℕ};
 ghost use Rattle.rp_evidence.specs.Bits.{bit_in};
-ghost use Rattle.rp_table.specs.declared.TheConstants.{RECORDS};
+ghost use Rattle.rp_limits.specs.declared.table.TheConstants.{RECORDS};
 
 use crate::reach::ROOM;
 

@@ -1,3 +1,4 @@
+//! The clause of a bound by a linear program.
 ghost use Rattle.std.specs.Prelude.{◌↔◌, IsTrue};
 ghost use Rattle.rp_evidence.specs.BoundEvidence.{BoundHolds};
 ghost use Rattle.rp_farkas.specs.Measure.{HasMeasure, measured};

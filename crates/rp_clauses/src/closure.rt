@@ -11,7 +11,7 @@ ghost use Rattle.rp_evidence.specs.Reached.{IsWeakClosureOf, reaches_in};
 ghost use Rattle.rp_evidence.specs.Through.{ReachesThrough};
 ghost use Rattle.rp_table.specs.Cost.{cost_of};
 ghost use Rattle.rp_table.specs.Tables.{records_of};
-ghost use Rattle.rp_table.specs.declared.TheConstants.{RECORDS};
+ghost use Rattle.rp_limits.specs.declared.table.TheConstants.{RECORDS};
 
 use crate::bits::{WORDS, is_set, set, take_in};
 use crate::input::Input;
@@ -31,7 +31,7 @@ impl Model for Reachability {
     ghost use Rattle.std.specs.Prelude.{◌≤◌};
     ghost use Rattle.rp_clauses.specs.InnerBits.{has_bit};
     ghost use Rattle.rp_evidence.specs.Reached.{Reached, reached_by};
-    ghost use Rattle.rp_table.specs.declared.TheConstants.{RECORDS};
+    ghost use Rattle.rp_limits.specs.declared.table.TheConstants.{RECORDS};
 
     ghost Value = { Reached };
 

@@ -1,3 +1,4 @@
+//! The clauses of an efficiency index.
 ghost use Rattle.std.specs.Prelude.{◌<◌, ◌^◌};
 ghost use Rattle.rp_clauses.specs.EfficiencyFailure.{AboveFails, EfficiencyFails, LevelFails};
 ghost use Rattle.rp_table.specs.Cost.{cost_of};

@@ -1,3 +1,4 @@
+//! The clauses of a verdict on the generalized axiom.
 ghost use Rattle.std.specs.Prelude.{◌≡◌, ◌<◌, ◌↔◌, IsTrue, length};
 ghost use Rattle.rp_clauses.specs.GarpFailure.{GarpFails, OrderingFails, OrdersAt, RanksFail};
 ghost use Rattle.rp_clauses.specs.GarpFailure.{RespectsAt};

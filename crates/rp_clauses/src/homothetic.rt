@@ -1,3 +1,4 @@
+//! The clauses of the homothetic test.
 ghost use Rattle.std.specs.Prelude.{◌≡◌, ◌+◌, ◌*◌, ◌-◌, ◌<◌, ◌≤◌, ℕ, IfOk, IsErr, IsTrue};
 ghost use Rattle.std.specs.Prelude.{◌↔◌, length};
 ghost use Rattle.std.specs.Prelude.{slice_index};

@@ -1,3 +1,4 @@
+//! What items are checked against.
 ghost use Rattle.std.specs.Prelude.{◌≡◌, ◌<◌, ◌≤◌, ◌*◌, ◌^◌, ◌↔◌, ℕ, IsTrue};
 ghost use Rattle.std.specs.Int.RustNames.{unsigned_abs};
 ghost use Rattle.rp_clauses.specs.AfriatFailure.{own_gap};
@@ -5,7 +6,7 @@ ghost use Rattle.rp_clauses.specs.Standards.{IsNarrow, StrictUnder, WeakUnder};
 ghost use Rattle.rp_evidence.specs.Quasilinear.{step_sum};
 ghost use Rattle.rp_table.specs.Cost.{IsCostsOf, cost_of};
 ghost use Rattle.rp_table.specs.Tables.{records_of};
-ghost use Rattle.rp_table.specs.declared.TheConstants.{RECORDS};
+ghost use Rattle.rp_limits.specs.declared.table.TheConstants.{RECORDS};
 
 use crate::standard::Standard;
 use rp_table::{Costs, Table};

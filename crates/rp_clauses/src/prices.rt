@@ -1,9 +1,10 @@
+//! The clauses of new prices and of what is spent at them.
 ghost use Rattle.rp_clauses.specs.PricesFailure.{ExpenditureFails, PricesFail};
 ghost use Rattle.rp_table.specs.Tables.{goods_of};
 
 use crate::input::Input;
 use rp_evidence::{Failure, Reason, fails};
-use rp_table::{LARGEST, LARGEST_EXPENDITURE};
+use rp_limits::table::{LARGEST, LARGEST_EXPENDITURE};
 
 /// Checks that there is a price for each good, within its limit.
 pub fn check_prices(input: &Input<'_>, prices: &[u32]) -> Result<(), Failure>

@@ -3,7 +3,7 @@ ghost use Rattle.std.specs.Prelude.{◌≤◌, ◌↔◌, IsTrue, length, take};
 ghost use Rattle.rp_evidence.specs.Enumeration.{Enumerates};
 ghost use Rattle.rp_evidence.specs.Marks.{IsMarked};
 
-use rp_table::RECORDS;
+use rp_limits::table::RECORDS;
 
 /// Room for something of each observation that a table may have.
 pub const ROOM: usize = 512;

@@ -1,3 +1,4 @@
+//! What observations are held to: one level, or their own.
 use rp_evidence::Level;
 
 /// What observations are held to.

@@ -1,3 +1,4 @@
+//! The clauses of closed walks and of violations.
 ghost use Rattle.std.specs.Prelude.{◌+◌, ◌-◌, ◌<◌, ℕ, length, slice_index};
 ghost use Rattle.rp_clauses.specs.Standards.{IsNarrow, StrictUnder, WeakUnder};
 ghost use Rattle.rp_clauses.specs.WalkFailure.{ClosedWalkFails, ObservationsFail, StrictStepFails};

@@ -3,10 +3,10 @@
 -- matches name follow from it.
 use Rattle.std.specs.Prelude.{ℕ, ◌-◌, ◌^◌, Bool, true, false, List, [], codes}
 use Rattle.clap.specs.Walk.{Text}
-use Rattle.rp_patch.specs.declared.TheConstants.{UNITS}
-use Rattle.rp_table.specs.declared.TheConstants.{GOODS}
+use Rattle.rp_limits.specs.declared.patch.TheConstants.{UNITS}
+use Rattle.rp_limits.specs.declared.table.TheConstants.{GOODS}
 use Rattle.rp_command_line.specs.declared.commands.FileSet.{FileSet}
-use Rattle.rp_command_line.specs.declared.commands.TheConstants.{MOST_DRAWS, MOST_ROWS}
+use Rattle.rp_limits.specs.declared.command_line.TheConstants.{MOST_DRAWS, MOST_ROWS}
 
 -- a number from least to most
 pub record NumberArgument : Type 0 where

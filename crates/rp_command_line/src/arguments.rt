@@ -1,3 +1,4 @@
+//! What the matches of a command give: its files, numbers and options.
 ghost use Rattle.std.specs.Prelude.{◌≡◌, ◌≤◌, ◌&&◌, nat_le, if◌then◌else◌, Some, None, IfOk};
 ghost use Rattle.std.specs.Prelude.{IfSome, map, option_map};
 ghost use Rattle.clap.specs.Walk.{first_of};

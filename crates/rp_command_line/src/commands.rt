@@ -103,17 +103,11 @@ pub(crate) struct CommandForm {
     pub(crate) levels: bool,
 }
 
-/// The most observations of a trial table.
-pub const MOST_ROWS: u64 = 256;
-
-/// The most random behaviours that are drawn.
-pub const MOST_DRAWS: u64 = 1_000;
-
 /// How many units there are on each budget or menu.
 pub(crate) const UNITS: NumberArgument = NumberArgument {
     name: "per",
     least: 1,
-    most: rp_patch::UNITS as u64,
+    most: rp_limits::patch::UNITS as u64,
 };
 
 pub(crate) const SEED: NumberArgument = NumberArgument {
@@ -125,20 +119,20 @@ pub(crate) const SEED: NumberArgument = NumberArgument {
 pub(crate) const ROWS: NumberArgument = NumberArgument {
     name: "ROWS",
     least: 1,
-    most: MOST_ROWS,
+    most: rp_limits::command_line::MOST_ROWS,
 };
 
 pub(crate) const GOODS: NumberArgument = NumberArgument {
     name: "GOODS",
     least: 1,
-    most: rp_table::GOODS as u64,
+    most: rp_limits::table::GOODS as u64,
 };
 
 /// How many random behaviours are drawn.
 pub(crate) const DRAWS: NumberArgument = NumberArgument {
     name: "N",
     least: 1,
-    most: MOST_DRAWS,
+    most: rp_limits::command_line::MOST_DRAWS,
 };
 
 /// The commands, in the order of the usage text.

@@ -3,11 +3,9 @@
 
 mod arguments;
 mod commands;
-mod limits;
 mod line;
 mod parser;
 
 pub use arguments::Arguments;
-pub use commands::{Command, FileSet, MOST_DRAWS, MOST_ROWS, usage};
-pub use limits::limits_in_numbers;
+pub use commands::{Command, FileSet, usage};
 pub use line::{Line, read_line};

@@ -1,3 +1,4 @@
+//! The line that words denote.
 ghost use Rattle.std.specs.Prelude.{◌≡◌, ℕ, List, [], ◌∷◌, Ok, Some, None, IfOk, IfErr};
 ghost use Rattle.std.specs.Prelude.{IfSome, map, option_map, string_bytes};
 ghost use Rattle.clap.specs.Faults.{fault_of};

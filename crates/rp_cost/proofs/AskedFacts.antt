@@ -7,7 +7,7 @@ use Rattle.rp_num.specs.declared.decimal.Decimal.{Decimal}
 use Rattle.rp_num.proofs.BelowLemmas.{length-listed}
 use Rattle.rp_table.specs.Limits.{IsExpenditure, IsPrice, IsQuantity}
 use Rattle.rp_table.specs.PriceLists.{PriceList, IsPriceList}
-use Rattle.rp_table.specs.declared.TheConstants.{GOODS, LARGEST, NEW_RECORDS}
+use Rattle.rp_limits.specs.declared.table.TheConstants.{GOODS, LARGEST, NEW_RECORDS}
 use Rattle.rp_forms.specs.Columns.{Layout, mark_of_prices}
 use Rattle.rp_sheet.specs.Fields.{fields_stage, figures_of, rows_in}
 use Rattle.rp_forms.specs.Forms.{asked_form}

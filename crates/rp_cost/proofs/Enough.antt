@@ -5,7 +5,7 @@ use Rattle.rp_evidence.specs.LeastCost.{least_cost_program}
 use Rattle.rp_farkas.specs.Prices.{HasFeasiblePrices}
 use Rattle.rp_programs.proofs.Spent.{spent_at_most}
 use Rattle.rp_table.specs.Tables.{IsTable, Observations}
-use Rattle.rp_table.specs.declared.TheConstants.{LARGEST}
+use Rattle.rp_limits.specs.declared.table.TheConstants.{LARGEST}
 use Rattle.rp_producers.specs.OuterSet.{IsInOuterSet, ListsNotAbove}
 use Rattle.rp_cost.proofs.OuterLaws.{outer_is_feasible}
 

@@ -27,7 +27,7 @@ use Rattle.rp_simplex.specs.Run.{IsTableauAfter, begins, pivots}
 use Rattle.rp_simplex.specs.Width.{IsWithinWidth}
 use Rattle.rp_simplex.proofs.Linear.{delta-other}
 use Rattle.rp_simplex.proofs.Sound.{first-right, first-slack}
-use Rattle.rp_table.specs.declared.TheConstants.{LARGEST}
+use Rattle.rp_limits.specs.declared.table.TheConstants.{LARGEST}
 use Rattle.rp_cost.specs.CostBounds.{IsLowerCostBound, ShowsNothing}
 use Rattle.rp_producers.specs.OuterSet.{AllMakeMore, ListsNotAbove}
 use Rattle.rp_programs.proofs.Spent.{sum_at_most}

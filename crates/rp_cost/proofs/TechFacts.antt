@@ -7,7 +7,7 @@ use Rattle.rp_num.specs.declared.decimal.Decimal.{Decimal}
 use Rattle.rp_num.proofs.BelowLemmas.{length-listed}
 use Rattle.rp_table.specs.Limits.{IsPrice, IsQuantity}
 use Rattle.rp_table.specs.Tables.{Observations, IsTable, records_of}
-use Rattle.rp_table.specs.declared.TheConstants.{RECORDS}
+use Rattle.rp_limits.specs.declared.table.TheConstants.{RECORDS}
 use Rattle.rp_sheet.specs.Fields.{fields_stage, figures_of, rows_in}
 use Rattle.rp_forms.specs.Columns.{Layout}
 use Rattle.rp_forms.specs.Forms.{technology_form}

@@ -1,7 +1,8 @@
+//! Outputs whose cost is asked, with the prices that each is asked at.
 ghost use Rattle.std.specs.Prelude.{◌≡◌, ◌<◌, ◌≤◌, length, slice_index};
 ghost use Rattle.rp_table.specs.NewPrices.{AreNewPrices};
 ghost use Rattle.rp_table.specs.Rows.{row_of, rows_count};
-ghost use Rattle.rp_table.specs.declared.TheConstants.{LARGEST};
+ghost use Rattle.rp_limits.specs.declared.table.TheConstants.{LARGEST};
 ghost use Rattle.rp_cost.specs.AskedOutputs.{AreAskedOutputs};
 
 use rp_table::Prices;

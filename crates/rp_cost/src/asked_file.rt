@@ -1,3 +1,4 @@
+//! The reader of asked outputs.
 ghost use Rattle.std.specs.Prelude.{◌≡◌, Ok, IfOk};
 ghost use Rattle.rp_table.specs.Tables.{goods_of};
 ghost use Rattle.rp_sheet.specs.Refusals.{RefusedAs};

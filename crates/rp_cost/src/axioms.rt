@@ -1,3 +1,4 @@
+//! The axioms of cost minimisation and of profit maximisation.
 ghost use Rattle.std.specs.Prelude.{◌≡◌, ◌<◌, ◌*◌, ◌↔◌, IsTrue, IfSome, IsNone};
 ghost use Rattle.std.specs.Prelude.{length, slice_index};
 ghost use Rattle.rp_evidence.specs.First.{IsFirstOf};

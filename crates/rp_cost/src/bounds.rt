@@ -1,8 +1,9 @@
+//! The bounds on what an output costs at new prices.
 ghost use Rattle.std.specs.Prelude.{◌≤◌, IfOk, slice_index};
 ghost use Rattle.rp_evidence.specs.Input.{input_of_table};
 ghost use Rattle.rp_table.specs.NewPrices.{AreNewPrices};
 ghost use Rattle.rp_table.specs.Tables.{goods_of};
-ghost use Rattle.rp_table.specs.declared.TheConstants.{LARGEST};
+ghost use Rattle.rp_limits.specs.declared.table.TheConstants.{LARGEST};
 ghost use Rattle.rp_cost.specs.Axioms.{MeetsCost};
 ghost use Rattle.rp_cost.specs.CostBounds.{AreCostBounds, BoundProducers, BoundsHold};
 ghost use Rattle.rp_cost.specs.CostBounds.{IsAtMostUpper, ProvesCostBounds, ShowsNothing};

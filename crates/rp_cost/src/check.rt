@@ -1,3 +1,4 @@
+//! The check of bounds on costs.
 ghost use Rattle.std.specs.Prelude.{◌<◌, ◌≤◌, ◌↔◌, All, IsTrue, length, slice_index};
 ghost use Rattle.rp_evidence.specs.BoundEvidence.{BoundHolds};
 ghost use Rattle.rp_evidence.specs.Input.{input_of_table};
@@ -5,7 +6,7 @@ ghost use Rattle.rp_evidence.specs.LeastCost.{least_cost_program};
 ghost use Rattle.rp_table.specs.NewPrices.{AreNewPrices};
 ghost use Rattle.rp_table.specs.Spending.{spending};
 ghost use Rattle.rp_table.specs.Tables.{goods_of, records_of};
-ghost use Rattle.rp_table.specs.declared.TheConstants.{LARGEST, RECORDS};
+ghost use Rattle.rp_limits.specs.declared.table.TheConstants.{LARGEST, RECORDS};
 ghost use Rattle.rp_cost.specs.CostBounds.{BoundsHold, LowerHolds, ProvesCostBounds, UpperHolds};
 ghost use Rattle.rp_cost.specs.InnerCheapest.{NoneCheaper};
 ghost use Rattle.rp_producers.specs.OuterSet.{NoneMakes};

@@ -1,3 +1,4 @@
+//! The report on a technology.
 ghost use Rattle.std.specs.Prelude.{◌≡◌, ◌++◌, ◌<◌, [], IfOk, OnOk, Some, length};
 ghost use Rattle.rp_cost.specs.Axioms.{MeetsCost};
 ghost use Rattle.rp_cost.specs.Report.{answer_text, answers_text, asked_text, axiom_text};

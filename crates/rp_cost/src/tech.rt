@@ -1,9 +1,10 @@
+//! Observed technologies.
 ghost use Rattle.std.specs.Prelude.{◌≡◌, ◌<◌, ◌≤◌, ◌^◌, ℕ, All, Some, length, slice_get};
 ghost use Rattle.std.specs.Prelude.{slice_index};
 ghost use Rattle.rp_table.specs.Cost.{cost_of};
 ghost use Rattle.rp_table.specs.Limits.{IsPrice, IsQuantity};
 ghost use Rattle.rp_table.specs.Tables.{goods_of, price_of, quantity_of, records_of};
-ghost use Rattle.rp_table.specs.declared.TheConstants.{LARGEST};
+ghost use Rattle.rp_limits.specs.declared.table.TheConstants.{LARGEST};
 ghost use Rattle.rp_cost.specs.Technology.{IsTechnology};
 
 use rp_table::{Name, Table, cost_of_bundle};
@@ -97,17 +98,6 @@ impl Tech {
         ensures within { All IsQuantity result.now }
     {
         self.table.bundle(t)
-    }
-
-    /// The scaled price of input `i` at observation `t`.
-    pub fn price(&self, t: u32, i: u32) -> u32
-        requires observed { t < records_of self.now.table }
-        requires listed { i < goods_of self.now.table }
-        ensures exact { result ≡ price_of self.now.table t i }
-        ensures positive { 1 ≤ result }
-        ensures within { result ≤ LARGEST }
-    {
-        self.table.price(t, i)
     }
 
     /// The scaled output of observation `t`.

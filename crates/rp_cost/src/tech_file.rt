@@ -1,3 +1,4 @@
+//! The reader of technologies.
 ghost use Rattle.std.specs.Prelude.{◌≡◌, Ok, IfOk, All, codes};
 ghost use Rattle.rp_sheet.specs.Refusals.{RefusedAs};
 ghost use Rattle.rp_sheet.specs.Sheets as Sheets;

@@ -1,3 +1,4 @@
+//! The bound on a cost from above.
 ghost use Rattle.std.specs.Prelude.{◌≡◌, ◌<◌, Option, slice_index, Some};
 ghost use Rattle.rp_evidence.specs.Input.{input_of_table};
 ghost use Rattle.rp_table.specs.Spending.{spending};

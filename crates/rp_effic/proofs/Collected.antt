@@ -1,5 +1,5 @@
 -- Ratios that are collected row by row, and sorted.
-use Rattle.std.proofs.Common.{◌≡◌, ◌<◌, ◌≤◌, ◌+◌, ◌*◌, ◌++◌, ◌∷◌, [], inl, inr, ℕ, false, List, length, length-append, get_or, refl, sym, ap, subst, ◌∙◌, arith, append_assoc}
+use Rattle.std.proofs.Common.{◌≡◌, ◌<◌, ◌≤◌, ◌+◌, ◌*◌, ◌++◌, ◌∷◌, inl, inr, ℕ, false, List, length, length-append, get_or, refl, sym, ap, subst, ◌∙◌, arith, append_assoc}
 use Rattle.std.proofs.Math.Nat.{lt_of_mul-lt-mul_left, mul-le-mul_left}
 use Rattle.std.specs.Cmp.{IsTotalOrder, nat_cmp_is}
 use Rattle.std.specs.List.{Any}
@@ -7,7 +7,7 @@ use Rattle.std.specs.List.Sorted.{IsPermutation, IsSorted}
 use Rattle.std.specs.Ordering.{is_lt, nat_cmp}
 use Rattle.std.specs.declared.cmp.Ordering.TheVariants.{Less}
 use Rattle.std.proofs.lemmas.Bool.{cases_eq, cases_lt, false≢true}
-use Rattle.std.proofs.lemmas.List.{append-nil, get_or_append_left, length_push}
+use Rattle.std.proofs.lemmas.List.{get_or_append_left, length_push}
 use Rattle.std.proofs.lemmas.List.Quantifiers.{Any-push}
 use Rattle.std.proofs.lemmas.List.Sorted.{Contains-permutation, ranks_by, sorted_far}
 use Rattle.rp_evidence.specs.Efficiency.{IsRatio}
@@ -24,13 +24,6 @@ any_left P xs ys a =
     (a.0, a.1, omega (arith, a.2, length-append xs ys), get_or_append_left xs ys a.1 a.0 a.2 ∙ a.3, a.4)
 
 -- ---- the steps of one observation
-
-pub no_step_seen : (c : ℕ → ℕ → ℕ) (bracket : Bracket) (to : List ℕ) (s start : ℕ) (old : List Ratio) → AddsBetween c bracket to s start start old old
-no_step_seen c bracket to s start old = record {
-  longer = ([], sym (append-nil old));
-  few = omega arith;
-  seen = λ p a b. absurd (omega arith);
-}
 
 module _ (c : ℕ → ℕ → ℕ) (bracket : Bracket) (to : List ℕ) (s start place : ℕ) (old ratios : List Ratio) (so_far : AddsBetween c bracket to s start place old ratios) where
   pub seen_with : (r : Ratio) → r.num ≡ c s (get_or to place 0) → r.den ≡ c s s → AddsBetween c bracket to s start (place + 1) old (ratios ++ r ∷ [])

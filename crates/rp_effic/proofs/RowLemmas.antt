@@ -1,5 +1,5 @@
 -- The weak steps of the level 1, listed row by row.
-use Rattle.std.proofs.Common.{◌≡◌, ◌<◌, ◌≤◌, ◌+◌, ◌*◌, ◌++◌, ◌∷◌, [], inl, inr, ℕ, zero, suc, List, length, get_or, refl, sym, ap, subst, ◌∙◌, arith}
+use Rattle.std.proofs.Common.{◌≡◌, ◌<◌, ◌≤◌, ◌+◌, ◌*◌, ◌++◌, ◌∷◌, inl, inr, ℕ, zero, suc, List, length, get_or, sym, ap, subst, ◌∙◌, arith}
 use Rattle.std.proofs.Math.Nat.{le_of_mul-le-mul_left, mul-le-mul_left}
 use Rattle.std.proofs.Math.Seq.{get_or-append_seam}
 use Rattle.std.proofs.lemmas.Bool.{cases_eq, cases_lt}
@@ -13,87 +13,6 @@ pub weak_at_one : (c : ℕ → ℕ → ℕ) (num den s t : ℕ) → IsLevel num 
 weak_at_one c num den s t level h =
     let top : c s s * num ≤ c s s * den = mul-le-mul_left (c s s) level.1 in
     le_of_mul-le-mul_left {k = den} (omega (arith, h, top)) (level_den num den level)
-
--- ---- one row
-
-pub adds_nothing : (n : ℕ) (c : ℕ → ℕ → ℕ) (s : ℕ) (old : List ℕ) → AddsRow n c s 0 old old
-adds_nothing n c s old = record {
-  longer = omega arith;
-  few = omega arith;
-  kept = λ p l. refl;
-  below = λ p a b. absurd (omega arith);
-  listed = λ t l k. absurd (omega arith);
-}
-
-module _ (n : ℕ) (c : ℕ → ℕ → ℕ) (s end : ℕ) (old new : List ℕ) (so_far : AddsRow n c s end old new) where
-  pub adds_one : end < n → AddsRow n c s (end + 1) old (new ++ end ∷ [])
-  adds_one inside = record {
-    longer = omega (arith, longer, length_push new end);
-    few = omega (arith, so_far.few, length_push new end);
-    kept = kept;
-    below = below;
-    listed = listed;
-  }
-    where
-      longer : length old ≤ length new
-      longer = so_far.longer
-
-      at_end : get_or (new ++ end ∷ []) (length new) 0 ≡ end
-      at_end = get_or-append_seam new end [] 0
-
-      before : (p : ℕ) → p < length new → get_or (new ++ end ∷ []) p 0 ≡ get_or new p 0
-      before p l = get_or_append_left new (end ∷ []) 0 p l
-
-      kept : (p : ℕ) → p < length old → get_or (new ++ end ∷ []) p 0 ≡ get_or old p 0
-      kept p l = before p (omega (arith, longer)) ∙ so_far.kept p l
-
-      below : (p : ℕ) → length old ≤ p → p < length (new ++ end ∷ []) → get_or (new ++ end ∷ []) p 0 < n
-      below p a b = elim (cases_eq p (length new)) [
-        | inl e ↦ subst (λ x. x < n) (sym (ap (λ x. get_or (new ++ end ∷ []) x 0) e ∙ at_end)) inside
-        | inr e ↦
-            let l : p < length new = omega (arith, b, length_push new end) in
-            subst (λ x. x < n) (sym (before p l)) (so_far.below p a l)
-      ]
-
-      listed : (t : ℕ) → t < end + 1 → c s t ≤ c s s → (p : ℕ) × (length old ≤ p) × (p < length (new ++ end ∷ [])) × (get_or (new ++ end ∷ []) p 0 ≡ t)
-      listed t l k = elim (cases_eq t end) [
-        | inl e ↦ (length new, longer, omega (arith, length_push new end), at_end ∙ sym e)
-        | inr e ↦
-            let h = so_far.listed t (omega arith) k in
-            (h.0, h.1, omega (arith, h.2, length_push new end), before h.0 h.2 ∙ h.3)
-      ]
-
-  pub adds_none : c s s < c s end → AddsRow n c s (end + 1) old new
-  adds_none more = record {
-    longer = so_far.longer;
-    few = omega (arith, so_far.few);
-    kept = so_far.kept;
-    below = so_far.below;
-    listed = listed;
-  }
-    where
-      listed : (t : ℕ) → t < end + 1 → c s t ≤ c s s → (p : ℕ) × (length old ≤ p) × (p < length new) × (get_or new p 0 ≡ t)
-      listed t l k = elim (cases_eq t end) [
-        | inl e ↦ let h : c s end ≤ c s s = subst (λ x. c s x ≤ c s s) e k in absurd (omega arith)
-        | inr e ↦ so_far.listed t (omega arith) k
-      ]
-
--- ---- one row after another
-
-pub no_rows : (n : ℕ) (c : ℕ → ℕ → ℕ) → AreWeakSteps 0 n c (0 ∷ []) []
-no_rows n c = record {
-  start_each = omega arith;
-  ends = refl;
-  rows = λ s l. absurd (omega arith);
-  within = within;
-  below = λ p l. absurd (omega arith);
-  listed = λ s t l k h. absurd (omega arith);
-  few = omega arith;
-}
-  where
-    within : (s : ℕ) → s ≤ 0 → get_or (0 ∷ []) s 0 ≤ length {A = ℕ} []
-    within zero l = omega arith
-    within (suc s) l = absurd (omega arith)
 
 module _ (m n : ℕ) (c : ℕ → ℕ → ℕ) (starts to new : List ℕ) (are : AreWeakSteps m n c starts to) (adds : AddsRow n c m n to new) where
   at_end : get_or (starts ++ length new ∷ []) (m + 1) 0 ≡ length new

@@ -1,3 +1,4 @@
+//! The walk that shows the axiom broken above the index.
 ghost use Rattle.std.specs.Prelude.{IfOk};
 ghost use Rattle.rp_evidence.specs.Preference.{IsLevel};
 ghost use Rattle.rp_pref.specs.Closure.{IsClosureOf};

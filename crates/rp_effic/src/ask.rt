@@ -1,3 +1,4 @@
+//! A search by halving for the first place at which a condition holds.
 ghost use Rattle.std.specs.Prelude.{◌≡◌, ◌<◌, ◌≤◌, ◌↔◌, ◌+◌, ◌-◌, ◌*◌, ◌^◌, ℕ, IsTrue, IfOk};
 ghost use Rattle.rp_effic.specs.Monotone.{IsFirstTrue, IsMonotone};
 

@@ -1,3 +1,4 @@
+//! Two numbers between which the index lies.
 ghost use Rattle.std.specs.Prelude.{◌≡◌, ◌*◌, ◌↔◌, IsTrue};
 ghost use Rattle.rp_effic.specs.InnerBracket.{IsBetween};
 

@@ -1,3 +1,4 @@
+//! Whether weak steps make a closed walk, by taking observations away.
 ghost use Rattle.std.specs.Prelude.{◌≡◌, ◌<◌, ◌↔◌, IsTrue, MatchBool, length};
 ghost use Rattle.rp_evidence.specs.Preference.{IsLevel, IsWeakAt};
 ghost use Rattle.rp_table.specs.Cost.{cost_at};

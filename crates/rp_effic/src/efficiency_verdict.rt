@@ -1,3 +1,4 @@
+//! The efficiency index with its evidence.
 ghost use Rattle.std.specs.Prelude.{IfOk};
 ghost use Rattle.rp_evidence.specs.Efficiency.{IsLeastGreatestRatio, ProvesEfficiency};
 ghost use Rattle.rp_people.specs.Says.{SaysEfficiency};

@@ -1,3 +1,4 @@
+//! Laws of the evidence that is given.
 ghost use Rattle.std.specs.Prelude.{ℕ};
 ghost use Rattle.rp_evidence.specs.Preference.{AgreeBelow};
 ghost use Rattle.rp_evidence.specs.declared.efficiency.Efficiency.{Efficiency};

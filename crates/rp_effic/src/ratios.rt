@@ -1,3 +1,4 @@
+//! The ratios of a table between two bounds, in rising order.
 ghost use Rattle.std.specs.Prelude.{◌≡◌, ◌<◌, ◌≤◌, ◌+◌, ◌*◌, ◌^◌, ◌↔◌, IsTrue, length};
 ghost use Rattle.std.specs.Prelude.{IfNone, IfOk, IfSome, OnOk, slice_index};
 ghost use Rattle.rp_table.specs.Cost.{cost_at};

@@ -1,3 +1,4 @@
+//! The first observation that returns to itself.
 ghost use Rattle.std.specs.Prelude.{◌≡◌, IsTrue};
 ghost use Rattle.rp_evidence.specs.First.{IsFirstOf};
 ghost use Rattle.rp_pref.specs.Closure.{reaches_in};

@@ -1,3 +1,4 @@
+//! A bracket of the index, by one ratio of each observation.
 ghost use Rattle.std.specs.Prelude.{◌<◌, IfOk, length};
 ghost use Rattle.rp_table.specs.Cost.{cost_at};
 ghost use Rattle.rp_effic.specs.InnerBracket.{IsBracket};

@@ -1,3 +1,4 @@
+//! Rising ratios, at each of which it is asked for a closed walk.
 ghost use Rattle.std.specs.Prelude.{◌≡◌, ◌<◌, ◌^◌, IfOk, length};
 ghost use Rattle.rp_table.specs.Cost.{cost_at};
 ghost use Rattle.rp_effic.specs.InnerCycles.{HasCycleFrom};

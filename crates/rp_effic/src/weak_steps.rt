@@ -1,3 +1,4 @@
+//! The steps that are weak at the level 1, listed row by row.
 ghost use Rattle.std.specs.Prelude.{◌<◌, ◌≤◌, ◌*◌, IfOk, OnOk, length};
 ghost use Rattle.rp_table.specs.Cost.{cost_at};
 ghost use Rattle.rp_effic.specs.InnerWeakSteps.{AddsRow, AreWeakSteps};

@@ -1,3 +1,4 @@
+//! The evidence by Afriat's theorem.
 ghost use Rattle.std.specs.Prelude.{◌≡◌};
 
 use rp_num::Seq;
@@ -7,8 +8,8 @@ pub const UTILITY_WIDTH: i128 = 1 << 120;
 /// The greatest multiplier of a model.
 pub const MULTIPLIER_WIDTH: u64 = 1 << 60;
 
-/// The numbers of an Afriat model (Afriat 1967; Varian 1982): by observation the utility `u` and the multiplier
-/// `lambda`, which is the marginal utility of expenditure there.
+/// The numbers of an Afriat model (Afriat 1967; Varian 1982): by observation `t` the utility `u` and the multiplier
+/// `lambda` of Afriat's inequalities, `u_s <= u_t + lambda_t * p_t (x_s - x_t)`.
 #[derive(Debug, Drop)]
 pub struct Numbers {
     pub u: Seq<i128>,

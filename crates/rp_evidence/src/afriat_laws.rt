@@ -1,3 +1,4 @@
+//! Laws of Afriat models: when they exist, and the utilities that they give.
 ghost use Rattle.std.specs.Prelude.{◌≡◌, ◌↔◌, ◌<◌, ◌≤◌, ◌*◌, ◌⊎◌, [], ℕ, ℤ, List, pos, ◌*ℤ◌};
 ghost use Rattle.std.specs.Prelude.{◌≤ℤ◌};
 ghost use Rattle.rp_table.specs.OwnLevels.{level_scale, own_by_level};

@@ -1,3 +1,4 @@
+//! Certificates and their items.
 ghost use Rattle.std.specs.Prelude.{◌≡◌, IfOk, sum_by};
 ghost use Rattle.rp_evidence.specs.Certificates.{random_certificate, table_certificate};
 ghost use Rattle.rp_evidence.specs.Certificates.{version_of};

@@ -1,3 +1,4 @@
+//! The evidence of demand and of the money metric at new prices.
 ghost use Rattle.std.specs.Prelude.{◌≡◌, sum_by};
 ghost use Rattle.rp_evidence.specs.Clauses.{cap};
 ghost use Rattle.rp_evidence.specs.DemandEvidence.{withheld_bound, withheld_demand, withheld_good};

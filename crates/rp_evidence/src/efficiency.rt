@@ -1,3 +1,4 @@
+//! The evidence for an efficiency index.
 use crate::garp::Garp;
 use crate::level::Level;
 use rp_num::Seq;

@@ -1,3 +1,4 @@
+//! Laws of the efficiency index: it exists, is unique, and is a threshold.
 ghost use Rattle.std.specs.Prelude.{◌↔◌, ◌<◌, ◌≤◌, ℕ};
 ghost use Rattle.rp_num.specs.Fraction.{Fraction, IsLowestTerms, SameNumber};
 ghost use Rattle.rp_evidence.specs.Efficiency.{IsEfficiencyIndex, IsLeastGreatestRatio};

@@ -1,3 +1,4 @@
+//! The reasons for which a checker refuses an item, and the place.
 /// Why a checker refuses an item.
 #[derive(Clone, Copy, Debug, PartialEq, Eq)]
 pub enum Reason {

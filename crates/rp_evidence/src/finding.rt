@@ -1,3 +1,4 @@
+//! What a clause finds wrong, and numbers as findings give them.
 ghost use Rattle.std.specs.Prelude.{◌≡◌, Err};
 ghost use Rattle.rp_evidence.specs.Clauses.{cap, failure};
 

@@ -1,3 +1,4 @@
+//! The evidence for a verdict on the generalized axiom.
 use rp_num::Seq;
 
 /// Evidence for the generalized axiom of revealed preference: ranks by observation, or a violation as the

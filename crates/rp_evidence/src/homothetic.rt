@@ -1,3 +1,4 @@
+//! The evidence for the homothetic test.
 ghost use Rattle.std.specs.Prelude.{◌≡◌};
 
 use rp_num::{Frac, Seq};

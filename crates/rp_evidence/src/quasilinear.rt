@@ -1,3 +1,4 @@
+//! The evidence for the quasilinear test.
 use rp_num::Seq;
 
 /// Evidence for the quasilinear test: a value of each observation, or a closed walk with a negative sum as the

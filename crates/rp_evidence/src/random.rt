@@ -1,3 +1,4 @@
+//! The evidence on random choices.
 ghost use Rattle.std.specs.Prelude.{◌≡◌};
 
 use rp_num::Seq;

@@ -1,3 +1,4 @@
+//! Laws of closures that are made round by round.
 ghost use Rattle.std.specs.Prelude.{◌≡◌, ◌<◌, ◌↔◌, ◌||◌, ◌==◌, ℕ, bit_or};
 ghost use Rattle.std.specs.Int.{bit_at};
 ghost use Rattle.rp_evidence.specs.Walk.{Reaches};

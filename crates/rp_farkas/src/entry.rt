@@ -1,3 +1,4 @@
+//! Points and their prices by positive entries.
 use rp_num::Seq;
 
 /// A positive entry of a point: its column, and its numerator.

@@ -1,3 +1,4 @@
+//! Laws of linear programs: equal pairs are best, and rays leave no bound.
 ghost use Rattle.std.specs.Prelude.{ℕ};
 ghost use Rattle.rp_farkas.specs.LinearProgram.{LinearProgram};
 ghost use Rattle.rp_farkas.specs.Point.{IsFeasiblePoint};

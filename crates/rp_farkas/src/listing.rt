@@ -1,3 +1,4 @@
+//! Entries as evidence lists them, and the width of their numbers.
 ghost use Rattle.std.specs.Prelude.{◌↔◌, IsTrue, All};
 ghost use Rattle.rp_farkas.specs.Limits.{FitsEvidence};
 ghost use Rattle.rp_farkas.specs.Listing.{IsListing};

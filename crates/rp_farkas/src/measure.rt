@@ -1,3 +1,4 @@
+//! What a bound measures of a price vector.
 ghost use Rattle.std.specs.Prelude.{◌≡◌, ◌^◌, ◌<◌, All, length, slice_index};
 ghost use Rattle.rp_farkas.specs.Limits.{FitsEvidence};
 ghost use Rattle.rp_farkas.specs.Measure.{HasMeasure, measured};

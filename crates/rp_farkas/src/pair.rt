@@ -1,3 +1,4 @@
+//! The check of a pair of a point and prices.
 ghost use Rattle.std.specs.Prelude.{◌≡◌, ◌<◌, ◌↔◌, ℕ, pos, ◌*ℤ◌, ◌≤ℤ◌, IsTrue, All, length};
 ghost use Rattle.std.specs.Prelude.{slice_index};
 ghost use Rattle.rp_farkas.specs.Limits.{FitsEvidence};

@@ -1,3 +1,4 @@
+//! The check of a ray.
 ghost use Rattle.std.specs.Prelude.{◌<◌, ◌↔◌, ℕ, pos, ◌≤ℤ◌, IsTrue};
 ghost use Rattle.rp_farkas.specs.Listing.{IsListing, numerator_at};
 ghost use Rattle.rp_farkas.specs.Point.{row_times};

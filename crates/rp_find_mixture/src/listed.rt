@@ -1,3 +1,4 @@
+//! Kinds of persons in a list.
 ghost use Rattle.std.specs.Prelude.{◌≡◌, ◌<◌, ℕ, List, [], length, slice_index_or};
 ghost use Rattle.rp_farkas.specs.Limits.{IsWithinLimits};
 ghost use Rattle.rp_patch.specs.Kinds.{mixture_program, uses};

@@ -1,3 +1,4 @@
+//! A mixture of listed kinds, or weights that show there is none.
 ghost use Rattle.std.specs.Prelude.{IfOk, List, Ok, ℕ};
 ghost use Rattle.rp_find_mixture.specs.MixtureVerdict.{IsPairVerdict, IsRunVerdict, ProvesMixture};
 ghost use Rattle.rp_farkas.specs.PairCheck.{IsShownPair};

@@ -1,3 +1,4 @@
+//! The linear program of mixtures.
 ghost use Rattle.std.specs.Prelude.{◌≡◌};
 ghost use Rattle.rp_patch.specs.Kinds.{mixture_program};
 

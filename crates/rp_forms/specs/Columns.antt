@@ -6,7 +6,7 @@ use Rattle.std.specs.Prelude.{◌||◌, filter, map, codes, Option, Some, None, 
 use Rattle.std.specs.List.{list_all, list_any, starts_with}
 use Rattle.std.specs.Option.{option_map_or, option_or}
 use Rattle.std.specs.Str.{bytes_eq}
-use Rattle.rp_table.specs.declared.TheConstants.{LARGEST, LARGEST_EXPENDITURE, NAME_BYTES}
+use Rattle.rp_limits.specs.declared.table.TheConstants.{LARGEST, LARGEST_EXPENDITURE, NAME_BYTES}
 use Rattle.rp_forms.specs.Texts.{text_at}
 use Rattle.rp_forms.specs.declared.form.Column.{Column}
 use Rattle.rp_forms.specs.declared.form.Form.{Form}

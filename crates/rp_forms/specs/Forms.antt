@@ -1,6 +1,6 @@
 -- The kinds of files, by what each has.
 use Rattle.std.specs.Prelude.{ℕ, Bool, true, false, if◌then◌else◌, [], ◌∷◌, Option, Some, None}
-use Rattle.rp_table.specs.declared.TheConstants.{RECORDS, NEW_RECORDS, BUDGETS, CHOICES}
+use Rattle.rp_limits.specs.declared.table.TheConstants.{RECORDS, NEW_RECORDS, BUDGETS, CHOICES}
 use Rattle.rp_forms.specs.declared.form.Column.{Column}
 use Rattle.rp_forms.specs.declared.form.Form.{Form}
 use Rattle.rp_forms.specs.declared.form.Marks.TheVariants.{Goods, Inputs}

@@ -1,3 +1,4 @@
+//! The kinds of files as data.
 ghost use Rattle.std.specs.Prelude.{◌≡◌};
 ghost use Rattle.std.specs.List.{list_any};
 ghost use Rattle.rp_forms.specs.Columns.{takes, measures, is_price, is_quantity, header_of};
@@ -9,7 +10,7 @@ ghost use Rattle.rp_forms.specs.Forms.{choices_form, technology_form, asked_form
 ghost use Rattle.rp_forms.specs.Columns.{has_goods};
 ghost use Rattle.rp_forms.specs.Columns.{shares_scale, limit_of};
 
-use rp_table::{BUDGETS, CHOICES, LARGEST, LARGEST_EXPENDITURE, NEW_RECORDS, RECORDS};
+use rp_limits::table::{BUDGETS, CHOICES, LARGEST, LARGEST_EXPENDITURE, NEW_RECORDS, RECORDS};
 
 /// What the fields of a column say.
 #[derive(Clone, Copy, Debug, PartialEq, Eq)]

@@ -1,9 +1,10 @@
+//! What a column says under its header.
 ghost use Rattle.std.specs.Prelude.{◌≡◌, nat_le};
 ghost use Rattle.std.specs.List.{list_all};
 ghost use Rattle.rp_forms.specs.Columns.{role_of, named_role, good_role, is_name, name_in};
 
 use crate::form::{Marks, Role};
-use rp_table::NAME_BYTES;
+use rp_limits::table::NAME_BYTES;
 
 /// What a column with that header says, in the files that have one and mark goods so.
 #[tactic(auto, unfolding(crate::specs::Columns::role_of))]

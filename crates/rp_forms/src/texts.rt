@@ -1,3 +1,4 @@
+//! The texts of fields.
 ghost use Rattle.std.specs.Prelude.{◌≡◌};
 ghost use Rattle.rp_forms.specs.Texts.{trimmed, after_blanks, before_blanks, number_of};
 ghost use Rattle.rp_forms.specs.Texts as Texts;

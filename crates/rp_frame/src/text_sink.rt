@@ -1,3 +1,4 @@
+//! A sink that keeps all that is written.
 ghost use Rattle.std.specs.Prelude.{◌≡◌, ◌≤◌, [], Some, IfOk, length};
 ghost use Rattle.rp_frame.specs.TextSink.{after_text};
 

@@ -1,3 +1,4 @@
+//! The first two observations that contradict each other.
 ghost use Rattle.std.specs.Prelude.{◌<◌, IfSome};
 ghost use Rattle.rp_evidence.specs.First.{IsFirstOf};
 ghost use Rattle.rp_people.specs.Rationalizing.{NoneHasBoth};

@@ -1,3 +1,4 @@
+//! The test of a table, which is made once for many questions.
 ghost use Rattle.std.specs.Prelude.{IfOk};
 ghost use Rattle.rp_evidence.specs.Input.{input_of_table};
 ghost use Rattle.rp_people.specs.Says.{SaysOfChoices};

@@ -1,3 +1,4 @@
+//! The verdict on the generalized axiom, with its evidence.
 ghost use Rattle.std.specs.Prelude.{◌≡◌, [], IfOk};
 ghost use Rattle.rp_evidence.specs.Garp.{ProvesGarp, ProvesOfPreference};
 ghost use Rattle.rp_people.specs.Says.{SaysOfChoices};

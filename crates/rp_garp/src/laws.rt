@@ -1,3 +1,4 @@
+//! Laws of the evidence that is given.
 ghost use Rattle.std.specs.Prelude.{◌<◌, ◌↔◌, ℕ, List};
 ghost use Rattle.rp_evidence.specs.Preference.{AgreeBelow, IsStrictAt, IsWeakAt};
 ghost use Rattle.rp_evidence.specs.declared.garp.Garp.{Garp};

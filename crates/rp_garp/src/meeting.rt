@@ -1,3 +1,4 @@
+//! Whether the generalized axiom holds, without evidence.
 ghost use Rattle.std.specs.Prelude.{◌≡◌, ◌<◌, ◌↔◌, [], ℕ, IfOk, IsFalse, IsTrue};
 ghost use Rattle.rp_evidence.specs.Garp.{HasNoViolation, MeetsGarp};
 ghost use Rattle.rp_pref.specs.Closure.{IsClosureOf};

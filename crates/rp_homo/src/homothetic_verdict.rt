@@ -1,3 +1,4 @@
+//! The homothetic test.
 ghost use Rattle.std.specs.Prelude.{IfOk, All};
 ghost use Rattle.rp_num.specs.Fraction.{Fraction, FitsWidth, IsLowestTerms};
 ghost use Rattle.rp_evidence.specs.Homothetic.{ProvesHomothetic};

@@ -1,3 +1,4 @@
+//! Products over the steps of walks as a kind of total.
 ghost use Rattle.std.specs.Prelude.{◌≡◌, ◌<◌, ◌≤◌, ◌↔◌, ◌*◌, ◌^◌, IfSome, IsTrue};
 ghost use Rattle.std.specs.Ordering.{nat_cmp};
 ghost use Rattle.rp_num.specs.Fraction.{FitsTerm};

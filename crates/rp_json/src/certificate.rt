@@ -1,3 +1,4 @@
+//! The JSON text of a certificate.
 ghost use Rattle.std.specs.Prelude.{◌≡◌, IfOk};
 ghost use Rattle.serde_json.specs.View.{view};
 ghost use Rattle.rp_json.specs.CertificateValue.{certificate_text, certificate_value, item_value};

@@ -1,3 +1,4 @@
+//! The faults of bytes that are no certificate.
 ghost use Rattle.std.specs.Prelude.{◌≡◌};
 ghost use Rattle.rp_json.specs.declared.fault.JsonFault.TheVariants as fault;
 

@@ -1,3 +1,4 @@
+//! The items of certificates, read from their values.
 ghost use Rattle.std.specs.Prelude.{◌≡◌, IfOk};
 ghost use Rattle.serde_json.specs.View.{view};
 ghost use Rattle.rp_json.specs.CertificateValue.{item_value};

@@ -1,3 +1,4 @@
+//! Laws of certificates and their texts.
 ghost use Rattle.std.specs.Prelude.{◌≡◌, ◌⊎◌, ℕ, List, Ok, Err};
 ghost use Rattle.rp_evidence.specs.declared.certificate.Certificate.{Certificate};
 ghost use Rattle.rp_evidence.specs.declared.certificate.Kind.{Kind};

@@ -1,3 +1,4 @@
+//! The levels of a certificate as JSON.
 ghost use Rattle.std.specs.Prelude.{IfOk};
 ghost use Rattle.serde_json.specs.View.{view};
 ghost use Rattle.rp_table.specs.OwnLevels.{IsOwnLevel};
@@ -6,8 +7,8 @@ ghost use Rattle.rp_json_entries.specs.Reading.{IsRead};
 ghost use Rattle.rp_json_entries.specs.Values.{count_value, counts_value};
 
 use rp_json_entries::notation::Notation;
+use rp_limits::table::LEVEL_SCALE;
 use rp_num::{NoMemory, Seq};
-use rp_table::LEVEL_SCALE;
 use serde_json::Value;
 use std::alloc::Global;
 

@@ -1,3 +1,4 @@
+//! What bytes denote as a certificate.
 ghost use Rattle.std.specs.Prelude.{◌≡◌, ◌≢◌, ℕ, List, [], IfOk, MatchOption, Some, map};
 ghost use Rattle.rp_evidence.specs.declared.certificate.Kind.{Kind};
 ghost use Rattle.serde_json.specs.Data.{Data, array, number, object, string, unsigned};

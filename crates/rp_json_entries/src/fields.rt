@@ -1,3 +1,4 @@
+//! Several entries together, each in its own notation.
 ghost use Rattle.std.specs.Prelude.{List, [], ◌∷◌, IfOk, ⊤};
 ghost use Rattle.serde_json.specs.Data.{Data};
 ghost use Rattle.rp_json_entries.specs.InnerMembers.{views};

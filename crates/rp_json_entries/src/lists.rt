@@ -1,3 +1,4 @@
+//! Lists of entries as arrays.
 ghost use Rattle.std.specs.Prelude.{◌≡◌, IfOk, All, map};
 ghost use Rattle.serde_json.specs.View.{view};
 ghost use Rattle.rp_json_entries.specs.Reading.{IsFound};

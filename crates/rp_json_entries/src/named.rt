@@ -1,3 +1,4 @@
+//! The names of kinds of items.
 ghost use Rattle.std.specs.Prelude.{◌≡◌, ℕ, List, ⊤};
 ghost use Rattle.serde_json.specs.Data.{string};
 

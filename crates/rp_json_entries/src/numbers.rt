@@ -1,3 +1,4 @@
+//! Numbers, observations and fractions as JSON.
 ghost use Rattle.std.specs.Prelude.{◌≡◌, IfOk};
 ghost use Rattle.rp_num.specs.Fraction.{Fraction};
 ghost use Rattle.rp_num.specs.Spelled.{FitsSum, IsReduced};

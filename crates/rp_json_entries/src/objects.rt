@@ -1,3 +1,4 @@
+//! Objects and arrays, read by the names of their members.
 ghost use Rattle.std.specs.Prelude.{◌≡◌, List, IfOk, IfSome, None, OnOk, length};
 ghost use Rattle.serde_json.specs.Data.{Data, array, object, put as with_member};
 ghost use Rattle.serde_json.specs.View.{view, items_of, members_view};

@@ -1,3 +1,4 @@
+//! Bounds by linear programs as JSON.
 ghost use Rattle.std.specs.Prelude.{◌≡◌, IfOk};
 ghost use Rattle.serde_json.specs.View.{view};
 ghost use Rattle.rp_json_programs.specs.BoundValue.{bound_value, entry_value, good_value};

@@ -1,3 +1,4 @@
+//! Bounds on the money metric as JSON.
 ghost use Rattle.std.specs.Prelude.{◌≡◌, IfOk, codes};
 ghost use Rattle.serde_json.specs.Data.{Data, object, string, member, no_members};
 ghost use Rattle.serde_json.specs.View.{view, members_view};

@@ -1,3 +1,4 @@
+//! Evidence by Afriat's theorem as JSON.
 ghost use Rattle.std.specs.Prelude.{◌≡◌, IfOk};
 ghost use Rattle.serde_json.specs.View.{view};
 ghost use Rattle.rp_json_tests.specs.AfriatValue.{afriat_value};

@@ -1,3 +1,4 @@
+//! An efficiency index as JSON.
 ghost use Rattle.std.specs.Prelude.{◌≡◌, IfOk, IfSome, None, OnOk};
 ghost use Rattle.serde_json.specs.View.{view, members_view};
 ghost use Rattle.rp_json_tests.specs.EfficiencyValue.{at_members, below_members};

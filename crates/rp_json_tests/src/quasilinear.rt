@@ -1,3 +1,4 @@
+//! A verdict of the quasilinear test as JSON.
 ghost use Rattle.std.specs.Prelude.{◌≡◌, IfOk};
 ghost use Rattle.serde_json.specs.View.{view};
 ghost use Rattle.rp_json_tests.specs.Limits.{FitsQuasilinear};

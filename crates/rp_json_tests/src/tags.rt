@@ -1,3 +1,4 @@
+//! The names of the items of this crate.
 ghost use Rattle.std.specs.Prelude.{codes};
 
 use rp_json_entries::named::Tag;

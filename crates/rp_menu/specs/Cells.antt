@@ -4,7 +4,7 @@ use Rattle.std.specs.Prelude.{length, map}
 use Rattle.std.specs.Prelude.{slice_index_or, if◌then◌else◌}
 use Rattle.rp_num.specs.Below.{greatest_below}
 use Rattle.rp_menu.specs.MenuLists.{MenuList, has_letter}
-use Rattle.rp_menu.specs.declared.TheConstants.{LETTERS}
+use Rattle.rp_limits.specs.declared.menu.TheConstants.{LETTERS}
 use Rattle.rp_menu.specs.declared.cells.Cell.{Cell}
 use Rattle.rp_menu.specs.declared.menu_row.MenuRow.{MenuRow}
 

@@ -6,7 +6,7 @@ use Rattle.std.specs.Prelude.{codes, length, slice_index, Option, None, Some, Re
 use Rattle.std.specs.Option.{option_map, option_or}
 use Rattle.std.specs.Result.{result_err}
 use Rattle.rp_num.specs.Below.{any_below, first_of, first_there, listed}
-use Rattle.rp_patch.specs.declared.TheConstants.{PLACES}
+use Rattle.rp_limits.specs.declared.patch.TheConstants.{PLACES}
 use Rattle.rp_sheet.specs.ChoiceCounts.{column_named}
 use Rattle.rp_forms.specs.Columns.{role_at}
 use Rattle.rp_sheet.specs.Fields.{RecordFaults, count_stage, fault_in_record, field_at, figures_of, row_at, rows_in}

@@ -1,8 +1,8 @@
 -- Words that only proofs need: where a cell is counted, and what the records of a file without a fault keep to.
 use Rattle.std.specs.Prelude.{◌≡◌, ◌<◌, ◌≤◌, ◌^◌, ◌==◌, ◌&&◌, ◌||◌, Bool, true, nat_lt}
-use Rattle.rp_table.specs.declared.TheConstants.{LARGEST}
+use Rattle.rp_limits.specs.declared.table.TheConstants.{LARGEST}
 use Rattle.rp_menu.specs.MenuLists.{has_letter}
-use Rattle.rp_menu.specs.declared.TheConstants.{LETTERS}
+use Rattle.rp_limits.specs.declared.menu.TheConstants.{LETTERS}
 use Rattle.rp_menu.specs.declared.cells.Cell.{Cell}
 use Rattle.rp_menu.specs.declared.menu_row.MenuRow.{MenuRow}
 

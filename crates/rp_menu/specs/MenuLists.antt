@@ -4,7 +4,7 @@ use Rattle.std.specs.Prelude.{◌≡◌, ◌≢◌, ℕ, ◌<◌, ◌≤◌, ◌
 use Rattle.std.specs.Prelude.{List, length, slice_index}
 use Rattle.std.specs.Int.{bit_at}
 use Rattle.rp_patch.specs.Apportionment.{AreGrouped, groups_in}
-use Rattle.rp_menu.specs.declared.TheConstants.{LETTERS}
+use Rattle.rp_limits.specs.declared.menu.TheConstants.{LETTERS}
 
 -- whether the menu with that number has letter x, from 0: numbers are sums of 1, 2, 4 and so on, for a, b, c and so on
 abbrev pub has_letter : ℕ → ℕ → Bool

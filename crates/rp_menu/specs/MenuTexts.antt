@@ -5,7 +5,7 @@ use Rattle.std.specs.Prelude.{if◌then◌else◌}
 use Rattle.std.specs.List.{list_any}
 use Rattle.rp_num.specs.Below.{any_below}
 use Rattle.rp_table.specs.Sums.{sum_below}
-use Rattle.rp_menu.specs.declared.TheConstants.{LETTERS}
+use Rattle.rp_limits.specs.declared.menu.TheConstants.{LETTERS}
 
 -- a letter from a to f
 abbrev pub is_letter : ℕ → Bool

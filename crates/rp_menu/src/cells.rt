@@ -10,9 +10,9 @@ ghost use Rattle.rp_menu.specs.InnerCells.{is_seat};
 use crate::MenuFault;
 use crate::menu_row::MenuRow;
 use rp_forms::number_of;
+use rp_limits::patch::PLACES;
+use rp_limits::table::{CHOICES, LARGEST};
 use rp_num::NoMemory;
-use rp_patch::PLACES;
-use rp_table::{CHOICES, LARGEST};
 use std::alloc::Global;
 
 /// The place of a menu, a letter that was chosen from it, both from 0, and how many times.

@@ -1,3 +1,4 @@
+//! The faults of a file of choices from menus.
 ghost use Rattle.std.specs.Prelude.{◌≡◌};
 ghost use Rattle.rp_menu.specs.Denotation.{told};
 ghost use Rattle.rp_menu.specs.declared.fault.MenuFault.TheVariants as fault;

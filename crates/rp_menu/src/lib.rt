@@ -5,7 +5,6 @@
 mod cells;
 mod fault;
 mod laws;
-mod limits;
 mod menu_row;
 mod menu_rows;
 mod menu_texts;
@@ -14,10 +13,6 @@ mod read;
 
 pub use fault::MenuFault;
 pub use laws::files_never_denote_want_of_memory;
-pub use limits::limits_in_numbers;
 pub use menu_texts::has_letter;
 pub use menus::Menus;
 pub use read::read_menus;
-
-/// The letters that a menu may have, from a on.
-pub const LETTERS: u32 = 6;

@@ -5,7 +5,7 @@ ghost use Rattle.rp_menu.specs.MenuTexts as MenuTexts;
 ghost use Rattle.rp_menu.specs.MenuTexts.{has_byte, is_choice, is_letter, is_menu, is_wrong_at};
 ghost use Rattle.rp_menu.specs.MenuTexts.{number_of_menu};
 
-use crate::LETTERS;
+use rp_limits::menu::LETTERS;
 
 /// Whether a text is a menu: one letter or more from a to f, in strictly increasing order.
 pub fn is_menu(text: &[u8]) -> bool

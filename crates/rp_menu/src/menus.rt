@@ -1,9 +1,10 @@
+//! Menus with their cells, in the order of the records.
 ghost use Rattle.std.specs.Prelude.{◌≡◌, ◌<◌, ◌≤◌, length, slice_index};
 ghost use Rattle.rp_patch.specs.Apportionment.{AreGrouped};
 ghost use Rattle.rp_menu.specs.MenuLists.{IsMenuList};
 
-use crate::LETTERS;
-use rp_patch::PLACES;
+use rp_limits::menu::LETTERS;
+use rp_limits::patch::PLACES;
 use std::marker::Model;
 
 /// The menus from which something was chosen, by the first record of each, and the cells on them: a menu with a letter

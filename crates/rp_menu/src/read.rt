@@ -13,14 +13,15 @@ use crate::cells::{Cell, Tally, tally_of};
 use crate::menu_row::MenuRow;
 use crate::menu_rows::{MenuRecord, choice_at, menu_at};
 use crate::menu_texts::{has_letter, letter_in, number_of_menu};
-use crate::{LETTERS, MenuFault, Menus};
+use crate::{MenuFault, Menus};
 use rp_forms::Form;
+use rp_limits::menu::LETTERS;
+use rp_limits::table::CHOICES;
 use rp_num::NoMemory;
 use rp_sheet::{
     Columns, Records, check_count, check_goods, column_numbers, read_columns, read_records,
     read_sizes,
 };
-use rp_table::CHOICES;
 use std::alloc::Global;
 
 /// Reads columns `menu` of letters from a to f in strictly increasing order, `choice` of one letter of the menu, `n` of

@@ -1,3 +1,4 @@
+//! Decimal numbers, read from their text.
 ghost use Rattle.std.specs.Prelude.{◌≡◌, ◌^◌, ◌≤◌, ◌==◌, ◌&&◌, if◌then◌else◌, IsTrue, min};
 ghost use Rattle.std.specs.Prelude.{position};
 ghost use Rattle.std.specs.Char.{is_ascii_digit};

@@ -1,3 +1,4 @@
+//! Greatest common divisors, and lowest terms.
 ghost use Rattle.std.specs.Prelude.{◌≡◌, ◌%◌, ◌<◌, ◌≤◌, ◌↔◌};
 ghost use Rattle.std.specs.Int.{IsGcd};
 ghost use Rattle.rp_num.specs.Fraction.{IsLowestTerms};

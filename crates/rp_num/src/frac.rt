@@ -1,3 +1,4 @@
+//! Fractions in lowest terms.
 ghost use Rattle.std.specs.Prelude.{◌≡◌, ◌*◌, ◌/◌, ◌<◌, ◌≤◌, ◌↔◌, IfOk, OnErr, IsErr};
 ghost use Rattle.rp_num.specs.Fraction.{FitsTerm, Fraction, IsLowestTerms, FitsWidth, PassesWidth};
 ghost use Rattle.rp_num.specs.Fraction.{fraction_cmp};

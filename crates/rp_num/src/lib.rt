@@ -16,7 +16,7 @@ pub use frac::{FRACTION_WIDTH, Frac};
 pub use laws::{cross_products_decide, lowest_terms_are_unique, lowest_terms_decide_width};
 pub use list::Seq;
 pub use order::cmp_products;
-pub use print::{print_frac, print_i128, print_u128};
+pub use print::{print_frac, print_u128};
 pub use read::{read_frac, read_i128, read_u128};
 use std::alloc::{AllocError, AllocFailed};
 

@@ -1,3 +1,4 @@
+//! Lists that contracts see by their elements alone.
 ghost use Rattle.std.specs.Prelude.{◌≡◌, List};
 
 use std::marker::Model;

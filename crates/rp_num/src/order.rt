@@ -1,3 +1,4 @@
+//! The order of two products of 128 bits each.
 ghost use Rattle.std.specs.Prelude.{◌≡◌, ◌*◌};
 ghost use Rattle.std.specs.Ordering.{nat_cmp};
 

@@ -1,5 +1,6 @@
+//! Numbers and fractions as text.
 ghost use Rattle.std.specs.Prelude.{◌≡◌, ◌++◌, OnOk, OnErr};
-ghost use Rattle.std.specs.Fmt.{decimal, signed_decimal};
+ghost use Rattle.std.specs.Fmt.{decimal};
 ghost use Rattle.rp_num.specs.Fraction.{fraction_text};
 
 use crate::{Frac, NoMemory};
@@ -13,17 +14,6 @@ pub fn print_u128(alloc: Global, out: &mut Vec<u8>, n: u128) -> Result<(), NoMem
 {
     let text = n.to_string(alloc)?;
     out.extend_from_slice(text.as_bytes())?;
-    Ok(())
-}
-
-/// Appends `n` in plain decimal digits, after a minus sign where it is negative. After `NoMemory`
-/// nothing has been appended.
-pub fn print_i128(alloc: Global, out: &mut Vec<u8>, n: i128) -> Result<(), NoMemory>
-    ensures ok { OnOk result (out.new.items ≡ out.old.items ++ signed_decimal n) }
-    ensures err { OnErr result (out.new.items ≡ out.old.items) }
-{
-    let signed = n.to_string(alloc)?;
-    out.extend_from_slice(signed.as_bytes())?;
     Ok(())
 }
 

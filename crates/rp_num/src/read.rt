@@ -1,3 +1,4 @@
+//! Numbers and fractions, read from their text.
 ghost use Rattle.std.specs.Prelude.{◌≡◌, ◌≢◌, IfOk, IfSome, None};
 ghost use Rattle.std.specs.Fmt.{decimal, signed_decimal};
 ghost use Rattle.rp_num.specs.Fraction.{FitsTerm, FitsWidth, Fraction, fraction_text};
@@ -21,7 +22,7 @@ pub fn read_u128(alloc: Global, text: &str) -> Result<Option<u128>, NoMemory>
     })
 }
 
-/// The number, below 2^127 in absolute value, that `print_i128` writes as this text.
+/// The number, below 2^127 in absolute value, of which this text is the plain decimal.
 pub fn read_i128(alloc: Global, text: &str) -> Result<Option<i128>, NoMemory>
     ensures { IfOk result (λ o. IsSpelled signed_decimal FitsSum text.now o) }
 {

@@ -7,7 +7,7 @@ use Rattle.rp_menu.specs.MenuLists.{MenuList, has_letter}
 use Rattle.rp_orders.specs.Orders.{IsStrictOrder, picked}
 use Rattle.rp_patch.specs.Apportionment.{AreFilled, grouped}
 use Rattle.rp_patch.specs.Kinds.{weight_of}
-use Rattle.rp_patch.specs.declared.TheConstants.{UNITS}
+use Rattle.rp_limits.specs.declared.patch.TheConstants.{UNITS}
 use Rattle.rp_patch.specs.declared.apportionment.Units.{Units}
 use Rattle.rp_table.specs.Sums.{sum_below}
 

@@ -1,7 +1,7 @@
 -- Strict orders of letters, and what they pick from menus (Block and Marschak 1960).
 use Rattle.std.specs.Prelude.{◌≡◌, ◌≢◌, ◌<◌, ℕ, List, [], ◌∷◌, length, slice_index, if◌then◌else◌}
 use Rattle.rp_menu.specs.MenuLists.{has_letter}
-use Rattle.rp_menu.specs.declared.TheConstants.{LETTERS}
+use Rattle.rp_limits.specs.declared.menu.TheConstants.{LETTERS}
 
 -- A strict order of so many letters, from the best on: each of the numbers below that, once.
 pub record IsStrictOrder (letters : ℕ) (order : List ℕ) : Type 0 where

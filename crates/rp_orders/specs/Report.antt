@@ -6,7 +6,7 @@ use Rattle.rp_evidence.specs.declared.random.RandomPart.{RandomPart}
 use Rattle.rp_evidence.specs.declared.random.RandomPart.TheVariants.{Mixture, Violated, Wide}
 use Rattle.rp_evidence.specs.declared.random.Share.{Share}
 use Rattle.rp_menu.specs.MenuLists.{MenuList, has_letter}
-use Rattle.rp_menu.specs.declared.TheConstants.{LETTERS}
+use Rattle.rp_limits.specs.declared.menu.TheConstants.{LETTERS}
 use Rattle.rp_num.specs.Fraction.{Fraction}
 use Rattle.rp_orders.specs.LeastSums.{IsLeastMenuSum}
 use Rattle.rp_orders.specs.MenuSums.{AreComplete, sum_at}

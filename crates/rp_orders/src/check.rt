@@ -1,3 +1,4 @@
+//! The check of evidence on choices from menus.
 ghost use Rattle.std.specs.Prelude.{◌↔◌, IsTrue};
 ghost use Rattle.rp_orders.specs.MenuEvidence.{PassesMenus, ProvesMenus};
 ghost use Rattle.rp_orders.specs.OrderMixtures.{AreUnitsOf};

@@ -6,7 +6,8 @@ ghost use Rattle.rp_orders.specs.MenuSums.{AreComplete, sum_at};
 ghost use Rattle.rp_orders.specs.OrderMixtures.{AreUnitsOf};
 
 use crate::sums::menu_sum;
-use rp_menu::{LETTERS, Menus, has_letter};
+use rp_limits::menu::LETTERS;
+use rp_menu::{Menus, has_letter};
 use rp_patch::apportionment::Units;
 
 /// The sum of a letter at a menu that holds it.

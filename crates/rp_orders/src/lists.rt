@@ -1,6 +1,6 @@
 //! Lists of so many numbers below as many, one by one in lexicographic order: the strict orders are among them.
 ghost use Rattle.std.specs.Prelude.{◌≡◌, ◌≤◌, ◌-◌, ◌^◌, ◌↔◌, IsTrue, length, take};
-ghost use Rattle.rp_menu.specs.declared.TheConstants.{LETTERS};
+ghost use Rattle.rp_limits.specs.declared.menu.TheConstants.{LETTERS};
 ghost use Rattle.rp_orders.specs.InnerLists.{digits, first_missing, listed_order};
 ghost use Rattle.rp_orders.specs.Orders.{IsStrictOrder};
 

@@ -1,3 +1,4 @@
+//! A mixture of strict orders, or weights that show there is none.
 ghost use Rattle.std.specs.Prelude.{IfOk};
 ghost use Rattle.rp_orders.specs.MenuEvidence.{IsMenuVerdict, PassesMenus, ProvesMenus, ShowsSums};
 ghost use Rattle.rp_orders.specs.OrderMixtures.{AreUnitsOf};

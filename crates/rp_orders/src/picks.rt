@@ -1,12 +1,13 @@
 //! What an order picks from menus, and the cells that it picks.
 ghost use Rattle.std.specs.Prelude.{◌≡◌, ◌<◌, ◌≤◌, ◌^◌, ◌↔◌, IsTrue, length};
-ghost use Rattle.rp_menu.specs.declared.TheConstants.{LETTERS};
+ghost use Rattle.rp_limits.specs.declared.menu.TheConstants.{LETTERS};
 ghost use Rattle.rp_orders.specs.OrderKinds.{PicksCells, cell_of as cell_of_letter, cells_picked};
 ghost use Rattle.rp_orders.specs.OrderMixtures.{menu_at};
 ghost use Rattle.rp_orders.specs.Orders.{IsStrictOrder, picked};
 ghost use Rattle.rp_patch.specs.Kinds.{cells_weight, uses};
 
-use rp_menu::{LETTERS, Menus, has_letter};
+use rp_limits::menu::LETTERS;
+use rp_menu::{Menus, has_letter};
 
 /// The letter that an order picks from the menu with that number.
 pub fn pick(menu: u32, order: &[u32]) -> u32

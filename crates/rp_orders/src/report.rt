@@ -1,6 +1,6 @@
 //! The report on choices from menus.
 ghost use Rattle.std.specs.Prelude.{◌≡◌, ◌≤◌, ◌<◌, ◌*◌, ◌^◌, ◌++◌, IfOk, List, OnOk, ℕ, length};
-ghost use Rattle.rp_menu.specs.declared.TheConstants.{LETTERS};
+ghost use Rattle.rp_limits.specs.declared.menu.TheConstants.{LETTERS};
 ghost use Rattle.rp_orders.specs.MenuEvidence.{PassesMenus};
 ghost use Rattle.rp_orders.specs.OrderKinds.{orders_over};
 ghost use Rattle.rp_orders.specs.OrderMixtures.{AreUnitsOf};
@@ -15,7 +15,8 @@ use crate::least::{LeastSum, least_sum};
 use crate::orders::all_orders;
 use crate::sums::is_complete;
 use rp_evidence::RandomPart;
-use rp_menu::{LETTERS, Menus, has_letter};
+use rp_limits::menu::LETTERS;
+use rp_menu::{Menus, has_letter};
 use rp_num::{Frac, NoMemory};
 use rp_patch::apportionment::Units;
 use rp_patch::weight_of_units;

@@ -2,17 +2,18 @@
 ghost use Rattle.std.specs.Prelude.{◌≡◌, ◌<◌, ◌≤◌, ◌^◌, ◌==◌, ◌≤ℤ◌, ◌↔◌, IsTrue, pos, true, length};
 ghost use Rattle.std.specs.Int.RustNames.{unsigned_abs};
 ghost use Rattle.rp_menu.specs.MenuLists.{has_letter as has};
-ghost use Rattle.rp_menu.specs.declared.TheConstants.{LETTERS};
+ghost use Rattle.rp_limits.specs.declared.menu.TheConstants.{LETTERS};
 ghost use Rattle.rp_orders.specs.InnerSums.{added_at};
 ghost use Rattle.rp_orders.specs.MenuSums.{AreComplete, size_of as letters_in, sum_at};
 ghost use Rattle.rp_orders.specs.MenuSums.{units_on as units_on_menu};
 ghost use Rattle.rp_orders.specs.OrderKinds.{first_with};
 ghost use Rattle.rp_orders.specs.OrderMixtures.{AreUnitsOf, HasOrderMixture, menu_at};
 ghost use Rattle.rp_orders.specs.OrderMixtures.{units_of as units_of_letter};
-ghost use Rattle.rp_patch.specs.declared.TheConstants.{UNITS};
+ghost use Rattle.rp_limits.specs.declared.patch.TheConstants.{UNITS};
 
 use crate::picks::cell_of;
-use rp_menu::{LETTERS, Menus, has_letter};
+use rp_limits::menu::LETTERS;
+use rp_menu::{Menus, has_letter};
 use rp_patch::apportionment::Units;
 
 /// How many letters a menu has.

@@ -1,3 +1,4 @@
+//! Where files are read from.
 ghost use Rattle.std.specs.Prelude.{◌≡◌, ◌≤◌, ◌⊎◌, ℕ, List, Option, IfOk, IsErrOf, drop, length};
 ghost use Rattle.std.specs.Prelude.{take};
 ghost use Rattle.std.specs.Option.{ForSome};

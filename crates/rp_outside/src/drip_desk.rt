@@ -1,3 +1,4 @@
+//! A desk in memory that gives files in pieces.
 ghost use Rattle.std.specs.Prelude.{None, ◌≡◌, ◌≤◌, ◌⊎◌, ◌↔◌, ℕ, List, IfOk, IsErr, IsOkUnless};
 ghost use Rattle.std.specs.Prelude.{IsSomeAnd, is_ok, length, map};
 ghost use Rattle.std.specs.Option.{ForSome};

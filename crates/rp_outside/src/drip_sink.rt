@@ -1,3 +1,4 @@
+//! A sink in memory that takes bytes in pieces.
 ghost use Rattle.std.specs.Prelude.{◌≡◌, ◌<◌, ◌≤◌, ◌↔◌, [], Some, IfOk, IsErr, length};
 ghost use Rattle.rp_outside.specs.Drip.{after_drip_write, taken_count};
 ghost use Rattle.rp_outside.specs.MemorySink.{WriteFails};

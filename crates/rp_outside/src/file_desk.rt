@@ -1,3 +1,4 @@
+//! The files of the system.
 ghost use Rattle.std.specs.Prelude.{◌≡◌, ◌≢◌, ◌+◌, ◌≤◌, ◌⊎◌, ◌↔◌, ℕ, List, None, Some, Ok, IfOk};
 ghost use Rattle.std.specs.Prelude.{IsErr, IsErrOf, IsOk, drop, length, min, option_map};
 ghost use Rattle.std.specs.Prelude.{string_bytes, take};

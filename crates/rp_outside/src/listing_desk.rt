@@ -1,3 +1,4 @@
+//! A desk that lists the reads that were asked for.
 ghost use Rattle.std.specs.Prelude.{◌≡◌, ◌++◌, ◌∷◌, [], Some, OnErr, OnOk, map};
 ghost use Rattle.rp_outside.specs.Asked.{reads_of};
 ghost use Rattle.rp_outside.specs.Files.{bytes_under};

@@ -1,3 +1,4 @@
+//! Loading a file whole, read by read.
 ghost use Rattle.std.specs.Prelude.{◌≡◌, ◌+◌, ◌^◌, ◌<◌, ◌≤◌, ◌⊎◌, IfOk, IsErrOf, Ok};
 ghost use Rattle.std.specs.Prelude.{length, vec_len};
 ghost use Rattle.rp_outside.specs.Asked.{AsksAtMostOnce, AsksOnce, ListsRead, MayListRead};

@@ -1,3 +1,4 @@
+//! Files in memory, with planned failures.
 ghost use Rattle.std.specs.Prelude.{◌≡◌, ◌≤◌, ◌⊎◌, ◌↔◌, ℕ, Contains, List, None, IfOk, IfSome};
 ghost use Rattle.std.specs.Prelude.{IsErr, IsNone, IsOkUnless, IsSomeAnd, is_ok, map};
 ghost use Rattle.rp_outside.specs.Files.{ReadsAll, bytes_under};

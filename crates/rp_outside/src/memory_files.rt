@@ -1,3 +1,4 @@
+//! One file in memory, and reads of a list of them.
 ghost use Rattle.std.specs.Prelude.{◌≡◌, ◌↔◌, None, IfSome, IsNone, IsSomeAnd, map};
 ghost use Rattle.std.specs.Option.{option_copied};
 ghost use Rattle.rp_outside.specs.Files.{ReadsAll, bytes_under};

@@ -1,3 +1,4 @@
+//! A sink in memory, with planned failures.
 ghost use Rattle.std.specs.Prelude.{◌≡◌, ◌-◌, ◌<◌, ◌≤◌, ◌⊎◌, ◌↔◌, [], Some, Contains, IfOk, IsErr};
 ghost use Rattle.std.specs.Prelude.{IsTrue, length, min};
 ghost use Rattle.rp_outside.specs.MemorySink.{WriteFails, after_write};

@@ -1,3 +1,4 @@
+//! Which calls are planned to fail.
 ghost use Rattle.std.specs.Prelude.{◌↔◌, Contains, IsTrue};
 
 /// Whether the call of this number is planned to fail.

@@ -1,3 +1,4 @@
+//! Writing all bytes, write by write.
 ghost use Rattle.std.specs.Prelude.{◌+◌, ◌<◌, ◌≤◌, OnErr, OnOk, length};
 ghost use Rattle.rp_outside.specs.Faults.{HasRisen};
 ghost use Rattle.rp_outside.specs.Known.{FallsShort, Grows, GrowsByPrefix};

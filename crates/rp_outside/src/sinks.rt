@@ -1,3 +1,4 @@
+//! Where bytes are written to.
 ghost use Rattle.std.specs.Prelude.{◌≡◌, ◌<◌, ◌≤◌, ℕ, List, Option, IfOk, OnErr, length, take};
 ghost use Rattle.rp_outside.specs.Faults.{HasRisen, next_count};
 ghost use Rattle.rp_outside.specs.Known.{Grows, Stays};

@@ -1,3 +1,4 @@
+//! The writers of the system as sinks.
 ghost use Rattle.std.specs.Prelude.{◌≡◌, ◌<◌, ◌≤◌, IfErr, IfOk, if◌then◌else◌, is_ok, length, take};
 ghost use Rattle.rp_outside.specs.Faults.{next_count};
 ghost use Rattle.rp_outside.specs.Known.{Grows, Stays};

@@ -1,3 +1,4 @@
+//! Files in memory that are always read, and what is always written.
 ghost use Rattle.std.specs.Prelude.{◌≡◌, None, Ok, Some, IfOk, IsOk, length, map};
 ghost use Rattle.rp_outside.specs.Faults.{next_count};
 ghost use Rattle.rp_outside.specs.Files.{ReadsAll};

@@ -10,7 +10,7 @@ use Rattle.rp_patch.specs.Choices.{RandomInput}
 use Rattle.rp_patch.specs.InnerUnited.{AreUnited, SaysWhyNotShared}
 use Rattle.rp_patch.specs.Patches.{IsPatchList, PatchList, budget_at, no_patch, patch_at, units_at, units_on}
 use Rattle.rp_patch.specs.Units.{ArePatchesOf, HasUnits, SaysWhy, all_chosen, chosen_at, chosen_counts}
-use Rattle.rp_patch.specs.declared.TheConstants.{PATCHES}
+use Rattle.rp_limits.specs.declared.patch.TheConstants.{PATCHES}
 use Rattle.rp_patch.specs.declared.fault.PatchFault.{PatchFault}
 use Rattle.rp_patch.specs.declared.fault.PatchFault.TheVariants.{TooManyPatches, NeedUnit, NoMemory}
 use Rattle.rp_patch.specs.declared.chosen.Chosen.{Chosen}

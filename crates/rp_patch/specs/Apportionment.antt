@@ -4,7 +4,7 @@ use Rattle.std.specs.Prelude.{◌≡◌, ◌⊎◌, ◌<◌, ◌≤◌, ◌+◌,
 use Rattle.std.specs.Prelude.{Option, Some, None, if◌then◌else◌}
 use Prim.Native.Nat.{◌∣◌}
 use Rattle.rp_table.specs.Sums.{sum_below}
-use Rattle.rp_patch.specs.declared.TheConstants.{PLACES, UNITS}
+use Rattle.rp_limits.specs.declared.patch.TheConstants.{PLACES, UNITS}
 use Rattle.rp_patch.specs.declared.fault.ApportionFault.{ApportionFault}
 use Rattle.rp_patch.specs.declared.fault.ApportionFault.TheVariants.{NeedUnit, NoMemory}
 

@@ -3,7 +3,7 @@ use Rattle.std.specs.Prelude.{◌≡◌, ◌≢◌, ◌⊎◌, ◌<◌, ◌≤�
 use Rattle.std.specs.Prelude.{None, MatchOption, length, slice_index, slice_index_or, if◌then◌else◌}
 use Rattle.rp_table.specs.Sums.{sum_below}
 use Rattle.rp_patch.specs.Apportionment.{GroupedCounts, IsLeastCommonMultiple, counts_in}
-use Rattle.rp_patch.specs.declared.TheConstants.{PLACES, UNITS}
+use Rattle.rp_limits.specs.declared.patch.TheConstants.{PLACES, UNITS}
 use Rattle.rp_patch.specs.declared.portion.Portion.{Portion}
 
 abbrev pub portion_at : List Portion → ℕ → Portion

@@ -1,8 +1,8 @@
 -- Patches with their units (after Kitamura and Stoye 2018), as lists.
 use Rattle.std.specs.Prelude.{◌≡◌, ℕ, ◌<◌, ◌≤◌, ◌==◌, ℤ, pos, List, [], length, slice_index_or, Option, if◌then◌else◌}
 use Rattle.rp_table.specs.Sums.{sum_below}
-use Rattle.rp_table.specs.declared.TheConstants.{BUDGETS}
-use Rattle.rp_patch.specs.declared.TheConstants.{PATCHES, UNITS}
+use Rattle.rp_limits.specs.declared.table.TheConstants.{BUDGETS}
+use Rattle.rp_limits.specs.declared.patch.TheConstants.{PATCHES, UNITS}
 use Rattle.rp_patch.specs.declared.patch_list.Patch.{Patch}
 
 -- The patches of so many budgets, the units of each budget, and the unit that was asked for.

@@ -2,7 +2,7 @@
 ghost use Rattle.std.specs.Prelude.{◌≡◌, ◌≤◌, IfErr, IfOk, IfSome, length, slice_index};
 ghost use Rattle.rp_patch.specs.Apportionment.{AreFilled, AreGrouped, HasShares, SaysWhyNoUnits, grouped};
 ghost use Rattle.rp_patch.specs.InnerPortions.{IsSharedTotal};
-ghost use Rattle.rp_patch.specs.declared.TheConstants.{UNITS};
+ghost use Rattle.rp_limits.specs.declared.patch.TheConstants.{UNITS};
 
 use crate::ApportionFault;
 use crate::portion::{all_units, portions_of, round_all_up};

@@ -1,10 +1,10 @@
 //! Cells with their units, which persons of each kind use one of in every group.
 ghost use Rattle.std.specs.Prelude.{◌≡◌, ◌<◌, ◌≤◌};
 ghost use Rattle.rp_patch.specs.Kinds.{Kinds};
-ghost use Rattle.rp_patch.specs.declared.TheConstants.{UNITS};
+ghost use Rattle.rp_limits.specs.declared.patch.TheConstants.{UNITS};
 
 use crate::patch_list::Patches;
-use rp_table::BUDGETS;
+use rp_limits::table::BUDGETS;
 
 /// The cells that kinds of persons use, and their units: what a search and a checker of mixtures ask alike. No call
 /// takes memory.

@@ -6,9 +6,10 @@ ghost use Rattle.rp_patch.specs.Choices.{AreChoicesFrom, random_input_of};
 ghost use Rattle.rp_patch.specs.InnerTallies.{SaysWhyChosen, tallied};
 ghost use Rattle.rp_patch.specs.Units.{all_chosen as chosen_in, chosen_as};
 
+use crate::PatchFault;
 use crate::tally::{all_signs, tally_on};
-use crate::{PATCHES, PatchFault};
 use indexmap::IndexMap;
+use rp_limits::patch::PATCHES;
 use rp_num::{NoMemory, Seq};
 use rp_table::{Budgets, Choices};
 use std::alloc::Global;

@@ -1,3 +1,4 @@
+//! The faults of choices that have no patches or no units.
 ghost use Rattle.std.specs.Prelude.{◌≡◌};
 ghost use Rattle.rp_patch.specs.declared.fault.ApportionFault.TheVariants as no_units;
 ghost use Rattle.rp_patch.specs.declared.fault.PatchFault.TheVariants as fault;

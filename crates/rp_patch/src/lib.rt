@@ -7,7 +7,6 @@ mod cells;
 mod chosen;
 mod fault;
 mod laws;
-mod limits;
 pub mod of_choices;
 pub mod partial_type;
 mod patch_list;
@@ -25,13 +24,5 @@ pub use laws::{
     patches_are_determined, patches_are_numbered_by_first_choice,
     patches_without_units_change_nothing,
 };
-pub use limits::limits_in_numbers;
 pub use patch_list::Patches;
 pub use weights::{weight_of_shares, weight_of_units};
-
-/// The most patches of all budgets together.
-pub const PATCHES: u32 = 48;
-/// The most places that units are shared out among: at least as many as there are patches.
-pub const PLACES: u32 = 64;
-/// The most units of a budget, or of another group, and so the largest total.
-pub const UNITS: u32 = 1_000_000_000;

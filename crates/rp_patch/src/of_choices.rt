@@ -6,7 +6,7 @@ ghost use Rattle.rp_patch.specs.InnerUnited.{AreUnited, SaysWhyNotShared, budget
 ghost use Rattle.rp_patch.specs.InnerUnited.{counts_of, times_of as times_of_all};
 ghost use Rattle.rp_patch.specs.Patches.{IsPatchList};
 ghost use Rattle.rp_patch.specs.Units.{ArePatchesOf, SaysWhy};
-ghost use Rattle.rp_patch.specs.declared.TheConstants.{UNITS};
+ghost use Rattle.rp_limits.specs.declared.patch.TheConstants.{UNITS};
 
 use crate::apportionment::{Units, apportion};
 use crate::chosen::{Chosen, all_chosen};

@@ -7,11 +7,11 @@ ghost use Rattle.rp_patch.specs.PartialTypes.{taken_in};
 ghost use Rattle.rp_patch.specs.Patches.{budget_at, sign_at};
 ghost use Rattle.rp_patch.specs.Sets.{Has};
 ghost use Rattle.rp_patch.specs.Types.{IsRationalType, IsWeakBy};
-ghost use Rattle.rp_table.specs.declared.TheConstants.{BUDGETS};
+ghost use Rattle.rp_limits.specs.declared.table.TheConstants.{BUDGETS};
 
 use crate::Patches;
 use crate::sets::{meet, union, with};
-use rp_table::BUDGETS;
+use rp_limits::table::BUDGETS;
 
 /// A patch of each of the first budgets. For each of these `reached` is a set of budgets, a bit for each: those that
 /// walks of weak steps lead to from it, itself among them.

@@ -1,9 +1,10 @@
+//! The patches of choices from budgets, as a list.
 ghost use Rattle.std.specs.Prelude.{◌≡◌, ◌<◌, ◌≤◌, length};
 ghost use Rattle.rp_patch.specs.Patches.{IsPatchList, budget_at, sign_at, units_at};
 
-use crate::PATCHES;
+use rp_limits::patch::PATCHES;
+use rp_limits::table::BUDGETS;
 use rp_num::Seq;
-use rp_table::BUDGETS;
 use std::marker::Model;
 
 /// A budget, with the signs that say on which side of each budget the bundles of the patch lie, and how many of the

@@ -10,7 +10,7 @@ ghost use Rattle.rp_patch.specs.InnerPortions.{rounded_up_on, portion_units};
 ghost use Rattle.rp_patch.specs.InnerPortions.{whole_on as whole_of_group};
 
 use crate::totals::sum_of;
-use crate::{PLACES, UNITS};
+use rp_limits::patch::{PLACES, UNITS};
 use rp_num::NoMemory;
 use std::alloc::Global;
 

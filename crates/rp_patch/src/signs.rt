@@ -4,8 +4,9 @@ ghost use Rattle.rp_patch.specs.Choices.{AreChoicesFrom, random_input_of};
 ghost use Rattle.rp_patch.specs.Signs.{cost_on as cost_of_choice, sign_to as sign_of_choice};
 ghost use Rattle.rp_patch.specs.Signs.{signs_of as signs_of_choice};
 
+use rp_limits::table::GOODS;
 use rp_num::NoMemory;
-use rp_table::{Budgets, Choices, GOODS, cost_of_bundle};
+use rp_table::{Budgets, Choices, cost_of_bundle};
 use std::alloc::Global;
 use std::cmp::Ordering;
 

@@ -9,8 +9,9 @@ ghost use Rattle.rp_patch.specs.Units.{counted};
 
 use crate::signs::signs_of;
 use indexmap::IndexMap;
+use rp_limits::table::{CHOICES, LARGEST};
 use rp_num::{NoMemory, Seq};
-use rp_table::{Budgets, CHOICES, Choices, LARGEST};
+use rp_table::{Budgets, Choices};
 use std::alloc::Global;
 
 /// The signs of every choice.

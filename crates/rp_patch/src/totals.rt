@@ -4,7 +4,7 @@ ghost use Rattle.rp_patch.specs.Apportionment.{AreGrouped, IsLeastCommonMultiple
 ghost use Rattle.rp_patch.specs.Apportionment.{counts_in, grouped, groups_in};
 ghost use Rattle.rp_patch.specs.InnerMultiples.{IsCommon};
 
-use crate::UNITS;
+use rp_limits::patch::UNITS;
 use rp_num::gcd;
 
 /// How many groups there are.

@@ -49,9 +49,6 @@ module _ (z w : ℤ) (p q r s : ℕ) (a : IsDifference z p q) (b : IsDifference 
   pub below_by : p + s < r + q → z <ℤ w
   below_by l = omega (arith, ints)
 
-  pub below_parts : z <ℤ w → p + s < r + q
-  below_parts l = omega (arith, ints)
-
   pub equal_by : p + s ≡ r + q → z ≡ w
   equal_by e = omega (arith, ints)
 

@@ -1,3 +1,4 @@
+//! Laws of what people demand at new prices, and of what it is worth to them.
 ghost use Rattle.std.specs.Prelude.{◌↔◌, ◌<◌, ◌≤◌, ℕ};
 ghost use Rattle.rp_evidence.specs.Demand.{BudgetInput, FractionBundle, IsInfimum};
 ghost use Rattle.rp_evidence.specs.Demand.{IsSupportingDemand, IsSupremum};

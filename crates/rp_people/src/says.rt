@@ -1,3 +1,4 @@
+//! Laws: what an item that is proved says of people.
 ghost use Rattle.std.specs.Prelude.{All, List};
 ghost use Rattle.rp_evidence.specs.Input.{TableInput};
 ghost use Rattle.rp_evidence.specs.Proves.{Proves};

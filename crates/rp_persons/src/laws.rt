@@ -1,3 +1,4 @@
+//! Laws of persons who choose from budgets, and of their mixtures.
 ghost use Rattle.std.specs.Prelude.{◌≡◌, ◌*◌, ◌↔◌, All, List, ℕ, Option};
 ghost use Rattle.rp_evidence.specs.declared.certificate.Item.{Item};
 ghost use Rattle.rp_evidence.specs.declared.random.RandomPart.{RandomPart};

@@ -6,7 +6,7 @@ use Rattle.rp_num.specs.Below.{rows_below}
 use Rattle.rp_table.specs.Cost.{cost_of}
 use Rattle.rp_table.specs.Sums.{sum_below}
 use Rattle.rp_table.specs.Tables.{Observations, goods_of, records_of, price_of}
-use Rattle.rp_table.specs.declared.TheConstants.{LARGEST}
+use Rattle.rp_limits.specs.declared.table.TheConstants.{LARGEST}
 use Rattle.rp_power.specs.DrawnNumbers.{drawn_numbers, not_all_zero}
 
 -- the share of what was spent at observation t that goes to each good, by a list of words, one for each observation and

@@ -1,14 +1,16 @@
+//! The table that a random behaviour gives.
 ghost use Rattle.std.specs.Prelude.{◌≡◌, ◌*◌, ◌<◌, ◌≤◌, ◌^◌, [], IfOk, OnOk, length};
 ghost use Rattle.rp_num.specs.Below.{listed, rows_below};
 ghost use Rattle.rp_power.specs.DrawnTable.{affordable, drawn_quantity, drawn_table};
 ghost use Rattle.rp_power.specs.PowerCount.{words_of};
 ghost use Rattle.rp_table.specs.Cost.{IsCostsOf};
 ghost use Rattle.rp_table.specs.Tables.{goods_of, records_of};
-ghost use Rattle.rp_table.specs.declared.TheConstants.{GOODS, LARGEST};
+ghost use Rattle.rp_limits.specs.declared.table.TheConstants.{GOODS, LARGEST};
 
 use crate::shares::{draw_shares, leave_not_all_zero, total};
+use rp_limits::table::LARGEST;
 use rp_num::NoMemory;
-use rp_table::{Costs, LARGEST, Name, Table};
+use rp_table::{Costs, Name, Table};
 use std::alloc::Global;
 
 /// The table of the behaviour that the words draw, one word for each observation and then good. Names, prices and

@@ -1,3 +1,4 @@
+//! How many random behaviours fail the axiom.
 ghost use Rattle.std.specs.Prelude.{◌≡◌, ◌↔◌, ◌*◌, [], IfOk, IsTrue, OnOk, length};
 ghost use Rattle.rp_power.specs.Words.{after_words, word_after};
 ghost use Rattle.rp_evidence.specs.Preference.{IsStrict, IsWeak};

@@ -1,3 +1,4 @@
+//! The report on the power of the test.
 ghost use Rattle.std.specs.Prelude.{◌≡◌, ◌++◌, IfOk, OnOk};
 ghost use Rattle.rp_power.specs.PowerText.{power_line, power_report};
 

@@ -1,3 +1,4 @@
+//! The shares of expenditure that words draw.
 ghost use Rattle.std.specs.Prelude.{◌≡◌, ◌+◌, ◌*◌, ◌<◌, ◌≤◌, All, OnOk, length, slice_index};
 ghost use Rattle.rp_num.specs.Below.{listed};
 ghost use Rattle.rp_power.specs.DrawnTable.{budget_share_of};
@@ -5,7 +6,7 @@ ghost use Rattle.rp_power.specs.PowerCount.{words_of};
 ghost use Rattle.rp_power.specs.DrawnNumbers.{not_all_zero};
 ghost use Rattle.rp_table.specs.Sums.{sum_below};
 ghost use Rattle.rp_table.specs.Tables.{goods_of, records_of};
-ghost use Rattle.rp_table.specs.declared.TheConstants.{GOODS, LARGEST};
+ghost use Rattle.rp_limits.specs.declared.table.TheConstants.{GOODS, LARGEST};
 
 use rp_num::NoMemory;
 use rp_table::Table;

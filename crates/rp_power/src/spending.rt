@@ -1,3 +1,4 @@
+//! The preference that a random behaviour reveals.
 ghost use Rattle.std.specs.Prelude.{◌≡◌, ◌++◌, ◌+◌, ◌*◌, ◌<◌, ◌≤◌, ℕ, All, OnOk, length, slice_index};
 ghost use Rattle.rp_evidence.specs.Preference.{IsStrict, IsWeak};
 ghost use Rattle.rp_num.specs.Below.{listed, rows_below};
@@ -5,7 +6,7 @@ ghost use Rattle.rp_power.specs.PowerCount.{words_of};
 ghost use Rattle.rp_power.specs.InnerSpent.{cost_among, cost_in};
 ghost use Rattle.rp_table.specs.Limits.{IsQuantity};
 ghost use Rattle.rp_table.specs.Tables.{records_of};
-ghost use Rattle.rp_table.specs.declared.TheConstants.{RECORDS};
+ghost use Rattle.rp_limits.specs.declared.table.TheConstants.{RECORDS};
 
 use rp_num::NoMemory;
 use rp_pref::Revealed;

@@ -1,3 +1,4 @@
+//! The generator of a seed and its words.
 ghost use Rattle.std.specs.Prelude.{◌≡◌};
 ghost use Rattle.rp_power.specs.Words.{after_words, generator_of, word_after};
 

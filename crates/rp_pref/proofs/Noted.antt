@@ -3,7 +3,7 @@ use Rattle.std.proofs.Common.{◌≡◌, ◌≢◌, ℕ, ◌+◌, ◌*◌, ◌-�
 use mir.Val.{bool_byte}
 use Rattle.std.specs.Int.{bit_at}
 use Rattle.std.specs.List.{range_with_len}
-use Rattle.std.proofs.lemmas.Bool.{both_ways, cases_eq, cases_lt, false_from_ne_true}
+use Rattle.std.proofs.lemmas.Bool.{cases_eq, cases_lt, false_from_ne_true}
 use Rattle.std.proofs.lemmas.Nat.Bits.{bit_at-zero, bit_at-pow_same, bit_at-pow_other}
 use Rattle.std.proofs.lemmas.List.{length-replicate}
 use Rattle.rp_evidence.specs.Walk.{Reaches}
@@ -43,12 +43,6 @@ other_bit : (b : Bool) (j i : ℕ) → i ≢ j → eqb (bit_at (cond b (2 ^ j) 0
 other_bit true j i apart = ap (λ v. eqb v 1) (bit_at-pow_other j i apart)
 other_bit false j i apart = ap (λ v. eqb v 1) (bit_at-zero i)
 
-pub word_begun : (place : ℕ) (step : ℕ → Type 0) → IsWordOf place (place * 64) step 0
-word_begun place step t same = (
-  λ h. absurd (both_ways (bit_of 0 t) (no_bit t) h),
-  λ h. absurd (let l = h.0 in omega (arith, same, l)),
-)
-
 pub word_noted : (place end word byte : ℕ) (is_step : Bool) (step : ℕ → Type 0) → end / 64 ≡ place → IsWordOf place end step word → IsTrue is_step ↔ step end → byte ≡ bool_byte is_step
     → IsWordOf place (end + 1) step (bit_or word (byte * 2 ^ (end % 64) % 18446744073709551616))
 word_noted place end word byte is_step step here so_far tested of_step t same =
@@ -77,26 +71,6 @@ pub record HasNoted (old now : Rows ℕ) (s words n : ℕ) (step : ℕ → Type 
   pub cols : now.cols ≡ old.cols
   pub row : (t : ℕ) → IsTrue (has_bit now s t) ↔ ((t < words * 64) × (t < n) × step t)
   pub others : (a t : ℕ) → (a ≡ s → ⊥) → has_bit now a t ≡ has_bit old a t
-
-pub row_noted : (old now new : Rows ℕ) (s place n word : ℕ) (step : ℕ → Type 0) → HasNoted old now s place n step → IsWordOf place n step word
-    → length new.rows ≡ length now.rows → new.cols ≡ now.cols
-    → ((t : ℕ) → t / 64 ≡ place → has_bit new s t ≡ bit_of word t) → ((t : ℕ) → t / 64 ≢ place → has_bit new s t ≡ has_bit now s t)
-    → ((a t : ℕ) → a ≢ s → has_bit new a t ≡ has_bit now a t) → HasNoted old new s (place + 1) n step
-row_noted old now new s place n word step so_far is count cols written kept others = record {
-  count = count ∙ so_far.count;
-  cols = cols ∙ so_far.cols;
-  row = λ t. elim (cases_eq (t / 64) place) [
-    | inl e ↦ (
-      λ h. let p = (is t e).0 (sym (written t e) ∙ h) in (omega (arith, e), p.0, p.1),
-      λ p. written t e ∙ (is t e).1 (p.1, p.2),
-    )
-    | inr apart ↦ (
-      λ h. let p = (so_far.row t).0 (sym (kept t apart) ∙ h) in let l = p.0 in (omega (arith, l), p.1, p.2),
-      λ p. let l = p.0 in kept t apart ∙ (so_far.row t).1 (elim (cases_lt t (place * 64)) [ inl less ↦ less | inr more ↦ absurd (apart (omega (arith, l, more))) ], p.1, p.2),
-    )
-  ];
-  others = λ a t apart. others a t apart ∙ so_far.others a t apart;
-}
 
 -- ---- all rows of steps
 

@@ -1,3 +1,4 @@
+//! The closure of steps over rows of bits.
 ghost use Rattle.std.specs.Prelude.{◌≡◌, ◌≢◌, ◌<◌, ◌≤◌, ◌*◌, ◌↔◌, ℕ, false, IsTrue, IfOk};
 ghost use Rattle.std.specs.Prelude.{length};
 ghost use Rattle.rp_evidence.specs.Count.{IsCount};

@@ -1,7 +1,8 @@
+//! Revealed preference, as a trait and by levels.
 ghost use Rattle.std.specs.Prelude.{◌≡◌, ◌<◌, ◌≤◌, ◌↔◌, ℕ, IsTrue};
 ghost use Rattle.rp_evidence.specs.Preference.{IsLevel};
 ghost use Rattle.rp_pref.specs.Steps.{StepOf};
-ghost use Rattle.rp_table.specs.declared.TheConstants.{RECORDS};
+ghost use Rattle.rp_limits.specs.declared.table.TheConstants.{RECORDS};
 
 use crate::steps::{Steps, own_strict, own_weak, strict, weak};
 use rp_evidence::Level;

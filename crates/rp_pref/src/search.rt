@@ -1,6 +1,7 @@
+//! A search by breadth for the least numbers of steps.
 ghost use Rattle.std.specs.Prelude.{◌≡◌, ◌<◌, ◌≤◌, ◌+◌, ◌*◌, IfOk, false};
 ghost use Rattle.std.specs.Prelude.{length, slice_index};
-ghost use Rattle.rp_table.specs.declared.TheConstants.{RECORDS};
+ghost use Rattle.rp_limits.specs.declared.table.TheConstants.{RECORDS};
 ghost use Rattle.rp_pref.specs.InnerSearch.{AddsDepth, AreDepths, AreFirst, AreLeastDepths};
 ghost use Rattle.rp_pref.specs.InnerSearch.{AreLookedFrom, FindsMore, GoesTo, IsLookedFrom};
 

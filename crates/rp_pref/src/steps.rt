@@ -1,3 +1,4 @@
+//! Single steps, weak and strict.
 ghost use Rattle.std.specs.Prelude.{◌≡◌, ◌<◌, ◌*◌, ◌↔◌, IsTrue};
 ghost use Rattle.rp_evidence.specs.Preference.{IsLevel, IsStrictAt, IsWeakAt};
 ghost use Rattle.rp_table.specs.Cost.{cost_at};

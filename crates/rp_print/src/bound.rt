@@ -1,3 +1,4 @@
+//! The lines of bounds with their pairs.
 ghost use Rattle.std.specs.Prelude.{◌≡◌, ◌++◌, OnOk};
 ghost use Rattle.rp_print.specs.BoundText.{bound_text, bounds_text, entry_text, pair_line};
 ghost use Rattle.rp_print.specs.BoundText.{pair_text};

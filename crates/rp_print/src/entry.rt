@@ -1,3 +1,4 @@
+//! How one kind of entry is printed.
 ghost use Rattle.std.specs.Prelude.{◌≡◌, ◌++◌, ℕ, List, OnOk};
 ghost use Rattle.std.specs.Fmt.{decimal, signed_decimal};
 ghost use Rattle.rp_num.specs.Fraction.{fraction_text};

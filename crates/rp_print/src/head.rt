@@ -1,3 +1,4 @@
+//! The line on a table.
 ghost use Rattle.std.specs.Prelude.{◌≡◌, ◌++◌, OnOk};
 ghost use Rattle.rp_print.specs.HeadText.{head_text};
 

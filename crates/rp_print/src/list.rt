@@ -1,3 +1,4 @@
+//! Lines that list entries.
 ghost use Rattle.std.specs.Prelude.{◌≡◌, ◌++◌, OnOk, codes};
 ghost use Rattle.std.specs.List.{flat_map};
 ghost use Rattle.rp_print.specs.ListText.{fractions_text, line_of, list_text, numbers_text};

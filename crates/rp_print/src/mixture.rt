@@ -1,3 +1,4 @@
+//! The lines of mixtures and of weights that show there is none.
 ghost use Rattle.std.specs.Prelude.{◌≡◌, ◌++◌, OnOk, codes};
 ghost use Rattle.rp_num.specs.Fraction.{fraction_text};
 ghost use Rattle.rp_print.specs.ListText.{line_of};

@@ -1,3 +1,4 @@
+//! Quotients in lowest terms.
 ghost use Rattle.std.specs.Prelude.{◌≡◌, ◌≤◌};
 ghost use Rattle.rp_num.specs.Fraction.{FitsTerm};
 ghost use Rattle.rp_print.specs.LowestTerms.{lowest_terms};

@@ -1,3 +1,4 @@
+//! Laws of producers: what the axioms and the bounds say of requirement sets.
 ghost use Rattle.std.specs.Prelude.{◌↔◌, ◌*◌, ◌≤◌, Bool, IsTrue, ℕ};
 ghost use Rattle.rp_evidence.specs.Demand.{FractionBundle, spending};
 ghost use Rattle.rp_evidence.specs.Input.{TableInput};

@@ -12,7 +12,7 @@ use Rattle.rp_farkas.specs.Limits.{IsWithinLimits, largest_entry}
 use Rattle.rp_table.specs.Limits.{IsExpenditure}
 use Rattle.rp_table.specs.NewPrices.{AreNewPrices}
 use Rattle.rp_table.specs.Tables.{IsTable, Observations, goods_of, price_of, records_of}
-use Rattle.rp_table.specs.declared.TheConstants.{RECORDS}
+use Rattle.rp_limits.specs.declared.table.TheConstants.{RECORDS}
 use Rattle.rp_programs.proofs.Spent.{spent_small}
 use Rattle.rp_programs.specs.InnerRightSide.{right_side}
 use Rattle.rp_programs.specs.declared.demand.Extreme.{Extreme}

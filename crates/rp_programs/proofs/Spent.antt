@@ -7,7 +7,7 @@ use Rattle.rp_table.specs.Cost.{cost_of}
 use Rattle.rp_table.specs.Spending.{spending}
 use Rattle.rp_table.specs.Sums.{sum_below}
 use Rattle.rp_table.specs.Tables.{IsTable, Observations, goods_of, price_of, quantity_of, records_of}
-use Rattle.rp_table.specs.declared.TheConstants.{LARGEST}
+use Rattle.rp_limits.specs.declared.table.TheConstants.{LARGEST}
 use Rattle.rp_table.proofs.SumsBelow.{sum_below-mono}
 
 pub sum_at_most : (k m : ℕ) (f : ℕ → ℕ) → ((i : ℕ) → i < k → f i ≤ m) → sum_below k f ≤ k * m

@@ -1,3 +1,4 @@
+//! The programs of a good on a new budget.
 ghost use Rattle.std.specs.Prelude.{◌≡◌, ◌<◌, ◌≤◌, All, length};
 ghost use Rattle.rp_evidence.specs.DemandEvidence.{budget_of};
 ghost use Rattle.rp_evidence.specs.DemandPrograms.{demand_program, lower_program, upper_program};
@@ -5,7 +6,7 @@ ghost use Rattle.rp_evidence.specs.Input.{input_of_table};
 ghost use Rattle.rp_farkas.specs.Limits.{IsWithinLimits};
 ghost use Rattle.rp_programs.specs.InnerRightSide.{right_side};
 ghost use Rattle.rp_table.specs.Tables.{goods_of, records_of};
-ghost use Rattle.rp_table.specs.declared.TheConstants.{RECORDS};
+ghost use Rattle.rp_limits.specs.declared.table.TheConstants.{RECORDS};
 
 use rp_farkas::Lp;
 use rp_table::NewBudget;

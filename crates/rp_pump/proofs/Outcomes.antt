@@ -13,7 +13,7 @@ use Rattle.rp_pump.proofs.Totals.{IsSmall, added_small, bound, never_wide}
 use Rattle.rp_pump.proofs.Values.{least_pump_total, step_bounds, value_limits}
 use Rattle.rp_table.specs.Cost.{CostTable, IsCostTable, cost_at}
 use Rattle.rp_table.proofs.CostLimits.{cost_below}
-use Rattle.rp_table.specs.declared.TheConstants.{RECORDS}
+use Rattle.rp_limits.specs.declared.table.TheConstants.{RECORDS}
 
 few_steps : (n : ℕ) → n ≤ RECORDS → n * bound < 2 ^ 121
 few_steps n few =

@@ -1,3 +1,4 @@
+//! The best closed walk so far, with its ratio.
 ghost use Rattle.std.specs.Prelude.{◌≡◌, ◌∷◌, [], IfOk};
 ghost use Rattle.rp_pump.specs.InnerBest.{IsBest};
 ghost use Rattle.rp_pump.specs.PumpEvidence.{IsWeakCycle};

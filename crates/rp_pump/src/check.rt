@@ -1,3 +1,4 @@
+//! The check of evidence on the money pump.
 ghost use Rattle.std.specs.Prelude.{◌≡◌, ◌↔◌, ◌+◌, ◌*◌, ◌<◌, ◌+ℤ◌, ◌≤ℤ◌, ℕ};
 ghost use Rattle.std.specs.Prelude.{[], IsTrue, length};
 ghost use Rattle.rp_evidence.specs.Efficiency.{FailsGarp};
@@ -11,7 +12,8 @@ ghost use Rattle.rp_table.specs.Cost.{cost_at};
 use crate::part::PumpPart;
 use crate::step::{excess, is_weak};
 use crate::sums::gained_and_spent;
-use rp_table::{Costs, RECORDS};
+use rp_limits::table::RECORDS;
+use rp_table::Costs;
 
 /// The greatest part of a ratio.
 const RATIO_WIDTH: u64 = 1 << 60;

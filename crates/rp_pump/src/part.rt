@@ -1,3 +1,4 @@
+//! The evidence on the money pump.
 use rp_num::Seq;
 
 /// The greatest money pump ratio `num/den`, a closed walk of weak steps that has it, as the observations that it goes

@@ -1,3 +1,4 @@
+//! The report on the money pump.
 ghost use Rattle.std.specs.Prelude.{◌≡◌, ◌≤◌, IfOk};
 ghost use Rattle.rp_pump.specs.Report.{pump_report};
 

@@ -1,3 +1,4 @@
+//! The search for the greatest money pump ratio.
 ghost use Rattle.std.specs.Prelude.{◌≡◌, ◌↔◌, ◌<◌, ◌∷◌, [], IfOk};
 ghost use Rattle.rp_evidence.specs.Efficiency.{FailsGarp};
 ghost use Rattle.rp_num.specs.Fraction.{IsCoprime};
@@ -8,8 +9,9 @@ ghost use Rattle.rp_table.specs.Cost.{cost_at};
 use crate::best::Best;
 use crate::part::PumpPart;
 use crate::total::PumpTotal;
+use rp_limits::table::RECORDS;
 use rp_num::NoMemory;
-use rp_table::{Costs, RECORDS};
+use rp_table::Costs;
 use rp_walk::{Settled, settle};
 use std::alloc::Global;
 

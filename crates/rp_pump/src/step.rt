@@ -1,3 +1,4 @@
+//! Steps of walks, and what each gives away.
 ghost use Rattle.std.specs.Prelude.{◌≡◌, ◌*◌, ◌↔◌, ◌<◌, ◌≤◌, ◌^◌, ◌-ℤ◌, IsTrue, pos};
 ghost use Rattle.std.specs.Int.RustNames.{unsigned_abs};
 ghost use Rattle.rp_evidence.specs.Preference.{IsWeak};

@@ -1,11 +1,13 @@
+//! What a closed walk gains, and what is spent on it.
 ghost use Rattle.std.specs.Prelude.{◌≡◌, ◌+◌, ◌*◌, ◌<◌, ◌≤◌, ◌^◌, length};
 ghost use Rattle.rp_pump.specs.InnerWalks.{AreObserved, walk_swapped};
 ghost use Rattle.rp_pump.specs.MoneyPump.{walk_spent};
 ghost use Rattle.rp_pump.specs.PumpEvidence.{IsWeakCycle};
 ghost use Rattle.rp_table.specs.Cost.{cost_at};
-ghost use Rattle.rp_table.specs.declared.TheConstants.{RECORDS};
+ghost use Rattle.rp_limits.specs.declared.table.TheConstants.{RECORDS};
 
-use rp_table::{Costs, RECORDS};
+use rp_limits::table::RECORDS;
+use rp_table::Costs;
 
 /// What a closed walk of weak steps gains, and what was spent where its steps begin.
 pub(crate) fn gained_and_spent(costs: &Costs, walk: &[u32]) -> (u64, u64)

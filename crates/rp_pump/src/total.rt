@@ -1,3 +1,4 @@
+//! What walks give away at a ratio, as a kind of total.
 ghost use Rattle.std.specs.Prelude.{◌≡◌, ◌↔◌, ◌<◌, ◌≤◌, ◌^◌, ◌+ℤ◌, ◌<ℤ◌, IsTrue, pos};
 ghost use Rattle.std.specs.Int.RustNames.{unsigned_abs};
 ghost use Rattle.rp_pump.specs.InnerTotal.{added};

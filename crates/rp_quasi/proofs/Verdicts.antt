@@ -16,7 +16,7 @@ use Rattle.rp_walk.proofs.SumWalks.{least_sum_limits, negative_from, never_wide,
 use Rattle.rp_evidence.specs.Walk.{AnyStep, IsWalk}
 use Rattle.rp_evidence.specs.Quasilinear.{step_sum, sum_from, walk_sum, IsNegativeCycle, MeetsQuasilinearTest, IsLeastSum, BoundSteps}
 use Rattle.rp_quasi.specs.QuasilinearVerdict.{GivesNegativeCycle, IsLimitedSum}
-use Rattle.rp_table.specs.declared.TheConstants.{RECORDS}
+use Rattle.rp_limits.specs.declared.table.TheConstants.{RECORDS}
 
 -- the sum of what the steps of a walk add, in the two ways of writing it
 along_is : (c : ℕ → ℕ → ℕ) (t : ℕ) (rest : List ℕ) → added_along (step_sum c) t rest ≡ sum_from c t rest

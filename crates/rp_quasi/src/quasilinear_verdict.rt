@@ -1,3 +1,4 @@
+//! The quasilinear test.
 ghost use Rattle.std.specs.Prelude.{IfOk};
 ghost use Rattle.rp_evidence.specs.Quasilinear.{ProvesQuasilinear};
 ghost use Rattle.rp_people.specs.Says.{SaysQuasilinear};
@@ -7,8 +8,9 @@ ghost use Rattle.rp_table.specs.Cost.{cost_at};
 
 use crate::sums::Sums;
 use rp_evidence::Quasi;
+use rp_limits::table::RECORDS;
 use rp_num::NoMemory;
-use rp_table::{Costs, RECORDS};
+use rp_table::Costs;
 use rp_walk::{Settled, settle};
 use std::alloc::Global;
 

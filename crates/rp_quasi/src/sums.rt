@@ -1,3 +1,4 @@
+//! Sums over the steps of walks as a kind of total.
 ghost use Rattle.std.specs.Prelude.{◌≡◌, ◌<◌, ◌^◌, ◌<ℤ◌, neg_ℤ, pos};
 ghost use Rattle.rp_evidence.specs.Quasilinear.{step_sum};
 ghost use Rattle.rp_table.specs.Cost.{cost_at};

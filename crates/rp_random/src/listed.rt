@@ -3,11 +3,11 @@ ghost use Rattle.std.specs.Prelude.{◌≡◌, ◌≤◌, length};
 ghost use Rattle.rp_farkas.specs.Limits.{IsWithinLimits};
 ghost use Rattle.rp_patch.specs.Mixtures.{random_program};
 ghost use Rattle.rp_types.specs.Listed.{types_of};
-ghost use Rattle.rp_types.specs.declared.TheConstants.{TYPES};
+ghost use Rattle.rp_limits.specs.declared.types.TheConstants.{TYPES};
 
 use rp_find_mixture::Listed;
+use rp_limits::table::BUDGETS;
 use rp_patch::{CellUnits, Patches};
-use rp_table::BUDGETS;
 use rp_types::Rational;
 
 /// Rational types on patches, in a list.

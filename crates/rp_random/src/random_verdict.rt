@@ -1,3 +1,4 @@
+//! A mixture of rational types, or weights that show there is none.
 ghost use Rattle.std.specs.Prelude.{◌≤◌, ◌↔◌, ℕ, IfOk, length};
 ghost use Rattle.rp_patch.specs.Added.{AddsPatches};
 ghost use Rattle.rp_patch.specs.Mixtures.{HasMixture, IsGreatestShare};
@@ -7,7 +8,7 @@ ghost use Rattle.rp_patch.specs.Types.{AreRationalTypes};
 ghost use Rattle.rp_persons.specs.SaysRandom.{SaysOfChoices};
 ghost use Rattle.rp_random.specs.RandomVerdict.{IsRandomVerdict};
 ghost use Rattle.rp_types.specs.Listed.{types_of};
-ghost use Rattle.rp_types.specs.declared.TheConstants.{TYPES};
+ghost use Rattle.rp_limits.specs.declared.types.TheConstants.{TYPES};
 
 use crate::listed::ListedTypes;
 use rp_evidence::RandomPart;

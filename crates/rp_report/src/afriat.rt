@@ -1,3 +1,4 @@
+//! The lines of evidence by Afriat's theorem.
 ghost use Rattle.std.specs.Prelude.{◌≡◌, ◌++◌, OnOk, codes};
 ghost use Rattle.rp_report.specs.AfriatText.{afriat_text};
 ghost use Rattle.rp_print.specs.ListText.{line_of, numbers_text, ordinal_text, sums_text};

@@ -1,3 +1,4 @@
+//! The lines of demand at new prices.
 ghost use Rattle.std.specs.Prelude.{◌≡◌, ◌+◌, ◌++◌, OnOk, codes};
 ghost use Rattle.std.specs.Fmt.{decimal};
 ghost use Rattle.rp_print.specs.BoundText.{bound_text};

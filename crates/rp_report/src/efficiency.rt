@@ -1,3 +1,4 @@
+//! The lines of an efficiency index.
 ghost use Rattle.std.specs.Prelude.{◌≡◌, ◌++◌, OnOk};
 ghost use Rattle.rp_report.specs.EfficiencyText.{above_text, at_text, attained_text};
 ghost use Rattle.rp_report.specs.EfficiencyText.{efficiency_text, index_text, level_text};

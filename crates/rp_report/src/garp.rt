@@ -1,3 +1,4 @@
+//! The lines of a verdict on the generalized axiom.
 ghost use Rattle.std.specs.Prelude.{◌≡◌, ◌++◌, OnOk};
 ghost use Rattle.rp_report.specs.GarpText.{garp_text};
 

@@ -1,3 +1,4 @@
+//! The lines of a verdict of the homothetic test.
 ghost use Rattle.std.specs.Prelude.{◌≡◌, ◌++◌, OnOk, codes};
 ghost use Rattle.std.specs.Fmt.{decimal};
 ghost use Rattle.rp_num.specs.Fraction.{fraction_text};

@@ -1,3 +1,4 @@
+//! The report of a certificate on random choices.
 ghost use Rattle.std.specs.Prelude.{◌≡◌, ◌++◌, All, IfOk, Ok, OnOk};
 ghost use Rattle.std.specs.List.{flat_map};
 ghost use Rattle.rp_evidence.specs.Kinds.{IsCertificateOf, IsOfKind};

@@ -1,3 +1,4 @@
+//! The lines of a verdict of the quasilinear test.
 ghost use Rattle.std.specs.Prelude.{◌≡◌, ◌++◌, OnOk};
 ghost use Rattle.rp_report.specs.QuasilinearText.{quasilinear_text};
 

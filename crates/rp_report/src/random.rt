@@ -1,3 +1,4 @@
+//! The lines of evidence on random choices.
 ghost use Rattle.std.specs.Prelude.{◌≡◌, ◌≤◌, ◌++◌, Ok, OnOk, length};
 ghost use Rattle.rp_farkas.specs.Limits.{FitsEvidence};
 ghost use Rattle.rp_patch.specs.RandomFailure.{RandomPartFails};

@@ -1,3 +1,4 @@
+//! The report of a certificate on a table.
 ghost use Rattle.std.specs.Prelude.{◌≡◌, ◌++◌, IfOk, OnOk};
 ghost use Rattle.rp_evidence.specs.Kinds.{IsCertificateOf, IsOfKind};
 ghost use Rattle.rp_report.specs.ReportText.{item_text, levels_text, report_text, table_text};

@@ -1,3 +1,4 @@
+//! The lines of the bounds on the money metric.
 ghost use Rattle.std.specs.Prelude.{◌≡◌, ◌++◌, OnOk};
 ghost use Rattle.rp_report.specs.WelfareText.{welfare_head, welfare_text};
 

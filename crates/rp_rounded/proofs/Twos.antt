@@ -1,9 +1,9 @@
 -- Numbers and powers of two: one digit more, one factor less, and what stays of a rounded product.
-use Rattle.std.proofs.Common.{◌≡◌, ℕ, ◌+◌, ◌-◌, ◌*◌, ◌/◌, ◌%◌, ◌^◌, ◌<◌, ◌≤◌, zero, suc, add-one, arith, ap, subst, sym, ◌∙◌, inr, Option, Some, None, IfSome}
+use Rattle.std.proofs.Common.{◌≡◌, ℕ, ◌+◌, ◌-◌, ◌*◌, ◌/◌, ◌%◌, ◌^◌, ◌<◌, ◌≤◌, zero, suc, add-one, arith, ap, subst, sym, ◌∙◌, Option, Some, None, IfSome}
 use Rattle.std.proofs.Math.Nat.{mul-le-mul_right, mul-lt-mul_of_pos_right, pow-suc}
 use Rattle.std.proofs.lemmas.Nat.{pow-add, pow_pos}
 use Rattle.rp_num.specs.Fraction.{Fraction, IsLowestTerms}
-use Rattle.rp_rounded.specs.Rounded.{IsKeptOrRounded, IsLeading, IsRoundedDown}
+use Rattle.rp_rounded.specs.Rounded.{IsLeading, IsRoundedDown}
 
 pub next_power : (k : ℕ) → 2 ^ (k + 1) ≡ 2 ^ k * 2
 next_power k = rw add-one (pow-suc 2 k)
@@ -82,7 +82,3 @@ digits_of_product v_num v_den across own num part twos by lead k en e eb h =
 pub rounded_found : (n d lead places : ℕ) (found : Option Fraction) → IsLeading n d lead places → IfSome found (IsLowestTerms lead (2 ^ places)) → IfSome found (IsRoundedDown n d)
 rounded_found n d lead places (Some f) h lowest = record { lead = lead; places = places; leading = h; lowest = lowest }
 rounded_found n d lead places None h lowest = tt
-
-pub or_rounded : (n d : ℕ) (found : Option Fraction) → IfSome found (IsRoundedDown n d) → IfSome found (IsKeptOrRounded n d)
-or_rounded n d (Some f) h = inr h
-or_rounded n d None h = tt

@@ -1,3 +1,4 @@
+//! Homothetic evidence by rounded products, where the checker takes it.
 ghost use Rattle.std.specs.Prelude.{◌≡◌, IfOk, IfSome, vec_len};
 ghost use Rattle.rp_clauses.specs.HomotheticFailure.{HomotheticFails};
 ghost use Rattle.rp_evidence.specs.Homothetic.{ProvesHomothetic, withheld_homothetic};

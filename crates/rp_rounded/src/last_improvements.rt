@@ -1,3 +1,4 @@
+//! The walk that made a product less last, followed back.
 use crate::rounds::Best;
 use rp_clauses::input::Input;
 use rp_num::{Frac, NoMemory};

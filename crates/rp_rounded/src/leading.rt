@@ -1,3 +1,4 @@
+//! The first binary digits of a quotient.
 ghost use Rattle.std.specs.Prelude.{◌≡◌, ◌+◌, ◌*◌, ◌^◌, ◌<◌, ◌≤◌, IfSome};
 ghost use Rattle.rp_rounded.specs.Rounded.{IsLeading};
 

@@ -1,3 +1,4 @@
+//! Products that are rounded down.
 ghost use Rattle.std.specs.Prelude.{◌≡◌, ◌*◌, ◌^◌, ◌<◌, ◌≤◌, IfSome, IsTrue};
 ghost use Rattle.rp_num.specs.Fraction.{FitsTerm};
 ghost use Rattle.rp_rounded.specs.Rounded.{IsKeptOrRounded, IsRoundedDown};

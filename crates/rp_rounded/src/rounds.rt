@@ -1,3 +1,4 @@
+//! Least rounded products, round by round.
 ghost use Rattle.std.specs.Prelude.{◌≡◌, ◌^◌, ◌<◌, ◌≤◌, length};
 ghost use Rattle.rp_table.specs.Tables.{records_of};
 

@@ -1,3 +1,4 @@
+//! Numbers as a short part times a power of two.
 ghost use Rattle.std.specs.Prelude.{◌≡◌, ◌*◌, ◌^◌, ◌<◌, ◌≤◌, IfSome};
 ghost use Rattle.rp_num.specs.Fraction.{Fraction, IsLowestTerms};
 

@@ -16,7 +16,7 @@ use Rattle.rp_run.specs.Contents.{Denotes}
 use Rattle.rp_run.specs.InnerContents.{MayHaveLevels}
 use Rattle.rp_run.specs.declared.contents.Contents.{Contents}
 use Rattle.rp_run.specs.Readings.{AndThen, CertificateIn, Just, NumbersIn, Reading, TakenTable, all_bytes, and_unless_levelled, refuses_levels, unless_levelled}
-use Rattle.rp_run.specs.declared.files.TheConstants.{MOST_BYTES, MOST_CERTIFICATE_BYTES}
+use Rattle.rp_limits.specs.declared.run.TheConstants.{MOST_BYTES, MOST_CERTIFICATE_BYTES}
 use Rattle.rp_run.specs.FaultLines.{file_line}
 use Rattle.rp_run.specs.InnerCauses.{IsLoaded, IsRefusal, IsFileCause, IsReadingCause, HoldsValue, IsCause}
 use Rattle.rp_run.specs.declared.files.Cause.{Cause}

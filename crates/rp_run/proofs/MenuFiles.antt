@@ -10,7 +10,7 @@ use Rattle.rp_run.specs.InnerCauses.{HoldsValue, IsFileCause, IsReadingCause, Is
 use Rattle.rp_run.specs.Endings.{Rose}
 use Rattle.rp_run.specs.InnerLoadings.{LoadsFile}
 use Rattle.rp_run.specs.MenuContents.{MenusIn, MenusOf, UnitsOf, need_unit_line}
-use Rattle.rp_run.specs.declared.files.TheConstants.{MOST_BYTES}
+use Rattle.rp_limits.specs.declared.run.TheConstants.{MOST_BYTES}
 use Rattle.rp_run.specs.declared.files.Cause.{Cause}
 use Rattle.rp_run.specs.declared.files.Cause.TheVariants.{Read, Refused, NoMemory}
 

@@ -14,7 +14,7 @@ use Rattle.rp_patch.specs.Apportionment.{GroupedCounts, IsCommonMultiple, Passes
 use Rattle.rp_patch.specs.Choices.{RandomInput}
 use Rattle.rp_patch.specs.Patches.{PatchList}
 use Rattle.rp_patch.specs.Units.{PassesPatchesAt, SaysWhy, all_chosen, chosen_counts}
-use Rattle.rp_patch.specs.declared.TheConstants.{PATCHES}
+use Rattle.rp_limits.specs.declared.patch.TheConstants.{PATCHES}
 use Rattle.rp_patch.specs.declared.fault.PatchFault.{PatchFault}
 use Rattle.rp_patch.specs.declared.fault.PatchFault.TheVariants as patch_fault
 use Rattle.rp_types.specs.Listed.{SaysWhy as SaysWhyNoTypes}

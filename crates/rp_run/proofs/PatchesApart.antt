@@ -12,7 +12,7 @@ use Rattle.rp_patch.specs.Units.{ArePatchesOf, SaysWhy, chosen_as, chosen_below,
 use Rattle.rp_patch.specs.declared.fault.PatchFault.{PatchFault}
 use Rattle.rp_patch.specs.declared.fault.PatchFault.TheVariants as patch_fault
 use Rattle.rp_types.specs.Listed.{SaysWhy as SaysWhyNoTypes}
-use Rattle.rp_types.specs.declared.TheConstants.{COMBINATIONS, TYPES}
+use Rattle.rp_limits.specs.declared.types.TheConstants.{COMBINATIONS, TYPES}
 use Rattle.rp_types.specs.declared.fault.TypesFault.{TypesFault}
 use Rattle.rp_types.specs.declared.fault.TypesFault.TheVariants as types_fault
 use Rattle.rp_run.proofs.Pigeons.{no_longer}

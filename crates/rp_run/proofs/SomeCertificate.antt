@@ -17,7 +17,7 @@ use Rattle.rp_json.specs.declared.fault.JsonFault.TheVariants.{BadShape, BadVers
 use Rattle.rp_run.specs.FaultLines.{file_line}
 use Rattle.rp_run.specs.FaultTexts.{json_fault_text}
 use Rattle.rp_run.specs.Readings.{CertificateIn}
-use Rattle.rp_run.specs.declared.files.TheConstants.{MOST_CERTIFICATE_BYTES}
+use Rattle.rp_limits.specs.declared.run.TheConstants.{MOST_CERTIFICATE_BYTES}
 
 -- a readable certificate is what its value denotes
 denotes_itself : (kind : Kind) (c : Certificate) (d : Data) → IsReadable kind c → certificate_value c ≡ d → IsDenotedBy kind d (Ok c)

@@ -11,7 +11,7 @@ use Rattle.rp_patch.specs.Units.{ArePatchesOf, SaysWhy as SaysWhyNoPatches}
 use Rattle.rp_patch.specs.declared.fault.PatchFault.{PatchFault}
 use Rattle.rp_patch.specs.declared.fault.PatchFault.TheVariants as patch_fault
 use Rattle.rp_types.specs.Listed.{SaysWhy as SaysWhyNoTypes, types_of}
-use Rattle.rp_types.specs.declared.TheConstants.{COMBINATIONS, TYPES}
+use Rattle.rp_limits.specs.declared.types.TheConstants.{COMBINATIONS, TYPES}
 use Rattle.rp_types.specs.declared.fault.TypesFault.{TypesFault}
 use Rattle.rp_types.specs.declared.fault.TypesFault.TheVariants as types_fault
 use Rattle.rp_types.specs.declared.types.Rational.{Rational}

@@ -13,7 +13,7 @@ use Rattle.rp_json.specs.declared.fault.JsonFault.TheVariants as json_fault
 use Rattle.rp_command_line.specs.CommandLine.{Arguments, file}
 use Rattle.rp_run.specs.FaultTexts.{fault_text, json_fault_text}
 use Rattle.rp_run.specs.FaultLines.{file_line}
-use Rattle.rp_run.specs.declared.files.TheConstants.{MOST_BYTES, MOST_CERTIFICATE_BYTES}
+use Rattle.rp_limits.specs.declared.run.TheConstants.{MOST_BYTES, MOST_CERTIFICATE_BYTES}
 
 -- what is read: which values, and which lines of a refusal
 abbrev pub Reading : Type 0 → Type 1

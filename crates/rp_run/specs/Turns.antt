@@ -6,7 +6,7 @@ use Rattle.rp_command_line.specs.CommandLine.{Line, file_at, file_set, files_of,
 use Rattle.rp_command_line.specs.CommandLine.{Certificate, File, Numbers, files_in}
 use Rattle.rp_run.specs.Answers.{Files}
 use Rattle.rp_run.specs.Contents.{ContentsIn}
-use Rattle.rp_run.specs.declared.files.TheConstants.{MOST_BYTES, MOST_CERTIFICATE_BYTES}
+use Rattle.rp_limits.specs.declared.run.TheConstants.{MOST_BYTES, MOST_CERTIFICATE_BYTES}
 
 -- the most calls to read a file through
 abbrev pub calls_of_file : Files → File → List ℕ → ℕ

@@ -17,7 +17,8 @@ use rp_answers::{
     menus_text, pairs_text, power_text, pump_text, random_text, trial_text, utility_text,
     welfare_text,
 };
-use rp_command_line::{Command, Line, MOST_DRAWS};
+use rp_command_line::{Command, Line};
+use rp_limits::command_line::MOST_DRAWS;
 use rp_num::NoMemory;
 use rp_outside::Desk;
 use rp_table::Table;

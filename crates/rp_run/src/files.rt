@@ -15,16 +15,11 @@ ghost use Rattle.rp_run.specs.InnerCauses.{IsFaultCause, IsRefusal, IsFileCause}
 use crate::fault_text::{FileFault, text_of};
 use rp_evidence::{Certificate, Kind};
 use rp_json::read;
+use rp_limits::run::{MOST_BYTES, MOST_CERTIFICATE_BYTES};
 use rp_num::NoMemory;
 use rp_outside::{Desk, LoadFault, load};
 use rp_print::push_line;
 use std::alloc::Global;
-
-/// The most bytes of a file of numbers.
-pub const MOST_BYTES: u64 = 4_194_304;
-
-/// The most bytes of a certificate.
-pub const MOST_CERTIFICATE_BYTES: u64 = 16_777_216;
 
 /// Why a line has no input.
 #[derive(Drop)]

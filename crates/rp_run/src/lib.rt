@@ -7,7 +7,6 @@ mod fault_text;
 mod faults;
 mod files;
 mod laws;
-mod limits;
 mod number_files;
 mod patches;
 mod running;
@@ -18,9 +17,7 @@ mod told;
 mod units;
 
 pub use contents::Contents;
-pub use files::{MOST_BYTES, MOST_CERTIFICATE_BYTES};
 pub use laws::{bytes_denote_one_input_or_refusal, patches_are_of_choices_in_files};
-pub use limits::limits_in_numbers;
 pub use rp_answers::{Status, trial_table};
 pub use running::run;
 pub use sure::run_surely;

@@ -10,7 +10,7 @@ ghost use Rattle.rp_text.specs.Denotation.{prices_beside, table_in};
 ghost use Rattle.rp_answers.specs.DemandText.{IsSpentOn};
 ghost use Rattle.rp_run.specs.InnerLoadings.{LoadsFile};
 ghost use Rattle.rp_run.specs.Readings.{HeldIn};
-ghost use Rattle.rp_run.specs.declared.files.TheConstants.{MOST_BYTES};
+ghost use Rattle.rp_limits.specs.declared.run.TheConstants.{MOST_BYTES};
 
 use crate::fault_text::FileFault;
 use crate::files::{Cause, load_bytes, refusal};

@@ -6,7 +6,7 @@ ghost use Rattle.rp_run.specs.InnerCauses.{IsReadingCause};
 ghost use Rattle.rp_run.specs.InnerContents.{MayHaveLevels};
 ghost use Rattle.rp_run.specs.InnerLoadings.{LoadsFile};
 ghost use Rattle.rp_run.specs.Readings.{Just, TakenTable, unless_levelled};
-ghost use Rattle.rp_run.specs.declared.files.TheConstants.{MOST_BYTES};
+ghost use Rattle.rp_limits.specs.declared.run.TheConstants.{MOST_BYTES};
 
 use crate::files::{Cause, refused};
 use crate::number_files::{TableFile, load_numbers};

@@ -4,8 +4,6 @@ use Rattle.std.proofs.lemmas.Bool.Decides.{nat_tests}
 use Rattle.rp_num.specs.Below.{any_below}
 use Rattle.rp_forms.specs.Texts.{text_at}
 use Rattle.rp_forms.specs.Columns.{role_of, role_at, measures}
-use Rattle.rp_sheet.specs.Records.{record_at}
-use Rattle.rp_sheet.specs.Headers.{headers_in}
 use Rattle.rp_sheet.specs.Fields.{figure, figures_of, rows_in, fields_stage}
 use Rattle.rp_sheet.specs.Sizes.{figure_at, places_of, sizes_of, sizes_stage}
 use Rattle.rp_forms.specs.Columns.{limit_of}
@@ -25,15 +23,6 @@ sizes_in form headers records = sizes_of form headers (figures_of form headers r
 -- how many rows of scaled numbers there are
 pub sizes_are : (form : Form) (headers : List (List ℕ)) (records : List (List (List ℕ))) → length (sizes_in form headers records) ≡ rows_in records
 sizes_are form headers records = length-listed _ (length (figures_of form headers records)) ∙ rows_are form headers records
-
--- a value from what was read: the headers, the goods and the scaled numbers
-pub value_read : {A : Type 0} (value : List (List ℕ) → List (List ℕ) → List (List ℕ) → A) {form kind : Form} (records : List (List (List ℕ))) {headers given goods sizes : List (List ℕ)}
-    → form ≡ kind → headers ≡ headers_in (record_at records 0) → given ≡ goods → sizes ≡ sizes_in form (headers_in (record_at records 0)) records
-    → value headers given sizes ≡ value (headers_in (record_at records 0)) goods (sizes_in kind (headers_in (record_at records 0)) records)
-value_read value {form} {kind} records {headers} {given} {goods} {sizes} is headed named sized =
-    ap (λ h. value h given sizes) headed
-    ∙ ap (λ g. value (headers_in (record_at records 0)) g sizes) named
-    ∙ ap (λ s. value (headers_in (record_at records 0)) goods s) (sized ∙ ap (λ (f : Form). sizes_in f (headers_in (record_at records 0)) records) is)
 
 bought_test : (a b : Bool) → (a && not b) ≡ false → a ≡ true → b ≡ true
 bought_test true true e h = refl

@@ -9,7 +9,7 @@ use Rattle.rp_num.specs.declared.decimal.Decimal.{Decimal}
 use Rattle.rp_num.specs.declared.decimal.NumFault.{NumFault}
 use Rattle.rp_num.specs.declared.decimal.NumFault.TheVariants.{Bad, Decimals}
 use Rattle.rp_num.specs.Below.{first_of, any_below, listed}
-use Rattle.rp_table.specs.declared.TheConstants.{LEVEL_SCALE}
+use Rattle.rp_limits.specs.declared.table.TheConstants.{LEVEL_SCALE}
 use Rattle.rp_forms.specs.Texts.{trimmed, text_at, number_of}
 use Rattle.rp_sheet.specs.Records.{record_at}
 use Rattle.rp_forms.specs.Columns.{role_at, measures}

@@ -4,7 +4,7 @@ use Rattle.std.specs.Prelude.{ℕ, Bool, false, not, ◌&&◌, ◌||◌, ◌==�
 use Rattle.std.specs.Prelude.{length, map, take, Option, None, Some, is_some}
 use Rattle.std.specs.List.{list_any}
 use Rattle.std.specs.Option.{option_map_or}
-use Rattle.rp_table.specs.declared.TheConstants.{GOODS}
+use Rattle.rp_limits.specs.declared.table.TheConstants.{GOODS}
 use Rattle.rp_num.specs.Below.{first_of, first_there, any_below}
 use Rattle.rp_forms.specs.Texts.{trimmed, text_at, place_of, number_of}
 use Rattle.rp_sheet.specs.Records.{record_at}

@@ -1,3 +1,4 @@
+//! The columns of a file, found by their headers.
 ghost use Rattle.std.specs.Prelude.{◌≡◌, ◌<◌, [], ◌∷◌, ◌++◌, None, Some, OnOk, length};
 ghost use Rattle.rp_forms.specs.Texts.{text_at, place_of};
 ghost use Rattle.rp_forms.specs.Columns.{role_of};

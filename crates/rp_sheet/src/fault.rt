@@ -1,3 +1,4 @@
+//! The faults of a file of numbers.
 ghost use Rattle.std.specs.Prelude.{◌≡◌};
 ghost use Rattle.rp_sheet.specs.declared.fault.TableFault.TheVariants as fault;
 
@@ -36,7 +37,7 @@ pub enum TableFault {
     /// A field that is no number, or that is not whole where it has to be.
     #[error("BadNumber")]
     BadNumber { row: u32, column: u32 },
-    /// A number of more places than `PLACES`.
+    /// A number of more places than `DECIMAL_PLACES`.
     #[error("TooManyDecimals")]
     TooManyDecimals { row: u32, column: u32 },
     /// A price of 0.

@@ -1,3 +1,4 @@
+//! The stage that reads each field.
 ghost use Rattle.std.specs.Prelude.{◌≡◌, ◌&&◌, length, nat_lt, slice_index_or};
 ghost use Rattle.rp_num.specs.Below.{any_below};
 ghost use Rattle.rp_forms.specs.Texts.{trimmed};
@@ -11,8 +12,8 @@ use crate::columns::Columns;
 use crate::record_kind::RecordKind;
 use crate::records::Records;
 use rp_forms::{Role, number_of, trimmed};
+use rp_limits::table::LEVEL_SCALE;
 use rp_num::{Decimal, NumFault, read_decimal};
-use rp_table::LEVEL_SCALE;
 
 /// What a field says in a column of that role: a number, or 0 where the fields are texts. `budgets` is how many there
 /// are.

@@ -1,3 +1,4 @@
+//! The stage that looks for the goods of a table beside a file.
 ghost use Rattle.std.specs.Prelude.{◌≡◌, ◌<◌, ◌||◌, ◌&&◌, ◌==◌, ℕ, List, None, not, if◌then◌else◌};
 ghost use Rattle.std.specs.Prelude.{OnOk};
 ghost use Rattle.std.specs.Prelude.{IfOk, length};
@@ -18,8 +19,9 @@ use crate::columns::Columns;
 use crate::goods::{check_pairs, lacks};
 use indexmap::IndexSet;
 use rp_forms::{Column, Form, Role, name_in, number_of};
+use rp_limits::table::GOODS;
 use rp_num::NoMemory;
-use rp_table::{GOODS, Name};
+use rp_table::Name;
 use std::alloc::Global;
 
 /// Looks at the columns of the goods: those that are there, those that are missing, and their number.

@@ -1,3 +1,4 @@
+//! The stage that pairs the columns of goods.
 ghost use Rattle.std.specs.Prelude.{◌≡◌, ◌<◌, ◌||◌, ◌&&◌, ◌++◌, None, not, OnOk, IfOk, length};
 ghost use Rattle.rp_num.specs.Below.{first_of, listed};
 ghost use Rattle.rp_forms.specs.Texts.{text_at, place_of};

@@ -1,3 +1,4 @@
+//! The stage that reads the headers.
 ghost use Rattle.std.specs.Prelude.{◌≡◌, ◌<◌, Some, None, true, false, IfOk, MatchOption, length};
 ghost use Rattle.std.specs.Option.{option_map_or};
 ghost use Rattle.rp_forms.specs.Columns.{role_of, takes};

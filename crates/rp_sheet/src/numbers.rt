@@ -1,5 +1,6 @@
+//! The numbers of columns, by record.
 ghost use Rattle.std.specs.Prelude.{◌≡◌, ℕ, ◌<◌, ◌≤◌, IfOk, All, length, slice_index};
-ghost use Rattle.rp_table.specs.declared.TheConstants.{LARGEST};
+ghost use Rattle.rp_limits.specs.declared.table.TheConstants.{LARGEST};
 ghost use Rattle.rp_num.specs.Below.{listed};
 ghost use Rattle.rp_forms.specs.Texts.{text_at};
 ghost use Rattle.rp_sheet.specs.Sheets as Sheets;

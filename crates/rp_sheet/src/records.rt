@@ -1,3 +1,4 @@
+//! The stage that splits bytes into records.
 ghost use Rattle.std.specs.Prelude.{◌≡◌, ◌+◌, ◌<◌, IfOk, length, take};
 ghost use Rattle.csv.specs.Records.{fields_of};
 ghost use Rattle.rp_sheet.specs.Records.{records_in, record_at};

@@ -1,3 +1,4 @@
+//! The sheet of a file, stage by stage.
 ghost use Rattle.std.specs.Prelude.{◌≡◌, ◌+◌, ◌<◌, ◌==◌, ◌&&◌, Some, None, OnOk, IfOk};
 ghost use Rattle.std.specs.Prelude.{IfErr, length, slice_index_or};
 ghost use Rattle.rp_sheet.specs.Headers.{headers_of};

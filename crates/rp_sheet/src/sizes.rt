@@ -1,7 +1,8 @@
+//! The stage that scales the numbers.
 ghost use Rattle.std.specs.Prelude.{◌≡◌, ◌+◌, ◌*◌, ◌^◌, ◌<◌, ◌≤◌, None, IfOk, MatchOption, All};
 ghost use Rattle.std.specs.Prelude.{length, slice_index_or, if◌then◌else◌};
 ghost use Rattle.std.specs.Result.{result_err};
-ghost use Rattle.rp_table.specs.declared.TheConstants.{LARGEST_EXPENDITURE};
+ghost use Rattle.rp_limits.specs.declared.table.TheConstants.{LARGEST_EXPENDITURE};
 ghost use Rattle.rp_num.specs.Below.{first_of, listed, greatest_below};
 ghost use Rattle.rp_forms.specs.Columns.{role_at};
 ghost use Rattle.rp_sheet.specs.Fields.{nothing};

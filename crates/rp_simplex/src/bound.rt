@@ -1,3 +1,4 @@
+//! The bound of a program by its run.
 ghost use Rattle.std.specs.Prelude.{◌≡◌, IfOk};
 ghost use Rattle.rp_farkas.specs.Measure.{HasMeasure, measured};
 ghost use Rattle.rp_farkas.specs.Prices.{HasFeasiblePrices};

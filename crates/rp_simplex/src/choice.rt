@@ -1,3 +1,4 @@
+//! The choice of the row that leaves.
 ghost use Rattle.std.specs.Prelude.{◌≡◌, ◌+◌, ◌<◌, ℕ, ◌*ℤ◌, ◌⊎◌, MatchBool};
 ghost use Rattle.std.specs.Prelude.{MatchOption};
 ghost use Rattle.rp_simplex.specs.Choice.{IsLeaving, IsUnbounded};

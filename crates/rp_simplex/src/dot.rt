@@ -1,3 +1,4 @@
+//! Sums of products of multipliers and entries.
 ghost use Rattle.std.specs.Prelude.{◌≡◌, suc, ◌*◌, ◌^◌, ◌<◌, ◌≤◌, ◌+ℤ◌, ◌*ℤ◌, length};
 ghost use Rattle.std.specs.Int.RustNames.{unsigned_abs};
 ghost use Rattle.rp_farkas.specs.Limits.{FitsEvidence, largest_entry, most_rows};

@@ -1,3 +1,4 @@
+//! Laws of the run: it has one outcome.
 ghost use Rattle.std.specs.Prelude.{ℕ, suc};
 ghost use Rattle.rp_farkas.specs.LinearProgram.{LinearProgram};
 ghost use Rattle.rp_farkas.specs.Limits.{IsWithinLimits};

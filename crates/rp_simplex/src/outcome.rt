@@ -1,3 +1,4 @@
+//! How the run of the simplex ends.
 use rp_farkas::{Entry, Pair};
 use rp_num::Seq;
 

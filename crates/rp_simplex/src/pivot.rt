@@ -1,3 +1,4 @@
+//! One pivot.
 ghost use Rattle.std.specs.Prelude.{◌≡◌, ◌^◌, ◌<◌, pos, ◌*ℤ◌, ◌<ℤ◌, MatchOption};
 ghost use Rattle.rp_simplex.specs.Pivot.{IsPivot};
 ghost use Rattle.rp_simplex.specs.InnerPivot.{PivotPasses};

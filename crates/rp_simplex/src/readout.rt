@@ -1,3 +1,4 @@
+//! What is read off the last tableau.
 ghost use Rattle.std.specs.Prelude.{◌≡◌, ◌≢◌, ℕ, suc, ◌+◌, ◌<◌, ◌≤◌, pos, neg_ℤ, ◌≤ℤ◌, MatchOption};
 ghost use Rattle.std.specs.Prelude.{length, vec_capacity, vec_len, slice_index};
 ghost use Rattle.rp_farkas.specs.Limits.{FitsEvidence, most_columns};

@@ -1,3 +1,4 @@
+//! The memory of an outcome, taken before the run.
 ghost use Rattle.std.specs.Prelude.{IfOk};
 ghost use Rattle.rp_simplex.specs.InnerReady.{HasRooms};
 

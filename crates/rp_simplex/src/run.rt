@@ -1,3 +1,4 @@
+//! The run from tableau 0 to its end.
 ghost use Rattle.rp_simplex.specs.Outcome.{IsOutcome};
 ghost use Rattle.rp_simplex.specs.SameOutcome.{IsSameOutcome};
 ghost use Rattle.rp_simplex.specs.Evidence.{IsEvidence};

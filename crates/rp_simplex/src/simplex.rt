@@ -1,3 +1,4 @@
+//! The simplex over a program.
 ghost use Rattle.std.specs.Prelude.{IfOk};
 ghost use Rattle.rp_simplex.specs.Outcome.{IsOutcome};
 ghost use Rattle.rp_simplex.specs.SameOutcome.{IsSameOutcome};

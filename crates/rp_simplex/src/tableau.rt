@@ -1,3 +1,4 @@
+//! Tableau 0 of a program, with the memory of its run.
 ghost use Rattle.std.specs.Prelude.{IfOk};
 ghost use Rattle.rp_simplex.specs.Evidence.{IsEvidence};
 ghost use Rattle.rp_simplex.specs.Outcome.{IsOutcome};

@@ -1,3 +1,4 @@
+//! The observations below a new budget, as lists.
 ghost use Rattle.std.specs.Prelude.{◌≡◌, ◌<◌, ◌↔◌, ℕ, All, Contains, IfOk, IsTrue, length};
 ghost use Rattle.rp_evidence.specs.Demand.{Buys, IsStrictStart};
 ghost use Rattle.rp_evidence.specs.DemandPrograms.{ListsBelow, ListsStrictlyBelow};

@@ -1,3 +1,4 @@
+//! What a table supports at new prices.
 ghost use Rattle.std.specs.Prelude.{◌≡◌, [], IfOk};
 ghost use Rattle.rp_evidence.specs.DemandEvidence.{ProvesDemand, budget_of};
 ghost use Rattle.rp_evidence.specs.Garp.{MeetsGarp};

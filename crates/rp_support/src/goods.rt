@@ -1,3 +1,4 @@
+//! The bounds of each good on a new budget.
 ghost use Rattle.std.specs.Prelude.{◌<◌, IfOk};
 ghost use Rattle.rp_evidence.specs.Demand.{HasSupport};
 ghost use Rattle.rp_evidence.specs.DemandPrograms.{ListsBelow, lower_program, upper_program};

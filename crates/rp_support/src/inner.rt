@@ -1,3 +1,4 @@
+//! One supporting demand.
 ghost use Rattle.std.specs.Prelude.{◌≡◌, ◌<◌, ◌↔◌, ℕ, IfOk, IfSome, IsTrue, length, slice_index};
 ghost use Rattle.rp_evidence.specs.Count.{AreCounts};
 ghost use Rattle.rp_evidence.specs.Demand.{Buys, IsInnerDemand};

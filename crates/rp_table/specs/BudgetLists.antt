@@ -1,7 +1,7 @@
 -- Budgets: prices of goods, and what there is to spend at them (Kitamura and Stoye 2018), in scaled whole numbers.
 use Rattle.std.specs.Prelude.{◌≡◌, ℕ, ◌*◌, ◌≤◌, List, length, All}
 use Rattle.rp_table.specs.Limits.{IsPrice, IsExpenditure}
-use Rattle.rp_table.specs.declared.TheConstants.{GOODS, BUDGETS}
+use Rattle.rp_limits.specs.declared.table.TheConstants.{GOODS, BUDGETS}
 
 -- the goods' names, a price of each good, by budget and then good, and the income of each budget
 pub record BudgetList : Type 0 where

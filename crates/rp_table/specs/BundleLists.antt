@@ -2,7 +2,7 @@
 use Rattle.std.specs.Prelude.{◌≡◌, ℕ, ◌*◌, ◌≤◌, List, length, All}
 use Rattle.rp_table.specs.Rows.{rows_count}
 use Rattle.rp_table.specs.Limits.{IsQuantity}
-use Rattle.rp_table.specs.declared.TheConstants.{GOODS, NEW_RECORDS}
+use Rattle.rp_limits.specs.declared.table.TheConstants.{GOODS, NEW_RECORDS}
 
 -- a quantity of each good, by bundle and then good
 pub record BundleList : Type 0 where

@@ -1,7 +1,7 @@
 -- Choices from budgets: which bundle on which budget, and how many times (Kitamura and Stoye 2018).
 use Rattle.std.specs.Prelude.{◌≡◌, ℕ, ◌*◌, ◌<◌, ◌≤◌, List, length, All}
 use Rattle.rp_table.specs.Limits.{IsQuantity}
-use Rattle.rp_table.specs.declared.TheConstants.{GOODS, LARGEST, BUDGETS, CHOICES}
+use Rattle.rp_limits.specs.declared.table.TheConstants.{GOODS, LARGEST, BUDGETS, CHOICES}
 
 -- for each choice the number of its budget, from 0, its quantity of each good, and its count
 pub record ChoiceList : Type 0 where

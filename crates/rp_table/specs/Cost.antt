@@ -4,7 +4,7 @@ use Rattle.std.specs.Prelude.{◌≡◌, ℕ, ◌+◌, ◌*◌, ◌^◌, ◌<◌
 use Rattle.std.specs.Prelude.{ℤ, pos, ◌-ℤ◌}
 use Rattle.rp_table.specs.OwnLevels.{AreOwnLevels, level_scale, own_by_level}
 use Rattle.rp_table.specs.Spending.{spending}
-use Rattle.rp_table.specs.declared.TheConstants.{RECORDS}
+use Rattle.rp_limits.specs.declared.table.TheConstants.{RECORDS}
 use Rattle.rp_table.specs.Tables.{Observations, goods_of, records_of, price_of, quantity_of}
 
 -- the cost of the bundle of observation t at the prices of observation s

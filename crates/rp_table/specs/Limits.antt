@@ -1,6 +1,6 @@
 -- A price, a quantity and an expenditure within their limits, in scaled whole numbers (this project's own form).
 use Rattle.std.specs.Prelude.{ℕ, ◌≤◌}
-use Rattle.rp_table.specs.declared.TheConstants.{LARGEST, LARGEST_EXPENDITURE}
+use Rattle.rp_limits.specs.declared.table.TheConstants.{LARGEST, LARGEST_EXPENDITURE}
 
 -- no price is 0
 abbrev pub IsPrice : ℕ → Type 0

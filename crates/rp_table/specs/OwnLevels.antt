@@ -2,7 +2,7 @@
 -- recorded with error (Varian 1990, "Goodness-of-fit in optimizing models": a vector of efficiency indices). They stand
 -- in thousandths.
 use Rattle.std.specs.Prelude.{◌≡◌, ℕ, ◌*◌, ◌≤◌, ◌⊎◌, List, [], ◌∷◌, length, All, slice_index}
-use Rattle.rp_table.specs.declared.TheConstants.{LEVEL_SCALE}
+use Rattle.rp_limits.specs.declared.table.TheConstants.{LEVEL_SCALE}
 
 -- a level is above 0 and at most the whole
 abbrev pub IsOwnLevel : ℕ → Type 0

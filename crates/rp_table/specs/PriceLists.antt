@@ -2,7 +2,7 @@
 use Rattle.std.specs.Prelude.{◌≡◌, ℕ, ◌*◌, ◌≤◌, ◌⊎◌, List, length, All}
 use Rattle.rp_table.specs.Rows.{rows_count}
 use Rattle.rp_table.specs.Limits.{IsPrice, IsExpenditure}
-use Rattle.rp_table.specs.declared.TheConstants.{GOODS, NEW_RECORDS}
+use Rattle.rp_limits.specs.declared.table.TheConstants.{GOODS, NEW_RECORDS}
 
 -- a price of each good, by record and then good, and an expenditure for each record or for none
 pub record PriceList : Type 0 where

@@ -6,7 +6,7 @@ use Rattle.std.specs.declared.alloc.Global.{Global}
 use Rattle.rp_table.specs.Sums.{sum_below}
 use Rattle.rp_table.specs.Limits.{IsPrice, IsQuantity}
 use Rattle.rp_table.specs.OwnLevels.{AreOwnLevels}
-use Rattle.rp_table.specs.declared.TheConstants.{RECORDS, GOODS, PLACES, LEVEL_SCALE}
+use Rattle.rp_limits.specs.declared.table.TheConstants.{RECORDS, GOODS, DECIMAL_PLACES, LEVEL_SCALE}
 
 -- the goods' names, and by observation and then good the prices and the quantities, each with the
 -- number of decimal places that its scale stands for, and by observation the levels, or none of them
@@ -60,6 +60,6 @@ pub record IsTable (table : Observations) : Type 0 where
   pub price_limits : All IsPrice table.prices
   pub quantity_limits : All IsQuantity table.quantities
   pub bought : (t : ℕ) → t < records_of table → 1 ≤ bundle_size table t
-  pub few_price_places : table.price_places ≤ PLACES
-  pub few_quantity_places : table.quantity_places ≤ PLACES
+  pub few_price_places : table.price_places ≤ DECIMAL_PLACES
+  pub few_quantity_places : table.quantity_places ≤ DECIMAL_PLACES
   pub own_levels : AreOwnLevels (records_of table) table.levels

@@ -1,10 +1,12 @@
+//! Lists of budgets.
 ghost use Rattle.std.specs.Prelude.{◌≡◌, ◌<◌, ◌≤◌, Some, All, length, slice_get, slice_index};
 ghost use Rattle.rp_table.specs.Rows.{row_of};
 ghost use Rattle.rp_table.specs.BudgetLists.{IsBudgetList};
 ghost use Rattle.rp_table.specs.Limits.{IsPrice};
 
+use crate::Name;
 use crate::rows::row_at;
-use crate::{LARGEST_EXPENDITURE, Name};
+use rp_limits::table::LARGEST_EXPENDITURE;
 use std::marker::Model;
 
 /// Budgets: prices of the goods, and an income to spend at them.

@@ -1,3 +1,4 @@
+//! Lists of bundles.
 ghost use Rattle.std.specs.Prelude.{◌≡◌, ◌<◌, All, length};
 ghost use Rattle.rp_table.specs.Rows.{rows_count, row_of};
 ghost use Rattle.rp_table.specs.BundleLists.{IsBundleList};

@@ -1,10 +1,11 @@
+//! Lists of choices from budgets.
 ghost use Rattle.std.specs.Prelude.{◌≡◌, ◌<◌, ◌≤◌, All, length, slice_index};
 ghost use Rattle.rp_table.specs.Rows.{row_of};
 ghost use Rattle.rp_table.specs.ChoiceLists.{IsChoiceList};
 ghost use Rattle.rp_table.specs.Limits.{IsQuantity};
 
 use crate::rows::row_at;
-use crate::{BUDGETS, LARGEST};
+use rp_limits::table::{BUDGETS, LARGEST};
 use std::marker::Model;
 
 /// Choices: a bundle on a budget, and how many times it was chosen there.

@@ -1,9 +1,11 @@
+//! The costs of a table.
 ghost use Rattle.std.specs.Prelude.{◌≡◌, ◌<◌, ◌≤◌, ◌^◌, ◌<ℤ◌, neg_ℤ, pos, IfOk};
 ghost use Rattle.rp_table.specs.Tables.{records_of};
 ghost use Rattle.rp_table.specs.Cost.{IsCostTable, IsCostsOf, cost_at, cost_of};
 ghost use Rattle.rp_table.specs.Cost.{gap_of, own_of, scale_of};
 
-use crate::{LEVEL_SCALE, Table, cost_of_bundle};
+use crate::{Table, cost_of_bundle};
+use rp_limits::table::LEVEL_SCALE;
 use rp_num::NoMemory;
 use std::alloc::Global;
 use std::marker::Model;

@@ -1,3 +1,4 @@
+//! The names of goods.
 ghost use Rattle.std.specs.Prelude.{◌≡◌, ℕ, List};
 ghost use Rattle.rp_table.specs.Names.{IsName};
 

@@ -1,10 +1,11 @@
+//! New prices, and new budgets, beside a table.
 ghost use Rattle.std.specs.Prelude.{◌≡◌, ◌<◌, ◌≤◌, ◌^◌, length, slice_index};
 ghost use Rattle.rp_table.specs.Cost.{IsCostsOf, cost_of};
 ghost use Rattle.rp_table.specs.Limits.{IsExpenditure};
 ghost use Rattle.rp_table.specs.NewPrices.{AreNewPrices};
 ghost use Rattle.rp_table.specs.Spending.{spending};
 ghost use Rattle.rp_table.specs.Tables.{goods_of, price_of, quantity_of, records_of};
-ghost use Rattle.rp_table.specs.declared.TheConstants.{LARGEST, RECORDS};
+ghost use Rattle.rp_limits.specs.declared.table.TheConstants.{LARGEST, RECORDS};
 
 use crate::{Costs, Table, cost_of_bundle, cost_of_numerators};
 

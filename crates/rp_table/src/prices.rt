@@ -1,10 +1,11 @@
+//! Lists of new prices.
 ghost use Rattle.std.specs.Prelude.{◌≡◌, ◌<◌, ◌≤◌, length, slice_index};
 ghost use Rattle.rp_table.specs.Rows.{rows_count, row_of};
 ghost use Rattle.rp_table.specs.NewPrices.{AreNewPrices};
 ghost use Rattle.rp_table.specs.PriceLists.{IsPriceList};
 
-use crate::LARGEST_EXPENDITURE;
 use crate::rows::row_at;
+use rp_limits::table::LARGEST_EXPENDITURE;
 use std::marker::Model;
 
 /// Prices at which something is asked, each record with an expenditure or none with one.

@@ -1,3 +1,4 @@
+//! Rows of equal width in one list.
 ghost use Rattle.std.specs.Prelude.{◌≡◌, ◌+◌, ◌*◌, ◌≤◌, length};
 ghost use Rattle.rp_table.specs.Rows.{row_of};
 

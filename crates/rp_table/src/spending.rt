@@ -1,8 +1,9 @@
+//! What a bundle costs at prices.
 ghost use Rattle.std.specs.Prelude.{◌≡◌, ◌<◌, ◌≤◌, ◌^◌, All, length, slice_index};
 ghost use Rattle.rp_table.specs.Limits.{IsPrice, IsQuantity};
 ghost use Rattle.rp_table.specs.Spending.{spending};
 ghost use Rattle.rp_table.specs.Sums.{sum_below};
-ghost use Rattle.rp_table.specs.declared.TheConstants.{GOODS};
+ghost use Rattle.rp_limits.specs.declared.table.TheConstants.{GOODS};
 
 /// What a bundle costs at prices, scaled by both scales.
 pub fn cost_of_bundle(prices: &[u32], bundle: &[u32]) -> u64

@@ -1,3 +1,4 @@
+//! Tables of prices and quantities.
 ghost use Rattle.std.specs.Prelude.{◌≡◌, ◌≢◌, ◌↔◌, ℕ, ◌<◌, ◌≤◌, [], All, IfSome, IsFalse, Some};
 ghost use Rattle.std.specs.Prelude.{length, slice_get, slice_index};
 ghost use Rattle.rp_table.specs.Limits.{IsPrice, IsQuantity};
@@ -5,8 +6,9 @@ ghost use Rattle.rp_table.specs.OwnLevels.{IsOwnLevel};
 ghost use Rattle.rp_table.specs.Tables.{IsTable, goods_of, level_of, levels_given, price_of};
 ghost use Rattle.rp_table.specs.Tables.{quantity_of, records_of};
 
+use crate::Name;
 use crate::rows::row_at;
-use crate::{LARGEST, LEVEL_SCALE, Name};
+use rp_limits::table::{LARGEST, LEVEL_SCALE};
 use std::marker::Model;
 
 /// Observed prices and purchases, in scaled whole numbers, within the limits of this crate. Each observation may have

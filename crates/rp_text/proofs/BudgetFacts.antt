@@ -4,7 +4,7 @@ use Rattle.std.specs.Prelude.{codes, unwrap_or}
 use Rattle.std.specs.Option.{option_map_or}
 use Rattle.rp_num.specs.declared.decimal.Decimal.{Decimal}
 use Rattle.rp_table.specs.Limits.{IsPrice}
-use Rattle.rp_table.specs.declared.TheConstants.{LARGEST, LARGEST_EXPENDITURE}
+use Rattle.rp_limits.specs.declared.table.TheConstants.{LARGEST, LARGEST_EXPENDITURE}
 use Rattle.rp_table.specs.BudgetLists.{IsBudgetList}
 use Rattle.rp_forms.specs.Texts.{text_at}
 use Rattle.rp_forms.specs.Columns.{Layout, role_of, takes, measures, is_price, names_with, price_mark}

@@ -1,7 +1,7 @@
 -- Records without a fault make bundles within the limits.
 use Rattle.std.proofs.Common.{◌≡◌, ℕ, ◌*◌, ◌<◌, ◌≤◌, List, length, slice_index, None, refl, sym, ap, ◌∙◌, subst}
 use Rattle.rp_table.specs.BundleLists.{IsBundleList}
-use Rattle.rp_table.specs.declared.TheConstants.{GOODS, LARGEST}
+use Rattle.rp_limits.specs.declared.table.TheConstants.{GOODS, LARGEST}
 use Rattle.rp_forms.specs.Texts.{text_at}
 use Rattle.rp_num.specs.declared.decimal.Decimal.{Decimal}
 use Rattle.rp_forms.specs.Columns.{Layout, quantity_mark}

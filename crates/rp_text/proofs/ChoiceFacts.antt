@@ -6,7 +6,7 @@ use Rattle.std.proofs.lemmas.List.Elements.{All-map}
 use Rattle.rp_num.specs.declared.decimal.Decimal.{Decimal}
 use Rattle.rp_table.specs.ChoiceLists.{IsChoiceList}
 use Rattle.std.specs.List.{All}
-use Rattle.rp_table.specs.declared.TheConstants.{BUDGETS, GOODS, LARGEST}
+use Rattle.rp_limits.specs.declared.table.TheConstants.{BUDGETS, GOODS, LARGEST}
 use Rattle.rp_forms.specs.Texts.{text_at}
 use Rattle.rp_forms.specs.Columns.{Layout, role_of, named_role, role_at, quantity_mark}
 use Rattle.rp_forms.specs.Forms.{choices_form}

@@ -7,7 +7,7 @@ use Rattle.std.proofs.lemmas.List.{length-map, get_or-map}
 use Rattle.std.proofs.lemmas.List.Elements.{All-map}
 use Rattle.rp_num.specs.declared.decimal.Decimal.{Decimal}
 use Rattle.rp_table.specs.ChoiceLists.{ChoiceList}
-use Rattle.rp_table.specs.declared.TheConstants.{BUDGETS, GOODS}
+use Rattle.rp_limits.specs.declared.table.TheConstants.{BUDGETS, GOODS}
 use Rattle.rp_forms.specs.Texts.{text_at, number_of}
 use Rattle.rp_forms.specs.Columns.{Layout, role_of}
 use Rattle.rp_forms.specs.Forms.{choices_form}

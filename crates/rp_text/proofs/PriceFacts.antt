@@ -4,7 +4,7 @@ use Rattle.std.specs.Prelude.{codes, unwrap_or}
 use Rattle.std.specs.List.{All}
 use Rattle.std.specs.Option.{option_map_or}
 use Rattle.std.proofs.lemmas.List.Elements.{All-nil}
-use Rattle.rp_table.specs.declared.TheConstants.{GOODS, LARGEST, LARGEST_EXPENDITURE}
+use Rattle.rp_limits.specs.declared.table.TheConstants.{GOODS, LARGEST, LARGEST_EXPENDITURE}
 use Rattle.rp_table.specs.Limits.{IsPrice}
 use Rattle.rp_table.specs.Rows.{rows_count}
 use Rattle.rp_table.specs.PriceLists.{PriceList, IsPriceList}

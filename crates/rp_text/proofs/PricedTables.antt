@@ -7,7 +7,7 @@ use Rattle.rp_table.specs.Limits.{IsPrice}
 use Rattle.rp_num.specs.declared.decimal.Decimal.{Decimal}
 use Rattle.rp_table.specs.OwnLevels.{AreOwnLevels}
 use Rattle.rp_table.specs.Tables.{IsTable, records_of, quantity_of}
-use Rattle.rp_table.specs.declared.TheConstants.{RECORDS}
+use Rattle.rp_limits.specs.declared.table.TheConstants.{RECORDS}
 use Rattle.rp_forms.specs.Columns.{is_price, mark_of_prices, mark_of_quantities, measures, names_with, role_of, takes}
 use Rattle.rp_sheet.specs.Fields.{fields_stage, figures_of, rows_in}
 use Rattle.rp_sheet.specs.Sheets.{column_of}

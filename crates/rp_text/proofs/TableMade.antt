@@ -5,7 +5,7 @@ use Rattle.std.specs.List.{All}
 use Rattle.std.specs.declared.alloc.Global.{Global}
 use Rattle.rp_num.specs.declared.decimal.Decimal.{Decimal}
 use Rattle.rp_table.specs.Tables.{IsTable}
-use Rattle.rp_table.specs.declared.TheConstants.{LARGEST}
+use Rattle.rp_limits.specs.declared.table.TheConstants.{LARGEST}
 use Rattle.rp_forms.specs.Columns.{Layout}
 use Rattle.rp_forms.specs.Forms.{table_form}
 use Rattle.rp_sheet.specs.Headers.{headers_of}

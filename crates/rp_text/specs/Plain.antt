@@ -7,7 +7,7 @@ use Rattle.std.specs.Prelude.{codes}
 use Rattle.std.specs.List.{slice_split}
 use Rattle.rp_table.specs.Sums.{sum_below}
 use Rattle.rp_table.specs.Tables.{Observations, IsTable, goods_of, records_of, price_of, quantity_of}
-use Rattle.rp_table.specs.declared.TheConstants.{GOODS, NAME_BYTES}
+use Rattle.rp_limits.specs.declared.table.TheConstants.{GOODS, NAME_BYTES}
 use Rattle.rp_forms.specs.Texts.{text_at}
 
 -- the parts between the line feeds: the last one comes after the last line feed

@@ -1,3 +1,4 @@
+//! The reader of budgets.
 ghost use Rattle.std.specs.Prelude.{◌≡◌, Ok, IfOk};
 ghost use Rattle.rp_text.specs.Denotation.{budgets_in};
 ghost use Rattle.rp_sheet.specs.Refusals.{RefusedAs};

@@ -1,12 +1,14 @@
+//! The reader of choices from budgets.
 ghost use Rattle.std.specs.Prelude.{◌≡◌, ℕ, ◌-◌, ◌<◌, ◌≤◌, Ok, IfOk, All, map, length};
 ghost use Rattle.rp_sheet.specs.Chosen.{IsChosenFrom};
 ghost use Rattle.rp_text.specs.Denotation.{choices_on};
 ghost use Rattle.rp_sheet.specs.Refusals.{RefusedAs};
 
 use rp_forms::Form;
+use rp_limits::table::BUDGETS;
 use rp_num::NoMemory;
 use rp_sheet::{FileKind, Sheet, TableFault, column_numbers, narrow, numbers_under, read_file};
-use rp_table::{BUDGETS, Budgets, Choices, Name};
+use rp_table::{Budgets, Choices, Name};
 use std::alloc::Global;
 
 /// Reads columns `budget` with numbers of these budgets from 1, `q_NAME` of quantities by good, `n` of counts and

@@ -1,3 +1,4 @@
+//! A law of tables in the plain form.
 ghost use Rattle.std.specs.Prelude.{◌≡◌, Ok};
 ghost use Rattle.rp_table.specs.Tables.{Observations};
 ghost use Rattle.rp_text.specs.Plain.{IsPlainTable};

@@ -1,3 +1,4 @@
+//! The table of prices and quantities under two marks.
 ghost use Rattle.std.specs.Prelude.{◌≡◌, ◌≢◌, [], IfOk, IfSome, All, length};
 ghost use Rattle.rp_table.specs.Tables.{IsTable, levels_given};
 ghost use Rattle.rp_forms.specs.Columns.{names_with, is_price};

@@ -1,6 +1,7 @@
+//! The reader of tables.
 ghost use Rattle.std.specs.Prelude.{◌≡◌, ◌≤◌, [], Ok, None, IfOk, IfSome, All, length};
 ghost use Rattle.rp_table.specs.Tables.{levels_given};
-ghost use Rattle.rp_table.specs.declared.TheConstants.{LARGEST};
+ghost use Rattle.rp_limits.specs.declared.table.TheConstants.{LARGEST};
 ghost use Rattle.rp_text.specs.Denotation as Denotation;
 ghost use Rattle.rp_text.specs.Denotation.{table_in};
 ghost use Rattle.rp_sheet.specs.Refusals.{RefusedAs};

@@ -1,3 +1,4 @@
+//! Division of two words by one, in binary digits.
 ghost use Rattle.std.specs.Prelude.{◌≡◌, ◌+◌, ◌*◌, ◌^◌, ◌<◌, ◌≤◌};
 ghost use Rattle.rp_two_words.specs.InnerDivision.{taken_together};
 ghost use Rattle.rp_two_words.specs.Quotients.{IsExactQuotient};

@@ -1,3 +1,4 @@
+//! Numbers of two words of 128 bits.
 ghost use Rattle.std.specs.Prelude.{◌≡◌, ◌+◌, ◌*◌, ◌^◌, ◌<◌, ◌≤◌};
 ghost use Rattle.std.specs.Ordering.{nat_cmp};
 ghost use Rattle.rp_two_words.specs.Quotients.{IsExactQuotient};

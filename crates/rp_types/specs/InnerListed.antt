@@ -8,7 +8,7 @@ use Rattle.rp_patch.specs.PartialTypes.{Before, Begins}
 use Rattle.rp_patch.specs.Patches.{PatchList}
 use Rattle.rp_patch.specs.Types.{HasMoreTypesThan, IsRationalType, combinations}
 use Rattle.rp_types.specs.Listed.{types_of}
-use Rattle.rp_types.specs.declared.TheConstants.{COMBINATIONS, TYPES}
+use Rattle.rp_limits.specs.declared.types.TheConstants.{COMBINATIONS, TYPES}
 use Rattle.rp_types.specs.declared.fault.TypesFault.{TypesFault}
 use Rattle.rp_types.specs.declared.fault.TypesFault.TheVariants.{TooManyCombinations, TooManyTypes, NoMemory}
 use Rattle.rp_types.specs.declared.types.Rational.{Rational}

@@ -2,7 +2,7 @@
 use Rattle.std.specs.Prelude.{◌<◌, ◌≤◌, ℕ, List, map}
 use Rattle.rp_patch.specs.Patches.{PatchList}
 use Rattle.rp_patch.specs.Types.{HasMoreTypesThan, combinations}
-use Rattle.rp_types.specs.declared.TheConstants.{COMBINATIONS, TYPES}
+use Rattle.rp_limits.specs.declared.types.TheConstants.{COMBINATIONS, TYPES}
 use Rattle.rp_types.specs.declared.fault.TypesFault.{TypesFault}
 use Rattle.rp_types.specs.declared.fault.TypesFault.TheVariants.{TooManyCombinations, TooManyTypes, NoMemory}
 use Rattle.rp_types.specs.declared.types.Rational.{Rational}

@@ -1,9 +1,12 @@
+//! The limit on combinations of patches.
 ghost use Rattle.std.specs.Prelude.{◌≡◌, ◌<◌, ◌≤◌, IfErr, IfOk};
 ghost use Rattle.rp_patch.specs.Types.{combinations, patches_on as patches_of_budget};
 ghost use Rattle.rp_types.specs.InnerListed.{SaysTooMany};
 
-use crate::{COMBINATIONS, TypesFault};
-use rp_patch::{PATCHES, Patches};
+use crate::TypesFault;
+use rp_limits::patch::PATCHES;
+use rp_limits::types::COMBINATIONS;
+use rp_patch::Patches;
 
 /// How many patches budget `j` has.
 fn patches_on(patches: &Patches, j: u32) -> u32

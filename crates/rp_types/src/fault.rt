@@ -1,3 +1,4 @@
+//! The faults of patches that have no list of rational types.
 ghost use Rattle.std.specs.Prelude.{◌≡◌};
 ghost use Rattle.rp_types.specs.declared.fault.TypesFault.TheVariants as fault;
 

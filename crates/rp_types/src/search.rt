@@ -5,13 +5,14 @@ ghost use Rattle.rp_patch.specs.Types.{AreRationalTypes, combinations};
 ghost use Rattle.rp_types.specs.InnerListed.{AreListedBefore, AreListedThrough, SaysMore};
 ghost use Rattle.rp_types.specs.Listed.{SaysWhy, types_of};
 
+use crate::TypesFault;
 use crate::combinations::test_combinations;
 use crate::types::Rational;
-use crate::{COMBINATIONS, TYPES, TypesFault};
+use rp_limits::table::BUDGETS;
+use rp_limits::types::{COMBINATIONS, TYPES};
 use rp_num::Seq;
 use rp_patch::Patches;
 use rp_patch::partial_type::PartialType;
-use rp_table::BUDGETS;
 use std::alloc::Global;
 
 /// Adds a partial type with a patch of every budget.

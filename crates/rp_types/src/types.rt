@@ -1,3 +1,4 @@
+//! Rational types.
 use rp_num::Seq;
 
 /// A rational type: the number of a patch of each budget, in their order.

@@ -1,3 +1,4 @@
+//! The closed walk that rounds without an end show.
 ghost use Rattle.std.specs.Prelude.{◌≡◌, ℕ, suc, ◌*◌, ◌<◌, IfOk, IfSome, IfNone, All, length};
 ghost use Rattle.std.specs.Prelude.{slice_index};
 ghost use Rattle.rp_walk.specs.ExactTotal.{SameTotal};

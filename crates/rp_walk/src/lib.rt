@@ -3,7 +3,6 @@
 
 mod cycle;
 mod laws;
-mod limits;
 mod outcome;
 mod round;
 mod settling;
@@ -12,10 +11,6 @@ mod total;
 pub use laws::{
     least_totals_leave_no_fall, long_walk_holds_closed_part, one_cycle_is_cut_from_rounds,
 };
-pub use limits::limits_in_numbers;
 pub use outcome::Settled;
 pub use settling::settle;
 pub use total::Total;
-
-/// The greatest number of observations that a kind of total is over.
-pub const MOST_OBSERVATIONS: u32 = 4096;

@@ -1,3 +1,4 @@
+//! What the computation of least totals comes to.
 use rp_num::Seq;
 
 /// What the computation of least totals by rounds comes to.

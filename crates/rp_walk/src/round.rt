@@ -1,3 +1,4 @@
+//! One round of least totals.
 ghost use Rattle.std.specs.Prelude.{◌≡◌, ℕ, ◌<◌, ◌≤◌, IfOk, IfSome, IfNone, vec_len, replicate};
 ghost use Rattle.std.specs.Prelude.{slice_index};
 ghost use Rattle.rp_walk.specs.InnerAdvance.{IsAdvance};

@@ -1,3 +1,4 @@
+//! Least totals over walks, round by round.
 ghost use Rattle.std.specs.Prelude.{IfOk};
 ghost use Rattle.rp_walk.specs.Outcome.{IsSettled};
 ghost use Rattle.rp_walk.specs.Settled.{NoPairBreaks};

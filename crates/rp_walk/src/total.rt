@@ -1,10 +1,11 @@
+//! Kinds of totals of walks.
 ghost use Rattle.std.specs.Prelude.{◌≡◌, ℕ, ◌<◌, ◌≤◌, ◌↔◌, IsTrue, IfOk, IsErr, length};
 ghost use Rattle.std.specs.Prelude.{slice_index_or};
 ghost use Rattle.rp_walk.specs.ExactTotal.{ExactTotal, IsLess, SameTotal};
 ghost use Rattle.rp_walk.specs.Walk.{KeepsOrder, TotalRule};
 ghost use Rattle.rp_walk.specs.LeastTotals.{FitsAlike};
 ghost use Rattle.rp_walk.specs.Settled.{PairBreaks};
-ghost use Rattle.rp_walk.specs.declared.TheConstants.{MOST_OBSERVATIONS};
+ghost use Rattle.rp_limits.specs.declared.walk.TheConstants.{MOST_OBSERVATIONS};
 
 use rp_num::Wide;
 

@@ -1,3 +1,4 @@
+//! The bound on the money metric from below.
 ghost use Rattle.std.specs.Prelude.{◌<◌, ◌≤◌, All, IfOk, length, slice_index};
 ghost use Rattle.rp_simplex.specs.ProgramBound.{IsBoundOf, ShowsLeastCost};
 ghost use Rattle.rp_evidence.specs.DemandEvidence.{ProvesLowerWelfare};
@@ -8,7 +9,7 @@ ghost use Rattle.rp_farkas.specs.Prices.{HasFeasiblePrices};
 ghost use Rattle.rp_table.specs.Cost.{cost_of};
 ghost use Rattle.rp_table.specs.Spending.{spending};
 ghost use Rattle.rp_table.specs.Tables.{goods_of, records_of};
-ghost use Rattle.rp_table.specs.declared.TheConstants.{RECORDS};
+ghost use Rattle.rp_limits.specs.declared.table.TheConstants.{RECORDS};
 ghost use Rattle.rp_pref.specs.Closure.{IsWeakClosureOf};
 ghost use Rattle.rp_welfare.specs.WelfareVerdict.{IsLowerBound};
 

@@ -1,8 +1,9 @@
+//! The observations that one reaches.
 ghost use Rattle.std.specs.Prelude.{◌≤◌, ◌<◌, All, IfOk, length};
 ghost use Rattle.rp_evidence.specs.Input.{input_of_table};
 ghost use Rattle.rp_evidence.specs.Welfare.{ListsReached};
 ghost use Rattle.rp_table.specs.Tables.{records_of};
-ghost use Rattle.rp_table.specs.declared.TheConstants.{RECORDS};
+ghost use Rattle.rp_limits.specs.declared.table.TheConstants.{RECORDS};
 ghost use Rattle.rp_pref.specs.Closure.{IsWeakClosureOf};
 
 use rp_num::NoMemory;

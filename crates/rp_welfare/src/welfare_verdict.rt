@@ -1,3 +1,4 @@
+//! The bounds of an observation on the money metric.
 ghost use Rattle.std.specs.Prelude.{◌≡◌, ◌<◌, [], IfOk};
 ghost use Rattle.rp_evidence.specs.DemandEvidence.{ProvesWelfare};
 ghost use Rattle.rp_evidence.specs.Input.{input_of_table};

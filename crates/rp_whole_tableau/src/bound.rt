@@ -1,3 +1,4 @@
+//! The bound of a program, where the check of pairs takes it.
 ghost use Rattle.std.specs.Prelude.{◌≡◌, IfOk, IfSome};
 ghost use Rattle.rp_evidence.specs.BoundEvidence.{BoundHolds};
 ghost use Rattle.rp_evidence.specs.DemandEvidence.{withheld_bound};

@@ -1,3 +1,4 @@
+//! The choice of column and row.
 use crate::signed::{is_less, product};
 use crate::tableau::Tableau;
 

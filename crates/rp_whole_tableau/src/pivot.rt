@@ -1,3 +1,4 @@
+//! One pivot on whole numbers.
 use crate::signed::{difference, entry_of, product};
 use crate::tableau::{Tableau, entry_at};
 use rp_num::NoMemory;

@@ -1,3 +1,4 @@
+//! What is read off the last tableau.
 use crate::tableau::Tableau;
 use rp_farkas::{EVIDENCE_WIDTH, Entry, Pair};
 use rp_num::{NoMemory, Seq, gcd};

@@ -1,3 +1,4 @@
+//! The run, with a limit on its pivots.
 use crate::choice::{entering_column, leaving_row};
 use crate::readout::pair_of;
 use crate::tableau::Tableau;

@@ -1,3 +1,4 @@
+//! Whole numbers with a sign.
 use rp_two_words::TwoWords;
 use std::cmp::Ordering;
 

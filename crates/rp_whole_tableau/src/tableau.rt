@@ -1,3 +1,4 @@
+//! The tableau on whole numbers over one denominator.
 ghost use Rattle.std.specs.Prelude.{◌<◌};
 
 use rp_farkas::Lp;

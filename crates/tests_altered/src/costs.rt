@@ -1,3 +1,4 @@
+//! Altered evidence on cost.
 use crate::altered_costs::{ASKED, CASES, COUNT, TABLES};
 use crate::numbers::Numbers;
 use rp_cost::{CostBounds, Upper, check_cost, read_asked, read_tech};

@@ -1,3 +1,4 @@
+//! Altered evidence on menus.
 ghost use Rattle.std.specs.Prelude.{IfOk};
 ghost use Rattle.rp_orders.specs.OrderMixtures.{AreUnitsOf};
 

@@ -1,3 +1,4 @@
+//! Altered evidence on a money pump.
 use crate::altered_pumps::{CASES, COUNT, TABLES};
 use crate::numbers::Numbers;
 use rp_pump::{PumpPart, check_pump};

@@ -2,7 +2,7 @@
 ghost use Rattle.std.specs.Prelude.{◌↔◌, All, IsTrue};
 ghost use Rattle.rp_table.specs.Limits.{IsPrice};
 
-use rp_table::LARGEST;
+use rp_limits::table::LARGEST;
 use std::alloc::Global;
 use std::test::Fail;
 

@@ -1,3 +1,4 @@
+//! Calls as these tests make them.
 use rp_call::{Ending, answer};
 use std::alloc::Global;
 use std::test::Fail;

@@ -1,3 +1,4 @@
+//! How calls end, with their texts.
 use crate::calls::{Call, ends, sizes_of};
 use std::alloc::Global;
 use std::test::Fail;

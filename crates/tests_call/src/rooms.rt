@@ -1,3 +1,4 @@
+//! Calls with too little room.
 use crate::calls::{Call, has_text, made};
 use std::test::Fail;
 use tests_inputs::tables::CONTRADICTION;

@@ -1,3 +1,4 @@
+//! Forged certificates on a table.
 use std::alloc::Global;
 use std::test::Fail;
 use tests_inputs::tables::{

@@ -1,3 +1,4 @@
+//! Numbers and fractions of certificates.
 use rp_num::{Frac, read_frac, read_i128, read_u128};
 use std::test::Fail;
 

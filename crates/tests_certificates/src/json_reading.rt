@@ -1,3 +1,4 @@
+//! What texts denote as certificates.
 use rp_evidence::{Certificate, Kind};
 use rp_json::{JsonFault, read, write};
 use std::alloc::Global;

@@ -1,3 +1,4 @@
+//! The texts of certificates.
 use rp_evidence::{
     AfriatPart, Certificate, Efficiency, Garp, Homothetic, Item, Kind, Level, Numbers, Quasi,
 };

@@ -1,3 +1,4 @@
+//! Certificates with levels.
 use rp_run::Status;
 use std::test::Fail;
 use tests_inputs::tables::{AT_799, AT_ALL, CONTRADICTION, MORE_AND_LESS_AT_ALL, OF_AT_799};

@@ -1,3 +1,4 @@
+//! Texts that are refused as certificates.
 use rp_run::Status;
 use std::alloc::Global;
 use std::test::Fail;

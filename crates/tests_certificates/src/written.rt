@@ -1,3 +1,4 @@
+//! Certificates that are written, read and accepted.
 use rp_evidence::Kind;
 use rp_json::{JsonFault, read, write};
 use rp_run::Status;

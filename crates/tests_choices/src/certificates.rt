@@ -1,3 +1,4 @@
+//! Certificates on random choices.
 use crate::lines::{ACCEPTED, CHECKED};
 use rp_run::Status;
 use std::test::Fail;

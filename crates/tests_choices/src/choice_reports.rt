@@ -1,3 +1,4 @@
+//! Reports on choices from budgets.
 use crate::lines::RANDOM;
 use std::test::Fail;
 use tests_inputs::choices::{

@@ -1,3 +1,4 @@
+//! Forged certificates on random choices.
 use crate::lines::CHECKED;
 use rp_run::Status;
 use std::alloc::Global;

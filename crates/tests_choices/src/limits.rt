@@ -1,3 +1,4 @@
+//! Both sides of the limits of choices from budgets.
 ghost use Rattle.std.specs.Prelude.{◌≤◌};
 
 use crate::lines::{ACCEPTED, CHECKED, RANDOM};

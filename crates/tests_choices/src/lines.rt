@@ -1,3 +1,4 @@
+//! The words of these tests.
 /// The words over budgets and choices, and over a certificate of them.
 pub(crate) const RANDOM: &[&str] = &["rp", "random", "b.csv", "c.csv"];
 

@@ -1,3 +1,4 @@
+//! Reports on choices from menus, and their faults.
 use std::test::Fail;
 use tests_support::{filled, prints, refuses};
 

@@ -1,3 +1,4 @@
+//! Menus of as many letters as there may be.
 use rp_run::Status;
 use std::test::Fail;
 use tests_support::{prints, run_over};

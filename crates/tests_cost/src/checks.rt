@@ -1,3 +1,4 @@
+//! Bounds on costs, and forged ones.
 use rp_cost::{Asked, CostBounds, TableFault, Tech, Upper, check_cost, read_asked, read_tech};
 use rp_evidence::Bound;
 use rp_farkas::{Entry, Pair};

@@ -1,3 +1,4 @@
+//! Both sides of the limits of technologies.
 use crate::readers::{Wanted, reads_technology, technology_in};
 use rp_cost::{TableFault, Tech, read_asked};
 use std::alloc::{AllocError, Global};

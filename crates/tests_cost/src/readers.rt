@@ -1,3 +1,4 @@
+//! The readers of technologies and of asked outputs.
 use rp_cost::{Asked, TableFault, Tech, read_asked, read_tech};
 use std::alloc::{AllocError, Global};
 use std::process::Abort;

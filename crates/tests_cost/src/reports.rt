@@ -1,3 +1,4 @@
+//! Reports on technologies.
 ghost use Rattle.rp_cost.specs.Axioms.{MeetsCost};
 
 use crate::limits::repeated;

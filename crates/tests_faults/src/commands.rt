@@ -1,3 +1,4 @@
+//! Failures of commands over tables.
 use crate::failures::{Case, WHOLE, each_read_fails, each_write_fails};
 use rp_run::Status;
 use std::test::Fail;

@@ -1,3 +1,4 @@
+//! Each read and each write failing in turn.
 use rp_run::Status;
 use std::alloc::Global;
 use std::process::Abort;

@@ -1,3 +1,4 @@
+//! Each front of a file.
 use rp_run::Status;
 use std::alloc::Global;
 use std::process::Abort;

@@ -1,3 +1,4 @@
+//! An outside that never fails, and the statuses.
 use rp_outside::{MemFile, SureDesk, SureSink};
 use rp_run::{Status, run_surely};
 use std::alloc::Global;

@@ -1,6 +1,6 @@
 //! Tests of exact numbers: products and orders of fractions and divisors, near the width and on both sides of a word,
 //! decimals, and printing.
-use rp_num::{Frac, NoMemory, NumFault, gcd, print_frac, print_i128, print_u128, read_decimal};
+use rp_num::{Frac, NoMemory, NumFault, gcd, print_frac, print_u128, read_decimal};
 use std::alloc::Global;
 use std::cmp::Ordering;
 use std::process::Abort;
@@ -226,7 +226,6 @@ fn decimals_are_read_exactly(rt: HostRuntime) {
 /// A number that is printed.
 enum Number {
     Natural(u128),
-    Whole(i128),
     Fraction(u128, u128),
 }
 
@@ -234,7 +233,6 @@ enum Number {
 fn push_number(alloc: Global, out: &mut Vec<u8>, number: &Number) -> Result<(), NoMemory> {
     match number {
         Number::Natural(n) => print_u128(alloc, out, *n),
-        Number::Whole(n) => print_i128(alloc, out, *n),
         Number::Fraction(num, den) => print_frac(alloc, out, fraction(*num, *den)),
     }
 }
@@ -249,10 +247,9 @@ fn printed(alloc: Global, numbers: &[Number]) -> Result<Vec<u8>, Fail> {
     Ok(out)
 }
 
-const NUMBERS: [Number; 5] = [
+const NUMBERS: [Number; 4] = [
     Number::Natural(0),
     Number::Natural(u128::MAX),
-    Number::Whole(i128::MIN),
     Number::Fraction(6, 3),
     Number::Fraction(6, 4),
 ];

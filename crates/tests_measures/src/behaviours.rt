@@ -1,3 +1,4 @@
+//! Tables that words draw.
 use rp_evidence::Garp;
 use rp_garp::garp;
 use rp_power::drawn;

@@ -1,3 +1,4 @@
+//! Reports of `cost`.
 use std::alloc::Global;
 use std::test::Fail;
 use tests_support::{filled, prints, refuses};

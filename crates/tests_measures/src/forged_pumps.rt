@@ -1,3 +1,4 @@
+//! Forged evidence on a money pump.
 use rp_num::Seq;
 use rp_pump::{PumpPart, check_pump};
 use rp_table::Costs;

@@ -1,3 +1,4 @@
+//! How many behaviours fail the axiom.
 ghost use Rattle.std.specs.Prelude.{◌≡◌, []};
 ghost use Rattle.rp_table.specs.Cost.{IsCostsOf};
 

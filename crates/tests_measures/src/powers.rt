@@ -1,3 +1,4 @@
+//! Reports of `power`.
 use crate::power_counts::PARALLEL;
 use rp_power::report_power;
 use rp_text::read_table;

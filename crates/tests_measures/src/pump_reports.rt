@@ -1,3 +1,4 @@
+//! The pumps of worked tables.
 use rp_pump::{PumpPart, check_pump, pump, report_pump};
 use rp_table::{Costs, Table};
 use rp_text::read_table;

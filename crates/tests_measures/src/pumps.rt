@@ -1,3 +1,4 @@
+//! Reports of `pump`.
 use crate::pump_reports::WORKED;
 use std::alloc::Global;
 use std::test::Fail;

@@ -3,11 +3,12 @@ ghost use Rattle.std.specs.Prelude.{◌≤◌, IfOk, IfSome};
 ghost use Rattle.rp_orders.specs.OrderMixtures.{AreUnitsOf};
 
 use rp_evidence::Share;
+use rp_limits::patch::UNITS;
 use rp_menu::{Menus, read_menus};
 use rp_num::Seq;
 use rp_orders::{MenuPart, check_menu, report_menus};
+use rp_patch::apportion;
 use rp_patch::apportionment::Units;
-use rp_patch::{UNITS, apportion};
 use std::alloc::Global;
 use std::process::Abort;
 use std::test::Fail;

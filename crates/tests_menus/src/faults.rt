@@ -1,3 +1,4 @@
+//! Files of choices from menus that are refused.
 use crate::cases::{Asked, assert_text, assert_told};
 use rp_menu::MenuFault;
 use std::alloc::Global;

@@ -1,3 +1,4 @@
+//! Both sides of the limits of menus.
 use crate::cases::assert_text;
 use crate::given::told_menus;
 use std::alloc::{AllocError, Global};

@@ -1,3 +1,4 @@
+//! The order of menus and cells.
 use crate::cases::{Asked, assert_told};
 use std::test::Fail;
 

@@ -1,3 +1,4 @@
+//! The units of cells.
 use crate::cases::{Asked, assert_text, assert_told};
 use rp_patch::ApportionFault;
 use std::test::Fail;

@@ -1,8 +1,9 @@
 //! Units of the places of two groups.
 ghost use Rattle.std.specs.Prelude.{◌<◌, ◌≤◌, IfSome};
-ghost use Rattle.rp_patch.specs.declared.TheConstants.{UNITS};
+ghost use Rattle.rp_limits.specs.declared.patch.TheConstants.{UNITS};
 
-use rp_patch::{ApportionFault, UNITS, apportion};
+use rp_limits::patch::UNITS;
+use rp_patch::{ApportionFault, apportion};
 use std::alloc::{AllocError, Global};
 use std::process::Abort;
 use std::test::Fail;

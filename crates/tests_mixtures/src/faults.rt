@@ -1,3 +1,4 @@
+//! The faults of patches and types.
 use rp_patch::PatchFault;
 use rp_types::TypesFault;
 use std::alloc::{AllocError, Global};

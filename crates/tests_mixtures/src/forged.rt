@@ -5,9 +5,10 @@ ghost use Rattle.rp_evidence.specs.declared.certificate.Kind.TheVariants.{Random
 
 use rp_check::{Verdict, check_random};
 use rp_evidence::{Certificate, Item, Kind, RandomPart, Share};
+use rp_limits::patch::UNITS;
 use rp_num::Seq;
+use rp_patch::Patches;
 use rp_patch::of_choices::patches;
-use rp_patch::{Patches, UNITS};
 use rp_text::{read_budgets, read_choices};
 use std::alloc::Global;
 use std::process::Abort;

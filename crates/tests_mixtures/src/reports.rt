@@ -1,3 +1,4 @@
+//! Reports on random choices.
 ghost use Rattle.std.specs.Prelude.{◌≤◌, All, IfSome};
 ghost use Rattle.rp_evidence.specs.Kinds.{IsOfKind};
 ghost use Rattle.rp_evidence.specs.declared.certificate.Kind.TheVariants.{Random as RandomKind};
@@ -5,7 +6,8 @@ ghost use Rattle.rp_evidence.specs.declared.certificate.Kind.TheVariants.{Random
 use crate::forged::{alone, assert_text, certificate, followed, patches_of};
 use rp_check::{Verdict, check_random};
 use rp_evidence::Item;
-use rp_patch::{Patches, UNITS};
+use rp_limits::patch::UNITS;
+use rp_patch::Patches;
 use rp_random::random;
 use rp_report::report_random;
 use rp_types::rational_types;

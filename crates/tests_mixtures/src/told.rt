@@ -2,8 +2,9 @@
 ghost use Rattle.std.specs.Prelude.{◌≤◌, IfSome};
 
 use rp_evidence::{RandomPart, Share};
+use rp_limits::patch::UNITS;
 use rp_patch::of_choices::patches;
-use rp_patch::{PatchFault, Patches, UNITS};
+use rp_patch::{PatchFault, Patches};
 use rp_random::random;
 use rp_text::{read_budgets, read_choices};
 use rp_types::{Rational, rational_types};

@@ -1,3 +1,4 @@
+//! Words over choices that are taken.
 use crate::words_over_files::each_is_answered_by_the_usage;
 use std::test::Fail;
 use tests_inputs::choices::{CROSSED, OF_VIOLATION, OF_VIOLATION_PER_100, VIOLATION};

@@ -1,3 +1,4 @@
+//! Files of choices that are refused.
 use rp_run::Status;
 use std::test::Fail;
 use tests_inputs::choices::{COPRIME, CROSSED, OF_VIOLATION, VIOLATION};

@@ -1,3 +1,4 @@
+//! Files beside a table that are refused.
 use rp_run::Status;
 use std::alloc::Global;
 use std::test::Fail;

@@ -1,3 +1,4 @@
+//! Words that are answered by the usage.
 use crate::words_over_files::{FILES, each_is_answered_by_the_usage};
 use std::test::Fail;
 

@@ -1,3 +1,4 @@
+//! Tables that are refused.
 use std::alloc::Global;
 use std::test::Fail;
 use tests_inputs::tables::{AT_800, CONTRADICTION};

@@ -1,3 +1,4 @@
+//! Words that are taken.
 use crate::words_over_files::FILES;
 use std::alloc::Global;
 use std::test::Fail;

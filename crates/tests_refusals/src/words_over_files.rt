@@ -1,3 +1,4 @@
+//! Words that are refused over files that could be read.
 use rp_run::Status;
 use std::alloc::Global;
 use std::test::Fail;

@@ -1,3 +1,4 @@
+//! Reports of `analyse`.
 use std::alloc::Global;
 use std::test::Fail;
 use tests_inputs::tables::{ALONE, APART, CONTRADICTION, EQUAL, MORE_AND_LESS, NINE_TENTHS, THREE};

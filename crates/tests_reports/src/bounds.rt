@@ -1,3 +1,4 @@
+//! Reports of `demand` and `welfare`.
 use std::alloc::Global;
 use std::test::Fail;
 use tests_inputs::tables::{ALONE, APART, CONTRADICTION, MORE_AND_LESS};

@@ -1,3 +1,4 @@
+//! Reports on tables of the greatest numbers.
 use crate::long_tables::all_numbers;
 use rp_run::Status;
 use std::alloc::Global;

@@ -1,3 +1,4 @@
+//! Reports on tables with levels.
 use std::test::Fail;
 use tests_inputs::tables::{AT_799, AT_800, MORE_AND_LESS_AT_ALL, OF_AT_799};
 use tests_support::prints;

@@ -1,3 +1,4 @@
+//! Reports on tables of the most observations.
 use rp_run::Status;
 use std::alloc::Global;
 use std::test::Fail;

@@ -1,3 +1,4 @@
+//! Reports of `pairs`.
 use std::test::Fail;
 use tests_inputs::tables::{ALONE, APART, AT_799, AT_800, CONTRADICTION, THREE};
 use tests_support::prints;

@@ -1,3 +1,4 @@
+//! Reports of `trial`.
 ghost use Rattle.std.specs.Prelude.{◌≤◌};
 
 use rp_run::trial_table;

@@ -1,3 +1,4 @@
+//! Reports of `utility`.
 use std::test::Fail;
 use tests_inputs::tables::{CONTRADICTION, MORE_AND_LESS};
 use tests_support::prints;

@@ -1,3 +1,4 @@
+//! How `run` is to end, row by row.
 use crate::running::{is_ended, run_over};
 use rp_run::Status;
 use std::alloc::Global;

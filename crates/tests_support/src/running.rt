@@ -1,3 +1,4 @@
+//! `run` over files in memory.
 use rp_outside::{DripDesk, DripSink, MemDesk, MemFile, MemSink};
 use rp_run::{Status, run};
 use std::alloc::Global;

@@ -3,7 +3,7 @@ use crate::shared::table_in;
 use rp_afriat::{afriat, utility_at};
 use rp_evidence::AfriatPart;
 use rp_garp::GarpTest;
-use rp_table::LARGEST;
+use rp_limits::table::LARGEST;
 use std::alloc::Global;
 use std::process::Abort;
 use std::test::Fail;

@@ -1,7 +1,7 @@
 //! Tests of walks with totals: the least ones, a total that does not fit, and the quasilinear sums.
 ghost use Rattle.std.specs.Prelude.{◌≡◌, ◌<◌, ◌≤◌};
 ghost use Rattle.tests_verdicts.specs.Ladder.{ladder_cost};
-ghost use Rattle.rp_walk.specs.declared.TheConstants.{MOST_OBSERVATIONS};
+ghost use Rattle.rp_limits.specs.declared.walk.TheConstants.{MOST_OBSERVATIONS};
 
 use crate::shared::costs_of;
 use rp_evidence::Quasi;

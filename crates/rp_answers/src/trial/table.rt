@@ -1,6 +1,7 @@
+//! The table that the words of a seed draw.
 ghost use Rattle.std.specs.Prelude.{◌≡◌, ◌≤◌, IfOk, OnOk};
 ghost use Rattle.rp_num.specs.Below.{listed};
-ghost use Rattle.rp_table.specs.declared.TheConstants.{RECORDS, GOODS};
+ghost use Rattle.rp_limits.specs.declared.table.TheConstants.{RECORDS, GOODS};
 ghost use Rattle.rp_answers.specs.TrialTable.{good_name, trial_of, trial_price};
 ghost use Rattle.rp_power.specs.Words.{after_words, word_after};
 ghost use Rattle.rp_power.specs.DrawnNumbers.{drawn_numbers};

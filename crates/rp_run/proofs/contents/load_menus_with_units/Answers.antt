@@ -5,7 +5,7 @@ use Rattle.rp_command_line.specs.Ranges.{IsSized}
 use Rattle.rp_command_line.specs.declared.commands.FileSet.TheVariants.{Menus}
 use Rattle.rp_run.specs.InnerLoadings.{AreContentsOf, LoadsLine}
 use Rattle.rp_run.specs.MenuContents.{MenusIn}
-use Rattle.rp_run.specs.declared.files.TheConstants.{MOST_BYTES}
+use Rattle.rp_limits.specs.declared.run.TheConstants.{MOST_BYTES}
 use Rattle.rp_run.specs.declared.contents.Contents.TheVariants as contents
 use Rattle.rp_run.proofs.LoadLemmas.{IsOverOne, failed_on, one_held, one_none, over_one}
 use Rattle.rp_run.proofs.MenuFiles.{menus_load, no_menus_load, no_units_load}

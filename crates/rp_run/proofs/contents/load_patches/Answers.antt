@@ -7,7 +7,7 @@ use Rattle.rp_command_line.specs.declared.commands.FileSet.TheVariants.{Choices}
 use Rattle.rp_run.specs.ChoiceContents.{TypedPatchesOf}
 use Rattle.rp_run.specs.InnerLoadings.{AreContentsOf, LoadsLine}
 use Rattle.rp_run.specs.Readings.{AndThen, Just, NumbersIn, numbers_in}
-use Rattle.rp_run.specs.declared.files.TheConstants.{MOST_BYTES}
+use Rattle.rp_limits.specs.declared.run.TheConstants.{MOST_BYTES}
 use Rattle.rp_run.specs.declared.contents.Contents.TheVariants as contents
 use Rattle.rp_run.proofs.FileLemmas.{then_caused}
 use Rattle.rp_run.proofs.LoadLemmas.{IsOverTwo, failed_on, over_two, two_first_none, two_held, two_last_none, two_second_none}

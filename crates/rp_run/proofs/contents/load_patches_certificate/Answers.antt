@@ -8,7 +8,7 @@ use Rattle.rp_command_line.specs.declared.commands.FileSet.TheVariants.{ChoicesA
 use Rattle.rp_run.specs.ChoiceContents.{TypedPatchesOf}
 use Rattle.rp_run.specs.InnerLoadings.{AreContentsOf, LoadsLine}
 use Rattle.rp_run.specs.Readings.{AndThen, CertificateIn, Just, numbers_in}
-use Rattle.rp_run.specs.declared.files.TheConstants.{MOST_BYTES, MOST_CERTIFICATE_BYTES}
+use Rattle.rp_limits.specs.declared.run.TheConstants.{MOST_BYTES, MOST_CERTIFICATE_BYTES}
 use Rattle.rp_run.specs.declared.contents.Contents.TheVariants as contents
 use Rattle.rp_run.proofs.FileLemmas.{then_caused}
 use Rattle.rp_run.proofs.LoadLemmas.{IsOverThree, failed_on, over_three, three_first_none, three_held, three_last_none, three_second_none, three_third_none}

@@ -5,7 +5,7 @@ use Rattle.rp_command_line.specs.Ranges.{IsSized}
 use Rattle.rp_command_line.specs.declared.commands.FileSet.TheVariants.{Table}
 use Rattle.rp_run.specs.InnerLoadings.{AreContentsOf, LoadsLine}
 use Rattle.rp_run.specs.Readings.{TakenTable}
-use Rattle.rp_run.specs.declared.files.TheConstants.{MOST_BYTES}
+use Rattle.rp_limits.specs.declared.run.TheConstants.{MOST_BYTES}
 use Rattle.rp_run.specs.declared.contents.Contents.TheVariants as contents
 use Rattle.rp_run.proofs.LoadLemmas.{IsOverOne, failed_on, one_held, one_none, over_one}
 use Rattle.rp_run.proofs.contents.load_table_alone.Goals as goal

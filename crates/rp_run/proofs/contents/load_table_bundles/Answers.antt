@@ -6,7 +6,7 @@ use Rattle.rp_command_line.specs.Ranges.{IsSized}
 use Rattle.rp_command_line.specs.declared.commands.FileSet.TheVariants.{TableAndBundles}
 use Rattle.rp_run.specs.InnerLoadings.{AreContentsOf, LoadsLine}
 use Rattle.rp_run.specs.Readings.{Just, NumbersIn, taken_table}
-use Rattle.rp_run.specs.declared.files.TheConstants.{MOST_BYTES}
+use Rattle.rp_limits.specs.declared.run.TheConstants.{MOST_BYTES}
 use Rattle.rp_run.specs.declared.contents.Contents.TheVariants as contents
 use Rattle.rp_run.proofs.LoadLemmas.{IsOverTwo, failed_on, over_two, two_first_none, two_held, two_second_none}
 use Rattle.rp_run.proofs.contents.load_table_bundles.Goals as goal
