@@ -1,0 +1,112 @@
+"""The crates as their README.md tell them, and the tables of README and ARCHITECTURE that are drawn from these.
+
+The README of a crate begins with its name; then comes what it has, in one paragraph, and the part of the suite that it belongs to
+with what is proved of it in short, where it has something to prove:
+
+    # rp_grid
+
+    Rows of equal length in one raw block.
+
+    *Numbers and files*. Proved: rows in one raw block that is used within bounds.
+
+README has what is proved, where crates of which the same is said share a row; ARCHITECTURE has what each has, part by part.
+"""
+import os
+import re
+
+from shared import TOP
+
+PARTS = ["Numbers and files", "Definitions and laws", "Searches", "Checker", "Texts", "Top", "Tests"]
+HEAD = re.compile(r"# (\w+)\n\n((?:[^#\n].*\n)+)\n\*([\w ]+)\*\.(?:\s+Proved:\s+((?:.+\n)+?))?(?:\n|\Z)")
+# The tables that are drawn: the document, and the row with which its table begins.
+README, ARCHITECTURE = ("README.md", "| crate | what is proved of it |"), ("docs/ARCHITECTURE.md", "| crate | what it has |")
+
+
+class Unread(Exception):
+    """A document has not the form that is looked for."""
+
+
+class Crate:
+    """What the head of a README says of a crate."""
+
+    def __init__(self, name, text):
+        found = HEAD.match(text)
+        if not found or found[1] != name or found[3] not in PARTS:
+            raise Unread(f"crates/{name}/README.md does not begin with the name, what it has, and one of the parts {', '.join(PARTS)}")
+        self.name, self.part = name, found[3]
+        self.has, self.proved = (" ".join((it or "").split()).rstrip(".") for it in (found[2], found[4]))
+
+
+def file_of(name):
+    return f"crates/{name}/README.md"
+
+
+def names():
+    """Returns the names of all crates, in the order of crates.txt."""
+    with open(f"{TOP}/crates.txt", encoding="utf-8") as it:
+        return re.findall(r"(?m)^(\w+)[^:#\n]*:", it.read())
+
+
+def read(text):
+    """Returns the crates by their documents, of which `text` gives the text of a file."""
+    found = []
+    for name in names():
+        try:
+            found.append(Crate(name, text(file_of(name))))
+        except FileNotFoundError as lacks:
+            raise Unread(f"crates/{name} has no README.md") from lacks
+    return found
+
+
+def rows_of_proved(crates):
+    """Returns the rows of README: crates of which the same is proved share one, where the first of them stands."""
+    rows = {}
+    for it in sorted(crates, key=lambda one: PARTS.index(one.part)):
+        if it.proved:
+            rows.setdefault(it.proved, []).append(f"`{it.name}`")
+    return [f"| {', '.join(own)} | {proved} |" for proved, own in rows.items()]
+
+
+def rows_of_parts(crates):
+    """Returns the rows of ARCHITECTURE: the crates of each part under its name."""
+    rows = []
+    for part in PARTS:
+        rows.append(f"| **{part}** | |")
+        rows += [f"| `{it.name}` | {it.has} |" for it in crates if it.part == part]
+    return rows
+
+
+def with_table(text, place, rows):
+    """Returns the text of a document with these rows in its table."""
+    file, header = place
+    found = re.search(re.escape(header) + r"\n\|---\|---\|\n(?:\|.*\n)*", text)
+    if not found:
+        raise Unread(f"{file} has no table {header}")
+    table = "\n".join([header, "|---|---|", *rows]) + "\n"
+    return text[: found.start()] + table + text[found.end() :]
+
+
+def drawn(text):
+    """Returns the documents with the tables of crates as they are to be, by their names."""
+    crates = read(text)
+    return {place[0]: with_table(text(place[0]), place, rows(crates)) for place, rows in ((README, rows_of_proved), (ARCHITECTURE, rows_of_parts))}
+
+
+def wrong(text):
+    """Yields what is wrong with the documents of the crates, and with the tables."""
+    try:
+        told = drawn(text)
+    except Unread as lacks:
+        yield str(lacks)
+        return
+    for file, own in told.items():
+        if own != text(file):
+            yield f"{file} has another table of crates than crates/*/README.md tell: run tools/make/catalogue"
+    known = names()
+    for name in known:
+        own = text(file_of(name))
+        for test in sorted(set(re.findall(r"`(tests_\w+)`", own)) - set(known)):
+            yield f"{file_of(name)} names {test}, which is no crate"
+        for file in sorted(set(re.findall(r"`(?:specs/|proofs/)?(\w+\.antt)`", own))):
+            if not any(os.path.isfile(f"{TOP}/crates/{name}/{folder}/{file}") for folder in ("specs", "proofs")):
+                yield f"{file_of(name)} names {file}, which is not there"
