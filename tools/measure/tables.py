@@ -84,9 +84,9 @@ class HomotheticTable:
         return True
 
 
-def drawn(table, consumer, observations):
+def drawn(table, consumer, observations, tries=TRIES):
     """Fills a table; returns its records, or None where too many purchases broke it."""
-    for _ in range(TRIES):
+    for _ in range(tries):
         prices = consumer.prices()
         bundle = consumer.bundle(prices)
         table.take(prices, bundle, consumer.level(bundle))

@@ -1,11 +1,10 @@
 // Solves linear programs in whole numbers by QSopt_ex, an exact solver: what the program's own simplex is measured beside.
 //
 // A file has programs one after another, the greatest c.x with A x <= b and x >= 0: how many rows and columns, b, and then
-// for each column its c and its entries. Of each the value is printed, or a dash; at the end the seconds inside the solver.
+// for each column its c and its entries. Of each the value is printed, or a dash; at the end the seconds of a processor inside the solver.
 // Built by g++ -O2 with -lqsopt_ex -lgmp (Debian: libqsopt-ex-dev).
-#include <chrono>
 #include <cstdio>
-#include <cstdlib>
+#include <ctime>
 #include <fstream>
 #include <vector>
 
@@ -60,14 +59,14 @@ int main(int, char **words) {
     double seconds = 0;
     QSexactStart();
     while (read(file, program)) {
-        auto began = std::chrono::steady_clock::now();
+        clock_t began = clock();
         mpq_QSdata *it = made(program);
         int status = 0;
         bool is_solved = !QSexact_solver(it, nullptr, nullptr, nullptr, PRIMAL_SIMPLEX, &status) && status == QS_LP_OPTIMAL;
         mpq_t value;
         mpq_init(value);
         if (is_solved) mpq_QSget_objval(it, &value);
-        seconds += std::chrono::duration<double>(std::chrono::steady_clock::now() - began).count();
+        seconds += double(clock() - began) / CLOCKS_PER_SEC;
         is_solved ? gmp_printf("%Qd\n", value) : puts("-");
         mpq_clear(value);
         mpq_QSfree_prob(it);
