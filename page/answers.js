@@ -181,7 +181,8 @@ export function tableAnswers(output, table, certificate, hasOwnMoney = false) {
   if (hasOwnMoney) {
     notes.push(
       say(
-        "Prices are intercepts exchanged, so each observation has money of its own. The quasilinear test adds money of " +
+        "Prices are intercepts exchanged, so each observation has money of its own. The quasilinear test adds money " +
+        "of " +
           "several observations, and is not told; in the report and the certificate it speaks of these prices alone.",
       ),
     );

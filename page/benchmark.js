@@ -1,5 +1,6 @@
 /**
- * Random behaviour beside people, as in the figure of Choi, Fisman, Gale and Kariv (2007): drawn uniformly on the budget
+ * Random behaviour beside people, as in the figure of Choi, Fisman, Gale and Kariv (2007): drawn uniformly on the
+ * budget
  * lines (page/draws.js), and answered by the program.
  */
 import { make, tableOf } from "./dom.js";
@@ -10,7 +11,8 @@ import { isAbove, parseReport } from "./reports.js";
 const [AT_ONCE, THRESHOLDS] = [50, [90, 95]];
 
 /**
- * Draws so many behaviours from a seed, each on the budgets of one table after another and then anew; `onPart` takes the
+ * Draws so many behaviours from a seed, each on the budgets of one table after another and then anew; `onPart` takes
+ * the
  * reports as they come. `tables` are functions that give the purchases of one.
  */
 export async function drawBehaviours(client, tables, seed, count, onPart) {
@@ -40,7 +42,8 @@ function drawnVerdict({ status, output, told }) {
 }
 
 /** How many of these, and which part of them, in words. */
-export const shareInWords = (count, all) => (all ? `${count} of ${all} (${((100 * count) / all).toFixed(1)}%)` : "none");
+export const shareInWords = (count, all) =>
+  all ? `${count} of ${all} (${((100 * count) / all).toFixed(1)}%)` : "none";
 
 /** How many of these indices are above each threshold, exactly. */
 export function aboveThresholds(indices) {

@@ -39,8 +39,8 @@ export function commandForm(client, examples) {
       drawn();
     },
   });
-  const written = { id: "command-line", value: "analyse contradiction.csv", spellcheck: false, oninput: () => cleared() };
-  const line = make("input", written);
+  const line = make("input", { id: "command-line", value: "analyse contradiction.csv", spellcheck: false });
+  line.addEventListener("input", cleared);
   const result = make("div", { id: "command-result", attrs: { "aria-live": "polite" } });
   files.set("contradiction.csv", bytesOf(examples["contradiction.csv"]));
   drawn();

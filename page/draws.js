@@ -1,5 +1,6 @@
 /**
- * Random behaviour drawn uniformly on the budget line (Bronars 1987): the same words and the same bundles as the clients
+ * Random behaviour drawn uniformly on the budget line (Bronars 1987): the same words and the same bundles as the
+ * clients
  * for Python and R draw from a seed (clients/tests/behaviours.json). All numbers are whole and at most 2^53, which
  * floating point has exactly.
  */
@@ -49,7 +50,9 @@ export function amountsOf(table) {
   return table.prices.map((own, at) => own.map((price) => Number((spent[at] * times()) / (price * over()))));
 }
 
-/** One behaviour: at each observation a bundle of whole numbers, each division of what is spent as likely as another. */
+/**
+ * One behaviour: at each observation a bundle of whole numbers, each division of what is spent as likely as another.
+ */
 export function behaviour(amounts, word) {
   return amounts.map((own) => {
     const cuts = own.slice(1).map(() => Math.floor((word() - 1) / 8)).sort((a, b) => a - b);

@@ -35,7 +35,13 @@ const KINDS = [
     key: "budgets",
     says: "choices from budgets",
     slots: [
-      { key: "budgets", file: "budgets", title: "Budgets", note: "p_NAME for each good, and w, the income.", examples: ["budgets.csv"] },
+      {
+        key: "budgets",
+        file: "budgets",
+        title: "Budgets",
+        note: "p_NAME for each good, and w, the income.",
+        examples: ["budgets.csv"],
+      },
       {
         key: "choices",
         file: "choices",
@@ -48,7 +54,15 @@ const KINDS = [
   {
     key: "menus",
     says: "choices from menus",
-    slots: [{ key: "menus", file: "menus", title: "Choices from menus", note: "menu, choice and n.", examples: ["menus.csv"] }],
+    slots: [
+      {
+        key: "menus",
+        file: "menus",
+        title: "Choices from menus",
+        note: "menu, choice and n.",
+        examples: ["menus.csv"],
+      },
+    ],
   },
   {
     key: "production",
@@ -61,7 +75,13 @@ const KINDS = [
         note: "w_NAME and x_NAME for each input, y, and possibly p.",
         examples: ["technology.csv"],
       },
-      { key: "outputs", file: "asked", title: "Outputs that are asked", note: "w_NAME, and y.", examples: ["outputs.csv"] },
+      {
+        key: "outputs",
+        file: "asked",
+        title: "Outputs that are asked",
+        note: "w_NAME, and y.",
+        examples: ["outputs.csv"],
+      },
     ],
   },
 ];
@@ -204,7 +224,9 @@ function choose(chosen) {
   at("slots").replaceChildren(...units, ...slots.map((it) => it.place));
 }
 
-/** Gives files that were dropped beside the places to those that they fit by their columns' names, or in their order. */
+/**
+ * Gives files that were dropped beside the places to those that they fit by their columns' names, or in their order.
+ */
 async function takeDropped(files) {
   if (slots.length === 1 || files.some((it) => it.size > 2 ** 22)) {
     slots[0].takeFile(files[0]);

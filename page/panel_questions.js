@@ -8,13 +8,24 @@ import { bytesOf, parseRecords, placeInFile, placeInWords, writeRecords } from "
 const BOUND = new RegExp(
   "^(?:good|welfare prices .* observation) (\\d+) lower (\\S+|withheld \\d+) upper (\\S+|withheld \\d+)(?: at \\d+)?$",
 );
-const BOUND_COLUMNS = ["household", "status", "record", "of", "lower", "lower_decimal", "upper", "upper_decimal", "told"];
+const BOUND_COLUMNS = [
+  "household",
+  "status",
+  "record",
+  "of",
+  "lower",
+  "lower_decimal",
+  "upper",
+  "upper_decimal",
+  "told",
+];
 
 /**
  * What a household is answered at new prices, a row for each bound, in the units of the file: `of` is a good, or an
  * observation; `refusal` says why a household is refused.
  */
-export function boundRows(kind, { household, status, output, told }, goods, pricePlaces, refusal = (text) => text.trim()) {
+export function boundRows(kind, answer, goods, pricePlaces, refusal = (text) => text.trim()) {
+  const { household, status, output, told } = answer;
   const none = (why, number) => [[household, String(number), "", "", "", "", "", "", why]];
   if (status !== 0) return none(refusal(told), status);
   const places = parseReport(output).size.quantities + (kind === "welfare" ? pricePlaces : 0);
@@ -39,7 +50,8 @@ export function boundRows(kind, { household, status, output, told }, goods, pric
 /** A question on every household at new prices, whose answers are kept as CSV. */
 function panelQuestion(client, households, kind, says, field, { working, progress, tell, place: where }) {
   const explains =
-    "The same new prices for every household. Bounds are exact, in the units of the file, each with its decimal rounded " +
+    "The same new prices for every household. Bounds are exact, in the units of the file, each with its decimal " +
+    "rounded " +
     "down beside it; where the axiom fails there are none.";
   return question(says, explains, [labelled("New prices as CSV", field)], async (place, isCurrent) => {
     const [rows, began] = [[], performance.now()];
@@ -86,7 +98,8 @@ function panelQuestion(client, households, kind, says, field, { working, progres
 }
 
 /**
- * The questions on a panel. `shows` has what tells of long work: `working`, `progress` and `tell`; and `place`, which says
+ * The questions on a panel. `shows` has what tells of long work: `working`, `progress` and `tell`; and `place`, which
+ * says
  * where in the file a household's fault stands.
  */
 export function panelQuestions(client, households, shows) {

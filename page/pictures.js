@@ -95,7 +95,8 @@ function arrow(svg, [x1, y1], [x2, y2], bend) {
 
 /**
  * What each observation allows a bundle by Afriat's numbers, as a function of what the bundle costs there: U of it plus
- * lambda times what the bundle costs beyond what was spent. With levels both count in thousandths, and of what was spent
+ * lambda times what the bundle costs beyond what was spent. With levels both count in thousandths, and of what was
+ * spent
  * the level's part.
  */
 function allowances(table, model) {
@@ -115,7 +116,9 @@ export function utilityOf(table, model, bundle) {
   return Math.min(...allowances(table, model).map((it, s) => it.of(Number(table.cost(s, bundle)))));
 }
 
-/** Bundles of two goods of one utility by Afriat's numbers, in the units of the file, by the first good up to its end. */
+/**
+ * Bundles of two goods of one utility by Afriat's numbers, in the units of the file, by the first good up to its end.
+ */
 export function equalUtility(table, model, level, endX, steps = 300) {
   const scale = 10 ** table.quantityPlaces;
   const lines = allowances(table, model).map((it) => ({ prices: it.prices, least: it.costAt(level) }));

@@ -5,7 +5,16 @@ import { button, folded, keepFile, labelled, listOf, make, printed, say } from "
 import { MOST_SEED } from "./draws.js";
 import { limit, range } from "./facts.js";
 import { fileOf, intervalPicture } from "./pictures.js";
-import { Purchases, asNumber, cycleSentences, decimal, numbersIn, parseFault, parseReport, placesOf } from "./reports.js";
+import {
+  Purchases,
+  asNumber,
+  cycleSentences,
+  decimal,
+  numbersIn,
+  parseFault,
+  parseReport,
+  placesOf,
+} from "./reports.js";
 import { demandBounds, demandSays, powerSays, pumpSays, utilitySays, welfareSays } from "./says.js";
 import { sentence } from "./sentences.js";
 import { bytesOf, parseRecords, placeInFile, placeInWords, writeRecords } from "./sheets.js";
@@ -151,7 +160,8 @@ function utilityQuestion(client, file, table) {
       `${table.quantities[0].map((it) => decimal(it, table.quantityPlaces)).join(",")}\n`,
   );
   const explains =
-    "Quantities of each good, a record for each bundle. The utility is in the scale of the numbers, and tells which of " +
+    "Quantities of each good, a record for each bundle. The utility is in the scale of the numbers, and tells which " +
+    "of " +
     "two bundles is better.";
   const name = nameBeside("bundles", file.name);
   return question("Other bundles: their utility by Afriat's numbers", explains, [
@@ -183,7 +193,9 @@ function powerQuestion(client, file) {
   });
 }
 
-/** Random behaviour on a table's budget lines, drawn as beside a panel, and where the table's own index stands in it. */
+/**
+ * Random behaviour on a table's budget lines, drawn as beside a panel, and where the table's own index stands in it.
+ */
 function uniformQuestion(client, file, table, { working, progress, tell }) {
   const most = limit("command_line.draws");
   const [seed, draws] = [numberField(1, 0, MOST_SEED), numberField(most, 1, most)];
@@ -299,7 +311,8 @@ export function tableQuestions(client, file, table, shows, hasOwnMoney = false) 
   );
   const check = checkQuestion(client, "Check a certificate on this table", [file], ["check"]);
   if (table.levels) {
-    const without = "Demand, welfare, the money pump and power are defined without levels: leave the column e out for them.";
+    const without = "Demand, welfare, the money pump and power are defined without levels: leave the column e out " +
+      "for them.";
     return [say(without), pair, utilityQuestion(client, file, table), check];
   }
   return [

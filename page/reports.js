@@ -160,13 +160,17 @@ export function productSentences(cycle, table) {
     const [paid, other] = [table.cost(from - 1, from - 1), table.cost(from - 1, to - 1)];
     [num, den] = [num * other, den * paid];
     return (
-      `At the prices of ${from} the bundle of ${to} costs ${table.money(other)}, where ${table.money(paid)} was paid: ` +
+      `At the prices of ${from} the bundle of ${to} costs ${table.money(other)}, where ${table.money(paid)} was ` +
+      "paid: " +
       `${withDecimal(inUnits(`${other}/${paid}`, 0))} of it.`
     );
   });
   const together = inUnits(`${num}/${den}`, 0);
   const short = together.length < 60 ? withDecimal(together) : `about ${decimalOf(together, 6)}`;
-  return [...steps, `Multiplied round the cycle this is ${short}, below 1. With such a preference it is nowhere below 1.`];
+  return [
+    ...steps,
+    `Multiplied round the cycle this is ${short}, below 1. With such a preference it is nowhere below 1.`,
+  ];
 }
 
 /** What a closed walk adds up to, step by step, and together: the costs of the next bundle less what was paid. */
@@ -183,7 +187,8 @@ export function sumSentences(cycle, table) {
   });
   return [
     ...steps,
-    `Added round the cycle the next bundles cost ${table.money(-sum)} less. Where worth is in money they nowhere cost less: ` +
+    `Added round the cycle the next bundles cost ${table.money(-sum)} less. Where worth is in money they nowhere ` +
+    "cost less: " +
       "what each bundle is worth is added once, and taken away once.",
   ];
 }

@@ -34,7 +34,8 @@ export function welfareSays(output, places) {
     const below = isWithheld(lower)
       ? sentence("welfare", "bounds", { bound: "lower withheld" })
       : sentence("welfare", "bounds", { bound: "lower" }, { ...values, lower: withDecimal(inUnits(lower, places)) });
-    return [`Observation ${observation}: ${below.says} ${sentence("welfare", "bounds", { bound: "upper" }, values).says}`];
+    const above = sentence("welfare", "bounds", { bound: "upper" }, values);
+    return [`Observation ${observation}: ${below.says} ${above.says}`];
   });
 }
 

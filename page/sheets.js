@@ -87,7 +87,8 @@ export function decodeFile(bytes) {
 export function otherThanText(bytes) {
   const begins = (...own) => own.every((it, at) => bytes[at] === it);
   if (begins(0x50, 0x4b, 3, 4) || begins(0xd0, 0xcf, 0x11, 0xe0)) {
-    return "This is a workbook, or another packed file, and no text. In the spreadsheet save the sheet as CSV, and take that.";
+    return "This is a workbook, or another packed file, and no text. In the spreadsheet save the sheet as CSV, and " +
+      "take that.";
   }
   if (begins(0x25, 0x50, 0x44, 0x46)) return "This is a PDF, and no text. Save the numbers as CSV, and take that.";
   return "";
@@ -193,7 +194,11 @@ export class Sheet {
       if (isOpen) {
         const whole = it.replaceAll(".", "").replace(",", ".");
         found.push(
-          { key: "points as thousands", says: "", change: `take the point as a mark of thousands: ${it} becomes ${whole}` },
+          {
+            key: "points as thousands",
+            says: "",
+            change: `take the point as a mark of thousands: ${it} becomes ${whole}`,
+          },
         );
       }
     }
@@ -304,7 +309,8 @@ export class Mapping {
   }
 
   /**
-   * What the names suggest; a name that the program knows stands as it is. The two intercepts of an experiment's budgets
+   * What the names suggest; a name that the program knows stands as it is. The two intercepts of an experiment's
+   * budgets
    * are suggested where each of both goods has its quantity too.
    */
   static suggested(header, records = []) {
@@ -335,7 +341,9 @@ export class Mapping {
     if (!Array.isArray(saved.columns)) throw new Error("no columns");
     const by = new Map(saved.columns.map((it) => [it.column, it]));
     const known = (role) => (ROLES.some((it) => it.key === role) ? role : "out");
-    return new Mapping(header.map((name) => ({ role: known(by.get(name)?.role), good: String(by.get(name)?.good ?? "") })));
+    return new Mapping(
+      header.map((name) => ({ role: known(by.get(name)?.role), good: String(by.get(name)?.good ?? "") })),
+    );
   }
 
   write(header) {
@@ -398,7 +406,8 @@ export function lacksOf(mapping, header) {
   const open = mapping.roles.findIndex((it) => it.role === "open");
   if (open >= 0) {
     return (
-      `Each value of the column ${header[open]} stands in one record. If it numbers the records, they are one table: take ` +
+      `Each value of the column ${header[open]} stands in one record. If it numbers the records, they are one table: ` +
+      "take " +
       "it for the label, or leave it out. If it tells households apart, each has one record, which can violate nothing."
     );
   }
@@ -452,7 +461,8 @@ export function placeInFile(fault, records, mapping, numbers = null) {
 
 /** The same in words. */
 export function placeInWords({ record, column, name, cell }) {
-  const where = [record ? `record ${record}` : "", column ? `column ${column} (${name})` : ""].filter(Boolean).join(", ");
+  const parts = [record ? `record ${record}` : "", column ? `column ${column} (${name})` : ""];
+  const where = parts.filter(Boolean).join(", ");
   return where ? ` at ${where}${record && column ? `: ${JSON.stringify(cell)}` : ""}` : "";
 }
 

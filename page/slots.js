@@ -7,7 +7,8 @@ const [SHOWN, MOST_UNASKED] = [8, 20 * 2 ** 20];
 
 export class Slot {
   /**
-   * `form` has the slot's key, its title, whether columns can be assigned, and its examples by name. `onChange` is called
+   * `form` has the slot's key, its title, whether columns can be assigned, and its examples by name. `onChange` is
+   * called
    * before anything else is asked of the slot than was answered, `onReady` when its file is to be answered.
    */
   constructor(form, examples, { onChange, onReady }) {
@@ -236,16 +237,20 @@ export class Slot {
   #suggested() {
     if (this.mapping.hasOwnMoney) {
       return (
-        `The budget lines stand here by their intercepts, the most of ${this.mapping.intercepts.join(" and of ")} that ` +
-        "they buy. Exchanged, intercepts are exact prices: that of one good is the price of the other. What is spent is " +
-        "then in money of its own at each observation, so what adds money of several is not asked: the quasilinear test, " +
+        `The budget lines stand here by their intercepts, the most of ${this.mapping.intercepts.join(" and of ")} ` +
+        `that ` +
+        "they buy. Exchanged, intercepts are exact prices: that of one good is the price of the other. What is spent " +
+        "is " +
+        "then in money of its own at each observation, so what adds money of several is not asked: the quasilinear " +
+        "test, " +
         "the money pump. Change what is wrong."
       );
     }
     const known = this.mapping.roles.some((it) => it.role === "same");
-    return known
-      ? "Some of these columns are none of a table. What they may be is a suggestion from their names; change what is wrong."
-      : "These names are not those of the program. The assignment below is a suggestion from the names; change what is wrong.";
+    const names = known
+      ? "Some of these columns are none of a table. What they may be is suggested by their names; "
+      : "These names are not those of the program. The assignment below is suggested by the names; ";
+    return `${names}change what is wrong.`;
   }
 
   /** After a change of what is asked: what was answered before it is gone. */

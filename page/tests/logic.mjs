@@ -32,7 +32,16 @@ import {
   walkInWords,
 } from "./reports.js";
 import { Runs } from "./runs.js";
-import { costSays, demandBounds, demandSays, firmSays, populationSays, pumpSays, utilitySays, welfareSays } from "./says.js";
+import {
+  costSays,
+  demandBounds,
+  demandSays,
+  firmSays,
+  populationSays,
+  pumpSays,
+  utilitySays,
+  welfareSays,
+} from "./says.js";
 import { sentence, sentences } from "./sentences.js";
 import {
   Mapping,
@@ -77,7 +86,8 @@ test("each line of a fault is read with its places", () => {
   assert.equal(parseFault("rp: t.csv: read failed\n"), null);
 });
 
-// What verdicts are of tables with levels of the observations' own, and which of shares that may be shared out by units.
+// What verdicts are of tables with levels of the observations' own, and which of shares that may be shared out by
+// units.
 const [OF_LEVELS, OF_UNITS] = [["garp", "afriat", "homothetic", "quasilinear"], ["random", "menus"]];
 
 test("each word of a verdict in the catalogue has one sentence, also with levels and with units", () => {
@@ -104,7 +114,8 @@ test("with levels no sentence on the axiom speaks of all that was spent, and the
     assert.match(held.says, /level|part which counts/);
     assert.doesNotMatch(plain.says, /level/);
   }
-  assert.match(sentence("homothetic", "holds", { levels: true }).says, /All that was spent counts here, and not the levels/);
+  const own = sentence("homothetic", "holds", { levels: true }).says;
+  assert.match(own, /All that was spent counts here, and not the levels/);
 });
 
 test("an index of 1 is told apart by whether it is attained", () => {
@@ -121,7 +132,8 @@ test("an index of 1 is told apart by whether it is attained", () => {
 
 test("of shares in units the sentence speaks of the rounded ones", () => {
   const exact = "budgets 2 patches 4 types 3 total 4\nrandom mixture over 4\npart 1 3 weight 4\n";
-  const units = "budgets 2 patches 4 types 3 total 10\napportioned per 10\nrandom mixture over 10\npart 1 3 weight 10\n";
+  const units = "budgets 2 patches 4 types 3 total 10\napportioned per 10\nrandom mixture over 10\npart 1 3 weight " +
+    "10\n";
   assert.match(populationSays(exact, "random").head, /^Yes: a population can have made these choices$/);
   assert.equal(populationSays(units, "random").head, "Yes, of the rounded shares");
   assert.match(populationSays(units, "random").says, /shared out among 10 units .* rounded/);
@@ -407,7 +419,10 @@ test("what is said of populations and firms", () => {
   assert.match(random.says, /They make at most 3\/4 of them \(0\.75\)\./);
   assert.match(populationSays("menus mixture over 1\n", "menus").says, /strict order/);
   const both = firmSays("technology records 2 inputs 2 places 0 0\ncost holds\nprofit violated\npair 1 2\n");
-  assert.deepEqual(both.map((it) => it.head), ["Yes: the firm can have minimised cost", "No: it did not maximise profit"]);
+  assert.deepEqual(
+    both.map((it) => it.head),
+    ["Yes: the firm can have minimised cost", "No: it did not maximise profit"],
+  );
   assert.equal(firmSays("cost violated\npair 1 2\n").length, 1);
   const bounds = "bounds prices 10 10 output 1 lower 35/2 upper 40 at 2\nlower x 1 1 y none over 1\n" +
     "bounds prices 10 10 output 9 lower 5 upper none\n";
@@ -420,14 +435,16 @@ test("welfare, demand, utility and the money pump in words, in the units of the 
   const welfare = "welfare prices 15 observation 1 lower 1250/3 upper 450 at 2\n" +
     "welfare prices 15 observation 2 lower withheld 3 upper 300 at 2\n";
   const [first, second] = welfareSays(welfare, 2);
-  assert.match(first, /^Observation 1: .* costs at least 25\/6 \(about 4\.1666\) .* observation 2 .* costs 9\/2 \(4\.5\)/);
+  assert.match(first, /^Observation 1: .* costs at least 25\/6 \(about 4\.1666\) /);
+  assert.match(first, / observation 2 .* costs 9\/2 \(4\.5\)/);
   assert.match(second, /^Observation 2: A number got longer .* costs 3 at the new prices/);
   const bounds = demandBounds("good 1 lower 5 upper withheld 3\n", ["tea"], 1);
   assert.deepEqual(bounds, [{ name: "tea", lower: "1/2", upper: null }]);
   assert.match(demandSays(bounds[0])[0], /^tea: Nobody .* less of tea there than 1\/2 \(0\.5\)/);
   assert.match(demandSays(bounds[0])[1], /no verdict/);
   assert.match(utilitySays("at 1 value -12\n", false)[0], /^Bundle 1: -12\. /);
-  assert.match(pumpSays("observations 2 goods 2 places 0 0\npump 1/5\ncycle 1 2 1\nvalues 0 0\n").head, /^1\/5 \(0\.2\)$/);
+  const pumped = "observations 2 goods 2 places 0 0\npump 1/5\ncycle 1 2 1\nvalues 0 0\n";
+  assert.equal(pumpSays(pumped).head, "1/5 (0.2)");
   assert.match(pumpSays("observations 1 goods 2 places 0 0\npump 0\ncycle 1 1\nvalues 0\n").head, /^0: nothing/);
 });
 
