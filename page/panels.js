@@ -91,7 +91,7 @@ export class Panel {
       this.took = ` in ${seconds(began)} s`;
       this.show(true);
     }
-    await this.#drawRandom(1, this.count.max);
+    await this.#drawRandom(this.seed.value, this.count.value);
   }
 
   /** Random behaviour on the budgets of the households that were answered, one after another. */
