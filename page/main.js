@@ -141,12 +141,15 @@ function cleared() {
 function refused(shows, told) {
   const fault = parseFault(told);
   const slot = slots.find((it) => fault && it.sheet && it.file.name === fault.file);
+  const place = slot ? placeInWords(placeInFile(fault, slot.sheet.records, slot.mapping)) : "";
+  shows.tell(`Refused: ${told.trim()}`);
+  shows.results(
+    ...(fault ? [make("p", { className: "fault", textContent: `${fault.fault}${place}. ${fault.means}` })] : []),
+  );
   if (slot) {
     slot.show(fault);
     at(`fault-${slot.form.key}`)?.scrollIntoView({ block: "center" });
   }
-  shows.tell(`Refused: ${told.trim()}`);
-  shows.results(...(fault && !slot ? [make("p", { className: "fault", textContent: fault.means })] : []));
 }
 
 async function answerTable(slot, own) {
