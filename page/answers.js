@@ -102,7 +102,8 @@ function afriatCard(item, table, levels) {
     );
   }
   if (word === "none") {
-    return card(title, verdict, "bad", say(`The purchases contradict each other round the cycle ${walkOf(item.cycle)}.`));
+    const round = `The purchases contradict each other round the cycle ${walkOf(item.cycle)}.`;
+    return card(title, verdict, "bad", say(round));
   }
   return card(title, verdict, "", say(`The program stopped ${item.verdict.replace(`${WITHHELD} `, "")}.`));
 }
