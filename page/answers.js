@@ -4,6 +4,7 @@ import { budgetPicture, fileOf } from "./pictures.js";
 import {
   about,
   cycleSentences,
+  decimalOf,
   numbersIn,
   parseReport,
   productSentences,
@@ -113,7 +114,9 @@ function testCard(name, title, item, table, levels, steps) {
   const word = item.verdict.split(" ")[0];
   const verdict = sentence(name, word, { levels });
   if (word === "holds") {
-    return card(title, verdict, "good", folded("The evidence", byObservation(table, { value: item.values })));
+    const columns = { value: item.values };
+    if (item.values.includes("/")) columns.decimal = item.values.split(" ").map((it) => decimalOf(it, 6)).join(" ");
+    return card(title, verdict, "good", folded("The evidence", byObservation(table, columns)));
   }
   if (word === "violated") {
     return card(title, verdict, "bad", folded("The evidence", listOf(steps(numbersIn(item.cycle), table))));

@@ -35,12 +35,13 @@ export function rowOf({ household, status, output, told }, place = () => "") {
     const nothing = Object.fromEntries(COLUMNS.map((it) => [it, ""]));
     return { ...nothing, household, status: String(status), told: refusalInWords(told, place) };
   }
-  const { items } = parseReport(output);
+  const { items, levels } = parseReport(output);
   const [efficiency, , attained] = items.efficiency.verdict.split(" ");
   const word = (it) => it.verdict.split(" ")[0];
   return {
     household,
     status: "0",
+    levels: Boolean(levels),
     garp: word(items.garp),
     efficiency,
     decimal: decimalOf(efficiency, 6),
@@ -241,9 +242,10 @@ export class Panel {
     const alone = kept.filter((it) => single.has(it.household)).length;
     const first = refused[0] ? ` The first that was refused is ${refused[0].household}: ${refused[0].told}` : "";
     const nothing = alone ? ` (${alone} of these have one record, which can violate nothing)` : "";
+    const held = kept.some((it) => it.levels) ? ", by their levels" : "";
     this.summary.textContent =
       `${this.rows.length - refused.length} of ${this.households.length} households answered${this.took}, ` +
-      `${kept.length} of them meet the axiom${nothing}, ${refused.length} refused.${first}`;
+      `${kept.length} of them meet the axiom${held}${nothing}, ${refused.length} refused.${first}`;
     if (!isWhole) return;
     const found = this.#shown();
     this.body.replaceChildren(...found.slice(0, MOST_ROWS).map((row) => this.#row(row)));

@@ -248,7 +248,7 @@ export class Slot {
     }
     const known = this.mapping.roles.some((it) => it.role === "same");
     const names = known
-      ? "Some of these columns are none of a table. What they may be is suggested by their names; "
+      ? "Prices and quantities have their names. What the other columns are is suggested by theirs; "
       : "These names are not those of the program. The assignment below is suggested by the names; ";
     return `${names}change what is wrong.`;
   }
