@@ -6,7 +6,7 @@ usage: wheels.py FOLDER [FILE..]
 Without files it writes the wheel for every platform, and the sdist. With the library `librp.so` or `rp.dll`, or the
 program `rp` or `rp.exe`, it writes the wheel of that platform, which has them inside, and among its own documents the
 files `NOTICE` and `PROVED` of a release where they are given. pip gives them by `--config-settings=library=FILE`,
-`program=FILE` and `told=FILE`.
+`program=FILE` and `told=FILE`; where it is given none in an unpacked release, the library of that release goes inside.
 """
 
 import base64
@@ -24,6 +24,7 @@ NAME = "revealed"
 HERE = os.path.dirname(os.path.abspath(__file__))
 OLDEST = (2, 17)  # of what needs no version of the C library: the oldest that installers have a name for
 MACHINES = {62: "x86_64", 183: "aarch64"}
+COMMANDS = "[console_scripts]\nrp-panel = revealed.long_panel:main\n"
 METADATA = """Metadata-Version: 2.1
 Name: {name}
 Version: {version}
@@ -42,7 +43,16 @@ Description-Content-Type: text/markdown
 def build_wheel(wheel_directory, config_settings=None, metadata_directory=None):
     """Writes the wheel into a folder, and returns its name."""
     files = [it for name in ("library", "program", "told") for it in listed((config_settings or {}).get(name))]
-    return write_wheel(wheel_directory, files)
+    return write_wheel(wheel_directory, files or of_release())
+
+
+def of_release():
+    """Returns the library of the unpacked release that this file lies in, with what is told of it; nothing elsewhere."""
+    top = os.path.join(HERE, "..", "..")
+    told = [os.path.join(top, name) for name in ("NOTICE", "PROVED")]
+    inside = [os.path.join(top, name) for name in (os.path.join("lib", "librp.so"), "rp.dll")]
+    found = [it for it in inside if os.path.isfile(it)]
+    return [*found[:1], *told] if found and all(map(os.path.isfile, told)) else []
 
 
 def build_sdist(sdist_directory, config_settings=None):
@@ -79,6 +89,7 @@ def write_wheel(folder, extra=()):
     files.update({f"{NAME}/{name}": data for name, data in inside.items()})
     files.update({f"{info}/{name}": data for name, data in [*own_license(), *told.items()]})
     files[f"{info}/METADATA"] = metadata()
+    files[f"{info}/entry_points.txt"] = COMMANDS.encode()
     files[f"{info}/WHEEL"] = f"Wheel-Version: 1.0\nGenerator: wheels\nRoot-Is-Purelib: {'false' if inside else 'true'}\nTag: py3-none-{tag}\n".encode()
     record = "".join(f"{name},sha256={digest(data)},{len(data)}\n" for name, data in sorted(files.items()))
     files[f"{info}/RECORD"] = f"{record}{info}/RECORD,,\n".encode()

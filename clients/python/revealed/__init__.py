@@ -41,13 +41,14 @@ from .commands import (
     welfare,
     welfare_bounds,
 )
-from .faults import BadData, Failed, NoFile, NoProgram, Pooled, Problem, Refused, Unreadable, WrongColumns
+from .faults import AllRefused, BadData, Failed, NoFile, NoProgram, Pooled, Problem, Refused, Unreadable, WrongColumns
 from .measures import CostBound, CostMinimisation, MenuVerdict, MoneyPump, OrderPart, Power, Trial
 from .panels import Panel, Row, panel
 from .tables import Choices, MenuChoices, Table, Technology, from_frame, table
 from .verifier import Finding, Findings, NoCertificate, NoReport, NoTable
 
 __all__ = [
+    "AllRefused",
     "Answers",
     "BadData",
     "Certificate",

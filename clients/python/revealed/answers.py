@@ -63,7 +63,7 @@ class Verdict:
 
     `garp`, `afriat`, `homothetic` and `quasilinear` are True or False, and None where the verdict is withheld: then
     `reasons` says why. `efficiency` is the critical cost efficiency index, a Fraction, and `attained` whether the axiom
-    holds at it; `ccei` is the same index as a float, rounded down, so that it is 1 just where the index is. `evidence` has, under
+    holds at it; `ccei` is the nearest float, but below 1 where the index is. `evidence` has, under
     the name of each test, what shows it: ranks, numbers and cycles by the labels of the rows. `ranks`, `cycle`, `utility` and
     `multipliers` are those of the axiom and of Afriat's numbers, or None. Where the table has levels, the axiom and Afriat's
     numbers are by these, and the rest by costs alone. Where the table's prices are intercepts exchanged, `quasilinear` is None,
@@ -91,7 +91,7 @@ class Verdict:
 
     @property
     def ccei(self) -> float:
-        return exact.rounded_down(self.efficiency)
+        return exact.nearest_double(self.efficiency)
 
     @property
     def ranks(self) -> dict[Any, int] | None:

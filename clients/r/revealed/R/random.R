@@ -1,7 +1,7 @@
 # Choices of many people from budgets.
 
-rp_random <- function(budgets, choices, per = NULL, digits = NULL, exe = NULL) {
-  own <- choices_of(budgets, choices, per, digits)
+rp_random <- function(budgets, choices, per = NULL, digits = NULL, numbers = "exact", exe = NULL) {
+  own <- choices_of(budgets, choices, per, forms_of(digits, numbers))
   words <- c("random", "budgets.csv", "choices.csv", "--json", units_of(own$per))
   text <- ask(words, choice_files(own), engine_of(exe), list(own$budgets, own$choices))
   read_random(own, text)
