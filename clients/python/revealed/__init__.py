@@ -12,7 +12,7 @@ is, and what would have to be rounded is refused.
 """
 
 from . import draws, plain
-from .answers import Answers, Certificate, Checked, Demand, Part, RandomVerdict, Verdict, Welfare
+from .answers import Answers, Certificate, Checked, Demand, Part, Patch, RandomVerdict, Verdict, Welfare
 from .clusters import panel_task
 from .commands import (
     afriat_utility,
@@ -71,6 +71,7 @@ __all__ = [
     "OrderPart",
     "Panel",
     "Part",
+    "Patch",
     "Pooled",
     "Power",
     "Problem",

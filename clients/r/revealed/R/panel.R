@@ -123,6 +123,8 @@ answers_on <- function(tables, words, read, engine) {
 # Returns how many processes run at once: as many as there are processors, or two where R's checks ask for that.
 processors <- function() {
   if (!tolower(Sys.getenv("_R_CHECK_LIMIT_CORES_")) %in% c("", "false")) return(2L)
+  # On Windows R has no processes that go on from where another is: one does all.
+  if (on_windows()) return(1L)
   own <- mcaffinity()
   if (length(own)) length(own) else max(1L, detectCores(), na.rm = TRUE)
 }
@@ -135,7 +137,7 @@ in_parallel <- function(count, some, workers, progress) {
   found <- list()
   for (batch in batches) {
     parts <- split(batch, ceiling(seq_along(batch) * 4 * workers / length(batch)))
-    answers <- mclapply(parts, some, mc.cores = workers, mc.set.seed = FALSE, mc.allow.recursive = FALSE)
+    answers <- mclapply(parts, some, mc.cores = if (on_windows()) 1L else workers, mc.set.seed = FALSE, mc.allow.recursive = FALSE)
     # Where a process ended before its answer, there is none for any of its households.
     answers <- Map(function(it, part) if (is.list(it) && length(it) == length(part)) it else vector("list", length(part)), answers, parts)
     found <- c(found, do.call(c, unname(answers)))
