@@ -195,14 +195,14 @@ program define rptest, rclass sortpreserve
             file write `file' "m"
         }
         file write `file' _n
-        local line ""
+        local record ""
         local comma ""
         foreach value in `newprices' `money' {
             local lead = cond(substr("`value'", 1, 1) == ".", "0", "")
-            local line "`line'`comma'`lead'`value'"
+            local record "`record'`comma'`lead'`value'"
             local comma ","
         }
-        file write `file' "`line'" _n
+        file write `file' "`record'" _n
         file close `file'
     }
     file open `file' using `"`macval(room)'/program"', write text replace
@@ -339,15 +339,15 @@ program define rptest, rclass sortpreserve
         }
         if "`by'" != "" & `small' {
             * A group is called by its values, one behind the other; the row of the matrix by what of them a name can have.
-            local group ""
+            local called ""
             foreach variable of varlist `by' {
                 local value = `variable'[`first']
-                local blank = cond(`"`macval(group)'"' == "", "", " ")
-                local group `"`macval(group)'`blank'`macval(value)'"'
+                local blank = cond(`"`macval(called)'"' == "", "", " ")
+                local called `"`macval(called)'`blank'`macval(value)'"'
             }
-            local rowname = substr(strtoname(`"`macval(group)'"'), 1, 32)
+            local rowname = substr(strtoname(`"`macval(called)'"'), 1, 32)
             local rownames "`rownames' `rowname'"
-            return local group`number' `"`macval(group)'"'
+            return local group`number' `"`macval(called)'"'
             return local pump_ratio`number' "`pump_ratio'"
             return local efficiency`number' "`efficiency'"
             return local cycle`number' "`cycle'"

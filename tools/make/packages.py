@@ -1,16 +1,19 @@
-"""The packages that stand beside the archive of a release: one for Debian and the systems that come from it, and those of
-Python. tools/make/release makes them, and tools/check/packages installs them. The same files give the same bytes.
+"""The packages that stand beside the archive of a release: one for Debian and the systems that come from it, those of Python, and
+that of R. tools/make/release makes them, and tools/check/packages installs them. The same files give the same bytes.
 
-The package for Debian has the gate's program as it is, with the library, the header, the manual page and the completion. It is
-written here, since dpkg-deb is not on every system: an `ar` archive of two archives, of what is told and of what is installed.
+The package for Debian has the gate's program as it is, with the library, the header, the manual page and the completion, and
+with rp-panel, the module of Python that it stands on, and the examples of the documents. It is written here, since dpkg-deb is not on every system: an `ar` archive of two archives, of what is told and of what is installed.
 """
 import gzip
 import hashlib
 import os
 import re
+import shutil
 import subprocess
 import sys
+import tarfile
 import tempfile
+import time
 
 from shared import TOP
 
@@ -22,6 +25,7 @@ Architecture: amd64
 Maintainer: Violetoar maintainers <maintainers@users.noreply.violetoar.example>
 Installed-Size: {size}
 Depends: libc6 (>= {libc})
+Recommends: python3
 Section: math
 Priority: optional
 Description: revealed preference with proved verdicts
@@ -31,8 +35,20 @@ Description: revealed preference with proved verdicts
  verdicts are proved, and PROVED among the documents says with what.
  .
  This package has the program, its library for C with the header, the manual page
- and the completion for bash.
+ and the completion for bash; the command rp-panel for panels of many households
+ and the module revealed for Python, on which it stands; and the examples that the
+ documents run.
 """
+PANEL = """#!/usr/bin/python3
+\"\"\"Runs the command of the module revealed.long_panel, which tells what it takes: rp-panel --help.\"\"\"
+import sys
+
+from revealed.long_panel import main
+
+if __name__ == "__main__":
+    sys.exit(main())
+"""
+MODULES = "usr/lib/python3/dist-packages"
 COPYRIGHT = """Format: https://www.debian.org/doc/packaging-manuals/copyright-format/1.0/
 Upstream-Name: rp
 Comment: Into the program and the library parts of other works are linked.
@@ -80,8 +96,14 @@ def debian(entries, program, library, version, libc, when, archive):
     files["usr/share/man/man1/rp.1.gz"] = (pressed(entries["share/man/man1/rp.1"][0]), False)
     files["usr/share/bash-completion/completions/rp"] = entries["share/bash-completion/completions/rp"]
     folder = f"usr/share/doc/{NAME}"
-    for name in ("NOTICE", "PROVED", "README.md", *(it for it in entries if it.startswith("docs/"))):
+    documents = ("docs/", "examples/", "clients/panel/")
+    for name in ("NOTICE", "PROVED", "README.md", *(it for it in entries if it.startswith(documents))):
         files[f"{folder}/{name}"] = entries[name]
+    # Among the documents the panel stands where these have it, and is the command.
+    files[f"{folder}/clients/panel/rp-panel"] = ("../../../../../bin/rp-panel", False)
+    files["usr/bin/rp-panel"] = (PANEL.encode(), True)
+    inside = "clients/python/revealed/"
+    files.update({f"{MODULES}/revealed/{it.removeprefix(inside)}": entries[it] for it in entries if it.startswith(inside)})
     files[f"{folder}/changelog.gz"] = (pressed(entries["CHANGELOG.md"][0]), False)
     text = entries["LICENSE"][0].decode()
     files[f"{folder}/copyright"] = ((COPYRIGHT + "".join(f" {it}".rstrip() + "\n" if it.strip() else " .\n" for it in text.splitlines())).encode(), False)
@@ -95,6 +117,33 @@ def debian(entries, program, library, version, libc, when, archive):
     control = {name: (text.encode(), False) for name, text in told.items()}
     members = [("debian-binary", b"2.0\n"), ("control.tar.gz", archive(control, ".", when)), ("data.tar.gz", archive(files, ".", when))]
     return {f"{NAME}_{version}_amd64.deb": ar(members, when)}
+
+
+def r(when, program, archive):
+    """Returns the package of R by its name, built by R so that its vignette is inside; nothing where R or LaTeX is not here, which is
+    told. The program answers what the vignette asks."""
+    lacking = [it for it in ("R", "pdflatex") if not shutil.which(it)]
+    if lacking:
+        print(f"release: there is no package for R: this machine lacks {' '.join(lacking)}")
+        return {}
+    with tempfile.TemporaryDirectory(prefix="rp-r-") as room:
+        with open(f"{room}/rp", "wb") as it:
+            it.write(program)
+        os.chmod(f"{room}/rp", 0o755)
+        env = {**os.environ, "RP_EXEC": f"{room}/rp", "RP_LIBRARY": "", "LC_ALL": "C.UTF-8", "TZ": "UTC"}
+        env |= {"SOURCE_DATE_EPOCH": str(when), "FORCE_SOURCE_DATE": "1"}
+        how = {"stdin": subprocess.DEVNULL, "stdout": subprocess.PIPE, "stderr": subprocess.STDOUT, "text": True, "errors": "replace"}
+        ran = subprocess.run(["R", "CMD", "build", f"{TOP}/clients/r/revealed"], cwd=room, env=env, **how)
+        made = [it for it in os.listdir(room) if it.endswith(".tar.gz")]
+        if ran.returncode or len(made) != 1:
+            print(f"release: there is no package for R: R CMD build ended with {ran.returncode}\n{ran.stdout[-2000:]}")
+            return {}
+        with tarfile.open(f"{room}/{made[0]}") as tar:
+            files = {it.name: (tar.extractfile(it).read(), bool(it.mode & 0o100)) for it in tar.getmembers() if it.isfile()}
+    date = time.strftime("%Y-%m-%d %H:%M:%S UTC", time.gmtime(when))
+    described = re.sub(rb"(?m)^Packaged: .*$", f"Packaged: {date}; rp".encode(), files["revealed/DESCRIPTION"][0])
+    files["revealed/DESCRIPTION"] = (described, False)
+    return {made[0]: archive({it.removeprefix("revealed/"): data for it, data in files.items()}, "revealed", when)}
 
 
 def python(when, inside=None, notice="", proved=""):
