@@ -114,8 +114,7 @@ def fits_as_shortest(values: Sequence[Any]) -> bool:
 
 
 SHORTEST = (
-    "numbers='shortest' takes each float as the shortest decimal that gives it back, which is the one that it was read from if that"
-    " had at most 15 digits"
+    "numbers='shortest' takes each float as the shortest decimal that gives it back, which is the one that it was read from if that" " had at most 15 digits"
 )
 
 

@@ -61,7 +61,9 @@ def money_pump(p: Any, q: Any = None, *, levels: Any = None, places: Any = None,
     return MoneyPump(own, program.answer(["pump", TABLE], {TABLE: own.csv()}, exe, _explains(own)).encode())
 
 
-def power_of_test(p: Any, q: Any = None, *, seed: Any = 1, draws: Any = 1000, levels: Any = None, places: Any = None, numbers: Any = "exact", exe: Any = None) -> Power:
+def power_of_test(
+    p: Any, q: Any = None, *, seed: Any = 1, draws: Any = 1000, levels: Any = None, places: Any = None, numbers: Any = "exact", exe: Any = None
+) -> Power:
     """Returns how many of so many random behaviours on the budgets of a table, 1 to 1,000, violate the axiom.
 
     How they are drawn stands in docs/USING.md: nearer to equal division than uniformly on the budget line. It is refused on a
@@ -83,7 +85,9 @@ def random_trial(seed: Any, rows: Any, goods: Any, *, exe: Any = None) -> Trial:
 # ---- at new prices
 
 
-def demand_bounds(p: Any, q: Any = None, new: Any = None, m: Any = None, *, levels: Any = None, places: Any = None, numbers: Any = "exact", exe: Any = None) -> Answers:
+def demand_bounds(
+    p: Any, q: Any = None, new: Any = None, m: Any = None, *, levels: Any = None, places: Any = None, numbers: Any = "exact", exe: Any = None
+) -> Answers:
     """Returns the Demand on each new budget: prices `new`, a row or a frame, and what is spent `m`, one number or one a row.
 
     A frame of new prices may have the column `m` itself. It is refused on a table with levels.
@@ -315,7 +319,9 @@ def certificate_bytes(certificate: Any) -> bytes:
     try:
         return json.dumps(certificate).encode()
     except (TypeError, ValueError, RecursionError):
-        raise BadData(f"a certificate is a Certificate, a text, bytes, a value of JSON or the name of a file, and not {exact.shown(certificate, repr)}") from None
+        raise BadData(
+            f"a certificate is a Certificate, a text, bytes, a value of JSON or the name of a file, and not {exact.shown(certificate, repr)}"
+        ) from None
 
 
 def is_name_of_file(text: str) -> bool:

@@ -63,7 +63,7 @@ class Budgets:
         self.prices = [[int(number * price) for number in row[:count]] for row in rows]
         quantities = [[int(number * quantity) for number in row[count:]] for row in rows]
         spent = [sum(p * q for p, q in zip(*row)) for row in zip(self.prices, quantities)]
-        self.most = next(found for found in (self._most(spent, unit) for unit in UNITS) if max(map(max, found), default=0) <= LARGEST)
+        self.most = next(found for found in (self._most(spent, unit) for unit in UNITS) if max((max(row) for row in found), default=0) <= LARGEST)
 
     def _most(self, spent: Sequence[int], unit: int) -> list[list[int]]:
         amounts = [money * 10**unit if unit >= 0 else money // 10**-unit for money in spent]

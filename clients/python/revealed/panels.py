@@ -333,7 +333,7 @@ def _groups(frame: Frame, names: Sequence[Any], levels: Any, forms: Forms, pump:
         places.setdefault(key, []).append(at)
 
     # What fits is told by all households, which are rounded alike.
-    values = {
+    values: dict[str, Sequence[Any]] = {
         kind: [as_taken(value, form) for column in side for value in column] for kind, side, form in zip((PRICES, QUANTITIES), sides, forms)
     }
     whole = Kinds(values, goods)
