@@ -211,7 +211,7 @@ def files(module, room):
     """Returns the files of the archive by their names, as texts: the C, the header, and how it is compiled."""
     with open(module, "rb") as it:
         sum_ = hashlib.sha256(it.read()).hexdigest()
-    words = {"VERSION": systems.version(), "OBJECTS": " ".join(f"rp_{it}.o" for it in range(PARTS + 1))}
+    words = {"VERSION": systems.version(), "PARTS": str(PARTS), "OBJECTS": " ".join(f"rp_{it}.o" for it in range(PARTS + 1))}
     put = lambda name: re.sub(r"@(\w+)@", lambda found: words[found[1]], text(f"{SOURCES}/{name}"))
     return {
         "rp.c": file_of(module, room, systems.version(), sum_, wabt_version()),

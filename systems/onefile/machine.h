@@ -16,6 +16,9 @@
 #if defined(__cplusplus)
 #error "rp.c is C, and no C++: compile it as C"
 #endif
+#if defined(__GNUC__) && (!defined(__STDC_VERSION__) || __STDC_VERSION__ < 199901L)
+#error "rp.c is C99: compile it by -std=c99 or a later one"
+#endif
 #if !defined(UINT64_MAX) || !defined(SIZE_MAX) || CHAR_BIT != 8
 #error "rp.c wants a compiler of C99 with bytes of 8 bits and whole numbers of 64"
 #endif
