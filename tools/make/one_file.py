@@ -1,4 +1,7 @@
-"""Makes the library as one C file, `rp.c`, of the module of WebAssembly that `tools/systems.py` builds.
+#!/usr/bin/env python3
+"""Makes the library as one C file, `rp.c`, of the module of WebAssembly that `tools/make/systems.py` builds.
+
+usage: tools/make/one_file.py MODULE FOLDER      the files of the archive, but LICENSE, NOTICE and PROVED, of rp.wasm
 
 `wasm2c` (WABT) translates the module's functions to C, one by one. Here they get the memory and the arithmetic that they
 stand on (`systems/onefile/machine.h`) and the calls of `library/rp.h` over them (`systems/onefile/shim.c`), which follow
@@ -8,13 +11,13 @@ import hashlib
 import os
 import re
 import shutil
-import subprocess
 import sys
 import tempfile
 
-import systems
+sys.path[:0] = [os.path.dirname(os.path.dirname(os.path.realpath(__file__)))]
+from make import systems
+from shared import TOP, Stopped, ran, text, version
 
-TOP = systems.TOP
 SOURCES = f"{TOP}/systems/onefile"
 HEADER = f"{TOP}/library/rp.h"
 # How many parts the functions are in, so that a few compilers work side by side.
@@ -24,19 +27,13 @@ HEAD = """/*
  *
  *   cc -O1 -c rp.c                    compiles it; the Makefile does so in parts, side by side
  *
- * Made by tools/one_file.py, not to be edited: the module rp.wasm of the release, of SHA-256
+ * Made by tools/make/one_file.py, not to be edited: the module rp.wasm of the release, of SHA-256
  * {sum_}, translated to C by wasm2c of WABT
  * {wabt}. The functions of the module are those that Rattle's checker proved; no proof covers the translation and the code
  * around it. rp is under the MIT License or the Apache License 2.0, at your choice; NOTICE names the works inside.
  */
 """
-TYPES = {"u32": "u32", "u64": "u64", "void": "void"}
 FORM = re.compile(r"static (u32|u64|void) w2c_(\w+)\(Z_rp_instance_t\*([^)]*)\);")
-PART_OF_CALL = re.compile(r"\s+")
-
-
-class Stopped(systems.Stopped):
-    """Why there is no file, in one line."""
 
 
 def lacking():
@@ -44,17 +41,12 @@ def lacking():
     return sorted({*systems.lacking("web"), *([] if shutil.which("wasm2c") else ["wabt"])})
 
 
-def text(file):
-    with open(file, encoding="utf-8") as it:
-        return it.read()
-
-
 def calls():
     """Returns the calls of rp.h: of each its name, and its parameters as types and names."""
     plain = re.sub(r"/\*.*?\*/", " ", text(HEADER), flags=re.S)
     found = []
     for name, inside in re.findall(r"\bint32_t (\w+)\(([^)]*)\);", plain):
-        found.append((name, [re.fullmatch(r"(.*?)(\w+)", PART_OF_CALL.sub(" ", it).strip()).groups() for it in inside.split(",")]))
+        found.append((name, [re.fullmatch(r"(.*?)(\w+)", re.sub(r"\s+", " ", it).strip()).groups() for it in inside.split(",")]))
     if not found:
         raise Stopped("library/rp.h declares no call")
     return found
@@ -111,7 +103,7 @@ def call(name, parameters):
 
 def translated(module, room):
     """Returns what wasm2c makes of the module: its header and its code."""
-    systems.ran(["wasm2c", module, "--module-name", "rp", "--output", "translated.c"], room)
+    ran(["wasm2c", module, "--module-name", "rp", "--output", "translated.c"], room)
     return text(f"{room}/translated.h"), text(f"{room}/translated.c")
 
 
@@ -172,7 +164,7 @@ def in_parts(bodies):
     return parts
 
 
-def file_of(module, room, version, sum_, wabt):
+def file_of(module, room, sum_):
     """Returns the text of rp.c."""
     its = Translation(*translated(module, room))
     names = {it[0] for it in re.findall(r"w2c_(\w+)(\()", " ".join(its.prototypes))}
@@ -183,7 +175,7 @@ def file_of(module, room, version, sum_, wabt):
     parts = [f"#if RP_HAS({at})\n{renamed(''.join(f'{it}{chr(10)}' for it in part))}#endif\n" for at, part in enumerate(in_parts(its.bodies), 1)]
     return "\n".join(
         [
-            HEAD.format(version=version, sum_=sum_, wabt=wabt),
+            HEAD.format(version=version(), sum_=sum_, wabt=wabt_version()),
             '#include "rp.h"\n',
             text(f"{SOURCES}/machine.h"),
             f"/* An instance: the module's own numbers, and its memory. */\n{its.instance.replace('Z_rp_instance_t', 'Instance')}\n",
@@ -204,17 +196,17 @@ def file_of(module, room, version, sum_, wabt):
 
 def wabt_version():
     """Returns the version of wasm2c."""
-    return subprocess.run(["wasm2c", "--version"], stdout=subprocess.PIPE, text=True, check=True).stdout.strip()
+    return ran(["wasm2c", "--version"], TOP).strip()
 
 
 def files(module, room):
     """Returns the files of the archive by their names, as texts: the C, the header, and how it is compiled."""
     with open(module, "rb") as it:
         sum_ = hashlib.sha256(it.read()).hexdigest()
-    words = {"VERSION": systems.version(), "PARTS": str(PARTS), "OBJECTS": " ".join(f"rp_{it}.o" for it in range(PARTS + 1))}
+    words = {"VERSION": version(), "PARTS": str(PARTS), "OBJECTS": " ".join(f"rp_{it}.o" for it in range(PARTS + 1))}
     put = lambda name: re.sub(r"@(\w+)@", lambda found: words[found[1]], text(f"{SOURCES}/{name}"))
     return {
-        "rp.c": file_of(module, room, systems.version(), sum_, wabt_version()),
+        "rp.c": file_of(module, room, sum_),
         "rp.h": text(HEADER),
         "Makefile": put("Makefile.in"),
         "README.md": put("README.md.in"),
