@@ -119,7 +119,9 @@ class Translation:
     """What wasm2c wrote, taken apart; each line of it is of a kind that is known."""
 
     def __init__(self, header, code):
-        self.instance = one(r"typedef struct Z_rp_instance_t \{\n(?:  \w+ w2c_\w+;\n)*  wasm_rt_memory_t w2c_memory;\n\} Z_rp_instance_t;", header, "the instance")[0]
+        self.instance = one(
+            r"typedef struct Z_rp_instance_t \{\n(?:  \w+ w2c_\w+;\n)*  wasm_rt_memory_t w2c_memory;\n\} Z_rp_instance_t;", header, "the instance"
+        )[0]
         code = code[one(r"(?m)^static bool s_module_initialized = false;$", code, "the begin of the module").start() :]
         code = code[: one(r"(?m)^/\* export: 'memory' \*/$", code, "the export of the memory").start()]
         self.functions = dict(re.findall(r"(?ms)^(static \w+ w2c_(?:\w+)\(Z_rp_instance_t\* instance\b[^{]*\) \{\n.*?^\}\n)()", code))
@@ -171,7 +173,10 @@ def file_of(module, room, sum_):
     for it in exports():
         if it not in names:
             raise Stopped(f"the module has no {it}")
-    loads = [f"    CHECK(&instance->w2c_memory, {at}u, {count}u);\n    memcpy(instance->w2c_memory.data + {at}u, {name}, {count}u);\n" for at, name, count in its.loads]
+    loads = [
+        f"    CHECK(&instance->w2c_memory, {at}u, {count}u);\n    memcpy(instance->w2c_memory.data + {at}u, {name}, {count}u);\n"
+        for at, name, count in its.loads
+    ]
     parts = [f"#if RP_HAS({at})\n{renamed(''.join(f'{it}{chr(10)}' for it in part))}#endif\n" for at, part in enumerate(in_parts(its.bodies), 1)]
     return "\n".join(
         [
