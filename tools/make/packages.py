@@ -119,36 +119,70 @@ def debian(entries, program, library, version, libc, when, archive):
     return {f"{NAME}_{version}_amd64.deb": ar(members, when)}
 
 
-def r(when, program, archive):
-    """Returns the package of R by its name, built by R so that its vignette is inside; nothing where R or LaTeX is not here, which is
-    told. The program answers what the vignette asks."""
-    lacking = [it for it in ("R", "pdflatex") if not shutil.which(it)]
-    if lacking:
-        print(f"release: there is no package for R: this machine lacks {' '.join(lacking)}")
-        return {}
+# What the package of R has of the library as one C file: a source for each part, and the call that is inside.
+R_PART = """/* Part {part} of the library, which is one C file. */
+#define RP_PART {part}
+#include "onefile/rp.c"
+"""
+R_INSIDE = """/* The library inside the package: the one of onefile/. */
+#include "onefile/rp.h"
+
+#include "inside.h"
+
+rp_call *revealed_inside(void) {
+    return rp_answer;
+}
+"""
+
+
+def r(entries, one_file, parts, notice, proved, when, archive, program):
+    """Returns the source package of R by its name, of the files of a release, with the library as C inside, and its vignette where
+    LaTeX is here: the program answers what the vignette asks, so that nothing is compiled for it."""
+    top = "clients/r/revealed/"
+    own = {name.removeprefix(top): data for name, (data, _) in entries.items() if name.startswith(top)}
+    own = built_by_r(own, when, program) or own
+    own |= {f"src/onefile/{name}": one_file[name].encode() for name in ("rp.c", "rp.h")}
+    own |= {f"src/part{it}.c": R_PART.format(part=it).encode() for it in range(parts + 1)}
+    own |= {"src/inside.c": R_INSIDE.encode(), "inst/NOTICE": notice.encode(), "inst/PROVED": proved.encode()}
+    own["inst/terms/LICENSE"] = entries["LICENSE"][0]
+    version = re.search(r"(?m)^Version: (.*)$", own["DESCRIPTION"].decode())[1]
+    return {f"revealed_{version}.tar.gz": archive({name: (data, False) for name, data in own.items()}, "revealed", when)}
+
+
+def built_by_r(files, when, program):
+    """Returns the files as `R CMD build` leaves them, where R is here; what it tells of the time and the user is of the release."""
+    if not shutil.which("R"):
+        return None
+    has_latex = shutil.which("pdflatex") is not None
+    if not has_latex:
+        print("release: the package for R has no vignette: this machine lacks pdflatex")
     with tempfile.TemporaryDirectory(prefix="rp-r-") as room:
+        for name, data in files.items():
+            os.makedirs(os.path.dirname(f"{room}/revealed/{name}"), exist_ok=True)
+            with open(f"{room}/revealed/{name}", "wb") as it:
+                it.write(data)
         with open(f"{room}/rp", "wb") as it:
             it.write(program)
         os.chmod(f"{room}/rp", 0o755)
         env = {**os.environ, "RP_EXEC": f"{room}/rp", "RP_LIBRARY": "", "LC_ALL": "C.UTF-8", "TZ": "UTC"}
         env |= {"SOURCE_DATE_EPOCH": str(when), "FORCE_SOURCE_DATE": "1"}
-        how = {"stdin": subprocess.DEVNULL, "stdout": subprocess.PIPE, "stderr": subprocess.STDOUT, "text": True, "errors": "replace"}
-        ran = subprocess.run(["R", "CMD", "build", f"{TOP}/clients/r/revealed"], cwd=room, env=env, **how)
-        made = [it for it in os.listdir(room) if it.endswith(".tar.gz")]
-        if ran.returncode or len(made) != 1:
-            print(f"release: there is no package for R: R CMD build ended with {ran.returncode}\n{ran.stdout[-2000:]}")
-            return {}
-        with tarfile.open(f"{room}/{made[0]}") as tar:
-            files = {it.name: (tar.extractfile(it).read(), bool(it.mode & 0o100)) for it in tar.getmembers() if it.isfile()}
-    date = time.strftime("%Y-%m-%d %H:%M:%S UTC", time.gmtime(when))
-    described = re.sub(rb"(?m)^Packaged: .*$", f"Packaged: {date}; rp".encode(), files["revealed/DESCRIPTION"][0])
-    files["revealed/DESCRIPTION"] = (described, False)
-    return {made[0]: archive({it.removeprefix("revealed/"): data for it, data in files.items()}, "revealed", when)}
+        words = ["R", "CMD", "build", *([] if has_latex else ["--no-build-vignettes"]), "revealed"]
+        ran = subprocess.run(words, cwd=room, env=env, stdin=subprocess.DEVNULL, stdout=subprocess.PIPE, stderr=subprocess.STDOUT, text=True)
+        packed = [it for it in os.listdir(room) if it.endswith(".tar.gz")]
+        if ran.returncode or len(packed) != 1:
+            print(f"release: R CMD build ended with {ran.returncode}, so the package for R is as its sources are:\n{ran.stdout[-1000:]}")
+            return None
+        with tarfile.open(f"{room}/{packed[0]}") as tar:
+            found = {it.name.removeprefix("revealed/"): tar.extractfile(it).read() for it in tar if it.isfile()}
+    told = time.strftime("%Y-%m-%d %H:%M:%S UTC", time.gmtime(when))
+    found["DESCRIPTION"] = re.sub(rb"(?m)^Packaged: .*$", f"Packaged: {told}; release".encode(), found["DESCRIPTION"])
+    return found
 
 
 def python(when, inside=None, notice="", proved=""):
-    """Returns the wheel of Python that has this library or program inside, with its NOTICE and its PROVED; or where there
-    is none, the wheel for every platform and the sdist; by their names."""
+    """Returns the wheel of Python that has this library or program inside, with its NOTICE and its PROVED; the sdist that
+    compiles the library, where this is rp.c and rp.h; or where there is none, the wheel for every platform and the sdist;
+    by their names."""
     given = {**(inside or {}), **({"NOTICE": notice.encode(), "PROVED": proved.encode()} if inside else {})}
     with tempfile.TemporaryDirectory(prefix="rp-wheels-") as room:
         os.mkdir(f"{room}/made")
