@@ -135,6 +135,21 @@ shown <- capture.output(for (it in as.list(parse(text = session))) {
 })
 expect(identical(shown, wanted), "the session of clients/r/README.md")
 
+# ---- the draws that Python, R and the page have alike
+own <- asNamespace("revealed")
+alike <- own$read_json(paste(readLines(file.path(top, "clients", "tests", "behaviours.json")), collapse = "\n"))
+for (it in alike$words) {
+  drawn <- own$with_words(as.numeric(it$seed), own$next_words(length(it$words)))
+  expect(identical(sprintf("%.0f", drawn), it$words), paste("the words of the seed", it$seed))
+}
+rows <- function(it) do.call(rbind, it)
+for (it in alike$tables) {
+  budgets <- own$budgets_of(own$table_of(rows(it$prices), rows(it$quantities)))
+  drawn <- own$with_words(as.numeric(it$seed), lapply(it$behaviours, function(draw) own$behaviour(budgets)))
+  wanted <- lapply(it$behaviours, function(draw) matrix(as.numeric(rows(draw)), length(draw)))
+  expect(isTRUE(all.equal(drawn, wanted, tolerance = 0, check.attributes = FALSE)), paste("the behaviours of the seed", it$seed))
+}
+
 # ---- a panel
 set.seed(2026)
 count <- 1000
