@@ -43,6 +43,8 @@ PANEL = """#!/usr/bin/python3
 \"\"\"Runs the command of the module revealed.long_panel, which tells what it takes: rp-panel --help.\"\"\"
 import sys
 
+# Nothing is left in the system's folders that the package has not.
+sys.dont_write_bytecode = True
 from revealed.long_panel import main
 
 if __name__ == "__main__":
