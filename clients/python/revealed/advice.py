@@ -3,6 +3,7 @@
 from __future__ import annotations
 
 from fractions import Fraction
+from functools import cached_property
 from typing import Any, Callable, Iterable, Sequence
 
 from . import exact
@@ -77,12 +78,16 @@ def is_too_fine(value: Any) -> bool:
 
 
 class Kinds:
-    """The values of each kind of what is asked about together, a table or a panel, and the names of what has a price. What is
-    told of them is reckoned once."""
+    """The values of each kind of what is asked about together, a table or a panel, and the names of what has a price. They are
+    gathered where something is told of them, and what is told is reckoned once."""
 
-    def __init__(self, values: dict[str, Sequence[Any]], goods: Sequence[str]) -> None:
-        self.of, self.goods = values, goods
+    def __init__(self, values: Callable[[], dict[str, Sequence[Any]]], goods: Sequence[str]) -> None:
+        self.values, self.goods = values, goods
         self.known: dict[tuple[str, str], Any] = {}
+
+    @cached_property
+    def of(self) -> dict[str, Sequence[Any]]:
+        return self.values()
 
     def _once(self, what: str, kind: str, reckon: Callable[[Sequence[Any]], Any]) -> Any:
         if (what, kind) not in self.known:

@@ -332,10 +332,11 @@ def _groups(frame: Frame, names: Sequence[Any], levels: Any, forms: Forms, pump:
         key = tuple(None if exact.is_missing(frame.columns[name][at]) else frame.columns[name][at] for name in names)
         places.setdefault(key, []).append(at)
 
+    def values() -> dict[str, Sequence[Any]]:
+        taken = [[as_taken(value, form) for column in side for value in column] for side, form in zip(sides, forms)]
+        return dict(zip((PRICES, QUANTITIES), taken))
+
     # What fits is told by all households, which are rounded alike.
-    values: dict[str, Sequence[Any]] = {
-        kind: [as_taken(value, form) for column in side for value in column] for kind, side, form in zip((PRICES, QUANTITIES), sides, forms)
-    }
     whole = Kinds(values, goods)
 
     def of(rows: list[int]) -> Callable[[], Table]:

@@ -69,10 +69,13 @@ class Sheet:
         """Returns the values of each kind, as they are taken."""
         if self.whole is not None:
             return self.whole
+        return Kinds(self._values, [name for name, kind in zip(self.names, self.kinds) if kind == PRICES])
+
+    def _values(self) -> dict[str, Sequence[Any]]:
         found: dict[str, list[Any]] = {}
         for place, kind in enumerate(self.kinds):
             found.setdefault(kind, []).extend(as_taken(row[place], self.forms[place]) for row in self.rows if place < len(row))
-        return Kinds({**found}, [name for name, kind in zip(self.names, self.kinds) if kind == PRICES])
+        return {**found}
 
     def refused(self, fault: str, places: dict[str, int]) -> Refused:
         """Returns the refusal of this file, with the row's label, the column's name, what stands there, and a hint."""

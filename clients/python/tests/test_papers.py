@@ -9,6 +9,7 @@ import subprocess
 import sys
 import tempfile
 import unittest
+import unittest.mock
 from fractions import Fraction
 
 import revealed
@@ -140,6 +141,13 @@ class Draws(unittest.TestCase):
 
 
 class Import(unittest.TestCase):
+    def test_a_frame_without_pandas_says_what_to_install(self):
+        with unittest.mock.patch.dict(sys.modules, {"pandas": None}):
+            for call in (made().frame, lambda: made().to_stata("nowhere.dta")):
+                with self.assertRaises(BadData) as caught:
+                    call()
+                self.assertIn("pip install pandas", str(caught.exception))
+
     def test_nothing_is_imported_with_the_package(self):
         code = "import sys, revealed; sys.exit(any(name in sys.modules for name in ('pandas', 'numpy', 'matplotlib')))"
         self.assertEqual(

@@ -16,21 +16,20 @@ seed_of <- function(seed) as.numeric(whole_word(seed, "seed", "0", "4294967295")
 # Returns a long frame of behaviours: all households, then all again, as often as `times`, from one stream of words. Prices and
 # quantities are whole numbers in units of their own, which change neither the axiom nor an index.
 drawn_data <- function(panel, own, times, seed) {
-  budgets <- lapply(panel$answers[own], function(it) budgets_of(it$table))
+  tables <- lapply(panel$answers[own], `[[`, "table")
+  budgets <- lapply(tables, budgets_of)
   drawn <- with_words(seed, lapply(seq_len(times), function(draw) lapply(budgets, behaviour)))
-  parts <- unlist(lapply(seq_len(times), function(draw) {
-    Map(function(place, of, bought) {
-      table <- panel$answers[[place]]$table
-      count <- length(table$labels)
-      keys <- lapply(panel$keys, function(it) rep(it[place], count))
-      sides <- list(goods = table$goods, own_money = table$own_money)
-      prices <- named(lapply(seq_len(ncol(bought)), function(good) of$prices[, good]), price_names(sides))
-      quantities <- named(lapply(seq_len(ncol(bought)), function(good) bought[, good]), paste0("q_", table$goods))
-      levels <- if (!is.null(table$levels)) list(e = table$levels)
-      frame_of(c(keys, list(draw = rep(draw, count), obs = seq_len(count)), prices, quantities, levels))
-    }, own, budgets, drawn[[draw]])
-  }), recursive = FALSE)
-  do.call(rbind, parts)
+  rows <- vapply(tables, function(table) length(table$labels), 0L)
+  household <- rep(rep(own, rows), times)
+  goods <- seq_along(tables[[1]]$goods)
+  prices <- lapply(goods, function(good) rep(unlist(lapply(budgets, function(it) it$prices[, good])), times))
+  quantities <- lapply(goods, function(good) unlist(lapply(drawn, function(all) lapply(all, function(it) it[, good]))))
+  levels <- unlist(lapply(tables, `[[`, "levels"))
+  frame_of(c(
+    lapply(panel$keys, `[`, household), list(draw = rep(seq_len(times), each = sum(rows))),
+    if (!"obs" %in% panel$id) list(obs = rep(sequence(rows), times)),
+    named(prices, price_names(tables[[1]])), named(quantities, paste0("q_", tables[[1]]$goods)), if (!is.null(levels)) list(e = rep(levels, times))
+  ))
 }
 
 # ---- the generator, which Python's package and the page have too: the same seed gives the same behaviours

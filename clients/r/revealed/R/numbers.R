@@ -153,7 +153,10 @@ places_that_fit <- function(texts) {
   most <- max(whole, 0L)
   places <- min(most_places(), digits_taken() - most)
   if (places < 0) return(-1L)
-  largest <- vapply(texts[whole == most], plain_decimal, "", digits = places)
+  # Doubles tell which are the largest, but for those that are near to one another.
+  long <- texts[whole == most]
+  near <- as.numeric(long)
+  largest <- vapply(long[near >= max(near, 0) * (1 - 1e-12)], plain_decimal, "", digits = places)
   # Rounding may carry the largest into one digit more.
   figures <- nchar(sub("^0+", "", gsub(".", "", largest, fixed = TRUE)))
   as.integer(if (any(figures > digits_taken())) places - 1 else places)

@@ -26,7 +26,7 @@ rp_program <- function(exe = NULL, must = TRUE) {
     where <- paste0(
       "there is no program ", program_name(), ": unpack a release of it, and name its program or its library by exe =. Now the argument exe is ",
       "not given, the variables RP_LIBRARY and RP_EXEC are not set, there is none of ", listed(places), ", no ", usual_release(), " in ",
-      listed(usual_roots()), if (!on_windows()) c(", no librp.so in ", listed(unique(dirname(library_places())))),
+      listed(usual_roots()), if (!on_windows()) paste0(", no librp.so in ", listed(unique(dirname(library_places())))),
       ", and no ", program_name(), " on the path: ", Sys.getenv("PATH")
     )
   }
