@@ -33,7 +33,10 @@ double_texts <- function(x, digits, shortest) {
   text <- ifelse(is.na(x), "", as.character(x))
   own <- which(is.finite(x))
   if (shortest) {
-    text[own] <- vapply(shortest_texts(x[own]), plain_decimal, "", digits = digits)
+    short <- unsigned_zero(shortest_texts(x[own]))
+    other <- if (is.null(digits)) grepl("e", short, fixed = TRUE) else rep(TRUE, length(short))
+    short[other] <- vapply(short[other], plain_decimal, "", digits = digits)
+    text[own] <- short
     return(text)
   }
   places <- if (is.null(digits)) binary_places(x[own]) else rep(as.integer(digits), length(own))
@@ -44,11 +47,10 @@ double_texts <- function(x, digits, shortest) {
 
 # Returns the shortest decimal that gives each double back: 15 digits are enough for one that was read from as few, and 17 for all.
 shortest_texts <- function(x) {
-  text <- sprintf("%.17g", x)
-  for (count in 16:15) {
-    shorter <- sprintf("%.*g", count, x)
-    back <- as.numeric(shorter) == x
-    text[back] <- shorter[back]
+  text <- sprintf("%.15g", x)
+  for (count in 16:17) {
+    left <- which(as.numeric(text) != x)
+    text[left] <- sprintf("%.*g", count, x[left])
   }
   text
 }
