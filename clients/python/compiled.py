@@ -69,6 +69,6 @@ def compiled(folder):
             compiler.link_shared_object(objects, f"{room}/{NAME}", export_symbols=calls)
         except Exception as wrong:
             reason = " ".join(str(wrong).split()) or type(wrong).__name__
-            raise Failed(f"the library rp.c is not compiled, as by no C compiler that works ({reason}): {ADVICE}") from None
+            raise Failed(f"rp.c, the library, was not compiled: there is no C compiler that works ({reason}): {ADVICE}") from None
         with open(f"{room}/{NAME}", "rb") as it:
             return it.read()

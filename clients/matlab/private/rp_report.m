@@ -2,6 +2,9 @@ function [found, rest] = rp_report(text)
 % RP_REPORT  The items of a report on a table that analyse begins with: the table's size, and the axiom with its evidence.
   lines = rp_lines(text);
   first = lines{1};
+  if numel(first) ~= 7 || ~strcmp(first{1}, 'observations')
+    error('rp:Unreadable', 'the report begins with a line that is not known: %s', strjoin(first, ' '));
+  end
   found = struct('observations', str2double(first{2}), 'goods', str2double(first{4}));
   found.places = [str2double(first{6}), str2double(first{7})];
   at = 2;

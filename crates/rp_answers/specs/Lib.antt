@@ -11,6 +11,7 @@ pub mod PumpText
 pub mod RandomText
 pub mod ReportOrJson
 pub mod StatusNumbers
+pub mod TrialSize
 pub mod TrialTable
 pub mod TrialText
 pub mod Typed

@@ -1,6 +1,6 @@
 //! The answer of `power`.
 ghost use Rattle.std.specs.Prelude.{◌≡◌, ◌≤◌, [], IfOk};
-ghost use Rattle.rp_command_line.specs.CommandForms.{draws as draws_range};
+ghost use Rattle.rp_limits.specs.declared.command_line.TheConstants.{MOST_DRAWS};
 ghost use Rattle.rp_answers.specs.PowerText.{IsPowerText};
 
 use rp_num::NoMemory;
@@ -11,7 +11,7 @@ use std::alloc::Global;
 /// The report of how many of so many random behaviours on a table's budgets fail the axiom, without evidence.
 pub fn power_text(alloc: Global, table: &Table, seed: u64, draws: u64) -> Result<Vec<u8>, NoMemory>
     requires no_levels { table.now.levels ≡ [] }
-    requires few { draws ≤ draws_range.most }
+    requires few { draws ≤ MOST_DRAWS }
     ensures { IfOk result (λ text. IsPowerText table.now seed draws text.items) }
 {
     let draws = draws as u32;

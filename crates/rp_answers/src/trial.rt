@@ -1,7 +1,7 @@
 //! The answer of `trial`.
 ghost use Rattle.std.specs.Prelude.{◌≡◌, ◌++◌, [], IfOk, OnOk};
 ghost use Rattle.rp_print.specs.ListText.{line_of};
-ghost use Rattle.rp_command_line.specs.Ranges.{IsTrialSize};
+ghost use Rattle.rp_answers.specs.TrialSize.{IsTrialSize};
 ghost use Rattle.rp_answers.specs.TrialText.{AreVerdicts, IsTrialText, trial_head, verdict_lines};
 ghost use Rattle.rp_answers.specs.TrialText.{garp_word, homothetic_word, quasilinear_word};
 

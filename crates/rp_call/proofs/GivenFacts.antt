@@ -1,5 +1,5 @@
 -- What a run over files in memory says of the files that are given, and how the functions between end.
-use Rattle.std.proofs.Common.{◌≡◌, ◌∙◌, ◌<◌, ◌≤◌, ℕ, List, Option, Some, None, Result, Ok, Err, IfOk, length, refl, sym, subst, ap, unwrap_or, map, string_bytes, inr}
+use Rattle.std.proofs.Common.{◌≡◌, ◌∙◌, ◌<◌, ◌≤◌, ℕ, [], List, Option, Some, None, Result, Ok, Err, IfOk, length, refl, sym, subst, ap, unwrap_or, map, string_bytes, inr}
 use Rattle.rp_outside.specs.Files.{bytes_under}
 use Rattle.rp_outside.specs.Known.{AreAll}
 use Rattle.rp_command_line.specs.CommandLine.{Line, file_at, files_of}

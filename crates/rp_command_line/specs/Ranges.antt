@@ -1,17 +1,10 @@
 -- That a line has the files of its command, and its numbers are in range. Only proofs need these words: the lines
 -- that words denote have them.
-use Rattle.std.specs.Prelude.{◌≡◌, ◌≤◌, ℕ, Option, IfSome, length}
+use Rattle.std.specs.Prelude.{◌≡◌, ℕ, Option, IfSome, length}
 use Rattle.rp_command_line.specs.CommandLine.{Line, file_set, files_of, form_of}
-use Rattle.rp_command_line.specs.CommandForms.{goods, rows, units}
+use Rattle.rp_command_line.specs.CommandForms.{units}
 use Rattle.rp_command_line.specs.CommandLine.{file_names}
 use Rattle.rp_command_line.specs.Shapes.{HasRanges, IsInRange}
-
--- so many observations and goods make a table
-pub record IsTrialSize (count kinds : ℕ) : Type 0 where
-  pub some_rows : rows.least ≤ count
-  pub few_rows : count ≤ rows.most
-  pub some_goods : goods.least ≤ kinds
-  pub few_goods : kinds ≤ goods.most
 
 -- a unit that is asked for is in range
 abbrev pub IsUnit : Option ℕ → Type 0

@@ -83,7 +83,7 @@ pub record SaysDemandBounds (input : TableInput) (budget : BudgetInput) (inner :
   pub inner_bought : IsBoughtByUtility input budget (bundle_of inner)
   pub each : (g : ℕ) (d : GoodBounds) → g < input.goods
       → SaysLower input budget g (slice_index_or goods g d).lower
-        × SaysUpper input budget g (slice_index_or goods g d).upper
+      × SaysUpper input budget g (slice_index_or goods g d).upper
 
 -- None of these new prices is 0.
 abbrev pub AreAboveZero : ℕ → List ℕ → Type 0
