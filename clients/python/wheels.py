@@ -6,9 +6,9 @@ usage: wheels.py FOLDER [FILE..]
 Without files it writes the wheel for every platform, and the sdist. With the library `librp.so` or `rp.dll`, or the
 program `rp` or `rp.exe`, it writes the wheel of that platform, which has them inside, and among its own documents the
 files `NOTICE` and `PROVED` of a release where they are given. pip gives them by `--config-settings=library=FILE`,
-`program=FILE` and `told=FILE`. With `rp.c` and `rp.h`, the library as one C file, it writes the sdist that has these
-inside, with NOTICE and PROVED beside them: pip compiles the library of it (`compiled.py`), unless
-`--config-settings=library=none` says not to.
+`program=FILE` and `told=FILE`; where it is given none in an unpacked release, the library of that release goes inside.
+With `rp.c` and `rp.h`, the library as one C file, it writes the sdist that has these inside, with NOTICE and PROVED beside
+them: pip compiles the library of it (`compiled.py`), unless `--config-settings=library=none` says not to.
 """
 
 import base64
@@ -29,6 +29,7 @@ HERE = os.path.dirname(os.path.abspath(__file__))
 ONE_FILE = os.path.join(HERE, "onefile")  # of an sdist that compiles the library
 OLDEST = (2, 17)  # of what needs no version of the C library: the oldest that installers have a name for
 MACHINES = {62: "x86_64", 183: "aarch64"}
+COMMANDS = "[console_scripts]\nrp-panel = revealed.long_panel:main\n"
 METADATA = """Metadata-Version: 2.1
 Name: {name}
 Version: {version}
@@ -66,15 +67,25 @@ def prepare_metadata_for_build_wheel(metadata_directory, config_settings=None):
 
 def build_wheel(wheel_directory, config_settings=None, metadata_directory=None):
     """Writes the wheel into a folder, and returns its name."""
-    files = [it for name in ("library", "program", "told") for it in listed((config_settings or {}).get(name)) if it != "none"]
+    given = [it for name in ("library", "program", "told") for it in listed((config_settings or {}).get(name))]
+    files = [it for it in given if it != "none"]
     if not is_compiled(config_settings):
-        return write_wheel(wheel_directory, files)
+        return write_wheel(wheel_directory, files if given else of_release())
     try:
         made = {compiled.NAME: compiled.compiled(ONE_FILE)}
     except compiled.Failed as wrong:
         raise SystemExit(f"revealed: {wrong}") from None
     told = [os.path.join(ONE_FILE, it) for it in ("NOTICE", "PROVED") if os.path.exists(os.path.join(ONE_FILE, it))]
     return write_wheel(wheel_directory, [*files, *told], made, compiled.platform_tag())
+
+
+def of_release():
+    """Returns the library of the unpacked release that this file lies in, with what is told of it; nothing elsewhere."""
+    top = os.path.join(HERE, "..", "..")
+    told = [os.path.join(top, name) for name in ("NOTICE", "PROVED")]
+    inside = [os.path.join(top, name) for name in (os.path.join("lib", "librp.so"), "rp.dll")]
+    found = [it for it in inside if os.path.isfile(it)]
+    return [*found[:1], *told] if found and all(map(os.path.isfile, told)) else []
 
 
 def build_sdist(sdist_directory, config_settings=None, extra=()):
@@ -113,6 +124,7 @@ def write_wheel(folder, extra=(), made=None, of_platform=None):
     files.update({f"{NAME}/{name}": data for name, data in inside.items()})
     files.update({f"{info}/{name}": data for name, data in [*own_license(), *told.items()]})
     files[f"{info}/METADATA"] = metadata()
+    files[f"{info}/entry_points.txt"] = COMMANDS.encode()
     files[f"{info}/WHEEL"] = wheel_of(bool(inside), tag)
     record = "".join(f"{name},sha256={digest(data)},{len(data)}\n" for name, data in sorted(files.items()))
     files[f"{info}/RECORD"] = f"{record}{info}/RECORD,,\n".encode()

@@ -1,7 +1,11 @@
 *! version 0.12.0  rptest: revealed preference tests by the program rp
 program define rptest, rclass sortpreserve
     version 13
-    syntax [if] [in], Prices(varlist numeric) Quantities(varlist numeric) [BY(varname) LEVels(varname numeric) OBS(varname) DIGITS(numlist integer max=2 >=0 <=6) EXE(string) GENerate(name) SAVing(string)]
+    syntax [if] [in], Prices(varlist numeric) Quantities(varlist numeric) [BY(varlist) LEVels(varname numeric) OBS(varname) DIGITS(numlist integer max=2 >=0 <=6) PUMP POWer(integer 0) SEED(integer 1) NEWprices(numlist >0) MONEY(numlist >0 max=1) EXE(string) GENerate(name) SAVing(string)]
+    if "`c(os)'" == "Windows" {
+        display as error "rptest starts the program by a script for sh, which Windows has not: run rp.exe by shell, as docs/USING.md tells"
+        exit 198
+    }
     marksample touse, novarlist
     local goods : word count `prices'
     local others : word count `quantities'
@@ -14,10 +18,51 @@ program define rptest, rclass sortpreserve
     if "`ofquantities'" == "" {
         local ofquantities "`ofprices'"
     }
+    local count : word count `newprices'
+    if "`newprices'" != "" & `count' != `goods' {
+        display as error "newprices() has not one price for each of the `goods' goods"
+        exit 198
+    }
+    if "`money'" != "" & "`newprices'" == "" {
+        display as error "money() is spent at newprices(), which is not there"
+        exit 198
+    }
+    if `power' < 0 | `power' > 1000 | `seed' < 0 {
+        display as error "power() is a number of draws from 1 to 1000, and seed() 0 or more"
+        exit 198
+    }
+
+    * What is told of each group: numbers, texts, and, at new prices, the bounds of each good or of each observation.
+    local numbers "status garp afriat homothetic quasilinear attained ccei pump power"
+    local texts "efficiency pump_ratio cycle message"
     local results "status garp afriat homothetic quasilinear attained ccei"
+    local told "efficiency cycle message"
+    if "`pump'" != "" {
+        local results "`results' pump"
+        local told "efficiency pump_ratio cycle message"
+    }
+    if `power' > 0 {
+        local results "`results' power"
+    }
+    local bounds ""
+    if "`money'" != "" {
+        forvalues good = 1/`goods' {
+            local bounds "`bounds' low`good' high`good'"
+        }
+        local results "`results' `bounds'"
+    }
+    local welfare = "`newprices'" != "" & "`money'" == ""
+    if `welfare' & "`generate'" == "" {
+        display as error "at newprices() without money() each observation has bounds of its own: say generate()"
+        exit 198
+    }
     if "`generate'" != "" {
-        foreach name in `results' efficiency cycle message {
+        foreach name in `results' `told' {
             confirm new variable `generate'_`name'
+        }
+        if `welfare' {
+            confirm new variable `generate'_lower
+            confirm new variable `generate'_upper
         }
     }
     quietly findfile rptest.sh
@@ -126,6 +171,40 @@ program define rptest, rclass sortpreserve
     }
     file write `file' _n
     file close `file'
+    file open `file' using `"`macval(room)'/asks"', write text replace
+    if "`pump'" != "" {
+        file write `file' "pump" _n
+    }
+    if `power' > 0 {
+        file write `file' "power `seed' `power'" _n
+    }
+    if "`money'" != "" {
+        file write `file' "demand `goods'" _n
+    }
+    if `welfare' {
+        file write `file' "welfare `goods'" _n
+    }
+    file close `file'
+    if "`newprices'" != "" {
+        file open `file' using `"`macval(room)'/new"', write text replace
+        forvalues good = 1/`goods' {
+            local comma = cond(`good' == `goods' & `welfare', "", ",")
+            file write `file' "p_`good'`comma'"
+        }
+        if "`money'" != "" {
+            file write `file' "m"
+        }
+        file write `file' _n
+        local record ""
+        local comma ""
+        foreach value in `newprices' `money' {
+            local lead = cond(substr("`value'", 1, 1) == ".", "0", "")
+            local record "`record'`comma'`lead'`value'"
+            local comma ","
+        }
+        file write `file' "`record'" _n
+        file close `file'
+    }
     file open `file' using `"`macval(room)'/program"', write text replace
     file write `file' `"`macval(exe)'"' _n
     file close `file'
@@ -150,28 +229,42 @@ program define rptest, rclass sortpreserve
         foreach name in `results' {
             quietly generate double `generate'_`name' = .
         }
-        foreach name in efficiency cycle message {
+        foreach name in `told' {
             quietly generate strL `generate'_`name' = ""
+        }
+        if `welfare' {
+            quietly generate double `generate'_lower = .
+            quietly generate double `generate'_upper = .
         }
     }
     if `"`saving'"' != "" {
         tempname posted
         local of "double group"
         if "`by'" != "" {
-            capture confirm string variable `by'
-            local of = cond(_rc == 0, "str2045 `by'", "double `by'")
+            local of ""
+            foreach variable of varlist `by' {
+                capture confirm string variable `variable'
+                local kind = cond(_rc == 0, "str2045", "double")
+                local of "`of' `kind' `variable'"
+            }
         }
-        postfile `posted' `of' double(`results') str80 efficiency str2045 cycle str200 message using `saving'
+        postfile `posted' `of' double(`results') str80 efficiency str80 pump_ratio str2045 cycle str200 message using `saving'
     }
     tempname verdicts
     local small = `groups' <= 800
     if `small' {
-        matrix `verdicts' = J(`groups', 7, .)
+        local columns : word count `results'
+        matrix `verdicts' = J(`groups', `columns', .)
         matrix colnames `verdicts' = `results'
     }
+    tempname rows
     if `failed' == 0 {
         file open `file' using `"`macval(room)'/results"', read text
+        if `welfare' {
+            file open `rows' using `"`macval(room)'/bounds"', read text
+        }
     }
+    local rownames ""
     local row = 1
     local number = 1
     local held = 0
@@ -182,10 +275,10 @@ program define rptest, rclass sortpreserve
             local row = `row' + 1
         }
         local last = `row' - 1
-        foreach name in `results' {
+        foreach name in `numbers' `bounds' {
             local `name' "."
         }
-        foreach name in efficiency cycle message {
+        foreach name in `texts' {
             local `name' ""
         }
         if `refused'[`first'] {
@@ -194,12 +287,23 @@ program define rptest, rclass sortpreserve
         }
         else if `failed' == 0 {
             file read `file' answered
-            foreach name in `results' efficiency cycle message {
+            foreach name in `numbers' `texts' `bounds' {
                 file read `file' `name'
             }
             if "`answered'" != "`number'" {
                 display as error "the answers of the program are not whole"
                 exit 459
+            }
+        }
+        if `welfare' & `failed' == 0 & !`refused'[`first'] {
+            local at = `first'
+            while `at' <= `last' {
+                file read `rows' pair
+                local lower : word 1 of `pair'
+                local upper : word 2 of `pair'
+                quietly replace `generate'_lower = `lower' in `at'/`at'
+                quietly replace `generate'_upper = `upper' in `at'/`at'
+                local at = `at' + 1
             }
         }
         local held = `held' + ("`garp'" == "1")
@@ -215,20 +319,36 @@ program define rptest, rclass sortpreserve
             foreach name in `results' {
                 quietly replace `generate'_`name' = ``name'' in `first'/`last'
             }
-            foreach name in efficiency cycle message {
+            foreach name in `told' {
                 quietly replace `generate'_`name' = "``name''" in `first'/`last'
             }
         }
         if `"`saving'"' != "" {
             local key "(`number')"
             if "`by'" != "" {
-                local key "(`by'[`first'])"
+                local key ""
+                foreach variable of varlist `by' {
+                    local key "`key' (`variable'[`first'])"
+                }
             }
-            post `posted' `key' (`status') (`garp') (`afriat') (`homothetic') (`quasilinear') (`attained') (`ccei') ("`efficiency'") ("`cycle'") ("`message'")
+            local values ""
+            foreach name in `results' {
+                local values "`values' (``name'')"
+            }
+            post `posted' `key' `values' ("`efficiency'") ("`pump_ratio'") ("`cycle'") ("`message'")
         }
         if "`by'" != "" & `small' {
-            local name = `by'[`first']
-            return local group`number' `"`macval(name)'"'
+            * A group is called by its values, one behind the other; the row of the matrix by what of them a name can have.
+            local called ""
+            foreach variable of varlist `by' {
+                local value = `variable'[`first']
+                local blank = cond(`"`macval(called)'"' == "", "", " ")
+                local called `"`macval(called)'`blank'`macval(value)'"'
+            }
+            local rowname = substr(strtoname(`"`macval(called)'"'), 1, 32)
+            local rownames "`rownames' `rowname'"
+            return local group`number' `"`macval(called)'"'
+            return local pump_ratio`number' "`pump_ratio'"
             return local efficiency`number' "`efficiency'"
             return local cycle`number' "`cycle'"
             return local message`number' "`message'"
@@ -237,11 +357,17 @@ program define rptest, rclass sortpreserve
     }
     if `failed' == 0 {
         file close `file'
+        if `welfare' {
+            file close `rows'
+        }
+    }
+    if `small' & "`by'" != "" {
+        matrix rownames `verdicts' = `rownames'
     }
     if `"`saving'"' != "" {
         postclose `posted'
     }
-    foreach name in header program rows results {
+    foreach name in header program rows results asks new bounds {
         capture erase `"`macval(room)'/`name'"'
     }
     capture rmdir `"`macval(room)'"'
@@ -255,6 +381,7 @@ program define rptest, rclass sortpreserve
     }
     if "`by'" == "" {
         return local efficiency "`efficiency'"
+        return local pump_ratio "`pump_ratio'"
         return local cycle "`cycle'"
         return local message "`message'"
         foreach name in `results' {

@@ -7,9 +7,13 @@
 #   rows      a line for each record of each table: the number of its group, a comma, and the record, group after group
 #   header    the first line of each table
 #   program   one line, the path of the program; where it is empty, the variable RP_EXEC names it, else it is rp on the path
-# and gets `results`, of each group its number and ten lines: status, garp, afriat, homothetic, quasilinear and attained
-# (1, 0 or .), the efficiency index as a double that is rounded down, and as a fraction, the cycle that violates GARP, and
-# a message. No text of these files, of the variable or of what the program says is read by a shell as more than a text.
+#   asks      a line for each question beside the verdicts: `pump`, `power SEED DRAWS`, and `demand GOODS` or `welfare GOODS`
+#   new       new prices, and for demand what is spent, where these are asked
+# and gets `results`, of each group its number and thirteen lines: status, garp, afriat, homothetic, quasilinear and attained
+# (1, 0 or .), the efficiency index as the nearest double, but below 1 unless it is 1, the money pump ratio and the power as
+# doubles; as texts the index and the ratio as fractions, the cycle that violates GARP, and a message; then for demand two
+# lines for each good, its bounds as doubles near them. For welfare it gets `bounds` too, a line with both for each record.
+# A number that is not there is a point. No text of these files, of the variable or of what the program says is read by a shell as more than a text.
 here=$PWD
 cd -- "$1" || exit 1
 room=$PWD
@@ -22,6 +26,17 @@ case $rp in
   */*) rp=$here/$rp ;;
 esac
 export rp
+pump="" power="" new="" goods=0
+while read -r word first second; do
+  case $word,$first,$second in
+    pump,,) pump=yes ;;
+    power,*[!0-9]*,* | power,*,*[!0-9]* | demand,*[!0-9]*, | welfare,*[!0-9]*,) exit 1 ;;
+    power,?*,?*) power="$first $second" ;;
+    demand,?*, | welfare,?*,) new=$word goods=$first ;;
+    *) exit 1 ;;
+  esac
+done <asks
+export pump power new
 mkdir tables || exit 1
 trap 'cd "$here"; rm -rf "$room/tables"' EXIT
 awk -F, '
@@ -36,19 +51,41 @@ ls | sed 's/[.]csv$//' | sort -n | xargs -P "$(nproc 2>/dev/null || echo 2)" -n 
   for n do
     "$rp" analyse "$n.csv" >"$n.out" 2>"$n.err" </dev/null
     echo $? >"$n.status"
+    [ -z "$pump" ] || "$rp" pump "$n.csv" >"$n.pump" 2>"$n.why" </dev/null || echo "pump $(cat "$n.why")" >>"$n.less"
+    # shellcheck disable=SC2086
+    [ -z "$power" ] || "$rp" power "$n.csv" $power >"$n.power" 2>"$n.why" </dev/null || echo "power $(cat "$n.why")" >>"$n.less"
+    [ -z "$new" ] || "$rp" "$new" "$n.csv" ../new >"$n.new" 2>"$n.why" </dev/null || echo "$new $(cat "$n.why")" >>"$n.less"
   done' sh 2>/dev/null
+# How many times ten the new prices are to be taken to be whole.
+places=0
+[ -z "$new" ] || places=$(awk -F, -v goods="$goods" 'NR == 2 {
+  for (at = 1; at <= goods; at++) { part = $at; if (!sub(/^[^.]*[.]/, "", part)) part = ""; sub(/0+$/, "", part); if (length(part) > most) most = length(part) }
+} END { print most + 0 }' ../new)
 # shellcheck disable=SC2012
-ls | sed -n 's/[.]csv$//p' | sort -n | awk '
+ls | sed -n 's/[.]csv$//p' | sort -n | awk -v pump="$pump" -v power="$power" -v new="$new" -v goods="$goods" -v places="$places" '
   function value(word) { return word == "holds" || word == "model" ? 1 : word == "violated" || word == "none" ? 0 : "." }
-  # The greatest multiple of 2^-53 that is no greater than num/den, whole numbers below 2^51 of which num is the lesser.
-  function below(num, den,   bit, sum, left) {
-    if (num >= den) return 1
-    left = num; sum = 0; bit = 1
-    for (k = 1; k <= 53; k++) { left *= 2; bit /= 2; if (left >= den) { left -= den; sum += bit } }
-    return sprintf("%.17g", sum)
+  # The double nearest to a fraction of whole numbers below 2^53, where `over` is 1, and else one near it; but only 1 reads 1.
+  function near(fraction, over,   part, found) {
+    if (fraction !~ /^-?[0-9]+(\/[0-9]+)?$/) return "."
+    split(fraction, part, "/")
+    found = part[1] / (part[2] == "" ? 1 : part[2]) / over
+    if (over == 1 && found == 1 && part[2] != "") found = 1 - 2 ^ -53
+    return sprintf("%.17g", found)
   }
+  function given(bound) { return bound == "" ? "." : bound }
+  # Puts the numbers behind the words lower and upper of a line, over the power of ten of their unit, into least and most.
+  function ends(line, over,   word, count, at) {
+    least = most = "."
+    count = split(line, word, " ")
+    for (at = 1; at < count; at++) {
+      if (word[at] == "lower") least = near(word[at + 1], over)
+      if (word[at] == "upper") most = near(word[at + 1], over)
+    }
+  }
+  # How many records each group has.
+  FILENAME != "-" { split($0, cell, ","); count_of[cell[1]]++; next }
   {
-    group = $0; status = "."; message = ""; last = ""; efficiency = ""; cycle = ""; ccei = "."
+    group = $0; status = "."; message = ""; last = ""; efficiency = ""; cycle = ""; ccei = "."; ratio = ""; share = "."
     split("", is); is["garp"] = is["afriat"] = is["homothetic"] = is["quasilinear"] = is["attained"] = "."
     if ((getline status < (group ".status")) < 1) status = "."
     close(group ".status")
@@ -61,17 +98,43 @@ ls | sed -n 's/[.]csv$//p' | sort -n | awk '
       if ((word[1] in is) && word[1] != "attained") is[word[1]] = value(word[2])
       if (word[1] == "efficiency" && word[2] ~ /^[0-9]+(\/[0-9]+)?$/) {
         efficiency = word[2]; is["attained"] = word[4] == "yes" ? 1 : 0
-        split(efficiency, part, "/"); ccei = below(part[1], part[2] == "" ? 1 : part[2])
+        ccei = near(efficiency, 1)
       }
+      if (word[1] == "observations") tens = word[7]
       if (last == "garp violated" && word[1] == "cycle") cycle = substr(line, 7)
       if (word[2] == "withheld") message = line
       last = line
     }
     close(group ".out")
     if (status == "0" && (is["garp"] == "." || efficiency == "")) { status = "."; message = "what was called as rp gave no answer of rp" }
+    while (status == "0" && (getline line < (group ".less")) > 0) {
+      at = index(line, own)
+      message = message (message == "" ? "" : "; ") (at ? substr(line, 1, at - 1) substr(line, at + length(own)) : line)
+    }
+    close(group ".less")
+    while (status == "0" && pump != "" && (getline line < (group ".pump")) > 0) if (split(line, word, " ") == 2 && word[1] == "pump") ratio = word[2]
+    close(group ".pump")
+    if (ratio !~ /^[0-9]+(\/[0-9]+)?$/) ratio = ""
+    while (status == "0" && power != "" && (getline line < (group ".power")) > 0) {
+      if (split(line, word, " ") == 6 && word[1] == "power" && word[4] ~ /^[1-9][0-9]*$/ && word[6] ~ /^[0-9]+$/) share = sprintf("%.17g", word[6] / word[4])
+    }
+    close(group ".power")
+    split("", low); split("", high)
+    while (status == "0" && new != "" && (getline line < (group ".new")) > 0) {
+      split(line, word, " ")
+      if (new == "demand" && word[1] == "good") { ends(line, 10 ^ tens); low[word[2]] = least; high[word[2]] = most }
+      # "welfare prices LIST observation T lower BOUND upper U at S"
+      if (new == "welfare" && word[1] == "welfare" && match(line, / observation [0-9]+ /)) {
+        split(substr(line, RSTART + 1), word, " ")
+        ends(line, 10 ^ (tens + places)); low[word[2]] = least; high[word[2]] = most
+      }
+    }
+    close(group ".new")
     gsub(/[^A-Za-z0-9 .,:;_\/()+-]/, "?", message)
     gsub(/[^0-9 ]/, "?", cycle)
     print group; print status; print is["garp"]; print is["afriat"]; print is["homothetic"]; print is["quasilinear"]; print is["attained"]
-    print ccei; print efficiency; print cycle; print substr(message, 1, 200)
+    print ccei; print near(ratio, 1); print share; print efficiency; print ratio; print cycle; print substr(message, 1, 200)
+    for (good = 1; new == "demand" && good <= goods; good++) { print given(low[good]); print given(high[good]) }
+    for (at = 1; new == "welfare" && at <= count_of[group]; at++) print given(low[at]) " " given(high[at]) > "../bounds"
   }
-' >../results
+' ../rows - >../results

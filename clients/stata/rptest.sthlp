@@ -6,7 +6,8 @@
 {title:Syntax}
 
 {p 8 16 2}{cmd:rptest} [{it:if}] [{it:in}]{cmd:,} {opt p:rices(varlist)} {opt q:uantities(varlist)}
-[{opt by(varname)} {opt lev:els(varname)} {opt obs(varname)} {opt digits(# [#])} {opt gen:erate(stub)} {opt sav:ing(filename[, replace])} {opt exe(filename)}]
+[{opt by(varlist)} {opt lev:els(varname)} {opt obs(varname)} {opt digits(# [#])} {opt pump} {opt pow:er(#)} {opt seed(#)}
+{opt new:prices(# # ..)} {opt money(#)} {opt gen:erate(stub)} {opt sav:ing(filename[, replace])} {opt exe(filename)}]
 
 {title:Description}
 
@@ -17,7 +18,7 @@ of the program rp; nothing of this command is proved, and it was not run in Stat
 
 {title:Options}
 
-{phang}{opt by(varname)} tests each group by itself, on all processors. A group whose data are refused has its status, and
+{phang}{opt by(varlist)} tests each group by itself, on all processors. A group whose data are refused has its status, and
 the others go on. A missing value refuses its own group (status 416). Data that are {cmd:xtset} as a panel need it.
 
 {phang}{opt levels(varname)} has the level of each observation in whole thousandths from 1 to 1000: how much of what was spent
@@ -29,6 +30,15 @@ command stops with r(459): the data are a panel then, and {opt by()} names its h
 {phang}{opt digits(# [#])} rounds to so many decimal places, 0 to 6: prices and quantities alike, or each by its own number.
 Without it nothing is rounded, and a number that does not end after 6 places as a binary fraction, as 3.18, stops the command
 with r(459), which tells the places that fit the seven digits that the program takes.
+
+{phang}{opt pump} gives the greatest money pump ratio of each group too (Echenique, Lee and Shum 2011).
+
+{phang}{opt power(#)} draws so many random behaviours, 1 to 1000, on the budgets of each group, and gives which share of them violates
+the axiom; {opt seed(#)} is 1 if it is left out. The draws are those of the program's command power.
+
+{phang}{opt newprices(# # ..)} are one price for each good. With {opt money(#)}, what is spent at them, there are the bounds of demand of
+each good. Without it there are the bounds of what it costs at these prices to be as well off as at each observation; that needs
+{opt generate()}, which makes {it:stub}{cmd:_lower} and {it:stub}{cmd:_upper}.
 
 {phang}{opt generate(stub)} makes the variables {it:stub}{cmd:_garp} and so on, which have the results of its group in each
 observation.
@@ -42,12 +52,13 @@ rptest.sh, which lies beside this command, runs it.
 
 {pstd}Without {opt by()}: {cmd:r(status)}, {cmd:r(garp)}, {cmd:r(afriat)}, {cmd:r(homothetic)}, {cmd:r(quasilinear)} and
 {cmd:r(attained)} (1 where it holds, 0 where it is violated, missing where it is withheld or the data were refused),
-{cmd:r(ccei)}, the index rounded down, so that it is 1 for an index of 1 alone, and the macros {cmd:r(efficiency)}, the exact
-fraction, {cmd:r(cycle)}, the numbers of observations within the table of a cycle that violates the axiom, and
-{cmd:r(message)}. With {opt by()}: {cmd:r(group}{it:#}{cmd:)}, {cmd:r(efficiency}{it:#}{cmd:)},
+{cmd:r(ccei)}, the double nearest to the index, but below 1 unless it is 1, where asked {cmd:r(pump)}, {cmd:r(power)} and for each good
+{cmd:r(low}{it:#}{cmd:)} and {cmd:r(high}{it:#}{cmd:)}, and the macros {cmd:r(efficiency)}, the exact
+fraction, {cmd:r(pump_ratio)}, that of the money pump, {cmd:r(cycle)}, the numbers of observations within the table of a cycle that violates
+the axiom, and {cmd:r(message)}. With {opt by()}: {cmd:r(group}{it:#}{cmd:)}, {cmd:r(efficiency}{it:#}{cmd:)}, {cmd:r(pump_ratio}{it:#}{cmd:)},
 {cmd:r(cycle}{it:#}{cmd:)} and {cmd:r(message}{it:#}{cmd:)}, and always {cmd:r(groups)}, {cmd:r(held)}, how many meet the axiom,
-{cmd:r(without)}, how many have no verdict, and the matrix {cmd:r(verdicts)}, a row for each group: status, garp, afriat,
-homothetic, quasilinear, attained and ccei. Past 800 groups there is no matrix and no macro of a group: say {opt generate()} or
+{cmd:r(without)}, how many have no verdict, and the matrix {cmd:r(verdicts)}, a row for each group, called by its values: status, garp, afriat,
+homothetic, quasilinear, attained and ccei, and what was asked beside them. Past 800 groups there is no matrix and no macro of a group: say {opt generate()} or
 {opt saving()}.
 
 {title:Example}

@@ -1,8 +1,8 @@
-"""The packages that stand beside the archive of a release: one for Debian and the systems that come from it, and those of
-Python. tools/make/release makes them, and tools/check/packages installs them. The same files give the same bytes.
+"""The packages that stand beside the archive of a release: one for Debian and the systems that come from it, those of Python, and
+that of R. tools/make/release makes them, and tools/check/packages installs them. The same files give the same bytes.
 
-The package for Debian has the gate's program as it is, with the library, the header, the manual page and the completion. It is
-written here, since dpkg-deb is not on every system: an `ar` archive of two archives, of what is told and of what is installed.
+The package for Debian has the gate's program as it is, with the library, the header, the manual page and the completion, and
+with rp-panel, the module of Python that it stands on, and the examples of the documents. It is written here, since dpkg-deb is not on every system: an `ar` archive of two archives, of what is told and of what is installed.
 """
 import gzip
 import hashlib
@@ -25,6 +25,7 @@ Architecture: amd64
 Maintainer: Violetoar maintainers <maintainers@users.noreply.violetoar.example>
 Installed-Size: {size}
 Depends: libc6 (>= {libc})
+Recommends: python3
 Section: math
 Priority: optional
 Description: revealed preference with proved verdicts
@@ -34,8 +35,22 @@ Description: revealed preference with proved verdicts
  verdicts are proved, and PROVED among the documents says with what.
  .
  This package has the program, its library for C with the header, the manual page
- and the completion for bash.
+ and the completion for bash; the command rp-panel for panels of many households
+ and the module revealed for Python, on which it stands; and the examples that the
+ documents run.
 """
+PANEL = """#!/usr/bin/python3
+\"\"\"Runs the command of the module revealed.long_panel, which tells what it takes: rp-panel --help.\"\"\"
+import sys
+
+# Nothing is left in the system's folders that the package has not.
+sys.dont_write_bytecode = True
+from revealed.long_panel import main
+
+if __name__ == "__main__":
+    sys.exit(main())
+"""
+MODULES = "usr/lib/python3/dist-packages"
 COPYRIGHT = """Format: https://www.debian.org/doc/packaging-manuals/copyright-format/1.0/
 Upstream-Name: rp
 Comment: Into the program and the library parts of other works are linked.
@@ -83,8 +98,14 @@ def debian(entries, program, library, version, libc, when, archive):
     files["usr/share/man/man1/rp.1.gz"] = (pressed(entries["share/man/man1/rp.1"][0]), False)
     files["usr/share/bash-completion/completions/rp"] = entries["share/bash-completion/completions/rp"]
     folder = f"usr/share/doc/{NAME}"
-    for name in ("NOTICE", "PROVED", "README.md", *(it for it in entries if it.startswith("docs/"))):
+    documents = ("docs/", "examples/", "clients/panel/")
+    for name in ("NOTICE", "PROVED", "README.md", *(it for it in entries if it.startswith(documents))):
         files[f"{folder}/{name}"] = entries[name]
+    # Among the documents the panel stands where these have it, and is the command.
+    files[f"{folder}/clients/panel/rp-panel"] = ("../../../../../bin/rp-panel", False)
+    files["usr/bin/rp-panel"] = (PANEL.encode(), True)
+    inside = "clients/python/revealed/"
+    files.update({f"{MODULES}/revealed/{it.removeprefix(inside)}": entries[it] for it in entries if it.startswith(inside)})
     files[f"{folder}/changelog.gz"] = (pressed(entries["CHANGELOG.md"][0]), False)
     text = entries["LICENSE"][0].decode()
     files[f"{folder}/copyright"] = ((COPYRIGHT + "".join(f" {it}".rstrip() + "\n" if it.strip() else " .\n" for it in text.splitlines())).encode(), False)
@@ -116,32 +137,42 @@ rp_call *revealed_inside(void) {
 """
 
 
-def r(entries, one_file, parts, notice, proved, when, archive):
-    """Returns the source package of R by its name, of the files of a release, with the library as C inside."""
+def r(entries, one_file, parts, notice, proved, when, archive, program):
+    """Returns the source package of R by its name, of the files of a release, with the library as C inside, and its vignette where
+    LaTeX is here: the program answers what the vignette asks, so that nothing is compiled for it."""
     top = "clients/r/revealed/"
     own = {name.removeprefix(top): data for name, (data, _) in entries.items() if name.startswith(top)}
+    own = built_by_r(own, when, program) or own
     own |= {f"src/onefile/{name}": one_file[name].encode() for name in ("rp.c", "rp.h")}
     own |= {f"src/part{it}.c": R_PART.format(part=it).encode() for it in range(parts + 1)}
     own |= {"src/inside.c": R_INSIDE.encode(), "inst/NOTICE": notice.encode(), "inst/PROVED": proved.encode()}
     own["inst/terms/LICENSE"] = entries["LICENSE"][0]
     version = re.search(r"(?m)^Version: (.*)$", own["DESCRIPTION"].decode())[1]
-    built = built_by_r(own, when) or own
-    return {f"revealed_{version}.tar.gz": archive({name: (data, False) for name, data in built.items()}, "revealed", when)}
+    return {f"revealed_{version}.tar.gz": archive({name: (data, False) for name, data in own.items()}, "revealed", when)}
 
 
-def built_by_r(files, when):
+def built_by_r(files, when, program):
     """Returns the files as `R CMD build` leaves them, where R is here; what it tells of the time and the user is of the release."""
     if not shutil.which("R"):
         return None
+    has_latex = shutil.which("pdflatex") is not None
+    if not has_latex:
+        print("release: the package for R has no vignette: this machine lacks pdflatex")
     with tempfile.TemporaryDirectory(prefix="rp-r-") as room:
         for name, data in files.items():
             os.makedirs(os.path.dirname(f"{room}/revealed/{name}"), exist_ok=True)
             with open(f"{room}/revealed/{name}", "wb") as it:
                 it.write(data)
-        words = ["R", "CMD", "build", "--no-build-vignettes", "revealed"]
-        ran = subprocess.run(words, cwd=room, stdin=subprocess.DEVNULL, stdout=subprocess.PIPE, stderr=subprocess.STDOUT, text=True)
+        with open(f"{room}/rp", "wb") as it:
+            it.write(program)
+        os.chmod(f"{room}/rp", 0o755)
+        env = {**os.environ, "RP_EXEC": f"{room}/rp", "RP_LIBRARY": "", "LC_ALL": "C.UTF-8", "TZ": "UTC"}
+        env |= {"SOURCE_DATE_EPOCH": str(when), "FORCE_SOURCE_DATE": "1"}
+        words = ["R", "CMD", "build", *([] if has_latex else ["--no-build-vignettes"]), "revealed"]
+        ran = subprocess.run(words, cwd=room, env=env, stdin=subprocess.DEVNULL, stdout=subprocess.PIPE, stderr=subprocess.STDOUT, text=True)
         packed = [it for it in os.listdir(room) if it.endswith(".tar.gz")]
         if ran.returncode or len(packed) != 1:
+            print(f"release: R CMD build ended with {ran.returncode}, so the package for R is as its sources are:\n{ran.stdout[-1000:]}")
             return None
         with tarfile.open(f"{room}/{packed[0]}") as tar:
             found = {it.name.removeprefix("revealed/"): tar.extractfile(it).read() for it in tar if it.isfile()}

@@ -12,7 +12,7 @@ is, and what would have to be rounded is refused.
 """
 
 from . import draws, plain
-from .answers import Answers, Certificate, Checked, Demand, Part, RandomVerdict, Verdict, Welfare
+from .answers import Answers, Certificate, Checked, Demand, Part, Patch, RandomVerdict, Verdict, Welfare
 from .clusters import panel_task
 from .commands import (
     afriat_utility,
@@ -41,13 +41,14 @@ from .commands import (
     welfare,
     welfare_bounds,
 )
-from .faults import BadData, Failed, NoFile, NoProgram, Pooled, Problem, Refused, Unreadable, WrongColumns
+from .faults import AllRefused, BadData, Failed, NoFile, NoProgram, Pooled, Problem, Refused, Unreadable, WrongColumns
 from .measures import CostBound, CostMinimisation, MenuVerdict, MoneyPump, OrderPart, Power, Trial
 from .panels import Panel, Row, panel
 from .tables import Choices, MenuChoices, Table, Technology, from_frame, table
 from .verifier import Finding, Findings, NoCertificate, NoReport, NoTable
 
 __all__ = [
+    "AllRefused",
     "Answers",
     "BadData",
     "Certificate",
@@ -70,6 +71,7 @@ __all__ = [
     "OrderPart",
     "Panel",
     "Part",
+    "Patch",
     "Pooled",
     "Power",
     "Problem",

@@ -3,7 +3,8 @@
 from __future__ import annotations
 
 from fractions import Fraction
-from typing import Any, Iterable, Sequence
+from functools import cached_property
+from typing import Any, Callable, Iterable, Sequence
 
 from . import exact
 from .catalogue import LIMITS
@@ -76,20 +77,65 @@ def is_too_fine(value: Any) -> bool:
         return True
 
 
-def asked_for(kinds: dict[str, Sequence[Any]], always: str | None = None) -> str | None:
+class Kinds:
+    """The values of each kind of what is asked about together, a table or a panel, and the names of what has a price. They are
+    gathered where something is told of them, and what is told is reckoned once."""
+
+    def __init__(self, values: Callable[[], dict[str, Sequence[Any]]], goods: Sequence[str]) -> None:
+        self.values, self.goods = values, goods
+        self.known: dict[tuple[str, str], Any] = {}
+
+    @cached_property
+    def of(self) -> dict[str, Sequence[Any]]:
+        return self.values()
+
+    def _once(self, what: str, kind: str, reckon: Callable[[Sequence[Any]], Any]) -> Any:
+        if (what, kind) not in self.known:
+            self.known[what, kind] = reckon(self.of.get(kind, ()))
+        return self.known[what, kind]
+
+    def most(self, kind: str) -> int | None:
+        """Returns the most places that fit."""
+        found: int | None = self._once("most", kind, places_that_fit)
+        return found
+
+    def needs_places(self, kind: str) -> bool:
+        """Whether a number has too many places."""
+        return bool(self._once("needs", kind, lambda values: any(map(is_too_fine, values))))
+
+    def shortest_fits(self) -> bool:
+        """Whether all numbers are taken with each float as the shortest decimal that gives it back."""
+        return all(self._once("shortest", kind, fits_as_shortest) for kind in self.of)
+
+
+def fits_as_shortest(values: Sequence[Any]) -> bool:
+    """Whether numbers are taken with each float as the shortest decimal that gives it back."""
+    short = [exact.shortest_of(value) for value in values]
+    if any(map(is_too_fine, short)):
+        return False
+    found = numbers(short)
+    most = max(map(exact.places_of, found), default=0)
+    return max(found, default=Fraction(0)) * 10**most <= LARGEST
+
+
+SHORTEST = (
+    "numbers='shortest' takes each float as the shortest decimal that gives it back, which is the one that it was read from if that" " had at most 15 digits"
+)
+
+
+def asked_for(kinds: Kinds, always: str | None = None) -> str | None:
     """Returns the argument that rounds each kind which needs it, to the most places that fit; the other kind is left as it is."""
     places: list[int | None] = []
     for kind in (PRICES, QUANTITIES):
-        values = kinds.get(kind, ())
-        needs = kind == always or any(map(is_too_fine, values))
-        most = places_that_fit(values) if needs else None
+        needs = kind == always or kinds.needs_places(kind)
+        most = kinds.most(kind) if needs else None
         if needs and most is None:
             return None
         places.append(most)
     return f"places=({places[0]}, {places[1]})"
 
 
-def too_many_places(value: Any, kind: str, kinds: dict[str, Sequence[Any]]) -> str:
+def too_many_places(value: Any, kind: str, kinds: Kinds) -> str:
     """Returns what to do about a number of too many places."""
     number = exact.fraction_of(value)
     assert number is not None
@@ -100,16 +146,18 @@ def too_many_places(value: Any, kind: str, kinds: dict[str, Sequence[Any]]) -> s
         what = f"{number} is no finite decimal"
     if kind not in (PRICES, QUANTITIES):
         return f"{what}; nothing is rounded unasked: give it as a text or a Decimal of at most {exact.MOST_PLACES} places"
+    short = exact.shortest_of(value)
+    shortest = f"{SHORTEST}, here {short}; " if short is not value and kinds.shortest_fits() else ""
     argument = asked_for(kinds)
     if argument is None:
         return f"{what}; and {without_places(kind)}"
-    said = f"{what}; nothing is rounded unasked: {argument} rounds to the most places that fit, those of prices and those of quantities"
+    said = f"{what}; nothing is rounded unasked: {shortest}{argument} rounds to the most places that fit, those of prices and those of quantities"
     return f"{said}; a text or a Decimal is taken as it is{rounded_prices(kinds) if kind == PRICES else ''}"
 
 
-def rounded_prices(kinds: dict[str, Sequence[Any]]) -> str:
+def rounded_prices(kinds: Kinds) -> str:
     """Returns what is said of prices that are rounded."""
-    two = len(kinds.get("goods", ())) == 2
+    two = len(kinds.goods) == 2
     how = "; prices 1/a and 1/b of a budget line need no rounding: its intercepts exchanged are prices too, b of the first good and a of the second"
     return f"{how if two else '; rounded prices can change a verdict'} ({MEANT})"
 
@@ -122,19 +170,19 @@ def without_places(kind: str) -> str:
     return f"above {LARGEST:,} a number is not taken: take {unit}, which changes no verdict ({MEANT})"
 
 
-def too_large(value: Any, kind: str, kinds: dict[str, Sequence[Any]]) -> str:
+def too_large(value: Any, kind: str, kinds: Kinds) -> str:
     """Returns the limit that a number is above, and the way out."""
     if kind == MONEY:
         return f"made whole by its places, and those of quantities, an amount of money is at most {LARGEST_MONEY:,}"
     if kind not in (PRICES, QUANTITIES):
         return f"it is at most {LARGEST:,}"
-    most = places_that_fit(kinds.get(kind, ()))
+    most = kinds.most(kind)
     limit = f"all {kind} of a file are made whole by one power of ten, and none may be above {LARGEST:,} then"
     if most is None:
         return f"{limit}; {without_places(kind)}"
     other = QUANTITIES if kind == PRICES else PRICES
     own = f"{most} places fit"
     argument = f"places=({most}, None)" if kind == PRICES else f"places=(None, {most})"
-    if any(map(is_too_fine, kinds.get(other, ()))):
+    if kinds.needs_places(other):
         argument = asked_for(kinds, kind) or argument
     return f"{limit}: with the largest of them {own}, and {argument} rounds to so many{rounded_prices(kinds) if kind == PRICES else ''}"

@@ -63,7 +63,7 @@ class Verdict:
 
     `garp`, `afriat`, `homothetic` and `quasilinear` are True or False, and None where the verdict is withheld: then
     `reasons` says why. `efficiency` is the critical cost efficiency index, a Fraction, and `attained` whether the axiom
-    holds at it; `ccei` is the same index as a float, rounded down, so that it is 1 just where the index is. `evidence` has, under
+    holds at it; `ccei` is the nearest float, but below 1 where the index is. `evidence` has, under
     the name of each test, what shows it: ranks, numbers and cycles by the labels of the rows. `ranks`, `cycle`, `utility` and
     `multipliers` are those of the axiom and of Afriat's numbers, or None. Where the table has levels, the axiom and Afriat's
     numbers are by these, and the rest by costs alone. Where the table's prices are intercepts exchanged, `quasilinear` is None,
@@ -91,7 +91,7 @@ class Verdict:
 
     @property
     def ccei(self) -> float:
-        return exact.rounded_down(self.efficiency)
+        return exact.nearest_double(self.efficiency)
 
     @property
     def ranks(self) -> dict[Any, int] | None:
@@ -412,13 +412,25 @@ class Part:
         return f"<patches {self.patches}: {self.share}>"
 
 
+class Patch:
+    """A patch that some type of a mixture has: its number and that of its budget, both from 1, and the share of the choices on that
+    budget which these types make there."""
+
+    def __init__(self, number: int, budget: int, share: Fraction) -> None:
+        self.number, self.budget, self.share = number, budget, share
+
+    def __repr__(self) -> str:
+        return f"<patch {self.number} of budget {self.budget}: {self.share}>"
+
+
 class RandomVerdict:
     """Whether a population in which each has a preference makes the choices.
 
     `rational` is True, False, or None where the verdict is withheld: then `reason` says why. `share` is the greatest share
     of the choices that rational types make, a Fraction, 1 where `rational` is True. `parts` are the types that make it.
     `weights` are, where `rational` is False, the weight of each patch that shows that no more is possible: each rational
-    type weighs 1 or more. `choices` and `certificate` are what `verify` and `check` take.
+    type weighs 1 or more. `patches` are those that these types have. What signs a patch has to the other budgets the program does
+    not tell. `choices` and `certificate` are what `verify` and `check` take.
     """
 
     def __init__(self, choices: Choices, certificate: Certificate) -> None:
@@ -441,6 +453,17 @@ class RandomVerdict:
             self.share = sum((part.share for part in self.parts), Fraction(0))
             if not self.rational:
                 self.weights = [Fraction(exact.whole_of(weight), den) for weight in item["weights"]]
+
+    @property
+    def patches(self) -> list[Patch] | None:
+        """The patches that the types of `parts` have, in their order; None where the verdict is withheld."""
+        if self.parts is None:
+            return None
+        found: dict[tuple[int, int], Fraction] = {}
+        for part in self.parts:
+            for budget, number in enumerate(part.patches, 1):
+                found[number, budget] = found.get((number, budget), Fraction(0)) + part.share
+        return [Patch(number, budget, share) for (number, budget), share in sorted(found.items())]
 
     def __repr__(self) -> str:
         if self.rational is None:

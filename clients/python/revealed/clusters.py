@@ -22,9 +22,9 @@ def is_dask(d: Any) -> bool:
 
 def records_of(frame: Any, by: Any, more: dict[str, Any]) -> Any:
     """Returns the records of the households of a frame of pandas, as `Panel.frame()` has them, without other processes."""
-    from .panels import panel
+    from .panels import answered
 
-    return panel(frame, by, workers=1, progress=False, **more).frame()
+    return answered(frame, list(by) if isinstance(by, (list, tuple)) else [by], 1, False, **more).frame()
 
 
 def panel_task(by: Any, *, order: Any = None, key: str = "string", **more: Any) -> Callable[[Any], Any]:
@@ -57,14 +57,13 @@ def panel_task(by: Any, *, order: Any = None, key: str = "string", **more: Any) 
 # ---- Dask
 
 
-def of_dask(d: Any, names: Sequence[Any], levels: Any, more: dict[str, Any]) -> Any:
+def of_dask(d: Any, names: Sequence[Any], more: dict[str, Any]) -> Any:
     """Returns the records of a frame of Dask, as one of Dask: its rows are moved so that each household is in one partition."""
     import numpy
     import pandas
 
-    if hasattr(levels, "__iter__"):
+    if hasattr(more["levels"], "__iter__"):
         raise BadData("levels of a frame of Dask are one number for all, or its column 'e'")
-    more = {**more, "levels": levels}
     # What is wrong with the columns is told now, and not by each partition.
     records_of(d._meta, list(names), more)
     rows = d._meta.assign(**{PLACE: numpy.zeros(0, "int64")})

@@ -6,12 +6,12 @@ import json
 import os
 from typing import Any, Callable, Union
 
-from . import advice, program, verifier
+from . import advice, exact, program, verifier
 from .answers import Answers, Certificate, Checked, RandomVerdict, Verdict, demands, reading, utilities, walk_of, welfares
 from .catalogue import DRAWS, PER, SEED, span
 from .faults import BadData, Failed, NoFile, Refused
 from .measures import CostMinimisation, MenuVerdict, MoneyPump, Power, Trial
-from .tables import OWN_MONEY, Choices, MenuChoices, Sheet, Table, Technology, beside, table
+from .tables import EXACT, OWN_MONEY, Choices, Forms, MenuChoices, Sheet, Table, Technology, beside, forms_of, table
 from .verifier import Findings, reports
 
 TABLE, NEW, BUDGETS, CHOICES, CERTIFICATE = "table.csv", "new.csv", "budgets.csv", "choices.csv", "certificate.json"
@@ -22,26 +22,27 @@ Explains = Callable[[Union[str, None], str, "dict[str, int]"], Exception]
 # ---- verdicts on a table
 
 
-def analyse(p: Any, q: Any = None, *, levels: Any = None, places: Any = None, exe: Any = None) -> Verdict:
+def analyse(p: Any, q: Any = None, *, levels: Any = None, places: Any = None, numbers: Any = "exact", exe: Any = None) -> Verdict:
     """Returns the Verdict on prices p and quantities q: two lists of rows, two arrays, or two frames; or on a table alone.
 
     `levels` gives each row its level, in whole thousandths of what was spent, where the frame has no column `e`. `places` rounds
     each number to so many decimal places; two numbers, those of prices and of quantities. Without it nothing is rounded, and
-    a float that has more than 6 places is refused.
+    a float that has more than 6 places is refused, as 3.18 is, a binary fraction. `numbers="shortest"` takes each float as the
+    shortest decimal that gives it back.
     """
-    own = table(p, q, places=places, levels=levels)
+    own = table(p, q, places=places, numbers=numbers, levels=levels)
     return Verdict(own, _certificate(own, exe))
 
 
-def certify(p: Any, q: Any = None, *, levels: Any = None, places: Any = None, exe: Any = None) -> Certificate:
+def certify(p: Any, q: Any = None, *, levels: Any = None, places: Any = None, numbers: Any = "exact", exe: Any = None) -> Certificate:
     """Returns the Certificate of these verdicts."""
-    return _certificate(table(p, q, places=places, levels=levels), exe)
+    return _certificate(table(p, q, places=places, numbers=numbers, levels=levels), exe)
 
 
-def first_contradiction(p: Any, q: Any = None, *, levels: Any = None, places: Any = None, exe: Any = None) -> tuple[Any, Any] | None:
+def first_contradiction(p: Any, q: Any = None, *, levels: Any = None, places: Any = None, numbers: Any = "exact", exe: Any = None) -> tuple[Any, Any] | None:
     """Returns the labels of the first two rows that contradict each other, the one weakly preferred to the other and that strictly
     to it; None where no two do. It is a quick look: longer cycles are seen by `analyse`."""
-    own = table(p, q, places=places, levels=levels)
+    own = table(p, q, places=places, numbers=numbers, levels=levels)
     told = program.answer(["pairs", TABLE], {TABLE: own.csv()}, exe, _explains(own))
     with reading(told.encode()):
         pair = reports.read_pairs(told)
@@ -51,22 +52,24 @@ def first_contradiction(p: Any, q: Any = None, *, levels: Any = None, places: An
         return first, second
 
 
-def money_pump(p: Any, q: Any = None, *, levels: Any = None, places: Any = None, exe: Any = None) -> MoneyPump:
+def money_pump(p: Any, q: Any = None, *, levels: Any = None, places: Any = None, numbers: Any = "exact", exe: Any = None) -> MoneyPump:
     """Returns the greatest money pump ratio of a table, with a cycle that has it. It is refused on a table with levels, and on
     one of intercepts exchanged, whose rows have money of their own."""
-    own = table(p, q, places=places, levels=levels)
+    own = table(p, q, places=places, numbers=numbers, levels=levels)
     if own.own_money:
         raise BadData(f"the money pump: {OWN_MONEY}")
     return MoneyPump(own, program.answer(["pump", TABLE], {TABLE: own.csv()}, exe, _explains(own)).encode())
 
 
-def power_of_test(p: Any, q: Any = None, *, seed: Any = 1, draws: Any = 1000, levels: Any = None, places: Any = None, exe: Any = None) -> Power:
+def power_of_test(
+    p: Any, q: Any = None, *, seed: Any = 1, draws: Any = 1000, levels: Any = None, places: Any = None, numbers: Any = "exact", exe: Any = None
+) -> Power:
     """Returns how many of so many random behaviours on the budgets of a table, 1 to 1,000, violate the axiom.
 
     How they are drawn stands in docs/USING.md: nearer to equal division than uniformly on the budget line. It is refused on a
     table with levels.
     """
-    own = table(p, q, places=places, levels=levels)
+    own = table(p, q, places=places, numbers=numbers, levels=levels)
     seed, draws = program.whole(seed, "seed", *SEED), program.whole(draws, "draws", *DRAWS)
     out = program.answer(["power", TABLE, str(seed), str(draws)], {TABLE: own.csv()}, exe, _explains(own))
     return Power(own, out.encode(), seed, draws)
@@ -82,58 +85,60 @@ def random_trial(seed: Any, rows: Any, goods: Any, *, exe: Any = None) -> Trial:
 # ---- at new prices
 
 
-def demand_bounds(p: Any, q: Any = None, new: Any = None, m: Any = None, *, levels: Any = None, places: Any = None, exe: Any = None) -> Answers:
+def demand_bounds(
+    p: Any, q: Any = None, new: Any = None, m: Any = None, *, levels: Any = None, places: Any = None, numbers: Any = "exact", exe: Any = None
+) -> Answers:
     """Returns the Demand on each new budget: prices `new`, a row or a frame, and what is spent `m`, one number or one a row.
 
     A frame of new prices may have the column `m` itself. It is refused on a table with levels.
     """
-    own = table(p, q, places=places, levels=levels)
-    sheet = _new(own, new, "p_", "m", m, places=places)
+    own = table(p, q, places=places, numbers=numbers, levels=levels)
+    sheet = _new(own, new, "p_", "m", m, forms=forms_of(places, numbers))
     words = ["demand", TABLE, NEW, "--json"]
     return demands(own, sheet, Certificate(_asked(words, own, sheet, exe)))
 
 
-def welfare_bounds(p: Any, q: Any = None, new: Any = None, *, levels: Any = None, places: Any = None, exe: Any = None) -> Answers:
+def welfare_bounds(p: Any, q: Any = None, new: Any = None, *, levels: Any = None, places: Any = None, numbers: Any = "exact", exe: Any = None) -> Answers:
     """Returns the Welfare bounds at each row of new prices. It is refused on a table with levels."""
-    own = table(p, q, places=places, levels=levels)
-    sheet = _new(own, new, "p_", places=places)
+    own = table(p, q, places=places, numbers=numbers, levels=levels)
+    sheet = _new(own, new, "p_", forms=forms_of(places, numbers))
     words = ["welfare", TABLE, NEW, "--json"]
     return welfares(own, sheet, Certificate(_asked(words, own, sheet, exe)))
 
 
-def afriat_utility(p: Any, q: Any = None, bundles: Any = None, *, levels: Any = None, places: Any = None, exe: Any = None) -> Answers:
+def afriat_utility(p: Any, q: Any = None, bundles: Any = None, *, levels: Any = None, places: Any = None, numbers: Any = "exact", exe: Any = None) -> Answers:
     """Returns the utility of each bundle under the Verdict's Afriat numbers, in their scale: money where lambda is 1."""
-    own = table(p, q, places=places, levels=levels)
-    sheet = _new(own, bundles, "q_", places=places)
+    own = table(p, q, places=places, numbers=numbers, levels=levels)
+    sheet = _new(own, bundles, "q_", forms=forms_of(places, numbers))
     return utilities(own, sheet, _asked(["utility", TABLE, NEW], own, sheet, exe).decode())
 
 
 # ---- firms, and choices of many people
 
 
-def cost_minimisation(technology: Any, asked: Any = None, *, places: Any = None, exe: Any = None) -> CostMinimisation:
+def cost_minimisation(technology: Any, asked: Any = None, *, places: Any = None, numbers: Any = "exact", exe: Any = None) -> CostMinimisation:
     """Returns whether a firm minimises its cost and maximises its profit, and what outputs cost at new prices of the inputs.
 
     The technology is a frame with `w_NAME` and `x_NAME` for each input, its price and how much of it was used, `y`, the output,
     and perhaps `p`, its price. What is asked is a frame with `w_NAME` and `y`, or a mapping of these to one number each; without
     it the verdicts alone are given.
     """
-    own = technology if isinstance(technology, Technology) else Technology(technology, places)
+    own = technology if isinstance(technology, Technology) else Technology(technology, places, numbers)
     first = dict(zip(own.names, own.rows[0])) if own.rows else {}
-    sheet = own.asked({name: first.get(name) for name in own.names if name.startswith("w_") or name == "y"} if asked is None else asked, places)
+    sheet = own.asked({name: first.get(name) for name in own.names if name.startswith("w_") or name == "y"} if asked is None else asked, places, numbers)
     files = {TECHNOLOGY: own.csv(), ASKED: sheet.csv()}
     out = program.answer(["cost", TECHNOLOGY, ASKED], files, exe, _explains(own, sheet))
     return CostMinimisation(own, sheet, out.encode(), asked is not None)
 
 
-def random_utility(budgets: Any, choices: Any, per: Any = None, *, places: Any = None, exe: Any = None) -> RandomVerdict:
+def random_utility(budgets: Any, choices: Any, per: Any = None, *, places: Any = None, numbers: Any = "exact", exe: Any = None) -> RandomVerdict:
     """Returns the RandomVerdict on choices from budgets.
 
     Budgets are a frame with `p_NAME` for each good and `w`, the income, or rows of prices that end with the income. Choices
     are a frame with `budget`, `q_NAME` and `n`, or rows that begin with the budget and end with how many times. A budget is
     its number, from 1; where the frame of budgets has `obs`, it is what stands there. `per` asks for so many units of each.
     """
-    own = Choices(budgets, choices, per, places)
+    own = Choices(budgets, choices, per, forms_of(places, numbers))
     words = ["random", BUDGETS, CHOICES, "--json", *_units(own.per)]
     out = program.answer(words, {BUDGETS: own.budgets.csv(), CHOICES: own.choices.csv()}, exe, _explains_choices(own))
     return RandomVerdict(own, Certificate(out.encode()))
@@ -210,10 +215,10 @@ def _certificate(own: Table, exe: Any) -> Certificate:
     return Certificate(out.encode())
 
 
-def _new(own: Table, data: Any, prefix: str, more: str | None = None, values: Any = None, places: Any = None) -> Sheet:
+def _new(own: Table, data: Any, prefix: str, more: str | None = None, values: Any = None, forms: Forms = EXACT) -> Sheet:
     if data is None:
         raise BadData("there are no new prices or bundles")
-    return beside(own, data, prefix, more, values, places)
+    return beside(own, data, prefix, more, values, forms)
 
 
 def _asked(words: list[str], own: Table, new: Sheet, exe: Any) -> bytes:
@@ -314,7 +319,9 @@ def certificate_bytes(certificate: Any) -> bytes:
     try:
         return json.dumps(certificate).encode()
     except (TypeError, ValueError, RecursionError):
-        raise BadData(f"a certificate is a Certificate, a text, bytes, a value of JSON or the name of a file, and not {certificate!r}") from None
+        raise BadData(
+            f"a certificate is a Certificate, a text, bytes, a value of JSON or the name of a file, and not {exact.shown(certificate, repr)}"
+        ) from None
 
 
 def is_name_of_file(text: str) -> bool:

@@ -1,39 +1,115 @@
 """Random behaviour on the budgets of a table, uniformly on the budget line: what Bronars (1987) and Choi, Fisman, Gale and Kariv
 (2007) compare people with. The command `power` draws another way (docs/USING.md).
+
+The same seed gives the same behaviours in Python, in R and in the page (clients/tests/behaviours.json). The words are those of
+MRG32k3a (L'Ecuyer 1999), with the seeding of R's generator "L'Ecuyer-CMRG"; all else is reckoned in whole numbers.
 """
 
 from __future__ import annotations
 
-import random
 from fractions import Fraction
-from typing import Any
+from typing import Any, Iterable, Sequence
 
-from . import advice, exact
+from . import exact, program
+from .advice import LARGEST
+from .answers import Verdict
+from .faults import BadData
 from .tables import Table
 
+SEEDS = (0, 2**32 - 1)
+FIRST, SECOND = 4294967087, 4294944443
+# A share of what is spent is a whole number of these parts of it.
+PARTS = 2**29
+# The powers of ten that quantities are counted in, the finest first.
+UNITS = range(6, -10, -1)
 
-def shares(draw: random.Random, goods: int) -> list[float]:
-    """Returns shares of what is spent, uniformly among all that add up to 1: the gaps between numbers that are drawn in order."""
-    cuts = [0.0, *sorted(draw.random() for _ in range(goods - 1)), 1.0]
-    return [after - before for before, after in zip(cuts, cuts[1:])]
+
+class Words:
+    """The words of MRG32k3a from a seed, each from 1 to FIRST."""
+
+    def __init__(self, seed: Any) -> None:
+        drawn = program.whole(seed, "seed", *SEEDS)
+        for _ in range(50):
+            drawn = (69069 * drawn + 1) % 2**32
+        state: list[int] = []
+        while len(state) < 6:
+            drawn = (69069 * drawn + 1) % 2**32
+            if drawn < SECOND:
+                state.append(drawn)
+        self.first, self.second = state[:3], state[3:]
+
+    def next(self) -> int:
+        a, b = self.first, self.second
+        p = (1403580 * a[1] - 810728 * a[0]) % FIRST
+        q = (527612 * b[2] - 1370589 * b[0]) % SECOND
+        self.first, self.second = [*a[1:], p], [*b[1:], q]
+        return p - q if p > q else p - q + FIRST
+
+    def shares(self, goods: int) -> list[int]:
+        """Returns parts of what is spent, uniformly among all divisions of PARTS: the gaps between cuts that are drawn."""
+        cuts = sorted((self.next() - 1) // 8 for _ in range(goods - 1))
+        return [after - before for before, after in zip([0, *cuts], [*cuts, PARTS])]
+
+
+class Budgets:
+    """The budgets of a table, in whole numbers: the prices, and how much of each good what was spent would buy, in units that are
+    as fine as fit."""
+
+    def __init__(self, table: Table) -> None:
+        self.table = table
+        count = len(table.goods)
+        rows = [[Fraction(text) for text in texts[: 2 * count]] for texts in table.texts]
+        price, quantity = table.price_scale, table.quantity_scale
+        self.prices = [[int(number * price) for number in row[:count]] for row in rows]
+        quantities = [[int(number * quantity) for number in row[count:]] for row in rows]
+        spent = [sum(p * q for p, q in zip(*row)) for row in zip(self.prices, quantities)]
+        self.most = next(found for found in (self._most(spent, unit) for unit in UNITS) if max((max(row) for row in found), default=0) <= LARGEST)
+
+    def _most(self, spent: Sequence[int], unit: int) -> list[list[int]]:
+        amounts = [money * 10**unit if unit >= 0 else money // 10**-unit for money in spent]
+        return [[money // price for price in row] for money, row in zip(amounts, self.prices)]
+
+    def behaviour(self, words: Words) -> list[list[int]]:
+        """Returns the quantities of one behaviour, by the next words."""
+        found = []
+        for most in self.most:
+            bought = [whole * part // PARTS for whole, part in zip(most, words.shares(len(most)))]
+            found.append(bought if any(bought) else [1, *bought[1:]])
+        return found
+
+    def drawn(self, words: Words) -> Table:
+        """Returns the table of one behaviour, by the next words. Its units are of its own, which changes neither the axiom nor the
+        index."""
+        own = self.table
+        return Table(own.goods, self.prices, self.behaviour(words), list(own.labels), own_money=own.own_money)
 
 
 def on_budget_lines(table: Table, seed: Any) -> Table:
-    """Returns the table of one random behaviour at the prices and expenditures of a table.
+    """Returns the table of one random behaviour at the prices and expenditures of a table, in whole numbers and units of its own."""
+    return Budgets(table).drawn(Words(seed))
 
-    Quantities are rounded down, to as many places as fit, so that no more than the expenditure is spent.
-    """
-    draw = random.Random(f"revealed {seed}")
-    count = len(table.goods)
-    rows = [[Fraction(text) for text in texts[: 2 * count]] for texts in table.texts]
-    prices = [row[:count] for row in rows]
-    spent = [sum((p * q for p, q in zip(row[:count], row[count:])), Fraction(0)) for row in rows]
-    drawn = [[Fraction(part) * money / price for part, price in zip(shares(draw, count), row)] for row, money in zip(prices, spent)]
-    places = advice.places_that_fit([number for row in drawn for number in row])
-    scale = 10 ** (places or 0)
-    quantities = [[exact.decimal_text(Fraction(int(number * scale), scale)) for number in row] for row in drawn]
-    for row in quantities:
-        if not any(Fraction(text) for text in row):
-            row[0] = exact.decimal_text(Fraction(1, scale))
-    texts = [[exact.decimal_text(price) for price in row] for row in prices]
-    return Table(table.goods, texts, quantities, list(table.labels), own_money=table.own_money)
+
+def on_budgets_of(panel: Any, count: int = 1000, seed: Any = 1) -> list[Table]:
+    """Returns so many behaviours on the budgets of a panel: each household that has a verdict in turn, all from one seed."""
+    own = [Budgets(row.verdict.table) for row in panel if row.verdict is not None]
+    if not own:
+        raise BadData("no household of this panel has a verdict, so there are no budgets")
+    words = Words(seed)
+    return [own[number % len(own)].drawn(words) for number in range(program.whole(count, "count", 0, 1_000_000))]
+
+
+def verdicts(panel: Any, count: int = 1000, seed: Any = 1, *, exe: Any = None, workers: Any = None) -> list[Verdict]:
+    """Returns the verdicts on `on_budgets_of`: the benchmark beside the figure of Choi, Fisman, Gale and Kariv (2007)."""
+    from .panels import answers_on
+
+    return answers_on(on_budgets_of(panel, count, seed), workers, exe)
+
+
+def share_above(answers: Iterable[Any], level: Any) -> Fraction:
+    """Returns the share of some verdicts, or of the verdicts of a panel, whose efficiency index is above a level, exactly."""
+    found = [getattr(it, "verdict", it) for it in answers]
+    indices = [it.efficiency for it in found if it is not None]
+    least = exact.fraction_of(level)
+    if not indices or least is None:
+        raise BadData("a share is of one verdict or more, above a level such as 0.9 or '0.95'")
+    return Fraction(sum(it > least for it in indices), len(indices))

@@ -2,7 +2,7 @@
 
 An int, a Decimal, a Fraction with a finite decimal, a text and a float are each written as the number that they are. A
 float is a binary fraction: 0.5 is a half, and 3.18 is 3.18000000000000015987.., of which the program does not take so many
-places. `places` asks for rounding.
+places. `numbers="shortest"` takes it as the shortest decimal that gives it back, 3.18, and `places` asks for rounding.
 """
 
 from __future__ import annotations
@@ -12,7 +12,7 @@ import re
 from decimal import Decimal
 from fractions import Fraction
 from math import isfinite
-from typing import Any
+from typing import Any, Callable, NamedTuple
 
 from .catalogue import LIMITS
 
@@ -20,25 +20,49 @@ MISSING = ""
 MOST_PLACES = LIMITS["table.places"]
 _PLAIN = re.compile(r"[0-9]+(\.[0-9]+)?")
 _NUMBER = re.compile(r"[+-]?([0-9]+\.?[0-9]*|\.[0-9]+)([eE][+-]?[0-9]{1,3})?")
+# A number of more digits before its point, or more places behind it, is refused before it is made a whole number or a text. No
+# float has so many, and what the program takes has few.
+MOST_DIGITS = 2000
+_MOST_BITS = int(MOST_DIGITS * math.log2(10))
 
 
 class NotFinite(ValueError):
     """A fraction such as 1/3, which no decimal is."""
 
 
-def text_of(value: Any, places: int | None = None) -> str:
-    """Returns the text of a number, and the text of what is no number as it stands, for the program to refuse.
+class TooLong(ValueError):
+    """A number past MOST_DIGITS: `fault` is what the program calls one that is too large, or that has too many places."""
 
-    With `places` the number is rounded to so many, half to even.
-    """
+    def __init__(self, fault: str) -> None:
+        super().__init__(fault)
+        self.fault = fault
+
+
+class Form(NamedTuple):
+    """How numbers become texts: rounded to so many `places`, or not where that is None; a float as the binary fraction that it
+    is, or by `shortest` as the shortest decimal that gives it back."""
+
+    places: int | None = None
+    shortest: bool = False
+
+
+AS_THEY_ARE = Form()
+
+
+def text_of(value: Any, form: Form = AS_THEY_ARE) -> str:
+    """Returns the text of a number, and the text of what is no number as it stands, for the program to refuse; raises TooLong."""
+    if form.shortest:
+        value = shortest_of(value)
+    places = form.places
     if isinstance(value, str):
         cell = value.strip(" \t")
         if places is None and _PLAIN.fullmatch(cell):
             return cell
         if not _NUMBER.fullmatch(cell):
             return value
-        number: Fraction | None = Fraction(cell)
+        number: Fraction | None = Fraction(_short(cell))
     else:
+        _short(value)
         if type(value) is int and (places is None or value >= 0):
             return str(value)
         if isinstance(value, float) and isfinite(value):
@@ -52,13 +76,60 @@ def text_of(value: Any, places: int | None = None) -> str:
         return MISSING if is_missing(value) else str(value)
     if places is not None:
         number = rounded(number, places)
-    return decimal_text(number)
+    return decimal_text(_short(number))
+
+
+def shortest_of(value: Any) -> Any:
+    """Returns the text of the shortest decimal that gives a float back, and every other value as it is.
+
+    A float of numpy with other bits than Python's says the shortest decimal of its own kind.
+    """
+    if isinstance(value, float):
+        return float.__repr__(value) if isfinite(value) else value
+    if type(value).__module__ == "numpy" and type(value).__name__ in ("float16", "float32", "longdouble", "float128"):
+        text = str(value)
+        return text if _NUMBER.fullmatch(text) and type(value)(text) == value else value
+    return value
+
+
+def fault_of_length(value: Any) -> str | None:
+    """Returns the fault of a number that is too long to be written, and None of every other value; takes no time over it."""
+    if isinstance(value, str):
+        whole, _, part = value.partition(".")
+        return "TooLarge" if len(whole) > MOST_DIGITS else "TooManyDecimals" if len(part) > MOST_DIGITS else None
+    if isinstance(value, (int, Fraction)):
+        if value.numerator.bit_length() - value.denominator.bit_length() > _MOST_BITS:
+            return "TooLarge"
+        return "TooManyDecimals" if value.denominator.bit_length() > _MOST_BITS else None
+    if isinstance(value, Decimal) and value.is_finite() and value:
+        places = -int(value.as_tuple().exponent)
+        return "TooLarge" if value.adjusted() > MOST_DIGITS else "TooManyDecimals" if places > MOST_DIGITS else None
+    return None
+
+
+def _short(value: Any) -> Any:
+    """Returns a value that is no number past MOST_DIGITS."""
+    fault = fault_of_length(value)
+    if fault:
+        raise TooLong(fault)
+    return value
 
 
 def are_plain(row: list[Any]) -> bool:
     """Whether values are whole numbers, or texts of digits and perhaps a point, which are the texts of numbers as they stand."""
     kinds = set(map(type, row))
-    return kinds == {int} or (kinds == {str} and all(map(_PLAIN.fullmatch, row)))
+    if kinds == {int}:
+        return max(it.bit_length() for it in row) <= _MOST_BITS
+    return kinds == {str} and all(map(_PLAIN.fullmatch, row))
+
+
+def shown(value: Any, how: Callable[[Any], str] = str, most: int = 120) -> str:
+    """Returns a value as it is told in a message: its beginning where it is long, and of a whole number that is long its size."""
+    if isinstance(value, (int, Fraction)) and fault_of_length(value):
+        bits = max(value.numerator.bit_length(), value.denominator.bit_length())
+        return f"a number of some {int(bits * math.log10(2)):,} digits"
+    said = repr(value) if isinstance(value, str) else how(value)
+    return said if len(said) <= most else f"{said[:most]}.."
 
 
 def unsigned_zero(text: str) -> str:
@@ -67,8 +138,8 @@ def unsigned_zero(text: str) -> str:
 
 
 def fraction_of(value: Any) -> Fraction | None:
-    """Returns the number that a value is, exactly, and None where it is none."""
-    if type(value).__name__ in ("bool", "bool_"):
+    """Returns the number that a value is, exactly, and None where it is none or is past MOST_DIGITS."""
+    if type(value).__name__ in ("bool", "bool_") or fault_of_length(value):
         return None
     if isinstance(value, Fraction):
         return value
@@ -118,17 +189,19 @@ def places_of(number: Fraction) -> int:
 def decimal_text(number: Fraction) -> str:
     """Returns a fraction as a plain decimal."""
     places = places_of(number)
-    digits = str(abs(number.numerator) * 10**places // number.denominator).rjust(places + 1, "0")
+    digits = written(abs(number.numerator) * 10**places // number.denominator).rjust(places + 1, "0")
     whole, part = (digits[:-places], digits[-places:]) if places else (digits, "")
     return ("-" if number < 0 else "") + whole + ("." + part if part else "")
 
 
-def rounded_down(number: Fraction | None) -> float:
-    """Returns the greatest double that is not above a number of 0 or more, and NaN where there is none: so only 1 reads 1."""
+def nearest_double(number: Fraction | None) -> float:
+    """Returns the double nearest to a number of 0 or more, and NaN where there is none; but only 1 reads 1, and only 0 reads 0."""
     if number is None:
         return math.nan
     near = number.numerator / number.denominator
-    return near if Fraction(near) <= number else math.nextafter(near, -math.inf)
+    if near == 1 and number < 1:
+        return math.nextafter(1, 0)
+    return near if near or not number else math.nextafter(0, 1)
 
 
 def whole_of(text: str) -> int:

@@ -4,6 +4,8 @@ from __future__ import annotations
 
 from typing import Any, Sequence
 
+from .exact import shown
+
 
 class Problem(Exception):
     """Every exception of this package."""
@@ -29,7 +31,7 @@ class Pooled(BadData):
     def __init__(self, label: Any, name: str = "obs", why: str | None = None) -> None:
         self.label, self.name = label, name
         super().__init__(
-            (why or f"the label {label!r} of {name} stands at more than one row")
+            (why or f"the label {shown(label, repr)} of {name} stands at more than one row")
             + ", so these look like several households, and together they are no table: panel(d, by=..) takes each household apart by"
             " the column that tells them apart; if they are one household, give each row a label of its own"
         )
@@ -103,10 +105,23 @@ class Refused(Problem, ValueError):
                 words += [name, str(getattr(self, name))]
         told = []
         if self.label is not None:
-            told.append(f"row {self.label!r}")
+            told.append(f"row {shown(self.label, repr)}")
         if self.name is not None:
             told.append(f"column {self.name!r}")
         if self.value is not None:
             told.append(f"value {self.value}")
         place = f"{self.file}: " if self.file and self.file != "table" else ""
         return place + " ".join(words) + (f" ({', '.join(told)})" if told else "") + (f": {self.hint}" if self.hint else "")
+
+
+class AllRefused(Refused):
+    """Every household of a panel was refused for one cause: `count` of them, of which the places tell the first, `key`."""
+
+    def __init__(self, first: Refused, key: Any, count: int) -> None:
+        self.key, self.count = key, count
+        places = {name: getattr(first, name) for name in ("record", "column", "budget", "menu", "item")}
+        super().__init__(first.fault, first.file, label=first.label, name=first.name, value=first.value, hint=first.hint, **places)
+
+    def _text(self) -> str:
+        who = f"all {self.count} households are refused for one cause, the first" if self.count > 1 else "the one household is refused"
+        return f"{who}, {shown(self.key, repr)}: {super()._text()}"

@@ -76,7 +76,7 @@ def column_of(data: Any, name: Any, what: str) -> list[Any]:
 
 def described(value: Any) -> str:
     """Returns what kind of thing a value is, with its beginning."""
-    said = repr(value)
+    said = exact.shown(value, repr)
     return f"{type(value).__name__} {said[:40]}{'..' if len(said) > 40 else ''}"
 
 

@@ -1,8 +1,9 @@
 """The program as a library in memory: one call over the bytes of files (`rp.h`), without a process and without a file.
 
 It is taken where it is found: the argument `exe` where that names one, the environment variable RP_LIBRARY, inside the package
-(`librp.so`, `rp.dll`), or where the system's loader looks. Any number of threads may call at once, and other threads of Python
-run meanwhile.
+(`librp.so`, `rp.dll`), in the unpacked release that the package lies in, or where the system's loader looks; on Windows, whose
+loader looks into no folder of the path, in the folders of the path. Any number of threads may call at once, and other threads of
+Python run meanwhile.
 """
 
 from __future__ import annotations
@@ -93,18 +94,40 @@ def find(exe: Any = None) -> Library | None:
         return known(os.path.abspath(named))
     if os.environ.get("RP_EXEC"):
         return None
-    own = os.path.join(os.path.dirname(os.path.abspath(__file__)), NAME)
-    return known(own) if os.path.isfile(own) else None
+    own = next(filter(os.path.isfile, places()), None)
+    return known(own) if own is not None else None
+
+
+def release() -> str | None:
+    """Returns the folder of the unpacked release that this package lies in, as `clients/python/revealed`, if it does."""
+    package = os.path.dirname(os.path.abspath(__file__))
+    top = os.path.dirname(os.path.dirname(os.path.dirname(package)))
+    is_release = os.path.isfile(os.path.join(top, "PROVED")) and os.path.isdir(os.path.join(top, "clients", "python", "revealed"))
+    return top if is_release else None
+
+
+def places(name: str = NAME) -> list[str]:
+    """Returns where a library or a program may be that came with the package."""
+    top, package = release(), os.path.dirname(os.path.abspath(__file__))
+    return [os.path.join(package, name), *([os.path.join(top, "lib", name), os.path.join(top, name)] if top is not None else [])]
 
 
 SOUGHT: list[Library | None] = []
+
+
+def sought() -> list[str]:
+    """Returns the names and paths that the system's loader is asked for."""
+    if sys.platform != "win32":
+        return LOADED
+    folders = os.environ.get("PATH", "").split(os.pathsep)
+    return [*filter(os.path.isfile, (os.path.join(folder, NAME) for folder in folders if os.path.isabs(folder))), *LOADED]
 
 
 def of_loader() -> Library | None:
     """Returns the library that the system's loader finds, if there is one. It is asked once."""
     if not SOUGHT:
         found = None
-        for name in LOADED:
+        for name in sought():
             try:
                 found = known(name)
                 break

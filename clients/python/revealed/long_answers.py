@@ -239,7 +239,9 @@ class Process:
     def __init__(self, asked: dict[str, Any], folder: str) -> None:
         above = os.path.dirname(os.path.dirname(os.path.abspath(__file__)))
         own = tempfile.mkdtemp(dir=folder) if folder else ""
-        words = [sys.executable, "-I", "-S", "-c", STARTS, above, own]
+        # An option says what the environment may not: whether compiled modules are kept.
+        kept = ["-B"] if sys.dont_write_bytecode else []
+        words = [sys.executable, *kept, "-I", "-S", "-c", STARTS, above, own]
         self.process = subprocess.Popen(words, stdin=subprocess.PIPE, stdout=subprocess.PIPE, start_new_session=True)
         assert self.process.stdin is not None and self.process.stdout is not None
         self.to, self.source = self.process.stdin, self.process.stdout

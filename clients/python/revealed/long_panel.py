@@ -29,16 +29,19 @@ import csv
 import hashlib
 import os
 import re
+import shutil
 import subprocess
 import sys
 import time
 from typing import Any, Iterator, Optional, Sequence
 
+from . import library
 from .catalogue import DRAWS, SEED
 from .long_answers import ASKED, Pool, columns, lines_of
 from .long_ends import Ends, Signalled
 from .long_files import BLOCK, Apart, Columns, Gathered, Household, LongFile, Stopped, blocks, first_columns, sum_of, together
 from .long_results import Results, begun, done_of, interleaved, is_apart, part_name
+from .program import NAME
 
 # The sources or the release that this file came with.
 TOP = os.path.dirname(os.path.dirname(os.path.dirname(os.path.dirname(os.path.realpath(__file__)))))
@@ -70,8 +73,7 @@ def program(asked: Optional[str]) -> tuple[str, bool]:
         if not is_program(asked) and not is_library(asked):
             raise Stopped(f"{asked}: there is no program or library of that name")
         return os.path.abspath(asked), is_library(asked)
-    own = os.path.dirname(os.path.abspath(__file__))
-    for file in (f"{own}/librp.so", f"{own}/rp.dll", f"{TOP}/lib/librp.so", f"{own}/rp", f"{own}/rp.exe"):
+    for file in [*library.places(), *library.places(NAME)]:
         if is_library(file) or is_program(file):
             return file, is_library(file)
     if is_program(f"{TOP}/prove"):
@@ -80,7 +82,10 @@ def program(asked: Optional[str]) -> tuple[str, bool]:
         return f"{TOP}/crates/rp/out/rp", False
     if is_program(f"{TOP}/rp"):
         return f"{TOP}/rp", False
-    raise Stopped("there is no program rp beside this tool: name it by --rp PATH")
+    on_path = shutil.which(NAME)
+    if on_path is not None:
+        return on_path, False
+    raise Stopped(f"there is no program {NAME} beside this tool and none on the path: name it by --rp PATH")
 
 
 def bytes_of(file: Optional[str]) -> Optional[bytes]:

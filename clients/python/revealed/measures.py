@@ -16,8 +16,8 @@ from .verifier import reports
 class MoneyPump:
     """The greatest money pump ratio of a table: which share of what was spent a cycle of purchases gives away at most.
 
-    `ratio` is a Fraction, 0 just where the axiom holds; `pump` is the same as a float, rounded down, so that it is 0 just where
-    the ratio is. `cycle` is a closed walk that has it, by the labels of the rows, and `values` show that none has more, in
+    `ratio` is a Fraction, 0 just where the axiom holds; `pump` is the same as the nearest float, but above 0
+    where the ratio is. `cycle` is a closed walk that has it, by the labels of the rows, and `values` show that none has more, in
     money.
     """
 
@@ -37,7 +37,7 @@ class MoneyPump:
 
     @property
     def pump(self) -> float:
-        return exact.rounded_down(self.ratio)
+        return exact.nearest_double(self.ratio)
 
     def __float__(self) -> float:
         return self.pump
@@ -91,7 +91,7 @@ class Trial:
 
     @property
     def ccei(self) -> float:
-        return exact.rounded_down(self.efficiency)
+        return exact.nearest_double(self.efficiency)
 
     def __repr__(self) -> str:
         return self.report.decode().rstrip("\n")

@@ -8,18 +8,20 @@ from __future__ import annotations
 import os
 import sys
 from collections import deque
+from functools import partial
 from typing import Any, Callable, Iterable, Iterator, Sequence
 
 from . import clusters, exact, program
+from .advice import PRICES, QUANTITIES, Kinds
 from .answers import Certificate, Verdict
 from .catalogue import DRAWS, SEED
 from .commands import refusal
-from .faults import BadData, Failed, NoProgram, Pooled, Problem, Refused, WrongColumns
+from .faults import AllRefused, BadData, Failed, NoProgram, Pooled, Problem, Refused, WrongColumns
 from .frames import Frame, near, own_labels, prices_of, values_of
 from .long_answers import ASKED, Ended, Here, Pool
 from .long_files import BLOCK, Stopped
 from .measures import MoneyPump, Power
-from .tables import OWN_MONEY, Table
+from .tables import OWN_MONEY, Forms, Table, as_taken, forms_of
 
 
 # Fewer households than this are done before other processes have begun: by the program, and by its library.
@@ -72,7 +74,7 @@ class Panel(list):
     def records(self) -> list[dict[str, Any]]:
         """Returns a dictionary for each household: its key, status, verdicts and, where there is none, the reason.
 
-        `efficiency` and `pump_ratio` are exact, as Fractions; `ccei` and `pump` are the same as floats, rounded down.
+        `efficiency` and `pump_ratio` are exact, as Fractions; `ccei` and `pump` are the nearest floats; only 1 reads 1.
         """
         found = []
         for row in self:
@@ -93,13 +95,15 @@ class Panel(list):
         return [*self.by, "status", *VERDICTS, *(it for name in self.asked for it in more[name]), "message"]
 
     def frame(self) -> Any:
-        """Returns the records as a frame of pandas, which has to be there.
+        """Returns the records as a frame of pandas, which has to be there; BadData says what to install where it is not.
 
         Verdicts are of its type `boolean`, in which what is withheld is missing and never False; the indices are `Float64`, and
         the exact ones beside them, like the messages, texts.
         """
-        import pandas
-
+        try:
+            import pandas
+        except ImportError as wrong:
+            raise BadData(NO_PANDAS) from wrong
         records = self.records()
         columns = {name: [record[name] for record in records] for name in self.names()}
         made = {}
@@ -144,6 +148,7 @@ class Panel(list):
         return papers.latex(self)
 
 
+NO_PANDAS = "a frame needs the package pandas, which is not here: pip install pandas; .records() has the same without it, and .text() and .latex() too"
 KINDS = {
     **dict.fromkeys(("garp", "afriat", "attained", "homothetic", "quasilinear"), "boolean"),
     **dict.fromkeys(("ccei", "pump", "power"), "Float64"),
@@ -162,12 +167,14 @@ def panel(
     power: Any = None,
     seed: Any = 1,
     places: Any = None,
+    numbers: Any = "exact",
     exe: Any = None,
     progress: bool = True,
 ) -> Panel:
     """Returns the verdict on each household of a frame, whose column (or columns) `by` tells them apart, as a Panel.
 
-    A household whose data are refused gets its refusal, and the others go on. `pump` asks for the money pump of each too, and
+    A household whose data are refused gets its refusal, and the others go on; where all are refused for one cause, that is raised
+    (AllRefused), with what to do. `places` and `numbers` are those of `analyse`. `pump` asks for the money pump of each too, and
     `power` for that of the test on each one's budgets, by so many draws with `seed`. A column `e` has levels, or `levels` gives
     them, one for each row or one for all. It runs on all processors, or on so many `workers`, and shows a bar where the package
     `tqdm` is there and `progress` is left on. The rows of a household need not stand together.
@@ -180,18 +187,69 @@ def panel(
         power, seed = program.whole(power, "power", *DRAWS), program.whole(seed, "seed", *SEED)
     if workers is not None:
         workers = program.whole(workers, "workers", 1, 1024)
+    more = {"levels": levels, "pump": pump, "power": power, "seed": seed, "places": places, "numbers": numbers, "exe": exe}
     if clusters.is_dask(d):
-        of_dask: Panel = clusters.of_dask(d, names, levels, {"pump": pump, "power": power, "seed": seed, "places": places, "exe": exe})
+        of_dask: Panel = clusters.of_dask(d, names, more)
         return of_dask
+    found = answered(d, names, workers, progress, **more)
+    stop_where_all_are_refused(found)
+    return found
+
+
+def answered(
+    d: Any,
+    names: Sequence[Any],
+    workers: Any,
+    progress: bool,
+    *,
+    levels: Any = None,
+    pump: bool = False,
+    power: Any = None,
+    seed: Any = 1,
+    places: Any = None,
+    numbers: Any = "exact",
+    exe: Any = None,
+) -> Panel:
+    """Returns the Panel of a frame, whether or not any household has an answer."""
+    forms = forms_of(places, numbers)
     library, path = program.way(exe)
     asked = {**ASKED, "verdicts": "certify", "pump": bool(pump), "power": None if power is None else [seed, power]}
     asked.update(rp=path, library=library is not None)
-    groups = _groups(Frame(d), names, levels, bool(pump))
-    rows = _bar(_rows(groups, places, asked, workers or _processors()), len(groups), progress)
+    groups = _groups(Frame(d), names, levels, forms, bool(pump))
+    rows = _bar(_rows(groups, asked, workers or _processors()), len(groups), progress)
     return Panel(names, list(rows), [it for it in ("pump", "power") if asked[it]])
 
 
-def _rows(groups: Sequence[tuple[Any, Callable[[Any], Table]]], places: Any, asked: dict[str, Any], workers: int) -> Iterator[Row]:
+def answers_on(tables: Sequence[Table], workers: Any = None, exe: Any = None) -> list[Verdict]:
+    """Returns the verdict on each of some tables, by the processes of a panel."""
+    library, path = program.way(exe)
+    asked = {**ASKED, "verdicts": "certify", "rp": path, "library": library is not None}
+    groups = [(number, partial(_same, table)) for number, table in enumerate(tables, 1)]
+    found = []
+    for row in _rows(groups, asked, program.whole(workers or _processors(), "workers", 1, 1024)):
+        if row.verdict is None:
+            raise row.refusal or row.failure or Problem("there is no answer")
+        found.append(row.verdict)
+    return found
+
+
+def _same(table: Table) -> Table:
+    return table
+
+
+def stop_where_all_are_refused(found: Panel) -> None:
+    """Raises the refusal of a panel whose households were all refused for one cause."""
+    refusals = [row.refusal for row in found]
+    causes = {getattr(it, "fault", type(it)) for it in refusals}
+    if len(causes) != 1 or None in refusals:
+        return
+    first = refusals[0]
+    if isinstance(first, Refused):
+        raise AllRefused(first, found[0].key, len(found))
+    raise BadData(f"all {len(found)} households are refused for one cause, the first, {found[0].key!r}, since {first}")
+
+
+def _rows(groups: Sequence[tuple[Any, Callable[[], Table]]], asked: dict[str, Any], workers: int) -> Iterator[Row]:
     """Yields the row of each household: by processes, where there are enough households for that to be worth it, or here."""
     here = workers == 1 or len(groups) < (FEW_CALLS if asked["library"] else FEW) or not sys.executable
     size = 1 if here else BLOCK
@@ -199,7 +257,7 @@ def _rows(groups: Sequence[tuple[Any, Callable[[Any], Table]]], places: Any, ask
 
     def blocks() -> Iterator[list[bytes]]:
         for at in range(0, len(groups), size):
-            begun.append([_begin(key, own, places) for key, own in groups[at : at + size]])
+            begun.append([_begin(key, own) for key, own in groups[at : at + size]])
             yield [made.csv() for _, made in begun[-1] if made is not None]
 
     pool: Here | Pool = Here(asked) if here else Pool(workers, asked)
@@ -219,10 +277,10 @@ def _rows(groups: Sequence[tuple[Any, Callable[[Any], Table]]], places: Any, ask
         pool.close()
 
 
-def _begin(key: Any, own: Callable[[Any], Table], places: Any) -> tuple[Row, Table | None]:
+def _begin(key: Any, own: Callable[[], Table]) -> tuple[Row, Table | None]:
     """Returns the row of a household, and its table where there is one to be answered."""
     try:
-        return Row(key), own(places)
+        return Row(key), own()
     except (Refused, Pooled) as wrong:
         return Row(key, refusal=wrong), None
 
@@ -254,7 +312,7 @@ def _end(row: Row, made: Table, calls: dict[str, Ended], asked: dict[str, Any]) 
             row.missing[name] = str(wrong)
 
 
-def _groups(frame: Frame, names: Sequence[Any], levels: Any, pump: bool = False) -> list[tuple[Any, Callable[[Any], Table]]]:
+def _groups(frame: Frame, names: Sequence[Any], levels: Any, forms: Forms, pump: bool = False) -> list[tuple[Any, Callable[[], Table]]]:
     """Returns what makes the table of each household, under its key."""
     missing = [name for name in names if name not in frame.columns]
     if missing or not names:
@@ -274,11 +332,18 @@ def _groups(frame: Frame, names: Sequence[Any], levels: Any, pump: bool = False)
         key = tuple(None if exact.is_missing(frame.columns[name][at]) else frame.columns[name][at] for name in names)
         places.setdefault(key, []).append(at)
 
-    def of(rows: list[int]) -> Callable[[Any], Table]:
-        def make(places: Any) -> Table:
+    def values() -> dict[str, Sequence[Any]]:
+        taken = [[as_taken(value, form) for column in side for value in column] for side, form in zip(sides, forms)]
+        return dict(zip((PRICES, QUANTITIES), taken))
+
+    # What fits is told by all households, which are rounded alike.
+    whole = Kinds(values, goods)
+
+    def of(rows: list[int]) -> Callable[[], Table]:
+        def make() -> Table:
             labels = own_labels([frame.labels[at] for at in rows], frame.label_name)
             prices, quantities = ([[column[at] for column in side] for at in rows] for side in sides)
-            return Table(goods, prices, quantities, labels, places, None if own is None else [own[at] for at in rows], own_money)
+            return Table(goods, prices, quantities, labels, forms, None if own is None else [own[at] for at in rows], own_money, whole)
 
         return make
 

@@ -7,12 +7,11 @@ Kariv 2007, "Consistency and Heterogeneity of Individual Behavior under Uncertai
 
 from __future__ import annotations
 
-from concurrent.futures import ThreadPoolExecutor
+from fractions import Fraction
 from typing import Any, Sequence
 
 from . import draws, papers
 from .answers import Verdict
-from .commands import analyse
 from .faults import BadData
 
 PLAIN, LIGHT, STRONG = "#3b6ea5", "#b9c4d0", "#c0392b"
@@ -77,21 +76,26 @@ def sides(table: Any) -> tuple[list[list[float]], list[list[float]]]:
     return [row[:count] for row in rows], [row[count:] for row in rows]
 
 
-def of_panel(panel: Any, ax: Any = None, *, random: int = 200, seed: Any = 1, bins: int = 20, exe: Any = None, workers: int | None = None) -> Any:
+LEVELS = (Fraction(9, 10), Fraction(19, 20))
+
+
+def of_panel(panel: Any, ax: Any = None, *, random: int = 1000, seed: Any = 1, bins: int = 20, exe: Any = None, workers: int | None = None) -> Any:
     """Draws how many households have which efficiency index, beside `random` behaviours on the same budgets; 0 leaves these out.
 
     A behaviour takes the budgets of one household, in turn, and on each a bundle drawn uniformly on the budget line. Its index is
-    the program's.
+    the program's. Beside each stands the share whose index is above 0.90, and above 0.95.
     """
     rows = [row for row in panel if row.verdict is not None]
     if not rows:
         raise BadData("no household of this panel has a verdict")
     ax = axes_of(ax)
     values = [row.verdict.ccei for row in rows]
-    drawn = [verdict.ccei for verdict in random_verdicts(rows, random, seed, exe, workers)] if random else []
+    behaviours = draws.verdicts(rows, random, seed, exe=exe, workers=workers) if random else []
+    drawn = [verdict.ccei for verdict in behaviours]
     low = min([*values, *drawn])
     edges = [low + (1 - low) * place / bins for place in range(bins + 1)] if low < 1 else [0.95 + 0.05 * place / bins for place in range(bins + 1)]
-    told = [(values, PLAIN, f"{len(values)} households"), *([(drawn, LIGHT, f"{len(drawn)} random behaviours")] if drawn else [])]
+    told = [(values, PLAIN, f"{len(values)} households: {shares_told(rows)}")]
+    told += [(drawn, LIGHT, f"{len(drawn)} random behaviours: {shares_told(behaviours)}")] if drawn else []
     numbers, colors, names = zip(*told)
     ax.hist(numbers, bins=edges, weights=[[1 / len(own)] * len(own) for own in numbers], color=colors, label=names, rwidth=0.9)
     ax.set_xlabel("critical cost efficiency index")
@@ -100,8 +104,6 @@ def of_panel(panel: Any, ax: Any = None, *, random: int = 200, seed: Any = 1, bi
     return ax
 
 
-def random_verdicts(rows: Sequence[Any], count: int, seed: Any, exe: Any, workers: int | None) -> list[Verdict]:
-    """Returns the verdicts on behaviours drawn on the budgets of these households."""
-    tables = [draws.on_budget_lines(rows[number % len(rows)].verdict.table, f"{seed} {number}") for number in range(count)]
-    with ThreadPoolExecutor(workers) as pool:
-        return list(pool.map(lambda table: analyse(table, exe=exe), tables))
+def shares_told(answers: Sequence[Any]) -> str:
+    """Returns which share of some verdicts has an index above each level."""
+    return ", ".join(f"{100 * float(draws.share_above(answers, level)):.1f}% above {float(level):.2f}" for level in LEVELS)

@@ -9,6 +9,7 @@ import sys
 from typing import Any, Callable, Iterable, Mapping, Sequence
 
 from . import library, worker
+from .exact import shown
 from .faults import BadData, Failed, NoProgram
 
 VARIABLE = "RP_EXEC"
@@ -21,8 +22,8 @@ QUOTED_ALSO = re.compile('["\r\n]')
 
 
 def find(exe: Any = None) -> str:
-    """Returns the program: the argument, else what the environment variable RP_EXEC names, else what came with the package,
-    else `rp` on the path."""
+    """Returns the program: the argument, else what the environment variable RP_EXEC names, else what came with the package or with
+    the release that it lies in, else `rp` on the path."""
     for named, where in ((exe, "the argument exe"), (os.environ.get(VARIABLE), f"the variable {VARIABLE}")):
         if named is not None and named != "":
             return _named(named, where)
@@ -34,9 +35,8 @@ def find(exe: Any = None) -> str:
 
 
 def inside() -> str | None:
-    """Returns the program that came with the package, if one did."""
-    own = os.path.join(os.path.dirname(os.path.abspath(__file__)), NAME)
-    return own if os.path.isfile(own) and os.access(own, os.X_OK) else None
+    """Returns the program that came with the package, or with the release that it lies in, if one did."""
+    return next((it for it in library.places(NAME) if os.path.isfile(it) and os.access(it, os.X_OK)), None)
 
 
 Runs = Callable[[str, Sequence[str], Mapping[str, bytes]], "tuple[int, bytes, bytes]"]
@@ -146,4 +146,4 @@ def whole(value: Any, name: str, least: int, greatest: int) -> int:
         number = value.__index__()
         if least <= number <= greatest and type(value).__name__ not in ("bool", "bool_"):
             return int(number)
-    raise BadData(f"{name} is a whole number from {least:,} to {greatest:,}, and not {value!r}")
+    raise BadData(f"{name} is a whole number from {least:,} to {greatest:,}, and not {shown(value)}")

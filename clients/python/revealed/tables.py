@@ -4,11 +4,12 @@ its rows. What is no number of the program's is refused by it, and the refusal i
 
 from __future__ import annotations
 
-from typing import Any, Iterable, Iterator, Sequence
+from typing import Any, Iterable, Iterator, Sequence, Tuple
 
 from . import advice, exact, program
-from .advice import HINTS, LEVEL_HINT, LEVELS, MONEY, PRICES, QUANTITIES, WHOLE
+from .advice import HINTS, LEVEL_HINT, LEVELS, MONEY, PRICES, QUANTITIES, WHOLE, Kinds
 from .catalogue import PER
+from .exact import AS_THEY_ARE, Form
 from .faults import BadData, Refused, WrongColumns
 from .frames import Frame, is_frame, listed, near, need, no_panel, numbered, one_row, own_labels, pairs_of
 from .frames import prices_of, rows_of, starting, values_of
@@ -17,31 +18,37 @@ from .frames import prices_of, rows_of, starting, values_of
 class Sheet:
     """A file for the program: names of columns, rows of values, and a label for each row.
 
-    `kinds` says of each column what scales it; `places` how many places were asked for, or None; `wanted` which columns there
-    have to be.
+    `kinds` says of each column what scales it; `forms` how its numbers become texts; `wanted` which columns there have to be.
+    `whole` has the values of all files that are asked about together, where these are more than this one.
     """
 
-    def __init__(self, file: str, names: Iterable[Any], rows: list[list[Any]], labels: list[Any], kinds: list[str], places: Any, wanted: str = "") -> None:
+    whole: Kinds | None = None
+
+    def __init__(
+        self, file: str, names: Iterable[Any], rows: list[list[Any]], labels: list[Any], kinds: list[str], forms: Sequence[Form], wanted: str = ""
+    ) -> None:
         self.file = file
         self.names = [str(name) for name in names]
         self.told = self.names
         self.rows = rows
         self.labels = labels
         self.kinds = kinds
-        self.places = places
+        self.forms = forms
         self.wanted = wanted
-        self.asks_places = any(it is not None for it in places)
+        self.are_as_they_are = all(it == AS_THEY_ARE for it in forms)
         self.texts = [self._texts(number, row) for number, row in enumerate(rows, 1)]
 
     def _texts(self, record: int, row: list[Any]) -> list[str]:
         texts = []
-        if not self.asks_places and exact.are_plain(row):
+        if self.are_as_they_are and exact.are_plain(row):
             return list(map(str, row))
         for place, value in enumerate(row):
             try:
-                texts.append(exact.text_of(value, self.places[place] if place < len(self.places) else None))
+                texts.append(exact.text_of(value, self.forms[place] if place < len(self.forms) else AS_THEY_ARE))
             except exact.NotFinite:
                 raise self.refused("TooManyDecimals", {"record": record, "column": place + 1}) from None
+            except exact.TooLong as wrong:
+                raise self.refused(wrong.fault, {"record": record, "column": place + 1}) from None
         return texts
 
     def csv(self) -> bytes:
@@ -58,12 +65,17 @@ class Sheet:
         parts = [row[place].partition(".")[2].rstrip("0") for row in self.texts for place in columns]
         return int(10 ** max(map(len, parts), default=0))
 
-    def values(self) -> dict[str, Sequence[Any]]:
-        """Returns the values of each kind, and the names of what has a price."""
+    def values(self) -> Kinds:
+        """Returns the values of each kind, as they are taken."""
+        if self.whole is not None:
+            return self.whole
+        return Kinds(self._values, [name for name, kind in zip(self.names, self.kinds) if kind == PRICES])
+
+    def _values(self) -> dict[str, Sequence[Any]]:
         found: dict[str, list[Any]] = {}
         for place, kind in enumerate(self.kinds):
-            found.setdefault(kind, []).extend(row[place] for row in self.rows if place < len(row))
-        return {**found, "goods": [name for name, kind in zip(self.names, self.kinds) if kind == PRICES]}
+            found.setdefault(kind, []).extend(as_taken(row[place], self.forms[place]) for row in self.rows if place < len(row))
+        return {**found}
 
     def refused(self, fault: str, places: dict[str, int]) -> Refused:
         """Returns the refusal of this file, with the row's label, the column's name, what stands there, and a hint."""
@@ -74,7 +86,8 @@ class Sheet:
         kind = self.kinds[column - 1] if name is not None and column else ""
         if label is not None and name is not None and record and column and column <= len(self.rows[record - 1]):
             value = self.rows[record - 1][column - 1]
-            shown = "missing" if exact.is_missing(value) else repr(value) if isinstance(value, str) else str(value)
+            shown = "missing" if exact.is_missing(value) else exact.shown(value)
+            value = as_taken(value, self.forms[column - 1])
         return Refused(fault, self.file, label=label, name=name, value=shown, hint=self._hint(fault, value, kind), **places)
 
     def _hint(self, fault: str, value: Any, kind: str) -> str | None:
@@ -96,13 +109,27 @@ class Sheet:
         return HINTS.get(fault)
 
 
-def pair_of(places: Any) -> tuple[int | None, int | None]:
-    """Returns the places of prices and of quantities: one number for both, or one for each."""
+Forms = Tuple[Form, Form]
+EXACT: Forms = (AS_THEY_ARE, AS_THEY_ARE)
+
+
+def forms_of(places: Any = None, numbers: Any = "exact") -> Forms:
+    """Returns how prices and quantities become texts: `places` is one number for both, or one for each."""
     pair = tuple(places) if isinstance(places, (tuple, list)) else (places, places)
     if len(pair) != 2:
-        raise BadData(f"places is a whole number from 0 to {exact.MOST_PLACES}, or two of these, those of prices and of quantities: {places!r}")
+        raise BadData(f"places is a whole number from 0 to {exact.MOST_PLACES}, or two of these, those of prices and of quantities: {exact.shown(places)}")
+    if not isinstance(numbers, str) or numbers not in ("exact", "shortest"):
+        raise BadData(
+            f"numbers is 'exact', by which a float is the binary fraction that it is, or 'shortest', by which it is the shortest decimal that"
+            f" gives it back, and not {exact.shown(numbers)}"
+        )
     prices, quantities = (None if number is None else program.whole(number, "places", 0, exact.MOST_PLACES) for number in pair)
-    return prices, quantities
+    return Form(prices, numbers == "shortest"), Form(quantities, numbers == "shortest")
+
+
+def as_taken(value: Any, form: Form) -> Any:
+    """Returns the number that a value is taken for, before it is rounded."""
+    return exact.shortest_of(value) if form.shortest else value
 
 
 # ---- tables
@@ -121,24 +148,25 @@ class Table(Sheet):
         prices: list[list[Any]],
         quantities: list[list[Any]],
         labels: list[Any],
-        places: Any = None,
+        forms: Forms = EXACT,
         levels: list[Any] | None = None,
         own_money: bool = False,
+        whole: Kinds | None = None,
     ) -> None:
         self.goods = [str(good) for good in goods]
         self.own_money = own_money
         self.prices = prices
         self.quantities = quantities
         self.levels = levels
-        self.rounding = places
+        self.own_forms = forms
+        self.whole = whole
         count = len(self.goods)
         names = [*(f"p_{good}" for good in self.goods), *(f"q_{good}" for good in self.goods)]
         rows = [[*p, *q] for p, q in zip(prices, quantities)]
         kinds = [PRICES] * count + [QUANTITIES] * count
-        price_places, quantity_places = pair_of(places)
-        asked = [price_places] * count + [quantity_places] * count
+        asked = [forms[0]] * count + [forms[1]] * count
         if levels is not None:
-            names, kinds, asked = [*names, "e"], [*kinds, LEVELS], [*asked, None]
+            names, kinds, asked = [*names, "e"], [*kinds, LEVELS], [*asked, AS_THEY_ARE]
             rows = [[*row, level] for row, level in zip(rows, levels)]
         super().__init__("table", names, rows, labels, kinds, asked, "p_NAME and q_NAME for each good")
         if own_money:
@@ -150,9 +178,9 @@ class Table(Sheet):
     def __iter__(self) -> Iterator[Side]:
         return iter((Side(self, self.prices), Side(self, self.quantities)))
 
-    def rounded(self, places: Any) -> Table:
-        """Returns the same table with so many places."""
-        return self if places is None else Table(self.goods, self.prices, self.quantities, self.labels, places, self.levels, self.own_money)
+    def written(self, forms: Forms) -> Table:
+        """Returns the same table with its numbers in these forms."""
+        return self if forms == EXACT else Table(self.goods, self.prices, self.quantities, self.labels, forms, self.levels, self.own_money)
 
     def levelled(self, levels: Any) -> Table:
         """Returns the same table with these levels."""
@@ -161,7 +189,7 @@ class Table(Sheet):
         if self.levels is not None:
             raise BadData("levels are given twice: by the column 'e', and by the argument levels")
         own = values_of(levels, len(self), "levels")
-        return Table(self.goods, self.prices, self.quantities, self.labels, self.rounding, own, self.own_money)
+        return Table(self.goods, self.prices, self.quantities, self.labels, self.own_forms, own, self.own_money)
 
     @property
     def price_scale(self) -> int:
@@ -186,7 +214,7 @@ class Side:
         return len(self.rows)
 
 
-def from_frame(d: Any, *, places: Any = None, levels: Any = None) -> Table:
+def from_frame(d: Any, *, places: Any = None, numbers: Any = "exact", levels: Any = None) -> Table:
     """Returns the table of a frame with columns `p_NAME` and `q_NAME` for each good, and perhaps `obs` and `e`.
 
     Other columns are left out. Where there is `obs`, it has the labels of the rows; else the frame's index has. `e` has a level
@@ -194,44 +222,46 @@ def from_frame(d: Any, *, places: Any = None, levels: Any = None) -> Table:
     column of households: those are a `panel`. Budget lines of two goods may be kept by their intercepts, `i_NAME` in place of
     `p_NAME`: they are exchanged, which is exact, and each row has money of its own then.
     """
+    forms = forms_of(places, numbers)
     if isinstance(d, Table):
-        return d.rounded(places).levelled(levels)
+        return d.written(forms).levelled(levels)
     frame = Frame(d)
     goods, price_columns = prices_of(frame, "table")
     no_panel(frame, price_columns)
     labels = own_labels(frame.labels, frame.label_name)
     own = frame.columns["e"] if near(frame, "e", "levels") else None
     prices, quantities = frame.rows(price_columns), frame.rows(f"q_{good}" for good in goods)
-    return Table(goods, prices, quantities, labels, places, own, price_columns[0].startswith("i_")).levelled(levels)
+    return Table(goods, prices, quantities, labels, forms, own, price_columns[0].startswith("i_")).levelled(levels)
 
 
-def table(p: Any, q: Any = None, *, places: Any = None, levels: Any = None) -> Table:
+def table(p: Any, q: Any = None, *, places: Any = None, numbers: Any = "exact", levels: Any = None) -> Table:
     """Returns the table of prices p and quantities q: nested lists or arrays, a row for each observation, or two frames.
 
     The columns of two frames are matched by name, where `p_` and `q_` in front do not count, and their rows by their
     labels, which have to be the same in the same order.
     """
+    forms = forms_of(places, numbers)
     if q is None:
         if not isinstance(p, Table) and not is_frame(p):
             rows_of(p, "prices")
             raise BadData("there are no quantities: prices p and quantities q are two lists, arrays or frames, or a frame has both")
-        return from_frame(p, places=places, levels=levels)
+        return from_frame(p, places=places, numbers=numbers, levels=levels)
     if isinstance(p, Side) and isinstance(q, Side) and p.table is q.table:
-        return p.table.rounded(places).levelled(levels)
+        return p.table.written(forms).levelled(levels)
     if is_frame(p) != is_frame(q):
         raise BadData("prices and quantities are two frames, or two lists or arrays")
     if is_frame(p):
-        return _of_frames(Frame(p, "prices"), Frame(q, "quantities"), places).levelled(levels)
+        return _of_frames(Frame(p, "prices"), Frame(q, "quantities"), forms).levelled(levels)
     prices, quantities = rows_of(p, "prices"), rows_of(q, "quantities")
     if [len(row) for row in prices] != [len(row) for row in quantities]:
         raise BadData("prices and quantities have not the same shape")
     if len({len(row) for row in prices}) > 1:
         raise BadData("the rows of prices are not all of one length")
     goods = range(1, len(prices[0]) + 1) if prices else []
-    return Table(goods, prices, quantities, list(range(1, len(prices) + 1)), places).levelled(levels)
+    return Table(goods, prices, quantities, list(range(1, len(prices) + 1)), forms).levelled(levels)
 
 
-def _of_frames(p: Frame, q: Frame, places: Any) -> Table:
+def _of_frames(p: Frame, q: Frame, forms: Forms) -> Table:
     price_of, quantity_of = _goods(p, "p_"), _goods(q, "q_")
     if set(price_of) != set(quantity_of):
         raise BadData(
@@ -241,7 +271,7 @@ def _of_frames(p: Frame, q: Frame, places: Any) -> Table:
     if len(p.labels) != len(q.labels) or any(a != b for a, b in zip(p.labels, q.labels)):
         raise BadData("the rows of prices and quantities have not the same labels in the same order")
     goods, labels = list(price_of), own_labels(p.labels, p.label_name)
-    return Table(goods, p.rows(price_of.values()), q.rows(quantity_of[good] for good in goods), labels, places)
+    return Table(goods, p.rows(price_of.values()), q.rows(quantity_of[good] for good in goods), labels, forms)
 
 
 def _goods(frame: Frame, prefix: str) -> dict[str, Any]:
@@ -261,13 +291,13 @@ def _goods(frame: Frame, prefix: str) -> dict[str, Any]:
 # ---- what stands beside a table
 
 
-def beside(table: Table, data: Any, prefix: str, more: str | None = None, values: Any = None, places: Any = None) -> Sheet:
+def beside(table: Table, data: Any, prefix: str, more: str | None = None, values: Any = None, forms: Forms = EXACT) -> Sheet:
     """Returns new prices (`p_`) or bundles (`q_`) of a table's goods, and where `more` names one a column more.
 
     The data are a frame, which may have that column too, or rows, or one row; else its values are one for each row or one
     for all.
     """
-    own = pair_of(places)[0 if prefix == "p_" else 1]
+    own = forms[0 if prefix == "p_" else 1]
     if is_frame(data):
         frame = Frame(one_row(data), "new")
         columns = {good: name for good, name in _goods(frame, prefix).items() if name != more}
@@ -289,7 +319,7 @@ def beside(table: Table, data: Any, prefix: str, more: str | None = None, values
 
 def _has_rows(data: Any) -> bool:
     if isinstance(data, (str, bytes)) or not hasattr(data, "__iter__"):
-        raise BadData(f"new: neither a row, nor rows, nor a frame: {data!r}")
+        raise BadData(f"new: neither a row, nor rows, nor a frame: {exact.shown(data, repr)}")
     return all(hasattr(row, "__iter__") and not isinstance(row, str) for row in data)
 
 
@@ -299,11 +329,11 @@ def _has_rows(data: Any) -> bool:
 class Choices:
     """Budgets, the choices from them, and the units that were asked for."""
 
-    def __init__(self, budgets: Any, choices: Any, per: int | None, places: Any = None) -> None:
-        price_places, quantity_places = pair_of(places)
+    def __init__(self, budgets: Any, choices: Any, per: int | None, forms: Forms = EXACT) -> None:
+        prices, quantities = forms
         self.per = None if per is None else program.whole(per, "per", *PER)
-        self.budgets = _sheet("budgets", budgets, "p_", ["w"], {"p_": (PRICES, price_places), "w": (MONEY, price_places)})
-        others = {"q_": (QUANTITIES, quantity_places), "budget": (WHOLE, None), "n": (WHOLE, None)}
+        self.budgets = _sheet("budgets", budgets, "p_", ["w"], {"p_": (PRICES, prices), "w": (MONEY, prices)})
+        others = {"q_": (QUANTITIES, quantities), "budget": (WHOLE, AS_THEY_ARE), "n": (WHOLE, AS_THEY_ARE)}
         self.choices = _sheet("choices", choices, "q_", ["budget", "n"], others)
         if is_frame(budgets) and "obs" in Frame(budgets).columns:
             self._number_budgets()
@@ -319,7 +349,7 @@ class Choices:
                 raise self.choices.refused("UnknownBudget", {"record": record, "column": place + 1}) from None
 
 
-def _sheet(file: str, data: Any, prefix: str, others: list[str], kinds: dict[str, tuple[str, int | None]]) -> Sheet:
+def _sheet(file: str, data: Any, prefix: str, others: list[str], kinds: dict[str, tuple[str, Form]]) -> Sheet:
     wanted = f"{prefix}NAME for each good, {', '.join(others)}"
     labels: list[Any]
     if is_frame(data):
@@ -337,7 +367,7 @@ def _sheet(file: str, data: Any, prefix: str, others: list[str], kinds: dict[str
         if others[0] == "budget":
             header = ["budget", *(f"{prefix}{good}" for good in numbers), "n"]
         labels = list(range(1, len(rows) + 1))
-    of = [kinds.get(name, kinds.get(name[:2], (WHOLE, None))) for name in map(str, header)]
+    of = [kinds.get(name, kinds.get(name[:2], (WHOLE, AS_THEY_ARE))) for name in map(str, header)]
     return Sheet(file, header, rows, labels, [kind for kind, _ in of], [asked for _, asked in of], wanted)
 
 
@@ -360,18 +390,18 @@ class MenuChoices(Sheet):
             labels = list(range(1, len(rows) + 1))
             if any(len(row) != 3 for row in rows):
                 raise BadData("menus: each row is a menu, the letter that was chosen, and how many times")
-        super().__init__("menus", names, rows, labels, ["letters", "letters", WHOLE], [None] * 3, ", ".join(names))
+        super().__init__("menus", names, rows, labels, ["letters", "letters", WHOLE], [AS_THEY_ARE] * 3, ", ".join(names))
 
     def _texts(self, record: int, row: list[Any]) -> list[str]:
         # a menu and a letter stand as they are, with their blanks
-        return [*(it if isinstance(it, str) else str(it) for it in row[:2]), exact.text_of(row[2])]
+        return [*(it if isinstance(it, str) else exact.shown(it) for it in row[:2]), *super()._texts(record, [None, None, row[2]])[2:]]
 
 
 class Technology(Sheet):
     """What a firm was seen to do: for each input its price `w_NAME` and how much of it was used, `x_NAME`; the output `y`, and its
     price `p` where this is known."""
 
-    def __init__(self, data: Any, places: Any = None) -> None:
+    def __init__(self, data: Any, places: Any = None, numbers: Any = "exact") -> None:
         frame = Frame(data, "technology")
         others = ["y", "p (where the output has a price)"]
         self.inputs = pairs_of(frame, "w_", "x_", "technology", others)
@@ -381,7 +411,7 @@ class Technology(Sheet):
         self.priced = near(frame, "p", "prices of the output")
         names = [*("w_" + name for name in self.inputs), *(["p"] if self.priced else []), *("x_" + name for name in self.inputs), "y"]
         kinds = [PRICES if name.startswith("w_") or name == "p" else QUANTITIES for name in names]
-        prices, quantities = pair_of(places)
+        prices, quantities = forms_of(places, numbers)
         asked = [prices if kind == PRICES else quantities for kind in kinds]
         super().__init__("technology", names, frame.rows(names), own_labels(frame.labels, frame.label_name), kinds, asked, ", ".join(wanted))
 
@@ -392,11 +422,11 @@ class Technology(Sheet):
     def quantity_scale(self) -> int:
         return self.power([place for place, kind in enumerate(self.kinds) if kind == QUANTITIES])
 
-    def asked(self, data: Any, places: Any = None) -> Sheet:
+    def asked(self, data: Any, places: Any = None, numbers: Any = "exact") -> Sheet:
         """Returns the outputs that are asked of it at new prices of its inputs."""
         frame = Frame(one_row(data), "asked")
         names = [*("w_" + name for name in self.inputs), "y"]
         need(frame, names, names, "asked")
-        prices, quantities = pair_of(places)
+        prices, quantities = forms_of(places, numbers)
         kinds, own = [PRICES] * len(self.inputs) + [QUANTITIES], [prices] * len(self.inputs) + [quantities]
         return Sheet("asked", names, frame.rows(names), numbered(frame.labels), kinds, own, ", ".join(names))

@@ -4,6 +4,8 @@ import ctypes.util
 import os
 import pathlib
 import random
+import shutil
+import subprocess
 import sys
 import tempfile
 import threading
@@ -68,6 +70,98 @@ class Found(unittest.TestCase):
         os.environ["RP_LIBRARY"] = LIBRARY
         self.assertEqual(program.way()[1], os.path.abspath(LIBRARY))
         self.assertFalse(revealed.analyse(P, Q).garp)
+
+
+# What Windows has is put in the place of what is here: the name of the system, the loader, the path and the start of a program.
+WINDOWS = """
+import ctypes, os, pathlib, shutil, subprocess, sys, tempfile
+
+class Call:
+    def __call__(self, words, *others):
+        return 8
+
+class Dll:
+    def __init__(self, path):
+        if not os.path.isfile(path):
+            raise OSError(path)
+        self.rp_answer = Call()
+
+started = []
+
+def start(words, **how):
+    started.append((words, how))
+    return subprocess.CompletedProcess(words, 4, b"", b"rp: table.csv: TooLong")
+
+where = lambda name, *more: next((it for it in (os.path.join(at, str(name)) for at in [*os.environ["PATH"].split(os.pathsep), ""]) if os.path.isfile(it)), None)
+sys.platform, ctypes.CDLL, shutil.which, subprocess.run = "win32", Dll, where, start
+import revealed
+from revealed import library, program
+assert (library.NAME, program.NAME) == ("rp.dll", "rp.exe")
+folder = pathlib.Path(sys.argv[1])
+one, other = folder / "one", folder / "other"
+for it in (one, other):
+    it.mkdir()
+os.environ["PATH"] = os.pathsep.join(["", str(one), str(other)])
+try:
+    program.way()
+    raise AssertionError("something was found")
+except revealed.NoProgram as wrong:
+    assert "rp.exe" in str(wrong) and "rp.dll" in str(wrong), wrong
+library.SOUGHT.clear()
+(other / "rp.exe").write_bytes(b"MZ")
+assert program.way() == (None, str(other / "rp.exe")), program.way()
+try:
+    revealed.analyse([[1]], [[1]])
+except revealed.Refused as refused:
+    assert refused.fault == "TooLong"
+(words, how), = started
+assert words == [str(other / "rp.exe"), "certify", "table.csv"] and "shell" not in how, (words, how)
+library.SOUGHT.clear()
+(one / "rp.dll").write_bytes(b"MZ")
+assert program.way()[1] == str(one / "rp.dll"), program.way()
+assert program.way(str(other / "rp.exe")) == (None, str(other / "rp.exe"))
+assert program.way(str(one / "RP.DLL".lower()))[1] == str(one / "rp.dll")
+os.environ["RP_LIBRARY"] = str(one / "rp.dll")
+assert program.way()[1] == str(one / "rp.dll")
+"""
+
+
+class OnWindows(unittest.TestCase):
+    """The paths of Windows, where this was not tried."""
+
+    def test_they_are_found_and_called_without_a_shell(self):
+        env = {name: value for name, value in os.environ.items() if name not in ("RP_EXEC", "RP_LIBRARY")}
+        env["PYTHONPATH"] = str(pathlib.Path(revealed.__file__).parents[1])
+        with tempfile.TemporaryDirectory() as folder:
+            ran = subprocess.run([sys.executable, "-c", WINDOWS, folder], cwd=os.sep, env=env, stdin=subprocess.DEVNULL, capture_output=True, text=True)
+        self.assertEqual(ran.returncode, 0, ran.stderr)
+
+
+class InARelease(unittest.TestCase):
+    """The package as an unpacked release has it."""
+
+    def test_the_program_and_the_library_of_the_release_are_found(self):
+        own = pathlib.Path(revealed.__file__).parent
+        env = {name: value for name, value in os.environ.items() if name not in ("RP_EXEC", "RP_LIBRARY")}
+        with tempfile.TemporaryDirectory() as folder:
+            top = pathlib.Path(folder) / "rp-0-x86_64-linux"
+            shutil.copytree(own, top / "clients/python/revealed", ignore=shutil.ignore_patterns("__pycache__", "*.so", "rp"))
+            for name in ("rp", "lib/librp.so"):
+                (top / name).parent.mkdir(exist_ok=True)
+                (top / name).write_bytes(b"#!/bin/sh\n")
+                (top / name).chmod(0o755)
+            code = "from revealed import library, program; print(program.find(), library.places()[1:])"
+            env.update(PYTHONPATH=str(top / "clients/python"), PATH="/nowhere")
+            said = [self.said(code, env)]
+            (top / "PROVED").write_bytes(b"")
+            said.append(self.said(code, env))
+        # without PROVED it is no release: a repository has its script in that place
+        self.assertIn("NoProgram", said[0])
+        self.assertEqual(said[1], f"{top}/rp ['{top}/lib/librp.so', '{top}/librp.so']")
+
+    def said(self, code, env):
+        ran = subprocess.run([sys.executable, "-B", "-c", code], cwd=os.sep, env=env, stdin=subprocess.DEVNULL, capture_output=True, text=True)
+        return ran.stdout.strip() or ran.stderr
 
 
 @unittest.skipUnless(LIBRARY, "there is no library")

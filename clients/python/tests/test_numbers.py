@@ -1,10 +1,11 @@
 """Numbers as text, and frames as tables. No program is run."""
 
+import time
 import unittest
 from decimal import Decimal
 from fractions import Fraction
 
-from revealed import BadData, Pooled, Refused, WrongColumns, advice, exact, from_frame, table
+from revealed import BadData, MenuChoices, Pooled, Refused, WrongColumns, advice, exact, from_frame, power_of_test, table
 
 try:
     import numpy
@@ -38,7 +39,7 @@ class Numbers(unittest.TestCase):
     def test_rounded_where_it_is_asked_for(self):
         # 2.675 is a float below two and 675 thousandths; 0.125 and 0.375 are halves, and go to the even digit
         for value, text in [(2.675, "2.67"), (0.125, "0.12"), (0.375, "0.38"), (-0.001, "0.00"), (Fraction(1, 3), "0.33"), ("2.675", "2.68")]:
-            self.assertEqual(exact.text_of(value, 2), text, repr(value))
+            self.assertEqual(exact.text_of(value, exact.Form(2)), text, repr(value))
 
     def test_no_numbers_stand_as_they_are(self):
         for value, text in [("NA", "NA"), ("1_000", "1_000"), ("1,5", "1,5"), (True, "True"), (float("inf"), "inf"), ("1e9999", "1e9999")]:
@@ -53,13 +54,58 @@ class Numbers(unittest.TestCase):
         self.assertEqual((refused.fault, refused.record, refused.column, refused.label, refused.name), ("TooManyDecimals", 1, 1, 1, "p_1"))
         self.assertIn("places=(6, None)", str(refused))
 
-    def test_doubles_are_rounded_down(self):
-        for number, double in [(Fraction(1), 1.0), (Fraction(4, 5), 0.8), (Fraction(0), 0.0), (Fraction(1, 3), 1 / 3)]:
-            self.assertLessEqual(Fraction(exact.rounded_down(number)), number)
-            self.assertAlmostEqual(exact.rounded_down(number), double, delta=1e-15)
+    def test_doubles_are_the_nearest(self):
+        for number, double in [(Fraction(1), 1.0), (Fraction(4, 5), 0.8), (Fraction(0), 0.0), (Fraction(1, 3), 1 / 3), (Fraction(631, 867), 631 / 867)]:
+            self.assertEqual(exact.nearest_double(number), double)
+        # only 1 reads 1, and only 0 reads 0
         for number in (1 - Fraction(1, 10**30), Fraction(2**60 - 1, 2**60)):
-            self.assertLess(exact.rounded_down(number), 1.0)
-        self.assertGreater(exact.rounded_down(Fraction(1, 2**60)), 0.0)
+            self.assertEqual(exact.nearest_double(number), 1 - 2**-53)
+        self.assertGreater(exact.nearest_double(Fraction(1, 2**60)), 0.0)
+        self.assertGreater(exact.nearest_double(Fraction(1, 10**400)), 0.0)
+
+    def test_the_shortest_decimal_of_a_float(self):
+        form = exact.Form(None, True)
+        for value, text in [(3.18, "3.18"), (0.1 + 0.2, "0.30000000000000004"), (1e22, "10000000000000000000000"), (-0.0, "0"), (5, "5"), ("3.180", "3.180")]:
+            self.assertEqual(exact.text_of(value, form), text)
+        for value in (Decimal("3.18"), Fraction(159, 50), 3.18):
+            self.assertEqual(exact.text_of(value, form), "3.18")
+        # what is read is rounded, and not the binary fraction: 2.675 is a float below two and 675 thousandths
+        self.assertEqual((exact.text_of(2.675, exact.Form(2)), exact.text_of(2.675, exact.Form(2, True))), ("2.67", "2.68"))
+        self.assertEqual(table([[3.18, 1250, 1]], [[1.1, 1, 1]], numbers="shortest").csv(), b"p_1,p_2,p_3,q_1,q_2,q_3\n3.18,1250,1,1.1,1,1\n")
+        self.assertEqual(from_frame({"p_a": [3.18], "q_a": [0.3]}, numbers="shortest", places=(1, None)).csv(), b"p_a,q_a\n3.2,0.3\n")
+        for numbers in ("short", 6, None, ["shortest"]):
+            with self.assertRaises(BadData) as caught:
+                table([[1]], [[1]], numbers=numbers)
+            self.assertIn("the shortest decimal that gives it back", str(caught.exception))
+
+    def test_numbers_too_long_are_refused_at_once(self):
+        long = 10**5000
+        began = time.perf_counter()
+        for value, fault in [
+            (long, "TooLarge"),
+            (Fraction(long), "TooLarge"),
+            (Fraction(1, long), "TooManyDecimals"),
+            (Decimal("1E+99999999"), "TooLarge"),
+            (Decimal("1E-99999999"), "TooManyDecimals"),
+            ("+" + "1" * 5000, "TooLarge"),
+        ]:
+            for more in ({}, {"places": 2}, {"numbers": "shortest"}):
+                with self.assertRaises(Refused) as caught:
+                    table([[1, value]], [[1, 1]], **more)
+                self.assertEqual((caught.exception.fault, caught.exception.record, caught.exception.name), (fault, 1, "p_2"))
+        self.assertEqual(table([[Decimal("0E+99999999")]], [[1]]).csv(), b"p_1,q_1\n0,1\n")
+        # in a column beside, as an argument, and as a label
+        with self.assertRaises(Refused):
+            table([[1]], [[1]], levels=[long])
+        with self.assertRaises(Refused):
+            MenuChoices([["ab", "a", long]], None)
+        for call in (lambda: table([[1]], [[1]], places=long), lambda: table(long), lambda: power_of_test([[1]], [[1]], seed=long)):
+            with self.assertRaises(BadData) as caught:
+                call()
+            self.assertIn("a number of some 5,000 digits", str(caught.exception))
+        with self.assertRaises(Pooled):
+            from_frame({"obs": [long, long], "p_a": [1, 1], "q_a": [1, 1]})
+        self.assertLess(time.perf_counter() - began, 5)
 
     def test_numbers_of_any_length(self):
         for number in (0, 7, -7, 10**4000, 10**4000 - 1, 3**20000, -(7**9000)):
@@ -214,8 +260,14 @@ class Frames(unittest.TestCase):
             (numpy.float32(0.5), "0.5"),
             (numpy.float32(3.18), "3.1800000667572021484375"),
             (numpy.bool_(True), "True"),
+            (numpy.longdouble("1e-4900"), None),
         ]:
-            self.assertEqual(exact.text_of(value), text)
+            if text is None:
+                self.assertRaises(exact.TooLong, exact.text_of, value)
+            else:
+                self.assertEqual(exact.text_of(value), text)
+        for value, text in [(numpy.float64(3.18), "3.18"), (numpy.float32(3.18), "3.18"), (numpy.float16(0.1), "0.1"), (numpy.int64(7), "7")]:
+            self.assertEqual(exact.text_of(value, exact.Form(None, True)), text)
         for value in (pandas.NA, pandas.NaT, numpy.nan):
             self.assertTrue(exact.is_missing(value))
 

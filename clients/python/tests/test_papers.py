@@ -1,14 +1,15 @@
 """Frames, tables and pictures of a panel. What needs pandas or matplotlib is left out where they are not there."""
 
 import io
+import json
 import math
 import os
 import pathlib
-import random
 import subprocess
 import sys
 import tempfile
 import unittest
+import unittest.mock
 from fractions import Fraction
 
 import revealed
@@ -75,7 +76,7 @@ class Texts(unittest.TestCase):
         self.assertEqual(papers.quantile([Fraction(1), Fraction(0)], Fraction(1, 4)), Fraction(1, 4))
 
     def test_a_panel_without_verdicts(self):
-        found = revealed.panel({"id": [1], "p_a": [0], "q_a": [1]}, "id", progress=False)
+        found = revealed.panel({"id": [1, 2], "p_a": [0, 1], "q_a": [1, None]}, "id", progress=False)
         self.assertIn("GARP holds", found.text())
         self.assertIsInstance(found.latex(), str)
 
@@ -83,31 +84,70 @@ class Texts(unittest.TestCase):
         first, second, third = made(pump=True).records()
         self.assertEqual((first["efficiency"], second["efficiency"], third["efficiency"]), (Fraction(4, 5), 1, None))
         self.assertEqual((second["ccei"], third["ccei"], second["pump"], first["pump_ratio"]), (1.0, None, 0.0, Fraction(1, 5)))
-        self.assertLessEqual(Fraction(first["ccei"]), Fraction(4, 5))
+        self.assertEqual(first["ccei"], 0.8)
+
+
+BEHAVIOURS = pathlib.Path(__file__).resolve().parents[2] / "tests" / "behaviours.json"
 
 
 class Draws(unittest.TestCase):
+    @unittest.skipUnless(BEHAVIOURS.exists(), "what Python, R and the page draw alike is not here")
+    def test_the_same_as_r_and_the_page(self):
+        wanted = json.loads(BEHAVIOURS.read_text(encoding="utf-8"))
+        for it in wanted["words"]:
+            words = draws.Words(it["seed"])
+            self.assertEqual([words.next() for _ in it["words"]], it["words"])
+        for it in wanted["tables"]:
+            words, budgets = draws.Words(it["seed"]), draws.Budgets(revealed.table(it["prices"], it["quantities"]))
+            self.assertEqual([budgets.behaviour(words) for _ in it["behaviours"]], it["behaviours"])
+
     def test_on_the_budget_line(self):
-        table = revealed.from_frame({"p_a": ["1.25", 3], "p_b": [2, "0.5"], "q_a": [10, 20], "q_b": [30, "4.5"]})
+        table = revealed.from_frame({"p_a": ["1.25", 3], "p_b": [2, "0.5"], "q_a": [10, 20], "q_b": [30, "4.5"], "obs": ["x", "y"]})
         first, again, other = (draws.on_budget_lines(table, seed) for seed in (1, 1, 2))
-        self.assertEqual(first.csv(), again.csv())
+        self.assertEqual((first.csv(), first.labels), (again.csv(), ["x", "y"]))
         self.assertNotEqual(first.csv(), other.csv())
-        for drawn, own in zip(first.texts, table.texts):
-            p, q, of = ([Fraction(it) for it in row] for row in (own[:2], drawn[2:], own[2:]))
-            self.assertEqual([Fraction(it) for it in drawn[:2]], p)
-            spent, money = (sum(map(Fraction.__mul__, p, it)) for it in (q, of))
-            self.assertTrue(0 <= money - spent <= sum(p) / 10**4)
+        # Spent is what 72.5 and 62.25 are in the table's units, times one power of ten, and a little less than a unit of each good.
+        prices, budgets = [[125, 200], [300, 50]], [72500, 62250]
+        for drawn, own, money in zip(first.texts, prices, budgets):
+            p, q = [int(it) for it in drawn[:2]], [int(it) for it in drawn[2:]]
+            self.assertEqual(p, own)
+            self.assertTrue(0 <= money * 1000 - sum(map(int.__mul__, p, q)) <= 2 * sum(p))
 
     def test_shares_are_uniform(self):
-        draw = random.Random(1)
-        many = [draws.shares(draw, 3) for _ in range(20_000)]
+        words = draws.Words(1)
+        many = [words.shares(3) for _ in range(20_000)]
+        self.assertEqual({sum(it) for it in many}, {draws.PARTS})
         for good in range(3):
-            self.assertAlmostEqual(sum(it[good] for it in many) / len(many), 1 / 3, delta=0.01)
+            self.assertAlmostEqual(sum(it[good] for it in many) / len(many) / draws.PARTS, 1 / 3, delta=0.01)
             # on the simplex over three goods a share is below a half with the chance 3/4
-            self.assertAlmostEqual(sum(it[good] < 0.5 for it in many) / len(many), 3 / 4, delta=0.02)
+            self.assertAlmostEqual(sum(2 * it[good] < draws.PARTS for it in many) / len(many), 3 / 4, delta=0.02)
+
+    def test_seeds(self):
+        for seed in (-1, 2**32, 1.5, "1", None):
+            with self.assertRaises(BadData):
+                draws.Words(seed)
+
+    def test_the_benchmark(self):
+        panel = made()
+        tables = draws.on_budgets_of(panel, 5, seed=3)
+        words, own = draws.Words(3), [draws.Budgets(row.verdict.table) for row in panel[:2]]
+        self.assertEqual([it.csv() for it in tables], [own[at % 2].drawn(words).csv() for at in range(5)])
+        found = draws.verdicts(panel, 5, seed=3)
+        self.assertEqual([it.efficiency for it in found], [revealed.analyse(it).efficiency for it in tables])
+        self.assertEqual(draws.share_above(panel, "0.8"), Fraction(1, 2))
+        self.assertEqual([draws.share_above(panel, it) for it in (Fraction(4, 5), Fraction(79, 100), 1)], [Fraction(1, 2), 1, 0])
+        with self.assertRaises(BadData):
+            draws.verdicts(panel[2:], 5)
 
 
 class Import(unittest.TestCase):
+    def test_a_frame_without_pandas_says_what_to_install(self):
+        with unittest.mock.patch.dict(sys.modules, {"pandas": None}):
+            for call in (made().frame, lambda: made().to_stata("nowhere.dta")):
+                with self.assertRaises(BadData) as caught:
+                    call()
+                self.assertIn("pip install pandas", str(caught.exception))
+
     def test_nothing_is_imported_with_the_package(self):
         code = "import sys, revealed; sys.exit(any(name in sys.modules for name in ('pandas', 'numpy', 'matplotlib')))"
         self.assertEqual(
@@ -176,7 +216,9 @@ class Pictures(unittest.TestCase):
 
     def test_a_panel(self):
         axes = made().plot(random=5)
-        self.assertEqual([it.get_text() for it in axes.get_legend().get_texts()], ["2 households", "5 random behaviours"])
+        own, drawn = [it.get_text() for it in axes.get_legend().get_texts()]
+        self.assertEqual(own, "2 households: 50.0% above 0.90, 50.0% above 0.95")
+        self.assertRegex(drawn, r"^5 random behaviours: \d+\.0% above 0\.90, \d+\.0% above 0\.95$")
         self.saved(axes)
         self.saved(made().plot(random=0))
         own = matplotlib.pyplot.subplots()[1]

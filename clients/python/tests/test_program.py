@@ -185,6 +185,8 @@ class Random(unittest.TestCase):
         self.assertEqual([part.patches for part in verdict.parts], [[1, 4], [2, 3]])
         self.assertEqual(sum(part.share for part in verdict.parts), Fraction(3, 4))
         self.assertEqual(verdict.weights, [1, 0, 1, 0])
+        self.assertEqual([(it.number, it.budget) for it in verdict.patches], [(1, 1), (2, 1), (3, 2), (4, 2)])
+        self.assertEqual([sum(it.share for it in verdict.patches if it.budget == budget) for budget in (1, 2)], [Fraction(3, 4)] * 2)
         self.assertTrue(revealed.check(verdict, verdict))
         self.assertTrue(revealed.verify(verdict, verdict))
 
@@ -207,6 +209,7 @@ class Random(unittest.TestCase):
     def test_a_mixture(self):
         verdict = revealed.random(BUDGETS, {**CHOICES, "n": [0, 3, 2, 0]})
         self.assertEqual((verdict.rational, verdict.share, verdict.weights), (True, 1, None))
+        self.assertEqual([(it.number, it.budget, it.share) for it in verdict.patches], [(1, 1, 1), (2, 2, 1)])
 
     def test_a_budget_without_choices(self):
         with self.assertRaises(Refused) as caught:

@@ -64,6 +64,38 @@ class Rounding(unittest.TestCase):
             places = eval(argument.partition("=")[2])
             self.assertIsNotNone(revealed.analyse(p, q, places=places).garp)
 
+    def test_the_shortest_decimal_is_offered_where_it_fits(self):
+        for p, q, good in [
+            ([[3.18, 1250]], [[1, 1]], True),
+            ([[0.1, 2, 3]], [[1, 1, 1.1]], True),
+            ([[0.1 + 0.2, 1]], [[1, 1]], False),
+            ([[3.18, 1]], [[1 / 3, 1]], False),
+            ([[3.18, 123456]], [[1, 1]], False),
+        ]:
+            fault, hint = self.hint(p, q)
+            self.assertEqual((fault, "numbers='shortest' takes each float as the shortest decimal that gives it back" in hint), ("TooManyDecimals", good))
+            if good:
+                self.assertIsNotNone(revealed.analyse(p, q, numbers="shortest").garp)
+        self.assertIn("here 3.18;", self.hint([[3.18, 1250]], [[1, 1]])[1])
+        fault, hint = self.hint([[0.1 + 0.2, 1]], [[1, 1]], numbers="shortest")
+        self.assertTrue(hint.startswith("this is 0.30000000000000004, and"), hint)
+
+    def test_a_panel_that_is_refused_for_one_cause_stops(self):
+        d = {"home": ["u", "u", "v"], "p_a": [3.18, 2.5, 1.1], "p_b": [1, 1, 12500.5], "q_a": [1, 1, 1], "q_b": [2, 3, 4]}
+        with self.assertRaises(revealed.AllRefused) as caught:
+            revealed.panel(d, "home", progress=False)
+        found = caught.exception
+        self.assertEqual((found.fault, found.key, found.count, found.record, found.name), ("TooManyDecimals", "u", 2, 1, "p_a"))
+        self.assertTrue(str(found).startswith("all 2 households are refused for one cause, the first, 'u': TooManyDecimals record 1 column 1"), str(found))
+        # what fits is told by all of them: 12500.5 leaves two places
+        self.assertIn("places=(2, None)", found.hint)
+        self.assertIn("numbers='shortest'", found.hint)
+        self.assertEqual([row.status for row in revealed.panel(d, "home", numbers="shortest", progress=False)], [0, 0])
+        self.assertEqual([row.status for row in revealed.panel(d, "home", places=(2, None), progress=False)], [0, 0])
+        # two causes, or one household with an answer, and the others go on
+        for p_a in ([3.18, 2.5, 0], [3.18, 2.5, 1]):
+            self.assertEqual(revealed.panel({**d, "p_a": p_a}, "home", progress=False)[0].status, 4)
+
     def test_intercepts_are_spoken_of_where_a_price_is_rounded(self):
         self.assertIn("intercepts", self.hint([[1 / 3, 1]], [[1, 1]])[1])
         self.assertNotIn("intercepts", self.hint([[1 / 3, 1, 1]], [[1, 1, 1]])[1])
@@ -147,7 +179,11 @@ class Households(unittest.TestCase):
 
     def test_a_panel_by_too_few_columns(self):
         d = {"town": ["x"] * 4, "home": [1, 1, 2, 2], "obs": [1, 2, 1, 2], "p_a": [1] * 4, "q_a": [1] * 4}
-        (row,) = revealed.panel(d, "town", progress=False)
+        with self.assertRaises(BadData) as caught:
+            revealed.panel(d, "town", progress=False)
+        self.assertIn("the label 1 of the column 'obs' stands at more than one row", str(caught.exception))
+        other = {name: [*column, column[0]] for name, column in d.items()}
+        row, _ = revealed.panel({**other, "town": [*"xxxxy"]}, "town", progress=False)
         self.assertIsInstance(row.refusal, Pooled)
         self.assertEqual(row.status, 4)
         self.assertEqual([row.key for row in revealed.panel(d, ["town", "home"], progress=False)], [("x", 1), ("x", 2)])

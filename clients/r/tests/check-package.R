@@ -66,7 +66,7 @@ said <- run(
   "R CMD check", c("CMD", "check", "--as-cran", "--no-manual", if (has_latex) "--no-vignettes" else "--ignore-vignettes", basename(tarball)), at = plain,
   env = c(
     paste0("R_CRAN_WEB=file://", plain, "/web"), "_R_CHECK_CRAN_INCOMING_=false", "_R_CHECK_FORCE_SUGGESTS_=false",
-    "_R_CHECK_FUTURE_FILE_TIMESTAMPS_=false", "_R_CHECK_SYSTEM_CLOCK_=false", if (nzchar(released)) "RP_EXEC= RP_LIBRARY= PATH=/usr/bin:/bin"
+    "_R_CHECK_FUTURE_FILE_TIMESTAMPS_=false", "_R_CHECK_SYSTEM_CLOCK_=false", if (!nzchar(Sys.which("qpdf"))) "_R_CHECK_DOC_SIZES_=false", if (nzchar(released)) "RP_EXEC= RP_LIBRARY= PATH=/usr/bin:/bin"
   )
 )
 ended <- grep("^Status:", said, value = TRUE)
@@ -134,6 +134,21 @@ shown <- capture.output(for (it in as.list(parse(text = session))) {
   if (found$visible) print(found$value)
 })
 expect(identical(shown, wanted), "the session of clients/r/README.md")
+
+# ---- the draws that Python, R and the page have alike
+own <- asNamespace("revealed")
+alike <- own$read_json(paste(readLines(file.path(top, "clients", "tests", "behaviours.json")), collapse = "\n"))
+for (it in alike$words) {
+  drawn <- own$with_words(as.numeric(it$seed), own$next_words(length(it$words)))
+  expect(identical(sprintf("%.0f", drawn), it$words), paste("the words of the seed", it$seed))
+}
+rows <- function(it) do.call(rbind, it)
+for (it in alike$tables) {
+  budgets <- own$budgets_of(own$table_of(rows(it$prices), rows(it$quantities)))
+  drawn <- own$with_words(as.numeric(it$seed), lapply(it$behaviours, function(draw) own$behaviour(budgets)))
+  wanted <- lapply(it$behaviours, function(draw) matrix(as.numeric(rows(draw)), length(draw)))
+  expect(isTRUE(all.equal(drawn, wanted, tolerance = 0, check.attributes = FALSE)), paste("the behaviours of the seed", it$seed))
+}
 
 # ---- a panel
 set.seed(2026)

@@ -13,6 +13,7 @@ import re
 import subprocess
 import sys
 import tempfile
+from fractions import Fraction
 
 HERE = os.path.dirname(os.path.realpath(__file__))
 EXAMPLES = os.path.join(HERE, "..", "..", "..", "examples")
@@ -63,8 +64,9 @@ class Stata:
     def __init__(self, data, room, options, panel):
         self.data, self.room, self.panel = data, room, panel
         self.count = len(next(iter(data.values())))
-        names = ("digits", "by", "levels", "obs", "exe", "generate", "saving")
-        self.locals = {**{name: "" for name in names}, **options}
+        names = ("digits", "by", "levels", "obs", "exe", "generate", "saving", "pump", "newprices", "money")
+        self.locals = {**{name: "" for name in names}, "power": "0", "seed": "1", **options}
+        self.system, self.rownames = "Unix", {}
         self.results, self.r, self.code, self.files = {}, {}, 0, {}
         self.matrices, self.posts, self.said, self.temporary, self.steps = {}, {}, [], 0, 0
         self.kept = []
@@ -80,6 +82,8 @@ class Stata:
                 return shown(self.value(name))
             if name.startswith("r("):
                 return shown(self.r.get(name[2:-1], ""))
+            if name == "c(os)":
+                return self.system
             if name.startswith("macval("):
                 self.kept.append(self.locals.get(name[7:-1], ""))
                 return f"\ue000{len(self.kept) - 1}\ue001"
@@ -140,6 +144,8 @@ class Stata:
             "F_trim": str.strip,
             "F_round": round,
             "F_log10": math.log10,
+            "F_substr": lambda it, start, count: it[start - 1 : start - 1 + count],
+            "F_strtoname": lambda it: re.sub(r"^(?=[0-9])|[^A-Za-z0-9_]", "_", it)[:32],
             "F_max": lambda *it: max([x for x in it if x != MISSING], default=MISSING),
             "F_min": min,
             "F_string": self.string,
@@ -279,12 +285,12 @@ class Stata:
             self.data[name][row - 1] = it
 
     def do_egen(self, text):
-        grouped = re.fullmatch(r"long (\w+) = group\((\w+)\) if (\w+), missing", text)
+        grouped = re.fullmatch(r"long (\w+) = group\(([\w ]+)\) if (\w+), missing", text)
         if grouped:
             name, own, touse = grouped.groups()
-            used = [value for value, is_used in zip(self.data[own], self.data[touse]) if is_used]
-            order = {value: at + 1 for at, value in enumerate(sorted(set(used)))}
-            self.data[name] = [order[value] if is_used else MISSING for value, is_used in zip(self.data[own], self.data[touse])]
+            keys = list(zip(*(self.data[it] for it in own.split())))
+            order = {key: at + 1 for at, key in enumerate(sorted({key for key, is_used in zip(keys, self.data[touse]) if is_used}))}
+            self.data[name] = [order[key] if is_used else MISSING for key, is_used in zip(keys, self.data[touse])]
             return
         name, own, by = re.fullmatch(r"byte (\w+) = max\((\w+)\), by\((\w+)\)", text).groups()
         most = {}
@@ -351,6 +357,12 @@ class Stata:
     def do_matrix(self, text):
         if text.startswith(("colnames", "list")):
             return
+        named = re.fullmatch(r"rownames (\w+) = (.*)", text)
+        if named:
+            names = named[2].split()
+            assert len(names) == len(self.matrices[named[1]]) and all(re.fullmatch(r"[A-Za-z_]\w{0,31}", it) for it in names), names
+            self.rownames[named[1]] = names
+            return
         made = re.fullmatch(r"(\w+) = J\((\d+), (\d+), \.\)", text)
         if made:
             self.matrices[made[1]] = [[MISSING] * int(made[3]) for _ in range(int(made[2]))]
@@ -381,6 +393,7 @@ class Stata:
         elif kind == "matrix":
             name, value = rest.split(" = ")
             self.results[name] = self.matrices[value]
+            self.results["names of rows"] = self.rownames.get(value)
         else:
             name, value = rest.split(" = ")
             self.results[name] = self.value(value)
@@ -395,10 +408,11 @@ class Stata:
         self.data["__touse"] = [1] * self.count
 
 
-def call(data, panel="", temporary="ein Ordner é ", **options):
+def call(data, panel="", temporary="ein Ordner é ", system="Unix", **options):
     """Runs the command; returns its results, its return code, what it displayed, and the machine as it was left."""
     with tempfile.TemporaryDirectory(prefix=temporary) as room:
         stata = Stata({name: [MISSING if it is None else it for it in column] for name, column in data.items()}, room, options, panel)
+        stata.system = system
         start = next(at for at, line in enumerate(TEXT) if line.startswith("program define"))
         code = 0
         try:
@@ -422,7 +436,7 @@ def check_verdicts():
     found, code, _, _ = call(example("contradiction.csv"), **BOTH)
     assert code == 0 and [found[it] for it in ("status", "garp", "afriat", "homothetic", "quasilinear")] == [0] * 5, found
     assert found["efficiency"] == "4/5" and found["attained"] == 1 and found["cycle"] in ("1 2 1", "2 1 2"), found
-    assert found["ccei"] == 0.7999999999999999 and found["verdicts"][0][6] == found["ccei"], found
+    assert found["ccei"] == 0.8 and found["verdicts"][0][6] == found["ccei"], found
     found, code, _, _ = call(example("decimals.csv"), **BOTH)
     assert code == 0 and (found["garp"], found["afriat"], found["homothetic"], found["quasilinear"], found["ccei"]) == (1, 1, 1, 1, 1), found
     found, _, _, _ = call(example("cycle_of_three.csv"), prices="p_bread p_wine p_rent", quantities="q_bread q_wine q_rent")
@@ -480,13 +494,85 @@ def check_panel():
     assert found[f"cycle{harbour}"] == "", found
     assert {(name, garp) for name, garp in zip(stata.data["household"], stata.data["v_garp"])} == {(name, row[1]) for name, row in wanted.items()}
     kept = {row["household"]: row for row in found["kept.dta"]}
-    assert kept["south"]["efficiency"] == "4/5" and kept["south"]["ccei"] < 0.8 and kept["west"]["status"] == 4, kept
+    assert found["names of rows"] == [found[f"group{at}"].replace(",", "_").replace(" ", "_") for at in range(1, 6)], found["names of rows"]
+    assert kept["south"]["efficiency"] == "4/5" and kept["south"]["ccei"] == 0.8 and kept["west"]["status"] == 4, kept
     # A missing value refuses its own group alone.
     panel["q_wine"][0] = None
     found, code, _, _ = call(panel, **BOTH, by="household", digits="2")
     assert code == 0 and sorted(row[0] for row in found["verdicts"]) == [0, 0, 0, 4, 416], found
     names = [found[f"group{at}"] for at in range(1, 6)]
     assert names[[row[0] for row in found["verdicts"]].index(416)] == panel["household"][0], found
+
+
+def check_more():
+    """The money pump, the power, and bounds at new prices; and households by two variables."""
+    found, code, _, stata = call(example("contradiction.csv"), **BOTH, pump="pump", power="100", seed="7", generate="v")
+    assert code == 0 and (found["pump"], found["pump_ratio"]) == (0.2, "1/5") and found["verdicts"][0][7:] == [0.2, found["power"]], found
+    assert 0 <= found["power"] <= 1 and found["power"] * 100 == round(found["power"] * 100), found
+    assert stata.data["v_pump"] == [0.2, 0.2] and stata.data["v_power"] == [found["power"]] * 2 and stata.data["v_pump_ratio"] == ["1/5", "1/5"]
+    found, _, _, _ = call(example("decimals.csv"), **BOTH, pump="pump")
+    assert (found["pump"], found["pump_ratio"], "power" in found) == (0, "0", False), found
+    # With levels neither is defined, and the verdicts stand.
+    found, _, _, _ = call(example("levels.csv"), **BOTH, levels="e", pump="pump", power="10")
+    assert found["garp"] == 1 and found["pump"] == found["power"] == MISSING, found
+    assert found["message"] == "pump OwnLevels; power OwnLevels", found
+    # At prices 1 and 1 with 4 to spend: choices (2, 1) at (1, 2) and (1, 2) at (2, 1) are 4 and 4 of the money, and both are within reach.
+    own = {"p_a": [1.0, 2.0], "p_b": [2.0, 1.0], "q_a": [2.0, 1.0], "q_b": [1.0, 2.0]}
+    names = {"prices": "p_a p_b", "quantities": "q_a q_b"}
+    found, code, _, stata = call(own, **names, newprices="1 1", money="3", generate="v")
+    wanted = program_demand(own, "1,1,3")
+    assert code == 0 and found["verdicts"][0][7:] == wanted and [stata.data[f"v_{it}"][0] for it in ("low1", "high1", "low2", "high2")] == wanted, found
+    found, code, _, stata = call(own, **names, newprices=".5 1.25", generate="v")
+    assert code == 0 and (stata.data["v_lower"], stata.data["v_upper"]) == program_welfare(own, "0.5,1.25"), stata.data
+    broken = {**own, "q_a": [1.0, 2.0], "q_b": [2.0, 1.0]}
+    assert call(broken, **names, newprices="1 1", money="3")[0]["verdicts"][0][7:] == [MISSING] * 4
+    for wrong in ({"newprices": "1"}, {"money": "3"}, {"newprices": "1 1"}, {"power": "1001"}):
+        assert call(own, **names, **wrong)[1] == 198, wrong
+    # Two variables tell households apart; a group's name has both values.
+    data = {**households(6), "town": ["x" if own < 3 else "y, z" for own in households(6)["id"]]}
+    data["id"] = [own % 3 for own in data["id"]]
+    found, code, _, stata = call(data, prices="p_a p_b", quantities="q_a q_b", by="town id", generate="v", saving="kept.dta", pump="pump")
+    assert code == 0 and found["groups"] == 6 and found["held"] == 4, found
+    assert [found[f"group{at}"] for at in range(1, 7)] == ["x 0", "x 1", "x 2", "y, z 0", "y, z 1", "y, z 2"], found
+    assert found["names of rows"] == ["x_0", "x_1", "x_2", "y__z_0", "y__z_1", "y__z_2"], found
+    assert {(row["town"], row["id"], row["garp"], row["pump_ratio"]) for row in found["kept.dta"]} == {
+        (town, own, float(own != 0), "1/5" if own == 0 else "0") for town in ("x", "y, z") for own in (0.0, 1.0, 2.0)
+    }
+    # On Windows a clear word comes first.
+    _, code, said, _ = call(own, **names, system="Windows")
+    assert code == 198 and "rp.exe" in said and "Windows" in said, said
+
+
+def told_by_program(data, command, line):
+    """Returns the lines of the program's own report on a table at new prices."""
+    with tempfile.TemporaryDirectory() as room:
+        with open(f"{room}/t.csv", "w", encoding="utf-8") as it:
+            csv.writer(it, lineterminator="\n").writerows([data, *([f"{it:g}" for it in row] for row in zip(*data.values()))])
+        with open(f"{room}/new.csv", "w", encoding="utf-8") as it:
+            it.write(f"p_a,p_b{',m' if command == 'demand' else ''}\n{line}\n")
+        words = [os.environ["RP_EXEC"], command, "t.csv", "new.csv"]
+        return subprocess.run(words, cwd=room, stdin=subprocess.DEVNULL, capture_output=True, text=True, check=True).stdout.splitlines()
+
+
+def program_demand(data, line):
+    found = [re.fullmatch(r"good \d+ lower (\S+) upper (\S+)", it) for it in told_by_program(data, "demand", line)]
+    return [float(Fraction(bound)) for it in found if it for bound in it.groups()]
+
+
+def program_welfare(data, line):
+    # Prices of two places, and quantities whole: costs are in hundredths.
+    found = [re.fullmatch(r"welfare prices .* observation \d+ lower (\S+) upper (\S+) at \d+", it) for it in told_by_program(data, "welfare", line)]
+    return tuple([float(Fraction(it[side]) / 100) for it in found if it] for side in (1, 2))
+
+
+def check_files():
+    """The files that `net install` takes are those that are here."""
+    with open(os.path.join(HERE, "..", "stata.toc"), encoding="ascii") as it:
+        assert re.search(r"(?m)^p rptest ", it.read())
+    with open(os.path.join(HERE, "..", "rptest.pkg"), encoding="ascii") as it:
+        named = re.findall(r"(?m)^[fF] (\S+)$", it.read())
+    assert sorted(named) == ["rptest.ado", "rptest.sh", "rptest.sthlp"], named
+    assert all(os.path.exists(os.path.join(HERE, "..", it)) for it in named)
 
 
 def households(count):
@@ -549,7 +635,7 @@ def main():
     os.environ["RP_EXEC"] = os.path.abspath(os.environ["RP_EXEC"])
     with tempfile.TemporaryDirectory() as room:
         os.chdir(room)
-        for check in (check_verdicts, check_refusals, check_panel, check_many, check_texts):
+        for check in (check_verdicts, check_refusals, check_panel, check_more, check_files, check_many, check_texts):
             check()
         os.chdir(old)
     print("clients/stata: the traffic is as it should be; it was not run in Stata")

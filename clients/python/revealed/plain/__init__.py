@@ -19,7 +19,7 @@ from typing import Any
 from .. import exact
 from ..answers import Answers, Certificate, Verdict, demands, welfares
 from ..faults import BadData
-from ..tables import Sheet, Table, beside, table
+from ..tables import Forms, Sheet, Table, beside, forms_of, table
 from ..verifier import NoTable, tables
 from . import axioms, bounds, chains
 
@@ -32,29 +32,29 @@ class PlainVerdict(Verdict):
     proved = False
 
 
-def analyse(p: Any, q: Any = None, *, levels: Any = None, places: Any = None) -> PlainVerdict:
+def analyse(p: Any, q: Any = None, *, levels: Any = None, places: Any = None, numbers: Any = "exact") -> PlainVerdict:
     """Returns the verdicts on a table, as `revealed.analyse` does, and withholds none. No proof stands behind them."""
-    own = table(p, q, places=places, levels=levels)
+    own = table(p, q, places=places, numbers=numbers, levels=levels)
     costs = costs_of(own)
     garp = axioms.garp(costs)
     items = [garp, axioms.afriat(costs, garp), axioms.efficiency(costs), chains.homothetic(costs), chains.quasilinear(costs)]
     return PlainVerdict(own, certificate(items, costs.table.levels))
 
 
-def demand_bounds(p: Any, q: Any = None, new: Any = None, m: Any = None, *, places: Any = None) -> Answers:
+def demand_bounds(p: Any, q: Any = None, new: Any = None, m: Any = None, *, places: Any = None, numbers: Any = "exact") -> Answers:
     """Returns the Demand on each new budget, as `revealed.demand_bounds` does, and withholds none. No proof stands behind it."""
-    own = table(p, q, places=places)
-    costs, sheet = without_levels(own), asked(own, new, "m", m, places)
+    own = table(p, q, places=places, numbers=numbers)
+    costs, sheet = without_levels(own), asked(own, new, "m", m, forms_of(places, numbers))
     records = scaled(sheet, own, money=True)
     garp = axioms.garp(costs)
     items = [garp, *(bounds.demand(costs, garp, prices, spent) for *prices, spent in records)]
     return unproved(demands(own, sheet, certificate(items)))
 
 
-def welfare_bounds(p: Any, q: Any = None, new: Any = None, *, places: Any = None) -> Answers:
+def welfare_bounds(p: Any, q: Any = None, new: Any = None, *, places: Any = None, numbers: Any = "exact") -> Answers:
     """Returns the Welfare bounds at new prices, as `revealed.welfare_bounds` does, and withholds none. No proof stands behind it."""
-    own = table(p, q, places=places)
-    costs, sheet = without_levels(own), asked(own, new, None, None, places)
+    own = table(p, q, places=places, numbers=numbers)
+    costs, sheet = without_levels(own), asked(own, new, None, None, forms_of(places, numbers))
     garp = axioms.garp(costs)
     items = [bounds.welfare(costs, garp, prices, t) for prices in scaled(sheet, own) for t in range(costs.n)]
     return unproved(welfares(own, sheet, certificate([garp, *items])))
@@ -75,10 +75,10 @@ def without_levels(own: Table) -> axioms.Costs:
     return costs_of(own)
 
 
-def asked(own: Table, new: Any, more: str | None, values: Any, places: Any) -> Sheet:
+def asked(own: Table, new: Any, more: str | None, values: Any, forms: Forms) -> Sheet:
     if new is None:
         raise BadData("there are no new prices")
-    return beside(own, new, "p_", more, values, places)
+    return beside(own, new, "p_", more, values, forms)
 
 
 def scaled(sheet: Sheet, own: Table, money: bool = False) -> list[list[int]]:

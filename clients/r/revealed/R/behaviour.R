@@ -1,55 +1,110 @@
 # Random behaviour on the budgets of a panel, and tables of a panel.
 
-rp_random_panel <- function(panel, times = 10, seed, digits = NULL, workers = NULL, progress = FALSE, exe = NULL) {
+rp_random_panel <- function(panel, times = NULL, seed = 1, workers = NULL, progress = FALSE, exe = NULL) {
   if (!inherits(panel, "rp_panel") || panel$ask == "power") bad_data("random behaviour is drawn on the budgets of a panel of tests or of pumps")
-  if (missing(seed)) bad_data("there is no seed: give the argument seed, a whole number")
-  times <- as.integer(whole_word(times, "times", "1", "1000000"))
-  seed <- as.integer(whole_word(seed, "seed", "0", "2147483647"))
-  whole_word(if (is.null(digits)) 0 else digits, "digits", "0", limit_text("table.places"))
-  drawn <- drawn_data(panel, times, seed, digits)
+  if ("draw" %in% c(panel$id, names(panel$data))) bad_data("a column has the name draw, which random behaviour takes for its own")
+  own <- which(answered(panel))
+  if (!length(own)) bad_data("no household has an answer, so there are no budgets")
+  # A thousand behaviours, or a few more, where nothing is said.
+  times <- if (is.null(times)) ceiling(1000 / length(own)) else as.integer(whole_word(times, "times", "1", "1000000"))
+  drawn <- drawn_data(panel, own, times, seed_of(seed))
   rp_panel(drawn, c(panel$id, "draw"), ask = panel$ask, workers = workers, progress = progress, exe = exe)
 }
 
-# Returns a long frame of behaviours: in each row a point of its budget line, each as likely as any other, its quantities
-# rounded down to so many places. Prices are those that the panel was asked with.
-drawn_data <- function(panel, times, seed, digits) {
-  data <- panel$data
-  group <- group_of(data, panel$id)
-  data <- data[group %in% which(answered(panel)), , drop = FALSE]
-  if ("draw" %in% c(panel$id, names(data))) bad_data("a column has the name draw, which random behaviour takes for its own")
-  if (!nrow(data)) bad_data("no household has an answer, so there are no budgets")
-  sides <- panel_sides(data, panel$id)
-  table <- whole_sheet(sides)
-  asked <- digits_pair(panel$digits)
-  prices <- lapply(sides$prices, number_texts, digits = asked[[1]])
-  p <- vapply(prices, as.numeric, numeric(nrow(data)))
-  q <- vapply(sides$quantities, function(it) as.numeric(number_texts(it, asked[[2]])), numeric(nrow(data)))
-  dim(p) <- dim(q) <- c(nrow(data), length(prices))
-  spent <- rowSums(p * q)
-  places <- if (is.null(digits)) max(0L, places_that_fit(sprintf("%.9f", max(spent / p)))) else as.integer(digits)
-  shares <- with_seed(seed, lapply(seq_len(times), function(draw) {
-    found <- matrix(-log(stats::runif(length(p))), nrow(p))
-    found / rowSums(found)
-  }))
-  keys <- data[panel$id]
-  more <- c(if ("obs" %in% names(data)) list(obs = data$obs), if (!is.null(panel$levels)) list(e = panel$levels[group %in% which(answered(panel))]))
-  names <- sides$goods
-  frames <- lapply(seq_len(times), function(draw) {
-    bought <- floor(shares[[draw]] * spent / p * 10^places) / 10^places
-    # Where parts of a unit are not bought, nothing may be left of a bundle: then one unit of the first good is taken.
-    bought[rowSums(bought) == 0, 1] <- 10^-places
-    quantities <- lapply(seq_along(names), function(good) sprintf("%.*f", places, bought[, good]))
-    frame_of(c(as.list(keys), list(draw = rep(draw, nrow(data))), more, named(prices, price_names(sides)), named(quantities, paste0("q_", names))))
-  })
-  do.call(rbind, frames)
+seed_of <- function(seed) as.numeric(whole_word(seed, "seed", "0", "4294967295"))
+
+# Returns a long frame of behaviours: all households, then all again, as often as `times`, from one stream of words. Prices and
+# quantities are whole numbers in units of their own, which change neither the axiom nor an index.
+drawn_data <- function(panel, own, times, seed) {
+  tables <- lapply(panel$answers[own], `[[`, "table")
+  budgets <- lapply(tables, budgets_of)
+  drawn <- with_words(seed, lapply(seq_len(times), function(draw) lapply(budgets, behaviour)))
+  rows <- vapply(tables, function(table) length(table$labels), 0L)
+  household <- rep(rep(own, rows), times)
+  goods <- seq_along(tables[[1]]$goods)
+  prices <- lapply(goods, function(good) rep(unlist(lapply(budgets, function(it) it$prices[, good])), times))
+  quantities <- lapply(goods, function(good) unlist(lapply(drawn, function(all) lapply(all, function(it) it[, good]))))
+  levels <- unlist(lapply(tables, `[[`, "levels"))
+  frame_of(c(
+    lapply(panel$keys, `[`, household), list(draw = rep(seq_len(times), each = sum(rows))),
+    if (!"obs" %in% panel$id) list(obs = rep(sequence(rows), times)),
+    named(prices, price_names(tables[[1]])), named(quantities, paste0("q_", tables[[1]]$goods)), if (!is.null(levels)) list(e = rep(levels, times))
+  ))
 }
 
-# Evaluates with a seed of R's own generator, by its own kind, and leaves the caller's generator as it was.
-with_seed <- function(seed, value) {
+# ---- the generator, which Python's package and the page have too: the same seed gives the same behaviours
+
+first_modulus <- 4294967087
+second_modulus <- 4294944443
+# A share of what is spent is a whole number of these parts of it.
+whole_share <- 2^29
+
+# Evaluates with the words of MRG32k3a (L'Ecuyer 1999) from a seed, which R has as the kind "L'Ecuyer-CMRG", and leaves the caller's
+# generator as it was.
+with_words <- function(seed, value) {
   old <- if (exists(".Random.seed", globalenv(), inherits = FALSE)) get(".Random.seed", globalenv(), inherits = FALSE)
-  on.exit(if (is.null(old)) rm(".Random.seed", envir = globalenv()) else assign(".Random.seed", old, envir = globalenv()))
-  set.seed(seed, "Mersenne-Twister", "Inversion", "Rejection")
+  kinds <- RNGkind()
+  on.exit({
+    suppressWarnings(RNGkind(kinds[1], kinds[2], kinds[3]))
+    if (is.null(old)) rm(".Random.seed", envir = globalenv()) else assign(".Random.seed", old, envir = globalenv())
+  })
+  RNGkind("L'Ecuyer-CMRG", "Inversion", "Rejection")
+  # The seed is spread over the state as set.seed does it, which takes none above 2^31.
+  state <- numeric()
+  for (at in 1:50) seed <- next_seed(seed)
+  while (length(state) < 6) {
+    seed <- next_seed(seed)
+    if (seed < second_modulus) state <- c(state, seed)
+  }
+  signed <- ifelse(state >= 2^31, state - 2^32, state)
+  assign(".Random.seed", c(get(".Random.seed", globalenv())[1], as.integer(signed)), envir = globalenv())
   value
+}
+
+next_seed <- function(seed) (69069 * seed + 1) %% 2^32
+
+# Returns the next words, each from 1 to the first modulus.
+next_words <- function(count) round(stats::runif(count) * (first_modulus + 1))
+
+# Returns the budgets of a table in whole numbers: prices, and how much of each good what was spent would buy, in units that are as
+# fine as fit. Each number is below 2^53, so doubles have it exactly.
+budgets_of <- function(table) {
+  count <- length(table$goods)
+  side <- function(at, kind) {
+    places <- places_of(table, kind)
+    found <- vapply(table$texts[at], function(it) round(as.numeric(it) * 10^places), numeric(length(table$labels)))
+    matrix(found, ncol = count)
+  }
+  prices <- side(seq_len(count), "price")
+  quantities <- side(count + seq_len(count), "quantity")
+  spent <- rowSums(prices * quantities)
+  most <- as.numeric(limit_text("table.largest"))
+  for (unit in 6:-9) {
+    amounts <- if (unit >= 0) spent * 10^unit else floor(spent / 10^-unit)
+    buys <- if (max(amounts) < 2^53) floor_over(amounts, prices) else amounts / prices
+    if (max(buys, 0) <= most) break
+  }
+  list(prices = prices, most = buys)
+}
+
+# Returns the whole part of whole numbers below 2^53 over others, which a quotient near a whole number may miss by one.
+floor_over <- function(a, b) {
+  found <- floor(a / b)
+  found - (found * b > a)
+}
+
+# Returns the quantities of one behaviour, by the next words: a division of what is spent, each as likely as any other.
+behaviour <- function(budgets) {
+  most <- budgets$most
+  goods <- ncol(most)
+  words <- matrix(next_words((goods - 1) * nrow(most)), nrow(most), byrow = TRUE)
+  for (row in seq_len(nrow(most))) {
+    cuts <- c(0, sort(floor((words[row, ] - 1) / 8)), whole_share)
+    most[row, ] <- floor(most[row, ] * diff(cuts) / whole_share)
+  }
+  # Where parts of a unit are not bought, nothing may be left of a bundle: then one unit of the first good is taken.
+  most[rowSums(most) == 0, 1] <- 1
+  most
 }
 
 # ---- tables

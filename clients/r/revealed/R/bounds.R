@@ -30,8 +30,9 @@ stacked <- function(frames) {
 
 # ---- demand
 
-rp_demand <- function(p, q = NULL, new, m = NULL, digits = NULL, exe = NULL) {
+rp_demand <- function(p, q = NULL, new, m = NULL, digits = NULL, numbers = "exact", exe = NULL) {
   if (missing(new)) bad_data("there are no new prices: give the argument new")
+  digits <- forms_of(digits, numbers)
   table <- table_of(p, q, digits)
   found <- asked_of("demand", table, new_prices(table, new, m, wants_m = TRUE, digits), engine_of(exe))
   reading(found$certificate, {
@@ -69,7 +70,7 @@ demand_frame <- function(item, label, table) {
 as.data.frame.rp_demand <- function(x, row.names = NULL, optional = FALSE, ...) {
   own <- x$bounds
   frame_of(c(
-    own[c("budget", "good")], beside("lower", own$lower), beside("upper", own$upper, up = TRUE), beside("inner", own$inner), own["reason"]
+    own[c("budget", "good")], beside("lower", own$lower, double_below), beside("upper", own$upper, double_above), beside("inner", own$inner), own["reason"]
   ))
 }
 
@@ -93,8 +94,9 @@ counted <- function(frame) {
 
 # ---- welfare
 
-rp_welfare <- function(p, q = NULL, new, digits = NULL, exe = NULL) {
+rp_welfare <- function(p, q = NULL, new, digits = NULL, numbers = "exact", exe = NULL) {
   if (missing(new)) bad_data("there are no new prices: give the argument new")
+  digits <- forms_of(digits, numbers)
   table <- table_of(p, q, digits)
   found <- asked_of("welfare", table, new_prices(table, new, digits = digits), engine_of(exe))
   reading(found$certificate, {
@@ -124,7 +126,7 @@ welfare_frame <- function(items, labels, table, places) {
 as.data.frame.rp_welfare <- function(x, row.names = NULL, optional = FALSE, ...) {
   own <- x$bounds
   frame_of(c(
-    own[c("prices", "observation")], beside("lower", own$lower), beside("upper", own$upper, up = TRUE), own[c("at", "reason")]
+    own[c("prices", "observation")], beside("lower", own$lower, double_below), beside("upper", own$upper, double_above), own[c("at", "reason")]
   ))
 }
 
@@ -141,7 +143,8 @@ summary.rp_welfare <- function(object, ...) {
 
 # ---- utility
 
-rp_utility <- function(p, q = NULL, bundles, digits = NULL, levels = NULL, exe = NULL) {
+rp_utility <- function(p, q = NULL, bundles, digits = NULL, levels = NULL, numbers = "exact", exe = NULL) {
+  digits <- forms_of(digits, numbers)
   if (missing(bundles)) bad_data("there are no bundles: give the argument bundles")
   table <- table_of(p, q, digits, levels)
   asked <- bundles_of(table, bundles, digits)

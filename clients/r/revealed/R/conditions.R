@@ -73,7 +73,7 @@ named <- function(x, names) {
 
 # Returns a whole number from `low` to `high` as its digits, which are all that is told to the program.
 whole_word <- function(x, what, low, high) {
-  text <- if (length(x) == 1 && (is.numeric(x) || is.character(x) || inherits(x, "bigz")) && !is.na(x)) number_texts(x) else ""
+  text <- if (length(x) == 1 && (is.numeric(x) || is.character(x) || inherits(x, "bigz")) && !is.na(x)) tryCatch(number_texts(x), rp_too_long = function(it) "") else ""
   good <- grepl("^[0-9]{1,20}$", text, useBytes = TRUE)
   text <- if (good) sub("^0+(?=[0-9])", "", text, perl = TRUE) else text
   if (!good || least(text, low) != low || least(text, high) != text) bad_data(what, " is a whole number from ", low, " to ", high)

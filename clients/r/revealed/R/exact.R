@@ -49,9 +49,34 @@ mean.rp_exact <- function(x, ...) mean(as.double(x), ...)
 median.rp_exact <- function(x, na.rm = FALSE, ...) stats::median(as.double(x), na.rm = na.rm, ...)
 quantile.rp_exact <- function(x, ...) stats::quantile(as.double(x), ...)
 
-# Returns the greatest double that is no greater than each number, or the least that is no less.
+# Returns the greatest double that is no greater than each number, the least that is no less, or the nearest of all; but of these
+# only that of 1 is 1, and only that of 0 is 0.
 double_below <- function(x) doubles_of(bare(x), up = FALSE)
 double_above <- function(x) doubles_of(bare(x), up = TRUE)
+
+nearest_double <- function(x) {
+  signed <- bare(x)
+  texts <- sub("^-", "", signed)
+  below <- doubles_of(texts, up = FALSE)
+  above <- doubles_of(texts, up = TRUE)
+  found <- as.double(exact(texts))
+  # Of numbers too long for whole doubles the middle between the two tells which is nearer.
+  long <- which(grepl("[0-9]{16}", texts) & below != above)
+  found[long] <- as.numeric(mapply(nearer, texts[long], below[long], above[long]))
+  found <- ifelse(found == 1 & texts != "1", below, ifelse(found == 0 & texts != "0", above, found))
+  ifelse(startsWith(signed, "-"), -found, found)
+}
+
+# Returns the one of the two doubles beside a number of 0 or more that is nearer to it.
+nearer <- function(text, below, above) {
+  step <- above - below
+  of_two <- -log2(step) + 1
+  middle <- digits_of(plus(limbs(sprintf("%.0f", below / step * 2)), 1))
+  parts <- fraction_parts(text)
+  left <- product(limbs(parts$num), limbs(sprintf("%.0f", 2^max(of_two, 0))))
+  right <- product(product(limbs(middle), limbs(parts$den)), limbs(sprintf("%.0f", 2^max(-of_two, 0))))
+  if (is_negative(plus(left, right, -1))) below else above
+}
 
 doubles_of <- function(texts, up) {
   found <- rep(NA_real_, length(texts))
@@ -114,6 +139,13 @@ compared <- function(a, b) {
   if (a$negative) -found else found
 }
 
+# The same, by doubles where these tell: they are nearer to the numbers than a part in a million million.
+order_between <- function(a, b) {
+  left <- as.double(exact(a))
+  right <- as.double(exact(b))
+  if (isTRUE(abs(left - right) > 1e-12 * (abs(left) + abs(right)))) sign(left - right) else compared(a, b)
+}
+
 # Returns the parts of a text such as -3/4, 0.25 or 12.
 fraction_parts <- function(text) {
   negative <- startsWith(text, "-")
@@ -128,7 +160,7 @@ Ops.rp_exact <- function(e1, e2) {
   if (.Generic %in% c("==", "!=", "<", "<=", ">", ">=") && is_plain_number(e1) && is_plain_number(e2)) {
     e1 <- number_texts(e1)
     e2 <- number_texts(e2)
-    found <- suppressWarnings(mapply(function(a, b) if (nzchar(a) && nzchar(b)) compared(a, b) else NA_real_, e1, e2, USE.NAMES = FALSE))
+    found <- suppressWarnings(mapply(function(a, b) if (nzchar(a) && nzchar(b)) order_between(a, b) else NA_real_, e1, e2, USE.NAMES = FALSE))
     return(get(.Generic)(as.numeric(found), 0))
   }
   if (missing(e2)) return(get(.Generic)(big(e1, .Generic)))
@@ -181,8 +213,8 @@ Summary.rp_exact <- function(..., na.rm = FALSE) {
 
 Math.rp_exact <- function(x, ...) bad_data(.Generic, " is not told of exact numbers; as.numeric(x) gives doubles")
 
-# Returns two columns of a frame: doubles, and beside them the exact texts.
-beside <- function(name, x, up = FALSE, exact_name = paste0(name, "_exact")) {
+# Returns two columns of a frame: the nearest doubles, or those on one side, and beside them the exact texts.
+beside <- function(name, x, doubles = nearest_double, exact_name = paste0(name, "_exact")) {
   texts <- exact(bare(x))
-  named(list(doubles_of(bare(x), up), texts), c(name, exact_name))
+  named(list(doubles(texts), texts), c(name, exact_name))
 }

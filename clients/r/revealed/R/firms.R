@@ -1,6 +1,7 @@
 # What firms do: cost minimisation, profit maximisation, and bounds on what an output costs.
 
-rp_cost <- function(technology, new, digits = NULL, exe = NULL) {
+rp_cost <- function(technology, new, digits = NULL, numbers = "exact", exe = NULL) {
+  digits <- forms_of(digits, numbers)
   own <- technology_of(technology, digits)
   asked <- outputs_of(own, if (missing(new)) NULL else new, digits)
   files <- list(technology.csv = csv_lines(own), new.csv = csv_lines(asked))
@@ -55,7 +56,7 @@ cost_frame <- function(line, label, own, asked) {
 as.data.frame.rp_cost <- function(x, row.names = NULL, optional = FALSE, ...) {
   own <- x$bounds
   frame_of(c(
-    own["new"], beside("output", own$output), beside("lower", own$lower), beside("upper", own$upper, up = TRUE), own[c("at", "reason")]
+    own["new"], beside("output", own$output), beside("lower", own$lower, double_below), beside("upper", own$upper, double_above), own[c("at", "reason")]
   ))
 }
 

@@ -1,27 +1,33 @@
 # The program as a library in memory: one call over the bytes of files, without a process and without a file.
 
-# What the file of a library is called.
-library_name <- "librp.so"
+# Whether this is Windows. What differs there takes it as an argument, so that it is tried elsewhere too.
+on_windows <- function() .Platform$OS.type == "windows"
+
+# What the files of a library and of the program are called.
+library_name <- function(windows = on_windows()) if (windows) "rp.dll" else "librp.so"
+program_name <- function(windows = on_windows()) if (windows) "rp.exe" else "rp"
 
 # Whether a path is that of a library, and not of a program.
-is_library <- function(place) grepl("[.](so|dylib|dll)([.][0-9.]*)?$", basename(place))
+is_library <- function(place) grepl("[.](so|dylib)([.][0-9.]*)?$|[.]dll$", tolower(basename(place)))
 
-# Returns the library that a release or a package puts with a program, if it does.
-library_of <- function(program) {
+# Returns the library that a release or a package puts with a program, if it does: on Windows beside it.
+library_of <- function(program, windows = on_windows()) {
   folder <- dirname(program)
-  Find(is_there, if (basename(folder) == "bin") libraries_below(dirname(folder)) else file.path(folder, "lib", library_name))
+  if (windows) return(Find(is_there, file.path(folder, library_name(windows))))
+  Find(is_there, if (basename(folder) == "bin") libraries_below(dirname(folder)) else file.path(folder, "lib", library_name(windows)))
 }
 
 # Returns where the folder `lib` of a place may have the library: as programs find it, and as compilers do.
 libraries_below <- function(root) {
   folders <- file.path(root, c("lib", file.path("lib", paste0(R.version$arch, "-linux-gnu"))))
-  as.vector(outer(folders, c("librp.so.0", library_name), file.path))
+  as.vector(outer(folders, c("librp.so.0", "librp.so"), file.path))
 }
 
 is_there <- function(place) file.exists(place) && !dir.exists(place)
 
-# Returns where a library may stand alone.
-library_places <- function() {
+# Returns where a library may stand alone: on Windows in no place but with the program.
+library_places <- function(windows = on_windows()) {
+  if (windows) return(character())
   home <- Sys.getenv("HOME")
   unlist(lapply(c(if (nzchar(home)) file.path(home, ".local"), "/usr/local", "/usr"), libraries_below))
 }

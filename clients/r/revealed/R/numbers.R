@@ -4,8 +4,10 @@ plain <- "^[0-9]+(\\.[0-9]+)?$"
 number <- "^([+-]?)([0-9]+\\.?[0-9]*|\\.[0-9]+)([eE][+-]?[0-9]{1,3})?$"
 
 # Returns the text of each number, exactly, or rounded to so many decimal places, half to even; an empty text where the
-# value is missing, and the text of what is no number as it stands, for the program to refuse.
-number_texts <- function(x, digits = NULL) {
+# value is missing, and the text of what is no number as it stands, for the program to refuse. A `form` has `digits`, how many
+# places are asked for, and `shortest`, whether a double is the shortest decimal that gives it back.
+number_texts <- function(x, form = NULL) {
+  digits <- form$digits
   if (inherits(x, c("bigz", "bigq"))) return(big_texts(x, digits))
   if (inherits(x, "integer64")) {
     if (!"bit64" %in% loadedNamespaces()) bad_data("whole numbers of bit64 need that package loaded")
@@ -15,7 +17,7 @@ number_texts <- function(x, digits = NULL) {
   if (is.factor(x) || is.logical(x) || inherits(x, "rp_exact")) x <- as.character(x)
   if (is.list(x)) bad_data("a column is a list")
   if (is.integer(x)) return(ifelse(is.na(x), "", sprintf("%d", x)))
-  if (is.double(x)) return(double_texts(as.vector(unclass(x)), digits))
+  if (is.double(x)) return(double_texts(as.vector(unclass(x)), digits, isTRUE(form$shortest)))
   if (!is.character(x)) bad_data("a column has no numbers but ", class(x)[1])
   cells <- unname(as.vector(x))
   cells[is.na(cells)] <- ""
@@ -27,12 +29,29 @@ number_texts <- function(x, digits = NULL) {
   cells
 }
 
-double_texts <- function(x, digits) {
+double_texts <- function(x, digits, shortest) {
   text <- ifelse(is.na(x), "", as.character(x))
   own <- which(is.finite(x))
+  if (shortest) {
+    short <- unsigned_zero(shortest_texts(x[own]))
+    other <- if (is.null(digits)) grepl("e", short, fixed = TRUE) else rep(TRUE, length(short))
+    short[other] <- vapply(short[other], plain_decimal, "", digits = digits)
+    text[own] <- short
+    return(text)
+  }
   places <- if (is.null(digits)) binary_places(x[own]) else rep(as.integer(digits), length(own))
   # Without `digits` so many places are all that the double has. With it, they are the nearest to the double itself.
   text[own] <- unsigned_zero(sprintf("%.*f", places, x[own]))
+  text
+}
+
+# Returns the shortest decimal that gives each double back: 15 digits are enough for one that was read from as few, and 17 for all.
+shortest_texts <- function(x) {
+  text <- sprintf("%.15g", x)
+  for (count in 16:17) {
+    left <- which(as.numeric(text) != x)
+    text[left] <- sprintf("%.*g", count, x[left])
+  }
   text
 }
 
@@ -88,6 +107,7 @@ order_of <- function(a, b) {
 # Returns the texts of numbers of gmp.
 big_texts <- function(x, digits) {
   if (!requireNamespace("gmp", quietly = TRUE)) bad_data("numbers of gmp need that package")
+  stop_at_too_long(x)
   texts <- as.character(x)
   texts[is.na(texts) | texts == "NA"] <- ""
   are_fractions <- grepl("/", texts, fixed = TRUE)
@@ -98,6 +118,21 @@ big_texts <- function(x, digits) {
     unsigned_zero(paste0(if (startsWith(it[1], "-")) "-", decimal))
   }, "")
   texts
+}
+
+# A number of gmp of more digits before its point, or below its line, is refused before it is made a text.
+most_figures <- 2000
+
+# Stops at the first number of gmp that is too long, with the fault of it and its place.
+stop_at_too_long <- function(x) {
+  figures <- function(of) ifelse(is.na(of), 0, gmp::sizeinbase(of, 10))
+  over <- figures(if (inherits(x, "bigq")) gmp::numerator(x) else x)
+  under <- if (inherits(x, "bigq")) figures(gmp::denominator(x)) else rep(1, length(over))
+  long <- which(over - under > most_figures | under > most_figures)
+  if (!length(long)) return(invisible())
+  fault <- if (over[long[1]] - under[long[1]] > most_figures) "TooLarge" else "TooManyDecimals"
+  size <- paste("a number of some", format(max(over[long[1]], under[long[1]]), big.mark = ","), "digits")
+  stop(structure(class = c("rp_too_long", "error", "condition"), list(message = size, call = NULL, fault = fault, at = long[1])))
 }
 
 # Returns num over den with so many places; the last one is 1 where it would be 0 and the number goes on.
@@ -120,7 +155,10 @@ places_that_fit <- function(texts) {
   most <- max(whole, 0L)
   places <- min(most_places(), digits_taken() - most)
   if (places < 0) return(-1L)
-  largest <- vapply(texts[whole == most], plain_decimal, "", digits = places)
+  # Doubles tell which are the largest, but for those that are near to one another.
+  long <- texts[whole == most]
+  near <- as.numeric(long)
+  largest <- vapply(long[near >= max(near, 0) * (1 - 1e-12)], plain_decimal, "", digits = places)
   # Rounding may carry the largest into one digit more.
   figures <- nchar(sub("^0+", "", gsub(".", "", largest, fixed = TRUE)))
   as.integer(if (any(figures > digits_taken())) places - 1 else places)

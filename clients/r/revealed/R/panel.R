@@ -10,13 +10,13 @@ asked_of_panels <- list(
 )
 
 rp_panel <- function(data, id, ask = c("test", "pump", "power"), digits = NULL, levels = NULL, seed = NULL, draws = 1000, workers = NULL,
-                     progress = interactive(), exe = NULL) {
+                     numbers = "exact", progress = interactive(), exe = NULL) {
   kind <- chosen(ask, c("test", "pump", "power"), "ask")
   data <- plain_frame(data)
   if (!is_switch(progress)) bad_data("progress is TRUE or FALSE")
   workers <- if (is.null(workers)) processors() else as.integer(whole_word(workers, "workers", "1", "4096"))
   sides <- panel_sides(data, id, levels)
-  digits_pair(digits)
+  digits <- forms_of(digits, numbers)
   if (kind == "power" && is.null(seed)) bad_data("there is no seed: give the argument seed, a whole number")
   if (kind != "test" && !is.null(sides$levels)) {
     stop(refused("OwnLevels", hint = plain_hint("OwnLevels")))
@@ -28,7 +28,7 @@ rp_panel <- function(data, id, ask = c("test", "pump", "power"), digits = NULL, 
   group <- group_of(data, id)
   rows <- split(seq_len(nrow(data)), group)
   # What fits is told by all households, which are rounded alike.
-  fit <- if (is.null(digits)) fit_of(whole_sheet(sides))
+  fit <- if (!is_rounded(digits)) fit_of(whole_sheet(sides, digits))
   some <- function(numbers) {
     tables <- lapply(rows[numbers], household_of, sides = sides, digits = digits, id = id, fit = fit)
     answers_on(tables, words, how$read, engine)
@@ -38,8 +38,22 @@ rp_panel <- function(data, id, ask = c("test", "pump", "power"), digits = NULL, 
   found[lost] <- rep(list(failed(NA_integer_, "a process of R ended before its answer")), length(lost))
   keys <- data[vapply(rows, `[`, 1L, 1), id, drop = FALSE]
   keys <- as.data.frame(keys, row.names = seq_along(rows))
+  stop_where_all_are_refused(found, keys)
   of <- list(keys = keys, answers = unname(found), ask = kind, data = data, id = id, digits = digits, levels = sides$levels, own_money = sides$own_money)
   structure(of, class = "rp_panel")
+}
+
+# Stops with the refusal of a panel whose households were all refused for one cause.
+stop_where_all_are_refused <- function(found, keys) {
+  cause <- vapply(found, function(it) if (inherits(it, "rp_refused")) it$fault else if (inherits(it, "rp_bad_data")) "rp_bad_data" else NA_character_, "")
+  if (!length(cause) || anyNA(cause) || length(unique(cause)) > 1) return(invisible())
+  first <- found[[1]]
+  who <- if (length(found) == 1) "the one household is refused" else paste("all", length(found), "households are refused for one cause, the first")
+  key <- paste(vapply(keys, function(it) quoted(as.character(it[1])), ""), collapse = ", ")
+  first$message <- paste0(who, ", ", key, ": ", conditionMessage(first))
+  first$count <- length(found)
+  class(first) <- c("rp_all_refused", class(first))
+  stop(first)
 }
 
 # Returns the sides of a long frame as those of one table.
@@ -70,9 +84,9 @@ answer_names <- c(
 )
 
 # Returns all that a panel has as one sheet, by which it is told what fits.
-whole_sheet <- function(sides) {
+whole_sheet <- function(sides, forms) {
   count <- length(sides$goods)
-  list(kinds = rep(c("price", "quantity"), each = count), columns = c(sides$prices, sides$quantities))
+  list(forms = forms, kinds = rep(c("price", "quantity"), each = count), columns = c(sides$prices, sides$quantities))
 }
 
 # Returns the number of each row's household, in the order in which they first come.
@@ -109,7 +123,7 @@ answers_on <- function(tables, words, read, engine) {
 # Returns how many processes run at once: as many as there are processors, or two where R's checks ask for that. Windows has no
 # copies of a process, nor what tells the processors of one.
 processors <- function() {
-  if (.Platform$OS.type == "windows") return(1L)
+  if (on_windows()) return(1L)
   if (!tolower(Sys.getenv("_R_CHECK_LIMIT_CORES_")) %in% c("", "false")) return(2L)
   own <- get("mcaffinity", asNamespace("parallel"))()
   if (length(own)) length(own) else max(1L, detectCores(), na.rm = TRUE)
@@ -123,7 +137,7 @@ in_parallel <- function(count, some, workers, progress) {
   found <- list()
   for (batch in batches) {
     parts <- split(batch, ceiling(seq_along(batch) * 4 * workers / length(batch)))
-    answers <- mclapply(parts, some, mc.cores = workers, mc.set.seed = FALSE, mc.allow.recursive = FALSE)
+    answers <- mclapply(parts, some, mc.cores = if (on_windows()) 1L else workers, mc.set.seed = FALSE, mc.allow.recursive = FALSE)
     # Where a process ended before its answer, there is none for any of its households.
     answers <- Map(function(it, part) if (is.list(it) && length(it) == length(part)) it else vector("list", length(part)), answers, parts)
     found <- c(found, do.call(c, unname(answers)))

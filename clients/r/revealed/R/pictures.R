@@ -97,7 +97,7 @@ shown_index <- function(x, digits = 3) {
 }
 
 # Draws the distribution of the index over the households of a panel, and beside it that of another, such as random
-# behaviour on the same budgets (after Choi, Fisman, Gale and Kariv 2007).
+# behaviour on the same budgets (after Choi, Fisman, Gale and Kariv 2007), with the share of each above 0.90 and 0.95.
 plot.rp_panel <- function(x, random = NULL, type = c("histogram", "cumulative"), breaks = seq(0, 1, 0.05), main = NULL, xlab = NULL, ylab = NULL,
                           names = c("households", "random behaviour"), ...) {
   type <- chosen(type, c("histogram", "cumulative"), "type")
@@ -111,9 +111,17 @@ plot.rp_panel <- function(x, random = NULL, type = c("histogram", "cumulative"),
   if (is.null(ylab)) ylab <- if (type == "histogram") "share of each" else "share at or below"
   if (type == "histogram") draw_histogram(own, breaks, xlab, ylab, main, ...) else draw_cumulative(own, xlab, ylab, main, ...)
   words <- paste0(names[seq_along(own)], " (", lengths(own), ")")
+  if (x$ask == "test") words <- paste0(words, ": ", vapply(c(list(x), if (!is.null(random)) list(random)), shares_above, ""))
   corner <- if (x$ask == "test") "topleft" else "topright"
   graphics::legend(corner, words, fill = ink[c("own", "other")][seq_along(own)], border = NA, bty = "n", cex = 0.9)
   invisible(x)
+}
+
+# Returns which share of the households that have an answer has an index above 0.90, and above 0.95, by the exact index.
+shares_above <- function(panel) {
+  index <- exact(vapply(panel$answers[answered(panel)], function(it) bare(it$efficiency), ""))
+  share <- function(level) 100 * mean(as.numeric(index > exact(level)))
+  sprintf("%.1f%% above 0.90, %.1f%% above 0.95", share("9/10"), share("19/20"))
 }
 
 # Returns the index of each household that has one, as doubles that only a whole 1 lets read 1.
@@ -126,7 +134,7 @@ index_of <- function(x) {
 draw_histogram <- function(own, breaks, xlab, ylab, main, ...) {
   breaks <- sort(unique(as.numeric(breaks)))
   if (length(breaks) < 2 || min(unlist(own)) < breaks[1] || max(unlist(own)) > breaks[length(breaks)]) bad_data("the breaks do not hold every index")
-  # The index is rounded down, so a bin has its right end and not its left one.
+  # A bin has its right end and not its left one.
   shares <- lapply(own, function(it) tabulate(findInterval(it, breaks, left.open = TRUE, rightmost.closed = TRUE), length(breaks) - 1) / length(it))
   used <- range(which(Reduce(`+`, shares) > 0))
   bins <- seq(max(1, used[1] - 1), min(length(breaks) - 1, used[2] + 1))

@@ -15,18 +15,19 @@ rp_program <- function(exe = NULL, must = TRUE) {
   } else if (!is.na(variable)) {
     found <- on_path(variables[[variable]])
     if (variable == "RP_LIBRARY" && !is.null(found) && !is_library(found)) found <- NULL
-    what <- if (variable == "RP_EXEC") "program" else paste("library, such as", library_name)
+    what <- if (variable == "RP_EXEC") "program" else paste("library, such as", library_name())
     where <- paste0("the variable ", variable, " names ", quoted(variables[[variable]]), ", which is no ", what)
   } else {
     places <- usual_places()
-    program <- c(on_path("rp"), Filter(is_program, places))
+    program <- c(on_path(program_name()), Filter(is_program, places))
     # The library in machine code is the fastest, and the one inside the package wants no process.
     beside <- if (length(program)) library_of(program[1]) else Find(is_there, library_places())
     found <- Find(is.character, list(beside, library_inside(), if (length(program)) program[1]))
     where <- paste0(
-      "there is no program rp: unpack a release of it, and name its program or its library by exe =. Now the argument exe is not given, the ",
-      "variables RP_LIBRARY and RP_EXEC are not set, there is none of ", listed(places), ", no rp-VERSION-x86_64-linux/rp in ",
-      listed(usual_roots()), ", no librp.so in ", listed(unique(dirname(library_places()))), ", and no rp on the path: ", Sys.getenv("PATH")
+      "there is no program ", program_name(), ": unpack a release of it, and name its program or its library by exe =. Now the argument exe is ",
+      "not given, the variables RP_LIBRARY and RP_EXEC are not set, there is none of ", listed(places), ", no ", usual_release(), " in ",
+      listed(usual_roots()), if (!on_windows()) paste0(", no librp.so in ", listed(unique(dirname(library_places())))),
+      ", and no ", program_name(), " on the path: ", Sys.getenv("PATH")
     )
   }
   if (is.null(found) && must) no_program(where)
@@ -34,38 +35,54 @@ rp_program <- function(exe = NULL, must = TRUE) {
 }
 
 # Returns where a release or a package puts the program, a later version first.
-usual_places <- function() {
+usual_places <- function(windows = on_windows()) {
   home <- Sys.getenv("HOME")
   own <- c(if (nzchar(home)) file.path(home, c(".local/bin", "bin")), "/usr/local/bin", "/usr/bin", "/usr/local/lib/rp")
-  unpacked <- lapply(usual_roots(), function(root) {
-    found <- list.files(root, "^rp-[0-9]+([.][0-9]+)*-[A-Za-z0-9_]+-linux$")
+  unpacked <- lapply(usual_roots(windows), function(root) {
+    found <- list.files(root, paste0("^rp-[0-9]+([.][0-9]+)*-[A-Za-z0-9_]+-", if (windows) "windows$" else "linux$"))
     version <- numeric_version(sub("^rp-([0-9.]*[0-9])-.*", "\\1", found))
     file.path(root, found[order(version, decreasing = TRUE)])
   })
-  file.path(c(own, unlist(unpacked)), "rp")
+  # What Windows unpacks stands in a folder of the archive's name, within one of that name.
+  unpacked <- unlist(unpacked)
+  if (windows) unpacked <- as.vector(rbind(unpacked, file.path(unpacked, basename(unpacked))))
+  file.path(c(if (!windows) own, unpacked), program_name(windows))
 }
 
 # Returns where a release is unpacked, in a folder such as rp-0.12.0-x86_64-linux.
-usual_roots <- function() {
+usual_roots <- function(windows = on_windows()) {
+  if (windows) {
+    user <- gsub("\\", "/", Sys.getenv(c("USERPROFILE", "HOME", "ProgramFiles", "LOCALAPPDATA"), ""), fixed = TRUE)
+    user <- unique(user[nzchar(user)])
+    return(c(user, file.path(user, "Downloads"), file.path(user, "Desktop"), "C:"))
+  }
   home <- Sys.getenv("HOME")
   c(if (nzchar(home)) c(home, file.path(home, c(".local", "Downloads"))), "/opt", "/usr/local")
 }
 
+usual_release <- function(windows = on_windows()) paste0("rp-VERSION-x86_64-", if (windows) "windows/rp.exe" else "linux/rp")
+
 is_program <- function(place) file.access(place, 1) == 0 && !dir.exists(place)
 
-# Returns where a program or a library is: the file that its name has a slash for, else the one of that name on the path.
-on_path <- function(named) {
+# Returns where a program or a library is: the file that its name has a slash for, else the one of that name on the path. On
+# Windows a name may go without its .exe, and has slashes of both kinds.
+on_path <- function(named, windows = on_windows()) {
   if (!is.character(named) || length(named) != 1 || is.na(named) || !nzchar(named)) return(NULL)
   places <- path.expand(named)
-  if (!grepl("/", named, fixed = TRUE)) {
-    folders <- strsplit(Sys.getenv("PATH"), ":", fixed = TRUE)[[1]]
-    places <- file.path(ifelse(nzchar(folders), folders, "."), named)
+  if (!grepl(if (windows) "[/\\\\]|^[A-Za-z]:" else "/", named)) {
+    folders <- strsplit(Sys.getenv("PATH"), if (windows) ";" else ":", fixed = TRUE)[[1]]
+    folders <- if (windows) gsub("\\", "/", folders[nzchar(folders)], fixed = TRUE) else ifelse(nzchar(folders), folders, ".")
+    places <- file.path(folders, named)
   }
-  for (place in places) if (is_program(place) || is_library(place) && is_there(place)) return(absolute(place))
+  if (windows && !grepl("[.][A-Za-z0-9]+$", named)) places <- paste0(places, ".exe")
+  for (place in places) if (is_program(place) || is_library(place) && is_there(place)) return(absolute(place, windows))
   NULL
 }
 
-absolute <- function(place) if (startsWith(place, "/")) place else file.path(getwd(), place)
+absolute <- function(place, windows = on_windows()) {
+  is_whole <- startsWith(place, "/") || windows && grepl("^([A-Za-z]:|\\\\)", place)
+  if (is_whole) place else file.path(getwd(), place)
+}
 
 # ---- calls
 
@@ -77,9 +94,9 @@ answers <- function(words, batch, engine = engine_of()) {
   if (is.null(engine$call)) by_program(words, batch, engine$program) else by_library(words, batch, engine$call)
 }
 
-# Runs the program over each list of files in a folder of its own, by one shell. No name outside of these folders is told
-# to it, and each word is quoted.
-by_program <- function(words, batch, exe) {
+# Runs the program over each list of files in a folder of its own, by one shell, or on Windows by none. No name outside of these
+# folders is told to it, and each word is quoted.
+by_program <- function(words, batch, exe, shell = !on_windows()) {
   room <- tempfile("revealed-")
   dir.create(room)
   on.exit(unlink(room, recursive = TRUE))
@@ -88,6 +105,7 @@ by_program <- function(words, batch, exe) {
     dir.create(folders[at])
     for (name in names(batch[[at]])) write_file(batch[[at]][[name]], file.path(folders[at], name))
   }
+  if (!shell) return(lapply(folders, run_in, words = words, exe = exe))
   line <- paste(
     "{ cd", shQuote(room), "&& n=0 && while [ $n -lt", length(batch), "]; do n=$((n + 1)); cd $n || exit;", shQuote(exe),
     paste(shQuote(words), collapse = " "), ">out 2>err </dev/null; echo $? >status; cd ..; done; } 2>/dev/null"
@@ -97,6 +115,15 @@ by_program <- function(words, batch, exe) {
     status <- suppressWarnings(as.integer(read_text(file.path(folder, "status"))))
     ended(status, read_text(file.path(folder, "out")), read_text(file.path(folder, "err")))
   })
+}
+
+# Runs the program in a folder without a shell, as Windows starts programs, and returns how it ended.
+run_in <- function(folder, words, exe) {
+  old <- setwd(folder)
+  on.exit(setwd(old))
+  quoted <- shQuote(words, if (on_windows()) "cmd" else "sh")
+  status <- suppressWarnings(system2(exe, quoted, stdout = "out", stderr = "err", stdin = if (on_windows()) "" else "/dev/null"))
+  ended(as.integer(status), read_text("out"), read_text("err"))
 }
 
 # Returns how a call ended: its status, its output, and its own words on standard error.

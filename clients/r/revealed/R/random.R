@@ -1,7 +1,7 @@
 # Choices of many people from budgets.
 
-rp_random <- function(budgets, choices, per = NULL, digits = NULL, exe = NULL) {
-  own <- choices_of(budgets, choices, per, digits)
+rp_random <- function(budgets, choices, per = NULL, digits = NULL, numbers = "exact", exe = NULL) {
+  own <- choices_of(budgets, choices, per, forms_of(digits, numbers))
   words <- c("random", "budgets.csv", "choices.csv", "--json", units_of(own$per))
   text <- ask(words, choice_files(own), engine_of(exe), list(own$budgets, own$choices))
   read_random(own, text)
@@ -41,9 +41,38 @@ random_from <- function(own, item, text) {
   structure(found, class = "rp_random")
 }
 
-as.data.frame.rp_random <- function(x, row.names = NULL, optional = FALSE, ...) {
+# Of the types that make the choices, or as many of them as rational types can: a row for each, or one for each patch that they
+# have, with its budget and the share of that budget's choices that they make there. What signs a patch has to the other budgets
+# the program does not tell.
+as.data.frame.rp_random <- function(x, row.names = NULL, optional = FALSE, what = c("types", "patches"), ...) {
+  if (chosen(what, c("types", "patches"), "what") == "patches") return(patches_of(x))
   share <- if (is.null(x$parts)) exact(character()) else x$parts$share
   frame_of(c(list(patches = vapply(x$parts$patches, paste, "", collapse = " ")), beside("share", share)))
+}
+
+patches_of <- function(x) {
+  if (is.null(x$parts)) return(frame_of(c(list(patch = integer(), budget = integer()), beside("share", exact(character())))))
+  all <- unlist(x$parts$patches)
+  budget <- unlist(lapply(x$parts$patches, seq_along))
+  shares <- rep(bare(x$parts$share), lengths(x$parts$patches))
+  patch <- sort(unique(all))
+  total <- vapply(patch, function(it) sum_of(shares[all == it]), "")
+  frame_of(c(list(patch = patch, budget = budget[match(patch, all)]), beside("share", exact(total))))
+}
+
+# Returns the sum of fractions above 0.
+sum_of <- function(texts) {
+  parts <- lapply(texts, fraction_parts)
+  num <- "0"
+  den <- "1"
+  for (it in parts) {
+    num <- digits_of(plus(product(limbs(num), limbs(it$den)), product(limbs(it$num), limbs(den))))
+    den <- digits_of(product(limbs(den), limbs(it$den)))
+    whole <- strsplit(fraction(num, den), "/", fixed = TRUE)[[1]]
+    num <- whole[1]
+    den <- if (length(whole) > 1) whole[2] else "1"
+  }
+  fraction(num, den)
 }
 
 print.rp_random <- function(x, ...) {

@@ -38,8 +38,8 @@ numbers_of <- function(line, form) {
 
 # ---- two observations that contradict each other
 
-rp_pairs <- function(p, q = NULL, digits = NULL, levels = NULL, exe = NULL) {
-  table <- table_of(p, q, digits, levels)
+rp_pairs <- function(p, q = NULL, digits = NULL, levels = NULL, numbers = "exact", exe = NULL) {
+  table <- table_of(p, q, forms_of(digits, numbers), levels)
   text <- ask(c("pairs", "table.csv"), list(table.csv = csv_lines(table)), engine_of(exe), list(table))
   reading(text, {
     said <- line_of(report_of(text), "pair")
@@ -62,7 +62,9 @@ as.data.frame.rp_pairs <- function(x, row.names = NULL, optional = FALSE, ...) {
 
 # ---- money pump
 
-rp_money_pump <- function(p, q = NULL, digits = NULL, exe = NULL) pump_on(table_of(p, q, digits), engine_of(exe))
+rp_money_pump <- function(p, q = NULL, digits = NULL, numbers = "exact", exe = NULL) {
+  pump_on(table_of(p, q, forms_of(digits, numbers)), engine_of(exe))
+}
 
 rp_pump <- rp_money_pump
 
@@ -78,7 +80,7 @@ read_pump <- function(table, text) reading(text, {
   scale <- paste0(den, strrep("0", money_places(table)))
   values <- vapply(words_of(report, "values"), fraction, "", den = scale, USE.NAMES = FALSE)
   structure(class = "rp_pump", list(
-    ratio = ratio, pump = double_below(ratio), garp = bare(ratio) == "0", cycle = walk_of(table, words_of(report, "cycle")),
+    ratio = ratio, pump = nearest_double(ratio), garp = bare(ratio) == "0", cycle = walk_of(table, words_of(report, "cycle")),
     values = exact_by_label(table, values), report = report$lines, table = table
   ))
 })
@@ -94,9 +96,9 @@ as.data.frame.rp_pump <- function(x, row.names = NULL, optional = FALSE, ...) {
 
 # ---- the power of the test
 
-rp_power <- function(p, q = NULL, seed, draws = 1000, digits = NULL, exe = NULL) {
+rp_power <- function(p, q = NULL, seed, draws = 1000, digits = NULL, numbers = "exact", exe = NULL) {
   if (missing(seed)) bad_data("there is no seed: give the argument seed, a whole number")
-  power_on(table_of(p, q, digits), power_words(seed, draws), engine_of(exe))
+  power_on(table_of(p, q, forms_of(digits, numbers)), power_words(seed, draws), engine_of(exe))
 }
 
 rp_test_power <- rp_power
@@ -133,7 +135,7 @@ rp_trial <- function(seed, rows, goods, exe = NULL) {
     stopifnot(identical(numbers_of(line_of(report, "trial"), "^([0-9]+) rows ([0-9]+) goods ([0-9]+)$"), words))
     index <- numbers_of(line_of(report, "efficiency"), "^([0-9]+(?:/[0-9]+)?) attained (yes|no)$")
     structure(class = "rp_trial", list(
-      garp = holds_in(report, "garp"), efficiency = exact(index[1]), ccei = double_below(exact(index[1])), attained = index[2] == "yes",
+      garp = holds_in(report, "garp"), efficiency = exact(index[1]), ccei = nearest_double(exact(index[1])), attained = index[2] == "yes",
       homothetic = holds_in(report, "homothetic", may_be_withheld = TRUE), quasilinear = holds_in(report, "quasilinear"), words = words
     ))
   })

@@ -6,18 +6,36 @@
 # and `labels` what the rows are called.
 
 sheet <- function(file, header, kinds, names, columns, labels, digits) {
-  asked <- digits_pair(digits)
+  asked <- forms_of(digits)
   of_kind <- list(price = asked[[1]], money = asked[[1]], quantity = asked[[2]])
-  texts <- Map(function(column, kind) number_texts(column, of_kind[[kind]]), columns, ifelse(nzchar(kinds), kinds, "none"))
-  list(file = file, header = header, kinds = kinds, names = names, columns = columns, texts = unname(texts), labels = labels)
+  texts <- lapply(seq_along(columns), function(column) {
+    tryCatch(number_texts(columns[[column]], if (nzchar(kinds[column])) of_kind[[kinds[column]]]), rp_too_long = function(it) {
+      places <- list(record = it$at, column = column)
+      stop(refused(it$fault, file, places, labels[it$at], names[column], conditionMessage(it), plain_hint(it$fault)))
+    })
+  })
+  list(file = file, header = header, kinds = kinds, names = names, columns = columns, texts = texts, labels = labels, forms = asked)
 }
 
-digits_pair <- function(digits) {
-  if (is.null(digits)) return(list(NULL, NULL))
-  good <- is.numeric(digits) && length(digits) %in% 1:2 && all(is.na(digits) | digits %in% 0:most_places())
+# Returns how prices and how quantities become texts: rounded to so many `digits`, or not where these are NULL, and doubles as the
+# binary fractions that they are or, where `numbers` is "shortest", as the shortest decimals that give them back.
+forms_of <- function(digits = NULL, numbers = "exact") {
+  if (inherits(digits, "rp_forms")) return(digits)
+  if (!identical(numbers, "exact") && !identical(numbers, "shortest")) {
+    bad_data(
+      "numbers is 'exact', by which a double is the binary fraction that it is, or 'shortest', by which it is the shortest decimal that ",
+      "gives it back"
+    )
+  }
+  good <- is.null(digits) || is.numeric(digits) && length(digits) %in% 1:2 && all(is.na(digits) | digits %in% 0:most_places())
   if (!good) bad_data("digits is a whole number from 0 to ", most_places(), ", or two of these: of prices and of quantities")
-  lapply(rep(digits, length.out = 2), function(it) if (is.na(it)) NULL else it)
+  pair <- if (is.null(digits)) c(NA, NA) else rep(digits, length.out = 2)
+  structure(lapply(pair, function(it) list(digits = if (!is.na(it)) it, shortest = numbers == "shortest")), class = "rp_forms")
 }
+
+is_rounded <- function(forms) !all(vapply(forms, function(it) is.null(it$digits), TRUE))
+
+are_shortest <- function(forms) isTRUE(forms[[1]]$shortest)
 
 csv_lines <- function(sheet) {
   # What is no plain number is refused by the program, however it is written; so it is not.
@@ -69,14 +87,16 @@ shown <- function(value) {
   if (is.null(value)) return(NA)
   if (is_missing(value)) return("missing")
   if (is.character(value)) return(quoted(value))
-  if (is.factor(value)) quoted(as.character(value)) else format(if (is.double(value)) as.vector(unclass(value)) else value, digits = 15)
+  said <- if (is.factor(value)) quoted(as.character(value)) else format(if (is.double(value)) as.vector(unclass(value)) else value, digits = 15)
+  if (nchar(said) > 120) paste0(substr(said, 1, 120), "..") else said
 }
 
 is_missing <- function(value) identical(number_texts(value), "")
 
 # Returns what to do about a fault, or NA.
 hint_of <- function(sheet, fault, column, value) {
-  text <- if (is.null(value)) "" else number_texts(value)
+  shortest <- list(shortest = TRUE)
+  text <- if (is.null(value)) "" else number_texts(value, if (are_shortest(sheet$forms)) shortest)
   if (fault == "BadNumber" && !is.null(value)) {
     if (text == "") return("leave the row out, or fill it in")
     if (grepl("^-[0-9]", text)) return("prices and quantities have no sign")
@@ -85,7 +105,10 @@ hint_of <- function(sheet, fault, column, value) {
   switch(fault,
     TooManyDecimals = paste0(
       "this is ", substr(text, 1, 24), if (nchar(text) > 24) "..", ", and at most ", most_places(),
-      " places are taken; nothing is rounded unasked: ", rounding_advice(sheet), "; a text is taken as it is"
+      " places are taken; nothing is rounded unasked: ", if (!are_shortest(sheet$forms) && is.double(value) && own_fit(sheet)$shortest) paste0(
+        "numbers = 'shortest' takes each double as the shortest decimal that gives it back, which is the one that it was read from if that ",
+        "had at most 15 digits, here ", number_texts(value, shortest), "; "
+      ), rounding_advice(sheet), "; a text is taken as it is"
     ),
     TooLarge = too_large_hint(sheet, sheet$kinds[column]),
     TooFine = too_fine_hint(sheet$kinds[column]),
@@ -113,7 +136,7 @@ too_large_hint <- function(sheet, kind) {
 
 # Returns how to round: each kind by the seven digits that are taken of the largest number of it, and what that does.
 rounding_advice <- function(sheet) {
-  fit <- if (is.null(sheet$fit)) fit_of(sheet) else sheet$fit
+  fit <- own_fit(sheet)
   if (any(fit$places %in% -1L)) {
     large <- c("prices", "quantities")[match(-1L, fit$places)]
     return(paste("the largest of the", large, "has more than", digits_taken(), "digits before its point, so no rounding helps: take a larger unit"))
@@ -130,16 +153,25 @@ rounding_advice <- function(sheet) {
   )
 }
 
-# Returns how many places fit, of prices and of quantities, NA where there are none, and how many numbers these move.
+# What fits is told by all that is asked about together, a panel or this file.
+own_fit <- function(sheet) if (is.null(sheet$fit)) fit_of(sheet) else sheet$fit
+
+# Returns how many places fit, of prices and of quantities, NA where there are none, and how many numbers these move; and whether all
+# fit with doubles as the shortest decimals that give them back.
 fit_of <- function(sheet) {
   kinds <- c("price", "quantity")
+  texts_as <- function(kind, form) unlist(lapply(sheet$columns[sheet$kinds == kind], number_texts, form = form), use.names = FALSE)
   places <- vapply(kinds, function(kind) {
-    own <- lapply(sheet$columns[sheet$kinds == kind], number_texts)
-    if (length(own)) places_that_fit(unlist(own, use.names = FALSE)) else NA_integer_
+    own <- texts_as(kind, if (are_shortest(sheet$forms)) list(shortest = TRUE))
+    if (length(own)) places_that_fit(own) else NA_integer_
   }, 0L, USE.NAMES = FALSE)
+  shortest <- all(vapply(kinds, function(kind) {
+    own <- texts_as(kind, list(shortest = TRUE))
+    !length(own) || max(nchar(places_in(own)), 0L) <= places_that_fit(own)
+  }, TRUE))
   # Money is rounded as prices are.
   of <- c(price = places[1], quantity = places[2], money = places[1])
   own <- which(sheet$kinds %in% names(of))
   moved <- vapply(own, function(at) moved_by(sheet$columns[[at]], max(of[[sheet$kinds[at]]], 0L, na.rm = TRUE)), 0L)
-  list(places = places, moved = sum(moved), count = sum(lengths(sheet$columns[own])))
+  list(places = places, moved = sum(moved), count = sum(lengths(sheet$columns[own])), shortest = shortest)
 }

@@ -2,15 +2,15 @@
 
 tests <- c("garp", "afriat", "homothetic", "quasilinear")
 
-rp_test <- function(p, q = NULL, digits = NULL, levels = NULL, exe = NULL) {
-  verdict_on(table_of(p, q, digits, levels), engine_of(exe))
+rp_test <- function(p, q = NULL, digits = NULL, levels = NULL, numbers = "exact", exe = NULL) {
+  verdict_on(table_of(p, q, forms_of(digits, numbers), levels), engine_of(exe))
 }
 
 rp_analyse <- rp_test
 
 # Returns the certificate itself: the verdicts with their evidence, as JSON.
-rp_certify <- function(p, q = NULL, digits = NULL, levels = NULL, exe = NULL) {
-  rp_test(p, q, digits, levels, exe)$certificate
+rp_certify <- function(p, q = NULL, digits = NULL, levels = NULL, numbers = "exact", exe = NULL) {
+  rp_test(p, q, digits, levels, numbers, exe)$certificate
 }
 
 verdict_on <- function(table, engine) {
@@ -30,7 +30,7 @@ verdict_from <- function(table, text) {
   quasilinear <- if (table$own_money) list(verdict = NA, reason = own_money) else read_quasilinear(table, items$quasilinear)
   found <- list(garp = garp, afriat = afriat, homothetic = homothetic, quasilinear = quasilinear)
   structure(class = "rp_test", list(
-    garp = garp$verdict, afriat = afriat$verdict, efficiency = efficiency$level, ccei = double_below(efficiency$level),
+    garp = garp$verdict, afriat = afriat$verdict, efficiency = efficiency$level, ccei = nearest_double(efficiency$level),
     attained = efficiency$attained, homothetic = homothetic$verdict, quasilinear = quasilinear$verdict,
     reasons = unlist(lapply(found, `[[`, "reason")),
     ranks = garp$ranks, cycle = garp$cycle, utility = afriat$utility, lambda = afriat$lambda,

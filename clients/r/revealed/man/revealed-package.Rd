@@ -11,13 +11,19 @@ this package is}.
 \section{Numbers}{
 Integers, texts, numbers of \pkg{gmp} and doubles go to the program exactly as they are. A double is a binary fraction:
 \code{1.25} ends after two decimal places, and \code{3.18} is 3.18000000000000015987.., of which the program does not take so
-many places. So it is refused, unless \code{digits} asks for rounding: one number of decimal places, or two, of prices and
-of quantities. It rounds to the nearest, half to even. The refusal says which \code{digits} fit: the program takes seven
+many places. So it is refused. There are two ways. \code{numbers = "shortest"} takes each double as the shortest decimal that gives
+it back, 3.18, which is the one that it was read from if that had at most 15 digits. \code{digits} asks for rounding: one number of
+decimal places, or two, of prices and of quantities. It rounds to the nearest, half to even. The refusal says which of these fit: the program takes seven
 digits of the largest price and of the largest quantity, and at most six places. A missing value is refused.
 
 What comes back is exact too: a text such as \code{4/5} or \code{-884241/1000} of the class \code{\link{rp_exact}}. In the
-data frames of \code{as.data.frame} a column of doubles stands beside each column of exact numbers, rounded down (upper bounds
-are rounded up), so that \code{ccei} is 1 for an index of 1 alone.
+data frames of \code{as.data.frame} a column of doubles stands beside each column of exact numbers: the nearest, but \code{ccei} is 1
+for an index of 1 alone, and lower bounds are rounded down, upper ones up.
+}
+\section{Budget lines by their intercepts}{
+Of two goods a data frame may have \code{i_NAME} in place of \code{p_NAME}, the intercept of each good. They are exchanged, so that
+nothing is rounded: times both intercepts, a price of 1 over an intercept is the intercept of the other good. Each row has money of
+its own then: \code{\link{rp_pump}} refuses the table, and \code{quasilinear} is \code{NA}, with the reason.
 }
 \section{Levels}{
 A column \code{e} of a data frame, or the argument \code{levels}, gives each observation a level of its own, in whole
@@ -33,6 +39,7 @@ one call. Goods and rows may have any names; the program is given numbers in the
 Each condition is an \code{rp_error}: \code{rp_refused} where the data were refused, with \code{fault}, \code{file},
 \code{record}, \code{column}, \code{budget}, \code{menu}, \code{item} (places in what the program was given, from 1), the row's own
 \code{label}, the column's \code{name}, the \code{value} there and a \code{hint}, each \code{NA} where there is none;
+\code{rp_all_refused}, also an \code{rp_refused}, where all households of a panel were refused for one cause;
 \code{rp_bad_data} where the data have no shape of a table, and the program was not run; \code{rp_failed} where the program
 ended with another \code{status}, with what it \code{said}; and \code{rp_no_program}.
 }

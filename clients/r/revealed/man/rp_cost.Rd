@@ -10,14 +10,14 @@ Tests whether the inputs of a firm minimise its cost, and with the price of the 
 what an output costs at new prices.
 }
 \usage{
-rp_cost(technology, new, digits = NULL, exe = NULL)
-rp_cost_minimisation(technology, new, digits = NULL, exe = NULL)
+rp_cost(technology, new, digits = NULL, numbers = "exact", exe = NULL)
+rp_cost_minimisation(technology, new, digits = NULL, numbers = "exact", exe = NULL)
 }
 \arguments{
 \item{technology}{a data frame with \code{w_NAME}, the price, and \code{x_NAME}, how much was used, for each input, \code{y}, the output, and
 perhaps \code{p}, its price.}
 \item{new}{a data frame with \code{w_NAME} for each input and \code{y}, the output that is asked for; at most 16 rows.}
-\item{digits}{as for \code{\link{rp_test}}: of prices, and of inputs and outputs.}
+\item{digits, numbers}{as for \code{\link{rp_test}}: of prices, and of inputs and outputs.}
 \item{exe}{as for \code{\link{rp_test}}.}
 }
 \value{

@@ -9,14 +9,15 @@ Gives the greatest share of what was spent that a cycle of purchases gives away 
 back; it is 0 where the axiom holds.
 }
 \usage{
-rp_money_pump(p, q = NULL, digits = NULL, exe = NULL)
-rp_pump(p, q = NULL, digits = NULL, exe = NULL)
+rp_money_pump(p, q = NULL, digits = NULL, numbers = "exact", exe = NULL)
+rp_pump(p, q = NULL, digits = NULL, numbers = "exact", exe = NULL)
 }
 \arguments{
-\item{p, q, digits, exe}{as for \code{\link{rp_test}}. All prices have to be in one unit of money.}
+\item{p, q, digits, numbers, exe}{as for \code{\link{rp_test}}. All prices have to be in one unit of money, so a frame of intercepts,
+\code{i_NAME} in place of \code{p_NAME}, is refused.}
 }
 \value{
-An \code{rp_pump}: \code{ratio}, exact; \code{pump}, the same as a double that is rounded down; \code{garp}, whether it is 0;
+An \code{rp_pump}: \code{ratio}, exact; \code{pump}, the nearest double, but above 0 where the ratio is; \code{garp}, whether it is 0;
 \code{cycle}, one that has the ratio; and \code{values}, which show that none has more, in units of money.
 }
 \references{

@@ -10,8 +10,12 @@ Tells whether a mixture of rational types makes the choices of many people from 
 share of them that one makes.
 }
 \usage{
-rp_random(budgets, choices, per = NULL, digits = NULL, exe = NULL)
-rp_random_utility(budgets, choices, per = NULL, digits = NULL, exe = NULL)
+rp_random(budgets, choices, per = NULL, digits = NULL, numbers = "exact", exe = NULL)
+rp_random_utility(budgets, choices, per = NULL, digits = NULL,
+  numbers = "exact", exe = NULL)
+
+\method{as.data.frame}{rp_random}(x, row.names = NULL, optional = FALSE,
+  what = c("types", "patches"), ...)
 }
 \arguments{
 \item{budgets}{a data frame with \code{p_NAME} for each good and \code{w}, the income; or a matrix of prices that ends with
@@ -20,12 +24,19 @@ the income.}
 a matrix that begins with the budget and ends with how many times. A budget is its number from 1, or what stands under
 \code{obs} of the budgets where they have that.}
 \item{per}{on how many units of each budget it is asked; else on the least with which each share is whole.}
-\item{digits, exe}{as for \code{\link{rp_test}}; the income is rounded as prices are.}
+\item{digits, numbers, exe}{as for \code{\link{rp_test}}; the income is rounded as prices are.}
+\item{x}{an answer.}
+\item{what}{a row for each type that makes the choices, or as much of them as rational types can; or one for each patch that these
+types have, with its budget and the share of that budget's choices that they make there.}
+\item{row.names, optional, ...}{not used.}
 }
 \value{
 An \code{rp_random}: \code{rational}, \code{TRUE}, \code{FALSE}, or \code{NA} where the verdict is withheld and \code{reason}
 says why; \code{share}, the greatest share; \code{parts}, the types that make it, each with its patches and its share; and,
 where \code{rational} is \code{FALSE}, \code{weights} of the patches by which each rational type weighs 1 or more.
+
+Patches are counted from 1, budget by budget, and within one by the first choice that belongs to them. What signs a patch has to the
+other budgets the program does not tell.
 }
 \references{
 Kitamura, Y. and Stoye, J. (2018) Nonparametric analysis of random utility models. \emph{Econometrica} 86, 1883--1909.

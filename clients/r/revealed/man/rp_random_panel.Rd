@@ -6,22 +6,28 @@ Draws behaviour at random on the budgets of each household and gives the answers
 beside that of the households.
 }
 \usage{
-rp_random_panel(panel, times = 10, seed, digits = NULL, workers = NULL,
-  progress = FALSE, exe = NULL)
+rp_random_panel(panel, times = NULL, seed = 1, workers = NULL, progress = FALSE,
+  exe = NULL)
 }
 \arguments{
 \item{panel}{what \code{\link{rp_panel}} gave, of tests or of money pumps.}
-\item{times}{how many behaviours are drawn for each household.}
-\item{seed}{a whole number from 0 to 2147483647, of R's own generator (Mersenne-Twister), which is left as it was.}
-\item{digits}{to how many places the drawn quantities are rounded down; else to the most that fit.}
+\item{times}{how many behaviours are drawn for each household; else as many as make a thousand, or a few more.}
+\item{seed}{a whole number from 0 to 4294967295. The package for Python and the page draw the same behaviours from it. The words are
+those of R's generator \code{"L'Ecuyer-CMRG"}; the generator of the session is left as it was.}
 \item{workers, progress, exe}{as for \code{\link{rp_panel}}.}
 }
 \value{
 An \code{rp_panel} with the column \code{draw} beside those of the households. In each row a bundle is drawn on the budget line (with
-more goods, on the budget plane), each point as likely as any other; prices are those that the households were asked with. Its
-\code{data} has what was drawn. A household without an answer has no draws.
+more goods, on the budget plane), each point as likely as any other (Bronars 1987). One stream of draws takes all households, then
+all again. Its \code{data} has what was drawn, prices and quantities as whole numbers in units of their own, which change neither
+the axiom nor an index. A household without an answer has no draws.
 }
 \references{
+Bronars, S. (1987) The power of nonparametric tests of preference maximization. \emph{Econometrica} 55, 693--698.
+
+L'Ecuyer, P. (1999) Good parameters and implementations for combined multiple recursive random number generators. \emph{Operations
+Research} 47, 159--164.
+
 Choi, S., Fisman, R., Gale, D. and Kariv, S. (2007) Consistency and heterogeneity of individual behavior under uncertainty.
 \emph{American Economic Review} 97, 1921--1938.
 }

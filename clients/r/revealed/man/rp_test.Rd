@@ -11,9 +11,9 @@ Tests the generalized axiom of revealed preference and Afriat's inequalities, gi
 tests whether a homothetic utility, or one that is linear in money, rationalizes the data.
 }
 \usage{
-rp_test(p, q = NULL, digits = NULL, levels = NULL, exe = NULL)
-rp_analyse(p, q = NULL, digits = NULL, levels = NULL, exe = NULL)
-rp_certify(p, q = NULL, digits = NULL, levels = NULL, exe = NULL)
+rp_test(p, q = NULL, digits = NULL, levels = NULL, numbers = "exact", exe = NULL)
+rp_analyse(p, q = NULL, digits = NULL, levels = NULL, numbers = "exact", exe = NULL)
+rp_certify(p, q = NULL, digits = NULL, levels = NULL, numbers = "exact", exe = NULL)
 
 \method{as.data.frame}{rp_test}(x, row.names = NULL, optional = FALSE,
   what = c("verdicts", "observations"), ...)
@@ -21,13 +21,18 @@ rp_certify(p, q = NULL, digits = NULL, levels = NULL, exe = NULL)
 \arguments{
 \item{p}{prices: a matrix or data frame with a row for each observation and a column for each good; or, without \code{q}, a
 data frame with columns \code{p_NAME} and \code{q_NAME} for each good, and perhaps \code{e}, of which other columns are left
-out, which the printed answer tells. A column \code{obs} has the labels of the rows, else the row names have. A label that
+out, which the printed answer tells. Budget lines of two goods may be kept by their intercepts, in columns \code{i_NAME} in place of
+\code{p_NAME}: these are exchanged, which is exact, and each row has money of its own then, so that
+\code{quasilinear} is \code{NA}, with the reason. A column \code{obs} has the labels of the rows, else the row names have. A label that
 stands twice is an error, and so is a column with a name such as \code{household} or \code{id} whose values come again: such a
 table is most likely a panel (\code{\link{rp_panel}}).}
 \item{q}{quantities in the same shape. Where both have column names of the same goods (\code{p_} and \code{q_} in front do
 not count), they are put together by these, and matrices else by place.}
 \item{digits}{to how many decimal places numbers are rounded, one number or two, of prices and of quantities; without it
 nothing is rounded, and a double with more than 6 places is refused.}
+\item{numbers}{which number a double is: \code{"exact"}, the binary fraction that it is, or \code{"shortest"}, the shortest decimal
+that gives it back, as 3.18: the one that it was read from if that had at most 15 digits. With \code{digits} that decimal is
+rounded.}
 \item{levels}{the level of each observation in whole thousandths from 1 to 1000, one number or one for each; a data frame may
 have them as its column \code{e}.}
 \item{exe}{the program or its library; else one is looked for as \code{\link{rp_program}} says.}
@@ -38,7 +43,7 @@ have them as its column \code{e}.}
 \value{
 An \code{rp_test} with \code{garp}, \code{afriat}, \code{homothetic} and \code{quasilinear}, each \code{TRUE} or
 \code{FALSE}, and \code{NA} where the verdict is withheld: then \code{reasons} says why. \code{efficiency} is the critical cost
-efficiency index, \code{ccei} the same as a double that is rounded down, and
+efficiency index, \code{ccei} the nearest double, but below 1 where the index is, and
 \code{attained} tells whether the axiom holds at it. \code{ranks}, \code{utility} and \code{lambda} are there where the axiom
 holds, by the labels of the rows, and \code{cycle} where it fails. \code{evidence} has the rest of what shows each verdict,
 \code{certificate} all of it as JSON, and \code{table} what was asked about, for \code{\link{rp_check}}. \code{rp_analyse} is

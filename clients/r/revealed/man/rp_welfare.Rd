@@ -9,11 +9,11 @@
 Gives for each row of new prices and each observation bounds on what it costs at these prices to be as well off as there.
 }
 \usage{
-rp_welfare(p, q = NULL, new, digits = NULL, exe = NULL)
-rp_welfare_bounds(p, q = NULL, new, digits = NULL, exe = NULL)
+rp_welfare(p, q = NULL, new, digits = NULL, numbers = "exact", exe = NULL)
+rp_welfare_bounds(p, q = NULL, new, digits = NULL, numbers = "exact", exe = NULL)
 }
 \arguments{
-\item{p, q, digits, exe}{as for \code{\link{rp_test}}.}
+\item{p, q, digits, numbers, exe}{as for \code{\link{rp_test}}.}
 \item{new}{new prices, as for \code{\link{rp_demand}}.}
 }
 \value{

@@ -64,7 +64,8 @@ two <- cbind(s = 1, lines)
 stopifnot(grepl("money of its own", conditionMessage(caught(rp_panel(two, "s", ask = "pump"), "rp_bad_data"))))
 of_lines <- rp_panel(two, "s", workers = 1)
 stopifnot(!"quasilinear" %in% rownames(summary(of_lines)$table), !any(grepl("uasilinear", texts(rp_table(of_lines, rp_random_panel(of_lines, 2, 1))))))
-stopifnot(identical(with(rp_random_panel(of_lines, 1, 1)$data, texts(i_x)), texts(lines$i_x)))
+drawn <- rp_random_panel(of_lines, 1, 1)$data
+stopifnot(setdiff(names(drawn), c(names(lines), "draw", "obs")) == character(), drawn$i_x / drawn$i_x[1] == as.numeric(lines$i_x) / as.numeric(lines$i_x[1]))
 caught(rp_test(lines[-2]), "rp_refused")
 stopifnot(caught(rp_test(transform(lines, i_y = c(0, 1))), "rp_refused")$name == "i_y")
 
@@ -151,7 +152,7 @@ stopifnot(inherits(rp_demand(years, new = c(bread = 1 / 3, wine = 2), m = 2, dig
 said <- message_of(rp_utility(years, bundles = c(bread = 1 / 3, wine = 2)))
 stopifnot(grepl("digits = c(NA, 6)", said, fixed = TRUE))
 panel <- rbind(cbind(id = "a", inverse), cbind(id = "b", transform(inverse, q_x = c(1234.5, 1))))
-stopifnot(all(grepl("digits = c(6, 3)", as.data.frame(rp_panel(panel, "id", workers = 1))$message, fixed = TRUE)))
+stopifnot(grepl("digits = c(6, 3)", conditionMessage(caught(rp_panel(panel, "id", workers = 1), "rp_all_refused")), fixed = TRUE))
 stopifnot(all(as.data.frame(rp_panel(panel, "id", digits = c(6, 3), workers = 1))$status == 0))
 
 # ---- a panel that is taken for one household, and names that are none
@@ -209,13 +210,47 @@ one <- as.data.frame(rp_panel(many[many$id <= 3, ], "id", ask = "power", seed = 
 stopifnot(one$power[2] == rp_power(many[many$id == 2, -1], seed = 5, draws = 100)$power, one$draws == 100)
 caught(rp_panel(many, "id", ask = "power"), "rp_bad_data")
 
+# ---- doubles that are no short decimals
+said <- conditionMessage(caught(rp_test(cbind(3.18, 1250, 1), cbind(1, 1, 1)), "rp_refused"))
+stopifnot(grepl("numbers = 'shortest' takes each double as the shortest decimal that gives it back", said), grepl("here 3.18;", said, fixed = TRUE))
+short <- rp_test(cbind(3.18, 1250, 1), cbind(1.1, 1, 1), numbers = "shortest")
+stopifnot(identical(unlist(short$table$texts), c("3.18", "1250", "1", "1.1", "1", "1")))
+stopifnot(identical(revealed:::number_texts(c(2.675, NA, -0.0, 1e22), list(digits = 2, shortest = TRUE)), c("2.68", "", "0", "10000000000000000000000")))
+said <- conditionMessage(caught(rp_test(cbind(0.1 + 0.2, 1), cbind(1, 1)), "rp_refused"))
+stopifnot(!grepl("shortest", said))
+said <- conditionMessage(caught(rp_test(cbind(0.1 + 0.2, 1), cbind(1, 1), numbers = "shortest"), "rp_refused"))
+stopifnot(grepl("this is 0.30000000000000004, and", said, fixed = TRUE), !grepl("shortest", said))
+for (numbers in list("short", 6, NULL, c("exact", "shortest"))) {
+  stopifnot(grepl("gives it back", conditionMessage(caught(rp_test(P, P, numbers = numbers), "rp_bad_data"))))
+}
+# a panel that is refused for one cause stops with it, and says what fits all
+floats <- data.frame(home = c("u", "u", "v"), p_a = c(3.18, 2.5, 1.1), p_b = c(1, 1, 12500.5), q_a = 1, q_b = 2:4)
+every <- caught(rp_panel(floats, "home", workers = 1), "rp_all_refused")
+stopifnot(inherits(every, "rp_refused"), every$fault == "TooManyDecimals", every$count == 2, startsWith(conditionMessage(every), "all 2 households are refused for one cause, the first, 'u': TooManyDecimals"))
+stopifnot(grepl("digits = c(2, 6)", conditionMessage(every), fixed = TRUE), grepl("numbers = 'shortest'", conditionMessage(every), fixed = TRUE))
+stopifnot(as.data.frame(rp_panel(floats, "home", workers = 1, numbers = "shortest"))$status == 0)
+two <- as.data.frame(rp_panel(transform(floats, p_a = c(3.18, 2.5, 0)), "home", workers = 1))
+stopifnot(two$status == 4, grepl("TooManyDecimals", two$message[1]), grepl("ZeroPrice", two$message[2]))
+if (requireNamespace("gmp", quietly = TRUE)) {
+  long <- gmp::as.bigz(10)^5000
+  for (x in list(long, gmp::as.bigq(1) / long)) {
+    wrong <- caught(rp_test(data.frame(p_a = I(x), q_a = 1)), "rp_refused")
+    stopifnot(wrong$fault %in% c("TooLarge", "TooManyDecimals"), wrong$record == 1, wrong$name == "p_a")
+  }
+  caught(rp_power(P, P, seed = long), "rp_bad_data")
+}
+
 # ---- random behaviour on the same budgets
 random <- rp_random_panel(people, times = 2, seed = 11, workers = 2)
 stopifnot(length(random$answers) == 60, identical(random$data, rp_random_panel(people, times = 2, seed = 11, workers = 2)$data))
 spent <- function(d) with(d, as.numeric(p_x) * as.numeric(q_x) + as.numeric(p_y) * as.numeric(q_y))
 first <- random$data[random$data$draw == 1, ]
-stopifnot(all(spent(first) <= spent(many) + 1e-9), all(spent(first) > spent(many) - 1e-3), identical(first$p_x, as.character(many$p_x)))
-caught(rp_random_panel(people), "rp_bad_data")
+# in a unit of each household's own, a power of ten
+share <- spent(first) / spent(many)
+unit <- 10^ceiling(log10(share) - 1e-9)
+stopifnot(share <= unit, share > unit * (1 - 1e-3), tapply(unit, many$id, function(it) length(unique(it))) == 1, first$p_x == many$p_x)
+stopifnot(length(rp_random_panel(people, times = 1)$answers) == 30)
+for (seed in list(-1, 4294967296, "x", NULL)) caught(rp_random_panel(people, times = 1, seed = seed), "rp_bad_data")
 
 # ---- pictures and tables
 grDevices::pdf(NULL)

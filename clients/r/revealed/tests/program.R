@@ -59,7 +59,7 @@ stopifnot(identical(rp_test(rbind(c(3.18, 1), c(1, 1)), P, digits = 2)$certifica
 stopifnot(identical(rp_test(rbind(c(3.18, 1), c(1, 1)), P, digits = c(2, 0))$certificate, rp_test(rbind(c("3.18", 1), c(1, 1)), P)$certificate))
 stopifnot(identical(rp_test(P, replace(P, 1, -0.0))$certificate, rp_test(P, replace(P, 1, 0))$certificate))
 stopifnot(caught(rp_test(replace(P, 1, -0.0), P), "rp_refused")$fault == "ZeroPrice")
-one <- function(text, digits) revealed:::number_texts(text, digits)
+one <- function(text, digits) revealed:::number_texts(text, list(digits = digits))
 stopifnot(identical(one(c(0.125, 0.375, 2.5, -0.001, 1e5, 1e-7, 123456.7), 2), c("0.12", "0.38", "2.50", "0.00", "100000.00", "0.00", "123456.70")))
 stopifnot(identical(one(c("0.125", "0.375", "9.999", "0.1250000001", "1e5", "1e-7", "ten"), 2), c("0.12", "0.38", "10.00", "0.13", "100000", "0.00", "ten")))
 stopifnot(identical(one(c(0.1, 0.5, 1e15, 2^-30, NA, Inf), NULL), c(
@@ -103,7 +103,11 @@ stopifnot(revealed:::exact("1/2") == 0.5, revealed:::exact("4/5") != 0.8, mean(r
 near <- revealed:::exact(c("9007199254740992/9007199254740993", "1", "9007199254740991/9007199254740992"))
 stopifnot(identical(order(near), c(3L, 1L, 2L)))
 
-# doubles beside: rounded down or up, and 1 for 1 alone
+# doubles beside: the nearest, but only that of 1 is 1, and only that of 0 is 0; of bounds, rounded down or up
+nearest <- function(x) revealed:::nearest_double(revealed:::exact(x))
+stopifnot(identical(nearest(c("1", "4/5", "0", NA, "-4/5", "1/3")), c(1, 0.8, 0, NA, -0.8, 1 / 3)))
+stopifnot(identical(nearest(c("9007199254740992999/9007199254740993000", "1/1000000000000000000000")), c(1 - 2^-53, 1e-21)))
+stopifnot(identical(nearest(c("12345678901234567890123/98765432109876543210", "20000000000000000/3")), c(124.99999886093749524, 20000000000000000 / 3)))
 below <- revealed:::double_below
 above <- revealed:::double_above
 stopifnot(identical(below(revealed:::exact(c("1", "1/2", "0", NA))), c(1, 0.5, 0, NA)), below(near[1]) < 1, above(near[1]) == 1)
@@ -204,7 +208,7 @@ frame <- as.data.frame(found)
 stopifnot(identical(frame$household, c("b", "a", "c")), identical(frame$status, c(0L, 0L, 4L)), identical(frame$garp, c(FALSE, TRUE, NA)))
 stopifnot(grepl("row 2024", frame$message[3]), found$answers[[3]]$fault == "ZeroPrice", setequal(found$answers[[1]]$cycle, 2024:2025))
 stopifnot(grepl("3 households, 1", summary(found)$title), summary(found)$table["garp", "violated"] == 1)
-stopifnot(identical(frame$ccei, c(0.8, 1, NA) - c(2^-53, 0, 0)), identical(texts(frame$efficiency), c("4/5", "1", NA)))
+stopifnot(identical(frame$ccei, c(0.8, 1, NA)), identical(texts(frame$efficiency), c("4/5", "1", NA)))
 two <- as.data.frame(rp_panel(long, c("household", "obs"), workers = 2))
 stopifnot(nrow(two) == 5, identical(two$obs, c(2024, 2024, 2025, 2025, 2024)))
 caught(rp_panel(long, "family"), "rp_bad_data")
