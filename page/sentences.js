@@ -1,6 +1,6 @@
 /**
  * What verdicts say in words: docs/sentences.json, which the build puts in. A sentence is found by what is asked, the
- * verdict, whether levels or shared out units count, and which bound it is; docs/SENTENCES.md has the clause of each.
+ * verdict, whether levels or shared out units count, and which bound it is; page/SENTENCES.md has the clause of each.
  */
 const TOLD = "{sentences}";
 
