@@ -11,6 +11,7 @@ with what is proved of it in short, where it has something to prove:
 
 README has what is proved, where crates of which the same is said share a row; ARCHITECTURE has what each has, part by part.
 """
+import glob
 import os
 import re
 
@@ -92,8 +93,17 @@ def drawn(text):
     return {place[0]: with_table(text(place[0]), place, rows(crates)) for place, rows in ((README, rows_of_proved), (ARCHITECTURE, rows_of_parts))}
 
 
+def resting_on_inner(text):
+    """Yields the specs that rest on words for the inner functions of a crate, and are not for these themselves (docs/ARCHITECTURE.md)."""
+    for file in sorted(glob.glob("crates/*/specs/**/*.antt", root_dir=TOP, recursive=True)):
+        inner = re.search(r"\bspecs\.(Inner\w+)", text(file))
+        if inner and not os.path.basename(file).startswith("Inner"):
+            yield f"{file} rests on {inner[1]}, which is for the inner functions of a crate"
+
+
 def wrong(text):
-    """Yields what is wrong with the documents of the crates, and with the tables."""
+    """Yields what is wrong with the documents of the crates, with the tables, and with what specs rest on."""
+    yield from resting_on_inner(text)
     try:
         told = drawn(text)
     except Unread as lacks:
