@@ -1,5 +1,5 @@
--- What an edition of the program prints of what was computed, and of words that are no command line. Two editions differ
--- in this alone (this program's own).
+-- What an edition of the program prints of what was computed, and of words that are no command line. Two editions
+-- differ in this alone (this program's own).
 use Rattle.std.specs.Prelude.{◌≡◌, ℕ, Bool, List, ◌++◌}
 use Rattle.rp_table.specs.Tables.{Observations}
 use Rattle.rp_evidence.specs.declared.certificate.Certificate.{Certificate}

@@ -36,7 +36,8 @@ pub record AreVerdicts (table : Observations) (garp : Garp) (efficiency : Effici
   pub says : All (Says (input_of_table table))
       (GarpItem garp ∷ EfficiencyItem efficiency ∷ HomotheticItem homothetic ∷ QuasiItem quasilinear ∷ [])
 
--- what an edition of the program prints of the trial table of a seed: each verdict is true of its table and as it is given
+-- what an edition of the program prints of the trial table of a seed: each verdict is true of its table and as it is
+-- given
 pub record IsTrialTextBy (printed : Printed) (seed rows goods : ℕ) (text : List ℕ) : Type 0 where
   pub garp : Garp
   pub efficiency : Efficiency

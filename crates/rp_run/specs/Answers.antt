@@ -46,8 +46,8 @@ all_known desk name = Some (bytes_or_none desk name)
 abbrev pub AreContents : Files → Line → (ℕ → List ℕ) → Type 0
 AreContents files line bytes = (k : ℕ) → k < length (files_of line) → AreAll (files (file_at line k)) (bytes k)
 
--- the text by which an edition of the program, which prints so, answers a command which is no check, over what was given
--- to it and what its files hold
+-- the text by which an edition of the program, which prints so, answers a command which is no check, over what was
+-- given to it and what its files hold
 abbrev pub IsTextBy : Printed → Command → Arguments → Contents → List ℕ → Type 0
 IsTextBy printed Pairs arguments (contents.Table table) text = IsPairsText table text
 IsTextBy printed Analyse arguments (contents.Table table) text = IsAnalysisTextBy printed false table text

@@ -38,9 +38,9 @@ IsSilent Refused = Unit {0}
 IsSilent WriteFault = ⊥
 IsSilent NoMemory = Unit {0}
 
--- the text is the line that an edition of the program tells of a status that is no end, and its cause holds; `rose file`
--- says that the count of faults of a file has risen, and `asks line n` that the desk was asked for no more than the first
--- n files of a line
+-- the text is the line that an edition of the program tells of a status that is no end, and its cause holds;
+-- `rose file` says that the count of faults of a file has risen, and `asks line n` that the desk was asked for no more
+-- than the first n files of a line
 abbrev pub IsFaultLineBy : Printed → Files → (List ℕ → Type 0) → (Line → ℕ → Type 0) → Option Line → Status → List ℕ
     → Type 0
 IsFaultLineBy printed files rose asks denoted Done text = ⊥

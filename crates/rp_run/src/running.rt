@@ -25,8 +25,8 @@ use rp_command_line::read_line;
 use rp_outside::{Desk, Sink, pour};
 use std::alloc::Global;
 
-/// Answers the words of a command line over the files of a desk, with what was computed as it stands. The answer goes to
-/// `out`, and the reason why there is none to `err`, whose failures change no status.
+/// Answers the words of a command line over the files of a desk. The answer goes to `out`, and the reason
+/// why there is none to `err`, whose failures change no status. All is printed as it stands.
 pub fn run<D: Desk, O: Sink, E: Sink>(
     alloc: Global,
     words: &Vec<String>,
