@@ -1,5 +1,5 @@
 -- The whole certificate: what is found for its items, put together.
-use Rattle.std.proofs.Common.{◌≡◌, ◌<◌, ◌≤◌, ◌||◌, ◌∙◌, ℕ, zero, suc, Bool, List, [], ◌∷◌, Ok, All, ap, arith, inl, inr, length, refl, sym, subst, take, slice_index_or, sum_by}
+use Rattle.std.proofs.Common.{◌≡◌, ◌<◌, ◌||◌, ℕ, zero, suc, Bool, List, [], ◌∷◌, Ok, All, arith, inl, inr, length, refl, sym, subst, take, slice_index_or, sum_by}
 use Rattle.std.proofs.lemmas.List.{get_or_default}
 use Rattle.rp_agreement.specs.ReadBack.{IsReadBack}
 use Rattle.rp_agreement.proofs.SameValues.{text_read_back}
@@ -25,7 +25,7 @@ use Rattle.rp_evidence.specs.DemandEvidence.{withheld_bound}
 use Rattle.rp_evidence.specs.Homothetic.{withheld_homothetic}
 use Rattle.rp_evidence.specs.declared.homothetic.Homothetic.{Homothetic}
 use Rattle.rp_evidence.specs.declared.homothetic.Homothetic.TheVariants.{Values, Cycle, Withheld}
-use Rattle.rp_json.specs.Denoted.{FitsKind, IsReadable}
+use Rattle.rp_json.specs.Denoted.{FitsKind, IsDenoted, IsReadable}
 use Rattle.rp_people.proofs.FullTables.{table_is_full}
 use Rattle.rp_people.proofs.SaysOfItems.{all_say, says}
 use Rattle.rp_table.specs.Tables.{IsTable, Observations}
@@ -36,6 +36,10 @@ use Rattle.rp_filled.proofs.FoundLemmas.{stays}
 -- a certificate that is read back is within the limits
 pub readable : (c : Certificate) → IsReadBack Table c → IsReadable Table c
 readable c back = back.denotes.2.1
+
+-- and one that bytes denote is read back from its own text
+pub denoted_read_back : (bytes : List ℕ) (c : Certificate) → IsDenoted Table bytes (Ok c) → IsReadBack Table c
+denoted_read_back bytes c denoted = text_read_back Table c denoted.2.1
 
 -- nothing is found wrong with any of its items
 pub items_pass : (input : TableInput) (levels : List ℕ) (items : List Item) → IsCheckVerdict input levels items Accepted → ItemsPass input items
@@ -178,8 +182,8 @@ module _ (table : Observations) (valid : IsTable table) where
       }
 
     -- the certificate of what the calls gave
-    pub certificate_from : (given found : List Item) (filled : Certificate) → given ≡ stated.items → filled ≡ record { kind = stated.kind; version = stated.version; levels = stated.levels; items = found }
-        → ArePaired (λ k. IsFoundItem input) given found → ¬ (sum_by withheld_in stated.items ≡ 0) → IsFilledCertificate input stated filled
-    certificate_from given found filled same made are some =
+    pub certificate_from : (given found : List Item) (whole : Certificate) → given ≡ stated.items → whole ≡ record { kind = stated.kind; version = stated.version; levels = stated.levels; items = found }
+        → ArePaired (λ k. IsFoundItem input) given found → ¬ (sum_by withheld_in stated.items ≡ 0) → IsFilledCertificate input stated whole
+    certificate_from given found whole same made are some =
         subst (λ (c : Certificate). IsFilledCertificate input stated c) (sym made)
         (certificate_filled found (subst (λ (xs : List Item). ArePaired (λ k. IsFoundItem input) xs found) same are) some)

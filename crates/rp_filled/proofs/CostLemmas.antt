@@ -1,5 +1,5 @@
 -- Bounds on costs with what is found for the lower one.
-use Rattle.std.proofs.Common.{◌≡◌, ◌<◌, ◌≤◌, ◌↔◌, ◌∙◌, [], ℕ, List, Option, Some, None, arith, refl, sym, subst, slice_index}
+use Rattle.std.proofs.Common.{◌≡◌, ◌≤◌, ◌↔◌, ◌∙◌, [], ℕ, List, Option, Some, None, arith, refl, sym, subst, slice_index}
 use Rattle.rp_cost.specs.AskedOutputs.{AskedOutputs}
 use Rattle.rp_cost.specs.Axioms.{MeetsCost}
 use Rattle.rp_cost.specs.declared.axioms.Axiom.{Axiom}
@@ -20,7 +20,7 @@ use Rattle.rp_evidence.specs.LeastCost.{least_cost_program}
 use Rattle.rp_evidence.specs.declared.demand.Bound.{Bound}
 use Rattle.rp_evidence.specs.declared.demand.Bound.TheVariants.{Shown, Wide}
 use Rattle.rp_evidence.proofs.Enumerations.{enumerates_few, enumerates_observed, enumeration_is_one}
-use Rattle.rp_producers.specs.OuterSet.{AllMakeMore, ListsNotAbove}
+use Rattle.rp_producers.specs.OuterSet.{ListsNotAbove}
 use Rattle.rp_table.specs.NewPrices.{AreNewPrices}
 use Rattle.rp_table.specs.Rows.{row_of}
 use Rattle.rp_table.specs.Tables.{goods_of}

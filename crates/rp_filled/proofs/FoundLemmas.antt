@@ -1,5 +1,5 @@
 -- What is found for a value, put together from what is found for its parts.
-use Rattle.std.proofs.Common.{◌≡◌, ◌<◌, ◌≤◌, ◌+◌, ◌++◌, ◌∷◌, [], ◌∙◌, ℕ, Bool, List, Ok, All, arith, inl, inr, length, refl, sym, subst, slice_index, slice_index_or}
+use Rattle.std.proofs.Common.{◌≡◌, ◌<◌, ◌≤◌, ◌++◌, ◌∷◌, [], ℕ, Bool, List, Ok, All, arith, inl, inr, length, refl, sym, subst, slice_index, slice_index_or}
 use Rattle.std.proofs.lemmas.Bool.{cases_eq}
 use Rattle.std.proofs.lemmas.List.{get_or_append_left, get_or_default, get_or_push, length_push}
 use Rattle.rp_check.specs.DemandFailure.{DemandFails, DemandPartFails, GoodFails}

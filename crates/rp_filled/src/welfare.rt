@@ -1,9 +1,8 @@
 //! The lower bound of the money metric of an observation.
-ghost use Rattle.std.specs.Prelude.{◌≡◌, ◌<◌, IfOk, slice_index};
+ghost use Rattle.std.specs.Prelude.{◌<◌, IfOk, slice_index};
 ghost use Rattle.rp_check.specs.WelfareFailure.{LowerHolds};
 ghost use Rattle.rp_evidence.specs.BoundEvidence.{BoundHolds};
 ghost use Rattle.rp_evidence.specs.Demand.{spending};
-ghost use Rattle.rp_evidence.specs.InnerBudget.{input_of};
 ghost use Rattle.rp_evidence.specs.Input.{input_of_table};
 ghost use Rattle.rp_evidence.specs.LeastCost.{least_cost_program};
 ghost use Rattle.rp_evidence.specs.Reached.{IsWeakClosureOf};
@@ -19,7 +18,6 @@ use rp_evidence::{Bound, WelfarePart};
 use rp_farkas::Measure;
 use rp_num::NoMemory;
 use rp_programs::LeastCostProgram;
-use rp_table::NewPrices;
 use std::alloc::Global;
 
 /// The money metric of observation `t` at new prices, with what is found for its lower bound.
@@ -39,12 +37,7 @@ pub(crate) fn found_welfare(
 {
     match stated {
         WelfarePart::Bounds { upper, at, lower } => {
-            let new_prices = NewPrices {
-                table: input.table,
-                costs: input.costs,
-                prices,
-            };
-            let lower = found_lower(alloc, input, closure, &new_prices, t, lower)?;
+            let lower = found_lower(alloc, input, closure, prices, t, lower)?;
             Ok(WelfarePart::Bounds { upper, at, lower })
         }
         WelfarePart::NoModel(walk) => Ok(WelfarePart::NoModel(walk)),
@@ -56,36 +49,37 @@ fn found_lower(
     alloc: Global,
     input: &Input<'_>,
     closure: &Reachability,
-    new_prices: &NewPrices<'_>,
+    prices: &[u32],
     t: u32,
     stated: Bound,
 ) -> Result<Bound, NoMemory>
-    requires same { new_prices.now.table.now ≡ input.now.table.now }
     requires closure { IsWeakClosureOf closure.now (input_of_table input.now.table.now) }
+    requires prices { AreNewPrices (goods_of input.now.table.now) prices.now }
     requires observed { t < records_of input.now.table.now }
     ensures { IfOk result (IsFoundBound (LowerHolds (input_of_table input.now.table.now)
-        (slice_index new_prices.now.prices.now) t) stated) }
+        (slice_index prices.now) t) stated) }
 {
     let reached = reached_from(alloc, input, closure, t)?;
-    found_over(alloc, new_prices, reached.as_slice(), stated)
+    found_over(alloc, input, prices, reached.as_slice(), stated)
 }
 
 /// The bound of the program of least cost over these observations.
 fn found_over(
     alloc: Global,
-    new_prices: &NewPrices<'_>,
+    input: &Input<'_>,
+    prices: &[u32],
     list: &[u32],
     stated: Bound,
 ) -> Result<Bound, NoMemory>
-    requires { AreListed (records_of new_prices.now.table.now) list.now }
+    requires prices { AreNewPrices (goods_of input.now.table.now) prices.now }
+    requires listed { AreListed (records_of input.now.table.now) list.now }
     ensures { IfOk result (IsFoundBound (BoundHolds (least_cost_program
-        (input_of new_prices.now) (slice_index new_prices.now.prices.now) list.now)
-        (spending (goods_of new_prices.now.table.now) (slice_index new_prices.now.prices.now)))
-        stated) }
+        (input_of_table input.now.table.now) (slice_index prices.now) list.now)
+        (spending (goods_of input.now.table.now) (slice_index prices.now))) stated) }
 {
     found_bound(
         alloc,
-        &LeastCostProgram::make(new_prices.table, new_prices.prices, list),
+        &LeastCostProgram::make(input.table, prices, list),
         Measure::Cost,
         stated,
     )

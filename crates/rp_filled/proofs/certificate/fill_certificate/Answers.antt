@@ -1,8 +1,5 @@
-use Rattle.std.proofs.Common.{◌≡◌, ◌<◌, ◌≤◌, List, ap, arith, subst, sum_by, sym, refl, ◌∙◌, ℕ}
-use Rattle.rp_evidence.specs.Clauses.{cap}
+use Rattle.std.proofs.Common.{List, ap, arith, subst, sym}
 use Rattle.rp_evidence.specs.Input.{input_of_table}
-use Rattle.rp_evidence.specs.Withheld.{withheld_in}
-use Rattle.rp_evidence.specs.declared.certificate.Certificate.{Certificate}
 use Rattle.rp_evidence.specs.declared.certificate.Item.{Item}
 use Rattle.rp_filled.specs.InnerFound.{ItemsPass}
 use Rattle.rp_filled.proofs.CertificateLemmas.{certificate_from, certificate_stays, items_pass}
@@ -13,11 +10,11 @@ found_items-requires-clause-pass c =
     let input = input_of_table c.args.table.now in
     subst (λ (items : List Item). ItemsPass input items) (sym c.into_vec.ensures) (items_pass input c.args.stated.levels c.args.stated.items c.requires.accepted)
 
-pub returns-then-withheld-0 : goal.returns-then-withheld-0
-returns-then-withheld-0 c = certificate_stays c.args.table.now c.n.ensures.valid c.args.stated c.requires.accepted c.requires.read_back
+pub returns-then-withheld-eq0 : goal.returns-then-withheld-eq0
+returns-then-withheld-eq0 c = certificate_stays c.args.table.now c.n.ensures.valid c.args.stated c.requires.accepted c.requires.read_back
 
-pub returns-else-withheld-0 : goal.returns-else-withheld-0
-returns-else-withheld-0 c =
+pub returns : goal.returns
+returns c =
     certificate_from c.args.table.now c.n.ensures.valid c.args.stated c.requires.accepted c.requires.read_back c.into_vec.result.items c.in_ok-found.found.items _ c.into_vec.ensures
     (ap (λ (items : List Item). record { kind = c.args.stated.kind; version = c.args.stated.version; levels = c.args.stated.levels; items = items }) c.from_vec.ensures) c.in_ok-found.ensures
-    (λ none. absurd (omega (arith, c.if-withheld-0.false, c.withheld.ensures, none)))
+    (λ none. absurd (omega (arith, c.if-withheld-eq0.false, c.withheld.ensures, none)))

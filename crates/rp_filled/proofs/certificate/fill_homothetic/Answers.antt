@@ -7,8 +7,8 @@ use Rattle.rp_filled.proofs.CertificateLemmas.{verdict_filled}
 use Rattle.rp_filled.proofs.FoundLemmas.{homothetic_stays}
 use Rattle.rp_filled.proofs.certificate.fill_homothetic.Goals as goal
 
-pub returns-in-Withheld : goal.returns-in-Withheld
-returns-in-Withheld c =
+pub returns-in_ok-costs-in-Withheld : goal.returns-in_ok-costs-in-Withheld
+returns-in_ok-costs-in-Withheld c =
     let input = input_of_table c.args.table.now in
     IfOk-weaker c.found_homothetic.result _ _
     (λ found is. verdict_filled c.args.table.now c.n.ensures.valid c.args.stated found c.requires (subst (λ (h : Homothetic). IsFoundHomothetic input h found) (sym c.in-Withheld.is) is))

@@ -1,4 +1,4 @@
-use Rattle.std.proofs.Common.{◌≤◌, ◌<◌, ℕ, List, arith, refl, subst, sym}
+use Rattle.std.proofs.Common.{◌≤◌, ℕ, List, arith, refl, subst, sym}
 use Rattle.rp_evidence.specs.Input.{input_of_table}
 use Rattle.rp_table.specs.NewPrices.{AreNewPrices}
 use Rattle.rp_table.specs.Tables.{goods_of, records_of}
@@ -31,14 +31,14 @@ found_welfare-requires-clause-observed c =
     let few : records_of table ≤ RECORDS = omega (arith, c.n.ensures.count, c.n.ensures.few) in
     (welfare_needs (input_of_table table) few c.args.stated c.requires.passes _ _ _ c.in-Welfare.is).1
 
-pub returns-in-Homothetic : goal.returns-in-Homothetic
-returns-in-Homothetic c = homothetic_item (input_of_table c.args.input.now.table.now) c.args.stated _ _ c.in-Homothetic.is c.in_ok-found.ensures
+pub returns-in_ok-found-in-Homothetic : goal.returns-in_ok-found-in-Homothetic
+returns-in_ok-found-in-Homothetic c = homothetic_item (input_of_table c.args.input.now.table.now) c.args.stated _ _ c.in-Homothetic.is c.in_ok-found-in-Homothetic.ensures
 
-pub returns-in-Demand : goal.returns-in-Demand
-returns-in-Demand c = demand_item (input_of_table c.args.input.now.table.now) c.args.stated _ _ _ _ _ c.in-Demand.is c.as_slice.ensures c.in_ok-part.ensures
+pub returns-in_ok-part-in-Demand : goal.returns-in_ok-part-in-Demand
+returns-in_ok-part-in-Demand c = demand_item (input_of_table c.args.input.now.table.now) c.args.stated _ _ _ _ _ c.in-Demand.is c.as_slice.ensures c.in_ok-part-in-Demand.ensures
 
-pub returns-in-Welfare : goal.returns-in-Welfare
-returns-in-Welfare c =
+pub returns-in_ok-part-in-Welfare : goal.returns-in_ok-part-in-Welfare
+returns-in_ok-part-in-Welfare c =
     welfare_item (input_of_table c.args.input.now.table.now) c.args.stated _ _ _ _ _ c.in-Welfare.is c.as_slice-in-Welfare.ensures c.in_ok-part-in-Welfare.ensures
 
 pub returns-in_default : goal.returns-in_default

@@ -8,11 +8,11 @@ use Rattle.rp_filled.proofs.costs.filled_lower.Goals as goal
 
 pub found_over-requires-clause-listed : goal.found_over-requires-clause-listed
 found_over-requires-clause-listed c =
-    subst (λ (xs : List ℕ). AreListed (records_of c.args.tech.now.table) xs) (sym c.as_slice.ensures) c.in_ok-listed.ensures.listed
+    subst (λ (xs : List ℕ). AreListed (records_of c.args.tech.now.table) xs) (sym c.as_slice.ensures.value) c.in_ok-listed.ensures.listed
 
 pub returns : goal.returns
 returns c =
     let tech = c.args.tech.now in
     IfOk-weaker c.found_over.result _ _
     (λ found is. lower_over (input_of_table tech.table) (slice_index tech.y) c.args.y (slice_index c.args.prices.now) c.in_ok-listed.listed.items c.in_ok-listed.ensures.lists c.args.stated found is)
-    (rw c.as_slice.ensures at c.found_over.ensures)
+    (rw c.as_slice.ensures.value at c.found_over.ensures)

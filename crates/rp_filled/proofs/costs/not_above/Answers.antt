@@ -1,21 +1,21 @@
-use Rattle.std.proofs.Common.{◌≡◌, ◌<◌, ◌≤◌, ℕ, slice_index, sym, subst, ◌∙◌, arith}
+use Rattle.std.proofs.Common.{◌≡◌, ◌≤◌, ℕ, slice_index, subst, arith}
 use Rattle.rp_evidence.specs.Enumeration.{Enumerates}
 use Rattle.rp_evidence.specs.Input.{input_of_table}
 use Rattle.rp_table.specs.Tables.{records_of}
 use Rattle.rp_evidence.proofs.Enumerations.{enumerates_pushed, enumerates_without}
 use Rattle.rp_filled.proofs.CostLemmas.{listed}
 use Rattle.rp_filled.proofs.costs.not_above.Goals as goal
-use Rattle.rp_filled.proofs.costs.not_above.Goals.{then-y-y+in_ok-push, else-y-y}
+use Rattle.rp_filled.proofs.costs.not_above.Goals.{then-y+in_ok-push, else-y}
 
 pub loop-t-preserved : goal.loop-t-preserved
 loop-t-preserved c =
     let l = c.loop-t in
     let made : ℕ → Type 0 = λ (t : ℕ). slice_index c.args.tech.now.y t ≤ c.args.y in
-    elim c.if-y-y.branch [
-      | then-y-y+in_ok-push w ↦
-          rw w.list-is (enumerates_pushed made l.t l.list.items l.invariant (omega (arith, w.if-y-y.true, c.y.ensures.exact)) w.push.new.self.items w.in_ok-push.ensures.items)
-      | else-y-y w ↦
-          rw w.list-is (enumerates_without made l.t l.list.items l.invariant (λ h. omega (arith, h, w.if-y-y.false, c.y.ensures.exact)))
+    elim c.if-y.branch [
+      | then-y+in_ok-push w ↦
+          rw w.list-is (enumerates_pushed made l.t l.list.items l.invariant (omega (arith, w.if-y.true, c.y.ensures.exact)) w.push.new.self.items w.in_ok-push.ensures.items)
+      | else-y w ↦
+          rw w.list-is (enumerates_without made l.t l.list.items l.invariant (λ h. omega (arith, h, w.if-y.false, c.y.ensures.exact)))
     ]
 
 pub returns-clause-lists : goal.returns-clause-lists

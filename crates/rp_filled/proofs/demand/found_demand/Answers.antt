@@ -16,9 +16,9 @@ found_goods-requires-clause-one_each c =
     let lists = rw c.in-Bounds.is at c.requires.lists in
     ap (λ (xs : List GoodBounds). length xs) c.into_vec.ensures ∙ lists.1
 
-pub returns-in-Bounds : goal.returns-in-Bounds
-returns-in-Bounds c =
-    demand_from (input_of_table c.args.input.now.table.now) c.args.prices.now c.args.m c.args.stated _ _ _ _ _ _ _ _ c.in-Bounds.is c.as_slice.ensures c.into_vec.ensures c.from_vec.ensures c.in_ok-found.ensures
+pub returns-in_ok-found-in-Bounds : goal.returns-in_ok-found-in-Bounds
+returns-in_ok-found-in-Bounds c =
+    demand_from (input_of_table c.args.input.now.table.now) c.args.prices.now c.args.m c.args.stated _ _ _ _ _ _ _ _ c.in-Bounds.is c.as_slice.ensures c.into_vec.ensures c.from_vec.ensures c.in_ok-found-in-Bounds.ensures
 
 pub returns-in-NoModel : goal.returns-in-NoModel
 returns-in-NoModel c = no_demand (input_of_table c.args.input.now.table.now) c.args.prices.now c.args.m c.args.stated _ c.in-NoModel.is

@@ -12,9 +12,9 @@ returns-in-Some c =
     let table = c.args.input.now.table.now in
     let few : records_of table ≤ RECORDS = omega (arith, c.n.ensures.count, c.n.ensures.few) in
     let found = c.in-Some.found in
-    let none = rw c.in-Some.is at c.in_ok-rounded_homothetic.ensures.given in
-    let passes = rw c.in-Some.is at c.in_ok-rounded_homothetic.ensures.passes in
-    let reduced = rw c.in-Some.is at c.in_ok-rounded_homothetic.ensures.reduced in
+    let none = rw c.in-Some.is at c.in_ok-found-in-Withheld.ensures.given in
+    let passes = rw c.in-Some.is at c.in_ok-found-in-Withheld.ensures.passes in
+    let reduced = rw c.in-Some.is at c.in_ok-found-in-Withheld.ensures.reduced in
     homothetic_given (input_of_table table) c.args.stated found (ap withheld_homothetic c.in-Withheld.is) none passes
     (homothetic_fits (records_of table) (cost_of table) found few none passes reduced)
 
