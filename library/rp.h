@@ -28,7 +28,8 @@ enum rp_status {
     RP_WRITE_FAULT = 5,  /* never comes: what has no room is counted */
     RP_NO_MEMORY = 6,    /* memory ran out; the output is empty */
     RP_NO_TEXT = 7,      /* a word, or a name of a file, is not UTF-8; nothing is told */
-    RP_MALFORMED = 8     /* the arguments do not fit together, or more files are given than the words name */
+    RP_MALFORMED = 8,    /* the arguments do not fit together, or more files are given than the words name */
+    RP_STOPPED = 70      /* of rp.c alone: the call stopped in the middle, which no input is known to do; nothing is told */
 };
 
 /*

@@ -1,21 +1,30 @@
 /** The answers on one table: each verdict in words, its evidence, the picture, the report and the certificate. */
-import { button, folded, keepFile, labelled, make, printed, say, tableOf } from "./dom.js";
+import { button, folded, keepFile, labelled, listOf, make, printed, say, tableOf } from "./dom.js";
 import { budgetPicture, fileOf } from "./pictures.js";
-import { VERDICTS, asNumber, cycleSentences, numbersIn, parseReport } from "./reports.js";
+import {
+  about,
+  cycleSentences,
+  decimalOf,
+  numbersIn,
+  parseReport,
+  productSentences,
+  sumSentences,
+  walkInWords,
+} from "./reports.js";
+import { sentence } from "./sentences.js";
 
-function card(title, verdict, isGood, ...rest) {
-  const looks = isGood === null ? "" : isGood ? " good" : " bad";
+const WITHHELD = "withheld";
+
+/** A card of an answer: what was asked, the verdict, what it says, and the rest. */
+function card(title, verdict, looks, ...rest) {
   return make(
     "article",
     { className: "card" },
     make("h3", { textContent: title }),
-    make("p", { className: `verdict${looks}`, textContent: verdict }),
+    make("p", { className: `verdict ${looks}`.trim(), textContent: verdict.head }),
+    say(verdict.says),
     ...rest,
   );
-}
-
-function sentences(list, table) {
-  return make("ol", {}, ...cycleSentences(numbersIn(list), table).map((it) => make("li", { textContent: it })));
 }
 
 function byObservation(table, columns) {
@@ -25,7 +34,11 @@ function byObservation(table, columns) {
   return tableOf(["observation", "label", ...Object.keys(columns)], rows, "evidence by observation");
 }
 
-function garpCard(item, table) {
+const walkOf = (list) => walkInWords(numbersIn(list));
+
+function garpCard(item, table, levels) {
+  const title = "GARP: can one consumer have made these choices?";
+  const verdict = sentence("garp", item.verdict, { levels });
   if (item.verdict === "holds") {
     const ranks = folded(
       "The evidence",
@@ -35,100 +48,84 @@ function garpCard(item, table) {
       ),
       byObservation(table, { rank: item.ranks }),
     );
-    return card(
-      "GARP: can one consumer have made these choices?",
-      VERDICTS.garp.holds,
-      true,
-      say("One consumer who always takes the best that the money can buy can have made all of these choices."),
-      ranks,
-    );
+    const one = table.count === 1
+      ? [say("One observation alone can violate nothing: the tests on it hold whatever was bought.")]
+      : [];
+    return card(title, verdict, "good", ...one, ranks);
   }
   return card(
-    "GARP: can one consumer have made these choices?",
-    VERDICTS.garp.violated,
-    false,
-    sentences(item.cycle, table),
-    say(
-      "Round this cycle each bundle is at least as good as the next, and once strictly better. No consumer who " +
-        "likes more better can choose so.",
-    ),
+    title,
+    verdict,
+    "bad",
+    listOf(cycleSentences(numbersIn(item.cycle), table)),
+    say("Round this cycle each bundle is at least as good as the next, and once strictly better."),
   );
 }
 
-function efficiencyCard(item, table) {
+/** The bound that an index is: 1 or below it, attained or not. */
+export function boundOf(fraction, attained) {
+  return `${fraction === "1" ? "1" : "below 1"}, ${attained === "yes" ? "attained" : "not attained"}`;
+}
+
+function efficiencyCard(item, table, levels) {
   const [fraction, , attained] = item.verdict.split(" ");
-  const about = fraction.includes("/") ? ` (about ${asNumber(fraction).toFixed(4)})` : "";
-  const means = fraction === "1"
-    ? "No part of any expenditure has to be set aside."
-    : `If only ${fraction} of each expenditure counts, the contradictions are gone; at any greater part, up to the ` +
-      "whole, one is left.";
-  const at = attained === "yes"
-    ? "At the index itself the axiom holds."
-    : "At the index itself it fails; at every level below it holds.";
+  const verdict = sentence(
+    "efficiency",
+    "index",
+    { levels, bound: boundOf(fraction, attained) },
+    { index: fraction, about: about(fraction) },
+  );
   const evidence = [
     say("Ranks which show that the axiom holds at every level below:"),
     byObservation(table, { rank: item.below }),
   ];
-  if (item.above) evidence.push(say(`A cycle which violates it at every level above: ${item.above}.`));
-  if (item["at cycle"]) evidence.push(say(`A cycle which violates it at the index: ${item["at cycle"]}.`));
+  if (item.above) evidence.push(say(`A cycle which violates it at every level above: ${walkOf(item.above)}.`));
+  if (item["at cycle"]) evidence.push(say(`A cycle which violates it at the index: ${walkOf(item["at cycle"])}.`));
   if (item["at ranks"]) evidence.push(say(`Ranks which show that it holds at the index: ${item["at ranks"]}.`));
-  return card(
-    "CCEI: how far off is it?",
-    `${fraction}${about}`,
-    null,
-    say(means),
-    say(at),
-    folded("The evidence", ...evidence),
-  );
+  return card("CCEI, the efficiency index: how far off is it?", verdict, "", folded("The evidence", ...evidence));
 }
 
-function afriatCard(item, table) {
+function afriatCard(item, table, levels) {
   const title = "Afriat's numbers: a utility that explains the choices";
-  if (item.verdict === "model") {
+  const word = item.verdict.split(" ")[0];
+  const verdict = sentence("afriat", word, { levels });
+  if (word === "model") {
+    const spent = levels ? "beyond the part of what was spent that counts" : "beyond what was spent";
     const how = say(
       "The utility of a bundle is the least, over the observations, of the number below plus lambda times what the " +
-        "bundle costs there beyond what was spent, in scaled units.",
+        `bundle costs there ${spent}, counted ${table.unit}.`,
     );
     return card(
       title,
-      VERDICTS.afriat.model,
-      true,
+      verdict,
+      "good",
       folded("The evidence", how, byObservation(table, { utility: item.utility, lambda: item.lambda })),
     );
   }
-  if (item.verdict === "none") return card(title, VERDICTS.afriat.none, false, say(`By the cycle ${item.cycle}.`));
-  return card(
-    title,
-    VERDICTS.afriat.withheld,
-    null,
-    say(`A number got longer than the program keeps (${item.verdict}). This is no verdict.`),
-  );
+  if (word === "none") {
+    const round = `The purchases contradict each other round the cycle ${walkOf(item.cycle)}.`;
+    return card(title, verdict, "bad", say(round));
+  }
+  return card(title, verdict, "", say(`The program stopped ${item.verdict.replace(`${WITHHELD} `, "")}.`));
 }
 
-function testCard(title, words, item, table, holds, fails) {
-  const [verdict] = item.verdict.split(" ");
-  if (verdict === "holds") {
-    return card(
-      title,
-      words.holds,
-      true,
-      say(holds),
-      folded("The evidence", byObservation(table, { value: item.values })),
-    );
+/** The card of the homothetic or the quasilinear test; `steps` says its cycle in words. */
+function testCard(name, title, item, table, levels, steps) {
+  const word = item.verdict.split(" ")[0];
+  const verdict = sentence(name, word, { levels });
+  if (word === "holds") {
+    const columns = { value: item.values };
+    if (item.values.includes("/")) columns.decimal = item.values.split(" ").map((it) => decimalOf(it, 6)).join(" ");
+    return card(title, verdict, "good", folded("The evidence", byObservation(table, columns)));
   }
-  if (verdict === "violated") {
-    return card(title, words.violated, false, say(fails(item)), folded("The evidence", sentences(item.cycle, table)));
+  if (word === "violated") {
+    return card(title, verdict, "bad", folded("The evidence", listOf(steps(numbersIn(item.cycle), table))));
   }
-  return card(
-    title,
-    words.withheld,
-    null,
-    say(`An exact number got longer than the program keeps (${item.verdict}). This is no verdict.`),
-  );
+  return card(title, verdict, "", say(`The program stopped at ${item.verdict.replace(`${WITHHELD} `, "")}.`));
 }
 
 /** The picture of two goods, with the curve of equal utility through the observation that is chosen. */
-function pictureOf(report, table) {
+function pictureOf(report, table, name) {
   if (table.goods.length !== 2) return null;
   const { garp, afriat } = report.items;
   const model = afriat.verdict === "model"
@@ -137,10 +134,11 @@ function pictureOf(report, table) {
   const figure = make("figure");
   const draw = () => {
     const svg = budgetPicture(table, numbersIn(garp.cycle), model);
+    const held = table.levels ? " What counts of each budget, by its level, is the thin dashed line." : "";
     const caption =
       "Budget lines, what was chosen on them, and the violating cycle where there is one. Drawn with rounded " +
-      "numbers; the verdicts are not.";
-    const keep = button("Keep the picture as SVG", () => keepFile("budgets.svg", fileOf(svg), "image/svg+xml"));
+      `numbers; the verdicts are not.${held}`;
+    const keep = button("Keep the picture as SVG", () => keepFile(`${name}.svg`, fileOf(svg), "image/svg+xml"));
     const through = model && make(
       "select",
       { onchange: () => ((model.through = Number(through.value)), draw()) },
@@ -167,49 +165,66 @@ function pictureOf(report, table) {
   return figure;
 }
 
-/** Everything that the answer of `analyse` says, for reading. */
-export function tableAnswers(output, table, certificate) {
+/**
+ * Everything that the answer of `analyse` says, for reading. `certificate` gives the certificate's text; with own money
+ * at each observation the quasilinear test, which adds money of several, is left out.
+ */
+export function tableAnswers(output, table, certificate, hasOwnMoney = false) {
   const report = parseReport(output);
   const { garp, afriat, efficiency, homothetic, quasilinear } = report.items;
-  const levels = report.levels
-    ? say(
-      "The observations are held to levels of their own: the answers on GARP and on Afriat's numbers are by these, " +
-        "the others count all that was spent.",
-    )
-    : null;
+  const levels = Boolean(report.levels);
+  const notes = [];
+  if (levels) {
+    notes.push(
+      say(
+        "The observations are held to levels of their own: the answers on GARP and on Afriat's numbers are by these, " +
+          "the others count all that was spent.",
+      ),
+    );
+  }
+  if (hasOwnMoney) {
+    notes.push(
+      say(
+        "Prices are intercepts exchanged, so each observation has money of its own. The quasilinear test adds money " +
+        "of " +
+          "several observations, and is not told; in the report and the certificate it speaks of these prices alone.",
+      ),
+    );
+  }
   const cards = [
-    garpCard(garp, table),
-    efficiencyCard(efficiency, table),
-    afriatCard(afriat, table),
+    garpCard(garp, table, levels),
+    efficiencyCard(efficiency, table, levels),
+    afriatCard(afriat, table, levels),
     testCard(
+      "homothetic",
       "Homothetic: a preference that keeps its order when bundles are multiplied",
-      VERDICTS.homothetic,
       homothetic,
       table,
-      "Some homogeneous utility can explain the choices: twice the bundle has twice the utility.",
-      (it) => `Along the cycle ${it.cycle} the start ${it.start} comes back lower.`,
-    ),
-    testCard(
-      "Quasilinear: a worth in units of money",
-      VERDICTS.quasilinear,
-      quasilinear,
-      table,
-      "Some worth of bundles, less what they cost, is greatest at each that was bought, where prices are in units " +
-        "of money.",
-      (it) => `Along the cycle ${it.cycle} the sum of what is gained is below 0.`,
+      levels,
+      productSentences,
     ),
   ];
+  if (!hasOwnMoney) {
+    const title = "Quasilinear: a worth in units of money";
+    cards.push(testCard("quasilinear", title, quasilinear, table, levels, sumSentences));
+  }
   const keep = button(
     "Make a certificate and keep it",
     async () => keepFile("certificate.json", await certificate(), "application/json"),
   );
+  const figure = pictureOf(report, table, "budgets");
   return make(
     "div",
     {},
-    ...[levels].filter(Boolean),
-    make("div", { className: "cards" }, ...cards),
-    pictureOf(report, table),
+    ...notes,
+    make(
+      "div",
+      { className: figure ? "beside" : "" },
+      make("div", { className: figure ? "cards" : "cards many" }, ...cards),
+      figure,
+    ),
     folded("The report, as the program prints it", printed(output)),
     make("div", { className: "row" }, keep),
   );
 }
+

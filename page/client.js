@@ -4,6 +4,9 @@ function bytesOfBase64(text) {
   return Uint8Array.from(atob(text), (it) => it.charCodeAt(0));
 }
 
+// How long the worker is about one part of a panel, in milliseconds.
+const SLICE = 100;
+
 export class Stopped extends Error {}
 
 export class Client {
@@ -25,10 +28,6 @@ export class Client {
   #take(data) {
     const asked = this.waiting.get(data.id);
     if (!asked) return;
-    if (data.part) {
-      asked.onPart(data.part);
-      return;
-    }
     this.waiting.delete(data.id);
     if (data.error) asked.reject(new Error(data.error));
     else asked.resolve(data.answer);
@@ -41,16 +40,16 @@ export class Client {
     this.worker = null;
   }
 
-  #send(kind, given, onPart) {
+  #send(kind, given) {
     const id = ++this.number;
-    const answer = new Promise((resolve, reject) => this.waiting.set(id, { resolve, reject, onPart }));
+    const answer = new Promise((resolve, reject) => this.waiting.set(id, { resolve, reject }));
     this.worker.postMessage({ id, kind, given });
     return answer;
   }
 
-  #ask(kind, given, onPart) {
+  #ask(kind, given) {
     if (!this.worker) this.#begin();
-    return this.#send(kind, given, onPart);
+    return this.#send(kind, given);
   }
 
   /** The status, what is written and what is told, for the words of a command over files. */
@@ -58,9 +57,24 @@ export class Client {
     return this.#ask("one", { words, files });
   }
 
-  /** Answers each household, of which all have the further files; `onPart` takes what came since it was called last. */
-  panel(words, households, onPart, more = []) {
-    return this.#ask("panel", { words, households, more }, onPart);
+  /**
+   * Answers each household, of which all have the further files; `onPart` takes what came since it was called last. The
+   * worker gets some at a time, so that other questions are answered between them.
+   */
+  async panel(words, households, onPart, more = []) {
+    let [at, size] = [0, 1];
+    while (at < households.length) {
+      const began = performance.now();
+      const some = households.slice(at, at + size).map(({ household, bytes }) => ({ household, bytes }));
+      onPart(await this.#ask("panel", { words, households: some, more }));
+      at += some.length;
+      const took = Math.max(performance.now() - began, 1);
+      size = Math.max(1, Math.min(2 * size, Math.round((size * SLICE) / took)));
+    }
+  }
+
+  get isBusy() {
+    return this.waiting.size > 0;
   }
 
   stop() {

@@ -76,3 +76,6 @@ export function printed(text, says = "the program's text") {
 }
 
 export const say = (text) => make("p", { textContent: text });
+
+/** Sentences that follow each other. */
+export const listOf = (texts) => make("ol", {}, ...texts.map((it) => make("li", { textContent: it })));

@@ -1,23 +1,28 @@
 /** The page: what somebody has, the places for the files, and what is shown when they are answered. */
 import { tableAnswers } from "./answers.js";
 import { Client, Stopped } from "./client.js";
+import { commandForm } from "./command.js";
 import { labelled, make, textOf } from "./dom.js";
-import { range } from "./facts.js";
-import { Panel } from "./panels.js";
-import { commandForm, otherAnswers, panelQuestions, tableQuestions } from "./questions.js";
-import { Purchases, parseFault } from "./reports.js";
-import { parseRecords, splitHouseholds } from "./sheets.js";
+import { facts, range } from "./facts.js";
+import { otherAnswers } from "./others.js";
+import { panelQuestions } from "./panel_questions.js";
+import { Panel, purchasesOf } from "./panels.js";
+import { tableQuestions } from "./questions.js";
+import { parseFault } from "./reports.js";
+import { Runs } from "./runs.js";
+import { Sheet, fitOf, placeInFile, placeInWords, splitHouseholds } from "./sheets.js";
 import { Slot } from "./slots.js";
 
 const EXAMPLES = JSON.parse(textOf("examples"));
 const KINDS = [
   {
     key: "table",
-    says: "prices and purchases: a table, or a panel of households",
+    says: "prices and purchases",
     slots: [
       {
         key: "table",
-        title: "Table",
+        file: "table",
+        title: "Table, or panel of households",
         mapped: true,
         note:
           "A CSV file: p_NAME and q_NAME for each good, a record for each observation. A column of households makes " +
@@ -28,11 +33,18 @@ const KINDS = [
   },
   {
     key: "budgets",
-    says: "choices of many people from budgets",
+    says: "choices from budgets",
     slots: [
-      { key: "budgets", title: "Budgets", note: "p_NAME for each good, and w, the income.", examples: ["budgets.csv"] },
+      {
+        key: "budgets",
+        file: "budgets",
+        title: "Budgets",
+        note: "p_NAME for each good, and w, the income.",
+        examples: ["budgets.csv"],
+      },
       {
         key: "choices",
+        file: "choices",
         title: "Choices",
         note: "budget, q_NAME for each good, and n, how many times it was chosen.",
         examples: ["choices.csv"],
@@ -42,19 +54,34 @@ const KINDS = [
   {
     key: "menus",
     says: "choices from menus",
-    slots: [{ key: "menus", title: "Choices from menus", note: "menu, choice and n.", examples: ["menus.csv"] }],
+    slots: [
+      {
+        key: "menus",
+        file: "menus",
+        title: "Choices from menus",
+        note: "menu, choice and n.",
+        examples: ["menus.csv"],
+      },
+    ],
   },
   {
     key: "production",
-    says: "a firm: inputs and outputs",
+    says: "a firm's inputs and outputs",
     slots: [
       {
         key: "technology",
+        file: "technology",
         title: "Technology",
         note: "w_NAME and x_NAME for each input, y, and possibly p.",
         examples: ["technology.csv"],
       },
-      { key: "outputs", title: "Outputs that are asked", note: "w_NAME, and y.", examples: ["outputs.csv"] },
+      {
+        key: "outputs",
+        file: "asked",
+        title: "Outputs that are asked",
+        note: "w_NAME, and y.",
+        examples: ["outputs.csv"],
+      },
     ],
   },
 ];
@@ -62,125 +89,177 @@ const KINDS = [
 const client = new Client(textOf("module"), textOf("worker"));
 const at = (id) => document.getElementById(id);
 const [leastUnits, mostUnits] = range("random", "--per");
-const per = make("input", { type: "number", min: leastUnits, max: mostUnits, size: 12 });
-let slots = [];
+const per = make("input", { type: "number", min: leastUnits, max: mostUnits, size: 12, onchange: () => asked() });
+const runs = new Runs();
+let [kind, slots, run] = [KINDS[0], [], runs.begin()];
 
-function tell(text) {
-  at("answers").hidden = false;
-  at("status").textContent = text;
+/**
+ * What a run shows of its work. Of a run that is no longer the page's nothing is shown: another file, another kind or
+ * another assignment of columns has come, and what stands on the page is of that.
+ */
+function showsOf(own) {
+  const only = (show) => (...given) => own.isCurrent() && show(...given);
+  const tell = only((text) => {
+    at("answers").hidden = false;
+    at("status").textContent = text;
+  });
+  const progress = only((done, all, began, what) => {
+    const left = ((performance.now() - began) / done) * (all - done);
+    at("progress").value = done / all;
+    at("status").textContent = `${done} of ${all} ${what} done, ${(left / 1000).toFixed(0)} s left`;
+  });
+  const busy = only((isBusy) => (at("work").hidden = !isBusy));
+  /** Shows that work is going on, and hides it when it has ended or was stopped; what it gives is nothing then. */
+  const working = async (work) => {
+    busy(true);
+    try {
+      return await work();
+    } catch (error) {
+      const isStopped = error instanceof Stopped;
+      tell(isStopped ? "Stopped. What was done by then is shown." : `There is no answer: ${error.message}.`);
+      return null;
+    } finally {
+      busy(false);
+    }
+  };
+  const results = only((...parts) => at("results").replaceChildren(...parts));
+  const questions = only((...parts) => {
+    at("questions").replaceChildren(...parts);
+    at("more").hidden = !parts.length;
+  });
+  return { tell, progress, working, results, questions };
 }
 
-function progress(done, all, began, what) {
-  const left = ((performance.now() - began) / done) * (all - done);
-  at("progress").value = done / all;
-  at("status").textContent = `${done} of ${all} ${what} done, ${(left / 1000).toFixed(0)} s left`;
+/** Begins a run: what was answered is gone, and work on it is stopped. */
+function cleared() {
+  run = runs.begin();
+  if (client.isBusy) client.stop();
+  at("work").hidden = at("answers").hidden = at("more").hidden = true;
+  for (const it of ["status", "results", "questions"]) at(it).replaceChildren();
 }
 
-/** Shows that work is going on, and hides it when it has ended or was stopped. */
-async function working(work) {
-  at("work").hidden = false;
-  try {
-    return await work();
-  } catch (error) {
-    const isStopped = error instanceof Stopped;
-    tell(isStopped ? "Stopped. What was done by then is shown." : `There is no answer: ${error.message}.`);
-    return null;
-  } finally {
-    at("work").hidden = true;
-  }
-}
-
-function refused(files, told) {
+function refused(shows, told) {
   const fault = parseFault(told);
   const slot = slots.find((it) => fault && it.sheet && it.file.name === fault.file);
+  const place = slot ? placeInWords(placeInFile(fault, slot.sheet.records, slot.mapping)) : "";
+  shows.tell(`Refused: ${told.trim()}`);
+  shows.results(
+    ...(fault ? [make("p", { className: "fault", textContent: `${fault.fault}${place}. ${fault.means}` })] : []),
+  );
   if (slot) {
     slot.show(fault);
     at(`fault-${slot.form.key}`)?.scrollIntoView({ block: "center" });
   }
-  tell(`Refused: ${told.trim()}`);
-  at("results").replaceChildren(
-    ...(fault && !slot ? [make("p", { className: "fault", textContent: fault.means })] : []),
-  );
 }
 
-async function answerTable(slot) {
-  const file = slot.file;
-  const given = await working(() => client.answer(["analyse", file.name], [file]));
-  if (!given) return;
-  at("more").hidden = true;
+async function answerTable(slot, own) {
+  const [file, shows, hasOwnMoney] = [slot.file, showsOf(own), Boolean(slot.mapping?.hasOwnMoney)];
+  const given = await shows.working(() => client.answer(["analyse", file.name], [file]));
+  if (!given || !own.isCurrent()) return;
   if (given.status !== 0) {
-    refused([file], given.told);
+    refused(shows, given.told);
     return;
   }
-  slot.show();
-  const table = new Purchases(parseRecords(new TextDecoder().decode(file.bytes).replace(/^\ufeff/, ""), ","));
+  slot.show(null, true);
+  const table = purchasesOf(file.bytes);
   const certificate = async () => (await client.answer(["certify", file.name], [file])).output;
-  tell(`${file.name}: answered.`);
+  shows.tell(`${file.name}: answered.`);
   window.firstAnswer ??= performance.now();
-  at("results").replaceChildren(tableAnswers(given.output, table, certificate));
-  at("more").hidden = false;
-  at("questions").replaceChildren(...tableQuestions(client, file, table));
+  shows.results(tableAnswers(given.output, table, certificate, hasOwnMoney));
+  shows.questions(...tableQuestions(client, file, table, shows, hasOwnMoney));
 }
 
-async function answerPanel(slot) {
-  const households = splitHouseholds(slot.sheet.changed(), slot.mapping);
-  const panel = new Panel(client, households, progress);
-  at("more").hidden = true;
-  at("results").replaceChildren(panel.place);
-  at("answers").hidden = false;
-  await working(async () => {
-    await panel.run();
-    tell(`${households.length} households: answered.`);
+async function answerPanel(slot, own) {
+  const began = performance.now();
+  const [sheet, mapping] = [slot.sheet, slot.mapping];
+  const records = sheet.changed();
+  const households = splitHouseholds(records, mapping);
+  const place = (fault, numbers) => placeInWords(placeInFile(fault, records, mapping, numbers));
+  const shows = { ...showsOf(own), place };
+  const panel = new Panel(client, households, { shows, place, hasOwnMoney: mapping.hasOwnMoney });
+  slot.show(null, true);
+  shows.tell(`${households.length} households.`);
+  shows.results(panel.place);
+  const isWhole = await shows.working(async () => {
+    await panel.run(began);
+    return true;
   });
+  if (isWhole) shows.tell(`${households.length} households and ${panel.random.length} random behaviours: answered.`);
   panel.show(true);
-  at("questions").replaceChildren(...panelQuestions(client, households, { working, progress, tell }));
-  at("more").hidden = false;
+  shows.questions(...panelQuestions(client, households, shows));
 }
 
-async function answerOthers(kind) {
-  if (!slots.every((it) => it.sheet)) return;
-  const files = slots.map((it) => it.file);
+async function answerOthers(own) {
+  if (!slots.every((it) => it.sheet && it.isTaken)) return;
+  const [files, shows] = [slots.map((it) => it.file), showsOf(own)];
   if (new Set(files.map((it) => it.name)).size < files.length) {
     files.forEach((it, place) => (it.name = `${slots[place].form.key}.csv`));
   }
-  const given = await working(() => otherAnswers(client, kind, files, per.value));
-  if (!given) return;
+  const given = await shows.working(() => otherAnswers(client, kind.key, files, per.value));
+  if (!given || !own.isCurrent()) return;
   if (given.answer.status !== 0) {
-    refused(files, given.answer.told);
+    refused(shows, given.answer.told);
     return;
   }
-  slots.forEach((it) => it.show());
-  tell("Answered.");
-  at("results").replaceChildren(...given.parts);
+  slots.forEach((it) => it.show(null, true));
+  shows.tell("Answered.");
+  shows.results(...given.parts);
 }
 
-function ready(kind, slot) {
-  at("results").replaceChildren();
-  if (kind !== "table") return answerOthers(kind);
-  return slot.mapping.household >= 0 ? answerPanel(slot) : answerTable(slot);
+function ready(slot) {
+  if (kind.key !== "table") return answerOthers(run);
+  return slot.mapping.household >= 0 ? answerPanel(slot, run) : answerTable(slot, run);
 }
 
-function choose(kind) {
-  slots = kind.slots.map((form) => new Slot(form, EXAMPLES, (slot) => ready(kind.key, slot)));
-  at("answers").hidden = at("more").hidden = true;
-  at("results").replaceChildren();
+/** Asks anew by another number of units, where all files are there. */
+function asked() {
+  cleared();
+  answerOthers(run);
+}
+
+function choose(chosen) {
+  kind = chosen;
+  cleared();
+  slots = kind.slots.map((form) => new Slot(form, EXAMPLES, { onChange: cleared, onReady: ready }));
   const units = kind.key === "budgets" || kind.key === "menus"
     ? [make("div", { className: "row" }, labelled("Units to ask for (none: the least common ones)", per))]
     : [];
   at("slots").replaceChildren(...units, ...slots.map((it) => it.place));
 }
 
-KINDS.forEach((kind, number) => {
+/**
+ * Gives files that were dropped beside the places to those that they fit by their columns' names, or in their order.
+ */
+async function takeDropped(files) {
+  if (slots.length === 1 || files.some((it) => it.size > 2 ** 22)) {
+    slots[0].takeFile(files[0]);
+    return;
+  }
+  const free = [...slots];
+  for (const file of files.slice(0, slots.length)) {
+    const header = new Sheet(file.name, new Uint8Array(await file.arrayBuffer())).header;
+    const fit = (slot) => fitOf(header, facts().kinds.find((it) => it.name === slot.form.file));
+    free.sort((a, b) => fit(b) - fit(a));
+    free.shift().takeFile(file);
+  }
+}
+
+KINDS.forEach((it, number) => {
   const radio = make(
     "input",
-    { type: "radio", name: "kind", id: `kind-${kind.key}`, checked: number === 0, onchange: () => choose(kind) },
+    { type: "radio", name: "kind", id: `kind-${it.key}`, checked: number === 0, onchange: () => choose(it) },
   );
-  at("kinds").append(make("label", {}, radio, ` ${kind.says}`));
+  at("kinds").append(make("label", {}, radio, ` ${it.says}`));
 });
 at("stop").addEventListener("click", () => client.stop());
 at("command").append(...commandForm(client, EXAMPLES));
 document.addEventListener("dragover", (event) => event.preventDefault());
-document.addEventListener("drop", (event) => event.preventDefault());
+document.addEventListener("drop", (event) => {
+  const isTaken = event.defaultPrevented;
+  event.preventDefault();
+  const files = [...(event.dataTransfer?.files ?? [])];
+  if (!isTaken && files.length) takeDropped(files);
+});
 choose(KINDS[0]);
 // The example that the page opens with; how long its answer took can be read by whoever measures.
 slots[0].take("experiment.csv", new TextEncoder().encode(EXAMPLES["experiment.csv"]));

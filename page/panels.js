@@ -1,17 +1,21 @@
 /** A panel: a verdict for each household, a table that sorts and filters, and the distribution of the index. */
-import { button, freshId, keepFile, labelled, make } from "./dom.js";
+import { tableAnswers } from "./answers.js";
+import { drawBehaviours, sharesTable } from "./benchmark.js";
+import { button, freshId, keepFile, labelled, make, say } from "./dom.js";
+import { MOST_SEED } from "./draws.js";
 import { limit } from "./facts.js";
 import { indexPicture, fileOf } from "./pictures.js";
-import { Purchases, asNumber, parseReport } from "./reports.js";
+import { Purchases, asNumber, decimalOf, parseFault, parseReport } from "./reports.js";
 import { parseRecords, writeRecords } from "./sheets.js";
 
-// How many rows stand on the page at once, and the greatest quantity that a table may have.
-const [MOST_ROWS, LARGEST] = [500, BigInt(limit("table.largest"))];
+// How many rows stand on the page at once.
+const MOST_ROWS = 500;
 export const COLUMNS = [
   "household",
   "status",
   "garp",
   "efficiency",
+  "decimal",
   "attained",
   "homothetic",
   "quasilinear",
@@ -19,29 +23,28 @@ export const COLUMNS = [
   "told",
 ];
 
-/** What a household's answer says, by column. */
-export function rowOf({ household, status, output, told }) {
+/** What is told of a refused household: the fault, where it stands in the file, and what it means. */
+function refusalInWords(told, place) {
+  const fault = parseFault(told);
+  return fault ? `${fault.fault}${place(fault)}. ${fault.means}` : told.trim();
+}
+
+/** What a household's answer says, by column; `place` says where in the file a fault stands. */
+export function rowOf({ household, status, output, told }, place = () => "") {
   if (status !== 0) {
-    return {
-      household,
-      status: String(status),
-      garp: "",
-      efficiency: "",
-      attained: "",
-      homothetic: "",
-      quasilinear: "",
-      cycle: "",
-      told: told.trim(),
-    };
+    const nothing = Object.fromEntries(COLUMNS.map((it) => [it, ""]));
+    return { ...nothing, household, status: String(status), told: refusalInWords(told, place) };
   }
-  const { items } = parseReport(output);
+  const { items, levels } = parseReport(output);
   const [efficiency, , attained] = items.efficiency.verdict.split(" ");
   const word = (it) => it.verdict.split(" ")[0];
   return {
     household,
     status: "0",
+    levels: Boolean(levels),
     garp: word(items.garp),
     efficiency,
+    decimal: decimalOf(efficiency, 6),
     attained,
     homothetic: word(items.homothetic),
     quasilinear: word(items.quasilinear),
@@ -50,79 +53,85 @@ export function rowOf({ household, status, output, told }) {
   };
 }
 
-/** Successive words of 64 bits (SplitMix64, Steele, Lea and Flood 2014). */
-function words(seed) {
-  let state = BigInt.asUintN(64, seed);
-  return () => {
-    state = BigInt.asUintN(64, state + 0x9e3779b97f4a7c15n);
-    let it = state;
-    it = BigInt.asUintN(64, (it ^ (it >> 30n)) * 0xbf58476d1ce4e5b9n);
-    it = BigInt.asUintN(64, (it ^ (it >> 27n)) * 0x94d049bb133111ebn);
-    return it ^ (it >> 31n);
-  };
-}
+const seconds = (from) => ((performance.now() - from) / 1000).toFixed(1);
 
-/** A table of random behaviour on a table's budgets, by the rule of `power`: each good gets a drawn share. */
-export function randomTable(bytes, word) {
-  const table = new Purchases(parseRecords(new TextDecoder().decode(bytes).replace(/^\ufeff/, ""), ","));
-  const names = table.goods.flatMap((_, good) => [`p_${good + 1}`, `q_${good + 1}`]);
-  const rows = table.prices.map((prices, at) => {
-    const shares = prices.map(() => word() % 100n);
-    if (shares.every((it) => it === 0n)) shares[0] = 1n;
-    const total = shares.reduce((sum, it) => sum + it, 0n);
-    const bought = prices.map((price, good) => {
-      const whole = (table.cost(at, at) * shares[good]) / (total * price);
-      return whole < LARGEST ? whole : LARGEST;
-    });
-    if (bought.every((it) => it === 0n)) bought[0] = 1n;
-    return prices.flatMap((price, good) => [String(price), String(bought[good])]);
-  });
-  return new TextEncoder().encode(writeRecords([names, ...rows]));
-}
+export const purchasesOf = (bytes) =>
+  new Purchases(parseRecords(new TextDecoder().decode(bytes).replace(/^\ufeff/, ""), ","));
 
-/** Shows a panel and answers it. */
+/**
+ * Shows a panel and answers it. `shows` has what tells of long work, for the run that the panel is of: `working`,
+ * `progress`, `tell`; `place` says where in the file a fault of a household stands.
+ */
 export class Panel {
-  constructor(client, households, progress) {
-    [this.client, this.households, this.progress] = [client, households, progress];
+  constructor(client, households, { shows, place, hasOwnMoney = false }) {
+    [this.client, this.households, this.shows, this.where] = [client, households, shows, place];
     [this.rows, this.random, this.order, this.filter] = [[], [], { column: null, falls: false }, ""];
+    [this.hasOwnMoney, this.opening, this.took] = [hasOwnMoney, 0, ""];
+    this.columns = COLUMNS.filter((it) => !(hasOwnMoney && it === "quasilinear"));
     this.summary = make("p", { id: "panel-summary" });
     this.figure = make("figure", { id: "panel-picture" });
+    this.shares = make("div", { id: "panel-shares" });
     this.body = make("tbody");
     this.note = make("p", { className: "note" });
-    this.place = make("div", {}, this.summary, this.figure, this.#tools(), this.#table(), this.note);
+    this.opened = make("section", { id: "panel-household", attrs: { "aria-live": "polite" } });
+    const beside = make("div", { className: "beside" }, this.figure, make("div", {}, this.shares, this.#draws()));
+    this.place = make("div", {}, this.summary, beside, this.#tools(), this.#table(), this.note, this.opened);
   }
 
-  async run() {
-    const began = performance.now();
+  /** Answers each household; `began` is when that was asked for. */
+  async run(began) {
+    const by = new Map(this.households.map((it) => [it.household, it]));
     const told = (parts) => {
-      this.rows.push(...parts.map(rowOf));
-      this.progress(this.rows.length, this.households.length, began, "households");
+      this.rows.push(...parts.map((it) => rowOf(it, (fault) => this.where(fault, by.get(it.household).numbers))));
+      this.shows.progress(this.rows.length, this.households.length, began, "households");
       this.show(false);
     };
     try {
       await this.client.panel(["analyse", "table.csv"], this.households, told);
     } finally {
-      this.took = performance.now() - began;
+      this.took = ` in ${seconds(began)} s`;
       this.show(true);
     }
-    await this.#drawRandom();
+    await this.#drawRandom(this.seed.value, this.count.value);
   }
 
-  /** Random behaviour on the budgets of the households that were answered, one table each, more where they are few. */
-  async #drawRandom() {
+  /** Random behaviour on the budgets of the households that were answered, one after another. */
+  async #drawRandom(seed, count) {
     const answered = new Set(this.rows.filter((it) => it.status === "0").map((it) => it.household));
     const given = this.households.filter((it) => answered.has(it.household));
     if (!given.length) return;
-    const [word, each, began] = [words(1n), Math.max(1, Math.ceil(200 / given.length)), performance.now()];
-    const drawn = Array.from({ length: each }, () => given).flat().map((it) => ({
-      household: it.household,
-      bytes: randomTable(it.bytes, word),
+    const began = performance.now();
+    this.random = [];
+    this.draw.disabled = true;
+    const tables = given.map((it) => () => purchasesOf(it.bytes));
+    try {
+      await drawBehaviours(this.client, tables, Number(seed), Number(count), (parts) => {
+        this.random.push(...parts.map((it) => it.efficiency));
+        this.shows.progress(this.random.length, Number(count), began, "random behaviours");
+      });
+    } finally {
+      this.draw.disabled = false;
+      this.show(true);
+    }
+  }
+
+  /** How many behaviours are drawn, and from which seed. */
+  #draws() {
+    const most = limit("command_line.draws");
+    this.count = make("input", { type: "number", value: most, min: 1, max: most, size: 6 });
+    this.seed = make("input", { type: "number", value: 1, min: 0, max: MOST_SEED, size: 12 });
+    this.draw = button("Draw random behaviour anew", () => this.shows.working(async () => {
+      for (const it of [this.count, this.seed]) if (!it.reportValidity()) return;
+      await this.#drawRandom(this.seed.value, this.count.value);
+      this.shows.tell(`${this.random.length} random behaviours from the seed ${this.seed.value}: answered.`);
     }));
-    await this.client.panel(["analyse", "table.csv"], drawn, (parts) => {
-      this.random.push(...parts.map(rowOf).filter((it) => it.efficiency).map((it) => asNumber(it.efficiency)));
-      this.progress(this.random.length, drawn.length, began, "tables of random behaviour");
-    });
-    this.show(true);
+    return make(
+      "div",
+      { className: "row" },
+      labelled("Random behaviours", this.count),
+      labelled("from the seed", this.seed),
+      this.draw,
+    );
   }
 
   #tools() {
@@ -130,10 +139,9 @@ export class Panel {
       "input",
       { type: "search", id: freshId("filter"), oninput: () => this.#filtered(filter.value) },
     );
-    const names = Object.fromEntries(COLUMNS.map((it) => [it, it]));
     const csv = () => keepFile(
       "verdicts.csv",
-      writeRecords([COLUMNS, ...this.rows.map((row) => Object.keys(names).map((it) => row[it]))]),
+      writeRecords([this.columns, ...this.rows.map((row) => this.columns.map((it) => row[it]))]),
       "text/csv",
     );
     return make(
@@ -141,6 +149,10 @@ export class Panel {
       { className: "row" },
       labelled("Rows with the text:", filter),
       button("Keep the table as CSV", csv),
+      make("span", {
+        className: "note",
+        textContent: "A spreadsheet may take a fraction as 4/5 for a date: there use the column decimal, rounded down.",
+      }),
     );
   }
 
@@ -150,7 +162,7 @@ export class Panel {
   }
 
   #table() {
-    this.heads = COLUMNS.map(
+    this.heads = this.columns.map(
       (column) => make(
         "th",
         { scope: "col", attrs: { "aria-sort": "none" } },
@@ -170,7 +182,7 @@ export class Panel {
     this.heads.forEach(
       (it, at) => it.setAttribute(
         "aria-sort",
-        COLUMNS[at] !== column ? "none" : this.order.falls ? "descending" : "ascending",
+        this.columns[at] !== column ? "none" : this.order.falls ? "descending" : "ascending",
       ),
     );
     this.show(true);
@@ -179,10 +191,11 @@ export class Panel {
   #shown() {
     const { column, falls } = this.order;
     const found = this.rows.filter(
-      (row) => !this.filter || COLUMNS.some((it) => row[it].toLowerCase().includes(this.filter)),
+      (row) => !this.filter || this.columns.some((it) => row[it].toLowerCase().includes(this.filter)),
     );
     if (!column) return found;
-    const key = (row) => (column === "efficiency" && row.efficiency ? asNumber(row.efficiency) : row[column]);
+    const isIndex = column === "efficiency" || column === "decimal";
+    const key = (row) => (isIndex && row.efficiency ? asNumber(row.efficiency) : row[column]);
     const compared = (a, b) =>
       typeof a === "number" && typeof b === "number"
         ? a - b
@@ -191,35 +204,66 @@ export class Panel {
     return found;
   }
 
+  /** The answers of one household, as those of a table. */
+  async #open(row) {
+    this.opening += 1;
+    const own = this.opening;
+    const head = make("h3", { textContent: `Household ${row.household}` });
+    if (row.status !== "0") {
+      this.opened.replaceChildren(head, make("p", { className: "fault", textContent: row.told }));
+      return;
+    }
+    const file = { name: "table.csv", bytes: this.households.find((it) => it.household === row.household).bytes };
+    this.opened.replaceChildren(head, say("…"));
+    const given = await this.client.answer(["analyse", file.name], [file]);
+    if (own !== this.opening) return;
+    const certificate = async () => (await this.client.answer(["certify", file.name], [file])).output;
+    const answers = tableAnswers(given.output, purchasesOf(file.bytes), certificate, this.hasOwnMoney);
+    this.opened.replaceChildren(head, answers);
+    this.opened.scrollIntoView({ block: "nearest" });
+  }
+
+  #row(row) {
+    const cells = this.columns.map((it) => {
+      if (it === "household") {
+        const open = button(row.household || "(no name)", () => this.#open(row), "link");
+        open.setAttribute("aria-label", `open household ${row.household}`);
+        return make("td", {}, open);
+      }
+      return make("td", { textContent: row[it] });
+    });
+    return make("tr", {}, ...cells);
+  }
+
   show(isWhole) {
-    const [refused, kept] = [
-      this.rows.filter((it) => it.status !== "0"),
-      this.rows.filter((it) => it.garp === "holds"),
-    ];
+    const refused = this.rows.filter((it) => it.status !== "0");
+    const kept = this.rows.filter((it) => it.garp === "holds");
+    const single = new Set(this.households.filter((it) => it.numbers.length === 1).map((it) => it.household));
+    const alone = kept.filter((it) => single.has(it.household)).length;
     const first = refused[0] ? ` The first that was refused is ${refused[0].household}: ${refused[0].told}` : "";
-    const took = this.took ? ` in ${(this.took / 1000).toFixed(1)} s` : "";
+    const nothing = alone ? ` (${alone} of these have one record, which can violate nothing)` : "";
+    const held = kept.some((it) => it.levels) ? ", by their levels" : "";
     this.summary.textContent =
-      `${this.rows.length - refused.length} of ${this.households.length} households answered${took}, ${kept.length} ` +
-      `of them meet the axiom, ${refused.length} refused.${first}`;
+      `${this.rows.length - refused.length} of ${this.households.length} households answered${this.took}, ` +
+      `${kept.length} of them meet the axiom${held}${nothing}, ${refused.length} refused.${first}`;
     if (!isWhole) return;
     const found = this.#shown();
-    const rows = found.slice(0, MOST_ROWS).map(
-      (row) => make("tr", {}, ...COLUMNS.map((it) => make("td", { textContent: row[it] }))),
-    );
-    this.body.replaceChildren(...rows);
-    this.note.textContent = found.length > MOST_ROWS
+    this.body.replaceChildren(...found.slice(0, MOST_ROWS).map((row) => this.#row(row)));
+    const opens = " Press a household to see its picture and its cycle.";
+    this.note.textContent = (found.length > MOST_ROWS
       ? `The first ${MOST_ROWS} of ${found.length} rows are shown; the CSV has all.`
-      : `${found.length} rows.`;
+      : `${found.length} rows.`) + opens;
     this.#draw();
   }
 
   #draw() {
-    const people = this.rows.filter((it) => it.efficiency).map((it) => asNumber(it.efficiency));
+    const people = this.rows.flatMap((it) => (it.efficiency ? [it.efficiency] : []));
     if (!people.length) return;
-    const svg = indexPicture(people, this.random);
+    const svg = indexPicture(people.map(asNumber), this.random.map(asNumber));
     const beside = this.random.length
-      ? ` beside ${this.random.length} tables that were drawn here by the rule of the command power: at each ` +
-        "observation what was spent is divided by random shares."
+      ? ` beside ${this.random.length} random behaviours on the same budgets: each takes a bundle of each budget ` +
+        "line, " +
+        "every division of what was spent as likely as another (Bronars 1987)."
       : ".";
     const caption = make(
       "figcaption",
@@ -230,5 +274,7 @@ export class Panel {
       caption,
       button("Keep the picture as SVG", () => keepFile("indices.svg", fileOf(svg), "image/svg+xml")),
     );
+    const groups = { households: people, ...(this.random.length ? { "random behaviour": this.random } : {}) };
+    this.shares.replaceChildren(sharesTable(groups));
   }
 }

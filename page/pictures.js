@@ -3,6 +3,7 @@
 const SVG = "http://www.w3.org/2000/svg";
 // The looks of a picture that stands alone as a file; on the page the style sheet decides.
 const ALONE = `text{font:13px sans-serif;fill:#1b1b1f}.axis{stroke:#1b1b1f;fill:none}.budget{stroke:#55555f;fill:none}
+.held{stroke:#55555f;stroke-dasharray:2 3;fill:none}
 .cycle{stroke:#96261d;stroke-width:3;fill:none}.arrow{fill:#96261d}.chosen{fill:#3d3a8c;stroke:#fff}
 .curve{stroke:#1c5d33;stroke-width:2.5;stroke-dasharray:7 4;fill:none}.people{stroke:#3d3a8c;stroke-width:2.5;fill:none}
 .random{stroke:#96261d;stroke-width:2.5;stroke-dasharray:3 4;fill:none}.bar{stroke:#3d3a8c;stroke-width:8;fill:none}`;
@@ -93,26 +94,39 @@ function arrow(svg, [x1, y1], [x2, y2], bend) {
 }
 
 /**
- * The places where a curve of equal utility by Afriat's numbers turns: the bundles that cost as much as each choice
- * says.
+ * What each observation allows a bundle by Afriat's numbers, as a function of what the bundle costs there: U of it plus
+ * lambda times what the bundle costs beyond what was spent. With levels both count in thousandths, and of what was
+ * spent
+ * the level's part.
  */
-function curveOf(table, model, through, x, y, endX, endY) {
-  const costs = (s, t) => Number(table.cost(s, t));
-  const prices = (s) => table.prices[s].map(Number);
+function allowances(table, model) {
+  const whole = table.levels ? 1000 : 1;
+  return table.prices.map((_, s) => {
+    const counts = Number(table.cost(s, s)) * (table.levels ? table.levels[s] : 1);
+    return {
+      prices: table.prices[s].map(Number),
+      of: (cost) => model.utility[s] + model.lambda[s] * (whole * cost - counts),
+      costAt: (level) => (counts + (level - model.utility[s]) / model.lambda[s]) / whole,
+    };
+  });
+}
+
+/** The utility of what an observation bought, by Afriat's numbers. */
+export function utilityOf(table, model, bundle) {
+  return Math.min(...allowances(table, model).map((it, s) => it.of(Number(table.cost(s, bundle)))));
+}
+
+/**
+ * Bundles of two goods of one utility by Afriat's numbers, in the units of the file, by the first good up to its end.
+ */
+export function equalUtility(table, model, level, endX, steps = 300) {
   const scale = 10 ** table.quantityPlaces;
-  const level = model.utility[through];
-  const lines = table.prices.map((_, s) => ({
-    p: prices(s),
-    least: costs(s, s) + (level - model.utility[s]) / model.lambda[s],
-  }));
-  const points = [];
-  const steps = 300;
-  for (let at = 0; at <= steps; at++) {
-    const first = ((endX * scale) / steps) * at;
-    const second = Math.max(...lines.map(({ p, least }) => (least - p[0] * first) / p[1]));
-    if (second >= 0 && second <= endY * scale) points.push([x(first / scale), y(second / scale)]);
-  }
-  return points;
+  const lines = allowances(table, model).map((it) => ({ prices: it.prices, least: it.costAt(level) }));
+  return Array.from({ length: steps + 1 }, (_, at) => {
+    const first = (endX / steps) * at;
+    const second = Math.max(...lines.map(({ prices, least }) => (least / scale - prices[0] * first) / prices[1]));
+    return [first, second];
+  });
 }
 
 /**
@@ -126,14 +140,14 @@ export function budgetPicture(table, cycle, model) {
   const what = cycle.length
     ? `The arrows are the cycle ${cycle.join(", ")}: each leads to a bundle that could have been bought.`
     : "";
-  const curve = model
-    ? `The dashed curve joins bundles as good as that of observation ${model.through + 1} by Afriat's numbers.`
+  const describes = model
+    ? ` The dashed curve joins bundles as good as that of observation ${model.through + 1} by Afriat's numbers.`
     : "";
   const svg = picture(
     640,
     480,
     "Budget lines and choices",
-    `${table.count} observations of ${table.goods.join(" and ")}. ${what}${curve}`,
+    `${table.count} observations of ${table.goods.join(" and ")}. ${what}${describes}`,
   );
   const frame = { left: 64, top: 16, width: 556, height: 408, nameX: table.goods[0], nameY: table.goods[1] };
   const { x, y, endX, endY } = axes(
@@ -142,7 +156,12 @@ export function budgetPicture(table, cycle, model) {
   );
   const inCycle = new Set(cycle.map((it) => it - 1));
   const few = table.count <= 60;
+  const held = table.levels ?? [];
   ends.forEach(([a, b], s) => {
+    if ((few || inCycle.has(s)) && held[s] < 1000) {
+      const part = held[s] / 1000;
+      svg.append(element("path", { class: "held", d: pathOf([[x(part * a), y(0)], [x(0), y(part * b)]]) }));
+    }
     if (few || inCycle.has(s)) {
       svg.append(
         element(
@@ -153,7 +172,9 @@ export function budgetPicture(table, cycle, model) {
     }
   });
   if (model) {
-    svg.append(element("path", { class: "curve", d: pathOf(curveOf(table, model, model.through, x, y, endX, endY)) }));
+    const curve = equalUtility(table, model, utilityOf(table, model, model.through), endX);
+    const shown = curve.filter(([, second]) => second >= 0 && second <= endY);
+    svg.append(element("path", { class: "curve", d: pathOf(shown.map(([a, b]) => [x(a), y(b)])) }));
   }
   cycle.slice(1).forEach((to, at) => {
     const [from, there] = [chosen[cycle[at] - 1], chosen[to - 1]];

@@ -71,9 +71,15 @@ export class Purchases {
     return this.prices[at].reduce((sum, price, good) => sum + price * this.quantities[bundle][good], 0n);
   }
 
-  /** An amount of money as a decimal text. */
-  money(amount) {
-    return decimal(amount, this.pricePlaces + this.quantityPlaces);
+  /** An amount of money as a decimal text, where it is counted in so many places more. */
+  money(amount, more = 0) {
+    return decimal(amount, this.pricePlaces + this.quantityPlaces + more);
+  }
+
+  /** The unit of money in which Afriat's numbers count, in words: with levels a thousandth of that of the costs. */
+  get unit() {
+    const places = this.pricePlaces + this.quantityPlaces + (this.levels ? 3 : 0);
+    return places ? `in units of ${decimal(1n, places)} of money` : "in units of money";
   }
 }
 
@@ -97,6 +103,40 @@ export function inUnits(fraction, places) {
   return b === common ? String(a / b) : `${a / common}/${b / common}`;
 }
 
+/** A decimal of a fraction, rounded down to so many places, so that what is below 1 reads below 1. */
+export function decimalOf(fraction, places = 4) {
+  const [num, den = "1"] = fraction.split("/");
+  return decimal((BigInt(num) * 10n ** BigInt(places)) / BigInt(den), places);
+}
+
+/** The decimal of a fraction to stand behind it; nothing behind a whole number. */
+export function about(fraction) {
+  const [num, den] = fraction.split("/");
+  if (!den) return "";
+  const isExact = (BigInt(num) * 10_000n) % BigInt(den) === 0n;
+  return ` (${isExact ? "" : "about "}${decimalOf(fraction)})`;
+}
+
+/** A fraction with its decimal behind it. */
+export const withDecimal = (fraction) => fraction + about(fraction);
+
+/** Whether a fraction is above num/den, exactly. */
+export function isAbove(fraction, num, den) {
+  const [a, b = "1"] = fraction.split("/");
+  return BigInt(a) * BigInt(den) > BigInt(num) * BigInt(b);
+}
+
+/** Joins texts as a sentence does. */
+export const listed = (texts) =>
+  texts.length < 2 ? texts.join("") : `${texts.slice(0, -1).join(", ")} and ${texts.at(-1)}`;
+
+/** A closed walk in words. */
+export function walkInWords(cycle) {
+  return cycle.length === 2
+    ? `observation ${cycle[0]} by itself`
+    : `from observation ${cycle[0]} to ${listed(cycle.slice(1, -1).map(String))}, and back to ${cycle.at(-1)}`;
+}
+
 /** The steps of a closed walk as sentences. */
 export function cycleSentences(cycle, table) {
   const name = (at) =>
@@ -104,12 +144,53 @@ export function cycleSentences(cycle, table) {
   return cycle.slice(1).map((to, at) => {
     const from = cycle[at];
     const [paid, other] = [table.cost(from - 1, from - 1), table.cost(from - 1, to - 1)];
-    const held = table.levels ? `, of which ${table.levels[from - 1]} thousandths count` : "";
+    const counts = table.levels ? table.levels[from - 1] : 1000;
+    const held = table.levels
+      ? `, within the ${table.money(paid * BigInt(counts), 3)} that count of the ${table.money(paid)} paid`
+      : `, and paid ${table.money(paid)}`;
+    return `In ${name(from)} you could have had the bundle of ${to} for ${table.money(other)}${held}.`;
+  });
+}
+
+/** What a closed walk multiplies by, step by step, and together: the costs of the next bundle over what was paid. */
+export function productSentences(cycle, table) {
+  let [num, den] = [1n, 1n];
+  const steps = cycle.slice(1).map((to, at) => {
+    const from = cycle[at];
+    const [paid, other] = [table.cost(from - 1, from - 1), table.cost(from - 1, to - 1)];
+    [num, den] = [num * other, den * paid];
     return (
-      `In ${name(from)} you could have had the bundle of ${to} for ${table.money(other)}, and paid ` +
-      `${table.money(paid)}${held}.`
+      `At the prices of ${from} the bundle of ${to} costs ${table.money(other)}, where ${table.money(paid)} was ` +
+      "paid: " +
+      `${withDecimal(inUnits(`${other}/${paid}`, 0))} of it.`
     );
   });
+  const together = inUnits(`${num}/${den}`, 0);
+  const short = together.length < 60 ? withDecimal(together) : `about ${decimalOf(together, 6)}`;
+  return [
+    ...steps,
+    `Multiplied round the cycle this is ${short}, below 1. With such a preference it is nowhere below 1.`,
+  ];
+}
+
+/** What a closed walk adds up to, step by step, and together: the costs of the next bundle less what was paid. */
+export function sumSentences(cycle, table) {
+  let sum = 0n;
+  const steps = cycle.slice(1).map((to, at) => {
+    const from = cycle[at];
+    const more = table.cost(from - 1, to - 1) - table.cost(from - 1, from - 1);
+    sum += more;
+    return (
+      `At the prices of ${from} the bundle of ${to} costs ${table.money(more < 0n ? -more : more)} ` +
+      `${more < 0n ? "less" : "more"} than what was bought.`
+    );
+  });
+  return [
+    ...steps,
+    `Added round the cycle the next bundles cost ${table.money(-sum)} less. Where worth is in money they nowhere ` +
+    "cost less: " +
+      "what each bundle is worth is added once, and taken away once.",
+  ];
 }
 
 /**
@@ -167,27 +248,6 @@ export const FAULTS = {
   NeedUnit:
     `The numbers of choices have no common multiple up to ${written("patch.units")}: give a number of units, as ` +
     "1000, which takes the shares in thousandths, rounded.",
-};
-
-/** What each word of a verdict says: the words of the catalogue, and no others (tools/check/page-logic). */
-export const VERDICTS = {
-  garp: { holds: "Yes: the axiom holds", violated: "No: the axiom is violated" },
-  afriat: { model: "There is one", none: "There is none", withheld: "Withheld" },
-  homothetic: { holds: "It holds", violated: "It is violated", withheld: "Withheld" },
-  quasilinear: { holds: "It holds", violated: "It is violated" },
-  random: {
-    mixture: "Yes: people with a preference each can have made these choices. The parts below are a mixture that does.",
-    violated: "No people with a preference each make these choices.",
-    withheld: "Withheld: the run of the program got longer than it keeps. This is no verdict.",
-  },
-  menus: {
-    mixture:
-      "Yes: people with a strict order each can have made these choices. The parts below are a mixture that does.",
-    violated: "No people with a strict order each make these choices.",
-    withheld: "Withheld: the run of the program got longer than it keeps. This is no verdict.",
-  },
-  cost: { holds: "The firm minimised cost.", violated: "The firm did not minimise cost: the pair below shows it." },
-  profit: { holds: "It maximised profit.", violated: "It did not maximise profit: the pair below shows it." },
 };
 
 /** What is told of a refused file: its name, fault, record, column, and what it means. */

@@ -53,14 +53,20 @@ function markOf(text) {
   return counts[0][0] ? counts[0][1] : ",";
 }
 
+// Changes of which one alone can be made.
+const READINGS = [["decimals", "thousands"], ["points as decimals", "points as thousands"]];
 const MARK_NAMES = { ";": "semicolons", "\t": "tabs" };
 const DECIMAL_COMMA = /^\s*\d+,\d+\s*$/;
 const THOUSANDS_COMMA = /^\s*\d{1,3}(,\d{3})+\s*$/;
+const POINT = /^\s*\d+(\.\d+)+(,\d+)?\s*$/;
+const THOUSANDS_POINT = /^\s*\d{1,3}(\.\d{3})+(,\d+)?\s*$/;
 const MONTH = "(jan|feb|mar|apr|may|jun|jul|aug|sep|oct|nov|dec)[a-z]*";
 const DATE = new RegExp(
   `^\\s*(\\d{4}-\\d{1,2}-\\d{1,2}|\\d{1,2}[./]\\d{1,2}[./]\\d{2,4}|\\d{1,2}[- ]${MONTH})\\s*$`,
   "i",
 );
+
+export const bytesOf = (text) => new TextEncoder().encode(text);
 
 /** Gives the text of a file, and how its bytes were read where that is not as UTF-8. */
 export function decodeFile(bytes) {
@@ -75,6 +81,17 @@ export function decodeFile(bytes) {
   } catch {
     return { text: new TextDecoder("windows-1252").decode(bytes), coding: "Windows-1252" };
   }
+}
+
+/** What a file is that is no text, and what to do; nothing where it may be one. */
+export function otherThanText(bytes) {
+  const begins = (...own) => own.every((it, at) => bytes[at] === it);
+  if (begins(0x50, 0x4b, 3, 4) || begins(0xd0, 0xcf, 0x11, 0xe0)) {
+    return "This is a workbook, or another packed file, and no text. In the spreadsheet save the sheet as CSV, and " +
+      "take that.";
+  }
+  if (begins(0x25, 0x50, 0x44, 0x46)) return "This is a PDF, and no text. Save the numbers as CSV, and take that.";
+  return "";
 }
 
 /** A file with what was found of its form, and which of the offered changes are made. */
@@ -161,6 +178,30 @@ export class Sheet {
         );
       }
     }
+    const points = decimals.length && this.mark !== "," ? this.cells(POINT) : [];
+    if (points.length) {
+      const [row, , it] = points[0];
+      const isOpen = points.every(([, , own]) => THOUSANDS_POINT.test(own));
+      found.push(
+        {
+          key: "points as decimals",
+          says:
+            `Beside the commas ${points.length === 1 ? "a number has" : "numbers have"} a point, the first in record ` +
+            `${row}: ${it}. It may be the decimal mark too, or a mark of thousands: say which it is.`,
+          change: `take the point as the decimal mark: ${it} stays`,
+        },
+      );
+      if (isOpen) {
+        const whole = it.replaceAll(".", "").replace(",", ".");
+        found.push(
+          {
+            key: "points as thousands",
+            says: "",
+            change: `take the point as a mark of thousands: ${it} becomes ${whole}`,
+          },
+        );
+      }
+    }
     const dates = this.cells(DATE);
     if (dates.length) {
       const [row, column, it] = dates[0];
@@ -179,17 +220,27 @@ export class Sheet {
     return found;
   }
 
-  /** Makes or takes back a change. Of the two readings of a comma only one holds. */
+  /** Makes or takes back a change. Of the two readings of a comma, or of a point, only one holds. */
   toggle(key, isOn) {
     if (isOn) this.made.add(key);
     else this.made.delete(key);
-    if (isOn && key === "decimals") this.made.delete("thousands");
-    if (isOn && key === "thousands") this.made.delete("decimals");
+    const pair = READINGS.find((it) => it.includes(key));
+    if (isOn && pair) this.made.delete(pair.find((it) => it !== key));
+  }
+
+  /** What has to be said before the file can be taken: words, or nothing. */
+  lacks() {
+    const open = this.findings().some((it) => it.key === "points as decimals");
+    const isSaid = this.made.has("points as decimals") || this.made.has("points as thousands");
+    return open && !isSaid ? "Say what the point in the numbers is." : "";
   }
 
   /** The records with the changes that were asked for. */
   changed() {
     const change = (it) => {
+      if (this.made.has("points as thousands") && THOUSANDS_POINT.test(it)) {
+        return it.replaceAll(".", "").replace(",", ".");
+      }
       if (this.made.has("decimals") && DECIMAL_COMMA.test(it)) return it.replace(",", ".");
       if (this.made.has("thousands") && THOUSANDS_COMMA.test(it)) return it.replaceAll(",", "");
       return it;
@@ -203,7 +254,7 @@ export class Sheet {
     if (isKept) return this.bytes;
     const separated = this.mark === "," || this.made.has("separator") ? this.changed() : null;
     if (!separated) return this.bytes;
-    return new TextEncoder().encode(writeRecords(mapping ? mapping.apply(separated) : separated));
+    return bytesOf(writeRecords(mapping ? mapping.apply(separated) : separated));
   }
 }
 
@@ -211,11 +262,13 @@ export class Sheet {
 export const ROLES = [
   { key: "price", says: "price of the good", good: true },
   { key: "quantity", says: "quantity of the good", good: true },
+  { key: "most", says: "the most of the good that the budget buys (intercept)", good: true },
   { key: "level", says: "own level, in thousandths (e)" },
   { key: "label", says: "label of the observation (obs)" },
   { key: "household", says: "household or subject: one table each" },
   { key: "out", says: "leave it out" },
   { key: "same", says: "as it stands" },
+  { key: "open", says: "choose what it is" },
 ];
 
 const GUESSES = [
@@ -225,6 +278,29 @@ const GUESSES = [
   [/^(.+?)[_. -](?:q|x|qty|quantity)$/i, "quantity"],
 ];
 const HOUSEHOLD = /^(id|hh|hhid|household|household_id|subject|subject_id|person|participant|respondent|panel_id)$/i;
+const LABEL = /^(round|period|year|wave|month|week|trial|decision)$/i;
+const EXTREME = /^(?:(?:max|most|intercept|min|least)[_. -]+(.+)|(.+?)[_. -]+(?:max|most|intercept|min|least))$/i;
+
+/** The good of which a column has the most that the budget buys, by its name; nothing where it has none. */
+function mostOf(name) {
+  const found = EXTREME.exec(name);
+  return found && !/min|least/i.test(name) ? (found[1] ?? found[2]) : null;
+}
+
+/** What a name that the program does not know suggests. */
+function guessed(name) {
+  if (HOUSEHOLD.test(name)) return { role: "household", good: "" };
+  if (LABEL.test(name)) return { role: "label", good: "" };
+  if (EXTREME.test(name)) return { role: "out", good: "" };
+  const guess = GUESSES.map(([pattern, role]) => ({ role, good: pattern.exec(name)?.[1] })).find((it) => it.good);
+  return guess ?? { role: "out", good: "" };
+}
+
+/** Whether each value of a column stands in one record: it numbers the records, or each household has one. */
+export function numbersRecords(records, column) {
+  const values = records.slice(1).map((fields) => (fields[column] ?? "").trim());
+  return values.length > 1 && new Set(values).size === values.length;
+}
 
 /** Which role each column has, and for which good. */
 export class Mapping {
@@ -232,23 +308,42 @@ export class Mapping {
     this.roles = roles;
   }
 
-  /** What the names suggest; a name that the program knows stands as it is. */
-  static suggested(header) {
-    return new Mapping(
-      header.map((name) => {
-        if (/^[pq]_./.test(name) || name === "e" || name === "obs") return { role: "same", good: "" };
-        if (HOUSEHOLD.test(name)) return { role: "household", good: "" };
-        const guess = GUESSES.map(([pattern, role]) => ({ role, good: pattern.exec(name)?.[1] })).find((it) => it.good);
-        return guess ?? { role: "out", good: "" };
-      }),
-    );
+  /**
+   * What the names suggest; a name that the program knows stands as it is. The two intercepts of an experiment's
+   * budgets
+   * are suggested where each of both goods has its quantity too.
+   */
+  static suggested(header, records = []) {
+    const roles = header.map((name) => {
+      if (/^[pq]_./.test(name) || name === "e" || name === "obs") return { role: "same", good: "" };
+      return guessed(name);
+    });
+    const intercepts = header.flatMap((name, at) => (mostOf(name) ? [{ at, good: mostOf(name) }] : []));
+    const quantity = (good) => header.findIndex((name, at) =>
+      name === good || name === `q_${good}` || (roles[at].role === "quantity" && roles[at].good === good));
+    const places = intercepts.map(({ good }) => quantity(good));
+    if (intercepts.length === 2 && places.every((at) => at >= 0) && !roles.some((it) => it.role === "price")) {
+      intercepts.forEach(({ at, good }, number) => {
+        roles[at] = { role: "most", good };
+        if (header[places[number]] !== `q_${good}`) roles[places[number]] = { role: "quantity", good };
+      });
+    }
+    if (roles.filter((it) => it.role === "label").length > 1 || header.includes("obs")) {
+      roles.forEach((it) => it.role === "label" && (it.role = "out"));
+    }
+    const household = roles.findIndex((it) => it.role === "household");
+    if (household >= 0 && numbersRecords(records, household)) roles[household] = { role: "open", good: "" };
+    return new Mapping(roles);
   }
 
   static read(text, header) {
     const saved = JSON.parse(text);
     if (!Array.isArray(saved.columns)) throw new Error("no columns");
     const by = new Map(saved.columns.map((it) => [it.column, it]));
-    return new Mapping(header.map((name) => ({ role: by.get(name)?.role ?? "out", good: by.get(name)?.good ?? "" })));
+    const known = (role) => (ROLES.some((it) => it.key === role) ? role : "out");
+    return new Mapping(
+      header.map((name) => ({ role: known(by.get(name)?.role), good: String(by.get(name)?.good ?? "") })),
+    );
   }
 
   write(header) {
@@ -263,11 +358,26 @@ export class Mapping {
     return this.roles.findIndex((it) => it.role === "household");
   }
 
-  /** The names of the columns for the program, none for a column that is left out. */
+  /** The goods whose intercepts stand in the file, in the order of their columns. */
+  get intercepts() {
+    return this.roles.filter((it) => it.role === "most").map((it) => it.good);
+  }
+
+  /** Whether what is spent is in money of its own at each observation, as where intercepts are exchanged for prices. */
+  get hasOwnMoney() {
+    return this.intercepts.length > 0;
+  }
+
+  /**
+   * The names of the columns for the program, none for a column that is left out. Of two goods the most that the budget
+   * buys of one, taken as the price of the other, gives the budget line: x/a + y/b = 1 is b x + a y = a b.
+   */
   names(header) {
+    const other = (good) => this.intercepts.find((it) => it !== good);
     const name = {
       price: (good) => `p_${good}`,
       quantity: (good) => `q_${good}`,
+      most: (good) => (this.intercepts.length === 2 && other(good) ? `p_${other(good)}` : undefined),
       level: () => "e",
       label: () => "obs",
     };
@@ -276,7 +386,7 @@ export class Mapping {
 
   /** The columns that go to the program, by their places in the file. */
   get kept() {
-    return this.roles.flatMap((it, at) => (it.role === "out" || it.role === "household" ? [] : [at]));
+    return this.roles.flatMap((it, at) => (["out", "household", "open"].includes(it.role) ? [] : [at]));
   }
 
   apply(records) {
@@ -293,9 +403,21 @@ export class Mapping {
 
 /** Tells what of a mapping keeps it from being a table: words, or nothing. */
 export function lacksOf(mapping, header) {
+  const open = mapping.roles.findIndex((it) => it.role === "open");
+  if (open >= 0) {
+    return (
+      `Each value of the column ${header[open]} stands in one record. If it numbers the records, they are one table: ` +
+      "take " +
+      "it for the label, or leave it out. If it tells households apart, each has one record, which can violate nothing."
+    );
+  }
+  if (mapping.roles.filter((it) => it.role === "household").length > 1) return "Two columns are the household.";
   const names = mapping.names(header).filter(Boolean);
   const twice = names.find((it, at) => names.indexOf(it) !== at);
   if (twice) return `Two columns are ${twice}.`;
+  if (mapping.hasOwnMoney && new Set(mapping.intercepts).size !== 2) {
+    return "Intercepts are exchanged for prices where there are two goods, and each has its own: assign both.";
+  }
   const goods = new Set(names.filter((it) => /^[pq]_/.test(it)).map((it) => it.slice(2)));
   if (!goods.size) return "No column is a price or a quantity yet.";
   for (const it of goods) {
@@ -305,17 +427,47 @@ export function lacksOf(mapping, header) {
   return "";
 }
 
-/** Gives the tables of a long file, one for each household in the order of first appearance. */
+/**
+ * Gives the tables of a long file, one for each household in the order of first appearance, each with the numbers that
+ * its records have in the file.
+ */
 export function splitHouseholds(records, mapping) {
   const column = mapping.household;
   const parts = new Map();
-  for (const fields of records.slice(1)) {
+  records.slice(1).forEach((fields, row) => {
     const household = (fields[column] ?? "").trim();
-    if (!parts.has(household)) parts.set(household, [records[0]]);
-    parts.get(household).push(fields);
-  }
-  return [...parts].map(([household, own]) => ({
+    if (!parts.has(household)) parts.set(household, { rows: [records[0]], numbers: [] });
+    parts.get(household).rows.push(fields);
+    parts.get(household).numbers.push(row + 1);
+  });
+  return [...parts].map(([household, { rows, numbers }]) => ({
     household,
-    bytes: new TextEncoder().encode(writeRecords(mapping.apply(own))),
+    numbers,
+    bytes: bytesOf(writeRecords(mapping.apply(rows))),
   }));
+}
+
+/**
+ * Where a fault of a table that was made of a file by a mapping stands in the file: its record and column, from 1, the
+ * column's name and the cell's text; 0 and nothing where the fault has none. `numbers` are the records of the table.
+ */
+export function placeInFile(fault, records, mapping, numbers = null) {
+  const record = fault.record ? (numbers ? (numbers[fault.record - 1] ?? 0) : fault.record) : 0;
+  const isKept = !mapping || mapping.isIdentity(records[0].map((it) => it.trim()));
+  const column = fault.column ? (isKept ? fault.column : (mapping.kept[fault.column - 1] ?? -1) + 1) : 0;
+  const cell = record && column ? (records[record]?.[column - 1] ?? "") : "";
+  return { record, column, name: column ? (records[0][column - 1] ?? "").trim() : "", cell };
+}
+
+/** The same in words. */
+export function placeInWords({ record, column, name, cell }) {
+  const parts = [record ? `record ${record}` : "", column ? `column ${column} (${name})` : ""];
+  const where = parts.filter(Boolean).join(", ");
+  return where ? ` at ${where}${record && column ? `: ${JSON.stringify(cell)}` : ""}` : "";
+}
+
+/** How many names of a header a kind of file has by the catalogue, less those that it has not. */
+export function fitOf(header, { columns, optional }) {
+  const known = [...columns, ...optional].map((it) => new RegExp(`^${it.replace("NAME", ".+")}$`));
+  return header.reduce((sum, name) => sum + (known.some((it) => it.test(name)) ? 1 : -1), 0);
 }

@@ -1,14 +1,19 @@
 /** A place for one file: dropped, chosen, pasted or an example; what was found of its form, and the columns' roles. */
 import { button, folded, freshId, keepFile, labelled, make, tableOf } from "./dom.js";
-import { Mapping, ROLES, Sheet, lacksOf } from "./sheets.js";
+import { Mapping, ROLES, Sheet, lacksOf, otherThanText, placeInFile, placeInWords } from "./sheets.js";
 
-// How many records of a file are shown.
-const SHOWN = 8;
+// How many records of a file are shown, and how many bytes are read unasked.
+const [SHOWN, MOST_UNASKED] = [8, 20 * 2 ** 20];
 
 export class Slot {
-  /** `form` has the slot's key, its title, whether columns can be assigned, and its examples by name. */
-  constructor(form, examples, onReady) {
-    [this.form, this.examples, this.onReady] = [form, examples, onReady];
+  /**
+   * `form` has the slot's key, its title, whether columns can be assigned, and its examples by name. `onChange` is
+   * called
+   * before anything else is asked of the slot than was answered, `onReady` when its file is to be answered.
+   */
+  constructor(form, examples, { onChange, onReady }) {
+    [this.form, this.examples, this.onChange, this.onReady] = [form, examples, onChange, onReady];
+    [this.sheet, this.mapping, this.reading] = [null, null, 0];
     this.body = make("div");
     this.place = make(
       "div",
@@ -26,8 +31,12 @@ export class Slot {
     this.place.addEventListener("drop", (event) => {
       event.preventDefault();
       this.place.classList.remove("over");
-      if (event.dataTransfer.files[0]) this.#takeFile(event.dataTransfer.files[0]);
+      if (event.dataTransfer.files[0]) this.takeFile(event.dataTransfer.files[0]);
     });
+  }
+
+  get title() {
+    return this.form.title;
   }
 
   #ways() {
@@ -36,7 +45,7 @@ export class Slot {
       {
         type: "file",
         id: `file-${this.form.key}`,
-        onchange: () => chooser.files[0] && this.#takeFile(chooser.files[0]),
+        onchange: () => chooser.files[0] && this.takeFile(chooser.files[0]),
       },
     );
     const pasted = make("textarea", { id: `paste-${this.form.key}`, spellcheck: false });
@@ -58,14 +67,53 @@ export class Slot {
     );
   }
 
-  async #takeFile(file) {
-    this.take(file.name, new Uint8Array(await file.arrayBuffer()));
+  /** Takes a file, and asks before it reads a very large one. */
+  takeFile(file) {
+    if (file.size <= MOST_UNASKED) return this.#read(file);
+    this.#clear();
+    const size = `${file.name} has ${(file.size / 2 ** 20).toFixed(1)} MB, and was not read.`;
+    const way =
+      `Beyond ${MOST_UNASKED / 2 ** 20} MB the page may take minutes, or run out of memory: the panel's command, ` +
+      "rp-panel, takes such files, and so do the packages for Python and R.";
+    this.body.replaceChildren(
+      make(
+        "div",
+        { className: "fault", attrs: { role: "alert" } },
+        make("strong", { textContent: size }),
+        make("p", { textContent: way }),
+        button("Read it all the same", () => this.#read(file)),
+      ),
+    );
+    return null;
+  }
+
+  async #read(file) {
+    this.#clear();
+    const own = this.reading;
+    const bytes = new Uint8Array(await file.arrayBuffer());
+    if (own === this.reading) this.take(file.name, bytes);
+  }
+
+  /** Forgets the file that was there, and all that was answered of it. */
+  #clear() {
+    this.reading += 1;
+    [this.sheet, this.mapping] = [null, null];
+    this.body.replaceChildren();
+    this.onChange(this);
   }
 
   /** Takes a file's bytes, and shows what it is. */
   take(name, bytes) {
+    this.#clear();
+    const other = otherThanText(bytes);
+    if (other) {
+      const says = make("strong", { textContent: `${name} is not taken.` });
+      const way = make("p", { textContent: other });
+      this.body.replaceChildren(make("div", { className: "fault", attrs: { role: "alert" } }, says, way));
+      return;
+    }
     this.sheet = new Sheet(/^[^-]/.test(name) ? name : `file ${name}`, bytes);
-    this.mapping = this.form.mapped ? Mapping.suggested(this.sheet.header) : null;
+    this.mapping = this.form.mapped ? Mapping.suggested(this.sheet.header, this.sheet.records) : null;
     this.isAsked = this.sheet.findings().some((it) => it.change) || Boolean(
       this.mapping && !this.mapping.isIdentity(this.sheet.header),
     );
@@ -79,19 +127,24 @@ export class Slot {
     return { name: this.sheet.name, bytes: this.sheet.bytesFor(this.mapping) };
   }
 
-  show(fault = null) {
+  /** Shows the file; where it was answered, what was asked of its form and its records are folded. */
+  show(fault = null, isAnswered = false) {
     const sheet = this.sheet;
     const size =
       `${sheet.name}: ${Math.max(0, sheet.records.length - 1)} records of ${sheet.header.length} columns, ` +
       `${sheet.bytes.length.toLocaleString("en")} bytes.`;
+    const isOpen = Boolean(fault) || (this.isAsked && !isAnswered);
     const asked = this.isAsked
       ? [this.#changes(), this.#go()]
       : sheet.findings().map((it) => make("p", { className: "finding", textContent: it.says }));
+    const preview = folded("The records, as they stand", this.#preview(fault));
+    preview.open = isOpen;
+    const isFolded = this.isAsked && !isOpen;
     this.body.replaceChildren(
       make("p", { textContent: size }),
       ...(fault ? [this.#fault(fault)] : []),
-      ...asked,
-      this.#preview(fault),
+      ...(isFolded ? [folded("What the columns are, and what was changed", ...asked)] : asked),
+      preview,
     );
   }
 
@@ -105,13 +158,13 @@ export class Slot {
         checked: this.sheet.made.has(it.key),
         onchange: () => {
           this.sheet.toggle(it.key, box.checked);
-          this.show();
+          this.#changed();
         },
       });
       return make(
         "div",
         { className: "finding" },
-        says,
+        ...(it.says ? [says] : []),
         make("span", {}, box, make("label", { htmlFor: box.id, textContent: ` Change: ${it.change}` })),
       );
     });
@@ -128,7 +181,7 @@ export class Slot {
     const header = this.sheet.header;
     const rows = header.map((name, at) => {
       const own = this.mapping.roles[at];
-      const options = ROLES.map(
+      const options = ROLES.filter((it) => it.key !== "open" || own.role === "open").map(
         (it) => make("option", { value: it.key, textContent: it.says, selected: it.key === own.role }),
       );
       const role = make(
@@ -168,14 +221,7 @@ export class Slot {
       "fieldset",
       {},
       make("legend", { textContent: "What the columns are" }),
-      make(
-        "p",
-        {
-          textContent:
-            "These names are not those of the program. The assignment below is a suggestion from the names; change " +
-            "what is wrong.",
-        },
-      ),
+      make("p", { textContent: this.#suggested() }),
       make("div", { className: "scroll" }, make("table", {}, make("thead", {}, head), make("tbody", {}, ...rows))),
       make("p", { className: "fault", textContent: lacks, hidden: !lacks }),
       make(
@@ -187,30 +233,67 @@ export class Slot {
     );
   }
 
-  #assign(at, role, good) {
-    this.mapping.roles[at] = { role, good: ROLES.find((it) => it.key === role).good ? good : "" };
+  /** What the assignment that is shown is a suggestion from. */
+  #suggested() {
+    if (this.mapping.hasOwnMoney) {
+      return (
+        `The budget lines stand here by their intercepts, the most of ${this.mapping.intercepts.join(" and of ")} ` +
+        `that ` +
+        "they buy. Exchanged, intercepts are exact prices: that of one good is the price of the other. What is spent " +
+        "is " +
+        "then in money of its own at each observation, so what adds money of several is not asked: the quasilinear " +
+        "test, " +
+        "the money pump. Change what is wrong."
+      );
+    }
+    const known = this.mapping.roles.some((it) => it.role === "same");
+    const names = known
+      ? "Prices and quantities have their names. What the other columns are is suggested by theirs; "
+      : "These names are not those of the program. The assignment below is suggested by the names; ";
+    return `${names}change what is wrong.`;
+  }
+
+  /** After a change of what is asked: what was answered before it is gone. */
+  #changed() {
+    this.isTaken = false;
+    this.onChange(this);
     this.show();
   }
 
+  #assign(at, role, good) {
+    this.mapping.roles[at] = { role, good: ROLES.find((it) => it.key === role).good ? good : "" };
+    this.#changed();
+  }
+
   async #load(file) {
+    const own = this.reading;
     try {
-      this.mapping = Mapping.read(await file.text(), this.sheet.header);
-      this.show();
+      const text = await file.text();
+      if (own !== this.reading) return;
+      this.mapping = Mapping.read(text, this.sheet.header);
+      this.#changed();
     } catch {
       this.show({ file: file.name, means: "This is no saved assignment of columns.", record: 0, column: 0 });
     }
   }
 
+  #answer() {
+    this.onChange(this);
+    this.isTaken = true;
+    this.onReady(this);
+  }
+
   #go() {
-    const lacks = this.mapping && !this.mapping.isIdentity(this.sheet.header)
+    const lacks = this.sheet.lacks() || (this.mapping && !this.mapping.isIdentity(this.sheet.header)
       ? lacksOf(this.mapping, this.sheet.header)
-      : "";
-    const go = button("Answer with this", () => this.onReady(this), "first");
+      : "");
+    const go = button("Answer with this", () => this.#answer(), "first");
     go.disabled = Boolean(lacks);
     return make(
       "div",
       { className: "row" },
       go,
+      ...(this.sheet.lacks() ? [make("span", { textContent: lacks })] : []),
       make(
         "span",
         {
@@ -223,34 +306,18 @@ export class Slot {
 
   /** What the program says of a file that it does not take. */
   #fault(fault) {
-    const column = this.#columnOf(fault);
-    const cell = fault.record && column >= 0
-      ? `: ${JSON.stringify(this.sheet.records[fault.record]?.[column] ?? "")}`
-      : "";
-    const where = [
-      fault.record ? `record ${fault.record}` : "",
-      column >= 0 ? `column ${column + 1} (${this.sheet.header[column]})` : "",
-    ].filter(Boolean).join(", ");
-    const place = where ? ` at ${where}${cell}` : "";
+    const where = placeInWords(placeInFile(fault, this.sheet.records, this.mapping));
     return make(
       "div",
       { className: "fault", id: `fault-${this.form.key}`, attrs: { role: "alert" } },
-      make("strong", { textContent: `${fault.file || this.sheet.name} is refused: ${fault.fault ?? "it"}${place}.` }),
+      make("strong", { textContent: `${fault.file || this.sheet.name} is refused: ${fault.fault ?? "it"}${where}.` }),
       make("p", { textContent: fault.means }),
     );
   }
 
-  /** The column of the file that the program's column is. */
-  #columnOf(fault) {
-    if (!fault?.column) return -1;
-    return this.mapping && !this.mapping.isIdentity(this.sheet.header)
-      ? (this.mapping.kept[fault.column - 1] ?? -1)
-      : fault.column - 1;
-  }
-
   #preview(fault) {
     const records = this.sheet.changed();
-    const column = this.#columnOf(fault);
+    const column = fault ? placeInFile(fault, this.sheet.records, this.mapping).column - 1 : -1;
     const first = fault?.record ? Math.max(1, fault.record - 2) : 1;
     const shown = records.slice(first, first + SHOWN);
     const names = this.sheet.header.map(

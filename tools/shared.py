@@ -10,6 +10,8 @@ from importlib.util import module_from_spec, spec_from_loader
 TOP = os.path.dirname(os.path.dirname(os.path.realpath(__file__)))
 # The program that the gate or ./prove left.
 PROGRAM = f"{TOP}/crates/rp/out/rp"
+# The program that answers what that one withholds.
+WIDE = f"{TOP}/crates/rp_wide/out/rp_wide"
 TOGETHER = {"stdin": subprocess.DEVNULL, "stdout": subprocess.PIPE, "stderr": subprocess.STDOUT, "text": True, "errors": "replace"}
 
 

@@ -6,7 +6,9 @@ usage: wheels.py FOLDER [FILE..]
 Without files it writes the wheel for every platform, and the sdist. With the library `librp.so` or `rp.dll`, or the
 program `rp` or `rp.exe`, it writes the wheel of that platform, which has them inside, and among its own documents the
 files `NOTICE` and `PROVED` of a release where they are given. pip gives them by `--config-settings=library=FILE`,
-`program=FILE` and `told=FILE`.
+`program=FILE` and `told=FILE`. With `rp.c` and `rp.h`, the library as one C file, it writes the sdist that has these
+inside, with NOTICE and PROVED beside them: pip compiles the library of it (`compiled.py`), unless
+`--config-settings=library=none` says not to.
 """
 
 import base64
@@ -20,8 +22,11 @@ import tarfile
 import time
 import zipfile
 
+import compiled
+
 NAME = "revealed"
 HERE = os.path.dirname(os.path.abspath(__file__))
+ONE_FILE = os.path.join(HERE, "onefile")  # of an sdist that compiles the library
 OLDEST = (2, 17)  # of what needs no version of the C library: the oldest that installers have a name for
 MACHINES = {62: "x86_64", 183: "aarch64"}
 METADATA = """Metadata-Version: 2.1
@@ -39,20 +44,48 @@ Description-Content-Type: text/markdown
 {readme}"""
 
 
+def get_requires_for_build_wheel(config_settings=None):
+    """Returns what a build wants beside this: setuptools where the library is compiled."""
+    return ["setuptools"] if is_compiled(config_settings) else []
+
+
+def is_compiled(config_settings=None):
+    """Whether the library is compiled here: it came as a C file, and nothing else is given, nor is it refused."""
+    return os.path.exists(os.path.join(ONE_FILE, "rp.c")) and not {"library", "program"} & set(config_settings or {})
+
+
+def prepare_metadata_for_build_wheel(metadata_directory, config_settings=None):
+    """Writes what installers ask before they build, so that nothing is compiled for it, and returns its name."""
+    info = f"{NAME}-{version()}.dist-info"
+    os.makedirs(os.path.join(metadata_directory, info))
+    for name, data in {"METADATA": metadata(), "WHEEL": wheel_of(is_compiled(config_settings), "any")}.items():
+        with open(os.path.join(metadata_directory, info, name), "wb") as it:
+            it.write(data)
+    return info
+
+
 def build_wheel(wheel_directory, config_settings=None, metadata_directory=None):
     """Writes the wheel into a folder, and returns its name."""
-    files = [it for name in ("library", "program", "told") for it in listed((config_settings or {}).get(name))]
-    return write_wheel(wheel_directory, files)
+    files = [it for name in ("library", "program", "told") for it in listed((config_settings or {}).get(name)) if it != "none"]
+    if not is_compiled(config_settings):
+        return write_wheel(wheel_directory, files)
+    try:
+        made = {compiled.NAME: compiled.compiled(ONE_FILE)}
+    except compiled.Failed as wrong:
+        raise SystemExit(f"revealed: {wrong}") from None
+    told = [os.path.join(ONE_FILE, it) for it in ("NOTICE", "PROVED") if os.path.exists(os.path.join(ONE_FILE, it))]
+    return write_wheel(wheel_directory, [*files, *told], made, compiled.platform_tag())
 
 
-def build_sdist(sdist_directory, config_settings=None):
-    """Writes the sdist into a folder, and returns its name."""
+def build_sdist(sdist_directory, config_settings=None, extra=()):
+    """Writes the sdist into a folder, and returns its name; these files stand in its folder of the library as one C file."""
     top = f"{NAME}-{version()}"
     files = {f"{top}/PKG-INFO": metadata()}
-    for name in ("README.md", "EXPERIMENT.md", "pyproject.toml", "wheels.py"):
+    for name in ("README.md", "EXPERIMENT.md", "compiled.py", "pyproject.toml", "wheels.py"):
         files[f"{top}/{name}"] = bytes_of(os.path.join(HERE, name))
     files.update({f"{top}/{name}": data for name, data in own_license()})
-    for folder in (NAME, "tests", "data"):
+    files.update({f"{top}/onefile/{os.path.basename(it)}": bytes_of(it) for it in extra})
+    for folder in (NAME, "tests", "data", "onefile"):
         files.update({f"{top}/{name}": data for name, data in sources(folder)})
     packed = io.BytesIO()
     with tarfile.open(fileobj=packed, mode="w", format=tarfile.USTAR_FORMAT) as tar:
@@ -66,11 +99,12 @@ def build_sdist(sdist_directory, config_settings=None):
     return f"{top}.tar.gz"
 
 
-def write_wheel(folder, extra=()):
-    """Writes the wheel with these libraries and programs inside, and returns its name."""
-    inside = {os.path.basename(it): bytes_of(it) for it in extra}
+def write_wheel(folder, extra=(), made=None, of_platform=None):
+    """Writes the wheel with these libraries and programs inside, and returns its name; those that were compiled here are
+    given as bytes, with the name of the platform."""
+    inside = {**{os.path.basename(it): bytes_of(it) for it in extra}, **(made or {})}
     told = {name: inside.pop(name) for name in ("NOTICE", "PROVED") if name in inside}
-    tags = {tag_of(name, data) for name, data in inside.items()} or {"any"}
+    tags = {of_platform} if of_platform else {tag_of(name, data) for name, data in inside.items()} or {"any"}
     if len(tags) > 1 and not all(it.startswith("manylinux") for it in tags):
         raise SystemExit(f"wheels: these are of several platforms: {sorted(tags)}")
     tag = max(tags, key=lambda it: tuple(map(int, re.findall(r"\d+", it))))
@@ -79,7 +113,7 @@ def write_wheel(folder, extra=()):
     files.update({f"{NAME}/{name}": data for name, data in inside.items()})
     files.update({f"{info}/{name}": data for name, data in [*own_license(), *told.items()]})
     files[f"{info}/METADATA"] = metadata()
-    files[f"{info}/WHEEL"] = f"Wheel-Version: 1.0\nGenerator: wheels\nRoot-Is-Purelib: {'false' if inside else 'true'}\nTag: py3-none-{tag}\n".encode()
+    files[f"{info}/WHEEL"] = wheel_of(bool(inside), tag)
     record = "".join(f"{name},sha256={digest(data)},{len(data)}\n" for name, data in sorted(files.items()))
     files[f"{info}/RECORD"] = f"{record}{info}/RECORD,,\n".encode()
     wheel = f"{NAME}-{version()}-py3-none-{tag}.whl"
@@ -91,6 +125,11 @@ def write_wheel(folder, extra=()):
             head.external_attr, head.compress_type, head.create_system = (0o100755 if runs else 0o100644) << 16, zipfile.ZIP_DEFLATED, 3
             it.writestr(head, data)
     return wheel
+
+
+def wheel_of(has_inside, tag):
+    """Returns the text of the file WHEEL."""
+    return f"Wheel-Version: 1.0\nGenerator: wheels\nRoot-Is-Purelib: {'false' if has_inside else 'true'}\nTag: py3-none-{tag}\n".encode()
 
 
 def tag_of(name, data):
@@ -152,6 +191,9 @@ def digest(data):
 if __name__ == "__main__":
     if len(sys.argv) < 2 or sys.argv[1].startswith("-"):
         raise SystemExit(__doc__)
+    if any(os.path.basename(it) == "rp.c" for it in sys.argv[2:]):
+        print(build_sdist(sys.argv[1], extra=sys.argv[2:]))
+        sys.exit()
     print(write_wheel(sys.argv[1], sys.argv[2:]))
     if not sys.argv[2:]:
         print(build_sdist(sys.argv[1]))

@@ -3,25 +3,61 @@
  * tools/check/page-logic, which puts the page's modules beside this file as the build makes them.
  */
 import assert from "node:assert/strict";
+import { readFileSync } from "node:fs";
 import { test } from "node:test";
+import { boundOf } from "./answers.js";
+import { aboveThresholds, shareInWords } from "./benchmark.js";
+import { wordsOf } from "./command.js";
+import { amountsOf, behaviour, drawnTable, words } from "./draws.js";
 import { commands, facts, limit, range } from "./facts.js";
-import { randomTable, rowOf } from "./panels.js";
-import { boundRows, firmSays, populationSays, wordsOf } from "./questions.js";
+import { boundRows } from "./panel_questions.js";
+import { rowOf } from "./panels.js";
+import { equalUtility, utilityOf } from "./pictures.js";
+import { nameBeside, withLevel } from "./questions.js";
 import {
   FAULTS,
   Purchases,
-  VERDICTS,
+  about,
   asNumber,
   cycleSentences,
   decimal,
+  decimalOf,
   inUnits,
+  isAbove,
   numbersIn,
   parseFault,
   parseReport,
+  productSentences,
+  sumSentences,
+  walkInWords,
 } from "./reports.js";
-import { Mapping, Sheet, lacksOf, parseRecords, splitHouseholds, writeRecords } from "./sheets.js";
+import { Runs } from "./runs.js";
+import {
+  costSays,
+  demandBounds,
+  demandSays,
+  firmSays,
+  populationSays,
+  pumpSays,
+  utilitySays,
+  welfareSays,
+} from "./says.js";
+import { sentence, sentences } from "./sentences.js";
+import {
+  Mapping,
+  Sheet,
+  bytesOf,
+  fitOf,
+  lacksOf,
+  numbersRecords,
+  otherThanText,
+  parseRecords,
+  placeInFile,
+  placeInWords,
+  splitHouseholds,
+  writeRecords,
+} from "./sheets.js";
 
-const bytesOf = (text) => new TextEncoder().encode(text);
 const CONTRADICTION = "p_bread,q_bread,p_wine,q_wine\n1,1,2,2\n2,2,1,1\n";
 const REPORT =
   "observations 2 goods 2 places 0 0\ngarp violated\ncycle 1 2 1\nafriat none\ncycle 1 2 1\n" +
@@ -50,10 +86,67 @@ test("each line of a fault is read with its places", () => {
   assert.equal(parseFault("rp: t.csv: read failed\n"), null);
 });
 
-test("each word of a verdict in the catalogue has words, and no other has", () => {
-  const shape = (of) => Object.fromEntries(Object.entries(of).map(([name, words]) => [name, [...words].sort()]));
-  const own = Object.fromEntries(Object.entries(VERDICTS).map(([name, words]) => [name, Object.keys(words)]));
-  assert.deepEqual(shape(own), shape(facts().verdicts));
+// What verdicts are of tables with levels of the observations' own, and which of shares that may be shared out by
+// units.
+const [OF_LEVELS, OF_UNITS] = [["garp", "afriat", "homothetic", "quasilinear"], ["random", "menus"]];
+
+test("each word of a verdict in the catalogue has one sentence, also with levels and with units", () => {
+  for (const [item, own] of Object.entries(facts().verdicts)) {
+    for (const verdict of own) {
+      for (const on of [false, true]) {
+        const holds = OF_LEVELS.includes(item) ? { levels: on } : OF_UNITS.includes(item) ? { apportioned: on } : {};
+        const values = { share: "3/4", about: "", units: "10" };
+        const found = sentence(item, verdict, holds, values);
+        assert.match(found.head, /^[A-Z]/);
+        assert.match(found.says, /^[A-Z][^]*[.]$/);
+      }
+    }
+    const told = sentences().filter((it) => it.item === item && it.verdict !== "bounds").map((it) => it.verdict);
+    assert.deepEqual([...new Set(told)].sort(), [...own].sort());
+  }
+});
+
+test("with levels no sentence on the axiom speaks of all that was spent, and the others say that they do", () => {
+  const pair = (item, verdict, values) => [false, true].map((levels) => sentence(item, verdict, { levels, ...values }));
+  for (const [item, verdict] of [["garp", "holds"], ["garp", "violated"], ["afriat", "model"], ["afriat", "none"]]) {
+    const [plain, held] = pair(item, verdict);
+    assert.notEqual(plain.says, held.says);
+    assert.match(held.says, /level|part which counts/);
+    assert.doesNotMatch(plain.says, /level/);
+  }
+  const own = sentence("homothetic", "holds", { levels: true }).says;
+  assert.match(own, /All that was spent counts here, and not the levels/);
+});
+
+test("an index of 1 is told apart by whether it is attained", () => {
+  assert.deepEqual(
+    [["1", "yes"], ["1", "no"], ["4/5", "yes"], ["4/5", "no"]].map(([index, attained]) => boundOf(index, attained)),
+    ["1, attained", "1, not attained", "below 1, attained", "below 1, not attained"],
+  );
+  const of = (bound) => sentence("efficiency", "index", { levels: false, bound }, { index: "4/5", about: " (0.8)" });
+  assert.equal(of("1, attained").head, "1: nothing has to be left out of account");
+  assert.match(of("1, not attained").says, /where all of it counts, no consumer can/);
+  assert.equal(of("below 1, attained").head, "4/5 (0.8)");
+  assert.match(of("below 1, not attained").says, /any part below 4\/5 .* where 4\/5 or more counts, no consumer can/);
+});
+
+test("of shares in units the sentence speaks of the rounded ones", () => {
+  const exact = "budgets 2 patches 4 types 3 total 4\nrandom mixture over 4\npart 1 3 weight 4\n";
+  const units = "budgets 2 patches 4 types 3 total 10\napportioned per 10\nrandom mixture over 10\npart 1 3 weight " +
+    "10\n";
+  assert.match(populationSays(exact, "random").head, /^Yes: a population can have made these choices$/);
+  assert.equal(populationSays(units, "random").head, "Yes, of the rounded shares");
+  assert.match(populationSays(units, "random").says, /shared out among 10 units .* rounded/);
+  assert.match(populationSays(units, "random").says, /before rounding it says nothing/);
+  for (const it of [exact, units]) assert.match(populationSays(it, "random").says, /a sample/);
+});
+
+test("what was asked of one input shows nothing once another run has begun", () => {
+  const runs = new Runs();
+  const first = runs.begin();
+  assert.ok(first.isCurrent());
+  const second = runs.begin();
+  assert.deepEqual([first.isCurrent(), second.isCurrent()], [false, true]);
 });
 
 test("limits and ranges are those of the catalogue", () => {
@@ -86,6 +179,9 @@ test("fractions, decimals and units", () => {
   assert.equal(inUnits("124250/381", 2), "2485/762");
   assert.equal(inUnits("300", 2), "3");
   assert.deepEqual(numbersIn("none"), []);
+  assert.deepEqual(["4/5", "1", "1958051/1962469"].map(about), [" (0.8)", "", " (about 0.9977)"]);
+  // rounded down, so that what is below 1 reads below 1
+  assert.equal(decimalOf("999999999/1000000000", 6), "0.999999");
 });
 
 test("what bundles cost, and the steps of a cycle in words", () => {
@@ -95,9 +191,38 @@ test("what bundles cost, and the steps of a cycle in words", () => {
     "In observation 1 you could have had the bundle of 2 for 4, and paid 5.",
     "In observation 2 you could have had the bundle of 1 for 4, and paid 5.",
   ]);
+  const held = new Purchases(parseRecords("p_a,q_a,p_b,q_b,e\n1,1,2,2,800\n2,2,1,1,1000\n", ","));
+  assert.deepEqual(cycleSentences([1, 2, 1], held), [
+    "In observation 1 you could have had the bundle of 2 for 4, within the 4 that count of the 5 paid.",
+    "In observation 2 you could have had the bundle of 1 for 4, within the 5 that count of the 5 paid.",
+  ]);
+  assert.equal(walkInWords([1, 2, 1]), "from observation 1 to 2, and back to 1");
+  assert.equal(walkInWords([3, 1, 2, 3]), "from observation 3 to 1 and 2, and back to 3");
+  assert.deepEqual(productSentences([1, 2, 1], table), [
+    "At the prices of 1 the bundle of 2 costs 4, where 5 was paid: 4/5 (0.8) of it.",
+    "At the prices of 2 the bundle of 1 costs 4, where 5 was paid: 4/5 (0.8) of it.",
+    "Multiplied round the cycle this is 16/25 (0.64), below 1. With such a preference it is nowhere below 1.",
+  ]);
+  assert.deepEqual(sumSentences([1, 2, 1], table).slice(0, 2), [
+    "At the prices of 1 the bundle of 2 costs 1 less than what was bought.",
+    "At the prices of 2 the bundle of 1 costs 1 less than what was bought.",
+  ]);
+  assert.match(sumSentences([1, 2, 1], table)[2], /^Added round the cycle the next bundles cost 2 less/);
   const fine = new Purchases(parseRecords("obs,p_a,q_a\nx,1.25,0.5\ny,2,1\n", ","));
   assert.equal(fine.money(fine.cost(0, 0)), "0.625");
   assert.deepEqual(fine.labels, ["x", "y"]);
+});
+
+test("a curve of equal utility with levels counts the part that they name", () => {
+  const table = new Purchases(parseRecords("p_a,q_a,p_b,q_b,e\n1,1,2,2,800\n2,2,1,1,1000\n", ","));
+  const model = { utility: [0, -1000], lambda: [1, 2] };
+  // at the bundle of 1: 0 + 1 (1000 * 5 - 800 * 5) = 1000, and -1000 + 2 (1000 * 4 - 1000 * 5) = -3000
+  assert.equal(utilityOf(table, model, 0), -3000);
+  // the bundles of utility -3000 cost at least (4000 - 3000) / 1000 at the prices of 1, and 4 at those of 2
+  const curve = equalUtility(table, model, -3000, 4, 2);
+  assert.deepEqual(curve, [[0, 4], [2, 0], [4, -1.5]]);
+  assert.equal(table.unit, "in units of 0.001 of money");
+  assert.equal(new TextDecoder().decode(withLevel(bytesOf("p_a,q_a\n1,2\n"), 950)), "p_a,q_a,e\n1,2,950\n");
 });
 
 test("what is found in files, and the change that is offered", () => {
@@ -112,6 +237,32 @@ test("what is found in files, and the change that is offered", () => {
   assert.equal(new TextDecoder().decode(sheet.bytesFor(null)), "p_a;q_a\n1,5;2\n");
   for (const it of ["separator", "decimals"]) sheet.toggle(it, true);
   assert.equal(new TextDecoder().decode(sheet.bytesFor(null)), "p_a,q_a\n1.5,2\n");
+});
+
+test("semicolons with 0,5 and 1.234 in one file are asked about", () => {
+  const german = () => new Sheet("t.csv", bytesOf("p_a;q_a\n0,5;1.234\n2;3\n"));
+  assert.deepEqual(
+    german().findings().map((it) => it.key),
+    ["separator", "decimals", "points as decimals", "points as thousands"],
+  );
+  const taken = (...keys) => {
+    const sheet = german();
+    for (const it of ["separator", "decimals", ...keys]) sheet.toggle(it, true);
+    return [sheet.lacks(), new TextDecoder().decode(sheet.bytesFor(null))];
+  };
+  assert.match(taken()[0], /Say what the point/);
+  assert.deepEqual(taken("points as thousands"), ["", "p_a,q_a\n0.5,1234\n2,3\n"]);
+  assert.deepEqual(taken("points as decimals"), ["", "p_a,q_a\n0.5,1.234\n2,3\n"]);
+  assert.deepEqual(taken("points as decimals", "points as thousands"), taken("points as thousands"));
+  const mixed = new Sheet("t.csv", bytesOf("p_a;q_a\n0,5;1.234,5\n2;1.25\n"));
+  assert.deepEqual(mixed.findings().map((it) => it.key), ["separator", "decimals", "points as decimals"]);
+});
+
+test("a workbook and a PDF are told to be no text", () => {
+  assert.match(otherThanText(Uint8Array.of(0x50, 0x4b, 3, 4, 20)), /workbook.*save the sheet as CSV/);
+  assert.match(otherThanText(Uint8Array.of(0xd0, 0xcf, 0x11, 0xe0)), /workbook/);
+  assert.match(otherThanText(bytesOf("%PDF-1.7")), /PDF/);
+  assert.equal(otherThanText(bytesOf("p_a,q_a\n")), "");
 });
 
 test("records with quotes are read and written back", () => {
@@ -131,6 +282,66 @@ test("columns of other names are assigned, and what lacks is said", () => {
   assert.deepEqual(read.roles.map((it) => it.role), ["household", "out"]);
 });
 
+test("a column id that numbers the records is asked about, and not taken for households", () => {
+  const header = ["id", "p_a", "q_a"];
+  const numbered = parseRecords("id,p_a,q_a\n1,1,2\n2,3,4\n", ",");
+  const mapping = Mapping.suggested(header, numbered);
+  assert.deepEqual([mapping.roles[0].role, mapping.household], ["open", -1]);
+  assert.match(lacksOf(mapping, header), /^Each value of the column id stands in one record\./);
+  assert.ok(numbersRecords(numbered, 0));
+  const twice = parseRecords("id,p_a,q_a\n1,1,2\n1,3,4\n", ",");
+  assert.equal(Mapping.suggested(header, twice).household, 0);
+  assert.equal(lacksOf(Mapping.suggested(header, twice), header), "");
+});
+
+test("x_max is no quantity by guess, and intercepts are exchanged where the columns say so", () => {
+  const header = ["subject", "round", "x_max", "y_max", "x", "y"];
+  const records = parseRecords("subject,round,x_max,y_max,x,y\n1,1,40,80,10,60\n1,2,90,60,30,40\n", ",");
+  const mapping = Mapping.suggested(header, records);
+  assert.deepEqual(mapping.roles.map((it) => it.role), ["household", "label", "most", "most", "quantity", "quantity"]);
+  assert.ok(mapping.hasOwnMoney);
+  assert.equal(lacksOf(mapping, header), "");
+  // the price of x is the intercept of y, and the other way round
+  assert.deepEqual(mapping.apply(records), [
+    ["obs", "p_y", "p_x", "q_x", "q_y"],
+    ["1", "40", "80", "10", "60"],
+    ["2", "90", "60", "30", "40"],
+  ]);
+  const alone = Mapping.suggested(["x_max", "p_a", "q_a"], []);
+  assert.deepEqual(alone.roles.map((it) => it.role), ["out", "same", "same"]);
+  const named = Mapping.suggested(["max_x", "max_y", "q_x", "q_y"], []);
+  assert.deepEqual(named.roles.map((it) => it.role), ["most", "most", "same", "same"]);
+  assert.equal(lacksOf(named, ["max_x", "max_y", "q_x", "q_y"]), "");
+});
+
+test("a fault of a household is told at its place in the file", () => {
+  const records = parseRecords("note,id,p_a,q_a\n,v,1,2\n,u,3,4\n,v,5,x6\n", ",");
+  const mapping = Mapping.suggested(["note", "id", "p_a", "q_a"], records);
+  const [v] = splitHouseholds(records, mapping);
+  assert.deepEqual(v.numbers, [1, 3]);
+  const fault = parseFault("rp: table.csv: BadNumber record 2 column 2\n");
+  assert.equal(placeInWords(placeInFile(fault, records, mapping, v.numbers)), ' at record 3, column 4 (q_a): "x6"');
+  const row = rowOf(
+    { household: "v", status: 4, output: "", told: "rp: table.csv: BadNumber record 2 column 2\n" },
+    (it) => placeInWords(placeInFile(it, records, mapping, v.numbers)),
+  );
+  assert.match(row.told, /^BadNumber at record 3, column 4 \(q_a\): "x6"\. This is no number/);
+  assert.equal(placeInWords(placeInFile(parseFault("rp: t.csv: NoRecords\n"), records, null)), "");
+});
+
+test("a file that is dropped beside the places goes to the one that it fits", () => {
+  const kind = (name) => facts().kinds.find((it) => it.name === name);
+  const [budgets, choices] = [["p_a", "p_b", "w"], ["budget", "q_a", "q_b", "n"]];
+  assert.ok(fitOf(budgets, kind("budgets")) > fitOf(budgets, kind("choices")));
+  assert.ok(fitOf(choices, kind("choices")) > fitOf(choices, kind("budgets")));
+});
+
+test("what is typed beside a file has another name than the file", () => {
+  assert.equal(nameBeside("new prices", "t.csv"), "new prices");
+  assert.equal(nameBeside("new prices", "new prices"), "the new prices");
+  assert.equal(nameBeside("bundles", "bundles", "the bundles"), "the the bundles");
+});
+
 test("a panel is split by household, in the order of first appearance", () => {
   const records = parseRecords("id,p_a,q_a\nv,1,2\nu,3,4\nv,5,6\n", ",");
   const parts = splitHouseholds(records, Mapping.suggested(["id", "p_a", "q_a"]));
@@ -140,46 +351,101 @@ test("a panel is split by household, in the order of first appearance", () => {
 
 test("the row of a household: its verdicts, or what is told", () => {
   const row = rowOf({ household: "u", status: 0, output: REPORT, told: "" });
-  assert.deepEqual([row.garp, row.efficiency, row.attained, row.cycle], ["violated", "4/5", "yes", "1 2 1"]);
+  assert.deepEqual(
+    [row.garp, row.efficiency, row.decimal, row.attained, row.cycle],
+    ["violated", "4/5", "0.8", "yes", "1 2 1"],
+  );
   const refused = rowOf(
     { household: "v", status: 4, output: "", told: "rp: table.csv: ZeroPrice record 2 column 3\n" },
   );
   assert.deepEqual(
     [refused.status, refused.garp, refused.told],
-    ["4", "", "rp: table.csv: ZeroPrice record 2 column 3"],
+    ["4", "", "ZeroPrice. A price is 0; prices are above 0."],
   );
 });
 
-test("random behaviour: a share of each good of what was spent, and one unit where nothing is bought", () => {
-  const words = [10n, 30n, 0n, 0n];
-  const text = new TextDecoder().decode(randomTable(bytesOf(CONTRADICTION), () => words.shift()));
-  // 5 is spent: 10/40 of it buys 1 at the price 1, 30/40 buys 1 at 2; then all shares are 0, so that of the first is 1,
-  // which buys 2 at the price 2
-  assert.equal(text, "p_1,q_1,p_2,q_2\n1,1,2,1\n2,2,1,0\n");
+test("the words of a seed and the drawn behaviours are those of the clients", () => {
+  const told = JSON.parse(readFileSync(new URL("behaviours.json", import.meta.url), "utf8"));
+  for (const { seed, words: wanted } of told.words) {
+    const word = words(seed);
+    assert.deepEqual(wanted.map(() => word()), wanted);
+  }
+  for (const { seed, prices, quantities, behaviours } of told.tables) {
+    const names = prices[0].map((_, good) => `good${good}`);
+    const rows = prices.map((own, at) => own.flatMap((price, good) => [price, quantities[at][good]]));
+    const table = new Purchases([names.flatMap((it) => [`p_${it}`, `q_${it}`]), ...rows]);
+    const [amounts, word] = [amountsOf(table), words(seed)];
+    assert.deepEqual(behaviours.map(() => behaviour(amounts, word)), behaviours);
+  }
+  for (const seed of [-1, 1.5, 2 ** 32, NaN]) assert.throws(() => words(seed), /a seed is a whole number/);
+  const table = new Purchases(parseRecords("p_a,q_a,p_b,q_b\n1.5,2,2,1\n", ","));
+  const text = new TextDecoder().decode(drawnTable(table, [[3, 4]]));
+  assert.equal(text, "p_1,q_1,p_2,q_2\n15,3,20,4\n");
 });
 
-test("bounds of a household in units, and none where the axiom fails", () => {
+test("drawn behaviour spends no more than was spent, and its shares are uniform", () => {
+  const table = new Purchases(parseRecords("p_a,q_a,p_b,q_b,p_c,q_c\n3,10,7,5,11,2\n", ","));
+  const [amounts, word] = [amountsOf(table), words(5)];
+  const spent = [3, 7, 11].map((price, good) => price * amounts[0][good]);
+  assert.ok(spent.every((it) => it <= 87 * 10 ** 5 && it > 87 * 10 ** 5 - 11));
+  const firsts = Array.from({ length: 4000 }, () => behaviour(amounts, word)[0][0] / amounts[0][0]);
+  // of three goods the share of one is below t with chance 1 - (1 - t)^2
+  for (const t of [0.1, 0.3, 0.5, 0.8]) {
+    const part = firsts.filter((it) => it < t).length / firsts.length;
+    assert.ok(Math.abs(part - (1 - (1 - t) ** 2)) < 0.03, `${t}: ${part}`);
+  }
+});
+
+test("shares above thresholds are counted exactly, an index at one not", () => {
+  assert.deepEqual(aboveThresholds(["9/10", "900001/1000000", "19/20", "950001/1000000", "1", "4/5"]), [4, 2]);
+  assert.ok(!isAbove("9/10", 90, 100) && isAbove("1", 95, 100));
+  assert.equal(shareInWords(12, 20), "12 of 20 (60.0%)");
+});
+
+test("bounds of a household in units with a decimal beside each, and none where the axiom fails", () => {
   const output =
     "observations 1 goods 1 places 0 1\ngarp holds\nranks 1\ndemand prices 2 expenditure 60\nbelow none\n" +
-    "strict none\ninner 30 over 1\ngood 1 lower 30 upper withheld 3\nlower x 30 y none over 1\n";
+    "strict none\ninner 30 over 1\ngood 1 lower 100/3 upper withheld 3\nlower x 30 y none over 1\n";
   const rows = boundRows("demand", { household: "u", status: 0, output, told: "" }, ["bread"], 0);
-  assert.deepEqual(rows, [["u", "0", "1", "bread", "3", "withheld", ""]]);
+  assert.deepEqual(rows, [["u", "0", "1", "bread", "10/3", "3.333333", "withheld", "", ""]]);
   const none = boundRows("demand", { household: "u", status: 0, output: REPORT, told: "" }, ["bread"], 0);
-  assert.equal(none[0][6], "the axiom is violated, so there are no bounds");
+  assert.equal(none[0].at(-1), "the axiom is violated, so there are no bounds");
 });
 
 test("what is said of populations and firms", () => {
   const violated = "budgets 2 patches 4 types 3 total 4\nrandom violated share 3/4\nweights 1 0 1 0 over 1\n";
-  assert.equal(
-    populationSays(violated, "random", "Rational types"),
-    `${VERDICTS.random.violated} Rational types make at most 3/4 of them (about 0.7500).`,
+  const random = populationSays(violated, "random");
+  assert.equal(random.head, "No: no population makes these choices");
+  assert.match(random.says, /They make at most 3\/4 of them \(0\.75\)\./);
+  assert.match(populationSays("menus mixture over 1\n", "menus").says, /strict order/);
+  const both = firmSays("technology records 2 inputs 2 places 0 0\ncost holds\nprofit violated\npair 1 2\n");
+  assert.deepEqual(
+    both.map((it) => it.head),
+    ["Yes: the firm can have minimised cost", "No: it did not maximise profit"],
   );
-  assert.equal(populationSays("menus mixture over 1\n", "menus", "Strict orders"), VERDICTS.menus.mixture);
-  assert.match(
-    firmSays("technology records 2 inputs 2 places 0 0\ncost holds\nprofit violated\npair 1 2\n"),
-    /^The firm minimised/,
-  );
-  assert.doesNotMatch(firmSays("cost violated\npair 1 2\n"), /profit/);
+  assert.equal(firmSays("cost violated\npair 1 2\n").length, 1);
+  const bounds = "bounds prices 10 10 output 1 lower 35/2 upper 40 at 2\nlower x 1 1 y none over 1\n" +
+    "bounds prices 10 10 output 9 lower 5 upper none\n";
+  const said = costSays(bounds, 1);
+  assert.match(said[0], /costs at least 7\/4 \(1\.75\) .* observation 2 .* cost 4 at the new prices/);
+  assert.match(said[1], /at least 1\/2 \(0\.5\) .* No observation made so much\./);
+});
+
+test("welfare, demand, utility and the money pump in words, in the units of the file", () => {
+  const welfare = "welfare prices 15 observation 1 lower 1250/3 upper 450 at 2\n" +
+    "welfare prices 15 observation 2 lower withheld 3 upper 300 at 2\n";
+  const [first, second] = welfareSays(welfare, 2);
+  assert.match(first, /^Observation 1: .* costs at least 25\/6 \(about 4\.1666\) /);
+  assert.match(first, / observation 2 .* costs 9\/2 \(4\.5\)/);
+  assert.match(second, /^Observation 2: A number got longer .* costs 3 at the new prices/);
+  const bounds = demandBounds("good 1 lower 5 upper withheld 3\n", ["tea"], 1);
+  assert.deepEqual(bounds, [{ name: "tea", lower: "1/2", upper: null }]);
+  assert.match(demandSays(bounds[0])[0], /^tea: Nobody .* less of tea there than 1\/2 \(0\.5\)/);
+  assert.match(demandSays(bounds[0])[1], /no verdict/);
+  assert.match(utilitySays("at 1 value -12\n", false)[0], /^Bundle 1: -12\. /);
+  const pumped = "observations 2 goods 2 places 0 0\npump 1/5\ncycle 1 2 1\nvalues 0 0\n";
+  assert.equal(pumpSays(pumped).head, "1/5 (0.2)");
+  assert.match(pumpSays("observations 1 goods 2 places 0 0\npump 0\ncycle 1 1\nvalues 0\n").head, /^0: nothing/);
 });
 
 test("a line is split into words as by a shell", () => {

@@ -160,8 +160,9 @@ def of_clients(facts):
     keys = {it: rf"^  {it}:" for it in faults}
     yield Place("page/reports.js", "faults", keys, all_of(r"^  ([A-Z]\w+):"), r"^export const FAULTS = \{.*?^\};", "UnheardOf")
     for name, own in facts["verdicts"].items():
-        yield Place("page/reports.js", f"words of {name}", {it: rf"\b{it}:\s" for it in own}, all_of(r"^    ([a-z]+):|[{,] ([a-z]+): [\"`]"),
-                    rf"^  {name}: \{{.*?\}}")  # fmt: skip
+        told = all_of(rf'"item": "{name}", "verdict": "(\w+)"')
+        yield Place("docs/sentences.json", f"sentences on {name}", {it: rf'"item": "{name}", "verdict": "{it}"' for it in own},
+                    lambda text, told=told: set(told(text)) - {"bounds"}, None, "unheard")  # fmt: skip
     yield Place("page/main.js", "columns", {f"{kind} {it}": rf"\b{quoted(it)}\b" for kind in shown for it in kinds[kind]})
     yield Place("clients/python/revealed/advice.py", "faults", {it: rf'^    "{it}": ' for it in faults}, all_of(r'^    "(\w+)": '),
                 r"^HINTS = \{.*?^\}", "UnheardOf")  # fmt: skip

@@ -40,6 +40,9 @@ MINGW = """The run time of mingw-w64: what its package says of it.
 LLVM = """The functions of LLVM's compiler-rt on whole numbers of 128 bits: Apache License, version 2.0 (it stands in
 LICENSE), with the LLVM Exceptions. What their package says of them:
 """
+WABT = """What the translated functions stand on, written after that of wasm2c of WABT: Apache License, version 2.0 (it stands in
+LICENSE). What its package says of it:
+"""
 
 
 def text(file):
@@ -164,3 +167,10 @@ def web():
     """The notice of the archive for the web, and of the page."""
     run_time = ("LLVM's compiler-rt", f"{LLVM}\n{of_package('libclang-rt-14-dev-wasm64', first)}")
     return joined("Into the module of WebAssembly, rp.wasm, which rp.html has inside,", [run_time])
+
+
+def one_file():
+    """The notice of the library as one C file."""
+    llvm = ("LLVM's compiler-rt", f"{LLVM}\n{of_package('libclang-rt-14-dev-wasm64', first)}")
+    wabt = ("WABT", f"{WABT}\n{of_package('wabt')}")
+    return joined("Into the module of WebAssembly that rp.c is translated from, and into the code around it,", [llvm, wabt])

@@ -8,9 +8,12 @@ import gzip
 import hashlib
 import os
 import re
+import shutil
 import subprocess
 import sys
+import tarfile
 import tempfile
+import time
 
 from shared import TOP
 
@@ -97,9 +100,60 @@ def debian(entries, program, library, version, libc, when, archive):
     return {f"{NAME}_{version}_amd64.deb": ar(members, when)}
 
 
+# What the package of R has of the library as one C file: a source for each part, and the call that is inside.
+R_PART = """/* Part {part} of the library, which is one C file. */
+#define RP_PART {part}
+#include "onefile/rp.c"
+"""
+R_INSIDE = """/* The library inside the package: the one of onefile/. */
+#include "onefile/rp.h"
+
+#include "inside.h"
+
+rp_call *revealed_inside(void) {
+    return rp_answer;
+}
+"""
+
+
+def r(entries, one_file, parts, notice, proved, when, archive):
+    """Returns the source package of R by its name, of the files of a release, with the library as C inside."""
+    top = "clients/r/revealed/"
+    own = {name.removeprefix(top): data for name, (data, _) in entries.items() if name.startswith(top)}
+    own |= {f"src/onefile/{name}": one_file[name].encode() for name in ("rp.c", "rp.h")}
+    own |= {f"src/part{it}.c": R_PART.format(part=it).encode() for it in range(parts + 1)}
+    own |= {"src/inside.c": R_INSIDE.encode(), "inst/NOTICE": notice.encode(), "inst/PROVED": proved.encode()}
+    own["inst/terms/LICENSE"] = entries["LICENSE"][0]
+    version = re.search(r"(?m)^Version: (.*)$", own["DESCRIPTION"].decode())[1]
+    built = built_by_r(own, when) or own
+    return {f"revealed_{version}.tar.gz": archive({name: (data, False) for name, data in built.items()}, "revealed", when)}
+
+
+def built_by_r(files, when):
+    """Returns the files as `R CMD build` leaves them, where R is here; what it tells of the time and the user is of the release."""
+    if not shutil.which("R"):
+        return None
+    with tempfile.TemporaryDirectory(prefix="rp-r-") as room:
+        for name, data in files.items():
+            os.makedirs(os.path.dirname(f"{room}/revealed/{name}"), exist_ok=True)
+            with open(f"{room}/revealed/{name}", "wb") as it:
+                it.write(data)
+        words = ["R", "CMD", "build", "--no-build-vignettes", "revealed"]
+        ran = subprocess.run(words, cwd=room, stdin=subprocess.DEVNULL, stdout=subprocess.PIPE, stderr=subprocess.STDOUT, text=True)
+        packed = [it for it in os.listdir(room) if it.endswith(".tar.gz")]
+        if ran.returncode or len(packed) != 1:
+            return None
+        with tarfile.open(f"{room}/{packed[0]}") as tar:
+            found = {it.name.removeprefix("revealed/"): tar.extractfile(it).read() for it in tar if it.isfile()}
+    told = time.strftime("%Y-%m-%d %H:%M:%S UTC", time.gmtime(when))
+    found["DESCRIPTION"] = re.sub(rb"(?m)^Packaged: .*$", f"Packaged: {told}; release".encode(), found["DESCRIPTION"])
+    return found
+
+
 def python(when, inside=None, notice="", proved=""):
-    """Returns the wheel of Python that has this library or program inside, with its NOTICE and its PROVED; or where there
-    is none, the wheel for every platform and the sdist; by their names."""
+    """Returns the wheel of Python that has this library or program inside, with its NOTICE and its PROVED; the sdist that
+    compiles the library, where this is rp.c and rp.h; or where there is none, the wheel for every platform and the sdist;
+    by their names."""
     given = {**(inside or {}), **({"NOTICE": notice.encode(), "PROVED": proved.encode()} if inside else {})}
     with tempfile.TemporaryDirectory(prefix="rp-wheels-") as room:
         os.mkdir(f"{room}/made")

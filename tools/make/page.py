@@ -10,7 +10,8 @@ from shared import TOP, text
 
 PAGE = f"{TOP}/page"
 # The page's modules, each after those that it takes names from.
-MODULES = ["facts", "dom", "sheets", "reports", "pictures", "client", "slots", "answers", "panels", "questions", "main"]
+MODULES = ["facts", "sentences", "dom", "sheets", "reports", "says", "draws", "pictures", "runs", "client", "benchmark", "slots", "answers"]
+MODULES += ["panels", "questions", "panel_questions", "others", "command", "main"]
 EXAMPLES = ["experiment.csv", "contradiction.csv", "levels.csv", "panel/panel.csv", "budgets.csv", "choices.csv", "menus.csv", "technology.csv", "outputs.csv"]
 
 
@@ -24,8 +25,11 @@ def joined(files):
 
 
 def with_facts(source):
-    """Returns a script with what docs/catalogue.json tells in the place that page/facts.js has for it."""
-    return source.replace('"{catalogue}"', json.dumps(json.loads(text(f"{TOP}/docs/catalogue.json")), ensure_ascii=False), 1)
+    """Returns a script with what docs/catalogue.json tells in the place that page/facts.js has for it, and with
+    docs/sentences.json in that of page/sentences.js."""
+    for name in ("catalogue", "sentences"):
+        source = source.replace(f'"{{{name}}}"', json.dumps(json.loads(text(f"{TOP}/docs/{name}.json")), ensure_ascii=False), 1)
+    return source
 
 
 def hashed(source):

@@ -66,6 +66,10 @@ ORIGINS = {
         "rp.mjs": "the command for Node over rp.js; no proof covers it; run by tools/check/systems",
         "rp": "a script of the shell that starts rp.mjs by Node",
     },
+    "c": {
+        "rp.c": f"{CALL}, in the module rp.wasm of the release for the web; translated to C by wasm2c of WABT, which no proof covers, as none covers the C around the calls, your compiler and its link; run by tools/check/one-file",
+        "rp.h": "the calls in C",
+    },
 }
 
 

@@ -1,4 +1,5 @@
 """Consistent tables, drawn at random, and calls of the program, for the scripts that measure."""
+import os
 import subprocess
 import sys
 
@@ -83,9 +84,9 @@ class HomotheticTable:
         return True
 
 
-def drawn(table, consumer, observations):
+def drawn(table, consumer, observations, tries=TRIES):
     """Fills a table; returns its records, or None where too many purchases broke it."""
-    for _ in range(TRIES):
+    for _ in range(tries):
         prices = consumer.prices()
         bundle = consumer.bundle(prices)
         table.take(prices, bundle, consumer.level(bundle))
@@ -106,3 +107,13 @@ def run(program, *words):
     if ran.returncode:
         sys.exit(f"rp {words[0]} ended with status {ran.returncode}: {ran.stderr.strip()}")
     return ran.stdout
+
+
+def used(program, *words):
+    """Returns the seconds of processors that a call takes, with starting the program, and the most memory, in bytes."""
+    started = subprocess.Popen([program, *words], stdin=subprocess.DEVNULL, stdout=subprocess.DEVNULL, stderr=subprocess.DEVNULL)
+    _, status, own = os.wait4(started.pid, 0)
+    started.returncode = os.waitstatus_to_exitcode(status)
+    if started.returncode:
+        sys.exit(f"{program} {' '.join(words)} ended with status {started.returncode}")
+    return own.ru_utime + own.ru_stime, 1024 * own.ru_maxrss

@@ -20,7 +20,11 @@ NAME = "rp.dll" if sys.platform == "win32" else "librp.so"
 # What the system's loader is asked for.
 LOADED = [NAME] if sys.platform == "win32" else [NAME, "librp.so.0"]
 ROOM = 65_536
-MALFORMED = 8
+# Statuses that the program has not, and what is said of them.
+SAID = {
+    8: b"the arguments of rp_answer do not fit together",
+    70: b"the library stopped in the middle of the call, which no input is known to do",
+}
 
 
 class Library:
@@ -50,8 +54,8 @@ class Library:
             lengths = [ctypes.c_uint64(), ctypes.c_uint64()]
             ends = [it for room in rooms for it in (room, len(room))]
             status = self.answer(said, len(said), names, len(names), sizes, len(files), data, len(data), *ends, *map(ctypes.byref, lengths))
-            if status == MALFORMED:
-                return status, b"", b"the arguments of rp_answer do not fit together"
+            if status in SAID:
+                return status, b"", SAID[status]
             if all(length.value <= len(room) for length, room in zip(lengths, rooms)):
                 output, told = (ctypes.string_at(room, length.value) for length, room in zip(lengths, rooms))
                 return status, output, told

@@ -3,9 +3,10 @@
 # blanks and letters outside ASCII, runs its vignette, compares a panel of 1,000 households with clients/panel/rp-panel,
 # and looks at the sessions of clients/r/README.md.
 #
-# usage: RP_EXEC=PROGRAM [RP_TEST_LIBRARY=LIBRARY] Rscript check-package.R
+# usage: RP_EXEC=PROGRAM [RP_TEST_LIBRARY=LIBRARY] [RP_TEST_PACKAGE=FILE] Rscript check-package.R
 #
-# With a library its answers are compared with the program's, and the panel is taken by it as well.
+# With a library its answers are compared with the program's, and the panel is taken by it as well. With the source package of
+# a release that is checked, and not one that is built here: the library is inside, and R's check has no program.
 # Ends with 0 where all is as it should be: no error and no warning. The time of the panel is told, and not judged. The
 # vignette is run in any case; its pages are made where LaTeX is there with what they take.
 options(warn = 1)
@@ -52,7 +53,8 @@ latex_works <- function() {
   file.exists("page.pdf")
 }
 has_latex <- nzchar(Sys.which("pdflatex")) && latex_works()
-run("R CMD build", c("CMD", "build", if (!has_latex) "--no-build-vignettes", shQuote(file.path(dirname(here), "revealed"))))
+released <- Sys.getenv("RP_TEST_PACKAGE")
+if (nzchar(released)) invisible(file.copy(released, room)) else run("R CMD build", c("CMD", "build", if (!has_latex) "--no-build-vignettes", shQuote(file.path(dirname(here), "revealed"))))
 # R CMD check itself takes no folder with blanks, and asks CRAN for packages; a list of none answers in its place.
 plain <- tempfile("revealed")
 dir.create(file.path(plain, "web", "web", "packages"), recursive = TRUE)
@@ -64,7 +66,7 @@ said <- run(
   "R CMD check", c("CMD", "check", "--as-cran", "--no-manual", if (has_latex) "--no-vignettes" else "--ignore-vignettes", basename(tarball)), at = plain,
   env = c(
     paste0("R_CRAN_WEB=file://", plain, "/web"), "_R_CHECK_CRAN_INCOMING_=false", "_R_CHECK_FORCE_SUGGESTS_=false",
-    "_R_CHECK_FUTURE_FILE_TIMESTAMPS_=false", "_R_CHECK_SYSTEM_CLOCK_=false"
+    "_R_CHECK_FUTURE_FILE_TIMESTAMPS_=false", "_R_CHECK_SYSTEM_CLOCK_=false", if (nzchar(released)) "RP_EXEC= RP_LIBRARY= PATH=/usr/bin:/bin"
   )
 )
 ended <- grep("^Status:", said, value = TRUE)
@@ -76,6 +78,18 @@ expect(length(ended) == 1 && !grepl("WARNING|ERROR", ended), "R CMD check")
 library <- file.path(room, "library")
 dir.create(library)
 run("R CMD INSTALL", c("CMD", "INSTALL", "-l", shQuote(library), shQuote(tarball)))
+if (nzchar(released)) {
+  # The library is inside, it is what answers, and nothing else is asked for.
+  bytes <- sum(file.size(list.files(file.path(library, "revealed"), recursive = TRUE, full.names = TRUE)))
+  cat(sprintf("the source package has %.2f MB, and %.1f MB when it is installed\n", file.size(tarball) / 1e6, bytes / 1e6))
+  expect(file.size(tarball) < 5e6, "the source package has less than 5 MB")
+  lines <- c(
+    "library(revealed)", "stopifnot(identical(rp_program(), revealed:::library_inside()))",
+    "v <- rp_test(rbind(1:2, 2:1), rbind(1:2, 2:1))", "stopifnot(identical(v$garp, FALSE), as.character(v$efficiency) == '4/5')"
+  )
+  writeLines(lines, file.path(room, "inside.R"))
+  run("the library inside", c("--vanilla", "-s", "-f", shQuote(file.path(room, "inside.R"))), env = c("RP_EXEC= RP_LIBRARY= HOME=/nowhere PATH=/usr/bin:/bin", paste0("R_LIBS=", shQuote(library))))
+}
 # A folder of UTF-8 letters, made by the shell, whatever the locale of this session is.
 odd <- paste0(room, "/M\\303\\244rz und \\303\\251t\\303\\251")
 make <- paste0("d=$(printf '", odd, "') && mkdir \"$d\" && cp ", shQuote(Sys.getenv("RP_EXEC")), " \"$d/rp\"")

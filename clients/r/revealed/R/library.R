@@ -4,7 +4,7 @@
 library_name <- "librp.so"
 
 # Whether a path is that of a library, and not of a program.
-is_library <- function(place) grepl("[.](so|dylib)([.][0-9.]*)?$", basename(place))
+is_library <- function(place) grepl("[.](so|dylib|dll)([.][0-9.]*)?$", basename(place))
 
 # Returns the library that a release or a package puts with a program, if it does.
 library_of <- function(program) {
@@ -29,8 +29,12 @@ library_places <- function() {
 # The calls of the libraries that were loaded, by their paths.
 loaded <- new.env(parent = emptyenv())
 
+# Returns the path of the package's own code where the library is inside of it, as in the package of a release; or nothing.
+library_inside <- function() if (!is.null(.Call(C_revealed_own))) getLoadedDLLs()[["revealed"]][["path"]]
+
 # Returns the call of a library, which is loaded once.
 library_call <- function(path) {
+  if (identical(path, library_inside())) return(.Call(C_revealed_own))
   if (is.null(loaded[[path]])) {
     found <- tryCatch(getNativeSymbolInfo("rp_answer", dyn.load(path), withRegistrationInfo = FALSE)$address, error = identity)
     if (inherits(found, "error")) no_program(path, " is no library of rp: ", conditionMessage(found))
@@ -39,16 +43,19 @@ library_call <- function(path) {
   loaded[[path]]
 }
 
-# The status of a call whose arguments do not fit together.
-malformed <- 8
+# The statuses that the program has not, and what is said of them.
+of_library_alone <- c(
+  "8" = "the arguments of rp_answer do not fit together",
+  "70" = "the library stopped in the middle of the call, which no input is known to do"
+)
 
 # Asks a library over each list of files.
 by_library <- function(words, batch, call) {
   lapply(batch, function(files) {
     of_files <- if (length(files)) names(files) else character()
     found <- .Call(C_revealed_answer, call, words, of_files, unname(files))
-    told <- if (found[[1]] == malformed) "the arguments of rp_answer do not fit together" else text_of_bytes(found[[3]])
-    ended(found[[1]], text_of_bytes(found[[2]]), told)
+    said <- of_library_alone[as.character(found[[1]])]
+    ended(found[[1]], text_of_bytes(found[[2]]), if (is.na(said)) text_of_bytes(found[[3]]) else unname(said))
   })
 }
 

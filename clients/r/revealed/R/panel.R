@@ -106,10 +106,12 @@ answers_on <- function(tables, words, read, engine) {
   found
 }
 
-# Returns how many processes run at once: as many as there are processors, or two where R's checks ask for that.
+# Returns how many processes run at once: as many as there are processors, or two where R's checks ask for that. Windows has no
+# copies of a process, nor what tells the processors of one.
 processors <- function() {
+  if (.Platform$OS.type == "windows") return(1L)
   if (!tolower(Sys.getenv("_R_CHECK_LIMIT_CORES_")) %in% c("", "false")) return(2L)
-  own <- mcaffinity()
+  own <- get("mcaffinity", asNamespace("parallel"))()
   if (length(own)) length(own) else max(1L, detectCores(), na.rm = TRUE)
 }
 

@@ -20,7 +20,9 @@ rp_program <- function(exe = NULL, must = TRUE) {
   } else {
     places <- usual_places()
     program <- c(on_path("rp"), Filter(is_program, places))
-    found <- if (length(program)) c(library_of(program[1]), program)[1] else Find(is_there, library_places())
+    # The library in machine code is the fastest, and the one inside the package wants no process.
+    beside <- if (length(program)) library_of(program[1]) else Find(is_there, library_places())
+    found <- Find(is.character, list(beside, library_inside(), if (length(program)) program[1]))
     where <- paste0(
       "there is no program rp: unpack a release of it, and name its program or its library by exe =. Now the argument exe is not given, the ",
       "variables RP_LIBRARY and RP_EXEC are not set, there is none of ", listed(places), ", no rp-VERSION-x86_64-linux/rp in ",

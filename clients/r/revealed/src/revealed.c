@@ -1,6 +1,7 @@
 /*
  * One call of the library `librp` (`rp.h`): words and files go in as they are, and the texts come back as bytes. The library is
- * found and loaded by R; nothing is kept here between calls, and all memory is R's, given back when the call ends.
+ * found and loaded by R, or is inside the package; nothing is kept here between calls, and all memory is R's, given back when
+ * the call ends.
  */
 #include <stdint.h>
 #include <string.h>
@@ -9,17 +10,9 @@
 #include <R_ext/Rdynload.h>
 #include <Rinternals.h>
 
-/* `rp_answer`, as rp.h declares it. */
-typedef int32_t rp_call(
-    const uint8_t *words, size_t words_length,
-    const uint8_t *names, size_t names_length,
-    const uint64_t *sizes, size_t files,
-    const uint8_t *bytes, size_t bytes_length,
-    uint8_t *output, size_t output_room,
-    uint8_t *told, size_t told_room,
-    uint64_t *output_length, uint64_t *told_length);
+#include "inside.h"
 
-enum { ROOM = 65536, MALFORMED = 8 };
+enum { ROOM = 65536, MALFORMED = 8, STOPPED = 70 };
 
 /* Bytes one after another. */
 struct bytes {
@@ -97,7 +90,7 @@ static SEXP revealed_answer(SEXP library, SEXP words, SEXP names, SEXP files) {
         int32_t status = call(
             said.at, said.length, named.at, named.length, sizes, count, content.at, content.length, output, output_room, told, told_room,
             &output_length, &told_length);
-        if (status == MALFORMED) output_length = told_length = 0;
+        if (status == MALFORMED || status == STOPPED) output_length = told_length = 0;
         if (output_length <= output_room && told_length <= told_room) {
             SEXP found = PROTECT(allocVector(VECSXP, 3));
             SET_VECTOR_ELT(found, 0, ScalarInteger(status));
@@ -111,7 +104,14 @@ static SEXP revealed_answer(SEXP library, SEXP words, SEXP names, SEXP files) {
     }
 }
 
-static const R_CallMethodDef CALLS[] = {{"revealed_answer", (DL_FUNC)&revealed_answer, 4}, {NULL, NULL, 0}};
+/* Returns the call of the library that is inside the package, or NULL. */
+static SEXP revealed_own(void) {
+    rp_call *call = revealed_inside();
+    return call ? R_MakeExternalPtrFn((DL_FUNC)call, R_NilValue, R_NilValue) : R_NilValue;
+}
+
+static const R_CallMethodDef CALLS[] = {
+    {"revealed_answer", (DL_FUNC)&revealed_answer, 4}, {"revealed_own", (DL_FUNC)&revealed_own, 0}, {NULL, NULL, 0}};
 
 void R_init_revealed(DllInfo *info) {
     R_registerRoutines(info, NULL, CALLS, NULL, NULL);

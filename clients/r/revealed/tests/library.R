@@ -21,6 +21,7 @@ dir.create(folder)
 # ---- what is a library, and what is none
 is_library <- revealed:::is_library
 stopifnot(is_library("librp.so"), is_library("a/librp.so.0"), is_library("/b/librp.so.0.11.0"), is_library("librp.dylib"))
+stopifnot(is_library("rp.dll"))
 stopifnot(!is_library("rp"), !is_library("so"), !is_library("rp.exe"), !is_library("a.so/rp"))
 no <- file.path(folder, "no library.so")
 writeLines("no library", no)
@@ -43,7 +44,9 @@ copy <- function(from, ...) {
 home <- file.path(folder, "home")
 release <- copy("/bin/true", "home", "rp-0.11.0-x86_64-linux", "rp")
 Sys.setenv(HOME = home, PATH = dirname(release))
-stopifnot(identical(rp_program(), release))
+# Where the library is inside the package, it comes before a program that no library stands beside.
+or_own <- function(program) c(revealed:::library_inside(), program)[1]
+stopifnot(identical(rp_program(), or_own(release)))
 inside <- copy(no, "home", "rp-0.11.0-x86_64-linux", "lib", "librp.so")
 stopifnot(identical(rp_program(), inside), identical(rp_program("rp"), release))
 Sys.setenv(RP_EXEC = release)
@@ -51,7 +54,7 @@ stopifnot(identical(rp_program(), release))
 Sys.unsetenv("RP_EXEC")
 own <- copy("/bin/true", "home", ".local", "bin", "rp")
 Sys.setenv(PATH = dirname(own))
-stopifnot(identical(rp_program(), own))
+stopifnot(identical(rp_program(), or_own(own)))
 beside <- copy(no, "home", ".local", "lib", "librp.so.0")
 stopifnot(identical(rp_program(), beside))
 Sys.setenv(PATH = file.path(folder, "nothing"))

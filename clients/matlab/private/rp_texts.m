@@ -1,0 +1,23 @@
+function texts = rp_texts(numbers, what, how)
+% RP_TEXTS  Numbers as decimals: doubles exactly as they are, unless HOW says otherwise; whole types and texts as they are.
+% HOW is [] (exact), 'shortest', or how many places.
+  if iscellstr(numbers)
+    texts = numbers;
+  elseif isinteger(numbers)
+    texts = arrayfun(@(it) sprintf('%d', it), numbers, 'UniformOutput', false);
+  elseif islogical(numbers)
+    texts = rp_mex(double(numbers));
+  elseif isa(numbers, 'double') && isreal(numbers) && ndims(numbers) == 2
+    if isempty(how)
+      texts = rp_mex(full(numbers));
+    elseif ischar(how)
+      texts = rp_mex(full(numbers), -1);
+    else
+      texts = rp_mex(full(numbers), how);
+    end
+  elseif isa(numbers, 'single')
+    error('rp:BadData', '%s are of class single: say double(x), and round as you mean it', what);
+  else
+    error('rp:BadData', '%s are a matrix of real doubles or of a whole type, or a cell array of texts, and not of class %s', what, class(numbers));
+  end
+end

@@ -1,0 +1,49 @@
+function found = rp_demand(p, q, new, m, varargin)
+% RP_DEMAND  At new budgets: bounds of each good over all demands with which the purchases keep the axiom (GARP).
+%
+%   d = rp_demand(p, q, new, m)      new has a row of prices for each budget, m what is spent on each
+%
+% Options are those of rp_analyse, without levels. d is a struct array, one for each budget:
+%
+%   garp           whether the axiom holds; where it fails, no bundle keeps it, and cycle shows that
+%   lower, upper   the infimum and the supremum of each good, in the units of q; NaN where withheld, with reasons
+%   inner          one such bundle
+%   below, strict  the observations that the budget is revealed preferred to, and those strictly
+%   text           the lines of the report, whose numbers are exact, in units of the last decimal places
+%
+% See also rp_analyse, rp_welfare.
+  options = rp_options(varargin, struct('Places', [], 'Numbers', 'exact', 'Names', {{}}));
+  [table, told] = rp_table(p, q, options);
+  budgets = rp_new(new, m, told.names, options);
+  text = rp_ask({'demand', table.name, budgets.name}, [table, budgets]);
+  [axiom, lines] = rp_report(text);
+  unit = 10 ^ axiom.places(2);
+  blank = NaN(1, told.goods);
+  empty = struct('garp', axiom.garp, 'cycle', axiom.cycle, 'lower', blank, 'upper', blank, 'inner', blank, ...
+    'below', [], 'strict', [], 'reasons', {{}}, 'text', '');
+  found = repmat(empty, size(new, 1), 1);
+  at = 0;
+  for line = 1:numel(lines)
+    words = lines{line};
+    switch words{1}
+      case 'demand'
+        at = at + 1;
+      case {'below', 'strict'}
+        found(at).(words{1}) = rp_numbers(words(2:end));
+      case 'inner'
+        found(at).inner = rp_numbers(words(2:end - 2)) / (str2double(words{end}) * unit);
+      case 'good'
+        good = str2double(words{2});
+        [found(at).lower(good), low, rest] = rp_bound(words(4:end));
+        [found(at).upper(good), high] = rp_bound(rest(2:end));
+        found(at).lower(good) = found(at).lower(good) / unit;
+        found(at).upper(good) = found(at).upper(good) / unit;
+        if ~isempty([low, high])
+          found(at).reasons{end + 1} = strjoin(words, ' ');
+        end
+    end
+    if at > 0
+      found(at).text = [found(at).text, strjoin(words, ' '), sprintf('\n')];
+    end
+  end
+end

@@ -1,0 +1,45 @@
+function found = rp_welfare(p, q, new, varargin)
+% RP_WELFARE  At new prices: bounds on what it costs to be as well off as at each observation (the money metric).
+%
+%   w = rp_welfare(p, q, new)        new has a row of prices for each question
+%
+% Options are those of rp_analyse, without levels. w is a struct array, one for each row of new:
+%
+%   garp    whether the axiom holds; where it fails the rest is NaN, and cycle shows that
+%   lower   for each observation the least that it costs, in the units of money of new; NaN where withheld, with reasons
+%   upper   what it costs at most, which the bundle of the observation in the field at costs
+%   text    the lines of the report, whose numbers are exact
+%
+% See also rp_analyse, rp_demand.
+  options = rp_options(varargin, struct('Places', [], 'Numbers', 'exact', 'Names', {{}}));
+  [table, told] = rp_table(p, q, options);
+  [asked, places] = rp_new(new, [], told.names, options);
+  text = rp_ask({'welfare', table.name, asked.name}, [table, asked]);
+  [axiom, lines] = rp_report(text);
+  unit = 10 ^ (places + axiom.places(2));
+  blank = NaN(told.rows, 1);
+  empty = struct('garp', axiom.garp, 'cycle', axiom.cycle, 'lower', blank, 'upper', blank, 'at', blank, 'reasons', {{}}, 'text', '');
+  found = repmat(empty, size(new, 1), 1);
+  count = 0;
+  for line = 1:numel(lines)
+    words = lines{line};
+    if strcmp(words{1}, 'welfare')
+      count = count + 1;
+      own = ceil(count / told.rows);
+      at = find(strcmp(words, 'observation'), 1);
+      row = str2double(words{at + 1});
+      if strcmp(words{at + 2}, 'lower')
+        [lower, reason, rest] = rp_bound(words(at + 3:end));
+        found(own).lower(row) = lower / unit;
+        found(own).upper(row) = rp_numbers(rest(2)) / unit;
+        found(own).at(row) = str2double(rest{4});
+        if ~isempty(reason)
+          found(own).reasons{end + 1} = strjoin(words, ' ');
+        end
+      end
+    end
+    if count > 0
+      found(own).text = [found(own).text, strjoin(words, ' '), sprintf('\n')];
+    end
+  end
+end

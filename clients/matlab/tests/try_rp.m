@@ -1,0 +1,111 @@
+% Tries the functions over the library, on the numbers of docs/USING.md: octave --no-gui clients/matlab/tests/try_rp.m
+% The examples are in the folder that the variable RP_EXAMPLES names; the program, where RP_EXEC names it, has to say the same.
+1;
+
+function same(got, wanted, what)
+  if ~isequaln(got, wanted)
+    disp(got);
+    disp(wanted);
+    error('try_rp: %s is another', what);
+  end
+end
+
+function refused(call, identifier, part)
+  try
+    call();
+  catch wrong
+    if ~strcmp(wrong.identifier, identifier) || isempty(strfind(wrong.message, part))
+      error('try_rp: refused as %s: %s', wrong.identifier, wrong.message);
+    end
+    return
+  end
+  error('try_rp: not refused: %s %s', identifier, part);
+end
+
+here = fileparts(mfilename('fullpath'));
+addpath(fileparts(here));
+count = 0;
+
+% Two purchases that contradict each other.
+[p, q] = deal([1 2; 2 1], [1 2; 2 1]);
+v = rp_analyse(p, q);
+same({v.garp, v.cycle, v.efficiency, v.ccei, v.attained}, {false, [1 2 1], '4/5', 0.8, true}, 'the verdict');
+same({v.afriat, v.homothetic, v.quasilinear, v.at_ranks, v.ranks}, {false, false, false, [2; 2], []}, 'the other tests');
+same(rp_pump(p, q).ratio, '1/5', 'the pump');
+d = rp_demand(p, q, [1 1], 3);
+same({d.garp, d.cycle, d.lower}, {false, [1 2 1], [NaN NaN]}, 'demand where the axiom fails');
+
+% Bounds, in the units of the data.
+[p, q] = deal([1.25 2.5; 2.5 1.25], [2 1; 1 2]);
+v = rp_analyse(p, q);
+same({v.garp, v.ranks, v.efficiency, v.ccei, v.afriat}, {true, [1; 1], '1', 1, true}, 'a table that holds');
+d = rp_demand(p, q, [2 2], 6);
+same({d.lower, d.upper, d.inner, d.below, d.strict}, {[1 1], [2 2], [2 1], [1 2], zeros(1, 0)}, 'demand');
+w = rp_welfare(p, q, [2 2]);
+same({w.lower, w.upper, w.at}, {[4; 4], [6; 6], [1; 2]}, 'welfare');
+w = rp_welfare(p, q, [0.5 0.5; 2 2]);
+same({w(1).lower, w(1).upper, w(2).lower}, {[1; 1], [1.5; 1.5], [4; 4]}, 'welfare in money');
+
+% Levels of the observations' own.
+levels = rp_analyse([1 2; 2 1], [1 2; 2 1], 'Levels', [799 1000]);
+same({levels.garp, levels.efficiency}, {true, '4/5'}, 'own levels');
+
+% Random choices.
+r = rp_random([1 2; 2 1], [4 4], [1 1 2 2], [2 1; 0 2; 1 2; 2 0], [1 3 2 2]);
+same({r.rational, r.share, r.types, r.parts, r.weights}, {false, '3/4', [1 4; 2 3], [0.25; 0.5], [1 0 1 0]}, 'random choices');
+
+% Numbers: each double exactly as it is, and nothing rounded unasked.
+same(rp_mex([0.5 -0 3.18; 100 0.1 9999999]), {'0.5', '0', '3.180000000000000159872115546022541821002960205078125'; ...
+  '100', '0.1000000000000000055511151231257827021181583404541015625', '9999999'}, 'exact decimals');
+same(rp_mex([3.18 0.1 1e-7 123.456 1e22 5e-324 0 -2.5], -1), {'3.18', '0.1', '0.0000001', '123.456', '10000000000000000000000', ...
+  ['0.', repmat('0', 1, 323), '5'], '0', '-2.5'}, 'shortest decimals');
+same(rp_mex([0.125 0.375 2.5], 2), {'0.12', '0.38', '2.5'}, 'rounded to even');
+refused(@() rp_analyse([3.18 1], [1 1]), 'rp:Refused:TooManyDecimals', 'record 1 column 1 (row 1 of table.csv, column p_1, value 3.18000000000');
+refused(@() rp_analyse([3.18 1], [1 1]), 'rp:Refused:TooManyDecimals', '''Numbers'', ''shortest''');
+same(rp_analyse([3.18 1], [1 1], 'Numbers', 'shortest').garp, true, 'the shortest decimals');
+same(rp_analyse([3.18 1], [1 1], 'Places', [2 0]).places, [2 0], 'rounded where asked');
+same(rp_analyse({'3.18', '1'}, {'1', '1'}).places, [2 0], 'texts');
+same(rp_analyse(int32([3 1]), int32([1 1])).garp, true, 'whole types');
+refused(@() rp_analyse([0 1], [1 1]), 'rp:Refused:ZeroPrice', 'record 1 column 1');
+refused(@() rp_analyse([NaN 1], [1 1]), 'rp:Refused:BadNumber', 'value NaN');
+refused(@() rp_analyse([1 1], [-1 1]), 'rp:Refused:BadNumber', 'record 1 column 3');
+refused(@() rp_analyse([1 1], [0 0]), 'rp:Refused:ZeroBundle', 'record 1');
+refused(@() rp_analyse([10000000 1], [1 1]), 'rp:Refused:TooLarge', 'record 1 column 1');
+refused(@() rp_analyse(ones(513, 1), ones(513, 1)), 'rp:Refused:TooManyRecords', '');
+refused(@() rp_analyse(single([1 1]), [1 1]), 'rp:BadData', 'single');
+refused(@() rp_analyse([1 1], [1 1 1]), 'rp:BadData', 'one size');
+refused(@() rp_analyse([1 1], [1 1], 'Level', 1), 'rp:BadData', 'the options here are');
+refused(@() rp_demand([1 1], [1 1], [1 0], 3), 'rp:Refused:ZeroPrice', 'new.csv');
+
+% A panel.
+t = struct('home', {{'u'; 'u'; 'v'; 'v'; 'z'}}, 'p_a', [1; 2; 1; 2; 0], 'p_b', [2; 1; 2; 1; 1], 'q_a', [1; 2; 2; 1; 1], 'q_b', [2; 1; 1; 2; 1]);
+r = rp_panel(t, 'home', 'Pump', true);
+same({r.key}, {'u', 'v', 'z'}, 'the households');
+same({r(1).garp, r(1).ccei, r(1).pump, r(2).garp, r(2).ccei, r(2).pump}, {false, 0.8, 0.2, true, 1, 0}, 'the panel');
+same(isnan(r(3).garp) && ~isempty(strfind(r(3).refusal, 'ZeroPrice')), true, 'a household that is refused');
+refused(@() rp_panel(t, 'house'), 'rp:WrongColumns', 'house');
+t.p_a(:) = 0;
+refused(@() rp_panel(t, 'home'), 'rp:Refused:All', 'ZeroPrice');
+
+% The power of the test: the numbers of the program.
+same(rp_power([1 2; 2 1], [1 2; 2 1], 1, 200).draws, 200, 'the power');
+
+% The program's own texts, byte for byte.
+program = getenv('RP_EXEC');
+examples = getenv('RP_EXAMPLES');
+if ~isempty(program) && ~isempty(examples)
+  asked = {{'analyse', 'contradiction.csv'}, {'certify', 'decimals.csv'}, {'analyse', 'experiment.csv'}, {'demand', 'decimals.csv', 'budget.csv'}, ...
+    {'welfare', 'decimals.csv', 'prices.csv'}, {'random', 'budgets.csv', 'choices.csv', '--json'}, {'menus', 'menus.csv'}, ...
+    {'cost', 'technology.csv', 'outputs.csv'}, {'pump', 'cycle_of_three.csv'}, {'power', 'decimals.csv', '7', '300'}, {'analyse', 'empty.json'}, ...
+    {'utility', 'decimals.csv', 'bundles.csv'}, {'check', 'contradiction.csv', 'contradiction.json'}, {'check', 'contradiction.csv', 'forged.json'}};
+  for at = 1:numel(asked)
+    words = asked{at};
+    [status, wanted] = system(sprintf('cd "%s" && "%s" %s 2>/dev/null', examples, program, strjoin(words, ' ')));
+    own = words(cellfun(@(it) exist(fullfile(examples, it), 'file') == 2, words));
+    bytes = cellfun(@(it) uint8(fileread(fullfile(examples, it))), own, 'UniformOutput', false);
+    [got_status, got] = rp_mex(cellfun(@uint8, words, 'UniformOutput', false), cellfun(@uint8, own, 'UniformOutput', false), bytes);
+    same({got_status, char(got)}, {status, wanted}, strjoin(words, ' '));
+    count = count + 1;
+  end
+end
+printf('try_rp: all is as it should be; %d answers are the program''s, byte for byte\n', count);

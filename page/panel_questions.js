@@ -1,0 +1,128 @@
+/** Further questions on every household of a panel, whose answers are kept as CSV. */
+import { button, keepFile, labelled, make } from "./dom.js";
+import { area, pricePlacesOf, question } from "./questions.js";
+import { Purchases, decimalOf, inUnits, parseFault, parseReport } from "./reports.js";
+import { isWithheld } from "./says.js";
+import { bytesOf, parseRecords, placeInFile, placeInWords, writeRecords } from "./sheets.js";
+
+const BOUND = new RegExp(
+  "^(?:good|welfare prices .* observation) (\\d+) lower (\\S+|withheld \\d+) upper (\\S+|withheld \\d+)(?: at \\d+)?$",
+);
+const BOUND_COLUMNS = [
+  "household",
+  "status",
+  "record",
+  "of",
+  "lower",
+  "lower_decimal",
+  "upper",
+  "upper_decimal",
+  "told",
+];
+
+/**
+ * What a household is answered at new prices, a row for each bound, in the units of the file: `of` is a good, or an
+ * observation; `refusal` says why a household is refused.
+ */
+export function boundRows(kind, answer, goods, pricePlaces, refusal = (text) => text.trim()) {
+  const { household, status, output, told } = answer;
+  const none = (why, number) => [[household, String(number), "", "", "", "", "", "", why]];
+  if (status !== 0) return none(refusal(told), status);
+  const places = parseReport(output).size.quantities + (kind === "welfare" ? pricePlaces : 0);
+  const units = (text) => {
+    if (isWithheld(text)) return ["withheld", ""];
+    const exact = inUnits(text, places);
+    return [exact, decimalOf(exact, 6)];
+  };
+  const rows = [];
+  let record = 0;
+  for (const line of output.split("\n")) {
+    if (line.startsWith("demand ") || /^welfare .* observation 1 /.test(line)) record += 1;
+    const bound = BOUND.exec(line);
+    if (bound) {
+      const of = kind === "demand" ? goods[Number(bound[1]) - 1] : bound[1];
+      rows.push([household, "0", String(record), of, ...units(bound[2]), ...units(bound[3]), ""]);
+    }
+  }
+  return rows.length ? rows : none("the axiom is violated, so there are no bounds", 0);
+}
+
+/** A question on every household at new prices, whose answers are kept as CSV. */
+function panelQuestion(client, households, kind, says, field, { working, progress, tell, place: where }) {
+  const explains =
+    "The same new prices for every household. Bounds are exact, in the units of the file, each with its decimal " +
+    "rounded " +
+    "down beside it; where the axiom fails there are none.";
+  return question(says, explains, [labelled("New prices as CSV", field)], async (place, isCurrent) => {
+    const [rows, began] = [[], performance.now()];
+    const typed = { name: "new prices", bytes: bytesOf(field.value) };
+    const pricePlaces = pricePlacesOf(field.value);
+    const goods = new Purchases(parseRecords(new TextDecoder().decode(households[0].bytes), ",")).goods;
+    const numbers = new Map(households.map((it) => [it.household, it.numbers]));
+    let done = 0;
+    const refusal = (household) => (told) => {
+      const fault = parseFault(told);
+      if (!fault) return told.trim();
+      const records = fault.file === typed.name ? parseRecords(field.value, ",") : null;
+      const at = records ? placeInWords(placeInFile(fault, records, null)) : where(fault, numbers.get(household));
+      return `${fault.fault}${at}. ${fault.means}`;
+    };
+    const told = (parts) => {
+      done += parts.length;
+      rows.push(...parts.flatMap((it) => boundRows(kind, it, goods, pricePlaces, refusal(it.household))));
+      if (isCurrent()) progress(done, households.length, began, "households");
+    };
+    await working(async () => {
+      await client.panel([kind, "table.csv", typed.name], households, told, [typed]);
+      if (isCurrent()) tell(`${households.length} households at new prices: answered.`);
+    });
+    const [bounded, refused] = [
+      new Set(rows.filter((row) => row[3]).map((row) => row[0])),
+      rows.find((row) => row[1] !== "0"),
+    ];
+    const first = refused ? ` The first that was refused is ${refused[0]}: ${refused.at(-1)}` : "";
+    const keep = button(
+      "Keep the bounds as CSV",
+      () => keepFile(`${kind}.csv`, writeRecords([BOUND_COLUMNS, ...rows]), "text/csv"),
+    );
+    place.replaceChildren(
+      make(
+        "p",
+        {
+          textContent: `${done} of ${households.length} households done; ${bounded.size} of them have bounds.${first}`,
+        },
+      ),
+      keep,
+    );
+  });
+}
+
+/**
+ * The questions on a panel. `shows` has what tells of long work: `working`, `progress` and `tell`; and `place`, which
+ * says
+ * where in the file a household's fault stands.
+ */
+export function panelQuestions(client, households, shows) {
+  const [names, ...rows] = parseRecords(new TextDecoder().decode(households[0].bytes), ",");
+  const priced = names.flatMap((name, at) => (name.startsWith("p_") ? [at] : []));
+  const of = (row) => priced.map((at) => row?.[at] ?? "");
+  const [head, first] = [of(names).join(","), of(rows[0]).join(",")];
+  return [
+    panelQuestion(
+      client,
+      households,
+      "demand",
+      "New prices: what would each household buy?",
+      area(`${head},m\n${first},100\n`),
+      shows,
+    ),
+    panelQuestion(
+      client,
+      households,
+      "welfare",
+      "New prices: what does it cost each household to be as well off?",
+      area(`${head}\n${first}\n`),
+      shows,
+    ),
+  ];
+}

@@ -1,0 +1,96 @@
+/** What the program's answers say in words: the sentence of each verdict, and amounts in the units of the files. */
+import { about, inUnits, parseReport, withDecimal } from "./reports.js";
+import { sentence } from "./sentences.js";
+
+export const isWithheld = (text) => text.startsWith("withheld");
+
+/** The bounds on each good in a report of demand, in the units of the file, as exact texts. */
+export function demandBounds(output, goods, places) {
+  return output.split("\n").flatMap((line) => {
+    const it = /^good (\d+) lower (\S+|withheld \d+) upper (\S+|withheld \d+)$/.exec(line);
+    if (!it) return [];
+    const [lower, upper] = [it[2], it[3]].map((text) => (isWithheld(text) ? null : inUnits(text, places)));
+    return [{ name: goods[Number(it[1]) - 1], lower, upper }];
+  });
+}
+
+/** What the bounds on a good say. */
+export function demandSays({ name, lower, upper }) {
+  const of = (bound, value) => (value === null
+    ? sentence("demand", "bounds", { bound: `${bound} withheld` })
+    : sentence("demand", "bounds", { bound }, { good: name, [bound]: withDecimal(value) }));
+  return [of("lower", lower), of("upper", upper)].map((it) => `${name}: ${it.says}`);
+}
+
+const WELFARE = /^welfare prices (.*) observation (\d+) lower (\S+|withheld \d+) upper (\S+) at (\d+)$/;
+
+/** What a report of welfare says, by record and observation, in the units of money; `places` are those of the file. */
+export function welfareSays(output, places) {
+  return output.split("\n").flatMap((line) => {
+    const it = WELFARE.exec(line);
+    if (!it) return [];
+    const [, , observation, lower, upper, at] = it;
+    const values = { observation, at, upper: withDecimal(inUnits(upper, places)) };
+    const below = isWithheld(lower)
+      ? sentence("welfare", "bounds", { bound: "lower withheld" })
+      : sentence("welfare", "bounds", { bound: "lower" }, { ...values, lower: withDecimal(inUnits(lower, places)) });
+    const above = sentence("welfare", "bounds", { bound: "upper" }, values);
+    return [`Observation ${observation}: ${below.says} ${above.says}`];
+  });
+}
+
+/** What a report of utility says, a sentence for each bundle. */
+export function utilitySays(output, levels) {
+  return output.split("\n").flatMap((line) => {
+    const it = /^at (\d+) (value|none|withheld)(?: (-?\d+))?$/.exec(line);
+    if (!it) return [];
+    const { head, says } = sentence("utility", it[2], { levels }, { value: it[3] });
+    return [`Bundle ${it[1]}: ${head}. ${says}`];
+  });
+}
+
+/** What the count of the command `power` says. */
+export function powerSays(output) {
+  const it = /^power \d+ draws (\d+) violations (\d+)$/m.exec(output);
+  return it ? sentence("power", "count", {}, { draws: it[1], violations: it[2] }) : null;
+}
+
+/** What the answer of `pump` says. */
+export function pumpSays(output) {
+  const ratio = parseReport(output).items.pump.verdict;
+  const bound = ratio === "0" ? "0" : "above 0";
+  return sentence("pump", "ratio", { bound }, { ratio, about: about(ratio) });
+}
+
+/** What the verdict of `random` or `menus` says, of the shares as they are or as they were rounded to units. */
+export function populationSays(output, command) {
+  const verdict = new RegExp(`^${command} (\\w+)`, "m").exec(output)[1];
+  const share = /violated share (\S+)/.exec(output)?.[1];
+  const units = /^apportioned per (\d+)$/m.exec(output)?.[1];
+  const values = { ...(share ? { share, about: about(share) } : {}), ...(units ? { units } : {}) };
+  return sentence(command, verdict, { apportioned: Boolean(units) }, values);
+}
+
+/** What the verdicts of `cost` say, each with its head. */
+export function firmSays(output) {
+  const words = ["cost", "profit"].map((it) => [it, new RegExp(`^${it} (\\w+)$`, "m").exec(output)?.[1]]);
+  return words.filter(([, word]) => word).map(([it, word]) => sentence(it, word));
+}
+
+const COST = /^bounds prices (.*) output (\S+) lower (\S+|withheld \d+) upper (?:(\d+) at (\d+)|none)$/;
+
+/** What the bounds on the costs of asked outputs say, in the units of money; `places` are those of money. */
+export function costSays(output, places) {
+  return output.split("\n").flatMap((line) => {
+    const it = COST.exec(line);
+    if (!it) return [];
+    const [, , , lower, upper, at] = it;
+    const below = isWithheld(lower)
+      ? sentence("cost", "bounds", { bound: "lower withheld" })
+      : sentence("cost", "bounds", { bound: "lower" }, { lower: withDecimal(inUnits(lower, places)) });
+    const above = upper
+      ? sentence("cost", "bounds", { bound: "upper" }, { at, upper: withDecimal(inUnits(upper, places)) })
+      : sentence("cost", "bounds", { bound: "no upper" });
+    return [`${below.says} ${above.says}`];
+  });
+}
