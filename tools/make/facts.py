@@ -19,7 +19,7 @@ PLACES = {"File": [], "Record": ["record"], "Column": ["column"], "Cell": ["reco
 REPORTS = [
     "rp_print/specs", "rp_report/specs", "rp_pump/specs/Report.antt", "rp_cost/specs/Report.antt", "rp_orders/specs/Report.antt",
     "rp_power/specs/PowerText.antt", "rp_answers/specs/CheckText.antt", "rp_answers/specs/PairsText.antt",
-    "rp_answers/specs/TrialText.antt", "rp_answers/specs/UtilityText.antt",
+    "rp_answers/specs/TrialLines.antt", "rp_answers/specs/UtilityText.antt",
 ]  # fmt: skip
 
 

@@ -24,7 +24,7 @@ use Rattle.rp_quasi.specs.QuasilinearVerdict.{IsQuasilinearVerdict}
 use Rattle.rp_people.specs.Says.{Says}
 use Rattle.rp_agreement.specs.ReadBack.{IsReadBack}
 use Rattle.rp_answers.specs.Accepted.{IsAcceptedOn}
-use Rattle.rp_answers.specs.ReportOrJson.{report_or_json}
+use Rattle.rp_answers.specs.Printed.{Printed, as_stated}
 
 -- these five items, in order
 abbrev pub five_items : Garp → AfriatPart → Efficiency → Homothetic → Quasi → List Item
@@ -62,8 +62,12 @@ pub record IsAnalysis (input : TableInput) (certificate : Certificate) : Type 0 
   pub accepted : IsAcceptedOn input certificate
   pub read_back : IsReadBack Table certificate
 
--- the text is that of such a certificate
-abbrev pub IsAnalysisText : Bool → Observations → List ℕ → Type 0
-IsAnalysisText json table text =
+-- the text is what an edition of the program prints of such a certificate
+abbrev pub IsAnalysisTextBy : Printed → Bool → Observations → List ℕ → Type 0
+IsAnalysisTextBy printed json table text =
     (certificate : Certificate) × IsAnalysis (input_of_table table) certificate
-    × (text ≡ report_or_json json table certificate)
+    × printed.of_certificate json table certificate text
+
+-- the text is that of such a certificate as it stands
+abbrev pub IsAnalysisText : Bool → Observations → List ℕ → Type 0
+IsAnalysisText = IsAnalysisTextBy as_stated

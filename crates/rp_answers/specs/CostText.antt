@@ -9,9 +9,9 @@ use Rattle.rp_cost.specs.Axioms.{MeetsCost}
 use Rattle.rp_cost.specs.CostBounds.{AreCostBounds, BoundProducers, BoundsHold, IsAtMostUpper, ProvesCostBounds}
 use Rattle.rp_cost.specs.CostBounds.{ShowsNothing}
 use Rattle.rp_producers.specs.OuterSet.{AllMakeMore, MadeIsOuter}
-use Rattle.rp_cost.specs.Report.{IsProductionReport}
 use Rattle.rp_cost.specs.Technology.{Technology}
 use Rattle.rp_cost.specs.declared.bounds.CostBounds.{CostBounds}
+use Rattle.rp_answers.specs.Printed.{Printed, as_stated}
 
 -- the bounds on what the output y costs at new prices: they are true and as they are given, the check accepts them, and
 -- the one from below is at most the one from above; what made y or more lies in the outer set, and where every
@@ -44,8 +44,12 @@ pub record AreBoundsUnder (tech : Technology) (asked : AskedOutputs) (bounds : L
   pub of_each : MeetsCost tech → AreBoundsOfEach tech asked bounds
   pub none : ¬ MeetsCost tech → bounds ≡ []
 
--- the text is the report of the technology with these bounds
-pub record IsCostText (tech : Technology) (asked : AskedOutputs) (text : List ℕ) : Type 0 where
+-- the text is what an edition of the program prints of the technology with these bounds
+pub record IsCostTextBy (printed : Printed) (tech : Technology) (asked : AskedOutputs) (text : List ℕ) : Type 0 where
   pub bounds : List CostBounds
   pub bounds_given : AreBoundsUnder tech asked bounds
-  pub report : IsProductionReport tech asked bounds text
+  pub report : printed.of_costs tech asked bounds text
+
+-- the text is the report of the technology with these bounds as they stand
+abbrev pub IsCostText : Technology → AskedOutputs → List ℕ → Type 0
+IsCostText = IsCostTextBy as_stated

@@ -18,7 +18,7 @@ use Rattle.rp_support.specs.DemandVerdict.{IsDemandVerdict}
 use Rattle.rp_json.specs.Denoted.{FitsKind}
 use Rattle.rp_answers.specs.Accepted.{PassesAfter}
 use Rattle.rp_answers.specs.GarpFirst.{IsGarpFirst}
-use Rattle.rp_answers.specs.ReportOrJson.{report_or_json}
+use Rattle.rp_answers.specs.Printed.{Printed, as_stated}
 
 -- the item on the budget at these prices, of which none is 0, with m: it proves its verdict, says of people what such a
 -- verdict says, is as it is given under the verdict on the axiom, passes the checker, and can be read back
@@ -38,11 +38,15 @@ IsDemandCertificate input new certificate =
     IsGarpFirst input (rows_count new.prices new.goods)
     (λ garp i. IsDemandItem input garp (row_of new.prices new.goods i) (slice_index new.m i)) certificate
 
--- the text is that of such a certificate
-abbrev pub IsDemandText : Bool → Observations → PriceList → List ℕ → Type 0
-IsDemandText json table new text =
+-- the text is what an edition of the program prints of such a certificate
+abbrev pub IsDemandTextBy : Printed → Bool → Observations → PriceList → List ℕ → Type 0
+IsDemandTextBy printed json table new text =
     (certificate : Certificate) × IsDemandCertificate (input_of_table table) new certificate
-    × (text ≡ report_or_json json table certificate)
+    × printed.of_certificate json table certificate text
+
+-- the text is that of such a certificate as it stands
+abbrev pub IsDemandText : Bool → Observations → PriceList → List ℕ → Type 0
+IsDemandText = IsDemandTextBy as_stated
 
 -- the prices have the table's goods, and each record has an expenditure
 pub record IsSpentOn (table : Observations) (new : PriceList) : Type 0 where

@@ -7,10 +7,12 @@ pub mod GarpFirst
 pub mod MenusText
 pub mod PairsText
 pub mod PowerText
+pub mod Printed
 pub mod PumpText
 pub mod RandomText
 pub mod ReportOrJson
 pub mod StatusNumbers
+pub mod TrialLines
 pub mod TrialSize
 pub mod TrialTable
 pub mod TrialText

@@ -18,7 +18,7 @@ use Rattle.rp_welfare.specs.WelfareVerdict.{IsWelfareVerdict}
 use Rattle.rp_json.specs.Denoted.{FitsKind}
 use Rattle.rp_answers.specs.Accepted.{PassesAfter}
 use Rattle.rp_answers.specs.GarpFirst.{IsGarpFirst}
-use Rattle.rp_answers.specs.ReportOrJson.{report_or_json}
+use Rattle.rp_answers.specs.Printed.{Printed, as_stated}
 
 -- the item on observation t at these prices: it proves its verdict, says of people what such a verdict says, is as it
 -- is given under the verdict on the axiom, passes the checker, and can be read back
@@ -37,8 +37,12 @@ IsWelfareCertificate input new certificate =
     IsGarpFirst input (rows_count new.prices new.goods * input.n)
     (λ garp k. IsWelfareItem input garp (row_of new.prices new.goods (k / input.n)) (k % input.n)) certificate
 
--- the text is that of such a certificate
-abbrev pub IsWelfareText : Bool → Observations → PriceList → List ℕ → Type 0
-IsWelfareText json table new text =
+-- the text is what an edition of the program prints of such a certificate
+abbrev pub IsWelfareTextBy : Printed → Bool → Observations → PriceList → List ℕ → Type 0
+IsWelfareTextBy printed json table new text =
     (certificate : Certificate) × IsWelfareCertificate (input_of_table table) new certificate
-    × (text ≡ report_or_json json table certificate)
+    × printed.of_certificate json table certificate text
+
+-- the text is that of such a certificate as it stands
+abbrev pub IsWelfareText : Bool → Observations → PriceList → List ℕ → Type 0
+IsWelfareText = IsWelfareTextBy as_stated

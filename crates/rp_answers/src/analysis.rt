@@ -1,9 +1,9 @@
 //! The answer of `analyse` and `certify`.
 ghost use Rattle.std.specs.Prelude.{◌≡◌, IfOk};
 ghost use Rattle.rp_evidence.specs.Input.{input_of_table};
-ghost use Rattle.rp_answers.specs.AnalysisText.{IsAnalysis, IsAnalysisText, five_items};
+ghost use Rattle.rp_answers.specs.AnalysisText.{IsAnalysis, IsAnalysisTextBy, five_items};
 
-use crate::shared::report_or_json;
+use crate::edition::Edition;
 use rp_afriat::afriat;
 use rp_effic::efficiency;
 use rp_evidence::{AfriatPart, Certificate, Efficiency, Garp, Homothetic, Item, Quasi};
@@ -15,11 +15,15 @@ use rp_table::Table;
 use std::alloc::Global;
 
 /// The report of the verdicts on a table, or their certificate as JSON.
-pub fn analysis_text(alloc: Global, table: &Table, json: bool) -> Result<Vec<u8>, NoMemory>
-    ensures { IfOk result (λ text. IsAnalysisText json table.now text.items) }
+pub fn analysis_text<P: Edition>(
+    alloc: Global,
+    table: &Table,
+    json: bool,
+) -> Result<Vec<u8>, NoMemory>
+    ensures { IfOk result (λ text. IsAnalysisTextBy P.printed json table.now text.items) }
 {
     let certificate = analyse(alloc, table)?;
-    let text = report_or_json(alloc, &certificate, table, json)?;
+    let text = P::print_certificate(alloc, table, certificate, json)?;
     Ok(text)
 }
 

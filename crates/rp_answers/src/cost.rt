@@ -2,19 +2,20 @@
 ghost use Rattle.std.specs.Prelude.{◌≡◌, IfOk};
 ghost use Rattle.rp_cost.specs.Axioms.{MeetsCost};
 ghost use Rattle.rp_table.specs.Tables.{goods_of};
-ghost use Rattle.rp_answers.specs.CostText.{AreBoundsOfEach, AreBoundsUnder, IsCostText};
+ghost use Rattle.rp_answers.specs.CostText.{AreBoundsOfEach, AreBoundsUnder, IsCostTextBy};
 
-use rp_cost::{Asked, Axiom, CostBounds, Tech, cost_axiom, cost_bounds, report_cost};
+use crate::edition::Edition;
+use rp_cost::{Asked, Axiom, CostBounds, Tech, cost_axiom, cost_bounds};
 use rp_num::{NoMemory, Seq};
 use std::alloc::Global;
 
 /// The report of the axioms of production on a technology, and of what each asked output costs at its prices.
-pub fn cost_text(alloc: Global, tech: &Tech, asked: &Asked) -> Result<Vec<u8>, NoMemory>
+pub fn cost_text<P: Edition>(alloc: Global, tech: &Tech, asked: &Asked) -> Result<Vec<u8>, NoMemory>
     requires { asked.now.prices.goods ≡ goods_of tech.now.table }
-    ensures { IfOk result (λ text. IsCostText tech.now asked.now text.items) }
+    ensures { IfOk result (λ text. IsCostTextBy P.printed tech.now asked.now text.items) }
 {
     let bounds = Seq::from_vec(bounds_under(alloc, tech, asked)?);
-    let text = report_cost(alloc, tech, asked, &bounds)?;
+    let text = P::print_costs(alloc, tech, asked, bounds)?;
     Ok(text)
 }
 

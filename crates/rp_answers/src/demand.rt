@@ -6,11 +6,12 @@ ghost use Rattle.rp_table.specs.Limits.{IsExpenditure};
 ghost use Rattle.rp_table.specs.NewPrices.{AreNewPrices};
 ghost use Rattle.rp_table.specs.Rows.{row_of, rows_count};
 ghost use Rattle.rp_table.specs.Tables.{goods_of};
-ghost use Rattle.rp_answers.specs.DemandText.{IsDemandCertificate, IsDemandItem, IsDemandText};
+ghost use Rattle.rp_answers.specs.DemandText.{IsDemandCertificate, IsDemandItem, IsDemandTextBy};
 ghost use Rattle.rp_answers.specs.DemandText.{IsSpentOn};
 ghost use Rattle.rp_answers.specs.GarpFirst.{AreAnswered};
 
-use crate::shared::{certificate_from, report_or_json};
+use crate::edition::Edition;
+use crate::shared::certificate_from;
 use rp_evidence::{Certificate, Item};
 use rp_garp::GarpTest;
 use rp_num::{NoMemory, Seq};
@@ -19,7 +20,7 @@ use rp_table::{Prices, Table};
 use std::alloc::Global;
 
 /// The report of demand at each record of new prices.
-pub fn demand_text(
+pub fn demand_text<P: Edition>(
     alloc: Global,
     table: &Table,
     new: &Prices,
@@ -27,10 +28,10 @@ pub fn demand_text(
 ) -> Result<Vec<u8>, NoMemory>
     requires no_levels { table.now.levels ≡ [] }
     requires spent { IsSpentOn table.now new.now }
-    ensures { IfOk result (λ text. IsDemandText json table.now new.now text.items) }
+    ensures { IfOk result (λ text. IsDemandTextBy P.printed json table.now new.now text.items) }
 {
     let certificate = demand_certificate(alloc, table, new)?;
-    let text = report_or_json(alloc, &certificate, table, json)?;
+    let text = P::print_certificate(alloc, table, certificate, json)?;
     Ok(text)
 }
 

@@ -29,7 +29,7 @@ pub(crate) fn certificate_from(
 }
 
 /// The text of a certificate on a table: its report, or its JSON.
-pub(crate) fn report_or_json(
+pub fn report_or_json(
     alloc: Global,
     certificate: &Certificate,
     table: &Table,

@@ -2,11 +2,13 @@
 ghost use Rattle.std.specs.Prelude.{◌≡◌, ◌++◌, [], IfOk, OnOk};
 ghost use Rattle.rp_print.specs.ListText.{line_of};
 ghost use Rattle.rp_answers.specs.TrialSize.{IsTrialSize};
-ghost use Rattle.rp_answers.specs.TrialText.{AreVerdicts, IsTrialText, trial_head, verdict_lines};
-ghost use Rattle.rp_answers.specs.TrialText.{garp_word, homothetic_word, quasilinear_word};
+ghost use Rattle.rp_answers.specs.TrialLines.{garp_word, homothetic_word, quasilinear_word};
+ghost use Rattle.rp_answers.specs.TrialLines.{trial_head, verdict_lines};
+ghost use Rattle.rp_answers.specs.TrialText.{AreVerdicts, IsTrialTextBy};
 
 mod table;
 
+use crate::edition::Edition;
 use rp_effic::efficiency;
 use rp_evidence::{Efficiency, Garp, Homothetic, Quasi};
 use rp_garp::garp;
@@ -21,24 +23,45 @@ pub use table::trial_table;
 
 /// The verdicts on a table, but for Afriat's numbers.
 #[derive(Drop)]
-struct Verdicts {
-    garp: Garp,
-    efficiency: Efficiency,
-    homothetic: Homothetic,
-    quasilinear: Quasi,
+pub struct Verdicts {
+    pub garp: Garp,
+    pub efficiency: Efficiency,
+    pub homothetic: Homothetic,
+    pub quasilinear: Quasi,
 }
 
 /// The verdicts on the trial table of a seed, without their evidence.
-pub fn trial_text(alloc: Global, seed: u64, rows: u64, goods: u64) -> Result<Vec<u8>, NoMemory>
+pub fn trial_text<P: Edition>(
+    alloc: Global,
+    seed: u64,
+    rows: u64,
+    goods: u64,
+) -> Result<Vec<u8>, NoMemory>
     requires { IsTrialSize rows goods }
-    ensures { IfOk result (λ text. IsTrialText seed rows goods text.items) }
+    ensures { IfOk result (λ text. IsTrialTextBy P.printed seed rows goods text.items) }
 {
     let rows = rows as u32;
     let goods = goods as u32;
     let table = trial_table(alloc, seed, rows, goods)?;
     let verdicts = verdicts_on(alloc, &table)?;
+    let text = P::print_trial(alloc, seed, rows, goods, &table, verdicts)?;
+    Ok(text)
+}
+
+/// The report of a trial: which one it is, and a line for each verdict.
+pub fn report_trial(
+    alloc: Global,
+    seed: u64,
+    rows: u32,
+    goods: u32,
+    verdicts: &Verdicts,
+) -> Result<Vec<u8>, NoMemory>
+    ensures { IfOk result (λ text. text.items ≡ trial_head seed rows goods ++ verdict_lines
+        verdicts.now.garp verdicts.now.efficiency
+        verdicts.now.homothetic verdicts.now.quasilinear) }
+{
     let mut text = head(alloc, seed, rows, goods)?;
-    push_verdicts(alloc, &mut text, &verdicts)?;
+    push_verdicts(alloc, &mut text, verdicts)?;
     Ok(text)
 }
 

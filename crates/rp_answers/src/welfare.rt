@@ -6,9 +6,11 @@ ghost use Rattle.rp_table.specs.NewPrices.{AreNewPrices};
 ghost use Rattle.rp_table.specs.Rows.{row_of, rows_count};
 ghost use Rattle.rp_table.specs.Tables.{goods_of, records_of};
 ghost use Rattle.rp_answers.specs.GarpFirst.{AreAnswered};
-ghost use Rattle.rp_answers.specs.WelfareText.{IsWelfareCertificate, IsWelfareItem, IsWelfareText};
+ghost use Rattle.rp_answers.specs.WelfareText.{IsWelfareCertificate, IsWelfareItem};
+ghost use Rattle.rp_answers.specs.WelfareText.{IsWelfareTextBy};
 
-use crate::shared::{certificate_from, report_or_json};
+use crate::edition::Edition;
+use crate::shared::certificate_from;
 use rp_evidence::{Certificate, Item};
 use rp_garp::GarpTest;
 use rp_num::{NoMemory, Seq};
@@ -17,7 +19,7 @@ use rp_welfare::welfare;
 use std::alloc::Global;
 
 /// The report of the bounds of each observation at each record of new prices.
-pub fn welfare_text(
+pub fn welfare_text<P: Edition>(
     alloc: Global,
     table: &Table,
     new: &Prices,
@@ -25,10 +27,10 @@ pub fn welfare_text(
 ) -> Result<Vec<u8>, NoMemory>
     requires no_levels { table.now.levels ≡ [] }
     requires goods { new.now.goods ≡ goods_of table.now }
-    ensures { IfOk result (λ text. IsWelfareText json table.now new.now text.items) }
+    ensures { IfOk result (λ text. IsWelfareTextBy P.printed json table.now new.now text.items) }
 {
     let certificate = welfare_certificate(alloc, table, new)?;
-    let text = report_or_json(alloc, &certificate, table, json)?;
+    let text = P::print_certificate(alloc, table, certificate, json)?;
     Ok(text)
 }
 

@@ -1,6 +1,7 @@
 -- The causes of the endings exclude one another, so the frame decides which ending comes.
 use Rattle.std.proofs.Common.{◌≡◌, ◌<◌, ℕ, List, Some, None, Ok, Err, inl, inr, refl, subst, ap, arith, length}
 use Rattle.rp_command_line.specs.CommandLine.{Line, files_of}
+use Rattle.rp_answers.specs.Printed.{as_stated}
 use Rattle.rp_answers.specs.declared.status.Status.{Status}
 use Rattle.rp_answers.specs.declared.status.Status.TheVariants.{Done, Rejected, Usage, ReadFault, Refused, WriteFault, NoMemory}
 use Rattle.rp_patch.proofs.Determined.{same_list}
@@ -77,9 +78,9 @@ missing_of request line k NoMemory text told asks first is = absurd is
 refused_of : (request : Request) (line : Line) (s : Status) (text told : List ℕ) → Asks request line → AreGiven request.files (files_of line)
     → IsRefused (given_files request) line → IsStatusOf request s text told → s ≡ Refused
 refused_of request line Done text told asks given refused is =
-    absurd (not_both (given_files request) (asked_of request) is.line line Done text is.asks.asked asks.asked is.answers refused)
+    absurd (not_both as_stated (given_files request) (asked_of request) is.line line Done text is.asks.asked asks.asked is.answers refused)
 refused_of request line Rejected text told asks given refused is =
-    absurd (not_both (given_files request) (asked_of request) is.line line Rejected text is.asks.asked asks.asked is.answers refused)
+    absurd (not_both as_stated (given_files request) (asked_of request) is.line line Rejected text is.asks.asked asks.asked is.answers refused)
 refused_of request line Usage text told asks given refused is = absurd (none_apart request line is.no_line asks.asked)
 refused_of request line ReadFault text told asks given refused is = absurd (given_apart request line is.line is.place asks given is.asks is.first)
 refused_of request line Refused text told asks given refused is = refl

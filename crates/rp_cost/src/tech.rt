@@ -40,7 +40,7 @@ impl Tech {
     }
 
     /// The table of input prices and inputs.
-    pub(crate) fn table(&self) -> &Table
+    pub fn table(&self) -> &Table
         ensures same { result.now ≡ self.now.table }
         ensures valid { IsTechnology self.now }
     {

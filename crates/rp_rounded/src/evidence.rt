@@ -1,7 +1,9 @@
 //! Homothetic evidence by rounded products, where the checker takes it.
-ghost use Rattle.std.specs.Prelude.{◌≡◌, IfOk, IfSome, vec_len};
+ghost use Rattle.std.specs.Prelude.{◌≡◌, All, IfOk, IfSome, vec_len};
 ghost use Rattle.rp_clauses.specs.HomotheticFailure.{HomotheticFails};
 ghost use Rattle.rp_evidence.specs.Homothetic.{ProvesHomothetic, withheld_homothetic};
+ghost use Rattle.rp_num.specs.Spelled.{IsReduced};
+ghost use Rattle.rp_rounded.specs.Reduced.{AreReduced};
 ghost use Rattle.rp_table.specs.Cost.{cost_of};
 ghost use Rattle.rp_table.specs.Tables.{records_of};
 
@@ -15,10 +17,12 @@ use std::alloc::Global;
 
 /// The evidence where the checker finds nothing wrong with it.
 fn if_it_passes(input: &Input<'_>, found: Homothetic) -> Option<Homothetic>
-    requires { withheld_homothetic found ≡ 0 }
+    requires given { withheld_homothetic found ≡ 0 }
+    requires reduced { AreReduced found }
     ensures passes { IfSome result (λ h. HomotheticFails (records_of input.now.table.now)
         (cost_of input.now.table.now) h (Ok tt)) }
     ensures given { IfSome result (λ h. withheld_homothetic h ≡ 0) }
+    ensures reduced { IfSome result AreReduced }
 {
     match check_homothetic(input, &found) {
         Ok(()) => Some(found),
@@ -27,10 +31,14 @@ fn if_it_passes(input: &Input<'_>, found: Homothetic) -> Option<Homothetic>
 }
 
 /// The products, by observation.
-fn products(alloc: Global, best: &[Best]) -> Result<Seq<Frac>, NoMemory> {
+fn products(alloc: Global, best: &[Best]) -> Result<Seq<Frac>, NoMemory>
+    ensures { IfOk result (All IsReduced) }
+{
     let mut products = Vec::with_capacity(alloc, best.len())?;
     for found in best {
-        products.push(found.product)?;
+        let product = found.product;
+        prove!(product.den() > 0);
+        products.push(product)?;
     }
     Ok(Seq::from_vec(products))
 }
@@ -46,16 +54,20 @@ fn falling_cycle(
     ensures passes { IfOk result (λ o. IfSome o (λ h. HomotheticFails
         (records_of input.now.table.now) (cost_of input.now.table.now) h (Ok tt))) }
     ensures given { IfOk result (λ o. IfSome o (λ h. withheld_homothetic h ≡ 0)) }
+    ensures reduced { IfOk result (λ o. IfSome o AreReduced) }
 {
     let walk = closed_walk(alloc, best, round)?;
+    let one = Frac::new(1, 1);
+    prove!(one.den() > 0);
     let from_one = Homothetic::Cycle {
-        start: Frac::new(1, 1),
+        start: one,
         steps: Seq::from_vec(Vec::from_slice(alloc, walk.as_slice())?),
     };
     match if_it_passes(input, from_one) {
         Some(cycle) => Ok(Some(cycle)),
         None => match inverse_of_half(input, walk.as_slice()) {
             Some(start) => {
+                prove!(start.den() > 0);
                 let steps = Seq::from_vec(walk);
                 Ok(if_it_passes(input, Homothetic::Cycle { start, steps }))
             }
@@ -74,6 +86,7 @@ pub fn rounded_homothetic(alloc: Global, input: &Input<'_>) -> Result<Option<Hom
     ensures passes { IfOk result (λ o. IfSome o (λ h. HomotheticFails
         (records_of input.now.table.now) (cost_of input.now.table.now) h (Ok tt))) }
     ensures given { IfOk result (λ o. IfSome o (λ h. withheld_homothetic h ≡ 0)) }
+    ensures reduced { IfOk result (λ o. IfSome o AreReduced) }
     ensures proves { IfOk result (λ o. IfSome o
         (ProvesHomothetic (records_of input.now.table.now) (cost_of input.now.table.now))) }
 {

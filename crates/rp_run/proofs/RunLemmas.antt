@@ -23,11 +23,12 @@ use Rattle.rp_check.specs.declared.verdict.Verdict.TheVariants.{Accepted, Reject
 use Rattle.rp_evidence.specs.Input.{input_of_table}
 use Rattle.rp_evidence.specs.declared.certificate.Certificate.{Certificate}
 use Rattle.rp_table.specs.Tables.{Observations}
-use Rattle.rp_run.specs.Answers.{Files, Answers, AnswersLine, IsAccepted, IsAcceptedOver, IsRefused, IsRejectedOver, MayBe, MustBe}
+use Rattle.rp_run.specs.Answers.{Files, AnswersBy, AnswersLineBy, IsAccepted, IsAcceptedOver, IsRefused, IsRejectedOver, MayBe, MustBe}
+use Rattle.rp_answers.specs.Printed.{Printed}
 use Rattle.rp_answers.specs.CheckText.{IsRandomCheck, IsTableCheck, check_status as verdict_status}
 use Rattle.rp_outside.specs.Faults.{HasRisen}
 use Rattle.rp_outside.specs.Known.{Grows, GrowsByPrefix}
-use Rattle.rp_run.specs.Calls.{AnswersUsage, IsWritten}
+use Rattle.rp_run.specs.Calls.{AnswersUsage, IsWrittenBy}
 use Rattle.rp_run.specs.Endings.{IsEnd, IsSilent, Rose, NoneRose}
 use Rattle.rp_run.specs.InnerCauses.{status_of_cause, IsCause}
 use Rattle.rp_answers.specs.declared.status.Status.{Status}
@@ -46,9 +47,9 @@ denotes_apart line bytes held text taken refused =
     cc
 
 -- a line that is answered is not refused
-pub not_both : (files : Files) (asked : Option Line) (line other : Line) (s : Status) (text : List ℕ) → asked ≡ Some line → asked ≡ Some other
-    → AnswersLine files line s text → IsRefused files other → ⊥
-not_both files asked line other s text is also answers refused =
+pub not_both : (printed : Printed) (files : Files) (asked : Option Line) (line other : Line) (s : Status) (text : List ℕ) → asked ≡ Some line → asked ≡ Some other
+    → AnswersLineBy printed files line s text → IsRefused files other → ⊥
+not_both printed files asked line other s text is also answers refused =
     let same : line ≡ other = cc in
     let had = answers.1 in
     let err = subst (λ (l : Line). IsRefused files l) (sym same) refused had.0 had.1 in
@@ -96,10 +97,10 @@ random_check_rejected patches types certificate text answers = go answers.verdic
 done_apart_rejected : status.Rejected ≡ status.Done → ⊥
 done_apart_rejected wrong = cc
 
-pub answer_rejected : (command : Command) (arguments : Arguments) (held : Contents) (text : List ℕ) → Answers command arguments held status.Rejected text → IsRejectedOver held
-answer_rejected Check arguments (contents.TableAndCertificate table certificate) text answers = check_rejected table certificate text answers
-answer_rejected CheckRandom arguments (contents.ChoicesAndCertificate patches types certificate) text answers = random_check_rejected patches types certificate text answers
-answer_rejected _ arguments _ text answers = absurd (done_apart_rejected answers.0)
+pub answer_rejected : (printed : Printed) (command : Command) (arguments : Arguments) (held : Contents) (text : List ℕ) → AnswersBy printed command arguments held status.Rejected text → IsRejectedOver held
+answer_rejected printed Check arguments (contents.TableAndCertificate table certificate) text answers = check_rejected table certificate text answers
+answer_rejected printed CheckRandom arguments (contents.ChoicesAndCertificate patches types certificate) text answers = random_check_rejected patches types certificate text answers
+answer_rejected printed _ arguments _ text answers = absurd (done_apart_rejected answers.0)
 
 -- what is accepted is not rejected
 pub accepted_apart : (held : Contents) → IsAcceptedOver held → IsRejectedOver held → ⊥
@@ -125,47 +126,47 @@ random_check_done patches types certificate text answers = go answers.verdict an
     go Accepted found ends = found
     go (Rejected item reason place) found ends = absurd cc
 
-pub done_apart : (command : Command) (arguments : Arguments) (held : Contents) (text : List ℕ) → Answers command arguments held status.Done text → IsRejectedOver held → ⊥
-done_apart Check arguments (contents.TableAndCertificate table certificate) text answers rejected =
+pub done_apart : (printed : Printed) (command : Command) (arguments : Arguments) (held : Contents) (text : List ℕ) → AnswersBy printed command arguments held status.Done text → IsRejectedOver held → ⊥
+done_apart printed Check arguments (contents.TableAndCertificate table certificate) text answers rejected =
     accepted_apart (contents.TableAndCertificate table certificate) (check_done table certificate text answers) rejected
-done_apart CheckRandom arguments (contents.ChoicesAndCertificate patches types certificate) text answers rejected =
+done_apart printed CheckRandom arguments (contents.ChoicesAndCertificate patches types certificate) text answers rejected =
     accepted_apart (contents.ChoicesAndCertificate patches types certificate) (random_check_done patches types certificate text answers) rejected
-done_apart _ arguments (contents.TableAndCertificate table certificate) text answers rejected = answers.1
-done_apart _ arguments (contents.ChoicesAndCertificate patches types certificate) text answers rejected = answers.1
-done_apart _ arguments _ text answers rejected = rejected
+done_apart printed _ arguments (contents.TableAndCertificate table certificate) text answers rejected = answers.1
+done_apart printed _ arguments (contents.ChoicesAndCertificate patches types certificate) text answers rejected = answers.1
+done_apart printed _ arguments _ text answers rejected = rejected
 
 -- the same of lines that were asked
-pub line_rejected : (files : Files) (asked : Option Line) (line : Line) (s : Status) (text : List ℕ) → asked ≡ Some line → AnswersLine files line s text → s ≡ status.Rejected
+pub line_rejected : (printed : Printed) (files : Files) (asked : Option Line) (line : Line) (s : Status) (text : List ℕ) → asked ≡ Some line → AnswersLineBy printed files line s text → s ≡ status.Rejected
     → (other : Line) × (asked ≡ Some other) × MayBe IsRejectedOver files other
-line_rejected files asked line s text is (held, has, answers) rejected =
-    (line, is, (held, has, answer_rejected line.command line.arguments held text (subst (λ t. Answers line.command line.arguments held t text) rejected answers)))
+line_rejected printed files asked line s text is (held, has, answers) rejected =
+    (line, is, (held, has, answer_rejected printed line.command line.arguments held text (subst (λ t. AnswersBy printed line.command line.arguments held t text) rejected answers)))
 
-pub done_line_apart : (files : Files) (asked : Option Line) (line other : Line) (s : Status) (text : List ℕ) → asked ≡ Some line → asked ≡ Some other
-    → AnswersLine files line s text → MustBe IsRejectedOver files other → s ≡ status.Done → ⊥
-done_line_apart files asked line other s text is also (held, (bytes, are, denoted, of_files), answers) must done =
+pub done_line_apart : (printed : Printed) (files : Files) (asked : Option Line) (line other : Line) (s : Status) (text : List ℕ) → asked ≡ Some line → asked ≡ Some other
+    → AnswersLineBy printed files line s text → MustBe IsRejectedOver files other → s ≡ status.Done → ⊥
+done_line_apart printed files asked line other s text is also (held, (bytes, are, denoted, of_files), answers) must done =
     let same : line ≡ other = cc in
     let rejected = subst (λ (l : Line). MustBe IsRejectedOver files l) (sym same) must bytes are held denoted in
-    done_apart line.command line.arguments held text (subst (λ t. Answers line.command line.arguments held t text) done answers) rejected
+    done_apart printed line.command line.arguments held text (subst (λ t. AnswersBy printed line.command line.arguments held t text) done answers) rejected
 
-pub rejected_line_apart : (files : Files) (asked : Option Line) (line other : Line) (s : Status) (text : List ℕ) → asked ≡ Some line → asked ≡ Some other
-    → AnswersLine files line s text → MustBe IsAcceptedOver files other → s ≡ status.Rejected → ⊥
-rejected_line_apart files asked line other s text is also (held, (bytes, are, denoted, of_files), answers) must rejected =
+pub rejected_line_apart : (printed : Printed) (files : Files) (asked : Option Line) (line other : Line) (s : Status) (text : List ℕ) → asked ≡ Some line → asked ≡ Some other
+    → AnswersLineBy printed files line s text → MustBe IsAcceptedOver files other → s ≡ status.Rejected → ⊥
+rejected_line_apart printed files asked line other s text is also (held, (bytes, are, denoted, of_files), answers) must rejected =
     let same : line ≡ other = cc in
     let accepted = subst (λ (l : Line). MustBe IsAcceptedOver files l) (sym same) must bytes are held denoted in
-    accepted_apart held accepted (answer_rejected line.command line.arguments held text (subst (λ t. Answers line.command line.arguments held t text) rejected answers))
+    accepted_apart held accepted (answer_rejected printed line.command line.arguments held text (subst (λ t. AnswersBy printed line.command line.arguments held t text) rejected answers))
 
 verdict_ends : (verdict : Verdict) → IsEnd (verdict_status verdict)
 verdict_ends Accepted = tt
 verdict_ends (Rejected item reason place) = tt
 
 -- an answer ends with one of two statuses
-pub answer_ends : (command : Command) (arguments : Arguments) (held : Contents) (s : Status) (text : List ℕ) → Answers command arguments held s text → IsEnd s
-answer_ends Check arguments (contents.TableAndCertificate table certificate) s text answers = rw answers.ends (verdict_ends answers.verdict)
-answer_ends CheckRandom arguments (contents.ChoicesAndCertificate patches types certificate) s text answers = rw answers.ends (verdict_ends answers.verdict)
-answer_ends _ arguments _ s text answers = rw answers.0 tt
+pub answer_ends : (printed : Printed) (command : Command) (arguments : Arguments) (held : Contents) (s : Status) (text : List ℕ) → AnswersBy printed command arguments held s text → IsEnd s
+answer_ends printed Check arguments (contents.TableAndCertificate table certificate) s text answers = rw answers.ends (verdict_ends answers.verdict)
+answer_ends printed CheckRandom arguments (contents.ChoicesAndCertificate patches types certificate) s text answers = rw answers.ends (verdict_ends answers.verdict)
+answer_ends printed _ arguments _ s text answers = rw answers.0 tt
 
-pub line_ends : (files : Files) (line : Line) (s : Status) (text : List ℕ) → AnswersLine files line s text → IsEnd s
-line_ends files line s text answers = answer_ends line.command line.arguments answers.0 s text answers.2
+pub line_ends : (printed : Printed) (files : Files) (line : Line) (s : Status) (text : List ℕ) → AnswersLineBy printed files line s text → IsEnd s
+line_ends printed files line s text answers = answer_ends printed line.command line.arguments answers.0 s text answers.2
 
 -- a status that is an end is not silent
 end_not_silent : (s : Status) → IsEnd s → IsSilent s → ⊥
@@ -174,16 +175,16 @@ end_not_silent status.Rejected ends silent = silent
 end_not_silent _ ends silent = ends
 
 -- what was written of the answer to a line: all of it, by its status, or a front of it, by the fault
-pub answer_written : (files : Files) (asked : Option Line) (line : Line) (s result : Status) (text : List ℕ) (old new : Option (List ℕ)) (before after : ℕ) → asked ≡ Some line
-    → AnswersLine files line s text → (result ≡ s) ⊎ (result ≡ status.WriteFault) → (IsEnd result → Grows old new text)
-    → (result ≡ status.WriteFault → GrowsByPrefix old new text × HasRisen before after) → IsWritten files asked result old new before after
-answer_written files asked line s result text old new before after is answers (inl same) whole part = record {
-  answered = λ ends. (text, (line, is, subst (λ t. AnswersLine files line t text) (sym same) answers), whole ends);
+pub answer_written : (printed : Printed) (files : Files) (asked : Option Line) (line : Line) (s result : Status) (text : List ℕ) (old new : Option (List ℕ)) (before after : ℕ) → asked ≡ Some line
+    → AnswersLineBy printed files line s text → (result ≡ s) ⊎ (result ≡ status.WriteFault) → (IsEnd result → Grows old new text)
+    → (result ≡ status.WriteFault → GrowsByPrefix old new text × HasRisen before after) → IsWrittenBy printed files asked result old new before after
+answer_written printed files asked line s result text old new before after is answers (inl same) whole part = record {
+  answered = λ ends. (text, (line, is, subst (λ t. AnswersLineBy printed files line t text) (sym same) answers), whole ends);
   cut_short = λ fault. (s, text, (line, is, answers), (part fault).0);
-  silent = λ silent. absurd (end_not_silent s (line_ends files line s text answers) (subst IsSilent same silent));
+  silent = λ silent. absurd (end_not_silent s (line_ends printed files line s text answers) (subst IsSilent same silent));
   write_counted = λ fault. (part fault).1;
 }
-answer_written files asked line s result text old new before after is answers (inr cut) whole part = record {
+answer_written printed files asked line s result text old new before after is answers (inr cut) whole part = record {
   answered = λ ends. absurd (subst IsEnd cut ends);
   cut_short = λ fault. (s, text, (line, is, answers), (part fault).0);
   silent = λ silent. absurd (subst IsSilent cut silent);

@@ -9,17 +9,18 @@ use Rattle.rp_check.specs.declared.verdict.Verdict.TheVariants.{Accepted, Reject
 use Rattle.rp_evidence.specs.Input.{input_of_table}
 use Rattle.rp_evidence.specs.declared.failure.Reason.{Reason}
 use Rattle.rp_answers.specs.PairsText.{IsPairsText}
-use Rattle.rp_answers.specs.AnalysisText.{IsAnalysisText}
+use Rattle.rp_answers.specs.AnalysisText.{IsAnalysisTextBy}
 use Rattle.rp_answers.specs.CheckText.{IsRandomCheck, IsTableCheck}
 use Rattle.rp_answers.specs.RandomText.{IsRandomText}
-use Rattle.rp_answers.specs.DemandText.{IsDemandText}
-use Rattle.rp_answers.specs.WelfareText.{IsWelfareText}
+use Rattle.rp_answers.specs.DemandText.{IsDemandTextBy}
+use Rattle.rp_answers.specs.WelfareText.{IsWelfareTextBy}
 use Rattle.rp_answers.specs.UtilityText.{IsUtilityText}
-use Rattle.rp_answers.specs.TrialText.{IsTrialText}
+use Rattle.rp_answers.specs.TrialText.{IsTrialTextBy}
 use Rattle.rp_answers.specs.MenusText.{IsMenusText}
 use Rattle.rp_answers.specs.PumpText.{IsPumpText}
-use Rattle.rp_answers.specs.CostText.{IsCostText}
+use Rattle.rp_answers.specs.CostText.{IsCostTextBy}
 use Rattle.rp_answers.specs.PowerText.{IsPowerText}
+use Rattle.rp_answers.specs.Printed.{Printed, as_stated}
 use Rattle.rp_answers.specs.Typed.{typed}
 use Rattle.rp_command_line.specs.CommandLine.{Arguments, Line, files_of, file_at, number}
 use Rattle.rp_command_line.specs.declared.commands.Command.{Command}
@@ -45,30 +46,42 @@ all_known desk name = Some (bytes_or_none desk name)
 abbrev pub AreContents : Files → Line → (ℕ → List ℕ) → Type 0
 AreContents files line bytes = (k : ℕ) → k < length (files_of line) → AreAll (files (file_at line k)) (bytes k)
 
--- the text that answers a command which is no check, over what was given to it and what its files hold
-abbrev pub IsText : Command → Arguments → Contents → List ℕ → Type 0
-IsText Pairs arguments (contents.Table table) text = IsPairsText table text
-IsText Analyse arguments (contents.Table table) text = IsAnalysisText false table text
-IsText Certify arguments (contents.Table table) text = IsAnalysisText true table text
-IsText Demand arguments (contents.TableAndPricesWithExpenditure table new) text =
-    IsDemandText arguments.json table new text
-IsText Welfare arguments (contents.TableAndPrices table new) text = IsWelfareText arguments.json table new text
-IsText Utility arguments (contents.TableAndBundles table bundles) text = IsUtilityText table bundles text
-IsText Random arguments (contents.Choices patches types) text = IsRandomText arguments.json (typed patches types) text
-IsText Trial arguments contents.Nothing text =
-    IsTrialText (number arguments 0) (number arguments 1) (number arguments 2) text
-IsText Menus arguments (contents.Menus list units) text = IsMenusText arguments.per list units text
-IsText Pump arguments (contents.Table table) text = IsPumpText table text
-IsText Cost arguments (contents.TechnologyAndAsked tech asked) text = IsCostText tech asked text
-IsText Power arguments (contents.Table table) text = IsPowerText table (number arguments 0) (number arguments 1) text
-IsText _ arguments _ text = ⊥
+-- the text by which an edition of the program, which prints so, answers a command which is no check, over what was
+-- given to it and what its files hold
+abbrev pub IsTextBy : Printed → Command → Arguments → Contents → List ℕ → Type 0
+IsTextBy printed Pairs arguments (contents.Table table) text = IsPairsText table text
+IsTextBy printed Analyse arguments (contents.Table table) text = IsAnalysisTextBy printed false table text
+IsTextBy printed Certify arguments (contents.Table table) text = IsAnalysisTextBy printed true table text
+IsTextBy printed Demand arguments (contents.TableAndPricesWithExpenditure table new) text =
+    IsDemandTextBy printed arguments.json table new text
+IsTextBy printed Welfare arguments (contents.TableAndPrices table new) text =
+    IsWelfareTextBy printed arguments.json table new text
+IsTextBy printed Utility arguments (contents.TableAndBundles table bundles) text = IsUtilityText table bundles text
+IsTextBy printed Random arguments (contents.Choices patches types) text =
+    IsRandomText arguments.json (typed patches types) text
+IsTextBy printed Trial arguments contents.Nothing text =
+    IsTrialTextBy printed (number arguments 0) (number arguments 1) (number arguments 2) text
+IsTextBy printed Menus arguments (contents.Menus list units) text = IsMenusText arguments.per list units text
+IsTextBy printed Pump arguments (contents.Table table) text = IsPumpText table text
+IsTextBy printed Cost arguments (contents.TechnologyAndAsked tech asked) text = IsCostTextBy printed tech asked text
+IsTextBy printed Power arguments (contents.Table table) text =
+    IsPowerText table (number arguments 0) (number arguments 1) text
+IsTextBy printed _ arguments _ text = ⊥
 
--- the text and the status that answer a command
-abbrev pub Answers : Command → Arguments → Contents → Status → List ℕ → Type 0
-Answers Check arguments (contents.TableAndCertificate table certificate) s text = IsTableCheck table certificate s text
-Answers CheckRandom arguments (contents.ChoicesAndCertificate patches types certificate) s text =
+-- the same where all is printed as it stands
+abbrev pub IsText : Command → Arguments → Contents → List ℕ → Type 0
+IsText = IsTextBy as_stated
+
+-- the text and the status by which such an edition answers a command
+abbrev pub AnswersBy : Printed → Command → Arguments → Contents → Status → List ℕ → Type 0
+AnswersBy printed Check arguments (contents.TableAndCertificate table certificate) s text =
+    IsTableCheck table certificate s text
+AnswersBy printed CheckRandom arguments (contents.ChoicesAndCertificate patches types certificate) s text =
     IsRandomCheck patches certificate s text
-Answers command arguments held s text = (s ≡ status.Done) × IsText command arguments held text
+AnswersBy printed command arguments held s text = (s ≡ status.Done) × IsTextBy printed command arguments held text
+
+abbrev pub Answers : Command → Arguments → Contents → Status → List ℕ → Type 0
+Answers = AnswersBy as_stated
 
 -- patches among the contents are those of the budgets and of the choices that these bytes denote, of which an item on
 -- the patches says what it says (`AreOfChoicesIn`)
@@ -85,13 +98,20 @@ HasContents files line held = (bytes : ℕ → List ℕ) × AreContents files li
     × AreOfTheFiles line.arguments bytes held
 
 -- the text and the status answer a line, over some content of its files
+abbrev pub AnswersLineBy : Printed → Files → Line → Status → List ℕ → Type 0
+AnswersLineBy printed files line s text = (held : Contents) × HasContents files line held
+    × AnswersBy printed line.command line.arguments held s text
+
 abbrev pub AnswersLine : Files → Line → Status → List ℕ → Type 0
-AnswersLine files line s text = (held : Contents) × HasContents files line held
-    × Answers line.command line.arguments held s text
+AnswersLine = AnswersLineBy as_stated
 
 -- the text and the status answer the line that the words denote
+abbrev pub AnswersDenotedBy : Printed → Files → Option Line → Status → List ℕ → Type 0
+AnswersDenotedBy printed files denoted s text =
+    (line : Line) × (denoted ≡ Some line) × AnswersLineBy printed files line s text
+
 abbrev pub AnswersDenoted : Files → Option Line → Status → List ℕ → Type 0
-AnswersDenoted files denoted s text = (line : Line) × (denoted ≡ Some line) × AnswersLine files line s text
+AnswersDenoted = AnswersDenotedBy as_stated
 
 -- some content of a line's files is refused with that line of text
 abbrev pub RefusesWith : Files → Line → List ℕ → Type 0

@@ -5,10 +5,11 @@ use Rattle.rp_outside.specs.Asked.{KeepsReads, Reads}
 use Rattle.rp_outside.specs.Faults.{EachStays, HasRisen, NoneFalls}
 use Rattle.rp_outside.specs.Known.{Stays, Grows, GrowsByPrefix}
 use Rattle.rp_command_line.specs.CommandLine.{Line}
+use Rattle.rp_answers.specs.Printed.{Printed, as_stated}
 use Rattle.rp_answers.specs.declared.status.Status.{Status}
 use Rattle.rp_answers.specs.declared.status.Status.TheVariants.{Done, Rejected, Usage, WriteFault, NoMemory}
-use Rattle.rp_run.specs.Answers.{AnswersDenoted, Files, IsAcceptedOver, IsRejectedOver, MayBe, MustBe}
-use Rattle.rp_run.specs.Endings.{IsEnd, IsFaultLine, IsSilent}
+use Rattle.rp_run.specs.Answers.{AnswersDenotedBy, Files, IsAcceptedOver, IsRejectedOver, MayBe, MustBe}
+use Rattle.rp_run.specs.Endings.{IsEnd, IsFaultLineBy, IsSilent}
 use Rattle.rp_run.specs.Gains.{Gains}
 use Rattle.rp_run.specs.AskedInTurn.{AreAskedInTurn}
 use Rattle.rp_run.specs.Turns.{AreReadInTurn}
@@ -18,15 +19,20 @@ pub record AnswersUsage (denoted : Option Line) (result : Status) : Type 0 where
   pub usage : result ≡ Usage → denoted ≡ None
   pub no_line : denoted ≡ None → (result ≡ Usage) ⊎ (result ≡ NoMemory)
 
--- the answer, and what the output gains: `old` and `new` are its known bytes before and after, and the last two its
--- counts of faults
-pub record IsWritten (files : Files) (denoted : Option Line) (result : Status) (old new : Option (List ℕ))
-    (before after : ℕ) : Type 0 where
-  pub answered : IsEnd result → (text : List ℕ) × AnswersDenoted files denoted result text × Grows old new text
+-- the answer of an edition of the program, and what the output gains: `old` and `new` are its known bytes before and
+-- after, and the last two its counts of faults
+pub record IsWrittenBy (printed : Printed) (files : Files) (denoted : Option Line) (result : Status)
+    (old new : Option (List ℕ)) (before after : ℕ) : Type 0 where
+  pub answered : IsEnd result → (text : List ℕ) × AnswersDenotedBy printed files denoted result text
+      × Grows old new text
   pub cut_short : result ≡ WriteFault → (s : Status) × (text : List ℕ)
-      × AnswersDenoted files denoted s text × GrowsByPrefix old new text
+      × AnswersDenotedBy printed files denoted s text × GrowsByPrefix old new text
   pub silent : IsSilent result → Stays old new
   pub write_counted : result ≡ WriteFault → HasRisen before after
+
+-- the same where all is printed as it stands
+abbrev pub IsWritten : Files → Option Line → Status → Option (List ℕ) → Option (List ℕ) → ℕ → ℕ → Type 0
+IsWritten = IsWrittenBy as_stated
 
 -- the checker's verdict on a certificate
 pub record GivesCheckVerdict (files : Files) (denoted : Option Line) (result : Status) : Type 0 where
@@ -37,11 +43,15 @@ pub record GivesCheckVerdict (files : Files) (denoted : Option Line) (result : S
 -- why there is no answer, and what standard error gains, by its known bytes and its counts of faults. `rose file` says
 -- that the count of faults of a file has risen, and `asks line n` that the desk was asked for no more than the first n
 -- files of a line
-pub record TellsWhy (files : Files) (rose : List ℕ → Type 0) (asks : Line → ℕ → Type 0) (denoted : Option Line)
-    (result : Status) (old new : Option (List ℕ)) (before after : ℕ) : Type 0 where
+pub record TellsWhyBy (printed : Printed) (files : Files) (rose : List ℕ → Type 0) (asks : Line → ℕ → Type 0)
+    (denoted : Option Line) (result : Status) (old new : Option (List ℕ)) (before after : ℕ) : Type 0 where
   pub quiet : IsEnd result → Stays old new
   pub told : ¬ IsEnd result → (line : List ℕ)
-      × IsFaultLine files rose asks denoted result line × Gains old new before after line
+      × IsFaultLineBy printed files rose asks denoted result line × Gains old new before after line
+
+abbrev pub TellsWhy : Files → (List ℕ → Type 0) → (Line → ℕ → Type 0) → Option Line → Status
+    → Option (List ℕ) → Option (List ℕ) → ℕ → ℕ → Type 0
+TellsWhy = TellsWhyBy as_stated
 
 -- how often the desk is asked for the files of the words, and in which order, from its count of calls before to that
 -- after

@@ -4,8 +4,8 @@ use Rattle.std.specs.Prelude.{◌≡◌, ◌<◌, ℕ, suc, List, Option, Some, 
 use Rattle.rp_outside.specs.Faults.{HasRisen}
 use Rattle.rp_command_line.specs.CommandLine.{Line, file_at, files_of}
 use Rattle.rp_run.specs.Answers.{Files, RefusesWith}
-use Rattle.rp_command_line.specs.Usage.{usage_text}
 use Rattle.rp_run.specs.FaultLines.{read_line, write_line, memory_line}
+use Rattle.rp_answers.specs.Printed.{Printed, as_stated}
 use Rattle.rp_answers.specs.declared.status.Status.{Status}
 use Rattle.rp_answers.specs.declared.status.Status.TheVariants.{Done, Rejected, Usage, ReadFault, Refused, WriteFault}
 use Rattle.rp_answers.specs.declared.status.Status.TheVariants.{NoMemory}
@@ -38,15 +38,22 @@ IsSilent Refused = Unit {0}
 IsSilent WriteFault = ⊥
 IsSilent NoMemory = Unit {0}
 
--- the text is the line of a status that is no end, and its cause holds; `rose file` says that the count of faults of
--- a file has risen, and `asks line n` that the desk was asked for no more than the first n files of a line
-abbrev pub IsFaultLine : Files → (List ℕ → Type 0) → (Line → ℕ → Type 0) → Option Line → Status → List ℕ → Type 0
-IsFaultLine files rose asks denoted Done text = ⊥
-IsFaultLine files rose asks denoted Rejected text = ⊥
-IsFaultLine files rose asks denoted Usage text = text ≡ usage_text
-IsFaultLine files rose asks denoted ReadFault text =
+-- the text is the line that an edition of the program tells of a status that is no end, and its cause holds;
+-- `rose file` says that the count of faults of a file has risen, and `asks line n` that the desk was asked for no more
+-- than the first n files of a line
+abbrev pub IsFaultLineBy : Printed → Files → (List ℕ → Type 0) → (Line → ℕ → Type 0) → Option Line → Status → List ℕ
+    → Type 0
+IsFaultLineBy printed files rose asks denoted Done text = ⊥
+IsFaultLineBy printed files rose asks denoted Rejected text = ⊥
+IsFaultLineBy printed files rose asks denoted Usage text = text ≡ printed.usage
+IsFaultLineBy printed files rose asks denoted ReadFault text =
     (line : Line) × (k : ℕ) × (denoted ≡ Some line) × (k < length (files_of line))
     × rose (file_at line k) × (text ≡ read_line (file_at line k)) × asks line (suc k)
-IsFaultLine files rose asks denoted Refused text = (line : Line) × (denoted ≡ Some line) × RefusesWith files line text
-IsFaultLine files rose asks denoted WriteFault text = text ≡ write_line
-IsFaultLine files rose asks denoted NoMemory text = text ≡ memory_line
+IsFaultLineBy printed files rose asks denoted Refused text =
+    (line : Line) × (denoted ≡ Some line) × RefusesWith files line text
+IsFaultLineBy printed files rose asks denoted WriteFault text = text ≡ write_line
+IsFaultLineBy printed files rose asks denoted NoMemory text = text ≡ memory_line
+
+-- the same where all is printed as it stands
+abbrev pub IsFaultLine : Files → (List ℕ → Type 0) → (Line → ℕ → Type 0) → Option Line → Status → List ℕ → Type 0
+IsFaultLine = IsFaultLineBy as_stated

@@ -19,5 +19,5 @@ mod units;
 pub use contents::Contents;
 pub use laws::{bytes_denote_one_input_or_refusal, patches_are_of_choices_in_files};
 pub use rp_answers::{Status, trial_table};
-pub use running::run;
+pub use running::{run, run_edition};
 pub use sure::run_surely;

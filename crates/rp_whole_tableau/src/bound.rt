@@ -4,6 +4,7 @@ ghost use Rattle.rp_evidence.specs.BoundEvidence.{BoundHolds};
 ghost use Rattle.rp_evidence.specs.DemandEvidence.{withheld_bound};
 ghost use Rattle.rp_farkas.specs.Measure.{HasMeasure, measured};
 ghost use Rattle.rp_farkas.specs.PairCheck.{IsShownPair};
+ghost use Rattle.rp_whole_tableau.specs.Reduced.{HasReducedValue};
 
 use crate::run::run;
 use rp_evidence::Bound;
@@ -27,9 +28,11 @@ fn shown<P: Lp>(p: &P, measure: Measure, pair: Pair) -> Bound
     requires pair { IsShownPair (P.program p.now) pair }
     ensures holds { BoundHolds (P.program p.now) (measured (P.program p.now) measure) result }
     ensures given { withheld_bound result ≡ 0 }
+    ensures reduced { HasReducedValue result }
 {
     let num = measure.of(p, pair.x.as_slice());
     let value = Frac::new(num, u128::from(pair.den));
+    prove!(value.den() > 0);
     Bound::Shown { value, pair }
 }
 
@@ -46,6 +49,7 @@ pub fn whole_bound_of<P: Lp>(
     ensures holds { IfOk result (λ o. IfSome o
         (BoundHolds (P.program p.now) (measured (P.program p.now) measure))) }
     ensures given { IfOk result (λ o. IfSome o (λ bound. withheld_bound bound ≡ 0)) }
+    ensures reduced { IfOk result (λ o. IfSome o HasReducedValue) }
 {
     let Some(found) = run(alloc, p)? else {
         return Ok(None);

@@ -1,7 +1,9 @@
 //! Tests of the searches for what passes the width of the stated computations: numbers of two words, the homothetic
-//! test by rounded products, and bounds by a tableau over one denominator.
+//! test by rounded products, bounds by a tableau over one denominator, and certificates that are filled with them.
 #![tactic(auto)]
 
+#[cfg(test)]
+mod fills;
 #[cfg(test)]
 mod rounded;
 #[cfg(test)]

@@ -65,11 +65,12 @@ fn has_cycle(found: &Option<Homothetic>, num: u128, den: u128, cycle: &[u32]) ->
 
 /// Each own cost is 2^43. The least products are 1, 7330081712811/2^43, and 7330081712811 * 6597068718081 / 2^86 by way
 /// of the second, whose 60 first digits are those of 21990241643181/2^45.
-const ROUND_COSTS: &str = "p_a,q_a,p_b,q_b\n4194304,2097151,1,4194304\n\
+pub(crate) const ROUND_COSTS: &str = "p_a,q_a,p_b,q_b\n4194304,2097151,1,4194304\n\
                           1,1747627,3145727,2796203\n1,4194304,4194304,2097151\n";
 
 /// 25 rounds of an experiment with two goods and three digits.
-const EXPERIMENT: &str = "p_a,q_a,p_b,q_b\n967,42,695,87\n405,108,463,142\n570,82,665,106\n\
+pub(crate) const EXPERIMENT: &str =
+    "p_a,q_a,p_b,q_b\n967,42,695,87\n405,108,463,142\n570,82,665,106\n\
                           269,213,798,108\n558,134,765,147\n904,76,720,144\n306,248,879,130\n\
                           439,179,191,618\n959,61,199,437\n823,51,306,205\n770,92,459,232\n\
                           271,186,634,119\n210,242,612,124\n426,96,618,99\n760,92,126,836\n\
@@ -84,7 +85,7 @@ const LONG_CYCLE: &str = "p_a,q_a,p_b,q_b,p_c,q_c\n\
                           8090977,6501313,2967408,9201819,7415760,5058598\n";
 
 /// Costs 2^44 + 1, 2^23; 2^23, 2^44 + 1: the third round would have the denominator 2^122 or more.
-const STEEP: &str = "p_a,q_a,p_b,q_b\n4194304,4194304,1,1\n1,1,4194304,4194304\n";
+pub(crate) const STEEP: &str = "p_a,q_a,p_b,q_b\n4194304,4194304,1,1\n1,1,4194304,4194304\n";
 
 #[test]
 fn values_where_exact_products_pass_their_width(rt: HostRuntime) -> Result<(), Fail> {

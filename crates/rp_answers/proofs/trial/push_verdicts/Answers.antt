@@ -1,7 +1,7 @@
 use Rattle.std.proofs.Common.{◌≡◌, List, ℕ, ◌++◌, ◌∙◌, ap, codes, append_assoc}
 use Rattle.rp_report.specs.EfficiencyText.{index_text}
 use Rattle.rp_print.specs.ListText.{line_of}
-use Rattle.rp_answers.specs.TrialText.{garp_word, homothetic_word, quasilinear_word}
+use Rattle.rp_answers.specs.TrialLines.{garp_word, homothetic_word, quasilinear_word}
 use Rattle.rp_answers.proofs.trial.push_verdicts.Goals as goal
 
 -- four lines, one after another

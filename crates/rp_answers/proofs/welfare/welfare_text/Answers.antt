@@ -6,8 +6,8 @@ use Rattle.rp_answers.specs.WelfareText.{IsWelfareItem}
 use Rattle.rp_answers.proofs.GarpFirstLemmas.{garp_first_of_table}
 use Rattle.rp_answers.proofs.welfare.welfare_text.Goals as goal
 
-pub report_or_json-requires : goal.report_or_json-requires
-report_or_json-requires c =
+pub print_certificate-requires-clause-kind : goal.print_certificate-requires-clause-kind
+print_certificate-requires-clause-kind g c =
     let new = c.args.new.now in
     let n = records_of c.args.table.now in
     let input = input_of_table c.args.table.now in
