@@ -1,3 +1,4 @@
+//! The edition of the program that fills what is withheld.
 use rp_answers::{Edition, Verdicts, report_or_json, report_trial};
 use rp_cost::{Asked, CostBounds, Tech, report_cost};
 use rp_evidence::Certificate;
@@ -31,7 +32,9 @@ impl Edition for Filled {
         bounds: Seq<CostBounds>,
     ) -> Result<Vec<u8>, NoMemory> {
         let filled = fill_costs(alloc, tech, asked, bounds.into_vec())?;
-        report_cost(alloc, tech, asked, &Seq::from_vec(filled))
+        let filled = Seq::from_vec(filled);
+        let text = report_cost(alloc, tech, asked, &filled)?;
+        Ok(text)
     }
 
     fn print_trial(

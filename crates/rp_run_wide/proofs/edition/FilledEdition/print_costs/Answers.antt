@@ -1,5 +1,4 @@
-use Rattle.std.proofs.Common.{[], List, ap, subst, sym, ◌≡◌, ◌∙◌}
-use Rattle.std.proofs.lemmas.Result.{IfOk-weaker}
+use Rattle.std.proofs.Common.{List, subst, ◌∙◌}
 use Rattle.rp_cost.specs.declared.bounds.CostBounds.{CostBounds}
 use Rattle.rp_filled.specs.FilledCosts.{AreFilledBounds}
 use Rattle.rp_run_wide.proofs.FillingLemmas.{given_costs}
@@ -15,4 +14,4 @@ fill_costs-requires-clause-none c = λ not. c.into_vec.ensures ∙ c.requires.bo
 pub returns : goal.returns
 returns c =
     let filled = subst (λ (list : List CostBounds). AreFilledBounds c.args.tech.now c.args.asked.now list c.in_ok-filled.filled.items) c.into_vec.ensures c.in_ok-filled.ensures in
-    IfOk-weaker c.report_cost.result _ _ (λ text is. (c.in_ok-filled.filled.items, filled, rw c.from_vec.ensures at is)) c.report_cost.ensures
+    (c.in_ok-filled.filled.items, filled, rw c.from_vec-filled.ensures at c.in_ok-text.ensures)
