@@ -36,15 +36,16 @@ fn a_withheld_verdict_is_filled(rt: HostRuntime) -> Result<(), Fail> {
     let few = filled(alloc, ROUND_COSTS, WITHHELD_FROM_THIRD)?;
     assert!(rt;
         few.as_slice()
-            == b"observations 3 goods 2 places 0 0\nhomothetic holds\n\
+            == "observations 3 goods 2 places 0 0\nhomothetic holds\n\
         values 1 7330081712811/8796093022208 21990241643181/35184372088832\n"
+                .as_bytes()
     );
     let many = filled(alloc, EXPERIMENT, WITHHELD_FROM_THIRD)?;
     assert!(rt;
-        many.as_slice().starts_with(
-            b"observations 25 goods 2 places 0 0\nhomothetic holds\n\
+        many.as_slice()
+            .starts_with("observations 25 goods 2 places 0 0\nhomothetic holds\n\
         values 33539172242213745/191984472168880369 397675552559674459/1152921504606846976 "
-        )
+                .as_bytes())
     );
     Ok(())
 }
@@ -56,8 +57,9 @@ fn what_is_not_found_stays_withheld(rt: HostRuntime) -> Result<(), Fail> {
     let text = filled(rt.alloc(), STEEP, certificate)?;
     assert!(rt;
         text.as_slice()
-            == b"observations 2 goods 2 places 0 0\n\
+            == "observations 2 goods 2 places 0 0\n\
         homothetic withheld steps 1 from 1 to 2\n"
+                .as_bytes()
     );
     Ok(())
 }
@@ -87,8 +89,7 @@ const FOUR_BOUNDS: &str =
 fn withheld_bounds_of_demand_are_filled(rt: HostRuntime) -> Result<(), Fail> {
     let text = filled(rt.alloc(), FOUR_GOODS, FOUR_BOUNDS)?;
     assert!(rt;
-        text.as_slice().ends_with(
-            b"\
+        text.as_slice().ends_with("\
         good 1 lower 0 upper 515898052444/20286987\n\
         lower x 0 0 299158471806 263908129496 y none over 18983831\n\
         upper x 515898052444 203766980646 0 0 y 3:35539740 6:8439408 over 20286987\n\
@@ -102,7 +103,7 @@ fn withheld_bounds_of_demand_are_filled(rt: HostRuntime) -> Result<(), Fail> {
         lower x 0 0 100472542 0 y none over 2417\n\
         upper x 0 135923176941729 78103659152067 303299760531918 \
         y 3:27149518600 4:6180475790 6:9494970690 over 20044042935\n"
-        )
+            .as_bytes())
     );
     Ok(())
 }
@@ -117,9 +118,10 @@ fn a_withheld_bound_of_welfare_is_filled(rt: HostRuntime) -> Result<(), Fail> {
     let text = filled(rt.alloc(), "p_a,q_a,p_b,q_b\n1,2,1,2\n", certificate)?;
     assert!(rt;
         text.as_slice()
-            == b"observations 1 goods 2 places 0 0\ngarp holds\nranks 1\n\
+            == "observations 1 goods 2 places 0 0\ngarp holds\nranks 1\n\
         welfare prices 1 2 observation 1 lower 4 upper 6 at 1\n\
         lower x 4 0 y 1:1 over 1\n"
+                .as_bytes()
     );
     Ok(())
 }

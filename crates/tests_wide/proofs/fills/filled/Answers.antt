@@ -16,4 +16,4 @@ pub fill_certificate-requires-clause-read_back : goal.fill_certificate-requires-
 fill_certificate-requires-clause-read_back c = denoted_read_back _ c.in_ok-stated.stated c.in_ok-stated.ensures
 
 pub report-requires : goal.report-requires
-report-requires c = certificate_of_table c.in_ok-filled.filled c.in_ok-filled.ensures.read_back
+report-requires c = certificate_of_table c.in_ok-filled-in-Accepted.filled c.in_ok-filled-in-Accepted.ensures.read_back
