@@ -319,16 +319,18 @@ static bool times(Fraction one, u64 num, u64 den, Fraction &product) {
     return !passes && product.num <= most && product.den <= most;
 }
 
-static bool has_pair_that_falls(const Table &table) {
+// Whether some two observations break a test already: most tables that break it have two.
+template <class Falls> static bool has_pair(const Table &table, Falls falls) {
     for (int s = 0; s < table.count; s++)
         for (int t = s + 1; t < table.count; t++)
-            if (u128(table.row(s)[t]) * table.row(t)[s] < u128(table.own[s]) * table.own[t]) return true;
+            if (falls(table.row(s)[t], table.row(t)[s], table.own[s], table.own[t])) return true;
     return false;
 }
 
 static void homothetic(const Table &table) {
     int count = table.count;
-    if (has_pair_that_falls(table)) return put("homothetic violated\n");
+    if (has_pair(table, [](u64 there, u64 back, u64 one, u64 other) { return u128(there) * back < u128(one) * other; }))
+        return put("homothetic violated\n");
     std::vector<Fraction> least(count, Fraction{1, 1}), next;
     std::vector<double> near(count, 1), nearest, quotients(size_t(count) * count);
     std::vector<int> widest(count);
@@ -371,6 +373,8 @@ static void homothetic(const Table &table) {
 // ---- least sums over walks: 512 steps of costs below 2^51 stay within 64 bits
 
 static void quasilinear(const Table &table) {
+    if (has_pair(table, [](u64 there, u64 back, u64 one, u64 other) { return there + back < one + other; }))
+        return put("quasilinear violated\n");
     int count = table.count;
     std::vector<i64> least(count, 0), next;
     std::vector<char> changed(count, 1);
