@@ -1,4 +1,4 @@
-# Completion of rp in bash: the commands, the options of each, and the names of files.
+# Completion of rp and of rp-wide in bash: the commands, the options of each, and the names of files.
 _rp() {
   local word=${COMP_WORDS[COMP_CWORD]} before=${COMP_WORDS[COMP_CWORD - 1]} options=
   COMPREPLY=()
@@ -21,4 +21,4 @@ _rp() {
     mapfile -t COMPREPLY < <(compgen -f -- "$word")
   fi
 }
-complete -F _rp rp ./rp
+complete -F _rp rp ./rp rp-wide ./rp-wide

@@ -92,11 +92,12 @@ def of_library(library):
     return found
 
 
-def debian(entries, program, library, version, libc, when, archive):
-    """Returns the package for Debian by its name, of the files of a release and of the gate's program."""
-    files = {"usr/bin/rp": (program, True), **of_library(library)}
-    files["usr/share/man/man1/rp.1.gz"] = (pressed(entries["share/man/man1/rp.1"][0]), False)
-    files["usr/share/bash-completion/completions/rp"] = entries["share/bash-completion/completions/rp"]
+def debian(entries, programs, library, version, libc, when, archive):
+    """Returns the package for Debian by its name, of the files of a release and of the gate's programs by their names."""
+    files = {f"usr/bin/{it}": (data, True) for it, data in programs.items()} | of_library(library)
+    for it in programs:
+        files[f"usr/share/man/man1/{it}.1.gz"] = (pressed(entries[f"share/man/man1/{it}.1"][0]), False)
+        files[f"usr/share/bash-completion/completions/{it}"] = entries[f"share/bash-completion/completions/{it}"]
     folder = f"usr/share/doc/{NAME}"
     documents = ("docs/", "examples/", "clients/panel/")
     for name in ("NOTICE", "PROVED", "README.md", *(it for it in entries if it.startswith(documents))):
